@@ -1,0 +1,37 @@
+-- Bytes as bits, "packed most significant bit first". A bit is the number 0 or 1.
+use Prim.Native.Nat.{ℕ, zero, suc, _+_, _*_, _-_, _/_, _%_, _^_}
+use mathlib.Core.List.{List, [], _∷_, _++_}
+use mathlib.Core.Bool.{Bool, true, false, _&&_}
+use lib.ListN.{length, take, drop, replicate}
+use lib.Dec.{eqb}
+
+-- the w low bits of x
+unfoldable pub bitsOf : ℕ → ℕ → List ℕ
+bitsOf zero x = []
+bitsOf (suc w) x = (x / 2 ^ w % 2) ∷ bitsOf w x
+
+-- the bits of a list of bytes
+unfoldable pub bits : List ℕ → List ℕ
+bits [] = []
+bits (b ∷ bs) = bitsOf 8 b ++ bits bs
+
+-- the number that a list of bits spells
+unfoldable pub value : List ℕ → ℕ
+value [] = 0
+value (x ∷ xs) = x * 2 ^ length xs + value xs
+
+-- the n bytes that a list of bits fills
+unfoldable pub pack : ℕ → List ℕ → List ℕ
+pack zero xs = []
+pack (suc n) xs = value (take 8 xs) ∷ pack n (drop 8 xs)
+
+-- how many bytes a list of bits takes, and those bytes: "then zero bits to the byte end, nothing more"
+unfoldable pub byteCount : List ℕ → ℕ
+byteCount xs = (length xs + 7) / 8
+
+unfoldable pub packed : List ℕ → List ℕ
+packed xs = pack (byteCount xs) (xs ++ replicate (8 * byteCount xs - length xs) 0)
+
+unfoldable pub allZero : List ℕ → Bool
+allZero [] = true
+allZero (x ∷ xs) = eqb x 0 && allZero xs

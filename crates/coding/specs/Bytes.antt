@@ -1,0 +1,43 @@
+-- Bytes of a message; past its end they are 0, so that every definition is total.
+use Prim.Native.Nat.{ℕ, zero, suc, _+_, _*_, _/_, _%_, _^_}
+use mathlib.Core.List.{List, [], _∷_}
+use mathlib.Core.Bool.{Bool}
+use lib.ListN.{getD}
+use lib.Dec.{ltb, eqb}
+use Rattle.coding.specs.Lists.{pick}
+
+-- "Numbers are little-endian": the number of w bytes from a place. "signed ones two's complement": a signed number is
+-- handed on by its bits.
+unfoldable pub le : List ℕ → ℕ → ℕ → ℕ
+le m at zero = 0
+le m at (suc w) = getD m at 0 + 256 * le m (at + 1) w
+
+-- the w bytes of a number, lowest first
+unfoldable pub leBytes : ℕ → ℕ → List ℕ
+leBytes zero x = []
+leBytes (suc w) x = x % 256 ∷ leBytes w (x / 256)
+
+-- bit k of the byte at a place, the lowest being 0
+unfoldable pub bitAt : List ℕ → ℕ → ℕ → ℕ
+bitAt m at k = getD m at 0 / 2 ^ k % 2
+
+-- IEEE 754: whether the bits of a float of w bytes (4 or 8) are a NaN: the exponent is all ones, the fraction not 0
+unfoldable pub isNaN : ℕ → ℕ → Bool
+isNaN w x =
+    pick (eqb w 4) (ltb 0x7F80_0000 (x % 0x8000_0000)) (ltb 0x7FF0_0000_0000_0000 (x % 0x8000_0000_0000_0000))
+
+-- "absent floats, which are 0x7FC00000 or 0x7FF8000000000000"
+unfoldable pub noFloat : ℕ → ℕ
+noFloat w = pick (eqb w 4) 0x7FC0_0000 0x7FF8_0000_0000_0000
+
+-- "Message and sheet: at most 16,777,215 bytes each."
+unfoldable pub largest : ℕ
+largest = 16777215
+
+-- "Depth: 32 objects, the root being 1"
+unfoldable pub deepest : ℕ
+deepest = 32
+
+-- "U48 is six bytes": the offset width of this coding. The definitions take it as a parameter.
+unfoldable pub u48 : ℕ
+u48 = 6

@@ -1,0 +1,198 @@
+-- One field's answer at a path, through the same steps as the walk; a text as a part of the message; the list reader's
+-- answers. `o` is the width of an offset in bytes.
+use Prim.Native.Nat.{ℕ, zero, suc, _+_, _*_}
+use mathlib.Core.List.{List, [], _∷_, _++_}
+use mathlib.Core.Bool.{Bool, true, false}
+use lib.ListN.{length, take, drop}
+use lib.Dec.{ltb, leb, eqb}
+use Rattle.coding.specs.Lists.{pick}
+use Rattle.coding.specs.Bytes.{deepest}
+use Rattle.coding.specs.Schema.{Schema, structOf, fieldOf, elementOf, tableOf, memberOf}
+use Rattle.coding.specs.Packed.{parse}
+use Rattle.coding.specs.Lawful.{lawful}
+use Rattle.coding.specs.Structs.{total, structSize}
+use Rattle.coding.specs.Layout.{begin, afterMembers}
+use Rattle.coding.specs.Step.{fieldStep, memberStep, elementStep}
+use Rattle.coding.specs.Walk.{placed, openObject, rootPlace, sizeOk, startOk}
+use Rattle.coding.specs.declared.Flat.{Flat}
+use Rattle.coding.specs.declared.Flat.the-variants as F
+use Rattle.coding.specs.declared.Object.{Object}
+use Rattle.coding.specs.declared.Object.the-variants as O
+use Rattle.coding.specs.declared.Kind.{Kind}
+use Rattle.coding.specs.declared.Kind.the-variants.{OfFlat, OfObject, OfUnion}
+use Rattle.coding.specs.declared.Member.{Member}
+use Rattle.coding.specs.declared.Place.{Place}
+use Rattle.coding.specs.declared.Place.the-variants.{ByOffset, InPlace}
+use Rattle.coding.specs.declared.Step.{Step}
+use Rattle.coding.specs.declared.Step.the-variants as St
+use Rattle.coding.specs.declared.Opened.{Opened}
+use Rattle.coding.specs.declared.Opened.the-variants as Op
+use Rattle.coding.specs.declared.Refusal.{Refusal}
+use Rattle.coding.specs.declared.Found.{Found}
+use Rattle.coding.specs.declared.Found.the-variants as Fd
+use Rattle.coding.specs.declared.Answer.{Answer}
+use Rattle.coding.specs.declared.Answer.the-variants as A
+
+abbrev pub refusal : ℕ → ℕ → Refusal
+refusal n at = record { number = n; place = at }
+
+-- ---- where a path has come
+-- refusal 15: "path step has no such part", at the "last object judged"
+unfoldable pub noPart : ℕ → Found
+noPart at = Fd.Refused (refusal 15 at)
+
+-- "Only objects and members on the path are judged (a struct as a whole), without budget": an arrival with d objects of
+-- depth left, this one counted
+unfoldable pub opened : Object → ℕ → ℕ → Opened → Found
+opened ob at d (Op.Refused n) = Fd.Refused (refusal n at)
+opened ob at d (Op.Content start n) = Fd.Object ob at start n d
+
+unfoldable pub arrived : ℕ → ℕ → Schema → List ℕ → Object → Place → Found
+arrived zero o S m ob p = Fd.Refused (refusal 5 (placed p))
+arrived (suc d) o S m ob p = opened ob (placed p) d (openObject o S m ob p)
+
+-- "unions are passed through without [a number]"; refusal 9 as in the walk
+unfoldable pub chosen : ℕ → ℕ → Schema → List ℕ → ℕ → Object → Place → Found
+chosen d o S m holder ob (ByOffset x) = pick (eqb x 0) (Fd.Refused (refusal 9 holder)) (arrived d o S m ob (ByOffset x))
+chosen d o S m holder ob (InPlace a n) = arrived d o S m ob (InPlace a n)
+
+-- what a step of a holder finds, with d objects of depth left below the holder
+unfoldable pub stepped : ℕ → ℕ → Schema → List ℕ → ℕ → Kind → Step → Found
+stepped d o S m holder k (St.Refused n) = Fd.Refused (refusal n holder)
+stepped d o S m holder k St.Absent = Fd.Absent
+stepped d o S m holder k (St.Value x) = Fd.Value k x holder
+stepped d o S m holder k (St.Unknown x) = Fd.Unknown x
+stepped d o S m holder k (St.Struct i at) = Fd.Struct i at holder
+stepped d o S m holder k (St.Object ob p) = arrived d o S m ob p
+stepped d o S m holder k (St.Choice c ob p) = chosen d o S m holder ob p
+
+-- "A path names a member, element or struct member per number"; "A holder is judged before 15 is given at it."
+unfoldable pub structPart : ℕ → Schema → List ℕ → ℕ → ℕ → ℕ → ℕ → Found
+structPart o S m i at holder j =
+    pick (ltb j (length (structOf S i)))
+    (stepped 0 o S m holder (OfFlat (fieldOf S i j)) (fieldStep m (fieldOf S i j) (at + total (structSize S) (take j (structOf S i)))))
+    (noPart holder)
+
+unfoldable pub objectPart : ℕ → Schema → List ℕ → Object → ℕ → ℕ → ℕ → ℕ → ℕ → Found
+objectPart o S m O.Text at start n d j = noPart at
+objectPart o S m O.Bytes at start n d j = noPart at
+objectPart o S m (O.List i) at start n d j =
+    pick (ltb j n) (stepped d o S m at (elementOf S i) (elementStep o S m (elementOf S i) start j)) (noPart at)
+objectPart o S m (O.Table i) at start n d j =
+    pick (ltb j (length (tableOf S i .members)))
+    (stepped d o S m at (memberOf S i j .kind)
+    (memberStep o S m start n (afterMembers o S (take j (tableOf S i .members)) begin) (memberOf S i j)))
+    (noPart at)
+
+-- one number more. "An absent or unknown place ends it, whatever steps remain.", and so does a refusal
+unfoldable pub partOf : ℕ → Schema → List ℕ → Found → ℕ → Found
+partOf o S m (Fd.Refused r) j = Fd.Refused r
+partOf o S m Fd.Absent j = Fd.Absent
+partOf o S m (Fd.Unknown x) j = Fd.Unknown x
+partOf o S m (Fd.Value k x holder) j = noPart holder
+partOf o S m (Fd.Struct i at holder) j = structPart o S m i at holder j
+partOf o S m (Fd.Object ob at start n d) j = objectPart o S m ob at start n d j
+
+unfoldable pub along : ℕ → Schema → List ℕ → Found → List ℕ → Found
+along o S m f [] = f
+along o S m f (j ∷ js) = along o S m (partOf o S m f j) js
+
+unfoldable pub found : ℕ → Schema → List ℕ → List ℕ → Found
+found o S m path = along o S m (arrived deepest o S m (O.Table (S .root)) (rootPlace o m)) path
+
+-- ---- "Otherwise the answer is one of: a boolean, a number with its width and sign, float bits, an object's kind, place and
+-- length, a struct's place, absent, unknown with its number, or a refusal". An enum is a number of width 8 without sign.
+unfoldable pub flatAnswer : Flat → ℕ → Answer
+flatAnswer F.Boolean x = A.Boolean (eqb x 1)
+flatAnswer (F.Integer s w) x = A.Number x (8 * w) s
+flatAnswer (F.Float w) x = A.Float x (8 * w)
+flatAnswer (F.Enumerated n) x = A.Number x 8 false
+flatAnswer (F.Struct i) x = A.Absent
+
+-- a value's kind is flat, and no struct
+unfoldable pub valueAnswer : Kind → ℕ → Answer
+valueAnswer (OfFlat k) x = flatAnswer k x
+valueAnswer (OfObject ob) x = A.Absent
+valueAnswer (OfUnion i) x = A.Absent
+
+-- "13 text, 14 bytes, 15 list, 16 table"
+unfoldable pub recordKind : Object → ℕ
+recordKind O.Text = 13
+recordKind O.Bytes = 14
+recordKind (O.List i) = 15
+recordKind (O.Table i) = 16
+
+unfoldable pub answerOf : Found → Answer
+answerOf (Fd.Refused r) = A.Refused r
+answerOf Fd.Absent = A.Absent
+answerOf (Fd.Unknown x) = A.Unknown x
+answerOf (Fd.Value k x holder) = valueAnswer k x
+answerOf (Fd.Struct i at holder) = A.Struct at
+answerOf (Fd.Object ob at start n d) = A.Object (recordKind ob) at n
+
+-- "1, 15 for length, 2 and 3 come first"; "path over 96 numbers", at "0 for length"
+unfoldable pub before : ℕ → Found
+before n = Fd.Refused (refusal n 0)
+
+unfoldable pub fieldFound : ℕ → List ℕ → List ℕ → List ℕ → Found
+fieldFound o b m path =
+    pick (lawful b)
+    (pick (leb (length path) 96)
+    (pick (sizeOk o m) (pick (startOk m) (found o (parse b) m path) (before 3)) (before 2))
+    (before 15))
+    (before 1)
+
+unfoldable pub field : ℕ → List ℕ → List ℕ → List ℕ → Answer
+field o b m path = answerOf (fieldFound o b m path)
+
+-- ---- "texts and bytes can be had as a part of the message": the content where the answer is a text or bytes, else nothing
+unfoldable pub objectText : List ℕ → Object → ℕ → ℕ → List ℕ
+objectText m O.Text start n = take n (drop start m)
+objectText m O.Bytes start n = take n (drop start m)
+objectText m (O.List i) start n = []
+objectText m (O.Table i) start n = []
+
+unfoldable pub foundText : List ℕ → Found → List ℕ
+foundText m (Fd.Refused r) = []
+foundText m Fd.Absent = []
+foundText m (Fd.Unknown x) = []
+foundText m (Fd.Value k x holder) = []
+foundText m (Fd.Struct i at holder) = []
+foundText m (Fd.Object ob at start n d) = objectText m ob start n
+
+unfoldable pub fieldText : ℕ → List ℕ → List ℕ → List ℕ → List ℕ
+fieldText o b m path = foundText m (fieldFound o b m path)
+
+-- ---- the list reader. "It starts from a path to a list whose elements are of kinds 13 to 17; a refused path gives its own
+-- refusal, any other answer is 15 at 0."
+unfoldable pub leads : Kind → Bool
+leads (OfFlat k) = false
+leads (OfObject ob) = true
+leads (OfUnion i) = true
+
+unfoldable pub listFound : Schema → Object → ℕ → ℕ → ℕ → ℕ → Found
+listFound S O.Text at start n d = before 15
+listFound S O.Bytes at start n d = before 15
+listFound S (O.List i) at start n d = pick (leads (elementOf S i)) (Fd.Object (O.List i) at start n d) (before 15)
+listFound S (O.Table i) at start n d = before 15
+
+unfoldable pub readerOf : Schema → Found → Found
+readerOf S (Fd.Refused r) = Fd.Refused r
+readerOf S Fd.Absent = before 15
+readerOf S (Fd.Unknown x) = before 15
+readerOf S (Fd.Value k x holder) = before 15
+readerOf S (Fd.Struct i at holder) = before 15
+readerOf S (Fd.Object ob at start n d) = listFound S ob at start n d
+
+-- the list that a reader goes over, or why there is none
+unfoldable pub readerStart : ℕ → List ℕ → List ℕ → List ℕ → Found
+readerStart o b m path = readerOf (parse b) (fieldFound o b m path)
+
+-- "Each step answers as that element's path would ..; after the last it answers 15 at the list and stays.": the answer of
+-- the step at element j
+unfoldable pub readerAnswer : ℕ → List ℕ → List ℕ → List ℕ → ℕ → Answer
+readerAnswer o b m path j = field o b m (path ++ j ∷ [])
+
+-- "and moves on, refused or not": where the reader of a list of n elements stands after a step at element j
+unfoldable pub readerNext : ℕ → ℕ → ℕ
+readerNext n j = pick (ltb j n) (j + 1) j

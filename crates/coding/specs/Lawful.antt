@@ -1,0 +1,128 @@
+-- Which bytes are a lawful schema.
+use Prim.Native.Nat.{ℕ, zero, suc, _+_}
+use mathlib.Core.List.{List}
+use mathlib.Core.Bool.{Bool, true, false, _&&_, not}
+use lib.ListN.{length}
+use lib.Dec.{ltb, leb, eqb}
+use Rattle.coding.specs.Lists.{pick, every}
+use Rattle.coding.specs.Packed.{structCount, listCount, unionCount, tableCount, rootIndex, kindAt, optionalAt, inplaceAt, zeroAt, argumentAt, records, recordPlace, blocks, structPlace, listPlace, unionPlace, tablePlace, idAt, parse}
+use Rattle.coding.specs.Structs.{structSize}
+use Rattle.coding.specs.declared.Role.{Role}
+use Rattle.coding.specs.declared.Role.the-variants.{InStruct, InList, InUnion, InTable}
+
+abbrev pub between : ℕ → ℕ → ℕ → Bool
+between low high x = leb low x && leb x high
+
+-- ---- the shape
+-- "structs, lists, unions (0 to 64 each), tables (1 to 64). 8-bit root table index." The root is one of the tables.
+unfoldable pub countsOk : List ℕ → Bool
+countsOk b =
+    leb (structCount b) 64
+    && (leb (listCount b) 64
+    && (leb (unionCount b) 64
+    && (leb 1 (tableCount b) && (leb (tableCount b) 64 && ltb (rootIndex b) (tableCount b)))))
+
+-- the record counts of n blocks are in a range
+unfoldable pub blocksOk : List ℕ → ℕ → ℕ → ℕ → ℕ → ℕ → Bool
+blocksOk b head low high start n = every (λ i. between low high (records b head (blocks b head start i))) n
+
+-- "struct: 8-bit member count 1 to 32", "union: 8-bit case count 1 to 32", "table: 32-bit id, 8-bit member count 0 to 64";
+-- "Nothing follows the last table.", and nothing is missing.
+unfoldable pub placesOk : List ℕ → Bool
+placesOk b =
+    blocksOk b 0 1 32 5 (structCount b)
+    && (blocksOk b 0 1 32 (listPlace b (listCount b)) (unionCount b)
+    && (blocksOk b 4 0 64 (unionPlace b (unionCount b)) (tableCount b)
+    && eqb (tablePlace b (tableCount b)) (length b)))
+
+unfoldable pub shapeOk : List ℕ → Bool
+shapeOk b = countsOk b && placesOk b
+
+-- ---- the records
+-- "11 enum (argument 1 to 255, the number of values)", "For 12 and 15 to 17 the argument is an index below that count;
+-- otherwise it is 0." There is no kind 18 to 31.
+unfoldable pub argumentOk : List ℕ → ℕ → ℕ → Bool
+argumentOk b k a =
+    pick (ltb k 11) (eqb a 0)
+    (pick (eqb k 11) (ltb 0 a)
+    (pick (eqb k 12) (ltb a (structCount b))
+    (pick (ltb k 15) (eqb a 0)
+    (pick (eqb k 15) (ltb a (listCount b))
+    (pick (eqb k 16) (ltb a (tableCount b))
+    (pick (eqb k 17) (ltb a (unionCount b)) false))))))
+
+-- "Struct members: kinds 0 to 12, an inner struct having a lower index. List elements: 0 to 11 and 13 to 17.
+-- Union cases: 13 to 16."
+unfoldable pub kindOk : Role → ℕ → ℕ → Bool
+kindOk (InStruct i) k a = pick (eqb k 12) (ltb a i) (ltb k 12)
+kindOk InList k a = not (eqb k 12)
+kindOk InUnion k a = between 13 16 k
+kindOk InTable k a = true
+
+-- "Optional only on table members of kind 0 to 10 and 12"
+unfoldable pub optionalOk : Role → ℕ → Bool
+optionalOk (InStruct i) k = false
+optionalOk InList k = false
+optionalOk InUnion k = false
+optionalOk InTable k = pick (eqb k 12) true (ltb k 11)
+
+-- "in place only on table members of kind 13 to 17"
+unfoldable pub inplaceOk : Role → ℕ → Bool
+inplaceOk (InStruct i) k = false
+inplaceOk InList k = false
+inplaceOk InUnion k = false
+inplaceOk InTable k = ltb 12 k
+
+unfoldable pub flagsOk : List ℕ → Role → ℕ → Bool
+flagsOk b role at =
+    pick (optionalAt b at) (optionalOk role (kindAt b at)) true && pick (inplaceAt b at) (inplaceOk role (kindAt b at)) true
+
+unfoldable pub recordOk : List ℕ → Role → ℕ → Bool
+recordOk b role at =
+    zeroAt b at
+    && (argumentOk b (kindAt b at) (argumentAt b at) && (kindOk role (kindAt b at) (argumentAt b at) && flagsOk b role at))
+
+-- the first n records of a block; all of them
+unfoldable pub firstOk : List ℕ → Role → ℕ → ℕ → ℕ → Bool
+firstOk b role head at n = every (λ j. recordOk b role (recordPlace head at j)) n
+
+unfoldable pub recordsOk : List ℕ → Role → ℕ → ℕ → Bool
+recordsOk b role head at = firstOk b role head at (records b head at)
+
+-- how many of the first n records of a table are in place
+unfoldable pub inplaces : List ℕ → ℕ → ℕ → ℕ
+inplaces b at zero = 0
+inplaces b at (suc n) = inplaces b at n + pick (inplaceAt b (recordPlace 4 at n)) 1 0
+
+-- ---- the rules, of one struct, list, union and table each
+-- "No struct is over 4,096 bytes."
+unfoldable pub structLawful : List ℕ → ℕ → Bool
+structLawful b i = recordsOk b (InStruct i) 0 (structPlace b i) && leb (structSize (parse b) i) 4096
+
+unfoldable pub listLawful : List ℕ → ℕ → Bool
+listLawful b i = recordOk b InList (listPlace b i)
+
+unfoldable pub unionLawful : List ℕ → ℕ → Bool
+unionLawful b i = recordsOk b InUnion 0 (unionPlace b i)
+
+-- "at most one per table"
+unfoldable pub tableLawful : List ℕ → ℕ → Bool
+tableLawful b i =
+    recordsOk b InTable 4 (tablePlace b i) && leb (inplaces b (tablePlace b i) (records b 4 (tablePlace b i))) 1
+
+-- "Table ids differ.": table i has another id than each of the first n
+unfoldable pub idDiffers : List ℕ → ℕ → ℕ → Bool
+idDiffers b i n = every (λ j. not (eqb (idAt b (tablePlace b i)) (idAt b (tablePlace b j)))) n
+
+unfoldable pub idLawful : List ℕ → ℕ → Bool
+idLawful b i = idDiffers b i i
+
+unfoldable pub rulesOk : List ℕ → Bool
+rulesOk b =
+    every (structLawful b) (structCount b)
+    && (every (listLawful b) (listCount b)
+    && (every (unionLawful b) (unionCount b)
+    && (every (tableLawful b) (tableCount b) && every (idLawful b) (tableCount b))))
+
+unfoldable pub lawful : List ℕ → Bool
+lawful b = shapeOk b && rulesOk b

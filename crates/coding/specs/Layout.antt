@@ -1,0 +1,100 @@
+-- Where the members of a table stand in its fixed part. A member's slot depends on the members before it alone.
+-- `o` is the width of an offset in bytes.
+use Prim.Native.Nat.{ℕ, _+_}
+use mathlib.Core.List.{List, [], _∷_}
+use mathlib.Core.Bool.{Bool, true, false, _&&_}
+use lib.Dec.{ltb}
+use Rattle.coding.specs.Lists.{pick}
+use Rattle.coding.specs.Schema.{Schema}
+use Rattle.coding.specs.Structs.{flatWidth, structSize}
+use Rattle.coding.specs.declared.Flat.{Flat}
+use Rattle.coding.specs.declared.Flat.the-variants.{Boolean, Integer, Float, Enumerated, Struct}
+use Rattle.coding.specs.declared.Kind.{Kind}
+use Rattle.coding.specs.declared.Kind.the-variants.{OfFlat, OfObject, OfUnion}
+use Rattle.coding.specs.declared.Member.{Member}
+use Rattle.coding.specs.declared.Cursor.{Cursor}
+use Rattle.coding.specs.declared.Slot.{Slot}
+
+-- ---- what a kind takes
+unfoldable pub flatIsBool : Flat → Bool
+flatIsBool Boolean = true
+flatIsBool (Integer s w) = false
+flatIsBool (Float w) = false
+flatIsBool (Enumerated n) = false
+flatIsBool (Struct i) = false
+
+unfoldable pub isBool : Kind → Bool
+isBool (OfFlat k) = flatIsBool k
+isBool (OfObject ob) = false
+isBool (OfUnion i) = false
+
+-- "Text, bytes, list, table: U48 offset", "Union: 8 bytes as in lists": a U16 choice and an offset
+unfoldable pub width : ℕ → Schema → Kind → ℕ
+width o S (OfFlat k) = flatWidth (structSize S) k
+width o S (OfObject ob) = o
+width o S (OfUnion i) = 2 + o
+
+-- "Optional bool, integer or struct: a flag bool first, then the value. Optional float: NaN is no value."
+unfoldable pub flatTakesFlag : Flat → Bool
+flatTakesFlag Boolean = true
+flatTakesFlag (Integer s w) = true
+flatTakesFlag (Float w) = false
+flatTakesFlag (Enumerated n) = false
+flatTakesFlag (Struct i) = true
+
+unfoldable pub takesFlag : Kind → Bool
+takesFlag (OfFlat k) = flatTakesFlag k
+takesFlag (OfObject ob) = false
+takesFlag (OfUnion i) = false
+
+unfoldable pub hasFlag : Member → Bool
+hasFlag r = r .optional && takesFlag (r .kind)
+
+-- ---- the cursor
+unfoldable pub begin : Cursor
+begin = record { end = 0; byte = 0; bit = 8 }
+
+-- "A bool takes the next free bit, lowest first, of the last bool byte; if none is free a zeroed byte is appended."
+unfoldable pub bitByte : Cursor → ℕ
+bitByte c = pick (ltb (c .bit) 8) (c .byte) (c .end)
+
+unfoldable pub bitIndex : Cursor → ℕ
+bitIndex c = pick (ltb (c .bit) 8) (c .bit) 0
+
+unfoldable pub afterBit : Cursor → Cursor
+afterBit c =
+    pick (ltb (c .bit) 8)
+    (record { end = c .end; byte = c .byte; bit = c .bit + 1 })
+    (record { end = c .end + 1; byte = c .end; bit = 1 })
+
+unfoldable pub afterBytes : ℕ → Cursor → Cursor
+afterBytes w c = record { end = c .end + w; byte = c .byte; bit = c .bit }
+
+-- behind the flag, if there is one
+unfoldable pub afterFlag : Member → Cursor → Cursor
+afterFlag r c = pick (hasFlag r) (afterBit c) c
+
+-- where a value stands that comes next, and the cursor behind it
+unfoldable pub slotOf : ℕ → Schema → Kind → Cursor → Slot
+slotOf o S k c =
+    pick (isBool k)
+    (record { at = bitByte c; bit = bitIndex c; size = 1 })
+    (record { at = c .end; bit = 0; size = width o S k })
+
+unfoldable pub afterValue : ℕ → Schema → Kind → Cursor → Cursor
+afterValue o S k c = pick (isBool k) (afterBit c) (afterBytes (width o S k) c)
+
+-- a member: its flag, if there is one, and then its value
+unfoldable pub memberSlot : ℕ → Schema → Member → Cursor → Slot
+memberSlot o S r c = slotOf o S (r .kind) (afterFlag r c)
+
+unfoldable pub afterMember : ℕ → Schema → Member → Cursor → Cursor
+afterMember o S r c = afterValue o S (r .kind) (afterFlag r c)
+
+unfoldable pub afterMembers : ℕ → Schema → List Member → Cursor → Cursor
+afterMembers o S [] c = c
+afterMembers o S (r ∷ rs) c = afterMembers o S rs (afterMember o S r c)
+
+-- a full fixed part's bytes
+unfoldable pub fixedSize : ℕ → Schema → List Member → ℕ
+fixedSize o S rs = afterMembers o S rs begin .end

@@ -1,0 +1,83 @@
+-- The values of a message, by the same steps as the walk. It is total: what no accepted message has reads as something,
+-- which nobody is shown. `o` is the width of an offset in bytes.
+use Prim.Native.Nat.{ℕ, zero, suc, _+_}
+use mathlib.Core.List.{List, [], _∷_}
+use lib.ListN.{take, drop}
+use Rattle.coding.specs.Bytes.{le, deepest}
+use Rattle.coding.specs.Schema.{Schema, structOf, elementOf, tableOf}
+use Rattle.coding.specs.Structs.{byIndex, flatWidth, structSize}
+use Rattle.coding.specs.Layout.{begin, afterMember}
+use Rattle.coding.specs.Step.{fieldStep, memberStep, elementStep}
+use Rattle.coding.specs.Walk.{headerSize, rootPlace}
+use Rattle.coding.specs.Value.{Value, Values, absent, unknown, number, blob, row, chosen, none, _then_}
+use Rattle.coding.specs.declared.Flat.{Flat}
+use Rattle.coding.specs.declared.Object.{Object}
+use Rattle.coding.specs.declared.Object.the-variants as O
+use Rattle.coding.specs.declared.Kind.{Kind}
+use Rattle.coding.specs.declared.Member.{Member}
+use Rattle.coding.specs.declared.Cursor.{Cursor}
+use Rattle.coding.specs.declared.Place.{Place}
+use Rattle.coding.specs.declared.Place.the-variants.{ByOffset, InPlace}
+use Rattle.coding.specs.declared.Step.{Step}
+use Rattle.coding.specs.declared.Step.the-variants as St
+
+-- ---- what a step shows: `inner` reads a struct, `child` an object
+abbrev pub Child : Type 0
+Child = Object → Place → Value
+
+unfoldable pub stepRead : (ℕ → ℕ → Value) → Child → Step → Value
+stepRead inner child (St.Refused n) = absent
+stepRead inner child St.Absent = absent
+stepRead inner child (St.Value x) = number x
+stepRead inner child (St.Unknown x) = unknown x
+stepRead inner child (St.Struct i at) = inner i at
+stepRead inner child (St.Object ob p) = child ob p
+stepRead inner child (St.Choice c ob p) = chosen c (child ob p)
+
+-- ---- structs
+abbrev pub noObject : Child
+noObject ob p = absent
+
+unfoldable pub fieldsRead : (ℕ → ℕ → Value) → Schema → List ℕ → List Flat → ℕ → Values
+fieldsRead inner S m [] at = none
+fieldsRead inner S m (k ∷ ks) at =
+    stepRead inner noObject (fieldStep m k at) then fieldsRead inner S m ks (at + flatWidth (structSize S) k)
+
+unfoldable pub readBy : Schema → List ℕ → (ℕ → ℕ → Value) → ℕ → ℕ → Value
+readBy S m inner i at = row (fieldsRead inner S m (structOf S i) at)
+
+abbrev pub noStruct : ℕ → Value
+noStruct at = absent
+
+unfoldable pub structRead : Schema → List ℕ → ℕ → ℕ → Value
+structRead S m i = byIndex noStruct (readBy S m) i
+
+-- ---- objects
+unfoldable pub membersRead : Child → ℕ → Schema → List ℕ → ℕ → ℕ → Cursor → List Member → Values
+membersRead child o S m start n c [] = none
+membersRead child o S m start n c (r ∷ rs) =
+    stepRead (structRead S m) child (memberStep o S m start n c r) then
+    membersRead child o S m start n (afterMember o S r c) rs
+
+unfoldable pub elementsRead : Child → ℕ → Schema → List ℕ → ℕ → Kind → ℕ → ℕ → Values
+elementsRead child o S m start k zero i = none
+elementsRead child o S m start k (suc n) i =
+    stepRead (structRead S m) child (elementStep o S m k start i) then elementsRead child o S m start k n (i + 1)
+
+unfoldable pub contentRead : Child → ℕ → Schema → List ℕ → Object → ℕ → ℕ → Value
+contentRead child o S m O.Text start n = blob (take n (drop start m))
+contentRead child o S m O.Bytes start n = blob (take n (drop start m))
+contentRead child o S m (O.List i) start n = row (elementsRead child o S m start (elementOf S i) n 0)
+contentRead child o S m (O.Table i) start n = row (membersRead child o S m start n begin (tableOf S i .members))
+
+unfoldable pub placeRead : Child → ℕ → Schema → List ℕ → Child
+placeRead child o S m ob (ByOffset x) = contentRead child o S m ob (x + headerSize o) (le m (x + 4) o)
+placeRead child o S m ob (InPlace a n) = contentRead child o S m ob a n
+
+-- an object with d objects of depth left
+unfoldable pub read : ℕ → ℕ → Schema → List ℕ → Child
+read zero o S m ob p = absent
+read (suc d) o S m ob p = placeRead (read d o S m) o S m ob p
+
+unfoldable pub messageRead : ℕ → Schema → List ℕ → Value
+messageRead o S m = read deepest o S m (O.Table (S .root)) (rootPlace o m)

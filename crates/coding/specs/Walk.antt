@@ -1,0 +1,181 @@
+-- The walk: which objects a message leads to, in which order, and the first refusal.
+-- `o` is the width of an offset in bytes.
+use Prim.Native.Nat.{ℕ, zero, suc, _+_}
+use mathlib.Core.List.{List, [], _∷_}
+use mathlib.Core.Bool.{Bool, true, false, _&&_}
+use lib.ListN.{length, getD}
+use lib.Dec.{ltb, leb, eqb}
+use Rattle.coding.specs.Lists.{pick}
+use Rattle.coding.specs.Bytes.{le, largest, deepest}
+use Rattle.coding.specs.Schema.{Schema, elementOf, tableOf}
+use Rattle.coding.specs.Packed.{parse}
+use Rattle.coding.specs.Lawful.{lawful}
+use Rattle.coding.specs.Layout.{begin, afterMember}
+use Rattle.coding.specs.Step.{memberStep, elementStep, elementsSize}
+use Rattle.coding.specs.declared.Object.{Object}
+use Rattle.coding.specs.declared.Object.the-variants as O
+use Rattle.coding.specs.declared.Kind.{Kind}
+use Rattle.coding.specs.declared.Member.{Member}
+use Rattle.coding.specs.declared.Cursor.{Cursor}
+use Rattle.coding.specs.declared.Place.{Place}
+use Rattle.coding.specs.declared.Place.the-variants.{ByOffset, InPlace}
+use Rattle.coding.specs.declared.Step.{Step}
+use Rattle.coding.specs.declared.Step.the-variants as St
+use Rattle.coding.specs.declared.Opened.{Opened}
+use Rattle.coding.specs.declared.Opened.the-variants as Op
+use Rattle.coding.specs.declared.Budget.{Budget}
+use Rattle.coding.specs.declared.Spent.{Spent}
+use Rattle.coding.specs.declared.Refusal.{Refusal}
+use Rattle.coding.specs.declared.Walked.{Walked}
+use Rattle.coding.specs.declared.Walked.the-variants.{Going, Refused}
+use Rattle.coding.specs.declared.Verdict.{Verdict}
+
+-- ---- an arrival: header, magic, content, end byte
+-- "An object's place is its offset as stored, or where its in-place content starts."
+unfoldable pub placed : Place → ℕ
+placed (ByOffset x) = x
+placed (InPlace a n) = a
+
+-- "Each kind of object owns its own magic and header length: text 0xD812C8F5, bytes 0xDCDBBE10, list 0x3400BB46, table
+-- its id; then U48 length."
+unfoldable pub magic : Schema → Object → ℕ
+magic S O.Text = 0xD812_C8F5
+magic S O.Bytes = 0xDCDB_BE10
+magic S (O.List i) = 0x3400_BB46
+magic S (O.Table i) = tableOf S i .id
+
+-- a header: the magic and a length. The message's start has the same size.
+unfoldable pub headerSize : ℕ → ℕ
+headerSize o = 4 + o
+
+-- the bytes of an object's content, by its length. "Text: length bytes and one zero byte. Bytes: length bytes. List:
+-- length elements. Table: length bytes of fixed part."
+unfoldable pub contentSize : ℕ → Schema → Object → ℕ → ℕ
+contentSize o S O.Text n = n + 1
+contentSize o S O.Bytes n = n
+contentSize o S (O.List i) n = elementsSize o S (elementOf S i) n
+contentSize o S (O.Table i) n = n
+
+-- refusal 10: "text end byte not 0"
+unfoldable pub endOk : List ℕ → Object → ℕ → ℕ → Bool
+endOk m O.Text start n = eqb (getD m (start + n) 0) 0
+endOk m O.Bytes start n = true
+endOk m (O.List i) start n = true
+endOk m (O.Table i) start n = true
+
+-- content of length n at `start`: refusal 6 "content does not fit", then the end byte
+unfoldable pub openContent : ℕ → Schema → List ℕ → Object → ℕ → ℕ → Opened
+openContent o S m ob start n =
+    pick (leb (start + contentSize o S ob n) (length m))
+    (pick (endOk m ob start n) (Op.Content start n) (Op.Refused 10))
+    (Op.Refused 6)
+
+-- "Judged at an arrival: .. offset and header fit, magic, content fit, text's end byte."; refusals 6 "offset under 10, or
+-- header or content does not fit" and 7 "wrong object magic". In place there is no header.
+unfoldable pub openObject : ℕ → Schema → List ℕ → Object → Place → Opened
+openObject o S m ob (ByOffset x) =
+    pick (leb (headerSize o) x && leb (x + headerSize o) (length m))
+    (pick (eqb (le m x 4) (magic S ob)) (openContent o S m ob (x + headerSize o) (le m (x + 4) o)) (Op.Refused 7))
+    (Op.Refused 6)
+openObject o S m ob (InPlace a n) = openContent o S m ob a n
+
+-- ---- going on
+unfoldable pub refuse : ℕ → ℕ → Spent → Walked
+refuse n at s = Refused (record { number = n; place = at }) s
+
+-- "The first failure ends the walk."
+unfoldable pub andThen : Walked → (Spent → Walked) → Walked
+andThen (Going s) next = next s
+andThen (Refused r s) next = Refused r s
+
+-- an arrival at an object
+abbrev pub Child : Type 0
+Child = Object → Place → Spent → Walked
+
+-- refusal 9: "known union choice, not in place, offset 0", at the holder
+unfoldable pub followChoice : Child → ℕ → Object → Place → Spent → Walked
+followChoice child holder ob (ByOffset x) s = pick (eqb x 0) (refuse 9 holder s) (child ob (ByOffset x) s)
+followChoice child holder ob (InPlace a n) s = child ob (InPlace a n) s
+
+-- what a step leads to, for a holder at a place
+unfoldable pub follow : Child → ℕ → Step → Spent → Walked
+follow child holder (St.Refused n) s = refuse n holder s
+follow child holder St.Absent s = Going s
+follow child holder (St.Value x) s = Going s
+follow child holder (St.Unknown x) s = Going s
+follow child holder (St.Struct i at) s = Going s
+follow child holder (St.Object ob p) s = child ob p s
+follow child holder (St.Choice c ob p) s = followChoice child holder ob p s
+
+-- "Then each member or element in turn": the members of a table at `holder`, whose fixed part has n bytes from `start`
+unfoldable pub members : Child → ℕ → Schema → List ℕ → ℕ → ℕ → ℕ → Cursor → List Member → Spent → Walked
+members child o S m holder start n c [] s = Going s
+members child o S m holder start n c (r ∷ rs) s =
+    andThen (follow child holder (memberStep o S m start n c r) s)
+    (members child o S m holder start n (afterMember o S r c) rs)
+
+-- n elements of a list at `holder`, from element i on
+unfoldable pub elements : Child → ℕ → Schema → List ℕ → ℕ → ℕ → Kind → ℕ → ℕ → Spent → Walked
+elements child o S m holder start k zero i s = Going s
+elements child o S m holder start k (suc n) i s =
+    andThen (follow child holder (elementStep o S m k start i) s) (elements child o S m holder start k n (i + 1))
+
+-- an object's content, for the object at `holder`
+unfoldable pub content : Child → ℕ → Schema → List ℕ → Object → ℕ → ℕ → ℕ → Spent → Walked
+content child o S m O.Text holder start n s = Going s
+content child o S m O.Bytes holder start n s = Going s
+content child o S m (O.List i) holder start n s = elements child o S m holder start (elementOf S i) n 0 s
+content child o S m (O.Table i) holder start n s = members child o S m holder start n begin (tableOf S i .members) s
+
+unfoldable pub enter : Child → ℕ → Schema → List ℕ → Object → ℕ → Opened → Spent → Walked
+enter child o S m ob holder (Op.Refused n) s = refuse n holder s
+enter child o S m ob holder (Op.Content start n) s = content child o S m ob holder start n s
+
+unfoldable pub arrive : Child → ℕ → Schema → List ℕ → Child
+arrive child o S m ob p s = enter child o S m ob (placed p) (openObject o S m ob p) s
+
+-- refusal 5: "deeper than 32", at the object
+unfoldable pub tooDeep : Child
+tooDeep ob p s = refuse 5 (placed p) s
+
+-- "Every arrival at an object counts one visit"; refusal 4: "budget spent", at the "object not visited"; "an arrival refused
+-- by 4 isn't counted"
+unfoldable pub counted : Child → Budget → Child
+counted child b ob p s =
+    pick (ltb (s .visits) (b .visits)) (child ob p (record { visits = s .visits + 1 })) (refuse 4 (placed p) s)
+
+-- an arrival with d objects of depth left, this one counted: "budget, depth, offset and header fit, magic, content fit,
+-- text's end byte. Then each member or element in turn"
+unfoldable pub visit : ℕ → ℕ → Schema → List ℕ → Budget → Child
+visit zero o S m b = counted tooDeep b
+visit (suc d) o S m b = counted (arrive (visit d o S m b) o S m) b
+
+-- "From the root": "Start: magic 0xB5C0C4B3, U48 root offset."
+unfoldable pub rootPlace : ℕ → List ℕ → Place
+rootPlace o m = ByOffset (le m 4 o)
+
+unfoldable pub walk : ℕ → Schema → List ℕ → Budget → Walked
+walk o S m b = visit deepest o S m b (O.Table (S .root)) (rootPlace o m) (record { visits = 0 })
+
+-- ---- the verdict
+unfoldable pub verdictOf : Walked → Verdict
+verdictOf (Going s) = record { number = 0; place = 0; visits = s .visits }
+verdictOf (Refused r s) = record { number = r .number; place = r .place; visits = s .visits }
+
+-- a refusal before the walk
+unfoldable pub early : ℕ → Verdict
+early n = record { number = n; place = 0; visits = 0 }
+
+-- refusals 2: "message under 10 bytes or over the size", and 3: "wrong message magic"
+unfoldable pub sizeOk : ℕ → List ℕ → Bool
+sizeOk o m = leb (headerSize o) (length m) && leb (length m) largest
+
+unfoldable pub startOk : List ℕ → Bool
+startOk m = eqb (le m 0 4) 0xB5C0_C4B3
+
+-- "Before the walk, 1, 2, 3 are tried in order with visits 0."
+unfoldable pub verdict : ℕ → List ℕ → List ℕ → Budget → Verdict
+verdict o b m budget =
+    pick (lawful b)
+    (pick (sizeOk o m) (pick (startOk m) (verdictOf (walk o (parse b) m budget)) (early 3)) (early 2))
+    (early 1)

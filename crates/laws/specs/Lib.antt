@@ -1,0 +1,3 @@
+-- Laws of the definitions in `coding` that more than one crate cites.
+pub mod Structs
+pub mod Sound
