@@ -1,3 +1,4 @@
 pub mod Counter
 pub mod SameLayout
 pub mod SameStep
+pub mod OlderAccepts
