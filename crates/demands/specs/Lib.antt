@@ -2,3 +2,4 @@ pub mod Counter
 pub mod SameLayout
 pub mod SameStep
 pub mod OlderAccepts
+pub mod OlderReads

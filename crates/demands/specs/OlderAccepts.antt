@@ -180,8 +180,8 @@ module _ (o : ℕ) (O N : Schema) (sound : Sound O) (G : SchemaAppends O N) (m :
     members-within (more {x} {y} {xs} {ys} q l) a holder start n c s s′ h =
         then-within (follow-within (member-step-same O N sound G m o q (a .0) start n c) holder s s′ h)
         (λ t t′ g.
-          rw (after-member-same O N sound G o q (a .0) c)
-          (members-within l (a .1) holder start n (afterMember o N y c) t t′ g))
+        rw (after-member-same O N sound G o q (a .0) c)
+        (members-within l (a .1) holder start n (afterMember o N y c) t t′ g))
 
     elements-within : {k k′ : Kind} → SameKind k k′ → KindSound O k → (holder start n i : ℕ) (s s′ : Spent) → s .visits ≤ s′ .visits
         → Within (elements old o O m holder start k n i s) (elements new o N m holder start k′ n i s′)
@@ -221,8 +221,8 @@ counted-within old new b ob p s s′ h H = by (ltb (s′ .visits) (b .visits)) r
   where
     by : (t : Bool) → ltb (s′ .visits) (b .visits) ≡ t
         → Within
-          (pick (ltb (s .visits) (b .visits)) (old ob p (record { visits = s .visits + 1 })) (refuse 4 (placed p) s))
-          (pick t (new ob p (record { visits = s′ .visits + 1 })) (refuse 4 (placed p) s′))
+        (pick (ltb (s .visits) (b .visits)) (old ob p (record { visits = s .visits + 1 })) (refuse 4 (placed p) s))
+        (pick t (new ob p (record { visits = s′ .visits + 1 })) (refuse 4 (placed p) s′))
     by true e =
         rw (lt-ltb (s .visits) (b .visits) (omega (arith, ltb-true (s′ .visits) (b .visits) e)))
         (H (record { visits = s .visits + 1 }) (record { visits = s′ .visits + 1 }) (omega arith))

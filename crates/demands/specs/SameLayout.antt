@@ -133,7 +133,7 @@ module _ (O N : Schema) (sound : Sound O) (G : SchemaAppends O N) where
       ap₂ _&&_ (flat-ok n m a b e r (s .0) at)
       (flats-ok n h m a b e l (s .1) (at + flatWidth (structSize O) x)
       ∙ ap (λ (w : ℕ). flatsOk b N m ys (at + w))
-        (flat-width n (structSize O) (structSize N) (λ j q. struct-size-same j (omega arith)) r (s .0)))
+      (flat-width n (structSize O) (structSize N) (λ j q. struct-size-same j (omega arith)) r (s .0)))
 
   pub struct-ok-same : (m : List ℕ) (i : ℕ) → i < length (O .structs) → (at : ℕ) → structOk O m i at ≡ structOk N m i at
   unfolding structOk okBy

@@ -94,13 +94,15 @@ module _ (O N : Schema) (sound : Sound O) (G : SchemaAppends O N) where
     where
       longer : Extends SameObject (casesOf O i) (casesOf N i)
       longer = cases-same O N sound G i h
+
       both : (ob ob′ : Object) → SameObject ob ob′ → c ≤ length (casesOf O i) → getD (casesOf O i) (pred c) Ob.Text ≡ ob → ObjectSound O ob
           → SameStep O (OfUnion i) (St.Choice c ob (placeOf inplace tail x)) (St.Choice c ob′ (placeOf inplace tail x))
       both ob ob′ same u e s = choice u e s
+
       by-cases : (t u : Bool) → leb c (length (casesOf O i)) ≡ t → leb c (length (casesOf N i)) ≡ u → eqb c 0 ≡ false
           → SameStep O (OfUnion i)
-            (pick t (St.Choice c (getD (casesOf O i) (pred c) Ob.Text) (placeOf inplace tail x)) (St.Unknown c))
-            (pick u (St.Choice c (getD (casesOf N i) (pred c) Ob.Text) (placeOf inplace tail x)) (St.Unknown c))
+          (pick t (St.Choice c (getD (casesOf O i) (pred c) Ob.Text) (placeOf inplace tail x)) (St.Unknown c))
+          (pick u (St.Choice c (getD (casesOf N i) (pred c) Ob.Text) (placeOf inplace tail x)) (St.Unknown c))
       by-cases true true e f z =
           let l : pred c < length (casesOf O i) = omega (arith, leb-true c (length (casesOf O i)) e, eqb-false c 0 z) in
           both _ _ (extends-at longer (pred c) l Ob.Text Ob.Text) (leb-true c (length (casesOf O i)) e) refl
@@ -109,10 +111,11 @@ module _ (O N : Schema) (sound : Sound O) (G : SchemaAppends O N) where
           absurd (omega (arith, leb-true c (length (casesOf O i)) e, leb-false c (length (casesOf N i)) f, extends-le longer))
       by-cases false true e f z = choice-appended (leb-false c (length (casesOf O i)) e)
       by-cases false false e f z = choice-unknown
+
       by-none : (t : Bool) → eqb c 0 ≡ t
           → SameStep O (OfUnion i)
-            (pick t St.Absent (pick (leb c (length (casesOf O i))) (St.Choice c (getD (casesOf O i) (pred c) Ob.Text) (placeOf inplace tail x)) (St.Unknown c)))
-            (pick t St.Absent (pick (leb c (length (casesOf N i))) (St.Choice c (getD (casesOf N i) (pred c) Ob.Text) (placeOf inplace tail x)) (St.Unknown c)))
+          (pick t St.Absent (pick (leb c (length (casesOf O i))) (St.Choice c (getD (casesOf O i) (pred c) Ob.Text) (placeOf inplace tail x)) (St.Unknown c)))
+          (pick t St.Absent (pick (leb c (length (casesOf N i))) (St.Choice c (getD (casesOf N i) (pred c) Ob.Text) (placeOf inplace tail x)) (St.Unknown c)))
       by-none true z = no-value
       by-none false z = by-cases (leb c (length (casesOf O i))) (leb c (length (casesOf N i))) refl refl z
 
@@ -146,8 +149,8 @@ module _ (O N : Schema) (sound : Sound O) (G : SchemaAppends O N) where
         (pick-step (hasFlag r′) (flagged-step m start n c (memberSlot o N r′ c) here) (inside-step n (memberSlot o N r′ c) no-value here))
       where
         here : SameStep O (r .kind)
-          (valueStep o O m (r .kind) (r′ .optional) (r′ .inplace) (start + n) (start + memberSlot o N r′ c .at) (memberSlot o N r′ c .bit))
-          (valueStep o N m (r′ .kind) (r′ .optional) (r′ .inplace) (start + n) (start + memberSlot o N r′ c .at) (memberSlot o N r′ c .bit))
+            (valueStep o O m (r .kind) (r′ .optional) (r′ .inplace) (start + n) (start + memberSlot o N r′ c .at) (memberSlot o N r′ c .bit))
+            (valueStep o N m (r′ .kind) (r′ .optional) (r′ .inplace) (start + n) (start + memberSlot o N r′ c .at) (memberSlot o N r′ c .bit))
         here = value-step o (q .kind) (s .kind) _ _ _ _ _
 
     pub element-step-same : (o : ℕ) {k k′ : Kind} → SameKind k k′ → KindSound O k → (start i : ℕ)
