@@ -3,3 +3,4 @@ pub mod SameLayout
 pub mod SameStep
 pub mod OlderAccepts
 pub mod OlderReads
+pub mod Reached
