@@ -1,2 +1,3 @@
 pub mod Counter
 pub mod Shown
+pub mod SheetDecode
