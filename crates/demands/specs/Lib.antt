@@ -1,3 +1,4 @@
 pub mod Counter
 pub mod Shown
 pub mod SheetDecode
+pub mod SheetEncode

@@ -60,7 +60,7 @@ unfolding takeIf bind
 if-spelt w x ok f h e = (bitsOf-bits w x, λ r. rw (number-read w x h r, e))
 
 -- ---- marks
-mark-present : (w : ℕ) (body : Value → List ℕ) (v : Value) → present v ≡ true → markBits w body v ≡ bitsOf 2 1 ++ body v
+pub mark-present : (w : ℕ) (body : Value → List ℕ) (v : Value) → present v ≡ true → markBits w body v ≡ bitsOf 2 1 ++ body v
 unfolding markBits present
 mark-present w body absent h = absurd (false≢true h)
 mark-present w body (unknown x) h = absurd (false≢true h)
