@@ -2,3 +2,4 @@ pub mod Counter
 pub mod Shown
 pub mod SheetDecode
 pub mod SheetEncode
+pub mod Sheets
