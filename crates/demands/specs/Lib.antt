@@ -5,3 +5,7 @@ pub mod OlderAccepts
 pub mod OlderReads
 pub mod Numbers
 pub mod Reached
+pub mod Shown
+pub mod SheetDecode
+pub mod SheetEncode
+pub mod Sheets

@@ -7,3 +7,5 @@ pub mod Rules
 pub mod RecordSound
 pub mod Sizes
 pub mod LawfulSound
+pub mod All
+pub mod Bits
