@@ -9,3 +9,4 @@ pub mod Shown
 pub mod SheetDecode
 pub mod SheetEncode
 pub mod Sheets
+pub mod Appending
