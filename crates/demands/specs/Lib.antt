@@ -10,3 +10,4 @@ pub mod SheetDecode
 pub mod SheetEncode
 pub mod Sheets
 pub mod Appending
+pub mod AppendingCases

@@ -1,0 +1,127 @@
+-- Schemas that append: the papers' O and N, and a pair in which something of every kind is appended. The first half of demand
+-- 3 at the papers' message.
+use mathlib.Core.Path.{_≡_, refl}
+use mathlib.Core.List.{List, [], _∷_}
+use mathlib.Core.Bool.{true}
+use Prim.Native.Nat.{ℕ, _<_, _≤_}
+use native.Mathlib.Omega.{arith}
+use lib.ListN.{getD}
+use Rattle.coding.specs.Lists as Lists
+use Rattle.coding.specs.Bytes as Bytes
+use Rattle.coding.specs.Schema as Schema
+use Rattle.coding.specs.Structs as Structs
+use Rattle.coding.specs.Packed as Packed
+use Rattle.coding.specs.Lawful as Lawful
+use Rattle.coding.specs.Layout as Layout
+use Rattle.coding.specs.Step as Step
+use Rattle.coding.specs.Walk as Walk
+use Rattle.coding.specs.Append.{rest, more, done, also, boolean, integer, float, enumerated, struct, flat, object, union, same, SameTable, SameMember, SchemaAppends, Appends}
+use Rattle.coding.specs.declared.Budget.{Budget}
+use Rattle.laws.specs.Sound.{All}
+use Rattle.laws.specs.All.{index-all}
+use Rattle.laws.specs.Bits.{Byte}
+use Rattle.demands.specs.Counter.{O, N, M}
+use Rattle.demands.specs.Appending.{AreBytes, older-accepts}
+
+-- ---- a pair in which something of every kind is appended
+-- a struct of an enum of 2 and a U8; a list of unions; a union of a text; a table of a bool, an enum of 3, the struct, the
+-- list and the union
+abbrev pub older : List ℕ
+older =
+    1 ∷ 1 ∷ 1 ∷ 1 ∷ 0
+    ∷ 2 ∷ 0x58 ∷ 2 ∷ 0x08 ∷ 0
+    ∷ 0x88 ∷ 0
+    ∷ 1 ∷ 0x68 ∷ 0
+    ∷ 0x4C ∷ 0x49 ∷ 0x43 ∷ 0x45 ∷ 5 ∷ 0x00 ∷ 0 ∷ 0x58 ∷ 3 ∷ 0x60 ∷ 0 ∷ 0x78 ∷ 0 ∷ 0x88 ∷ 0
+    ∷ []
+
+-- the struct's enum has 5 values, the table's 7; there is a second struct, of the first and a bool; a second list, of the
+-- second table; the union has a second case, the second table; a second union, of the second list. Members are appended: an
+-- optional bool (its flag and its value in the free bits of the bool's byte), an in-place text, the second struct, the second
+-- union. The second table has a U32.
+abbrev pub newer : List ℕ
+newer =
+    2 ∷ 2 ∷ 2 ∷ 2 ∷ 0
+    ∷ 2 ∷ 0x58 ∷ 5 ∷ 0x08 ∷ 0
+    ∷ 2 ∷ 0x60 ∷ 0 ∷ 0x00 ∷ 0
+    ∷ 0x88 ∷ 0 ∷ 0x80 ∷ 1
+    ∷ 2 ∷ 0x68 ∷ 0 ∷ 0x80 ∷ 1
+    ∷ 1 ∷ 0x78 ∷ 1
+    ∷ 0x4C ∷ 0x49 ∷ 0x43 ∷ 0x45 ∷ 9 ∷ 0x00 ∷ 0 ∷ 0x58 ∷ 7 ∷ 0x60 ∷ 0 ∷ 0x78 ∷ 0 ∷ 0x88 ∷ 0
+    ∷ 0x04 ∷ 0 ∷ 0x6A ∷ 0 ∷ 0x60 ∷ 1 ∷ 0x88 ∷ 1
+    ∷ 0x53 ∷ 0x45 ∷ 0x41 ∷ 0x54 ∷ 1 ∷ 0x18 ∷ 0
+    ∷ []
+
+lawful-older : Lawful.lawful older ≡ true
+unfolding Lists.every Lists.run Schema.structOf Structs.lower Structs.byIndex Structs.flatWidth Structs.total Structs.sizeBy Structs.structSize Packed.kindAt Packed.optionalAt Packed.inplaceAt Packed.zeroAt Packed.argumentAt Packed.widthOf Packed.flatOf Packed.objectOf Packed.kindOf Packed.flatAt Packed.objectAt Packed.elementAt Packed.memberAt Packed.records Packed.recordPlace Packed.blocks Packed.structPlace Packed.listPlace Packed.unionPlace Packed.tablePlace Packed.idAt Packed.recordsAt Packed.tableAt Packed.parse Lawful.countsOk Lawful.blocksOk Lawful.placesOk Lawful.shapeOk Lawful.argumentOk Lawful.kindOk Lawful.optionalOk Lawful.inplaceOk Lawful.flagsOk Lawful.recordOk Lawful.firstOk Lawful.recordsOk Lawful.inplaces Lawful.structLawful Lawful.listLawful Lawful.unionLawful Lawful.tableLawful Lawful.idDiffers Lawful.idLawful Lawful.rulesOk Lawful.lawful
+lawful-older = refl
+
+lawful-newer : Lawful.lawful newer ≡ true
+unfolding Lists.every Lists.run Schema.structOf Structs.lower Structs.byIndex Structs.flatWidth Structs.total Structs.sizeBy Structs.structSize Packed.kindAt Packed.optionalAt Packed.inplaceAt Packed.zeroAt Packed.argumentAt Packed.widthOf Packed.flatOf Packed.objectOf Packed.kindOf Packed.flatAt Packed.objectAt Packed.elementAt Packed.memberAt Packed.records Packed.recordPlace Packed.blocks Packed.structPlace Packed.listPlace Packed.unionPlace Packed.tablePlace Packed.idAt Packed.recordsAt Packed.tableAt Packed.parse Lawful.countsOk Lawful.blocksOk Lawful.placesOk Lawful.shapeOk Lawful.argumentOk Lawful.kindOk Lawful.optionalOk Lawful.inplaceOk Lawful.flagsOk Lawful.recordOk Lawful.firstOk Lawful.recordsOk Lawful.inplaces Lawful.structLawful Lawful.listLawful Lawful.unionLawful Lawful.tableLawful Lawful.idDiffers Lawful.idLawful Lawful.rulesOk Lawful.lawful
+lawful-newer = refl
+
+schemas : SchemaAppends (Packed.parse older) (Packed.parse newer)
+unfolding Lists.run Packed.kindAt Packed.optionalAt Packed.inplaceAt Packed.argumentAt Packed.widthOf Packed.flatOf Packed.objectOf Packed.kindOf Packed.flatAt Packed.objectAt Packed.elementAt Packed.memberAt Packed.records Packed.recordPlace Packed.blocks Packed.structPlace Packed.listPlace Packed.unionPlace Packed.tablePlace Packed.idAt Packed.recordsAt Packed.tableAt Packed.parse
+schemas =
+    record {
+      root = refl;
+      structs = more (also (enumerated {n = 2} {n′ = 5} (omega arith)) (also integer done)) rest;
+      lists = more union rest;
+      unions = more (more same rest) rest;
+      tables =
+        more
+        (record {
+          id = refl;
+          members =
+            more (record { kind = flat boolean; optional = refl; inplace = refl })
+            (more (record { kind = flat (enumerated {n = 3} {n′ = 7} (omega arith)); optional = refl; inplace = refl })
+            (more (record { kind = flat struct; optional = refl; inplace = refl })
+            (more (record { kind = object; optional = refl; inplace = refl })
+            (more (record { kind = union; optional = refl; inplace = refl }) rest))));
+        })
+        rest;
+    }
+
+pub every-kind-appends : Appends older newer
+every-kind-appends = record { older-lawful = lawful-older; newer-lawful = lawful-newer; schemas = schemas }
+
+-- ---- the papers' O and N
+lawful-O : Lawful.lawful O ≡ true
+unfolding Lists.every Lists.run Schema.structOf Structs.lower Structs.byIndex Structs.flatWidth Structs.total Structs.sizeBy Structs.structSize Packed.kindAt Packed.optionalAt Packed.inplaceAt Packed.zeroAt Packed.argumentAt Packed.widthOf Packed.flatOf Packed.objectOf Packed.kindOf Packed.flatAt Packed.objectAt Packed.elementAt Packed.memberAt Packed.records Packed.recordPlace Packed.blocks Packed.structPlace Packed.listPlace Packed.unionPlace Packed.tablePlace Packed.idAt Packed.recordsAt Packed.tableAt Packed.parse Lawful.countsOk Lawful.blocksOk Lawful.placesOk Lawful.shapeOk Lawful.argumentOk Lawful.kindOk Lawful.optionalOk Lawful.inplaceOk Lawful.flagsOk Lawful.recordOk Lawful.firstOk Lawful.recordsOk Lawful.inplaces Lawful.structLawful Lawful.listLawful Lawful.unionLawful Lawful.tableLawful Lawful.idDiffers Lawful.idLawful Lawful.rulesOk Lawful.lawful
+lawful-O = refl
+
+lawful-N : Lawful.lawful N ≡ true
+unfolding Lists.every Lists.run Schema.structOf Structs.lower Structs.byIndex Structs.flatWidth Structs.total Structs.sizeBy Structs.structSize Packed.kindAt Packed.optionalAt Packed.inplaceAt Packed.zeroAt Packed.argumentAt Packed.widthOf Packed.flatOf Packed.objectOf Packed.kindOf Packed.flatAt Packed.objectAt Packed.elementAt Packed.memberAt Packed.records Packed.recordPlace Packed.blocks Packed.structPlace Packed.listPlace Packed.unionPlace Packed.tablePlace Packed.idAt Packed.recordsAt Packed.tableAt Packed.parse Lawful.countsOk Lawful.blocksOk Lawful.placesOk Lawful.shapeOk Lawful.argumentOk Lawful.kindOk Lawful.optionalOk Lawful.inplaceOk Lawful.flagsOk Lawful.recordOk Lawful.firstOk Lawful.recordsOk Lawful.inplaces Lawful.structLawful Lawful.listLawful Lawful.unionLawful Lawful.tableLawful Lawful.idDiffers Lawful.idLawful Lawful.rulesOk Lawful.lawful
+lawful-N = refl
+
+schemas-O-N : SchemaAppends (Packed.parse O) (Packed.parse N)
+unfolding Lists.run Packed.kindAt Packed.optionalAt Packed.inplaceAt Packed.argumentAt Packed.widthOf Packed.flatOf Packed.objectOf Packed.kindOf Packed.flatAt Packed.objectAt Packed.elementAt Packed.memberAt Packed.records Packed.recordPlace Packed.blocks Packed.structPlace Packed.listPlace Packed.unionPlace Packed.tablePlace Packed.idAt Packed.recordsAt Packed.tableAt Packed.parse
+schemas-O-N =
+    record {
+      root = refl;
+      structs = rest;
+      lists = rest;
+      unions = rest;
+      tables =
+        more (record { id = refl; members = more (record { kind = flat integer; optional = refl; inplace = refl }) rest }) rest;
+    }
+
+pub O-N-appends : Appends O N
+O-N-appends = record { older-lawful = lawful-O; newer-lawful = lawful-N; schemas = schemas-O-N }
+
+bytes-O : AreBytes O
+bytes-O = index-all Byte 0 O (omega arith) (omega arith)
+
+bytes-N : AreBytes N
+bytes-N = index-all Byte 0 N (omega arith) (omega arith)
+
+bytes-M : AreBytes M
+bytes-M = index-all Byte 0 M (omega arith) (omega arith)
+
+-- "1. M by N, budget 2: 0 0 2"
+abbrev two : Budget
+two = record { visits = 2 }
+
+accepted-M : Walk.verdict Bytes.u48 N M two .number ≡ 0
+unfolding Lists.every Lists.run Bytes.le Bytes.bitAt Bytes.isNaN Bytes.largest Bytes.deepest Bytes.u48 Schema.structOf Schema.elementOf Schema.casesOf Schema.tableOf Schema.caseOf Structs.lower Structs.byIndex Structs.flatWidth Structs.total Structs.sizeBy Structs.structSize Structs.flatOk Structs.flatsOk Structs.okBy Structs.structOk Packed.kindAt Packed.optionalAt Packed.inplaceAt Packed.zeroAt Packed.argumentAt Packed.widthOf Packed.flatOf Packed.objectOf Packed.kindOf Packed.flatAt Packed.objectAt Packed.elementAt Packed.memberAt Packed.records Packed.recordPlace Packed.blocks Packed.structPlace Packed.listPlace Packed.unionPlace Packed.tablePlace Packed.idAt Packed.recordsAt Packed.tableAt Packed.parse Lawful.countsOk Lawful.blocksOk Lawful.placesOk Lawful.shapeOk Lawful.argumentOk Lawful.kindOk Lawful.optionalOk Lawful.inplaceOk Lawful.flagsOk Lawful.recordOk Lawful.firstOk Lawful.recordsOk Lawful.inplaces Lawful.structLawful Lawful.listLawful Lawful.unionLawful Lawful.tableLawful Lawful.idDiffers Lawful.idLawful Lawful.rulesOk Lawful.lawful Layout.flatIsBool Layout.isBool Layout.width Layout.flatTakesFlag Layout.takesFlag Layout.hasFlag Layout.begin Layout.bitByte Layout.bitIndex Layout.afterBit Layout.afterBytes Layout.afterFlag Layout.slotOf Layout.afterValue Layout.memberSlot Layout.afterMember Step.enumStep Step.floatStep Step.structStep Step.placeOf Step.objectStep Step.unionStep Step.flatStep Step.valueStep Step.inside Step.flagged Step.memberStep Step.elementPlace Step.elementStep Step.elementsSize Walk.placed Walk.magic Walk.headerSize Walk.contentSize Walk.endOk Walk.openContent Walk.openObject Walk.refuse Walk.andThen Walk.followChoice Walk.follow Walk.members Walk.elements Walk.content Walk.enter Walk.arrive Walk.tooDeep Walk.counted Walk.visit Walk.rootPlace Walk.walk Walk.verdictOf Walk.early Walk.sizeOk Walk.startOk Walk.verdict
+accepted-M = refl
