@@ -3,3 +3,5 @@ pub mod Shown
 pub mod SheetDecode
 pub mod SheetEncode
 pub mod Sheets
+pub mod StepShown
+pub mod AcceptedShown
