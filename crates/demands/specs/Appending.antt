@@ -2,17 +2,20 @@
 -- sheet is the newer's sheet without the appended members, as bytes".
 -- When one schema appends to another, and what a sheet is without the appended members, is said in coding's Append.
 use Prim.Native.Nat.{ℕ, _<_, _≤_}
+use native.Mathlib.Omega.{arith}
 use mathlib.Core.List.{List}
 use mathlib.Core.Path.{_≡_, refl, sym, ap, _∙_, subst}
 use mathlib.Core.Option.{some}
-use lib.ListN.{getD}
-use Rattle.coding.specs.Bytes.{u48, deepest}
+use lib.ListN.{getD, length}
+use lib.Dec.{leb}
+use borrow.Author.Tests.{leb-true}
+use Rattle.coding.specs.Bytes.{u48, deepest, largest}
 use Rattle.coding.specs.Packed.{parse}
 use Rattle.coding.specs.Lawful.{lawful}
 use Rattle.coding.specs.Value.{Value}
 use Rattle.coding.specs.Read.{messageRead}
 use Rattle.coding.specs.Sheet.{sheetOf, treeOf}
-use Rattle.coding.specs.Walk.{walk, verdictOf, verdict}
+use Rattle.coding.specs.Walk.{headerSize, sizeOk, verdictOf, verdict}
 use Rattle.coding.specs.Message.{messageSheet}
 use Rattle.coding.specs.Append.{Appends, without, resheet, sheetWithout}
 use Rattle.coding.specs.declared.Object.the-variants as Ob
@@ -20,40 +23,57 @@ use Rattle.coding.specs.declared.Budget.{Budget}
 use Rattle.coding.specs.declared.Spent.{Spent}
 use Rattle.coding.specs.declared.Verdict.{Verdict}
 use Rattle.coding.specs.declared.Walked.the-variants.{Going}
+use Rattle.laws.specs.Lists.{both-right}
 use Rattle.laws.specs.LawfulSound.{lawful-sound}
 use Rattle.demands.specs.OlderAccepts as A
 use Rattle.demands.specs.OlderReads as R
 use Rattle.demands.specs.Reached.{verdict-walks, walks-verdict}
-use Rattle.demands.specs.Sheets.{ShownAtRoot, decode-encode}
+use Rattle.demands.specs.Sheets.{decode-encode}
+use Rattle.demands.specs.AcceptedShown.{walk-shown}
 
 -- the numbers of a list are bytes
 abbrev pub AreBytes : List ℕ → Type 0
 AreBytes l = (i : ℕ) → getD l i 0 < 256
 
-module _ (older newer : List ℕ) (appends : Appends older newer) (older-bytes : AreBytes older) (newer-bytes : AreBytes newer)
-    (m : List ℕ) where
-  -- ---- the verdict, at every offset width
-  pub older-accepts : (o : ℕ) (b : Budget) → verdict o newer m b .number ≡ 0
+-- ---- at every offset width: the verdict; and the values, of any bytes
+module _ (older newer : List ℕ) (older-bytes : AreBytes older) (appends : Appends older newer) (o : ℕ) (m : List ℕ) where
+  pub older-accepts : (b : Budget) → verdict o newer m b .number ≡ 0
       → (verdict o older m b .number ≡ 0) × (verdict o older m b .visits ≤ verdict o newer m b .visits)
   unfolding verdictOf
-  older-accepts o b h =
+  older-accepts b h =
       let x = verdict-walks o newer m b h in
       let y = A.older-accepts o (parse older) (parse newer) (lawful-sound older older-bytes (appends .older-lawful)) (appends .schemas) m b (x .spent) (x .walks) in
       let e = walks-verdict o older m b (appends .older-lawful) (x .size) (x .start) (y .0) (y .1) in (
         ap (λ (v : Verdict). v .number) e,
         subst (λ (v : Verdict). v .visits ≤ verdict o newer m b .visits) (sym e)
-        (subst (λ (v : Verdict). y .0 .visits ≤ v .visits) (sym (x .answer)) (y .2)),
+            (subst (λ (v : Verdict). y .0 .visits ≤ v .visits) (sym (x .answer)) (y .2)),
       )
 
-  -- ---- the values, at every offset width and of any bytes
-  pub older-reads : (o : ℕ)
-      → messageRead o (parse older) m ≡ without deepest (parse older) (Ob.Table (parse older .root)) (messageRead o (parse newer) m)
-  older-reads o = R.older-reads o (parse older) (parse newer) (lawful-sound older older-bytes (appends .older-lawful)) (appends .schemas) m
+  pub older-reads :
+      messageRead o (parse older) m ≡ without deepest (parse older) (Ob.Table (parse older .root)) (messageRead o (parse newer) m)
+  older-reads = R.older-reads o (parse older) (parse newer) (lawful-sound older older-bytes (appends .older-lawful)) (appends .schemas) m
 
-  -- ---- the sheet, as bytes, of a message whose values the newer can show
-  sheet-without : (o : ℕ) → ShownAtRoot (parse newer) (messageRead o (parse newer) m)
-      → messageSheet o older m ≡ sheetWithout older newer (messageSheet o newer m)
-  unfolding messageSheet sheetWithout resheet
-  sheet-without o h =
-      rw (decode-encode (parse newer) (lawful-sound newer newer-bytes (appends .newer-lawful)) (messageRead o (parse newer) m) h)
-      (ap (sheetOf (parse older)) (older-reads o))
+-- THE CLAIM: what the newer accepts, the older accepts with the same budget and no more visits, and its sheet is the newer's
+-- without the appended members
+pub record OlderAgrees (older newer m : List ℕ) (b : Budget) : Type 0 where
+  pub accepts : verdict u48 older m b .number ≡ 0
+  pub visits : verdict u48 older m b .visits ≤ verdict u48 newer m b .visits
+  pub sheet : messageSheet u48 older m ≡ sheetWithout older newer (messageSheet u48 newer m)
+
+module _ (older newer m : List ℕ) (older-bytes : AreBytes older) (newer-bytes : AreBytes newer) (message-bytes : AreBytes m)
+    (appends : Appends older newer) (b : Budget) where
+  pub older-sheet : verdict u48 newer m b .number ≡ 0 → OlderAgrees older newer m b
+  unfolding messageSheet sheetWithout resheet u48 sizeOk
+  older-sheet h =
+      let x = verdict-walks u48 newer m b h in
+      let y = older-accepts older newer older-bytes appends u48 m b h in
+      let sound = lawful-sound newer newer-bytes (appends .newer-lawful) in
+      let sized = leb-true (length m) largest (both-right (leb (headerSize u48) (length m)) (leb (length m) largest) (x .size)) in
+      let shown = walk-shown (parse newer) sound m message-bytes sized u48 (omega arith) b (x .spent) (x .walks) in
+      record {
+        accepts = y .0;
+        visits = y .1;
+        sheet =
+            rw (decode-encode (parse newer) sound (messageRead u48 (parse newer) m) shown)
+            (ap (sheetOf (parse older)) (older-reads older newer older-bytes appends u48 m));
+      }

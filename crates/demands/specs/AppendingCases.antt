@@ -2,10 +2,12 @@
 -- 3 at the papers' message.
 use mathlib.Core.Path.{_≡_, refl}
 use mathlib.Core.List.{List, [], _∷_}
-use mathlib.Core.Bool.{true}
+use mathlib.Core.Bool.{Bool, true, _&&_}
 use Prim.Native.Nat.{ℕ, _<_, _≤_}
 use native.Mathlib.Omega.{arith}
 use lib.ListN.{getD}
+use lib.Dec.{ltb}
+use borrow.Author.Tests.{ltb-true}
 use Rattle.coding.specs.Lists as Lists
 use Rattle.coding.specs.Bytes as Bytes
 use Rattle.coding.specs.Schema as Schema
@@ -18,10 +20,11 @@ use Rattle.coding.specs.Walk as Walk
 use Rattle.coding.specs.Append.{rest, more, done, also, boolean, integer, float, enumerated, struct, flat, object, union, same, SameTable, SameMember, SchemaAppends, Appends}
 use Rattle.coding.specs.declared.Budget.{Budget}
 use Rattle.laws.specs.Sound.{All}
+use Rattle.laws.specs.Lists.{both-left, both-right}
 use Rattle.laws.specs.All.{index-all}
 use Rattle.laws.specs.Bits.{Byte}
 use Rattle.demands.specs.Counter.{O, N, M}
-use Rattle.demands.specs.Appending.{AreBytes, older-accepts}
+use Rattle.demands.specs.Appending.{AreBytes, OlderAgrees, older-sheet}
 
 -- ---- a pair in which something of every kind is appended
 -- a struct of an enum of 2 and a U8; a list of unions; a union of a text; a table of a bool, an enum of 3, the struct, the
@@ -69,17 +72,17 @@ schemas =
       lists = more union rest;
       unions = more (more same rest) rest;
       tables =
-        more
-        (record {
-          id = refl;
-          members =
-            more (record { kind = flat boolean; optional = refl; inplace = refl })
-            (more (record { kind = flat (enumerated {n = 3} {n′ = 7} (omega arith)); optional = refl; inplace = refl })
-            (more (record { kind = flat struct; optional = refl; inplace = refl })
-            (more (record { kind = object; optional = refl; inplace = refl })
-            (more (record { kind = union; optional = refl; inplace = refl }) rest))));
-        })
-        rest;
+          more
+          (record {
+            id = refl;
+            members =
+                more (record { kind = flat boolean; optional = refl; inplace = refl })
+                (more (record { kind = flat (enumerated {n = 3} {n′ = 7} (omega arith)); optional = refl; inplace = refl })
+                (more (record { kind = flat struct; optional = refl; inplace = refl })
+                (more (record { kind = object; optional = refl; inplace = refl })
+                (more (record { kind = union; optional = refl; inplace = refl }) rest))));
+          })
+          rest;
     }
 
 pub every-kind-appends : Appends older newer
@@ -103,20 +106,24 @@ schemas-O-N =
       lists = rest;
       unions = rest;
       tables =
-        more (record { id = refl; members = more (record { kind = flat integer; optional = refl; inplace = refl }) rest }) rest;
+          more (record { id = refl; members = more (record { kind = flat integer; optional = refl; inplace = refl }) rest }) rest;
     }
 
 pub O-N-appends : Appends O N
 O-N-appends = record { older-lawful = lawful-O; newer-lawful = lawful-N; schemas = schemas-O-N }
 
-bytes-O : AreBytes O
-bytes-O = index-all Byte 0 O (omega arith) (omega arith)
+-- every number of a list is a byte, tested
+abbrev allBytes : List ℕ → Bool
+allBytes [] = true
+allBytes (x ∷ xs) = ltb x 256 && allBytes xs
 
-bytes-N : AreBytes N
-bytes-N = index-all Byte 0 N (omega arith) (omega arith)
+all-bytes : (l : List ℕ) → allBytes l ≡ true → All Byte l
+all-bytes [] e = tt
+all-bytes (x ∷ xs) e =
+    (ltb-true x 256 (both-left (ltb x 256) (allBytes xs) e), all-bytes xs (both-right (ltb x 256) (allBytes xs) e))
 
-bytes-M : AreBytes M
-bytes-M = index-all Byte 0 M (omega arith) (omega arith)
+bytes : (l : List ℕ) → allBytes l ≡ true → AreBytes l
+bytes l e = index-all Byte 0 l (omega arith) (all-bytes l e)
 
 -- "1. M by N, budget 2: 0 0 2"
 abbrev two : Budget
@@ -125,3 +132,6 @@ two = record { visits = 2 }
 accepted-M : Walk.verdict Bytes.u48 N M two .number ≡ 0
 unfolding Lists.every Lists.run Bytes.le Bytes.bitAt Bytes.isNaN Bytes.largest Bytes.deepest Bytes.u48 Schema.structOf Schema.elementOf Schema.casesOf Schema.tableOf Schema.caseOf Structs.lower Structs.byIndex Structs.flatWidth Structs.total Structs.sizeBy Structs.structSize Structs.flatOk Structs.flatsOk Structs.okBy Structs.structOk Packed.kindAt Packed.optionalAt Packed.inplaceAt Packed.zeroAt Packed.argumentAt Packed.widthOf Packed.flatOf Packed.objectOf Packed.kindOf Packed.flatAt Packed.objectAt Packed.elementAt Packed.memberAt Packed.records Packed.recordPlace Packed.blocks Packed.structPlace Packed.listPlace Packed.unionPlace Packed.tablePlace Packed.idAt Packed.recordsAt Packed.tableAt Packed.parse Lawful.countsOk Lawful.blocksOk Lawful.placesOk Lawful.shapeOk Lawful.argumentOk Lawful.kindOk Lawful.optionalOk Lawful.inplaceOk Lawful.flagsOk Lawful.recordOk Lawful.firstOk Lawful.recordsOk Lawful.inplaces Lawful.structLawful Lawful.listLawful Lawful.unionLawful Lawful.tableLawful Lawful.idDiffers Lawful.idLawful Lawful.rulesOk Lawful.lawful Layout.flatIsBool Layout.isBool Layout.width Layout.flatTakesFlag Layout.takesFlag Layout.hasFlag Layout.begin Layout.bitByte Layout.bitIndex Layout.afterBit Layout.afterBytes Layout.afterFlag Layout.slotOf Layout.afterValue Layout.memberSlot Layout.afterMember Step.enumStep Step.floatStep Step.structStep Step.placeOf Step.objectStep Step.unionStep Step.flatStep Step.valueStep Step.inside Step.flagged Step.memberStep Step.elementPlace Step.elementStep Step.elementsSize Walk.placed Walk.magic Walk.headerSize Walk.contentSize Walk.endOk Walk.openContent Walk.openObject Walk.refuse Walk.andThen Walk.followChoice Walk.follow Walk.members Walk.elements Walk.content Walk.enter Walk.arrive Walk.tooDeep Walk.counted Walk.visit Walk.rootPlace Walk.walk Walk.verdictOf Walk.early Walk.sizeOk Walk.startOk Walk.verdict
 accepted-M = refl
+
+pub case-one : OlderAgrees O N M two
+case-one = older-sheet O N M (bytes O refl) (bytes N refl) (bytes M refl) O-N-appends two accepted-M
