@@ -4,25 +4,20 @@
 use Prim.Native.Nat.{ℕ, _<_, _≤_}
 use native.Mathlib.Omega.{arith}
 use mathlib.Core.List.{List}
-use mathlib.Core.Path.{_≡_, refl, sym, ap, _∙_, subst}
-use mathlib.Core.Option.{some}
+use mathlib.Core.Path.{_≡_, sym, ap, subst}
 use lib.ListN.{getD, length}
 use lib.Dec.{leb}
 use borrow.Author.Tests.{leb-true}
 use Rattle.coding.specs.Bytes.{u48, deepest, largest}
 use Rattle.coding.specs.Packed.{parse}
-use Rattle.coding.specs.Lawful.{lawful}
-use Rattle.coding.specs.Value.{Value}
 use Rattle.coding.specs.Read.{messageRead}
-use Rattle.coding.specs.Sheet.{sheetOf, treeOf}
+use Rattle.coding.specs.Sheet.{sheetOf}
 use Rattle.coding.specs.Walk.{headerSize, sizeOk, verdictOf, verdict}
 use Rattle.coding.specs.Message.{messageSheet}
 use Rattle.coding.specs.Append.{Appends, without, resheet, sheetWithout}
 use Rattle.coding.specs.declared.Object.the-variants as Ob
 use Rattle.coding.specs.declared.Budget.{Budget}
-use Rattle.coding.specs.declared.Spent.{Spent}
 use Rattle.coding.specs.declared.Verdict.{Verdict}
-use Rattle.coding.specs.declared.Walked.the-variants.{Going}
 use Rattle.laws.specs.Lists.{both-right}
 use Rattle.laws.specs.LawfulSound.{lawful-sound}
 use Rattle.demands.specs.OlderAccepts as A

@@ -3,9 +3,8 @@
 use mathlib.Core.Path.{_≡_, refl}
 use mathlib.Core.List.{List, [], _∷_}
 use mathlib.Core.Bool.{Bool, true, _&&_}
-use Prim.Native.Nat.{ℕ, _<_, _≤_}
+use Prim.Native.Nat.{ℕ}
 use native.Mathlib.Omega.{arith}
-use lib.ListN.{getD}
 use lib.Dec.{ltb}
 use borrow.Author.Tests.{ltb-true}
 use Rattle.coding.specs.Lists as Lists
@@ -17,7 +16,7 @@ use Rattle.coding.specs.Lawful as Lawful
 use Rattle.coding.specs.Layout as Layout
 use Rattle.coding.specs.Step as Step
 use Rattle.coding.specs.Walk as Walk
-use Rattle.coding.specs.Append.{rest, more, done, also, boolean, integer, float, enumerated, struct, flat, object, union, same, SameTable, SameMember, SchemaAppends, Appends}
+use Rattle.coding.specs.Append.{rest, more, done, also, boolean, integer, enumerated, struct, flat, object, union, same, SchemaAppends, Appends}
 use Rattle.coding.specs.declared.Budget.{Budget}
 use Rattle.laws.specs.Sound.{All}
 use Rattle.laws.specs.Lists.{both-left, both-right}

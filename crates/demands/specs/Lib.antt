@@ -9,7 +9,9 @@ pub mod SameLayout
 pub mod SameStep
 pub mod OlderAccepts
 pub mod OlderReads
-pub mod Numbers
+pub mod RefusalNumbers
+pub mod Arrivals
+pub mod ArrivalsWalk
 pub mod Reached
 pub mod Appending
 pub mod AppendingCases

@@ -1,21 +1,20 @@
 -- What a newer schema accepts with a budget, an older one accepts with the same budget: the older's walk is within the
 -- newer's.
-use Prim.Native.Nat.{ℕ, zero, suc, _≤_, _<_, _+_}
+use Prim.Native.Nat.{ℕ, zero, suc, _≤_, _+_}
 use native.Mathlib.Nat.{le-refl, le-trans}
 use native.Mathlib.Omega.{arith}
 use mathlib.Core.List.{List, [], _∷_}
-use mathlib.Core.Bool.{Bool, true, false, _&&_}
-use mathlib.Core.Path.{_≡_, refl, sym, ap, subst}
-use lib.ListN.{length, getD}
-use lib.Dec.{ltb, leb, eqb}
+use mathlib.Core.Bool.{Bool, true, false}
+use mathlib.Core.Path.{_≡_, refl, subst}
+use lib.Dec.{ltb, eqb}
 use borrow.Author.Tests.{ltb-true, lt-ltb}
 use Rattle.coding.specs.Lists.{pick}
 use Rattle.coding.specs.Bytes.{le, deepest}
 use Rattle.coding.specs.Schema.{Schema, elementOf, tableOf}
 use Rattle.coding.specs.Layout.{begin, afterMember}
 use Rattle.coding.specs.Step.{memberStep, elementStep}
-use Rattle.coding.specs.Walk.{placed, magic, headerSize, contentSize, endOk, openContent, openObject, refuse, andThen, Child, followChoice, follow, members, elements, content, enter, arrive, tooDeep, counted, visit, rootPlace, walk}
-use Rattle.coding.specs.Append.{Extends, rest, more, SameKind, SameMember, SameTable, SchemaAppends}
+use Rattle.coding.specs.Walk.{placed, headerSize, openContent, openObject, refuse, andThen, Child, followChoice, follow, members, elements, content, enter, arrive, tooDeep, counted, visit, rootPlace, walk}
+use Rattle.coding.specs.Append.{Extends, rest, more, SameKind, SameMember, SchemaAppends}
 use Rattle.coding.specs.declared.Object.{Object}
 use Rattle.coding.specs.declared.Object.the-variants as Ob
 use Rattle.coding.specs.declared.Kind.{Kind}

@@ -1,22 +1,22 @@
 -- The values that an older schema reads from any bytes are the newer's without the appended members.
 use Prim.Native.Nat.{ℕ, zero, suc, _≤_, _<_, _+_}
 use native.Mathlib.Omega.{arith}
-use mathlib.Core.List.{List, [], _∷_}
+use mathlib.Core.List.{List}
 use mathlib.Core.Bool.{Bool, true, false}
 use mathlib.Core.Path.{_≡_, refl, sym, ap, ap₂, _∙_, subst}
 use lib.ListN.{length, getD}
-use lib.Dec.{ltb, leb, eqb}
+use lib.Dec.{ltb, eqb}
 use borrow.Author.Tests.{ltb-true, ltb-false, lt-ltb, le-ltb, le-leb, lt-leb}
 use Rattle.coding.specs.Lists.{pick}
 use Rattle.coding.specs.Bytes.{le, deepest}
-use Rattle.coding.specs.Schema.{Schema, structOf, elementOf, casesOf, caseOf, tableOf}
-use Rattle.coding.specs.Structs.{byIndex, flatWidth, structSize}
+use Rattle.coding.specs.Schema.{Schema, casesOf}
+use Rattle.coding.specs.Structs.{flatWidth, structSize}
 use Rattle.coding.specs.Layout.{begin, afterMember}
-use Rattle.coding.specs.Step.{enumStep, fieldStep, memberStep, elementStep}
+use Rattle.coding.specs.Step.{enumStep, fieldStep}
 use Rattle.coding.specs.Walk.{headerSize, rootPlace}
-use Rattle.coding.specs.Value.{Value, Values, absent, unknown, number, blob, row, chosen, none, _then_, first, others}
+use Rattle.coding.specs.Value.{Value, absent, number, row, _then_, first, others}
 use Rattle.coding.specs.Read.{Child, stepRead, noObject, fieldsRead, readBy, noStruct, structRead, membersRead, elementsRead, contentRead, placeRead, read, messageRead}
-use Rattle.coding.specs.Append.{Extends, rest, more, Alike, done, also, SameFlat, boolean, integer, float, enumerated, struct, SameKind, SameMember, SameTable, SchemaAppends, withoutEnum, inRow, withoutFlat, withoutFields, withoutBy, same-value, withoutStruct, Change, withoutChoice, withoutPart, withoutMembers, withoutElements, withoutContent, without}
+use Rattle.coding.specs.Append.{Extends, rest, more, Alike, done, also, SameFlat, boolean, integer, float, enumerated, struct, SameKind, SameMember, SchemaAppends, withoutEnum, inRow, withoutFlat, withoutFields, withoutBy, same-value, withoutStruct, Change, withoutChoice, withoutPart, withoutMembers, withoutElements, withoutContent, without}
 use Rattle.coding.specs.declared.Flat.{Flat}
 use Rattle.coding.specs.declared.Flat.the-variants.{Boolean, Integer, Float, Enumerated, Struct}
 use Rattle.coding.specs.declared.Object.{Object}

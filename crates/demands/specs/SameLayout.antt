@@ -1,15 +1,13 @@
 -- What an older and a newer schema have alike: struct sizes, struct booleans, slots and cursors, headers and contents.
-use Prim.Native.Nat.{ℕ, zero, suc, _≤_, _<_, _+_, _*_, _/_, _%_}
+use Prim.Native.Nat.{ℕ, zero, suc, _≤_, _<_, _+_}
 use native.Mathlib.Nat.{not-suc-le-zero, le-of-suc-le-suc}
 use native.Mathlib.Omega.{arith}
-use mathlib.Core.List.{List, [], _∷_}
-use mathlib.Core.Bool.{Bool, true, false, _&&_}
-use mathlib.Core.Path.{_≡_, refl, sym, ap, ap₂, _∙_, subst}
+use mathlib.Core.List.{List, []}
+use mathlib.Core.Bool.{Bool, _&&_}
+use mathlib.Core.Path.{_≡_, refl, ap, ap₂, _∙_}
 use lib.ListN.{length, getD}
-use lib.Dec.{ltb, leb, eqb}
-use Rattle.coding.specs.Lists.{pick}
 use Rattle.coding.specs.Schema.{Schema, Table, structOf, elementOf, casesOf, tableOf}
-use Rattle.coding.specs.Structs.{byIndex, flatWidth, total, sizeBy, structSize, flatOk, flatsOk, okBy, always, structOk}
+use Rattle.coding.specs.Structs.{flatWidth, total, sizeBy, structSize, flatOk, flatsOk, okBy, always, structOk}
 use Rattle.coding.specs.Layout.{flatIsBool, isBool, width, flatTakesFlag, takesFlag, hasFlag, afterFlag, slotOf, afterValue, memberSlot, afterMember}
 use Rattle.coding.specs.Step.{elementPlace, elementsSize}
 use Rattle.coding.specs.Walk.{magic, contentSize}
@@ -20,7 +18,6 @@ use Rattle.coding.specs.declared.Object.the-variants as Ob
 use Rattle.coding.specs.declared.Kind.{Kind}
 use Rattle.coding.specs.declared.Member.{Member}
 use Rattle.coding.specs.declared.Cursor.{Cursor}
-use Rattle.coding.specs.declared.Slot.{Slot}
 use Rattle.laws.specs.Structs.{index-holds₂}
 use Rattle.laws.specs.Sound.{All, FlatSound, ObjectSound, KindSound, MemberSound, Sound}
 

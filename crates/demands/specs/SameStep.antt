@@ -1,10 +1,10 @@
 -- What an older and a newer schema find at the same member or element: the same step, but that an enum's value or a choice
 -- of the newer may be unknown to the older.
-use Prim.Native.Nat.{ℕ, zero, suc, _≤_, _<_, _+_, pred, _%_}
+use Prim.Native.Nat.{ℕ, zero, suc, _≤_, _<_, _+_, pred}
 use native.Mathlib.Omega.{arith}
 use mathlib.Core.List.{List, [], _∷_}
 use mathlib.Core.Bool.{Bool, true, false, _&&_}
-use mathlib.Core.Path.{_≡_, refl, sym, ap, subst}
+use mathlib.Core.Path.{_≡_, refl}
 use lib.ListN.{length, getD}
 use lib.Dec.{ltb, leb, eqb}
 use borrow.Author.Tests.{ltb-true, ltb-false, leb-true, leb-false, eqb-false}
@@ -13,9 +13,8 @@ use Rattle.coding.specs.Bytes.{le, bitAt, isNaN}
 use Rattle.coding.specs.Schema.{Schema, casesOf, caseOf}
 use Rattle.coding.specs.Structs.{structOk}
 use Rattle.coding.specs.Layout.{hasFlag, bitByte, bitIndex, memberSlot}
-use Rattle.coding.specs.Step.{enumStep, floatStep, structStep, placeOf, objectStep, unionStep, flatStep, fieldStep, valueStep, inside, flagged, memberStep, elementPlace, elementStep}
-use Rattle.coding.specs.Value.{number}
-use Rattle.coding.specs.Append.{Extends, SameFlat, boolean, integer, float, enumerated, struct, SameKind, flat, object, union, SameMember, SameObject, same, SchemaAppends, withoutFlat, withoutStruct}
+use Rattle.coding.specs.Step.{enumStep, floatStep, structStep, placeOf, objectStep, unionStep, flatStep, valueStep, inside, flagged, memberStep, elementStep}
+use Rattle.coding.specs.Append.{Extends, SameFlat, boolean, integer, float, enumerated, struct, SameKind, flat, object, union, SameMember, SameObject, same, SchemaAppends}
 use Rattle.coding.specs.declared.Flat.{Flat}
 use Rattle.coding.specs.declared.Flat.the-variants.{Boolean, Integer, Float, Enumerated, Struct}
 use Rattle.coding.specs.declared.Object.{Object}

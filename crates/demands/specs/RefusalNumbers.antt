@@ -7,10 +7,10 @@ use lib.ListN.{length, getD}
 use lib.Dec.{ltb, leb, eqb}
 use Rattle.coding.specs.Lists.{pick}
 use Rattle.coding.specs.Bytes.{le, bitAt, isNaN}
-use Rattle.coding.specs.Schema.{Schema, casesOf, caseOf}
+use Rattle.coding.specs.Schema.{Schema, casesOf}
 use Rattle.coding.specs.Structs.{structOk}
 use Rattle.coding.specs.Layout.{hasFlag, bitByte, bitIndex, memberSlot}
-use Rattle.coding.specs.Step.{enumStep, floatStep, structStep, placeOf, objectStep, unionStep, flatStep, valueStep, inside, flagged, memberStep, elementPlace, elementStep}
+use Rattle.coding.specs.Step.{enumStep, floatStep, structStep, objectStep, unionStep, flatStep, valueStep, inside, flagged, memberStep, elementPlace, elementStep}
 use Rattle.coding.specs.Walk.{magic, headerSize, contentSize, endOk, openContent, openObject}
 use Rattle.coding.specs.declared.Flat.{Flat}
 use Rattle.coding.specs.declared.Flat.the-variants as F
