@@ -48,27 +48,32 @@ module _ (older newer : List ℕ) (older-bytes : AreBytes older) (appends : Appe
       messageRead o (parse older) m ≡ without deepest (parse older) (Ob.Table (parse older .root)) (messageRead o (parse newer) m)
   older-reads = R.older-reads o (parse older) (parse newer) (lawful-sound older older-bytes (appends .older-lawful)) (appends .schemas) m
 
--- THE CLAIM: what the newer accepts, the older accepts with the same budget and no more visits, and its sheet is the newer's
--- without the appended members
-pub record OlderAgrees (older newer m : List ℕ) (b : Budget) : Type 0 where
-  pub accepts : verdict u48 older m b .number ≡ 0
-  pub visits : verdict u48 older m b .visits ≤ verdict u48 newer m b .visits
-  pub sheet : messageSheet u48 older m ≡ sheetWithout older newer (messageSheet u48 newer m)
+-- ---- the sheet too, as bytes
+pub record OlderAgrees (o : ℕ) (older newer m : List ℕ) (b : Budget) : Type 0 where
+  pub accepts : verdict o older m b .number ≡ 0
+  pub visits : verdict o older m b .visits ≤ verdict o newer m b .visits
+  pub sheet : messageSheet o older m ≡ sheetWithout older newer (messageSheet o newer m)
 
 module _ (older newer m : List ℕ) (older-bytes : AreBytes older) (newer-bytes : AreBytes newer) (message-bytes : AreBytes m)
     (appends : Appends older newer) (b : Budget) where
-  pub older-sheet : verdict u48 newer m b .number ≡ 0 → OlderAgrees older newer m b
-  unfolding messageSheet sheetWithout resheet u48 sizeOk
-  older-sheet h =
-      let x = verdict-walks u48 newer m b h in
-      let y = older-accepts older newer older-bytes appends u48 m b h in
+  pub older-agrees : (o : ℕ) → 0 < o → verdict o newer m b .number ≡ 0 → OlderAgrees o older newer m b
+  unfolding messageSheet sheetWithout resheet sizeOk
+  older-agrees o wide h =
+      let x = verdict-walks o newer m b h in
+      let y = older-accepts older newer older-bytes appends o m b h in
       let sound = lawful-sound newer newer-bytes (appends .newer-lawful) in
-      let sized = leb-true (length m) largest (both-right (leb (headerSize u48) (length m)) (leb (length m) largest) (x .size)) in
-      let shown = walk-shown (parse newer) sound m message-bytes sized u48 (omega arith) b (x .spent) (x .walks) in
+      let sized = leb-true (length m) largest (both-right (leb (headerSize o) (length m)) (leb (length m) largest) (x .size)) in
+      let shown = walk-shown (parse newer) sound m message-bytes sized o wide b (x .spent) (x .walks) in
       record {
         accepts = y .0;
         visits = y .1;
         sheet =
-            rw (decode-encode (parse newer) sound (messageRead u48 (parse newer) m) shown)
-            (ap (sheetOf (parse older)) (older-reads older newer older-bytes appends u48 m));
+            rw (decode-encode (parse newer) sound (messageRead o (parse newer) m) shown)
+            (ap (sheetOf (parse older)) (older-reads older newer older-bytes appends o m));
       }
+
+  -- THE CLAIM: what the newer accepts, the older accepts with the same budget and no more visits, and its sheet is the newer's
+  -- without the appended members
+  pub older-sheet : verdict u48 newer m b .number ≡ 0 → OlderAgrees u48 older newer m b
+  unfolding u48
+  older-sheet h = older-agrees u48 (omega arith) h
