@@ -42,14 +42,11 @@ use Rattle.coding.specs.declared.Refusal.{Refusal}
 use Rattle.coding.specs.declared.Walked.{Walked}
 use Rattle.coding.specs.declared.Walked.the-variants.{Going, Refused}
 use Rattle.laws.specs.Sound.{All, FlatSound, ObjectSound, KindSound, FlatScalar, NoStruct, MemberSound, Sound}
+use Rattle.laws.specs.Lists.{both-left, both-right, pick-holds}
 use Rattle.laws.specs.All.{all-take, all-drop, all-index}
 use Rattle.laws.specs.Bits.{Byte}
 use Rattle.laws.specs.Structs.{index-holds₂}
 use Rattle.demands.specs.Shown.{FlatShown, boolean, integer, float, no-enum, enum, unknown-enum, struct, FlatsShown, no-flat, flats, Objects, PartShown, no-part, flat, object, choice, unknown-choice, MembersShown, no-member, members, ElementsShown, no-element, elements, ContentShown, text, bytes, list, table, Shown}
-
-and-true : (a b : Bool) → a && b ≡ true → (a ≡ true) × (b ≡ true)
-and-true true b e = (refl, e)
-and-true false b e = absurd (false≢true e)
 
 -- what a step may be; one of what leads to no object shows its value at once
 pub data StepShown (S : Schema) (m : List ℕ) : Kind → Step → Type 0 where
@@ -61,8 +58,7 @@ pub data StepShown (S : Schema) (m : List ℕ) : Kind → Step → Type 0 where
   step-unknown : {i c : ℕ} → length (casesOf S i) < c → c < 2 ^ 16 → StepShown S m (OfUnion i) (St.Unknown c)
 
 pick-shown : {S : Schema} {m : List ℕ} {k : Kind} {a b : Step} (t : Bool) → StepShown S m k a → StepShown S m k b → StepShown S m k (pick t a b)
-pick-shown true p q = p
-pick-shown false p q = q
+pick-shown {S} {m} {k} {a} {b} t p q = pick-holds (StepShown S m k) t a b (λ e. p) (λ e. q)
 
 module _ (S : Schema) (m : List ℕ) (small : (i : ℕ) → getD m i 0 < 256) where
   pub le-lt : (w at : ℕ) → le m at w < 2 ^ (8 * w)
@@ -81,17 +77,14 @@ module _ (S : Schema) (m : List ℕ) (small : (i : ℕ) → getD m i 0 < 256) wh
 
   -- ---- what leads to no object
   enum-shown : (inner : ℕ → ℕ → Value) (child : R.Child) (n x : ℕ) → x < 256 → FlatShown S (Enumerated n) (stepRead inner child (enumStep n x))
-  unfolding enumStep
-  enum-shown inner child n x h = by (eqb x 255) refl
-    where
-      known : (t : Bool) → ltb x n ≡ t → (x ≡ 255 → ⊥) → FlatShown S (Enumerated n) (stepRead inner child (pick t (St.Value x) (St.Unknown x)))
-      known true e ne = unfold stepRead in enum (ltb-true x n e)
-      known false e ne = unfold stepRead in unknown-enum (ltb-false x n e) (omega arith)
-
-      by : (t : Bool) → eqb x 255 ≡ t
-          → FlatShown S (Enumerated n) (stepRead inner child (pick t St.Absent (pick (ltb x n) (St.Value x) (St.Unknown x))))
-      by true e = unfold stepRead in no-enum
-      by false e = known (ltb x n) refl (eqb-false x 255 e)
+  unfolding enumStep stepRead
+  enum-shown inner child n x h =
+      let P : Step → Type 0 = λ st. FlatShown S (Enumerated n) (stepRead inner child st) in
+      pick-holds P (eqb x 255) St.Absent (pick (ltb x n) (St.Value x) (St.Unknown x)) (λ e. no-enum)
+      (λ e.
+        let ne = eqb-false x 255 e in
+        pick-holds P (ltb x n) (St.Value x) (St.Unknown x) (λ t. enum (ltb-true x n t))
+        (λ t. unknown-enum {x = x} (ltb-false x n t) (omega arith)))
 
   -- structs whose booleans are 0 or 1
   module _ (n : ℕ) (ok : ℕ → ℕ → Bool) (inner : ℕ → ℕ → Value)
@@ -108,8 +101,9 @@ module _ (S : Schema) (m : List ℕ) (small : (i : ℕ) → getD m i 0 < 256) wh
     unfolding flatsOk fieldsRead
     fields-shown [] s at e = no-flat
     fields-shown (k ∷ ks) s at e =
-        let h = and-true (flatOk ok m k at) (flatsOk ok S m ks (at + flatWidth (structSize S) k)) e in
-        flats (field-shown k (s .0) at (h .0)) (fields-shown ks (s .1) (at + flatWidth (structSize S) k) (h .1))
+        let next = at + flatWidth (structSize S) k in
+        flats (field-shown k (s .0) at (both-left (flatOk ok m k at) (flatsOk ok S m ks next) e))
+        (fields-shown ks (s .1) next (both-right (flatOk ok m k at) (flatsOk ok S m ks next) e))
 
   module _ (G : Sound S) where
     StructRead : ℕ → (ℕ → Bool) → (ℕ → Value) → Type 0
@@ -125,12 +119,10 @@ module _ (S : Schema) (m : List ℕ) (small : (i : ℕ) → getD m i 0 < 256) wh
     struct-shown i = index-holds₂ StructRead always (okBy S m) noStruct (readBy S m) struct-next i
 
     struct-step : (i at : ℕ) → StepShown S m (OfFlat (Struct i)) (structStep S m i at)
-    unfolding structStep
-    struct-step i at = by (structOk S m i at) refl
-      where
-        by : (t : Bool) → structOk S m i at ≡ t → StepShown S m (OfFlat (Struct i)) (pick t (St.Struct i at) (St.Refused 10))
-        by true e = unfold stepRead in step-flat {st = St.Struct i at} (λ child. struct-shown i at e)
-        by false e = step-refused
+    unfolding structStep stepRead
+    struct-step i at =
+        pick-holds (StepShown S m (OfFlat (Struct i))) (structOk S m i at) (St.Struct i at) (St.Refused 10)
+        (λ e. step-flat {st = St.Struct i at} (λ child. struct-shown i at e)) (λ e. step-refused)
 
     -- ---- a value at a place
     flat-step : (k : Flat) (no-nan : Bool) (at bit : ℕ) → StepShown S m (OfFlat k) (flatStep S m k no-nan at bit)
@@ -144,18 +136,15 @@ module _ (S : Schema) (m : List ℕ) (small : (i : ℕ) → getD m i 0 < 256) wh
 
     union-step : (i : ℕ) (inplace : Bool) (tail c x : ℕ) → c < 2 ^ 16 → StepShown S m (OfUnion i) (unionStep (casesOf S i) inplace tail c x)
     unfolding unionStep
-    union-step i inplace tail c x h = by (eqb c 0) refl
-      where
-        known : (t : Bool) → leb c (length (casesOf S i)) ≡ t → (c ≡ 0 → ⊥)
-            → StepShown S m (OfUnion i) (pick t (St.Choice c (caseOf (casesOf S i) c) (placeOf inplace tail x)) (St.Unknown c))
-        known true e ne = step-choice {c = c} (omega arith) (leb-true c (length (casesOf S i)) e)
-        known false e ne = step-unknown (leb-false c (length (casesOf S i)) e) h
-
-        by : (t : Bool) → eqb c 0 ≡ t
-            → StepShown S m (OfUnion i)
-            (pick t St.Absent (pick (leb c (length (casesOf S i))) (St.Choice c (caseOf (casesOf S i) c) (placeOf inplace tail x)) (St.Unknown c)))
-        by true e = step-absent
-        by false e = known (leb c (length (casesOf S i))) refl (eqb-false c 0 e)
+    union-step i inplace tail c x h =
+        let P = StepShown S m (OfUnion i) in
+        let chosen-step = St.Choice c (caseOf (casesOf S i) c) (placeOf inplace tail x) in
+        pick-holds P (eqb c 0) St.Absent (pick (leb c (length (casesOf S i))) chosen-step (St.Unknown c)) (λ e. step-absent)
+        (λ e.
+          let ne = eqb-false c 0 e in
+          pick-holds P (leb c (length (casesOf S i))) chosen-step (St.Unknown c)
+          (λ t. step-choice {c = c} (omega arith) (leb-true c (length (casesOf S i)) t))
+          (λ t. step-unknown (leb-false c (length (casesOf S i)) t) h))
 
     value-step : (o : ℕ) (k : Kind) (no-nan inplace : Bool) (tail at bit : ℕ) → StepShown S m k (valueStep o S m k no-nan inplace tail at bit)
     unfolding valueStep objectStep
