@@ -1,27 +1,24 @@
 -- The values of an accepted message are values that the schema can show.
-use mathlib.Core.Path.{_≡_, refl, sym, ap, subst, _∙_}
+use mathlib.Core.Path.{_≡_, refl, sym, ap, subst}
 use mathlib.Core.List.{List, [], _∷_}
-use mathlib.Core.Bool.{Bool, true, false, _&&_, false≢true}
+use mathlib.Core.Bool.{Bool, true, false, _&&_}
 use mathlib.Core.Logic.{_⊎_, inl, inr}
-use Prim.Native.Nat.{ℕ, zero, suc, _+_, _*_, _/_, _%_, _^_, _<_, _≤_}
+use Prim.Native.Nat.{ℕ, zero, suc, _+_, _*_, _^_, _<_, _≤_}
 use native.Mathlib.Omega.{arith}
 use lib.ListN.{length, getD, take, drop, length-take, length-drop}
-use lib.Pow.{pow-add}
 use lib.Dec.{ltb, leb, eqb}
-use borrow.Author.Tests.{ltb-true, ltb-false, leb-true, leb-false, eqb-false}
+use borrow.Author.Tests.{leb-true}
 use Rattle.coding.specs.Lists.{pick}
-use Rattle.coding.specs.Bytes.{le, bitAt, isNaN, largest, deepest}
-use Rattle.coding.specs.Schema.{Schema, structOf, elementOf, casesOf, caseOf, tableOf}
-use Rattle.coding.specs.Structs.{byIndex, flatWidth, structSize, flatOk, flatsOk, okBy, always, structOk}
-use Rattle.coding.specs.Layout.{width, flatIsBool, isBool, hasFlag, bitByte, bitIndex, memberSlot, begin, afterMember}
-use Rattle.coding.specs.Step.{enumStep, floatStep, structStep, placeOf, objectStep, unionStep, flatStep, fieldStep, valueStep, inside, flagged, memberStep, elementPlace, elementStep, elementsSize}
+use Rattle.coding.specs.Bytes.{le, largest, deepest}
+use Rattle.coding.specs.Schema.{Schema, elementOf, casesOf, caseOf, tableOf}
+use Rattle.coding.specs.Structs.{flatWidth}
+use Rattle.coding.specs.Layout.{width, flatIsBool, isBool, begin, afterMember}
+use Rattle.coding.specs.Step.{memberStep, elementStep, elementsSize}
 use Rattle.coding.specs.Walk as W
 use Rattle.coding.specs.Walk.{placed, magic, headerSize, contentSize, endOk, openContent, openObject, refuse, andThen, followChoice, follow, content, enter, arrive, tooDeep, counted, visit, rootPlace, walk}
-use Rattle.coding.specs.Value.{Value, Values, absent, unknown, number, blob, row, chosen, none, _then_, present, count}
+use Rattle.coding.specs.Value.{count}
 use Rattle.coding.specs.Read as R
-use Rattle.coding.specs.Read.{stepRead, noObject, fieldsRead, readBy, noStruct, structRead, membersRead, elementsRead, contentRead, placeRead, read, messageRead}
-use Rattle.coding.specs.Sheet.{flatBare, bare}
-use Rattle.coding.specs.declared.Flat.{Flat}
+use Rattle.coding.specs.Read.{stepRead, structRead, membersRead, elementsRead, contentRead, placeRead, read, messageRead}
 use Rattle.coding.specs.declared.Flat.the-variants.{Boolean, Integer, Float, Enumerated, Struct}
 use Rattle.coding.specs.declared.Object.{Object}
 use Rattle.coding.specs.declared.Object.the-variants as O
@@ -29,23 +26,20 @@ use Rattle.coding.specs.declared.Kind.{Kind}
 use Rattle.coding.specs.declared.Kind.the-variants.{OfFlat, OfObject, OfUnion}
 use Rattle.coding.specs.declared.Member.{Member}
 use Rattle.coding.specs.declared.Cursor.{Cursor}
-use Rattle.coding.specs.declared.Slot.{Slot}
 use Rattle.coding.specs.declared.Place.{Place}
 use Rattle.coding.specs.declared.Place.the-variants.{ByOffset, InPlace}
 use Rattle.coding.specs.declared.Step.{Step}
-use Rattle.coding.specs.declared.Step.the-variants as St
 use Rattle.coding.specs.declared.Opened.{Opened}
 use Rattle.coding.specs.declared.Opened.the-variants as Op
 use Rattle.coding.specs.declared.Budget.{Budget}
 use Rattle.coding.specs.declared.Spent.{Spent}
-use Rattle.coding.specs.declared.Refusal.{Refusal}
 use Rattle.coding.specs.declared.Walked.{Walked}
 use Rattle.coding.specs.declared.Walked.the-variants.{Going, Refused}
-use Rattle.laws.specs.Sound.{All, FlatSound, ObjectSound, KindSound, FlatScalar, NoStruct, MemberSound, Sound}
+use Rattle.laws.specs.Sound.{All, KindSound, NoStruct, Sound}
+use Rattle.laws.specs.Lists.{pick-holds}
 use Rattle.laws.specs.All.{all-take, all-drop, all-index}
 use Rattle.laws.specs.Bits.{Byte}
-use Rattle.laws.specs.Structs.{index-holds₂}
-use Rattle.demands.specs.Shown.{FlatShown, boolean, integer, float, no-enum, enum, unknown-enum, struct, FlatsShown, no-flat, flats, Objects, PartShown, no-part, flat, object, choice, unknown-choice, MembersShown, no-member, members, ElementsShown, no-element, elements, ContentShown, text, bytes, list, table, Shown}
+use Rattle.demands.specs.Shown.{Objects, PartShown, no-part, flat, object, choice, unknown-choice, MembersShown, no-member, members, ElementsShown, no-element, elements, ContentShown, text, bytes, list, table, Shown}
 use Rattle.demands.specs.StepShown.{StepShown, step-refused, step-absent, step-flat, step-object, step-choice, step-unknown, member-step, element-step, element-present}
 
 -- ---- an accepted walk
@@ -100,12 +94,9 @@ module _ (S : Schema) (G : Sound S) (m : List ℕ) (small : (i : ℕ) → getD m
       (below : (ob : Object) (p : Place) (s : Spent) → Accepted (child ob p s) → shown ob (reader ob p)) where
     choice-accepted : (holder : ℕ) (ob : Object) (p : Place) (s : Spent) → Accepted (followChoice child holder ob p s) → Accepted (child ob p s)
     unfolding followChoice refuse
-    choice-accepted holder ob (ByOffset x) s h = by (eqb x 0) h
-      where
-        by : (t : Bool) → Accepted (pick t (refuse 9 holder s) (child ob (ByOffset x) s)) → Accepted (child ob (ByOffset x) s)
-        by true h = absurd (unfold refuse in h)
-        by false h = h
-    choice-accepted holder ob (InPlace a n) s h = h
+    choice-accepted holder ob (ByOffset x) s =
+        pick-holds (λ w. Accepted w → Accepted (child ob (ByOffset x) s)) (eqb x 0) (refuse 9 holder s) (child ob (ByOffset x) s) (λ e h. absurd h) (λ e h. h)
+    choice-accepted holder ob (InPlace a n) s = λ h. h
 
     step-shown : {k : Kind} {st : Step} → StepShown S m k st → (holder : ℕ) (s : Spent) → Accepted (follow child holder st s)
         → PartShown shown S k (stepRead (structRead S m) reader st)
@@ -155,34 +146,41 @@ module _ (S : Schema) (G : Sound S) (m : List ℕ) (small : (i : ℕ) → getD m
         (elements-shown (elementOf S i) holder start n 0 s h)
     content-shown (O.Table i) holder start n s l h = table (members-shown (tableOf S i .members) holder start n begin s h)
 
-    opened-shown : (ob : Object) (holder start n : ℕ) (s : Spent) → Accepted (enter child o S m ob holder (openContent o S m ob start n) s)
-        → ContentShown shown S ob (contentRead reader o S m ob start n)
-    unfolding openContent
-    opened-shown ob holder start n s h = by (leb (start + contentSize o S ob n) (length m)) refl h
-      where
-        by-end : (t : Bool) → start + contentSize o S ob n ≤ length m → Accepted (enter child o S m ob holder (pick t (Op.Content start n) (Op.Refused 10)) s)
-            → ContentShown shown S ob (contentRead reader o S m ob start n)
-        by-end true l h = content-shown ob holder start n s l (unfold enter in h)
-        by-end false l h = absurd (unfold enter refuse in h)
+    -- an arrival's content, if it is accepted
+    Entered : Object → ℕ → ℕ → ℕ → Spent → Opened → Type 0
+    Entered ob holder start n s opened = Accepted (enter child o S m ob holder opened s) → ContentShown shown S ob (contentRead reader o S m ob start n)
 
-        by : (t : Bool) → leb (start + contentSize o S ob n) (length m) ≡ t
-            → Accepted (enter child o S m ob holder (pick t (pick (endOk m ob start n) (Op.Content start n) (Op.Refused 10)) (Op.Refused 6)) s)
-            → ContentShown shown S ob (contentRead reader o S m ob start n)
-        by true e h = by-end (endOk m ob start n) (leb-true (start + contentSize o S ob n) (length m) e) h
-        by false e h = absurd (unfold enter refuse in h)
+    refused-enters : (ob : Object) (holder start n k : ℕ) (s : Spent) → Entered ob holder start n s (Op.Refused k)
+    unfolding Entered enter refuse
+    refused-enters ob holder start n k s h = absurd h
+
+    opened-shown : (ob : Object) (holder start n : ℕ) (s : Spent) → Entered ob holder start n s (openContent o S m ob start n)
+    unfolding openContent
+    opened-shown ob holder start n s =
+        let end = pick (endOk m ob start n) (Op.Content start n) (Op.Refused 10) in
+        pick-holds (Entered ob holder start n s) (leb (start + contentSize o S ob n) (length m)) end (Op.Refused 6)
+        (λ e.
+        pick-holds (Entered ob holder start n s) (endOk m ob start n) (Op.Content start n) (Op.Refused 10)
+        (λ t. inner (leb-true (start + contentSize o S ob n) (length m) e)) (λ t. refused-enters ob holder start n 10 s))
+        (λ e. refused-enters ob holder start n 6 s)
+      where
+        inner : start + contentSize o S ob n ≤ length m → Entered ob holder start n s (Op.Content start n)
+        inner l = unfold Entered enter in λ h. content-shown ob holder start n s l h
 
     arrival-shown : (ob : Object) (p : Place) (s : Spent) → Accepted (arrive child o S m ob p s)
         → ContentShown shown S ob (placeRead reader o S m ob p)
-    unfolding arrive placed openObject placeRead
-    arrival-shown ob (ByOffset x) s h = by (leb (headerSize o) x && leb (x + headerSize o) (length m)) (eqb (le m x 4) (magic S ob)) h
-      where
-        by : (t u : Bool)
-            → Accepted (enter child o S m ob x (pick t (pick u (openContent o S m ob (x + headerSize o) (le m (x + 4) o)) (Op.Refused 7)) (Op.Refused 6)) s)
-            → ContentShown shown S ob (contentRead reader o S m ob (x + headerSize o) (le m (x + 4) o))
-        by true true h = opened-shown ob x (x + headerSize o) (le m (x + 4) o) s h
-        by true false h = absurd (unfold enter refuse in h)
-        by false u h = absurd (unfold enter refuse in h)
-    arrival-shown ob (InPlace a n) s h = opened-shown ob a a n s h
+    unfolding arrive placed openObject placeRead Entered
+    arrival-shown ob (ByOffset x) s =
+        let start = x + headerSize o in
+        let n = le m (x + 4) o in
+        let opened = openContent o S m ob start n in
+        pick-holds (Entered ob x start n s) (leb (headerSize o) x && leb start (length m))
+        (pick (eqb (le m x 4) (magic S ob)) opened (Op.Refused 7)) (Op.Refused 6)
+        (λ e.
+        pick-holds (Entered ob x start n s) (eqb (le m x 4) (magic S ob)) opened (Op.Refused 7) (λ t. opened-shown ob x start n s)
+        (λ t. refused-enters ob x start n 7 s))
+        (λ e. refused-enters ob x start n 6 s)
+    arrival-shown ob (InPlace a n) s = opened-shown ob a a n s
 
   pub object-shown : (b : Budget) (d : ℕ) (ob : Object) (p : Place) (s : Spent) → Accepted (visit d o S m b ob p s)
       → Shown d S ob (read d o S m ob p)

@@ -2,17 +2,16 @@
 use mathlib.Core.Path.{_≡_, refl, sym, ap, subst, _∙_}
 use mathlib.Core.List.{List, [], _∷_, _++_, append-assoc}
 use mathlib.Core.Bool.{Bool, true, false, _&&_, not, false≢true}
-use Prim.Native.Nat.{ℕ, zero, suc, _+_, _*_, _^_, _<_, _≤_}
+use Prim.Native.Nat.{ℕ, zero, suc, _*_, _^_, _<_, _≤_}
 use native.Mathlib.Omega.{arith}
 use lib.ListN.{length, take, drop, take-append-drop}
 use lib.Dec.{ltb, leb, eqb}
 use borrow.Author.Tests.{ltb-true, leb-true, eqb-true, eqb-false, not-true}
 use Rattle.coding.specs.Lists.{pick}
 use Rattle.coding.specs.Schema.{Schema, structOf, elementOf, casesOf, caseOf, tableOf}
-use Rattle.coding.specs.Structs.{byIndex}
-use Rattle.coding.specs.Value.{Value, Values, absent, unknown, number, blob, row, chosen, none, _then_, asNumber, asBlob, asRow, asObject, present, first, others, count}
+use Rattle.coding.specs.Value.{Value, absent, unknown, number, blob, asNumber, asBlob, asRow, asObject, present, first, others, count}
 use Rattle.coding.specs.Bits.{bitsOf, bits, value, pack}
-use Rattle.coding.specs.Sheet.{markBits, flatBits, fieldBits, fieldsBits, bitsBy, noBits, structBits, Encoder, bodyBits, flatUnknown, unknownWidth, partBits, flatBare, bare, elementBits, membersBits, elementsBits, blobBits, contentBits, encode}
+use Rattle.coding.specs.Sheet.{markBits, flatBits, fieldBits, fieldsBits, bitsBy, noBits, structBits, Encoder, bodyBits, flatUnknown, unknownWidth, partBits, bare, elementBits, membersBits, elementsBits, blobBits, contentBits, encode}
 use Rattle.coding.specs.Sheet.{Parsed, fail, got, bind, takeNumber, takeBytes, takeValue, takeIf, takeMark, unknownEnum, takeLostEnum, takeEnum, takeFlat, takeField, takeFields, takeBy, takeNothing, takeStruct, Decoder, takeChoice, takeBody, takeLostFlat, takeLost, takePart, takeElement, takeMembers, takeElements, takeBlob, takeContent, decode}
 use Rattle.coding.specs.declared.Flat.{Flat}
 use Rattle.coding.specs.declared.Flat.the-variants.{Boolean, Integer, Float, Enumerated, Struct}
@@ -23,7 +22,7 @@ use Rattle.coding.specs.declared.Kind.the-variants.{OfFlat, OfObject, OfUnion}
 use Rattle.coding.specs.declared.Member.{Member}
 use Rattle.laws.specs.Sound.{All, FlatSound, KindSound, MemberSound, Sound}
 use Rattle.laws.specs.Lists.{both-left, both-right}
-use Rattle.laws.specs.All.{all-take, all-drop}
+use Rattle.laws.specs.All.{all-drop}
 use Rattle.laws.specs.Bits.{Bit, Byte, front-lt, front-bits, bits-pack, pack-length, pack-bytes}
 use Rattle.laws.specs.Structs.{index-holds₂}
 use Rattle.demands.specs.Shown.{FlatShown, boolean, integer, float, no-enum, enum, unknown-enum, struct, FlatsShown, no-flat, flats, Objects, PartShown, no-part, flat, object, choice, unknown-choice, MembersShown, no-member, members, ElementsShown, no-element, elements, ContentShown, text, bytes, list, table, Shown}

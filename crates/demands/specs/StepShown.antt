@@ -1,52 +1,39 @@
 -- What a member or an element of a message shows, if it is not refused and leads to what can be shown, is a value that the schema can show.
-use mathlib.Core.Path.{_≡_, refl, sym, ap, subst, _∙_}
+use mathlib.Core.Path.{_≡_, refl}
 use mathlib.Core.List.{List, [], _∷_}
 use mathlib.Core.Bool.{Bool, true, false, _&&_, false≢true}
-use mathlib.Core.Logic.{_⊎_, inl, inr}
-use Prim.Native.Nat.{ℕ, zero, suc, _+_, _*_, _/_, _%_, _^_, _<_, _≤_}
+use Prim.Native.Nat.{ℕ, zero, suc, _+_, _*_, _%_, _^_, _<_, _≤_}
 use native.Mathlib.Omega.{arith}
-use lib.ListN.{length, getD, take, drop, length-take, length-drop}
+use lib.ListN.{length, getD}
 use lib.Pow.{pow-add}
 use lib.Dec.{ltb, leb, eqb}
 use borrow.Author.Tests.{ltb-true, ltb-false, leb-true, leb-false, eqb-false}
 use Rattle.coding.specs.Lists.{pick}
-use Rattle.coding.specs.Bytes.{le, bitAt, isNaN, largest, deepest}
-use Rattle.coding.specs.Schema.{Schema, structOf, elementOf, casesOf, caseOf, tableOf}
-use Rattle.coding.specs.Structs.{byIndex, flatWidth, structSize, flatOk, flatsOk, okBy, always, structOk}
-use Rattle.coding.specs.Layout.{width, flatIsBool, isBool, hasFlag, bitByte, bitIndex, memberSlot, begin, afterMember}
-use Rattle.coding.specs.Step.{enumStep, floatStep, structStep, placeOf, objectStep, unionStep, flatStep, fieldStep, valueStep, inside, flagged, memberStep, elementPlace, elementStep, elementsSize}
-use Rattle.coding.specs.Walk as W
-use Rattle.coding.specs.Walk.{placed, magic, headerSize, contentSize, endOk, openContent, openObject, refuse, andThen, followChoice, follow, content, enter, arrive, tooDeep, counted, visit, rootPlace, walk}
-use Rattle.coding.specs.Value.{Value, Values, absent, unknown, number, blob, row, chosen, none, _then_, present, count}
+use Rattle.coding.specs.Bytes.{le, bitAt, isNaN}
+use Rattle.coding.specs.Schema.{Schema, structOf, casesOf, caseOf}
+use Rattle.coding.specs.Structs.{flatWidth, structSize, flatOk, flatsOk, okBy, always, structOk}
+use Rattle.coding.specs.Layout.{hasFlag, bitByte, bitIndex, memberSlot}
+use Rattle.coding.specs.Step.{enumStep, floatStep, structStep, placeOf, objectStep, unionStep, flatStep, fieldStep, valueStep, inside, flagged, memberStep, elementPlace, elementStep}
+use Rattle.coding.specs.Value.{Value, present}
 use Rattle.coding.specs.Read as R
-use Rattle.coding.specs.Read.{stepRead, noObject, fieldsRead, readBy, noStruct, structRead, membersRead, elementsRead, contentRead, placeRead, read, messageRead}
+use Rattle.coding.specs.Read.{stepRead, noObject, fieldsRead, readBy, noStruct, structRead}
 use Rattle.coding.specs.Sheet.{flatBare, bare}
 use Rattle.coding.specs.declared.Flat.{Flat}
 use Rattle.coding.specs.declared.Flat.the-variants.{Boolean, Integer, Float, Enumerated, Struct}
 use Rattle.coding.specs.declared.Object.{Object}
-use Rattle.coding.specs.declared.Object.the-variants as O
 use Rattle.coding.specs.declared.Kind.{Kind}
 use Rattle.coding.specs.declared.Kind.the-variants.{OfFlat, OfObject, OfUnion}
 use Rattle.coding.specs.declared.Member.{Member}
 use Rattle.coding.specs.declared.Cursor.{Cursor}
 use Rattle.coding.specs.declared.Slot.{Slot}
 use Rattle.coding.specs.declared.Place.{Place}
-use Rattle.coding.specs.declared.Place.the-variants.{ByOffset, InPlace}
 use Rattle.coding.specs.declared.Step.{Step}
 use Rattle.coding.specs.declared.Step.the-variants as St
-use Rattle.coding.specs.declared.Opened.{Opened}
-use Rattle.coding.specs.declared.Opened.the-variants as Op
-use Rattle.coding.specs.declared.Budget.{Budget}
-use Rattle.coding.specs.declared.Spent.{Spent}
-use Rattle.coding.specs.declared.Refusal.{Refusal}
-use Rattle.coding.specs.declared.Walked.{Walked}
-use Rattle.coding.specs.declared.Walked.the-variants.{Going, Refused}
-use Rattle.laws.specs.Sound.{All, FlatSound, ObjectSound, KindSound, FlatScalar, NoStruct, MemberSound, Sound}
+use Rattle.coding.specs.declared.Walked.the-variants.{Refused}
+use Rattle.laws.specs.Sound.{All, FlatSound, Sound}
 use Rattle.laws.specs.Lists.{both-left, both-right, pick-holds}
-use Rattle.laws.specs.All.{all-take, all-drop, all-index}
-use Rattle.laws.specs.Bits.{Byte}
 use Rattle.laws.specs.Structs.{index-holds₂}
-use Rattle.demands.specs.Shown.{FlatShown, boolean, integer, float, no-enum, enum, unknown-enum, struct, FlatsShown, no-flat, flats, Objects, PartShown, no-part, flat, object, choice, unknown-choice, MembersShown, no-member, members, ElementsShown, no-element, elements, ContentShown, text, bytes, list, table, Shown}
+use Rattle.demands.specs.Shown.{FlatShown, boolean, integer, float, no-enum, enum, unknown-enum, struct, FlatsShown, no-flat, flats, members}
 
 -- what a step may be; one of what leads to no object shows its value at once
 pub data StepShown (S : Schema) (m : List ℕ) : Kind → Step → Type 0 where
@@ -82,9 +69,9 @@ module _ (S : Schema) (m : List ℕ) (small : (i : ℕ) → getD m i 0 < 256) wh
       let P : Step → Type 0 = λ st. FlatShown S (Enumerated n) (stepRead inner child st) in
       pick-holds P (eqb x 255) St.Absent (pick (ltb x n) (St.Value x) (St.Unknown x)) (λ e. no-enum)
       (λ e.
-        let ne = eqb-false x 255 e in
-        pick-holds P (ltb x n) (St.Value x) (St.Unknown x) (λ t. enum (ltb-true x n t))
-        (λ t. unknown-enum {x = x} (ltb-false x n t) (omega arith)))
+      let ne = eqb-false x 255 e in
+      pick-holds P (ltb x n) (St.Value x) (St.Unknown x) (λ t. enum (ltb-true x n t))
+      (λ t. unknown-enum {x = x} (ltb-false x n t) (omega arith)))
 
   -- structs whose booleans are 0 or 1
   module _ (n : ℕ) (ok : ℕ → ℕ → Bool) (inner : ℕ → ℕ → Value)
@@ -141,10 +128,10 @@ module _ (S : Schema) (m : List ℕ) (small : (i : ℕ) → getD m i 0 < 256) wh
         let chosen-step = St.Choice c (caseOf (casesOf S i) c) (placeOf inplace tail x) in
         pick-holds P (eqb c 0) St.Absent (pick (leb c (length (casesOf S i))) chosen-step (St.Unknown c)) (λ e. step-absent)
         (λ e.
-          let ne = eqb-false c 0 e in
-          pick-holds P (leb c (length (casesOf S i))) chosen-step (St.Unknown c)
-          (λ t. step-choice {c = c} (omega arith) (leb-true c (length (casesOf S i)) t))
-          (λ t. step-unknown (leb-false c (length (casesOf S i)) t) h))
+        let ne = eqb-false c 0 e in
+        pick-holds P (leb c (length (casesOf S i))) chosen-step (St.Unknown c)
+        (λ t. step-choice {c = c} (omega arith) (leb-true c (length (casesOf S i)) t))
+        (λ t. step-unknown (leb-false c (length (casesOf S i)) t) h))
 
     value-step : (o : ℕ) (k : Kind) (no-nan inplace : Bool) (tail at bit : ℕ) → StepShown S m k (valueStep o S m k no-nan inplace tail at bit)
     unfolding valueStep objectStep

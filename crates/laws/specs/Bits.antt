@@ -3,10 +3,10 @@ use mathlib.Core.Path.{_≡_, refl, sym, ap, ap₂, _∙_}
 use mathlib.Core.List.{List, [], _∷_, _++_, append-assoc, append-nil}
 use mathlib.Core.Bool.{true}
 use Prim.Native.Nat.{ℕ, zero, suc, _+_, _-_, _*_, _/_, _%_, _^_, _≤_, _<_}
-use native.Mathlib.Nat.{zero-add, suc-add, add-comm, mul-assoc, mod-one, mod-lt, mul-add-div-right, mul-add-mod-self-right, add-mul, pow-suc, mul-comm, mod-eq-of-lt}
+use native.Mathlib.Nat.{zero-add, suc-add, add-comm, mul-assoc, mod-one, mul-add-div-right, mul-add-mod-self-right, add-mul, pow-suc, mul-comm, mod-eq-of-lt}
 use native.Mathlib.Omega.{arith}
-use lib.ListN.{length, take, drop, replicate, length-append, length-drop, length-replicate, take-append-drop}
-use lib.Seq.{take-at, drop-at, take-add, take-all, take-length, length-take-le}
+use lib.ListN.{length, take, drop, replicate, length-append, length-drop, length-replicate}
+use lib.Seq.{take-at, drop-at, take-add, take-all, length-take-le}
 use lib.Pow.{pow-pos, pow-add, split, high, shr-shr, mod-pow-add}
 use lib.Arith.{digits-lt}
 use lib.Dec.{eqb}
