@@ -28,7 +28,7 @@ use Rattle.laws.specs.All.{all-index, index-all}
 use Rattle.laws.specs.Bits.{Byte, bits-bits, zero-bits, padding, padding-lt, packed-bytes, bits-packed, packed-from}
 use Rattle.demands.specs.Shown.{Shown}
 use Rattle.demands.specs.SheetDecode.{object-spelt}
-use Rattle.demands.specs.AcceptedShown.{walk-shown}
+use Rattle.demands.specs.AcceptedShown.{walk-ends, ends-going}
 use Rattle.demands.specs.SheetEncode.{From, from-fail, from-got, object-from}
 
 -- v is a value that the schema can show in a message
@@ -109,7 +109,7 @@ module _ (S : Schema) (G : Sound S) where
 module _ (S : Schema) (G : Sound S) (m : List ℕ) (bytes : (i : ℕ) → getD m i 0 < 256) (sized : length m ≤ largest) (budget : Budget)
     (s : Spent) (accepted : walk u48 S m budget ≡ Going s) where
   pub accepted-shown : ShownAtRoot S (messageRead u48 S m)
-  accepted-shown = walk-shown S G m bytes sized u48 (unfold u48 in omega arith) budget s accepted
+  accepted-shown = ends-going accepted (walk-ends S G m bytes sized u48 (unfold u48 in omega arith) budget)
 
   pub accepted-sheet-tree : treeOf S (sheetOf S (messageRead u48 S m)) ≡ some (messageRead u48 S m)
   accepted-sheet-tree = decode-encode S G (messageRead u48 S m) accepted-shown
