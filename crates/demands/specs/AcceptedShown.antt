@@ -11,11 +11,13 @@ use borrow.Author.Tests.{leb-true}
 use Rattle.coding.specs.Lists.{pick}
 use Rattle.coding.specs.Bytes.{le, largest, deepest}
 use Rattle.coding.specs.Schema.{Schema, elementOf, casesOf, caseOf, tableOf}
+use Rattle.coding.specs.Packed.{parse}
+use Rattle.coding.specs.Lawful.{lawful}
 use Rattle.coding.specs.Structs.{flatWidth}
 use Rattle.coding.specs.Layout.{width, flatIsBool, isBool, begin, afterMember}
 use Rattle.coding.specs.Step.{memberStep, elementStep, elementsSize}
 use Rattle.coding.specs.Walk as W
-use Rattle.coding.specs.Walk.{placed, magic, headerSize, contentSize, endOk, openContent, openObject, refuse, andThen, followChoice, follow, content, enter, arrive, tooDeep, counted, visit, rootPlace, walk}
+use Rattle.coding.specs.Walk.{placed, magic, headerSize, contentSize, endOk, openContent, openObject, refuse, andThen, followChoice, follow, content, enter, arrive, tooDeep, counted, visit, rootPlace, walk, verdictOf, early, sizeOk, startOk, verdict}
 use Rattle.coding.specs.Value.{count}
 use Rattle.coding.specs.Read as R
 use Rattle.coding.specs.Read.{stepRead, structRead, membersRead, elementsRead, contentRead, placeRead, read, messageRead}
@@ -36,8 +38,9 @@ use Rattle.coding.specs.declared.Spent.{Spent}
 use Rattle.coding.specs.declared.Refusal.{Refusal}
 use Rattle.coding.specs.declared.Walked.{Walked}
 use Rattle.coding.specs.declared.Walked.the-variants.{Going, Refused}
+use Rattle.coding.specs.declared.Verdict.{Verdict}
 use Rattle.laws.specs.Sound.{All, KindSound, NoStruct, Sound}
-use Rattle.laws.specs.Lists.{pick-holds}
+use Rattle.laws.specs.Lists.{both-right, pick-holds}
 use Rattle.laws.specs.All.{all-take, all-drop, all-index}
 use Rattle.laws.specs.Bits.{Byte}
 use Rattle.demands.specs.Shown.{Objects, PartShown, no-part, flat, object, choice, unknown-choice, MembersShown, no-member, members, ElementsShown, no-element, elements, ContentShown, text, bytes, list, table, Shown}
@@ -61,7 +64,7 @@ then-ends (goes {s} p) h = both p (h s)
     both p (stops n) = stops n
 then-ends (stops n) h = stops n
 
-map-ends : {P Q : Type 0} {w : Walked} → (P → Q) → Ends P w → Ends Q w
+pub map-ends : {P Q : Type 0} {w : Walked} → (P → Q) → Ends P w → Ends Q w
 map-ends f (goes p) = goes (f p)
 map-ends f (stops n) = stops n
 
@@ -210,3 +213,30 @@ module _ (S : Schema) (G : Sound S) (m : List ℕ) (small : (i : ℕ) → getD m
   pub walk-ends : (b : Budget) → Ends (Shown deepest S (O.Table (S .root)) (messageRead o S m)) (walk o S m b)
   unfolding walk messageRead
   walk-ends b = object-ends b deepest (O.Table (S .root)) (rootPlace o m) (record { visits = 0 })
+
+-- ---- the verdict: number 0 is a lawful schema, a message of a lawful size and start, and a walk to its end
+ends-number : {P : Type 0} {w : Walked} → Ends P w → verdictOf w .number ≡ 0 → P
+unfolding verdictOf
+ends-number (goes p) e = p
+ends-number (stops n) e = absurd (omega arith)
+
+pub verdict-shows : (P : Type 0) (o : ℕ) (b m : List ℕ) (budget : Budget)
+    → (lawful b ≡ true → length m ≤ largest → Ends P (walk o (parse b) m budget)) → verdict o b m budget .number ≡ 0 → P
+unfolding verdict sizeOk
+verdict-shows P o b m budget h =
+    let Q : Verdict → Type 0 = λ v. v .number ≡ 0 → P in
+    let walked = verdictOf (walk o (parse b) m budget) in
+    let started = pick (startOk m) walked (early 3) in
+    let large = leb (length m) largest in
+    let sized = leb (headerSize o) (length m) && large in
+    pick-holds Q (lawful b) (pick sized started (early 2)) (early 1)
+    (λ e.
+    pick-holds Q sized started (early 2)
+    (λ f.
+    pick-holds Q (startOk m) walked (early 3)
+    (λ g. ends-number (h e (leb-true (length m) largest (both-right (leb (headerSize o) (length m)) large f)))) (λ g. not-early 2))
+    (λ f. not-early 1))
+    (λ e. not-early 0)
+  where
+    not-early : (n : ℕ) → early (suc n) .number ≡ 0 → P
+    not-early n z = absurd (unfold early in omega arith)
