@@ -2,6 +2,6 @@ pub mod Counter
 pub mod Shown
 pub mod SheetDecode
 pub mod SheetEncode
-pub mod Sheets
 pub mod StepShown
 pub mod AcceptedShown
+pub mod Sheets

@@ -29,11 +29,10 @@ use Rattle.coding.specs.declared.Slot.{Slot}
 use Rattle.coding.specs.declared.Place.{Place}
 use Rattle.coding.specs.declared.Step.{Step}
 use Rattle.coding.specs.declared.Step.the-variants as St
-use Rattle.coding.specs.declared.Walked.the-variants.{Refused}
 use Rattle.laws.specs.Sound.{All, FlatSound, Sound}
 use Rattle.laws.specs.Lists.{both-left, both-right, pick-holds}
 use Rattle.laws.specs.Structs.{index-holds₂}
-use Rattle.demands.specs.Shown.{FlatShown, boolean, integer, float, no-enum, enum, unknown-enum, struct, FlatsShown, no-flat, flats, members}
+use Rattle.demands.specs.Shown.{FlatShown, boolean, integer, float, no-enum, enum, unknown-enum, struct, FlatsShown, no-flat, flats}
 
 -- what a step of a kind may be; a refusal has a number
 pub data StepShown (S : Schema) (m : List ℕ) : Kind → Step → Type 0 where
