@@ -1,10 +1,11 @@
+-- The theorems. A reader's way in: Counter, Sheets, Reached, Appending; the other modules are their lemmas.
 pub mod Counter
 pub mod Shown
 pub mod SheetDecode
 pub mod SheetEncode
-pub mod Sheets
 pub mod StepShown
 pub mod AcceptedShown
+pub mod Sheets
 pub mod SameLayout
 pub mod SameStep
 pub mod OlderAccepts

@@ -2,17 +2,16 @@
 use mathlib.Core.Path.{_≡_, refl, sym, ap, subst, _∙_}
 use mathlib.Core.List.{List, [], _∷_, _++_, append-assoc}
 use mathlib.Core.Bool.{Bool, true, false, _&&_, not, false≢true}
-use Prim.Native.Nat.{ℕ, zero, suc, _+_, _*_, _^_, _<_, _≤_}
+use Prim.Native.Nat.{ℕ, zero, suc, _*_, _^_, _<_, _≤_}
 use native.Mathlib.Omega.{arith}
 use lib.ListN.{length, take, drop, take-append-drop}
 use lib.Dec.{ltb, leb, eqb}
 use borrow.Author.Tests.{ltb-true, leb-true, eqb-true, eqb-false, not-true}
 use Rattle.coding.specs.Lists.{pick}
 use Rattle.coding.specs.Schema.{Schema, structOf, elementOf, casesOf, caseOf, tableOf}
-use Rattle.coding.specs.Structs.{byIndex}
-use Rattle.coding.specs.Value.{Value, Values, absent, unknown, number, blob, row, chosen, none, _then_, asNumber, asBlob, asRow, asObject, present, first, others, count}
+use Rattle.coding.specs.Value.{Value, absent, unknown, number, blob, asNumber, asBlob, asRow, asObject, present, first, others, count}
 use Rattle.coding.specs.Bits.{bitsOf, bits, value, pack}
-use Rattle.coding.specs.Sheet.{markBits, flatBits, fieldBits, fieldsBits, bitsBy, noBits, structBits, Encoder, bodyBits, flatUnknown, unknownWidth, partBits, flatBare, bare, elementBits, membersBits, elementsBits, blobBits, contentBits, encode}
+use Rattle.coding.specs.Sheet.{markBits, flatBits, fieldBits, fieldsBits, bitsBy, noBits, structBits, Encoder, bodyBits, flatUnknown, unknownWidth, partBits, bare, elementBits, membersBits, elementsBits, blobBits, contentBits, encode}
 use Rattle.coding.specs.Sheet.{Parsed, fail, got, bind, takeNumber, takeBytes, takeValue, takeIf, takeMark, unknownEnum, takeLostEnum, takeEnum, takeFlat, takeField, takeFields, takeBy, takeNothing, takeStruct, Decoder, takeChoice, takeBody, takeLostFlat, takeLost, takePart, takeElement, takeMembers, takeElements, takeBlob, takeContent, decode}
 use Rattle.coding.specs.declared.Flat.{Flat}
 use Rattle.coding.specs.declared.Flat.the-variants.{Boolean, Integer, Float, Enumerated, Struct}
@@ -22,7 +21,8 @@ use Rattle.coding.specs.declared.Kind.{Kind}
 use Rattle.coding.specs.declared.Kind.the-variants.{OfFlat, OfObject, OfUnion}
 use Rattle.coding.specs.declared.Member.{Member}
 use Rattle.laws.specs.Sound.{All, FlatSound, KindSound, MemberSound, Sound}
-use Rattle.laws.specs.All.{all-take, all-drop}
+use Rattle.laws.specs.Lists.{both-left, both-right}
+use Rattle.laws.specs.All.{all-drop}
 use Rattle.laws.specs.Bits.{Bit, Byte, front-lt, front-bits, bits-pack, pack-length, pack-bytes}
 use Rattle.laws.specs.Structs.{index-holds₂}
 use Rattle.demands.specs.Shown.{FlatShown, boolean, integer, float, no-enum, enum, unknown-enum, struct, FlatsShown, no-flat, flats, Objects, PartShown, no-part, flat, object, choice, unknown-choice, MembersShown, no-member, members, ElementsShown, no-element, elements, ContentShown, text, bytes, list, table, Shown}
@@ -52,10 +52,6 @@ weaken w (from-got {a} p q b) = from-got (w a p) q b
 -- one behind the other
 joined : {xs r : List ℕ} (a b q : List ℕ) → xs ≡ a ++ r → r ≡ b ++ q → xs ≡ (a ++ b) ++ q
 joined a b q h l = h ∙ ap (λ (x : List ℕ). a ++ x) l ∙ sym (append-assoc a b q)
-
-and-true : (a b : Bool) → a && b ≡ true → (a ≡ true) × (b ≡ true)
-and-true true b e = (refl, e)
-and-true false b e = absurd (false≢true e)
 
 -- ---- numbers and bytes
 number-from : (w : ℕ) (xs : List ℕ) → All Bit xs → From (λ x. x < 2 ^ w) (bitsOf w) xs (takeNumber w xs)
@@ -138,9 +134,8 @@ module _ (P : Value → Type 0) (w : ℕ) (body : Value → List ℕ) (lost deco
 unknown-enum-is : (S : Schema) (n x : ℕ) → x < 2 ^ 8 → unknownEnum n x ≡ true → FlatShown S (Enumerated n) (unknown x)
 unfolding unknownEnum
 unknown-enum-is S n x l e =
-    let h = and-true (leb n x) (not (eqb x 255)) e in
-    let no = eqb-false x 255 (not-true (eqb x 255) (h .1)) in
-    unknown-enum (leb-true n x (h .0)) (omega arith)
+    let ne = eqb-false x 255 (not-true (eqb x 255) (both-right (leb n x) (not (eqb x 255)) e)) in
+    unknown-enum (leb-true n x (both-left (leb n x) (not (eqb x 255)) e)) (omega arith)
 
 lost-enum : (S : Schema) (n : ℕ) (xs : List ℕ) → All Bit xs → Lost (FlatShown S (Enumerated n)) 8 xs (takeLostEnum n xs)
 unfolding takeLostEnum
@@ -217,13 +212,14 @@ module _ (S : Schema) (G : Sound S) where
     unfolding Part bodyBits takeChoice asNumber asObject present
     choice-from i xs h =
         from-bind (number-from 16 xs h)
-        (λ c r l e b.
+        (λ c r s e b.
         from-pick (leb 1 c && leb c (length (casesOf S i)))
         (λ t.
-        let u = and-true (leb 1 c) (leb c (length (casesOf S i))) t in
+        let l = leb-true 1 c (both-left (leb 1 c) (leb c (length (casesOf S i))) t) in
+        let u = leb-true c (length (casesOf S i)) (both-right (leb 1 c) (leb c (length (casesOf S i))) t) in
         from-bind (below (caseOf (casesOf S i) c) r b)
         (λ v q p f d.
-        from-got (choice (leb-true 1 c (u .0)) (leb-true c (length (casesOf S i)) (u .1)) (p .0), refl)
+        from-got (choice l u (p .0), refl)
         (joined (bitsOf 16 c) (encoder (caseOf (casesOf S i) c) v) q e f) d)))
 
     body-from : (k : Kind) → KindSound S k → (xs : List ℕ) → All Bit xs → From (Part k) (bodyBits encoder S k) xs (takeBody decoder S k xs)

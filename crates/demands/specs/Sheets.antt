@@ -1,10 +1,10 @@
 -- "decode undoes encode on every value a schema can show; a sheet that decodes is the encoding of what it decodes to, byte
--- for byte, so a lawful sheet has one tree and a tree one sheet".
--- Which values a schema can show is said in Shown.
+-- for byte, so a lawful sheet has one tree and a tree one sheet; the sheet of an accepted message is lawful unless it is
+-- over the size". Which values a schema can show is said in Shown.
 use mathlib.Core.Path.{_≡_, refl, sym, ap, _∙_}
 use mathlib.Core.List.{List, _++_}
 use mathlib.Core.Bool.{Bool, true, false, _&&_}
-use mathlib.Core.Option.{Option, some, Option·some-injective, Option·none-ne-some}
+use mathlib.Core.Option.{some, Option·some-injective, Option·none-ne-some}
 use mathlib.Core.Option as Op
 use Prim.Native.Nat.{ℕ, _<_, _≤_}
 use native.Mathlib.Omega.{arith}
@@ -12,17 +12,26 @@ use lib.ListN.{length, getD, replicate, length-replicate}
 use lib.Dec.{ltb, leb}
 use borrow.Author.Tests.{ltb-true, lt-ltb, leb-true, le-leb}
 use Rattle.coding.specs.Lists.{pick}
-use Rattle.coding.specs.Bytes.{deepest, largest}
+use Rattle.coding.specs.Bytes.{deepest, largest, u48}
 use Rattle.coding.specs.Schema.{Schema}
 use Rattle.coding.specs.Value.{Value}
 use Rattle.coding.specs.Bits.{bits, packed, allZero}
-use Rattle.coding.specs.Sheet.{sheetBits, sheetOf, Parsed, fail, got, decode, encode, closed, treeOf, sheetTree}
+use Rattle.coding.specs.Sheet.{sheetBits, sheetOf, Parsed, got, encode, closed, treeOf, sheetTree}
+use Rattle.coding.specs.Packed.{parse}
+use Rattle.coding.specs.Walk.{walk, verdict}
+use Rattle.coding.specs.Read.{messageRead}
+use Rattle.coding.specs.Message.{messageSheet}
 use Rattle.coding.specs.declared.Object.the-variants as O
-use Rattle.laws.specs.Sound.{All, Sound}
+use Rattle.coding.specs.declared.Budget.{Budget}
+use Rattle.coding.specs.declared.Spent.{Spent}
+use Rattle.coding.specs.declared.Walked.the-variants.{Going}
+use Rattle.laws.specs.Sound.{Sound}
+use Rattle.laws.specs.LawfulSound.{lawful-sound}
 use Rattle.laws.specs.All.{all-index, index-all}
-use Rattle.laws.specs.Bits.{Bit, Byte, bits-bits, zero-bits, padding, padding-lt, packed-bytes, bits-packed, packed-from}
+use Rattle.laws.specs.Bits.{Byte, bits-bits, zero-bits, padding, padding-lt, packed-bytes, bits-packed, packed-from}
 use Rattle.demands.specs.Shown.{Shown}
 use Rattle.demands.specs.SheetDecode.{object-spelt}
+use Rattle.demands.specs.AcceptedShown.{map-ends, ends-going, walk-ends, verdict-shows}
 use Rattle.demands.specs.SheetEncode.{From, from-fail, from-got, object-from}
 
 -- v is a value that the schema can show in a message
@@ -98,3 +107,42 @@ module _ (S : Schema) (G : Sound S) where
           → ShownAtRoot S v × (s ≡ sheetOf S v) × (length s ≤ largest)
       by true l e = let h = encode-decode s v b e in (h .0, h .1, leb-true (length s) largest l)
       by false l e = absurd (Option·none-ne-some v e)
+
+-- "the sheet of an accepted message is lawful unless it is over the size", for a schema and the walk
+module _ (S : Schema) (G : Sound S) (m : List ℕ) (bytes : (i : ℕ) → getD m i 0 < 256) (sized : length m ≤ largest) (budget : Budget)
+    (s : Spent) (accepted : walk u48 S m budget ≡ Going s) where
+  pub accepted-shown : ShownAtRoot S (messageRead u48 S m)
+  accepted-shown = ends-going accepted (walk-ends S G m bytes sized u48 (unfold u48 in omega arith) budget)
+
+  pub accepted-sheet-tree : treeOf S (sheetOf S (messageRead u48 S m)) ≡ some (messageRead u48 S m)
+  accepted-sheet-tree = decode-encode S G (messageRead u48 S m) accepted-shown
+
+  pub accepted-sheet-lawful : length (sheetOf S (messageRead u48 S m)) ≤ largest
+      → sheetTree S (sheetOf S (messageRead u48 S m)) ≡ some (messageRead u48 S m)
+  accepted-sheet-lawful = decode-encode-sized S G (messageRead u48 S m) accepted-shown
+
+-- the same for the bytes of a schema and of a message, and the verdict
+module _ (b m : List ℕ) (schema-bytes : (i : ℕ) → getD b i 0 < 256) (message-bytes : (i : ℕ) → getD m i 0 < 256) (budget : Budget)
+    (accepted : verdict u48 b m budget .number ≡ 0) where
+  -- the schema is sound, and what is read can be shown
+  pub verdict-shown : Sound (parse b) × ShownAtRoot (parse b) (messageRead u48 (parse b) m)
+  verdict-shown =
+      verdict-shows (Sound (parse b) × ShownAtRoot (parse b) (messageRead u48 (parse b) m)) u48 b m budget
+      (λ e l.
+      let G = lawful-sound b schema-bytes e in
+      map-ends (λ h. (G, h)) (walk-ends (parse b) G m message-bytes l u48 (unfold u48 in omega arith) budget))
+      accepted
+
+  pub verdict-sheet-tree : treeOf (parse b) (messageSheet u48 b m) ≡ some (messageRead u48 (parse b) m)
+  unfolding messageSheet
+  verdict-sheet-tree = decode-encode (parse b) (verdict-shown .0) (messageRead u48 (parse b) m) (verdict-shown .1)
+
+  -- "the sheet of an accepted message is lawful unless it is over the size"
+  pub verdict-sheet-lawful : length (messageSheet u48 b m) ≤ largest
+      → sheetTree (parse b) (messageSheet u48 b m) ≡ some (messageRead u48 (parse b) m)
+  unfolding messageSheet
+  verdict-sheet-lawful = decode-encode-sized (parse b) (verdict-shown .0) (messageRead u48 (parse b) m) (verdict-shown .1)
+
+  pub verdict-sheet-bytes : (i : ℕ) → getD (messageSheet u48 b m) i 0 < 256
+  unfolding messageSheet
+  verdict-sheet-bytes = sheet-bytes (parse b) (verdict-shown .0) (messageRead u48 (parse b) m) (verdict-shown .1)
