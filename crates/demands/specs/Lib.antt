@@ -10,6 +10,9 @@ pub mod SameLayout
 pub mod SameStep
 pub mod OlderAccepts
 pub mod OlderReads
+pub mod PlainMessage
+pub mod AddedMembers
+pub mod NewerReads
 pub mod RefusalNumbers
 pub mod Arrivals
 pub mod ArrivalsWalk
