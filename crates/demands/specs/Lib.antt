@@ -12,6 +12,7 @@ pub mod OlderAccepts
 pub mod OlderReads
 pub mod PlainMessage
 pub mod AddedMembers
+pub mod NewerAccepts
 pub mod NewerReads
 pub mod RefusalNumbers
 pub mod Arrivals
