@@ -1,1 +1,4 @@
 pub mod Counter
+pub mod FieldEntries
+pub mod GoingOn
+pub mod StepKinds
