@@ -2,3 +2,4 @@ pub mod Counter
 pub mod FieldEntries
 pub mod GoingOn
 pub mod StepKinds
+pub mod FieldShows
