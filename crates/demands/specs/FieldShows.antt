@@ -10,12 +10,12 @@ use lib.ListN.{length, getD, take, drop, length-take, length-drop}
 use lib.Dec.{ltb, leb, eqb}
 use borrow.Author.Tests.{ltb-true, leb-true}
 use Rattle.coding.specs.Lists.{pick}
-use Rattle.coding.specs.Bytes.{le}
+use Rattle.coding.specs.Bytes.{le, deepest}
 use Rattle.coding.specs.Schema.{Schema, structOf, fieldOf, elementOf, tableOf, memberOf, casesOf, caseOf}
 use Rattle.coding.specs.Structs.{lower, byIndex, total, structSize}
 use Rattle.coding.specs.Layout.{begin, afterMembers}
 use Rattle.coding.specs.Step.{enumStep, fieldStep, memberStep, elementStep}
-use Rattle.coding.specs.Walk.{placed, magic, headerSize, contentSize, endOk, openContent, openObject, refuse, follow, followChoice, members, elements, content, enter, arrive, tooDeep, counted, visit}
+use Rattle.coding.specs.Walk.{placed, magic, headerSize, contentSize, endOk, openContent, openObject, refuse, follow, followChoice, members, elements, content, enter, arrive, tooDeep, counted, visit, rootPlace, walk}
 use Rattle.coding.specs.Value as Tree
 use Rattle.coding.specs.Read as Read
 use Rattle.coding.specs.Field as Field
@@ -40,7 +40,9 @@ use Rattle.coding.specs.declared.Budget.{Budget}
 use Rattle.coding.specs.declared.Spent.{Spent}
 use Rattle.coding.specs.declared.Found.{Found}
 use Rattle.coding.specs.declared.Found.the-variants as Fd
+use Rattle.coding.specs.declared.Answer.{Answer}
 use Rattle.coding.specs.declared.Answer.the-variants as A
+use Rattle.coding.specs.declared.Refusal.{Refusal}
 use Rattle.coding.specs.declared.Walked.{Walked}
 use Rattle.coding.specs.declared.Walked.the-variants.{Going}
 
@@ -357,3 +359,30 @@ module _ (o : ℕ) (S : Schema) (m : List ℕ) (b : Budget) where
   shows-text (bits k x holder) = refl
   shows-text (fields i at holder) = refl
   shows-text (within ob at start n d s t e fits) = object-text (Read.read d o S m) ob start n
+
+  flat-refusal : (k : Flat) (x : ℕ) (r : Refusal) → Field.flatAnswer k x ≡ A.Refused r → r .number ≡ 15
+  unfolding Field.flatAnswer
+  flat-refusal F.Boolean x r e = cc
+  flat-refusal (F.Integer s w) x r e = cc
+  flat-refusal (F.Float w) x r e = cc
+  flat-refusal (F.Enumerated n) x r e = cc
+  flat-refusal (F.Struct i) x r e = cc
+
+  pub shows-refusal : {f : Found} {p : E.Part} → Shows o S m b f p → (r : Refusal) → Field.answerOf f ≡ A.Refused r
+      → r .number ≡ 15
+  unfolding Field.answerOf Field.valueAnswer Field.answerVerdict
+  shows-refusal (no-part at) r e = sym (ap (λ (a : Answer). Field.answerVerdict a .number) e)
+  shows-refusal no-value r e = cc
+  shows-refusal (unknown-number x) r e = cc
+  shows-refusal (bits k x holder) r e = flat-refusal k x r e
+  shows-refusal (fields i at holder) r e = cc
+  shows-refusal (within ob at start n d s t e fits) r q = cc
+
+-- ---- from the root
+pub found-shows : (o : ℕ) (S : Schema) → Sound S → (m : List ℕ) (b : Budget) (s : Spent) → walk o S m b ≡ Going s → (path : List ℕ)
+    → Shows o S m b (Field.found o S m path) (E.partAlong S (E.Part.object (O.Table (S .root)) (Read.messageRead o S m)) path)
+unfolding walk Field.found Read.messageRead
+found-shows o S sound m b s e path =
+    along-shows o S m b sound
+    (arrived-shows o S m b deepest (O.Table (S .root)) (rootPlace o m) (record { visits = 0 }) s e)
+    path
