@@ -3,3 +3,4 @@ pub mod FieldEntries
 pub mod GoingOn
 pub mod StepKinds
 pub mod FieldShows
+pub mod FieldsWalked
