@@ -1,6 +1,6 @@
 -- Where a path has come in the message, and which part of its tree that is: the two go together, step by step, as long as
 -- the walk goes on below.
-use mathlib.Core.Path.{_≡_, refl, sym, subst, ap, _∙_}
+use mathlib.Core.Path.{_≡_, refl, sym, subst, ap}
 use mathlib.Core.List.{List, [], _∷_}
 use mathlib.Core.Bool.{Bool, true, false, _&&_}
 use Prim.Native.Nat.{ℕ, zero, suc, _+_, _<_, _≤_}
@@ -11,7 +11,7 @@ use lib.Dec.{ltb, leb, eqb}
 use borrow.Author.Tests.{ltb-true, leb-true}
 use Rattle.coding.specs.Lists.{pick}
 use Rattle.coding.specs.Bytes.{le, deepest}
-use Rattle.coding.specs.Schema.{Schema, structOf, fieldOf, elementOf, tableOf, memberOf, casesOf, caseOf}
+use Rattle.coding.specs.Schema.{Schema, structOf, fieldOf, elementOf, tableOf, memberOf}
 use Rattle.coding.specs.Structs.{lower, byIndex, total, structSize}
 use Rattle.coding.specs.Layout.{begin, afterMembers}
 use Rattle.coding.specs.Step.{enumStep, fieldStep, memberStep, elementStep}
@@ -29,12 +29,11 @@ use Rattle.coding.specs.declared.Flat.the-variants as F
 use Rattle.coding.specs.declared.Object.{Object}
 use Rattle.coding.specs.declared.Object.the-variants as O
 use Rattle.coding.specs.declared.Kind.{Kind}
-use Rattle.coding.specs.declared.Kind.the-variants.{OfFlat, OfObject, OfUnion}
+use Rattle.coding.specs.declared.Kind.the-variants.{OfFlat, OfObject}
 use Rattle.coding.specs.declared.Place.{Place}
 use Rattle.coding.specs.declared.Place.the-variants.{ByOffset, InPlace}
 use Rattle.coding.specs.declared.Step.{Step}
 use Rattle.coding.specs.declared.Step.the-variants as St
-use Rattle.coding.specs.declared.Opened.{Opened}
 use Rattle.coding.specs.declared.Opened.the-variants as Op
 use Rattle.coding.specs.declared.Budget.{Budget}
 use Rattle.coding.specs.declared.Spent.{Spent}
@@ -43,7 +42,6 @@ use Rattle.coding.specs.declared.Found.the-variants as Fd
 use Rattle.coding.specs.declared.Answer.{Answer}
 use Rattle.coding.specs.declared.Answer.the-variants as A
 use Rattle.coding.specs.declared.Refusal.{Refusal}
-use Rattle.coding.specs.declared.Walked.{Walked}
 use Rattle.coding.specs.declared.Walked.the-variants.{Going}
 
 -- the members of a struct, as its tree has them

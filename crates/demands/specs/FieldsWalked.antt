@@ -1,6 +1,6 @@
 -- The field's answer from the packed bytes of a schema, where the walk goes on to the end: it is the answer of the path, and
 -- that shows what the tree shows.
-use mathlib.Core.Path.{_≡_, refl, sym, subst, ap, _∙_}
+use mathlib.Core.Path.{_≡_, sym, ap, _∙_}
 use mathlib.Core.List.{List}
 use mathlib.Core.Bool.{true}
 use Prim.Native.Nat.{ℕ, _≤_}
@@ -15,7 +15,6 @@ use Rattle.laws.specs.Sound.{Sound}
 use Rattle.demands.specs.FieldEntries.{shown, entryAt, textAt}
 use Rattle.demands.specs.FieldShows.{found-shows, shows-entry, shows-text, shows-refusal}
 use Rattle.coding.specs.declared.Object.the-variants as O
-use Rattle.coding.specs.declared.Answer.{Answer}
 use Rattle.coding.specs.declared.Answer.the-variants as A
 use Rattle.coding.specs.declared.Budget.{Budget}
 use Rattle.coding.specs.declared.Spent.{Spent}

@@ -1,13 +1,10 @@
 -- A walk that goes on has gone on at every member and element of what it judged; and what is read at each of them.
-use mathlib.Core.Path.{_≡_, refl, sym, subst, ap, _∙_}
+use mathlib.Core.Path.{_≡_, refl, subst, ap}
 use mathlib.Core.List.{List, [], _∷_}
-use mathlib.Core.Bool.{Bool, true, false}
 use Prim.Native.Nat.{ℕ, zero, suc, _+_, _<_}
 use native.Mathlib.Omega.{arith}
 use native.Mathlib.Nat.{add-zero, add-assoc}
 use lib.ListN.{length, getD, take}
-use lib.Dec.{ltb, leb, eqb}
-use Rattle.coding.specs.Lists.{pick}
 use Rattle.coding.specs.Schema.{Schema, plainBool}
 use Rattle.coding.specs.Structs.{flatWidth, total, structSize}
 use Rattle.coding.specs.Layout.{afterMember, afterMembers}

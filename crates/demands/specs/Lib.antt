@@ -4,3 +4,4 @@ pub mod GoingOn
 pub mod StepKinds
 pub mod FieldShows
 pub mod FieldsWalked
+pub mod ListReader
