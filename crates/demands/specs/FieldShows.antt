@@ -19,8 +19,9 @@ use Rattle.coding.specs.Walk.{placed, magic, headerSize, contentSize, endOk, op
 use Rattle.coding.specs.Value as Tree
 use Rattle.coding.specs.Read as Read
 use Rattle.coding.specs.Field as Field
+use Rattle.laws.specs.Lists.{all-at}
 use Rattle.laws.specs.Structs.{lower-is}
-use Rattle.laws.specs.Sound.{All, FlatSound, FlatScalar, Sound}
+use Rattle.laws.specs.Sound.{FlatSound, FlatScalar, Sound}
 use Rattle.demands.specs.FieldEntries as E
 use Rattle.demands.specs.GoingOn.{GoesOn, refuse-going, members-going, elements-going, members-at, elements-at, elements-count, fields-at}
 use Rattle.demands.specs.StepKinds.{OfKind, member-kind, element-kind, refused, absent, unknown, value, struct, object, choice}
@@ -63,11 +64,6 @@ pub data Shows (o : ℕ) (S : Schema) (m : List ℕ) (b : Budget) : Found → E.
 inner-tree : (S : Schema) (m : List ℕ) (i j at : ℕ) → j < i → Tree.row (fieldsOf S m j at) ≡ lower Read.noStruct (Read.readBy S m) i j at
 unfolding byIndex Read.readBy
 inner-tree S m i j at l = ap (λ (f : ℕ → Tree.Value). f at) (sym (lower-is Read.noStruct (Read.readBy S m) i j l))
-
-all-at : {A : Type 0} (P : A → Type 0) (d : A) (xs : List A) (k : ℕ) → All P xs → k < length xs → P (getD xs k d)
-all-at P d [] k p l = absurd (omega arith)
-all-at P d (x ∷ xs) zero p l = p .0
-all-at P d (x ∷ xs) (suc k) p l = all-at P d xs k (p .1) (omega arith)
 
 -- ---- a value that is there
 here : (S : Schema) (k : Kind) (v : Tree.Value) → Tree.present v ≡ true → E.partHere S k v ≡ E.kindPart S k v

@@ -1,3 +1,11 @@
 -- Laws of the definitions in `coding` that more than one crate cites.
 pub mod Structs
 pub mod Sound
+pub mod All
+pub mod Bits
+pub mod Lists
+pub mod Parsed
+pub mod Rules
+pub mod RecordSound
+pub mod Sizes
+pub mod LawfulSound
