@@ -24,7 +24,7 @@ use Rattle.demands.specs.OlderAccepts as A
 use Rattle.demands.specs.OlderReads as R
 use Rattle.demands.specs.Reached.{verdict-walks, walks-verdict}
 use Rattle.demands.specs.Sheets.{decode-encode}
-use Rattle.demands.specs.AcceptedShown.{walk-shown}
+use Rattle.demands.specs.AcceptedShown.{walk-ends, ends-going}
 
 -- the numbers of a list are bytes
 abbrev pub AreBytes : List ℕ → Type 0
@@ -63,7 +63,7 @@ module _ (older newer m : List ℕ) (older-bytes : AreBytes older) (newer-bytes 
       let y = older-accepts older newer older-bytes appends o m b h in
       let sound = lawful-sound newer newer-bytes (appends .newer-lawful) in
       let sized = leb-true (length m) largest (both-right (leb (headerSize o) (length m)) (leb (length m) largest) (x .size)) in
-      let shown = walk-shown (parse newer) sound m message-bytes sized o wide b (x .spent) (x .walks) in
+      let shown = ends-going (x .walks) (walk-ends (parse newer) sound m message-bytes sized o wide b) in
       record {
         accepts = y .0;
         visits = y .1;
