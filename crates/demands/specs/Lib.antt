@@ -1,4 +1,4 @@
--- The theorems. A reader's way in: Counter, Sheets, Reached, Appending; the other modules are their lemmas.
+-- The theorems. A reader's way in: Counter, Sheets, Reached, Appending, Fields, ListReader; the other modules are their lemmas.
 pub mod Counter
 pub mod Shown
 pub mod SheetDecode
@@ -20,3 +20,10 @@ pub mod ArrivalsWalk
 pub mod Reached
 pub mod Appending
 pub mod AppendingCases
+pub mod FieldEntries
+pub mod GoingOn
+pub mod StepKinds
+pub mod FieldShows
+pub mod FieldsWalked
+pub mod Fields
+pub mod ListReader
