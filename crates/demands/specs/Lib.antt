@@ -20,6 +20,7 @@ pub mod ArrivalsWalk
 pub mod Reached
 pub mod Appending
 pub mod AppendingCases
+pub mod NewerAgrees
 pub mod FieldEntries
 pub mod GoingOn
 pub mod StepKinds
