@@ -1,1 +1,4 @@
 pub mod Counter
+pub mod Holds
+pub mod CellsHold
+pub mod SlotsHold
