@@ -49,20 +49,20 @@ pack-bytes f (reference k s) h = (pack-bytes 0 k (h .0), pack-bytes f s (h .1))
 pack-bytes f (inPlace k s) h = (pack-bytes 0 k (h .0), pack-bytes f s (h .1))
 
 -- ---- a position: the next free byte p, the last bool byte l, and how many of its bits are free, f
-abbrev byteOf : ℕ → ℕ → ℕ → ℕ
+abbrev pub byteOf : ℕ → ℕ → ℕ → ℕ
 byteOf zero p l = p
 byteOf (suc f) p l = l
 
-abbrev nextAt : ℕ → ℕ → ℕ
+abbrev pub nextAt : ℕ → ℕ → ℕ
 nextAt zero p = p + 1
 nextAt (suc f) p = p
 
-abbrev nextFree : ℕ → ℕ
+abbrev pub nextFree : ℕ → ℕ
 nextFree zero = 7
 nextFree (suc f) = f
 
 -- the free bits of the last bool byte are 0
-abbrev Unused : List ℕ → ℕ → ℕ → Type 0
+abbrev pub Unused : List ℕ → ℕ → ℕ → Type 0
 Unused m l zero = Unit {0}
 Unused m l (suc g) = getD m l 0 / 2 ^ (7 - g) ≡ 0
 
@@ -78,7 +78,7 @@ SlotsHold o m e p l f (inPlace k s) =
     SlotsHold o m (e + width o (packBits 0 k)) e 0 0 k × SlotsHold o m (e + width o (packBits 0 k) + chain o (packBits 0 k)) p l f s
 
 -- what is left of the last bool byte are the bits to come
-abbrev Rest : List ℕ → ℕ → ℕ → Slots → Type 0
+abbrev pub Rest : List ℕ → ℕ → ℕ → Slots → Type 0
 Rest m l zero s = Unit {0}
 Rest m l (suc g) s = (getD m l 0 / 2 ^ (7 - g) ≡ gather (suc g) s) × (g ≤ 7)
 
