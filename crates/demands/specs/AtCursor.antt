@@ -194,7 +194,7 @@ module _ (o : ℕ) (m : List ℕ) where
         let i : c .bit ≡ 7 - g = omega arith in
         record {
           zero =
-          λ b. subst (λ (n : ℕ). getD m n 0 / 2 ^ (c .bit) ≡ 0) (last (omega arith)) (subst (λ (n : ℕ). getD m l 0 / 2 ^ n ≡ 0) (sym i) (h .1));
+              λ b. subst (λ (n : ℕ). getD m n 0 / 2 ^ (c .bit) ≡ 0) (last (omega arith)) (subst (λ (n : ℕ). getD m l 0 / 2 ^ n ≡ 0) (sym i) (h .1));
         }
 
     -- at the end, the cursor is where the slots end

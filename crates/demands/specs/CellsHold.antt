@@ -10,7 +10,9 @@ use Rattle.coding.specs.Walk.{headerSize}
 use Rattle.coding.specs.Cells.{Cells, width, chain, below, widthBytes, chainBytes, belowBytes, layout}
 use Rattle.coding.specs.Cells.Cells.{end, bytes, reference, inPlace}
 use Rattle.laws.specs.Sound.{All}
-use Rattle.demands.specs.Holds.{Holds, Byte, length-leBytes, holds-fits, holds-right, holds-left, holds-le, holds-self, all-append, leBytes-bytes}
+use Rattle.laws.specs.Bits.{Byte}
+use Rattle.laws.specs.All.{all-append}
+use Rattle.demands.specs.Holds.{Holds, length-leBytes, holds-fits, holds-right, holds-left, holds-le, holds-self, leBytes-bytes}
 
 -- the cells c stand in m at p, their first in-place content at e, and each object where its reference says
 abbrev pub CellsHold : ℕ → List ℕ → ℕ → ℕ → Cells → Type 0
@@ -162,10 +164,10 @@ module _ (o : ℕ) where
   widthBytes-bytes : (s : ℕ) (c : Cells) → CellsBytes c → All Byte (widthBytes o s c)
   unfolding widthBytes
   widthBytes-bytes s end h = tt
-  widthBytes-bytes s (bytes bs c) h = all-append bs (widthBytes o s c) (h .0) (widthBytes-bytes s c (h .1))
+  widthBytes-bytes s (bytes bs c) h = all-append Byte bs (widthBytes o s c) (h .0) (widthBytes-bytes s c (h .1))
   widthBytes-bytes s (reference k c) h =
       let t = s + (width o k + chain o k + below o k) in
-      all-append (leBytes o s) (widthBytes o t c) (leBytes-bytes o s) (widthBytes-bytes t c (h .1))
+      all-append Byte (leBytes o s) (widthBytes o t c) (leBytes-bytes o s) (widthBytes-bytes t c (h .1))
   widthBytes-bytes s (inPlace k c) h = widthBytes-bytes (s + below o k) c (h .1)
 
   chainBytes-bytes : (s : ℕ) (c : Cells) → CellsBytes c → All Byte (chainBytes o s c)
@@ -174,8 +176,8 @@ module _ (o : ℕ) where
   chainBytes-bytes s (bytes bs c) h = chainBytes-bytes s c (h .1)
   chainBytes-bytes s (reference k c) h = chainBytes-bytes (s + (width o k + chain o k + below o k)) c (h .1)
   chainBytes-bytes s (inPlace k c) h =
-      all-append (widthBytes o s k) (chainBytes o s k ++ chainBytes o (s + below o k) c) (widthBytes-bytes s k (h .0))
-      (all-append (chainBytes o s k) (chainBytes o (s + below o k) c) (chainBytes-bytes s k (h .0)) (chainBytes-bytes (s + below o k) c (h .1)))
+      all-append Byte (widthBytes o s k) (chainBytes o s k ++ chainBytes o (s + below o k) c) (widthBytes-bytes s k (h .0))
+      (all-append Byte (chainBytes o s k) (chainBytes o (s + below o k) c) (chainBytes-bytes s k (h .0)) (chainBytes-bytes (s + below o k) c (h .1)))
 
   belowBytes-bytes : (s : ℕ) (c : Cells) → CellsBytes c → All Byte (belowBytes o s c)
   unfolding belowBytes
@@ -185,15 +187,15 @@ module _ (o : ℕ) where
       let s' = s + (width o k + chain o k) in
       let t = s + (width o k + chain o k + below o k) in
       let bt = belowBytes o t c in
-      all-append (widthBytes o s' k) (chainBytes o s' k ++ (belowBytes o s' k ++ bt)) (widthBytes-bytes s' k (h .0))
-      (all-append (chainBytes o s' k) (belowBytes o s' k ++ bt) (chainBytes-bytes s' k (h .0))
-      (all-append (belowBytes o s' k) bt (belowBytes-bytes s' k (h .0)) (belowBytes-bytes t c (h .1))))
+      all-append Byte (widthBytes o s' k) (chainBytes o s' k ++ (belowBytes o s' k ++ bt)) (widthBytes-bytes s' k (h .0))
+      (all-append Byte (chainBytes o s' k) (belowBytes o s' k ++ bt) (chainBytes-bytes s' k (h .0))
+      (all-append Byte (belowBytes o s' k) bt (belowBytes-bytes s' k (h .0)) (belowBytes-bytes t c (h .1))))
   belowBytes-bytes s (inPlace k c) h =
-      all-append (belowBytes o s k) (belowBytes o (s + below o k) c) (belowBytes-bytes s k (h .0)) (belowBytes-bytes (s + below o k) c (h .1))
+      all-append Byte (belowBytes o s k) (belowBytes o (s + below o k) c) (belowBytes-bytes s k (h .0)) (belowBytes-bytes (s + below o k) c (h .1))
 
   pub layout-bytes : (c : Cells) → CellsBytes c → All Byte (layout o c)
   unfolding layout
   layout-bytes c h =
       let s = width o c + chain o c in
-      all-append (widthBytes o s c) (chainBytes o s c ++ belowBytes o s c) (widthBytes-bytes s c h)
-      (all-append (chainBytes o s c) (belowBytes o s c) (chainBytes-bytes s c h) (belowBytes-bytes s c h))
+      all-append Byte (widthBytes o s c) (chainBytes o s c ++ belowBytes o s c) (widthBytes-bytes s c h)
+      (all-append Byte (chainBytes o s c) (belowBytes o s c) (chainBytes-bytes s c h) (belowBytes-bytes s c h))

@@ -8,6 +8,7 @@ use lib.ListN.{length, getD, take, drop, length-append, replicate}
 use lib.Seq.{getD-append-seam, drop-cons}
 use Rattle.coding.specs.Bytes.{le, leBytes}
 use Rattle.laws.specs.Sound.{All}
+use Rattle.laws.specs.Bits.{Byte}
 
 -- the bytes bs stand in m from p on, and m reaches to their end
 abbrev pub Holds : List ℕ → ℕ → List ℕ → Type 0
@@ -69,18 +70,7 @@ pub holds-self : (l : List ℕ) → Holds l 0 l
 holds-self l = rw append-nil at (holds-at [] l [])
 
 -- ---- bytes below 256
-abbrev pub Byte : ℕ → Type 0
-Byte b = b < 256
-
-pub all-append : (xs ys : List ℕ) → All Byte xs → All Byte ys → All Byte (xs ++ ys)
-all-append [] ys h k = k
-all-append (x ∷ xs) ys h k = (h .0, all-append xs ys (h .1) k)
-
 pub leBytes-bytes : (w x : ℕ) → All Byte (leBytes w x)
 unfolding leBytes
 leBytes-bytes zero x = tt
 leBytes-bytes (suc w) x = (omega arith, leBytes-bytes w (x / 256))
-
-pub zeros-bytes : (n : ℕ) → All Byte (replicate n 0)
-zeros-bytes zero = tt
-zeros-bytes (suc n) = (omega arith, zeros-bytes n)

@@ -5,3 +5,7 @@ pub mod Holds
 pub mod CellsHold
 pub mod SlotsHold
 pub mod AtCursor
+pub mod Writes
+pub mod StructHold
+pub mod TreeHold
+pub mod TreeRead

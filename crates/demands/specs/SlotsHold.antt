@@ -15,7 +15,8 @@ use Rattle.coding.specs.Cells.{Cells, width, chain, Slots, gather, packBits}
 use Rattle.coding.specs.Cells.Slots.{end, bytes, bit, reference, inPlace}
 use Rattle.coding.specs.declared.Cursor.{Cursor}
 use Rattle.laws.specs.Sound.{All}
-use Rattle.demands.specs.Holds.{Holds, Byte, holds-fits}
+use Rattle.laws.specs.Bits.{Byte}
+use Rattle.demands.specs.Holds.{Holds}
 use Rattle.demands.specs.CellsHold.{CellsHold, CellsBytes}
 
 -- ---- bits are bits, and bytes are bytes
