@@ -9,3 +9,5 @@ pub mod Writes
 pub mod StructHold
 pub mod TreeHold
 pub mod TreeRead
+pub mod Arrivals
+pub mod TreeWalk
