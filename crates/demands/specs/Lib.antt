@@ -11,3 +11,5 @@ pub mod TreeHold
 pub mod TreeRead
 pub mod Arrivals
 pub mod TreeWalk
+pub mod WrittenParts
+pub mod WrittenSteps
