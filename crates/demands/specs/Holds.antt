@@ -45,11 +45,12 @@ module _ (m : List ℕ) where
       omega arith
 
   -- zero bytes are the number 0
-  pub holds-zeros : (w p : ℕ) → Holds m p (replicate w 0) → le m p w ≡ 0
+  pub holds-zeros : (w n p : ℕ) → w ≤ n → Holds m p (replicate n 0) → le m p w ≡ 0
   unfolding le
-  holds-zeros zero p h = refl
-  holds-zeros (suc w) p h =
-      let ih = holds-zeros w (p + 1) (h .1) in
+  holds-zeros zero n p b h = refl
+  holds-zeros (suc w) zero p b h = absurd (omega arith)
+  holds-zeros (suc w) (suc n) p b h =
+      let ih = holds-zeros w n (p + 1) (omega arith) (h .1) in
       let hd = h .0 in
       omega arith
 

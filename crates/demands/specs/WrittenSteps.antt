@@ -38,7 +38,7 @@ use Rattle.demands.specs.AtCursor.{At, Sane, at-fits, at-sane, at-bytes,
 use Rattle.demands.specs.StructHold.{struct-holds}
 use Rattle.demands.specs.Writes.{Objects, FlatWrites, boolean, integer, float, no-enum, enum, NotNaN, PartWrites, no-flat, no-float, flat, no-object, no-union}
 use Rattle.demands.specs.Writes as W
-use Rattle.demands.specs.TreeHold.{Below, Shows, nothing, scalar}
+use Rattle.demands.specs.TreeHold.{Below, Somewhere, Shows, nothing, scalar}
 use Rattle.demands.specs.TreeHold as T
 use Rattle.demands.specs.WrittenParts.{Inner}
 
@@ -148,3 +148,61 @@ module _ (o : ℕ) (S : Schema) (sound : Sound S) (m : List ℕ) (P : Planner) (
         λ f. omega arith,
         λ f. absurd (let y : _≡_ {A = ℕ} 0 1 = cc in omega arith),
       )
+
+  positive : (inplace : Bool) (x : ℕ) → (inplace ≡ false → 0 < x) → (inplace ≡ true → 0 < x) → 0 < x
+  positive true x f g = g refl
+  positive false x f g = f refl
+
+  somewhere : (inplace : Bool) (tail x : ℕ) → (inplace ≡ false → 0 < x) → Somewhere (placeOf inplace tail x)
+  unfolding placeOf
+  somewhere true tail x f = tt
+  somewhere false tail x f = f refl
+
+  -- ---- a member or an element, whatever its kind
+  object-step : (inplace : Bool) (ob : Object) (v : Value) (c : Cursor) (e tail : ℕ) (rest : Slots) → (inplace ≡ true → e ≡ tail) → G ob v
+      → present v ≡ true → (inplace ≡ true → 0 < lengthOf o S ob v) → At o m start c z e (referSlots P o S inplace ob v rest)
+      → Shows below S m (OfObject ob) v (objectStep ob inplace tail (le m (start + c .end) o))
+  object-step inplace ob v c e tail rest same g p long a =
+      let h = refer-held inplace ob v c e tail rest same g a in
+      let x = le m (start + c .end) o in
+      let q : 0 < x = positive inplace x (h .1) (λ t. let l = long t in let r = h .2 t in omega arith) in
+      rw (object-some ob inplace tail x q) (T.object p (h .0))
+
+  choice-step : (inplace : Bool) (i n : ℕ) (v : Value) (c : Cursor) (e tail : ℕ) (rest : Slots) → (inplace ≡ true → e ≡ tail) → 0 < n → n ≤ length (casesOf S i)
+      → G (caseOf (casesOf S i) n) v
+      → At o m start c z e (bytes (leBytes 2 n) (referSlots P o S inplace (caseOf (casesOf S i) n) v rest))
+      → Shows below S m (OfUnion i) (chosen n v) (unionStep (casesOf S i) inplace tail (le m (start + c .end) 2) (le m (start + c .end + 2) o))
+  unfolding afterBytes
+  choice-step inplace i n v c e tail rest same l b g a =
+      let ob = caseOf (casesOf S i) n in
+      let few = sound .unions i .few in
+      let h = at-bytes o m start c z e (leBytes 2 n) (referSlots P o S inplace ob v rest) a in
+      let r = rw (length-leBytes 2 n) at (h .1) in
+      let k = refer-held inplace ob v (afterBytes 2 c) e tail rest same g r in
+      let x = le m (start + c .end + 2) o in
+      let q : le m (start + (c .end + 2)) o ≡ x =
+      let s : start + (c .end + 2) ≡ start + c .end + 2 = omega arith in ap (λ (y : ℕ). le m y o) s in
+      let u = union-some (casesOf S i) inplace tail n (le m (start + c .end) 2) x
+      (holds-le m 2 (start + c .end) n (omega arith) (h .0)) l b in
+      rw u
+      (T.choice refl l b (somewhere inplace tail x (subst (λ (y : ℕ). inplace ≡ false → 0 < y) q (k .1)))
+      (subst (λ (y : ℕ). below ob v (placeOf inplace tail y)) q (k .0)))
+
+  pub value-step : {k : Kind} {v : Value} (nan inplace : Bool) (c : Cursor) (e tail : ℕ) (rest : Slots) → KindSound S k
+      → (inplace ≡ true → e ≡ tail) → PartWrites G o S false nan inplace k v → At o m start c z e (valueSlots P o S k inplace v rest)
+      → Shows below S m k v (valueStep o S m k nan inplace tail (start + slotOf o S k c .at) (slotOf o S k c .bit))
+  unfolding valueSlots valueStep present asNumber asObject slotOf isBool
+  value-step nan inplace c e tail rest ok same (no-flat f t) a = absurd (let y : _≡_ {A = ℕ} 0 1 = cc in omega arith)
+  value-step nan inplace c e tail rest ok same (no-float {w = w} h) a = rw h (no-float-step w c e rest ok a)
+  value-step nan inplace c e tail rest ok same (flat h n) a = flat-step nan c e rest ok h n a
+  value-step nan inplace c e tail rest ok same (no-object {ob = ob}) a =
+      nothing-shows _ _
+      (object-none ob inplace tail _ (holds-zeros m o o (start + c .end) (omega arith) (at-bytes o m start c z e (zeros o) rest a .0)))
+  value-step nan inplace c e tail rest ok same (W.object {ob = ob} {v = v} g p long) a =
+      object-step inplace ob v c e tail rest same g p long (rw p at a)
+  value-step nan inplace c e tail rest ok same (no-union {i = i}) a =
+      nothing-shows _ _
+      (union-none (casesOf S i) inplace tail _ _
+      (holds-zeros m 2 (2 + o) (start + c .end) (omega arith) (at-bytes o m start c z e (zeros (2 + o)) rest a .0)))
+  value-step nan inplace c e tail rest ok same (W.choice {i = i} {c = n} {v = v} l b g) a =
+      choice-step inplace i n v c e tail rest same l b g a
