@@ -13,3 +13,4 @@ pub mod Arrivals
 pub mod TreeWalk
 pub mod WrittenParts
 pub mod WrittenSteps
+pub mod WrittenTables
