@@ -42,7 +42,6 @@ use Rattle.demands.specs.TreeHold.{Below, Somewhere, Shows, nothing, sca
 use Rattle.demands.specs.TreeHold as T
 use Rattle.demands.specs.WrittenParts.{Inner}
 
-
 module _ (o : ℕ) (S : Schema) (sound : Sound S) (m : List ℕ) (P : Planner) (G : Objects) (below : Below) (inner : Inner o S m P G below)
     (start z : ℕ) where
   -- ---- what leads to no object

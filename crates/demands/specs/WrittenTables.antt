@@ -171,3 +171,110 @@ there t no-object = t
 there t (W.object g p l) = p
 there t no-union = t
 there t (W.choice l b g) = refl
+
+and-right : (a b : Bool) → (a && b) ≡ true → b ≡ true
+and-right true b h = h
+and-right false b h = let y : _≡_ {A = ℕ} 0 1 = cc in absurd (omega arith)
+
+flag-absent : (v : Value) → v ≡ absent → flagOf v ≡ 0
+unfolding flagOf present
+flag-absent v e = rw e
+
+flag-there : (v : Value) → present v ≡ true → flagOf v ≡ 1
+unfolding flagOf
+flag-there v e = rw e
+
+-- ---- a member's step, and the members
+module _ (o : ℕ) (S : Schema) (sound : Sound S) (wide : 0 < o) (m : List ℕ) (P : Planner) (G : Objects) (below : Below)
+    (inner : Inner o S m P G below) (start n : ℕ) where
+  abbrev Part : Member → Value → Type 0
+  Part r v = PartWrites G o S (r .optional) (r .optional) (r .inplace) (r .kind) v
+
+  plain-step : (r : Member) (v : Value) (c : Cursor) (e : ℕ) (rest : Slots) → hasFlag r ≡ false → MemberSound S r
+      → (r .inplace ≡ true → e ≡ start + n) → PartWrites G o S false (r .optional) (r .inplace) (r .kind) v
+      → At o m start c (start + n) e (valueSlots P o S (r .kind) (r .inplace) v rest)
+      → Shows below S m (r .kind) v (memberStep o S m start n c r)
+  plain-step r v c e rest f ok same p a =
+      let b = behind-value o S sound m P start (start + n) (r .kind) (r .inplace) v c e rest a in
+      let fit = at-fits o m start (afterValue o S (r .kind) c) (start + n) (b .0) rest (b .2) .0 in
+      let s = slot-before o S sound wide (r .kind) c n (ok .kind) (at-sane o m start c (start + n) e (valueSlots P o S (r .kind) (r .inplace) v rest) a) (omega arith) in
+      rw (plain-member o S m start n c r f, inside-here n (slotOf o S (r .kind) c) St.Absent (hereAt o S m start n c r c) (s .0) (s .1))
+      (value-step o S sound m P G below inner start (start + n) (r .optional) (r .inplace) c e (start + n) rest (ok .kind) same p a)
+
+  flag-step : (r : Member) (v : Value) (c : Cursor) (e : ℕ) (rest : Slots) → hasFlag r ≡ true → MemberSound S r
+      → (r .inplace ≡ true → e ≡ start + n)
+      → ((v ≡ absent) × (r .optional ≡ true) × (takesFlag (r .kind) ≡ true)) ⊎ PartWrites G o S false (r .optional) (r .inplace) (r .kind) v
+      → At o m start c (start + n) e (bit (flagOf v) (valueSlots P o S (r .kind) (r .inplace) v rest))
+      → Shows below S m (r .kind) v (memberStep o S m start n c r)
+  unfolding hasFlag
+  flag-step r v c e rest f ok same p a =
+      let val = valueSlots P o S (r .kind) (r .inplace) v rest in
+      let h = at-bit o m start c (start + n) e (flagOf v) val a in
+      let b = behind-value o S sound m P start (start + n) (r .kind) (r .inplace) v (afterBit c) e rest (h .1) in
+      let fit = at-fits o m start (afterValue o S (r .kind) (afterBit c)) (start + n) (b .0) rest (b .2) .0 in
+      let fit1 = at-fits o m start (afterBit c) (start + n) e val (h .1) .0 in
+      let s1 = bit-before c (at-sane o m start c (start + n) e (bit (flagOf v) val) a) in
+      let s = slot-before o S sound wide (r .kind) (afterBit c) n (ok .kind) (at-sane o m start (afterBit c) (start + n) e val (h .1)) (omega arith) in
+      rw (flag-member o S m start n c r f) (by p (omega arith) (h .0) (s .0) (s .1) (h .1))
+    where
+      slot : Slot
+      slot = slotOf o S (r .kind) (afterBit c)
+
+      here : Step
+      here = hereAt o S m start n c r (afterBit c)
+
+      by : ((v ≡ absent) × (r .optional ≡ true) × (takesFlag (r .kind) ≡ true)) ⊎ PartWrites G o S false (r .optional) (r .inplace) (r .kind) v
+          → bitByte c < n → bitAt m (start + bitByte c) (bitIndex c) ≡ flagOf v → slot .at < n → slot .at + slot .size ≤ n
+          → At o m start (afterBit c) (start + n) e (valueSlots P o S (r .kind) (r .inplace) v rest)
+          → Shows below S m (r .kind) v (flagged m start n c slot here)
+      by (inl q) h1 h2 h3 h4 h5 = rw (q .0, flagged-clear m start n c slot here h1 (h2 ∙ flag-absent v (q .0)) h3 h4) nothing
+      by (inr q) h1 h2 h3 h4 h5 =
+          rw (flagged-set m start n c slot here h1 (h2 ∙ flag-there v (there (and-right (r .optional) (takesFlag (r .kind)) f) q)) h3 h4)
+          (value-step o S sound m P G below inner start (start + n) (r .optional) (r .inplace) (afterBit c) e (start + n) rest (ok .kind) same q h5)
+
+  no-flag : (r : Member) (v : Value) → hasFlag r ≡ false
+      → ((v ≡ absent) × (r .optional ≡ true) × (takesFlag (r .kind) ≡ true)) ⊎ PartWrites G o S false (r .optional) (r .inplace) (r .kind) v
+      → PartWrites G o S false (r .optional) (r .inplace) (r .kind) v
+  unfolding hasFlag
+  no-flag r v f (inl q) = let y : _≡_ {A = Bool} false true = sym f ∙ rw (q .1, q .2) in absurd (let w : _≡_ {A = ℕ} 0 1 = cc in omega arith)
+  no-flag r v f (inr q) = q
+
+  member-step-by : (r : Member) (t : Bool) → hasFlag r ≡ t → (v : Value) (c : Cursor) (e : ℕ) (rest : Slots) → MemberSound S r
+      → (r .inplace ≡ true → e ≡ start + n) → Part r v → At o m start c (start + n) e (memberSlots P o S r v rest)
+      → Shows below S m (r .kind) v (memberStep o S m start n c r)
+  unfolding memberSlots
+  member-step-by r true f v c e rest ok same p a = flag-step r v c e rest f ok same (split-part p) (rw f at a)
+  member-step-by r false f v c e rest ok same p a = plain-step r v c e rest f ok same (no-flag r v f (split-part p)) (rw f at a)
+
+  one-inplace : (t : Bool) (k : ℕ) → pick t 1 0 + k ≤ 1 → t ≡ true → k ≡ 0
+  one-inplace true k h e = omega arith
+  one-inplace false k h e = let w : _≡_ {A = ℕ} 0 1 = cc in absurd (omega arith)
+
+  some-inplace : (t : Bool) (k : ℕ) → t ≡ true → 0 < pick t 1 0 + k
+  some-inplace true k e = omega arith
+  some-inplace false k e = let w : _≡_ {A = ℕ} 0 1 = cc in absurd (omega arith)
+
+  more-inplace : (t : Bool) (k : ℕ) → 0 < k → 0 < pick t 1 0 + k
+  more-inplace true k h = omega arith
+  more-inplace false k h = omega arith
+
+  less-inplace : (t : Bool) (k : ℕ) → pick t 1 0 + k ≤ 1 → k ≤ 1
+  less-inplace true k h = omega arith
+  less-inplace false k h = omega arith
+
+  not-inplace : (t : Bool) (k : ℕ) → pick t 1 0 + k ≤ 1 → 0 < k → t ≡ false
+  not-inplace true k h l = absurd (omega arith)
+  not-inplace false k h l = refl
+
+  pub members-hold : {rs : List Member} {vs : Values} (c : Cursor) (e : ℕ) → All (MemberSound S) rs → inplaceCount rs ≤ 1
+      → (0 < inplaceCount rs → e ≡ start + n) → MembersWrite G o S rs vs → At o m start c (start + n) e (membersSlots P o S rs vs)
+      → MembersHold below o S m start n c rs vs
+  unfolding membersSlots inplaceCount first others
+  members-hold c e ok one same no-member a = T.no-member (at-end o m start c (start + n) e a .1)
+  members-hold c e ok one same (members {r = r} {rs = rs} {v = v} {vs = vs} p ps) a =
+      let rest = membersSlots P o S rs vs in
+      let b = behind-member o S sound m P start (start + n) r v c e rest a in
+      T.members
+      (member-step-by r (hasFlag r) refl v c e rest (ok .0) (λ t. same (some-inplace (r .inplace) (inplaceCount rs) t)) p a)
+      (members-hold (afterMember o S r c) (b .0) (ok .1) (less-inplace (r .inplace) (inplaceCount rs) one)
+      (λ l. b .1 (not-inplace (r .inplace) (inplaceCount rs) one l) ∙ same (more-inplace (r .inplace) (inplaceCount rs) l)) ps (b .2))
