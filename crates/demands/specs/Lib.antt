@@ -14,3 +14,4 @@ pub mod TreeWalk
 pub mod WrittenParts
 pub mod WrittenSteps
 pub mod WrittenTables
+pub mod WrittenLists
