@@ -15,3 +15,7 @@ pub mod WrittenParts
 pub mod WrittenSteps
 pub mod WrittenTables
 pub mod WrittenLists
+pub mod WrittenBytes
+pub mod WrittenTree
+pub mod WrittenMessage
+pub mod RoundTrip
