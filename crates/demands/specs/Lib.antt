@@ -18,4 +18,5 @@ pub mod WrittenLists
 pub mod WrittenBytes
 pub mod WrittenTree
 pub mod WrittenMessage
+pub mod ShownWrites
 pub mod RoundTrip
