@@ -1,6 +1,21 @@
+-- The theorems. A reader's way in: Counter, Sheets, Reached, RoundTrip, Appending; the other modules are their lemmas.
 pub mod Counter
 pub mod Shown
 pub mod SheetDecode
+pub mod SheetEncode
+pub mod StepShown
+pub mod AcceptedShown
+pub mod Sheets
+pub mod SameLayout
+pub mod SameStep
+pub mod OlderAccepts
+pub mod OlderReads
+pub mod RefusalNumbers
+pub mod Arrivals
+pub mod ArrivalsWalk
+pub mod Reached
+pub mod Appending
+pub mod AppendingCases
 pub mod Holds
 pub mod CellsHold
 pub mod SlotsHold
@@ -9,7 +24,7 @@ pub mod Writes
 pub mod StructHold
 pub mod TreeHold
 pub mod TreeRead
-pub mod Arrivals
+pub mod TreeArrivals
 pub mod TreeWalk
 pub mod WrittenParts
 pub mod WrittenSteps

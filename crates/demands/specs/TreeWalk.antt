@@ -29,7 +29,7 @@ use Rattle.coding.specs.declared.Budget.{Budget}
 use Rattle.coding.specs.declared.Spent.{Spent}
 use Rattle.coding.specs.declared.Walked.{Walked}
 use Rattle.coding.specs.declared.Walked.the-variants.{Going, Refused}
-use Rattle.demands.specs.Arrivals.{Counting, partArrivals, membersArrivals, elementsArrivals, contentArrivals, arrivals}
+use Rattle.demands.specs.TreeArrivals.{Counting, partArrivals, membersArrivals, elementsArrivals, contentArrivals, treeArrivals}
 use Rattle.demands.specs.TreeHold.{Below, Somewhere, Shows, nothing, scalar, struct, object, choice, MembersHold, no-member, ElementsHold, no-element, ContentHolds, text, bytes, list, table, PlaceHolds, by-offset, in-place, HoldsTree}
 use Rattle.demands.specs.TreeHold as T
 
@@ -178,9 +178,9 @@ module _ (below : Below) (o : ℕ) (S : Schema) (m : List ℕ) (b : ℕ) (child 
   place-passes (in-place {ob = ob} {v = v} {a = a} {n = n} h) = enter-passes ob v (InPlace a n) a n (content-opens h) h
 
 pub tree-passes : (o : ℕ) (S : Schema) (m : List ℕ) (b : Budget) (d : ℕ) (ob : Object) (v : Value) (p : Place) → HoldsTree d o S m ob v p
-    → Passes (b .visits) (arrivals d S ob v) (visit d o S m b ob p)
-unfolding visit arrivals
+    → Passes (b .visits) (treeArrivals d S ob v) (visit d o S m b ob p)
+unfolding visit treeArrivals
 tree-passes o S m b zero ob v p h = absurd h
 tree-passes o S m b (suc d) ob v p h =
-    pass-counted b (contentArrivals (arrivals d S) S ob v) (arrive (visit d o S m b) o S m) ob p
-    (place-passes (HoldsTree d o S m) o S m (b .visits) (visit d o S m b) (arrivals d S) (tree-passes o S m b d) h)
+    pass-counted b (contentArrivals (treeArrivals d S) S ob v) (arrive (visit d o S m b) o S m) ob p
+    (place-passes (HoldsTree d o S m) o S m (b .visits) (visit d o S m b) (treeArrivals d S) (tree-passes o S m b d) h)

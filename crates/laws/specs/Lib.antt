@@ -3,3 +3,9 @@ pub mod Structs
 pub mod Sound
 pub mod All
 pub mod Bits
+pub mod Lists
+pub mod Parsed
+pub mod Rules
+pub mod RecordSound
+pub mod Sizes
+pub mod LawfulSound
