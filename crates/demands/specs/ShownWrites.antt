@@ -23,21 +23,11 @@ use Rattle.coding.specs.declared.Kind.{Kind}
 use Rattle.coding.specs.declared.Kind.the-variants.{OfFlat, OfObject, OfUnion}
 use Rattle.coding.specs.declared.Member.{Member}
 use Rattle.laws.specs.Sound.{All, FlatSound, NoStruct, Sound}
+use Rattle.laws.specs.Lists.{never, both-left, both-right}
 use Rattle.laws.specs.Structs.{index-holds}
 use Rattle.demands.specs.Shown.{Objects, FlatShown, FlatsShown, boolean, integer, float, no-enum, enum, unknown-enum, struct, no-flat, flats, PartShown, no-part, flat, object, choice, unknown-choice, MembersShown, no-member, members, ElementsShown, no-element, elements, ContentShown, text, bytes, list, table, Shown}
 use Rattle.demands.specs.Writes.{FlatWrites, FlatsWrite, NotNaN, PartWrites, MembersWrite, ElementsWrite, ContentWrites, Writes}
 use Rattle.demands.specs.Writes as W
-
-never : _≡_ {A = Bool} false true → ⊥
-never h = let y : _≡_ {A = ℕ} 0 1 = cc in omega arith
-
-and-left : (a b : Bool) → (a && b) ≡ true → a ≡ true
-and-left true b h = refl
-and-left false b h = h
-
-and-right : (a b : Bool) → (a && b) ≡ true → b ≡ true
-and-right true b h = h
-and-right false b h = absurd (never h)
 
 -- a number's bits and its bytes
 bytes-small : (w x : ℕ) → x < 2 ^ (8 * w) → x < 256 ^ w
@@ -61,15 +51,15 @@ module _ (S : Schema) (sound : Sound S) where
     field-writes ok (float {w = w} {x = x} h) e = W.float (bytes-small w x h)
     field-writes ok no-enum e = W.no-enum
     field-writes ok (enum h) e = W.enum h
-    field-writes ok (unknown-enum h l) e = absurd (never e)
+    field-writes ok (unknown-enum h l) e = never e
     field-writes ok (struct {i = j} {vs = vs} h) e = inner j ok (row vs) (struct h) e
 
     fields-write : {ks : List Flat} {vs : Values} → All (FlatSound i) ks → FlatsShown S ks vs → flatsKnown t ks vs ≡ true → FlatsWrite S ks vs
     unfolding flatsKnown first others
     fields-write ok no-flat e = W.no-flat
     fields-write ok (flats {k = k} {ks = ks} {v = v} {vs = vs} h hs) e =
-        W.flats (field-writes (ok .0) h (and-left (flatKnown t k v) (flatsKnown t ks vs) e))
-        (fields-write (ok .1) hs (and-right (flatKnown t k v) (flatsKnown t ks vs) e))
+        W.flats (field-writes (ok .0) h (both-left (flatKnown t k v) (flatsKnown t ks vs) e))
+        (fields-write (ok .1) hs (both-right (flatKnown t k v) (flatsKnown t ks vs) e))
 
     row-writes : (v : Value) → FlatShown S (F.Struct i) v → knownBy S t i v ≡ true → FlatWrites S (F.Struct i) v
     unfolding knownBy asRow
@@ -110,12 +100,12 @@ module _ (S : Schema) (sound : Sound S) where
         W.flat (W.float (bytes-small w x h)) (not-true (optional && isNaN w x) e)
     flat-writes optional inplace no-enum e = W.flat W.no-enum tt
     flat-writes optional inplace (enum h) e = W.flat (W.enum h) tt
-    flat-writes optional inplace (unknown-enum h l) e = absurd (never e)
+    flat-writes optional inplace (unknown-enum h l) e = never e
     flat-writes optional inplace (struct {i = i} {vs = vs} h) e = W.flat (struct-writes i (row vs) (struct h) e) tt
 
     long-by : (t : Bool) (n : ℕ) → pick t (ltb 0 n) true ≡ true → t ≡ true → 0 < n
     long-by true n e f = ltb-true 0 n e
-    long-by false n e f = absurd (never f)
+    long-by false n e f = never f
 
     part-writes : {k : Kind} {v : Value} (optional inplace : Bool) → PartShown child S k v → valueWritable test o S k optional inplace v ≡ true
         → PartWrites G o S optional optional inplace k v
@@ -126,18 +116,18 @@ module _ (S : Schema) (sound : Sound S) where
         let p = there ob v h in
         let n = lengthOf o S ob v in
         let q : (pick inplace (ltb 0 n) true && test ob v) ≡ true = rw p at e in
-        W.object (inner ob v h (and-right (pick inplace (ltb 0 n) true) (test ob v) q)) p
-        (long-by inplace n (and-left (pick inplace (ltb 0 n) true) (test ob v) q))
+        W.object (inner ob v h (both-right (pick inplace (ltb 0 n) true) (test ob v) q)) p
+        (long-by inplace n (both-left (pick inplace (ltb 0 n) true) (test ob v) q))
     part-writes optional inplace (choice {i = i} {c = c} {v = v} l b h) e = W.choice l b (inner (caseOf (casesOf S i) c) v h e)
-    part-writes optional inplace (unknown-choice h l) e = absurd (never e)
+    part-writes optional inplace (unknown-choice h l) e = never e
 
     -- a bool or an integer of a list is there
     element-writes : {k : Kind} {v : Value} {nan inplace : Bool} → (bare k ≡ true → present v ≡ true) → NoStruct k → PartWrites G o S true nan inplace k v
         → PartWrites G o S false nan inplace k v
     unfolding bare flatBare present flatTakesFlag
-    element-writes b s (W.no-flat {k = F.Boolean} e t) = absurd (never (b refl))
-    element-writes b s (W.no-flat {k = F.Integer g w} e t) = absurd (never (b refl))
-    element-writes b s (W.no-flat {k = F.Float w} e t) = absurd (never t)
+    element-writes b s (W.no-flat {k = F.Boolean} e t) = never (b refl)
+    element-writes b s (W.no-flat {k = F.Integer g w} e t) = never (b refl)
+    element-writes b s (W.no-flat {k = F.Float w} e t) = never t
     element-writes b s (W.no-flat {k = F.Enumerated n} e t) = W.flat W.no-enum tt
     element-writes b s (W.no-flat {k = F.Struct i} e t) = absurd s
     element-writes b s (W.no-float e) = W.no-float e
@@ -153,7 +143,7 @@ module _ (S : Schema) (sound : Sound S) where
     members-write (members {r = r} {rs = rs} {v = v} {vs = vs} h hs) e =
         let a = valueWritable test o S (r .kind) (r .optional) (r .inplace) v in
         let b = membersWritable test o S rs vs in
-        W.members (part-writes (r .optional) (r .inplace) h (and-left a b e)) (members-write hs (and-right a b e))
+        W.members (part-writes (r .optional) (r .inplace) h (both-left a b e)) (members-write hs (both-right a b e))
 
     elements-write : {k : Kind} {vs : Values} → NoStruct k → ElementsShown child S k vs → elementsWritable test o S k vs ≡ true
         → ElementsWrite G o S k vs
@@ -162,7 +152,7 @@ module _ (S : Schema) (sound : Sound S) where
     elements-write {k} s (elements {v = v} {vs = vs} h there′ hs) e =
         let a = valueWritable test o S k true false v in
         let b = elementsWritable test o S k vs in
-        W.elements (element-writes there′ s (part-writes true false h (and-left a b e))) (elements-write s hs (and-right a b e))
+        W.elements (element-writes there′ s (part-writes true false h (both-left a b e))) (elements-write s hs (both-right a b e))
 
     content-writes : {ob : Object} {v : Value} → ContentShown child S ob v → contentWritable test o S ob v ≡ true → ContentWrites G o S ob v
     unfolding contentWritable asRow

@@ -11,7 +11,7 @@ use lib.ListN.{length, getD, length-append}
 use Rattle.coding.specs.Lists.{pick}
 use Rattle.coding.specs.Bytes.{le, leBytes}
 use Rattle.coding.specs.Schema.{Schema, structOf}
-use Rattle.coding.specs.Structs.{lower, byIndex, flatWidth, total, sizeBy, structSize, flatOk, flatsOk, okBy, always, structOk}
+use Rattle.coding.specs.Structs.{flatWidth, total, structSize, flatOk, flatsOk, okBy, always, structOk}
 use Rattle.coding.specs.Step.{enumStep, fieldStep}
 use Rattle.coding.specs.Value.{Value, Values, absent, number, row, none, _then_, present, asNumber, asRow, first, others}
 use Rattle.coding.specs.Read.{stepRead, noObject, fieldsRead, readBy, noStruct, structRead}
@@ -19,29 +19,14 @@ use Rattle.coding.specs.Message.{numberOr, flatBytes, flatsBytes, bytesBy, noBy
 use Rattle.coding.specs.declared.Flat.{Flat}
 use Rattle.coding.specs.declared.Flat.the-variants.{Boolean, Integer, Float, Enumerated, Struct}
 use Rattle.laws.specs.Sound.{All, FlatSound, Sound}
-use Rattle.laws.specs.Structs.{lower-is, index-holds₂, index-holds₃}
+use Rattle.laws.specs.Structs.{index-holds₃}
+use Rattle.laws.specs.Sizes.{struct-size-is}
 use Rattle.laws.specs.Bits.{Byte}
 use Rattle.laws.specs.All.{all-append}
 use Rattle.demands.specs.Holds.{Holds, length-leBytes, holds-le, holds-left, holds-right, leBytes-bytes}
 use Rattle.demands.specs.Writes.{FlatWrites, FlatsWrite, boolean, integer, float, no-enum, enum, struct, no-flat, flats}
 
--- ---- sizes
-total-same : (f g : ℕ → ℕ) (i : ℕ) → ((j : ℕ) → j < i → f j ≡ g j) → (ks : List Flat) → All (FlatSound i) ks → total f ks ≡ total g ks
-unfolding total flatWidth
-total-same f g i h [] ok = refl
-total-same f g i h (Boolean ∷ ks) ok = ap (λ (n : ℕ). 1 + n) (total-same f g i h ks (ok .1))
-total-same f g i h (Integer s w ∷ ks) ok = ap (λ (n : ℕ). w + n) (total-same f g i h ks (ok .1))
-total-same f g i h (Float w ∷ ks) ok = ap (λ (n : ℕ). w + n) (total-same f g i h ks (ok .1))
-total-same f g i h (Enumerated c ∷ ks) ok = ap (λ (n : ℕ). 1 + n) (total-same f g i h ks (ok .1))
-total-same f g i h (Struct j ∷ ks) ok = ap₂ (λ (a b : ℕ). a + b) (h j (ok .0)) (total-same f g i h ks (ok .1))
-
 module _ (S : Schema) (sound : Sound S) where
-  -- a struct's size is its members' sizes
-  pub size-is : (i : ℕ) → structSize S i ≡ total (structSize S) (structOf S i)
-  unfolding structSize byIndex sizeBy
-  size-is i =
-      total-same (lower 0 (sizeBy S) i) (structSize S) i (λ j h. lower-is 0 (sizeBy S) i j h) (structOf S i) (sound .structs i .members)
-
   -- what is shown of a struct, by the recursions of its bytes, its reading and its booleans
   pub record StructHolds (m : List ℕ) (i : ℕ) (bytesOf : Value → List ℕ) (readAt : ℕ → Value) (okAt : ℕ → Bool) : Type 0 where
     pub size : (v : Value) → length (bytesOf v) ≡ structSize S i
@@ -118,7 +103,7 @@ module _ (S : Schema) (sound : Sound S) where
 
     row-size : (v : Value) → length (bytesBy S b i v) ≡ structSize S i
     unfolding bytesBy
-    row-size v = flats-size (structOf S i) (asRow v) (sound .structs i .members) ∙ sym (size-is i)
+    row-size v = flats-size (structOf S i) (asRow v) (sound .structs i .members) ∙ sym (struct-size-is S sound i)
 
     next : StructHolds m i (bytesBy S b i) (readBy S m r i) (okBy S m t i)
     next = record { size = row-size; bytes = row-bytes; reads = row-reads; judged = row-judged }

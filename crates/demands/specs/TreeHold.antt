@@ -26,6 +26,7 @@ use Rattle.coding.specs.declared.Place.the-variants.{ByOffset, InPlace}
 use Rattle.coding.specs.declared.Step.{Step}
 use Rattle.coding.specs.declared.Step.the-variants as St
 use Rattle.demands.specs.AtCursor.{Unused}
+use Rattle.demands.specs.Writes.{FlatWrites}
 
 -- where an object of the level below stands
 abbrev pub Below : Type 1
@@ -40,7 +41,7 @@ Somewhere (InPlace a n) = Unit {0}
 pub data Shows (below : Below) (S : Schema) (m : List ℕ) : Kind → Value → Step → Type 0 where
   nothing : {k : Kind} → Shows below S m k absent St.Absent
   scalar : {k : Flat} {x : ℕ} → Shows below S m (OfFlat k) (number x) (St.Value x)
-  struct : {i at : ℕ} {v : Value} → structRead S m i at ≡ v → present v ≡ true → Shows below S m (OfFlat (F.Struct i)) v (St.Struct i at)
+  struct : {i at : ℕ} {v : Value} → structRead S m i at ≡ v → FlatWrites S (F.Struct i) v → Shows below S m (OfFlat (F.Struct i)) v (St.Struct i at)
   object : {ob : Object} {v : Value} {p : Place} → present v ≡ true → below ob v p → Shows below S m (OfObject ob) v (St.Object ob p)
   choice : {i c : ℕ} {ob : Object} {v : Value} {p : Place} → ob ≡ caseOf (casesOf S i) c → 0 < c → c ≤ length (casesOf S i) → Somewhere p → below ob v p
       → Shows below S m (OfUnion i) (chosen c v) (St.Choice c ob p)

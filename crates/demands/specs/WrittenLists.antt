@@ -23,6 +23,7 @@ use Rattle.coding.specs.declared.Kind.{Kind}
 use Rattle.coding.specs.declared.Kind.the-variants.{OfFlat, OfObject, OfUnion}
 use Rattle.coding.specs.declared.Cursor.{Cursor}
 use Rattle.laws.specs.Sound.{KindSound, Sound}
+use Rattle.laws.specs.Lists.{never}
 use Rattle.demands.specs.AtCursor.{At, at-fits, at-end}
 use Rattle.demands.specs.Writes.{Objects, PartWrites, ElementsWrite, no-element, elements}
 use Rattle.demands.specs.TreeHold.{Below, Shows, ElementsHold}
@@ -43,9 +44,6 @@ pub record BoolCursor (i : ℕ) (c : Cursor) : Type 0 where
 pub record ElementCursor (o : ℕ) (S : Schema) (k : Kind) (i : ℕ) (c : Cursor) : Type 0 where
   pub bools : isBool k ≡ true → BoolCursor i c
   pub others : isBool k ≡ false → c .end ≡ L.width o S k * i
-
-different : _≡_ {A = Bool} true false → ⊥
-different h = let y : _≡_ {A = ℕ} 0 1 = cc in omega arith
 
 bool-slot-by : (i : ℕ) (c : Cursor) (t : Bool) → ltb (c .bit) 8 ≡ t → BoolCursor i c
     → (bitByte c ≡ i / 8) × (bitIndex c ≡ i % 8) × BoolCursor (i + 1) (afterBit c)
@@ -113,7 +111,7 @@ module _ (o : ℕ) (S : Schema) where
       let b = bool-slot-by i c (ltb (c .bit) 8) refl (h .bools e) in
       rw e (
         ap (λ (n : ℕ). start + n) (sym (b .0)),
-        record { bools = λ f. b .2; others = λ f. absurd (different (sym e ∙ f)) },
+        record { bools = λ f. b .2; others = λ f. never (sym f ∙ e) },
         λ f. b .1,
       )
   element-slot-by k i start c false e h =
@@ -121,8 +119,8 @@ module _ (o : ℕ) (S : Schema) where
       let q : L.width o S k * (i + 1) ≡ L.width o S k * i + L.width o S k = rw (add-one i) (mul-suc (L.width o S k) i) in
       rw e (
         omega arith,
-        record { bools = λ f. absurd (different (sym f ∙ e)); others = λ f. omega arith },
-        λ f. absurd (different (sym f)),
+        record { bools = λ f. never (sym e ∙ f); others = λ f. omega arith },
+        λ f. never f,
       )
 
   element-end-by : (k : Kind) (i : ℕ) (c : Cursor) (t : Bool) → isBool k ≡ t → ElementCursor o S k i c → c .end ≡ elementsSize o S k i
@@ -169,7 +167,7 @@ module _ (o : ℕ) (S : Schema) (sound : Sound S) (m : List ℕ) (P : Planner) (
     unfolding elementStep
     element-step v i c e rest q p a =
         let s = element-slot-by o S k i start c (isBool k) refl q in
-        let h = value-step o S sound m P G below inner start z true false c e 0 rest ok (λ f. absurd (let y : _≡_ {A = ℕ} 0 1 = cc in omega arith)) p a in
+        let h = value-step o S sound m P G below inner start z true false c e 0 rest ok (λ f. never f) p a in
         rw (s .0)
         (subst (λ (st : _). Shows below S m k v st) (any-bit o S m k true false 0 (start + slotOf o S k c .at) (slotOf o S k c .bit) (i % 8) (s .2)) h)
 

@@ -34,6 +34,7 @@ use Rattle.coding.specs.declared.Step.{Step}
 use Rattle.coding.specs.declared.Step.the-variants as St
 use Rattle.laws.specs.Sound.{FlatSound, KindSound, Sound}
 use Rattle.demands.specs.Holds.{Holds, length-leBytes, holds-le, holds-zeros}
+use Rattle.laws.specs.Lists.{never}
 use Rattle.demands.specs.AtCursor.{At, Sane, at-fits, at-sane, at-bytes, at-bit, at-reference, at-inPlace}
 use Rattle.demands.specs.StructHold.{struct-holds}
 use Rattle.demands.specs.Writes.{Objects, FlatWrites, boolean, integer, float, no-enum, enum, NotNaN, PartWrites, no-flat, no-float, flat, no-object, no-union}
@@ -83,10 +84,7 @@ module _ (o : ℕ) (S : Schema) (sound : Sound S) (m : List ℕ) (P : Planner) (
   behind-refer true ob v c e rest a =
       let n = lengthOf o S ob v in
       let b = rw (length-leBytes o n) at (at-bytes o m start c z e (leBytes o n) (inPlace (P ob v) rest) a .1) in
-      (_, λ h. absurd (true-false h), at-inPlace o m start (afterBytes o c) z e (P ob v) rest b .1)
-    where
-      true-false : _≡_ {A = Bool} true false → ⊥
-      true-false h = let y : _≡_ {A = ℕ} 0 1 = cc in omega arith
+      (_, λ h. never (sym h), at-inPlace o m start (afterBytes o c) z e (P ob v) rest b .1)
   behind-refer false ob v c e rest a = (e, λ h. refl, at-reference o m start c z e (objectSlots P o S ob v) rest a .2)
 
   behind-object : (t inplace : Bool) (ob : Object) (v : Value) (c : Cursor) (e : ℕ) (rest : Slots)

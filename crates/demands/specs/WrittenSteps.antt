@@ -34,6 +34,7 @@ use Rattle.coding.specs.declared.Step.{Step}
 use Rattle.coding.specs.declared.Step.the-variants as St
 use Rattle.laws.specs.Sound.{FlatSound, KindSound, Sound}
 use Rattle.demands.specs.Holds.{Holds, length-leBytes, holds-le, holds-zeros}
+use Rattle.laws.specs.Lists.{never}
 use Rattle.demands.specs.AtCursor.{At, Sane, at-fits, at-sane, at-bytes, at-bit, at-reference, at-inPlace}
 use Rattle.demands.specs.StructHold.{struct-holds}
 use Rattle.demands.specs.Writes.{Objects, FlatWrites, boolean, integer, float, no-enum, enum, NotNaN, PartWrites, no-flat, no-float, flat, no-object, no-union}
@@ -96,7 +97,7 @@ module _ (o : ℕ) (S : Schema) (sound : Sound S) (m : List ℕ) (P : Planner) (
       let g = at-bytes o m start c z e (structBytes S i (row vs)) rest a .0 in
       let s = struct-holds S sound m i in
       rw (struct-value i (start + c .end) (s .judged (row vs) (start + c .end) (W.struct h) g))
-      (T.struct (s .reads (row vs) (start + c .end) (W.struct h) g) refl)
+      (T.struct (s .reads (row vs) (start + c .end) (W.struct h) g) (W.struct h))
 
   no-float-step : (w : ℕ) (c : Cursor) (e : ℕ) (rest : Slots) → (w ≡ 4) ⊎ (w ≡ 8) → At o m start c z e (flatSlots S (F.Float w) absent rest)
       → Shows below S m (OfFlat (F.Float w)) absent (flatStep S m (F.Float w) true (start + slotOf o S (OfFlat (F.Float w)) c .at) (slotOf o S (OfFlat (F.Float w)) c .bit))
@@ -137,7 +138,7 @@ module _ (o : ℕ) (S : Schema) (sound : Sound S) (m : List ℕ) (P : Planner) (
       let i = at-inPlace o m start (afterBytes o c) z e (P ob v) rest b .0 in
       let q = holds-le m o (start + c .end) n (inner .short ob v e _ g i) (h .0) in (
         rw (q, ← same refl) (inner .in-place ob v e _ g i),
-        λ f. absurd (let y : _≡_ {A = ℕ} 0 1 = cc in omega arith),
+        λ f. never (sym f),
         λ f. q,
       )
   refer-held false ob v c e tail rest same g a =
@@ -145,7 +146,7 @@ module _ (o : ℕ) (S : Schema) (sound : Sound S) (m : List ℕ) (P : Planner) (
       let l = h .0 in (
         inner .by-offset ob v (le m (start + c .end) o) _ g l (h .1),
         λ f. omega arith,
-        λ f. absurd (let y : _≡_ {A = ℕ} 0 1 = cc in omega arith),
+        λ f. never f,
       )
 
   positive : (inplace : Bool) (x : ℕ) → (inplace ≡ false → 0 < x) → (inplace ≡ true → 0 < x) → 0 < x
@@ -191,7 +192,7 @@ module _ (o : ℕ) (S : Schema) (sound : Sound S) (m : List ℕ) (P : Planner) (
       → (inplace ≡ true → e ≡ tail) → PartWrites G o S false nan inplace k v → At o m start c z e (valueSlots P o S k inplace v rest)
       → Shows below S m k v (valueStep o S m k nan inplace tail (start + slotOf o S k c .at) (slotOf o S k c .bit))
   unfolding valueSlots valueStep present asNumber asObject slotOf isBool
-  value-step nan inplace c e tail rest ok same (no-flat f t) a = absurd (let y : _≡_ {A = ℕ} 0 1 = cc in omega arith)
+  value-step nan inplace c e tail rest ok same (no-flat f t) a = never f
   value-step nan inplace c e tail rest ok same (no-float {w = w} h) a = rw h (no-float-step w c e rest ok a)
   value-step nan inplace c e tail rest ok same (flat h n) a = flat-step nan c e rest ok h n a
   value-step nan inplace c e tail rest ok same (no-object {ob = ob}) a =

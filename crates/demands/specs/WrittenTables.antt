@@ -29,6 +29,7 @@ use Rattle.coding.specs.declared.Slot.{Slot}
 use Rattle.coding.specs.declared.Step.{Step}
 use Rattle.coding.specs.declared.Step.the-variants as St
 use Rattle.laws.specs.Sound.{All, FlatSound, KindSound, MemberSound, Sound, inplaceCount}
+use Rattle.laws.specs.Lists.{never, both-right}
 use Rattle.demands.specs.AtCursor.{At, Sane, at-fits, at-sane, at-bit, at-end}
 use Rattle.demands.specs.Writes.{Objects, FlatWrites, boolean, integer, PartWrites, no-flat, no-float, flat, no-object, no-union, MembersWrite, no-member, members}
 use Rattle.demands.specs.Writes as W
@@ -172,10 +173,6 @@ there t (W.object g p l) = p
 there t no-union = t
 there t (W.choice l b g) = refl
 
-and-right : (a b : Bool) → (a && b) ≡ true → b ≡ true
-and-right true b h = h
-and-right false b h = let y : _≡_ {A = ℕ} 0 1 = cc in absurd (omega arith)
-
 flag-absent : (v : Value) → v ≡ absent → flagOf v ≡ 0
 unfolding flagOf present
 flag-absent v e = rw e
@@ -229,14 +226,14 @@ module _ (o : ℕ) (S : Schema) (sound : Sound S) (wide : 0 < o) (m : List ℕ) 
           → Shows below S m (r .kind) v (flagged m start n c slot here)
       by (inl q) h1 h2 h3 h4 h5 = rw (q .0, flagged-clear m start n c slot here h1 (h2 ∙ flag-absent v (q .0)) h3 h4) nothing
       by (inr q) h1 h2 h3 h4 h5 =
-          rw (flagged-set m start n c slot here h1 (h2 ∙ flag-there v (there (and-right (r .optional) (takesFlag (r .kind)) f) q)) h3 h4)
+          rw (flagged-set m start n c slot here h1 (h2 ∙ flag-there v (there (both-right (r .optional) (takesFlag (r .kind)) f) q)) h3 h4)
           (value-step o S sound m P G below inner start (start + n) (r .optional) (r .inplace) (afterBit c) e (start + n) rest (ok .kind) same q h5)
 
   no-flag : (r : Member) (v : Value) → hasFlag r ≡ false
       → ((v ≡ absent) × (r .optional ≡ true) × (takesFlag (r .kind) ≡ true)) ⊎ PartWrites G o S false (r .optional) (r .inplace) (r .kind) v
       → PartWrites G o S false (r .optional) (r .inplace) (r .kind) v
   unfolding hasFlag
-  no-flag r v f (inl q) = let y : _≡_ {A = Bool} false true = sym f ∙ rw (q .1, q .2) in absurd (let w : _≡_ {A = ℕ} 0 1 = cc in omega arith)
+  no-flag r v f (inl q) = let y : _≡_ {A = Bool} false true = sym f ∙ rw (q .1, q .2) in never y
   no-flag r v f (inr q) = q
 
   member-step-by : (r : Member) (t : Bool) → hasFlag r ≡ t → (v : Value) (c : Cursor) (e : ℕ) (rest : Slots) → MemberSound S r
@@ -246,13 +243,9 @@ module _ (o : ℕ) (S : Schema) (sound : Sound S) (wide : 0 < o) (m : List ℕ) 
   member-step-by r true f v c e rest ok same p a = flag-step r v c e rest f ok same (split-part p) (rw f at a)
   member-step-by r false f v c e rest ok same p a = plain-step r v c e rest f ok same (no-flag r v f (split-part p)) (rw f at a)
 
-  one-inplace : (t : Bool) (k : ℕ) → pick t 1 0 + k ≤ 1 → t ≡ true → k ≡ 0
-  one-inplace true k h e = omega arith
-  one-inplace false k h e = let w : _≡_ {A = ℕ} 0 1 = cc in absurd (omega arith)
-
   some-inplace : (t : Bool) (k : ℕ) → t ≡ true → 0 < pick t 1 0 + k
   some-inplace true k e = omega arith
-  some-inplace false k e = let w : _≡_ {A = ℕ} 0 1 = cc in absurd (omega arith)
+  some-inplace false k e = never e
 
   more-inplace : (t : Bool) (k : ℕ) → 0 < k → 0 < pick t 1 0 + k
   more-inplace true k h = omega arith
