@@ -34,4 +34,6 @@ pub mod WrittenBytes
 pub mod WrittenTree
 pub mod WrittenMessage
 pub mod ShownWrites
+pub mod TreeTrip
+pub mod WrittenSheet
 pub mod RoundTrip
