@@ -5,6 +5,8 @@ use mathlib.Core.List.{List, [], _∷_, _++_}
 use mathlib.Core.Bool.{Bool, true, false}
 use Prim.Native.Nat.{ℕ, suc, zero, _+_, _*_, _-_, _/_, _%_, _^_, _≤_, _<_}
 use native.Mathlib.Omega.{arith}
+use native.Mathlib.Nat.{div-div-eq-div-mul, zero-div}
+use lib.Pow.{pow-add}
 use lib.Dec.{ltb}
 use borrow.Author.Tests.{lt-ltb, le-ltb}
 use lib.ListN.{length, getD}
@@ -31,6 +33,20 @@ pub record At (o : ℕ) (m : List ℕ) (start : ℕ) (c : Cursor) (z e : ℕ) (s
 -- the free bits of the last bool byte are 0
 pub record Unused (m : List ℕ) (start : ℕ) (c : Cursor) : Type 0 where
   pub zero : c .bit < 8 → getD m (start + c .byte) 0 / 2 ^ (c .bit) ≡ 0
+
+pub unused-bit : (m : List ℕ) (start : ℕ) (c : Cursor) (j : ℕ) → Unused m start c → c .bit ≤ j → j < 8 → bitAt m (start + c .byte) j ≡ 0
+unfolding bitAt
+unused-bit m start c j u h l =
+    let x = getD m (start + c .byte) 0 in
+    let lt : c .bit < 8 = omega arith in
+    let e : j ≡ c .bit + (j - c .bit) = omega arith in
+    let q : x / 2 ^ j ≡ 0 =
+    ap (λ (n : ℕ). x / 2 ^ n) e
+    ∙ ap (λ (n : ℕ). x / n) (pow-add 2 (c .bit) (j - c .bit))
+    ∙ sym (div-div-eq-div-mul x (2 ^ (c .bit)) (2 ^ (j - c .bit)))
+    ∙ ap (λ (n : ℕ). n / 2 ^ (j - c .bit)) (u .zero lt)
+    ∙ zero-div (2 ^ (j - c .bit)) in
+    rw q
 
 -- a cursor's bits are at most 8, and its bool byte lies before its end
 pub record Sane (c : Cursor) : Type 0 where

@@ -48,7 +48,7 @@ pub data Shows (below : Below) (S : Schema) (m : List ℕ) : Kind → Value → 
 
 -- the members from the cursor on, of a table whose fixed part has n bytes from `start`
 pub data MembersHold (below : Below) (o : ℕ) (S : Schema) (m : List ℕ) (start n : ℕ) : Cursor → List Member → Values → Type 0 where
-  no-member : {c : Cursor} → Unused m start c → MembersHold below o S m start n c [] none
+  no-member : {c : Cursor} → c .end ≡ n → Unused m start c → MembersHold below o S m start n c [] none
   members : {c : Cursor} {r : Member} {rs : List Member} {v : Value} {vs : Values}
       → Shows below S m (r .kind) v (memberStep o S m start n c r)
       → MembersHold below o S m start n (afterMember o S r c) rs vs

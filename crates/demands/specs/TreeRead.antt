@@ -26,7 +26,7 @@ module _ (below : Below) (o : ℕ) (S : Schema) (m : List ℕ) (child : Child)
   members-read : {start n : ℕ} {c : Cursor} {rs : List Member} {vs : Values} → MembersHold below o S m start n c rs vs
       → membersRead child o S m start n c rs ≡ vs
   unfolding membersRead
-  members-read (no-member u) = refl
+  members-read (no-member f u) = refl
   members-read (members h hs) = ap₂ (λ (x : Value) (xs : Values). x then xs) (step-read h) (members-read hs)
 
   elements-read : {start i : ℕ} {k : Kind} {vs : Values} → ElementsHold below o S m start k i vs

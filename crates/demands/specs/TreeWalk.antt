@@ -127,7 +127,7 @@ module _ (below : Below) (o : ℕ) (S : Schema) (m : List ℕ) (b : ℕ) (child 
   members-pass : {start n : ℕ} {c : Cursor} {rs : List Member} {vs : Values} (holder : ℕ) → MembersHold below o S m start n c rs vs
       → Passes b (membersArrivals count' S rs vs) (members child o S m holder start n c rs)
   unfolding members membersArrivals first others
-  members-pass holder (no-member u) = pass-none b
+  members-pass holder (no-member f u) = pass-none b
   members-pass {start} {n} holder (T.members {c = c} {r = r} {rs = rs} {v = v} {vs = vs} h hs) =
       pass-then b (partArrivals count' S (r .kind) v) (membersArrivals count' S rs vs) (follow child holder (memberStep o S m start n c r))
       (members child o S m holder start n (afterMember o S r c) rs) (step-passes holder h) (members-pass holder hs)

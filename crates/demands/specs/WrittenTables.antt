@@ -263,7 +263,7 @@ module _ (o : ℕ) (S : Schema) (sound : Sound S) (wide : 0 < o) (m : List ℕ) 
       → (0 < inplaceCount rs → e ≡ start + n) → MembersWrite G o S rs vs → At o m start c (start + n) e (membersSlots P o S rs vs)
       → MembersHold below o S m start n c rs vs
   unfolding membersSlots inplaceCount first others
-  members-hold c e ok one same no-member a = T.no-member (at-end o m start c (start + n) e a .1)
+  members-hold c e ok one same no-member a = let h = at-end o m start c (start + n) e a in T.no-member {c = c} (omega arith) (h .1)
   members-hold c e ok one same (members {r = r} {rs = rs} {v = v} {vs = vs} p ps) a =
       let rest = membersSlots P o S rs vs in
       let b = behind-member o S sound m P start (start + n) r v c e rest a in
