@@ -1,4 +1,5 @@
--- The theorems. A reader's way in: Counter, Sheets, Reached, Appending, Fields, ListReader; the other modules are their lemmas.
+-- The theorems. A reader's way in: Counter, Sheets, Reached, RoundTrip, Appending, NewerAgrees, Fields, ListReader; the other
+-- modules are their lemmas.
 pub mod Counter
 pub mod Shown
 pub mod SheetDecode
@@ -6,20 +7,42 @@ pub mod SheetEncode
 pub mod StepShown
 pub mod AcceptedShown
 pub mod Sheets
-pub mod SameLayout
-pub mod SameStep
-pub mod OlderAccepts
-pub mod OlderReads
-pub mod PlainMessage
-pub mod AddedMembers
-pub mod NewerAccepts
-pub mod NewerReads
 pub mod RefusalNumbers
 pub mod Arrivals
 pub mod ArrivalsWalk
 pub mod Reached
+pub mod Holds
+pub mod CellsHold
+pub mod SlotsHold
+pub mod AtCursor
+pub mod Writes
+pub mod StructHold
+pub mod TreeHold
+pub mod TreeRead
+pub mod TreeArrivals
+pub mod TreeWalk
+pub mod WrittenParts
+pub mod WrittenSteps
+pub mod WrittenTables
+pub mod WrittenLists
+pub mod WrittenBytes
+pub mod WrittenTree
+pub mod WrittenMessage
+pub mod ShownWrites
+pub mod TreeTrip
+pub mod WrittenSheet
+pub mod RoundTrip
+pub mod SameLayout
+pub mod SameStep
+pub mod OlderAccepts
+pub mod OlderReads
 pub mod Appending
 pub mod AppendingCases
+pub mod PlainMessage
+pub mod AddedMembers
+pub mod NewerAccepts
+pub mod NewerReads
+pub mod WrittenPlain
 pub mod NewerAgrees
 pub mod FieldEntries
 pub mod GoingOn
