@@ -8,12 +8,12 @@ use mathlib.Core.Option.{some}
 use lib.ListN.{length}
 use lib.Dec.{leb}
 use borrow.Author.Tests.{leb-true}
-use Rattle.coding.specs.Bytes.{deepest, largest}
+use Rattle.coding.specs.Bytes.{u48, deepest, largest}
 use Rattle.coding.specs.Packed.{parse}
 use Rattle.coding.specs.Read.{messageRead}
 use Rattle.coding.specs.Sheet.{sheetOf, treeOf}
 use Rattle.coding.specs.Walk.{headerSize, sizeOk, verdict}
-use Rattle.coding.specs.Message.{messageSheet}
+use Rattle.coding.specs.Message.{message, written, messageSheet}
 use Rattle.coding.specs.Append.{Appends, withAdded, resheet, sheetWith}
 use Rattle.coding.specs.declared.Object.the-variants as Ob
 use Rattle.coding.specs.declared.Budget.{Budget}
@@ -26,6 +26,8 @@ use Rattle.demands.specs.AcceptedShown.{walk-ends, ends-going}
 use Rattle.demands.specs.PlainMessage.{messagePlain}
 use Rattle.demands.specs.NewerAccepts.{newer-judges}
 use Rattle.demands.specs.NewerReads.{newer-reads}
+use Rattle.demands.specs.RoundTrip.{written-sheet}
+use Rattle.demands.specs.WrittenPlain.{written-plain, written-tree}
 
 -- ---- of every plain message, at every offset width
 module _ (older newer : List ℕ) (older-bytes : AreBytes older) (appends : Appends older newer) (o : ℕ) (m : List ℕ)
@@ -57,3 +59,24 @@ module _ (older newer : List ℕ) (older-bytes : AreBytes older) (appends : Appe
       let sized = leb-true (length m) largest (both-right (leb (headerSize o) (length m)) (leb (length m) largest) (x .size)) in
       let shown = ends-going (x .walks) (walk-ends (parse older) sound m message-bytes sized o wide b) in
       plain-sheet-of (messageSheet o older m) (decode-encode (parse older) sound (messageRead o (parse older) m) shown)
+
+-- ---- of every message that the writer made under the older schema
+-- the sheet s was written as the message m
+pub record NewerAgrees (o : ℕ) (older newer s m : List ℕ) : Type 0 where
+  -- the same number, place and visits with every budget: what the older accepts, the newer does too
+  pub verdicts : (b : Budget) → verdict o newer m b ≡ verdict o older m b
+  -- the older's sheet is the one that was written, and the newer's is that one with the added members
+  pub older-sheet : messageSheet o older m ≡ s
+  pub newer-sheet : messageSheet o newer m ≡ sheetWith o older newer s
+
+-- THE CLAIM: the newer gives a message that was written under the older the same verdict with every budget, and reads the
+-- sheet that was written, with the added members
+pub newer-agrees : (older newer s m : List ℕ) → AreBytes older → AreBytes s → Appends older newer → written u48 older s ≡ message m
+    → NewerAgrees u48 older newer s m
+newer-agrees older newer s m older-bytes sheet-bytes appends made =
+    let is-plain = written-plain older s m older-bytes sheet-bytes made in
+    record {
+      verdicts = plain-verdict older newer older-bytes appends u48 m is-plain;
+      older-sheet = written-sheet older s m older-bytes sheet-bytes made;
+      newer-sheet = plain-sheet-of older newer older-bytes appends u48 m is-plain s (written-tree older s m older-bytes sheet-bytes made);
+    }

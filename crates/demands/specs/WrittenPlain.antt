@@ -2,13 +2,17 @@
 use Prim.Native.Nat.{ℕ, zero, suc, _+_}
 use mathlib.Core.List.{List}
 use mathlib.Core.Bool.{Bool, true}
-use mathlib.Core.Option.{Option·some-injective}
+use mathlib.Core.Option.{some, Option·some-injective}
 use mathlib.Core.Path.{_≡_, sym, _∙_, subst}
-use Rattle.coding.specs.Bytes.{u48, deepest}
+use lib.ListN.{length}
+use borrow.Author.Tests.{le-leb}
+use Rattle.coding.specs.Bytes.{u48, deepest, largest}
 use Rattle.coding.specs.Schema.{Schema, elementOf}
 use Rattle.coding.specs.Packed.{parse}
 use Rattle.coding.specs.Walk.{rootPlace}
 use Rattle.coding.specs.Value.{Value, Values, count}
+use Rattle.coding.specs.Read.{messageRead}
+use Rattle.coding.specs.Sheet.{treeOf, sheetTree}
 use Rattle.coding.specs.Message.{writable, message, written}
 use Rattle.coding.specs.declared.Flat.{Flat}
 use Rattle.coding.specs.declared.Object.{Object}
@@ -25,6 +29,8 @@ use Rattle.demands.specs.Writes.{FlatWrites, FlatsWrite, PartWrites, Mem
 use Rattle.demands.specs.Writes as W
 use Rattle.demands.specs.TreeHold.{Below, Shows, MembersHold, ElementsHold, ContentHolds, PlaceHolds, HoldsTree}
 use Rattle.demands.specs.TreeHold as T
+use Rattle.demands.specs.TreeRead.{tree-read}
+use Rattle.demands.specs.Sheets.{encode-decode-sized}
 use Rattle.demands.specs.ShownWrites.{shown-writes}
 use Rattle.demands.specs.WrittenSheet.{WrittenAs, written-as}
 use Rattle.demands.specs.RoundTrip.{written-holds}
@@ -132,3 +138,12 @@ written-plain b s m schema-bytes sheet-bytes made =
     let fit = subst (λ (v : Value). writable deepest u48 (parse b) root v ≡ true) (Option·some-injective (w .tree) (h .0) (sym (w .decoded) ∙ h .1)) (w .fit) in
     let writes = shown-writes (parse b) (lawful-sound b schema-bytes (w .schema)) u48 deepest root (h .0) (h .2) fit in
     tree-plain deepest u48 (parse b) m root (h .0) (rootPlace u48 m) (h .3) (writes-known deepest u48 (parse b) root (h .0) writes)
+
+-- the sheet's tree is what the message reads as
+pub written-tree : (b s m : List ℕ) → AreBytes b → AreBytes s → written u48 b s ≡ message m
+    → treeOf (parse b) s ≡ some (messageRead u48 (parse b) m)
+unfolding messageRead sheetTree
+written-tree b s m schema-bytes sheet-bytes made =
+    let h = written-holds b s m schema-bytes sheet-bytes made in
+    let e = encode-decode-sized (parse b) (lawful-sound b schema-bytes (written-as u48 b s m made .schema)) s (h .0) sheet-bytes (h .1) in
+    rw (tree-read u48 (parse b) m deepest (O.Table (parse b .root)) (h .0) (rootPlace u48 m) (h .3)) (rw (le-leb (length s) largest (e .2)) at (h .1))
