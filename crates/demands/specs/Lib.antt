@@ -44,6 +44,7 @@ pub mod NewerAccepts
 pub mod NewerReads
 pub mod WrittenPlain
 pub mod NewerAgrees
+pub mod NewerCases
 pub mod FieldEntries
 pub mod GoingOn
 pub mod StepKinds
