@@ -5,9 +5,9 @@ use native.Mathlib.Nat.{le-refl}
 use native.Mathlib.Omega.{arith}
 use mathlib.Core.List.{List, [], _∷_}
 use mathlib.Core.Bool.{Bool, true, false, _&&_, not}
-use mathlib.Core.Path.{_≡_, refl, ap, ap₂, _∙_}
+use mathlib.Core.Path.{_≡_, refl, ap₂}
 use lib.Dec.{ltb, leb, eqb}
-use borrow.Author.Tests.{ltb-true, ltb-false, leb-true, leb-false, le-leb, lt-leb, lt-ltb, le-ltb}
+use borrow.Author.Tests.{ltb-true, leb-true, leb-false, le-leb, lt-ltb, le-ltb}
 use Rattle.coding.specs.Lists.{pick}
 use Rattle.coding.specs.Bytes.{bitAt}
 use Rattle.coding.specs.Schema.{Schema}
@@ -15,12 +15,10 @@ use Rattle.coding.specs.Layout.{flatIsBool, isBool, flatTakesFlag, takesFlag, h
 use Rattle.coding.specs.Step.{flatStep, valueStep, inside, flagged, memberStep}
 use Rattle.coding.specs.Walk.{andThen, follow, members}
 use Rattle.coding.specs.Walk as W
-use Rattle.coding.specs.Value.{Value, Values, absent, number, none, _then_}
+use Rattle.coding.specs.Value.{Value, absent, number, _then_}
 use Rattle.coding.specs.Read.{Child, stepRead, structRead, membersRead}
 use Rattle.coding.specs.Append.{addedValue, addedValues}
-use Rattle.coding.specs.declared.Flat.{Flat}
 use Rattle.coding.specs.declared.Flat.the-variants.{Boolean, Integer, Float, Enumerated, Struct}
-use Rattle.coding.specs.declared.Object.{Object}
 use Rattle.coding.specs.declared.Kind.{Kind}
 use Rattle.coding.specs.declared.Kind.the-variants.{OfFlat, OfObject, OfUnion}
 use Rattle.coding.specs.declared.Member.{Member}
@@ -29,7 +27,6 @@ use Rattle.coding.specs.declared.Slot.{Slot}
 use Rattle.coding.specs.declared.Step.{Step}
 use Rattle.coding.specs.declared.Step.the-variants as St
 use Rattle.coding.specs.declared.Spent.{Spent}
-use Rattle.coding.specs.declared.Walked.{Walked}
 use Rattle.coding.specs.declared.Walked.the-variants.{Going}
 use Rattle.demands.specs.PlainMessage.{Full}
 

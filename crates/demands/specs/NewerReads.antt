@@ -32,7 +32,7 @@ use Rattle.laws.specs.Structs.{index-holds₂}
 use Rattle.laws.specs.Sound.{All, FlatSound, ObjectSound, KindSound, MemberSound, Sound}
 use Rattle.demands.specs.SameLayout.{flat-width, struct-same, struct-size-same, element-same, table-same, after-member-same}
 use Rattle.demands.specs.SameStep.{SameStep, refused, no-value, value, enum-value, enum-appended, enum-unknown, struct-value, object-value, choice, choice-appended, choice-unknown, member-step-same, element-step-same}
-use Rattle.demands.specs.PlainMessage.{Known, AllKnown, Objects, stepPlain, Full, membersPlain, elementsPlain, contentPlain, placePlain, plain, messagePlain}
+use Rattle.demands.specs.PlainMessage.{Known, AllKnown, Objects, stepPlain, membersPlain, elementsPlain, contentPlain, placePlain, plain, messagePlain}
 use Rattle.demands.specs.AddedMembers.{full-past, read-added}
 
 -- ---- structs: what is known stays

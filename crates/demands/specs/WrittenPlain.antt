@@ -1,5 +1,5 @@
 -- A written message is plain: it holds its tree, and a tree that can be written has no unknown enum or choice.
-use Prim.Native.Nat.{ℕ, zero, suc, _+_}
+use Prim.Native.Nat.{ℕ, zero, suc}
 use mathlib.Core.List.{List}
 use mathlib.Core.Bool.{Bool, true}
 use mathlib.Core.Option.{some, Option·some-injective}
@@ -32,7 +32,7 @@ use Rattle.demands.specs.TreeHold as T
 use Rattle.demands.specs.TreeRead.{tree-read}
 use Rattle.demands.specs.Sheets.{encode-decode-sized}
 use Rattle.demands.specs.ShownWrites.{shown-writes}
-use Rattle.demands.specs.WrittenSheet.{WrittenAs, written-as}
+use Rattle.demands.specs.WrittenSheet.{written-as}
 use Rattle.demands.specs.RoundTrip.{written-holds}
 use Rattle.demands.specs.PlainMessage.{Known, AllKnown, Objects, stepPlain, membersPlain, elementsPlain, contentPlain, placePlain, plain, messagePlain}
 
