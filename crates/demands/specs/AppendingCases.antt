@@ -32,7 +32,7 @@ use Rattle.demands.specs.Counter.{O, N, M}
 use Rattle.demands.specs.Appending.{AreBytes, OlderAgrees, older-sheet}
 
 -- every number of a list is a byte, tested
-abbrev allBytes : List ℕ → Bool
+abbrev pub allBytes : List ℕ → Bool
 allBytes [] = true
 allBytes (x ∷ xs) = ltb x 256 && allBytes xs
 
@@ -41,7 +41,7 @@ all-bytes [] e = tt
 all-bytes (x ∷ xs) e =
     (ltb-true x 256 (both-left (ltb x 256) (allBytes xs) e), all-bytes xs (both-right (ltb x 256) (allBytes xs) e))
 
-bytes : (l : List ℕ) → allBytes l ≡ true → AreBytes l
+pub bytes : (l : List ℕ) → allBytes l ≡ true → AreBytes l
 bytes l e = index-all Byte 0 l (omega arith) (all-bytes l e)
 
 -- ---- a pair in which something of every kind is appended

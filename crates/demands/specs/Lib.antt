@@ -37,3 +37,4 @@ pub mod ShownWrites
 pub mod TreeTrip
 pub mod WrittenSheet
 pub mod RoundTrip
+pub mod RoundTripCases
