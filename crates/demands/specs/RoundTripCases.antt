@@ -20,8 +20,6 @@ use Rattle.coding.specs.Bits as Bits
 use Rattle.coding.specs.Sheet as Sheet
 use Rattle.coding.specs.Message as Message
 use Rattle.coding.specs.Cells as Cells
-use Rattle.coding.specs.declared.Budget.{Budget}
-use Rattle.coding.specs.declared.Verdict.{Verdict}
 use Rattle.demands.specs.AppendingCases.{bytes}
 use Rattle.demands.specs.TreeArrivals as TreeArrivals
 use Rattle.demands.specs.RoundTrip.{optionArrivals, enough, written-verdict, written-sheet, written-too-little}
