@@ -1,4 +1,5 @@
--- The theorems. A reader's way in: Counter, Sheets, Reached, RoundTrip, Appending; the other modules are their lemmas.
+-- The theorems. A reader's way in: Counter, Sheets, Reached, RoundTrip, Appending, Fields, ListReader; the other modules are
+-- their lemmas.
 pub mod Counter
 pub mod Shown
 pub mod SheetDecode
@@ -38,3 +39,10 @@ pub mod TreeTrip
 pub mod WrittenSheet
 pub mod RoundTrip
 pub mod RoundTripCases
+pub mod FieldEntries
+pub mod GoingOn
+pub mod StepKinds
+pub mod FieldShows
+pub mod FieldsWalked
+pub mod Fields
+pub mod ListReader
