@@ -1,9 +1,9 @@
 -- Slots that stand at a cursor: `At o m start c z e s` says that the slots s stand in m where the layout cursor c of a part
 -- that starts at `start` is, that they end at z, and that their first in-place content is at e.
 use mathlib.Core.Path.{_≡_, refl, sym, ap, _∙_, subst}
-use mathlib.Core.List.{List, [], _∷_, _++_}
-use mathlib.Core.Bool.{Bool, true, false}
-use Prim.Native.Nat.{ℕ, suc, zero, _+_, _*_, _-_, _/_, _%_, _^_, _≤_, _<_}
+use mathlib.Core.List.{List}
+use mathlib.Core.Bool.{true, false}
+use Prim.Native.Nat.{ℕ, suc, zero, _+_, _-_, _/_, _^_, _≤_, _<_}
 use native.Mathlib.Omega.{arith}
 use native.Mathlib.Nat.{div-div-eq-div-mul, zero-div}
 use lib.Pow.{pow-add}
@@ -13,11 +13,11 @@ use lib.ListN.{length, getD}
 use Rattle.coding.specs.Bytes.{le, bitAt}
 use Rattle.coding.specs.Walk.{headerSize}
 use Rattle.coding.specs.Layout.{begin, bitByte, bitIndex, afterBit, afterBytes}
-use Rattle.coding.specs.Cells.{Cells, width, chain, Slots, packBits}
+use Rattle.coding.specs.Cells.{width, chain, Slots, packBits}
 use Rattle.coding.specs.Cells.Slots.{end, bytes, bit, reference, inPlace}
 use Rattle.coding.specs.declared.Cursor.{Cursor}
-use Rattle.demands.specs.Holds.{Holds, holds-fits}
-use Rattle.demands.specs.SlotsHold.{SlotsHold, byteOf, nextAt, nextFree}
+use Rattle.demands.specs.Holds.{Holds}
+use Rattle.demands.specs.SlotsHold.{SlotsHold}
 
 pub record At (o : ℕ) (m : List ℕ) (start : ℕ) (c : Cursor) (z e : ℕ) (s : Slots) : Type 0 where
   pub p : ℕ

@@ -1,10 +1,10 @@
 -- What can be said of a message that is laid out from cells: each object stands where its reference says, and each in-place
 -- content behind the sequence that it belongs to.
-use mathlib.Core.Path.{_≡_, refl, sym, ap, _∙_}
-use mathlib.Core.List.{List, [], _∷_, _++_}
-use Prim.Native.Nat.{ℕ, suc, zero, _+_, _*_, _^_, _≤_, _<_}
+use mathlib.Core.Path.{_≡_, refl}
+use mathlib.Core.List.{List, _++_}
+use Prim.Native.Nat.{ℕ, _+_, _^_, _≤_, _<_}
 use native.Mathlib.Omega.{arith}
-use lib.ListN.{length, getD, length-append}
+use lib.ListN.{length, length-append}
 use Rattle.coding.specs.Bytes.{le, leBytes}
 use Rattle.coding.specs.Walk.{headerSize}
 use Rattle.coding.specs.Cells.{Cells, width, chain, below, widthBytes, chainBytes, belowBytes, layout}

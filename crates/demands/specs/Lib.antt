@@ -32,6 +32,7 @@ pub mod ShownWrites
 pub mod TreeTrip
 pub mod WrittenSheet
 pub mod RoundTrip
+pub mod RoundTripCases
 pub mod SameLayout
 pub mod SameStep
 pub mod OlderAccepts

@@ -60,8 +60,7 @@ module _ (older newer : List ℕ) (older-bytes : AreBytes older) (appends : Appe
       let shown = ends-going (x .walks) (walk-ends (parse older) sound m message-bytes sized o wide b) in
       plain-sheet-of (messageSheet o older m) (decode-encode (parse older) sound (messageRead o (parse older) m) shown)
 
--- ---- of every message that the writer made under the older schema
--- the sheet s was written as the message m
+-- ---- of every message that the writer made under the older schema: m is the message of the sheet s
 pub record NewerAgrees (o : ℕ) (older newer s m : List ℕ) : Type 0 where
   -- the same number, place and visits with every budget: what the older accepts, the newer does too
   pub verdicts : (b : Budget) → verdict o newer m b ≡ verdict o older m b

@@ -2,39 +2,32 @@
 -- gives the same sheet. Enough is the number of the objects in the sheet's tree, which are the arrivals of the walk
 -- (`enough`); with less, the answer is 4 and the whole budget is spent. A written message is within the size unless 13 is
 -- the answer, and its bytes are bytes.
-use mathlib.Core.Path.{_≡_, refl, sym, ap, ap₂, _∙_, subst}
+use mathlib.Core.Path.{_≡_, sym, ap, _∙_, subst}
 use mathlib.Core.List.{List, _++_}
-use mathlib.Core.Bool.{Bool, true, false, _&&_}
+use mathlib.Core.Bool.{true}
 use mathlib.Core.Option.{Option, some}
 use mathlib.Core.Option as Op
-use Prim.Native.Nat.{ℕ, _+_, _*_, _^_, _<_, _≤_}
+use Prim.Native.Nat.{ℕ, _*_, _^_, _<_, _≤_}
 use native.Mathlib.Omega.{arith}
-use lib.Dec.{leb, eqb}
-use borrow.Author.Tests.{le-leb, lt-leb, leb-true, eq-eqb}
+use borrow.Author.Tests.{le-leb, lt-leb, eq-eqb}
 use lib.ListN.{length, getD, drop}
-use Rattle.coding.specs.Lists.{pick}
 use Rattle.coding.specs.Bytes.{le, largest, deepest, u48}
 use Rattle.coding.specs.Schema.{Schema}
 use Rattle.coding.specs.Packed.{parse}
 use Rattle.coding.specs.Lawful.{lawful}
-use Rattle.coding.specs.Walk.{headerSize, refuse, walk, verdictOf, early, sizeOk, startOk, verdict, rootPlace}
+use Rattle.coding.specs.Walk.{headerSize, refuse, walk, verdictOf, sizeOk, startOk, verdict, rootPlace}
 use Rattle.coding.specs.Value.{Value}
 use Rattle.coding.specs.Read.{messageRead}
 use Rattle.coding.specs.Sheet.{sheetOf, sheetTree}
-use Rattle.coding.specs.Message.{writable, messageOf, Written, refused, message, writtenTree, written, messageSheet, fitsRoom, readAnswer, readOut}
+use Rattle.coding.specs.Message.{writable, messageOf, refused, message, writtenTree, written, messageSheet, fitsRoom, readAnswer, readOut}
 use Rattle.coding.specs.declared.Object.the-variants as O
 use Rattle.coding.specs.declared.Budget.{Budget}
-use Rattle.coding.specs.declared.Walked.{Walked}
-use Rattle.coding.specs.declared.Walked.the-variants.{Going}
-use Rattle.coding.specs.declared.Verdict.{Verdict}
-use Rattle.coding.specs.declared.ReadAnswer.{ReadAnswer}
 use Rattle.laws.specs.Sound.{Sound}
 use Rattle.laws.specs.LawfulSound.{lawful-sound}
 use Rattle.laws.specs.Bits.{Byte}
 use Rattle.laws.specs.All.{index-all}
 use Rattle.demands.specs.Sheets.{ShownAtRoot, encode-decode-sized}
 use Rattle.demands.specs.TreeHold.{HoldsTree}
-use Rattle.demands.specs.TreeWalk.{OutOfBudget}
 use Rattle.demands.specs.Writes.{Writes}
 use Rattle.demands.specs.WrittenMessage.{message-bytes, message-long, message-holds}
 use Rattle.demands.specs.WrittenSheet.{WrittenAs, written-as}

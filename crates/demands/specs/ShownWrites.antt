@@ -1,19 +1,16 @@
 -- A tree that the schema can show and that is writable can be written.
-use mathlib.Core.Path.{_≡_, refl, sym, ap, _∙_, subst}
-use mathlib.Core.List.{List, [], _∷_}
-use mathlib.Core.Bool.{Bool, true, false, _&&_, not}
-use Prim.Native.Nat.{ℕ, zero, suc, _+_, _*_, _^_, _<_, _≤_}
+use mathlib.Core.Path.{_≡_, refl, subst}
+use mathlib.Core.List.{List}
+use mathlib.Core.Bool.{Bool, true, false, _&&_}
+use Prim.Native.Nat.{ℕ, zero, suc, _*_, _^_, _<_}
 use native.Mathlib.Omega.{arith}
-use native.Mathlib.Nat.{pow-suc}
 use lib.Dec.{ltb}
 use borrow.Author.Tests.{ltb-true, not-true}
-use lib.ListN.{length}
 use Rattle.coding.specs.Lists.{pick}
 use Rattle.coding.specs.Bytes.{isNaN}
-use Rattle.coding.specs.Schema.{Schema, structOf, elementOf, casesOf, caseOf, tableOf}
-use Rattle.coding.specs.Structs.{byIndex}
+use Rattle.coding.specs.Schema.{Schema, casesOf, caseOf}
 use Rattle.coding.specs.Layout.{flatTakesFlag}
-use Rattle.coding.specs.Value.{Value, Values, absent, unknown, number, blob, row, chosen, none, _then_, asNumber, asRow, asObject, present, known, first, others}
+use Rattle.coding.specs.Value.{Value, Values, absent, row, asNumber, asRow, asObject, present, known, first, others}
 use Rattle.coding.specs.Sheet.{bare, flatBare}
 use Rattle.coding.specs.Message.{lengthOf, flatKnown, flatsKnown, knownBy, allKnown, structKnown, flatWritable, Test, valueWritable, membersWritable, elementsWritable, contentWritable, writable}
 use Rattle.coding.specs.declared.Flat.{Flat}
@@ -26,7 +23,7 @@ use Rattle.laws.specs.Sound.{All, FlatSound, NoStruct, Sound}
 use Rattle.laws.specs.Lists.{never, both-left, both-right}
 use Rattle.laws.specs.Structs.{index-holds}
 use Rattle.demands.specs.Shown.{Objects, FlatShown, FlatsShown, boolean, integer, float, no-enum, enum, unknown-enum, struct, no-flat, flats, PartShown, no-part, flat, object, choice, unknown-choice, MembersShown, no-member, members, ElementsShown, no-element, elements, ContentShown, text, bytes, list, table, Shown}
-use Rattle.demands.specs.Writes.{FlatWrites, FlatsWrite, NotNaN, PartWrites, MembersWrite, ElementsWrite, ContentWrites, Writes}
+use Rattle.demands.specs.Writes.{FlatWrites, FlatsWrite, PartWrites, MembersWrite, ElementsWrite, ContentWrites, Writes}
 use Rattle.demands.specs.Writes as W
 
 -- a number's bits and its bytes

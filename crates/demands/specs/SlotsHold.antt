@@ -1,19 +1,14 @@
 -- The same of slots, where single bits stand in bool bytes: what stands at a cursor of a fixed part or of a list's elements.
 use mathlib.Core.Path.{_≡_, refl, sym, ap, _∙_}
-use mathlib.Core.List.{List, [], _∷_, _++_}
-use mathlib.Core.Bool.{Bool, true, false}
+use mathlib.Core.List.{List}
 use Prim.Native.Nat.{ℕ, suc, zero, _+_, _*_, _-_, _/_, _%_, _^_, _≤_, _<_}
 use native.Mathlib.Omega.{arith}
 use native.Mathlib.Nat.{div-div-eq-div-mul, pow-suc}
-use lib.Dec.{ltb}
-use borrow.Author.Tests.{lt-ltb, le-ltb}
 use lib.ListN.{length, getD}
 use Rattle.coding.specs.Bytes.{le, bitAt}
 use Rattle.coding.specs.Walk.{headerSize}
-use Rattle.coding.specs.Layout.{begin, bitByte, bitIndex, afterBit, afterBytes}
-use Rattle.coding.specs.Cells.{Cells, width, chain, Slots, gather, packBits}
+use Rattle.coding.specs.Cells.{width, chain, Slots, gather, packBits}
 use Rattle.coding.specs.Cells.Slots.{end, bytes, bit, reference, inPlace}
-use Rattle.coding.specs.declared.Cursor.{Cursor}
 use Rattle.laws.specs.Sound.{All}
 use Rattle.laws.specs.Bits.{Byte}
 use Rattle.demands.specs.Holds.{Holds}

@@ -1,19 +1,16 @@
 -- Structs: a struct's bytes have its size and are bytes; where they stand, the struct reads as what was written, and its
 -- booleans are in order.
-use mathlib.Core.Path.{_≡_, refl, sym, ap, ap₂, _∙_, subst}
-use mathlib.Core.List.{List, [], _∷_, _++_}
-use mathlib.Core.Bool.{Bool, true, false, _&&_}
-use Prim.Native.Nat.{ℕ, suc, zero, _+_, _*_, _^_, _≤_, _<_}
+use mathlib.Core.Path.{_≡_, refl, sym, ap, ap₂, _∙_}
+use mathlib.Core.List.{List, [], _∷_}
+use mathlib.Core.Bool.{Bool, true}
+use Prim.Native.Nat.{ℕ, _+_, _<_}
 use native.Mathlib.Omega.{arith}
-use lib.Dec.{ltb, leb, eqb}
 use borrow.Author.Tests.{lt-ltb, le-leb, ne-eqb}
-use lib.ListN.{length, getD, length-append}
-use Rattle.coding.specs.Lists.{pick}
-use Rattle.coding.specs.Bytes.{le, leBytes}
+use lib.ListN.{length, length-append}
 use Rattle.coding.specs.Schema.{Schema, structOf}
 use Rattle.coding.specs.Structs.{flatWidth, total, structSize, flatOk, flatsOk, okBy, always, structOk}
 use Rattle.coding.specs.Step.{enumStep, fieldStep}
-use Rattle.coding.specs.Value.{Value, Values, absent, number, row, none, _then_, present, asNumber, asRow, first, others}
+use Rattle.coding.specs.Value.{Value, Values, number, row, _then_, present, asNumber, asRow, first, others}
 use Rattle.coding.specs.Read.{stepRead, noObject, fieldsRead, readBy, noStruct, structRead}
 use Rattle.coding.specs.Message.{numberOr, flatBytes, flatsBytes, bytesBy, noBytes, structBytes}
 use Rattle.coding.specs.declared.Flat.{Flat}

@@ -1,9 +1,9 @@
 -- A message that holds a tree reads as that tree.
 use mathlib.Core.Path.{_≡_, refl, sym, ap, ap₂, _∙_}
-use mathlib.Core.List.{List, [], _∷_}
-use Prim.Native.Nat.{ℕ, zero, suc, _+_}
-use Rattle.coding.specs.Schema.{Schema, elementOf, tableOf}
-use Rattle.coding.specs.Value.{Value, Values, blob, row, chosen, none, _then_, count}
+use mathlib.Core.List.{List}
+use Prim.Native.Nat.{ℕ, zero, suc}
+use Rattle.coding.specs.Schema.{Schema, elementOf}
+use Rattle.coding.specs.Value.{Value, Values, blob, row, chosen, _then_, count}
 use Rattle.coding.specs.Read.{Child, stepRead, structRead, membersRead, elementsRead, contentRead, placeRead, read}
 use Rattle.coding.specs.declared.Object.{Object}
 use Rattle.coding.specs.declared.Kind.{Kind}

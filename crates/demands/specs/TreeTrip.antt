@@ -1,27 +1,24 @@
 -- The round trip of trees, at any width of an offset: the message of a tree that can be written reads as that tree, and it is
 -- accepted with the tree's arrivals as its visits; with a smaller budget the answer is 4.
-use mathlib.Core.Path.{_≡_, refl, sym, ap, _∙_}
-use mathlib.Core.List.{List}
+use mathlib.Core.Path.{_≡_, ap, _∙_}
 use Prim.Native.Nat.{ℕ, _+_, _*_, _^_, _<_, _≤_}
 use native.Mathlib.Omega.{arith}
-use native.Mathlib.Nat.{zero-add}
 use lib.ListN.{length}
 use Rattle.coding.specs.Bytes.{deepest}
 use Rattle.coding.specs.Schema.{Schema}
-use Rattle.coding.specs.Walk.{headerSize, refuse, walk, rootPlace}
+use Rattle.coding.specs.Walk.{walk, rootPlace}
 use Rattle.coding.specs.Value.{Value}
 use Rattle.coding.specs.Read.{messageRead}
 use Rattle.coding.specs.Message.{messageOf}
 use Rattle.coding.specs.declared.Object.the-variants as O
 use Rattle.coding.specs.declared.Budget.{Budget}
 use Rattle.coding.specs.declared.Walked.the-variants.{Going}
-use Rattle.laws.specs.Sound.{All, Sound}
-use Rattle.laws.specs.Bits.{Byte}
+use Rattle.laws.specs.Sound.{Sound}
 use Rattle.demands.specs.TreeArrivals.{treeArrivals}
 use Rattle.demands.specs.Writes.{Writes}
 use Rattle.demands.specs.TreeRead.{tree-read}
 use Rattle.demands.specs.TreeWalk.{OutOfBudget, tree-passes}
-use Rattle.demands.specs.WrittenMessage.{message-bytes, message-long, message-holds}
+use Rattle.demands.specs.WrittenMessage.{message-holds}
 
 -- the objects of a message's tree
 abbrev pub rootArrivals : Schema → Value → ℕ

@@ -1,20 +1,20 @@
 -- A message that holds a tree is accepted with as many visits as the tree has objects; with a smaller budget the answer is
 -- 4, and the whole budget is spent.
-use mathlib.Core.Path.{_≡_, refl, sym, ap, ap₂, _∙_, subst}
-use mathlib.Core.List.{List, [], _∷_}
+use mathlib.Core.Path.{_≡_, refl, ap, _∙_, subst}
+use mathlib.Core.List.{List}
 use mathlib.Core.Bool.{Bool, true, false}
 use Prim.Native.Nat.{ℕ, zero, suc, _+_, _<_, _≤_}
 use native.Mathlib.Omega.{arith}
-use lib.Dec.{ltb, leb, eqb}
-use borrow.Author.Tests.{lt-ltb, le-ltb, le-leb, eq-eqb, ne-eqb, ltb-true, ltb-false}
+use lib.Dec.{ltb}
+use borrow.Author.Tests.{lt-ltb, le-leb, eq-eqb, ne-eqb, ltb-true, ltb-false}
 use lib.ListN.{length, getD}
 use Rattle.coding.specs.Lists.{pick}
 use Rattle.coding.specs.Bytes.{le}
-use Rattle.coding.specs.Schema.{Schema, elementOf, tableOf}
-use Rattle.coding.specs.Layout.{begin, afterMember}
+use Rattle.coding.specs.Schema.{Schema}
+use Rattle.coding.specs.Layout.{afterMember}
 use Rattle.coding.specs.Step.{memberStep, elementStep}
 use Rattle.coding.specs.Walk.{Child, placed, magic, headerSize, contentSize, endOk, openContent, openObject, refuse, andThen, followChoice, follow, members, elements, content, enter, arrive, counted, visit}
-use Rattle.coding.specs.Value.{Value, Values, absent, none, _then_, asNumber, asRow, asObject, present, first, others, count}
+use Rattle.coding.specs.Value.{Value, Values, absent, asNumber, asRow, asObject, present, first, others, count}
 use Rattle.coding.specs.declared.Object.{Object}
 use Rattle.coding.specs.declared.Kind.{Kind}
 use Rattle.coding.specs.declared.Kind.the-variants.{OfFlat, OfObject, OfUnion}
@@ -28,7 +28,7 @@ use Rattle.coding.specs.declared.Opened.the-variants as Op
 use Rattle.coding.specs.declared.Budget.{Budget}
 use Rattle.coding.specs.declared.Spent.{Spent}
 use Rattle.coding.specs.declared.Walked.{Walked}
-use Rattle.coding.specs.declared.Walked.the-variants.{Going, Refused}
+use Rattle.coding.specs.declared.Walked.the-variants.{Going}
 use Rattle.demands.specs.TreeArrivals.{Counting, partArrivals, membersArrivals, elementsArrivals, contentArrivals, treeArrivals}
 use Rattle.demands.specs.TreeHold.{Below, Somewhere, Shows, nothing, scalar, struct, object, choice, MembersHold, no-member, ElementsHold, no-element, ContentHolds, text, bytes, list, table, PlaceHolds, by-offset, in-place, HoldsTree}
 use Rattle.demands.specs.TreeHold as T

@@ -7,7 +7,7 @@ use lib.ListN.{length}
 use Rattle.coding.specs.Bytes.{isNaN}
 use Rattle.coding.specs.Schema.{Schema, structOf, elementOf, casesOf, caseOf, tableOf}
 use Rattle.coding.specs.Layout.{flatTakesFlag}
-use Rattle.coding.specs.Value.{Value, Values, absent, unknown, number, blob, row, chosen, none, _then_, present, asNumber}
+use Rattle.coding.specs.Value.{Value, Values, absent, number, blob, row, chosen, none, _then_, present, asNumber}
 use Rattle.coding.specs.Message.{lengthOf}
 use Rattle.coding.specs.declared.Flat.{Flat}
 use Rattle.coding.specs.declared.Flat.the-variants.{Boolean, Integer, Float, Enumerated, Struct}

@@ -1,19 +1,18 @@
 -- The writer's slots of a tree: their bits are bits and their bytes are bytes.
-use mathlib.Core.Path.{_≡_, refl}
-use mathlib.Core.List.{List, [], _∷_}
+use mathlib.Core.List.{List, []}
 use mathlib.Core.Bool.{Bool, true, false}
-use Prim.Native.Nat.{ℕ, zero, suc, _+_, _<_, _≤_}
+use Prim.Native.Nat.{ℕ, zero, suc, _+_, _<_}
 use native.Mathlib.Omega.{arith}
 use lib.ListN.{length}
 use Rattle.coding.specs.Lists.{pick}
-use Rattle.coding.specs.Bytes.{leBytes, noFloat}
-use Rattle.coding.specs.Schema.{Schema, elementOf, casesOf, caseOf, tableOf}
+use Rattle.coding.specs.Bytes.{noFloat}
+use Rattle.coding.specs.Schema.{Schema, casesOf, caseOf}
 use Rattle.coding.specs.Structs.{structSize}
-use Rattle.coding.specs.Layout.{flatTakesFlag, hasFlag}
+use Rattle.coding.specs.Layout.{hasFlag}
 use Rattle.coding.specs.Walk.{magic}
-use Rattle.coding.specs.Value.{Value, Values, absent, row, chosen, present, asNumber, asBlob, asRow, asObject, first, others}
+use Rattle.coding.specs.Value.{Value, Values, absent, row, present, asNumber, asBlob, asRow, asObject, first, others}
 use Rattle.coding.specs.Cells.{Slots}
-use Rattle.coding.specs.Message.{lengthOf, numberOr, structBytes, zeros, flatSlots, Planner, objectSlots, referSlots, valueSlots, flagOf, memberSlots, membersSlots, elementsSlots, contentSlots, plan}
+use Rattle.coding.specs.Message.{lengthOf, numberOr, zeros, flatSlots, Planner, objectSlots, referSlots, valueSlots, flagOf, memberSlots, membersSlots, elementsSlots, contentSlots, plan}
 use Rattle.coding.specs.declared.Flat.{Flat}
 use Rattle.coding.specs.declared.Flat.the-variants as F
 use Rattle.coding.specs.declared.Object.{Object}
@@ -25,7 +24,7 @@ use Rattle.laws.specs.All.{all-replicate}
 use Rattle.demands.specs.Holds.{leBytes-bytes}
 use Rattle.demands.specs.SlotsHold.{SlotsBytes}
 use Rattle.demands.specs.StructHold.{struct-holds}
-use Rattle.demands.specs.Writes.{Objects, FlatWrites, boolean, integer, float, no-enum, enum, struct, NotNaN, PartWrites, no-flat, no-float, flat, no-object, object, no-union, choice, MembersWrite, no-member, members, ElementsWrite, no-element, elements, ContentWrites, text, bytes, list, table, Writes}
+use Rattle.demands.specs.Writes.{Objects, FlatWrites, boolean, integer, float, no-enum, enum, struct, PartWrites, no-flat, no-float, flat, no-object, object, no-union, choice, MembersWrite, no-member, members, ElementsWrite, no-element, elements, ContentWrites, text, bytes, list, table, Writes}
 
 zero-bytes : (n : ℕ) → All Byte (zeros n)
 zero-bytes n = all-replicate Byte n 0 (omega arith)

@@ -1,15 +1,13 @@
 -- The writer's slots of a list's elements: element i stands where the coding says, and they end where the elements do.
 use mathlib.Core.Path.{_≡_, refl, sym, ap, _∙_, subst}
-use mathlib.Core.List.{List, [], _∷_}
+use mathlib.Core.List.{List}
 use mathlib.Core.Bool.{Bool, true, false}
-use Prim.Native.Nat.{ℕ, zero, suc, _+_, _*_, _/_, _%_, _^_, _<_, _≤_}
+use Prim.Native.Nat.{ℕ, suc, _+_, _*_, _/_, _%_, _<_, _≤_}
 use native.Mathlib.Omega.{arith}
-use native.Mathlib.Nat.{mul-suc, mul-zero}
+use native.Mathlib.Nat.{mul-suc}
 use native.Mathlib.Numerals.{add-one}
 use lib.Dec.{ltb}
 use borrow.Author.Tests.{ltb-true, ltb-false}
-use lib.ListN.{length}
-use Rattle.coding.specs.Lists.{pick}
 use Rattle.coding.specs.Schema.{Schema}
 use Rattle.coding.specs.Layout as L
 use Rattle.coding.specs.Layout.{begin, bitByte, bitIndex, afterBit, afterBytes, isBool, flatIsBool, slotOf, afterValue}
@@ -24,7 +22,7 @@ use Rattle.coding.specs.declared.Kind.the-variants.{OfFlat, OfObject, OfUnion}
 use Rattle.coding.specs.declared.Cursor.{Cursor}
 use Rattle.laws.specs.Sound.{KindSound, Sound}
 use Rattle.laws.specs.Lists.{never}
-use Rattle.demands.specs.AtCursor.{At, at-fits, at-end}
+use Rattle.demands.specs.AtCursor.{At, at-end}
 use Rattle.demands.specs.Writes.{Objects, PartWrites, ElementsWrite, no-element, elements}
 use Rattle.demands.specs.TreeHold.{Below, Shows, ElementsHold}
 use Rattle.demands.specs.TreeHold as T

@@ -1,8 +1,8 @@
 -- The message of a tree that can be written: it holds the tree from its root on, its start is in order, and its bytes are
 -- bytes.
-use mathlib.Core.Path.{_≡_, refl, sym, ap, _∙_, subst}
-use mathlib.Core.List.{List, [], _∷_}
-use Prim.Native.Nat.{ℕ, zero, suc, _+_, _*_, _^_, _<_, _≤_}
+use mathlib.Core.Path.{_≡_, refl, subst}
+use mathlib.Core.List.{List}
+use Prim.Native.Nat.{ℕ, _+_, _*_, _^_, _<_, _≤_}
 use native.Mathlib.Omega.{arith}
 use lib.ListN.{length}
 use Rattle.coding.specs.Bytes.{le, leBytes, deepest}
@@ -10,12 +10,10 @@ use Rattle.coding.specs.Schema.{Schema}
 use Rattle.coding.specs.Layout.{begin, afterBytes}
 use Rattle.coding.specs.Walk.{headerSize, rootPlace}
 use Rattle.coding.specs.Value.{Value}
-use Rattle.coding.specs.Cells.{Slots, width, chain, below, packBits, layout}
+use Rattle.coding.specs.Cells.{Slots, width, packBits, layout}
 use Rattle.coding.specs.Cells.Slots.{end, bytes, reference}
 use Rattle.coding.specs.Message.{objectSlots, plan, messageOf}
-use Rattle.coding.specs.declared.Object.{Object}
 use Rattle.coding.specs.declared.Object.the-variants as O
-use Rattle.coding.specs.declared.Place.{Place}
 use Rattle.coding.specs.declared.Place.the-variants.{ByOffset}
 use Rattle.laws.specs.Sound.{All, Sound}
 use Rattle.laws.specs.Bits.{Byte}

@@ -1,5 +1,5 @@
 -- What the writer's answer says: the sheet's tree, which is writable, and the message of that tree, which is within the size.
-use mathlib.Core.Path.{_≡_, refl, sym, ap, _∙_}
+use mathlib.Core.Path.{_≡_, refl, sym}
 use mathlib.Core.List.{List}
 use mathlib.Core.Bool.{Bool, true, false}
 use mathlib.Core.Option.{Option, some}
@@ -11,12 +11,11 @@ use borrow.Author.Tests.{leb-true}
 use lib.ListN.{length}
 use Rattle.coding.specs.Lists.{pick}
 use Rattle.coding.specs.Bytes.{largest, deepest}
-use Rattle.coding.specs.Schema.{Schema}
 use Rattle.coding.specs.Packed.{parse}
 use Rattle.coding.specs.Lawful.{lawful}
 use Rattle.coding.specs.Value.{Value}
 use Rattle.coding.specs.Sheet.{sheetTree}
-use Rattle.coding.specs.Message.{writable, messageOf, Written, refused, message, writtenTree, written}
+use Rattle.coding.specs.Message.{writable, messageOf, refused, message, writtenTree, written}
 use Rattle.coding.specs.declared.Object.the-variants as O
 
 pub record WrittenAs (o : ℕ) (b s m : List ℕ) : Type 0 where

@@ -1,25 +1,21 @@
 -- The writer's slots of one member or element: where they stand, the step there shows the value.
-use mathlib.Core.Path.{_≡_, refl, sym, ap, ap₂, _∙_, subst}
+use mathlib.Core.Path.{_≡_, refl, sym, ap, subst}
 use mathlib.Core.List.{List, [], _∷_}
 use mathlib.Core.Bool.{Bool, true, false, _&&_}
 use mathlib.Core.Logic.{_⊎_, inl, inr}
-use Prim.Native.Nat.{ℕ, zero, suc, _+_, _^_, _<_, _≤_}
+use Prim.Native.Nat.{ℕ, _+_, _^_, _<_, _≤_}
 use native.Mathlib.Omega.{arith}
-use lib.Dec.{ltb, leb, eqb}
-use borrow.Author.Tests.{lt-ltb, le-leb, lt-leb, eq-eqb, ne-eqb}
-use lib.ListN.{length, getD, length-replicate}
-use Rattle.coding.specs.Lists.{pick}
-use Rattle.coding.specs.Bytes.{le, leBytes, bitAt, isNaN, noFloat}
+use borrow.Author.Tests.{lt-ltb, le-leb, ne-eqb}
+use lib.ListN.{length}
+use Rattle.coding.specs.Bytes.{le, leBytes, isNaN, noFloat}
 use Rattle.coding.specs.Schema.{Schema, casesOf, caseOf}
-use Rattle.coding.specs.Structs.{flatWidth, structSize, structOk}
-use Rattle.coding.specs.Layout as L
-use Rattle.coding.specs.Layout.{begin, bitByte, bitIndex, afterBit, afterBytes, isBool, flatIsBool, slotOf, afterValue, flatTakesFlag, takesFlag}
-use Rattle.coding.specs.Step.{enumStep, floatStep, structStep, placeOf, objectStep, unionStep, flatStep, valueStep, inside}
+use Rattle.coding.specs.Structs.{structOk}
+use Rattle.coding.specs.Layout.{afterBytes, isBool, flatIsBool, slotOf}
+use Rattle.coding.specs.Step.{enumStep, floatStep, structStep, placeOf, objectStep, unionStep, flatStep, valueStep}
 use Rattle.coding.specs.Walk.{headerSize}
-use Rattle.coding.specs.Value.{Value, Values, absent, number, blob, row, chosen, present, asNumber, asObject}
-use Rattle.coding.specs.Read.{structRead}
-use Rattle.coding.specs.Cells.{Slots, width, packBits}
-use Rattle.coding.specs.Cells.Slots.{bytes, bit, reference, inPlace}
+use Rattle.coding.specs.Value.{Value, absent, number, row, chosen, present, asNumber, asObject}
+use Rattle.coding.specs.Cells.{Slots}
+use Rattle.coding.specs.Cells.Slots.{bytes, bit, inPlace}
 use Rattle.coding.specs.Message.{lengthOf, numberOr, structBytes, zeros, flatSlots, Planner, objectSlots, referSlots, valueSlots}
 use Rattle.coding.specs.declared.Flat.{Flat}
 use Rattle.coding.specs.declared.Flat.the-variants as F
@@ -27,15 +23,12 @@ use Rattle.coding.specs.declared.Object.{Object}
 use Rattle.coding.specs.declared.Kind.{Kind}
 use Rattle.coding.specs.declared.Kind.the-variants.{OfFlat, OfObject, OfUnion}
 use Rattle.coding.specs.declared.Cursor.{Cursor}
-use Rattle.coding.specs.declared.Slot.{Slot}
-use Rattle.coding.specs.declared.Place.{Place}
-use Rattle.coding.specs.declared.Place.the-variants.{ByOffset, InPlace}
 use Rattle.coding.specs.declared.Step.{Step}
 use Rattle.coding.specs.declared.Step.the-variants as St
 use Rattle.laws.specs.Sound.{FlatSound, KindSound, Sound}
-use Rattle.demands.specs.Holds.{Holds, length-leBytes, holds-le, holds-zeros}
+use Rattle.demands.specs.Holds.{length-leBytes, holds-le, holds-zeros}
 use Rattle.laws.specs.Lists.{never}
-use Rattle.demands.specs.AtCursor.{At, Sane, at-fits, at-sane, at-bytes, at-bit, at-reference, at-inPlace}
+use Rattle.demands.specs.AtCursor.{At, at-bytes, at-bit, at-reference, at-inPlace}
 use Rattle.demands.specs.StructHold.{struct-holds}
 use Rattle.demands.specs.Writes.{Objects, FlatWrites, boolean, integer, float, no-enum, enum, NotNaN, PartWrites, no-flat, no-float, flat, no-object, no-union}
 use Rattle.demands.specs.Writes as W

@@ -1,21 +1,21 @@
 -- The writer's slots of a table's members: they end where the full fixed part ends, and the message holds the members.
-use mathlib.Core.Path.{_≡_, refl, sym, ap, ap₂, _∙_, subst}
+use mathlib.Core.Path.{_≡_, refl, sym, _∙_}
 use mathlib.Core.List.{List, [], _∷_}
-use mathlib.Core.Bool.{Bool, true, false, _&&_}
+use mathlib.Core.Bool.{Bool, true, false}
 use mathlib.Core.Logic.{_⊎_, inl, inr}
-use Prim.Native.Nat.{ℕ, zero, suc, _+_, _^_, _<_, _≤_}
+use Prim.Native.Nat.{ℕ, _+_, _<_, _≤_}
 use native.Mathlib.Omega.{arith}
-use lib.Dec.{ltb, leb, eqb}
-use borrow.Author.Tests.{lt-ltb, le-ltb, le-leb, lt-leb, eq-eqb, ltb-true, ltb-false}
-use lib.ListN.{length, getD}
+use lib.Dec.{ltb}
+use borrow.Author.Tests.{le-leb, lt-leb, eq-eqb, ltb-true}
+use lib.ListN.{length}
 use Rattle.coding.specs.Lists.{pick}
 use Rattle.coding.specs.Bytes.{bitAt}
 use Rattle.coding.specs.Schema.{Schema}
 use Rattle.coding.specs.Structs.{flatWidth, structSize}
 use Rattle.coding.specs.Layout as L
-use Rattle.coding.specs.Layout.{begin, bitByte, bitIndex, afterBit, afterBytes, isBool, flatIsBool, slotOf, afterValue, flatTakesFlag, takesFlag, hasFlag, afterFlag, memberSlot, afterMember, afterMembers, fixedSize}
+use Rattle.coding.specs.Layout.{bitByte, bitIndex, afterBit, afterBytes, isBool, slotOf, afterValue, flatTakesFlag, takesFlag, hasFlag, afterFlag, memberSlot, afterMember, afterMembers}
 use Rattle.coding.specs.Step.{valueStep, inside, flagged, memberStep}
-use Rattle.coding.specs.Value.{Value, Values, absent, none, _then_, present, first, others}
+use Rattle.coding.specs.Value.{Value, Values, absent, present, first, others}
 use Rattle.coding.specs.Cells.{Slots}
 use Rattle.coding.specs.Cells.Slots.{bit}
 use Rattle.coding.specs.Message.{Planner, valueSlots, flagOf, memberSlots, membersSlots}

@@ -1,34 +1,28 @@
 -- The message of a tree that can be written holds that tree.
-use mathlib.Core.Path.{_≡_, refl, sym, ap, _∙_, subst}
+use mathlib.Core.Path.{_≡_, refl, sym, subst}
 use mathlib.Core.List.{List, [], _∷_}
 use mathlib.Core.Bool.{Bool, true, false}
 use Prim.Native.Nat.{ℕ, zero, suc, _+_, _*_, _/_, _^_, _<_, _≤_}
 use native.Mathlib.Omega.{arith}
 use native.Mathlib.Nat.{mul-comm, le-mul-of-pos-right}
-use lib.ListN.{length, getD}
-use Rattle.coding.specs.Lists.{pick}
-use Rattle.coding.specs.Bytes.{le, leBytes, deepest}
+use lib.ListN.{length}
+use Rattle.coding.specs.Bytes.{le, leBytes}
 use Rattle.coding.specs.Schema.{Schema, elementOf, tableOf}
 use Rattle.coding.specs.Layout as L
 use Rattle.coding.specs.Layout.{begin, afterBytes, isBool, fixedSize}
 use Rattle.coding.specs.Step.{elementsSize}
-use Rattle.coding.specs.Walk.{headerSize, magic, rootPlace}
-use Rattle.coding.specs.Value.{Value, Values, blob, row, asBlob, asRow, count}
-use Rattle.coding.specs.Cells.{Slots, width, packBits, layout}
-use Rattle.coding.specs.Cells.Slots.{end, bytes, reference}
-use Rattle.coding.specs.Message.{lengthOf, Planner, objectSlots, membersSlots, elementsSlots, contentSlots, plan, messageOf}
+use Rattle.coding.specs.Walk.{headerSize, magic}
+use Rattle.coding.specs.Value.{Value, asBlob, asRow, count}
+use Rattle.coding.specs.Cells.{width}
+use Rattle.coding.specs.Cells.Slots.{end, bytes}
+use Rattle.coding.specs.Message.{lengthOf, Planner, objectSlots, membersSlots, elementsSlots, contentSlots, plan}
 use Rattle.coding.specs.declared.Object.{Object}
 use Rattle.coding.specs.declared.Object.the-variants as O
 use Rattle.coding.specs.declared.Kind.{Kind}
-use Rattle.coding.specs.declared.Cursor.{Cursor}
-use Rattle.coding.specs.declared.Place.{Place}
-use Rattle.coding.specs.declared.Place.the-variants.{ByOffset, InPlace}
-use Rattle.laws.specs.Sound.{All, KindSound, Sound}
-use Rattle.laws.specs.Bits.{Byte}
-use Rattle.demands.specs.Holds.{Holds, length-leBytes, holds-le, holds-take, leBytes-bytes}
-use Rattle.demands.specs.CellsHold.{CellsHold, length-layout, layout-holds, layout-bytes}
-use Rattle.demands.specs.SlotsHold.{SlotsBytes, SlotsHold, pack-bytes, slots-hold}
-use Rattle.demands.specs.AtCursor.{At, at-fits, at-bytes, at-reference, at-rebase}
+use Rattle.coding.specs.declared.Place.the-variants.{ByOffset}
+use Rattle.laws.specs.Sound.{Sound}
+use Rattle.demands.specs.Holds.{Holds, length-leBytes, holds-le, holds-take}
+use Rattle.demands.specs.AtCursor.{At, at-fits, at-bytes, at-rebase}
 use Rattle.demands.specs.Writes.{Objects, ContentWrites, text, list, table, Writes}
 use Rattle.demands.specs.Writes as W
 use Rattle.demands.specs.TreeHold.{Below, ContentHolds, HoldsTree}
@@ -38,11 +32,11 @@ use Rattle.demands.specs.WrittenTables.{kind-wide, members-end, members-
 use Rattle.demands.specs.WrittenLists.{element-begin, elements-end, elements-hold}
 
 -- a list's elements take at least a bit each
-count-fits-by : (o : ℕ) (S : Schema) (sound : Sound S) (k : Kind) (n l : ℕ) (t : Bool) → isBool k ≡ t → 0 < L.width o S k → elementsSize o S k n ≤ l
+count-fits-by : (o : ℕ) (S : Schema) (k : Kind) (n l : ℕ) (t : Bool) → isBool k ≡ t → 0 < L.width o S k → elementsSize o S k n ≤ l
     → n ≤ 8 * l
 unfolding elementsSize
-count-fits-by o S sound k n l true e w h = let g : (n + 7) / 8 ≤ l = rw e at h in omega arith
-count-fits-by o S sound k n l false e w h =
+count-fits-by o S k n l true e w h = let g : (n + 7) / 8 ≤ l = rw e at h in omega arith
+count-fits-by o S k n l false e w h =
     let g : L.width o S k * n ≤ l = rw e at h in
     omega (arith, le-mul-of-pos-right n w, mul-comm (L.width o S k) n)
 
@@ -72,7 +66,7 @@ module _ (o : ℕ) (S : Schema) (sound : Sound S) (wide : 0 < o) (m : List ℕ) 
         let zero-add : 0 + count vs ≡ count vs = omega arith in
         let ends = rw zero-add at (elements-end o S sound m P start z k vs 0 begin z (element-begin o S k) a) in
         let fits : elementsSize o S k (count vs) ≤ length m = omega arith in
-        let few = count-fits-by o S sound k (count vs) (length m) (isBool k) refl (kind-wide o S sound wide k ok) fits in
+        let few = count-fits-by o S k (count vs) (length m) (isBool k) refl (kind-wide o S sound wide k ok) fits in
         let fits' : start + elementsSize o S k (count vs) ≤ length m = omega arith in
         (T.list refl fits' (elements-hold o S sound m P start z G below inner k ok 0 begin z (element-begin o S k) h a), omega arith)
     content-holds start z (table {i = i} {vs = vs} h) a =
