@@ -9,3 +9,4 @@ pub mod Rules
 pub mod RecordSound
 pub mod Sizes
 pub mod LawfulSound
+pub mod SoundAt
