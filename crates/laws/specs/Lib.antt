@@ -7,3 +7,4 @@ pub mod Rules
 pub mod RecordSound
 pub mod Sizes
 pub mod LawfulSound
+pub mod StructBooleans

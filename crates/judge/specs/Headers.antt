@@ -1,0 +1,21 @@
+-- A header: offset and header fit, magic, and the length that it gives.
+use Prim.Native.Nat.{ℕ, _+_}
+use mathlib.Core.Bool.{_&&_}
+use mathlib.Core.List.{List}
+use lib.ListN.{length}
+use lib.Dec.{leb, eqb}
+use Rattle.coding.specs.Lists.{pick}
+use Rattle.coding.specs.Bytes.{le}
+use Rattle.coding.specs.Schema.{Schema}
+use Rattle.coding.specs.Walk.{headerSize, openContent}
+use Rattle.coding.specs.declared.Object.{Object}
+use Rattle.coding.specs.declared.Opened.{Opened}
+use Rattle.coding.specs.declared.Opened.the-variants as Op
+use Rattle.judge.specs.declared.Header.{Header}
+use Rattle.judge.specs.declared.Header.the-variants as Hd
+
+unfoldable pub headerOf : ℕ → List ℕ → ℕ → ℕ → Header
+headerOf o m magic x =
+    pick (leb (headerSize o) x && leb (x + headerSize o) (length m))
+    (pick (eqb (le m x 4) magic) (Hd.Length (le m (x + 4) o)) (Hd.Refused 7))
+    (Hd.Refused 6)
