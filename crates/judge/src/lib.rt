@@ -21,10 +21,7 @@ ghost use Rattle.coding.specs.Schema as Sc;
 ghost use Rattle.coding.specs.Step as T;
 ghost use Rattle.coding.specs.Walk as W;
 ghost use Rattle.laws.specs.Sound.{ObjectSound, KindSound};
-ghost use Rattle.layout.specs.Bounds.{Laid};
-ghost use Rattle.layout.specs.Ready.{Ready};
-ghost use Rattle.step.specs.Lead as D;
-ghost use Rattle.judge.specs.Headers as H;
+ghost use Rattle.judge.specs.Headers as Hs;
 
 // ---- headers
 // What a header reader finds: a refusal's number, or the length that the header gives.
@@ -34,9 +31,9 @@ pub enum Header {
 }
 
 // A header of ten bytes: a magic and a length of six.
-fn header(m: &[u8], at: usize, magic: u64) -> Header
+fn read_header(m: &[u8], at: usize, magic: u64) -> Header
     requires { ⌜ at < 2 ^ 48 ⌝ }
-    ensures { λ r. ⌜ (r ≡ H.headerOf B.u48 (now (m .entry)) magic at) ⌝ }
+    ensures { λ r. ⌜ (r ≡ Hs.headerOf B.u48 (now (m .entry)) magic at) ⌝ }
 {
     if at < 10 {
         return Header::Refused(6);
@@ -61,9 +58,9 @@ impl TextObject {
 
     pub fn header(m: &[u8], at: usize) -> Header
         requires { ⌜ at < 2 ^ 48 ⌝ }
-        ensures { λ r. ⌜ r ≡ H.headerOf B.u48 (now (m .entry)) 0xD812C8F5 at ⌝ }
+        ensures { λ r. ⌜ r ≡ Hs.headerOf B.u48 (now (m .entry)) 0xD812C8F5 at ⌝ }
     {
-        header(m, at, TextObject::MAGIC)
+        read_header(m, at, TextObject::MAGIC)
     }
 }
 
@@ -78,9 +75,9 @@ impl BytesObject {
 
     pub fn header(m: &[u8], at: usize) -> Header
         requires { ⌜ at < 2 ^ 48 ⌝ }
-        ensures { λ r. ⌜ r ≡ H.headerOf B.u48 (now (m .entry)) 0xDCDBBE10 at ⌝ }
+        ensures { λ r. ⌜ r ≡ Hs.headerOf B.u48 (now (m .entry)) 0xDCDBBE10 at ⌝ }
     {
-        header(m, at, BytesObject::MAGIC)
+        read_header(m, at, BytesObject::MAGIC)
     }
 }
 
@@ -95,9 +92,9 @@ impl ListObject {
 
     pub fn header(m: &[u8], at: usize) -> Header
         requires { ⌜ at < 2 ^ 48 ⌝ }
-        ensures { λ r. ⌜ r ≡ H.headerOf B.u48 (now (m .entry)) 0x3400BB46 at ⌝ }
+        ensures { λ r. ⌜ r ≡ Hs.headerOf B.u48 (now (m .entry)) 0x3400BB46 at ⌝ }
     {
-        header(m, at, ListObject::MAGIC)
+        read_header(m, at, ListObject::MAGIC)
     }
 }
 
@@ -111,8 +108,8 @@ impl TableObject {
 
     pub fn header(m: &[u8], at: usize, id: u64) -> Header
         requires { ⌜ at < 2 ^ 48 ⌝ }
-        ensures { λ r. ⌜ r ≡ H.headerOf B.u48 (now (m .entry)) id at ⌝ }
+        ensures { λ r. ⌜ r ≡ Hs.headerOf B.u48 (now (m .entry)) id at ⌝ }
     {
-        header(m, at, id)
+        read_header(m, at, id)
     }
 }

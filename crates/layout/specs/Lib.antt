@@ -1,3 +1,2 @@
--- What the layout cursor keeps to, and what the code on a schema rests on.
+-- What the layout cursor keeps to.
 pub mod Bounds
-pub mod Ready

@@ -14,6 +14,7 @@ use Rattle.coding.specs.declared.Place.the-variants.{ByOffset, InPlace}
 use Rattle.coding.specs.declared.Step.{Step}
 use Rattle.coding.specs.declared.Step.the-variants as St
 use Rattle.laws.specs.Sound.{ObjectSound}
+use Rattle.layout.specs.Bounds.{Laid}
 use Rattle.step.specs.declared.Reach.{Reach}
 use Rattle.step.specs.declared.Reach.the-variants.{Cut, Past, Here}
 
@@ -30,12 +31,14 @@ leadOf (St.Choice c ob p) = St.Choice c ob p
 unfoldable pub reachIn : ℕ → Slot → Reach → Reach → Reach
 reachIn n slot past here = pick (leb n (slot .at)) past (pick (leb (slot .at + slot .size) n) here Cut)
 
+-- with the flag at the cursor
+unfoldable pub reachFlagged : List ℕ → ℕ → ℕ → Cursor → Slot → Reach
+reachFlagged m start n c slot =
+    pick (leb n (bitByte c)) Past
+    (pick (eqb (bitAt m (start + bitByte c) (bitIndex c)) 1) (reachIn n slot Cut Here) (reachIn n slot Past Past))
+
 unfoldable pub reachOf : List ℕ → ℕ → ℕ → Cursor → Slot → Bool → Reach
-reachOf m start n c slot flag =
-    pick flag
-    (pick (leb n (bitByte c)) Past
-    (pick (eqb (bitAt m (start + bitByte c) (bitIndex c)) 1) (reachIn n slot Cut Here) (reachIn n slot Past Past)))
-    (reachIn n slot Past Here)
+reachOf m start n c slot flag = pick flag (reachFlagged m start n c slot) (reachIn n slot Past Here)
 
 -- the step of a member, by what its value is
 unfoldable pub reached : Reach → Step → Step
@@ -57,3 +60,9 @@ StepSmall S (St.Unknown x) = Unit {0}
 StepSmall S (St.Struct i at) = Unit {0}
 StepSmall S (St.Object ob p) = ObjectSound S ob × PlaceSmall p
 StepSmall S (St.Choice c ob p) = ObjectSound S ob × PlaceSmall p
+
+-- a member's step and the cursor behind it are those of the definition, and the cursor keeps to its bounds
+pub record Stepped (step : Step) (next : Cursor) (e : ℕ) (s : Step) (c : Cursor) : Type 0 where
+  pub step-is : s ≡ step
+  pub next-is : c ≡ next
+  pub laid : Laid (e + 4097) c
