@@ -1,6 +1,6 @@
 -- Whether a member's value is there: the ways out, and what a step is by them.
 use mathlib.Core.Path.{_≡_, refl, sym, ap, _∙_}
-use mathlib.Core.Bool.{Bool, true, false, cond}
+use mathlib.Core.Bool.{Bool, true, false}
 use mathlib.Core.List.{List}
 use Prim.Native.Nat.{ℕ, _+_, _<_, _≤_}
 use native.Mathlib.Omega.{arith}
@@ -98,7 +98,7 @@ here-inside m start n c slot flag g eg e = by flag (sym eg ∙ e)
     by false f = in-inside n slot Past past-here Here f
 
 -- a value's slot has the size of its kind: a bool's bit stands in one byte
-bool-one : (o : ℕ) (S : Schema) (k : Kind) → L.isBool k ≡ true → L.width o S k ≡ 1
+pub bool-one : (o : ℕ) (S : Schema) (k : Kind) → L.isBool k ≡ true → L.width o S k ≡ 1
 unfolding L.isBool L.flatIsBool L.width flatWidth
 bool-one o S (OfFlat F.Boolean) e = refl
 bool-one o S (OfFlat (F.Integer s w)) e = let z : _≡_ {A = ℕ} 0 1 = cc in absurd (omega arith)
@@ -113,7 +113,7 @@ unfolding L.slotOf
 slot-size o S k c = by (L.isBool k) refl
   where
     by : (t : Bool) → L.isBool k ≡ t
-        → pick t (record { at = L.bitByte c; bit = L.bitIndex c; size = 1 }) (record { at = c .end; bit = 0; size = L.width o S k }) .size ≡ L.width o S k
+        → pick {A = Slot} t (record { at = L.bitByte c; bit = L.bitIndex c; size = 1 }) (record { at = c .end; bit = 0; size = L.width o S k }) .size ≡ L.width o S k
     by true e = sym (bool-one o S k e)
     by false e = refl
 

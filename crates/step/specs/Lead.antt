@@ -1,4 +1,5 @@
 -- A step as judging needs it: where it leads, or why it is refused. A value, an unknown number and a struct lead nowhere.
+use mathlib.Core.Path.{_≡_}
 use Prim.Native.Nat.{ℕ, _+_, _^_, _<_, _≤_}
 use mathlib.Core.Bool.{Bool, true, false}
 use mathlib.Core.List.{List}
