@@ -27,6 +27,12 @@ pub fn wide(x: u8) -> u64
     x as u64
 }
 
+pub fn index(x: u8) -> usize
+    ensures { λ r. ⌜ (r ≡ x) × (r < 256) ⌝ }
+{
+    x as usize
+}
+
 // ---- numbers whose bytes are there
 pub fn u8_in(m: &[u8], at: usize) -> u64
     requires { ⌜ at + 1 ≤ length (now m) ⌝ }

@@ -1,3 +1,0 @@
-pub mod HeaderCases
-pub mod WalkCases
-pub mod OpenCases

@@ -1,3 +1,0 @@
-pub mod ReachCases
-pub mod StepCases
-pub mod LeadCases
