@@ -1,8 +1,8 @@
 -- A lawful schema is sound: what the rules say of the packed bytes holds of the typed schema.
-use mathlib.Core.Path.{_≡_, refl, sym, ap, _∙_}
+use mathlib.Core.Path.{_≡_, refl, sym, _∙_}
 use mathlib.Core.Bool.{Bool, true, false}
-use mathlib.Core.List.{List, [], _∷_}
-use Prim.Native.Nat.{ℕ, zero, suc, _+_, _*_, _^_, _<_, _≤_}
+use mathlib.Core.List.{List}
+use Prim.Native.Nat.{ℕ, zero, suc, _+_, _^_, _<_, _≤_}
 use native.Mathlib.Numerals.{add-one}
 use native.Mathlib.Nat.{add-zero}
 use native.Mathlib.Omega.{arith}
@@ -14,12 +14,8 @@ use Rattle.coding.specs.Packed as P
 use Rattle.coding.specs.Lawful as L
 use Rattle.coding.specs.Schema as Sc
 use Rattle.coding.specs.Structs.{structSize, byIndex, sizeBy, total}
-use Rattle.coding.specs.declared.Flat.{Flat}
-use Rattle.coding.specs.declared.Object.{Object}
-use Rattle.coding.specs.declared.Kind.{Kind}
-use Rattle.coding.specs.declared.Member.{Member}
-use Rattle.coding.specs.declared.Role.the-variants.{InStruct, InList, InUnion, InTable}
-use Rattle.laws.specs.Sound.{All, FlatSound, ObjectSound, KindSound, NoStruct, MemberSound, inplaceCount, TableSound, StructSound, UnionSound, ListSound, Sound}
+use Rattle.coding.specs.declared.Role.the-variants.{InStruct, InUnion, InTable}
+use Rattle.laws.specs.Sound.{All, FlatSound, ObjectSound, MemberSound, inplaceCount, TableSound, StructSound, UnionSound, ListSound, Sound}
 use Rattle.laws.specs.Lists.{run-all}
 use Rattle.laws.specs.Parsed as Pa
 use Rattle.laws.specs.Rules as R

@@ -1,9 +1,9 @@
 -- What the rules of one record say of the record as it is read.
-use mathlib.Core.Path.{_≡_, refl, sym, ap, _∙_}
-use mathlib.Core.Bool.{Bool, true, false, _&&_, not}
-use mathlib.Core.List.{List, []}
+use mathlib.Core.Path.{_≡_, refl}
+use mathlib.Core.Bool.{Bool, true, false, _&&_}
+use mathlib.Core.List.{List}
 use mathlib.Core.Logic.{_⊎_, inl, inr}
-use Prim.Native.Nat.{ℕ, _+_, _*_, _<_, _≤_}
+use Prim.Native.Nat.{ℕ, _+_, _<_, _≤_}
 use native.Mathlib.Omega.{arith}
 use lib.ListN.{length, getD}
 use lib.Dec.{eqb, ltb, leb}
@@ -11,7 +11,6 @@ use borrow.Author.Tests.{leb-true, ltb-true, eqb-true, ltb-false, eqb-false, eq-
 use Rattle.coding.specs.Lists.{pick, every}
 use Rattle.coding.specs.Packed as P
 use Rattle.coding.specs.Lawful as L
-use Rattle.coding.specs.Schema.{Schema}
 use Rattle.coding.specs.declared.Flat.{Flat}
 use Rattle.coding.specs.declared.Flat.the-variants.{Boolean, Integer, Float, Enumerated, Struct}
 use Rattle.coding.specs.declared.Object.{Object}

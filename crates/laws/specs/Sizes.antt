@@ -1,10 +1,10 @@
 -- Struct sizes: the size of a struct is the total of its members' widths, by the sizes themselves.
-use mathlib.Core.Path.{_≡_, refl, sym, ap, ap₂, _∙_}
+use mathlib.Core.Path.{_≡_, refl, ap₂}
 use mathlib.Core.List.{List, [], _∷_}
-use mathlib.Core.Logic.{_⊎_, inl, inr}
-use Prim.Native.Nat.{ℕ, zero, suc, _+_, _<_, _≤_}
+use mathlib.Core.Logic.{inl, inr}
+use Prim.Native.Nat.{ℕ, _+_, _<_}
 use native.Mathlib.Omega.{arith}
-use lib.ListN.{length, getD}
+use lib.ListN.{length}
 use Rattle.coding.specs.Schema.{Schema, structOf}
 use Rattle.coding.specs.Structs.{lower, byIndex, flatWidth, total, sizeBy, structSize}
 use Rattle.coding.specs.declared.Flat.{Flat}

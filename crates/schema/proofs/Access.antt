@@ -1,5 +1,5 @@
 -- What stands at the directory's places is what the typed schema has there.
-use mathlib.Core.Path.{_≡_, refl, sym, ap, _∙_}
+use mathlib.Core.Path.{_≡_, sym, ap, _∙_}
 use mathlib.Core.List.{List}
 use Prim.Native.Nat.{ℕ, _+_, _-_, _*_, _<_, _≤_}
 use native.Mathlib.Omega.{arith}
@@ -13,7 +13,7 @@ use Rattle.coding.specs.declared.Kind.{Kind}
 use Rattle.coding.specs.declared.Member.{Member}
 use Rattle.laws.specs.Parsed as Pa
 use Rattle.laws.specs.Rules.{struct-small}
-use Rattle.schema.specs.Directory.{Directory, Block, Accepted}
+use Rattle.schema.specs.Directory.{Block, Accepted}
 
 module _ (b : List ℕ) (i at : ℕ) where
   -- ---- a struct's fields

@@ -1,22 +1,20 @@
 -- Struct sizes: one lemma for each way out of the code, and what is left of a struct's total.
-use mathlib.Core.Path.{_≡_, refl, sym, ap, _∙_}
-use mathlib.Core.Bool.{Bool, true, false}
-use mathlib.Core.List.{List, [], _∷_}
-use Prim.Native.Nat.{ℕ, zero, suc, _+_, _-_, _*_, _<_, _≤_}
+use mathlib.Core.Path.{_≡_, refl, sym, _∙_}
+use mathlib.Core.Bool.{Bool}
+use mathlib.Core.List.{List}
+use Prim.Native.Nat.{ℕ, zero, suc, _+_, _<_, _≤_}
 use native.Mathlib.Numerals.{add-one}
 use native.Mathlib.Omega.{arith}
 use lib.ListN.{length, getD, drop, drop-of-length-le}
 use lib.Seq.{drop-cons}
-use lib.Dec.{eqb}
 use borrow.Author.Tests.{ne-eqb}
-use Rattle.coding.specs.Lists.{pick}
 use Rattle.coding.specs.Packed as P
 use Rattle.coding.specs.Schema as Sc
 use Rattle.coding.specs.Structs as S
 use Rattle.coding.specs.declared.Flat.{Flat}
 use Rattle.coding.specs.declared.Flat.the-variants.{Boolean, Integer, Float, Enumerated, Struct}
 use Rattle.laws.specs.Structs.{lower-is}
-use Rattle.schema.specs.Directory.{Directory, Sizes, SmallBelow}
+use Rattle.schema.specs.Directory.{Sizes, SmallBelow}
 
 -- an index that is not lower counts nothing
 lower-past : {A : Type 0} (z : A) (f : (ℕ → A) → ℕ → A) (n j : ℕ) → n ≤ j → S.lower z f n j ≡ z

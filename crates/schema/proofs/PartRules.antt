@@ -1,22 +1,20 @@
 -- The rules of lists, unions and tables, and the whole schema: one lemma for each way out of the code.
 use mathlib.Core.Path.{_≡_, refl, sym, ap, _∙_}
-use mathlib.Core.Bool.{Bool, true, false, _&&_, and-false, not}
-use mathlib.Core.List.{List, [], _∷_}
-use Prim.Native.Nat.{ℕ, zero, suc, _+_, _-_, _*_, _/_, _%_, _<_, _≤_}
+use mathlib.Core.Bool.{Bool, true, false, _&&_, not}
+use mathlib.Core.List.{List}
+use Prim.Native.Nat.{ℕ, _+_, _<_, _≤_}
 use native.Mathlib.Omega.{arith}
-use lib.ListN.{length, getD}
-use lib.Dec.{eqb, ltb, leb}
+use lib.ListN.{getD}
+use lib.Dec.{leb}
 use borrow.Author.Tests.{not-true, not-false, eq-eqb, ne-eqb}
-use Rattle.coding.specs.Lists.{pick, every}
+use Rattle.coding.specs.Lists.{every}
 use Rattle.coding.specs.Packed as P
 use Rattle.coding.specs.Lawful as L
-use Rattle.coding.specs.Structs as S
-use Rattle.coding.specs.declared.Role.{Role}
-use Rattle.coding.specs.declared.Role.the-variants.{InStruct, InList, InUnion, InTable}
+use Rattle.coding.specs.declared.Role.the-variants.{InList, InUnion, InTable}
 use Rattle.laws.specs.Lists.{every-none, every-more, every-fail, never}
 use Rattle.schema.specs.declared.Part.{Part}
 use Rattle.schema.specs.declared.Part.the-variants.{Lists, Unions, Tables, Ids}
-use Rattle.schema.specs.Directory.{Directory, Placed, Block, StructsJudged, Sizes, Accepted, Judged}
+use Rattle.schema.specs.Directory.{Directory, Placed, Block, StructsJudged, Judged}
 use Rattle.schema.specs.Parts as Pa
 
 module _ (b : List ℕ) (i at : ℕ) where

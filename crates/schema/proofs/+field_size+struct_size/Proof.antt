@@ -5,7 +5,7 @@ use Rattle.coding.specs.Packed as P
 use mathlib.Core.Path.{_≡_}
 use native.Mathlib.Omega.{arith}
 use Rattle.schema.proofs.FieldSizes.{size-1, size-2, size-3, size-4, size-5, size-5-small, size-6, size-known, rest, rest-all, rest-more, rest-done, smaller}
-use Prim.Native.Nat.{ℕ, _+_, _-_, _*_, _≤_}
+use Prim.Native.Nat.{ℕ, _+_, _-_, _*_, _<_, _≤_}
 use borrow.Fn.Kinds.{In}
 use borrow.Fn.PlainCycle.{Measures, is, falls, and}
 use Rattle.schema.proofs.field_size.Reads as field-size
