@@ -1,0 +1,3 @@
+pub mod ReachCases
+pub mod StepCases
+pub mod LeadCases
