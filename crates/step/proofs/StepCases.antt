@@ -178,3 +178,13 @@ element-inside S k start n i h = by (L.isBool k) refl
         → pick t (start + i / 8) (start + L.width u48 S k * i) + L.width u48 S k ≤ start + pick t ((n + 7) / 8) (L.width u48 S k * n)
     by true e = omega (arith, bool-one u48 S k e, bool-inside i n h)
     by false e = omega (arith, other-inside (L.width u48 S k) i n h)
+
+-- ---- NaN
+module _ (w x : ℕ) (r : Bool) where
+  pub nan-four : w ≡ 4 → r ≡ ltb 0x7F80_0000 (x % 0x8000_0000) → r ≡ isNaN w x
+  unfolding isNaN
+  nan-four h e = simp (eq-eqb _ _ h) e
+
+  pub nan-eight : (w ≡ 4 → ⊥) → r ≡ ltb 0x7FF0_0000_0000_0000 (x % 0x8000_0000_0000_0000) → r ≡ isNaN w x
+  unfolding isNaN
+  nan-eight h e = simp (ne-eqb _ _ h) e
