@@ -1,6 +1,8 @@
 -- Laws of the definitions in `coding` that more than one crate cites.
 pub mod Structs
 pub mod Sound
+pub mod All
+pub mod Bits
 pub mod Lists
 pub mod Parsed
 pub mod Rules
@@ -8,3 +10,4 @@ pub mod RecordSound
 pub mod Sizes
 pub mod LawfulSound
 pub mod StructBooleans
+pub mod SoundAt

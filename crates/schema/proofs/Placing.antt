@@ -78,10 +78,10 @@ module _ (b : List ℕ) (ns nl nu nt : ℕ) (es : ns ≡ P.structCount b) (el : 
           fewLists = omega arith;
           fewUnions = omega arith;
           fewTables = omega arith;
-          structs = λ i m. v .kept (0 + i) (omega arith) ∙ u .kept (0 + i) (omega arith) ∙ ap (λ (l : List ℕ). getD l (0 + i) 0) e₂ ∙ getD-set-other d₁ 64 (0 + i) p 0 (λ w. omega arith) ∙ s .there (omega arith) i (omega arith);
+          structs = λ i m. v .kept (0 + i) (omega arith) ∙ u .kept (0 + i) (omega arith) ∙ ap (λ (l : List ℕ). getD l (0 + i) 0) e₂ ∙ getD-set-other d₁ 64 (0 + i) p 0 (λ w. omega arith) ∙ s .entries (omega arith) i (omega arith);
           lists = v .kept 64 (omega arith) ∙ u .kept 64 (omega arith) ∙ ap (λ (l : List ℕ). getD l 64 0) e₂ ∙ getD-set-same d₁ 64 p 0 (omega arith) ∙ rw (← es) (ends b 0 1 32 5 ns 0 d₀ d₁ p s f);
-          unions = λ i m. v .kept (128 + i) (omega arith) ∙ u .there (omega arith) i (omega arith) ∙ rw (← lists-at);
-          tables = λ i m. v .there (omega arith) i (omega arith) ∙ rw (← tables-at);
+          unions = λ i m. v .kept (128 + i) (omega arith) ∙ u .entries (omega arith) i (omega arith) ∙ rw (← lists-at);
+          tables = λ i m. v .entries (omega arith) i (omega arith) ∙ rw (← tables-at);
         }
 
         pub places-4 : Placed b d₄ (L.placesOk b) (eqb e (length b))

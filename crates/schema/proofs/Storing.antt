@@ -21,28 +21,28 @@ pub record Storing (b : List ℕ) (base n head low high start : ℕ) (d₀ d : L
   pub bound : at ≤ start + 133 * i
   pub long : length d ≡ 320
   pub good : L.blocksOk b head low high start i ≡ true
-  pub there : (k : ℕ) → k < i → getD d (base + k) 0 ≡ P.blocks b head start k
+  pub entries : (k : ℕ) → k < i → getD d (base + k) 0 ≡ P.blocks b head start k
   pub kept : (k : ℕ) → k < base → getD d k 0 ≡ getD d₀ k 0
 
 module _ (b : List ℕ) (base n head low high start : ℕ) (d₀ : List ℕ) where
   pub begins : length d₀ ≡ 320 → Storing b base n head low high start d₀ d₀ start 0
   unfolding L.blocksOk P.blocks
-  begins l = record { in-range = omega arith; here = refl; bound = omega arith; long = l; good = every-none _; there = λ k m. absurd (omega arith); kept = λ k m. refl }
+  begins l = record { in-range = omega arith; here = refl; bound = omega arith; long = l; good = every-none _; entries = λ k m. absurd (omega arith); kept = λ k m. refl }
 
   module _ (d d′ : List ℕ) (at i c : ℕ) (g : Storing b base n head low high start d₀ d at i) (l : i < n) (room : base ≤ 192) (few : n ≤ 64)
       (ed : d′ ≡ set d (base + i) at) (ec : c ≡ P.records b head at) where
     store-kept : (k : ℕ) → k < base → getD d′ k 0 ≡ getD d₀ k 0
     store-kept k m = ap (λ (l : List ℕ). getD l k 0) ed ∙ getD-set-other d (base + i) k at 0 (λ e. omega arith) ∙ g .kept k m
 
-    store-there : (k : ℕ) → k < i + 1 → getD d′ (base + k) 0 ≡ P.blocks b head start k
-    store-there =
+    store-entries : (k : ℕ) → k < i + 1 → getD d′ (base + k) 0 ≡ P.blocks b head start k
+    store-entries =
         let f : base + i < length d = omega (arith, g .long) in
         below-more (λ (k : ℕ). getD d′ (base + k) 0 ≡ P.blocks b head start k) i
-        (λ k m. ap (λ (l : List ℕ). getD l (base + k) 0) ed ∙ getD-set-other d (base + i) (base + k) at 0 (λ q. omega arith) ∙ g .there k m)
+        (λ k m. ap (λ (l : List ℕ). getD l (base + k) 0) ed ∙ getD-set-other d (base + i) (base + k) at 0 (λ q. omega arith) ∙ g .entries k m)
         (ap (λ (l : List ℕ). getD l (base + i) 0) ed ∙ getD-set-same d (base + i) at 0 f ∙ g .here)
 
     refused : L.blocksOk b head low high start n ≡ false → Stored b head low high start n base d₀ d′ 0
-    refused e = record { is = simp e; there = λ h. absurd (omega arith); kept = store-kept }
+    refused e = record { is = simp e; entries = λ h. absurd (omega arith); kept = store-kept }
 
     pub too-low : c < low → Stored b head low high start n base d₀ d′ 0
     unfolding L.blocksOk
@@ -61,11 +61,11 @@ module _ (b : List ℕ) (base n head low high start : ℕ) (d₀ : List ℕ) whe
         bound = omega (arith, g .bound);
         long = ap length ed ∙ simp length-set (g .long);
         good = every-more _ i (g .good) (simp (← (g .here), ← ec, le-leb _ _ lo, le-leb _ _ hi));
-        there = store-there;
+        entries = store-entries;
         kept = store-kept;
       }
 
   pub done : (d : List ℕ) (at i : ℕ) → Storing b base n head low high start d₀ d at i → n ≤ i → Stored b head low high start n base d₀ d at
   done d at i g l =
       let z : i ≡ n = omega (arith, g .in-range) in
-      record { is = rw (← z) (simp (g .good) (g .here)); there = λ h k m. g .there k (omega arith); kept = g .kept }
+      record { is = rw (← z) (simp (g .good) (g .here)); entries = λ h k m. g .entries k (omega arith); kept = g .kept }

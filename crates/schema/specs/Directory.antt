@@ -14,7 +14,7 @@ use Rattle.laws.specs.LawfulSound.{lawful-sound}
 -- n blocks were gone over, and their places stored from `base` on
 pub record Stored (b : List ℕ) (head low high start n base : ℕ) (before now : List ℕ) (r : ℕ) : Type 0 where
   pub is : r ≡ pick (blocksOk b head low high start n) (blocks b head start n) 0
-  pub there : 0 < r → (i : ℕ) → i < n → getD now (base + i) 0 ≡ blocks b head start i
+  pub entries : 0 < r → (i : ℕ) → i < n → getD now (base + i) 0 ≡ blocks b head start i
   pub kept : (k : ℕ) → k < base → getD now k 0 ≡ getD before k 0
 
 -- structs from 0, the first list's place at 64, unions from 128, tables from 192
