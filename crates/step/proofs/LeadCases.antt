@@ -2,7 +2,7 @@
 use mathlib.Core.Path.{_≡_, refl, sym, ap, _∙_, subst}
 use mathlib.Core.Bool.{Bool, true, false}
 use mathlib.Core.List.{List}
-use Prim.Native.Nat.{ℕ, _+_, _^_, _<_, _≤_}
+use Prim.Native.Nat.{ℕ, pred, _+_, _^_, _<_, _≤_}
 use native.Mathlib.Omega.{arith}
 use lib.ListN.{length, getD}
 use lib.Dec.{eqb, leb, ltb}
@@ -11,6 +11,7 @@ use Rattle.coding.specs.Lists.{pick}
 use Rattle.coding.specs.Bytes.{le, isNaN, u48}
 use Rattle.coding.specs.Schema as Sc
 use Rattle.coding.specs.Schema.{Schema}
+use Rattle.coding.specs.Packed as P
 use Rattle.coding.specs.Step as T
 use Rattle.coding.specs.Structs.{structOk}
 use Rattle.coding.specs.declared.Flat.{Flat}
@@ -22,8 +23,9 @@ use Rattle.coding.specs.declared.Kind.the-variants.{OfFlat, OfObject, OfUnion}
 use Rattle.coding.specs.declared.Place.the-variants.{ByOffset, InPlace}
 use Rattle.coding.specs.declared.Step.{Step}
 use Rattle.coding.specs.declared.Step.the-variants as St
-use Rattle.laws.specs.Sound.{ObjectSound, Sound}
+use Rattle.laws.specs.Sound.{ObjectSound}
 use Rattle.laws.specs.Lists.{all-at}
+use Rattle.schema.specs.Directory.{Accepted, accepted-sound}
 use Rattle.wire.specs.Numbers.{Number}
 use Rattle.step.specs.declared.Reach.{Reach}
 use Rattle.step.specs.declared.Reach.the-variants.{Cut, Past, Here}
@@ -101,12 +103,12 @@ module _ (cases : List Object) (inplace : Bool) (tail c x : ℕ) where
       lead-choice-offset e = simp (ne-eqb _ _ h, ← en, le-leb _ _ l, ← eo, e)
 
 -- the object of a known choice has an index in range
-pub case-sound : (S : Schema) → Sound S → (u c : ℕ) → (c ≡ 0 → ⊥) → c ≤ length (Sc.casesOf S u) → (ob : Object) → ob ≡ Sc.caseOf (Sc.casesOf S u) c
-    → ObjectSound S ob
+pub case-sound : (b dir : List ℕ) → Accepted b dir → (u c n : ℕ) → (c ≡ 0 → ⊥) → n ≡ length (Sc.casesOf (P.parse b) u) → c ≤ n
+    → (ob : Object) → ob ≡ Sc.caseOf (Sc.casesOf (P.parse b) u) c → ObjectSound (P.parse b) ob
 unfolding Sc.caseOf
-case-sound S s u c h l ob e =
-    let q : Prim.Native.Nat.pred c < length (Sc.casesOf S u) = omega arith in
-    rw e (all-at (ObjectSound S) O.Text (Sc.casesOf S u) (Prim.Native.Nat.pred c) (s .unions u .cases) q)
+case-sound b dir a u c n h en l ob e =
+    let q : pred c < length (Sc.casesOf (P.parse b) u) = omega arith in
+    rw e (all-at (ObjectSound (P.parse b)) O.Text (Sc.casesOf (P.parse b) u) (pred c) (accepted-sound b dir a .unions u .cases) q)
 
 -- ---- by the kind
 module _ (S : Schema) (m : List ℕ) (k : Kind) (none inplace : Bool) (tail at bit : ℕ) (r : Step) where

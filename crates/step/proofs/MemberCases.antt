@@ -48,7 +48,7 @@ module _ (S : Schema) (m : List ℕ) (start n : ℕ) (c : Cursor) (r : Member) (
   module _ (e : g ≡ Cut) where
     cut-is : reached g here ≡ St.Refused 8
     unfolding reached
-    cut-is = rw e
+    cut-is = ap (λ (q : Reach). reached q here) e
 
     pub step-cut : Stepped (T.memberStep u48 S m start n c r) (L.afterMember u48 S r c) (c .end) (St.Refused 8) next
     step-cut = stepped (λ (s : Step). s) (St.Refused 8) (sym cut-is)
@@ -60,7 +60,7 @@ module _ (S : Schema) (m : List ℕ) (start n : ℕ) (c : Cursor) (r : Member) (
   module _ (e : g ≡ Past) where
     past-is : reached g here ≡ St.Absent
     unfolding reached
-    past-is = rw e
+    past-is = ap (λ (q : Reach). reached q here) e
 
     pub step-past : Stepped (T.memberStep u48 S m start n c r) (L.afterMember u48 S r c) (c .end) St.Absent next
     step-past = stepped (λ (s : Step). s) St.Absent (sym past-is)
@@ -72,7 +72,7 @@ module _ (S : Schema) (m : List ℕ) (start n : ℕ) (c : Cursor) (r : Member) (
   module _ (e : g ≡ Here) where
     here-is : reached g here ≡ here
     unfolding reached
-    here-is = rw e
+    here-is = ap (λ (q : Reach). reached q here) e
 
     -- the code's place of the value
     here-at : here ≡ T.valueStep u48 S m (r .kind) (r .optional) (r .inplace) (start + n) (start + slot .at) (slot .bit)

@@ -40,11 +40,11 @@ module _ (n : ℕ) (slot : Slot) (past here : Reach) where
     unfolding reachIn
     in-cut l = simp (lt-leb _ _ h, lt-leb _ _ l)
 
-module _ (m : List ℕ) (start n : ℕ) (c : Cursor) (slot : Slot) (r : Reach) (at : ℕ) (ea : at ≡ L.bitByte c) where
-  pub flag-past : n ≤ at → Past ≡ reachFlagged m start n c slot
-  unfolding reachFlagged
-  flag-past h = simp (← ea, le-leb _ _ h)
+pub flag-past : (m : List ℕ) (start n : ℕ) (c : Cursor) (slot : Slot) (at : ℕ) → at ≡ L.bitByte c → n ≤ at → Past ≡ reachFlagged m start n c slot
+unfolding reachFlagged
+flag-past m start n c slot at ea h = simp (← ea, le-leb _ _ h)
 
+module _ (m : List ℕ) (start n : ℕ) (c : Cursor) (slot : Slot) (r : Reach) (at : ℕ) (ea : at ≡ L.bitByte c) where
   module _ (h : at < n) (k : ℕ) (ek : k ≡ L.bitIndex c) (t : Bool) (et : t ≡ eqb (bitAt m (start + at) k) 1) where
     pub flag-set : t ≡ true → r ≡ reachIn n slot Cut Here → r ≡ reachFlagged m start n c slot
     unfolding reachFlagged
@@ -128,8 +128,10 @@ step-reached o S m start n c r =
   where
     slot : Slot
     slot = L.memberSlot o S r c
+
     here : Step
     here = T.valueStep o S m (r .kind) (r .optional) (r .inplace) (start + n) (start + slot .at) (slot .bit)
+
     by : (t u v w x : Bool)
         → pick t
         (pick u St.Absent (pick v (pick w (St.Refused 8) (pick x here (St.Refused 8))) (pick w St.Absent (pick x St.Absent (St.Refused 8)))))

@@ -25,6 +25,7 @@ use Rattle.coding.specs.declared.Place.the-variants.{ByOffset, InPlace}
 use Rattle.coding.specs.declared.Step.{Step}
 use Rattle.coding.specs.declared.Step.the-variants as St
 use Rattle.wire.specs.Numbers.{Number}
+use Rattle.step.specs.Lead.{leadOf}
 use Rattle.step.proofs.ReachCases.{bool-one}
 
 -- ---- references
@@ -90,17 +91,17 @@ module _ (none : Bool) (w x : ℕ) where
     unfolding T.floatStep
     float-value f = simp (e, ← et, f)
 
-module _ (S : Schema) (m : List ℕ) (i at : ℕ) (t : Bool) (et : t ≡ structOk S m i at) where
+module _ (S : Schema) (m : List ℕ) (i j at : ℕ) (ej : j ≡ i) (t : Bool) (et : t ≡ structOk S m j at) where
   pub struct-good : t ≡ true → St.Struct i at ≡ T.structStep S m i at
   unfolding T.structStep
-  struct-good f = simp (← et, f)
+  struct-good f = simp (← ej, ← et, f)
 
   pub struct-bad : t ≡ false → St.Refused 10 ≡ T.structStep S m i at
   unfolding T.structStep
-  struct-bad f = simp (← et, f)
+  struct-bad f = simp (← ej, ← et, f)
 
 -- ---- by the kind
-module _ (S : Schema) (m : List ℕ) (k : Flat) (none : Bool) (at bit : ℕ) (r : Step) where
+module _ (S : Schema) (m : List ℕ) (k : Flat) (none : Bool) (at bit : ℕ) where
   pub flat-boolean : k ≡ F.Boolean → (x y : ℕ) → y ≡ getD m at 0 → x ≡ y / 2 ^ bit % 2 → St.Value x ≡ T.flatStep S m k none at bit
   unfolding T.flatStep bitAt
   flat-boolean e x y ey ex = rw e (simp (ex, ey))
@@ -109,6 +110,7 @@ module _ (S : Schema) (m : List ℕ) (k : Flat) (none : Bool) (at bit : ℕ) (r 
   unfolding T.flatStep
   flat-integer s w e v x ev n = rw e (simp (← ev, ← (n .is)))
 
+module _ (S : Schema) (m : List ℕ) (k : Flat) (none : Bool) (at bit : ℕ) (r : Step) where
   pub flat-float : (w : ℕ) → k ≡ F.Float w → (v x : ℕ) → v ≡ w → Number m at v x → r ≡ T.floatStep none w x → r ≡ T.flatStep S m k none at bit
   unfolding T.flatStep
   flat-float w e v x ev n f = rw e (f ∙ ap (T.floatStep none w) (n .is ∙ ap (le m at) ev))
@@ -155,9 +157,9 @@ module _ (S : Schema) (k : Kind) (start i : ℕ) (t : Bool) (et : t ≡ L.isBool
   unfolding T.elementPlace
   place-bool f x e = simp (← et, f, e)
 
-  pub place-other : t ≡ false → (w : ℕ) → w ≡ L.width u48 S k → start + w * i ≡ T.elementPlace u48 S k start i
+  pub place-other : t ≡ false → (w : ℕ) → w ≡ L.width u48 S k → (x : ℕ) → x ≡ w * i → start + x ≡ T.elementPlace u48 S k start i
   unfolding T.elementPlace
-  place-other f w e = simp (← et, f, e)
+  place-other f w e x ex = simp (← et, f, ex, e)
 
 bool-inside : (i n : ℕ) → i < n → i / 8 + 1 ≤ (n + 7) / 8
 bool-inside i n h = omega arith
@@ -188,3 +190,20 @@ module _ (w x : ℕ) (r : Bool) where
   pub nan-eight : (w ≡ 4 → ⊥) → r ≡ ltb 0x7FF0_0000_0000_0000 (x % 0x8000_0000_0000_0000) → r ≡ isNaN w x
   unfolding isNaN
   nan-eight h e = simp (ne-eqb _ _ h) e
+
+-- ---- an element's value, where the code reads it
+module _ (S : Schema) (m : List ℕ) (k : Kind) (start n i at : ℕ) (ea : at ≡ T.elementPlace u48 S k start i) where
+  pub element-there : (c : ℕ) → start + T.elementsSize u48 S k n ≤ c → i < n → at + L.width u48 S k ≤ c
+  element-there c h l = omega (arith, element-inside S k start n i l)
+
+  pub element-low : (c : ℕ) → start + T.elementsSize u48 S k n ≤ c → i < n → c ≤ 16777215 → at < 2 ^ 60
+  element-low c h l z = omega (arith, element-inside S k start n i l)
+
+module _ (S : Schema) (m : List ℕ) (k : Kind) (start i at : ℕ) (ea : at ≡ T.elementPlace u48 S k start i) (bit : ℕ) (eb : bit ≡ i % 8) (r : Step) where
+  pub element-value : r ≡ T.valueStep u48 S m k true false 0 at bit → r ≡ T.elementStep u48 S m k start i
+  unfolding T.elementStep
+  element-value e = simp (← ea, ← eb) e
+
+  pub element-leads : r ≡ leadOf (T.valueStep u48 S m k true false 0 at bit) → r ≡ leadOf (T.elementStep u48 S m k start i)
+  unfolding T.elementStep
+  element-leads e = simp (← ea, ← eb) e

@@ -97,7 +97,11 @@ fn union_step(b: &[u8], dir: &[u16], u: usize, inplace: bool, tail: usize, c: u1
     }
     let n = c as usize;
     if n <= schema::case_count(b, dir, u) {
-        return Step::Choice(c, schema::union_case(b, dir, u, n), place_of(inplace, tail, x));
+        return Step::Choice(
+            c,
+            schema::union_case(b, dir, u, n),
+            place_of(inplace, tail, x),
+        );
     }
     Step::Unknown(c)
 }
@@ -161,7 +165,17 @@ fn flat_step(b: &[u8], dir: &[u16], m: &[u8], k: Flat, none: bool, at: usize, bi
 }
 
 // What stands at a place of the message (and a bit of it, for a bool). `none`: a NaN is no value.
-fn value_step(b: &[u8], dir: &[u16], m: &[u8], k: Kind, none: bool, inplace: bool, tail: usize, at: usize, bit: usize) -> Step
+fn value_step(
+    b: &[u8],
+    dir: &[u16],
+    m: &[u8],
+    k: Kind,
+    none: bool,
+    inplace: bool,
+    tail: usize,
+    at: usize,
+    bit: usize,
+) -> Step
     requires { ⌜ (Accepted (now b) (now dir)) × (KindSound (P.parse (now b)) k) ⌝ }
     requires { ⌜ (at + L.width B.u48 (P.parse (now b)) k ≤ length (now m)) × (bit < 8) × (at < 2 ^ 60) ⌝ }
     ensures { λ r. ⌜ r ≡ T.valueStep B.u48 (P.parse (now (b .entry))) (now (m .entry)) k none inplace tail at bit ⌝ }
@@ -214,7 +228,15 @@ fn object_lead(b: &[u8], ob: Object, inplace: bool, tail: usize, x: usize) -> St
     Step::Object(ob, Place::ByOffset(x))
 }
 
-fn union_lead(b: &[u8], dir: &[u16], u: usize, inplace: bool, tail: usize, c: usize, x: usize) -> Step
+fn union_lead(
+    b: &[u8],
+    dir: &[u16],
+    u: usize,
+    inplace: bool,
+    tail: usize,
+    c: usize,
+    x: usize,
+) -> Step
     requires { ⌜ (Accepted (now b) (now dir)) × (u < P.unionCount (now b)) × (tail < 2 ^ 48) × (x < 2 ^ 48) × (c < 2 ^ 16) ⌝ }
     ensures { λ r. ⌜ (r ≡ D.leadOf (T.unionStep (Sc.casesOf (P.parse (now (b .entry))) u) inplace tail c x)) × D.StepSmall (P.parse (now (b .entry))) r ⌝ }
 {
@@ -231,7 +253,17 @@ fn union_lead(b: &[u8], dir: &[u16], u: usize, inplace: bool, tail: usize, c: us
     Step::Choice(c as u16, ob, Place::ByOffset(x))
 }
 
-fn value_lead(b: &[u8], dir: &[u16], m: &[u8], k: Kind, none: bool, inplace: bool, tail: usize, at: usize, bit: usize) -> Step
+fn value_lead(
+    b: &[u8],
+    dir: &[u16],
+    m: &[u8],
+    k: Kind,
+    none: bool,
+    inplace: bool,
+    tail: usize,
+    at: usize,
+    bit: usize,
+) -> Step
     requires { ⌜ (Accepted (now b) (now dir)) × (KindSound (P.parse (now b)) k) × (tail < 2 ^ 48) ⌝ }
     requires { ⌜ (at + L.width B.u48 (P.parse (now b)) k ≤ length (now m)) × (at < 2 ^ 60) ⌝ }
     ensures { λ r. ⌜ (r ≡ D.leadOf (T.valueStep B.u48 (P.parse (now (b .entry))) (now (m .entry)) k none inplace tail at bit)) × D.StepSmall (P.parse (now (b .entry))) r ⌝ }
@@ -259,7 +291,15 @@ pub struct SteppedMember {
 }
 
 // What member r holds, where the cursor stands, of a table whose fixed part has n bytes from `start`.
-pub fn member_step(b: &[u8], dir: &[u16], m: &[u8], start: usize, n: usize, c: Cursor, r: Member) -> SteppedMember
+pub fn member_step(
+    b: &[u8],
+    dir: &[u16],
+    m: &[u8],
+    start: usize,
+    n: usize,
+    c: Cursor,
+    r: Member,
+) -> SteppedMember
     requires { ⌜ (Accepted (now b) (now dir)) × (MemberSound (P.parse (now b)) r) × (start + n ≤ length (now m)) × (length (now m) ≤ 16777215) ⌝ }
     requires { ⌜ (c .byte ≤ c .end) × (c .bit ≤ 8) × (c .end < 2 ^ 58) ⌝ }
     ensures { λ q. ⌜ D.Stepped (T.memberStep B.u48 (P.parse (now (b .entry))) (now (m .entry)) start n c r) (L.afterMember B.u48 (P.parse (now (b .entry))) r c) (c .end) (q .step) (q .next) ⌝ }
@@ -278,14 +318,32 @@ pub fn member_step(b: &[u8], dir: &[u16], m: &[u8], start: usize, n: usize, c: C
             next,
         },
         Reach::Here => {
-            let step = value_step(b, dir, m, k, r.optional, r.inplace, start + n, start + slot.at, slot.bit);
+            let step = value_step(
+                b,
+                dir,
+                m,
+                k,
+                r.optional,
+                r.inplace,
+                start + n,
+                start + slot.at,
+                slot.bit,
+            );
             SteppedMember { step, next }
         }
     }
 }
 
 // Where it leads.
-pub fn member_lead(b: &[u8], dir: &[u16], m: &[u8], start: usize, n: usize, c: Cursor, r: Member) -> SteppedMember
+pub fn member_lead(
+    b: &[u8],
+    dir: &[u16],
+    m: &[u8],
+    start: usize,
+    n: usize,
+    c: Cursor,
+    r: Member,
+) -> SteppedMember
     requires { ⌜ (Accepted (now b) (now dir)) × (MemberSound (P.parse (now b)) r) × (start + n ≤ length (now m)) × (length (now m) ≤ 16777215) ⌝ }
     requires { ⌜ (c .byte ≤ c .end) × (c .bit ≤ 8) × (c .end < 2 ^ 58) ⌝ }
     ensures { λ q. ⌜ (D.Stepped (D.leadOf (T.memberStep B.u48 (P.parse (now (b .entry))) (now (m .entry)) start n c r)) (L.afterMember B.u48 (P.parse (now (b .entry))) r c) (c .end) (q .step) (q .next)) × D.StepSmall (P.parse (now (b .entry))) (q .step) ⌝ }
@@ -304,13 +362,31 @@ pub fn member_lead(b: &[u8], dir: &[u16], m: &[u8], start: usize, n: usize, c: C
             next,
         },
         Reach::Here => {
-            let step = value_lead(b, dir, m, k, r.optional, r.inplace, start + n, start + slot.at, slot.bit);
+            let step = value_lead(
+                b,
+                dir,
+                m,
+                k,
+                r.optional,
+                r.inplace,
+                start + n,
+                start + slot.at,
+                slot.bit,
+            );
             SteppedMember { step, next }
         }
     }
 }
 
 // ---- elements
+// The bytes of i elements of width w.
+fn times(w: usize, i: usize) -> usize
+    requires { ⌜ (w ≤ 4096) × (i < 2 ^ 40) ⌝ }
+    ensures { λ r. ⌜ (r ≡ w * i) × (r ≤ 4096 * 2 ^ 40) ⌝ }
+{
+    w * i
+}
+
 fn element_place(b: &[u8], dir: &[u16], k: Kind, start: usize, i: usize) -> usize
     requires { ⌜ (Accepted (now b) (now dir)) × (KindSound (P.parse (now b)) k) × (start < 2 ^ 59) × (i < 2 ^ 40) ⌝ }
     ensures { λ r. ⌜ r ≡ T.elementPlace B.u48 (P.parse (now (b .entry))) k start i ⌝ }
@@ -318,11 +394,19 @@ fn element_place(b: &[u8], dir: &[u16], k: Kind, start: usize, i: usize) -> usiz
     if layout::is_bool(k) {
         return start + wire::eighth(i);
     }
-    start + layout::width(b, dir, k) * i
+    start + times(layout::width(b, dir, k), i)
 }
 
 // Element i of a list of n elements that start at `start`.
-pub fn element_step(b: &[u8], dir: &[u16], m: &[u8], k: Kind, start: usize, n: usize, i: usize) -> Step
+pub fn element_step(
+    b: &[u8],
+    dir: &[u16],
+    m: &[u8],
+    k: Kind,
+    start: usize,
+    n: usize,
+    i: usize,
+) -> Step
     requires { ⌜ (Accepted (now b) (now dir)) × (KindSound (P.parse (now b)) k) × (length (now m) ≤ 16777215) ⌝ }
     requires { ⌜ (start + T.elementsSize B.u48 (P.parse (now b)) k n ≤ length (now m)) × (i < n) ⌝ }
     ensures { λ r. ⌜ r ≡ T.elementStep B.u48 (P.parse (now (b .entry))) (now (m .entry)) k start i ⌝ }
@@ -332,7 +416,15 @@ pub fn element_step(b: &[u8], dir: &[u16], m: &[u8], k: Kind, start: usize, n: u
 }
 
 // Where it leads.
-pub fn element_lead(b: &[u8], dir: &[u16], m: &[u8], k: Kind, start: usize, n: usize, i: usize) -> Step
+pub fn element_lead(
+    b: &[u8],
+    dir: &[u16],
+    m: &[u8],
+    k: Kind,
+    start: usize,
+    n: usize,
+    i: usize,
+) -> Step
     requires { ⌜ (Accepted (now b) (now dir)) × (KindSound (P.parse (now b)) k) × (length (now m) ≤ 16777215) ⌝ }
     requires { ⌜ (start + T.elementsSize B.u48 (P.parse (now b)) k n ≤ length (now m)) × (i < n) ⌝ }
     ensures { λ r. ⌜ (r ≡ D.leadOf (T.elementStep B.u48 (P.parse (now (b .entry))) (now (m .entry)) k start i)) × D.StepSmall (P.parse (now (b .entry))) r ⌝ }

@@ -1,7 +1,7 @@
 use native.Mathlib.Omega.{arith}
 use mathlib.Core.Path.{_≡_, refl, sym, ap, _∙_}
 use borrow.Author.Tests.{le-ltb, lt-ltb, le-leb, lt-leb, eq-eqb, ne-eqb}
-use Rattle.step.proofs.StepCases.{element-inside}
+use Rattle.step.proofs.StepCases.{element-there, element-low, element-leads}
 use Rattle.step.proofs.Inside.{index-small}
 use borrow.Author.Needs.{needs}
 use Rattle.step.proofs.element_lead.Statement.{statement}
@@ -22,11 +22,11 @@ low-three-requires c κs = search needs
 
 -- src/lib.rt:341:5
 value-lead-requires : tie.Need-value-lead-requires
-value-lead-requires c κs = ?
+value-lead-requires c κs = search (element-there, element-low, needs)
 
 -- src/lib.rt:335:1
 returns : tie.Need-returns
-returns c = ?
+returns c = search (element-leads, needs)
 
 pub element-lead-spec : {M : Type 1} → statement M
 element-lead-spec =

@@ -1,7 +1,7 @@
 use native.Mathlib.Omega.{arith}
 use mathlib.Core.Path.{_≡_, refl, sym, ap, _∙_}
 use borrow.Author.Tests.{le-ltb, lt-ltb, le-leb, lt-leb, eq-eqb, ne-eqb}
-use Rattle.step.proofs.StepCases.{element-inside}
+use Rattle.step.proofs.StepCases.{element-there, element-low, element-value}
 use Rattle.step.proofs.Inside.{index-small}
 use borrow.Author.Needs.{needs}
 use Rattle.step.proofs.element_step.Statement.{statement}
@@ -22,11 +22,11 @@ low-three-requires c κs = search needs
 
 -- src/lib.rt:331:5
 value-step-requires : tie.Need-value-step-requires
-value-step-requires c κs = ?
+value-step-requires c κs = search (element-there, element-low, needs)
 
 -- src/lib.rt:325:1
 returns : tie.Need-returns
-returns c = ?
+returns c = search element-value
 
 pub element-step-spec : {M : Type 1} → statement M
 element-step-spec =

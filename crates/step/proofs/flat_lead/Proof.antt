@@ -41,23 +41,23 @@ struct-ok-requires c κs = search (struct-counted, struct-there, needs)
 
 -- src/lib.rt:197:17
 returns : tie.Need-returns
-returns c = (search lead-boolean, tt)
+returns c = (search lead-struct, tt)
 
 -- src/lib.rt:185:1
 returns-2 : tie.Need-returns-2
-returns-2 c = (search lead-integer, tt)
+returns-2 c = (search lead-boolean, tt)
 
 -- src/lib.rt:185:1
 returns-3 : tie.Need-returns-3
-returns-3 c = (search lead-float, tt)
+returns-3 c = (search lead-integer, tt)
 
 -- src/lib.rt:185:1
 returns-4 : tie.Need-returns-4
-returns-4 c = (search lead-enum, tt)
+returns-4 c = (search lead-float, tt)
 
 -- src/lib.rt:185:1
 returns-5 : tie.Need-returns-5
-returns-5 c = (search lead-struct, tt)
+returns-5 c = (search lead-enum, tt)
 
 -- src/lib.rt:185:1
 returns-6 : tie.Need-returns-6

@@ -46,7 +46,10 @@ add-value-lead-2 c = search needs
 
 -- src/lib.rt:307:17
 value-lead-requires : tie.Need-value-lead-requires
-value-lead-requires c κs = search (value-inside, needs)
+value-lead-requires c κs = (
+  (c .before .before .before .before .before .before .before .before .before .before .before .pre .0 .0, c .before .before .before .before .before .before .before .before .before .before .before .pre .0 .1 .kind, omega (arith, c .before .before .before .before .before .before .before .before .before .before .before .pre .0 .2, c .before .before .before .before .before .before .before .before .before .before .before .pre .0 .3)),
+  (search value-inside, omega (arith, c .before .before .before .before .before .before .before .before .before .before .before .pre .0 .2, c .before .before .before .before .before .before .before .before .before .before .before .pre .0 .3, c .before .before .before .before .before .before .before .before .before .before .before .pre .1 .2, c .before .before .before .before .before .before .before .place-member .ensures .at)),
+)
 
 -- src/lib.rt:288:1
 returns : tie.Need-returns

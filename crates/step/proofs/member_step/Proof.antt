@@ -46,7 +46,10 @@ add-value-step-2 c = search needs
 
 -- src/lib.rt:281:17
 value-step-requires : tie.Need-value-step-requires
-value-step-requires c κs = search (value-inside, needs)
+value-step-requires c κs = (
+  (c .before .before .before .before .before .before .before .before .before .before .before .pre .0 .0, c .before .before .before .before .before .before .before .before .before .before .before .pre .0 .1 .kind),
+  (search value-inside, c .before .before .before .before .before .before .before .place-member .ensures .bit, omega (arith, c .before .before .before .before .before .before .before .before .before .before .before .pre .0 .2, c .before .before .before .before .before .before .before .before .before .before .before .pre .0 .3, c .before .before .before .before .before .before .before .before .before .before .before .pre .1 .2, c .before .before .before .before .before .before .before .place-member .ensures .at)),
+)
 
 -- src/lib.rt:262:1
 returns : tie.Need-returns

@@ -2,7 +2,6 @@ use native.Mathlib.Omega.{arith}
 use mathlib.Core.Path.{_≡_, refl, sym, ap, _∙_}
 use borrow.Author.Tests.{le-ltb, lt-ltb, le-leb, lt-leb, eq-eqb, ne-eqb}
 use Rattle.step.proofs.LeadCases.{lead-no-choice, lead-unknown, lead-choice-inplace, lead-choice-offset, case-sound}
-use Rattle.schema.specs.Directory.{accepted-sound}
 use borrow.Author.Needs.{needs}
 use Rattle.step.proofs.union_lead.Statement.{statement}
 use Rattle.step.proofs.union_lead.Tie as tie
@@ -33,7 +32,7 @@ cast-t11 c = search needs
 
 -- src/lib.rt:229:9
 returns-3 : tie.Need-returns-3
-returns-3 c = (search lead-choice-inplace, search (case-sound, accepted-sound, needs))
+returns-3 c = (search lead-choice-inplace, search (case-sound, needs))
 
 -- src/lib.rt:231:18
 cast-t13 : tie.Need-cast-t13
@@ -41,7 +40,7 @@ cast-t13 c = search needs
 
 -- src/lib.rt:217:1
 returns-4 : tie.Need-returns-4
-returns-4 c = (search lead-choice-offset, search (case-sound, accepted-sound, needs))
+returns-4 c = (search lead-choice-offset, search (case-sound, needs))
 
 pub union-lead-spec : {M : Type 1} → statement M
 union-lead-spec =
