@@ -456,3 +456,103 @@ fn union(
         Place::InPlace(a, n) => visit(b, dir, m, budget, d, ob, Place::InPlace(a, n), s),
     }
 }
+
+// ---- the verdict
+fn verdict_of(w: Walked) -> Verdict
+    ensures { λ r. ⌜ r ≡ W.verdictOf w ⌝ }
+{
+    match w {
+        Walked::Going(s) => Verdict {
+            number: 0,
+            place: 0,
+            visits: s.visits,
+        },
+        Walked::Refused(x, s) => Verdict {
+            number: x.number,
+            place: x.place,
+            visits: s.visits,
+        },
+    }
+}
+
+// A refusal before the walk.
+fn early(n: u8) -> Verdict
+    ensures { λ r. ⌜ r ≡ W.early n ⌝ }
+{
+    Verdict {
+        number: n,
+        place: 0,
+        visits: 0,
+    }
+}
+
+// Whether the message has its start and is within the size.
+pub fn size_ok(m: &[u8]) -> bool
+    ensures { λ r. ⌜ r ≡ W.sizeOk B.u48 (now (m .entry)) ⌝ }
+{
+    if m.len() < 10 {
+        return false;
+    }
+    m.len() <= 16777215
+}
+
+// Whether it starts with the message's magic.
+pub fn start_ok(m: &[u8]) -> bool
+    requires { ⌜ 10 ≤ length (now m) ⌝ }
+    ensures { λ r. ⌜ r ≡ W.startOk (now (m .entry)) ⌝ }
+{
+    wire::u32_in(m, 0) == 0xB5C0_C4B3
+}
+
+// The root table.
+pub fn root_object(b: &[u8], dir: &[u16]) -> Object
+    requires { ⌜ Accepted (now b) (now dir) ⌝ }
+    ensures { λ r. ⌜ (r ≡ Object.Table (P.parse (now (b .entry)) .root)) × ObjectSound (P.parse (now (b .entry))) r ⌝ }
+{
+    Object::Table(schema::root(b) as u8)
+}
+
+// Where the message's start says that it stands.
+pub fn root_place(m: &[u8]) -> Place
+    requires { ⌜ 10 ≤ length (now m) ⌝ }
+    ensures { λ r. ⌜ (r ≡ W.rootPlace B.u48 (now (m .entry))) × D.PlaceSmall r ⌝ }
+{
+    Place::ByOffset(wire::u48_in(m, 4) as usize)
+}
+
+fn walk(b: &[u8], dir: &[u16], m: &[u8], budget: Budget) -> Walked
+    requires { ⌜ (Accepted (now b) (now dir)) × (length (now m) ≤ 16777215) × (10 ≤ length (now m)) ⌝ }
+    ensures { λ r. ⌜ r ≡ W.walk B.u48 (P.parse (now (b .entry))) (now (m .entry)) budget ⌝ }
+{
+    let ob = root_object(b, dir);
+    let p = root_place(m);
+    visit(b, dir, m, budget, 32, ob, p, Spent { visits: 0 })
+}
+
+// The verdict by a schema that was judged before.
+fn judged(b: &[u8], dir: &[u16], m: &[u8], budget: Budget) -> Verdict
+    requires { ⌜ Accepted (now b) (now dir) ⌝ }
+    ensures { λ r. ⌜ r ≡ W.verdict B.u48 (now (b .entry)) (now (m .entry)) budget ⌝ }
+{
+    if m.len() < 10 {
+        return early(2);
+    }
+    if 16777215 < m.len() {
+        return early(2);
+    }
+    if start_ok(m) {
+        return verdict_of(walk(b, dir, m, budget));
+    }
+    early(3)
+}
+
+// Judges a message by a packed schema: number, place and visits.
+pub fn judge(b: &[u8], m: &[u8], budget: Budget) -> Verdict
+    ensures { λ r. ⌜ r ≡ W.verdict B.u48 (now (b .entry)) (now (m .entry)) budget ⌝ }
+{
+    let mut dir: [u16; 320] = [0; 320];
+    if schema::judge_schema(b, &mut dir) {
+        return judged(b, &dir, m, budget);
+    }
+    early(1)
+}
