@@ -9,4 +9,5 @@ pub mod Rules
 pub mod RecordSound
 pub mod Sizes
 pub mod LawfulSound
+pub mod StructBooleans
 pub mod SoundAt
