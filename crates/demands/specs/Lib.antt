@@ -1,1 +1,3 @@
 pub mod Counter
+pub mod Shown
+pub mod SheetDecode

@@ -1,3 +1,5 @@
 -- Laws of the definitions in `coding` that more than one crate cites.
 pub mod Structs
 pub mod Sound
+pub mod All
+pub mod Bits
