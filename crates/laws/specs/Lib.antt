@@ -3,3 +3,4 @@ pub mod Structs
 pub mod Sound
 pub mod All
 pub mod Bits
+pub mod BitLists

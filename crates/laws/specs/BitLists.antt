@@ -1,0 +1,96 @@
+-- Lists of bits by position: the bits of a list of bytes around one byte and from a byte on, the value of a run of bits
+-- that is cut in two, bytes filled from a byte on, and a byte that lies across two.
+use mathlib.Core.Path.{_≡_, refl, sym, ap, ap₂, _∙_}
+use mathlib.Core.List.{List, [], _∷_, _++_}
+use Prim.Native.Nat.{ℕ, zero, suc, _+_, _-_, _*_, _/_, _%_, _^_, _≤_, _<_}
+use native.Mathlib.Nat.{mul-assoc, add-comm}
+use native.Mathlib.Omega.{arith}
+use lib.ListN.{length, getD, take, drop, set, length-drop, take-append-drop}
+use lib.Seq.{split-at, set-split, take-at, drop-at, take-add, drop-drop, length-take-le, drop-nil, take-nil}
+use lib.Pow.{pow-add}
+use Rattle.coding.specs.Bits.{bitsOf, bits, value, pack}
+use Rattle.laws.specs.Sound.{All}
+use Rattle.laws.specs.All.{all-take, all-drop}
+use Rattle.laws.specs.Bits.{Bit, Byte, bitsOf-length, bitsOf-split, bitsOf-low, bitsOf-mod, bitsOf-join, value-append, front-lt, bits-length, bits-bits, bits-cons, bits-append, pack-front}
+
+-- ---- around one byte
+module _ (l : List ℕ) (i : ℕ) (h : i < length l) where
+  pub bits-at : bits l ≡ bits (take i l) ++ (bitsOf 8 (getD l i 0) ++ bits (drop (suc i) l))
+  bits-at =
+      ap bits (split-at l i 0 h) ∙ bits-append (take i l) (getD l i 0 ∷ drop (suc i) l)
+      ∙ ap (λ (r : List ℕ). bits (take i l) ++ r) (bits-cons (getD l i 0) (drop (suc i) l))
+
+  pub bits-set : (b : ℕ) → bits (set l i b) ≡ bits (take i l) ++ (bitsOf 8 b ++ bits (drop (suc i) l))
+  bits-set b =
+      ap bits (set-split l i b h) ∙ bits-append (take i l) (b ∷ drop (suc i) l)
+      ∙ ap (λ (r : List ℕ). bits (take i l) ++ r) (bits-cons b (drop (suc i) l))
+
+-- ---- from a byte on
+pub bits-drop : (i : ℕ) (l : List ℕ) → bits (drop i l) ≡ drop (8 * i) (bits l)
+unfolding bits
+bits-drop zero l = refl
+bits-drop (suc i) [] = sym (drop-nil (8 * suc i))
+bits-drop (suc i) (b ∷ l) =
+    let e : 8 * suc i ≡ 8 + 8 * i = omega arith in
+    bits-drop i l
+    ∙ ap (drop (8 * i)) (sym (drop-at (bitsOf 8 b) (bits l) 8 (bitsOf-length 8 b)))
+    ∙ drop-drop (8 * i) 8 (bitsOf 8 b ++ bits l)
+    ∙ ap (λ (k : ℕ). drop k (bitsOf 8 b ++ bits l)) (sym e)
+
+pub bits-take : (i : ℕ) (l : List ℕ) → bits (take i l) ≡ take (8 * i) (bits l)
+unfolding bits
+bits-take zero l = refl
+bits-take (suc i) [] = sym (take-nil (8 * suc i))
+bits-take (suc i) (b ∷ l) =
+    let e : 8 * suc i ≡ 8 + 8 * i = omega arith in
+    ap (λ (s : List ℕ). bitsOf 8 b ++ s) (bits-take i l)
+    ∙ ap₂ (λ (s t : List ℕ). s ++ take (8 * i) t)
+    (sym (take-at (bitsOf 8 b) (bits l) 8 (bitsOf-length 8 b)))
+    (sym (drop-at (bitsOf 8 b) (bits l) 8 (bitsOf-length 8 b)))
+    ∙ sym (take-add 8 (8 * i) (bitsOf 8 b ++ bits l))
+    ∙ ap (λ (k : ℕ). take k (bitsOf 8 b ++ bits l)) (sym e)
+
+-- n bytes filled from a byte on are those bytes
+pub pack-at : (n i : ℕ) (l : List ℕ) → All Byte l → i + n ≤ length l → pack n (drop (8 * i) (bits l)) ≡ take n (drop i l)
+pack-at n i l h fit =
+    let m : List ℕ = drop i l in
+    let len : length (take n m) ≡ n = length-take-le n m (omega (arith, length-drop i l)) in
+    ap (pack n)
+    (sym (bits-drop i l) ∙ ap bits (sym (take-append-drop n m)) ∙ bits-append (take n m) (drop n m))
+    ∙ ap (λ (k : ℕ). pack k (bits (take n m) ++ bits (drop n m))) (sym len)
+    ∙ pack-front (take n m) (bits (drop n m)) (all-take Byte n m (all-drop Byte i l h))
+
+-- one byte more, and the rest
+pub pack-more : (n : ℕ) (xs : List ℕ) → pack (suc n) xs ≡ value (take 8 xs) ∷ pack n (drop 8 xs)
+unfolding pack
+pack-more n xs = refl
+
+-- ---- the value of a run of bits
+module _ (b : List ℕ) (at n r : ℕ) (h : at + n + r ≤ length b) where
+  pub value-more : value (take (n + r) (drop at b)) ≡ value (take n (drop at b)) * 2 ^ r + value (take r (drop (at + n) b))
+  value-more =
+      let len : length (take r (drop (at + n) b)) ≡ r = length-take-le r (drop (at + n) b) (simp length-drop (omega arith)) in
+      ap value (take-add n r (drop at b) ∙ ap (λ (s : List ℕ). take n (drop at b) ++ take r s) (drop-drop n at b))
+      ∙ value-append (take n (drop at b)) (take r (drop (at + n) b))
+      ∙ ap (λ (k : ℕ). value (take n (drop at b)) * 2 ^ k + value (take r (drop (at + n) b))) len
+
+-- a run of a slice's bits is below the power of its width
+pub run-lt : (l : List ℕ) (pos w : ℕ) → pos + w ≤ 8 * length l → value (take w (drop pos (bits l))) < 2 ^ w
+run-lt l pos w h = front-lt w (drop pos (bits l)) (all-drop Bit pos (bits l) (bits-bits l)) (omega (arith, length-drop pos (bits l), bits-length l))
+
+-- ---- a byte that lies across two: a bits of p are in front of x, and 8 bits are taken from there
+across-low : (a p x : ℕ) → a ≤ 8 → bitsOf a (p * 2 ^ 8 + x) ≡ bitsOf a x
+across-low a p x h =
+    let e : 8 ≡ 8 - a + a = omega arith in
+    let f : p * 2 ^ 8 ≡ p * 2 ^ (8 - a) * 2 ^ a =
+    ap (λ (k : ℕ). p * 2 ^ k) e ∙ ap (λ (k : ℕ). p * k) (pow-add 2 (8 - a) a) ∙ sym (mul-assoc p (2 ^ (8 - a)) (2 ^ a)) in
+    ap (λ (k : ℕ). bitsOf a (k + x)) f ∙ bitsOf-low a (p * 2 ^ (8 - a)) x
+
+pub across : (a p x : ℕ) → a ≤ 8 → x < 2 ^ 8
+    → bitsOf a p ++ bitsOf 8 x ≡ bitsOf 8 ((p * 2 ^ 8 + x) / 2 ^ a % 2 ^ 8) ++ bitsOf a x
+across a p x h hx =
+    let w : ℕ = p * 2 ^ 8 + x in
+    sym (bitsOf-join a 8 p x hx)
+    ∙ ap (λ (k : ℕ). bitsOf k w) (add-comm a 8)
+    ∙ bitsOf-split 8 a w
+    ∙ ap₂ (λ (s t : List ℕ). s ++ t) (sym (bitsOf-mod 8 (w / 2 ^ a))) (across-low a p x h)
