@@ -60,10 +60,15 @@ pack-at n i l h fit =
     ∙ ap (λ (k : ℕ). pack k (bits (take n m) ++ bits (drop n m))) (sym len)
     ∙ pack-front (take n m) (bits (drop n m)) (all-take Byte n m (all-drop Byte i l h))
 
--- one byte more, and the rest
-pub pack-more : (n : ℕ) (xs : List ℕ) → pack (suc n) xs ≡ value (take 8 xs) ∷ pack n (drop 8 xs)
+-- one byte more at the end
+pub pack-snoc : (n : ℕ) (xs : List ℕ) → pack (suc n) xs ≡ pack n xs ++ (value (take 8 (drop (8 * n) xs)) ∷ [])
 unfolding pack
-pack-more n xs = refl
+pack-snoc zero xs = refl
+pack-snoc (suc n) xs =
+    let e : 8 + 8 * n ≡ 8 * suc n = omega arith in
+    ap (λ (s : List ℕ). value (take 8 xs) ∷ s)
+    (pack-snoc n (drop 8 xs)
+    ∙ ap (λ (s : List ℕ). pack n (drop 8 xs) ++ (value (take 8 s) ∷ [])) (drop-drop (8 * n) 8 xs ∙ ap (λ (k : ℕ). drop k xs) e))
 
 -- ---- the value of a run of bits
 module _ (b : List ℕ) (at n r : ℕ) (h : at + n + r ≤ length b) where

@@ -1,0 +1,142 @@
+-- Numbers of runs of bits: of a byte, of two runs joined, of a field of a run; and whole bytes got one by one.
+use mathlib.Core.Path.{_≡_, refl, sym, ap, ap₂, _∙_}
+use mathlib.Core.Bool.{Bool, true, false}
+use Prim.Native.Nat.{ℕ, zero, suc, _+_, _-_, _*_, _/_, _%_, _^_, _≤_, _<_}
+use native.Mathlib.Nat.{mod-lt}
+use native.Mathlib.Numerals.{add-one}
+use native.Mathlib.Omega.{arith}
+use mathlib.Core.List.{List, [], _∷_, _++_}
+use lib.ListN.{length, getD, take, drop, set, length-drop, length-set, drop-of-length-le}
+use lib.Seq.{drop-cons, drop-drop, take-suc-set, take-all}
+use lib.Dec.{leb, eqb}
+use lib.Pow.{pow-pos, pow-add, high, low}
+use lib.Arith.{digits-lt}
+use lib.Bits.{bitOr}
+use borrow.Author.Tests.{le-leb, lt-leb, ne-eqb, eqb-true, eqb-false}
+use Rattle.coding.specs.Lists.{pick}
+use Rattle.coding.specs.Bits.{bitsOf, bits, value, pack}
+use Rattle.coding.specs.Sheet.{got, fail, takeNumber}
+use Rattle.laws.specs.Bits.{bitsOf-length, bits-cons, bits-length, value-front}
+use Rattle.laws.specs.BitLists.{bits-drop, pack-snoc, value-more, run-lt}
+use Rattle.bitio.specs.Taken.{Run, Taken}
+use Rattle.bitio.proofs.Fields.{or-more}
+
+-- no bits
+pub run-none : (l : List ℕ) (pos w : ℕ) → w ≡ 0 → Run l pos w 0
+unfolding value
+run-none l pos w e = rw e (record { number = refl; small = omega arith })
+
+-- a byte
+pub run-byte : (l : List ℕ) (i p : ℕ) → p ≡ 8 * i → i < length l → getD l i 0 < 2 ^ 8 → Run l p 8 (getD l i 0)
+run-byte l i p e h hb =
+    let x : ℕ = getD l i 0 in
+    record {
+      number = sym (value-front 8 x (bits (drop (suc i) l)) hb)
+          ∙ ap (λ (s : List ℕ). value (take 8 s)) (sym (bits-cons x (drop (suc i) l)) ∙ ap bits (sym (drop-cons l i 0 h)) ∙ bits-drop i l ∙ ap (λ (k : ℕ). drop k (bits l)) (sym e));
+      small = hb;
+    }
+
+-- two runs, one after the other
+module _ (l : List ℕ) (p q a c w h x : ℕ) (eq : q ≡ p + a) (ew : w ≡ a + c) (most : w ≤ 64) (fit : p + w ≤ 8 * length l) (f : Run l p a h) (g : Run l q c x) where
+  joined : bitOr ((h * 2 ^ c) % 2 ^ 64) x ≡ h * 2 ^ c + x
+  joined = or-more h a c x (f .small) (omega arith) (g .small)
+
+  pub run-join : Run l p w (bitOr ((h * 2 ^ c) % 2 ^ 64) x)
+  run-join =
+      record {
+        number = joined
+            ∙ ap₂ (λ (y z : ℕ). y * 2 ^ c + z) (f .number) (g .number ∙ ap (λ (k : ℕ). value (take c (drop k (bits l)))) eq)
+            ∙ sym (value-more (bits l) p a c (omega (arith, bits-length l)))
+            ∙ ap (λ (k : ℕ). value (take k (drop p (bits l)))) (sym ew);
+        small = rw (joined, ew, pow-add 2 a c) (digits-lt (f .small) (g .small));
+      }
+
+-- n bits of a run of w bits, a bits in and k bits from its end
+module _ (l : List ℕ) (p q a n k w v r : ℕ) (eq : q ≡ p + a) (ew : w ≡ a + n + k) (fit : p + w ≤ 8 * length l) (f : Run l p w v) (e : r ≡ v / 2 ^ k % 2 ^ n) where
+  pub run-field : Run l q n r
+  run-field =
+      let b : List ℕ = bits l in
+      let first : ℕ = value (take a (drop p b)) in
+      let middle : ℕ = value (take n (drop (p + a) b)) in
+      let last : ℕ = value (take k (drop (p + (a + n)) b)) in
+      let hm : middle < 2 ^ n = run-lt l (p + a) n (omega arith) in
+      let hl : last < 2 ^ k = run-lt l (p + (a + n)) k (omega arith) in
+      let whole : v ≡ (first * 2 ^ n + middle) * 2 ^ k + last =
+      f .number ∙ ap (λ (i : ℕ). value (take i (drop p b))) ew
+      ∙ value-more b p (a + n) k (omega (arith, bits-length l))
+      ∙ ap (λ (i : ℕ). i * 2 ^ k + last) (value-more b p a n (omega (arith, bits-length l))) in
+      let is : r ≡ middle =
+      e ∙ ap (λ (i : ℕ). i / 2 ^ k % 2 ^ n) whole ∙ ap (λ (i : ℕ). i % 2 ^ n) (high (first * 2 ^ n + middle) k hl) ∙ low first n hm in
+      record { number = is ∙ ap (λ (i : ℕ). value (take n (drop i b))) (sym eq); small = rw is hm }
+
+-- ---- whole bytes got: the first j stand in dst
+pub bytes-turn : (dst s : List ℕ) (pos j x : ℕ) → j < length dst → Run s (pos + 8 * j) 8 x → take j dst ≡ pack j (drop pos (bits s))
+    → take (j + 1) (set dst j x) ≡ pack (j + 1) (drop pos (bits s))
+bytes-turn dst s pos j x h r e =
+    rw (add-one j)
+    (take-suc-set dst j x h
+    ∙ ap₂ (λ (t : List ℕ) (y : ℕ). t ++ (y ∷ [])) e (r .number ∙ ap (λ (t : List ℕ). value (take 8 t)) (sym (drop-drop (8 * j) pos (bits s))))
+    ∙ sym (pack-snoc j (drop pos (bits s))))
+
+pub bytes-done : (dst s : List ℕ) (pos j n : ℕ) → length dst ≤ j → j ≡ n → take j dst ≡ pack j (drop pos (bits s)) → dst ≡ pack n (drop pos (bits s))
+bytes-done dst s pos j n h z e = sym (take-all j dst h) ∙ e ∙ ap (λ (k : ℕ). pack k (drop pos (bits s))) z
+
+-- ---- what is left of a sheet
+rest-length : (s : List ℕ) (pos : ℕ) → length (drop pos (bits s)) ≡ 8 * length s - pos
+rest-length s pos = length-drop pos (bits s) ∙ ap (λ (k : ℕ). k - pos) (bits-length s)
+
+pub left-some : (s : List ℕ) (pos n : ℕ) → leb n (8 * length s - pos) ≡ leb n (length (drop pos (bits s)))
+left-some s pos n = ap (leb n) (sym (rest-length s pos))
+
+none : (n : ℕ) → eqb n 0 ≡ leb n 0
+none zero = refl
+none (suc n) = ne-eqb (suc n) 0 (λ e. let z : ⊥ = omega arith in z) ∙ sym (lt-leb (suc n) 0 (omega arith))
+
+pub left-none : (s : List ℕ) (pos n : ℕ) → 8 * length s < pos → eqb n 0 ≡ leb n (length (drop pos (bits s)))
+left-none s pos n h = none n ∙ ap (leb n) (let z : 0 ≡ 8 * length s - pos = omega arith in z ∙ sym (rest-length s pos))
+
+-- ---- a number taken
+positive : (k : ℕ) → (k ≡ 0 → ⊥) → 0 < k
+positive zero g = absurd (g refl)
+positive (suc k) g = omega arith
+
+module _ (s : List ℕ) (pos w : ℕ) where
+  opened : (t : Bool) → leb w (length (drop pos (bits s))) ≡ t
+      → takeNumber w (drop pos (bits s)) ≡ pick t (got (value (take w (drop pos (bits s)))) (drop (pos + w) (bits s))) fail
+  unfolding takeNumber
+  opened t e =
+      ap (λ (u : Bool). pick u (got (value (take w (drop pos (bits s)))) (drop w (drop pos (bits s)))) fail) e
+      ∙ ap (λ (ys : List ℕ). pick t (got (value (take w (drop pos (bits s)))) ys) fail) (drop-drop w pos (bits s))
+
+  pub taken-whole : (x : ℕ) → pos ≤ 8 * length s → w ≤ 8 * length s - pos → Run s pos w x → Taken s pos w true x
+  taken-whole x h g r =
+      record {
+        number = opened true (le-leb w (length (drop pos (bits s))) (let l = rest-length s pos in omega arith)) ∙ ap (λ (y : ℕ). got y (drop (pos + w) (bits s))) (sym (r .number));
+        small = r .small;
+        fits = λ _ _. omega arith;
+      }
+
+  pub taken-short : 8 * length s - pos < w → Taken s pos w false 0
+  taken-short h =
+      record {
+        number = opened false (lt-leb w (length (drop pos (bits s))) (let l = rest-length s pos in omega arith));
+        small = pow-pos w;
+        fits = λ e _. let z : _≡_ {A = ℕ} 0 1 = cc in absurd (omega arith);
+      }
+
+  -- past the end: only no bits are left
+  pub taken-past : 8 * length s < pos → Taken s pos w (eqb w 0) 0
+  taken-past h = by (eqb w 0) refl
+    where
+      by : (t : Bool) → eqb w 0 ≡ t → Taken s pos w t 0
+      by true e =
+          let z : w ≡ 0 = eqb-true w 0 e in
+          let r : Run s pos w 0 = run-none s pos w z in
+          record {
+            number = opened true (le-leb w (length (drop pos (bits s))) (omega arith)) ∙ ap (λ (y : ℕ). got y (drop (pos + w) (bits s))) (sym (r .number));
+            small = r .small;
+            fits = λ _ g. absurd (let n : ⊥ = omega arith in n);
+          }
+      by false e =
+          let z : w ≡ 0 → ⊥ = eqb-false w 0 e in
+          taken-short (let n : 0 < w = positive w z in omega arith)
