@@ -35,14 +35,12 @@ fn last_byte(v: u64) -> u8
     (v & 255) as u8
 }
 
-// The byte that starts a bits before the end of p, x being the byte after p.
-fn across(p: u64, x: u64, a: usize) -> u8
-    requires { ⌜ p < 2 ^ 8 ⌝ }
-    requires { ⌜ x < 2 ^ 8 ⌝ }
+// The byte that lies across p and x, a bits before the end of x. In 16 bits, which a vector holds twice as often as 32.
+fn across(p: u8, x: u8, a: usize) -> u8
     requires { ⌜ a < 8 ⌝ }
     ensures { λ r. ⌜ r ≡ (p * 2 ^ 8 + x) / 2 ^ a % 2 ^ 8 ⌝ }
 {
-    last_byte((p << 8 | x) >> a)
+    (((p as u16) << 8 | (x as u16)) >> a & 255) as u8
 }
 
 // b with its n bits above the k low ones replaced by x.
@@ -67,7 +65,7 @@ fn chunk(at: usize, left: usize) -> usize
 
 // ---- numbers got
 
-// The byte at i, two from i on, four, and eight.
+// The byte at i.
 fn byte(s: &[u8], i: usize) -> u64
     requires { ⌜ i < length (now s) ⌝ }
     ensures { λ r. ⌜ r ≡ getD (now (s .entry)) i 0 ⌝ }
@@ -76,25 +74,19 @@ fn byte(s: &[u8], i: usize) -> u64
     s[i] as u64
 }
 
-fn pair(s: &[u8], i: usize) -> u64
-    requires { ⌜ i + 2 ≤ length (now s) ⌝ }
-    ensures { λ r. ⌜ Run (now (s .entry)) (8 * i) 16 r ⌝ }
-{
-    byte(s, i) << 8 | byte(s, i + 1)
-}
-
-fn quad(s: &[u8], i: usize) -> u64
-    requires { ⌜ i + 4 ≤ length (now s) ⌝ }
-    ensures { λ r. ⌜ Run (now (s .entry)) (8 * i) 32 r ⌝ }
-{
-    pair(s, i) << 16 | pair(s, i + 2)
-}
-
+// The eight bytes from i on. In this form the compiler makes one load of them.
 fn word(s: &[u8], i: usize) -> u64
     requires { ⌜ i + 8 ≤ length (now s) ⌝ }
     ensures { λ r. ⌜ Run (now (s .entry)) (8 * i) 64 r ⌝ }
 {
-    quad(s, i) << 32 | quad(s, i + 4)
+    byte(s, i) << 56
+        | byte(s, i + 1) << 48
+        | byte(s, i + 2) << 40
+        | byte(s, i + 3) << 32
+        | byte(s, i + 4) << 24
+        | byte(s, i + 5) << 16
+        | byte(s, i + 6) << 8
+        | byte(s, i + 7)
 }
 
 // n bits that lie in one byte.
@@ -223,7 +215,7 @@ fn get_across(s: &[u8], pos: usize, dst: &mut [u8])
     let mut i = pos >> 3;
     let mut j = 0;
     while j < dst.len() {
-        dst[j] = last_byte(pair(s, i) >> k);
+        dst[j] = across(s[i], s[i + 1], k);
         i += 1;
         j += 1;
     }
@@ -315,15 +307,15 @@ fn put_bytes_across(out: &mut [u8], pos: usize, m: &[u8])
 {
     let a = offset(pos);
     let start = pos >> 3;
-    let mut before = byte(out, start) >> (8 - a);
+    let mut before = last_byte(byte(out, start) >> (8 - a));
     let mut j = 0;
     while j < m.len() {
-        let x = byte(m, j);
+        let x = m[j];
         out[start + j] = across(before, x, a);
         before = x;
         j += 1;
     }
-    put_in(out, 8 * (start + j), a, low(before, a));
+    put_in(out, 8 * (start + j), a, low(before as u64, a));
 }
 
 // The bytes m from pos on.

@@ -1,28 +1,37 @@
-use Rattle.bitio.proofs.Fields.{or-more}
+use lib.Bits.{bitOr, bitAnd, and-mask, mask-lt, or-shifted}
+use lib.Pow.{shl-exact}
 use Prim.Native.Nat.{ℕ, _+_, _-_, _*_, _/_, _%_, _^_, _≤_, _<_}
 use mathlib.Core.Path.{_≡_, refl, sym, ap, _∙_}
 use native.Mathlib.Omega.{arith}
-use denote.Ref.{now}
 use borrow.Author.Needs.{needs}
 use Rattle.bitio.proofs.across.Statement.{statement}
 use Rattle.bitio.proofs.across.Tie as tie
 use Rattle.bitio.proofs.across.Reads as reads
 use Rattle.bitio.proofs.across.Lts as lts
-use Rattle.bitio.proofs.last_byte.Reads as last-byte-reads
 
--- src/lib.rt:45:15
-shr-last-byte : tie.Need-shr-last-byte
-shr-last-byte c = search needs
+-- src/lib.rt:43:40
+cast-result : tie.Need-cast-result
+cast-result c = search needs
 
--- src/lib.rt:45:5
-last-byte-requires : tie.Need-last-byte-requires
-last-byte-requires c κs = search needs
+-- src/lib.rt:43:6
+shr-result : tie.Need-shr-result
+shr-result c = search needs
+
+-- src/lib.rt:43:5
+cast-result-2 : tie.Need-cast-result-2
+cast-result-2 c =
+    let a = c .args in
+    record { fits = mask-lt (bitOr ((a .p * 2 ^ 8) % 2 ^ 16) (a .x) / 2 ^ a .a) 8 }
 
 -- src/lib.rt:39:1
 returns : tie.Need-returns
 returns c =
-    let a = c .before .args in
-    c .last-byte .ensures ∙ ap (λ (y : ℕ). y / 2 ^ a .a % 2 ^ 8) (or-more (a .p) 8 8 (a .x) (c .before .pre .0) (omega arith) (c .before .pre .1 .0))
+    let a = c .args in
+    let p : a .p < 2 ^ 8 = c .fits .p .fits in
+    let x : a .x < 2 ^ 8 = c .fits .x .fits in
+    let both : bitOr ((a .p * 2 ^ 8) % 2 ^ 16) (a .x) ≡ a .p * 2 ^ 8 + a .x =
+    ap (λ (k : ℕ). bitOr k (a .x)) (shl-exact 8 8 16 p (omega arith)) ∙ or-shifted (a .p) 8 (a .x) x in
+    and-mask (bitOr ((a .p * 2 ^ 8) % 2 ^ 16) (a .x) / 2 ^ a .a) 8 ∙ ap (λ (k : ℕ). k / 2 ^ a .a % 2 ^ 8) both
 
 pub across-spec : {M : Type 1} → statement M
-across-spec = tie.close (tie.spec shr-last-byte last-byte-requires returns)
+across-spec = tie.close (tie.spec cast-result shr-result cast-result-2 returns)

@@ -1,7 +1,7 @@
 use Rattle.bitio.proofs.Turns.{across-start, across-turn, across-done}
 use mathlib.Core.List.{_++_}
 use lib.Pow.{pow-pos, shr-le}
-use native.Mathlib.Nat.{mod-lt}
+use native.Mathlib.Nat.{mod-lt, mod-eq-of-lt}
 use Rattle.coding.specs.Bits.{bits, bitsOf, pack}
 use Rattle.bitio.specs.Splice.{splice}
 use lib.ListN.{length, take, drop, set, getD, length-set}
@@ -15,6 +15,7 @@ use Rattle.bitio.proofs.put_bytes_across.Reads as reads
 use Rattle.bitio.proofs.put_bytes_across.Lts as lts
 use Rattle.bitio.proofs.across.Reads as across-reads
 use Rattle.bitio.proofs.byte.Reads as byte-reads
+use Rattle.bitio.proofs.last_byte.Reads as last-byte-reads
 use Rattle.bitio.proofs.low.Reads as low-reads
 use Rattle.bitio.proofs.offset.Reads as offset-reads
 use Rattle.bitio.proofs.put_in.Reads as put-in-reads
@@ -27,105 +28,118 @@ Inv-loop out₀ pos m a start before₀ j₀ out before j =
 abbrev μ-loop : tie.MeasureT-loop
 μ-loop out₀ pos m a start before₀ j₀ out before j = length m - j
 
--- src/lib.rt:306:9
+-- src/lib.rt:308:9
 offset-requires : tie.Need-offset-requires Inv-loop μ-loop
 offset-requires c κs = omega arith
 
--- src/lib.rt:308:22
+-- src/lib.rt:310:32
 byte-requires : tie.Need-byte-requires Inv-loop μ-loop
 byte-requires c κs = omega arith
 
--- src/lib.rt:308:43
-sub-before : tie.Need-sub-before Inv-loop μ-loop
-sub-before c = omega arith
+-- src/lib.rt:310:53
+sub-last-byte : tie.Need-sub-last-byte Inv-loop μ-loop
+sub-last-byte c = omega arith
 
--- src/lib.rt:308:22
-shr-before : tie.Need-shr-before Inv-loop μ-loop
-shr-before c = omega arith
+-- src/lib.rt:310:32
+shr-last-byte : tie.Need-shr-last-byte Inv-loop μ-loop
+shr-last-byte c = omega arith
 
--- src/lib.rt:310:5
+-- src/lib.rt:310:9
+last-byte-requires : tie.Need-last-byte-requires Inv-loop μ-loop
+last-byte-requires c κs = omega arith
+
+-- src/lib.rt:312:5
 loop-holds : tie.Need-loop-holds Inv-loop μ-loop
 loop-holds c =
-    let o = c .before .before .offset .result in
-    let a = c .before .before .before .before .before .args in
+    let o = c .before .before .before .offset .result in
+    let a = c .before .before .before .before .before .before .args in
     let out = now (a .out) in
-    let p = c .byte .result / 2 ^ (8 - o) in
-    let z : a .pos / 8 + 0 ≡ a .pos / 8 = omega arith in (
+    let b = c .before .byte .result in
+    let p = c .last-byte .result in
+    let z : a .pos / 8 + 0 ≡ a .pos / 8 = omega arith in
+    let small : b / 2 ^ (8 - o) < 2 ^ 8 = omega (arith, shr-le b (8 - o)) in
+    let e : p ≡ getD out (a .pos / 8) 0 / 2 ^ (8 - o) =
+    c .last-byte .ensures ∙ mod-eq-of-lt small ∙ ap (λ (k : ℕ). k / 2 ^ (8 - o)) (c .before .byte .ensures .0) in (
       omega arith,
-      omega (arith, shr-le (c .byte .result) (8 - o)),
+      omega arith,
       refl,
       ap (λ (k : ℕ). splice (bits out) (8 * k) (bitsOf o p ++ bits (now (a .m)))) z
-          ∙ across-start out (now (a .m)) (a .pos) (a .pos / 8) o p refl (c .before .before .offset .ensures) (omega arith) (ap (λ (k : ℕ). k / 2 ^ (8 - o)) (c .byte .ensures .0)),
+          ∙ across-start out (now (a .m)) (a .pos) (a .pos / 8) o p refl (c .before .before .before .offset .ensures) (omega arith) e,
     )
 
--- src/lib.rt:311:13
-byte-requires-2 : tie.Need-byte-requires-2 Inv-loop μ-loop
-byte-requires-2 c κs = omega arith
+-- src/lib.rt:313:17
+shared-slice-read-x : tie.Need-shared-slice-read-x Inv-loop μ-loop
+shared-slice-read-x c = omega arith
 
--- src/lib.rt:312:26
+-- src/lib.rt:314:26
 across-requires : tie.Need-across-requires Inv-loop μ-loop
 across-requires c κs = omega arith
 
--- src/lib.rt:312:13
+-- src/lib.rt:314:13
 add-out : tie.Need-add-out Inv-loop μ-loop
 add-out c = omega arith
 
--- src/lib.rt:312:9
+-- src/lib.rt:314:9
 slice-write-out : tie.Need-slice-write-out Inv-loop μ-loop
 slice-write-out c = omega arith
 
--- src/lib.rt:314:9
+-- src/lib.rt:316:9
 add-j : tie.Need-add-j Inv-loop μ-loop
 add-j c = omega arith
 
--- src/lib.rt:310:5
+-- src/lib.rt:312:5
 loop-less : tie.Need-loop-less Inv-loop μ-loop
 loop-less c = omega arith
 
--- src/lib.rt:310:5
+-- src/lib.rt:312:5
 loop-again : tie.Need-loop-again Inv-loop μ-loop
 loop-again c =
     let at-loop = c .before .before .before in
     let l = at-loop .loop in
-    let o = c .before .before .before .before .before .before .offset .result in
-    let a = c .before .before .before .before .before .before .before .before .before .args in
-    let x = c .before .byte2 in (
+    let o = c .before .before .before .before .before .before .before .offset .result in
+    let a = c .before .before .before .before .before .before .before .before .before .before .args in
+    let m = now (a .m) in
+    let small = c .before .shared-slice-known2 .given (l .j) .fits in (
       omega arith,
-      x .ensures .1 .small,
+      small,
       simp length-set (l .inv .2),
-      across-turn (l .out) (now (a .m)) (a .pos / 8) o (l .before) (x .result) (c .across .result) (l .j)
-          (omega arith) (omega arith) (omega arith) (x .ensures .0) (x .ensures .1 .small) (c .across .ensures) ∙ l .inv .3,
+      across-turn (l .out) m (a .pos / 8) o (l .before) (getD m (l .j) 0) (c .across .result) (l .j)
+          (omega arith) (omega arith) (omega arith) refl small (c .across .ensures) ∙ l .inv .3,
     )
 
--- src/lib.rt:316:22
+-- src/lib.rt:318:22
 add-put-in : tie.Need-add-put-in Inv-loop μ-loop
 add-put-in c = omega arith
 
--- src/lib.rt:316:17
+-- src/lib.rt:318:17
 mul-put-in : tie.Need-mul-put-in Inv-loop μ-loop
 mul-put-in c = omega arith
 
--- src/lib.rt:316:37
+-- src/lib.rt:318:41
+cast-low : tie.Need-cast-low Inv-loop μ-loop
+cast-low c = omega arith
+
+-- src/lib.rt:318:37
 low-requires : tie.Need-low-requires Inv-loop μ-loop
 low-requires c κs = omega arith
 
--- src/lib.rt:316:5
+-- src/lib.rt:318:5
 put-in-requires : tie.Need-put-in-requires Inv-loop μ-loop
 put-in-requires c κs =
-    let o = c .before .before .before .before .before .before .offset .result in
+    let o = c .before .before .before .before .before .before .before .offset .result in
     let l = c .before .before .before .loop in
     (omega arith, (omega arith, (omega arith, rw (c .low .ensures) (mod-lt (l .before) (pow-pos o)))))
 
--- src/lib.rt:300:1
+-- src/lib.rt:302:1
 same-length : tie.Need-same-length Inv-loop μ-loop
 same-length c = omega arith
 
--- src/lib.rt:300:1
+-- src/lib.rt:302:1
 returns : tie.Need-returns Inv-loop μ-loop
 returns c =
     let l = c .before .before .before .before .before .before .loop in
-    let o = c .before .before .before .before .before .before .before .before .before .offset .result in
-    let a = c .before .before .before .before .before .before .before .before .before .before .before .before .args in
+    let o = c .before .before .before .before .before .before .before .before .before .before .offset .result in
+    let a = c .before .before .before .before .before .before .before .before .before .before .before .before .before .args in
     let low = c .before .before .before .low in
     c .before .before .put-in .ensures
     ∙ across-done (l .out) (now (a .m)) (8 * (a .pos / 8 + l .j)) o (l .before) (low .result) (l .j) (c .before .before .before .before .before .loop-test .left) (low .ensures)
@@ -139,10 +153,11 @@ put-bytes-across-spec =
     μ-loop
     offset-requires
     byte-requires
-    sub-before
-    shr-before
+    sub-last-byte
+    shr-last-byte
+    last-byte-requires
     loop-holds
-    byte-requires-2
+    shared-slice-read-x
     across-requires
     add-out
     slice-write-out
@@ -151,6 +166,7 @@ put-bytes-across-spec =
     loop-again
     add-put-in
     mul-put-in
+    cast-low
     low-requires
     put-in-requires
     same-length
