@@ -5,3 +5,4 @@ pub mod Puts
 pub mod Taken
 pub mod SpliceLaws
 pub mod PutsLaws
+pub mod Filled

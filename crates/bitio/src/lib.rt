@@ -2,7 +2,7 @@
 // position counts bits from the highest bit of the first byte.
 ghost use mathlib.Core.Path.{_≡_};
 ghost use Prim.Native.Nat.{_+_, _-_, _*_, _/_, _%_, _^_, _≤_, _<_};
-ghost use lib.ListN.{length, take, drop, getD};
+ghost use lib.ListN.{length, take, drop, getD, set};
 ghost use lib.Dec.{leb};
 ghost use Rattle.coding.specs.Bits.{bitsOf, bits, value, pack};
 ghost use Rattle.coding.specs.Sheet.{blobBits};
@@ -329,6 +329,16 @@ pub fn put_bytes(out: &mut [u8], pos: usize, m: &[u8])
         return;
     }
     put_bytes_across(out, pos, m);
+}
+
+// The last byte made 0, before a sheet's bits are put into a buffer that is as long as the sheet.
+pub fn clear_last(out: &mut [u8])
+    ensures { λ _. ⌜ now (out .exit) ≡ set (now (out .entry)) (length (now (out .entry)) - 1) 0 ⌝ }
+{
+    let n = out.len();
+    if 0 < n {
+        out[n - 1] = 0;
+    }
 }
 
 // ---- counted always, and stored where there is room
