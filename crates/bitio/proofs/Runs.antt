@@ -19,6 +19,7 @@ use Rattle.coding.specs.Sheet.{got, fail, takeNumber}
 use Rattle.laws.specs.Bits.{bitsOf-length, bits-cons, bits-length, value-front}
 use Rattle.laws.specs.BitLists.{bits-drop, pack-snoc, value-more, run-lt}
 use Rattle.bitio.specs.Taken.{Run, Taken}
+use Rattle.bitio.specs.TakenLaws.{rest-length}
 use Rattle.bitio.proofs.Fields.{or-more}
 
 -- no bits
@@ -117,9 +118,6 @@ pub bytes-done : (dst s : List ℕ) (pos j n : ℕ) → length dst ≤ j → j �
 bytes-done dst s pos j n h z e = sym (take-all j dst h) ∙ e ∙ ap (λ (k : ℕ). pack k (drop pos (bits s))) z
 
 -- ---- what is left of a sheet
-rest-length : (s : List ℕ) (pos : ℕ) → length (drop pos (bits s)) ≡ 8 * length s - pos
-rest-length s pos = length-drop pos (bits s) ∙ ap (λ (k : ℕ). k - pos) (bits-length s)
-
 pub left-some : (s : List ℕ) (pos n : ℕ) → leb n (8 * length s - pos) ≡ leb n (length (drop pos (bits s)))
 left-some s pos n = ap (leb n) (sym (rest-length s pos))
 

@@ -3,6 +3,7 @@ pub mod Splice
 pub mod Chunk
 pub mod Puts
 pub mod Taken
+pub mod TakenLaws
 pub mod SpliceLaws
 pub mod PutsLaws
 pub mod Filled
