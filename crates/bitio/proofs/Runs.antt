@@ -1,6 +1,5 @@
 -- Numbers of runs of bits: of a byte, of two runs joined, of a field of a run; and whole bytes got one by one.
 use mathlib.Core.Path.{_≡_, refl, sym, ap, ap₂, _∙_}
-use mathlib.Core.Bool.{Bool, true, false}
 use Prim.Native.Nat.{ℕ, zero, suc, _+_, _-_, _*_, _/_, _%_, _^_, _≤_, _<_}
 use native.Mathlib.Nat.{mul-assoc, add-mul}
 use native.Mathlib.Numerals.{add-one}
@@ -8,18 +7,13 @@ use native.Mathlib.Omega.{arith}
 use mathlib.Core.List.{List, [], _∷_, _++_}
 use lib.ListN.{length, getD, take, drop, set, length-drop, length-set, drop-of-length-le}
 use lib.Seq.{drop-cons, drop-drop, take-suc-set, take-all}
-use lib.Dec.{leb, eqb}
 use lib.Pow.{pow-pos, pow-add, high, low, shl-exact, shl-lt}
 use lib.Arith.{digits-lt}
 use lib.Bits.{bitOr, or-shifted}
-use borrow.Author.Tests.{le-leb, lt-leb, ne-eqb, eqb-true, eqb-false}
-use Rattle.coding.specs.Lists.{pick}
 use Rattle.coding.specs.Bits.{bitsOf, bits, value, pack}
-use Rattle.coding.specs.Sheet.{got, fail, takeNumber}
 use Rattle.laws.specs.Bits.{bitsOf-length, bits-cons, bits-length, value-front}
 use Rattle.laws.specs.BitLists.{bits-drop, pack-snoc, value-more, run-lt}
-use Rattle.bitio.specs.Taken.{Run, Taken}
-use Rattle.bitio.specs.TakenLaws.{rest-length}
+use Rattle.bitio.specs.Taken.{Run}
 use Rattle.bitio.proofs.Fields.{or-more}
 
 -- no bits
@@ -116,60 +110,3 @@ bytes-turn dst s pos j x h r e =
 
 pub bytes-done : (dst s : List ℕ) (pos j n : ℕ) → length dst ≤ j → j ≡ n → take j dst ≡ pack j (drop pos (bits s)) → dst ≡ pack n (drop pos (bits s))
 bytes-done dst s pos j n h z e = sym (take-all j dst h) ∙ e ∙ ap (λ (k : ℕ). pack k (drop pos (bits s))) z
-
--- ---- what is left of a sheet
-pub left-some : (s : List ℕ) (pos n : ℕ) → leb n (8 * length s - pos) ≡ leb n (length (drop pos (bits s)))
-left-some s pos n = ap (leb n) (sym (rest-length s pos))
-
-none : (n : ℕ) → eqb n 0 ≡ leb n 0
-none zero = refl
-none (suc n) = ne-eqb (suc n) 0 (λ e. let z : ⊥ = omega arith in z) ∙ sym (lt-leb (suc n) 0 (omega arith))
-
-pub left-none : (s : List ℕ) (pos n : ℕ) → 8 * length s < pos → eqb n 0 ≡ leb n (length (drop pos (bits s)))
-left-none s pos n h = none n ∙ ap (leb n) (let z : 0 ≡ 8 * length s - pos = omega arith in z ∙ sym (rest-length s pos))
-
--- ---- a number taken
-positive : (k : ℕ) → (k ≡ 0 → ⊥) → 0 < k
-positive zero g = absurd (g refl)
-positive (suc k) g = omega arith
-
-module _ (s : List ℕ) (pos w : ℕ) where
-  opened : (t : Bool) → leb w (length (drop pos (bits s))) ≡ t
-      → takeNumber w (drop pos (bits s)) ≡ pick t (got (value (take w (drop pos (bits s)))) (drop (pos + w) (bits s))) fail
-  unfolding takeNumber
-  opened t e =
-      ap (λ (u : Bool). pick u (got (value (take w (drop pos (bits s)))) (drop w (drop pos (bits s)))) fail) e
-      ∙ ap (λ (ys : List ℕ). pick t (got (value (take w (drop pos (bits s)))) ys) fail) (drop-drop w pos (bits s))
-
-  pub taken-whole : (x : ℕ) → pos ≤ 8 * length s → w ≤ 8 * length s - pos → Run s pos w x → Taken s pos w true x
-  taken-whole x h g r =
-      record {
-        number = opened true (le-leb w (length (drop pos (bits s))) (let l = rest-length s pos in omega arith)) ∙ ap (λ (y : ℕ). got y (drop (pos + w) (bits s))) (sym (r .number));
-        small = r .small;
-        fits = λ _ _. omega arith;
-      }
-
-  pub taken-short : 8 * length s - pos < w → Taken s pos w false 0
-  taken-short h =
-      record {
-        number = opened false (lt-leb w (length (drop pos (bits s))) (let l = rest-length s pos in omega arith));
-        small = pow-pos w;
-        fits = λ e _. let z : _≡_ {A = ℕ} 0 1 = cc in absurd (omega arith);
-      }
-
-  -- past the end: only no bits are left
-  pub taken-past : 8 * length s < pos → Taken s pos w (eqb w 0) 0
-  taken-past h = by (eqb w 0) refl
-    where
-      by : (t : Bool) → eqb w 0 ≡ t → Taken s pos w t 0
-      by true e =
-          let z : w ≡ 0 = eqb-true w 0 e in
-          let r : Run s pos w 0 = run-none s pos w z in
-          record {
-            number = opened true (le-leb w (length (drop pos (bits s))) (omega arith)) ∙ ap (λ (y : ℕ). got y (drop (pos + w) (bits s))) (sym (r .number));
-            small = r .small;
-            fits = λ _ g. absurd (let n : ⊥ = omega arith in n);
-          }
-      by false e =
-          let z : w ≡ 0 → ⊥ = eqb-false w 0 e in
-          taken-short (let n : 0 < w = positive w z in omega arith)

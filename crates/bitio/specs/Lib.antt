@@ -3,7 +3,6 @@ pub mod Splice
 pub mod Chunk
 pub mod Puts
 pub mod Taken
-pub mod TakenLaws
 pub mod SpliceLaws
 pub mod PutsLaws
 pub mod Filled

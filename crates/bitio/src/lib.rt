@@ -3,13 +3,13 @@
 ghost use mathlib.Core.Path.{_≡_};
 ghost use Prim.Native.Nat.{_+_, _-_, _*_, _/_, _%_, _^_, _≤_, _<_};
 ghost use lib.ListN.{length, take, drop, getD, set};
-ghost use lib.Dec.{leb};
+ghost use Rattle.coding.specs.Lists.{pick};
 ghost use Rattle.coding.specs.Bits.{bitsOf, bits, value, pack};
 ghost use Rattle.coding.specs.Sheet.{blobBits};
 ghost use Rattle.bitio.specs.Splice.{splice};
 ghost use Rattle.bitio.specs.Chunk.{Chunk, merged};
 ghost use Rattle.bitio.specs.Puts.{Room, Puts};
-ghost use Rattle.bitio.specs.Taken.{Run, Taken};
+ghost use Rattle.bitio.specs.Taken.{Run, TakenNumber, TakenBytes};
 
 // ---- numbers by their bits
 
@@ -151,43 +151,33 @@ pub fn get(s: &[u8], pos: usize, width: usize) -> u64
     get_short(s, pos, first) << 32 | get_short(s, pos + first, 32)
 }
 
-// Whether n bits are left from pos on.
-pub fn left(s: &[u8], pos: usize, n: usize) -> bool
-    requires { ⌜ 8 * length (now s) < 2 ^ 64 ⌝ }
-    ensures { λ r. ⌜ r ≡ leb n (length (drop pos (bits (now (s .entry))))) ⌝ }
-{
-    let end = 8 * s.len();
-    if pos <= end { n <= end - pos } else { n == 0 }
-}
-
-// The number of `width` bits from pos on where they are left.
+// What is taken at the cursor: whether the bits are left, their number or 0, and where the cursor goes on (it stays where
+// they are not left).
 pub struct Number {
     pub whole: bool,
     pub value: u64,
+    pub next: usize,
 }
 
 pub fn take_number(s: &[u8], pos: usize, width: usize) -> Number
     requires { ⌜ width ≤ 64 ⌝ }
+    requires { ⌜ pos ≤ 8 * length (now s) ⌝ }
     requires { ⌜ 8 * length (now s) < 2 ^ 64 ⌝ }
-    ensures { λ r. ⌜ Taken (now (s .entry)) pos width (r .whole) (r .value) ⌝ }
+    ensures { λ r. ⌜ TakenNumber (now (s .entry)) pos width (r .whole) (r .value) (r .next) ⌝ }
 {
     let end = 8 * s.len();
-    if pos <= end {
-        if width <= end - pos {
-            let x = get(s, pos, width);
-            return Number {
-                whole: true,
-                value: x,
-            };
-        }
+    if width <= end - pos {
+        let x = get(s, pos, width);
         return Number {
-            whole: false,
-            value: 0,
+            whole: true,
+            value: x,
+            next: pos + width,
         };
     }
     Number {
-        whole: width == 0,
+        whole: false,
         value: 0,
+        next: pos,
     }
 }
 
@@ -231,6 +221,53 @@ pub fn get_bytes(s: &[u8], pos: usize, dst: &mut [u8])
         return;
     }
     get_across(s, pos, dst);
+}
+
+// What is taken at the cursor: whether the bytes are left, and where the cursor goes on.
+pub struct Bytes {
+    pub whole: bool,
+    pub next: usize,
+}
+
+// n bytes, passed over.
+pub fn skip_bytes(s: &[u8], pos: usize, n: usize) -> Bytes
+    requires { ⌜ pos ≤ 8 * length (now s) ⌝ }
+    requires { ⌜ 8 * length (now s) < 2 ^ 64 ⌝ }
+    ensures { λ r. ⌜ TakenBytes (now (s .entry)) pos n (r .whole) (r .next) ⌝ }
+{
+    let end = 8 * s.len();
+    if n <= (end - pos) >> 3 {
+        return Bytes {
+            whole: true,
+            next: pos + 8 * n,
+        };
+    }
+    Bytes {
+        whole: false,
+        next: pos,
+    }
+}
+
+// As many bytes as dst has, into dst where they are left.
+pub fn take_bytes(s: &[u8], pos: usize, dst: &mut [u8]) -> Bytes
+    requires { ⌜ pos ≤ 8 * length (now s) ⌝ }
+    requires { ⌜ 8 * length (now s) < 2 ^ 64 ⌝ }
+    ensures { λ r. ⌜ TakenBytes (now (s .entry)) pos (length (now (dst .entry))) (r .whole) (r .next) ⌝ }
+    ensures { λ r. ⌜ now (dst .exit) ≡ pick (r .whole) (pack (length (now (dst .entry))) (drop pos (bits (now (s .entry))))) (now (dst .entry)) ⌝ }
+{
+    let n = dst.len();
+    let end = 8 * s.len();
+    if n <= (end - pos) >> 3 {
+        get_bytes(s, pos, dst);
+        return Bytes {
+            whole: true,
+            next: pos + 8 * n,
+        };
+    }
+    Bytes {
+        whole: false,
+        next: pos,
+    }
 }
 
 // ---- numbers put

@@ -1,4 +1,4 @@
-use Rattle.bitio.proofs.Runs.{taken-whole, taken-short, taken-past}
+use Rattle.bitio.proofs.Takes.{number-whole, number-short}
 use borrow.Author.Needs.{needs}
 use Rattle.bitio.proofs.take_number.Statement.{statement}
 use Rattle.bitio.proofs.take_number.Tie as tie
@@ -6,25 +6,29 @@ use Rattle.bitio.proofs.take_number.Reads as reads
 use Rattle.bitio.proofs.take_number.Lts as lts
 use Rattle.bitio.proofs.get.Reads as get-reads
 
--- src/lib.rt:181:15
+-- src/lib.rt:168:15
 mul-end : tie.Need-mul-end
 mul-end c = search needs
 
--- src/lib.rt:184:17
+-- src/lib.rt:169:17
+sub-if1 : tie.Need-sub-if1
+sub-if1 c = search needs
+
+-- src/lib.rt:170:13
 get-requires : tie.Need-get-requires
 get-requires c κs = search needs
 
--- src/lib.rt:185:13
+-- src/lib.rt:171:54
+add-t8 : tie.Need-add-t8
+add-t8 c = search needs
+
+-- src/lib.rt:171:9
 returns : tie.Need-returns
-returns c = search taken-whole
+returns c = search number-whole
 
--- src/lib.rt:187:9
+-- src/lib.rt:162:1
 returns-2 : tie.Need-returns-2
-returns-2 c = search taken-short
-
--- src/lib.rt:176:1
-returns-3 : tie.Need-returns-3
-returns-3 c = search taken-past
+returns-2 c = search number-short
 
 pub take-number-spec : {M : Type 1} → statement M
-take-number-spec = tie.close (tie.spec mul-end get-requires returns returns-2 returns-3)
+take-number-spec = tie.close (tie.spec mul-end sub-if1 get-requires add-t8 returns returns-2)
