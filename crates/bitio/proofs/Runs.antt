@@ -1,17 +1,17 @@
 -- Numbers of runs of bits: of a byte, of two runs joined, of a field of a run; and whole bytes got one by one.
 use mathlib.Core.Path.{_≡_, refl, sym, ap, ap₂, _∙_}
-use Prim.Native.Nat.{ℕ, zero, suc, _+_, _-_, _*_, _/_, _%_, _^_, _≤_, _<_}
+use Prim.Native.Nat.{ℕ, suc, _+_, _*_, _/_, _%_, _^_, _≤_, _<_}
 use native.Mathlib.Nat.{mul-assoc, add-mul}
 use native.Mathlib.Numerals.{add-one}
 use native.Mathlib.Omega.{arith}
 use mathlib.Core.List.{List, [], _∷_, _++_}
-use lib.ListN.{length, getD, take, drop, set, length-drop, length-set, drop-of-length-le}
+use lib.ListN.{length, getD, take, drop, set}
 use lib.Seq.{drop-cons, drop-drop, take-suc-set, take-all}
-use lib.Pow.{pow-pos, pow-add, high, low, shl-exact, shl-lt}
+use lib.Pow.{pow-add, high, low, shl-exact, shl-lt}
 use lib.Arith.{digits-lt}
 use lib.Bits.{bitOr, or-shifted}
-use Rattle.coding.specs.Bits.{bitsOf, bits, value, pack}
-use Rattle.laws.specs.Bits.{bitsOf-length, bits-cons, bits-length, value-front}
+use Rattle.coding.specs.Bits.{bits, value, pack}
+use Rattle.laws.specs.Bits.{bits-cons, bits-length, value-front}
 use Rattle.laws.specs.BitLists.{bits-drop, pack-snoc, value-more, run-lt}
 use Rattle.bitio.specs.Taken.{Run}
 use Rattle.bitio.proofs.Fields.{or-more}

@@ -1,8 +1,8 @@
 -- A number and whole bytes taken at a cursor: each way out.
-use mathlib.Core.Path.{_≡_, refl, sym, ap, _∙_}
+use mathlib.Core.Path.{_≡_, sym, ap, _∙_}
 use mathlib.Core.Bool.{Bool, true, false}
 use mathlib.Core.List.{List}
-use Prim.Native.Nat.{ℕ, _+_, _-_, _*_, _/_, _^_, _≤_, _<_}
+use Prim.Native.Nat.{ℕ, _+_, _-_, _*_, _/_, _≤_, _<_}
 use native.Mathlib.Omega.{arith}
 use lib.ListN.{length, take, drop, length-drop}
 use lib.Seq.{drop-drop}
@@ -11,7 +11,7 @@ use lib.Pow.{pow-pos}
 use borrow.Author.Tests.{le-leb, lt-leb}
 use Rattle.coding.specs.Lists.{pick}
 use Rattle.coding.specs.Bits.{bits, value, pack}
-use Rattle.coding.specs.Sheet.{Parsed, got, fail, takeNumber, takeBytes}
+use Rattle.coding.specs.Sheet.{got, fail, takeNumber, takeBytes}
 use Rattle.laws.specs.Bits.{bits-length}
 use Rattle.bitio.specs.Taken.{Run, TakenNumber, TakenBytes}
 

@@ -1,17 +1,16 @@
--- Lists of bits by position: the bits of a list of bytes around one byte and from a byte on, the value of a run of bits
--- that is cut in two, bytes filled from a byte on, and a byte that lies across two.
+-- Lists of bits by position: the bits of a list of bytes around one byte and from a byte on, bytes filled one by one, the
+-- value of a run of bits that is cut in two, and a byte that lies across two.
 use mathlib.Core.Path.{_≡_, refl, sym, ap, ap₂, _∙_}
 use mathlib.Core.List.{List, [], _∷_, _++_}
 use Prim.Native.Nat.{ℕ, zero, suc, _+_, _-_, _*_, _/_, _%_, _^_, _≤_, _<_}
 use native.Mathlib.Nat.{mul-assoc, add-comm}
 use native.Mathlib.Omega.{arith}
-use lib.ListN.{length, getD, take, drop, set, length-drop, take-append-drop}
-use lib.Seq.{split-at, set-split, take-at, drop-at, take-add, drop-drop, length-take-le, drop-nil, take-nil}
+use lib.ListN.{length, getD, take, drop, set, length-drop}
+use lib.Seq.{split-at, set-split, drop-at, take-add, drop-drop, length-take-le, drop-nil}
 use lib.Pow.{pow-add}
 use Rattle.coding.specs.Bits.{bitsOf, bits, value, pack}
-use Rattle.laws.specs.Sound.{All}
-use Rattle.laws.specs.All.{all-take, all-drop}
-use Rattle.laws.specs.Bits.{Bit, Byte, bitsOf-length, bitsOf-split, bitsOf-low, bitsOf-mod, bitsOf-join, value-append, front-lt, bits-length, bits-bits, bits-cons, bits-append, pack-front}
+use Rattle.laws.specs.All.{all-drop}
+use Rattle.laws.specs.Bits.{Bit, bitsOf-length, bitsOf-split, bitsOf-low, bitsOf-mod, bitsOf-join, value-append, front-lt, bits-length, bits-bits, bits-cons, bits-append}
 
 -- ---- around one byte
 module _ (l : List ℕ) (i : ℕ) (h : i < length l) where
@@ -36,29 +35,6 @@ bits-drop (suc i) (b ∷ l) =
     ∙ ap (drop (8 * i)) (sym (drop-at (bitsOf 8 b) (bits l) 8 (bitsOf-length 8 b)))
     ∙ drop-drop (8 * i) 8 (bitsOf 8 b ++ bits l)
     ∙ ap (λ (k : ℕ). drop k (bitsOf 8 b ++ bits l)) (sym e)
-
-pub bits-take : (i : ℕ) (l : List ℕ) → bits (take i l) ≡ take (8 * i) (bits l)
-unfolding bits
-bits-take zero l = refl
-bits-take (suc i) [] = sym (take-nil (8 * suc i))
-bits-take (suc i) (b ∷ l) =
-    let e : 8 * suc i ≡ 8 + 8 * i = omega arith in
-    ap (λ (s : List ℕ). bitsOf 8 b ++ s) (bits-take i l)
-    ∙ ap₂ (λ (s t : List ℕ). s ++ take (8 * i) t)
-    (sym (take-at (bitsOf 8 b) (bits l) 8 (bitsOf-length 8 b)))
-    (sym (drop-at (bitsOf 8 b) (bits l) 8 (bitsOf-length 8 b)))
-    ∙ sym (take-add 8 (8 * i) (bitsOf 8 b ++ bits l))
-    ∙ ap (λ (k : ℕ). take k (bitsOf 8 b ++ bits l)) (sym e)
-
--- n bytes filled from a byte on are those bytes
-pub pack-at : (n i : ℕ) (l : List ℕ) → All Byte l → i + n ≤ length l → pack n (drop (8 * i) (bits l)) ≡ take n (drop i l)
-pack-at n i l h fit =
-    let m : List ℕ = drop i l in
-    let len : length (take n m) ≡ n = length-take-le n m (omega (arith, length-drop i l)) in
-    ap (pack n)
-    (sym (bits-drop i l) ∙ ap bits (sym (take-append-drop n m)) ∙ bits-append (take n m) (drop n m))
-    ∙ ap (λ (k : ℕ). pack k (bits (take n m) ++ bits (drop n m))) (sym len)
-    ∙ pack-front (take n m) (bits (drop n m)) (all-take Byte n m (all-drop Byte i l h))
 
 -- one byte more at the end
 pub pack-snoc : (n : ℕ) (xs : List ℕ) → pack (suc n) xs ≡ pack n xs ++ (value (take 8 (drop (8 * n) xs)) ∷ [])

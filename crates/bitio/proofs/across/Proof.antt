@@ -1,29 +1,24 @@
-use lib.Bits.{bitOr, bitAnd, and-mask, mask-lt, or-shifted}
+-- Two bytes as one number of 16 bits, shifted and cut to a byte.
+use lib.Bits.{bitOr, and-mask, mask-lt, or-shifted}
 use lib.Pow.{shl-exact}
-use Prim.Native.Nat.{ℕ, _+_, _-_, _*_, _/_, _%_, _^_, _≤_, _<_}
-use mathlib.Core.Path.{_≡_, refl, sym, ap, _∙_}
+use Prim.Native.Nat.{ℕ, _+_, _*_, _/_, _%_, _^_, _<_}
+use mathlib.Core.Path.{_≡_, ap, _∙_}
 use native.Mathlib.Omega.{arith}
 use borrow.Author.Needs.{needs}
 use Rattle.bitio.proofs.across.Statement.{statement}
 use Rattle.bitio.proofs.across.Tie as tie
-use Rattle.bitio.proofs.across.Reads as reads
-use Rattle.bitio.proofs.across.Lts as lts
 
--- src/lib.rt:43:40
 cast-result : tie.Need-cast-result
 cast-result c = search needs
 
--- src/lib.rt:43:6
 shr-result : tie.Need-shr-result
 shr-result c = search needs
 
--- src/lib.rt:43:5
 cast-result-2 : tie.Need-cast-result-2
 cast-result-2 c =
     let a = c .args in
     record { fits = mask-lt (bitOr ((a .p * 2 ^ 8) % 2 ^ 16) (a .x) / 2 ^ a .a) 8 }
 
--- src/lib.rt:39:1
 returns : tie.Need-returns
 returns c =
     let a = c .args in

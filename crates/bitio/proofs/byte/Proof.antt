@@ -1,3 +1,4 @@
+-- A byte is the number of its eight bits.
 use Rattle.bitio.proofs.Runs.{run-byte}
 use Prim.Native.Nat.{_*_}
 use mathlib.Core.Path.{refl}
@@ -6,18 +7,13 @@ use denote.Ref.{now}
 use borrow.Author.Needs.{needs}
 use Rattle.bitio.proofs.byte.Statement.{statement}
 use Rattle.bitio.proofs.byte.Tie as tie
-use Rattle.bitio.proofs.byte.Reads as reads
-use Rattle.bitio.proofs.byte.Lts as lts
 
--- src/lib.rt:65:5
 shared-slice-read-result : tie.Need-shared-slice-read-result
 shared-slice-read-result c = search needs
 
--- src/lib.rt:65:5
 cast-result : tie.Need-cast-result
 cast-result c = omega (arith, c .shared-slice-known .given (c .before .args .i))
 
--- src/lib.rt:61:1
 returns : tie.Need-returns
 returns c =
     let a = c .before .args in

@@ -1,40 +1,30 @@
+-- A number of more than 32 bits is two runs joined.
 use Rattle.bitio.proofs.Runs.{run-join}
-use Prim.Native.Nat.{ℕ, _+_, _-_, _*_, _/_, _%_, _^_, _≤_, _<_}
-use mathlib.Core.Path.{_≡_, refl, sym, ap, _∙_}
+use Prim.Native.Nat.{_+_, _-_}
 use native.Mathlib.Omega.{arith}
 use denote.Ref.{now}
 use borrow.Author.Needs.{needs}
 use Rattle.bitio.proofs.get.Statement.{statement}
 use Rattle.bitio.proofs.get.Tie as tie
-use Rattle.bitio.proofs.get.Reads as reads
-use Rattle.bitio.proofs.get.Lts as lts
-use Rattle.bitio.proofs.get_short.Reads as get-short-reads
 
--- src/lib.rt:155:9
 get-short-requires : tie.Need-get-short-requires
 get-short-requires c κs = search needs
 
--- src/lib.rt:155:9
 returns : tie.Need-returns
 returns c = search needs
 
--- src/lib.rt:157:17
 sub-first : tie.Need-sub-first
 sub-first c = search needs
 
--- src/lib.rt:158:5
 get-short-requires-2 : tie.Need-get-short-requires-2
 get-short-requires-2 c κs = search needs
 
--- src/lib.rt:158:51
 add-get-short : tie.Need-add-get-short
 add-get-short c = search needs
 
--- src/lib.rt:158:38
 get-short-requires-3 : tie.Need-get-short-requires-3
 get-short-requires-3 c κs = search needs
 
--- src/lib.rt:148:1
 returns-2 : tie.Need-returns-2
 returns-2 c =
     let a = c .before .before .before .before .args in

@@ -1,16 +1,13 @@
+-- The loop has got the first j bytes, each a field of two neighbours.
 use Rattle.bitio.proofs.Runs.{run-field, run-two, bytes-turn, bytes-done}
 use Rattle.coding.specs.Bits.{bits, pack}
-use lib.ListN.{length, take, drop, set, getD, length-set}
-use Prim.Native.Nat.{ℕ, _+_, _-_, _*_, _/_, _%_, _^_, _≤_, _<_}
-use mathlib.Core.Path.{_≡_, refl, sym, ap, _∙_}
+use lib.ListN.{length, take, drop, getD, length-set}
+use Prim.Native.Nat.{_+_, _-_, _*_, _/_, _^_, _≤_}
+use mathlib.Core.Path.{_≡_, refl}
 use native.Mathlib.Omega.{arith}
 use denote.Ref.{now}
 use Rattle.bitio.proofs.get_across.Statement.{statement}
 use Rattle.bitio.proofs.get_across.Tie as tie
-use Rattle.bitio.proofs.get_across.Reads as reads
-use Rattle.bitio.proofs.get_across.Lts as lts
-use Rattle.bitio.proofs.across.Reads as across-reads
-use Rattle.bitio.proofs.offset.Reads as offset-reads
 
 abbrev Inv-loop : tie.InvT-loop
 Inv-loop s pos dst₀ k i₀ j₀ dst i j = (j ≤ length dst) × (i ≡ pos / 8 + j) × (length dst ≡ length dst₀) × (take j dst ≡ pack j (drop pos (bits s)))
@@ -18,52 +15,40 @@ Inv-loop s pos dst₀ k i₀ j₀ dst i j = (j ≤ length dst) × (i ≡ pos / 8
 abbrev μ-loop : tie.MeasureT-loop
 μ-loop s pos dst₀ k i₀ j₀ dst i j = length dst - j
 
--- src/lib.rt:214:17
 offset-requires : tie.Need-offset-requires Inv-loop μ-loop
 offset-requires c κs = omega arith
 
--- src/lib.rt:214:13
 sub-k : tie.Need-sub-k Inv-loop μ-loop
 sub-k c = omega arith
 
--- src/lib.rt:217:5
 loop-holds : tie.Need-loop-holds Inv-loop μ-loop
 unfolding pack
 loop-holds c = (omega arith, omega arith, refl, refl)
 
--- src/lib.rt:218:25
 shared-slice-read-across : tie.Need-shared-slice-read-across Inv-loop μ-loop
 shared-slice-read-across c = omega arith
 
--- src/lib.rt:218:33
 add-across : tie.Need-add-across Inv-loop μ-loop
 add-across c = omega arith
 
--- src/lib.rt:218:31
 shared-slice-read-across-2 : tie.Need-shared-slice-read-across-2 Inv-loop μ-loop
 shared-slice-read-across-2 c = omega arith
 
--- src/lib.rt:218:18
 across-requires : tie.Need-across-requires Inv-loop μ-loop
 across-requires c κs = omega arith
 
--- src/lib.rt:218:9
 slice-write-dst : tie.Need-slice-write-dst Inv-loop μ-loop
 slice-write-dst c = omega arith
 
--- src/lib.rt:219:9
 add-i : tie.Need-add-i Inv-loop μ-loop
 add-i c = omega arith
 
--- src/lib.rt:220:9
 add-j : tie.Need-add-j Inv-loop μ-loop
 add-j c = omega arith
 
--- src/lib.rt:217:5
 loop-less : tie.Need-loop-less Inv-loop μ-loop
 loop-less c = simp length-set (omega arith)
 
--- src/lib.rt:217:5
 loop-again : tie.Need-loop-again Inv-loop μ-loop
 loop-again c =
     let at-loop = c .before .before .before .before in
@@ -81,11 +66,9 @@ loop-again c =
           (l .inv .3),
     )
 
--- src/lib.rt:209:1
 same-length : tie.Need-same-length Inv-loop μ-loop
 same-length c = c .before .loop .inv .2
 
--- src/lib.rt:209:1
 returns : tie.Need-returns Inv-loop μ-loop
 returns c =
     let l = c .before .loop in

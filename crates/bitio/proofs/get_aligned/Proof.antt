@@ -1,14 +1,13 @@
+-- The loop has got the first j bytes.
 use Rattle.bitio.proofs.Runs.{run-byte, bytes-turn, bytes-done}
 use Rattle.coding.specs.Bits.{bits, pack}
-use lib.ListN.{length, take, drop, set, getD, length-set}
-use Prim.Native.Nat.{ℕ, _+_, _-_, _*_, _/_, _%_, _^_, _≤_, _<_}
-use mathlib.Core.Path.{_≡_, refl, sym, ap, _∙_}
+use lib.ListN.{length, take, drop, getD, length-set}
+use Prim.Native.Nat.{_+_, _-_, _*_, _≤_}
+use mathlib.Core.Path.{_≡_, refl}
 use native.Mathlib.Omega.{arith}
 use denote.Ref.{now}
 use Rattle.bitio.proofs.get_aligned.Statement.{statement}
 use Rattle.bitio.proofs.get_aligned.Tie as tie
-use Rattle.bitio.proofs.get_aligned.Reads as reads
-use Rattle.bitio.proofs.get_aligned.Lts as lts
 
 abbrev Inv-loop : tie.InvT-loop
 Inv-loop s i dst₀ j₀ dst j = (j ≤ length dst) × (length dst ≡ length dst₀) × (take j dst ≡ pack j (drop (8 * i) (bits s)))
@@ -16,32 +15,25 @@ Inv-loop s i dst₀ j₀ dst j = (j ≤ length dst) × (length dst ≡ length ds
 abbrev μ-loop : tie.MeasureT-loop
 μ-loop s i dst₀ j₀ dst j = length dst - j
 
--- src/lib.rt:190:5
 loop-holds : tie.Need-loop-holds Inv-loop μ-loop
 unfolding pack
 loop-holds c = (omega arith, refl, refl)
 
--- src/lib.rt:191:20
 add-dst : tie.Need-add-dst Inv-loop μ-loop
 add-dst c = omega arith
 
--- src/lib.rt:191:18
 shared-slice-read-dst : tie.Need-shared-slice-read-dst Inv-loop μ-loop
 shared-slice-read-dst c = omega arith
 
--- src/lib.rt:191:9
 slice-write-dst : tie.Need-slice-write-dst Inv-loop μ-loop
 slice-write-dst c = omega arith
 
--- src/lib.rt:192:9
 add-j : tie.Need-add-j Inv-loop μ-loop
 add-j c = omega arith
 
--- src/lib.rt:190:5
 loop-less : tie.Need-loop-less Inv-loop μ-loop
 loop-less c = simp length-set (omega arith)
 
--- src/lib.rt:190:5
 loop-again : tie.Need-loop-again Inv-loop μ-loop
 loop-again c =
     let l = c .before .before .loop in
@@ -53,11 +45,9 @@ loop-again c =
           (run-byte s (a .i + l .j) (8 * a .i + 8 * l .j) (omega arith) (omega arith) (c .shared-slice-known .given (a .i + l .j) .fits)) (l .inv .2),
     )
 
--- src/lib.rt:185:1
 same-length : tie.Need-same-length Inv-loop μ-loop
 same-length c = c .before .loop .inv .1
 
--- src/lib.rt:185:1
 returns : tie.Need-returns Inv-loop μ-loop
 returns c =
     let l = c .before .loop in

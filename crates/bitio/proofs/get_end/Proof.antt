@@ -1,16 +1,12 @@
+-- The loop has the number of the bits passed so far.
 use Rattle.bitio.proofs.Runs.{run-none, run-join}
 use Rattle.bitio.specs.Taken.{Run}
-use lib.ListN.{length}
-use Prim.Native.Nat.{ℕ, _+_, _-_, _*_, _/_, _%_, _^_, _≤_, _<_}
-use mathlib.Core.Path.{_≡_, refl, sym, ap, _∙_}
+use Prim.Native.Nat.{_+_, _-_, _≤_}
+use mathlib.Core.Path.{_≡_, refl}
 use native.Mathlib.Omega.{arith}
 use denote.Ref.{now}
 use Rattle.bitio.proofs.get_end.Statement.{statement}
 use Rattle.bitio.proofs.get_end.Tie as tie
-use Rattle.bitio.proofs.get_end.Reads as reads
-use Rattle.bitio.proofs.get_end.Lts as lts
-use Rattle.bitio.proofs.chunk.Reads as chunk-reads
-use Rattle.bitio.proofs.get_in.Reads as get-in-reads
 
 abbrev Inv-loop : tie.InvT-loop
 Inv-loop s pos width v₀ at₀ left₀ v at left = (at + left ≡ pos + width) × (left ≤ width) × Run s pos (width - left) v
@@ -18,35 +14,27 @@ Inv-loop s pos width v₀ at₀ left₀ v at left = (at + left ≡ pos + width) 
 abbrev μ-loop : tie.MeasureT-loop
 μ-loop s pos width v₀ at₀ left₀ v at left = left
 
--- src/lib.rt:110:5
 loop-holds : tie.Need-loop-holds Inv-loop μ-loop
 loop-holds c = (refl, omega arith, run-none (now (c .before .args .s)) (c .before .args .pos) (c .before .args .width - c .before .args .width) (omega arith))
 
--- src/lib.rt:111:13
 chunk-requires : tie.Need-chunk-requires Inv-loop μ-loop
 chunk-requires c κs = omega arith
 
--- src/lib.rt:112:9
 sub-left : tie.Need-sub-left Inv-loop μ-loop
 sub-left c = omega arith
 
--- src/lib.rt:113:13
 shl-v : tie.Need-shl-v Inv-loop μ-loop
 shl-v c = omega arith
 
--- src/lib.rt:113:22
 get-in-requires : tie.Need-get-in-requires Inv-loop μ-loop
 get-in-requires c κs = omega arith
 
--- src/lib.rt:114:9
 add-at : tie.Need-add-at Inv-loop μ-loop
 add-at c = omega arith
 
--- src/lib.rt:110:5
 loop-less : tie.Need-loop-less Inv-loop μ-loop
 loop-less c = omega arith
 
--- src/lib.rt:110:5
 loop-again : tie.Need-loop-again Inv-loop μ-loop
 loop-again c =
     let at-loop = c .before .before .before in
@@ -59,7 +47,6 @@ loop-again c =
           (omega arith) (omega arith) (omega arith) (omega arith) (l .inv .2) (c .get-in .ensures),
     )
 
--- src/lib.rt:101:1
 returns : tie.Need-returns Inv-loop μ-loop
 returns c =
     let l = c .before .loop in

@@ -1,42 +1,30 @@
+-- A field of one byte.
 use Rattle.bitio.proofs.Runs.{run-field}
-use Prim.Native.Nat.{ℕ, _+_, _-_, _*_, _/_, _%_, _^_, _≤_, _<_}
-use mathlib.Core.Path.{_≡_, refl, sym, ap, _∙_}
+use Prim.Native.Nat.{_-_, _*_, _/_}
 use native.Mathlib.Omega.{arith}
 use denote.Ref.{now}
 use borrow.Author.Needs.{needs}
 use Rattle.bitio.proofs.get_in.Statement.{statement}
 use Rattle.bitio.proofs.get_in.Tie as tie
-use Rattle.bitio.proofs.get_in.Reads as reads
-use Rattle.bitio.proofs.get_in.Lts as lts
-use Rattle.bitio.proofs.byte.Reads as byte-reads
-use Rattle.bitio.proofs.low.Reads as low-reads
-use Rattle.bitio.proofs.offset.Reads as offset-reads
 
--- src/lib.rt:96:17
 offset-requires : tie.Need-offset-requires
 offset-requires c κs = search needs
 
--- src/lib.rt:96:13
 sub-k : tie.Need-sub-k
 sub-k c = search needs
 
--- src/lib.rt:96:13
 sub-k-2 : tie.Need-sub-k-2
 sub-k-2 c = search needs
 
--- src/lib.rt:97:9
 byte-requires : tie.Need-byte-requires
 byte-requires c κs = search needs
 
--- src/lib.rt:97:9
 shr-low : tie.Need-shr-low
 shr-low c = search needs
 
--- src/lib.rt:97:5
 low-requires : tie.Need-low-requires
 low-requires c κs = search needs
 
--- src/lib.rt:90:1
 returns : tie.Need-returns
 returns c =
     let o = c .before .before in

@@ -1,14 +1,11 @@
+-- A mask of eight bits is the rest by 256.
 use lib.Bits.{and-mask, mask-lt}
 use Rattle.bitio.proofs.last_byte.Statement.{statement}
 use Rattle.bitio.proofs.last_byte.Tie as tie
-use Rattle.bitio.proofs.last_byte.Reads as reads
-use Rattle.bitio.proofs.last_byte.Lts as lts
 
--- src/lib.rt:35:5
 cast-result : tie.Need-cast-result
 cast-result c = record { fits = mask-lt (c .args .v) 8 }
 
--- src/lib.rt:32:1
 returns : tie.Need-returns
 returns c = and-mask (c .args .v) 8
 

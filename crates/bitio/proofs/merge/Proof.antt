@@ -1,38 +1,30 @@
+-- A field replaced by shifts, ors and a mask is the field replaced by sums.
 use Rattle.bitio.proofs.Fields.{mask-some, merged-ops, merged-lt}
-use Prim.Native.Nat.{ℕ, _+_, _-_, _^_, _<_}
+use Prim.Native.Nat.{_+_, _-_}
 use mathlib.Core.Path.{_≡_}
 use native.Mathlib.Omega.{arith}
 use borrow.Author.Needs.{needs}
 use Rattle.bitio.proofs.merge.Statement.{statement}
 use Rattle.bitio.proofs.merge.Tie as tie
-use Rattle.bitio.proofs.merge.Reads as reads
-use Rattle.bitio.proofs.merge.Lts as lts
 
--- src/lib.rt:45:13
 shr-t : tie.Need-shr-t
 shr-t c = search needs
 
--- src/lib.rt:46:6
 shr-result : tie.Need-shr-result
 shr-result c = search needs
 
--- src/lib.rt:46:6
 shl-result : tie.Need-shl-result
 shl-result c = search needs
 
--- src/lib.rt:46:5
 shl-result-2 : tie.Need-shl-result-2
 shl-result-2 c = search needs
 
--- src/lib.rt:46:36
 shl-result-3 : tie.Need-shl-result-3
 shl-result-3 c = search needs
 
--- src/lib.rt:46:35
 sub-result : tie.Need-sub-result
 sub-result c = mask-some (c .args .k) (omega arith)
 
--- src/lib.rt:39:1
 returns : tie.Need-returns
 returns c =
     let a = c .args in

@@ -1,10 +1,8 @@
+-- A mask of three bits is the rest by 8.
 use lib.Bits.{and-mask}
 use Rattle.bitio.proofs.offset.Statement.{statement}
 use Rattle.bitio.proofs.offset.Tie as tie
-use Rattle.bitio.proofs.offset.Reads as reads
-use Rattle.bitio.proofs.offset.Lts as lts
 
--- src/lib.rt:17:1
 returns : tie.Need-returns
 returns c = and-mask (c .args .pos) 3
 

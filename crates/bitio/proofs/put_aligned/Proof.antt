@@ -1,21 +1,16 @@
+-- To put what is left from here is to put all from the start.
 use Rattle.bitio.proofs.Turns.{put-turn, put-done}
 use Rattle.laws.specs.Bits.{bitsOf-mod}
 use lib.Pow.{pow-pos}
 use native.Mathlib.Nat.{mod-lt}
-use Rattle.coding.specs.Bits.{bits, bitsOf, pack}
+use Rattle.coding.specs.Bits.{bits, bitsOf}
 use Rattle.bitio.specs.Splice.{splice}
-use lib.ListN.{length, take, drop, set, getD, length-set}
-use Prim.Native.Nat.{ℕ, _+_, _-_, _*_, _/_, _%_, _^_, _≤_, _<_}
+use lib.ListN.{length, length-set}
+use Prim.Native.Nat.{_+_, _*_, _≤_}
 use mathlib.Core.Path.{_≡_, refl, sym, ap, _∙_}
 use native.Mathlib.Omega.{arith}
-use denote.Ref.{now}
 use Rattle.bitio.proofs.put_aligned.Statement.{statement}
 use Rattle.bitio.proofs.put_aligned.Tie as tie
-use Rattle.bitio.proofs.put_aligned.Reads as reads
-use Rattle.bitio.proofs.put_aligned.Lts as lts
-use Rattle.bitio.proofs.last_byte.Reads as last-byte-reads
-use Rattle.bitio.proofs.low.Reads as low-reads
-use Rattle.bitio.proofs.put_in.Reads as put-in-reads
 
 abbrev Inv-loop : tie.InvT-loop
 Inv-loop out₀ start width v i₀ left₀ out i left =
@@ -25,31 +20,24 @@ Inv-loop out₀ start width v i₀ left₀ out i left =
 abbrev μ-loop : tie.MeasureT-loop
 μ-loop out₀ start width v i₀ left₀ out i left = left
 
--- src/lib.rt:248:5
 loop-holds : tie.Need-loop-holds Inv-loop μ-loop
 loop-holds c = (refl, omega arith, refl, refl)
 
--- src/lib.rt:250:28
 shr-last-byte : tie.Need-shr-last-byte Inv-loop μ-loop
 shr-last-byte c = omega arith
 
--- src/lib.rt:250:18
 last-byte-requires : tie.Need-last-byte-requires Inv-loop μ-loop
 last-byte-requires c κs = omega arith
 
--- src/lib.rt:250:9
 slice-write-out : tie.Need-slice-write-out Inv-loop μ-loop
 slice-write-out c = omega arith
 
--- src/lib.rt:251:9
 add-i : tie.Need-add-i Inv-loop μ-loop
 add-i c = omega arith
 
--- src/lib.rt:248:5
 loop-less : tie.Need-loop-less Inv-loop μ-loop
 loop-less c = omega arith
 
--- src/lib.rt:248:5
 loop-again : tie.Need-loop-again Inv-loop μ-loop
 loop-again c =
     let at-loop = c .before .before in
@@ -61,26 +49,21 @@ loop-again c =
       put-turn (l .out) (l .i) (l .left) (a .v) (c .last-byte .result) (omega arith) (omega arith) (c .last-byte .ensures) ∙ l .inv .3,
     )
 
--- src/lib.rt:254:21
 mul-put-in : tie.Need-mul-put-in Inv-loop μ-loop
 mul-put-in c = omega arith
 
--- src/lib.rt:254:34
 low-requires : tie.Need-low-requires Inv-loop μ-loop
 low-requires c κs = omega arith
 
--- src/lib.rt:254:9
 put-in-requires : tie.Need-put-in-requires Inv-loop μ-loop
 put-in-requires c κs =
     let l = c .before .before .before .before .loop in
     let a = c .before .before .before .before .before .before .args in
     (omega arith, (omega arith, (omega arith, rw (c .low .ensures) (mod-lt (a .v) (pow-pos (l .left))))))
 
--- src/lib.rt:240:1
 same-length : tie.Need-same-length Inv-loop μ-loop
 same-length c = omega arith
 
--- src/lib.rt:240:1
 returns : tie.Need-returns Inv-loop μ-loop
 returns c =
     let l = c .before .before .before .before .before .before .before .loop in
@@ -89,11 +72,9 @@ returns c =
     ∙ ap (splice (bits (l .out)) (8 * l .i)) (ap (bitsOf (l .left)) (c .before .before .before .low .ensures) ∙ bitsOf-mod (l .left) (a .v))
     ∙ l .inv .3
 
--- src/lib.rt:240:1
 same-length-2 : tie.Need-same-length-2 Inv-loop μ-loop
 same-length-2 c = c .before .before .loop .inv .2
 
--- src/lib.rt:240:1
 returns-2 : tie.Need-returns-2 Inv-loop μ-loop
 returns-2 c =
     let l = c .before .before .loop in

@@ -1,24 +1,17 @@
+-- To put the low bits of the byte before and the rest of the bytes from here is to put all from the start.
 use Rattle.bitio.proofs.Turns.{across-start, across-turn, across-done}
 use mathlib.Core.List.{_++_}
 use lib.Pow.{pow-pos, shr-le}
 use native.Mathlib.Nat.{mod-lt, mod-eq-of-lt}
-use Rattle.coding.specs.Bits.{bits, bitsOf, pack}
+use Rattle.coding.specs.Bits.{bits, bitsOf}
 use Rattle.bitio.specs.Splice.{splice}
-use lib.ListN.{length, take, drop, set, getD, length-set}
-use Prim.Native.Nat.{ℕ, _+_, _-_, _*_, _/_, _%_, _^_, _≤_, _<_}
-use mathlib.Core.Path.{_≡_, refl, sym, ap, _∙_}
+use lib.ListN.{length, drop, getD, length-set}
+use Prim.Native.Nat.{ℕ, _+_, _-_, _*_, _/_, _^_, _≤_, _<_}
+use mathlib.Core.Path.{_≡_, refl, ap, _∙_}
 use native.Mathlib.Omega.{arith}
 use denote.Ref.{now}
 use Rattle.bitio.proofs.put_bytes_across.Statement.{statement}
 use Rattle.bitio.proofs.put_bytes_across.Tie as tie
-use Rattle.bitio.proofs.put_bytes_across.Reads as reads
-use Rattle.bitio.proofs.put_bytes_across.Lts as lts
-use Rattle.bitio.proofs.across.Reads as across-reads
-use Rattle.bitio.proofs.byte.Reads as byte-reads
-use Rattle.bitio.proofs.last_byte.Reads as last-byte-reads
-use Rattle.bitio.proofs.low.Reads as low-reads
-use Rattle.bitio.proofs.offset.Reads as offset-reads
-use Rattle.bitio.proofs.put_in.Reads as put-in-reads
 
 abbrev Inv-loop : tie.InvT-loop
 Inv-loop out₀ pos m a start before₀ j₀ out before j =
@@ -28,27 +21,21 @@ Inv-loop out₀ pos m a start before₀ j₀ out before j =
 abbrev μ-loop : tie.MeasureT-loop
 μ-loop out₀ pos m a start before₀ j₀ out before j = length m - j
 
--- src/lib.rt:308:9
 offset-requires : tie.Need-offset-requires Inv-loop μ-loop
 offset-requires c κs = omega arith
 
--- src/lib.rt:310:32
 byte-requires : tie.Need-byte-requires Inv-loop μ-loop
 byte-requires c κs = omega arith
 
--- src/lib.rt:310:53
 sub-last-byte : tie.Need-sub-last-byte Inv-loop μ-loop
 sub-last-byte c = omega arith
 
--- src/lib.rt:310:32
 shr-last-byte : tie.Need-shr-last-byte Inv-loop μ-loop
 shr-last-byte c = omega arith
 
--- src/lib.rt:310:9
 last-byte-requires : tie.Need-last-byte-requires Inv-loop μ-loop
 last-byte-requires c κs = omega arith
 
--- src/lib.rt:312:5
 loop-holds : tie.Need-loop-holds Inv-loop μ-loop
 loop-holds c =
     let o = c .before .before .before .offset .result in
@@ -67,31 +54,24 @@ loop-holds c =
           ∙ across-start out (now (a .m)) (a .pos) (a .pos / 8) o p refl (c .before .before .before .offset .ensures) (omega arith) e,
     )
 
--- src/lib.rt:313:17
 shared-slice-read-x : tie.Need-shared-slice-read-x Inv-loop μ-loop
 shared-slice-read-x c = omega arith
 
--- src/lib.rt:314:26
 across-requires : tie.Need-across-requires Inv-loop μ-loop
 across-requires c κs = omega arith
 
--- src/lib.rt:314:13
 add-out : tie.Need-add-out Inv-loop μ-loop
 add-out c = omega arith
 
--- src/lib.rt:314:9
 slice-write-out : tie.Need-slice-write-out Inv-loop μ-loop
 slice-write-out c = omega arith
 
--- src/lib.rt:316:9
 add-j : tie.Need-add-j Inv-loop μ-loop
 add-j c = omega arith
 
--- src/lib.rt:312:5
 loop-less : tie.Need-loop-less Inv-loop μ-loop
 loop-less c = omega arith
 
--- src/lib.rt:312:5
 loop-again : tie.Need-loop-again Inv-loop μ-loop
 loop-again c =
     let at-loop = c .before .before .before in
@@ -107,34 +87,27 @@ loop-again c =
           (omega arith) (omega arith) (omega arith) refl small (c .across .ensures) ∙ l .inv .3,
     )
 
--- src/lib.rt:318:22
 add-put-in : tie.Need-add-put-in Inv-loop μ-loop
 add-put-in c = omega arith
 
--- src/lib.rt:318:17
 mul-put-in : tie.Need-mul-put-in Inv-loop μ-loop
 mul-put-in c = omega arith
 
--- src/lib.rt:318:41
 cast-low : tie.Need-cast-low Inv-loop μ-loop
 cast-low c = omega arith
 
--- src/lib.rt:318:37
 low-requires : tie.Need-low-requires Inv-loop μ-loop
 low-requires c κs = omega arith
 
--- src/lib.rt:318:5
 put-in-requires : tie.Need-put-in-requires Inv-loop μ-loop
 put-in-requires c κs =
     let o = c .before .before .before .before .before .before .before .offset .result in
     let l = c .before .before .before .loop in
     (omega arith, (omega arith, (omega arith, rw (c .low .ensures) (mod-lt (l .before) (pow-pos o)))))
 
--- src/lib.rt:302:1
 same-length : tie.Need-same-length Inv-loop μ-loop
 same-length c = omega arith
 
--- src/lib.rt:302:1
 returns : tie.Need-returns Inv-loop μ-loop
 returns c =
     let l = c .before .before .before .before .before .before .loop in

@@ -1,15 +1,14 @@
+-- To put the rest of the bytes from here is to put all from the start.
 use Rattle.bitio.proofs.Turns.{bytes-turn, bytes-done}
-use Rattle.coding.specs.Bits.{bits, bitsOf, pack}
+use Rattle.coding.specs.Bits.{bits}
 use Rattle.bitio.specs.Splice.{splice}
-use lib.ListN.{length, take, drop, set, getD, length-set}
-use Prim.Native.Nat.{ℕ, _+_, _-_, _*_, _/_, _%_, _^_, _≤_, _<_}
+use lib.ListN.{length, drop, length-set}
+use Prim.Native.Nat.{ℕ, _+_, _-_, _*_, _≤_}
 use mathlib.Core.Path.{_≡_, refl, sym, ap, _∙_}
 use native.Mathlib.Omega.{arith}
 use denote.Ref.{now}
 use Rattle.bitio.proofs.put_bytes_aligned.Statement.{statement}
 use Rattle.bitio.proofs.put_bytes_aligned.Tie as tie
-use Rattle.bitio.proofs.put_bytes_aligned.Reads as reads
-use Rattle.bitio.proofs.put_bytes_aligned.Lts as lts
 
 abbrev Inv-loop : tie.InvT-loop
 Inv-loop out₀ start m j₀ out j =
@@ -19,31 +18,24 @@ Inv-loop out₀ start m j₀ out j =
 abbrev μ-loop : tie.MeasureT-loop
 μ-loop out₀ start m j₀ out j = length m - j
 
--- src/lib.rt:283:5
 loop-holds : tie.Need-loop-holds Inv-loop μ-loop
 loop-holds c = (omega arith, refl, ap (λ (k : ℕ). splice (bits (now (c .args .out))) (8 * k) (bits (now (c .args .m)))) (let z : c .args .start + 0 ≡ c .args .start = omega arith in z))
 
--- src/lib.rt:284:26
 shared-slice-read-out : tie.Need-shared-slice-read-out Inv-loop μ-loop
 shared-slice-read-out c = omega arith
 
--- src/lib.rt:284:13
 add-out : tie.Need-add-out Inv-loop μ-loop
 add-out c = omega arith
 
--- src/lib.rt:284:9
 slice-write-out : tie.Need-slice-write-out Inv-loop μ-loop
 slice-write-out c = omega arith
 
--- src/lib.rt:285:9
 add-j : tie.Need-add-j Inv-loop μ-loop
 add-j c = omega arith
 
--- src/lib.rt:283:5
 loop-less : tie.Need-loop-less Inv-loop μ-loop
 loop-less c = omega arith
 
--- src/lib.rt:283:5
 loop-again : tie.Need-loop-again Inv-loop μ-loop
 loop-again c =
     let l = c .before .before .loop in
@@ -53,11 +45,9 @@ loop-again c =
       bytes-turn (l .out) (now (a .m)) (a .start) (l .j) (omega arith) (omega arith) ∙ l .inv .2,
     )
 
--- src/lib.rt:278:1
 same-length : tie.Need-same-length Inv-loop μ-loop
 same-length c = c .before .loop .inv .1
 
--- src/lib.rt:278:1
 returns : tie.Need-returns Inv-loop μ-loop
 returns c =
     let l = c .before .loop in

@@ -1,31 +1,24 @@
+-- Each way out is a law of Takes.
 use Rattle.bitio.proofs.Takes.{bytes-whole, bytes-short}
 use borrow.Author.Needs.{needs}
 use Rattle.bitio.proofs.skip_bytes.Statement.{statement}
 use Rattle.bitio.proofs.skip_bytes.Tie as tie
-use Rattle.bitio.proofs.skip_bytes.Reads as reads
-use Rattle.bitio.proofs.skip_bytes.Lts as lts
 
--- src/lib.rt:230:15
 mul-end : tie.Need-mul-end
 mul-end c = search needs
 
--- src/lib.rt:231:14
 sub-if1 : tie.Need-sub-if1
 sub-if1 c = search needs
 
--- src/lib.rt:232:49
 mul-t8 : tie.Need-mul-t8
 mul-t8 c = search needs
 
--- src/lib.rt:232:43
 add-t9 : tie.Need-add-t9
 add-t9 c = search needs
 
--- src/lib.rt:232:9
 returns : tie.Need-returns
 returns c = search bytes-whole
 
--- src/lib.rt:225:1
 returns-2 : tie.Need-returns-2
 returns-2 c = search bytes-short
 

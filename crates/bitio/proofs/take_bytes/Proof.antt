@@ -1,41 +1,31 @@
+-- Each way out is a law of Takes, and what was got is what get_bytes gives.
 use Rattle.bitio.proofs.Takes.{bytes-whole, bytes-short}
 use mathlib.Core.Path.{refl}
 use borrow.Author.Needs.{needs}
 use Rattle.bitio.proofs.take_bytes.Statement.{statement}
 use Rattle.bitio.proofs.take_bytes.Tie as tie
-use Rattle.bitio.proofs.take_bytes.Reads as reads
-use Rattle.bitio.proofs.take_bytes.Lts as lts
-use Rattle.bitio.proofs.get_bytes.Reads as get-bytes-reads
 
--- src/lib.rt:245:15
 mul-end : tie.Need-mul-end
 mul-end c = search needs
 
--- src/lib.rt:246:14
 sub-if1 : tie.Need-sub-if1
 sub-if1 c = search needs
 
--- src/lib.rt:247:9
 get-bytes-requires : tie.Need-get-bytes-requires
 get-bytes-requires c κs = search needs
 
--- src/lib.rt:248:49
 mul-t12 : tie.Need-mul-t12
 mul-t12 c = search needs
 
--- src/lib.rt:248:43
 add-t13 : tie.Need-add-t13
 add-t13 c = search needs
 
--- src/lib.rt:248:9
 same-length : tie.Need-same-length
 same-length c = search needs
 
--- src/lib.rt:248:9
 returns : tie.Need-returns
 returns c = (search bytes-whole, c .before .before .get-bytes .ensures)
 
--- src/lib.rt:238:1
 returns-2 : tie.Need-returns-2
 returns-2 c = (search bytes-short, refl)
 

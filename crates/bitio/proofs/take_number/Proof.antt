@@ -1,32 +1,24 @@
+-- Each way out is a law of Takes.
 use Rattle.bitio.proofs.Takes.{number-whole, number-short}
 use borrow.Author.Needs.{needs}
 use Rattle.bitio.proofs.take_number.Statement.{statement}
 use Rattle.bitio.proofs.take_number.Tie as tie
-use Rattle.bitio.proofs.take_number.Reads as reads
-use Rattle.bitio.proofs.take_number.Lts as lts
-use Rattle.bitio.proofs.get.Reads as get-reads
 
--- src/lib.rt:168:15
 mul-end : tie.Need-mul-end
 mul-end c = search needs
 
--- src/lib.rt:169:17
 sub-if1 : tie.Need-sub-if1
 sub-if1 c = search needs
 
--- src/lib.rt:170:13
 get-requires : tie.Need-get-requires
 get-requires c κs = search needs
 
--- src/lib.rt:171:54
 add-t8 : tie.Need-add-t8
 add-t8 c = search needs
 
--- src/lib.rt:171:9
 returns : tie.Need-returns
 returns c = search number-whole
 
--- src/lib.rt:162:1
 returns-2 : tie.Need-returns-2
 returns-2 c = search number-short
 

@@ -1,77 +1,59 @@
+-- Eight bytes, each shifted to its place, are the number of 64 bits: one byte more a step.
 use Rattle.bitio.proofs.Runs.{top-first, top-more, top-last}
 use lib.Bits.{bitOr}
-use Prim.Native.Nat.{ℕ, _+_, _-_, _*_, _/_, _%_, _^_, _≤_, _<_}
-use mathlib.Core.Path.{_≡_, refl, sym, ap, _∙_}
+use Prim.Native.Nat.{ℕ, _+_, _*_, _%_, _^_}
+use mathlib.Core.Path.{refl}
 use native.Mathlib.Omega.{arith}
 use denote.Ref.{now}
 use borrow.Author.Needs.{needs}
 use Rattle.bitio.proofs.word.Statement.{statement}
 use Rattle.bitio.proofs.word.Tie as tie
-use Rattle.bitio.proofs.word.Reads as reads
-use Rattle.bitio.proofs.word.Lts as lts
-use Rattle.bitio.proofs.byte.Reads as byte-reads
 
--- src/lib.rt:82:5
 byte-requires : tie.Need-byte-requires
 byte-requires c κs = search needs
 
--- src/lib.rt:83:19
 add-byte : tie.Need-add-byte
 add-byte c = search needs
 
--- src/lib.rt:83:11
 byte-requires-2 : tie.Need-byte-requires-2
 byte-requires-2 c κs = search needs
 
--- src/lib.rt:84:19
 add-byte-2 : tie.Need-add-byte-2
 add-byte-2 c = search needs
 
--- src/lib.rt:84:11
 byte-requires-3 : tie.Need-byte-requires-3
 byte-requires-3 c κs = search needs
 
--- src/lib.rt:85:19
 add-byte-3 : tie.Need-add-byte-3
 add-byte-3 c = search needs
 
--- src/lib.rt:85:11
 byte-requires-4 : tie.Need-byte-requires-4
 byte-requires-4 c κs = search needs
 
--- src/lib.rt:86:19
 add-byte-4 : tie.Need-add-byte-4
 add-byte-4 c = search needs
 
--- src/lib.rt:86:11
 byte-requires-5 : tie.Need-byte-requires-5
 byte-requires-5 c κs = search needs
 
--- src/lib.rt:87:19
 add-byte-5 : tie.Need-add-byte-5
 add-byte-5 c = search needs
 
--- src/lib.rt:87:11
 byte-requires-6 : tie.Need-byte-requires-6
 byte-requires-6 c κs = search needs
 
--- src/lib.rt:88:19
 add-byte-6 : tie.Need-add-byte-6
 add-byte-6 c = search needs
 
--- src/lib.rt:88:11
 byte-requires-7 : tie.Need-byte-requires-7
 byte-requires-7 c κs = search needs
 
--- src/lib.rt:89:19
 add-byte-7 : tie.Need-add-byte-7
 add-byte-7 c = search needs
 
--- src/lib.rt:89:11
 byte-requires-8 : tie.Need-byte-requires-8
 byte-requires-8 c κs = search needs
 
--- src/lib.rt:78:1
 returns : tie.Need-returns
 returns c =
     let a = c .before .before .before .before .before .before .before .before .before .args in

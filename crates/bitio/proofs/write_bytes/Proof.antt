@@ -1,44 +1,33 @@
+-- Each way out is a law of PutsLaws.
 use Rattle.bitio.specs.PutsLaws.{bytes-long, bytes-over, bytes-in, bytes-not}
 use borrow.Author.Needs.{needs}
 use Rattle.bitio.proofs.write_bytes.Statement.{statement}
 use Rattle.bitio.proofs.write_bytes.Tie as tie
-use Rattle.bitio.proofs.write_bytes.Reads as reads
-use Rattle.bitio.proofs.write_bytes.Lts as lts
-use Rattle.bitio.proofs.put_bytes.Reads as put-bytes-reads
 
--- src/lib.rt:358:9
 returns : tie.Need-returns
 returns c = search bytes-long
 
--- src/lib.rt:360:21
 mul-end : tie.Need-mul-end
 mul-end c = search needs
 
--- src/lib.rt:360:15
 add-end : tie.Need-add-end
 add-end c = search needs
 
--- src/lib.rt:362:9
 returns-2 : tie.Need-returns-2
 returns-2 c = search bytes-over
 
--- src/lib.rt:364:15
 mul-if3 : tie.Need-mul-if3
 mul-if3 c = search needs
 
--- src/lib.rt:365:9
 put-bytes-requires : tie.Need-put-bytes-requires
 put-bytes-requires c κs = search needs
 
--- src/lib.rt:366:9
 same-length : tie.Need-same-length
 same-length c = search needs
 
--- src/lib.rt:366:9
 returns-3 : tie.Need-returns-3
 returns-3 c = search bytes-in
 
--- src/lib.rt:353:1
 returns-4 : tie.Need-returns-4
 returns-4 c = search bytes-not
 
