@@ -2,7 +2,7 @@
 -- `o` is the width of an offset in bytes.
 use Prim.Native.Nat.{ℕ, zero, suc, _≤_}
 use mathlib.Core.List.{List, [], _∷_}
-use mathlib.Core.Bool.{Bool, true, false, _&&_, not}
+use mathlib.Core.Bool.{Bool, true, _&&_, not}
 use mathlib.Core.Path.{_≡_}
 use mathlib.Core.Option.{Option}
 use mathlib.Core.Option as Op
@@ -15,7 +15,7 @@ use Rattle.coding.specs.Packed.{parse}
 use Rattle.coding.specs.Lawful.{lawful}
 use Rattle.coding.specs.Structs.{byIndex}
 use Rattle.coding.specs.Layout.{isBool, begin, bitByte, afterMember}
-use Rattle.coding.specs.Value.{Value, Values, absent, unknown, number, blob, row, chosen, none, _then_, asNumber, asRow, asObject, first, others}
+use Rattle.coding.specs.Value.{Value, Values, absent, unknown, number, blob, row, chosen, none, _then_, first, others}
 use Rattle.coding.specs.Sheet.{sheetOf, treeOf}
 use Rattle.coding.specs.declared.Flat.{Flat}
 use Rattle.coding.specs.declared.Flat.the-variants.{Boolean, Integer, Float, Enumerated, Struct}
@@ -154,7 +154,8 @@ unfoldable pub without : ℕ → Schema → Change
 without zero S ob v = v
 without (suc d) S ob v = withoutContent (without d S) S ob v
 
--- ---- an older value with the added members, by the older schema `S` and the newer `T`
+-- ---- an older value with the added members, by the older schema `S` and the newer `T`. It is what the newer schema reads of
+-- a message that the writer made under the older, where every fixed part is full and no number is unknown.
 -- "absent, but a plain bool whose bit falls in the older's full fixed part (a byte already written) is present and false":
 -- an added member where the cursor stands, n bytes being the older's fixed part
 unfoldable pub addedValue : ℕ → Cursor → Member → Value

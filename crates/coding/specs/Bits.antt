@@ -1,7 +1,7 @@
 -- Bytes as bits, "packed most significant bit first". A bit is the number 0 or 1.
 use Prim.Native.Nat.{ℕ, zero, suc, _+_, _*_, _-_, _/_, _%_, _^_}
 use mathlib.Core.List.{List, [], _∷_, _++_}
-use mathlib.Core.Bool.{Bool, true, false, _&&_}
+use mathlib.Core.Bool.{Bool, true, _&&_}
 use lib.ListN.{length, take, drop, replicate}
 use lib.Dec.{eqb}
 

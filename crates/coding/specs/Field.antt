@@ -13,14 +13,13 @@ use Rattle.coding.specs.Lawful.{lawful}
 use Rattle.coding.specs.Structs.{total, structSize}
 use Rattle.coding.specs.Layout.{begin, afterMembers}
 use Rattle.coding.specs.Step.{fieldStep, memberStep, elementStep}
-use Rattle.coding.specs.Walk.{placed, openObject, rootPlace, sizeOk, startOk}
+use Rattle.coding.specs.Walk.{placed, openObject, rootPlace, early, sizeOk, startOk}
 use Rattle.coding.specs.declared.Flat.{Flat}
 use Rattle.coding.specs.declared.Flat.the-variants as F
 use Rattle.coding.specs.declared.Object.{Object}
 use Rattle.coding.specs.declared.Object.the-variants as O
 use Rattle.coding.specs.declared.Kind.{Kind}
 use Rattle.coding.specs.declared.Kind.the-variants.{OfFlat, OfObject, OfUnion}
-use Rattle.coding.specs.declared.Member.{Member}
 use Rattle.coding.specs.declared.Place.{Place}
 use Rattle.coding.specs.declared.Place.the-variants.{ByOffset, InPlace}
 use Rattle.coding.specs.declared.Step.{Step}
@@ -30,6 +29,7 @@ use Rattle.coding.specs.declared.Opened.the-variants as Op
 use Rattle.coding.specs.declared.Refusal.{Refusal}
 use Rattle.coding.specs.declared.Found.{Found}
 use Rattle.coding.specs.declared.Found.the-variants as Fd
+use Rattle.coding.specs.declared.Verdict.{Verdict}
 use Rattle.coding.specs.declared.Answer.{Answer}
 use Rattle.coding.specs.declared.Answer.the-variants as A
 
@@ -130,6 +130,17 @@ answerOf (Fd.Value k x holder) = valueAnswer k x
 answerOf (Fd.Struct i at holder) = A.Struct at
 answerOf (Fd.Object ob at start n d) = A.Object (recordKind ob) at n
 
+-- number and place of an answer, "without budget and with visits 0": 0 at 0 for every answer that is not a refusal
+unfoldable pub answerVerdict : Answer → Verdict
+answerVerdict (A.Boolean x) = early 0
+answerVerdict (A.Number x w s) = early 0
+answerVerdict (A.Float x w) = early 0
+answerVerdict (A.Object k at n) = early 0
+answerVerdict (A.Struct at) = early 0
+answerVerdict A.Absent = early 0
+answerVerdict (A.Unknown x) = early 0
+answerVerdict (A.Refused r) = record { number = r .number; place = r .place; visits = 0 }
+
 -- "1, 15 for length, 2 and 3 come first"; "path over 96 numbers", at "0 for length"
 unfoldable pub before : ℕ → Found
 before n = Fd.Refused (refusal n 0)
@@ -189,7 +200,7 @@ unfoldable pub readerStart : ℕ → List ℕ → List ℕ → List ℕ → Foun
 readerStart o b m path = readerOf (parse b) (fieldFound o b m path)
 
 -- "Each step answers as that element's path would ..; after the last it answers 15 at the list and stays.": the answer of
--- the step at element j
+-- the step at element j. A path to a list has at most 31 numbers, so one more is never too long.
 unfoldable pub readerAnswer : ℕ → List ℕ → List ℕ → List ℕ → ℕ → Answer
 readerAnswer o b m path j = field o b m (path ++ j ∷ [])
 

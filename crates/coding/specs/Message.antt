@@ -1,5 +1,5 @@
 -- The writer: which trees can be written, and the one message of each. `o` is the width of an offset in bytes.
-use Prim.Native.Nat.{ℕ, zero, suc, _+_, _*_}
+use Prim.Native.Nat.{ℕ, zero, suc, _+_}
 use mathlib.Core.List.{List, [], _∷_, _++_}
 use mathlib.Core.Bool.{Bool, true, false, _&&_, not}
 use mathlib.Core.Option.{Option}
@@ -13,8 +13,8 @@ use Rattle.coding.specs.Structs.{byIndex, structSize}
 use Rattle.coding.specs.Packed.{parse}
 use Rattle.coding.specs.Lawful.{lawful}
 use Rattle.coding.specs.Layout.{hasFlag, fixedSize}
-use Rattle.coding.specs.Walk.{magic, verdict, headerSize}
-use Rattle.coding.specs.Value.{Value, Values, absent, unknown, number, blob, row, chosen, none, _then_, asNumber, asBlob, asRow, asObject, present, known, first, others, count}
+use Rattle.coding.specs.Walk.{magic, verdict, early}
+use Rattle.coding.specs.Value.{Value, Values, none, _then_, asNumber, asBlob, asRow, asObject, present, known, first, others, count}
 use Rattle.coding.specs.Read.{messageRead}
 use Rattle.coding.specs.Sheet.{sheetOf, sheetTree}
 use Rattle.coding.specs.Cells.{Slots, end, bytes, bit, reference, inPlace, packBits, layout}
@@ -216,6 +216,10 @@ unfoldable pub writeRoom : Written → ℕ → WriteAnswer
 writeRoom (refused n) room = record { number = n; length = 0 }
 writeRoom (message m) room =
     pick (leb (length m) room) (record { number = 0; length = length m }) (record { number = 14; length = 0 })
+
+-- number, place and visits of the writer's answer: "with visits 0"
+unfoldable pub writeVerdict : WriteAnswer → Verdict
+writeVerdict a = early (a .number)
 
 unfoldable pub writeOver : Written → List ℕ → List ℕ
 writeOver (refused n) out = out

@@ -93,8 +93,8 @@ unfoldable pub blocks : List ℕ → ℕ → ℕ → ℕ → ℕ
 blocks b head start zero = start
 blocks b head start (suc n) = recordPlace head (blocks b head start n) (records b head (blocks b head start n))
 
--- "Then in that order: struct: 8-bit member count, member records; list: one record for its element; union: 8-bit case
--- count, records; table: 32-bit id, 8-bit member count, records."
+-- "Then in that order": "struct: 8-bit member count .., member records"; "list: one record for its element"; "union: 8-bit
+-- case count .., records"; "table: 32-bit id, 8-bit member count .., records"
 unfoldable pub structPlace : List ℕ → ℕ → ℕ
 structPlace b i = blocks b 0 5 i
 

@@ -2,7 +2,7 @@
 -- lawful there cannot be written.
 use Prim.Native.Nat.{ℕ}
 use mathlib.Core.List.{List, []}
-use mathlib.Core.Bool.{Bool, false}
+use mathlib.Core.Bool.{false}
 use lib.ListN.{getD}
 use Rattle.coding.specs.declared.Flat.{Flat}
 use Rattle.coding.specs.declared.Flat.the-variants.{Boolean}
@@ -23,7 +23,7 @@ pub record Schema : Type 0 where
   pub tables : List Table
   pub root : ℕ
 
--- ---- what stands at an index; past the end, nothing
+-- ---- what stands at an index; past the end something that no lawful schema reaches
 -- a struct's members
 unfoldable pub structOf : Schema → ℕ → List Flat
 structOf S i = getD (S .structs) i []

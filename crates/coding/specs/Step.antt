@@ -36,8 +36,8 @@ floatStep none w x = pick (none && isNaN w x) St.Absent (St.Value x)
 unfoldable pub structStep : Schema → List ℕ → ℕ → ℕ → Step
 structStep S m i at = pick (structOk S m i at) (St.Struct i at) (St.Refused 10)
 
--- the object that a reference or, in place, a length x leads to. "In place: the U48 is the length, and the content starts
--- where its table's fixed part ends": at `tail`.
+-- the object that a reference or, in place, a length x leads to. "In place: the U48 is the length .., and the content
+-- without magic and length starts where its table's fixed part ends": at `tail`.
 unfoldable pub placeOf : Bool → ℕ → ℕ → Place
 placeOf inplace tail x = pick inplace (InPlace tail x) (ByOffset x)
 

@@ -1,7 +1,7 @@
 -- Structs, by recursion on the struct index, which falls at every inner struct.
 use Prim.Native.Nat.{ℕ, zero, suc, _+_}
 use mathlib.Core.List.{List, [], _∷_}
-use mathlib.Core.Bool.{Bool, true, false, _&&_}
+use mathlib.Core.Bool.{Bool, true, _&&_}
 use lib.ListN.{getD}
 use lib.Dec.{leb, eqb}
 use Rattle.coding.specs.Lists.{pick}

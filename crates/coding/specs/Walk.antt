@@ -2,7 +2,7 @@
 -- `o` is the width of an offset in bytes.
 use Prim.Native.Nat.{ℕ, zero, suc, _+_}
 use mathlib.Core.List.{List, [], _∷_}
-use mathlib.Core.Bool.{Bool, true, false, _&&_}
+use mathlib.Core.Bool.{Bool, true, _&&_}
 use lib.ListN.{length, getD}
 use lib.Dec.{ltb, leb, eqb}
 use Rattle.coding.specs.Lists.{pick}
@@ -48,8 +48,8 @@ magic S (O.Table i) = tableOf S i .id
 unfoldable pub headerSize : ℕ → ℕ
 headerSize o = 4 + o
 
--- the bytes of an object's content, by its length. "Text: length bytes and one zero byte. Bytes: length bytes. List:
--- length elements. Table: length bytes of fixed part."
+-- the bytes of an object's content, by its length. "Text: length bytes and one zero byte. Bytes: length bytes."; "List:
+-- length elements."; "Table: length bytes of fixed part."; "A text keeps its zero byte unless it is absent.", in place too
 unfoldable pub contentSize : ℕ → Schema → Object → ℕ → ℕ
 contentSize o S O.Text n = n + 1
 contentSize o S O.Bytes n = n
@@ -71,7 +71,8 @@ openContent o S m ob start n =
     (Op.Refused 6)
 
 -- "Judged at an arrival: .. offset and header fit, magic, content fit, text's end byte."; refusals 6 "offset under 10, or
--- header or content does not fit" and 7 "wrong object magic". In place there is no header.
+-- header or content does not fit" and 7 "wrong object magic". "An offset under 10 is not lawful where an object is
+-- required." In place there is no header.
 unfoldable pub openObject : ℕ → Schema → List ℕ → Object → Place → Opened
 openObject o S m ob (ByOffset x) =
     pick (leb (headerSize o) x && leb (x + headerSize o) (length m))
@@ -145,7 +146,7 @@ counted child b ob p s =
     pick (ltb (s .visits) (b .visits)) (child ob p (record { visits = s .visits + 1 })) (refuse 4 (placed p) s)
 
 -- an arrival with d objects of depth left, this one counted: "budget, depth, offset and header fit, magic, content fit,
--- text's end byte. Then each member or element in turn"
+-- text's end byte. Then each member or element in turn". "following a reference or entering in-place content adds 1".
 unfoldable pub visit : ℕ → ℕ → Schema → List ℕ → Budget → Child
 visit zero o S m b = counted tooDeep b
 visit (suc d) o S m b = counted (arrive (visit d o S m b) o S m) b

@@ -1,26 +1,23 @@
 -- A value that a schema can show is decoded from its bits, whatever follows them.
-use mathlib.Core.Path.{_≡_, refl, sym, ap, _∙_}
-use mathlib.Core.List.{List, [], _∷_, _++_, append-assoc}
-use mathlib.Core.Bool.{Bool, true, false, _&&_, not, false≢true}
-use Prim.Native.Nat.{ℕ, zero, suc, _+_, _*_, _^_, _<_, _≤_}
+use mathlib.Core.Path.{_≡_, refl, _∙_}
+use mathlib.Core.List.{List, _++_, append-assoc}
+use mathlib.Core.Bool.{Bool, true, false, false≢true}
+use Prim.Native.Nat.{ℕ, zero, suc, _*_, _^_, _<_, _≤_}
 use native.Mathlib.Omega.{arith}
-use lib.ListN.{length, take, drop, length-append}
+use lib.ListN.{length, length-append}
 use lib.Seq.{drop-at}
-use lib.Dec.{ltb, leb, eqb}
+use lib.Dec.{ltb}
 use borrow.Author.Tests.{lt-ltb, le-leb, ne-eqb}
 use Rattle.coding.specs.Lists.{pick}
-use Rattle.coding.specs.Schema.{Schema, structOf, elementOf, casesOf, caseOf, tableOf}
-use Rattle.coding.specs.Structs.{byIndex}
-use Rattle.coding.specs.Value.{Value, Values, absent, unknown, number, blob, row, chosen, none, _then_, asNumber, asBlob, asRow, asObject, present, first, others, count}
-use Rattle.coding.specs.Bits.{bitsOf, bits, value, pack}
-use Rattle.coding.specs.Sheet.{markBits, flatBits, fieldBits, fieldsBits, bitsBy, noBits, structBits, Encoder, bodyBits, flatUnknown, unknownWidth, partBits, flatBare, bare, elementBits, membersBits, elementsBits, blobBits, contentBits, encode}
-use Rattle.coding.specs.Sheet.{Parsed, fail, got, bind, takeNumber, takeBytes, takeValue, takeIf, takeMark, unknownEnum, takeLostEnum, takeEnum, takeFlat, takeField, takeFields, takeBy, takeNothing, takeStruct, Decoder, takeChoice, takeBody, takeLostFlat, takeLost, takePart, takeElement, takeMembers, takeElements, takeBlob, takeContent, decode}
+use Rattle.coding.specs.Schema.{Schema, structOf, elementOf, casesOf, caseOf}
+use Rattle.coding.specs.Value.{Value, Values, absent, unknown, number, blob, row, chosen, asNumber, asBlob, asRow, asObject, present, first, others, count}
+use Rattle.coding.specs.Bits.{bitsOf, bits}
+use Rattle.coding.specs.Sheet.{markBits, flatBits, fieldBits, fieldsBits, bitsBy, noBits, structBits, Encoder, bodyBits, flatUnknown, unknownWidth, partBits, bare, elementBits, membersBits, elementsBits, blobBits, contentBits, encode}
+use Rattle.coding.specs.Sheet.{Parsed, got, bind, takeNumber, takeBytes, takeValue, takeIf, takeMark, unknownEnum, takeLostEnum, takeEnum, takeFlat, takeField, takeFields, takeBy, takeNothing, takeStruct, Decoder, takeChoice, takeBody, takeLostFlat, takeLost, takePart, takeElement, takeMembers, takeElements, takeBlob, takeContent, decode}
 use Rattle.coding.specs.declared.Flat.{Flat}
-use Rattle.coding.specs.declared.Flat.the-variants.{Boolean, Integer, Float, Enumerated, Struct}
 use Rattle.coding.specs.declared.Object.{Object}
-use Rattle.coding.specs.declared.Object.the-variants as O
 use Rattle.coding.specs.declared.Kind.{Kind}
-use Rattle.coding.specs.declared.Kind.the-variants.{OfFlat, OfObject, OfUnion}
+use Rattle.coding.specs.declared.Kind.the-variants.{OfUnion}
 use Rattle.coding.specs.declared.Member.{Member}
 use Rattle.laws.specs.Sound.{All, FlatSound, KindSound, MemberSound, Sound}
 use Rattle.laws.specs.All.{all-append}
@@ -60,7 +57,7 @@ unfolding takeIf bind
 if-spelt w x ok f h e = (bitsOf-bits w x, λ r. rw (number-read w x h r, e))
 
 -- ---- marks
-mark-present : (w : ℕ) (body : Value → List ℕ) (v : Value) → present v ≡ true → markBits w body v ≡ bitsOf 2 1 ++ body v
+pub mark-present : (w : ℕ) (body : Value → List ℕ) (v : Value) → present v ≡ true → markBits w body v ≡ bitsOf 2 1 ++ body v
 unfolding markBits present
 mark-present w body absent h = absurd (false≢true h)
 mark-present w body (unknown x) h = absurd (false≢true h)

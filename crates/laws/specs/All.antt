@@ -1,6 +1,6 @@
 -- P of each element of a list: of joined lists, of parts of a list, and what it says index by index.
 use mathlib.Core.List.{List, [], _∷_, _++_}
-use Prim.Native.Nat.{ℕ, zero, suc, _<_}
+use Prim.Native.Nat.{ℕ, zero, suc}
 use lib.ListN.{getD, take, drop, replicate}
 use Rattle.laws.specs.Sound.{All}
 

@@ -1,18 +1,19 @@
 -- The laws of bits, most significant first: lengths, the value of bits and the bits of a value, bytes as bits and back.
 use mathlib.Core.Path.{_≡_, refl, sym, ap, ap₂, _∙_}
 use mathlib.Core.List.{List, [], _∷_, _++_, append-assoc, append-nil}
-use mathlib.Core.Bool.{Bool, true, false, _&&_}
+use mathlib.Core.Bool.{true}
 use Prim.Native.Nat.{ℕ, zero, suc, _+_, _-_, _*_, _/_, _%_, _^_, _≤_, _<_}
-use native.Mathlib.Nat.{zero-add, suc-add, add-comm, mul-assoc, mod-one, mod-lt, mul-add-div-right, mul-add-mod-self-right, add-mul, pow-suc, mul-comm, mod-eq-of-lt}
+use native.Mathlib.Nat.{zero-add, suc-add, add-comm, mul-assoc, mod-one, mul-add-div-right, mul-add-mod-self-right, add-mul, pow-suc, mul-comm, mod-eq-of-lt}
 use native.Mathlib.Omega.{arith}
-use lib.ListN.{length, take, drop, replicate, length-append, length-drop, length-replicate, take-append-drop}
-use lib.Seq.{take-at, drop-at, take-add, take-all, take-length, length-take-le}
+use lib.ListN.{length, take, drop, replicate, length-append, length-drop, length-replicate}
+use lib.Seq.{take-at, drop-at, take-add, take-all, length-take-le}
 use lib.Pow.{pow-pos, pow-add, split, high, shr-shr, mod-pow-add}
 use lib.Arith.{digits-lt}
 use lib.Dec.{eqb}
 use borrow.Author.Tests.{eqb-true}
 use Rattle.coding.specs.Bits.{bitsOf, bits, value, pack, packed, byteCount, allZero}
 use Rattle.laws.specs.Sound.{All}
+use Rattle.laws.specs.Lists.{both-left, both-right}
 use Rattle.laws.specs.All.{all-append, all-take, all-drop, all-replicate}
 
 abbrev pub Bit : ℕ → Type 0
@@ -158,16 +159,12 @@ unfolding allZero
 zero-bits zero = refl
 zero-bits (suc n) = zero-bits n
 
-and-both : (a b : Bool) → a && b ≡ true → (a ≡ true) × (b ≡ true)
-and-both true b e = (refl, e)
-and-both false b e = let z : _≡_ {A = ℕ} 0 1 = cc in absurd (omega arith)
-
 pub bits-zero : (xs : List ℕ) → allZero xs ≡ true → xs ≡ replicate (length xs) 0
 unfolding allZero
 bits-zero [] e = refl
 bits-zero (x ∷ xs) e =
-    let h = and-both (eqb x 0) (allZero xs) e in
-    ap₂ (λ (y : ℕ) (s : List ℕ). y ∷ s) (eqb-true x 0 (h .0)) (bits-zero xs (h .1))
+    ap₂ (λ (y : ℕ) (s : List ℕ). y ∷ s) (eqb-true x 0 (both-left (eqb x 0) (allZero xs) e))
+    (bits-zero xs (both-right (eqb x 0) (allZero xs) e))
 
 -- how many zero bits fill the last byte
 abbrev pub padding : List ℕ → ℕ

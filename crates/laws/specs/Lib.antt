@@ -4,3 +4,10 @@ pub mod Sound
 pub mod All
 pub mod Bits
 pub mod BitLists
+pub mod Lists
+pub mod Parsed
+pub mod Rules
+pub mod RecordSound
+pub mod Sizes
+pub mod LawfulSound
+pub mod SoundAt

@@ -1,0 +1,80 @@
+-- Demand 3, first half: "whatever bytes the newer accepts with a budget, the older accepts with the same budget; the older's
+-- sheet is the newer's sheet without the appended members, as bytes".
+-- When one schema appends to another, and what a sheet is without the appended members, is said in coding's Append. The
+-- second half is in NewerAgrees.
+use Prim.Native.Nat.{ℕ, _<_, _≤_}
+use native.Mathlib.Omega.{arith}
+use mathlib.Core.List.{List}
+use mathlib.Core.Path.{_≡_, sym, ap, subst}
+use lib.ListN.{getD, length}
+use lib.Dec.{leb}
+use borrow.Author.Tests.{leb-true}
+use Rattle.coding.specs.Bytes.{u48, deepest, largest}
+use Rattle.coding.specs.Packed.{parse}
+use Rattle.coding.specs.Read.{messageRead}
+use Rattle.coding.specs.Sheet.{sheetOf}
+use Rattle.coding.specs.Walk.{headerSize, sizeOk, verdictOf, verdict}
+use Rattle.coding.specs.Message.{messageSheet}
+use Rattle.coding.specs.Append.{Appends, without, resheet, sheetWithout}
+use Rattle.coding.specs.declared.Object.the-variants as Ob
+use Rattle.coding.specs.declared.Budget.{Budget}
+use Rattle.coding.specs.declared.Verdict.{Verdict}
+use Rattle.laws.specs.Lists.{both-right}
+use Rattle.laws.specs.LawfulSound.{lawful-sound}
+use Rattle.demands.specs.OlderAccepts as A
+use Rattle.demands.specs.OlderReads as R
+use Rattle.demands.specs.Reached.{verdict-walks, walks-verdict}
+use Rattle.demands.specs.Sheets.{decode-encode}
+use Rattle.demands.specs.AcceptedShown.{walk-ends, ends-going}
+
+-- the numbers of a list are bytes
+abbrev pub AreBytes : List ℕ → Type 0
+AreBytes l = (i : ℕ) → getD l i 0 < 256
+
+-- ---- at every offset width: the verdict; and the values, of any bytes
+module _ (older newer : List ℕ) (older-bytes : AreBytes older) (appends : Appends older newer) (o : ℕ) (m : List ℕ) where
+  pub older-accepts : (b : Budget) → verdict o newer m b .number ≡ 0
+      → (verdict o older m b .number ≡ 0) × (verdict o older m b .visits ≤ verdict o newer m b .visits)
+  unfolding verdictOf
+  older-accepts b h =
+      let x = verdict-walks o newer m b h in
+      let y = A.older-accepts o (parse older) (parse newer) (lawful-sound older older-bytes (appends .older-lawful)) (appends .schemas) m b (x .spent) (x .walks) in
+      let e = walks-verdict o older m b (appends .older-lawful) (x .size) (x .start) (y .0) (y .1) in (
+        ap (λ (v : Verdict). v .number) e,
+        subst (λ (v : Verdict). v .visits ≤ verdict o newer m b .visits) (sym e)
+            (subst (λ (v : Verdict). y .0 .visits ≤ v .visits) (sym (x .answer)) (y .2)),
+      )
+
+  pub older-reads :
+      messageRead o (parse older) m ≡ without deepest (parse older) (Ob.Table (parse older .root)) (messageRead o (parse newer) m)
+  older-reads = R.older-reads o (parse older) (parse newer) (lawful-sound older older-bytes (appends .older-lawful)) (appends .schemas) m
+
+-- ---- the sheet too, as bytes
+pub record OlderAgrees (o : ℕ) (older newer m : List ℕ) (b : Budget) : Type 0 where
+  pub accepts : verdict o older m b .number ≡ 0
+  pub visits : verdict o older m b .visits ≤ verdict o newer m b .visits
+  pub sheet : messageSheet o older m ≡ sheetWithout older newer (messageSheet o newer m)
+
+module _ (older newer m : List ℕ) (older-bytes : AreBytes older) (newer-bytes : AreBytes newer) (message-bytes : AreBytes m)
+    (appends : Appends older newer) (b : Budget) where
+  pub older-agrees : (o : ℕ) → 0 < o → verdict o newer m b .number ≡ 0 → OlderAgrees o older newer m b
+  unfolding messageSheet sheetWithout resheet sizeOk
+  older-agrees o wide h =
+      let x = verdict-walks o newer m b h in
+      let y = older-accepts older newer older-bytes appends o m b h in
+      let sound = lawful-sound newer newer-bytes (appends .newer-lawful) in
+      let sized = leb-true (length m) largest (both-right (leb (headerSize o) (length m)) (leb (length m) largest) (x .size)) in
+      let shown = ends-going (x .walks) (walk-ends (parse newer) sound m message-bytes sized o wide b) in
+      record {
+        accepts = y .0;
+        visits = y .1;
+        sheet =
+            rw (decode-encode (parse newer) sound (messageRead o (parse newer) m) shown)
+            (ap (sheetOf (parse older)) (older-reads older newer older-bytes appends o m));
+      }
+
+  -- THE CLAIM: what the newer accepts, the older accepts with the same budget and no more visits, and its sheet is the newer's
+  -- without the appended members
+  pub older-sheet : verdict u48 newer m b .number ≡ 0 → OlderAgrees u48 older newer m b
+  unfolding u48
+  older-sheet h = older-agrees u48 (omega arith) h

@@ -1,0 +1,125 @@
+-- What is reached in a message and what is lawful, apart from the walk, with no order and nothing handed on: the root is
+-- reached, and so is whatever a part of a reached object leads to; and how many arrivals there are, a shared object counted at
+-- each. `o` is the width of an offset in bytes.
+use Prim.Native.Nat.{ℕ, zero, suc, _≤_, _<_, _+_}
+use mathlib.Core.List.{List}
+use mathlib.Core.Bool.{true}
+use mathlib.Core.Path.{_≡_}
+use lib.ListN.{length, getD, take}
+use Rattle.coding.specs.Bytes.{deepest}
+use Rattle.coding.specs.Schema.{Schema, elementOf, tableOf, plainBool}
+use Rattle.coding.specs.Packed.{parse}
+use Rattle.coding.specs.Lawful.{lawful}
+use Rattle.coding.specs.Layout.{begin, afterMembers}
+use Rattle.coding.specs.Step.{memberStep, elementStep}
+use Rattle.coding.specs.Walk.{openObject, rootPlace, sizeOk, startOk}
+use Rattle.coding.specs.declared.Object.{Object}
+use Rattle.coding.specs.declared.Object.the-variants as Ob
+use Rattle.coding.specs.declared.Member.{Member}
+use Rattle.coding.specs.declared.Cursor.{Cursor}
+use Rattle.coding.specs.declared.Place.{Place}
+use Rattle.coding.specs.declared.Place.the-variants.{ByOffset, InPlace}
+use Rattle.coding.specs.declared.Step.{Step}
+use Rattle.coding.specs.declared.Step.the-variants as St
+use Rattle.coding.specs.declared.Opened.{Opened}
+use Rattle.coding.specs.declared.Opened.the-variants as Op
+use Rattle.coding.specs.declared.Budget.{Budget}
+
+-- ---- the parts of an object: the members of a table, the elements of a list
+-- how many there are, of an object of length n
+unfoldable pub partCount : Schema → Object → ℕ → ℕ
+partCount S Ob.Text n = 0
+partCount S Ob.Bytes n = 0
+partCount S (Ob.List i) n = n
+partCount S (Ob.Table i) n = length (tableOf S i .members)
+
+-- what member j holds, of the members of a table whose fixed part has n bytes from `start`: where it stands depends on the
+-- members before it, from the cursor on
+unfoldable pub memberAt : ℕ → Schema → List ℕ → ℕ → ℕ → Cursor → List Member → ℕ → Step
+memberAt o S m start n c rs j = memberStep o S m start n (afterMembers o S (take j rs) c) (getD rs j plainBool)
+
+-- what part j holds, of an object whose content starts at `start` and has length n
+unfoldable pub partStep : ℕ → Schema → List ℕ → Object → ℕ → ℕ → ℕ → Step
+partStep o S m Ob.Text start n j = St.Absent
+partStep o S m Ob.Bytes start n j = St.Absent
+partStep o S m (Ob.List i) start n j = elementStep o S m (elementOf S i) start j
+partStep o S m (Ob.Table i) start n j = memberAt o S m start n begin (tableOf S i .members) j
+
+-- ---- what is reached
+-- a step leads to an object
+pub data LeadsTo : Step → Object → Place → Type 0 where
+  by-reference : {ob : Object} {p : Place} → LeadsTo (St.Object ob p) ob p
+  by-choice : {c : ℕ} {ob : Object} {p : Place} → LeadsTo (St.Choice c ob p) ob p
+
+-- "Depth: 32 objects, the root being 1; following a reference or entering in-place content adds 1."
+pub data Arrives (o : ℕ) (S : Schema) (m : List ℕ) : ℕ → Object → Place → Type 0 where
+  root : Arrives o S m 1 (Ob.Table (S .root)) (rootPlace o m)
+  below : {d : ℕ} {ob ob′ : Object} {p p′ : Place} (start n j : ℕ) → Arrives o S m d ob p
+      → openObject o S m ob p ≡ Op.Content start n → j < partCount S ob n → LeadsTo (partStep o S m ob start n j) ob′ p′
+      → Arrives o S m (suc d) ob′ p′
+
+-- ---- what is lawful
+-- by offset, an offset; in place, anything
+abbrev pub PlaceGiven : Place → Type 0
+PlaceGiven (ByOffset x) = x ≡ 0 → ⊥
+PlaceGiven (InPlace a n) = Unit {0}
+
+-- no part is cut, no flag without value, no struct boolean other than 0 and 1, no known choice without an offset
+abbrev pub LawfulStep : Step → Type 0
+LawfulStep (St.Refused n) = ⊥
+LawfulStep St.Absent = Unit {0}
+LawfulStep (St.Value x) = Unit {0}
+LawfulStep (St.Unknown x) = Unit {0}
+LawfulStep (St.Struct i at) = Unit {0}
+LawfulStep (St.Object ob p) = Unit {0}
+LawfulStep (St.Choice c ob p) = PlaceGiven p
+
+-- the object opens (its offset and header fit, its magic is right, its content fits, a text's end byte is 0), and each of its
+-- parts is lawful
+pub record LawfulObject (o : ℕ) (S : Schema) (m : List ℕ) (ob : Object) (p : Place) : Type 0 where
+  pub start : ℕ
+  pub size : ℕ
+  pub opens : openObject o S m ob p ≡ Op.Content start size
+  pub parts : (j : ℕ) → j < partCount S ob size → LawfulStep (partStep o S m ob start size j)
+
+-- ---- how many arrivals there are, "shared objects each time, in-place ones too"
+-- the sum of f at each number below n
+unfoldable pub sum : (ℕ → ℕ) → ℕ → ℕ
+sum f zero = 0
+sum f (suc n) = f 0 + sum (λ j. f (suc j)) n
+
+-- what an object or a step leads to, given how many arrivals come of each object
+unfoldable pub arrivalsAt : (Object → Place → ℕ) → Step → ℕ
+arrivalsAt child (St.Refused n) = 0
+arrivalsAt child St.Absent = 0
+arrivalsAt child (St.Value x) = 0
+arrivalsAt child (St.Unknown x) = 0
+arrivalsAt child (St.Struct i at) = 0
+arrivalsAt child (St.Object ob p) = child ob p
+arrivalsAt child (St.Choice c ob p) = child ob p
+
+unfoldable pub arrivalsIn : (Object → Place → ℕ) → ℕ → Schema → List ℕ → Object → Opened → ℕ
+arrivalsIn child o S m ob (Op.Refused n) = 0
+arrivalsIn child o S m ob (Op.Content start n) =
+    sum (λ j. arrivalsAt child (partStep o S m ob start n j)) (partCount S ob n)
+
+-- the arrivals at an object and below it, d objects deep
+unfoldable pub arrivals : ℕ → ℕ → Schema → List ℕ → Object → Place → ℕ
+arrivals zero o S m ob p = 0
+arrivals (suc d) o S m ob p = 1 + arrivalsIn (arrivals d o S m) o S m ob (openObject o S m ob p)
+
+unfoldable pub messageArrivals : ℕ → Schema → List ℕ → ℕ
+messageArrivals o S m = arrivals deepest o S m (Ob.Table (S .root)) (rootPlace o m)
+
+-- ---- accepted
+pub record Accepted (o : ℕ) (S : Schema) (m : List ℕ) (b : Budget) : Type 0 where
+  pub depth : (d : ℕ) (ob : Object) (p : Place) → Arrives o S m d ob p → d ≤ deepest
+  pub lawful : (d : ℕ) (ob : Object) (p : Place) → Arrives o S m d ob p → LawfulObject o S m ob p
+  pub budget : messageArrivals o S m ≤ b .visits
+
+-- a message that a schema's bytes and a budget accept
+pub record LawfulMessage (o : ℕ) (b m : List ℕ) (budget : Budget) : Type 0 where
+  pub schema : lawful b ≡ true
+  pub size : sizeOk o m ≡ true
+  pub start : startOk m ≡ true
+  pub objects : Accepted o (parse b) m budget

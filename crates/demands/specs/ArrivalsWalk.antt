@@ -1,0 +1,304 @@
+-- The walk beside what is reached: it goes to its end exactly when all that it reaches is lawful and within the budget, and
+-- has spent the arrivals then.
+use Prim.Native.Nat.{ℕ, zero, suc, _≤_, _<_, _+_}
+use native.Mathlib.Nat.{add-zero}
+use native.Mathlib.Omega.{arith}
+use mathlib.Core.List.{List, [], _∷_}
+use mathlib.Core.Bool.{Bool, true, false}
+use mathlib.Core.Path.{_≡_, refl, sym, ap, ap₂, _∙_, subst}
+use lib.ListN.{length}
+use lib.Dec.{ltb, eqb}
+use borrow.Author.Tests.{ltb-true, ltb-false, eqb-true, eqb-false}
+use Rattle.coding.specs.Lists.{pick}
+use Rattle.coding.specs.Bytes.{deepest}
+use Rattle.coding.specs.Schema.{Schema, elementOf, tableOf}
+use Rattle.coding.specs.Layout.{begin, afterMember, afterMembers}
+use Rattle.coding.specs.Step.{memberStep, elementStep}
+use Rattle.coding.specs.Walk.{placed, openObject, refuse, andThen, Child, followChoice, follow, members, elements, content, enter, arrive, tooDeep, counted, visit, rootPlace}
+use Rattle.coding.specs.declared.Object.{Object}
+use Rattle.coding.specs.declared.Object.the-variants as Ob
+use Rattle.coding.specs.declared.Kind.{Kind}
+use Rattle.coding.specs.declared.Member.{Member}
+use Rattle.coding.specs.declared.Cursor.{Cursor}
+use Rattle.coding.specs.declared.Place.{Place}
+use Rattle.coding.specs.declared.Place.the-variants.{ByOffset, InPlace}
+use Rattle.coding.specs.declared.Step.{Step}
+use Rattle.coding.specs.declared.Step.the-variants as St
+use Rattle.coding.specs.declared.Opened.{Opened}
+use Rattle.coding.specs.declared.Opened.the-variants as Op
+use Rattle.coding.specs.declared.Budget.{Budget}
+use Rattle.coding.specs.declared.Spent.{Spent}
+use Rattle.coding.specs.declared.Refusal.{Refusal}
+use Rattle.coding.specs.declared.Walked.{Walked}
+use Rattle.coding.specs.declared.Walked.the-variants.{Going, Refused}
+use Rattle.demands.specs.RefusalNumbers.{NumberedStep, NumberedOpened, member-numbered, element-numbered, open-numbered}
+use Rattle.demands.specs.Arrivals.{partCount, memberAt, partStep, LeadsTo, by-reference, by-choice, Arrives, root, below, LawfulStep, LawfulObject, sum, arrivalsAt, arrivalsIn, arrivals}
+
+-- ---- a walk that is judged
+-- a walk from s that goes on exactly when P holds and k visits more are within the budget, and has spent them then
+pub data Judged (b : Budget) (P : Type 0) (k : ℕ) (s : Spent) : Walked → Type 0 where
+  goes : (t : Spent) → t .visits ≡ s .visits + k → t .visits ≤ b .visits → P → Judged b P k s (Going t)
+  stops : (r : Refusal) (t : Spent) → 0 < r .number → (P → s .visits + k ≤ b .visits → ⊥) → Judged b P k s (Refused r t)
+
+module _ {b : Budget} where
+  judged-as : {P Q : Type 0} {k l : ℕ} {s : Spent} {w : Walked} → (P → Q) → (Q → P) → k ≡ l → Judged b P k s w → Judged b Q l s w
+  judged-as f g e (goes t q h p) = goes t (omega arith) h (f p)
+  judged-as f g e (stops r t z n) = stops r t z (λ q h. n (g q) (omega arith))
+
+  judged-never : {k l : ℕ} {s : Spent} {w : Walked} → Judged b ⊥ k s w → Judged b ⊥ l s w
+  judged-never (goes t q h p) = absurd p
+  judged-never (stops r t z n) = stops r t z (λ q h. q)
+
+  judged-stay : {P : Type 0} (s : Spent) → s .visits ≤ b .visits → P → Judged b P 0 s (Going s)
+  judged-stay s h p = goes s (omega arith) h p
+
+  judged-refuse : {P : Type 0} (k : ℕ) (s : Spent) (n at : ℕ) → 0 < n → (P → s .visits + k ≤ b .visits → ⊥) → Judged b P k s (refuse n at s)
+  unfolding refuse
+  judged-refuse k s n at z f = stops _ s z f
+
+  judged-then : {P Q : Type 0} {k l : ℕ} {s : Spent} {w : Walked} {next : Spent → Walked} → Judged b P k s w
+      → ((t : Spent) → t .visits ≤ b .visits → Judged b Q l t (next t)) → Judged b (P × Q) (k + l) s (andThen w next)
+  unfolding andThen
+  judged-then {P} {Q} {k} {l} {s} {next} (goes t e h p) f = from (next t) (f t h)
+    where
+      from : (w : Walked) → Judged b Q l t w → Judged b (P × Q) (k + l) s w
+      from w (goes u q g z) = goes u (omega arith) g (p, z)
+      from w (stops r u y n) = stops r u y (λ z g. n (z .1) (omega arith))
+  judged-then (stops r t y n) f = stops r t y (λ z g. n (z .0) (omega arith))
+
+-- P of the object that a step leads to, if it leads to one
+abbrev EachObject : (Object → Place → Type 0) → Step → Type 0
+EachObject P (St.Refused n) = Unit {0}
+EachObject P St.Absent = Unit {0}
+EachObject P (St.Value x) = Unit {0}
+EachObject P (St.Unknown x) = Unit {0}
+EachObject P (St.Struct i at) = Unit {0}
+EachObject P (St.Object ob p) = P ob p
+EachObject P (St.Choice c ob p) = P ob p
+
+led-to : (P : Object → Place → Type 0) {st : Step} {ob : Object} {p : Place} → EachObject P st → LeadsTo st ob p → P ob p
+led-to P h by-reference = h
+led-to P h by-choice = h
+
+-- a step is lawful, and P of what it leads to
+pub record PartLawful (P : Object → Place → Type 0) (st : Step) : Type 0 where
+  pub step : LawfulStep st
+  pub object : (ob : Object) (p : Place) → LeadsTo st ob p → P ob p
+
+abbrev pub ContentLawful : (Object → Place → Type 0) → ℕ → Schema → List ℕ → Object → Opened → Type 0
+ContentLawful P o S m ob (Op.Refused n) = ⊥
+ContentLawful P o S m ob (Op.Content start n) = (j : ℕ) → j < partCount S ob n → PartLawful P (partStep o S m ob start n j)
+
+-- an object and all that is reached from it, d objects deep, is lawful
+unfoldable pub LawfulDown : ℕ → ℕ → Schema → List ℕ → Object → Place → Type 0
+LawfulDown zero o S m ob p = ⊥
+LawfulDown (suc d) o S m ob p = ContentLawful (LawfulDown d o S m) o S m ob (openObject o S m ob p)
+
+module _ (b : Budget) (P : Object → Place → Type 0) (k : Object → Place → ℕ) (child : Child)
+    (H : (ob : Object) (p : Place) (s : Spent) → s .visits ≤ b .visits → Judged b (P ob p) (k ob p) s (child ob p s)) where
+  -- ---- one part
+  still : (st : Step) → LawfulStep st → EachObject P st → (s : Spent) → s .visits ≤ b .visits
+      → Judged b (PartLawful P st) 0 s (Going s)
+  still st l e s h = judged-stay s h (record { step = l; object = λ ob p q. led-to P e q })
+
+  choice-judged : (holder c : ℕ) (ob : Object) (p : Place) (s : Spent) → s .visits ≤ b .visits
+      → Judged b (PartLawful P (St.Choice c ob p)) (k ob p) s (followChoice child holder ob p s)
+  unfolding followChoice
+  choice-judged holder c ob (ByOffset x) s h = by (eqb x 0) refl
+    where
+      by : (t : Bool) → eqb x 0 ≡ t
+          → Judged b (PartLawful P (St.Choice c ob (ByOffset x))) (k ob (ByOffset x)) s
+          (pick t (refuse 9 holder s) (child ob (ByOffset x) s))
+      by true e = judged-refuse _ s 9 holder (omega arith) (λ q g. q .step (eqb-true x 0 e))
+      by false e =
+          judged-as
+          (λ q. record { step = eqb-false x 0 e; object = λ ob′ p′ l. led-to P q l })
+          (λ q. q .object ob (ByOffset x) by-choice) refl (H ob (ByOffset x) s h)
+  choice-judged holder c ob (InPlace a n) s h =
+      judged-as (λ q. record { step = tt; object = λ ob′ p′ l. led-to P q l })
+      (λ q. q .object ob (InPlace a n) by-choice) refl (H ob (InPlace a n) s h)
+
+  follow-judged : (holder : ℕ) (st : Step) → NumberedStep st → (s : Spent) → s .visits ≤ b .visits
+      → Judged b (PartLawful P st) (arrivalsAt k st) s (follow child holder st s)
+  unfolding follow arrivalsAt
+  follow-judged holder (St.Refused n) z s h = judged-refuse 0 s n holder z (λ q g. q .step)
+  follow-judged holder St.Absent z s h = still St.Absent tt tt s h
+  follow-judged holder (St.Value x) z s h = still (St.Value x) tt tt s h
+  follow-judged holder (St.Unknown x) z s h = still (St.Unknown x) tt tt s h
+  follow-judged holder (St.Struct i at) z s h = still (St.Struct i at) tt tt s h
+  follow-judged holder (St.Object ob p) z s h =
+      judged-as (λ q. record { step = tt; object = λ ob′ p′ l. led-to P q l })
+      (λ q. q .object ob p by-reference) refl (H ob p s h)
+  follow-judged holder (St.Choice c ob p) z s h = choice-judged holder c ob p s h
+
+  -- ---- the parts in turn
+  EachPart : (ℕ → Step) → ℕ → Type 0
+  EachPart f n = (j : ℕ) → j < n → PartLawful P (f j)
+
+  next-part : (f : ℕ → Step) (n : ℕ) {s : Spent} {w : Walked} {next : Spent → Walked}
+      → Judged b (PartLawful P (f 0)) (arrivalsAt k (f 0)) s w
+      → ((t : Spent) → t .visits ≤ b .visits
+      → Judged b (EachPart (λ j. f (suc j)) n) (sum (λ j. arrivalsAt k (f (suc j))) n) t (next t))
+      → Judged b (EachPart f (suc n)) (sum (λ j. arrivalsAt k (f j)) (suc n)) s (andThen w next)
+  unfolding sum EachPart
+  next-part f n x y = judged-as join (λ q. (q 0 (omega arith), λ j h. q (suc j) (omega arith))) refl (judged-then x y)
+    where
+      join : PartLawful P (f 0) × ((j : ℕ) → j < n → PartLawful P (f (suc j))) → (j : ℕ) → j < suc n → PartLawful P (f j)
+      join q zero h = q .0
+      join q (suc j) h = q .1 j (omega arith)
+
+  module _ (o : ℕ) (S : Schema) (m : List ℕ) where
+    members-judged : (holder start n : ℕ) (c : Cursor) (rs : List Member) (s : Spent) → s .visits ≤ b .visits
+        → Judged b (EachPart (memberAt o S m start n c rs) (length rs))
+        (sum (λ j. arrivalsAt k (memberAt o S m start n c rs j)) (length rs)) s
+        (members child o S m holder start n c rs s)
+    unfolding members memberAt afterMembers EachPart sum
+    members-judged holder start n c [] s h = judged-stay s h (λ j l. absurd (omega arith))
+    members-judged holder start n c (r ∷ rs) s h =
+        next-part (memberAt o S m start n c (r ∷ rs)) (length rs) (follow-judged holder (memberStep o S m start n c r) (member-numbered o S m start n c r) s h)
+        (λ t g. members-judged holder start n (afterMember o S r c) rs t g)
+
+    elements-judged : (holder start : ℕ) (e : Kind) (n i : ℕ) (f : ℕ → Step) → ((j : ℕ) → f j ≡ elementStep o S m e start (i + j))
+        → (s : Spent) → s .visits ≤ b .visits
+        → Judged b (EachPart f n) (sum (λ j. arrivalsAt k (f j)) n) s (elements child o S m holder start e n i s)
+    unfolding elements EachPart sum
+    elements-judged holder start e zero i f q s h = judged-stay s h (λ j l. absurd (omega arith))
+    elements-judged holder start e (suc n) i f q s h =
+        next-part f n
+        (subst (λ (st : Step). Judged b (PartLawful P (f 0)) (arrivalsAt k (f 0)) s (follow child holder st s))
+        (q 0 ∙ ap (elementStep o S m e start) (add-zero i)) (follow-judged holder (f 0) (subst NumberedStep (sym (q 0)) (element-numbered o S m e start (i + 0))) s h))
+        (λ t g. elements-judged holder start e n (i + 1) (λ j. f (suc j))
+        (λ j. q (suc j) ∙ ap (elementStep o S m e start) (omega arith)) t g)
+
+    content-judged : (ob : Object) (holder start n : ℕ) (s : Spent) → s .visits ≤ b .visits
+        → Judged b (EachPart (partStep o S m ob start n) (partCount S ob n))
+        (sum (λ j. arrivalsAt k (partStep o S m ob start n j)) (partCount S ob n)) s
+        (content child o S m ob holder start n s)
+    unfolding content partStep partCount sum EachPart
+    content-judged Ob.Text holder start n s h = judged-stay s h (λ j l. absurd (omega arith))
+    content-judged Ob.Bytes holder start n s h = judged-stay s h (λ j l. absurd (omega arith))
+    content-judged (Ob.List i) holder start n s h =
+        elements-judged holder start (elementOf S i) n 0 (elementStep o S m (elementOf S i) start)
+        (λ j. ap (elementStep o S m (elementOf S i) start) (omega arith)) s h
+    content-judged (Ob.Table i) holder start n s h = members-judged holder start n begin (tableOf S i .members) s h
+
+    enter-judged : (ob : Object) (holder : ℕ) (p : Opened) → NumberedOpened p → (s : Spent) → s .visits ≤ b .visits
+        → Judged b (ContentLawful P o S m ob p) (arrivalsIn k o S m ob p) s (enter child o S m ob holder p s)
+    unfolding enter arrivalsIn EachPart
+    enter-judged ob holder (Op.Refused n) z s h = judged-refuse 0 s n holder z (λ q g. q)
+    enter-judged ob holder (Op.Content start n) z s h = content-judged ob holder start n s h
+
+-- ---- an arrival
+counted-judged : (b : Budget) (P : Type 0) (k : ℕ) (child : Child) (ob : Object) (p : Place)
+    → ((s : Spent) → s .visits ≤ b .visits → Judged b P k s (child ob p s))
+    → (s : Spent) → s .visits ≤ b .visits → Judged b P (1 + k) s (counted child b ob p s)
+unfolding counted
+counted-judged b P k child ob p H s h = by (ltb (s .visits) (b .visits)) refl
+  where
+    from : (w : Walked) → Judged b P k (record { visits = s .visits + 1 }) w → Judged b P (1 + k) s w
+    from w (goes t e g q) = goes t (omega arith) g q
+    from w (stops r t z n) = stops r t z (λ q g. n q (omega arith))
+
+    by : (t : Bool) → ltb (s .visits) (b .visits) ≡ t
+        → Judged b P (1 + k) s (pick t (child ob p (record { visits = s .visits + 1 })) (refuse 4 (placed p) s))
+    by true e =
+        from _ (H (record { visits = s .visits + 1 }) (let l = ltb-true (s .visits) (b .visits) e in omega arith))
+    by false e = judged-refuse (1 + k) s 4 (placed p) (omega arith) (λ q g. let l = ltb-false (s .visits) (b .visits) e in omega arith)
+
+pub visit-judged : (d o : ℕ) (S : Schema) (m : List ℕ) (b : Budget) (ob : Object) (p : Place) (s : Spent) → s .visits ≤ b .visits
+    → Judged b (LawfulDown d o S m ob p) (arrivals d o S m ob p) s (visit d o S m b ob p s)
+unfolding visit LawfulDown arrivals tooDeep arrive
+visit-judged zero o S m b ob p s h =
+    judged-never (counted-judged b ⊥ 0 tooDeep ob p (λ t g. judged-refuse 0 t 5 (placed p) (omega arith) (λ q l. q)) s h)
+visit-judged (suc d) o S m b ob p s h =
+    counted-judged b (LawfulDown (suc d) o S m ob p) (arrivalsIn (arrivals d o S m) o S m ob (openObject o S m ob p))
+    (arrive (visit d o S m b) o S m) ob p
+    (λ t g. enter-judged b (LawfulDown d o S m) (arrivals d o S m) (visit d o S m b)
+    (λ ob′ p′ u q. visit-judged d o S m b ob′ p′ u q) o S m ob (placed p) (openObject o S m ob p)
+    (open-numbered o S m ob p) t g) s h
+
+-- ---- the count does not depend on the depth that is counted to, where nothing lies deeper
+sum-same : (f g : ℕ → ℕ) (n : ℕ) → ((j : ℕ) → j < n → f j ≡ g j) → sum f n ≡ sum g n
+unfolding sum
+sum-same f g zero e = refl
+sum-same f g (suc n) e =
+    ap₂ _+_ (e 0 (omega arith)) (sum-same (λ j. f (suc j)) (λ j. g (suc j)) n (λ j h. e (suc j) (omega arith)))
+
+at-same : (f g : Object → Place → ℕ) (st : Step) → ((ob : Object) (p : Place) → LeadsTo st ob p → f ob p ≡ g ob p)
+    → arrivalsAt f st ≡ arrivalsAt g st
+unfolding arrivalsAt
+at-same f g (St.Refused n) e = refl
+at-same f g St.Absent e = refl
+at-same f g (St.Value x) e = refl
+at-same f g (St.Unknown x) e = refl
+at-same f g (St.Struct i at) e = refl
+at-same f g (St.Object ob p) e = e ob p by-reference
+at-same f g (St.Choice c ob p) e = e ob p by-choice
+
+pub arrivals-same : (d e o : ℕ) (S : Schema) (m : List ℕ) (ob : Object) (p : Place) → d ≤ e → LawfulDown d o S m ob p
+    → arrivals e o S m ob p ≡ arrivals d o S m ob p
+unfolding LawfulDown arrivals arrivalsIn
+arrivals-same zero e o S m ob p h x = absurd x
+arrivals-same (suc d) zero o S m ob p h x = absurd (omega arith)
+arrivals-same (suc d) (suc e) o S m ob p h x =
+    ap (λ (n : ℕ). 1 + n)
+    (opened (openObject o S m ob p) x (λ ob′ p′ y. arrivals-same d e o S m ob′ p′ (omega arith) y))
+  where
+    opened : (u : Opened) → ContentLawful (LawfulDown d o S m) o S m ob u
+        → ((ob′ : Object) (p′ : Place) → LawfulDown d o S m ob′ p′ → arrivals e o S m ob′ p′ ≡ arrivals d o S m ob′ p′)
+        → arrivalsIn (arrivals e o S m) o S m ob u ≡ arrivalsIn (arrivals d o S m) o S m ob u
+    opened (Op.Refused n) c q = refl
+    opened (Op.Content start n) c q =
+        sum-same _ _ (partCount S ob n)
+        (λ j l.
+        at-same (arrivals e o S m) (arrivals d o S m) (partStep o S m ob start n j) (λ ob′ p′ t. q ob′ p′ (c j l .object ob′ p′ t)))
+
+-- ---- from any depth left to all arrivals, and back
+module _ (o : ℕ) (S : Schema) (m : List ℕ) where
+  -- lawful as far as the root's depth goes: then so is every arrival, at its depth
+  pub down-arrives : LawfulDown deepest o S m (Ob.Table (S .root)) (rootPlace o m) → {d : ℕ} {ob : Object} {p : Place} → Arrives o S m d ob p
+      → (left : ℕ) × (d + left ≡ suc deepest) × LawfulDown left o S m ob p
+  unfolding LawfulDown
+  down-arrives h root = (deepest, omega arith, h)
+  down-arrives h (below {d} {ob} {ob′} {p} {p′} start n j a e l q) =
+      let x = down-arrives h a in step (x .0) (x .1) (x .2)
+    where
+      content : (left : ℕ) (u : Opened) → u ≡ Op.Content start n → ContentLawful (LawfulDown left o S m) o S m ob u
+          → LawfulDown left o S m ob′ p′
+      content left u f c =
+          subst (λ (v : Opened). ContentLawful (LawfulDown left o S m) o S m ob v) f c j l .object ob′ p′ q
+
+      step : (left : ℕ) → d + left ≡ suc deepest → LawfulDown left o S m ob p
+          → (left : ℕ) × (suc d + left ≡ suc deepest) × LawfulDown left o S m ob′ p′
+      step zero f x = absurd x
+      step (suc left) f x = (left, omega arith, content left (openObject o S m ob p) e x)
+
+  pub down-depth : (d left : ℕ) (ob : Object) (p : Place) → d + left ≡ suc deepest → LawfulDown left o S m ob p → d ≤ deepest
+  unfolding LawfulDown
+  down-depth d zero ob p e x = absurd x
+  down-depth d (suc left) ob p e x = omega arith
+
+  pub down-lawful : (left : ℕ) (ob : Object) (p : Place) → LawfulDown left o S m ob p → LawfulObject o S m ob p
+  unfolding LawfulDown
+  down-lawful zero ob p x = absurd x
+  down-lawful (suc left) ob p x = opened (openObject o S m ob p) refl x
+    where
+      opened : (u : Opened) → openObject o S m ob p ≡ u → ContentLawful (LawfulDown left o S m) o S m ob u → LawfulObject o S m ob p
+      opened (Op.Refused n) e c = absurd c
+      opened (Op.Content start n) e c = record { start = start; size = n; opens = e; parts = λ j l. c j l .step }
+
+  -- every arrival lawful and not too deep: then each is lawful as far as its depth goes
+  pub arrives-down : ((d : ℕ) (ob : Object) (p : Place) → Arrives o S m d ob p → d ≤ deepest)
+      → ((d : ℕ) (ob : Object) (p : Place) → Arrives o S m d ob p → LawfulObject o S m ob p)
+      → (left d : ℕ) (ob : Object) (p : Place) → Arrives o S m d ob p → d + left ≡ suc deepest → LawfulDown left o S m ob p
+  unfolding LawfulDown
+  arrives-down depth lawful zero d ob p a e = let l = depth d ob p a in absurd (omega arith)
+  arrives-down depth lawful (suc left) d ob p a e =
+      let x = lawful d ob p a in
+      subst (λ (u : Opened). ContentLawful (LawfulDown left o S m) o S m ob u) (sym (x .opens))
+      (λ j l.
+      record {
+        step = x .parts j l;
+        object = λ ob′ p′ q.
+            arrives-down depth lawful left (suc d) ob′ p′ (below (x .start) (x .size) j a (x .opens) l q) (omega arith);
+      })

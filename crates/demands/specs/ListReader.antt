@@ -1,0 +1,204 @@
+-- "Each step answers as that element's path would ..; after the last it answers 15 at the list and stays.": a reader that has
+-- its list answers from the list alone. A path to an object has at most 31 numbers, since each goes one object deeper, so the
+-- path of an element is never too long.
+-- `o` is the width of an offset in bytes.
+use mathlib.Core.Path.{_≡_, refl, ap}
+use mathlib.Core.List.{List, [], _∷_, _++_}
+use mathlib.Core.Bool.{Bool, true, false}
+use Prim.Native.Nat.{ℕ, zero, suc, _+_, _<_, _≤_}
+use native.Mathlib.Omega.{arith}
+use lib.ListN.{length, length-append, take}
+use lib.Dec.{ltb, leb, eqb}
+use borrow.Author.Tests.{ltb-true, ltb-false, le-ltb, le-leb}
+use Rattle.coding.specs.Lists.{pick}
+use Rattle.coding.specs.Bytes.{deepest}
+use Rattle.coding.specs.Schema.{Schema, structOf, fieldOf, elementOf, tableOf, memberOf}
+use Rattle.coding.specs.Packed.{parse}
+use Rattle.coding.specs.Lawful.{lawful}
+use Rattle.coding.specs.Structs.{total, structSize}
+use Rattle.coding.specs.Layout.{begin, afterMembers}
+use Rattle.coding.specs.Step.{fieldStep, memberStep, elementStep}
+use Rattle.coding.specs.Walk.{placed, openObject, rootPlace, sizeOk, startOk}
+use Rattle.coding.specs.Field as Field
+use Rattle.coding.specs.declared.Object.{Object}
+use Rattle.coding.specs.declared.Object.the-variants as O
+use Rattle.coding.specs.declared.Kind.{Kind}
+use Rattle.coding.specs.declared.Kind.the-variants.{OfFlat}
+use Rattle.coding.specs.declared.Place.{Place}
+use Rattle.coding.specs.declared.Place.the-variants.{ByOffset, InPlace}
+use Rattle.coding.specs.declared.Step.{Step}
+use Rattle.coding.specs.declared.Step.the-variants as St
+use Rattle.coding.specs.declared.Opened.{Opened}
+use Rattle.coding.specs.declared.Opened.the-variants as Op
+use Rattle.coding.specs.declared.Refusal.{Refusal}
+use Rattle.coding.specs.declared.Found.{Found}
+use Rattle.coding.specs.declared.Found.the-variants as Fd
+use Rattle.coding.specs.declared.Answer.the-variants as A
+
+-- ---- depth: an object that is found counts itself and what is left below it; anything else counts nothing
+depth : Found → ℕ
+depth (Fd.Refused r) = 0
+depth Fd.Absent = 0
+depth (Fd.Unknown x) = 0
+depth (Fd.Value k x holder) = 0
+depth (Fd.Struct i at holder) = 0
+depth (Fd.Object ob at start n left) = suc left
+
+either : (d : ℕ) (t : Bool) (f g : Found) → depth f ≤ d → depth g ≤ d → depth (pick t f g) ≤ d
+either d true f g h k = h
+either d false f g h k = k
+
+none : (d n at : ℕ) → depth (Fd.Refused (Field.refusal n at)) ≤ d
+unfolding depth
+none d n at = omega arith
+
+module _ (o : ℕ) (S : Schema) (m : List ℕ) where
+  opened-depth : (d : ℕ) (ob : Object) (at : ℕ) (w : Opened) → depth (Field.opened ob at d w) ≤ suc d
+  unfolding Field.opened depth
+  opened-depth d ob at (Op.Refused n) = omega arith
+  opened-depth d ob at (Op.Content start n) = omega arith
+
+  arrived-depth : (d : ℕ) (ob : Object) (p : Place) → depth (Field.arrived d o S m ob p) ≤ d
+  unfolding Field.arrived
+  arrived-depth zero ob p = none 0 5 (placed p)
+  arrived-depth (suc d) ob p = opened-depth d ob (placed p) (openObject o S m ob p)
+
+  chosen-depth : (d holder : ℕ) (ob : Object) (p : Place) → depth (Field.chosen d o S m holder ob p) ≤ d
+  unfolding Field.chosen
+  chosen-depth d holder ob (ByOffset x) =
+      either d (eqb x 0) (Fd.Refused (Field.refusal 9 holder)) (Field.arrived d o S m ob (ByOffset x)) (none d 9 holder)
+      (arrived-depth d ob (ByOffset x))
+  chosen-depth d holder ob (InPlace a n) = arrived-depth d ob (InPlace a n)
+
+  stepped-depth : (d holder : ℕ) (k : Kind) (step : Step) → depth (Field.stepped d o S m holder k step) ≤ d
+  unfolding Field.stepped depth
+  stepped-depth d holder k (St.Refused n) = omega arith
+  stepped-depth d holder k St.Absent = omega arith
+  stepped-depth d holder k (St.Value x) = omega arith
+  stepped-depth d holder k (St.Unknown x) = omega arith
+  stepped-depth d holder k (St.Struct i at) = omega arith
+  stepped-depth d holder k (St.Object ob p) = arrived-depth d ob p
+  stepped-depth d holder k (St.Choice c ob p) = chosen-depth d holder ob p
+
+  object-depth : (ob : Object) (at start n d j : ℕ) → depth (Field.objectPart o S m ob at start n d j) ≤ d
+  unfolding Field.objectPart Field.noPart
+  object-depth O.Text at start n d j = none d 15 at
+  object-depth O.Bytes at start n d j = none d 15 at
+  object-depth (O.List i) at start n d j =
+      either d (ltb j n) _ _ (stepped-depth d at (elementOf S i) (elementStep o S m (elementOf S i) start j)) (none d 15 at)
+  object-depth (O.Table i) at start n d j =
+      either d (ltb j (length (tableOf S i .members))) _ _
+      (stepped-depth d at (memberOf S i j .kind)
+      (memberStep o S m start n (afterMembers o S (take j (tableOf S i .members)) begin) (memberOf S i j)))
+      (none d 15 at)
+
+  struct-depth : (i at holder j : ℕ) → depth (Field.structPart o S m i at holder j) ≤ 0
+  unfolding Field.structPart Field.noPart
+  struct-depth i at holder j =
+      either 0 (ltb j (length (structOf S i))) _ _
+      (stepped-depth 0 holder (OfFlat (fieldOf S i j)) (fieldStep m (fieldOf S i j) (at + total (structSize S) (take j (structOf S i)))))
+      (none 0 15 holder)
+
+  -- one number more takes at least one object of depth
+  part-depth : (d : ℕ) (f : Found) (j : ℕ) → depth f ≤ suc d → depth (Field.partOf o S m f j) ≤ d
+  unfolding Field.partOf Field.noPart depth
+  part-depth d (Fd.Refused r) j h = omega arith
+  part-depth d Fd.Absent j h = omega arith
+  part-depth d (Fd.Unknown x) j h = omega arith
+  part-depth d (Fd.Value k x holder) j h = omega arith
+  part-depth d (Fd.Struct i at holder) j h = omega (arith, struct-depth i at holder j)
+  part-depth d (Fd.Object ob at start n left) j h = omega (arith, object-depth ob at start n left j)
+
+  along-depth : (path : List ℕ) (d : ℕ) (f : Found) → depth f ≤ length path + d → depth (Field.along o S m f path) ≤ d
+  unfolding Field.along
+  along-depth [] d f h = omega arith
+  along-depth (j ∷ js) d f h = along-depth js d (Field.partOf o S m f j) (part-depth (length js + d) f j (omega arith))
+
+  -- "Depth: 32 objects, the root being 1": a path to an object has fewer numbers than that
+  pub object-path : (path : List ℕ) (ob : Object) (at start n left : ℕ) → Field.found o S m path ≡ Fd.Object ob at start n left
+      → length path < deepest
+  unfolding Field.found depth
+  object-path path ob at start n left e = by (ltb (length path) deepest) refl
+    where
+      by : (t : Bool) → ltb (length path) deepest ≡ t → length path < deepest
+      by true h = ltb-true _ _ h
+      by false h =
+          let r = arrived-depth deepest (O.Table (S .root)) (rootPlace o m) in
+          let l = ltb-false (length path) deepest h in
+          let a = along-depth path 0 (Field.arrived deepest o S m (O.Table (S .root)) (rootPlace o m)) (omega arith) in
+          let q = ap depth e in
+          absurd (omega arith)
+
+  -- ---- one number more
+  along-last : (f : Found) (path : List ℕ) (j : ℕ)
+      → Field.along o S m f (path ++ j ∷ []) ≡ Field.partOf o S m (Field.along o S m f path) j
+  unfolding Field.along
+  along-last f [] j = refl
+  along-last f (i ∷ is) j = along-last (Field.partOf o S m f i) is j
+
+  pub found-last : (path : List ℕ) (j : ℕ) → Field.found o S m (path ++ j ∷ []) ≡ Field.partOf o S m (Field.found o S m path) j
+  unfolding Field.found
+  found-last path j = along-last _ path j
+
+-- ---- a reader that has its list
+module _ (o : ℕ) (b m path : List ℕ) (i at start n left : ℕ)
+    (has : Field.readerStart o b m path ≡ Fd.Object (O.List i) at start n left) where
+  -- the path leads there: the schema is lawful, the path short, the message's size and start as they should be
+  record Leads : Type 0 where
+    schema : lawful b ≡ true
+    size : sizeOk o m ≡ true
+    begins : startOk m ≡ true
+    leads : Field.found o (parse b) m path ≡ Fd.Object (O.List i) at start n left
+
+  same-list : (f : Found) → Field.readerOf (parse b) f ≡ Fd.Object (O.List i) at start n left
+      → f ≡ Fd.Object (O.List i) at start n left
+  unfolding Field.readerOf Field.listFound Field.before
+  same-list (Fd.Refused r) e = cc
+  same-list Fd.Absent e = cc
+  same-list (Fd.Unknown x) e = cc
+  same-list (Fd.Value k x holder) e = cc
+  same-list (Fd.Struct i at holder) e = cc
+  same-list (Fd.Object O.Text x y z d) e = cc
+  same-list (Fd.Object O.Bytes x y z d) e = cc
+  same-list (Fd.Object (O.Table k) x y z d) e = cc
+  same-list (Fd.Object (O.List k) x y z d) e = by (Field.leads (elementOf (parse b) k)) e
+    where
+      by : (t : Bool) → pick t (Fd.Object (O.List k) x y z d) (Fd.Refused (Field.refusal 15 0)) ≡ Fd.Object (O.List i) at start n left
+          → Fd.Object (O.List k) x y z d ≡ Fd.Object (O.List i) at start n left
+      by true q = q
+      by false q = cc
+
+  no-refusal : (r : Refusal) → Fd.Refused r ≡ Fd.Object (O.List i) at start n left → ⊥
+  no-refusal r h = let z : _≡_ {A = ℕ} 0 1 = cc in omega arith
+
+  reader-leads : Leads
+  unfolding Field.readerStart Field.fieldFound Field.before
+  reader-leads = by (lawful b) (leb (length path) 96) (sizeOk o m) (startOk m) refl refl refl (same-list _ has)
+    where
+      by : (l s z g : Bool) → lawful b ≡ l → sizeOk o m ≡ z → startOk m ≡ g
+          → pick l (pick s (pick z (pick g (Field.found o (parse b) m path) (Field.before 3)) (Field.before 2)) (Field.before 15)) (Field.before 1)
+          ≡ Fd.Object (O.List i) at start n left
+          → Leads
+      by true true true true e f q h = record { schema = e; size = f; begins = q; leads = h }
+      by true true true false e f q h = absurd (no-refusal _ h)
+      by true true false g e f q h = absurd (no-refusal _ h)
+      by true false z g e f q h = absurd (no-refusal _ h)
+      by false s z g e f q h = absurd (no-refusal _ h)
+
+  -- "Each step answers as that element's path would"
+  pub reader-step : (j : ℕ) → Field.readerAnswer o b m path j ≡ Field.answerOf (Field.objectPart o (parse b) m (O.List i) at start n left j)
+  unfolding Field.readerAnswer Field.field Field.fieldFound Field.partOf deepest
+  reader-step j =
+      let h = reader-leads in
+      let l = object-path o (parse b) m path (O.List i) at start n left (h .leads) in
+      let s : length (path ++ j ∷ []) ≤ 96 = simp length-append (omega arith) in
+      rw (h .schema, le-leb (length (path ++ j ∷ [])) 96 s, h .size, h .begins, found-last o (parse b) m path j, h .leads)
+
+  -- "after the last it answers 15 at the list and stays"
+  pub reader-end : (j : ℕ) → n ≤ j → Field.readerAnswer o b m path j ≡ A.Refused (Field.refusal 15 at)
+  unfolding Field.objectPart Field.noPart Field.answerOf
+  reader-end j l = rw (reader-step j, le-ltb j n l)
+
+  pub reader-stays : (j : ℕ) → n ≤ j → Field.readerNext n j ≡ j
+  unfolding Field.readerNext
+  reader-stays j l = rw (le-ltb j n l)

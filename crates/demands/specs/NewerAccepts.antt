@@ -1,0 +1,141 @@
+-- A newer schema's walk of a message that is plain under an older schema is the older's, step for step, with every budget.
+use Prim.Native.Nat.{ℕ, zero, suc, _+_}
+use mathlib.Core.List.{List}
+use mathlib.Core.Bool.{Bool, true, false, _&&_}
+use mathlib.Core.Path.{_≡_, refl, ap, subst}
+use lib.ListN.{length}
+use lib.Dec.{ltb, leb, eqb}
+use Rattle.coding.specs.Lists.{pick}
+use Rattle.coding.specs.Bytes.{le, deepest}
+use Rattle.coding.specs.Schema.{Schema}
+use Rattle.coding.specs.Layout.{begin, afterMember}
+use Rattle.coding.specs.Walk.{placed, magic, headerSize, contentSize, endOk, openContent, openObject, refuse, andThen, Child, followChoice, follow, members, elements, content, enter, arrive, counted, visit, rootPlace, walk}
+use Rattle.coding.specs.Append.{Extends, rest, more, SameKind, SameMember, SchemaAppends}
+use Rattle.coding.specs.declared.Object.{Object}
+use Rattle.coding.specs.declared.Object.the-variants as Ob
+use Rattle.coding.specs.declared.Kind.{Kind}
+use Rattle.coding.specs.declared.Member.{Member}
+use Rattle.coding.specs.declared.Cursor.{Cursor}
+use Rattle.coding.specs.declared.Place.{Place}
+use Rattle.coding.specs.declared.Place.the-variants.{ByOffset, InPlace}
+use Rattle.coding.specs.declared.Step.{Step}
+use Rattle.coding.specs.declared.Opened.{Opened}
+use Rattle.coding.specs.declared.Opened.the-variants as Op
+use Rattle.coding.specs.declared.Budget.{Budget}
+use Rattle.coding.specs.declared.Spent.{Spent}
+use Rattle.coding.specs.declared.Walked.{Walked}
+use Rattle.coding.specs.declared.Walked.the-variants.{Going, Refused}
+use Rattle.laws.specs.Sound.{All, ObjectSound, KindSound, MemberSound, Sound}
+use Rattle.demands.specs.SameLayout.{element-same, table-same, after-member-same}
+use Rattle.demands.specs.SameStep.{SameStep, refused, no-value, value, enum-value, enum-appended, enum-unknown, struct-value, object-value, choice, choice-appended, choice-unknown, member-step-same, element-step-same}
+use Rattle.demands.specs.OlderAccepts.{open-same}
+use Rattle.demands.specs.PlainMessage.{Objects, stepPlain, membersPlain, elementsPlain, contentPlain, placePlain, plain, messagePlain}
+use Rattle.demands.specs.AddedMembers.{full-past, walk-added}
+
+then-same : {a b : Walked} (next next′ : Spent → Walked) → b ≡ a → ((s : Spent) → next′ s ≡ next s) → andThen b next′ ≡ andThen a next
+then-same {a} {b} next next′ e f = rw e (by a)
+  where
+    by : (x : Walked) → andThen x next′ ≡ andThen x next
+    by (Going s) = unfold andThen in f s
+    by (Refused r s) = unfold andThen in refl
+
+module _ (o : ℕ) (O N : Schema) (sound : Sound O) (G : SchemaAppends O N) (m : List ℕ) (P : Objects) (old new : Child)
+    (H : (ob : Object) → ObjectSound O ob → (p : Place) → P ob p → (s : Spent) → new ob p s ≡ old ob p s) where
+  choice-same : (ob : Object) → ObjectSound O ob → (holder : ℕ) (p : Place) → P ob p → (s : Spent)
+      → followChoice new holder ob p s ≡ followChoice old holder ob p s
+  unfolding followChoice
+  choice-same ob q holder (ByOffset x) h s = rw (H ob q (ByOffset x) h s)
+  choice-same ob q holder (InPlace a n) h s = H ob q (InPlace a n) h s
+
+  follow-same : {k : Kind} {a b : Step} → SameStep O k a b → stepPlain P O m a → (holder : ℕ) (s : Spent)
+      → follow new holder b s ≡ follow old holder a s
+  unfolding follow stepPlain
+  follow-same refused h holder s = refl
+  follow-same no-value h holder s = refl
+  follow-same (value q) h holder s = refl
+  follow-same (enum-value q) h holder s = refl
+  follow-same (enum-appended q) h holder s = absurd h
+  follow-same enum-unknown h holder s = absurd h
+  follow-same (struct-value q) h holder s = refl
+  follow-same (object-value {ob} {p} q) h holder s = H ob q p h s
+  follow-same (choice {ob} {p} l e q) h holder s = choice-same ob q holder p h s
+  follow-same (choice-appended l) h holder s = absurd h
+  follow-same choice-unknown h holder s = absurd h
+
+  members-same : {rs rs′ : List Member} → Extends SameMember rs rs′ → All (MemberSound O) rs → (holder start n : ℕ) (c : Cursor)
+      → membersPlain P o O m start n c rs → (s : Spent)
+      → members new o N m holder start n c rs′ s ≡ members old o O m holder start n c rs s
+  unfolding members membersPlain
+  members-same (rest {ys}) a holder start n c h s = walk-added m start n new o N holder ys c s (full-past m start n h)
+  members-same (more {x} {y} {xs} {ys} q l) a holder start n c h s =
+      then-same _ _ (follow-same (member-step-same O N sound G m o q (a .0) start n c) (h .0) holder s)
+      (λ t. rw (← after-member-same O N sound G o q (a .0) c) (members-same l (a .1) holder start n (afterMember o O x c) (h .1) t))
+
+  elements-same : {k k′ : Kind} → SameKind k k′ → KindSound O k → (holder start n i : ℕ) → elementsPlain P o O m start k n i → (s : Spent)
+      → elements new o N m holder start k′ n i s ≡ elements old o O m holder start k n i s
+  unfolding elements elementsPlain
+  elements-same q a holder start zero i h s = refl
+  elements-same q a holder start (suc n) i h s =
+      then-same _ _ (follow-same (element-step-same O N sound G m o q a start i) (h .0) holder s)
+      (λ t. elements-same q a holder start n (i + 1) (h .1) t)
+
+  content-same : (ob : Object) → ObjectSound O ob → (holder start n : ℕ) → contentPlain P o O m ob start n → (s : Spent)
+      → content new o N m ob holder start n s ≡ content old o O m ob holder start n s
+  unfolding content contentPlain
+  content-same Ob.Text q holder start n h s = refl
+  content-same Ob.Bytes q holder start n h s = refl
+  content-same (Ob.List i) q holder start n h s =
+      elements-same (element-same O N sound G i q) (sound .lists i .kind) holder start n 0 h s
+  content-same (Ob.Table i) q holder start n h s =
+      members-same (table-same O N sound G i q .members) (sound .tables i .members) holder start n begin h s
+
+  -- at an arrival, what was opened stands where the plain content does
+  content-enters : (ob : Object) → ObjectSound O ob → (holder start n : ℕ) → contentPlain P o O m ob start n → (s : Spent)
+      → enter new o N m ob holder (openContent o O m ob start n) s ≡ enter old o O m ob holder (openContent o O m ob start n) s
+  unfolding enter openContent
+  content-enters ob q holder start n h s = by (leb (start + contentSize o O ob n) (length m)) (endOk m ob start n)
+    where
+      by : (t u : Bool)
+          → enter new o N m ob holder (pick t (pick u (Op.Content start n) (Op.Refused 10)) (Op.Refused 6)) s
+          ≡ enter old o O m ob holder (pick t (pick u (Op.Content start n) (Op.Refused 10)) (Op.Refused 6)) s
+      by true true = content-same ob q holder start n h s
+      by true false = refl
+      by false u = refl
+
+  place-enters : (ob : Object) → ObjectSound O ob → (p : Place) → placePlain P o O m ob p → (s : Spent)
+      → enter new o N m ob (placed p) (openObject o O m ob p) s ≡ enter old o O m ob (placed p) (openObject o O m ob p) s
+  unfolding openObject placePlain placed
+  place-enters ob q (ByOffset x) h s = by (leb (headerSize o) x && leb (x + headerSize o) (length m)) (eqb (le m x 4) (magic O ob))
+    where
+      opened : Opened
+      opened = openContent o O m ob (x + headerSize o) (le m (x + 4) o)
+
+      by : (t u : Bool)
+          → enter new o N m ob x (pick t (pick u opened (Op.Refused 7)) (Op.Refused 6)) s
+          ≡ enter old o O m ob x (pick t (pick u opened (Op.Refused 7)) (Op.Refused 6)) s
+      by true true = content-enters ob q x (x + headerSize o) (le m (x + 4) o) h s
+      by true false = unfold enter in refl
+      by false u = unfold enter in refl
+  place-enters ob q (InPlace a n) h s = content-enters ob q a a n h s
+
+  arrive-same : (ob : Object) → ObjectSound O ob → (p : Place) → placePlain P o O m ob p → (s : Spent)
+      → arrive new o N m ob p s ≡ arrive old o O m ob p s
+  unfolding arrive
+  arrive-same ob q p h s = rw (← open-same o O N sound G m ob q p) (place-enters ob q p h s)
+
+module _ (o : ℕ) (O N : Schema) (sound : Sound O) (G : SchemaAppends O N) (m : List ℕ) (b : Budget) where
+  visit-same : (d : ℕ) (ob : Object) → ObjectSound O ob → (p : Place) → plain d o O m ob p → (s : Spent)
+      → visit d o N m b ob p s ≡ visit d o O m b ob p s
+  unfolding visit plain counted
+  visit-same zero ob q p h s = refl
+  visit-same (suc d) ob q p h s =
+      ap (λ (w : Walked). pick (ltb (s .visits) (b .visits)) w (refuse 4 (placed p) s))
+      (arrive-same o O N sound G m (plain d o O m) (visit d o O m b) (visit d o N m b) (visit-same d) ob q p h
+      (record { visits = s .visits + 1 }))
+
+  -- the newer's walk is the older's
+  pub newer-judges : messagePlain o O m → walk o N m b ≡ walk o O m b
+  unfolding walk messagePlain
+  newer-judges h =
+      subst (λ (r : ℕ). visit deepest o N m b (Ob.Table r) (rootPlace o m) (record { visits = 0 }) ≡ visit deepest o O m b (Ob.Table (O .root)) (rootPlace o m) (record { visits = 0 })) (G .root)
+      (visit-same deepest (Ob.Table (O .root)) (sound .root) (rootPlace o m) h (record { visits = 0 }))

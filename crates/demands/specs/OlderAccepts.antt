@@ -1,0 +1,251 @@
+-- What a newer schema accepts with a budget, an older one accepts with the same budget: the older's walk is within the
+-- newer's.
+use Prim.Native.Nat.{ℕ, zero, suc, _≤_, _+_}
+use native.Mathlib.Nat.{le-refl, le-trans}
+use native.Mathlib.Omega.{arith}
+use mathlib.Core.List.{List, [], _∷_}
+use mathlib.Core.Bool.{Bool, true, false}
+use mathlib.Core.Path.{_≡_, refl, subst}
+use lib.Dec.{ltb, eqb}
+use borrow.Author.Tests.{ltb-true, lt-ltb}
+use Rattle.coding.specs.Lists.{pick}
+use Rattle.coding.specs.Bytes.{le, deepest}
+use Rattle.coding.specs.Schema.{Schema, elementOf, tableOf}
+use Rattle.coding.specs.Layout.{begin, afterMember}
+use Rattle.coding.specs.Step.{memberStep, elementStep}
+use Rattle.coding.specs.Walk.{placed, headerSize, openContent, openObject, refuse, andThen, Child, followChoice, follow, members, elements, content, enter, arrive, tooDeep, counted, visit, rootPlace, walk}
+use Rattle.coding.specs.Append.{Extends, rest, more, SameKind, SameMember, SchemaAppends}
+use Rattle.coding.specs.declared.Object.{Object}
+use Rattle.coding.specs.declared.Object.the-variants as Ob
+use Rattle.coding.specs.declared.Kind.{Kind}
+use Rattle.coding.specs.declared.Member.{Member}
+use Rattle.coding.specs.declared.Cursor.{Cursor}
+use Rattle.coding.specs.declared.Place.{Place}
+use Rattle.coding.specs.declared.Place.the-variants.{ByOffset, InPlace}
+use Rattle.coding.specs.declared.Step.{Step}
+use Rattle.coding.specs.declared.Step.the-variants as St
+use Rattle.coding.specs.declared.Opened.{Opened}
+use Rattle.coding.specs.declared.Opened.the-variants as Op
+use Rattle.coding.specs.declared.Budget.{Budget}
+use Rattle.coding.specs.declared.Spent.{Spent}
+use Rattle.coding.specs.declared.Refusal.{Refusal}
+use Rattle.coding.specs.declared.Walked.{Walked}
+use Rattle.coding.specs.declared.Walked.the-variants.{Going, Refused}
+use Rattle.laws.specs.Sound.{All, ObjectSound, KindSound, MemberSound, Sound}
+use Rattle.demands.specs.SameLayout.{element-same, table-same, after-member-same, content-size-same, magic-same}
+use Rattle.demands.specs.SameStep.{SameStep, refused, no-value, value, enum-value, enum-appended, enum-unknown, struct-value, object-value, choice, choice-appended, choice-unknown, member-step-same, element-step-same}
+
+-- if the second walk goes on, the first does, and has spent no more
+pub data Within : Walked → Walked → Type 0 where
+  stopped : {a : Walked} {r : Refusal} {s : Spent} → Within a (Refused r s)
+  going : {s s′ : Spent} → s .visits ≤ s′ .visits → Within (Going s) (Going s′)
+
+pick-within : (t : Bool) {a a′ b b′ : Walked} → Within a a′ → Within b b′ → Within (pick t a b) (pick t a′ b′)
+pick-within true x y = x
+pick-within false x y = y
+
+then-within : {a a′ : Walked} {next next′ : Spent → Walked} → Within a a′
+    → ((s s′ : Spent) → s .visits ≤ s′ .visits → Within (next s) (next′ s′)) → Within (andThen a next) (andThen a′ next′)
+unfolding andThen
+then-within stopped f = stopped
+then-within (going {s} {s′} h) f = f s s′ h
+
+from-within : {s t : Spent} {a : Walked} → s .visits ≤ t .visits → Within (Going t) a → Within (Going s) a
+from-within h stopped = stopped
+from-within h (going l) = going (le-trans h l)
+
+-- ---- what is spent never falls
+stay : {s : Spent} → Within (Going s) (Going s)
+stay {s} = going (le-refl (s .visits))
+
+pick-up : (t : Bool) {s : Spent} {a b : Walked} → Within (Going s) a → Within (Going s) b → Within (Going s) (pick t a b)
+pick-up true x y = x
+pick-up false x y = y
+
+then-up : {s : Spent} {a : Walked} {next : Spent → Walked} → Within (Going s) a → ((t : Spent) → Within (Going t) (next t))
+    → Within (Going s) (andThen a next)
+unfolding andThen
+then-up stopped f = stopped
+then-up (going {s′ = t} h) f = from-within h (f t)
+
+refuse-up : {a : Walked} (n at : ℕ) (s : Spent) → Within a (refuse n at s)
+unfolding refuse
+refuse-up n at s = stopped
+
+module _ (child : Child) (U : (ob : Object) (p : Place) (s : Spent) → Within (Going s) (child ob p s)) (o : ℕ) (S : Schema)
+    (m : List ℕ) where
+  choice-up : (holder : ℕ) (ob : Object) (p : Place) (s : Spent) → Within (Going s) (followChoice child holder ob p s)
+  unfolding followChoice
+  choice-up holder ob (ByOffset x) s = pick-up (eqb x 0) (refuse-up 9 holder s) (U ob (ByOffset x) s)
+  choice-up holder ob (InPlace a n) s = U ob (InPlace a n) s
+
+  follow-up : (holder : ℕ) (st : Step) (s : Spent) → Within (Going s) (follow child holder st s)
+  unfolding follow
+  follow-up holder (St.Refused n) s = refuse-up n holder s
+  follow-up holder St.Absent s = stay
+  follow-up holder (St.Value x) s = stay
+  follow-up holder (St.Unknown x) s = stay
+  follow-up holder (St.Struct i at) s = stay
+  follow-up holder (St.Object ob p) s = U ob p s
+  follow-up holder (St.Choice c ob p) s = choice-up holder ob p s
+
+  members-up : (holder start n : ℕ) (c : Cursor) (rs : List Member) (s : Spent)
+      → Within (Going s) (members child o S m holder start n c rs s)
+  unfolding members
+  members-up holder start n c [] s = stay
+  members-up holder start n c (r ∷ rs) s =
+      then-up (follow-up holder (memberStep o S m start n c r) s) (λ t. members-up holder start n (afterMember o S r c) rs t)
+
+  elements-up : (holder start : ℕ) (k : Kind) (n i : ℕ) (s : Spent) → Within (Going s) (elements child o S m holder start k n i s)
+  unfolding elements
+  elements-up holder start k zero i s = stay
+  elements-up holder start k (suc n) i s =
+      then-up (follow-up holder (elementStep o S m k start i) s) (λ t. elements-up holder start k n (i + 1) t)
+
+  content-up : (ob : Object) (holder start n : ℕ) (s : Spent) → Within (Going s) (content child o S m ob holder start n s)
+  unfolding content
+  content-up Ob.Text holder start n s = stay
+  content-up Ob.Bytes holder start n s = stay
+  content-up (Ob.List i) holder start n s = elements-up holder start (elementOf S i) n 0 s
+  content-up (Ob.Table i) holder start n s = members-up holder start n begin (tableOf S i .members) s
+
+  enter-up : (ob : Object) (holder : ℕ) (p : Opened) (s : Spent) → Within (Going s) (enter child o S m ob holder p s)
+  unfolding enter
+  enter-up ob holder (Op.Refused n) s = refuse-up n holder s
+  enter-up ob holder (Op.Content start n) s = content-up ob holder start n s
+
+  arrive-up : (ob : Object) (p : Place) (s : Spent) → Within (Going s) (arrive child o S m ob p s)
+  unfolding arrive
+  arrive-up ob p s = enter-up ob (placed p) (openObject o S m ob p) s
+
+counted-up : (child : Child) → ((ob : Object) (p : Place) (s : Spent) → Within (Going s) (child ob p s))
+    → (b : Budget) (ob : Object) (p : Place) (s : Spent) → Within (Going s) (counted child b ob p s)
+unfolding counted
+counted-up child U b ob p s =
+    pick-up (ltb (s .visits) (b .visits)) (from-within (omega arith) (U ob p (record { visits = s .visits + 1 }))) (refuse-up 4 (placed p) s)
+
+too-deep-up : {a : Walked} (ob : Object) (p : Place) (s : Spent) → Within a (tooDeep ob p s)
+unfolding tooDeep
+too-deep-up ob p s = refuse-up 5 (placed p) s
+
+visit-up : (d o : ℕ) (S : Schema) (m : List ℕ) (b : Budget) (ob : Object) (p : Place) (s : Spent)
+    → Within (Going s) (visit d o S m b ob p s)
+unfolding visit
+visit-up zero o S m b ob p s = counted-up tooDeep (λ ob p s. too-deep-up ob p s) b ob p s
+visit-up (suc d) o S m b ob p s =
+    counted-up (arrive (visit d o S m b) o S m) (arrive-up (visit d o S m b) (visit-up d o S m b) o S m) b ob p s
+
+-- ---- the older's walk beside the newer's
+module _ (o : ℕ) (O N : Schema) (sound : Sound O) (G : SchemaAppends O N) (m : List ℕ) where
+  open-content-same : (ob : Object) → ObjectSound O ob → (start n : ℕ) → openContent o O m ob start n ≡ openContent o N m ob start n
+  unfolding openContent
+  open-content-same ob h start n = rw (content-size-same O N sound G o ob h n)
+
+  pub open-same : (ob : Object) → ObjectSound O ob → (p : Place) → openObject o O m ob p ≡ openObject o N m ob p
+  unfolding openObject
+  open-same ob h (ByOffset x) = rw (magic-same O N sound G ob h, open-content-same ob h (x + headerSize o) (le m (x + 4) o))
+  open-same ob h (InPlace a n) = open-content-same ob h a n
+
+  module _ (old new : Child) (U : (ob : Object) (p : Place) (s : Spent) → Within (Going s) (new ob p s))
+      (H : (ob : Object) → ObjectSound O ob → (p : Place) (s s′ : Spent) → s .visits ≤ s′ .visits
+      → Within (old ob p s) (new ob p s′)) where
+    choice-within : (ob : Object) → ObjectSound O ob → (holder : ℕ) (p : Place) (s s′ : Spent) → s .visits ≤ s′ .visits
+        → Within (followChoice old holder ob p s) (followChoice new holder ob p s′)
+    unfolding followChoice
+    choice-within ob q holder (ByOffset x) s s′ h =
+        pick-within (eqb x 0) (refuse-up 9 holder s′) (H ob q (ByOffset x) s s′ h)
+    choice-within ob q holder (InPlace a n) s s′ h = H ob q (InPlace a n) s s′ h
+
+    follow-within : {k : Kind} {a b : Step} → SameStep O k a b → (holder : ℕ) (s s′ : Spent) → s .visits ≤ s′ .visits
+        → Within (follow old holder a s) (follow new holder b s′)
+    unfolding follow
+    follow-within (refused {n}) holder s s′ h = refuse-up n holder s′
+    follow-within no-value holder s s′ h = going h
+    follow-within (value q) holder s s′ h = going h
+    follow-within (enum-value q) holder s s′ h = going h
+    follow-within (enum-appended q) holder s s′ h = going h
+    follow-within enum-unknown holder s s′ h = going h
+    follow-within (struct-value q) holder s s′ h = going h
+    follow-within (object-value {ob} {p} q) holder s s′ h = H ob q p s s′ h
+    follow-within (choice {ob} {p} l e q) holder s s′ h = choice-within ob q holder p s s′ h
+    follow-within (choice-appended {ob} {p} l) holder s s′ h = from-within h (choice-up new U o N m holder ob p s′)
+    follow-within choice-unknown holder s s′ h = going h
+
+    members-within : {rs rs′ : List Member} → Extends SameMember rs rs′ → All (MemberSound O) rs → (holder start n : ℕ) (c : Cursor)
+        (s s′ : Spent) → s .visits ≤ s′ .visits
+        → Within (members old o O m holder start n c rs s) (members new o N m holder start n c rs′ s′)
+    unfolding members
+    members-within (rest {ys}) a holder start n c s s′ h = from-within h (members-up new U o N m holder start n c ys s′)
+    members-within (more {x} {y} {xs} {ys} q l) a holder start n c s s′ h =
+        then-within (follow-within (member-step-same O N sound G m o q (a .0) start n c) holder s s′ h)
+        (λ t t′ g.
+        rw (after-member-same O N sound G o q (a .0) c)
+        (members-within l (a .1) holder start n (afterMember o N y c) t t′ g))
+
+    elements-within : {k k′ : Kind} → SameKind k k′ → KindSound O k → (holder start n i : ℕ) (s s′ : Spent) → s .visits ≤ s′ .visits
+        → Within (elements old o O m holder start k n i s) (elements new o N m holder start k′ n i s′)
+    unfolding elements
+    elements-within q a holder start zero i s s′ h = going h
+    elements-within q a holder start (suc n) i s s′ h =
+        then-within (follow-within (element-step-same O N sound G m o q a start i) holder s s′ h)
+        (λ t t′ g. elements-within q a holder start n (i + 1) t t′ g)
+
+    content-within : (ob : Object) → ObjectSound O ob → (holder start n : ℕ) (s s′ : Spent) → s .visits ≤ s′ .visits
+        → Within (content old o O m ob holder start n s) (content new o N m ob holder start n s′)
+    unfolding content
+    content-within Ob.Text q holder start n s s′ h = going h
+    content-within Ob.Bytes q holder start n s s′ h = going h
+    content-within (Ob.List i) q holder start n s s′ h =
+        elements-within (element-same O N sound G i q) (sound .lists i .kind) holder start n 0 s s′ h
+    content-within (Ob.Table i) q holder start n s s′ h =
+        members-within (table-same O N sound G i q .members) (sound .tables i .members) holder start n begin s s′ h
+
+    enter-within : (ob : Object) → ObjectSound O ob → (holder : ℕ) (p : Opened) (s s′ : Spent) → s .visits ≤ s′ .visits
+        → Within (enter old o O m ob holder p s) (enter new o N m ob holder p s′)
+    unfolding enter
+    enter-within ob q holder (Op.Refused n) s s′ h = refuse-up n holder s′
+    enter-within ob q holder (Op.Content start n) s s′ h = content-within ob q holder start n s s′ h
+
+    arrive-within : (ob : Object) → ObjectSound O ob → (p : Place) (s s′ : Spent) → s .visits ≤ s′ .visits
+        → Within (arrive old o O m ob p s) (arrive new o N m ob p s′)
+    unfolding arrive
+    arrive-within ob q p s s′ h = rw (open-same ob q p) (enter-within ob q (placed p) (openObject o N m ob p) s s′ h)
+
+-- the budget's test: if the newer passes it, so does the older
+counted-within : (old new : Child) (b : Budget) (ob : Object) (p : Place) (s s′ : Spent) → s .visits ≤ s′ .visits
+    → ((t t′ : Spent) → t .visits ≤ t′ .visits → Within (old ob p t) (new ob p t′))
+    → Within (counted old b ob p s) (counted new b ob p s′)
+unfolding counted
+counted-within old new b ob p s s′ h H = by (ltb (s′ .visits) (b .visits)) refl
+  where
+    by : (t : Bool) → ltb (s′ .visits) (b .visits) ≡ t
+        → Within
+        (pick (ltb (s .visits) (b .visits)) (old ob p (record { visits = s .visits + 1 })) (refuse 4 (placed p) s))
+        (pick t (new ob p (record { visits = s′ .visits + 1 })) (refuse 4 (placed p) s′))
+    by true e =
+        rw (lt-ltb (s .visits) (b .visits) (omega (arith, ltb-true (s′ .visits) (b .visits) e)))
+        (H (record { visits = s .visits + 1 }) (record { visits = s′ .visits + 1 }) (omega arith))
+    by false e = refuse-up 4 (placed p) s′
+
+module _ (o : ℕ) (O N : Schema) (sound : Sound O) (G : SchemaAppends O N) (m : List ℕ) (b : Budget) where
+  pub visit-within : (d : ℕ) (ob : Object) → ObjectSound O ob → (p : Place) (s s′ : Spent) → s .visits ≤ s′ .visits
+      → Within (visit d o O m b ob p s) (visit d o N m b ob p s′)
+  unfolding visit
+  visit-within zero ob q p s s′ h = counted-within tooDeep tooDeep b ob p s s′ h (λ t t′ g. too-deep-up ob p t′)
+  visit-within (suc d) ob q p s s′ h =
+      counted-within (arrive (visit d o O m b) o O m) (arrive (visit d o N m b) o N m) b ob p s s′ h
+      (λ t t′ g. arrive-within o O N sound G m (visit d o O m b) (visit d o N m b) (visit-up d o N m b) (visit-within d) ob q p t t′ g)
+
+  pub walk-within : Within (walk o O m b) (walk o N m b)
+  unfolding walk
+  walk-within =
+      subst (λ (r : ℕ). Within (visit deepest o O m b (Ob.Table (O .root)) (rootPlace o m) (record { visits = 0 })) (visit deepest o N m b (Ob.Table r) (rootPlace o m) (record { visits = 0 }))) (G .root)
+      (visit-within deepest (Ob.Table (O .root)) (sound .root) (rootPlace o m) (record { visits = 0 }) (record { visits = 0 }) (le-refl 0))
+
+  -- whatever the newer accepts, the older accepts
+  pub older-accepts : (s : Spent) → walk o N m b ≡ Going s → (t : Spent) × (walk o O m b ≡ Going t) × (t .visits ≤ s .visits)
+  older-accepts s e = accepts walk-within s e
+    where
+      accepts : {x y : Walked} → Within x y → (s : Spent) → y ≡ Going s → (t : Spent) × (x ≡ Going t) × (t .visits ≤ s .visits)
+      accepts (stopped {r} {s = u}) s e = let z : _≡_ {A = ℕ} 0 1 = cc in absurd (omega arith)
+      accepts (going {s = t} {s′ = u} l) s e = (t, refl, subst (λ (v : Spent). t .visits ≤ v .visits) (let z : u ≡ s = cc in z) l)

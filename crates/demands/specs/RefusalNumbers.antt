@@ -1,0 +1,109 @@
+-- Every refusal of a step or an arrival has a number above 0, which is the number of acceptance.
+use Prim.Native.Nat.{ℕ, _<_, _+_, _%_}
+use native.Mathlib.Omega.{arith}
+use mathlib.Core.List.{List}
+use mathlib.Core.Bool.{Bool, true, false, _&&_}
+use lib.ListN.{length, getD}
+use lib.Dec.{ltb, leb, eqb}
+use Rattle.coding.specs.Lists.{pick}
+use Rattle.coding.specs.Bytes.{le, bitAt, isNaN}
+use Rattle.coding.specs.Schema.{Schema, casesOf}
+use Rattle.coding.specs.Structs.{structOk}
+use Rattle.coding.specs.Layout.{hasFlag, bitByte, bitIndex, memberSlot}
+use Rattle.coding.specs.Step.{enumStep, floatStep, structStep, objectStep, unionStep, flatStep, valueStep, inside, flagged, memberStep, elementPlace, elementStep}
+use Rattle.coding.specs.Walk.{magic, headerSize, contentSize, endOk, openContent, openObject}
+use Rattle.coding.specs.declared.Flat.{Flat}
+use Rattle.coding.specs.declared.Flat.the-variants as F
+use Rattle.coding.specs.declared.Object.{Object}
+use Rattle.coding.specs.declared.Kind.{Kind}
+use Rattle.coding.specs.declared.Kind.the-variants.{OfFlat, OfObject, OfUnion}
+use Rattle.coding.specs.declared.Member.{Member}
+use Rattle.coding.specs.declared.Cursor.{Cursor}
+use Rattle.coding.specs.declared.Slot.{Slot}
+use Rattle.coding.specs.declared.Place.{Place}
+use Rattle.coding.specs.declared.Place.the-variants.{ByOffset, InPlace}
+use Rattle.coding.specs.declared.Step.{Step}
+use Rattle.coding.specs.declared.Step.the-variants as St
+use Rattle.coding.specs.declared.Opened.{Opened}
+use Rattle.coding.specs.declared.Opened.the-variants as Op
+
+abbrev pub NumberedStep : Step → Type 0
+NumberedStep (St.Refused n) = 0 < n
+NumberedStep St.Absent = Unit {0}
+NumberedStep (St.Value x) = Unit {0}
+NumberedStep (St.Unknown x) = Unit {0}
+NumberedStep (St.Struct i at) = Unit {0}
+NumberedStep (St.Object ob p) = Unit {0}
+NumberedStep (St.Choice c ob p) = Unit {0}
+
+abbrev pub NumberedOpened : Opened → Type 0
+NumberedOpened (Op.Refused n) = 0 < n
+NumberedOpened (Op.Content start n) = Unit {0}
+
+-- P of either is P of the one that is picked
+pick-has : {A : Type 0} (P : A → Type 0) (t : Bool) {x y : A} → P x → P y → P (pick t x y)
+pick-has P true h g = h
+pick-has P false h g = g
+
+pick-step : (t : Bool) (x y : Step) → NumberedStep x → NumberedStep y → NumberedStep (pick t x y)
+pick-step t x y h g = pick-has NumberedStep t {x = x} {y = y} h g
+
+flat-numbered : (S : Schema) (m : List ℕ) (k : Flat) (none : Bool) (at bit : ℕ) → NumberedStep (flatStep S m k none at bit)
+unfolding flatStep floatStep enumStep structStep
+flat-numbered S m F.Boolean none at bit = tt
+flat-numbered S m (F.Integer s w) none at bit = tt
+flat-numbered S m (F.Float w) none at bit = pick-step (none && isNaN w (le m at w)) _ _ tt tt
+flat-numbered S m (F.Enumerated n) none at bit =
+    pick-step (eqb (getD m at 0) 255) _ _ tt (pick-step (ltb (getD m at 0) n) _ _ tt tt)
+flat-numbered S m (F.Struct i) none at bit = pick-step (structOk S m i at) _ (St.Refused 10) tt (omega arith)
+
+value-numbered : (o : ℕ) (S : Schema) (m : List ℕ) (k : Kind) (none inplace : Bool) (tail at bit : ℕ)
+    → NumberedStep (valueStep o S m k none inplace tail at bit)
+unfolding valueStep objectStep unionStep
+value-numbered o S m (OfFlat k) none inplace tail at bit = flat-numbered S m k none at bit
+value-numbered o S m (OfObject ob) none inplace tail at bit = pick-step (eqb (le m at o) 0) _ _ tt tt
+value-numbered o S m (OfUnion i) none inplace tail at bit =
+    pick-step (eqb (le m at 2) 0) _ _ tt (pick-step (leb (le m at 2) (length (casesOf S i))) _ _ tt tt)
+
+inside-numbered : (n : ℕ) (slot : Slot) (x y : Step) → NumberedStep x → NumberedStep y → NumberedStep (inside n slot x y)
+unfolding inside
+inside-numbered n slot x y h g =
+    pick-step (leb n (slot .at)) x _ h (pick-step (leb (slot .at + slot .size) n) y (St.Refused 8) g (omega arith))
+
+flagged-numbered : (m : List ℕ) (start n : ℕ) (c : Cursor) (slot : Slot) (x : Step) → NumberedStep x
+    → NumberedStep (flagged m start n c slot x)
+unfolding flagged
+flagged-numbered m start n c slot x h =
+    pick-step (leb n (bitByte c)) St.Absent _ tt
+    (pick-step (eqb (bitAt m (start + bitByte c) (bitIndex c)) 1) (inside n slot (St.Refused 8) x) (inside n slot St.Absent St.Absent)
+    (inside-numbered n slot (St.Refused 8) x (omega arith) h)
+    (inside-numbered n slot St.Absent St.Absent tt tt))
+
+pub member-numbered : (o : ℕ) (S : Schema) (m : List ℕ) (start n : ℕ) (c : Cursor) (r : Member)
+    → NumberedStep (memberStep o S m start n c r)
+unfolding memberStep
+member-numbered o S m start n c r =
+    let slot = memberSlot o S r c in
+    let here = valueStep o S m (r .kind) (r .optional) (r .inplace) (start + n) (start + slot .at) (slot .bit) in
+    let h : NumberedStep here = value-numbered o S m (r .kind) (r .optional) (r .inplace) (start + n) (start + slot .at) (slot .bit) in
+    pick-step (hasFlag r) (flagged m start n c slot here) (inside n slot St.Absent here)
+    (flagged-numbered m start n c slot here h) (inside-numbered n slot St.Absent here tt h)
+
+pub element-numbered : (o : ℕ) (S : Schema) (m : List ℕ) (k : Kind) (start i : ℕ) → NumberedStep (elementStep o S m k start i)
+unfolding elementStep
+element-numbered o S m k start i = value-numbered o S m k true false 0 (elementPlace o S k start i) (i % 8)
+
+content-numbered : (o : ℕ) (S : Schema) (m : List ℕ) (ob : Object) (start n : ℕ) → NumberedOpened (openContent o S m ob start n)
+unfolding openContent
+content-numbered o S m ob start n =
+    pick-has NumberedOpened (leb (start + contentSize o S ob n) (length m)) {y = Op.Refused 6}
+    (pick-has NumberedOpened (endOk m ob start n) {x = Op.Content start n} {y = Op.Refused 10} tt (omega arith)) (omega arith)
+
+pub open-numbered : (o : ℕ) (S : Schema) (m : List ℕ) (ob : Object) (p : Place) → NumberedOpened (openObject o S m ob p)
+unfolding openObject
+open-numbered o S m ob (ByOffset x) =
+    pick-has NumberedOpened (leb (headerSize o) x && leb (x + headerSize o) (length m)) {y = Op.Refused 6}
+    (pick-has NumberedOpened (eqb (le m x 4) (magic S ob)) {x = openContent o S m ob (x + headerSize o) (le m (x + 4) o)} {y = Op.Refused 7}
+    (content-numbered o S m ob (x + headerSize o) (le m (x + 4) o)) (omega arith))
+    (omega arith)
+open-numbered o S m ob (InPlace a n) = content-numbered o S m ob a n

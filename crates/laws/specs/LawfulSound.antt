@@ -1,0 +1,159 @@
+-- A lawful schema is sound: what the rules say of the packed bytes holds of the typed schema.
+use mathlib.Core.Path.{_≡_, refl, sym, _∙_}
+use mathlib.Core.Bool.{Bool, true, false}
+use mathlib.Core.List.{List}
+use Prim.Native.Nat.{ℕ, zero, suc, _+_, _^_, _<_, _≤_}
+use native.Mathlib.Numerals.{add-one}
+use native.Mathlib.Nat.{add-zero}
+use native.Mathlib.Omega.{arith}
+use lib.ListN.{length, getD}
+use lib.Dec.{ltb}
+use borrow.Author.Tests.{ltb-true, ltb-false}
+use Rattle.coding.specs.Lists.{pick, run}
+use Rattle.coding.specs.Packed as P
+use Rattle.coding.specs.Lawful as L
+use Rattle.coding.specs.Schema as Sc
+use Rattle.coding.specs.Structs.{structSize, byIndex, sizeBy, total}
+use Rattle.coding.specs.declared.Role.the-variants.{InStruct, InUnion, InTable}
+use Rattle.laws.specs.Sound.{All, FlatSound, ObjectSound, MemberSound, inplaceCount, TableSound, StructSound, UnionSound, ListSound, Sound}
+use Rattle.laws.specs.Lists.{run-all}
+use Rattle.laws.specs.Parsed as Pa
+use Rattle.laws.specs.Rules as R
+use Rattle.laws.specs.RecordSound.{list-sound, case-sound, field-sound, member-sound}
+use Rattle.laws.specs.Sizes.{sizes-some}
+
+-- what holds of each record of a block holds of all
+pub records-all : {A : Type 0} (Q : A → Type 0) (f : List ℕ → ℕ → A) (b : List ℕ) (head at : ℕ)
+    → ((j : ℕ) → j < P.records b head at → Q (f b (P.recordPlace head at j))) → All Q (P.recordsAt f b head at)
+unfolding P.recordsAt
+records-all Q f b head at h = run-all (λ j. f b (P.recordPlace head at j)) Q (P.records b head at) h
+
+-- ---- the members in place, as the packed bytes count them
+inplaces-next : (b : List ℕ) (at i : ℕ) → L.inplaces b at (i + 1) ≡ L.inplaces b at i + pick (P.inplaceAt b (P.recordPlace 4 at i)) 1 0
+unfolding L.inplaces
+inplaces-next b at i = rw add-one
+
+member-inplace : (b : List ℕ) (p : ℕ) → P.memberAt b p .inplace ≡ P.inplaceAt b p
+unfolding P.memberAt
+member-inplace b p = refl
+
+inplaces-from : (b : List ℕ) (at n i : ℕ)
+    → inplaceCount (run (λ j. P.memberAt b (P.recordPlace 4 at j)) i n) + L.inplaces b at i ≡ L.inplaces b at (i + n)
+unfolding inplaceCount run
+inplaces-from b at zero i = let e : i + 0 ≡ i = omega arith in rw e (omega arith)
+inplaces-from b at (suc n) i =
+    let e : i + suc n ≡ i + 1 + n = omega arith in
+    rw (e, member-inplace b (P.recordPlace 4 at i)) (omega (arith, inplaces-from b at n (i + 1), inplaces-next b at i))
+
+pub inplaces-are : (b : List ℕ) (at : ℕ) → inplaceCount (P.recordsAt P.memberAt b 4 at) ≡ L.inplaces b at (P.records b 4 at)
+unfolding P.recordsAt L.inplaces
+inplaces-are b at =
+    let e : 0 + P.records b 4 at ≡ P.records b 4 at = omega arith in
+    let h : inplaceCount (run (λ j. P.memberAt b (P.recordPlace 4 at j)) 0 (P.records b 4 at)) + 0 ≡ L.inplaces b at (0 + P.records b 4 at) = inplaces-from b at (P.records b 4 at) 0 in
+    sym (add-zero _) ∙ h ∙ rw e
+
+-- in range or past it
+either : {A : Type 0} (i n : ℕ) → (i < n → A) → (n ≤ i → A) → A
+either {A} i n f g = by (ltb i n) refl
+  where
+    by : (t : Bool) → ltb i n ≡ t → A
+    by true e = f (ltb-true i n e)
+    by false e = g (ltb-false i n e)
+
+module _ (b : List ℕ) (bytes : (i : ℕ) → getD b i 0 < 256) (e : L.lawful b ≡ true) where
+  -- ---- structs
+  fields-in : (i : ℕ) → i < P.structCount b → All (FlatSound i) (Sc.structOf (P.parse b) i)
+  fields-in i l =
+      rw (Pa.struct-at b i l)
+      (records-all (FlatSound i) P.flatAt b 0 (P.structPlace b i)
+      (λ j m. field-sound b bytes (P.recordPlace 0 (P.structPlace b i) j) i (R.record-of-block b (InStruct i) 0 (P.structPlace b i) j (R.struct-ok b e i l) m)))
+
+  struct-in : (i : ℕ) → i < P.structCount b → StructSound (P.parse b) i
+  struct-in i l =
+      record {
+        few = omega (arith, Pa.struct-length b i l, R.struct-records b e i l .1);
+        members = fields-in i l;
+        size = R.struct-small b e i l;
+        some = λ m.
+            sizes-some (P.parse b) (P.structCount b)
+            (λ j n. (fields-in j n, omega (arith, Pa.struct-length b j n, R.struct-records b e j n .0))) i l;
+      }
+
+  no-size : (i : ℕ) → P.structCount b ≤ i → structSize (P.parse b) i ≡ 0
+  unfolding structSize byIndex sizeBy total
+  no-size i l = rw (Pa.struct-past b i l)
+
+  struct-past : (i : ℕ) → P.structCount b ≤ i → StructSound (P.parse b) i
+  struct-past i l =
+      record {
+        few = rw (Pa.struct-past b i l) (omega arith);
+        members = rw (Pa.struct-past b i l) tt;
+        size = omega (arith, no-size i l);
+        some = λ m. absurd (omega (arith, Pa.structs-length b));
+      }
+
+  -- ---- lists
+  list-in : (i : ℕ) → i < P.listCount b → ListSound (P.parse b) i
+  list-in i l =
+      let h = list-sound b bytes (P.listPlace b i) (R.list-ok b e i l) in
+      record { kind = rw (Pa.element-at b i l) (h .0); scalar = rw (Pa.element-at b i l) (h .1) }
+
+  list-past : (i : ℕ) → P.listCount b ≤ i → ListSound (P.parse b) i
+  unfolding Sc.plainBool
+  list-past i l = record { kind = rw (Pa.element-past b i l) tt; scalar = rw (Pa.element-past b i l) tt }
+
+  -- ---- unions
+  union-in : (i : ℕ) → i < P.unionCount b → UnionSound (P.parse b) i
+  union-in i l =
+      record {
+        few = omega (arith, Pa.cases-length b i l, R.union-records b e i l .1);
+        cases =
+            rw (Pa.cases-at b i l)
+            (records-all (ObjectSound (P.parse b)) P.objectAt b 0 (P.unionPlace b i)
+            (λ j m. case-sound b bytes (P.recordPlace 0 (P.unionPlace b i) j) (R.record-of-block b InUnion 0 (P.unionPlace b i) j (R.union-ok b e i l) m)));
+      }
+
+  union-past : (i : ℕ) → P.unionCount b ≤ i → UnionSound (P.parse b) i
+  union-past i l = record { few = rw (Pa.cases-past b i l) (omega arith); cases = rw (Pa.cases-past b i l) tt }
+
+  -- ---- tables
+  id-small : (at : ℕ) → P.idAt b at < 2 ^ 32
+  unfolding P.idAt
+  id-small at = omega (arith, bytes at, bytes (at + 1), bytes (at + 2), bytes (at + 3))
+
+  table-in : (i : ℕ) → i < P.tableCount b → TableSound (P.parse b) i
+  table-in i l =
+      record {
+        id = rw (Pa.id-at b i l) (id-small (P.tablePlace b i));
+        few = omega (arith, Pa.members-length b i l, R.table-records b e i l .1);
+        members =
+            rw (Pa.members-at b i l)
+            (records-all (MemberSound (P.parse b)) P.memberAt b 4 (P.tablePlace b i)
+            (λ j m. member-sound b bytes (P.recordPlace 4 (P.tablePlace b i) j) (R.record-of-block b InTable 4 (P.tablePlace b i) j (R.table-ok b e i l) m)));
+        one = rw (Pa.members-at b i l) (omega (arith, inplaces-are b (P.tablePlace b i), R.table-inplaces b e i l));
+      }
+
+  table-past : (i : ℕ) → P.tableCount b ≤ i → TableSound (P.parse b) i
+  unfolding inplaceCount
+  table-past i l =
+      record {
+        id = rw (Pa.table-past b i l) (omega arith);
+        few = rw (Pa.table-past b i l) (omega arith);
+        members = rw (Pa.table-past b i l) tt;
+        one = rw (Pa.table-past b i l) (omega arith);
+      }
+
+  root-in : P.parse b .root < length (P.parse b .tables)
+  unfolding P.parse
+  root-in = omega (arith, R.lawful-counts b e .root, Pa.tables-length b)
+
+  pub lawful-sound : Sound (P.parse b)
+  lawful-sound =
+      record {
+        root = root-in;
+        fewTables = omega (arith, R.lawful-counts b e .tables, Pa.tables-length b);
+        structs = λ i. either i (P.structCount b) (struct-in i) (struct-past i);
+        lists = λ i. either i (P.listCount b) (list-in i) (list-past i);
+        unions = λ i. either i (P.unionCount b) (union-in i) (union-past i);
+        tables = λ i. either i (P.tableCount b) (table-in i) (table-past i);
+      }

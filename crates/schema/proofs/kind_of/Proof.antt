@@ -1,0 +1,23 @@
+-- `schema::kind_of` meets its contract.
+use Rattle.schema.proofs.RecordCases.{whole-1, whole-2, whole-3}
+use borrow.Author.Needs.{needs}
+use Rattle.schema.proofs.kind_of.Statement.{statement}
+use Rattle.schema.proofs.kind_of.Tie as tie
+
+flat-of-requires : tie.Need-flat-of-requires
+flat-of-requires c κs = search needs
+
+returns : tie.Need-returns
+returns c = search whole-1
+
+object-of-requires : tie.Need-object-of-requires
+object-of-requires c κs = search needs
+
+returns-2 : tie.Need-returns-2
+returns-2 c = search whole-2
+
+returns-3 : tie.Need-returns-3
+returns-3 c = search whole-3
+
+pub kind-of-spec : {M : Type 1} → statement M
+kind-of-spec = tie.close (tie.spec flat-of-requires returns object-of-requires returns-2 returns-3)

@@ -1,0 +1,138 @@
+// Numbers and bits of a message. The `_in` forms require that the bytes are there and test nothing; the others read 0 past
+// the end.
+ghost use mathlib.Core.Path.{_≡_};
+ghost use Prim.Native.Nat.{_+_, _*_, _/_, _%_, _^_, _≤_, _<_};
+ghost use lib.ListN.{length, getD};
+ghost use lib.Dec.{eqb};
+ghost use Rattle.coding.specs.Bytes as B;
+ghost use Rattle.wire.specs.Numbers.{Number};
+
+// ---- bytes
+pub fn byte(m: &[u8], at: usize) -> u8
+    ensures { λ r. ⌜ r ≡ getD (now (m .entry)) at 0 ⌝ }
+{
+    if at < m.len() { m[at] } else { 0 }
+}
+
+pub fn byte_in(m: &[u8], at: usize) -> u8
+    requires { ⌜ at < length (now m) ⌝ }
+    ensures { λ r. ⌜ r ≡ getD (now (m .entry)) at 0 ⌝ }
+{
+    m[at]
+}
+
+pub fn wide(x: u8) -> u64
+    ensures { λ r. ⌜ (r ≡ x) × (r < 256) ⌝ }
+{
+    x as u64
+}
+
+pub fn index(x: u8) -> usize
+    ensures { λ r. ⌜ (r ≡ x) × (r < 256) ⌝ }
+{
+    x as usize
+}
+
+// ---- numbers whose bytes are there
+pub fn u8_in(m: &[u8], at: usize) -> u64
+    requires { ⌜ at + 1 ≤ length (now m) ⌝ }
+    ensures { λ r. ⌜ Number (now (m .entry)) at 1 r ⌝ }
+{
+    wide(m[at])
+}
+
+pub fn u16_in(m: &[u8], at: usize) -> u64
+    requires { ⌜ at + 2 ≤ length (now m) ⌝ }
+    ensures { λ r. ⌜ Number (now (m .entry)) at 2 r ⌝ }
+{
+    u8_in(m, at) | u8_in(m, at + 1) << 8
+}
+
+pub fn u32_in(m: &[u8], at: usize) -> u64
+    requires { ⌜ at + 4 ≤ length (now m) ⌝ }
+    ensures { λ r. ⌜ Number (now (m .entry)) at 4 r ⌝ }
+{
+    u16_in(m, at) | u16_in(m, at + 2) << 16
+}
+
+pub fn u48_in(m: &[u8], at: usize) -> u64
+    requires { ⌜ at + 6 ≤ length (now m) ⌝ }
+    ensures { λ r. ⌜ Number (now (m .entry)) at 6 r ⌝ }
+{
+    u32_in(m, at) | u16_in(m, at + 4) << 32
+}
+
+pub fn u64_in(m: &[u8], at: usize) -> u64
+    requires { ⌜ at + 8 ≤ length (now m) ⌝ }
+    ensures { λ r. ⌜ Number (now (m .entry)) at 8 r ⌝ }
+{
+    u32_in(m, at) | u32_in(m, at + 4) << 32
+}
+
+// ---- numbers of any width up to 8 bytes, wherever they stand
+fn bytes_of(m: &[u8], at: usize, w: usize) -> u64
+    requires { ⌜ (w ≤ 8) × (at + 8 < 18446744073709551616) ⌝ }
+    ensures { λ r. ⌜ Number (now (m .entry)) at w r ⌝ }
+{
+    let mut v: u64 = 0;
+    let mut i = w;
+    while 0 < i {
+        i -= 1;
+        v = v << 8 | wide(byte(m, at + i));
+    }
+    v
+}
+
+pub fn number(m: &[u8], at: usize, w: usize) -> u64
+    requires { ⌜ (w ≤ 8) × (at + 8 < 18446744073709551616) ⌝ }
+    ensures { λ r. ⌜ Number (now (m .entry)) at w r ⌝ }
+{
+    if m.len() < at + w {
+        return bytes_of(m, at, w);
+    }
+    if w == 8 {
+        return u64_in(m, at);
+    }
+    if w == 4 {
+        return u32_in(m, at);
+    }
+    if w == 2 {
+        return u16_in(m, at);
+    }
+    bytes_of(m, at, w)
+}
+
+// ---- bits, the lowest being 0
+pub fn bit_value(x: u8, k: usize) -> u64
+    requires { ⌜ k < 8 ⌝ }
+    ensures { λ r. ⌜ (r ≡ x / 2 ^ k % 2) × (r < 2) ⌝ }
+{
+    wide(x) >> k & 1
+}
+
+pub fn bit_in(m: &[u8], at: usize, k: usize) -> bool
+    requires { ⌜ (at < length (now m)) × (k < 8) ⌝ }
+    ensures { λ r. ⌜ r ≡ eqb (B.bitAt (now (m .entry)) at k) 1 ⌝ }
+{
+    bit_value(m[at], k) == 1
+}
+
+pub fn bit(m: &[u8], at: usize, k: usize) -> bool
+    requires { ⌜ k < 8 ⌝ }
+    ensures { λ r. ⌜ r ≡ eqb (B.bitAt (now (m .entry)) at k) 1 ⌝ }
+{
+    bit_value(byte(m, at), k) == 1
+}
+
+// The byte and the bit of a bool by its number.
+pub fn eighth(i: usize) -> usize
+    ensures { λ r. ⌜ r ≡ i / 8 ⌝ }
+{
+    i >> 3
+}
+
+pub fn low_three(i: usize) -> usize
+    ensures { λ r. ⌜ (r ≡ i % 8) × (r < 8) ⌝ }
+{
+    i & 7
+}
