@@ -3,6 +3,7 @@ pub mod Structs
 pub mod Sound
 pub mod All
 pub mod Bits
+pub mod BitLists
 pub mod Lists
 pub mod Parsed
 pub mod Rules
