@@ -1,0 +1,41 @@
+// The desk program: judges message.bin by schema.bin, both in the folder it is run in, with a budget of 100000, and prints
+// number, place and visits. A file that cannot be read or is over 64 KiB counts as one that is not lawful: 1 or 2.
+use coding::Budget;
+use libc::STDOUT_FILENO;
+ghost use Rattle.io.specs.Counts.{Counts};
+
+// How many bytes of the file were read to buf, which holds one more than a file may have; 0 where the file cannot be read or
+// is too long. No bytes are no lawful schema, and no lawful message.
+fn load(path: &[u8], buf: &mut [u8]) -> usize
+    ensures { λ r. ⌜ Counts r (now (buf .exit)) ⌝ }
+{
+    let fd = os::open_read(path);
+    if fd < 0 {
+        return 0;
+    }
+    let n = io::read_full(fd, buf);
+    libc::close(fd);
+    if 65536 < n {
+        return 0;
+    }
+    n
+}
+
+fn print(n: u64, end: u8) {
+    let mut digits = [0u8; 20];
+    let k = io::decimal(n, &mut digits);
+    io::write_all(STDOUT_FILENO, &digits[..k]);
+    let last = [end];
+    io::write_all(STDOUT_FILENO, &last);
+}
+
+fn main() {
+    let mut schema = [0u8; 65537];
+    let s = load(b"schema.bin", &mut schema);
+    let mut message = [0u8; 65537];
+    let m = load(b"message.bin", &mut message);
+    let v = judge::judge(&schema[..s], &message[..m], Budget { visits: 100000 });
+    print(v.number as u64, b' ');
+    print(v.place as u64, b' ');
+    print(v.visits as u64, b'\n');
+}

@@ -1,0 +1,26 @@
+use mathlib.Core.Path.{ap}
+use Rattle.coding.specs.declared.Verdict.{Verdict}
+use borrow.Author.Needs.{needs}
+use Rattle.scalgo.proofs.scalgo_judge.Statement.{statement}
+use Rattle.scalgo.proofs.scalgo_judge.Tie as tie
+use Rattle.scalgo.proofs.scalgo_judge.Reads as reads
+use Rattle.scalgo.proofs.scalgo_judge.Lts as lts
+use Rattle.judge.proofs.judge.Reads as judge-reads
+
+-- src/lib.rt:20:9
+judge-requires : tie.Need-judge-requires
+judge-requires c κs = search needs
+
+-- src/lib.rt:23:5
+cast-result : tie.Need-cast-result
+cast-result c = search needs
+
+-- src/lib.rt:8:1
+returns : tie.Need-returns
+returns c = (
+  ap (λ (v : Verdict). v .number) (c .before .judge .ensures),
+  (ap (λ (v : Verdict). v .place) (c .before .judge .ensures), ap (λ (v : Verdict). v .visits) (c .before .judge .ensures)),
+)
+
+pub scalgo-judge-spec : {M : Type 1} → statement M
+scalgo-judge-spec = tie.close (tie.spec judge-requires cast-result returns)
