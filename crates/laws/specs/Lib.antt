@@ -3,10 +3,12 @@ pub mod Structs
 pub mod Sound
 pub mod All
 pub mod Bits
+pub mod BitLists
 pub mod Lists
 pub mod Parsed
 pub mod Rules
 pub mod RecordSound
 pub mod Sizes
 pub mod LawfulSound
+pub mod StructBooleans
 pub mod SoundAt

@@ -1,0 +1,435 @@
+// The sheet's bit cursor: numbers and whole bytes at any bit position of a list of bytes, most significant bit first. A
+// position counts bits from the highest bit of the first byte.
+ghost use mathlib.Core.Path.{_≡_};
+ghost use Prim.Native.Nat.{_+_, _-_, _*_, _/_, _%_, _^_, _≤_, _<_};
+ghost use lib.ListN.{length, take, drop, getD, set};
+ghost use Rattle.coding.specs.Lists.{pick};
+ghost use Rattle.coding.specs.Bits.{bitsOf, bits, value, pack};
+ghost use Rattle.coding.specs.Sheet.{blobBits};
+ghost use Rattle.bitio.specs.Splice.{splice};
+ghost use Rattle.bitio.specs.Chunk.{Chunk, merged};
+ghost use Rattle.bitio.specs.Puts.{Room, Puts};
+ghost use Rattle.bitio.specs.Taken.{Run, TakenNumber, TakenBytes};
+
+// ---- numbers by their bits
+
+// Where in its byte a bit stands.
+fn offset(pos: usize) -> usize
+    ensures { λ r. ⌜ r ≡ pos % 8 ⌝ }
+{
+    pos & 7
+}
+
+// The n low bits of v.
+fn low(v: u64, n: usize) -> u64
+    requires { ⌜ n < 64 ⌝ }
+    ensures { λ r. ⌜ r ≡ v % 2 ^ n ⌝ }
+{
+    v & ((1 << n) - 1)
+}
+
+// The eight low bits of v.
+fn last_byte(v: u64) -> u8
+    ensures { λ r. ⌜ r ≡ v % 2 ^ 8 ⌝ }
+{
+    (v & 255) as u8
+}
+
+// The byte that lies across p and x, a bits before the end of x. It is made in 16 bits: in 64 the loops over it were ten
+// times slower.
+fn across(p: u8, x: u8, a: usize) -> u8
+    requires { ⌜ a < 8 ⌝ }
+    ensures { λ r. ⌜ r ≡ (p * 2 ^ 8 + x) / 2 ^ a % 2 ^ 8 ⌝ }
+{
+    (((p as u16) << 8 | (x as u16)) >> a & 255) as u8
+}
+
+// b with its n bits above the k low ones replaced by x.
+fn merge(b: u64, n: usize, k: usize, x: u64) -> u64
+    requires { ⌜ n + k ≤ 8 ⌝ }
+    requires { ⌜ b < 2 ^ 8 ⌝ }
+    requires { ⌜ x < 2 ^ n ⌝ }
+    ensures { λ r. ⌜ (r ≡ merged b n k x) × (r < 2 ^ 8) ⌝ }
+{
+    let t = b >> k;
+    (t >> n << n | x) << k | b & ((1 << k) - 1)
+}
+
+// How many of `left` bits from `at` on lie in the byte of `at`.
+fn chunk(at: usize, left: usize) -> usize
+    requires { ⌜ 0 < left ⌝ }
+    ensures { λ r. ⌜ Chunk at left r ⌝ }
+{
+    let room = 8 - offset(at);
+    if room < left { room } else { left }
+}
+
+// ---- numbers got
+
+// The byte at i.
+fn byte(s: &[u8], i: usize) -> u64
+    requires { ⌜ i < length (now s) ⌝ }
+    ensures { λ r. ⌜ r ≡ getD (now (s .entry)) i 0 ⌝ }
+    ensures { λ r. ⌜ Run (now (s .entry)) (8 * i) 8 r ⌝ }
+{
+    s[i] as u64
+}
+
+// The eight bytes from i on. In this form the compiler makes one load of them.
+fn word(s: &[u8], i: usize) -> u64
+    requires { ⌜ i + 8 ≤ length (now s) ⌝ }
+    ensures { λ r. ⌜ Run (now (s .entry)) (8 * i) 64 r ⌝ }
+{
+    byte(s, i) << 56
+        | byte(s, i + 1) << 48
+        | byte(s, i + 2) << 40
+        | byte(s, i + 3) << 32
+        | byte(s, i + 4) << 24
+        | byte(s, i + 5) << 16
+        | byte(s, i + 6) << 8
+        | byte(s, i + 7)
+}
+
+// n bits that lie in one byte.
+fn get_in(s: &[u8], pos: usize, n: usize) -> u64
+    requires { ⌜ pos + n ≤ 8 * length (now s) ⌝ }
+    requires { ⌜ pos % 8 + n ≤ 8 ⌝ }
+    requires { ⌜ 0 < n ⌝ }
+    ensures { λ r. ⌜ Run (now (s .entry)) pos n r ⌝ }
+{
+    let k = 8 - offset(pos) - n;
+    low(byte(s, pos >> 3) >> k, n)
+}
+
+// The bits of the last bytes, a byte a turn.
+fn get_end(s: &[u8], pos: usize, width: usize) -> u64
+    requires { ⌜ width ≤ 64 ⌝ }
+    requires { ⌜ pos + width ≤ 8 * length (now s) ⌝ }
+    requires { ⌜ 8 * length (now s) < 2 ^ 64 ⌝ }
+    ensures { λ r. ⌜ Run (now (s .entry)) pos width r ⌝ }
+{
+    let mut v: u64 = 0;
+    let mut at = pos;
+    let mut left = width;
+    while 0 < left {
+        let n = chunk(at, left);
+        left -= n;
+        v = v << n | get_in(s, at, n);
+        at += n;
+    }
+    v
+}
+
+// Up to 32 bits, by one word where eight bytes are left.
+fn get_short(s: &[u8], pos: usize, width: usize) -> u64
+    requires { ⌜ width ≤ 32 ⌝ }
+    requires { ⌜ pos + width ≤ 8 * length (now s) ⌝ }
+    requires { ⌜ 8 * length (now s) < 2 ^ 64 ⌝ }
+    ensures { λ r. ⌜ Run (now (s .entry)) pos width r ⌝ }
+{
+    let i = pos >> 3;
+    if s.len() < i + 8 {
+        return get_end(s, pos, width);
+    }
+    let k = 64 - offset(pos) - width;
+    if k == 64 {
+        return 0;
+    }
+    low(word(s, i) >> k, width)
+}
+
+// The number of `width` bits from pos on.
+pub fn get(s: &[u8], pos: usize, width: usize) -> u64
+    requires { ⌜ width ≤ 64 ⌝ }
+    requires { ⌜ pos + width ≤ 8 * length (now s) ⌝ }
+    requires { ⌜ 8 * length (now s) < 2 ^ 64 ⌝ }
+    ensures { λ r. ⌜ Run (now (s .entry)) pos width r ⌝ }
+{
+    if width <= 32 {
+        return get_short(s, pos, width);
+    }
+    let first = width - 32;
+    get_short(s, pos, first) << 32 | get_short(s, pos + first, 32)
+}
+
+// What is taken at the cursor: whether the bits are left, their number or 0, and where the cursor goes on (it stays where
+// they are not left).
+pub struct Number {
+    pub whole: bool,
+    pub value: u64,
+    pub next: usize,
+}
+
+pub fn take_number(s: &[u8], pos: usize, width: usize) -> Number
+    requires { ⌜ width ≤ 64 ⌝ }
+    requires { ⌜ pos ≤ 8 * length (now s) ⌝ }
+    requires { ⌜ 8 * length (now s) < 2 ^ 64 ⌝ }
+    ensures { λ r. ⌜ TakenNumber (now (s .entry)) pos width (r .whole) (r .value) (r .next) ⌝ }
+{
+    let end = 8 * s.len();
+    if width <= end - pos {
+        let x = get(s, pos, width);
+        return Number {
+            whole: true,
+            value: x,
+            next: pos + width,
+        };
+    }
+    Number {
+        whole: false,
+        value: 0,
+        next: pos,
+    }
+}
+
+// ---- whole bytes got
+
+// From a byte on.
+fn get_aligned(s: &[u8], i: usize, dst: &mut [u8])
+    requires { ⌜ i + length (now dst) ≤ length (now s) ⌝ }
+    ensures { λ _. ⌜ now (dst .exit) ≡ pack (length (now (dst .entry))) (drop (8 * i) (bits (now (s .entry)))) ⌝ }
+{
+    let mut j = 0;
+    while j < dst.len() {
+        dst[j] = s[i + j];
+        j += 1;
+    }
+}
+
+// From within a byte on: a byte of two neighbours a turn.
+fn get_across(s: &[u8], pos: usize, dst: &mut [u8])
+    requires { ⌜ pos + 8 * length (now dst) ≤ 8 * length (now s) ⌝ }
+    requires { ⌜ 0 < pos % 8 ⌝ }
+    ensures { λ _. ⌜ now (dst .exit) ≡ pack (length (now (dst .entry))) (drop pos (bits (now (s .entry)))) ⌝ }
+{
+    let k = 8 - offset(pos);
+    let mut i = pos >> 3;
+    let mut j = 0;
+    while j < dst.len() {
+        dst[j] = across(s[i], s[i + 1], k);
+        i += 1;
+        j += 1;
+    }
+}
+
+// The bytes from pos on, as many as dst has.
+pub fn get_bytes(s: &[u8], pos: usize, dst: &mut [u8])
+    requires { ⌜ pos + 8 * length (now dst) ≤ 8 * length (now s) ⌝ }
+    ensures { λ _. ⌜ now (dst .exit) ≡ pack (length (now (dst .entry))) (drop pos (bits (now (s .entry)))) ⌝ }
+{
+    if offset(pos) == 0 {
+        get_aligned(s, pos >> 3, dst);
+        return;
+    }
+    get_across(s, pos, dst);
+}
+
+// What is taken at the cursor: whether the bytes are left, and where the cursor goes on.
+pub struct Bytes {
+    pub whole: bool,
+    pub next: usize,
+}
+
+// n bytes, passed over.
+pub fn skip_bytes(s: &[u8], pos: usize, n: usize) -> Bytes
+    requires { ⌜ pos ≤ 8 * length (now s) ⌝ }
+    requires { ⌜ 8 * length (now s) < 2 ^ 64 ⌝ }
+    ensures { λ r. ⌜ TakenBytes (now (s .entry)) pos n (r .whole) (r .next) ⌝ }
+{
+    let end = 8 * s.len();
+    if n <= (end - pos) >> 3 {
+        return Bytes {
+            whole: true,
+            next: pos + 8 * n,
+        };
+    }
+    Bytes {
+        whole: false,
+        next: pos,
+    }
+}
+
+// As many bytes as dst has, into dst where they are left.
+pub fn take_bytes(s: &[u8], pos: usize, dst: &mut [u8]) -> Bytes
+    requires { ⌜ pos ≤ 8 * length (now s) ⌝ }
+    requires { ⌜ 8 * length (now s) < 2 ^ 64 ⌝ }
+    ensures { λ r. ⌜ TakenBytes (now (s .entry)) pos (length (now (dst .entry))) (r .whole) (r .next) ⌝ }
+    ensures { λ r. ⌜ now (dst .exit) ≡ pick (r .whole) (pack (length (now (dst .entry))) (drop pos (bits (now (s .entry))))) (now (dst .entry)) ⌝ }
+{
+    let n = dst.len();
+    let end = 8 * s.len();
+    if n <= (end - pos) >> 3 {
+        get_bytes(s, pos, dst);
+        return Bytes {
+            whole: true,
+            next: pos + 8 * n,
+        };
+    }
+    Bytes {
+        whole: false,
+        next: pos,
+    }
+}
+
+// ---- numbers put
+
+// n bits that lie in one byte.
+fn put_in(out: &mut [u8], pos: usize, n: usize, x: u64)
+    requires { ⌜ pos + n ≤ 8 * length (now out) ⌝ }
+    requires { ⌜ pos % 8 + n ≤ 8 ⌝ }
+    requires { ⌜ 0 < n ⌝ }
+    requires { ⌜ x < 2 ^ n ⌝ }
+    ensures { λ _. ⌜ bits (now (out .exit)) ≡ splice (bits (now (out .entry))) pos (bitsOf n x) ⌝ }
+{
+    let i = pos >> 3;
+    let k = 8 - offset(pos) - n;
+    out[i] = merge(out[i] as u64, n, k, x) as u8;
+}
+
+// The `width` low bits of v from a byte on; a byte a turn, and what is left.
+fn put_aligned(out: &mut [u8], start: usize, width: usize, v: u64)
+    requires { ⌜ width < 64 ⌝ }
+    requires { ⌜ 8 * start + width ≤ 8 * length (now out) ⌝ }
+    requires { ⌜ 8 * length (now out) < 2 ^ 64 ⌝ }
+    ensures { λ _. ⌜ bits (now (out .exit)) ≡ splice (bits (now (out .entry))) (8 * start) (bitsOf width v) ⌝ }
+{
+    let mut i = start;
+    let mut left = width;
+    while 8 <= left {
+        left -= 8;
+        out[i] = last_byte(v >> left);
+        i += 1;
+    }
+    if 0 < left {
+        put_in(out, 8 * i, left, low(v, left));
+    }
+}
+
+// The `width` low bits of v from pos on.
+pub fn put(out: &mut [u8], pos: usize, width: usize, v: u64)
+    requires { ⌜ width ≤ 64 ⌝ }
+    requires { ⌜ pos + width ≤ 8 * length (now out) ⌝ }
+    requires { ⌜ 8 * length (now out) < 2 ^ 64 ⌝ }
+    ensures { λ _. ⌜ bits (now (out .exit)) ≡ splice (bits (now (out .entry))) pos (bitsOf width v) ⌝ }
+{
+    if 0 < width {
+        let n = chunk(pos, width);
+        let left = width - n;
+        put_in(out, pos, n, low(v >> left, n));
+        if 0 < left {
+            put_aligned(out, (pos >> 3) + 1, left, v);
+        }
+    }
+}
+
+// ---- whole bytes put
+
+// From a byte on.
+fn put_bytes_aligned(out: &mut [u8], start: usize, m: &[u8])
+    requires { ⌜ start + length (now m) ≤ length (now out) ⌝ }
+    ensures { λ _. ⌜ bits (now (out .exit)) ≡ splice (bits (now (out .entry))) (8 * start) (bits (now (m .entry))) ⌝ }
+{
+    let mut j = 0;
+    while j < m.len() {
+        out[start + j] = m[j];
+        j += 1;
+    }
+}
+
+// From within a byte on: the byte before and this one make a byte a turn, and the last one's low bits are left.
+fn put_bytes_across(out: &mut [u8], pos: usize, m: &[u8])
+    requires { ⌜ pos + 8 * length (now m) ≤ 8 * length (now out) ⌝ }
+    requires { ⌜ 0 < pos % 8 ⌝ }
+    requires { ⌜ 8 * length (now out) < 2 ^ 64 ⌝ }
+    ensures { λ _. ⌜ bits (now (out .exit)) ≡ splice (bits (now (out .entry))) pos (bits (now (m .entry))) ⌝ }
+{
+    let a = offset(pos);
+    let start = pos >> 3;
+    let mut before = last_byte(byte(out, start) >> (8 - a));
+    let mut j = 0;
+    while j < m.len() {
+        let x = m[j];
+        out[start + j] = across(before, x, a);
+        before = x;
+        j += 1;
+    }
+    put_in(out, 8 * (start + j), a, low(before as u64, a));
+}
+
+// The bytes m from pos on.
+pub fn put_bytes(out: &mut [u8], pos: usize, m: &[u8])
+    requires { ⌜ pos + 8 * length (now m) ≤ 8 * length (now out) ⌝ }
+    requires { ⌜ 8 * length (now out) < 2 ^ 64 ⌝ }
+    ensures { λ _. ⌜ bits (now (out .exit)) ≡ splice (bits (now (out .entry))) pos (bits (now (m .entry))) ⌝ }
+{
+    if offset(pos) == 0 {
+        put_bytes_aligned(out, pos >> 3, m);
+        return;
+    }
+    put_bytes_across(out, pos, m);
+}
+
+// The last byte made 0, before a sheet's bits are put into a buffer that is as long as the sheet.
+pub fn clear_last(out: &mut [u8])
+    ensures { λ _. ⌜ now (out .exit) ≡ set (now (out .entry)) (length (now (out .entry)) - 1) 0 ⌝ }
+{
+    let n = out.len();
+    if 0 < n {
+        out[n - 1] = 0;
+    }
+}
+
+// ---- counted always, and stored where there is room
+
+// The w low bits of v; gives where the bits end.
+pub fn write(out: &mut [u8], pos: usize, w: usize, v: u64) -> usize
+    requires { ⌜ Room (now out) pos ⌝ }
+    requires { ⌜ w ≤ 64 ⌝ }
+    ensures { λ r. ⌜ Puts (now (out .entry)) pos (bitsOf w v) (now (out .exit)) r ⌝ }
+{
+    let end = pos + w;
+    if 134217720 < end {
+        return 134217721;
+    }
+    if end <= 8 * out.len() {
+        put(out, pos, w, v);
+        return end;
+    }
+    end
+}
+
+// Whole bytes.
+pub fn write_bytes(out: &mut [u8], pos: usize, s: &[u8]) -> usize
+    requires { ⌜ Room (now out) pos ⌝ }
+    ensures { λ r. ⌜ Puts (now (out .entry)) pos (bits (now (s .entry))) (now (out .exit)) r ⌝ }
+{
+    if 16777215 < s.len() {
+        return 134217721;
+    }
+    let end = pos + 8 * s.len();
+    if 134217720 < end {
+        return 134217721;
+    }
+    if end <= 8 * out.len() {
+        put_bytes(out, pos, s);
+        return end;
+    }
+    end
+}
+
+fn least(a: usize, b: usize) -> usize
+    ensures { λ r. ⌜ (r ≤ a) × (r ≤ b) × (r < a → r ≡ b) ⌝ }
+{
+    if a < b { a } else { b }
+}
+
+// A text or bytes: what of the n bytes from `at` the message has.
+pub fn write_blob(m: &[u8], out: &mut [u8], pos: usize, at: usize, n: usize) -> usize
+    requires { ⌜ Room (now out) pos ⌝ }
+    ensures { λ r. ⌜ Puts (now (out .entry)) pos (blobBits (take n (drop at (now (m .entry))))) (now (out .exit)) r ⌝ }
+{
+    let a = least(at, m.len());
+    let k = least(n, m.len() - a);
+    let p = write(out, pos, 32, k as u64);
+    write_bytes(out, p, &m[a..a + k])
+}

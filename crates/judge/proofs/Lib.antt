@@ -1,0 +1,4 @@
+pub mod HeaderCases
+pub mod WalkCases
+pub mod OpenCases
+pub mod VerdictCases

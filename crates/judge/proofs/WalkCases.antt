@@ -1,0 +1,333 @@
+-- The ways out of the walkers, one lemma for each, in the words of the walk's definition.
+use mathlib.Core.Path.{_≡_, refl, sym, ap, _∙_, subst}
+use mathlib.Core.Bool.{Bool, true, false, not}
+use mathlib.Core.List.{List, [], _∷_}
+use Prim.Native.Nat.{ℕ, zero, suc, _+_, _-_, _*_, _%_, _<_, _≤_}
+use native.Mathlib.Omega.{arith}
+use native.Mathlib.Numerals.{sub-one, add-one}
+use lib.ListN.{length, getD, drop, drop-of-length-le}
+use lib.Seq.{drop-cons}
+use lib.Dec.{ltb, eqb}
+use Rattle.coding.specs.Lists.{pick}
+use borrow.Author.Tests.{eq-eqb, ne-eqb, lt-ltb, le-ltb, not-true}
+use Rattle.coding.specs.Bytes.{u48, le, isNaN}
+use Rattle.coding.specs.Schema as Sc
+use Rattle.coding.specs.Schema.{Schema}
+use Rattle.coding.specs.Packed as P
+use Rattle.coding.specs.Layout as L
+use Rattle.coding.specs.Step as T
+use Rattle.coding.specs.Walk as W
+use Rattle.coding.specs.declared.Flat.{Flat}
+use Rattle.coding.specs.declared.Flat.the-variants as F
+use Rattle.coding.specs.declared.Object.{Object}
+use Rattle.coding.specs.declared.Object.the-variants as O
+use Rattle.coding.specs.declared.Kind.{Kind}
+use Rattle.coding.specs.declared.Kind.the-variants.{OfFlat, OfObject, OfUnion}
+use Rattle.coding.specs.declared.Member.{Member}
+use Rattle.coding.specs.declared.Cursor.{Cursor}
+use Rattle.coding.specs.declared.Place.{Place}
+use Rattle.coding.specs.declared.Place.the-variants.{ByOffset, InPlace}
+use Rattle.coding.specs.declared.Step.{Step}
+use Rattle.coding.specs.declared.Step.the-variants as St
+use Rattle.coding.specs.declared.Opened.{Opened}
+use Rattle.coding.specs.declared.Opened.the-variants as Op
+use Rattle.coding.specs.declared.Budget.{Budget}
+use Rattle.coding.specs.declared.Spent.{Spent}
+use Rattle.coding.specs.declared.Refusal.{Refusal}
+use Rattle.coding.specs.declared.Walked.{Walked}
+use Rattle.coding.specs.declared.Walked.the-variants.{Going, Refused}
+use Rattle.laws.specs.Sound.{NoStruct, ObjectSound, MemberSound}
+use Rattle.laws.specs.SoundAt.{member-sound-at}
+use Rattle.schema.specs.Directory.{Accepted, accepted-sound}
+use Rattle.layout.specs.Bounds.{Laid}
+use Rattle.step.specs.Lead.{leadOf, PlaceSmall, StepSmall, Stepped}
+use Rattle.judge.specs.Headers.{leads, Led}
+
+-- ---- an arrival
+abbrev pub one-more : Spent → Spent
+one-more s = record { visits = s .visits + 1 }
+
+module _ (d : ℕ) (S : Schema) (m : List ℕ) (b : Budget) (ob : Object) (p : Place) (s : Spent) (at : ℕ) (e : at ≡ W.placed p) (r : Walked) where
+  pub visit-spent : b .visits ≤ s .visits → r ≡ W.refuse 4 at s → r ≡ W.visit d u48 S m b ob p s
+  unfolding W.visit W.counted
+  visit-spent h f = by d
+    where
+      by : (k : ℕ) → r ≡ W.visit k u48 S m b ob p s
+      by zero = simp (le-ltb _ _ h, ← e) f
+      by (suc k) = simp (le-ltb _ _ h, ← e) f
+
+  module _ (h : s .visits < b .visits) (t : Spent) (et : t ≡ one-more s) where
+    pub visit-deep : d ≡ 0 → r ≡ W.refuse 5 at t → r ≡ W.visit d u48 S m b ob p s
+    unfolding W.visit W.counted W.tooDeep
+    visit-deep z f = rw z (simp (lt-ltb _ _ h, ← e, ← et) f)
+
+    module _ (l : d ≡ 0 → ⊥) (g : Opened) (eg : g ≡ W.openObject u48 S m ob p) where
+      pub visit-refused : (n : ℕ) → g ≡ Op.Refused n → r ≡ W.refuse n at t → r ≡ W.visit d u48 S m b ob p s
+      unfolding W.visit W.counted W.arrive W.enter
+      visit-refused n eq f = by d l
+        where
+          by : (k : ℕ) → (k ≡ 0 → ⊥) → r ≡ W.visit k u48 S m b ob p s
+          by zero l′ = absurd (l′ refl)
+          by (suc k) l′ = simp (lt-ltb _ _ h, ← eg, eq, ← e, ← et) f
+
+      pub visit-content : (start n : ℕ) → g ≡ Op.Content start n
+          → r ≡ W.content (W.visit (d - 1) u48 S m b) u48 S m ob at start n t → r ≡ W.visit d u48 S m b ob p s
+      unfolding W.visit W.counted W.arrive W.enter
+      visit-content start n eq f = by d l f
+        where
+          by : (k : ℕ) → (k ≡ 0 → ⊥) → r ≡ W.content (W.visit (k - 1) u48 S m b) u48 S m ob at start n t → r ≡ W.visit k u48 S m b ob p s
+          by zero l′ q = absurd (l′ refl)
+          by (suc k) l′ q = simp (lt-ltb _ _ h, ← eg, eq, ← e, ← et) (rw sub-one at q)
+
+-- ---- content by the object
+module _ (child : W.Child) (S : Schema) (m : List ℕ) (ob : Object) (holder start n : ℕ) (s : Spent) where
+  pub content-text : ob ≡ O.Text → Going s ≡ W.content child u48 S m ob holder start n s
+  unfolding W.content
+  content-text e = rw e
+
+  pub content-bytes : ob ≡ O.Bytes → Going s ≡ W.content child u48 S m ob holder start n s
+  unfolding W.content
+  content-bytes e = rw e
+
+  module _ (r : Walked) (i j : ℕ) (ej : j ≡ i) where
+    pub content-list : ob ≡ O.List i → r ≡ W.elements child u48 S m holder start (Sc.elementOf S j) n 0 s → r ≡ W.content child u48 S m ob holder start n s
+    unfolding W.content
+    content-list e f = rw e (f ∙ ap (λ (k : ℕ). W.elements child u48 S m holder start (Sc.elementOf S k) n 0 s) ej)
+
+    pub content-table : ob ≡ O.Table i → r ≡ W.members child u48 S m holder start n L.begin (Sc.tableOf S j .members) s
+        → r ≡ W.content child u48 S m ob holder start n s
+    unfolding W.content
+    content-table e f = rw e (f ∙ ap (λ (k : ℕ). W.members child u48 S m holder start n L.begin (Sc.tableOf S k .members) s) ej)
+
+-- what the content of a list and of a table takes
+pub list-fits : (S : Schema) (ob : Object) (start n c i j : ℕ) → ob ≡ O.List i → j ≡ i → start + W.contentSize u48 S ob n ≤ c
+    → start + T.elementsSize u48 S (Sc.elementOf S j) n ≤ c
+unfolding W.contentSize
+list-fits S ob start n c i j e ej h =
+    subst (λ (k : ℕ). start + T.elementsSize u48 S (Sc.elementOf S k) n ≤ c) (sym ej) (subst (λ (o : Object). start + W.contentSize u48 S o n ≤ c) e h)
+
+pub table-fits : (S : Schema) (ob : Object) (start n c i : ℕ) → ob ≡ O.Table i → start + W.contentSize u48 S ob n ≤ c → start + n ≤ c
+unfolding W.contentSize
+table-fits S ob start n c i e h = subst (λ (o : Object). start + W.contentSize u48 S o n ≤ c) e h
+
+-- ---- what a step leads to
+module _ (child : W.Child) (holder : ℕ) (step : Step) (s : Spent) where
+  pub follow-absent : step ≡ St.Absent → Going s ≡ W.follow child holder step s
+  unfolding W.follow
+  follow-absent e = rw e
+
+  pub follow-value : (x : ℕ) → step ≡ St.Value x → Going s ≡ W.follow child holder step s
+  unfolding W.follow
+  follow-value x e = rw e
+
+  pub follow-unknown : (x : ℕ) → step ≡ St.Unknown x → Going s ≡ W.follow child holder step s
+  unfolding W.follow
+  follow-unknown x e = rw e
+
+  pub follow-struct : (i at : ℕ) → step ≡ St.Struct i at → Going s ≡ W.follow child holder step s
+  unfolding W.follow
+  follow-struct i at e = rw e
+
+  module _ (r : Walked) where
+    pub follow-refused : (n : ℕ) → step ≡ St.Refused n → r ≡ W.refuse n holder s → r ≡ W.follow child holder step s
+    unfolding W.follow
+    follow-refused n e f = rw e f
+
+    pub follow-object : (ob : Object) (p : Place) → step ≡ St.Object ob p → r ≡ child ob p s → r ≡ W.follow child holder step s
+    unfolding W.follow
+    follow-object ob p e f = rw e f
+
+    pub follow-choice : (c : ℕ) (ob : Object) (p : Place) → step ≡ St.Choice c ob p → r ≡ W.followChoice child holder ob p s
+        → r ≡ W.follow child holder step s
+    unfolding W.follow
+    follow-choice c ob p e f = rw e f
+
+module _ (child : W.Child) (holder : ℕ) (ob : Object) (p : Place) (s : Spent) (r : Walked) where
+  pub union-none : (x : ℕ) → p ≡ ByOffset x → x ≡ 0 → r ≡ W.refuse 9 holder s → r ≡ W.followChoice child holder ob p s
+  unfolding W.followChoice
+  union-none x e z f = rw e (simp (eq-eqb _ _ z) f)
+
+  pub union-offset : (x : ℕ) → p ≡ ByOffset x → (x ≡ 0 → ⊥) → r ≡ child ob (ByOffset x) s → r ≡ W.followChoice child holder ob p s
+  unfolding W.followChoice
+  union-offset x e z f = rw e (simp (ne-eqb _ _ z) f)
+
+  pub union-inplace : (a n : ℕ) → p ≡ InPlace a n → r ≡ child ob (InPlace a n) s → r ≡ W.followChoice child holder ob p s
+  unfolding W.followChoice
+  union-inplace a n e f = rw e f
+
+-- what judging needs of a step leads to the same
+pub lead-follows : (child : W.Child) (holder : ℕ) (step : Step) (s : Spent) → W.follow child holder (leadOf step) s ≡ W.follow child holder step s
+unfolding W.follow leadOf
+lead-follows child holder (St.Refused n) s = refl
+lead-follows child holder St.Absent s = refl
+lead-follows child holder (St.Value x) s = refl
+lead-follows child holder (St.Unknown x) s = refl
+lead-follows child holder (St.Struct i at) s = refl
+lead-follows child holder (St.Object ob p) s = refl
+lead-follows child holder (St.Choice c ob p) s = refl
+
+-- what a step leads to is small
+module _ (S : Schema) (step : Step) (small : StepSmall S step) (ob : Object) (p : Place) where
+  pub object-small : step ≡ St.Object ob p → ObjectSound S ob
+  object-small e = subst (StepSmall S) e small .0
+
+  pub object-place : step ≡ St.Object ob p → PlaceSmall p
+  object-place e = subst (StepSmall S) e small .1
+
+  pub choice-small : (c : ℕ) → step ≡ St.Choice c ob p → ObjectSound S ob
+  choice-small c e = subst (StepSmall S) e small .0
+
+  pub choice-place : (c : ℕ) → step ≡ St.Choice c ob p → PlaceSmall p
+  choice-place c e = subst (StepSmall S) e small .1
+
+-- ---- the members of a table, from member j on
+module _ (child : W.Child) (S : Schema) (m : List ℕ) (holder start n t : ℕ) (s : Spent) where
+  abbrev all-members : Walked
+  all-members = W.members child u48 S m holder start n L.begin (Sc.tableOf S t .members) s
+
+  abbrev left-members : Cursor → ℕ → Spent → Walked
+  left-members c j v = W.members child u48 S m holder start n c (drop j (Sc.tableOf S t .members)) v
+
+  pub members-start : (c : Cursor) → c ≡ L.begin
+      → W.members child u48 S m holder start n L.begin (Sc.tableOf S t .members) s ≡ W.members child u48 S m holder start n c (drop 0 (Sc.tableOf S t .members)) s
+  members-start c e = ap (λ (q : Cursor). W.members child u48 S m holder start n q (Sc.tableOf S t .members) s) (sym e)
+
+  module _ (c : Cursor) (j : ℕ) (v : Spent)
+      (inv : W.members child u48 S m holder start n L.begin (Sc.tableOf S t .members) s ≡ W.members child u48 S m holder start n c (drop j (Sc.tableOf S t .members)) v)
+      (count : ℕ) (ec : count ≡ length (Sc.tableOf S t .members)) where
+    pub members-done : count ≤ j → Going v ≡ W.members child u48 S m holder start n L.begin (Sc.tableOf S t .members) s
+    unfolding W.members
+    members-done h =
+        let l : length (Sc.tableOf S t .members) ≤ j = omega arith in
+        sym (inv ∙ ap (λ (ms : List Member). W.members child u48 S m holder start n c ms v) (drop-of-length-le (Sc.tableOf S t .members) l))
+
+    module _ (h : j < count) (step : Step) (es : step ≡ leadOf (T.memberStep u48 S m start n c (Sc.memberOf S t j))) (g : Walked)
+        (eg : g ≡ W.follow child holder step v) where
+      abbrev behind : Spent → Walked
+      behind = W.members child u48 S m holder start n (L.afterMember u48 S (Sc.memberOf S t j) c) (drop (suc j) (Sc.tableOf S t .members))
+
+      split : all-members ≡ W.andThen g behind
+      unfolding W.members Sc.memberOf
+      split =
+          let l : j < length (Sc.tableOf S t .members) = omega arith in
+          inv ∙ ap (λ (ms : List Member). W.members child u48 S m holder start n c ms v) (drop-cons (Sc.tableOf S t .members) j Sc.plainBool l)
+          ∙ ap (λ (w : Walked). W.andThen w behind)
+          (sym (lead-follows child holder (T.memberStep u48 S m start n c (Sc.memberOf S t j)) v) ∙ ap (λ (q : Step). W.follow child holder q v) (sym es) ∙ sym eg)
+
+      pub members-stopped : (x : Refusal) (y : Spent) → g ≡ Refused x y → Refused x y ≡ W.members child u48 S m holder start n L.begin (Sc.tableOf S t .members) s
+      unfolding W.andThen
+      members-stopped x y f = sym (split ∙ ap (λ (w : Walked). W.andThen w behind) f)
+
+      pub members-turn : (u : Spent) → g ≡ Going u → (next : Cursor) → next ≡ L.afterMember u48 S (Sc.memberOf S t j) c
+          → W.members child u48 S m holder start n L.begin (Sc.tableOf S t .members) s
+          ≡ W.members child u48 S m holder start n next (drop (j + 1) (Sc.tableOf S t .members)) u
+      unfolding W.andThen
+      members-turn u f next en =
+          split ∙ ap (λ (w : Walked). W.andThen w behind) f
+          ∙ ap (λ (q : Cursor). W.members child u48 S m holder start n q (drop (suc j) (Sc.tableOf S t .members)) u) (sym en)
+          ∙ ap (λ (k : ℕ). W.members child u48 S m holder start n next (drop k (Sc.tableOf S t .members)) u) (sym (add-one j))
+
+-- ---- the elements of a list
+flat-follows : (child : W.Child) (holder : ℕ) (S : Schema) (m : List ℕ) (k : Flat) (at bit : ℕ) (v : Spent) → NoStruct (OfFlat k)
+    → W.follow child holder (T.flatStep S m k true at bit) v ≡ Going v
+unfolding T.flatStep T.floatStep T.enumStep W.follow
+flat-follows child holder S m F.Boolean at bit v h = refl
+flat-follows child holder S m (F.Integer s w) at bit v h = refl
+flat-follows child holder S m (F.Float w) at bit v h = by (isNaN w (le m at w))
+  where
+    by : (t : Bool) → W.follow child holder (pick t St.Absent (St.Value (le m at w))) v ≡ Going v
+    by true = refl
+    by false = refl
+flat-follows child holder S m (F.Enumerated n) at bit v h = by (eqb (getD m at 0) 255) (ltb (getD m at 0) n)
+  where
+    by : (t u : Bool) → W.follow child holder (pick t St.Absent (pick u (St.Value (getD m at 0)) (St.Unknown (getD m at 0)))) v ≡ Going v
+    by true u = refl
+    by false true = refl
+    by false false = refl
+flat-follows child holder S m (F.Struct i) at bit v h = absurd h
+
+first-goes : (child : W.Child) (S : Schema) (m : List ℕ) (holder start : ℕ) (k : Kind) (f : Flat) (i : ℕ) (s : Spent) → k ≡ OfFlat f → NoStruct k
+    → W.follow child holder (T.elementStep u48 S m k start i) s ≡ Going s
+unfolding T.elementStep T.valueStep
+first-goes child S m holder start k f i s e h =
+    rw e (flat-follows child holder S m f (T.elementPlace u48 S (OfFlat f) start i) (i % 8) s (subst NoStruct e h))
+
+-- elements that lead nowhere
+pub scalars-go : (child : W.Child) (S : Schema) (m : List ℕ) (holder start : ℕ) (k : Kind) (f : Flat) (n i : ℕ) (s : Spent) → k ≡ OfFlat f → NoStruct k
+    → Going s ≡ W.elements child u48 S m holder start k n i s
+unfolding W.elements W.andThen
+scalars-go child S m holder start k f zero i s e h = refl
+scalars-go child S m holder start k f (suc n) i s e h =
+    scalars-go child S m holder start k f n (i + 1) s e h
+    ∙ sym (ap (λ (w : Walked). W.andThen w (W.elements child u48 S m holder start k n (i + 1))) (first-goes child S m holder start k f i s e h))
+
+flat-kind : (k : Kind) (t : Bool) → t ≡ leads k → not t ≡ true → (f : Flat) × (k ≡ OfFlat f)
+unfolding leads
+flat-kind (OfFlat f) t e h = (f, refl)
+flat-kind (OfObject ob) t e h = absurd (let z : false ≡ true = sym (not-true t h) ∙ e in let y : _≡_ {A = ℕ} 0 1 = cc in omega arith)
+flat-kind (OfUnion i) t e h = absurd (let z : false ≡ true = sym (not-true t h) ∙ e in let y : _≡_ {A = ℕ} 0 1 = cc in omega arith)
+
+pub elements-none : (b dir : List ℕ) → Accepted b dir → (child : W.Child) (m : List ℕ) (holder start i n : ℕ) (s : Spent) (k : Kind) → k ≡ Sc.elementOf (P.parse b) i
+    → (t : Bool) → t ≡ leads k → not t ≡ true → Going s ≡ W.elements child u48 (P.parse b) m holder start (Sc.elementOf (P.parse b) i) n 0 s
+elements-none b dir a child m holder start i n s k ek t et h =
+    let f = flat-kind k t et h in
+    scalars-go child (P.parse b) m holder start (Sc.elementOf (P.parse b) i) (f .0) n 0 s (sym ek ∙ f .1) (accepted-sound b dir a .lists i .scalar)
+
+-- from element j on
+module _ (child : W.Child) (S : Schema) (m : List ℕ) (holder start i n : ℕ) (s : Spent) (k : Kind) where
+  pub elements-start : k ≡ Sc.elementOf S i
+      → W.elements child u48 S m holder start (Sc.elementOf S i) n 0 s ≡ W.elements child u48 S m holder start k (n - 0) 0 s
+  elements-start e =
+      let z : n ≡ n - 0 = omega arith in
+      ap (λ (q : Kind). W.elements child u48 S m holder start q n 0 s) (sym e) ∙ ap (λ (l : ℕ). W.elements child u48 S m holder start k l 0 s) z
+
+  module _ (j : ℕ) (v : Spent)
+      (inv : W.elements child u48 S m holder start (Sc.elementOf S i) n 0 s ≡ W.elements child u48 S m holder start k (n - j) j v) where
+    pub elements-done : n ≤ j → Going v ≡ W.elements child u48 S m holder start (Sc.elementOf S i) n 0 s
+    unfolding W.elements
+    elements-done h =
+        let z : n - j ≡ 0 = omega arith in
+        sym (inv ∙ ap (λ (l : ℕ). W.elements child u48 S m holder start k l j v) z)
+
+    module _ (h : j < n) (step : Step) (es : step ≡ leadOf (T.elementStep u48 S m k start j)) (g : Walked) (eg : g ≡ W.follow child holder step v) where
+      abbrev rest : Spent → Walked
+      rest = W.elements child u48 S m holder start k (n - (j + 1)) (j + 1)
+
+      turned : W.elements child u48 S m holder start (Sc.elementOf S i) n 0 s ≡ W.andThen g rest
+      unfolding W.elements
+      turned =
+          let z : n - j ≡ suc (n - (j + 1)) = omega arith in
+          inv ∙ ap (λ (l : ℕ). W.elements child u48 S m holder start k l j v) z
+          ∙ ap (λ (w : Walked). W.andThen w rest)
+          (sym (lead-follows child holder (T.elementStep u48 S m k start j) v) ∙ ap (λ (q : Step). W.follow child holder q v) (sym es) ∙ sym eg)
+
+      pub elements-stopped : (x : Refusal) (y : Spent) → g ≡ Refused x y → Refused x y ≡ W.elements child u48 S m holder start (Sc.elementOf S i) n 0 s
+      unfolding W.andThen
+      elements-stopped x y f = sym (turned ∙ ap (λ (w : Walked). W.andThen w rest) f)
+
+      pub elements-turn : (u : Spent) → g ≡ Going u
+          → W.elements child u48 S m holder start (Sc.elementOf S i) n 0 s ≡ W.elements child u48 S m holder start k (n - (j + 1)) (j + 1) u
+      unfolding W.andThen
+      elements-turn u f = turned ∙ ap (λ (w : Walked). W.andThen w rest) f
+
+pub elements-there : (S : Schema) (k : Kind) (i start n c : ℕ) → k ≡ Sc.elementOf S i → start + T.elementsSize u48 S (Sc.elementOf S i) n ≤ c
+    → start + T.elementsSize u48 S k n ≤ c
+elements-there S k i start n c e h = subst (λ (q : Kind). start + T.elementsSize u48 S q n ≤ c) (sym e) h
+
+-- ---- one member
+pub member-sound-of : (b dir : List ℕ) → Accepted b dir → (t j : ℕ) (r : Member) → r ≡ Sc.memberOf (P.parse b) t j
+    → j < length (Sc.tableOf (P.parse b) t .members) → MemberSound (P.parse b) r
+member-sound-of b dir a t j r e h = rw e (member-sound-at (P.parse b) (accepted-sound b dir a) t j h)
+
+pub led-is : (S : Schema) (m : List ℕ) (t j start n : ℕ) (c : Cursor) (r : Member) → r ≡ Sc.memberOf S t j → Laid (4097 * j) c → (step : Step) (next : Cursor)
+    → Stepped (leadOf (T.memberStep u48 S m start n c r)) (L.afterMember u48 S r c) (c .end) step next → StepSmall S step → Led S m t j start n c step next
+led-is S m t j start n c r e laid step next h small =
+    let p = laid .end in
+    let q = h .laid in
+    let l = q .end in
+    record {
+      step-is = h .step-is ∙ ap (λ (k : Member). leadOf (T.memberStep u48 S m start n c k)) e;
+      next-is = h .next-is ∙ ap (λ (k : Member). L.afterMember u48 S k c) e;
+      laid = record { end = omega arith; byte = q .byte; bit = q .bit };
+      small = small;
+    }

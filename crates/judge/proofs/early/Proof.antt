@@ -1,0 +1,14 @@
+use Rattle.coding.specs.Walk as W
+use borrow.Author.Needs.{needs}
+use Rattle.judge.proofs.early.Statement.{statement}
+use Rattle.judge.proofs.early.Tie as tie
+use Rattle.judge.proofs.early.Reads as reads
+use Rattle.judge.proofs.early.Lts as lts
+
+-- src/lib.rt:479:1
+returns : tie.Need-returns
+unfolding W.early
+returns c = search needs
+
+pub early-spec : {M : Type 1} → statement M
+early-spec = tie.close (tie.spec returns)

@@ -1,0 +1,51 @@
+-- A header: offset and header fit, magic, and the length that it gives; content that fits; where a member leads.
+use mathlib.Core.Path.{_≡_}
+use Prim.Native.Nat.{ℕ, _+_, _*_, _^_, _<_}
+use mathlib.Core.Bool.{Bool, true, false, _&&_}
+use mathlib.Core.List.{List}
+use lib.ListN.{length}
+use lib.Dec.{leb, eqb}
+use Rattle.coding.specs.Lists.{pick}
+use Rattle.coding.specs.Bytes.{le, u48}
+use Rattle.coding.specs.Schema.{Schema, memberOf}
+use Rattle.coding.specs.Layout.{afterMember}
+use Rattle.coding.specs.Step.{memberStep}
+use Rattle.coding.specs.Walk.{headerSize}
+use Rattle.coding.specs.declared.Kind.{Kind}
+use Rattle.coding.specs.declared.Kind.the-variants.{OfFlat, OfObject, OfUnion}
+use Rattle.coding.specs.declared.Cursor.{Cursor}
+use Rattle.coding.specs.declared.Step.{Step}
+use Rattle.coding.specs.declared.Opened.{Opened}
+use Rattle.coding.specs.declared.Opened.the-variants as Op
+use Rattle.layout.specs.Bounds.{Laid}
+use Rattle.step.specs.Lead.{leadOf, StepSmall}
+use Rattle.judge.specs.declared.Header.{Header}
+use Rattle.judge.specs.declared.Header.the-variants as Hd
+
+unfoldable pub headerOf : ℕ → List ℕ → ℕ → ℕ → Header
+headerOf o m magic x =
+    pick (leb (headerSize o) x && leb (x + headerSize o) (length m))
+    (pick (eqb (le m x 4) magic) (Hd.Length (le m (x + 4) o)) (Hd.Refused 7))
+    (Hd.Refused 6)
+
+-- content of `size` bytes and length n at `start`
+unfoldable pub fitted : List ℕ → ℕ → ℕ → ℕ → Opened
+fitted m start size n = pick (leb (start + size) (length m)) (Op.Content start n) (Op.Refused 6)
+
+-- a length is a number of six bytes
+abbrev pub Small : Header → Type 0
+Small (Hd.Refused n) = Unit {0}
+Small (Hd.Length n) = n < 2 ^ 48
+
+-- kinds whose elements lead to objects
+unfoldable pub leads : Kind → Bool
+leads (OfFlat k) = false
+leads (OfObject ob) = true
+leads (OfUnion i) = true
+
+-- where member j of table t leads, where the cursor stands, and the cursor behind it
+pub record Led (S : Schema) (m : List ℕ) (t j start n : ℕ) (c : Cursor) (s : Step) (next : Cursor) : Type 0 where
+  pub step-is : s ≡ leadOf (memberStep u48 S m start n c (memberOf S t j))
+  pub next-is : next ≡ afterMember u48 S (memberOf S t j) c
+  pub laid : Laid (4097 * (j + 1)) next
+  pub small : StepSmall S s

@@ -1,0 +1,2 @@
+-- What the code of judging answers beside the walk itself.
+pub mod Headers

@@ -1,0 +1,558 @@
+// Judging: header readers, and the walkers of tables, lists and unions, which call each other in a cycle.
+use coding::Budget;
+use coding::Cursor;
+use coding::Kind;
+use coding::Object;
+use coding::Opened;
+use coding::Place;
+use coding::Refusal;
+use coding::Spent;
+use coding::Step;
+use coding::Verdict;
+use coding::Walked;
+ghost use mathlib.Core.Path.{_≡_};
+ghost use mathlib.Core.Bool.{Bool, true, false};
+ghost use Prim.Native.Nat.{ℕ, _+_, _-_, _*_, _<_, _≤_, _^_};
+ghost use lib.ListN.{length, getD};
+ghost use Rattle.coding.specs.Bytes as B;
+ghost use Rattle.coding.specs.Layout as L;
+ghost use Rattle.coding.specs.Packed as P;
+ghost use Rattle.coding.specs.Schema as Sc;
+ghost use Rattle.coding.specs.Step as T;
+ghost use Rattle.coding.specs.Walk as W;
+ghost use Rattle.laws.specs.Sound.{ObjectSound, KindSound};
+ghost use Rattle.layout.specs.Bounds.{Laid};
+ghost use Rattle.schema.specs.Directory.{Accepted};
+ghost use Rattle.step.specs.Lead as D;
+ghost use Rattle.judge.specs.Headers as Hs;
+
+// ---- headers
+// What a header reader finds: a refusal's number, or the length that the header gives.
+pub enum Header {
+    Refused(u8),
+    Length(usize),
+}
+
+// A header of ten bytes: a magic and a length of six.
+fn read_header(m: &[u8], at: usize, magic: u64) -> Header
+    requires { ⌜ at < 2 ^ 48 ⌝ }
+    ensures { λ r. ⌜ (r ≡ Hs.headerOf B.u48 (now (m .entry)) magic at) × Hs.Small r ⌝ }
+{
+    if at < 10 {
+        return Header::Refused(6);
+    }
+    if m.len() < at + 10 {
+        return Header::Refused(6);
+    }
+    if wire::u32_in(m, at) != magic {
+        return Header::Refused(7);
+    }
+    Header::Length(wire::u48_in(m, at + 4) as usize)
+}
+
+// Text: length bytes and one zero byte.
+pub struct TextObject {
+    pub length: usize,
+}
+
+impl TextObject {
+    pub const MAGIC: u64 = 0xD812_C8F5;
+
+    pub const HEADER: usize = 10;
+
+    pub fn header(m: &[u8], at: usize) -> Header
+        requires { ⌜ at < 2 ^ 48 ⌝ }
+        ensures { λ r. ⌜ (r ≡ Hs.headerOf B.u48 (now (m .entry)) 0xD812C8F5 at) × Hs.Small r ⌝ }
+    {
+        read_header(m, at, TextObject::MAGIC)
+    }
+}
+
+// Bytes: length bytes.
+pub struct BytesObject {
+    pub length: usize,
+}
+
+impl BytesObject {
+    pub const MAGIC: u64 = 0xDCDB_BE10;
+
+    pub const HEADER: usize = 10;
+
+    pub fn header(m: &[u8], at: usize) -> Header
+        requires { ⌜ at < 2 ^ 48 ⌝ }
+        ensures { λ r. ⌜ (r ≡ Hs.headerOf B.u48 (now (m .entry)) 0xDCDBBE10 at) × Hs.Small r ⌝ }
+    {
+        read_header(m, at, BytesObject::MAGIC)
+    }
+}
+
+// List: length elements.
+pub struct ListObject {
+    pub length: usize,
+}
+
+impl ListObject {
+    pub const MAGIC: u64 = 0x3400_BB46;
+
+    pub const HEADER: usize = 10;
+
+    pub fn header(m: &[u8], at: usize) -> Header
+        requires { ⌜ at < 2 ^ 48 ⌝ }
+        ensures { λ r. ⌜ (r ≡ Hs.headerOf B.u48 (now (m .entry)) 0x3400BB46 at) × Hs.Small r ⌝ }
+    {
+        read_header(m, at, ListObject::MAGIC)
+    }
+}
+
+// Table: length bytes of fixed part. Its magic is its id.
+pub struct TableObject {
+    pub length: usize,
+}
+
+impl TableObject {
+    pub const HEADER: usize = 10;
+
+    pub fn header(m: &[u8], at: usize, id: u64) -> Header
+        requires { ⌜ at < 2 ^ 48 ⌝ }
+        ensures { λ r. ⌜ (r ≡ Hs.headerOf B.u48 (now (m .entry)) id at) × Hs.Small r ⌝ }
+    {
+        read_header(m, at, id)
+    }
+}
+
+// ---- content
+// Content of `size` bytes and length n at `start`.
+fn fits(m: &[u8], start: usize, size: usize, n: usize) -> Opened
+    requires { ⌜ (start < 2 ^ 60) × (size < 2 ^ 61) ⌝ }
+    ensures { λ r. ⌜ r ≡ Hs.fitted (now (m .entry)) start size n ⌝ }
+{
+    if start + size <= m.len() {
+        return Opened::Content(start, n);
+    }
+    Opened::Refused(6)
+}
+
+fn text_content(b: &[u8], m: &[u8], start: usize, n: usize) -> Opened
+    requires { ⌜ (start < 2 ^ 60) × (n < 2 ^ 48) ⌝ }
+    ensures { λ r. ⌜ r ≡ W.openContent B.u48 (P.parse (now (b .entry))) (now (m .entry)) Object.Text start n ⌝ }
+{
+    if m.len() < start + (n + 1) {
+        return Opened::Refused(6);
+    }
+    if wire::byte_in(m, start + n) == 0 {
+        return Opened::Content(start, n);
+    }
+    Opened::Refused(10)
+}
+
+fn bytes_content(b: &[u8], m: &[u8], start: usize, n: usize) -> Opened
+    requires { ⌜ (start < 2 ^ 60) × (n < 2 ^ 48) ⌝ }
+    ensures { λ r. ⌜ r ≡ W.openContent B.u48 (P.parse (now (b .entry))) (now (m .entry)) Object.Bytes start n ⌝ }
+{
+    fits(m, start, n, n)
+}
+
+fn table_content(b: &[u8], m: &[u8], t: u8, start: usize, n: usize) -> Opened
+    requires { ⌜ (start < 2 ^ 60) × (n < 2 ^ 48) ⌝ }
+    ensures { λ r. ⌜ r ≡ W.openContent B.u48 (P.parse (now (b .entry))) (now (m .entry)) (Object.Table t) start n ⌝ }
+{
+    fits(m, start, n, n)
+}
+
+// The bytes of n elements of width w.
+fn times(w: usize, n: usize) -> usize
+    requires { ⌜ (w ≤ 4096) × (n < 2 ^ 48) ⌝ }
+    ensures { λ r. ⌜ (r ≡ w * n) × (r ≤ 4096 * 2 ^ 48) ⌝ }
+{
+    w * n
+}
+
+// The bytes of n elements.
+fn elements_size(b: &[u8], dir: &[u16], k: Kind, n: usize) -> usize
+    requires { ⌜ (Accepted (now b) (now dir)) × (KindSound (P.parse (now b)) k) × (n < 2 ^ 48) ⌝ }
+    ensures { λ r. ⌜ (r ≡ T.elementsSize B.u48 (P.parse (now (b .entry))) k n) × (r < 2 ^ 61) ⌝ }
+{
+    if layout::is_bool(k) {
+        return (n + 7) / 8;
+    }
+    times(layout::width(b, dir, k), n)
+}
+
+fn list_content(b: &[u8], dir: &[u16], m: &[u8], i: u8, start: usize, n: usize) -> Opened
+    requires { ⌜ (Accepted (now b) (now dir)) × (ObjectSound (P.parse (now b)) (Object.List i)) × (start < 2 ^ 60) × (n < 2 ^ 48) ⌝ }
+    ensures { λ r. ⌜ r ≡ W.openContent B.u48 (P.parse (now (b .entry))) (now (m .entry)) (Object.List i) start n ⌝ }
+{
+    let k = schema::element(b, dir, wire::index(i));
+    fits(m, start, elements_size(b, dir, k, n), n)
+}
+
+// The header of the object at an offset.
+fn header_of(b: &[u8], dir: &[u16], m: &[u8], ob: Object, at: usize) -> Header
+    requires { ⌜ (Accepted (now b) (now dir)) × (ObjectSound (P.parse (now b)) ob) × (at < 2 ^ 48) ⌝ }
+    ensures { λ r. ⌜ (r ≡ Hs.headerOf B.u48 (now (m .entry)) (W.magic (P.parse (now (b .entry))) ob) at) × Hs.Small r ⌝ }
+{
+    match ob {
+        Object::Text => TextObject::header(m, at),
+        Object::Bytes => BytesObject::header(m, at),
+        Object::List(_) => ListObject::header(m, at),
+        Object::Table(t) => TableObject::header(m, at, schema::table_id(b, dir, wire::index(t))),
+    }
+}
+
+// Content of length n at `start`.
+fn open_content(b: &[u8], dir: &[u16], m: &[u8], ob: Object, start: usize, n: usize) -> Opened
+    requires { ⌜ (Accepted (now b) (now dir)) × (ObjectSound (P.parse (now b)) ob) × (start < 2 ^ 60) × (n < 2 ^ 48) ⌝ }
+    ensures { λ r. ⌜ r ≡ W.openContent B.u48 (P.parse (now (b .entry))) (now (m .entry)) ob start n ⌝ }
+{
+    match ob {
+        Object::Text => text_content(b, m, start, n),
+        Object::Bytes => bytes_content(b, m, start, n),
+        Object::List(i) => list_content(b, dir, m, i, start, n),
+        Object::Table(t) => table_content(b, m, t, start, n),
+    }
+}
+
+// An object at its place: offset and header, magic, content, end byte.
+pub fn open_object(b: &[u8], dir: &[u16], m: &[u8], ob: Object, p: Place) -> Opened
+    requires { ⌜ (Accepted (now b) (now dir)) × (ObjectSound (P.parse (now b)) ob) × D.PlaceSmall p ⌝ }
+    ensures { λ r. ⌜ r ≡ W.openObject B.u48 (P.parse (now (b .entry))) (now (m .entry)) ob p ⌝ }
+{
+    match p {
+        Place::ByOffset(x) => match header_of(b, dir, m, ob, x) {
+            Header::Refused(e) => Opened::Refused(e),
+            Header::Length(n) => open_content(b, dir, m, ob, x + 10, n),
+        },
+        Place::InPlace(a, n) => open_content(b, dir, m, ob, a, n),
+    }
+}
+
+// ---- the walk
+// An object's place.
+pub fn placed(p: Place) -> usize
+    ensures { λ r. ⌜ r ≡ W.placed p ⌝ }
+{
+    match p {
+        Place::ByOffset(x) => x,
+        Place::InPlace(a, _) => a,
+    }
+}
+
+fn refuse(n: u8, at: usize, s: Spent) -> Walked
+    ensures { λ r. ⌜ r ≡ W.refuse n at s ⌝ }
+{
+    let why = Refusal {
+        number: n,
+        place: at,
+    };
+    Walked::Refused(why, s)
+}
+
+// Whether elements of a kind lead to objects.
+fn leads(k: Kind) -> bool
+    ensures { λ r. ⌜ r ≡ Hs.leads k ⌝ }
+{
+    match k {
+        Kind::OfFlat(_) => false,
+        Kind::OfObject(_) => true,
+        Kind::OfUnion(_) => true,
+    }
+}
+
+// Member j of table t, where the cursor stands: where it leads, and the cursor behind it.
+fn lead_member(
+    b: &[u8],
+    dir: &[u16],
+    m: &[u8],
+    t: usize,
+    j: usize,
+    start: usize,
+    n: usize,
+    c: Cursor,
+) -> step::SteppedMember
+    requires { ⌜ (Accepted (now b) (now dir)) × (t < P.tableCount (now b)) × (j < length (Sc.tableOf (P.parse (now b)) t .members)) × (j < 256) ⌝ }
+    requires { ⌜ (start + n ≤ length (now m)) × (length (now m) ≤ 16777215) × (Laid (4097 * j) c) ⌝ }
+    ensures { λ q. ⌜ Hs.Led (P.parse (now (b .entry))) (now (m .entry)) t j start n c (q .step) (q .next) ⌝ }
+{
+    let r = schema::member(b, dir, t, j);
+    step::member_lead(b, dir, m, start, n, c, r)
+}
+
+// An arrival at an object with d objects of depth left, this one counted.
+fn visit(
+    b: &[u8],
+    dir: &[u16],
+    m: &[u8],
+    budget: Budget,
+    d: usize,
+    ob: Object,
+    p: Place,
+    s: Spent,
+) -> Walked
+    requires { ⌜ (Accepted (now b) (now dir)) × (length (now m) ≤ 16777215) × (ObjectSound (P.parse (now b)) ob) × D.PlaceSmall p ⌝ }
+    ensures { λ r. ⌜ r ≡ W.visit d B.u48 (P.parse (now (b .entry))) (now (m .entry)) budget ob p s ⌝ }
+{
+    let at = placed(p);
+    let spent = s.visits;
+    if budget.visits <= spent {
+        return refuse(4, at, s);
+    }
+    let t = Spent { visits: spent + 1 };
+    if d == 0 {
+        return refuse(5, at, t);
+    }
+    match open_object(b, dir, m, ob, p) {
+        Opened::Refused(e) => refuse(e, at, t),
+        Opened::Content(start, n) => content(b, dir, m, budget, d - 1, ob, at, start, n, t),
+    }
+}
+
+// An object's content.
+fn content(
+    b: &[u8],
+    dir: &[u16],
+    m: &[u8],
+    budget: Budget,
+    d: usize,
+    ob: Object,
+    holder: usize,
+    start: usize,
+    n: usize,
+    s: Spent,
+) -> Walked
+    requires { ⌜ (Accepted (now b) (now dir)) × (length (now m) ≤ 16777215) × (ObjectSound (P.parse (now b)) ob) ⌝ }
+    requires { ⌜ start + W.contentSize B.u48 (P.parse (now b)) ob n ≤ length (now m) ⌝ }
+    ensures { λ r. ⌜ r ≡ W.content (W.visit d B.u48 (P.parse (now (b .entry))) (now (m .entry)) budget) B.u48 (P.parse (now (b .entry))) (now (m .entry)) ob holder start n s ⌝ }
+{
+    match ob {
+        Object::Text => Walked::Going(s),
+        Object::Bytes => Walked::Going(s),
+        Object::List(i) => list(b, dir, m, budget, d, wire::index(i), holder, start, n, s),
+        Object::Table(t) => table(b, dir, m, budget, d, wire::index(t), holder, start, n, s),
+    }
+}
+
+// The members of table t, whose fixed part has n bytes from `start`.
+fn table(
+    b: &[u8],
+    dir: &[u16],
+    m: &[u8],
+    budget: Budget,
+    d: usize,
+    t: usize,
+    holder: usize,
+    start: usize,
+    n: usize,
+    s: Spent,
+) -> Walked
+    requires { ⌜ (Accepted (now b) (now dir)) × (length (now m) ≤ 16777215) × (t < P.tableCount (now b)) × (start + n ≤ length (now m)) ⌝ }
+    ensures { λ r. ⌜ r ≡ W.members (W.visit d B.u48 (P.parse (now (b .entry))) (now (m .entry)) budget) B.u48 (P.parse (now (b .entry))) (now (m .entry)) holder start n L.begin (Sc.tableOf (P.parse (now (b .entry))) t .members) s ⌝ }
+{
+    let count = schema::member_count(b, dir, t);
+    let mut c = layout::begin();
+    let mut v = s;
+    let mut j: usize = 0;
+    while j < count {
+        let q = lead_member(b, dir, m, t, j, start, n, c);
+        let step = q.step;
+        match follow(b, dir, m, budget, d, holder, step, v) {
+            Walked::Going(u) => {
+                v = u;
+            }
+            Walked::Refused(x, u) => {
+                return Walked::Refused(x, u);
+            }
+        }
+        c = q.next;
+        j += 1;
+    }
+    Walked::Going(v)
+}
+
+// The n elements of list i, which start at `start`.
+fn list(
+    b: &[u8],
+    dir: &[u16],
+    m: &[u8],
+    budget: Budget,
+    d: usize,
+    i: usize,
+    holder: usize,
+    start: usize,
+    n: usize,
+    s: Spent,
+) -> Walked
+    requires { ⌜ (Accepted (now b) (now dir)) × (length (now m) ≤ 16777215) × (i < P.listCount (now b)) ⌝ }
+    requires { ⌜ start + T.elementsSize B.u48 (P.parse (now b)) (Sc.elementOf (P.parse (now b)) i) n ≤ length (now m) ⌝ }
+    ensures { λ r. ⌜ r ≡ W.elements (W.visit d B.u48 (P.parse (now (b .entry))) (now (m .entry)) budget) B.u48 (P.parse (now (b .entry))) (now (m .entry)) holder start (Sc.elementOf (P.parse (now (b .entry))) i) n 0 s ⌝ }
+{
+    let k = schema::element(b, dir, i);
+    if !leads(k) {
+        return Walked::Going(s);
+    }
+    let mut v = s;
+    let mut j: usize = 0;
+    while j < n {
+        let step = step::element_lead(b, dir, m, k, start, n, j);
+        match follow(b, dir, m, budget, d, holder, step, v) {
+            Walked::Going(u) => {
+                v = u;
+            }
+            Walked::Refused(x, u) => {
+                return Walked::Refused(x, u);
+            }
+        }
+        j += 1;
+    }
+    Walked::Going(v)
+}
+
+// What a step of the object at `holder` leads to.
+fn follow(
+    b: &[u8],
+    dir: &[u16],
+    m: &[u8],
+    budget: Budget,
+    d: usize,
+    holder: usize,
+    step: Step,
+    s: Spent,
+) -> Walked
+    requires { ⌜ (Accepted (now b) (now dir)) × (length (now m) ≤ 16777215) × D.StepSmall (P.parse (now b)) step ⌝ }
+    ensures { λ r. ⌜ r ≡ W.follow (W.visit d B.u48 (P.parse (now (b .entry))) (now (m .entry)) budget) holder step s ⌝ }
+{
+    match step {
+        Step::Refused(e) => refuse(e, holder, s),
+        Step::Absent => Walked::Going(s),
+        Step::Value(_) => Walked::Going(s),
+        Step::Unknown(_) => Walked::Going(s),
+        Step::Struct(_, _) => Walked::Going(s),
+        Step::Object(ob, p) => visit(b, dir, m, budget, d, ob, p, s),
+        Step::Choice(_, ob, p) => union(b, dir, m, budget, d, holder, ob, p, s),
+    }
+}
+
+// The object of a union's known choice.
+fn union(
+    b: &[u8],
+    dir: &[u16],
+    m: &[u8],
+    budget: Budget,
+    d: usize,
+    holder: usize,
+    ob: Object,
+    p: Place,
+    s: Spent,
+) -> Walked
+    requires { ⌜ (Accepted (now b) (now dir)) × (length (now m) ≤ 16777215) × (ObjectSound (P.parse (now b)) ob) × D.PlaceSmall p ⌝ }
+    ensures { λ r. ⌜ r ≡ W.followChoice (W.visit d B.u48 (P.parse (now (b .entry))) (now (m .entry)) budget) holder ob p s ⌝ }
+{
+    match p {
+        Place::ByOffset(x) => {
+            if x == 0 {
+                return refuse(9, holder, s);
+            }
+            visit(b, dir, m, budget, d, ob, Place::ByOffset(x), s)
+        }
+        Place::InPlace(a, n) => visit(b, dir, m, budget, d, ob, Place::InPlace(a, n), s),
+    }
+}
+
+// ---- the verdict
+fn verdict_of(w: Walked) -> Verdict
+    ensures { λ r. ⌜ r ≡ W.verdictOf w ⌝ }
+{
+    match w {
+        Walked::Going(s) => Verdict {
+            number: 0,
+            place: 0,
+            visits: s.visits,
+        },
+        Walked::Refused(x, s) => Verdict {
+            number: x.number,
+            place: x.place,
+            visits: s.visits,
+        },
+    }
+}
+
+// A refusal before the walk.
+fn early(n: u8) -> Verdict
+    ensures { λ r. ⌜ r ≡ W.early n ⌝ }
+{
+    Verdict {
+        number: n,
+        place: 0,
+        visits: 0,
+    }
+}
+
+// Whether the message has its start and is within the size.
+pub fn size_ok(m: &[u8]) -> bool
+    ensures { λ r. ⌜ r ≡ W.sizeOk B.u48 (now (m .entry)) ⌝ }
+{
+    if m.len() < 10 {
+        return false;
+    }
+    m.len() <= 16777215
+}
+
+// Whether it starts with the message's magic.
+pub fn start_ok(m: &[u8]) -> bool
+    requires { ⌜ 10 ≤ length (now m) ⌝ }
+    ensures { λ r. ⌜ r ≡ W.startOk (now (m .entry)) ⌝ }
+{
+    wire::u32_in(m, 0) == 0xB5C0_C4B3
+}
+
+// The root table.
+pub fn root_object(b: &[u8], dir: &[u16]) -> Object
+    requires { ⌜ Accepted (now b) (now dir) ⌝ }
+    ensures { λ r. ⌜ (r ≡ Object.Table (P.parse (now (b .entry)) .root)) × ObjectSound (P.parse (now (b .entry))) r ⌝ }
+{
+    Object::Table(schema::root(b) as u8)
+}
+
+// Where the message's start says that it stands.
+pub fn root_place(m: &[u8]) -> Place
+    requires { ⌜ 10 ≤ length (now m) ⌝ }
+    ensures { λ r. ⌜ (r ≡ W.rootPlace B.u48 (now (m .entry))) × D.PlaceSmall r ⌝ }
+{
+    Place::ByOffset(wire::u48_in(m, 4) as usize)
+}
+
+fn walk(b: &[u8], dir: &[u16], m: &[u8], budget: Budget) -> Walked
+    requires { ⌜ (Accepted (now b) (now dir)) × (length (now m) ≤ 16777215) × (10 ≤ length (now m)) ⌝ }
+    ensures { λ r. ⌜ r ≡ W.walk B.u48 (P.parse (now (b .entry))) (now (m .entry)) budget ⌝ }
+{
+    let ob = root_object(b, dir);
+    let p = root_place(m);
+    visit(b, dir, m, budget, 32, ob, p, Spent { visits: 0 })
+}
+
+// The verdict by a schema that was judged before.
+fn judged(b: &[u8], dir: &[u16], m: &[u8], budget: Budget) -> Verdict
+    requires { ⌜ Accepted (now b) (now dir) ⌝ }
+    ensures { λ r. ⌜ r ≡ W.verdict B.u48 (now (b .entry)) (now (m .entry)) budget ⌝ }
+{
+    if m.len() < 10 {
+        return early(2);
+    }
+    if 16777215 < m.len() {
+        return early(2);
+    }
+    if start_ok(m) {
+        return verdict_of(walk(b, dir, m, budget));
+    }
+    early(3)
+}
+
+// Judges a message by a packed schema: number, place and visits.
+pub fn judge(b: &[u8], m: &[u8], budget: Budget) -> Verdict
+    ensures { λ r. ⌜ r ≡ W.verdict B.u48 (now (b .entry)) (now (m .entry)) budget ⌝ }
+{
+    let mut dir: [u16; 320] = [0; 320];
+    if schema::judge_schema(b, &mut dir) {
+        return judged(b, &dir, m, budget);
+    }
+    early(1)
+}

@@ -1,0 +1,3 @@
+pub mod Widths
+pub mod Booleans
+pub mod Places

@@ -1,0 +1,2 @@
+-- What the layout cursor keeps to.
+pub mod Bounds

@@ -1,0 +1,5 @@
+pub mod ReachCases
+pub mod StepCases
+pub mod LeadCases
+pub mod Inside
+pub mod MemberCases

@@ -1,0 +1,2 @@
+-- What the code of a step answers beside the step itself.
+pub mod Lead

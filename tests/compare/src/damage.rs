@@ -1,0 +1,124 @@
+//! Random damage to messages and sheets.
+
+use crate::canvas::Spot;
+use crate::rng::Rng;
+
+/// A damaged message; the spots say where its numbers stand.
+pub fn message(rng: &mut Rng, bytes: &[u8], spots: &[Spot]) -> Vec<u8> {
+    let mut out = bytes.to_vec();
+    if !out.is_empty() && rng.one_in(3) {
+        // A single bit: the gentlest, so that many stay accepted.
+        let at = rng.below(out.len());
+        out[at] ^= 1 << rng.below(8);
+        return out;
+    }
+    let times = if rng.coin() { 1 } else { rng.range(2, 4) };
+    for _ in 0..times {
+        if !spots.is_empty() && rng.coin() {
+            let spot = spots[rng.below(spots.len())];
+            at_spot(rng, &mut out, spot);
+        } else {
+            anywhere(rng, &mut out);
+        }
+    }
+    out
+}
+
+/// A number at an edge, for a message of `length` bytes.
+fn edge(rng: &mut Rng, length: usize) -> u64 {
+    let length = length as u64;
+    let near = (length + 14).saturating_sub(rng.below(30) as u64);
+    let edges = [
+        0,
+        1,
+        9,
+        10,
+        11,
+        length.saturating_sub(10),
+        length.saturating_sub(1),
+        length,
+        length + 1,
+        near,
+        0xFFFF,
+        0x1_0000,
+        (1 << 24) - 1,
+        1 << 24,
+        (1 << 32) - 1,
+        1 << 32,
+        1 << 45,
+        (1 << 48) - 1,
+    ];
+    rng.pick(&edges)
+}
+
+fn at_spot(rng: &mut Rng, out: &mut [u8], spot: Spot) {
+    let end = (spot.position + spot.width).min(out.len());
+    if spot.position >= end {
+        return;
+    }
+    let field = &out[spot.position..end];
+    let mut old = [0; 8];
+    old[..field.len()].copy_from_slice(field);
+    let old = u64::from_le_bytes(old);
+    let new = match rng.below(6) {
+        0 => old.wrapping_add(1),
+        1 => old.wrapping_sub(1),
+        2 => old ^ 1 << rng.below(8 * spot.width),
+        3 => rng.below(out.len() + 1) as u64,
+        4 => rng.below(8) as u64,
+        _ => edge(rng, out.len()),
+    };
+    let width = end - spot.position;
+    out[spot.position..end].copy_from_slice(&new.to_le_bytes()[..width]);
+}
+
+/// Damage at a random place.
+fn anywhere(rng: &mut Rng, out: &mut Vec<u8>) {
+    if out.is_empty() {
+        return;
+    }
+    let at = rng.below(out.len());
+    match rng.below(9) {
+        0 => out.truncate(at),
+        1 => out.truncate(out.len() - 1),
+        2 => {
+            let count = rng.range(1, 8);
+            out.splice(at..at, rng.bytes(count));
+        }
+        3 => {
+            let end = (at + rng.range(1, 8)).min(out.len());
+            out.drain(at..end);
+        }
+        4 => {
+            let number = edge(rng, out.len()).to_le_bytes();
+            let end = (at + 6).min(out.len());
+            out[at..end].copy_from_slice(&number[..end - at]);
+        }
+        5 => out[at] = rng.bits() as u8,
+        _ => out[at] ^= 1 << rng.below(8),
+    }
+}
+
+/// A damaged sheet.
+pub fn sheet(rng: &mut Rng, sheet: &[u8]) -> Vec<u8> {
+    let mut out = sheet.to_vec();
+    for _ in 0..rng.range(1, 2) {
+        match rng.below(6) {
+            0 => out.push(0),
+            1 => out.truncate(rng.below(out.len() + 1)),
+            2 => {
+                out.pop();
+            }
+            _ if out.is_empty() => out.push(rng.bits() as u8),
+            3 => {
+                let last = out.len() - 1;
+                out[last] ^= 1 << rng.below(7);
+            }
+            _ => {
+                let at = rng.below(out.len());
+                out[at] ^= 1 << rng.below(8);
+            }
+        }
+    }
+    out
+}

@@ -1,0 +1,156 @@
+//! Older and newer readers of one message.
+
+use super::*;
+use crate::append_gen;
+use crate::damage;
+use crate::message_gen;
+use crate::schema::{Record, Schema, SIZE_LIMIT, TABLE};
+use crate::schema_faults;
+use crate::schema_gen;
+use crate::schema_rules;
+use crate::sheet;
+use crate::value::{objects, Value};
+use crate::value_gen::{self, Purpose};
+
+const BUDGET: u32 = 3000;
+
+/// A schema and one that appends to it.
+struct Pair {
+    older: Schema,
+    newer: Schema,
+    old: Vec<u8>,
+    new: Vec<u8>,
+}
+
+/// One pair of schemas.
+pub fn check(context: &mut Context) -> Checked {
+    let older = schema_gen::lawful_schema(&mut context.rng);
+    relations(context, &older)?;
+    let newer = append_gen::newer(&mut context.rng, &older);
+    let pair = Pair {
+        old: older.pack(),
+        new: newer.pack(),
+        older,
+        newer,
+    };
+    forward(context, &pair)?;
+    backward(context, &pair)
+}
+
+/// True appends are told from near misses.
+fn relations(context: &mut Context, older: &Schema) -> Checked {
+    let old = older.pack();
+    let newer = append_gen::newer(&mut context.rng, older);
+    let miss = append_gen::near_miss(&mut context.rng, older);
+    let damaged = schema_faults::damaged(&mut context.rng, &newer.pack());
+    let by_damage =
+        schema_rules::parse(&damaged).is_some_and(|damaged| append_gen::appends(older, &damaged));
+    let cases = [
+        ("a schema appends to itself", old.clone(), true),
+        ("a newer schema appends", newer.pack(), true),
+        ("a near miss does not append", miss.pack(), false),
+        ("a damaged newer schema", damaged, by_damage),
+    ];
+    for (law, new, expected) in cases {
+        let data: Data = &[("older", &old), ("newer", &new)];
+        same(law, &expected, &context.relations.appends(&old, &new), data)?;
+        context.counts.note(if expected {
+            "schemas that append"
+        } else {
+            "schemas that do not append"
+        });
+    }
+    let back = append_gen::appends(&newer, older);
+    let data: Data = &[("older", &newer.pack()), ("newer", &old)];
+    let given = context.relations.appends(&newer.pack(), &old);
+    same("the other way round", &back, &given, data)
+}
+
+/// What the newer accepts, the older accepts.
+fn forward(context: &mut Context, pair: &Pair) -> Checked {
+    let size = value_gen::some_size(&mut context.rng);
+    let value = value_gen::root_value(&pair.newer, &mut context.rng, Purpose::Wild, size);
+    let wild = message_gen::lay_out(&pair.newer, &mut context.rng, value, None);
+    let visits = wild.walked.len() as u32;
+    forward_one(context, pair, &wild.bytes, visits, Some(&wild.value))?;
+    for _ in 0..2 {
+        let bytes = damage::message(&mut context.rng, &wild.bytes, &wild.spots);
+        forward_one(context, pair, &bytes, BUDGET, None)?;
+    }
+    Ok(())
+}
+
+fn forward_one(
+    context: &mut Context,
+    pair: &Pair,
+    bytes: &[u8],
+    budget: u32,
+    value: Option<&Value>,
+) -> Checked {
+    let data: Data = &[("older", &pair.old), ("newer", &pair.new), ("m", bytes)];
+    let (verdict, new_sheet) = context.read(&pair.new, bytes, budget, SIZE_LIMIT);
+    if verdict.number != 0 {
+        return same("laid out by the newer", &false, &value.is_some(), data);
+    }
+    let Some(new_value) = sheet::decode(&pair.newer, &new_sheet) else {
+        return fail("the newer sheet is lawful", &hex(&new_sheet), data);
+    };
+    context.counts.note("messages accepted by the newer");
+    let root = Record::plain(TABLE, pair.older.root);
+    let old_value = append_gen::without_appended(&pair.older, &root, value.unwrap_or(&new_value));
+    let expected = sheet::encode(&pair.older, &old_value);
+    let visits = objects(&old_value) as u32;
+    for budget in [verdict.visits, budget, visits] {
+        let verdict = context.judge(&pair.old, bytes, budget);
+        same("the older accepts too", &accepted(visits), &verdict, data)?;
+    }
+    let (_, old_sheet) = context.read(&pair.old, bytes, budget, SIZE_LIMIT);
+    same_bytes("the older's sheet", &expected, &old_sheet, data)?;
+    let relations = context.relations;
+    let cut = relations.without_appended(&pair.old, &pair.new, &new_sheet);
+    same(
+        "the sheet without what was appended",
+        &Some(expected),
+        &cut,
+        data,
+    )
+}
+
+/// What was written by the older, the newer accepts.
+fn backward(context: &mut Context, pair: &Pair) -> Checked {
+    let size = value_gen::some_size(&mut context.rng);
+    let value = value_gen::root_value(&pair.older, &mut context.rng, Purpose::Writable, size);
+    let old_sheet = sheet::encode(&pair.older, &value);
+    let (number, message) = context.write(&pair.old, &old_sheet, SIZE_LIMIT);
+    let data: Data = &[
+        ("older", &pair.old),
+        ("newer", &pair.new),
+        ("sheet", &old_sheet),
+        ("message", &message),
+    ];
+    same("the older writes", &0, &number, data)?;
+    let root = Record::plain(TABLE, pair.older.root);
+    let new_value = append_gen::with_added(&pair.older, &pair.newer, &root, &value);
+    let expected = sheet::encode(&pair.newer, &new_value);
+    let visits = objects(&value) as u32;
+    let accepted = accepted(visits);
+    let more = visits + context.rng.range(0, 100) as u32;
+    for budget in [visits, more, u32::MAX] {
+        for schema in [&pair.old, &pair.new] {
+            let verdict = context.judge(schema, &message, budget);
+            same("older and newer accept", &accepted, &verdict, data)?;
+        }
+        let read = context.read(&pair.new, &message, budget, expected.len());
+        same("the newer reads", &accepted, &read.0, data)?;
+        same_bytes("the newer's sheet", &expected, &read.1, data)?;
+    }
+    context.counts.note("older messages read by the newer");
+    let relations = context.relations;
+    let added = relations.with_added(&pair.old, &pair.new, &old_sheet);
+    same(
+        "the sheet with what was added",
+        &Some(expected),
+        &added,
+        data,
+    )
+}

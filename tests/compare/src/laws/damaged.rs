@@ -1,0 +1,146 @@
+//! Damaged messages: whatever the verdict is, it must be of one piece.
+
+use super::*;
+use crate::canonical;
+use crate::damage;
+use crate::message_gen;
+use crate::paths;
+use crate::schema::{Schema, SIZE_LIMIT};
+use crate::schema_gen;
+use crate::sheet;
+use crate::value::{objects, writable, Value};
+use crate::value_gen::{self, Purpose};
+
+/// Damage may share objects so that a walk grows without end.
+const BUDGET: u32 = 3000;
+
+/// One message with several damages of it.
+pub fn check(context: &mut Context) -> Checked {
+    let schema = schema_gen::lawful_schema(&mut context.rng);
+    let size = value_gen::some_size(&mut context.rng);
+    let value = value_gen::root_value(&schema, &mut context.rng, Purpose::Wild, size);
+    let wild = message_gen::lay_out(&schema, &mut context.rng, value, None);
+    let packed = schema.pack();
+    for _ in 0..3 {
+        let bytes = damage::message(&mut context.rng, &wild.bytes, &wild.spots);
+        one(context, &schema, &packed, &bytes, &wild.value)?;
+    }
+    Ok(())
+}
+
+/// The verdict, the sheet, the fields and other budgets agree.
+fn one(
+    context: &mut Context,
+    schema: &Schema,
+    packed: &[u8],
+    bytes: &[u8],
+    value: &Value,
+) -> Checked {
+    let data: Data = &[("schema", packed), ("message", bytes)];
+    let verdict = context.judge(packed, bytes, BUDGET);
+    let (again, given) = context.read(packed, bytes, BUDGET, SIZE_LIMIT);
+    same("reading gives the verdict", &verdict, &again, data)?;
+    if verdict.number == 4 {
+        return same("visits of a spent budget", &BUDGET, &verdict.visits, data);
+    }
+    other_budgets(context, packed, bytes, verdict, data)?;
+    if verdict.number != 0 {
+        context.counts.note("damaged messages refused");
+        same_bytes("no sheet on refusal", &[], &given, data)?;
+        return fields_of_refused(context, schema, packed, bytes, verdict, value);
+    }
+    accepted_one(context, schema, packed, bytes, &given, verdict.visits)
+}
+
+/// An accepted message: its sheet is lawful and all else agrees with it.
+fn accepted_one(
+    context: &mut Context,
+    schema: &Schema,
+    packed: &[u8],
+    bytes: &[u8],
+    given: &[u8],
+    visits: u32,
+) -> Checked {
+    let data: Data = &[("schema", packed), ("message", bytes)];
+    context.counts.note("damaged messages accepted");
+    let Some(value) = sheet::decode(schema, given) else {
+        return fail("the sheet read is lawful", &hex(given), data);
+    };
+    same_bytes(
+        "the sheet is its value's",
+        &sheet::encode(schema, &value),
+        given,
+        data,
+    )?;
+    same(
+        "visits are the objects",
+        &(objects(&value) as u32),
+        &visits,
+        data,
+    )?;
+    fields::on_accepted(context, schema, packed, bytes, &value, data)?;
+    if writable(schema, &value) {
+        let message = canonical::message(schema, &value);
+        round_trip::writing(context, packed, given, &message, data)?;
+    }
+    Ok(())
+}
+
+/// Fields of a refused message: refused alike before the walk, and each
+/// answer of the list reader is that of its element's path.
+fn fields_of_refused(
+    context: &mut Context,
+    schema: &Schema,
+    packed: &[u8],
+    bytes: &[u8],
+    verdict: Verdict,
+    value: &Value,
+) -> Checked {
+    let data: Data = &[("schema", packed), ("message", bytes)];
+    for _ in 0..2 {
+        let path = paths::random_path(schema, &mut context.rng, value);
+        let answer = context.field(packed, bytes, &path);
+        let number = verdict.number;
+        if number <= 3 && path.len() <= paths::PATH_LIMIT {
+            let refused = Answer::Refused { number, place: 0 };
+            same("a field of a bad start", &refused, &answer, data)?;
+        }
+        let Ok(steps) = context.program.list_steps(packed, bytes, &path, 4) else {
+            continue;
+        };
+        let Answer::Object { length, .. } = answer else {
+            return fail("a list reader only at a list", &format!("{path:?}"), data);
+        };
+        for (i, step) in steps.iter().enumerate() {
+            let mut element = path.clone();
+            element.push((i as u64).min(length) as u32);
+            let field = context.field(packed, bytes, &element);
+            same("a step of the list reader", &field, step, data)?;
+        }
+    }
+    Ok(())
+}
+
+/// A larger budget changes nothing, nor does one just large enough.
+fn other_budgets(
+    context: &mut Context,
+    packed: &[u8],
+    bytes: &[u8],
+    verdict: Verdict,
+    data: Data,
+) -> Checked {
+    let more = verdict.visits + context.rng.range(0, 200) as u32;
+    for budget in [verdict.visits, more, u32::MAX] {
+        let other = context.judge(packed, bytes, budget);
+        same("budget changed", &verdict, &other, data)?;
+    }
+    if verdict.visits > 0 {
+        let budget = context.rng.below(verdict.visits as usize) as u32;
+        for budget in [verdict.visits - 1, budget] {
+            let short = context.judge(packed, bytes, budget);
+            let given = (short.number, short.visits);
+            same("budget too small", &(4, budget), &given, data)?;
+        }
+    }
+    Ok(())
+}

@@ -1,0 +1,283 @@
+//! Messages, sheets and paths at their limits.
+
+use super::*;
+use crate::canonical;
+use crate::schema::*;
+use crate::sheet;
+use crate::value::Value;
+
+fn root_with(member: Record) -> Schema {
+    let table = Table {
+        id: 0x5EA7_0001,
+        members: vec![member],
+    };
+    Schema {
+        tables: vec![table],
+        ..Schema::default()
+    }
+}
+
+/// Runs the large cases once.
+pub fn run<P: Program + Relations>(program: &P, counts: &mut Counts) -> Result<(), String> {
+    let mut context = Context {
+        rng: Rng::new(0),
+        counts,
+        program,
+        relations: program,
+    };
+    let checks = [
+        text_at_the_limit,
+        absent_elements,
+        shared_text,
+        sizes,
+        sheet_at_the_limit,
+        longest_path,
+        doubling,
+    ];
+    for check in checks {
+        check(&mut context).map_err(|failure| format!("large cases: {}", failure.text))?;
+    }
+    Ok(())
+}
+
+/// A text whose message has exactly the largest size, and one byte more.
+fn text_at_the_limit(context: &mut Context) -> Checked {
+    let schema = root_with(Record::plain(TEXT, 0));
+    let packed = schema.pack();
+    for over in [0, 1] {
+        let text = vec![b'x'; SIZE_LIMIT - 37 + over];
+        let value = Value::Table(vec![Value::Blob(text)]);
+        let bytes = sheet::encode(&schema, &value);
+        let (number, message) = context.write(&packed, &bytes, SIZE_LIMIT + 100);
+        let data: Data = &[("schema", &packed)];
+        if over == 1 {
+            same(
+                "one byte over the size",
+                &(13, 0),
+                &(number, message.len()),
+                data,
+            )?;
+            let (number, _) = context.write(&packed, &bytes, 0);
+            same("13 comes before 14", &13, &number, data)?;
+            continue;
+        }
+        let expected = canonical::message(&schema, &value);
+        same(
+            "exactly the size",
+            &(0, true),
+            &(number, message == expected),
+            data,
+        )?;
+        same("exactly the size", &SIZE_LIMIT, &message.len(), data)?;
+        let (verdict, back) = context.read(&packed, &message, 2, bytes.len());
+        same(
+            "reading the size",
+            &(0, true),
+            &(verdict.number, back == bytes),
+            data,
+        )?;
+    }
+    Ok(())
+}
+
+/// A list of absent elements is far larger in a message than in a sheet.
+fn absent_elements(context: &mut Context) -> Checked {
+    let mut schema = root_with(Record::plain(LIST, 0));
+    for element in [Record::plain(F64, 0), Record::plain(UNION, 0)] {
+        schema.lists = vec![element];
+        schema.unions = vec![vec![Record::plain(TEXT, 0)]];
+        let packed = schema.pack();
+        let fitting = (SIZE_LIMIT - 36) / 8;
+        let data: Data = &[("schema", &packed)];
+        let value = Value::Table(vec![Value::List(vec![Value::Absent; fitting + 1])]);
+        let bytes = sheet::encode(&schema, &value);
+        for room in 0..51 {
+            let (number, message) = context.write(&packed, &bytes, room);
+            same(
+                "absent elements over the size",
+                &(13, 0),
+                &(number, message.len()),
+                data,
+            )?;
+        }
+    }
+    Ok(())
+}
+
+/// A small message whose sheet has exactly the largest size, and ones over it.
+fn shared_text(context: &mut Context) -> Checked {
+    let mut schema = root_with(Record::plain(LIST, 0));
+    schema.tables[0].members.push(Record::plain(BYTES, 0));
+    schema.lists = vec![Record::plain(TEXT, 0)];
+    let packed = schema.pack();
+    let data: Data = &[("schema", &packed)];
+    let (text, count) = (65_536, 255);
+    // Mark and length, 34 bits, for the list, each text and the blob.
+    let bits = 34 * (2 + count) + 8 * text * count;
+    let blob = (8 * SIZE_LIMIT - bits) / 8;
+    for (count, blob, number) in [(count, blob, 0), (count, blob + 1, 14), (300, 0, 14)] {
+        let message = naming_one_text(&schema, text, count, blob);
+        let visits = 3 + count as u32;
+        let verdict = context.judge(&packed, &message, visits);
+        same("a text named often", &accepted(visits), &verdict, data)?;
+        let (verdict, sheet) = context.read(&packed, &message, visits, SIZE_LIMIT + 1000);
+        let given = (verdict.number, verdict.place, verdict.visits);
+        same("its sheet", &(number, 0, visits), &given, data)?;
+        let length = if number == 0 { SIZE_LIMIT } else { 0 };
+        same("its sheet's length", &length, &sheet.len(), data)?;
+    }
+    Ok(())
+}
+
+/// A message with a list that names one text over and over, and a blob.
+fn naming_one_text(schema: &Schema, text: usize, count: usize, blob: usize) -> Vec<u8> {
+    let texts = Value::List(vec![Value::Blob(vec![b'y'; text])]);
+    let one = Value::Table(vec![texts, Value::Blob(vec![b'z'; blob])]);
+    let mut message = canonical::message(schema, &one);
+    let offset = message.len() as u64;
+    message[20..26].copy_from_slice(&offset.to_le_bytes()[..6]);
+    message.extend_from_slice(&0x3400_BB46u32.to_le_bytes());
+    message.extend_from_slice(&(count as u64).to_le_bytes()[..6]);
+    for _ in 0..count {
+        // The text stands after the start, the root and the first list.
+        message.extend_from_slice(&(10 + 22 + 16u64).to_le_bytes()[..6]);
+    }
+    message
+}
+
+/// A message and a sheet one byte over the size.
+fn sizes(context: &mut Context) -> Checked {
+    let schema = root_with(Record::plain(BYTES, 0));
+    let packed = schema.pack();
+    let blob = vec![7; 100];
+    let value = Value::Table(vec![Value::Blob(blob)]);
+    let mut message = canonical::message(&schema, &value);
+    message.resize(SIZE_LIMIT, 0xAA);
+    let data: Data = &[("schema", &packed)];
+    let verdict = context.judge(&packed, &message, 2);
+    same(
+        "a message of the size",
+        &(0, 2),
+        &(verdict.number, verdict.visits),
+        data,
+    )?;
+    message.push(0);
+    starts::refused(context, &packed, &message, 2)?;
+    let mut bytes = sheet::encode(&schema, &value);
+    bytes.resize(SIZE_LIMIT + 1, 0);
+    let (number, written) = context.write(&packed, &bytes, SIZE_LIMIT + 1000);
+    same(
+        "a sheet over the size",
+        &(11, 0),
+        &(number, written.len()),
+        data,
+    )
+}
+
+/// 32 tables, each inside the one before, and 64 structs, each inside the
+/// next: the innermost number has a path of 96 numbers.
+fn longest_path(context: &mut Context) -> Checked {
+    let back = Record::plain(TABLE, 0);
+    let mut schema = root_with(back);
+    schema.tables[0].members.push(Record::plain(STRUCT, 63));
+    schema.structs = vec![vec![Record::plain(5, 0)]];
+    let mut inner = Value::Struct(vec![Value::Number(0xFE)]);
+    for index in 0..63 {
+        schema.structs.push(vec![Record::plain(STRUCT, index)]);
+        inner = Value::Struct(vec![inner]);
+    }
+    let mut value = Value::Table(vec![Value::Absent, inner.clone()]);
+    for _ in 1..DEPTH_LIMIT {
+        value = Value::Table(vec![value, inner.clone()]);
+    }
+    let packed = schema.pack();
+    let message = canonical::message(&schema, &value);
+    let data: Data = &[("schema", &packed), ("message", &message)];
+    let mut path = vec![0; 31];
+    path.push(1);
+    path.resize(96, 0);
+    let (bits, width, signed) = (0xFE, 8, true);
+    let answer = Answer::Number {
+        bits,
+        width,
+        signed,
+    };
+    let given = context.field(&packed, &message, &path);
+    same("the longest path", &answer, &given, data)?;
+    let place = 0;
+    path.push(0);
+    let refused = Answer::Refused { number: 15, place };
+    let given = context.field(&packed, &message, &path);
+    same("a path one longer", &refused, &given, data)
+}
+
+/// Lists that each name the next table twice, so that the walk doubles 15
+/// times over.
+fn doubling(context: &mut Context) -> Checked {
+    let mut schema = root_with(Record::plain(LIST, 0));
+    schema.lists = vec![Record::plain(TABLE, 0)];
+    let packed = schema.pack();
+    let levels = 15;
+    let mut message = canonical::message(&schema, &Value::Table(vec![Value::Absent]));
+    message.truncate(10);
+    for level in 0..=levels {
+        // A table of 16 bytes, and a list of 22 with two offsets.
+        let table = 10 + 38 * level as u64;
+        let list = if level == levels { 0 } else { table + 16 };
+        message.extend_from_slice(&schema.tables[0].id.to_le_bytes());
+        for number in [6, list] {
+            message.extend_from_slice(&number.to_le_bytes()[..6]);
+        }
+        if level < levels {
+            message.extend_from_slice(&0x3400_BB46u32.to_le_bytes());
+            for number in [2, table + 38, table + 38] {
+                message.extend_from_slice(&number.to_le_bytes()[..6]);
+            }
+        }
+    }
+    let visits = 3 * (1 << levels) - 2;
+    let data: Data = &[("schema", &packed), ("message", &message)];
+    let verdict = context.judge(&packed, &message, u32::MAX);
+    same("a walk that doubles", &accepted(visits), &verdict, data)?;
+    let verdict = context.judge(&packed, &message, visits - 1);
+    let last = Verdict {
+        number: 4,
+        place: 10 + 38 * levels as u64,
+        visits: visits - 1,
+    };
+    same("a walk that doubles, cut short", &last, &verdict, data)
+}
+
+/// A sheet of exactly the largest size, whose message is smaller, and one a
+/// byte longer: list elements of 64 bits take 66 in a sheet.
+fn sheet_at_the_limit(context: &mut Context) -> Checked {
+    let mut schema = root_with(Record::plain(LIST, 0));
+    schema.tables[0].members.push(Record::plain(BYTES, 0));
+    schema.lists = vec![Record::plain(F64, 0)];
+    let packed = schema.pack();
+    let data: Data = &[("schema", &packed)];
+    let count = (8 * SIZE_LIMIT - 100) / 66;
+    let blob = (8 * SIZE_LIMIT - 68 - 66 * count) / 8;
+    for (blob, number) in [(blob, 0), (blob + 1, 11)] {
+        let list = Value::List(vec![Value::Number(1 << 62); count]);
+        let value = Value::Table(vec![list, Value::Blob(vec![3; blob])]);
+        let bytes = sheet::encode(&schema, &value);
+        let over = usize::from(number == 11);
+        same(
+            "a sheet near the size",
+            &(SIZE_LIMIT + over),
+            &bytes.len(),
+            data,
+        )?;
+        let (given, message) = context.write(&packed, &bytes, SIZE_LIMIT);
+        same("writing it", &number, &given, data)?;
+        if number == 0 {
+            let expected = canonical::message(&schema, &value);
+            same("its message", &true, &(message == expected), data)?;
+            let (verdict, back) = context.read(&packed, &message, 3, SIZE_LIMIT);
+            let given = (verdict.number, back == bytes);
+            same("reading it back", &(0, true), &given, data)?;
+        }
+    }
+    Ok(())
+}

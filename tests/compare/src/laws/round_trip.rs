@@ -1,0 +1,77 @@
+//! Writing a writable sheet and reading it back.
+
+use super::*;
+use crate::canonical;
+use crate::schema_gen;
+use crate::sheet;
+use crate::value::objects;
+use crate::value_gen::{self, Purpose};
+
+/// One writable sheet.
+pub fn check(context: &mut Context) -> Checked {
+    let schema = schema_gen::lawful_schema(&mut context.rng);
+    let size = value_gen::some_size(&mut context.rng);
+    let value = value_gen::root_value(&schema, &mut context.rng, Purpose::Writable, size);
+    let packed = schema.pack();
+    let sheet = sheet::encode(&schema, &value);
+    let message = canonical::message(&schema, &value);
+    let visits = objects(&value) as u32;
+    if crate::value::depth(&value) == 32 {
+        context.counts.note("writable values of depth 32");
+    }
+    let data: Data = &[
+        ("schema", &packed),
+        ("sheet", &sheet),
+        ("message", &message),
+    ];
+    writing(context, &packed, &sheet, &message, data)?;
+    reading(context, &packed, &sheet, &message, visits, data)
+}
+
+/// Writing gives the message where there is room for it.
+pub fn writing(
+    context: &mut Context,
+    packed: &[u8],
+    sheet: &[u8],
+    message: &[u8],
+    data: Data,
+) -> Checked {
+    let (number, written) = context.write(packed, sheet, message.len());
+    same("writing a writable sheet", &0, &number, data)?;
+    same_bytes("the written message", message, &written, data)?;
+    let refused = context.write(packed, sheet, message.len() - 1);
+    same("writing without room", &(14, Vec::new()), &refused, data)
+}
+
+/// Judging and reading the message accept it with just enough.
+pub fn reading(
+    context: &mut Context,
+    packed: &[u8],
+    sheet: &[u8],
+    message: &[u8],
+    visits: u32,
+    data: Data,
+) -> Checked {
+    let accepted = accepted(visits);
+    for budget in [visits, u32::MAX] {
+        let verdict = context.judge(packed, message, budget);
+        same("judging with enough budget", &accepted, &verdict, data)?;
+        let (verdict, given) = context.read(packed, message, budget, sheet.len());
+        same("reading with enough room", &accepted, &verdict, data)?;
+        same_bytes("the sheet read", sheet, &given, data)?;
+    }
+    let short = context.judge(packed, message, visits - 1);
+    let given = (short.number, short.visits);
+    same("budget one less", &(4, visits - 1), &given, data)?;
+    let refused = context.read(packed, message, visits - 1, sheet.len());
+    same("budget one less", &(short, Vec::new()), &refused, data)?;
+    if sheet.is_empty() {
+        return Ok(());
+    }
+    let no_room = Verdict {
+        number: 14,
+        ..accepted
+    };
+    let refused = context.read(packed, message, visits, sheet.len() - 1);
+    same("no room", &(no_room, Vec::new()), &refused, data)
+}

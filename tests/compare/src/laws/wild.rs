@@ -1,0 +1,131 @@
+//! Messages laid out at random, with at most one fault.
+
+use super::*;
+use crate::message_faults::{self, Fault, FaultKind};
+use crate::message_gen::{self, Wild};
+use crate::schema::{Schema, DEPTH_LIMIT, SIZE_LIMIT};
+use crate::schema_gen;
+use crate::sheet;
+use crate::value::{self, Value};
+use crate::value_gen::{self, Purpose, Size};
+
+/// One wild message.
+pub fn check(context: &mut Context) -> Checked {
+    let (schema, value) = schema_and_value(context);
+    let fault = if context.rng.coin() {
+        choose_fault(&schema, context, &value)
+    } else {
+        None
+    };
+    let wild = message_gen::lay_out(&schema, &mut context.rng, value, fault);
+    census::note(context.counts, &schema, &wild);
+    let packed = schema.pack();
+    let data: Data = &[("schema", &packed), ("message", &wild.bytes)];
+    verdicts(context, &packed, &wild, data)?;
+    if wild.number == 0 {
+        sheet_of(context, &schema, &packed, &wild, data)?;
+    }
+    super::fields::on_wild(context, &schema, &packed, &wild, data)
+}
+
+/// A schema and a value; now and then one that is too deep.
+fn schema_and_value(context: &mut Context) -> (Schema, Value) {
+    let rng = &mut context.rng;
+    let deep = rng.one_in(25);
+    let schema = if deep {
+        schema_gen::recursive(rng)
+    } else {
+        schema_gen::lawful_schema(rng)
+    };
+    let mut size = value_gen::some_size(rng);
+    if deep {
+        size = Size {
+            objects: rng.range(1, 40),
+            depth: DEPTH_LIMIT + rng.range(0, 2) as u32,
+            spine: DEPTH_LIMIT + rng.range(0, 2) as u32,
+        };
+    }
+    let value = value_gen::root_value(&schema, rng, Purpose::Wild, size);
+    (schema, value)
+}
+
+/// A fault of a kind chosen first, so that rare kinds come up too.
+fn choose_fault(schema: &Schema, context: &mut Context, value: &Value) -> Option<Fault> {
+    let sites = message_faults::sites(schema, value);
+    let mut kinds: Vec<String> = sites.iter().map(|site| fault_name(site.kind)).collect();
+    kinds.sort_unstable();
+    kinds.dedup();
+    let kind = &kinds[context.rng.below(kinds.len())];
+    let fitting: Vec<Fault> = (sites.into_iter())
+        .filter(|site| fault_name(site.kind) == *kind)
+        .collect();
+    context.counts.note(&format!("message faults: {kind}"));
+    Some(context.rng.pick(&fitting))
+}
+
+fn fault_name(kind: FaultKind) -> String {
+    match kind {
+        FaultKind::Cycle(_) => "cycle".to_string(),
+        other => format!("{other:?}"),
+    }
+}
+
+/// The verdicts with many budgets.
+fn verdicts(context: &mut Context, packed: &[u8], wild: &Wild, data: Data) -> Checked {
+    let visits = wild.walked.len() as u32;
+    let some = context.rng.below(visits as usize + 1) as u32;
+    for budget in [u32::MAX, visits, visits.saturating_sub(1), some, 1, 0] {
+        let expected = wild.expected(budget);
+        let verdict = context.judge(packed, &wild.bytes, budget);
+        let law = format!("verdict with budget {budget}, fault {:?}", wild.fault);
+        same(&law, &expected, &verdict, data)?;
+        if let Some(again) = context.program.judge_unpacked(packed, &wild.bytes, budget) {
+            same("judging by an unpacked schema", &expected, &again, data)?;
+        }
+        if expected.number != 0 {
+            let read = context.read(packed, &wild.bytes, budget, SIZE_LIMIT);
+            same(
+                "reading a refused message",
+                &(expected, Vec::new()),
+                &read,
+                data,
+            )?;
+        }
+    }
+    Ok(())
+}
+
+/// The sheet is the encoder's; writing it back goes by what it holds.
+fn sheet_of(
+    context: &mut Context,
+    schema: &Schema,
+    packed: &[u8],
+    wild: &Wild,
+    data: Data,
+) -> Checked {
+    let expected = sheet::encode(schema, &wild.value);
+    let visits = wild.walked.len() as u32;
+    let read = context.read(packed, &wild.bytes, visits, expected.len());
+    same(
+        "reading an accepted message",
+        &wild.expected(visits),
+        &read.0,
+        data,
+    )?;
+    same_bytes("the sheet of a wild message", &expected, &read.1, data)?;
+    if !expected.is_empty() {
+        let read = context.read(packed, &wild.bytes, visits, expected.len() - 1);
+        let no_room = Verdict {
+            number: 14,
+            ..wild.expected(visits)
+        };
+        same("reading without room", &(no_room, Vec::new()), &read, data)?;
+    }
+    super::sheets::written(context, schema, packed, &expected)?;
+    if !value::writable(schema, &wild.value) {
+        context
+            .counts
+            .note("accepted messages with an unwritable sheet");
+    }
+    Ok(())
+}

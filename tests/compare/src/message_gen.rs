@@ -1,0 +1,731 @@
+//! Wild messages: a value laid out as bytes at random, with what a judge must
+//! answer about it.
+
+use crate::canonical::{magic, HEADER, MESSAGE_MAGIC};
+use crate::canvas::{Canvas, Late, Pattern, Spot};
+use crate::message_faults::{may_be_absent, Fault, FaultKind};
+use crate::rng::Rng;
+use crate::schema::*;
+use crate::value::Value;
+use crate::value_gen::nan_bits;
+use reference::Verdict;
+use std::collections::HashMap;
+
+/// One arrival of the walk.
+#[derive(Clone, Copy, Debug)]
+pub struct Arrival {
+    pub place: u64,
+    pub depth: u32,
+    pub kind: u8,
+    pub argument: u8,
+    pub in_place: bool,
+    pub length: u64,
+}
+
+/// A message with what is known of it.
+pub struct Wild {
+    pub bytes: Vec<u8>,
+    pub value: Value,
+    /// The objects in walk order; those after a fault may be missing.
+    pub arrivals: Vec<Arrival>,
+    /// The place of every arrival that the walk makes.
+    pub walked: Vec<u64>,
+    /// So many objects of the value are arrivals of the same number.
+    pub sure: usize,
+    pub number: u32,
+    pub place: u64,
+    pub fault: Option<Fault>,
+    pub spots: Vec<Spot>,
+}
+
+impl Wild {
+    /// The verdict with this budget.
+    pub fn expected(&self, budget: u32) -> Verdict {
+        match self.walked.get(budget as usize) {
+            Some(place) => Verdict {
+                number: 4,
+                place: *place,
+                visits: budget,
+            },
+            None => Verdict {
+                number: self.number,
+                place: self.place,
+                visits: self.walked.len() as u32,
+            },
+        }
+    }
+}
+
+/// A refusal: its number, the arrival that is its place, and the visits.
+#[derive(Clone, Copy)]
+struct Outcome {
+    number: u32,
+    arrival: usize,
+    visits: usize,
+}
+
+struct Layouter<'a> {
+    schema: &'a Schema,
+    rng: &'a mut Rng,
+    canvas: Canvas,
+    arrivals: Vec<Arrival>,
+    /// Objects laid out before: their arrivals, from and up to.
+    shared: HashMap<(u8, u8, Value), (usize, usize)>,
+    fault: Option<Fault>,
+    outcome: Option<Outcome>,
+    /// A reference back: the object it leads to, and the arrivals before it.
+    cycle: Option<(usize, usize)>,
+    late: Vec<(usize, Late)>,
+    open: Vec<usize>,
+    spots: Vec<Spot>,
+}
+
+/// Where a part stands: its holder's arrival and its number there.
+#[derive(Clone, Copy)]
+struct PartOf {
+    holder: usize,
+    part: usize,
+}
+
+/// Lays a value out, with at most one fault.
+pub fn lay_out(schema: &Schema, rng: &mut Rng, value: Value, fault: Option<Fault>) -> Wild {
+    let gap = if rng.coin() { rng.below(400) } else { 0 };
+    let mut layouter = Layouter {
+        schema,
+        rng,
+        canvas: Canvas::new(HEADER, gap),
+        arrivals: Vec::new(),
+        shared: HashMap::new(),
+        fault,
+        outcome: None,
+        cycle: None,
+        late: Vec::new(),
+        open: Vec::new(),
+        spots: Vec::new(),
+    };
+    let mut start = Pattern::default();
+    start.push(&MESSAGE_MAGIC.to_le_bytes());
+    start.grow(6);
+    let root = Record::plain(TABLE, schema.root);
+    layouter.reference(&mut start, 4, None, &root, &value);
+    layouter.canvas.write(0, &start.bytes);
+    layouter.settle(start, 0);
+    layouter.finish(value, fault)
+}
+
+impl Layouter<'_> {
+    fn has_fault(&self, object: usize, part: usize, kind: FaultKind) -> bool {
+        self.fault == Some(Fault { object, part, kind })
+    }
+
+    fn refuse(&mut self, number: u32, arrival: usize, visits: usize) {
+        self.outcome = Some(Outcome {
+            number,
+            arrival,
+            visits,
+        });
+    }
+
+    /// Takes over what a pattern knows now that its position is known.
+    fn settle(&mut self, pattern: Pattern, at: usize) {
+        for (arrival, position) in pattern.inner {
+            self.arrivals[arrival].place = (at + position) as u64;
+        }
+        for (position, late) in pattern.late {
+            self.late.push((at + position, late));
+        }
+        for spot in pattern.spots {
+            self.spots.push(Spot {
+                position: at + spot.position,
+                ..spot
+            });
+        }
+    }
+
+    fn arrive(&mut self, holder: Option<usize>, record: &Record, in_place: bool) -> usize {
+        let above = holder.map_or(0, |holder| self.arrivals[holder].depth);
+        self.arrivals.push(Arrival {
+            place: 0,
+            depth: above + 1,
+            kind: record.kind,
+            argument: record.argument,
+            in_place,
+            length: 0,
+        });
+        self.arrivals.len() - 1
+    }
+
+    /// Lays out an object and puts its offset into the pattern.
+    fn reference(
+        &mut self,
+        pattern: &mut Pattern,
+        at: usize,
+        of: Option<PartOf>,
+        record: &Record,
+        value: &Value,
+    ) {
+        let holder = of.map(|of| of.holder);
+        let next = self.arrivals.len();
+        if let (Some(of), Some(fault)) = (of, self.fault) {
+            if let (true, FaultKind::Cycle(target)) = (
+                fault.object == of.holder && fault.part == of.part,
+                fault.kind,
+            ) {
+                self.cycle = Some((target, next));
+                return pattern.set_late(at, Late::PlaceOf(target));
+            }
+        }
+        if self.has_fault(next, 0, FaultKind::SmallOffset) {
+            let offset = self.rng.range(usize::from(holder.is_some()), 9) as u64;
+            self.arrive(holder, record, false);
+            self.arrivals[next].place = offset;
+            self.refuse(6, next, next + 1);
+            return pattern.set_spot(at, offset, 6);
+        }
+        if self.has_fault(next, 0, FaultKind::FarOffset) {
+            self.arrive(holder, record, false);
+            self.refuse(6, next, next + 1);
+            return pattern.set_late(at, Late::FarOffset(next));
+        }
+        let place = self.object(holder, record, value);
+        pattern.set_spot(at, place, 6);
+    }
+
+    /// Lays out an object by offset, or names one laid out before.
+    fn object(&mut self, holder: Option<usize>, record: &Record, value: &Value) -> u64 {
+        let key = (record.kind, record.argument, value.clone());
+        if let Some(place) = self.laid_before(holder, &key) {
+            return place;
+        }
+        let index = self.arrive(holder, record, false);
+        let mut pattern = Pattern::default();
+        let magic = self.object_magic(index, record);
+        pattern.grow(10);
+        pattern.set_spot(0, u64::from(magic), 4);
+        pattern.inner.push((index, 0));
+        if matches!(value, Value::Blob(_)) && self.fault.is_none() && self.rng.one_in(10) {
+            self.open.push(index);
+            pattern.set_late(4, Late::OpenLength(index));
+        } else {
+            let length = self.content(&mut pattern, index, record, value, false);
+            self.put_length(&mut pattern, 4, index, length);
+        }
+        let at = self.canvas.place(self.rng, &pattern, HEADER);
+        self.settle(pattern, at);
+        let end = self.arrivals.len();
+        let fault_inside = self.fault.is_some_and(|f| (index..end).contains(&f.object));
+        if !fault_inside && self.open.iter().all(|&open| open < index) {
+            self.shared.insert(key, (index, end));
+        }
+        at as u64
+    }
+
+    fn object_magic(&mut self, index: usize, record: &Record) -> u32 {
+        let right = magic(self.schema, record);
+        if !self.has_fault(index, 0, FaultKind::Magic) {
+            return right;
+        }
+        self.refuse(7, index, index + 1);
+        match self.rng.below(3) {
+            0 => right ^ 1 << self.rng.below(32),
+            1 => !right,
+            _ => right.wrapping_add(1),
+        }
+    }
+
+    /// Names an equal object laid out before, with all its arrivals.
+    fn laid_before(&mut self, holder: Option<usize>, key: &(u8, u8, Value)) -> Option<u64> {
+        let (from, to) = *self.shared.get(key)?;
+        let next = self.arrivals.len();
+        let fault_inside = self
+            .fault
+            .is_some_and(|f| (next..next + to - from).contains(&f.object));
+        if fault_inside || self.rng.one_in(4) {
+            return None;
+        }
+        let above = holder.map_or(0, |holder| self.arrivals[holder].depth);
+        let first = self.arrivals[from];
+        for i in from..to {
+            let mut arrival = self.arrivals[i];
+            arrival.depth = arrival.depth + above + 1 - first.depth;
+            self.arrivals.push(arrival);
+        }
+        Some(first.place)
+    }
+
+    fn put_length(&mut self, pattern: &mut Pattern, at: usize, index: usize, length: u64) {
+        self.arrivals[index].length = length;
+        if self.has_fault(index, 0, FaultKind::LongLength) {
+            self.refuse(6, index, index + 1);
+            pattern.set_late(at, Late::LongLength(index));
+        } else {
+            pattern.set_spot(at, length, 6);
+        }
+    }
+
+    /// Adds an object's content and in-place chain; gives its length.
+    fn content(
+        &mut self,
+        pattern: &mut Pattern,
+        index: usize,
+        record: &Record,
+        value: &Value,
+        filled: bool,
+    ) -> u64 {
+        match value {
+            Value::Blob(bytes) => {
+                pattern.push(bytes);
+                if record.kind == TEXT {
+                    let bad = self.has_fault(index, 0, FaultKind::TextEnd);
+                    if bad {
+                        self.refuse(10, index, index + 1);
+                    }
+                    let end = if bad { self.rng.range(1, 255) } else { 0 };
+                    pattern.push(&[end as u8]);
+                }
+                bytes.len() as u64
+            }
+            Value::List(parts) => {
+                self.list(pattern, index, record.argument, parts);
+                parts.len() as u64
+            }
+            Value::Table(parts) => self.table(pattern, index, record.argument, parts, filled),
+            _ => unreachable!("only objects have content"),
+        }
+    }
+
+    fn list(&mut self, pattern: &mut Pattern, index: usize, list: u8, parts: &[Value]) {
+        let element = self.schema.lists[usize::from(list)];
+        let bits = self.schema.element_bits(&element) as usize;
+        let base = pattern.grow((bits * parts.len()).div_ceil(8));
+        for (i, part) in parts.iter().enumerate() {
+            if element.kind == BOOL {
+                pattern.set_bit(8 * base + i, *part == Value::Bool(true));
+            } else {
+                let of = PartOf {
+                    holder: index,
+                    part: i,
+                };
+                self.fixed(pattern, base + i * bits / 8, of, &element, part);
+            }
+        }
+    }
+
+    fn table(
+        &mut self,
+        pattern: &mut Pattern,
+        index: usize,
+        table: u8,
+        parts: &[Value],
+        filled: bool,
+    ) -> u64 {
+        let schema = self.schema;
+        let members = &schema.tables[usize::from(table)].members;
+        let (slots, full) = schema.slots(table);
+        let length = self.table_length(index, members, &slots, full, parts, filled);
+        let base = pattern.grow(length);
+        let mut tail = Pattern::default();
+        for (i, (member, part)) in members.iter().zip(parts).enumerate() {
+            let of = PartOf {
+                holder: index,
+                part: i,
+            };
+            let reach = slots[i].reach(length);
+            if reach == Reach::Inside {
+                self.member(pattern, base, of, member, &slots[i], part, &mut tail);
+            } else if reach != Reach::Gone {
+                self.partly(pattern, base, of, &slots[i], reach, part);
+            }
+        }
+        pattern.append(tail);
+        length as u64
+    }
+
+    /// Puts what is inside of a member that is not wholly so.
+    fn partly(
+        &mut self,
+        pattern: &mut Pattern,
+        base: usize,
+        of: PartOf,
+        slot: &Slot,
+        reach: Reach,
+        part: &Value,
+    ) {
+        let past_end = self.has_fault(of.holder, of.part, FaultKind::FlagWithoutValue);
+        let cut = reach == Reach::Cut;
+        if past_end || cut {
+            self.refuse(8, of.holder, self.arrivals.len());
+        }
+        if let Some(flag) = slot.flag {
+            let set = if cut {
+                *part != Value::Absent
+            } else {
+                past_end
+            };
+            pattern.set_bit(8 * base + flag, set);
+        }
+    }
+
+    /// Any length of the fixed part that says what the members say.
+    fn table_length(
+        &mut self,
+        index: usize,
+        members: &[Record],
+        slots: &[Slot],
+        full: usize,
+        parts: &[Value],
+        filled: bool,
+    ) -> usize {
+        if let Some(fault) = self.fault.filter(|fault| fault.object == index) {
+            let slot = slots.get(fault.part);
+            match (fault.kind, slot) {
+                (FaultKind::Cut, Some(s)) => return self.rng.range(s.first() + 1, s.end() - 1),
+                (FaultKind::FlagWithoutValue, Some(s)) => return s.first(),
+                _ => {}
+            }
+        }
+        let says = |length: usize| {
+            (0..members.len()).all(|i| match slots[i].reach(length) {
+                Reach::Cut => false,
+                Reach::Gone | Reach::FlagOnly => parts[i] == Value::Absent,
+                Reach::Inside => parts[i] != Value::Absent || may_be_absent(&members[i]),
+            }) && !(filled && length == 0)
+        };
+        let boundaries = slots.iter().flat_map(|s| [s.start(), s.first()]);
+        let mut lengths: Vec<usize> = boundaries.filter(|&length| says(length)).collect();
+        let longer = full + 1 + self.rng.small(200);
+        if says(longer) && self.rng.one_in(4) {
+            return longer;
+        }
+        if says(full) {
+            lengths.push(full);
+        }
+        if lengths.is_empty() {
+            assert!(says(longer), "no fixed part says what the members say");
+            return longer;
+        }
+        self.rng.pick(&lengths)
+    }
+
+    #[allow(clippy::too_many_arguments)]
+    fn member(
+        &mut self,
+        pattern: &mut Pattern,
+        base: usize,
+        of: PartOf,
+        member: &Record,
+        slot: &Slot,
+        part: &Value,
+        tail: &mut Pattern,
+    ) {
+        let present = *part != Value::Absent;
+        if !present && !may_be_absent(member) {
+            return; // Only behind a fault: nothing is said of this member.
+        }
+        if let Some(flag) = slot.flag {
+            pattern.set_bit(8 * base + flag, present);
+        }
+        let at = base + slot.first();
+        if let Value::Bool(bit) = part {
+            pattern.set_bit(8 * base + slot.value, *bit);
+        } else if member.in_place {
+            self.in_place(pattern, at, of, member, part, tail);
+        } else if present || slot.flag.is_none() {
+            self.fixed(pattern, at, of, member, part);
+        }
+    }
+
+    fn in_place(
+        &mut self,
+        pattern: &mut Pattern,
+        at: usize,
+        of: PartOf,
+        member: &Record,
+        part: &Value,
+        tail: &mut Pattern,
+    ) {
+        match part {
+            Value::Absent if member.kind == UNION => pattern.set_spot(at, 0, 2),
+            Value::Absent => pattern.set_spot(at, 0, 6),
+            Value::Unknown(choice) => pattern.set_spot(at, u64::from(*choice), 2),
+            Value::Union(choice, object) => {
+                let cases = &self.schema.unions[usize::from(member.argument)];
+                let case = cases[usize::from(*choice) - 1];
+                pattern.set_spot(at, u64::from(*choice), 2);
+                self.in_place_object(pattern, at + 2, of, &case, object, tail, false);
+            }
+            object => self.in_place_object(pattern, at, of, member, object, tail, true),
+        }
+    }
+
+    #[allow(clippy::too_many_arguments)]
+    fn in_place_object(
+        &mut self,
+        pattern: &mut Pattern,
+        at: usize,
+        of: PartOf,
+        record: &Record,
+        object: &Value,
+        tail: &mut Pattern,
+        filled: bool,
+    ) {
+        let index = self.arrive(Some(of.holder), record, true);
+        let mut inner = Pattern::default();
+        inner.inner.push((index, 0));
+        let length = self.content(&mut inner, index, record, object, filled);
+        self.put_length(pattern, at, index, length);
+        tail.append(inner);
+    }
+
+    /// Puts a value of whole bytes.
+    fn fixed(
+        &mut self,
+        pattern: &mut Pattern,
+        at: usize,
+        of: PartOf,
+        record: &Record,
+        part: &Value,
+    ) {
+        let width = record.width() as usize / 8;
+        match (record.kind, part) {
+            (ENUM, Value::Absent) => pattern.set(at, 255, 1),
+            (ENUM, Value::Unknown(number)) => pattern.set(at, u64::from(*number), 1),
+            (F32 | F64, Value::Absent) => pattern.set(at, nan_bits(self.rng, record), width),
+            (UNION, Value::Absent) => pattern.set_spot(at, 0, 2),
+            (UNION, Value::Unknown(choice)) => pattern.set_spot(at, u64::from(*choice), 2),
+            (UNION, Value::Union(choice, object)) => {
+                pattern.set_spot(at, u64::from(*choice), 2);
+                self.union(pattern, at + 2, of, record.argument, *choice, object);
+            }
+            (_, Value::Number(bits)) => pattern.set(at, *bits, width),
+            (_, Value::Struct(parts)) => self.structure(pattern, at, of, record.argument, parts),
+            (_, Value::Absent) => pattern.set_spot(at, 0, 6),
+            (_, object) => self.reference(pattern, at, Some(of), record, object),
+        }
+    }
+
+    fn union(
+        &mut self,
+        pattern: &mut Pattern,
+        at: usize,
+        of: PartOf,
+        union: u8,
+        choice: u16,
+        object: &Value,
+    ) {
+        if self.has_fault(of.holder, of.part, FaultKind::UnionZero) {
+            self.refuse(9, of.holder, self.arrivals.len());
+            return pattern.set_spot(at, 0, 6);
+        }
+        let case = self.schema.unions[usize::from(union)][usize::from(choice) - 1];
+        self.reference(pattern, at, Some(of), &case, object);
+    }
+
+    fn structure(
+        &mut self,
+        pattern: &mut Pattern,
+        at: usize,
+        of: PartOf,
+        index: u8,
+        parts: &[Value],
+    ) {
+        let (mut bytes, mut bools) = (Vec::new(), Vec::new());
+        struct_bytes(self.schema, index, parts, &mut bytes, &mut bools);
+        if self.has_fault(of.holder, of.part, FaultKind::StructBool) {
+            let bad = self.rng.pick(&bools);
+            bytes[bad] = self.rng.range(2, 255) as u8;
+            self.refuse(10, of.holder, self.arrivals.len());
+        }
+        pattern.set_bytes(at, &bytes);
+    }
+
+    fn finish(mut self, mut value: Value, fault: Option<Fault>) -> Wild {
+        self.canvas.trim(self.rng);
+        let open = self.close_open();
+        self.canvas.fill(self.rng);
+        self.write_late();
+        let bytes = self.canvas.bytes().to_vec();
+        let contents: HashMap<usize, Vec<u8>> = open
+            .into_iter()
+            .map(|(index, start, length)| (index, bytes[start..start + length].to_vec()))
+            .collect();
+        if !contents.is_empty() {
+            put_contents(&mut value, &mut 0, &contents);
+        }
+        let sure = match (self.outcome, self.cycle) {
+            (Some(outcome), _) => outcome.visits,
+            (None, Some((_, before))) => before,
+            (None, None) => self.arrivals.len(),
+        };
+        let (walked, number) = self.walked();
+        let place = match (self.outcome, number) {
+            (Some(outcome), _) => self.arrivals[outcome.arrival].place,
+            (None, 0) => 0,
+            (None, _) => walked[walked.len() - 1],
+        };
+        Wild {
+            bytes,
+            value,
+            arrivals: self.arrivals,
+            walked,
+            sure,
+            number,
+            place,
+            fault,
+            spots: self.spots,
+        }
+    }
+
+    /// Chooses the lengths of the open blobs: arrival, content start, length.
+    fn close_open(&mut self) -> Vec<(usize, usize, usize)> {
+        let mut closed = Vec::new();
+        for index in self.open.clone() {
+            let start = self.arrivals[index].place as usize + HEADER;
+            let room = self.canvas.bytes().len().saturating_sub(start);
+            let length = if self.arrivals[index].kind == TEXT {
+                self.canvas.zero_byte(self.rng, start) - start
+            } else if self.rng.one_in(3) {
+                room
+            } else {
+                self.rng.below(room.min(80) + 1)
+            };
+            self.arrivals[index].length = length as u64;
+            closed.push((index, start, length));
+        }
+        closed
+    }
+
+    fn write_late(&mut self) {
+        for (at, late) in std::mem::take(&mut self.late) {
+            let size = self.canvas.bytes().len() as u64;
+            let number = match late {
+                Late::PlaceOf(index) => self.arrivals[index].place,
+                Late::OpenLength(index) => self.arrivals[index].length,
+                Late::FarOffset(index) => {
+                    let offset = far_offset(self.rng, size);
+                    self.arrivals[index].place = offset;
+                    offset
+                }
+                Late::LongLength(index) => self.long_length(index, size),
+            };
+            self.canvas.write(at, &number.to_le_bytes()[..6]);
+        }
+    }
+
+    fn long_length(&mut self, index: usize, size: u64) -> u64 {
+        let arrival = self.arrivals[index];
+        let header = if arrival.in_place { 0 } else { HEADER as u64 };
+        let room = size - arrival.place - header;
+        let least = match arrival.kind {
+            TEXT => room,
+            LIST => {
+                let element = self.schema.lists[usize::from(arrival.argument)];
+                8 * room / self.schema.element_bits(&element) + 1
+            }
+            _ => room + 1,
+        };
+        match self.rng.below(4) {
+            0 => least + self.rng.below(300) as u64,
+            1 => (1 << 48) - 1,
+            2 => least.max(1 << self.rng.range(24, 47)),
+            _ => least,
+        }
+    }
+
+    /// The places the walk arrives at, and the number it ends with.
+    fn walked(&mut self) -> (Vec<u64>, u32) {
+        let mut walk: Vec<(u64, u32)> = (self.arrivals.iter())
+            .map(|arrival| (arrival.place, arrival.depth))
+            .collect();
+        if let Some((target, before)) = self.cycle {
+            walk = self.around(target, before);
+        }
+        let deep = walk.iter().position(|(_, depth)| *depth > DEPTH_LIMIT);
+        let visits = match (deep, self.outcome) {
+            (Some(deep), None) => deep + 1,
+            (Some(deep), Some(outcome)) => outcome.visits.min(deep + 1),
+            (None, Some(outcome)) => outcome.visits,
+            (None, None) => walk.len(),
+        };
+        if deep.is_some_and(|deep| deep + 1 == visits) {
+            self.outcome = None;
+        }
+        walk.truncate(visits);
+        let number = match (self.outcome, deep) {
+            (Some(outcome), _) => outcome.number,
+            (None, Some(_)) => 5,
+            (None, None) => 0,
+        };
+        (walk.into_iter().map(|(place, _)| place).collect(), number)
+    }
+
+    /// The arrivals of a walk that goes round until it is too deep.
+    fn around(&self, target: usize, before: usize) -> Vec<(u64, u32)> {
+        let holder = self.fault.map_or(0, |fault| fault.object);
+        let step = self.arrivals[holder].depth + 1 - self.arrivals[target].depth;
+        let seen = |i: usize| (self.arrivals[i].place, self.arrivals[i].depth);
+        let mut walk: Vec<(u64, u32)> = (0..before).map(seen).collect();
+        let mut round = 1;
+        while walk.iter().all(|(_, depth)| *depth <= DEPTH_LIMIT) {
+            walk.extend((target..before).map(|i| (seen(i).0, seen(i).1 + round * step)));
+            round += 1;
+        }
+        walk
+    }
+}
+
+fn far_offset(rng: &mut Rng, size: u64) -> u64 {
+    match rng.below(5) {
+        0 => size - 9,
+        1 => size,
+        2 => (1 << 48) - 1,
+        3 => (1 << rng.range(24, 47)) | rng.below(64) as u64,
+        _ => size - 9 + rng.below(300) as u64,
+    }
+}
+
+/// The bytes of a struct, and where its bools stand in them.
+fn struct_bytes(
+    schema: &Schema,
+    index: u8,
+    parts: &[Value],
+    out: &mut Vec<u8>,
+    bools: &mut Vec<usize>,
+) {
+    for (member, part) in schema.structs[usize::from(index)].iter().zip(parts) {
+        match part {
+            Value::Bool(bit) => {
+                bools.push(out.len());
+                out.push(u8::from(*bit));
+            }
+            Value::Absent => out.push(255),
+            Value::Unknown(number) => out.push(*number as u8),
+            Value::Number(bits) => {
+                let width = member.width() as usize / 8;
+                out.extend_from_slice(&bits.to_le_bytes()[..width]);
+            }
+            Value::Struct(inner) => struct_bytes(schema, member.argument, inner, out, bools),
+            _ => unreachable!("structs hold no objects"),
+        }
+    }
+}
+
+/// Gives the open blobs, counted in walk order, the content they got.
+fn put_contents(value: &mut Value, next: &mut usize, contents: &HashMap<usize, Vec<u8>>) {
+    match value {
+        Value::Blob(bytes) => {
+            if let Some(content) = contents.get(next) {
+                bytes.clone_from(content);
+            }
+            *next += 1;
+        }
+        Value::List(parts) | Value::Table(parts) => {
+            *next += 1;
+            for part in parts {
+                put_contents(part, next, contents);
+            }
+        }
+        Value::Union(_, object) => put_contents(object, next, contents),
+        _ => {}
+    }
+}

@@ -1,0 +1,99 @@
+//! How often a full run must have made or seen each thing, so that a
+//! generator that stops reaching something fails.
+
+use crate::counts::Counts;
+use crate::schema_faults::RULES;
+
+/// The number of cases that the minimums are meant for.
+pub const CASES: u64 = 100_000;
+
+const NAMED: [(&str, u64); 50] = [
+    ("accepted messages of depth 32", 100),
+    ("accepted messages with an unwritable sheet", 1000),
+    ("arrivals at shared objects", 10_000),
+    ("cases: appended schemas", 10_000),
+    ("cases: damaged messages", 10_000),
+    ("cases: message starts", 1000),
+    ("cases: round trip", 10_000),
+    ("cases: schemas", 2000),
+    ("cases: sheets", 10_000),
+    ("cases: wild messages", 10_000),
+    ("damaged messages accepted", 5000),
+    ("damaged messages refused", 10_000),
+    ("damaged schemas not lawful", 5000),
+    ("damaged schemas still lawful", 300),
+    ("deep sheets of at most 32", 100),
+    ("field answers: absent", 5000),
+    ("field answers: boolean", 5000),
+    ("field answers: float", 2000),
+    ("field answers: number", 5000),
+    ("field answers: object", 10_000),
+    ("field answers: refused", 10_000),
+    ("field answers: struct", 300),
+    ("field answers: unknown", 2000),
+    ("flags of 0 with the value past the end", 300),
+    ("list readers refused", 5000),
+    ("list readers stepped through", 2000),
+    ("message faults: Cut", 500),
+    ("message faults: FarOffset", 500),
+    ("message faults: FlagWithoutValue", 200),
+    ("message faults: LongLength", 500),
+    ("message faults: Magic", 500),
+    ("message faults: SmallOffset", 500),
+    ("message faults: StructBool", 100),
+    ("message faults: TextEnd", 200),
+    ("message faults: UnionZero", 200),
+    ("message faults: cycle", 200),
+    ("messages accepted by the newer", 10_000),
+    ("messages with 50 or more shared arrivals", 50),
+    ("not writable: NaN as an element", 30),
+    ("not writable: NaN in an optional member", 100),
+    ("not writable: absent plain bool or integer", 300),
+    ("not writable: absent plain float", 100),
+    ("not writable: absent plain struct", 100),
+    ("not writable: empty in place", 200),
+    ("not writable: unknown choice", 300),
+    ("not writable: unknown enum", 200),
+    ("objects that overlap others", 3000),
+    ("tables longer than the schema", 5000),
+    ("tables shorter than the schema", 5000),
+    ("unknown enums and choices", 5000),
+];
+
+/// What a run of `CASES` cases did not reach often enough.
+pub fn shortfalls(counts: &Counts) -> Vec<String> {
+    let mut short = Vec::new();
+    let mut need = |name: String, count: u64, least: u64| {
+        if count < least {
+            short.push(format!("{name}: {count}, at least {least} wanted"));
+        }
+    };
+    for (number, count) in counts.answers.iter().enumerate() {
+        need(format!("answers with number {number}"), *count, 100);
+    }
+    for kind in 13..=16 {
+        need(
+            format!("kind {kind} by offset"),
+            counts.by_offset[kind],
+            2000,
+        );
+        need(format!("kind {kind} in place"), counts.in_place[kind], 500);
+    }
+    for (name, least) in NAMED {
+        need(name.to_string(), counts.named(name), least);
+    }
+    for rule in RULES {
+        let name = format!("schema rule broken: {rule:?}");
+        let count = counts.named(&name);
+        need(name, count, 50);
+    }
+    for way in ["schemas that append", "schemas that do not append"] {
+        need(way.to_string(), counts.named(way), 10_000);
+    }
+    need(
+        "sheets deeper than 32".into(),
+        counts.named("sheets deeper than 32"),
+        100,
+    );
+    short
+}

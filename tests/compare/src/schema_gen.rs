@@ -1,0 +1,299 @@
+//! Random lawful schemas.
+
+use crate::rng::Rng;
+use crate::schema::*;
+
+/// How many parts of each sort a schema gets.
+struct Counts {
+    structs: usize,
+    lists: usize,
+    unions: usize,
+    tables: usize,
+    members: usize,
+}
+
+/// A random lawful schema, mostly small.
+pub fn lawful_schema(rng: &mut Rng) -> Schema {
+    match rng.below(200) {
+        0 => wide(rng),
+        1 => largest_struct(rng),
+        2 => nested_structs(rng),
+        3..=12 => recursive(rng),
+        13..=60 => from_counts(rng, 1, 1, 1, 1, 4),
+        61..=170 => from_counts(rng, 3, 3, 3, 3, 7),
+        _ => from_counts(rng, 6, 6, 6, 8, 14),
+    }
+}
+
+fn from_counts(
+    rng: &mut Rng,
+    structs: usize,
+    lists: usize,
+    unions: usize,
+    tables: usize,
+    members: usize,
+) -> Schema {
+    let some = |rng: &mut Rng, most: usize| {
+        let least = usize::from(most > 0 && !rng.one_in(5));
+        rng.range(least, most)
+    };
+    let counts = Counts {
+        structs: some(rng, structs),
+        lists: some(rng, lists),
+        unions: some(rng, unions),
+        tables: rng.range(1, tables),
+        members,
+    };
+    build(rng, &counts)
+}
+
+/// Every count at or near its limit.
+fn wide(rng: &mut Rng) -> Schema {
+    let near = |rng: &mut Rng| if rng.coin() { 64 } else { rng.range(0, 64) };
+    let counts = Counts {
+        structs: near(rng),
+        lists: near(rng),
+        unions: near(rng),
+        tables: near(rng).max(1),
+        members: 64,
+    };
+    build(rng, &counts)
+}
+
+/// Has a struct of exactly 4,096 bytes, used by the root.
+fn largest_struct(rng: &mut Rng) -> Schema {
+    let mut schema = from_counts(rng, 0, 2, 2, 2, 4);
+    let kind = rng.pick(&[4, 8, F64]);
+    schema.structs = vec![
+        vec![Record::plain(kind, 0); 32],
+        vec![Record::plain(STRUCT, 0); 16],
+    ];
+    if rng.coin() {
+        let bits = vec![Record::plain(BOOL, 0); 32];
+        schema.structs = vec![
+            bits,
+            vec![Record::plain(STRUCT, 0); 32],
+            vec![Record::plain(STRUCT, 1); 4],
+        ];
+    }
+    let last = schema.structs.len() as u8 - 1;
+    let mut member = Record::plain(STRUCT, last);
+    member.optional = rng.coin();
+    let root = usize::from(schema.root);
+    let members = &mut schema.tables[root].members;
+    members.truncate(63);
+    members.insert(rng.below(members.len() + 1), member);
+    schema
+}
+
+/// Has 64 structs, each inside the next.
+fn nested_structs(rng: &mut Rng) -> Schema {
+    let mut schema = from_counts(rng, 0, 1, 1, 2, 4);
+    schema.structs = vec![vec![small_struct_member(rng)]];
+    for inner in 0..63 {
+        let mut members = vec![Record::plain(STRUCT, inner)];
+        if rng.one_in(4) {
+            members.push(small_struct_member(rng));
+        }
+        schema.structs.push(members);
+    }
+    let root = usize::from(schema.root);
+    let members = &mut schema.tables[root].members;
+    members.truncate(63);
+    members.push(Record::plain(STRUCT, 63));
+    schema
+}
+
+fn small_struct_member(rng: &mut Rng) -> Record {
+    match rng.below(3) {
+        0 => Record::plain(BOOL, 0),
+        1 => Record::plain(ENUM, enum_count(rng)),
+        _ => Record::plain(rng.pick(&[1, 5]), 0),
+    }
+}
+
+/// Has a table that leads back to itself, directly or through a list or union,
+/// by offset or in place.
+pub fn recursive(rng: &mut Rng) -> Schema {
+    let mut schema = from_counts(rng, 1, 2, 2, 2, 3);
+    let root = schema.root;
+    let back = Record::plain(TABLE, root);
+    let mut link = match rng.below(4) {
+        0 => back,
+        1 => {
+            schema.lists.push(back);
+            Record::plain(LIST, schema.lists.len() as u8 - 1)
+        }
+        2 => {
+            schema.unions.push(vec![Record::plain(TEXT, 0), back]);
+            Record::plain(UNION, schema.unions.len() as u8 - 1)
+        }
+        _ => {
+            schema.unions.push(vec![back]);
+            let union = schema.unions.len() as u8 - 1;
+            schema.lists.push(Record::plain(UNION, union));
+            Record::plain(LIST, schema.lists.len() as u8 - 1)
+        }
+    };
+    let members = &mut schema.tables[usize::from(root)].members;
+    link.in_place = rng.coin() && members.iter().all(|m| !m.in_place);
+    members.insert(rng.below(members.len() + 1), link);
+    schema
+}
+
+fn build(rng: &mut Rng, counts: &Counts) -> Schema {
+    let mut schema = Schema::default();
+    for _ in 0..counts.structs {
+        let members = struct_members(rng, &schema);
+        schema.structs.push(members);
+    }
+    // Elements and cases may name parts that come later: fill in the counts.
+    schema.lists = vec![Record::plain(BOOL, 0); counts.lists];
+    schema.unions = vec![vec![Record::plain(TEXT, 0)]; counts.unions];
+    for _ in 0..counts.tables {
+        let id = table_id(rng, &schema);
+        let members = Vec::new();
+        schema.tables.push(Table { id, members });
+    }
+    for i in 0..counts.lists {
+        schema.lists[i] = element(rng, &schema);
+    }
+    for i in 0..counts.unions {
+        let most = if counts.members == 64 { 32 } else { 4 };
+        let cases = rng.range(1, most);
+        schema.unions[i] = (0..cases).map(|_| case(rng, &schema)).collect();
+    }
+    for i in 0..counts.tables {
+        let count = member_count(rng, counts.members);
+        for _ in 0..count {
+            let taken = schema.tables[i].members.iter().any(|m| m.in_place);
+            let member = member(rng, &schema, !taken);
+            schema.tables[i].members.push(member);
+        }
+    }
+    schema.root = rng.below(counts.tables) as u8;
+    schema
+}
+
+fn member_count(rng: &mut Rng, most: usize) -> usize {
+    match rng.below(12) {
+        0 => most,
+        1 | 2 => rng.range(0, most),
+        _ => rng.range(2, most),
+    }
+}
+
+/// Members of one more struct.
+pub fn struct_members(rng: &mut Rng, schema: &Schema) -> Vec<Record> {
+    let count = match rng.below(20) {
+        0 => 32,
+        1..=3 => rng.range(1, 32),
+        _ => rng.range(1, 5),
+    };
+    let mut members: Vec<Record> = Vec::new();
+    let mut size = 0;
+    for _ in 0..count {
+        let mut member = match rng.below(14) {
+            0 | 1 => Record::plain(BOOL, 0),
+            2 | 3 => Record::plain(ENUM, enum_count(rng)),
+            4 | 5 if !schema.structs.is_empty() => {
+                Record::plain(STRUCT, rng.below(schema.structs.len()) as u8)
+            }
+            _ => Record::plain(rng.range(0, 10) as u8, 0),
+        };
+        // 32 more bytes always leave room for the one-byte members after.
+        if size + schema.value_size(&member) + 32 > STRUCT_LIMIT {
+            member = Record::plain(rng.pick(&[BOOL, 1, 5]), 0);
+        }
+        size += schema.value_size(&member);
+        members.push(member);
+    }
+    members
+}
+
+/// A count of enum values, the edges often.
+pub fn enum_count(rng: &mut Rng) -> u8 {
+    match rng.below(8) {
+        0 => 1,
+        1 => 2,
+        2 => 253,
+        3 => 254,
+        4 => 255,
+        _ => rng.range(1, 255) as u8,
+    }
+}
+
+/// An id that no table has yet.
+pub fn table_id(rng: &mut Rng, schema: &Schema) -> u32 {
+    loop {
+        let id = match rng.below(30) {
+            0 => 0,
+            1 => u32::MAX,
+            2 => 0xD812_C8F5,
+            3 => 0xDCDB_BE10,
+            4 => 0x3400_BB46,
+            5 => 0xB5C0_C4B3,
+            _ => rng.bits() as u32,
+        };
+        if schema.tables.iter().all(|t| t.id != id) {
+            return id;
+        }
+    }
+}
+
+/// A record of a kind that leads to an object, as far as the schema has them.
+fn object(rng: &mut Rng, schema: &Schema) -> Record {
+    match rng.below(8) {
+        0 | 1 => Record::plain(TEXT, 0),
+        2 => Record::plain(BYTES, 0),
+        3 | 4 if !schema.lists.is_empty() => {
+            Record::plain(LIST, rng.below(schema.lists.len()) as u8)
+        }
+        _ => Record::plain(TABLE, rng.below(schema.tables.len()) as u8),
+    }
+}
+
+fn object_or_union(rng: &mut Rng, schema: &Schema) -> Record {
+    if !schema.unions.is_empty() && rng.one_in(3) {
+        Record::plain(UNION, rng.below(schema.unions.len()) as u8)
+    } else {
+        object(rng, schema)
+    }
+}
+
+/// A list element.
+pub fn element(rng: &mut Rng, schema: &Schema) -> Record {
+    match rng.below(12) {
+        0 => Record::plain(BOOL, 0),
+        1 => Record::plain(rng.pick(&[F32, F64]), 0),
+        2 => Record::plain(ENUM, enum_count(rng)),
+        3 => Record::plain(rng.range(1, 8) as u8, 0),
+        _ => object_or_union(rng, schema),
+    }
+}
+
+/// A union case.
+pub fn case(rng: &mut Rng, schema: &Schema) -> Record {
+    object(rng, schema)
+}
+
+/// A table member, in place only if `may_be_in_place`.
+pub fn member(rng: &mut Rng, schema: &Schema, may_be_in_place: bool) -> Record {
+    let mut member = match rng.below(20) {
+        0..=2 => Record::plain(BOOL, 0),
+        3 | 4 => Record::plain(rng.range(1, 8) as u8, 0),
+        5 => Record::plain(rng.pick(&[F32, F64]), 0),
+        6 => Record::plain(ENUM, enum_count(rng)),
+        7 | 8 if !schema.structs.is_empty() => {
+            Record::plain(STRUCT, rng.below(schema.structs.len()) as u8)
+        }
+        _ => object_or_union(rng, schema),
+    };
+    if member.kind <= F64 || member.kind == STRUCT {
+        member.optional = rng.coin();
+    }
+    if member.kind >= TEXT {
+        member.in_place = may_be_in_place && rng.one_in(3);
+    }
+    member
+}

@@ -1,0 +1,89 @@
+//! Values changed in one place so that they cannot be written.
+
+use crate::rng::Rng;
+use crate::schema::*;
+use crate::value::{depth, visit, Holder, Value};
+use crate::value_gen::{nan_bits, unknown_choice, unknown_enum};
+
+/// The ways of not being writable, as reports call them.
+const REASONS: [&str; 8] = [
+    "not writable: unknown enum",
+    "not writable: unknown choice",
+    "not writable: absent plain bool or integer",
+    "not writable: absent plain struct",
+    "not writable: absent plain float",
+    "not writable: NaN in an optional member",
+    "not writable: NaN as an element",
+    "not writable: empty in place",
+];
+
+/// Whether a reason can be put on an entry.
+fn fits(schema: &Schema, reason: usize, holder: Holder, record: &Record) -> bool {
+    let plain_member = holder == Holder::Table && !record.optional;
+    match reason {
+        0 => record.kind == ENUM && record.argument < 255,
+        1 => record.kind == UNION,
+        2 => plain_member && (record.kind == BOOL || record.is_integer()),
+        3 => plain_member && record.kind == STRUCT,
+        4 => plain_member && record.is_float(),
+        5 => holder == Holder::Table && record.optional && record.is_float(),
+        6 => holder == Holder::List && record.is_float(),
+        _ => record.in_place && record.kind != UNION && empty_object(schema, record).is_some(),
+    }
+}
+
+fn empty_object(schema: &Schema, record: &Record) -> Option<Value> {
+    match record.kind {
+        TEXT | BYTES => Some(Value::Blob(Vec::new())),
+        LIST => Some(Value::List(Vec::new())),
+        TABLE => {
+            let none = schema.tables[usize::from(record.argument)]
+                .members
+                .is_empty();
+            none.then(|| Value::Table(Vec::new()))
+        }
+        _ => None,
+    }
+}
+
+fn spoiled(schema: &Schema, rng: &mut Rng, reason: usize, record: &Record) -> Value {
+    match reason {
+        0 => Value::Unknown(unknown_enum(rng, record.argument)),
+        1 => {
+            let cases = schema.unions[usize::from(record.argument)].len();
+            Value::Unknown(unknown_choice(rng, cases))
+        }
+        2..=4 => Value::Absent,
+        5 | 6 => Value::Number(nan_bits(rng, record)),
+        _ => empty_object(schema, record).unwrap_or(Value::Absent),
+    }
+}
+
+/// The value with one entry that cannot be written, and the reason; `None`
+/// where no entry can be made so.
+pub fn unwritable(schema: &Schema, rng: &mut Rng, value: &Value) -> Option<(Value, &'static str)> {
+    let root = Record::plain(TABLE, schema.root);
+    let mut out = value.clone();
+    let mut sites = [0; REASONS.len()];
+    visit(schema, &root, &mut out, &mut |holder, record, _| {
+        for (reason, count) in sites.iter_mut().enumerate() {
+            *count += usize::from(fits(schema, reason, holder, record));
+        }
+    });
+    let possible: Vec<usize> = (0..REASONS.len()).filter(|&r| sites[r] > 0).collect();
+    if possible.is_empty() {
+        return None;
+    }
+    let reason = rng.pick(&possible);
+    let mut countdown = rng.below(sites[reason]) as isize;
+    visit(schema, &root, &mut out, &mut |holder, record, entry| {
+        if fits(schema, reason, holder, record) {
+            if countdown == 0 {
+                *entry = spoiled(schema, rng, reason, record);
+            }
+            countdown -= 1;
+        }
+    });
+    // An empty object may be one too deep, which is another refusal.
+    (depth(&out) <= DEPTH_LIMIT).then_some((out, REASONS[reason]))
+}

@@ -1,0 +1,83 @@
+//! The cases of the requirements' own table, on this crate's model and on the
+//! second program.
+
+use compare::canonical;
+use compare::program::{Program, Second, Verdict};
+use compare::schema::{Record, Schema, Slot, Table, BOOL};
+use compare::schema_rules;
+use compare::sheet;
+use compare::value::Value;
+
+const OLDER: [u8; 12] = [0, 0, 0, 1, 0, 0x4C, 0x49, 0x43, 0x45, 1, 0x10, 0];
+const NEWER: [u8; 14] = [0, 0, 0, 1, 0, 0x4C, 0x49, 0x43, 0x45, 2, 0x10, 0, 0x68, 0];
+const MESSAGE: [u8; 41] = [
+    0xB3, 0xC4, 0xC0, 0xB5, 0x0A, 0, 0, 0, 0, 0, 0x45, 0x43, 0x49, 0x4C, 8, 0, 0, 0, 0, 0, 3, 0,
+    0x1C, 0, 0, 0, 0, 0, 0xF5, 0xC8, 0x12, 0xD8, 2, 0, 0, 0, 0, 0, 0x61, 0x62, 0,
+];
+const SHEET: [u8; 9] = [0x40, 0, 0xD0, 0, 0, 0, 0x26, 0x16, 0x20];
+
+fn value() -> Value {
+    Value::Table(vec![Value::Number(3), Value::Blob(b"ab".to_vec())])
+}
+
+fn verdict(number: u32, place: u64, visits: u32) -> Verdict {
+    Verdict {
+        number,
+        place,
+        visits,
+    }
+}
+
+#[test]
+fn own_model_gives_the_table_s_bytes() {
+    let newer = schema_rules::parse(&NEWER).expect("lawful");
+    let older = schema_rules::parse(&OLDER).expect("lawful");
+    assert_eq!(newer.pack(), NEWER);
+    assert_eq!(canonical::message(&newer, &value()), MESSAGE);
+    assert_eq!(sheet::encode(&newer, &value()), SHEET);
+    assert_eq!(sheet::decode(&newer, &SHEET), Some(value()));
+    let old = Value::Table(vec![Value::Number(3)]);
+    assert_eq!(sheet::encode(&older, &old), [0x40, 0, 0xC0]);
+}
+
+#[test]
+fn second_program_gives_the_table_s_answers() {
+    let read = Second.read(&NEWER, &MESSAGE, 2, 9);
+    assert_eq!(read, (verdict(0, 0, 2), SHEET.to_vec()));
+    assert_eq!(Second.judge(&NEWER, &MESSAGE, 1), verdict(4, 28, 1));
+    assert_eq!(Second.judge(&NEWER, &MESSAGE, 0), verdict(4, 10, 0));
+    let read = Second.read(&OLDER, &MESSAGE, 1, 3);
+    assert_eq!(read, (verdict(0, 0, 1), vec![0x40, 0, 0xC0]));
+    let changed = |at: usize, byte: u8| {
+        let mut message = MESSAGE.to_vec();
+        message[at] = byte;
+        message
+    };
+    assert_eq!(Second.judge(&NEWER, &changed(14, 5), 2), verdict(8, 10, 1));
+    let read = Second.read(&NEWER, &changed(14, 2), 2, 9);
+    assert_eq!(read, (verdict(0, 0, 1), vec![0x40, 0, 0xC0]));
+    let read = Second.read(&NEWER, &changed(14, 0), 2, 9);
+    assert_eq!(read, (verdict(0, 0, 1), vec![0]));
+    assert_eq!(Second.judge(&NEWER, &changed(40, 1), 2), verdict(10, 28, 2));
+    assert_eq!(Second.judge(&NEWER, &MESSAGE[..40], 2), verdict(6, 28, 2));
+    assert_eq!(Second.judge(&NEWER, &[], 2), verdict(2, 0, 0));
+    assert_eq!(Second.judge(&NEWER, &changed(22, 9), 2), verdict(6, 9, 2));
+}
+
+#[test]
+fn optional_bool_after_seven_bools() {
+    let mut members = vec![Record::plain(BOOL, 0); 8];
+    members[7].optional = true;
+    let tables = vec![Table { id: 1, members }];
+    let schema = Schema {
+        tables,
+        ..Schema::default()
+    };
+    let (slots, size) = schema.slots(0);
+    let expected = Slot {
+        flag: Some(7),
+        value: 8,
+        bits: 1,
+    };
+    assert_eq!((slots[7], size), (expected, 2));
+}

@@ -1,0 +1,169 @@
+//! The laws and the comparison must catch programs that are wrong: each
+//! program here is the second program with one fault.
+
+use compare::counts::Counts;
+use compare::laws;
+use compare::program::{Answer, Program, Relations, Second, Verdict};
+use compare::side_by_side::side_by_side;
+
+#[derive(Clone, Copy, Debug, PartialEq)]
+enum Flaw {
+    AcceptsEverything,
+    RefusesEverything,
+    VisitsOneMore,
+    PlaceAlwaysZero,
+    BudgetOneTooMany,
+    UnknownAsAbsent,
+    FixedSheet,
+    WritesNothing,
+    ReadsWithoutRoom,
+    NumbersSigned,
+    ListReaderStaysOneShort,
+    NeverAppends,
+    AlwaysAppends,
+    NothingTakenAway,
+}
+
+struct Flawed(Flaw);
+
+fn accepted(visits: u32) -> Verdict {
+    Verdict {
+        number: 0,
+        place: 0,
+        visits,
+    }
+}
+
+impl Program for Flawed {
+    fn name(&self) -> &'static str {
+        "flawed program"
+    }
+
+    fn judge(&self, schema: &[u8], message: &[u8], budget: u32) -> Verdict {
+        let verdict = Second.judge(schema, message, budget);
+        match self.0 {
+            Flaw::AcceptsEverything => accepted(verdict.visits),
+            Flaw::RefusesEverything if verdict.number == 0 => Verdict {
+                number: 6,
+                ..verdict
+            },
+            Flaw::VisitsOneMore if verdict.number == 10 => Verdict {
+                visits: verdict.visits + 1,
+                ..verdict
+            },
+            Flaw::PlaceAlwaysZero => Verdict {
+                place: 0,
+                ..verdict
+            },
+            Flaw::BudgetOneTooMany => Second.judge(schema, message, budget.saturating_add(1)),
+            _ => verdict,
+        }
+    }
+
+    fn read(&self, schema: &[u8], message: &[u8], budget: u32, room: usize) -> (Verdict, Vec<u8>) {
+        let (verdict, sheet) = Second.read(schema, message, budget, room);
+        match self.0 {
+            Flaw::FixedSheet if verdict.number == 0 => (verdict, vec![0; sheet.len()]),
+            Flaw::ReadsWithoutRoom => Second.read(schema, message, budget, room + 1),
+            _ => (verdict, sheet),
+        }
+    }
+
+    fn write(&self, schema: &[u8], sheet: &[u8], room: usize) -> (u32, Vec<u8>) {
+        let (number, message) = Second.write(schema, sheet, room);
+        match self.0 {
+            Flaw::WritesNothing => (number, Vec::new()),
+            _ => (number, message),
+        }
+    }
+
+    fn field(&self, schema: &[u8], message: &[u8], path: &[u32]) -> Answer {
+        match (self.0, Second.field(schema, message, path)) {
+            (Flaw::UnknownAsAbsent, Answer::Unknown(_)) => Answer::Absent,
+            (Flaw::NumbersSigned, Answer::Number { bits, width, .. }) => Answer::Number {
+                bits,
+                width,
+                signed: true,
+            },
+            (_, answer) => answer,
+        }
+    }
+
+    fn list_steps(
+        &self,
+        schema: &[u8],
+        message: &[u8],
+        path: &[u32],
+        steps: usize,
+    ) -> Result<Vec<Answer>, Answer> {
+        let mut answers = Second.list_steps(schema, message, path, steps)?;
+        if self.0 == Flaw::ListReaderStaysOneShort && answers.len() > 1 {
+            answers.remove(0);
+            answers.push(answers[answers.len() - 1]);
+        }
+        Ok(answers)
+    }
+}
+
+impl Relations for Flawed {
+    fn lawful(&self, schema: &[u8]) -> bool {
+        Second.lawful(schema)
+    }
+
+    fn appends(&self, older: &[u8], newer: &[u8]) -> bool {
+        match self.0 {
+            Flaw::NeverAppends => false,
+            Flaw::AlwaysAppends => true,
+            _ => Second.appends(older, newer),
+        }
+    }
+
+    fn without_appended(&self, older: &[u8], newer: &[u8], sheet: &[u8]) -> Option<Vec<u8>> {
+        match self.0 {
+            Flaw::NothingTakenAway => Some(sheet.to_vec()),
+            _ => Second.without_appended(older, newer, sheet),
+        }
+    }
+
+    fn with_added(&self, older: &[u8], newer: &[u8], sheet: &[u8]) -> Option<Vec<u8>> {
+        Second.with_added(older, newer, sheet)
+    }
+}
+
+const IN_CALLS: [Flaw; 11] = [
+    Flaw::AcceptsEverything,
+    Flaw::RefusesEverything,
+    Flaw::VisitsOneMore,
+    Flaw::PlaceAlwaysZero,
+    Flaw::BudgetOneTooMany,
+    Flaw::UnknownAsAbsent,
+    Flaw::FixedSheet,
+    Flaw::WritesNothing,
+    Flaw::ReadsWithoutRoom,
+    Flaw::NumbersSigned,
+    Flaw::ListReaderStaysOneShort,
+];
+
+const IN_RELATIONS: [Flaw; 3] = [
+    Flaw::NeverAppends,
+    Flaw::AlwaysAppends,
+    Flaw::NothingTakenAway,
+];
+
+#[test]
+fn laws_catch_flawed_programs() {
+    for flaw in IN_CALLS.into_iter().chain(IN_RELATIONS) {
+        let mut counts = Counts::default();
+        let program = Flawed(flaw);
+        let caught = (0..3000).any(|case| laws::run_case(&program, 9, case, &mut counts).is_err());
+        assert!(caught, "the laws miss {flaw:?}");
+    }
+}
+
+#[test]
+fn comparison_catches_flawed_programs() {
+    for flaw in IN_CALLS {
+        let outcome = side_by_side(&Flawed(flaw), &Second, 9, 300);
+        assert!(outcome.is_err(), "the comparison misses {flaw:?}");
+    }
+}

@@ -1,0 +1,40 @@
+//! The second program: an independent plain reading of the papers.
+//!
+//! It judges a message by a packed schema, reads one field, turns a message
+//! into a value sheet and a value sheet into a message, and carries sheets
+//! between two schemas of which one appends to the other.
+//!
+//! The modules, from the bottom up:
+//! - `bits`: the bit-packed sheet, written and read;
+//! - `schema`: the packed schema, its lawfulness and the layout of its tables;
+//! - `message`: what a single arrival judges, and where a member or element leads;
+//! - `walk`: the verdict;
+//! - `sheet`: message to sheet;
+//! - `plan`: what a sheet is (lawful, writable) and how large its message is;
+//! - `write`: sheet to message;
+//! - `field`: one field, and the list reader;
+//! - `append`: two schemas, and the sheets between them.
+
+#![forbid(unsafe_code)]
+
+mod append;
+mod bits;
+mod field;
+mod message;
+mod plan;
+mod schema;
+mod sheet;
+mod walk;
+mod write;
+
+pub use append::{appends, with_added, without_appended};
+pub use field::{field, Answer, ListReader};
+pub use schema::Schema;
+pub use sheet::read;
+pub use walk::{judge, judge_parsed, Verdict};
+pub use write::write;
+
+/// Is the schema lawful?
+pub fn lawful(schema: &[u8]) -> bool {
+    Schema::parse(schema).is_some()
+}

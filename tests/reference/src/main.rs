@@ -1,0 +1,126 @@
+//! The second program as a command. See `USAGE`.
+
+#![forbid(unsafe_code)]
+
+use std::process::ExitCode;
+
+use reference::{appends, field, judge, read, with_added, without_appended, write, Answer};
+
+const USAGE: &str = "\
+usage:
+  reference judge SCHEMA MESSAGE BUDGET      prints number, place, visits
+  reference read SCHEMA MESSAGE BUDGET OUT   the same, and on 0 the sheet to OUT
+  reference write SCHEMA SHEET OUT           prints number, and on 0 the message to OUT
+  reference field SCHEMA MESSAGE N N N..     prints the answer at the path
+  reference appends OLD NEW                  prints yes or no
+  reference without OLD NEW SHEET OUT        the newer sheet without the appended members
+  reference with OLD NEW SHEET OUT           the older sheet with the added members
+SCHEMA, MESSAGE, SHEET, OLD, NEW and OUT are files; the others are numbers.";
+
+fn main() -> ExitCode {
+    let arguments: Vec<String> = std::env::args().skip(1).collect();
+    let words: Vec<&str> = arguments.iter().map(String::as_str).collect();
+    match run(&words) {
+        Ok(line) => {
+            println!("{line}");
+            ExitCode::SUCCESS
+        }
+        Err(trouble) => {
+            eprintln!("{trouble}");
+            ExitCode::from(2)
+        }
+    }
+}
+
+/// Runs one command and answers the line it prints.
+fn run(words: &[&str]) -> Result<String, String> {
+    match words {
+        ["judge", schema, message, budget] => {
+            let (schema, message) = (load(schema)?, load(message)?);
+            Ok(verdict_line(judge(&schema, &message, number(budget)?)))
+        }
+        ["read", schema, message, budget, out] => {
+            let (schema, message) = (load(schema)?, load(message)?);
+            let (verdict, sheet) = read(&schema, &message, number(budget)?, usize::MAX);
+            if verdict.number == 0 {
+                save(out, &sheet)?;
+            }
+            Ok(verdict_line(verdict))
+        }
+        ["write", schema, sheet, out] => {
+            let (number, message) = write(&load(schema)?, &load(sheet)?, usize::MAX);
+            if number == 0 {
+                save(out, &message)?;
+            }
+            Ok(number.to_string())
+        }
+        ["field", schema, message, path @ ..] => {
+            let path: Result<Vec<u32>, String> = path.iter().map(|word| number(word)).collect();
+            Ok(answer_line(field(&load(schema)?, &load(message)?, &path?)))
+        }
+        ["appends", old, new] => {
+            let yes = appends(&load(old)?, &load(new)?);
+            Ok(String::from(if yes { "yes" } else { "no" }))
+        }
+        ["without", old, new, sheet, out] => carried(
+            without_appended(&load(old)?, &load(new)?, &load(sheet)?),
+            out,
+        ),
+        ["with", old, new, sheet, out] => {
+            carried(with_added(&load(old)?, &load(new)?, &load(sheet)?), out)
+        }
+        _ => Err(String::from(USAGE)),
+    }
+}
+
+/// Saves a sheet that was carried between two schemas, if there is one.
+fn carried(sheet: Option<Vec<u8>>, out: &str) -> Result<String, String> {
+    match sheet {
+        Some(sheet) => {
+            save(out, &sheet)?;
+            Ok(String::from("done"))
+        }
+        None => Ok(String::from("none")),
+    }
+}
+
+fn verdict_line(verdict: reference::Verdict) -> String {
+    format!("{} {} {}", verdict.number, verdict.place, verdict.visits)
+}
+
+fn answer_line(answer: Answer) -> String {
+    match answer {
+        Answer::Boolean(value) => format!("boolean {value}"),
+        Answer::Number {
+            bits,
+            width,
+            signed,
+        } => {
+            let sign = if signed { "signed" } else { "unsigned" };
+            format!("number {bits:#x} {width} {sign}")
+        }
+        Answer::Float { bits, width } => format!("float {bits:#x} {width}"),
+        Answer::Object {
+            kind,
+            place,
+            length,
+        } => format!("object {kind} {place} {length}"),
+        Answer::Struct { place } => format!("struct {place}"),
+        Answer::Absent => String::from("absent"),
+        Answer::Unknown(number) => format!("unknown {number}"),
+        Answer::Refused { number, place } => format!("refused {number} {place}"),
+    }
+}
+
+fn load(file: &str) -> Result<Vec<u8>, String> {
+    std::fs::read(file).map_err(|trouble| format!("{file}: {trouble}"))
+}
+
+fn save(file: &str, bytes: &[u8]) -> Result<(), String> {
+    std::fs::write(file, bytes).map_err(|trouble| format!("{file}: {trouble}"))
+}
+
+fn number(word: &str) -> Result<u32, String> {
+    word.parse()
+        .map_err(|_| format!("{word}: not a 32-bit unsigned number"))
+}

@@ -1,0 +1,322 @@
+//! The message's bytes: what one arrival judges, and where a member or an
+//! element leads.
+
+use crate::schema::{Kind, Member, Schema, Slot, Target};
+
+/// "Message and sheet: at most 16,777,215 bytes each."
+pub const SIZE: usize = 16_777_215;
+/// "Depth: 32 objects, the root being 1".
+pub const DEPTH: u32 = 32;
+/// A magic of four bytes and a U48 length.
+pub const HEADER: usize = 10;
+
+pub const MESSAGE_MAGIC: u32 = 0xB5C0_C4B3;
+const TEXT_MAGIC: u32 = 0xD812_C8F5;
+const BYTES_MAGIC: u32 = 0xDCDB_BE10;
+const LIST_MAGIC: u32 = 0x3400_BB46;
+
+/// "Enum byte 255 is no value, everywhere."
+pub const NO_ENUM: u8 = 255;
+
+/// A refusal: its number and its place.
+#[derive(Clone, Copy, Debug, PartialEq, Eq)]
+pub struct Refusal {
+    pub number: u32,
+    pub place: u64,
+}
+
+impl Refusal {
+    pub fn new(number: u32, place: u64) -> Refusal {
+        Refusal { number, place }
+    }
+}
+
+/// Where an object is said to be, before it is judged.
+#[derive(Clone, Copy, Debug, PartialEq, Eq)]
+pub enum Spot {
+    /// The offset as stored.
+    Offset(u64),
+    /// Content without magic and length, behind its table's fixed part.
+    InPlace { start: usize, length: u64 },
+}
+
+impl Spot {
+    /// "An object's place is its offset as stored, or where its in-place
+    /// content starts."
+    pub fn place(&self) -> u64 {
+        match *self {
+            Spot::Offset(offset) => offset,
+            Spot::InPlace { start, .. } => start as u64,
+        }
+    }
+}
+
+/// An object judged at its arrival: its content lies inside the message.
+#[derive(Clone, Copy, Debug, PartialEq, Eq)]
+pub struct Object {
+    pub target: Target,
+    pub place: u64,
+    /// Where its content starts.
+    pub start: usize,
+    /// Bytes, elements or fixed-part bytes.
+    pub length: usize,
+}
+
+impl Object {
+    /// Where a table's fixed part ends: its in-place content starts there.
+    pub fn end(&self) -> usize {
+        self.start + self.length
+    }
+}
+
+/// Where a reference or a union leads.
+#[derive(Clone, Copy, Debug, PartialEq, Eq)]
+pub enum Lead {
+    Absent,
+    /// A union's unknown choice.
+    Unknown(u16),
+    /// An object; with the choice where it is a union's.
+    Object {
+        choice: Option<u16>,
+        target: Target,
+        spot: Spot,
+    },
+}
+
+/// Bytes that the caller knows to be inside the message.
+#[inline]
+fn bytes_at<const N: usize>(message: &[u8], at: usize) -> [u8; N] {
+    let mut bytes = [0; N];
+    bytes.copy_from_slice(&message[at..at + N]);
+    bytes
+}
+
+/// A little-endian number of 1, 2, 4 or 8 bytes.
+#[inline]
+pub fn number(message: &[u8], at: usize, bytes: u8) -> u64 {
+    match bytes {
+        1 => u64::from(message[at]),
+        2 => u64::from(u16_at(message, at)),
+        4 => u64::from(u32_at(message, at)),
+        _ => u64::from_le_bytes(bytes_at(message, at)),
+    }
+}
+
+#[inline]
+pub fn u16_at(message: &[u8], at: usize) -> u16 {
+    u16::from_le_bytes(bytes_at(message, at))
+}
+
+#[inline]
+pub fn u32_at(message: &[u8], at: usize) -> u32 {
+    u32::from_le_bytes(bytes_at(message, at))
+}
+
+/// "U48 is six bytes."
+#[inline]
+pub fn u48_at(message: &[u8], at: usize) -> u64 {
+    let [a, b, c, d, e, f] = bytes_at(message, at);
+    u64::from_le_bytes([a, b, c, d, e, f, 0, 0])
+}
+
+/// A NaN by its bits: the exponent all ones, the rest not zero.
+pub fn is_nan(bits: u64, bytes: u8) -> bool {
+    let (exponent, fraction) = match bytes {
+        4 => (0x7F80_0000, 0x007F_FFFF),
+        _ => (0x7FF0_0000_0000_0000, 0x000F_FFFF_FFFF_FFFF),
+    };
+    bits & exponent == exponent && bits & fraction != 0
+}
+
+/// "text 0xD812C8F5, bytes 0xDCDBBE10, list 0x3400BB46, table its id"
+pub fn magic(schema: &Schema, target: Target) -> u32 {
+    match target {
+        Target::Text => TEXT_MAGIC,
+        Target::Bytes => BYTES_MAGIC,
+        Target::List(_) => LIST_MAGIC,
+        Target::Table(index) => schema.table(index).id,
+    }
+}
+
+/// The bytes of a list's elements.
+pub fn list_bytes(element: Kind, count: u64) -> u64 {
+    match element {
+        Kind::Bool => count.div_ceil(8),
+        _ => count * element_size(element),
+    }
+}
+
+/// The bytes of one element; bools are packed.
+fn element_size(element: Kind) -> u64 {
+    match element {
+        Kind::Bool | Kind::Struct(_) => 0,
+        Kind::Integer { bytes, .. } | Kind::Float { bytes } => u64::from(bytes),
+        Kind::Enum { .. } => 1,
+        Kind::Object(_) => 6,
+        Kind::Union(_) => 8,
+    }
+}
+
+/// The bytes of an object's content. A U48 length keeps this far below 2^64.
+pub fn content_bytes(schema: &Schema, target: Target, length: u64) -> u64 {
+    match target {
+        Target::Text => length + 1,
+        Target::Bytes | Target::Table(_) => length,
+        Target::List(index) => list_bytes(schema.element(index), length),
+    }
+}
+
+/// "Before the walk, 1, 2, 3 are tried in order": 2 and 3. Answers the root.
+pub fn open_message(schema: &Schema, message: &[u8]) -> Result<(Target, Spot), Refusal> {
+    if message.len() < HEADER || message.len() > SIZE {
+        return Err(Refusal::new(2, 0));
+    }
+    if u32_at(message, 0) != MESSAGE_MAGIC {
+        return Err(Refusal::new(3, 0));
+    }
+    let spot = Spot::Offset(u48_at(message, 4));
+    Ok((Target::Table(schema.root), spot))
+}
+
+/// "Judged at an arrival: budget, depth, offset and header fit, magic, content
+/// fit, text's end byte." All but the budget, which is the walk's.
+pub fn open(
+    schema: &Schema,
+    message: &[u8],
+    target: Target,
+    spot: Spot,
+    depth: u32,
+) -> Result<Object, Refusal> {
+    let place = spot.place();
+    if depth > DEPTH {
+        return Err(Refusal::new(5, place));
+    }
+    let (start, length) = match spot {
+        Spot::Offset(offset) => open_header(schema, message, target, offset)?,
+        Spot::InPlace { start, length } => (start, length),
+    };
+    let bytes = content_bytes(schema, target, length);
+    if bytes > (message.len() - start) as u64 {
+        return Err(Refusal::new(6, place));
+    }
+    // No element is under a bit, so a length that fits is below 2^27.
+    let length = length as usize;
+    if target == Target::Text && message[start + length] != 0 {
+        return Err(Refusal::new(10, place));
+    }
+    Ok(Object {
+        target,
+        place,
+        start,
+        length,
+    })
+}
+
+/// "An offset under 10 is not lawful where an object is required." Answers
+/// where the content starts and the length.
+fn open_header(
+    schema: &Schema,
+    message: &[u8],
+    target: Target,
+    offset: u64,
+) -> Result<(usize, u64), Refusal> {
+    let last = (message.len() - HEADER) as u64;
+    if offset < HEADER as u64 || offset > last {
+        return Err(Refusal::new(6, offset));
+    }
+    let at = offset as usize;
+    if u32_at(message, at) != magic(schema, target) {
+        return Err(Refusal::new(7, offset));
+    }
+    Ok((at + HEADER, u48_at(message, at + 4)))
+}
+
+/// Where a table member's value stands in the message, if it has one there.
+///
+/// "A member starting at or after the fixed part's end is absent; one wholly
+/// inside is read; one cut by the end is refused. An optional flag of 1 whose
+/// value starts at or after the end is refused; with flag 0 the value may lie
+/// beyond the end but not be cut".
+pub fn find(message: &[u8], table: &Object, slot: &Slot) -> Result<Option<usize>, Refusal> {
+    let set = match slot.flag {
+        Some(flag) if flag.byte >= table.length => return Ok(None),
+        Some(flag) => message[table.start + flag.byte] >> flag.bit & 1 == 1,
+        None if slot.offset >= table.length => return Ok(None),
+        None => true,
+    };
+    let beyond = slot.offset >= table.length;
+    let cut = !beyond && slot.offset + slot.size > table.length;
+    if cut || (beyond && set) {
+        return Err(Refusal::new(8, table.place));
+    }
+    Ok(set.then_some(table.start + slot.offset))
+}
+
+/// "struct boolean not 0 or 1": refused at the table that holds the struct.
+pub fn judge_struct(
+    schema: &Schema,
+    message: &[u8],
+    table: &Object,
+    index: u8,
+    at: usize,
+) -> Result<(), Refusal> {
+    let one = schema.structure(index);
+    let bytes = &message[at..at + one.size];
+    if one.bools.iter().any(|&at| bytes[usize::from(at)] > 1) {
+        return Err(Refusal::new(10, table.place));
+    }
+    Ok(())
+}
+
+/// Where a table's reference or union member leads, its value standing at `at`.
+pub fn member_lead(
+    schema: &Schema,
+    message: &[u8],
+    table: &Object,
+    member: &Member,
+    at: usize,
+) -> Result<Lead, Refusal> {
+    let behind = member.record.in_place.then(|| table.end());
+    lead(schema, message, table, member.record.kind, at, behind)
+}
+
+/// Where a reference or union leads that stands at `at` in its holder.
+/// `behind` is where in-place content starts, for a member in place.
+pub fn lead(
+    schema: &Schema,
+    message: &[u8],
+    holder: &Object,
+    kind: Kind,
+    at: usize,
+    behind: Option<usize>,
+) -> Result<Lead, Refusal> {
+    let (choice, target, number) = match kind {
+        // "0 means none"; in place "Length 0 means no value".
+        Kind::Object(target) => match u48_at(message, at) {
+            0 => return Ok(Lead::Absent),
+            number => (None, target, number),
+        },
+        Kind::Union(index) => match u16_at(message, at) {
+            0 => return Ok(Lead::Absent),
+            choice => match schema.case(index, u64::from(choice)) {
+                Some(target) => (Some(choice), target, u48_at(message, at + 2)),
+                None => return Ok(Lead::Unknown(choice)),
+            },
+        },
+        _ => return Ok(Lead::Absent),
+    };
+    let spot = match behind {
+        Some(start) => Spot::InPlace {
+            start,
+            length: number,
+        },
+        // "known union choice, not in place, offset 0"
+        None if number == 0 => return Err(Refusal::new(9, holder.place)),
+        None => Spot::Offset(number),
+    };
+    Ok(Lead::Object {
+        choice,
+        target,
+        spot,
+    })
+}
