@@ -1,5 +1,6 @@
 -- "Traps the trade has met", and rules that no general theorem fixes since both of its sides go by them (the depth, a flag
--- without value, the order of what is written): cases of paper 01's rules, in a single table under one claim.
+-- without value, a magic, a refusal's place, the order of what is written): cases of paper 01's rules, in a single table under
+-- one claim.
 use mathlib.Core.Path.{_≡_, refl}
 use mathlib.Core.List.{List, [], _∷_, _++_, map}
 use Prim.Native.Nat.{ℕ}
@@ -41,7 +42,7 @@ rooted n rest =
 abbrev text : ℕ → List ℕ
 text x = 0xF5 ∷ 0xC8 ∷ 0x12 ∷ 0xD8 ∷ 0x01 ∷ 0x00 ∷ 0x00 ∷ 0x00 ∷ 0x00 ∷ 0x00 ∷ x ∷ 0x00 ∷ []
 
--- an in-place text; two texts; an optional U16; an enum of 3; a reference to the table itself; a U16
+-- an in-place text; two texts; an optional U16; an enum of 3; a reference to the table itself; a U16; bytes
 abbrev inPlace : List ℕ
 inPlace = table 1 (0x6A ∷ 0 ∷ [])
 
@@ -59,6 +60,16 @@ itself = table 1 (0x80 ∷ 0 ∷ [])
 
 abbrev plain : List ℕ
 plain = table 1 (0x10 ∷ 0 ∷ [])
+
+abbrev blob : List ℕ
+blob = table 1 (0x70 ∷ 0 ∷ [])
+
+-- a union of a text; the same in place
+abbrev union : List ℕ
+union = 0 ∷ 0 ∷ 1 ∷ 1 ∷ 0 ∷ 1 ∷ 0x68 ∷ 0 ∷ 0x4C ∷ 0x49 ∷ 0x43 ∷ 0x45 ∷ 1 ∷ 0x88 ∷ 0 ∷ []
+
+abbrev inPlaceUnion : List ℕ
+inPlaceUnion = 0 ∷ 0 ∷ 1 ∷ 1 ∷ 0 ∷ 1 ∷ 0x68 ∷ 0 ∷ 0x4C ∷ 0x49 ∷ 0x43 ∷ 0x45 ∷ 1 ∷ 0x8A ∷ 0 ∷ []
 
 -- the root has an in-place table and a text; that table has a text and in-place bytes
 abbrev nested : List ℕ
@@ -111,6 +122,19 @@ cases =
     ∷ case (judged enum (rooted 1 (2 ∷ [])) 1) (0 ∷ 0 ∷ 1 ∷ 0x40 ∷ 0x80 ∷ [])
     -- "Depth: 32 objects, the root being 1": a table that refers to itself is refused at its 33rd arrival
     ∷ case (judged itself (rooted 6 (u48 10)) 100) (5 ∷ 10 ∷ 33 ∷ [])
+    -- "bytes 0xDCDBBE10"; refusal 7, at the object
+    ∷ case (judged blob (rooted 6 (u48 26 ++ (0x10 ∷ 0xBE ∷ 0xDB ∷ 0xDC ∷ u48 1 ++ (0x62 ∷ [])))) 2)
+    (0 ∷ 0 ∷ 2 ∷ 0x40 ∷ 0x00 ∷ 0x00 ∷ 0x00 ∷ 0x58 ∷ 0x80 ∷ [])
+    ∷ case (judged blob (rooted 6 (u48 26 ++ text 0x62)) 2) (7 ∷ 26 ∷ 2 ∷ [])
+    -- refusal 9, at the holder; choice 2 "is unknown and is not followed"
+    ∷ case (judged union (rooted 8 (1 ∷ 0 ∷ u48 0)) 2) (9 ∷ 10 ∷ 1 ∷ [])
+    ∷ case (judged union (rooted 8 (2 ∷ 0 ∷ u48 0)) 2) (0 ∷ 0 ∷ 1 ∷ 0x80 ∷ 0x00 ∷ 0x80 ∷ [])
+    -- "Length 0 means no value .., except in a union with a known choice, where it is an empty object. A text keeps its zero
+    -- byte unless it is absent."
+    ∷ case (judged inPlace (rooted 6 (u48 0)) 2) (0 ∷ 0 ∷ 1 ∷ 0x00 ∷ [])
+    ∷ case (judged inPlaceUnion (rooted 8 (1 ∷ 0 ∷ u48 0 ++ (0 ∷ []))) 2)
+    (0 ∷ 0 ∷ 2 ∷ 0x40 ∷ 0x00 ∷ 0x40 ∷ 0x00 ∷ 0x00 ∷ 0x00 ∷ 0x00 ∷ [])
+    ∷ case (judged inPlaceUnion (rooted 8 (1 ∷ 0 ∷ u48 0)) 2) (6 ∷ 28 ∷ 2 ∷ [])
     -- "An object is written with its chain of in-place contents behind it; then the objects that these refer to in walk order":
     -- the inner table at 32, its bytes at 44, its text at 45, and then the outer text at 57
     ∷ case (wrote nested nestedSheet)
