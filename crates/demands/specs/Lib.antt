@@ -1,6 +1,7 @@
--- The theorems. A reader's way in: Counter, Sheets, Reached, RoundTrip, Appending, NewerAgrees, Fields, ListReader; the other
--- modules are their lemmas.
+-- The theorems. A reader's way in: Counter, Traps, Sheets, Reached, RoundTrip, Appending, NewerAgrees, Fields, ListReader; the
+-- other modules are their lemmas.
 pub mod Counter
+pub mod Traps
 pub mod Shown
 pub mod SheetDecode
 pub mod SheetEncode
