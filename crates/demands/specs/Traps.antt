@@ -1,6 +1,6 @@
 -- "Traps the trade has met", and rules that no general theorem fixes since both of its sides go by them (the depth, a flag
--- without value, a magic, a refusal's place, the order of what is written): cases of paper 01's rules, in a single table under
--- one claim.
+-- without value, a magic, a refusal's place, the order of what is written): cases of paper 01, in three small tables
+-- so that a refusal shows which case differs.
 use mathlib.Core.Path.{_≡_, refl}
 use mathlib.Core.List.{List, [], _∷_, _++_, map}
 use Prim.Native.Nat.{ℕ}
@@ -99,8 +99,9 @@ wrote b s = answer (Message.written Bytes.u48 b s)
 abbrev case : List ℕ → List ℕ → Case
 case g e = record { given = g; expected = e }
 
-pub cases : List Case
-cases =
+-- ---- "Traps the trade has met"
+pub trapCases : List Case
+trapCases =
     -- "Using +8": in-place content stands where its table's fixed part ends
     case (judged inPlace (rooted 6 (u48 2 ++ (0x61 ∷ 0x62 ∷ 0x00 ∷ []))) 2)
     (0 ∷ 0 ∷ 2 ∷ 0x40 ∷ 0x00 ∷ 0x00 ∷ 0x00 ∷ 0x98 ∷ 0x58 ∷ 0x80 ∷ [])
@@ -120,8 +121,18 @@ cases =
     ∷ case (judged enum (rooted 1 (255 ∷ [])) 1) (0 ∷ 0 ∷ 1 ∷ 0x00 ∷ [])
     ∷ case (judged enum (rooted 1 (3 ∷ [])) 1) (0 ∷ 0 ∷ 1 ∷ 0x80 ∷ 0xC0 ∷ [])
     ∷ case (judged enum (rooted 1 (2 ∷ [])) 1) (0 ∷ 0 ∷ 1 ∷ 0x40 ∷ 0x80 ∷ [])
+    ∷ []
+
+-- THE CLAIM: each case gives what the paper says.
+pub traps : map (λ c. c .given) trapCases ≡ map (λ c. c .expected) trapCases
+unfolding trapCases judged outcome Lists.every Lists.run Bytes.le Bytes.leBytes Bytes.bitAt Bytes.isNaN Bytes.noFloat Bytes.largest Bytes.deepest Bytes.u48 Schema.structOf Schema.elementOf Schema.casesOf Schema.tableOf Schema.fieldOf Schema.caseOf Schema.plainBool Schema.memberOf Structs.lower Structs.byIndex Structs.flatWidth Structs.total Structs.sizeBy Structs.structSize Structs.flatOk Structs.flatsOk Structs.okBy Structs.structOk Packed.kindAt Packed.optionalAt Packed.inplaceAt Packed.zeroAt Packed.argumentAt Packed.widthOf Packed.flatOf Packed.objectOf Packed.kindOf Packed.flatAt Packed.objectAt Packed.elementAt Packed.memberAt Packed.records Packed.recordPlace Packed.blocks Packed.structPlace Packed.listPlace Packed.unionPlace Packed.tablePlace Packed.idAt Packed.recordsAt Packed.tableAt Packed.parse Lawful.countsOk Lawful.blocksOk Lawful.placesOk Lawful.shapeOk Lawful.argumentOk Lawful.kindOk Lawful.optionalOk Lawful.inplaceOk Lawful.flagsOk Lawful.recordOk Lawful.firstOk Lawful.recordsOk Lawful.inplaces Lawful.structLawful Lawful.listLawful Lawful.unionLawful Lawful.tableLawful Lawful.idDiffers Lawful.idLawful Lawful.rulesOk Lawful.lawful Layout.flatIsBool Layout.isBool Layout.width Layout.flatTakesFlag Layout.takesFlag Layout.hasFlag Layout.begin Layout.bitByte Layout.bitIndex Layout.afterBit Layout.afterBytes Layout.afterFlag Layout.slotOf Layout.afterValue Layout.memberSlot Layout.afterMember Layout.afterMembers Layout.fixedSize Step.enumStep Step.floatStep Step.structStep Step.placeOf Step.objectStep Step.unionStep Step.flatStep Step.fieldStep Step.valueStep Step.inside Step.flagged Step.memberStep Step.elementPlace Step.elementStep Step.elementsSize Walk.placed Walk.magic Walk.headerSize Walk.contentSize Walk.endOk Walk.openContent Walk.openObject Walk.refuse Walk.andThen Walk.followChoice Walk.follow Walk.members Walk.elements Walk.content Walk.enter Walk.arrive Walk.tooDeep Walk.counted Walk.visit Walk.rootPlace Walk.walk Walk.verdictOf Walk.early Walk.sizeOk Walk.startOk Walk.verdict Value.asNumber Value.asBlob Value.asRow Value.asObject Value.present Value.known Value.first Value.others Value.count Read.stepRead Read.fieldsRead Read.readBy Read.structRead Read.membersRead Read.elementsRead Read.contentRead Read.placeRead Read.read Read.messageRead Bits.bitsOf Bits.bits Bits.value Bits.pack Bits.byteCount Bits.packed Bits.allZero Sheet.markBits Sheet.flatBits Sheet.fieldBits Sheet.fieldsBits Sheet.bitsBy Sheet.structBits Sheet.bodyBits Sheet.flatUnknown Sheet.unknownWidth Sheet.partBits Sheet.flatBare Sheet.bare Sheet.elementBits Sheet.membersBits Sheet.elementsBits Sheet.blobBits Sheet.contentBits Sheet.encode Sheet.sheetBits Sheet.sheetOf Sheet.bind Sheet.takeNumber Sheet.takeBytes Sheet.takeValue Sheet.takeIf Sheet.takeMark Sheet.unknownEnum Sheet.takeLostEnum Sheet.takeEnum Sheet.takeFlat Sheet.takeField Sheet.takeFields Sheet.takeBy Sheet.takeStruct Sheet.takeChoice Sheet.takeBody Sheet.takeLostFlat Sheet.takeLost Sheet.takePart Sheet.takeElement Sheet.takeMembers Sheet.takeElements Sheet.takeBlob Sheet.takeContent Sheet.decode Sheet.closed Sheet.treeOf Sheet.sheetTree Message.lengthOf Message.flatKnown Message.flatsKnown Message.knownBy Message.structKnown Message.flatWritable Message.valueWritable Message.membersWritable Message.elementsWritable Message.contentWritable Message.writable Message.numberOr Message.flatBytes Message.flatsBytes Message.bytesBy Message.structBytes Message.flatSlots Message.objectSlots Message.referSlots Message.valueSlots Message.flagOf Message.memberSlots Message.membersSlots Message.elementsSlots Message.contentSlots Message.plan Message.messageOf Message.writtenTree Message.written Message.writeRoom Message.writeOver Message.writeAnswer Message.writeOut Message.messageSheet Message.fitsRoom Message.readAnswer Message.readOut Cells.width Cells.chain Cells.below Cells.widthBytes Cells.chainBytes Cells.belowBytes Cells.layout Cells.gather Cells.packBits
+traps = refl
+
+-- ---- other rules of messages
+pub ruleCases : List Case
+ruleCases =
     -- "Depth: 32 objects, the root being 1": a table that refers to itself is refused at its 33rd arrival
-    ∷ case (judged itself (rooted 6 (u48 10)) 100) (5 ∷ 10 ∷ 33 ∷ [])
+    case (judged itself (rooted 6 (u48 10)) 100) (5 ∷ 10 ∷ 33 ∷ [])
     -- "bytes 0xDCDBBE10"; refusal 7, at the object
     ∷ case (judged blob (rooted 6 (u48 26 ++ (0x10 ∷ 0xBE ∷ 0xDB ∷ 0xDC ∷ u48 1 ++ (0x62 ∷ [])))) 2)
     (0 ∷ 0 ∷ 2 ∷ 0x40 ∷ 0x00 ∷ 0x00 ∷ 0x00 ∷ 0x58 ∷ 0x80 ∷ [])
@@ -135,9 +146,19 @@ cases =
     ∷ case (judged inPlaceUnion (rooted 8 (1 ∷ 0 ∷ u48 0 ++ (0 ∷ []))) 2)
     (0 ∷ 0 ∷ 2 ∷ 0x40 ∷ 0x00 ∷ 0x40 ∷ 0x00 ∷ 0x00 ∷ 0x00 ∷ 0x00 ∷ [])
     ∷ case (judged inPlaceUnion (rooted 8 (1 ∷ 0 ∷ u48 0)) 2) (6 ∷ 28 ∷ 2 ∷ [])
+    ∷ []
+
+-- THE CLAIM: each case gives what the paper says.
+pub rules : map (λ c. c .given) ruleCases ≡ map (λ c. c .expected) ruleCases
+unfolding ruleCases judged outcome Lists.every Lists.run Bytes.le Bytes.leBytes Bytes.bitAt Bytes.isNaN Bytes.noFloat Bytes.largest Bytes.deepest Bytes.u48 Schema.structOf Schema.elementOf Schema.casesOf Schema.tableOf Schema.fieldOf Schema.caseOf Schema.plainBool Schema.memberOf Structs.lower Structs.byIndex Structs.flatWidth Structs.total Structs.sizeBy Structs.structSize Structs.flatOk Structs.flatsOk Structs.okBy Structs.structOk Packed.kindAt Packed.optionalAt Packed.inplaceAt Packed.zeroAt Packed.argumentAt Packed.widthOf Packed.flatOf Packed.objectOf Packed.kindOf Packed.flatAt Packed.objectAt Packed.elementAt Packed.memberAt Packed.records Packed.recordPlace Packed.blocks Packed.structPlace Packed.listPlace Packed.unionPlace Packed.tablePlace Packed.idAt Packed.recordsAt Packed.tableAt Packed.parse Lawful.countsOk Lawful.blocksOk Lawful.placesOk Lawful.shapeOk Lawful.argumentOk Lawful.kindOk Lawful.optionalOk Lawful.inplaceOk Lawful.flagsOk Lawful.recordOk Lawful.firstOk Lawful.recordsOk Lawful.inplaces Lawful.structLawful Lawful.listLawful Lawful.unionLawful Lawful.tableLawful Lawful.idDiffers Lawful.idLawful Lawful.rulesOk Lawful.lawful Layout.flatIsBool Layout.isBool Layout.width Layout.flatTakesFlag Layout.takesFlag Layout.hasFlag Layout.begin Layout.bitByte Layout.bitIndex Layout.afterBit Layout.afterBytes Layout.afterFlag Layout.slotOf Layout.afterValue Layout.memberSlot Layout.afterMember Layout.afterMembers Layout.fixedSize Step.enumStep Step.floatStep Step.structStep Step.placeOf Step.objectStep Step.unionStep Step.flatStep Step.fieldStep Step.valueStep Step.inside Step.flagged Step.memberStep Step.elementPlace Step.elementStep Step.elementsSize Walk.placed Walk.magic Walk.headerSize Walk.contentSize Walk.endOk Walk.openContent Walk.openObject Walk.refuse Walk.andThen Walk.followChoice Walk.follow Walk.members Walk.elements Walk.content Walk.enter Walk.arrive Walk.tooDeep Walk.counted Walk.visit Walk.rootPlace Walk.walk Walk.verdictOf Walk.early Walk.sizeOk Walk.startOk Walk.verdict Value.asNumber Value.asBlob Value.asRow Value.asObject Value.present Value.known Value.first Value.others Value.count Read.stepRead Read.fieldsRead Read.readBy Read.structRead Read.membersRead Read.elementsRead Read.contentRead Read.placeRead Read.read Read.messageRead Bits.bitsOf Bits.bits Bits.value Bits.pack Bits.byteCount Bits.packed Bits.allZero Sheet.markBits Sheet.flatBits Sheet.fieldBits Sheet.fieldsBits Sheet.bitsBy Sheet.structBits Sheet.bodyBits Sheet.flatUnknown Sheet.unknownWidth Sheet.partBits Sheet.flatBare Sheet.bare Sheet.elementBits Sheet.membersBits Sheet.elementsBits Sheet.blobBits Sheet.contentBits Sheet.encode Sheet.sheetBits Sheet.sheetOf Sheet.bind Sheet.takeNumber Sheet.takeBytes Sheet.takeValue Sheet.takeIf Sheet.takeMark Sheet.unknownEnum Sheet.takeLostEnum Sheet.takeEnum Sheet.takeFlat Sheet.takeField Sheet.takeFields Sheet.takeBy Sheet.takeStruct Sheet.takeChoice Sheet.takeBody Sheet.takeLostFlat Sheet.takeLost Sheet.takePart Sheet.takeElement Sheet.takeMembers Sheet.takeElements Sheet.takeBlob Sheet.takeContent Sheet.decode Sheet.closed Sheet.treeOf Sheet.sheetTree Message.lengthOf Message.flatKnown Message.flatsKnown Message.knownBy Message.structKnown Message.flatWritable Message.valueWritable Message.membersWritable Message.elementsWritable Message.contentWritable Message.writable Message.numberOr Message.flatBytes Message.flatsBytes Message.bytesBy Message.structBytes Message.flatSlots Message.objectSlots Message.referSlots Message.valueSlots Message.flagOf Message.memberSlots Message.membersSlots Message.elementsSlots Message.contentSlots Message.plan Message.messageOf Message.writtenTree Message.written Message.writeRoom Message.writeOver Message.writeAnswer Message.writeOut Message.messageSheet Message.fitsRoom Message.readAnswer Message.readOut Cells.width Cells.chain Cells.below Cells.widthBytes Cells.chainBytes Cells.belowBytes Cells.layout Cells.gather Cells.packBits
+rules = refl
+
+-- ---- rules of the writer
+pub writtenCases : List Case
+writtenCases =
     -- "An object is written with its chain of in-place contents behind it; then the objects that these refer to in walk order":
     -- the inner table at 32, its bytes at 44, its text at 45, and then the outer text at 57
-    ∷ case (wrote nested nestedSheet)
+    case (wrote nested nestedSheet)
     (0 ∷ rooted 12 (u48 12 ++ (u48 57 ++ (u48 45 ++ (u48 1 ++ (0x62 ∷ text 0x61 ++ text 0x63))))))
     -- "then zero bits to the byte end, nothing more"; "3 not lawful"
     ∷ case (wrote plain (0x40 ∷ 0x00 ∷ 0xC0 ∷ [])) (0 ∷ rooted 2 (3 ∷ 0 ∷ []))
@@ -147,6 +168,6 @@ cases =
     ∷ []
 
 -- THE CLAIM: each case gives what the paper says.
-pub traps : map (λ c. c .given) cases ≡ map (λ c. c .expected) cases
-unfolding cases judged outcome answer wrote Lists.every Lists.run Bytes.le Bytes.leBytes Bytes.bitAt Bytes.isNaN Bytes.noFloat Bytes.largest Bytes.deepest Bytes.u48 Schema.structOf Schema.elementOf Schema.casesOf Schema.tableOf Schema.fieldOf Schema.caseOf Schema.plainBool Schema.memberOf Structs.lower Structs.byIndex Structs.flatWidth Structs.total Structs.sizeBy Structs.structSize Structs.flatOk Structs.flatsOk Structs.okBy Structs.structOk Packed.kindAt Packed.optionalAt Packed.inplaceAt Packed.zeroAt Packed.argumentAt Packed.widthOf Packed.flatOf Packed.objectOf Packed.kindOf Packed.flatAt Packed.objectAt Packed.elementAt Packed.memberAt Packed.records Packed.recordPlace Packed.blocks Packed.structPlace Packed.listPlace Packed.unionPlace Packed.tablePlace Packed.idAt Packed.recordsAt Packed.tableAt Packed.parse Lawful.countsOk Lawful.blocksOk Lawful.placesOk Lawful.shapeOk Lawful.argumentOk Lawful.kindOk Lawful.optionalOk Lawful.inplaceOk Lawful.flagsOk Lawful.recordOk Lawful.firstOk Lawful.recordsOk Lawful.inplaces Lawful.structLawful Lawful.listLawful Lawful.unionLawful Lawful.tableLawful Lawful.idDiffers Lawful.idLawful Lawful.rulesOk Lawful.lawful Layout.flatIsBool Layout.isBool Layout.width Layout.flatTakesFlag Layout.takesFlag Layout.hasFlag Layout.begin Layout.bitByte Layout.bitIndex Layout.afterBit Layout.afterBytes Layout.afterFlag Layout.slotOf Layout.afterValue Layout.memberSlot Layout.afterMember Layout.afterMembers Layout.fixedSize Step.enumStep Step.floatStep Step.structStep Step.placeOf Step.objectStep Step.unionStep Step.flatStep Step.fieldStep Step.valueStep Step.inside Step.flagged Step.memberStep Step.elementPlace Step.elementStep Step.elementsSize Walk.placed Walk.magic Walk.headerSize Walk.contentSize Walk.endOk Walk.openContent Walk.openObject Walk.refuse Walk.andThen Walk.followChoice Walk.follow Walk.members Walk.elements Walk.content Walk.enter Walk.arrive Walk.tooDeep Walk.counted Walk.visit Walk.rootPlace Walk.walk Walk.verdictOf Walk.early Walk.sizeOk Walk.startOk Walk.verdict Value.asNumber Value.asBlob Value.asRow Value.asObject Value.present Value.known Value.first Value.others Value.count Read.stepRead Read.fieldsRead Read.readBy Read.structRead Read.membersRead Read.elementsRead Read.contentRead Read.placeRead Read.read Read.messageRead Bits.bitsOf Bits.bits Bits.value Bits.pack Bits.byteCount Bits.packed Bits.allZero Sheet.markBits Sheet.flatBits Sheet.fieldBits Sheet.fieldsBits Sheet.bitsBy Sheet.structBits Sheet.bodyBits Sheet.flatUnknown Sheet.unknownWidth Sheet.partBits Sheet.flatBare Sheet.bare Sheet.elementBits Sheet.membersBits Sheet.elementsBits Sheet.blobBits Sheet.contentBits Sheet.encode Sheet.sheetBits Sheet.sheetOf Sheet.bind Sheet.takeNumber Sheet.takeBytes Sheet.takeValue Sheet.takeIf Sheet.takeMark Sheet.unknownEnum Sheet.takeLostEnum Sheet.takeEnum Sheet.takeFlat Sheet.takeField Sheet.takeFields Sheet.takeBy Sheet.takeStruct Sheet.takeChoice Sheet.takeBody Sheet.takeLostFlat Sheet.takeLost Sheet.takePart Sheet.takeElement Sheet.takeMembers Sheet.takeElements Sheet.takeBlob Sheet.takeContent Sheet.decode Sheet.closed Sheet.treeOf Sheet.sheetTree Message.lengthOf Message.flatKnown Message.flatsKnown Message.knownBy Message.structKnown Message.flatWritable Message.valueWritable Message.membersWritable Message.elementsWritable Message.contentWritable Message.writable Message.numberOr Message.flatBytes Message.flatsBytes Message.bytesBy Message.structBytes Message.flatSlots Message.objectSlots Message.referSlots Message.valueSlots Message.flagOf Message.memberSlots Message.membersSlots Message.elementsSlots Message.contentSlots Message.plan Message.messageOf Message.writtenTree Message.written Message.writeRoom Message.writeOver Message.writeAnswer Message.writeOut Message.messageSheet Message.fitsRoom Message.readAnswer Message.readOut Cells.width Cells.chain Cells.below Cells.widthBytes Cells.chainBytes Cells.belowBytes Cells.layout Cells.gather Cells.packBits
-traps = refl
+pub writes : map (λ c. c .given) writtenCases ≡ map (λ c. c .expected) writtenCases
+unfolding writtenCases answer wrote Lists.every Lists.run Bytes.le Bytes.leBytes Bytes.bitAt Bytes.isNaN Bytes.noFloat Bytes.largest Bytes.deepest Bytes.u48 Schema.structOf Schema.elementOf Schema.casesOf Schema.tableOf Schema.fieldOf Schema.caseOf Schema.plainBool Schema.memberOf Structs.lower Structs.byIndex Structs.flatWidth Structs.total Structs.sizeBy Structs.structSize Structs.flatOk Structs.flatsOk Structs.okBy Structs.structOk Packed.kindAt Packed.optionalAt Packed.inplaceAt Packed.zeroAt Packed.argumentAt Packed.widthOf Packed.flatOf Packed.objectOf Packed.kindOf Packed.flatAt Packed.objectAt Packed.elementAt Packed.memberAt Packed.records Packed.recordPlace Packed.blocks Packed.structPlace Packed.listPlace Packed.unionPlace Packed.tablePlace Packed.idAt Packed.recordsAt Packed.tableAt Packed.parse Lawful.countsOk Lawful.blocksOk Lawful.placesOk Lawful.shapeOk Lawful.argumentOk Lawful.kindOk Lawful.optionalOk Lawful.inplaceOk Lawful.flagsOk Lawful.recordOk Lawful.firstOk Lawful.recordsOk Lawful.inplaces Lawful.structLawful Lawful.listLawful Lawful.unionLawful Lawful.tableLawful Lawful.idDiffers Lawful.idLawful Lawful.rulesOk Lawful.lawful Layout.flatIsBool Layout.isBool Layout.width Layout.flatTakesFlag Layout.takesFlag Layout.hasFlag Layout.begin Layout.bitByte Layout.bitIndex Layout.afterBit Layout.afterBytes Layout.afterFlag Layout.slotOf Layout.afterValue Layout.memberSlot Layout.afterMember Layout.afterMembers Layout.fixedSize Step.enumStep Step.floatStep Step.structStep Step.placeOf Step.objectStep Step.unionStep Step.flatStep Step.fieldStep Step.valueStep Step.inside Step.flagged Step.memberStep Step.elementPlace Step.elementStep Step.elementsSize Walk.placed Walk.magic Walk.headerSize Walk.contentSize Walk.endOk Walk.openContent Walk.openObject Walk.refuse Walk.andThen Walk.followChoice Walk.follow Walk.members Walk.elements Walk.content Walk.enter Walk.arrive Walk.tooDeep Walk.counted Walk.visit Walk.rootPlace Walk.walk Walk.verdictOf Walk.early Walk.sizeOk Walk.startOk Walk.verdict Value.asNumber Value.asBlob Value.asRow Value.asObject Value.present Value.known Value.first Value.others Value.count Read.stepRead Read.fieldsRead Read.readBy Read.structRead Read.membersRead Read.elementsRead Read.contentRead Read.placeRead Read.read Read.messageRead Bits.bitsOf Bits.bits Bits.value Bits.pack Bits.byteCount Bits.packed Bits.allZero Sheet.markBits Sheet.flatBits Sheet.fieldBits Sheet.fieldsBits Sheet.bitsBy Sheet.structBits Sheet.bodyBits Sheet.flatUnknown Sheet.unknownWidth Sheet.partBits Sheet.flatBare Sheet.bare Sheet.elementBits Sheet.membersBits Sheet.elementsBits Sheet.blobBits Sheet.contentBits Sheet.encode Sheet.sheetBits Sheet.sheetOf Sheet.bind Sheet.takeNumber Sheet.takeBytes Sheet.takeValue Sheet.takeIf Sheet.takeMark Sheet.unknownEnum Sheet.takeLostEnum Sheet.takeEnum Sheet.takeFlat Sheet.takeField Sheet.takeFields Sheet.takeBy Sheet.takeStruct Sheet.takeChoice Sheet.takeBody Sheet.takeLostFlat Sheet.takeLost Sheet.takePart Sheet.takeElement Sheet.takeMembers Sheet.takeElements Sheet.takeBlob Sheet.takeContent Sheet.decode Sheet.closed Sheet.treeOf Sheet.sheetTree Message.lengthOf Message.flatKnown Message.flatsKnown Message.knownBy Message.structKnown Message.flatWritable Message.valueWritable Message.membersWritable Message.elementsWritable Message.contentWritable Message.writable Message.numberOr Message.flatBytes Message.flatsBytes Message.bytesBy Message.structBytes Message.flatSlots Message.objectSlots Message.referSlots Message.valueSlots Message.flagOf Message.memberSlots Message.membersSlots Message.elementsSlots Message.contentSlots Message.plan Message.messageOf Message.writtenTree Message.written Message.writeRoom Message.writeOver Message.writeAnswer Message.writeOut Message.messageSheet Message.fitsRoom Message.readAnswer Message.readOut Cells.width Cells.chain Cells.below Cells.widthBytes Cells.chainBytes Cells.belowBytes Cells.layout Cells.gather Cells.packBits
+writes = refl
