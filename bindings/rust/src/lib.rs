@@ -1,0 +1,54 @@
+//! A safe wrapper of `libscalgo.a`, a proved library for scalgoproto messages.
+//!
+//! The archive is for x86-64 Linux. The crate looks for it in the folder that the environment
+//! variable `SCALGO_LIB_DIR` names, or else in `target/staticlib` of the repository, where
+//! `rt staticlib scalgo` puts it. There is nothing else to install.
+//!
+//! No function here panics, allocates or keeps what it is given, and none has a state, so all may
+//! be called from several threads at once. Any bytes may be given: what is not lawful is answered
+//! by a number.
+//!
+//! | Number | Meaning | Place |
+//! |---|---|---|
+//! | 0 | accepted | 0 |
+//! | 1 | the schema is not lawful | 0 |
+//! | 2 | the message is under 10 bytes or over 16,777,215 | 0 |
+//! | 3 | wrong message magic | 0 |
+//! | 4 | the budget is spent | the object not visited |
+//! | 5 | deeper than 32 objects | the object |
+//! | 6 | an offset under 10, or a header or content that does not fit | the object |
+//! | 7 | wrong object magic | the object |
+//! | 8 | a member cut by its table's end, or a flag without its value | the table |
+//! | 9 | a known union choice, not in place, with offset 0 | the holder |
+//! | 10 | a struct's boolean not 0 or 1, or a text's end byte not 0 | the object |
+//!
+//! # Example
+//!
+//! ```
+//! // A table with a U16 and a text, and a message of the two.
+//! let schema = b"\x00\x00\x00\x01\x00\x4C\x49\x43\x45\x02\x10\x00\x68\x00";
+//! let message = b"\xB3\xC4\xC0\xB5\x0A\x00\x00\x00\x00\x00\
+//!     \x45\x43\x49\x4C\x08\x00\x00\x00\x00\x00\x03\x00\x1C\x00\x00\x00\x00\x00\
+//!     \xF5\xC8\x12\xD8\x02\x00\x00\x00\x00\x00ab\x00";
+//!
+//! let verdict = scalgo::judge(schema, message, 100);
+//! assert!(verdict.accepted());
+//! assert_eq!(verdict.visits, 2);
+//!
+//! let cut = scalgo::judge(schema, &message[..40], 100);
+//! assert_eq!((cut.number, cut.place, cut.visits), (6, 28, 2));
+//! ```
+
+mod judge;
+
+#[cfg(feature = "field")]
+mod field;
+#[cfg(feature = "sheet")]
+mod sheet;
+
+pub use judge::{judge, Verdict};
+
+#[cfg(feature = "field")]
+pub use field::{field, Answer};
+#[cfg(feature = "sheet")]
+pub use sheet::{read, write, ReadAnswer, WriteAnswer};

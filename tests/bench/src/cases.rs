@@ -1,0 +1,467 @@
+//! The inputs that are timed.
+
+use crate::message::{Fixed, Message, BYTES_MAGIC, LIST_MAGIC};
+use crate::schema::{
+    plain, Record, Schema, Table, BOOL, BYTES, ENUM, F64, LIST, STRUCT, TABLE, TEXT, U16, U64,
+    UNION,
+};
+use reference::Verdict;
+
+pub struct Case {
+    pub name: &'static str,
+    pub schema: Vec<u8>,
+    pub message: Vec<u8>,
+    pub budget: u32,
+    pub expected: Verdict,
+}
+
+impl Case {
+    /// A message that is accepted after so many visits.
+    pub fn accepted(name: &'static str, schema: &Schema, message: Vec<u8>, visits: u32) -> Case {
+        Case {
+            name,
+            schema: schema.pack(),
+            message,
+            budget: u32::MAX,
+            expected: Verdict {
+                number: 0,
+                place: 0,
+                visits,
+            },
+        }
+    }
+
+    /// A schema that is not lawful.
+    fn not_lawful(name: &'static str, schema: Vec<u8>, message: Vec<u8>) -> Case {
+        Case {
+            name,
+            schema,
+            message,
+            budget: u32::MAX,
+            expected: Verdict {
+                number: 1,
+                place: 0,
+                visits: 0,
+            },
+        }
+    }
+}
+
+/// Each case is built when its turn comes.
+pub const CASES: &[fn() -> Case] = &[
+    small,
+    small_older,
+    tables,
+    tables_late,
+    unions_late,
+    every_kind,
+    || numbers("(d) a list of 1,000,000 U64", 1_000_000),
+    || numbers("(d) a list of 2,000,000 U64", 2_000_000),
+    texts,
+    wide_schema,
+    deep_schema,
+    last_ids_equal,
+    byte_after_the_last,
+    structs_too_large,
+    deep_booleans,
+    deep_layout,
+    shared,
+];
+
+/// How many of a kind a schema may have.
+const MOST: usize = 64;
+
+const ROOT: u32 = 0x100;
+const INNER: u32 = 0x200;
+
+/// M of "Seats at the counter".
+const CHECKOUT: &[u8] = b"\xB3\xC4\xC0\xB5\x0A\x00\x00\x00\x00\x00\
+    \x45\x43\x49\x4C\x08\x00\x00\x00\x00\x00\x03\x00\x1C\x00\x00\x00\x00\x00\
+    \xF5\xC8\x12\xD8\x02\x00\x00\x00\x00\x00ab\x00";
+
+fn small() -> Case {
+    let schema = Schema {
+        tables: vec![Table::new(0x4C49_4345, &[plain(U16), plain(TEXT)])],
+        ..Schema::default()
+    };
+    Case::accepted("(a) M by N", &schema, CHECKOUT.to_vec(), 2)
+}
+
+fn small_older() -> Case {
+    let schema = Schema {
+        tables: vec![Table::new(0x4C49_4345, &[plain(U16)])],
+        ..Schema::default()
+    };
+    Case::accepted("(a) M by O", &schema, CHECKOUT.to_vec(), 1)
+}
+
+/// The root table has a list and nothing else.
+fn root(list: usize) -> Table {
+    Table::new(ROOT, &[Record::of(LIST, list)])
+}
+
+/// The root and its list; answers where the list's elements start.
+fn put_list(message: &mut Message, count: usize, element: usize) -> usize {
+    message.header(ROOT, 6);
+    message.refer_behind();
+    message.header(LIST_MAGIC, count);
+    let elements = message.end();
+    message.zeros(element * count);
+    elements
+}
+
+const ELEMENTS: usize = 100_000;
+
+/// Tables of their own, each a U16 and a text of two bytes.
+fn put_tables() -> Vec<u8> {
+    let mut message = Message::new();
+    let references = put_list(&mut message, ELEMENTS, 6);
+    for number in 0..ELEMENTS {
+        message.set_u48(references + 6 * number, message.end());
+        message.header(INNER, 8);
+        message.u16(number as u16);
+        message.refer_behind();
+        message.text(b"ab");
+    }
+    message.finish()
+}
+
+fn tables() -> Case {
+    let schema = Schema {
+        lists: vec![Record::of(TABLE, 1)],
+        tables: vec![root(0), Table::new(INNER, &[plain(U16), plain(TEXT)])],
+        ..Schema::default()
+    };
+    let visits = 2 + 2 * ELEMENTS as u32;
+    Case::accepted(
+        "(b) a list of 100,000 tables",
+        &schema,
+        put_tables(),
+        visits,
+    )
+}
+
+/// The schema with the most records, in which the last list, union and table are used.
+fn largest(element: Record) -> Schema {
+    let table = |id, first: &[Record]| {
+        let mut members = first.to_vec();
+        members.resize(MOST, plain(U64));
+        Table { id, members }
+    };
+    let mut tables = vec![root(MOST - 1)];
+    for id in 1..MOST as u32 - 1 {
+        tables.push(table(id, &[]));
+    }
+    tables.push(table(INNER, &[plain(U16), plain(TEXT)]));
+    Schema {
+        structs: vec![vec![plain(U64); 32]; MOST],
+        lists: vec![element; MOST],
+        unions: vec![vec![plain(TEXT); 32]; MOST],
+        tables,
+    }
+}
+
+fn tables_late() -> Case {
+    let schema = largest(Record::of(TABLE, MOST - 1));
+    let visits = 2 + 2 * ELEMENTS as u32;
+    let name = "(b) the same, at the largest schema's end";
+    Case::accepted(name, &schema, put_tables(), visits)
+}
+
+fn unions_late() -> Case {
+    let schema = largest(Record::of(UNION, MOST - 1));
+    let mut message = Message::new();
+    let elements = put_list(&mut message, ELEMENTS, 8);
+    for number in 0..ELEMENTS {
+        message.set_u16(elements + 8 * number, 32);
+        message.set_u48(elements + 8 * number + 2, message.end());
+        message.text(b"ab");
+    }
+    let visits = 2 + ELEMENTS as u32;
+    let name = "(b) 100,000 unions there, the last case";
+    Case::accepted(name, &schema, message.finish(), visits)
+}
+
+/// A table with 64 members: all kinds in turn, the second time optional where they may be, and the
+/// third text in place.
+fn every_kind() -> Case {
+    const KINDS: usize = 18;
+    const IN_PLACE: usize = 2 * KINDS + TEXT as usize;
+    const CASES: [u8; 4] = [TEXT, BYTES, LIST, TABLE];
+    let case = |kind| Record::of(kind, usize::from(kind == TABLE));
+    let mut members = Vec::new();
+    let mut fixed = Fixed::default();
+    // Where the fixed part refers to an object, and the object's kind.
+    let mut references = Vec::new();
+    for number in 0..MOST {
+        let (kind, round) = ((number % KINDS) as u8, number / KINDS);
+        let mut record = match kind {
+            ENUM => Record::of(ENUM, 3),
+            STRUCT => Record::of(STRUCT, 1),
+            UNION => plain(UNION),
+            _ => case(kind),
+        };
+        if round == 1 && (kind <= F64 || kind == STRUCT) {
+            record = record.optional();
+            if !(9..=10).contains(&kind) {
+                fixed.boolean(true);
+            }
+        }
+        if number == IN_PLACE {
+            record = record.in_place();
+        }
+        members.push(record);
+        match kind {
+            BOOL => fixed.boolean(true),
+            1..=8 => {
+                fixed.put(&[7; 8][..1 << ((kind - 1) % 4)]);
+            }
+            9..=10 => {
+                fixed.put(&[7; 8][..4 << (kind - 9)]);
+            }
+            ENUM => {
+                fixed.put(&[2]);
+            }
+            // A struct with a bool and a U16; then an F64, an enum and a bool.
+            STRUCT => {
+                fixed.put(&[1, 7, 7, 7, 7, 7, 7, 7, 7, 7, 7, 2, 1]);
+            }
+            UNION => {
+                fixed.put(&[round as u8 + 1, 0]);
+                references.push((fixed.put(&[0; 6]), CASES[round]));
+            }
+            _ if number == IN_PLACE => {
+                fixed.put(&[2, 0, 0, 0, 0, 0]);
+            }
+            _ => references.push((fixed.put(&[0; 6]), kind)),
+        }
+    }
+    let schema = Schema {
+        structs: vec![
+            vec![plain(BOOL), plain(U16)],
+            vec![plain(STRUCT), plain(F64), Record::of(ENUM, 3), plain(BOOL)],
+        ],
+        lists: vec![plain(U16)],
+        unions: vec![CASES.map(case).to_vec()],
+        tables: vec![
+            Table { id: ROOT, members },
+            Table::new(INNER, &[plain(U16), plain(BOOL)]),
+        ],
+    };
+    let mut message = Message::new();
+    message.header(ROOT, fixed.bytes.len());
+    let start = message.end();
+    message.put(&fixed.bytes);
+    message.put(b"ab\0");
+    let visits = 2 + references.len() as u32;
+    for (at, kind) in references {
+        message.set_u48(start + at, message.end());
+        match kind {
+            TEXT => message.text(b"ab"),
+            BYTES => {
+                message.header(BYTES_MAGIC, 3);
+                message.put(b"abc");
+            }
+            LIST => {
+                message.header(LIST_MAGIC, 4);
+                message.put(&[7; 8]);
+            }
+            _ => {
+                message.header(INNER, 3);
+                message.put(&[7, 7, 1]);
+            }
+        }
+    }
+    let name = "(c) 64 members of every kind";
+    Case::accepted(name, &schema, message.finish(), visits)
+}
+
+fn numbers(name: &'static str, count: usize) -> Case {
+    let schema = Schema {
+        lists: vec![plain(U64)],
+        tables: vec![root(0)],
+        ..Schema::default()
+    };
+    let mut message = Message::new();
+    put_list(&mut message, count, 8);
+    Case::accepted(name, &schema, message.finish(), 2)
+}
+
+fn texts() -> Case {
+    const TEXTS: usize = 10_000;
+    let schema = Schema {
+        lists: vec![plain(TEXT)],
+        tables: vec![root(0)],
+        ..Schema::default()
+    };
+    let mut message = Message::new();
+    let references = put_list(&mut message, TEXTS, 6);
+    for number in 0..TEXTS {
+        message.set_u48(references + 6 * number, message.end());
+        message.text(&[b'a'; 1000]);
+    }
+    let visits = 2 + TEXTS as u32;
+    let name = "(e) 10,000 texts of 1,000 bytes";
+    Case::accepted(name, &schema, message.finish(), visits)
+}
+
+/// "No struct is over 4,096 bytes."
+const STRUCT_SIZE: usize = 4096;
+
+/// Structs of 32 members, as many of them the struct before as leaves room for one in each after.
+fn wide_structs() -> Vec<Vec<Record>> {
+    let mut structs = vec![vec![plain(BOOL); 32]];
+    let mut size = 32;
+    for index in 1..MOST {
+        let room = STRUCT_SIZE - 31 * (MOST - 1 - index);
+        let inner = ((room - 32) / (size - 1)).min(32);
+        let mut members = vec![Record::of(STRUCT, index - 1); inner];
+        members.resize(32, plain(BOOL));
+        structs.push(members);
+        size = inner * size + 32 - inner;
+    }
+    structs
+}
+
+/// Structs of which the last has 4,096 booleans, each 64 structs down: a plain recursion on it
+/// comes to some 250,000 structs.
+fn deep_structs() -> Vec<Vec<Record>> {
+    let mut structs = vec![vec![plain(BOOL)]];
+    for index in 1..MOST {
+        let members = match MOST - index {
+            1 => 4,
+            2 | 3 => 32,
+            _ => 1,
+        };
+        structs.push(vec![Record::of(STRUCT, index - 1); members]);
+    }
+    structs
+}
+
+/// A table with 64 members, each the last struct.
+fn table_of_structs(id: u32) -> Table {
+    let members = vec![Record::of(STRUCT, MOST - 1).optional(); MOST];
+    Table { id, members }
+}
+
+/// 64 such tables.
+fn full(structs: Vec<Vec<Record>>) -> Schema {
+    let table = |number| table_of_structs(ROOT + number);
+    Schema {
+        structs,
+        lists: vec![plain(TEXT); MOST],
+        unions: vec![vec![plain(TEXT); 32]; MOST],
+        tables: (0..MOST as u32).map(table).collect(),
+    }
+}
+
+/// A root whose members are all absent.
+fn put_empty() -> Vec<u8> {
+    let mut message = Message::new();
+    message.header(ROOT, 0);
+    message.finish()
+}
+
+fn wide_schema() -> Case {
+    let schema = full(wide_structs());
+    let name = "(f) lawful: 32 members a struct";
+    Case::accepted(name, &schema, put_empty(), 1)
+}
+
+fn deep_schema() -> Case {
+    let schema = full(deep_structs());
+    let name = "(f) lawful: 64 structs deep";
+    Case::accepted(name, &schema, put_empty(), 1)
+}
+
+fn last_ids_equal() -> Case {
+    let mut schema = full(deep_structs());
+    schema.tables[MOST - 1].id = schema.tables[MOST - 2].id;
+    let name = "(f) not lawful: the last two ids are equal";
+    Case::not_lawful(name, schema.pack(), put_empty())
+}
+
+fn byte_after_the_last() -> Case {
+    let mut packed = full(deep_structs()).pack();
+    packed.push(0);
+    let name = "(f) not lawful: a byte after the last table";
+    Case::not_lawful(name, packed, put_empty())
+}
+
+/// The last struct has 32 to the power of 64 bytes.
+fn structs_too_large() -> Case {
+    let mut structs = vec![vec![plain(BOOL); 32]];
+    structs.extend((1..MOST).map(|index| vec![Record::of(STRUCT, index - 1); 32]));
+    let name = "(f) not lawful: all 32 members the one before";
+    Case::not_lawful(name, full(structs).pack(), put_empty())
+}
+
+/// The root's 64 structs are present: 262,144 booleans.
+fn deep_booleans() -> Case {
+    let schema = full(deep_structs());
+    let mut fixed = Fixed::default();
+    for _ in 0..MOST {
+        fixed.boolean(true);
+        fixed.put(&[1; STRUCT_SIZE]);
+    }
+    let mut message = Message::new();
+    message.header(ROOT, fixed.bytes.len());
+    message.put(&fixed.bytes);
+    let name = "(g) 64 structs of 4,096 deep booleans";
+    Case::accepted(name, &schema, message.finish(), 1)
+}
+
+/// A thousand references to one table whose fixed part is the flags of eight absent structs.
+fn deep_layout() -> Case {
+    const SIDE: usize = 1000;
+    let schema = Schema {
+        structs: deep_structs(),
+        lists: vec![Record::of(TABLE, 1)],
+        tables: vec![root(0), table_of_structs(INNER)],
+        ..Schema::default()
+    };
+    let mut message = Message::new();
+    let references = put_list(&mut message, SIDE, 6);
+    for number in 0..SIDE {
+        message.set_u48(references + 6 * number, message.end());
+    }
+    message.header(INNER, 1);
+    message.zeros(1);
+    let visits = 2 + SIDE as u32;
+    let name = "(g) 1,000 visits of a table of such structs";
+    Case::accepted(name, &schema, message.finish(), visits)
+}
+
+/// A thousand references to one list of a thousand references to one text.
+fn shared() -> Case {
+    const SIDE: usize = 1000;
+    const BUDGET: u32 = 1_000_000;
+    let schema = Schema {
+        lists: vec![Record::of(LIST, 1), plain(TEXT)],
+        tables: vec![root(0)],
+        ..Schema::default()
+    };
+    let mut message = Message::new();
+    let outer = put_list(&mut message, SIDE, 6);
+    let list = message.end();
+    message.header(LIST_MAGIC, SIDE);
+    let inner = message.end();
+    message.zeros(6 * SIDE);
+    let text = message.end();
+    message.text(b"ab");
+    for number in 0..SIDE {
+        message.set_u48(outer + 6 * number, list);
+        message.set_u48(inner + 6 * number, text);
+    }
+    Case {
+        name: "(h) a shared text, 1,000,000 visits",
+        schema: schema.pack(),
+        message: message.finish(),
+        budget: BUDGET,
+        expected: Verdict {
+            number: 4,
+            place: text as u64,
+            visits: BUDGET,
+        },
+    }
+}

@@ -1,0 +1,169 @@
+//! Times the library and the second program on the same messages, in one process and in turn, and
+//! measures the stack that each uses at the greatest depth. `--quick` takes few samples.
+//!
+//! It fails where a verdict is not the expected one or the two programs differ.
+
+mod cases;
+mod depth;
+mod message;
+mod schema;
+mod stack;
+mod timing;
+
+use cases::{Case, CASES};
+use reference::Verdict;
+use std::hint::black_box;
+use std::process::ExitCode;
+use timing::Plan;
+
+fn ours(case: &Case) -> Verdict {
+    let verdict = scalgo::judge(&case.schema, &case.message, case.budget);
+    Verdict {
+        number: verdict.number,
+        place: verdict.place,
+        visits: verdict.visits,
+    }
+}
+
+fn second(case: &Case) -> Verdict {
+    reference::judge(&case.schema, &case.message, case.budget)
+}
+
+/// What is wrong with the verdicts, if anything is.
+fn fault(case: &Case) -> Option<String> {
+    let (ours, second) = (ours(case), second(case));
+    if ours == case.expected && second == case.expected {
+        return None;
+    }
+    Some(format!(
+        "{}: expected {:?}\n  ours: {ours:?}\n  reference: {second:?}",
+        case.name, case.expected
+    ))
+}
+
+fn time(plan: &Plan, case: &Case) {
+    let (ours, second) = timing::in_turn(
+        plan,
+        &|| {
+            black_box(ours(black_box(case)));
+        },
+        &|| {
+            black_box(second(black_box(case)));
+        },
+    );
+    let objects = f64::from(case.expected.visits);
+    println!(
+        "{:<46} {:>7} {:>12.0} {:>12.0} {:>12.0} {:>12.0} {:>7.2} {:>7.2} {}",
+        case.name,
+        case.expected.visits,
+        ours.best,
+        ours.median,
+        second.best,
+        second.median,
+        ours.best / second.best,
+        ours.median / second.median,
+        per_object(objects, ours.best, second.best),
+    );
+}
+
+/// Where there are many objects, the nanoseconds for each.
+fn per_object(objects: f64, ours: f64, second: f64) -> String {
+    if objects < 1000.0 {
+        return String::new();
+    }
+    format!("{:>8.1} {:>8.1}", ours / objects, second / objects)
+}
+
+fn times(plan: &Plan) -> bool {
+    println!("Nanoseconds a call: best and median of each program, and ours by the reference's.");
+    println!(
+        "{:<46} {:>7} {:>12} {:>12} {:>12} {:>12} {:>7} {:>7} {:>8} {:>8}",
+        "case",
+        "visits",
+        "ours best",
+        "median",
+        "ref best",
+        "median",
+        "best",
+        "median",
+        "ours/obj",
+        "ref/obj",
+    );
+    let mut sound = true;
+    for build in CASES {
+        let case = build();
+        match fault(&case) {
+            None => time(plan, &case),
+            Some(report) => {
+                println!("{report}");
+                sound = false;
+            }
+        }
+    }
+    sound
+}
+
+fn stacks() -> bool {
+    println!("Bytes of stack touched by a message of 32 objects, each in the one before:");
+    println!("{:<46} {:>12} {:>12}", "objects", "ours", "reference");
+    let mut sound = true;
+    for case in depth::cases() {
+        if let Some(report) = fault(&case) {
+            println!("{report}");
+            sound = false;
+            continue;
+        }
+        let ours = stack::touched(&|| {
+            black_box(ours(&case));
+        });
+        let second = stack::touched(&|| {
+            black_box(second(&case));
+        });
+        println!("{:<46} {ours:>12} {second:>12}", case.name);
+    }
+    sound
+}
+
+fn main() -> ExitCode {
+    let arguments: Vec<String> = std::env::args().skip(1).collect();
+    let plan = match arguments.as_slice() {
+        [] => Plan::full(),
+        [quick] if quick == "--quick" => Plan::quick(),
+        _ => {
+            eprintln!("usage: bench [--quick]");
+            return ExitCode::from(2);
+        }
+    };
+    let timed = times(&plan);
+    println!();
+    let measured = stacks();
+    if timed && measured {
+        ExitCode::SUCCESS
+    } else {
+        ExitCode::FAILURE
+    }
+}
+
+#[cfg(test)]
+mod tests {
+    use super::{depth, fault, stack, CASES};
+
+    #[test]
+    fn both_programs_give_the_expected_verdicts() {
+        let faults: Vec<String> = (CASES.iter().map(|build| build()))
+            .chain(depth::cases())
+            .filter_map(|case| fault(&case))
+            .collect();
+        assert!(faults.is_empty(), "{}", faults.join("\n"));
+    }
+
+    #[test]
+    fn a_larger_frame_touches_more_stack() {
+        fn fill<const N: usize>() {
+            std::hint::black_box([1u8; N]);
+        }
+        let small = stack::touched(&fill::<1000>);
+        let large = stack::touched(&fill::<9000>);
+        assert!(1000 <= small && small + 8000 <= large, "{small} {large}");
+    }
+}
