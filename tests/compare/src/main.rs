@@ -1,34 +1,60 @@
-//! Runs the laws: `compare laws --cases N --seed S`, or one case of a run
-//! with `--case K`.
+//! Runs the tests at any length.
+//!
+//! `compare laws --cases N --seed S` runs the laws on the second program, or
+//! one case of a run with `--case K`. `compare judge --cases N --seed S` judges
+//! N messages with the proved library and the second program side by side, or
+//! those of one round of a run with `--round K`.
 
 use compare::counts::Counts;
+use compare::judging;
 use compare::laws;
-use compare::program::Second;
+use compare::program::{Library, Second};
+use compare::tally::Tally;
 use std::process::ExitCode;
+
+const USAGE: &str = "usage: compare laws [--cases N] [--seed S] [--case K]
+       compare judge [--cases N] [--seed S] [--round K]";
 
 fn number_after(arguments: &[String], name: &str) -> Option<u64> {
     let at = arguments.iter().position(|argument| argument == name)?;
     arguments.get(at + 1)?.parse().ok()
 }
 
+fn run_laws(arguments: &[String]) -> Result<String, String> {
+    let cases = number_after(arguments, "--cases").unwrap_or(100_000);
+    let seed = number_after(arguments, "--seed").unwrap_or(1);
+    if let Some(case) = number_after(arguments, "--case") {
+        let mut counts = Counts::default();
+        laws::run_case(&Second, seed, case, &mut counts)?;
+        return Ok(counts.to_string());
+    }
+    Ok(laws::run(&Second, seed, cases)?.to_string())
+}
+
+fn run_judges(arguments: &[String]) -> Result<String, String> {
+    let messages = number_after(arguments, "--cases").unwrap_or(200_000);
+    let seed = number_after(arguments, "--seed").unwrap_or(1);
+    if let Some(round) = number_after(arguments, "--round") {
+        let mut tally = Tally::default();
+        judging::on_round(&Library, &Second, seed, round, &mut tally)?;
+        return Ok(tally.to_string());
+    }
+    Ok(judging::run(&Library, &Second, seed, messages)?.to_string())
+}
+
 fn main() -> ExitCode {
     let arguments: Vec<String> = std::env::args().skip(1).collect();
-    if arguments.first().map(String::as_str) != Some("laws") {
-        eprintln!("usage: compare laws [--cases N] [--seed S] [--case K]");
-        return ExitCode::from(2);
-    }
-    let cases = number_after(&arguments, "--cases").unwrap_or(100_000);
-    let seed = number_after(&arguments, "--seed").unwrap_or(1);
-    let outcome = match number_after(&arguments, "--case") {
-        Some(case) => {
-            let mut counts = Counts::default();
-            laws::run_case(&Second, seed, case, &mut counts).map(|()| counts)
+    let outcome = match arguments.first().map(String::as_str) {
+        Some("laws") => run_laws(&arguments),
+        Some("judge") => run_judges(&arguments),
+        _ => {
+            eprintln!("{USAGE}");
+            return ExitCode::from(2);
         }
-        None => laws::run(&Second, seed, cases),
     };
     match outcome {
-        Ok(counts) => {
-            print!("{counts}");
+        Ok(table) => {
+            print!("{table}");
             ExitCode::SUCCESS
         }
         Err(report) => {

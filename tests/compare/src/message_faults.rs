@@ -1,6 +1,7 @@
 //! Single faults that a message can be given, and where in a value each one
 //! has a place.
 
+use crate::rng::Rng;
 use crate::schema::*;
 use crate::value::Value;
 
@@ -18,6 +19,16 @@ pub enum FaultKind {
     UnionZero,
     /// A reference back to the object with this number.
     Cycle(usize),
+}
+
+impl FaultKind {
+    /// What tables call it.
+    pub fn name(&self) -> String {
+        match self {
+            FaultKind::Cycle(_) => "cycle".to_string(),
+            other => format!("{other:?}"),
+        }
+    }
 }
 
 /// A fault and its place: the object, counted in walk order from 0, and the
@@ -47,6 +58,19 @@ pub fn sites(schema: &Schema, root: &Value) -> Vec<Fault> {
     };
     finder.object(&Record::plain(TABLE, schema.root), root, false);
     finder.faults
+}
+
+/// One of the faults, of a kind chosen first, so that rare kinds come up too.
+pub fn choose(schema: &Schema, rng: &mut Rng, root: &Value) -> Fault {
+    let sites = sites(schema, root);
+    let mut kinds: Vec<String> = sites.iter().map(|site| site.kind.name()).collect();
+    kinds.sort_unstable();
+    kinds.dedup();
+    let kind = &kinds[rng.below(kinds.len())];
+    let fitting: Vec<Fault> = (sites.into_iter())
+        .filter(|site| site.kind.name() == *kind)
+        .collect();
+    rng.pick(&fitting)
 }
 
 /// Whether a member can be absent while it is wholly inside its table.

@@ -22,8 +22,8 @@ pub fn refused_at_start(number: u32) -> Verdict {
     }
 }
 
-/// A program that judges, reads, writes and answers fields.
-pub trait Program {
+/// A program that judges.
+pub trait Judge {
     /// What reports call it.
     fn name(&self) -> &'static str;
     /// Judges a message.
@@ -32,6 +32,10 @@ pub trait Program {
     fn judge_unpacked(&self, _schema: &[u8], _message: &[u8], _budget: u32) -> Option<Verdict> {
         None
     }
+}
+
+/// A program that judges, reads, writes and answers fields.
+pub trait Program: Judge {
     /// Reads a message to a sheet; no bytes on refusal.
     fn read(&self, schema: &[u8], message: &[u8], budget: u32, room: usize) -> (Verdict, Vec<u8>);
     /// Writes a sheet to a message; no bytes on refusal.
@@ -60,10 +64,28 @@ pub trait Relations {
     fn with_added(&self, older: &[u8], newer: &[u8], sheet: &[u8]) -> Option<Vec<u8>>;
 }
 
+/// The proved library, called through its C interface.
+pub struct Library;
+
+impl Judge for Library {
+    fn name(&self) -> &'static str {
+        "proved library"
+    }
+
+    fn judge(&self, schema: &[u8], message: &[u8], budget: u32) -> Verdict {
+        let verdict = scalgo::judge(schema, message, budget);
+        Verdict {
+            number: verdict.number,
+            place: verdict.place,
+            visits: verdict.visits,
+        }
+    }
+}
+
 /// The independent second program.
 pub struct Second;
 
-impl Program for Second {
+impl Judge for Second {
     fn name(&self) -> &'static str {
         "second program"
     }
@@ -76,7 +98,9 @@ impl Program for Second {
         let schema = reference::Schema::parse(schema)?;
         Some(reference::judge_parsed(&schema, message, budget))
     }
+}
 
+impl Program for Second {
     fn read(&self, schema: &[u8], message: &[u8], budget: u32, room: usize) -> (Verdict, Vec<u8>) {
         reference::read(schema, message, budget, room)
     }

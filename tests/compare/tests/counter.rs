@@ -2,7 +2,7 @@
 //! second program.
 
 use compare::canonical;
-use compare::program::{Program, Second, Verdict};
+use compare::program::{Judge, Library, Program, Second, Verdict};
 use compare::schema::{Record, Schema, Slot, Table, BOOL};
 use compare::schema_rules;
 use compare::sheet;
@@ -40,28 +40,47 @@ fn own_model_gives_the_table_s_bytes() {
     assert_eq!(sheet::encode(&older, &old), [0x40, 0, 0xC0]);
 }
 
+fn changed(at: usize, byte: u8) -> Vec<u8> {
+    let mut message = MESSAGE.to_vec();
+    message[at] = byte;
+    message
+}
+
+fn judges_as_the_table_says(judge: &dyn Judge) {
+    let by_newer = |message: &[u8], budget| judge.judge(&NEWER, message, budget);
+    assert_eq!(by_newer(&MESSAGE, 2), verdict(0, 0, 2));
+    assert_eq!(by_newer(&MESSAGE, 1), verdict(4, 28, 1));
+    assert_eq!(by_newer(&MESSAGE, 0), verdict(4, 10, 0));
+    assert_eq!(judge.judge(&OLDER, &MESSAGE, 1), verdict(0, 0, 1));
+    assert_eq!(by_newer(&changed(14, 5), 2), verdict(8, 10, 1));
+    assert_eq!(by_newer(&changed(14, 2), 2), verdict(0, 0, 1));
+    assert_eq!(by_newer(&changed(14, 0), 2), verdict(0, 0, 1));
+    assert_eq!(by_newer(&changed(40, 1), 2), verdict(10, 28, 2));
+    assert_eq!(by_newer(&MESSAGE[..40], 2), verdict(6, 28, 2));
+    assert_eq!(by_newer(&[], 2), verdict(2, 0, 0));
+    assert_eq!(by_newer(&changed(22, 9), 2), verdict(6, 9, 2));
+}
+
 #[test]
-fn second_program_gives_the_table_s_answers() {
+fn second_program_judges_as_the_table_says() {
+    judges_as_the_table_says(&Second);
+}
+
+#[test]
+fn library_judges_as_the_table_says() {
+    judges_as_the_table_says(&Library);
+}
+
+#[test]
+fn second_program_gives_the_table_s_sheets() {
     let read = Second.read(&NEWER, &MESSAGE, 2, 9);
     assert_eq!(read, (verdict(0, 0, 2), SHEET.to_vec()));
-    assert_eq!(Second.judge(&NEWER, &MESSAGE, 1), verdict(4, 28, 1));
-    assert_eq!(Second.judge(&NEWER, &MESSAGE, 0), verdict(4, 10, 0));
     let read = Second.read(&OLDER, &MESSAGE, 1, 3);
     assert_eq!(read, (verdict(0, 0, 1), vec![0x40, 0, 0xC0]));
-    let changed = |at: usize, byte: u8| {
-        let mut message = MESSAGE.to_vec();
-        message[at] = byte;
-        message
-    };
-    assert_eq!(Second.judge(&NEWER, &changed(14, 5), 2), verdict(8, 10, 1));
     let read = Second.read(&NEWER, &changed(14, 2), 2, 9);
     assert_eq!(read, (verdict(0, 0, 1), vec![0x40, 0, 0xC0]));
     let read = Second.read(&NEWER, &changed(14, 0), 2, 9);
     assert_eq!(read, (verdict(0, 0, 1), vec![0]));
-    assert_eq!(Second.judge(&NEWER, &changed(40, 1), 2), verdict(10, 28, 2));
-    assert_eq!(Second.judge(&NEWER, &MESSAGE[..40], 2), verdict(6, 28, 2));
-    assert_eq!(Second.judge(&NEWER, &[], 2), verdict(2, 0, 0));
-    assert_eq!(Second.judge(&NEWER, &changed(22, 9), 2), verdict(6, 9, 2));
 }
 
 #[test]

@@ -2,8 +2,9 @@
 //! program here is the second program with one fault.
 
 use compare::counts::Counts;
+use compare::judging;
 use compare::laws;
-use compare::program::{Answer, Program, Relations, Second, Verdict};
+use compare::program::{Answer, Judge, Program, Relations, Second, Verdict};
 use compare::side_by_side::side_by_side;
 
 #[derive(Clone, Copy, Debug, PartialEq)]
@@ -34,7 +35,7 @@ fn accepted(visits: u32) -> Verdict {
     }
 }
 
-impl Program for Flawed {
+impl Judge for Flawed {
     fn name(&self) -> &'static str {
         "flawed program"
     }
@@ -59,7 +60,9 @@ impl Program for Flawed {
             _ => verdict,
         }
     }
+}
 
+impl Program for Flawed {
     fn read(&self, schema: &[u8], message: &[u8], budget: u32, room: usize) -> (Verdict, Vec<u8>) {
         let (verdict, sheet) = Second.read(schema, message, budget, room);
         match self.0 {
@@ -130,12 +133,15 @@ impl Relations for Flawed {
     }
 }
 
-const IN_CALLS: [Flaw; 11] = [
+const IN_VERDICTS: [Flaw; 5] = [
     Flaw::AcceptsEverything,
     Flaw::RefusesEverything,
     Flaw::VisitsOneMore,
     Flaw::PlaceAlwaysZero,
     Flaw::BudgetOneTooMany,
+];
+
+const IN_OTHER_CALLS: [Flaw; 6] = [
     Flaw::UnknownAsAbsent,
     Flaw::FixedSheet,
     Flaw::WritesNothing,
@@ -152,7 +158,8 @@ const IN_RELATIONS: [Flaw; 3] = [
 
 #[test]
 fn laws_catch_flawed_programs() {
-    for flaw in IN_CALLS.into_iter().chain(IN_RELATIONS) {
+    let calls = IN_VERDICTS.into_iter().chain(IN_OTHER_CALLS);
+    for flaw in calls.chain(IN_RELATIONS) {
         let mut counts = Counts::default();
         let program = Flawed(flaw);
         let caught = (0..3000).any(|case| laws::run_case(&program, 9, case, &mut counts).is_err());
@@ -162,8 +169,17 @@ fn laws_catch_flawed_programs() {
 
 #[test]
 fn comparison_catches_flawed_programs() {
-    for flaw in IN_CALLS {
+    for flaw in IN_VERDICTS.into_iter().chain(IN_OTHER_CALLS) {
         let outcome = side_by_side(&Flawed(flaw), &Second, 9, 300);
         assert!(outcome.is_err(), "the comparison misses {flaw:?}");
     }
+}
+
+#[test]
+fn judging_side_by_side_catches_flawed_judges() {
+    for flaw in IN_VERDICTS {
+        let outcome = judging::run(&Flawed(flaw), &Second, 9, 2000);
+        assert!(outcome.is_err(), "judging side by side misses {flaw:?}");
+    }
+    assert!(judging::run(&Second, &Second, 9, 2000).is_ok());
 }

@@ -1,7 +1,7 @@
 //! Messages laid out at random, with at most one fault.
 
 use super::*;
-use crate::message_faults::{self, Fault, FaultKind};
+use crate::message_faults::{self, Fault};
 use crate::message_gen::{self, Wild};
 use crate::schema::{Schema, DEPTH_LIMIT, SIZE_LIMIT};
 use crate::schema_gen;
@@ -49,25 +49,13 @@ fn schema_and_value(context: &mut Context) -> (Schema, Value) {
     (schema, value)
 }
 
-/// A fault of a kind chosen first, so that rare kinds come up too.
+/// A fault, counted by its kind.
 fn choose_fault(schema: &Schema, context: &mut Context, value: &Value) -> Option<Fault> {
-    let sites = message_faults::sites(schema, value);
-    let mut kinds: Vec<String> = sites.iter().map(|site| fault_name(site.kind)).collect();
-    kinds.sort_unstable();
-    kinds.dedup();
-    let kind = &kinds[context.rng.below(kinds.len())];
-    let fitting: Vec<Fault> = (sites.into_iter())
-        .filter(|site| fault_name(site.kind) == *kind)
-        .collect();
-    context.counts.note(&format!("message faults: {kind}"));
-    Some(context.rng.pick(&fitting))
-}
-
-fn fault_name(kind: FaultKind) -> String {
-    match kind {
-        FaultKind::Cycle(_) => "cycle".to_string(),
-        other => format!("{other:?}"),
-    }
+    let fault = message_faults::choose(schema, &mut context.rng, value);
+    context
+        .counts
+        .note(&format!("message faults: {}", fault.kind.name()));
+    Some(fault)
 }
 
 /// The verdicts with many budgets.

@@ -1,0 +1,215 @@
+//! Messages to be judged, each with the schema it is judged by.
+
+use crate::append_gen;
+use crate::canonical::{self, HEADER, MESSAGE_MAGIC};
+use crate::damage;
+use crate::message_faults;
+use crate::message_gen::{self, Wild};
+use crate::rng::Rng;
+use crate::schema::{Schema, DEPTH_LIMIT};
+use crate::schema_faults;
+use crate::schema_gen;
+use crate::value::{writable, Value};
+use crate::value_gen::{self, Purpose, Size};
+
+/// How a message and its schema were made.
+#[derive(Clone, Copy, Debug, PartialEq, Eq, PartialOrd, Ord)]
+pub enum Sort {
+    /// Written as the writer would.
+    Written,
+    /// Laid out at random: shared, overlapping, shorter and longer tables.
+    Wild,
+    /// Laid out at random with one fault.
+    Faulty,
+    /// Damaged after it was laid out.
+    Damaged,
+    /// Cut to a few bytes, or without its magic.
+    BadStart,
+    /// Random bytes after a start that is in order, or from the first byte.
+    Random,
+    /// Judged by a schema that appends to its own, or nearly, or that its own
+    /// appends to.
+    OtherSchema,
+    /// Judged by a damaged schema, which may still be lawful.
+    DamagedSchema,
+    /// Judged by a schema with one rule broken.
+    BrokenSchema,
+}
+
+/// Every sort.
+pub const SORTS: [Sort; 9] = [
+    Sort::Written,
+    Sort::Wild,
+    Sort::Faulty,
+    Sort::Damaged,
+    Sort::BadStart,
+    Sort::Random,
+    Sort::OtherSchema,
+    Sort::DamagedSchema,
+    Sort::BrokenSchema,
+];
+
+/// A message and the schema it is judged by.
+#[derive(Clone, Debug)]
+pub struct Subject {
+    pub sort: Sort,
+    pub schema: Vec<u8>,
+    pub message: Vec<u8>,
+}
+
+/// What the subjects of one round are made from.
+struct Maker {
+    schema: Schema,
+    packed: Vec<u8>,
+    subjects: Vec<Subject>,
+}
+
+/// The subjects of one random schema and value.
+pub fn of_round(rng: &mut Rng) -> Vec<Subject> {
+    let schema = some_schema(rng);
+    let value = some_value(rng, &schema);
+    let mut maker = Maker {
+        packed: schema.pack(),
+        schema,
+        subjects: Vec::new(),
+    };
+    maker.sound_and_damaged(rng, &value);
+    maker.starts(rng);
+    maker.random(rng);
+    maker.other_schemas(rng);
+    maker.subjects
+}
+
+fn some_schema(rng: &mut Rng) -> Schema {
+    if rng.one_in(10) {
+        schema_gen::recursive(rng)
+    } else {
+        schema_gen::lawful_schema(rng)
+    }
+}
+
+/// A value; now and then one that is as deep as may be, or too deep.
+fn some_value(rng: &mut Rng, schema: &Schema) -> Value {
+    let mut size = value_gen::some_size(rng);
+    if rng.one_in(12) {
+        let depth = DEPTH_LIMIT + rng.range(0, 2) as u32;
+        size = Size {
+            objects: size.objects,
+            depth,
+            spine: depth,
+        };
+    }
+    let purpose = rng.pick(&[Purpose::Writable, Purpose::Wild, Purpose::Wild]);
+    value_gen::root_value(schema, rng, purpose, size)
+}
+
+impl Maker {
+    fn add(&mut self, sort: Sort, message: Vec<u8>) {
+        let schema = self.packed.clone();
+        self.subjects.push(Subject {
+            sort,
+            schema,
+            message,
+        });
+    }
+
+    fn add_by(&mut self, sort: Sort, schema: Vec<u8>, message: Vec<u8>) {
+        self.subjects.push(Subject {
+            sort,
+            schema,
+            message,
+        });
+    }
+
+    /// The value as messages, without and with one fault, and damaged.
+    fn sound_and_damaged(&mut self, rng: &mut Rng, value: &Value) {
+        if writable(&self.schema, value) {
+            let message = canonical::message(&self.schema, value);
+            self.add(Sort::Written, message);
+        }
+        let whole = message_gen::lay_out(&self.schema, rng, value.clone(), None);
+        self.damaged(rng, &whole, 5);
+        for _ in 0..2 {
+            let fault = message_faults::choose(&self.schema, rng, value);
+            let faulty = message_gen::lay_out(&self.schema, rng, value.clone(), Some(fault));
+            self.damaged(rng, &faulty, 1);
+            self.add(Sort::Faulty, faulty.bytes);
+        }
+        self.add(Sort::Wild, whole.bytes);
+    }
+
+    fn damaged(&mut self, rng: &mut Rng, wild: &Wild, times: usize) {
+        for _ in 0..times {
+            let bytes = damage::message(rng, &wild.bytes, &wild.spots);
+            self.add(Sort::Damaged, bytes);
+        }
+    }
+
+    /// One of the messages made so far.
+    fn earlier(&self, rng: &mut Rng) -> Vec<u8> {
+        self.subjects[rng.below(self.subjects.len())]
+            .message
+            .clone()
+    }
+
+    fn starts(&mut self, rng: &mut Rng) {
+        let mut message = self.earlier(rng);
+        if rng.coin() || message.len() < HEADER {
+            message.truncate(rng.range(0, HEADER + 1));
+        } else {
+            let bit = rng.below(32);
+            message[bit / 8] ^= 1 << (bit % 8);
+        }
+        self.add(Sort::BadStart, message);
+    }
+
+    fn random(&mut self, rng: &mut Rng) {
+        let root = &self.schema.tables[usize::from(self.schema.root)];
+        let mut message = Vec::new();
+        if !rng.one_in(8) {
+            message.extend_from_slice(&MESSAGE_MAGIC.to_le_bytes());
+            message.extend_from_slice(&[HEADER as u8, 0, 0, 0, 0, 0]);
+            message.extend_from_slice(&root.id.to_le_bytes());
+            let length = rng.small(60) as u8;
+            message.extend_from_slice(&[length, 0, 0, 0, 0, 0]);
+        }
+        let count = rng.range(0, 80);
+        let sparse = rng.coin();
+        for _ in 0..count {
+            let byte = rng.bits() as u8;
+            message.push(if sparse && byte >= 64 { 0 } else { byte });
+        }
+        self.add(Sort::Random, message);
+    }
+
+    fn other_schemas(&mut self, rng: &mut Rng) {
+        let message = self.earlier(rng);
+        let newer = append_gen::newer(rng, &self.schema);
+        let value = some_value(rng, &newer);
+        let by_older = message_gen::lay_out(&newer, rng, value, None).bytes;
+        self.add(Sort::OtherSchema, by_older);
+        let other = if rng.coin() {
+            newer
+        } else {
+            append_gen::near_miss(rng, &self.schema)
+        };
+        self.add_by(Sort::OtherSchema, other.pack(), message);
+        self.unlawful_schemas(rng);
+    }
+
+    /// Schemas of which most are not lawful; damage to few bits leaves some.
+    fn unlawful_schemas(&mut self, rng: &mut Rng) {
+        let message = self.earlier(rng);
+        let schema = schema_faults::damaged(rng, &self.packed);
+        self.add_by(Sort::DamagedSchema, schema, message);
+        let message = self.earlier(rng);
+        let mut schema = self.packed.clone();
+        let at = rng.below(schema.len());
+        schema[at] ^= 1 << rng.below(8);
+        self.add_by(Sort::DamagedSchema, schema, message);
+        let message = self.earlier(rng);
+        let rule = rng.pick(&schema_faults::RULES);
+        let schema = schema_faults::breaking(rng, rule);
+        self.add_by(Sort::BrokenSchema, schema, message);
+    }
+}

@@ -1,0 +1,69 @@
+//! The proved library and the second program side by side: number, place and
+//! visits are equal on every message with every budget.
+//!
+//! A longer run: `compare judge --cases 10000000 --seed S`.
+
+use compare::judging;
+use compare::program::{Library, Second};
+use compare::subjects::{Sort, SORTS};
+use compare::tally::{Budget, Tally, NUMBERS};
+
+const SEED: u64 = 1;
+const MESSAGES: u64 = 250_000;
+
+/// At least so many messages of each number with an ample budget; a spent
+/// budget is rare there, and comes from the smaller ones.
+const NUMBERS_SEEN: [u64; NUMBERS] = [
+    30_000, 20_000, 5000, 10_000, 0, 2000, 40_000, 20_000, 10_000, 1000, 2000,
+];
+
+/// What the run did not reach often enough.
+fn shortfalls(tally: &Tally) -> Vec<String> {
+    let mut short = Vec::new();
+    let mut need = |name: String, count: u64, least: u64| {
+        if count < least {
+            short.push(format!("{name}: {count}, at least {least} wanted"));
+        }
+    };
+    for (number, least) in NUMBERS_SEEN.into_iter().enumerate() {
+        need(format!("number {number}"), tally.of_number(number), least);
+        let same = tally.with(Budget::Exact, number) + tally.with(Budget::Ample, 4);
+        need(format!("number {number}, exact budget"), same, least);
+        let same = tally.with(Budget::Largest, number) + tally.with(Budget::Ample, 4);
+        need(format!("number {number}, largest budget"), same, least);
+    }
+    for budget in [Budget::None, Budget::OneLess, Budget::One] {
+        need(format!("{budget:?} spent"), tally.with(budget, 4), 50_000);
+    }
+    for sort in SORTS {
+        need(format!("{sort:?}"), tally.of_sort(sort), 5000);
+    }
+    for number in [0, 5, 6, 7, 8, 9, 10] {
+        let name = format!("damaged, number {number}");
+        need(name, tally.of(Sort::Damaged, number), 500);
+    }
+    let name = "damaged schemas still lawful".to_string();
+    let lawful = tally.of_sort(Sort::DamagedSchema) - tally.of(Sort::DamagedSchema, 1);
+    need(name, lawful, 1000);
+    short
+}
+
+#[test]
+fn library_and_second_program_agree() {
+    let tally = match judging::run(&Library, &Second, SEED, MESSAGES) {
+        Ok(tally) => tally,
+        Err(report) => panic!("{report}"),
+    };
+    println!("{tally}");
+    let short = shortfalls(&tally);
+    assert!(short.is_empty(), "not reached often enough: {short:#?}");
+}
+
+#[test]
+fn library_and_second_program_agree_with_other_seeds() {
+    for seed in 2..12 {
+        if let Err(report) = judging::run(&Library, &Second, seed, 10_000) {
+            panic!("{report}");
+        }
+    }
+}
