@@ -24,6 +24,7 @@ pub mod schema_rules;
 pub mod sheet;
 pub mod sheet_faults;
 pub mod side_by_side;
+pub mod stored;
 pub mod subjects;
 pub mod tally;
 pub mod value;

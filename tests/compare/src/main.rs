@@ -3,17 +3,23 @@
 //! `compare laws --cases N --seed S` runs the laws on the second program, or
 //! one case of a run with `--case K`. `compare judge --cases N --seed S` judges
 //! N messages with the proved library and the second program side by side, or
-//! those of one round of a run with `--round K`.
+//! those of one round of a run with `--round K`. `compare cases FOLDER` writes
+//! the stored cases into the folder of their crate, and `compare names` says
+//! what each of them is.
 
 use compare::counts::Counts;
 use compare::judging;
 use compare::laws;
 use compare::program::{Library, Second};
+use compare::stored;
 use compare::tally::Tally;
+use std::path::Path;
 use std::process::ExitCode;
 
 const USAGE: &str = "usage: compare laws [--cases N] [--seed S] [--case K]
-       compare judge [--cases N] [--seed S] [--round K]";
+       compare judge [--cases N] [--seed S] [--round K]
+       compare cases FOLDER
+       compare names";
 
 fn number_after(arguments: &[String], name: &str) -> Option<u64> {
     let at = arguments.iter().position(|argument| argument == name)?;
@@ -42,11 +48,21 @@ fn run_judges(arguments: &[String]) -> Result<String, String> {
     Ok(judging::run(&Library, &Second, seed, messages)?.to_string())
 }
 
+fn write_cases(arguments: &[String]) -> Result<String, String> {
+    let folder = arguments.get(1).ok_or(USAGE)?;
+    match stored::write(Path::new(folder)) {
+        Ok(count) => Ok(format!("{count} cases\n")),
+        Err(error) => Err(error.to_string()),
+    }
+}
+
 fn main() -> ExitCode {
     let arguments: Vec<String> = std::env::args().skip(1).collect();
     let outcome = match arguments.first().map(String::as_str) {
         Some("laws") => run_laws(&arguments),
         Some("judge") => run_judges(&arguments),
+        Some("cases") => write_cases(&arguments),
+        Some("names") => Ok(stored::names(&stored::cases())),
         _ => {
             eprintln!("{USAGE}");
             return ExitCode::from(2);

@@ -1,9 +1,10 @@
 //! The desk program, run on files: it prints number, place and visits.
 
+mod common;
+
+use common::{folder, run_in};
 use std::fs;
-use std::path::{Path, PathBuf};
-use std::process::Command;
-use std::sync::atomic::{AtomicU32, Ordering};
+use std::path::Path;
 
 /// A table with a U16 and a text, and a message of it.
 const SCHEMA: &[u8] = b"\x00\x00\x00\x01\x00\x4C\x49\x43\x45\x02\x10\x00\x68\x00";
@@ -19,34 +20,8 @@ const BYTES: &[u8] = b"\x10\xBE\xDB\xDC";
 /// The most bytes of a file that the desk program takes.
 const LIMIT: usize = 65_536;
 
-fn desk() -> PathBuf {
-    let desk = Path::new(env!("CARGO_MANIFEST_DIR")).join("../../target/bin/desk");
-    assert!(
-        desk.is_file(),
-        "target/bin/desk is missing: make it with `rt check desk`"
-    );
-    desk
-}
-
-/// A new folder to run in.
-fn folder() -> PathBuf {
-    static NEXT: AtomicU32 = AtomicU32::new(0);
-    let number = NEXT.fetch_add(1, Ordering::Relaxed);
-    let folder = Path::new(env!("CARGO_TARGET_TMPDIR")).join(format!("desk-{number}"));
-    if folder.exists() {
-        fs::remove_dir_all(&folder).expect("an old folder goes away");
-    }
-    fs::create_dir_all(&folder).expect("a new folder");
-    folder
-}
-
-/// What the desk program prints in a folder, which then goes away.
-fn run_in(folder: &Path) -> String {
-    let output =
-        (Command::new(desk()).current_dir(folder).output()).expect("the desk program runs");
-    assert!(output.status.success() && output.stderr.is_empty());
-    fs::remove_dir_all(folder).expect("the folder goes away");
-    String::from_utf8(output.stdout).expect("plain letters")
+fn run(folder: &Path) -> String {
+    run_in(folder, "desk")
 }
 
 /// What the desk program prints of a schema and a message.
@@ -54,7 +29,7 @@ fn printed(schema: &[u8], message: &[u8]) -> String {
     let folder = folder();
     fs::write(folder.join("schema.bin"), schema).expect("schema.bin is written");
     fs::write(folder.join("message.bin"), message).expect("message.bin is written");
-    run_in(&folder)
+    run(&folder)
 }
 
 /// The message with one byte changed.
@@ -177,13 +152,13 @@ fn every_byte_of_the_largest_file_is_read() {
 
 #[test]
 fn missing_files() {
-    assert_eq!(run_in(&folder()), "1 0 0\n");
+    assert_eq!(run(&folder()), "1 0 0\n");
     let one = folder();
     fs::write(one.join("schema.bin"), SCHEMA).expect("schema.bin is written");
-    assert_eq!(run_in(&one), "2 0 0\n");
+    assert_eq!(run(&one), "2 0 0\n");
     let other = folder();
     fs::write(other.join("message.bin"), MESSAGE).expect("message.bin is written");
-    assert_eq!(run_in(&other), "1 0 0\n");
+    assert_eq!(run(&other), "1 0 0\n");
 }
 
 /// A folder opens and cannot be read.
@@ -192,9 +167,9 @@ fn unreadable_files() {
     let one = folder();
     fs::write(one.join("schema.bin"), SCHEMA).expect("schema.bin is written");
     fs::create_dir(one.join("message.bin")).expect("a folder of that name");
-    assert_eq!(run_in(&one), "2 0 0\n");
+    assert_eq!(run(&one), "2 0 0\n");
     let other = folder();
     fs::create_dir(other.join("schema.bin")).expect("a folder of that name");
     fs::write(other.join("message.bin"), MESSAGE).expect("message.bin is written");
-    assert_eq!(run_in(&other), "1 0 0\n");
+    assert_eq!(run(&other), "1 0 0\n");
 }

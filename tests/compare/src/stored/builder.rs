@@ -1,0 +1,242 @@
+//! A message with one object of a kind, reached in one of the ways there are.
+
+use super::Case;
+use crate::canonical::{magic, HEADER, MESSAGE_MAGIC};
+use crate::schema::*;
+
+/// How the walk comes to an object.
+#[derive(Clone, Copy, Debug, PartialEq, Eq)]
+pub enum Way {
+    Member,
+    InPlace,
+    Element,
+    Union,
+    UnionInPlace,
+    UnionElement,
+}
+
+/// Every way.
+pub const WAYS: [Way; 6] = [
+    Way::Member,
+    Way::InPlace,
+    Way::Element,
+    Way::Union,
+    Way::UnionInPlace,
+    Way::UnionElement,
+];
+
+impl Way {
+    /// Whether the object stands in place.
+    pub fn in_place(self) -> bool {
+        matches!(self, Way::InPlace | Way::UnionInPlace)
+    }
+
+    /// Whether a union names the object.
+    pub fn union(self) -> bool {
+        matches!(self, Way::Union | Way::UnionInPlace | Way::UnionElement)
+    }
+
+    /// Whether a list holds what leads to the object.
+    pub fn element(self) -> bool {
+        matches!(self, Way::Element | Way::UnionElement)
+    }
+
+    fn name(self) -> &'static str {
+        match self {
+            Way::Member => "by offset",
+            Way::InPlace => "in place",
+            Way::Element => "element",
+            Way::Union => "union",
+            Way::UnionInPlace => "union in place",
+            Way::UnionElement => "union element",
+        }
+    }
+}
+
+/// The kinds of objects.
+pub const OBJECTS: [u8; 4] = [TEXT, BYTES, LIST, TABLE];
+
+/// What a kind of object is called.
+pub fn kind_name(kind: u8) -> &'static str {
+    match kind {
+        TEXT => "text",
+        BYTES => "bytes",
+        LIST => "list",
+        _ => "table",
+    }
+}
+
+/// A number as six bytes.
+pub fn six(number: u64) -> [u8; 6] {
+    let bytes = number.to_le_bytes();
+    [bytes[0], bytes[1], bytes[2], bytes[3], bytes[4], bytes[5]]
+}
+
+/// A message, and where its parts stand.
+#[derive(Clone)]
+pub struct Setup {
+    pub way: Way,
+    pub kind: u8,
+    pub schema: Schema,
+    pub message: Vec<u8>,
+    /// Where the U48 stands that is the offset, or the length in place.
+    pub reference: usize,
+    /// Where the object is, by its place.
+    pub object: usize,
+    /// Where its length stands.
+    pub length: usize,
+    /// Where its content starts.
+    pub content: usize,
+}
+
+/// The schema: the first table has a table of its own sort and then what
+/// leads to the object.
+fn schema_of(way: Way, kind: u8) -> Schema {
+    let argument = u8::from(kind == TABLE);
+    let object = Record::plain(kind, argument);
+    let union = Record::plain(UNION, 0);
+    let (mut member, element) = match way {
+        Way::Member | Way::InPlace => (object, object),
+        Way::Union | Way::UnionInPlace => (union, object),
+        Way::Element => (Record::plain(LIST, 1), object),
+        Way::UnionElement => (Record::plain(LIST, 1), union),
+    };
+    member.in_place = way.in_place();
+    let next = Record::plain(TABLE, 0);
+    let members = vec![Record::plain(2, 0), Record::plain(BOOL, 0)];
+    let first = Table {
+        id: 0x4C49_4345,
+        members: vec![next, member],
+    };
+    let second = Table {
+        id: 0x1122_3344,
+        members,
+    };
+    Schema {
+        structs: Vec::new(),
+        lists: vec![Record::plain(2, 0), element],
+        unions: vec![vec![object, Record::plain(BYTES, 0)]],
+        tables: vec![first, second],
+        root: 0,
+    }
+}
+
+/// The length and the content of an object: a list has two U16, a table a U16
+/// and a bool.
+fn content_of(kind: u8) -> (u64, &'static [u8]) {
+    match kind {
+        TEXT => (2, b"ab\0"),
+        BYTES => (3, b"abc"),
+        LIST => (2, b"\x01\x02\x03\x04"),
+        _ => (3, b"\x01\x02\x01"),
+    }
+}
+
+impl Setup {
+    /// The object below so many tables, each of which leads to the next.
+    pub fn new(way: Way, kind: u8, tables: usize) -> Setup {
+        let mut setup = Setup {
+            way,
+            kind,
+            schema: schema_of(way, kind),
+            message: Vec::new(),
+            reference: 0,
+            object: 0,
+            length: 0,
+            content: 0,
+        };
+        setup.put(&MESSAGE_MAGIC.to_le_bytes());
+        setup.put(&six(HEADER as u64));
+        let union = matches!(way, Way::Union | Way::UnionInPlace);
+        let fixed = if union { 14 } else { 12 };
+        for i in 0..tables {
+            let next = setup.message.len() + HEADER + fixed;
+            setup.header(&Record::plain(TABLE, 0), fixed as u64);
+            let next = if i + 1 < tables { next } else { 0 };
+            setup.put(&six(next as u64));
+            if i + 1 < tables {
+                setup.put(&vec![0; fixed - 6]);
+            }
+        }
+        setup.lead();
+        setup.place();
+        setup
+    }
+
+    fn put(&mut self, bytes: &[u8]) {
+        self.message.extend_from_slice(bytes);
+    }
+
+    fn header(&mut self, record: &Record, length: u64) {
+        let magic = magic(&self.schema, record);
+        self.put(&magic.to_le_bytes());
+        self.put(&six(length));
+    }
+
+    /// Puts what leads to the object.
+    fn lead(&mut self) {
+        if self.way.element() {
+            let list = self.message.len() as u64 + 6;
+            self.put(&six(list));
+            self.header(&Record::plain(LIST, 1), 1);
+        }
+        if self.way.union() {
+            self.put(&[1, 0]);
+        }
+        self.reference = self.message.len();
+        let (length, _) = content_of(self.kind);
+        let offset = self.reference as u64 + 6;
+        self.put(&six(if self.way.in_place() { length } else { offset }));
+    }
+
+    /// Puts the object.
+    fn place(&mut self) {
+        let (length, content) = content_of(self.kind);
+        self.object = self.message.len();
+        self.length = self.reference;
+        if !self.way.in_place() {
+            self.length = self.object + 4;
+            let record = Record::plain(self.kind, u8::from(self.kind == TABLE));
+            self.header(&record, length);
+        }
+        self.content = self.message.len();
+        self.put(content);
+    }
+
+    /// What the object's cases are called.
+    pub fn group(&self) -> String {
+        format!("{} {}", kind_name(self.kind), self.way.name())
+    }
+
+    /// A message with a number of six bytes changed.
+    pub fn with(&self, at: usize, number: u64) -> Setup {
+        let mut setup = self.clone();
+        setup.message[at..at + 6].copy_from_slice(&six(number));
+        setup
+    }
+
+    /// A message with one byte changed.
+    pub fn with_byte(&self, at: usize, byte: u8) -> Setup {
+        let mut setup = self.clone();
+        setup.message[at] = byte;
+        setup
+    }
+
+    /// A message cut or filled up to so many bytes.
+    pub fn sized(&self, size: usize) -> Setup {
+        let mut setup = self.clone();
+        setup.message.resize(size, 0);
+        setup
+    }
+
+    /// The case of this message with a budget.
+    pub fn case(&self, name: &str, budget: u32) -> Case {
+        Case {
+            group: self.group(),
+            name: name.to_string(),
+            schema: self.schema.pack(),
+            message: self.message.clone(),
+            budget,
+        }
+    }
+}

@@ -1,0 +1,93 @@
+//! Stored cases: small messages made by hand to reach every refusal at every
+//! kind of object, and both sides of every test of bounds.
+//!
+//! They are kept as files beside the program that runs them: `cases.bin` has
+//! the bytes, and `stdout` what the second program answers, a line each.
+
+mod builder;
+mod depth;
+mod lists;
+mod objects;
+mod schemas;
+mod starts;
+mod structs;
+mod tables;
+
+use crate::program::{Judge, Second, Verdict};
+use std::fmt::Write;
+use std::fs;
+use std::io;
+use std::path::Path;
+
+/// One case: what it is about, and what is judged.
+#[derive(Clone, Debug)]
+pub struct Case {
+    pub group: String,
+    pub name: String,
+    pub schema: Vec<u8>,
+    pub message: Vec<u8>,
+    pub budget: u32,
+}
+
+impl Case {
+    /// What the second program answers.
+    pub fn verdict(&self) -> Verdict {
+        Second.judge(&self.schema, &self.message, self.budget)
+    }
+}
+
+/// Every case, in the order of the files.
+pub fn cases() -> Vec<Case> {
+    let mut cases = Vec::new();
+    starts::add(&mut cases);
+    objects::add(&mut cases);
+    lists::add(&mut cases);
+    tables::add(&mut cases);
+    structs::add(&mut cases);
+    depth::add(&mut cases);
+    schemas::add(&mut cases);
+    cases
+}
+
+/// The bytes of `cases.bin`.
+pub fn packed(cases: &[Case]) -> Vec<u8> {
+    let mut out = Vec::new();
+    for case in cases {
+        let lengths = [case.schema.len() as u32, case.message.len() as u32];
+        for number in [lengths[0], lengths[1], case.budget] {
+            out.extend_from_slice(&number.to_le_bytes());
+        }
+        out.extend_from_slice(&case.schema);
+        out.extend_from_slice(&case.message);
+    }
+    out
+}
+
+/// What a program that judges the cases prints.
+pub fn answers(cases: &[Case]) -> String {
+    let mut out = String::new();
+    for case in cases {
+        let verdict = case.verdict();
+        let (number, place, visits) = (verdict.number, verdict.place, verdict.visits);
+        let _ = writeln!(out, "{number} {place} {visits}");
+    }
+    out
+}
+
+/// What each case is, a line each.
+pub fn names(cases: &[Case]) -> String {
+    let mut out = String::new();
+    for (i, case) in cases.iter().enumerate() {
+        let _ = writeln!(out, "{}: {}: {}", i + 1, case.group, case.name);
+    }
+    out
+}
+
+/// Writes the files of the crate in this folder.
+pub fn write(folder: &Path) -> io::Result<usize> {
+    let cases = cases();
+    fs::create_dir_all(folder.join("data"))?;
+    fs::write(folder.join("data/cases.bin"), packed(&cases))?;
+    fs::write(folder.join("stdout"), answers(&cases))?;
+    Ok(cases.len())
+}

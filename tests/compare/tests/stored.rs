@@ -1,0 +1,131 @@
+//! The stored cases: the files are what the tool makes, the proved library
+//! answers as the second program does, and every refusal is reached at every
+//! kind of object.
+
+use compare::program::{Judge, Library};
+use compare::stored::{self, Case};
+use std::collections::{BTreeMap, BTreeSet};
+use std::fs;
+use std::path::Path;
+
+/// The numbers that an object of a kind, reached in a way, can be refused with.
+fn reached(kind: &str, way: &str) -> BTreeSet<u32> {
+    let mut numbers = BTreeSet::from([0, 4, 5, 6]);
+    if !way.ends_with("in place") {
+        numbers.insert(7);
+    }
+    if way == "union" || way == "union element" {
+        numbers.insert(9);
+    }
+    match kind {
+        "text" => numbers.insert(10),
+        "table" => numbers.insert(8),
+        _ => false,
+    };
+    numbers
+}
+
+fn numbers_by_group(cases: &[Case]) -> BTreeMap<String, BTreeSet<u32>> {
+    let mut out: BTreeMap<String, BTreeSet<u32>> = BTreeMap::new();
+    for case in cases {
+        let numbers = out.entry(case.group.clone()).or_default();
+        numbers.insert(case.verdict().number);
+    }
+    out
+}
+
+fn has(groups: &BTreeMap<String, BTreeSet<u32>>, group: &str, numbers: &BTreeSet<u32>) {
+    let seen = groups.get(group).cloned().unwrap_or_default();
+    assert!(
+        seen.is_superset(numbers),
+        "{group}: {seen:?} seen, {numbers:?} wanted"
+    );
+}
+
+#[test]
+fn stored_files_are_what_the_tool_makes() {
+    let folder = Path::new(env!("CARGO_MANIFEST_DIR")).join("../../crates/cases");
+    let cases = stored::cases();
+    let stale = "is not what `compare cases crates/cases` makes";
+    let bytes = fs::read(folder.join("data/cases.bin")).expect("cases.bin");
+    assert!(bytes == stored::packed(&cases), "data/cases.bin {stale}");
+    let answers = fs::read_to_string(folder.join("stdout")).expect("stdout");
+    assert!(answers == stored::answers(&cases), "stdout {stale}");
+}
+
+#[test]
+fn library_answers_the_stored_cases_alike() {
+    for case in stored::cases() {
+        let given = Library.judge(&case.schema, &case.message, case.budget);
+        assert_eq!(given, case.verdict(), "{}: {}", case.group, case.name);
+    }
+}
+
+#[test]
+fn every_refusal_at_every_kind_of_object() {
+    let groups = numbers_by_group(&stored::cases());
+    let ways = [
+        "by offset",
+        "in place",
+        "element",
+        "union",
+        "union in place",
+        "union element",
+    ];
+    for kind in ["text", "bytes", "list", "table"] {
+        for way in ways {
+            has(&groups, &format!("{kind} {way}"), &reached(kind, way));
+        }
+    }
+    for kind in (0..=11).chain(13..=17) {
+        for way in ["by offset", "in place"] {
+            let group = format!("list of kind {kind} {way}");
+            has(&groups, &group, &BTreeSet::from([0, 6]));
+        }
+    }
+    has(&groups, "start", &BTreeSet::from([0, 2, 3, 4, 6, 7]));
+    has(&groups, "struct", &BTreeSet::from([0, 8, 10]));
+    has(&groups, "optional struct", &BTreeSet::from([0, 8, 10]));
+    has(
+        &groups,
+        "order of members",
+        &BTreeSet::from([0, 6, 8, 9, 10]),
+    );
+    has(&groups, "table to itself", &BTreeSet::from([4, 5]));
+    has(&groups, "tables in place", &BTreeSet::from([0, 4, 5]));
+    has(&groups, "schema", &BTreeSet::from([0, 1]));
+}
+
+/// A struct behind a flag of 0 is not judged, whatever its bytes are.
+#[test]
+fn structs_behind_a_flag_of_0_are_accepted() {
+    for case in stored::cases() {
+        if case.group == "struct with flag 0" {
+            assert_eq!(case.verdict().number, 0, "{}", case.name);
+        }
+    }
+}
+
+/// Every kind of member that takes more than a byte is cut somewhere.
+#[test]
+fn every_kind_of_member_is_cut() {
+    let groups = numbers_by_group(&stored::cases());
+    for kind in 0..=17 {
+        let plain = format!("member of kind {kind}");
+        let wide = !matches!(kind, 0 | 1 | 5 | 11);
+        let numbers: &[u32] = if wide { &[0, 8] } else { &[0] };
+        has(&groups, &plain, &numbers.iter().copied().collect());
+        if kind <= 8 || kind == 12 {
+            has(
+                &groups,
+                &format!("optional {plain}"),
+                &BTreeSet::from([0, 8]),
+            );
+        }
+        if kind >= 13 {
+            let numbers: &[u32] = if kind == 17 { &[0, 8] } else { &[0, 6, 8] };
+            let numbers = numbers.iter().copied().collect();
+            has(&groups, &format!("in place {plain}"), &numbers);
+        }
+    }
+}
