@@ -727,11 +727,7 @@ fn of_one(b: &[u8], dir: &[u16], i: usize, k: Flat) -> usize
         Flat::Enumerated(_) => i,
         Flat::Struct(a) => {
             let s = wire::index(a);
-            if s < i {
-                entry(dir, 320, s)
-            } else {
-                i
-            }
+            if s < i { entry(dir, 320, s) } else { i }
         }
     }
 }
