@@ -21,6 +21,7 @@ use Rattle.laws.specs.Sizes.{struct-size-is}
 use Rattle.laws.specs.StructBooleans.{struct-ok-is}
 use Rattle.laws.specs.Parsed.{structs-length}
 use Rattle.schema.specs.Directory.{Accepted, accepted-sound}
+use Rattle.schema.specs.Representatives.{Represents}
 
 -- ---- one member
 module _ (inner : ℕ → ℕ → Bool) (m : List ℕ) (k : Flat) (at : ℕ) where
@@ -63,22 +64,32 @@ flat-weaker b i (Float w) l h = h
 flat-weaker b i (Enumerated n) l h = h
 flat-weaker b i (Struct a) l h = omega (arith, structs-length b)
 
--- ---- the members from j on
-pub all-left : (b dir m : List ℕ) → Accepted b dir → (i at : ℕ)
-    → structOk (P.parse b) m i at ≡ flatsOk (structOk (P.parse b) m) (P.parse b) m (drop 0 (Sc.structOf (P.parse b) i)) at
-all-left b dir m a i at = struct-ok-is (P.parse b) (accepted-sound b dir a) m i at
+-- ---- the representative
+pub booleans-none : (S : Schema) (m : List ℕ) (i r : ℕ) → Represents S i r → r ≡ 65535 → (at : ℕ) → true ≡ structOk S m i at
+booleans-none S m i r R e at = sym (R .none e m at)
 
-pub all-inside : (b dir m : List ℕ) → Accepted b dir → (i at : ℕ) → at + structSize (P.parse b) i ≤ length m
-    → at + total (structSize (P.parse b)) (drop 0 (Sc.structOf (P.parse b) i)) ≤ length m
-all-inside b dir m a i at h = omega (arith, struct-size-is (P.parse b) (accepted-sound b dir a) i)
+pub lower-index : (S : Schema) (i r : ℕ) → Represents S i r → (r ≡ 65535 → ⊥) → r ≤ i
+lower-index S i r R e = R .lower e
 
+pub lower-count : (b : List ℕ) (i r : ℕ) → Represents (P.parse b) i r → (r ≡ 65535 → ⊥) → i < P.structCount b → r < P.structCount b
+lower-count b i r R e l = omega (arith, R .lower e)
+
+-- its members, all of them left
+module _ (b dir m : List ℕ) (a : Accepted b dir) (i r : ℕ) (R : Represents (P.parse b) i r) (e : r ≡ 65535 → ⊥) (at : ℕ) where
+  pub all-left : structOk (P.parse b) m i at ≡ flatsOk (structOk (P.parse b) m) (P.parse b) m (drop 0 (Sc.structOf (P.parse b) r)) at
+  all-left = sym (R .booleans e m at) ∙ struct-ok-is (P.parse b) (accepted-sound b dir a) m r at
+
+  pub all-inside : at + structSize (P.parse b) i ≤ length m → at + total (structSize (P.parse b)) (drop 0 (Sc.structOf (P.parse b) r)) ≤ length m
+  all-inside h = omega (arith, R .size e, struct-size-is (P.parse b) (accepted-sound b dir a) r)
+
+-- ---- the members from j on; o is the struct that i stands for
 pub field-sound : (b dir : List ℕ) → Accepted b dir → (i j n : ℕ) → n ≡ length (Sc.structOf (P.parse b) i) → (k : Flat) → k ≡ Sc.fieldOf (P.parse b) i j → j < n
     → FlatSound i k
 unfolding Sc.fieldOf
 field-sound b dir a i j n en k e h =
     rw e (all-at (FlatSound i) Boolean (Sc.structOf (P.parse b) i) j (accepted-sound b dir a .structs i .members) (omega arith))
 
-module _ (S : Schema) (m : List ℕ) (i pos j n : ℕ) (en : n ≡ length (Sc.structOf S i)) (h : j < n) (k : Flat) (e : k ≡ Sc.fieldOf S i j) where
+module _ (S : Schema) (i pos j n : ℕ) (en : n ≡ length (Sc.structOf S i)) (h : j < n) (k : Flat) (e : k ≡ Sc.fieldOf S i j) where
   opened : drop j (Sc.structOf S i) ≡ k ∷ drop (suc j) (Sc.structOf S i)
   unfolding Sc.fieldOf
   opened = drop-cons (Sc.structOf S i) j Boolean (omega arith) ∙ ap (λ (f : Flat). f ∷ drop (suc j) (Sc.structOf S i)) (sym e)
@@ -87,33 +98,33 @@ module _ (S : Schema) (m : List ℕ) (i pos j n : ℕ) (en : n ≡ length (Sc.st
   unfolding total
   total-opened = ap (total (structSize S)) opened
 
-  pub field-inside : pos + total (structSize S) (drop j (Sc.structOf S i)) ≤ length m → pos + flatWidth (structSize S) k ≤ length m
-  field-inside l = omega (arith, total-opened)
+  pub field-inside : (top : ℕ) → pos + total (structSize S) (drop j (Sc.structOf S i)) ≤ top → pos + flatWidth (structSize S) k ≤ top
+  field-inside top l = omega (arith, total-opened)
 
-  pub next-inside : pos + total (structSize S) (drop j (Sc.structOf S i)) ≤ length m → (w : ℕ) → w ≡ flatWidth (structSize S) k
-      → pos + w + total (structSize S) (drop (j + 1) (Sc.structOf S i)) ≤ length m
-  next-inside l w ew = rw add-one (omega (arith, total-opened))
+  pub next-inside : (top : ℕ) → pos + total (structSize S) (drop j (Sc.structOf S i)) ≤ top → (w : ℕ) → w ≡ flatWidth (structSize S) k
+      → pos + w + total (structSize S) (drop (j + 1) (Sc.structOf S i)) ≤ top
+  next-inside top l w ew = rw add-one (omega (arith, total-opened))
 
-  module _ (at : ℕ) (inv : structOk S m i at ≡ flatsOk (structOk S m) S m (drop j (Sc.structOf S i)) pos) (r : Bool) (er : r ≡ flatOk (structOk S m) m k pos) where
-    turned : structOk S m i at ≡ (r && flatsOk (structOk S m) S m (drop (suc j) (Sc.structOf S i)) (pos + flatWidth (structSize S) k))
+  module _ (m : List ℕ) (o at : ℕ) (inv : structOk S m o at ≡ flatsOk (structOk S m) S m (drop j (Sc.structOf S i)) pos) (r : Bool) (er : r ≡ flatOk (structOk S m) m k pos) where
+    turned : structOk S m o at ≡ (r && flatsOk (structOk S m) S m (drop (suc j) (Sc.structOf S i)) (pos + flatWidth (structSize S) k))
     unfolding flatsOk
     turned =
         inv ∙ ap (λ (l : List Flat). flatsOk (structOk S m) S m l pos) opened
         ∙ ap (λ (t : Bool). t && flatsOk (structOk S m) S m (drop (suc j) (Sc.structOf S i)) (pos + flatWidth (structSize S) k)) (sym er)
 
-    pub booleans-bad : not r ≡ true → false ≡ structOk S m i at
+    pub booleans-bad : not r ≡ true → false ≡ structOk S m o at
     booleans-bad f =
         sym (turned ∙ ap (λ (t : Bool). t && flatsOk (structOk S m) S m (drop (suc j) (Sc.structOf S i)) (pos + flatWidth (structSize S) k)) (not-true r f))
 
-    pub booleans-turn : not r ≡ false → (w : ℕ) → w ≡ flatWidth (structSize S) k → structOk S m i at ≡ flatsOk (structOk S m) S m (drop (j + 1) (Sc.structOf S i)) (pos + w)
+    pub booleans-turn : not r ≡ false → (w : ℕ) → w ≡ flatWidth (structSize S) k → structOk S m o at ≡ flatsOk (structOk S m) S m (drop (j + 1) (Sc.structOf S i)) (pos + w)
     booleans-turn f w ew =
         turned ∙ ap (λ (t : Bool). t && flatsOk (structOk S m) S m (drop (suc j) (Sc.structOf S i)) (pos + flatWidth (structSize S) k)) (not-false r f)
         ∙ ap (λ (x : ℕ). flatsOk (structOk S m) S m (drop (suc j) (Sc.structOf S i)) (pos + x)) (sym ew)
         ∙ ap (λ (x : ℕ). flatsOk (structOk S m) S m (drop x (Sc.structOf S i)) (pos + w)) (sym (add-one j))
 
-pub booleans-done : (S : Schema) (m : List ℕ) (i at pos j n : ℕ) → n ≡ length (Sc.structOf S i)
-    → structOk S m i at ≡ flatsOk (structOk S m) S m (drop j (Sc.structOf S i)) pos → n ≤ j → true ≡ structOk S m i at
+pub booleans-done : (S : Schema) (m : List ℕ) (i o at pos j n : ℕ) → n ≡ length (Sc.structOf S i)
+    → structOk S m o at ≡ flatsOk (structOk S m) S m (drop j (Sc.structOf S i)) pos → n ≤ j → true ≡ structOk S m o at
 unfolding flatsOk
-booleans-done S m i at pos j n en inv h =
+booleans-done S m i o at pos j n en inv h =
     let l : length (Sc.structOf S i) ≤ j = omega arith in
     sym (inv ∙ ap (λ (ks : List Flat). flatsOk (structOk S m) S m ks pos) (drop-of-length-le (Sc.structOf S i) l))

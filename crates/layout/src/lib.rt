@@ -213,17 +213,22 @@ fn field_ok(b: &[u8], dir: &[u16], m: &[u8], i: usize, k: Flat, at: usize) -> bo
     }
 }
 
-// Whether each bool of the struct i at a place is a byte 0 or 1.
+// Whether each bool of the struct i at a place is a byte 0 or 1. It goes over the members of the struct's representative,
+// which are two or more or one that is no struct: the calls are no more than about twice the bytes, however deep the structs.
 pub fn struct_ok(b: &[u8], dir: &[u16], m: &[u8], i: usize, at: usize) -> bool
     requires { ⌜ (Accepted (now b) (now dir)) × (i < P.structCount (now b)) × (at + S.structSize (P.parse (now b)) i ≤ length (now m)) ⌝ }
     ensures { λ r. ⌜ r ≡ S.structOk (P.parse (now (b .entry))) (now (m .entry)) i at ⌝ }
 {
-    let n = schema::field_count(b, dir, i);
+    let s = schema::representative(b, dir, i);
+    if s == 65535 {
+        return true;
+    }
+    let n = schema::field_count(b, dir, s);
     let mut pos = at;
     let mut j: usize = 0;
     while j < n {
-        let k = schema::field(b, dir, i, j);
-        if !field_ok(b, dir, m, i, k, pos) {
+        let k = schema::field(b, dir, s, j);
+        if !field_ok(b, dir, m, s, k, pos) {
             return false;
         }
         pos += flat_width(b, dir, k);

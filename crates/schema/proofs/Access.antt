@@ -1,5 +1,5 @@
 -- What stands at the directory's places is what the typed schema has there.
-use mathlib.Core.Path.{_≡_, sym, ap, _∙_}
+use mathlib.Core.Path.{_≡_, sym, ap, _∙_, subst}
 use mathlib.Core.List.{List}
 use Prim.Native.Nat.{ℕ, _+_, _-_, _*_, _<_, _≤_}
 use native.Mathlib.Omega.{arith}
@@ -14,6 +14,7 @@ use Rattle.coding.specs.declared.Member.{Member}
 use Rattle.laws.specs.Parsed as Pa
 use Rattle.laws.specs.Rules.{struct-small}
 use Rattle.schema.specs.Directory.{Block, Accepted}
+use Rattle.schema.specs.Representatives.{Represents}
 
 module _ (b : List ℕ) (i at : ℕ) where
   -- ---- a struct's fields
@@ -84,3 +85,6 @@ module _ (b dir : List ℕ) (s r : ℕ) (A : Accepted b dir) (l : s < P.structCo
 
   pub size-small : r ≡ getD dir (256 + s) 0 → r ≤ 4096
   size-small e = let q : r ≡ S.structSize (P.parse b) s = size-is e in omega (arith, struct-small b (A .lawful) s l)
+
+  pub representative-is : r ≡ getD dir (320 + s) 0 → Represents (P.parse b) s r
+  representative-is e = subst (Represents (P.parse b) s) (sym e) (A .representatives s l)

@@ -7,4 +7,5 @@ pub mod Placing
 pub mod Access
 pub mod FieldSizes
 pub mod StructRules
+pub mod Representing
 pub mod PartRules

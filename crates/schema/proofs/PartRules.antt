@@ -12,9 +12,11 @@ use Rattle.coding.specs.Packed as P
 use Rattle.coding.specs.Lawful as L
 use Rattle.coding.specs.declared.Role.the-variants.{InList, InUnion, InTable}
 use Rattle.laws.specs.Lists.{every-none, every-more, every-fail, never}
+use Rattle.laws.specs.Sound.{Sound}
+use Rattle.laws.specs.LawfulSound.{lawful-sound}
 use Rattle.schema.specs.declared.Part.{Part}
 use Rattle.schema.specs.declared.Part.the-variants.{Lists, Unions, Tables, Ids}
-use Rattle.schema.specs.Directory.{Directory, Placed, Block, StructsJudged, Judged}
+use Rattle.schema.specs.Directory.{Directory, Placed, Block, StructsJudged, Represented, Judged}
 use Rattle.schema.specs.Parts as Pa
 
 module _ (b : List ℕ) (i at : ℕ) where
@@ -159,13 +161,29 @@ module _ (b dir : List ℕ) (g : Bool) (s : Placed b dir (L.shapeOk b) g) where
       pub judged-2 : not r ≡ true → Judged b d false
       judged-2 q = record { is = rw (parts-of b) (simp (← (s .is), not-false g h, ← (z .is), not-true r q)); right = never }
 
-      module _ (q : not r ≡ false) (bytes : (i : ℕ) → getD b i 0 < 256) (t : Bool) (e : t ≡ Pa.restLawful b) where
+      module _ (q : not r ≡ false) (t : Bool) (e : t ≡ Pa.restLawful b) where
         is : t ≡ L.lawful b
         is = rw (parts-of b) (simp (← (s .is), not-false g h, ← (z .is), not-false r q) e)
 
-        pub judged-3 : Judged b d t
-        judged-3 =
-            record {
-              is = is;
-              right = λ w. record { directory = z .directory; sizes = z .sizes (not-false r q); bytes = bytes; lawful = sym is ∙ w };
-            }
+        pub judged-3 : not t ≡ true → Judged b d false
+        judged-3 w = record { is = sym (not-true t w) ∙ is; right = never }
+
+        module _ (w : not t ≡ false) (bytes : (i : ℕ) → getD b i 0 < 256) where
+          lawful : L.lawful b ≡ true
+          lawful = sym is ∙ not-false t w
+
+          pub judged-sound : Sound (P.parse b)
+          judged-sound = lawful-sound b bytes lawful
+
+          pub judged-4 : (d′ : List ℕ) → Represented b d′ → Judged b d′ true
+          judged-4 d′ R =
+              record {
+                is = sym lawful;
+                right = λ q. record {
+                  directory = R .directory;
+                  sizes = R .sizes;
+                  representatives = R .representatives;
+                  bytes = bytes;
+                  lawful = lawful;
+                };
+              }

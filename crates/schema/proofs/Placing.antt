@@ -64,7 +64,7 @@ module _ (b : List ℕ) (ns nl nu nt : ℕ) (es : ns ≡ P.structCount b) (el : 
       unfolding L.placesOk
       places-3 z = record { is = simp (structs-good, unions-good, ← tables-at, ← et, bad b 4 0 64 q nt 192 d₃ d₄ e v z (omega arith)); right = never }
 
-      module _ (h : e ≡ 0 → ⊥) (ms : ns ≤ 64) (ml : nl ≤ 64) (mu : nu ≤ 64) (mt : nt ≤ 64) (k₀ : length d₀ ≡ 320) (k₁ : length d₁ ≡ length d₀) (k₂ : length d₂ ≡ length d₁) (k₃ : length d₃ ≡ length d₂) (k₄ : length d₄ ≡ length d₃) where
+      module _ (h : e ≡ 0 → ⊥) (ms : ns ≤ 64) (ml : nl ≤ 64) (mu : nu ≤ 64) (mt : nt ≤ 64) (k₀ : length d₀ ≡ 384) (k₁ : length d₁ ≡ length d₀) (k₂ : length d₂ ≡ length d₁) (k₃ : length d₃ ≡ length d₂) (k₄ : length d₄ ≡ length d₃) where
         ends-at : e ≡ P.tablePlace b (P.tableCount b)
         unfolding P.tablePlace
         ends-at = rw (← tables-at, ← et) (ends b 4 0 64 q nt 192 d₃ d₄ e v h)

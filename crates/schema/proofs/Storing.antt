@@ -19,13 +19,13 @@ pub record Storing (b : List ℕ) (base n head low high start : ℕ) (d₀ d : L
   pub in-range : i ≤ n
   pub here : at ≡ P.blocks b head start i
   pub bound : at ≤ start + 133 * i
-  pub long : length d ≡ 320
+  pub long : length d ≡ 384
   pub good : L.blocksOk b head low high start i ≡ true
   pub entries : (k : ℕ) → k < i → getD d (base + k) 0 ≡ P.blocks b head start k
   pub kept : (k : ℕ) → k < base → getD d k 0 ≡ getD d₀ k 0
 
 module _ (b : List ℕ) (base n head low high start : ℕ) (d₀ : List ℕ) where
-  pub begins : length d₀ ≡ 320 → Storing b base n head low high start d₀ d₀ start 0
+  pub begins : length d₀ ≡ 384 → Storing b base n head low high start d₀ d₀ start 0
   unfolding L.blocksOk P.blocks
   begins l = record { in-range = omega arith; here = refl; bound = omega arith; long = l; good = every-none _; entries = λ k m. absurd (omega arith); kept = λ k m. refl }
 

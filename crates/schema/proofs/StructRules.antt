@@ -20,6 +20,22 @@ pub fields-ok-is : (b : List ℕ) (i at : ℕ) (r : Bool) → Block b 0 (P.struc
     → r ≡ L.recordsOk b (InStruct i) 0 (P.structPlace b i)
 fields-ok-is b i at r B e = e ∙ rw (B .is)
 
+-- what is stored from 256 on leaves the directory as it is
+pub directory-kept : (b d d′ : List ℕ) → Directory b d → length d′ ≡ length d → ((k : ℕ) → k < 256 → getD d′ k 0 ≡ getD d k 0) → Directory b d′
+directory-kept b d d′ D e kept =
+    record {
+      long = e ∙ D .long;
+      ends = D .ends;
+      fewStructs = D .fewStructs;
+      fewLists = D .fewLists;
+      fewUnions = D .fewUnions;
+      fewTables = D .fewTables;
+      structs = λ k m. kept (0 + k) (omega (arith, D .fewStructs)) ∙ D .structs k m;
+      lists = kept 64 (omega arith) ∙ D .lists;
+      unions = λ k m. kept (128 + k) (omega (arith, D .fewUnions)) ∙ D .unions k m;
+      tables = λ k m. kept (192 + k) (omega (arith, D .fewTables)) ∙ D .tables k m;
+    }
+
 -- the loop's invariant: i structs are lawful, and their sizes stored
 pub record Sizing (b d : List ℕ) (n i : ℕ) : Type 0 where
   pub in-range : i ≤ n
@@ -76,18 +92,7 @@ module _ (b d : List ℕ) (n : ℕ) where
               let f : 256 + i < length d = omega (arith, D .long, D .fewStructs) in
               record {
                 in-range = omega arith;
-                directory = record {
-                  long = ap length ed ∙ simp length-set (D .long);
-                  ends = D .ends;
-                  fewStructs = D .fewStructs;
-                  fewLists = D .fewLists;
-                  fewUnions = D .fewUnions;
-                  fewTables = D .fewTables;
-                  structs = λ k m. kept (0 + k) (omega (arith, D .fewStructs)) ∙ D .structs k m;
-                  lists = kept 64 (omega arith) ∙ D .lists;
-                  unions = λ k m. kept (128 + k) (omega (arith, D .fewUnions)) ∙ D .unions k m;
-                  tables = λ k m. kept (192 + k) (omega (arith, D .fewTables)) ∙ D .tables k m;
-                };
+                directory = directory-kept b d d′ D (ap length ed ∙ length-set d (256 + i) z) kept;
                 sizes = below-more (λ (k : ℕ). getD d′ (256 + k) 0 ≡ S.structSize (P.parse b) k) i
                     (λ k m. ap (λ (x : List ℕ). getD x (256 + k) 0) ed ∙ getD-set-other d (256 + i) (256 + k) z 0 (λ q. omega arith) ∙ g .sizes k m)
                     (ap (λ (x : List ℕ). getD x (256 + i) 0) ed ∙ getD-set-same d (256 + i) z 0 f ∙ ez);

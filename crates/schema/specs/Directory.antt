@@ -10,6 +10,7 @@ use Rattle.coding.specs.Lawful.{blocksOk, structLawful, lawful}
 use Rattle.coding.specs.Structs.{structSize}
 use Rattle.laws.specs.Sound.{Sound}
 use Rattle.laws.specs.LawfulSound.{lawful-sound}
+use Rattle.schema.specs.Representatives.{Representatives}
 
 -- n blocks were gone over, and their places stored from `base` on
 pub record Stored (b : List ℕ) (head low high start n base : ℕ) (before now : List ℕ) (r : ℕ) : Type 0 where
@@ -19,7 +20,7 @@ pub record Stored (b : List ℕ) (head low high start n base : ℕ) (before now 
 
 -- structs from 0, the first list's place at 64, unions from 128, tables from 192
 pub record Directory (b dir : List ℕ) : Type 0 where
-  pub long : length dir ≡ 320
+  pub long : length dir ≡ 384
   pub ends : tablePlace b (tableCount b) ≡ length b
   pub fewStructs : structCount b ≤ 64
   pub fewLists : listCount b ≤ 64
@@ -55,10 +56,17 @@ pub record StructsJudged (b dir : List ℕ) (r : Bool) : Type 0 where
   pub directory : Directory b dir
   pub sizes : r ≡ true → Sizes b dir (structCount b)
 
+-- the directory is whole: the representatives of all structs are stored too
+pub record Represented (b dir : List ℕ) : Type 0 where
+  pub directory : Directory b dir
+  pub sizes : Sizes b dir (structCount b)
+  pub representatives : Representatives b dir (structCount b)
+
 -- what a lawful schema with its directory gives to those who read a message by it
 pub record Accepted (b dir : List ℕ) : Type 0 where
   pub directory : Directory b dir
   pub sizes : Sizes b dir (structCount b)
+  pub representatives : Representatives b dir (structCount b)
   pub bytes : (i : ℕ) → getD b i 0 < 256
   pub lawful : lawful b ≡ true
 

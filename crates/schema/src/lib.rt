@@ -1,7 +1,7 @@
 // The packed schema: whether it is lawful, where everything in it stands, and what stands there.
 //
-// The directory is an array of 320 numbers that the caller lends: where each struct stands from 0 on, the first list at 64,
-// the unions from 128 and the tables from 192 on; from 256 on the size of each struct.
+// The directory is an array of 384 numbers that the caller lends: where each struct stands from 0 on, the first list at 64,
+// the unions from 128 and the tables from 192 on; from 256 on the size of each struct, and from 320 on its representative.
 use coding::Flat;
 use coding::Kind;
 use coding::Member;
@@ -16,7 +16,9 @@ ghost use Rattle.coding.specs.Lawful as L;
 ghost use Rattle.coding.specs.Schema as Sc;
 ghost use Rattle.coding.specs.Structs as S;
 ghost use Rattle.coding.specs.Lists as Li;
-ghost use Rattle.schema.specs.Directory.{Stored, Directory, Placed, Block, StructsJudged, Sizes, SmallBelow, Accepted, Judged};
+ghost use Rattle.schema.specs.Directory.{Stored, Directory, Placed, Block, StructsJudged, Sizes, SmallBelow, Represented, Accepted, Judged};
+ghost use Rattle.schema.specs.Representatives.{Represents, Representatives, FieldFree, StructFree};
+ghost use Rattle.laws.specs.Sound.{Sound};
 ghost use Rattle.schema.specs.Parts as Pa;
 
 // ---- one record, at its place
@@ -199,7 +201,7 @@ fn blocks(
     high: usize,
     start: usize,
 ) -> usize
-    requires { ⌜ (length (now dir) ≡ 320) × (head ≤ 4) × (high ≤ 64) × (n ≤ 64) × (base ≤ 192) × (0 < start) × (start + 133 * n < 65536) ⌝ }
+    requires { ⌜ (length (now dir) ≡ 384) × (head ≤ 4) × (high ≤ 64) × (n ≤ 64) × (base ≤ 192) × (0 < start) × (start + 133 * n < 65536) ⌝ }
     ensures { λ r. ⌜ (Stored (now (b .entry)) head low high start n base (now (dir .entry)) (now (dir .exit)) r) × (r ≤ start + 133 * n) ⌝ }
 {
     let mut at = start;
@@ -220,7 +222,7 @@ fn blocks(
 }
 
 fn places(b: &[u8], dir: &mut [u16], ns: usize, nl: usize, nu: usize, nt: usize) -> bool
-    requires { ⌜ (length (now dir) ≡ 320) × (ns ≡ P.structCount (now b)) × (nl ≡ P.listCount (now b)) × (nu ≡ P.unionCount (now b)) × (nt ≡ P.tableCount (now b)) ⌝ }
+    requires { ⌜ (length (now dir) ≡ 384) × (ns ≡ P.structCount (now b)) × (nl ≡ P.listCount (now b)) × (nu ≡ P.unionCount (now b)) × (nt ≡ P.tableCount (now b)) ⌝ }
     requires { ⌜ (ns ≤ 64) × (nl ≤ 64) × (nu ≤ 64) × (nt ≤ 64) ⌝ }
     ensures { λ r. ⌜ Placed (now (b .entry)) (now (dir .exit)) (L.placesOk (now (b .entry))) r ⌝ }
 {
@@ -241,7 +243,7 @@ fn places(b: &[u8], dir: &mut [u16], ns: usize, nl: usize, nu: usize, nt: usize)
 }
 
 fn shape(b: &[u8], dir: &mut [u16]) -> bool
-    requires { ⌜ length (now dir) ≡ 320 ⌝ }
+    requires { ⌜ length (now dir) ≡ 384 ⌝ }
     ensures { λ r. ⌜ Placed (now (b .entry)) (now (dir .exit)) (L.shapeOk (now (b .entry))) r ⌝ }
 {
     let ns = count(b, 0);
@@ -271,7 +273,7 @@ fn shape(b: &[u8], dir: &mut [u16]) -> bool
 
 // ---- where things stand, by the directory
 fn entry(dir: &[u16], base: usize, i: usize) -> usize
-    requires { ⌜ (base + i < length (now dir)) × (base ≤ 256) × (i < 64) ⌝ }
+    requires { ⌜ (base + i < length (now dir)) × (base ≤ 320) × (i < 64) ⌝ }
     ensures { λ r. ⌜ (r ≡ getD (now (dir .entry)) (base + i) 0) × (r < 65536) ⌝ }
 {
     dir[base + i] as usize
@@ -674,10 +676,92 @@ fn rules(b: &[u8], dir: &[u16]) -> bool
     parts_ok(b, dir, Part::Ids)
 }
 
+// ---- representatives: the struct by which the booleans of a struct are judged. A struct whose one member is a struct has
+// the representative of that member, so that a chain of such structs is gone over once for the whole schema and not for
+// every value; 65535 stands for a struct without a bool.
+fn field_free(b: &[u8], dir: &[u16], i: usize, k: Flat) -> bool
+    requires { ⌜ (Directory (now b) (now dir)) × (Representatives (now b) (now dir) i) × (i < P.structCount (now b)) ⌝ }
+    ensures { λ r. ⌜ FieldFree (P.parse (now (b .entry))) k r ⌝ }
+{
+    match k {
+        Flat::Boolean => false,
+        Flat::Integer(_, _) => true,
+        Flat::Float(_) => true,
+        Flat::Enumerated(_) => true,
+        Flat::Struct(a) => {
+            let s = wire::index(a);
+            if s < i {
+                entry(dir, 320, s) == 65535
+            } else {
+                false
+            }
+        }
+    }
+}
+
+fn fields_free(b: &[u8], dir: &[u16], i: usize) -> bool
+    requires { ⌜ (Directory (now b) (now dir)) × (Representatives (now b) (now dir) i) × (i < P.structCount (now b)) × Sound (P.parse (now b)) ⌝ }
+    ensures { λ r. ⌜ StructFree (P.parse (now (b .entry))) i r ⌝ }
+{
+    let n = field_count(b, dir, i);
+    let mut j: usize = 0;
+    while j < n {
+        if !field_free(b, dir, i, field(b, dir, i, j)) {
+            return false;
+        }
+        j += 1;
+    }
+    true
+}
+
+// The representative of a struct with one member.
+fn of_one(b: &[u8], dir: &[u16], i: usize, k: Flat) -> usize
+    requires { ⌜ (Directory (now b) (now dir)) × (Representatives (now b) (now dir) i) × (i < P.structCount (now b)) × Sound (P.parse (now b)) ⌝ }
+    requires { ⌜ (length (Sc.structOf (P.parse (now b)) i) ≡ 1) × (k ≡ Sc.fieldOf (P.parse (now b)) i 0) ⌝ }
+    ensures { λ r. ⌜ (Represents (P.parse (now (b .entry))) i r) × (r < 65536) ⌝ }
+{
+    match k {
+        Flat::Boolean => i,
+        Flat::Integer(_, _) => i,
+        Flat::Float(_) => i,
+        Flat::Enumerated(_) => i,
+        Flat::Struct(a) => {
+            let s = wire::index(a);
+            if s < i { entry(dir, 320, s) } else { i }
+        }
+    }
+}
+
+fn find_representative(b: &[u8], dir: &[u16], i: usize) -> usize
+    requires { ⌜ (Directory (now b) (now dir)) × (Representatives (now b) (now dir) i) × (i < P.structCount (now b)) × Sound (P.parse (now b)) ⌝ }
+    ensures { λ r. ⌜ (Represents (P.parse (now (b .entry))) i r) × (r < 65536) ⌝ }
+{
+    if fields_free(b, dir, i) {
+        return 65535;
+    }
+    if field_count(b, dir, i) == 1 {
+        return of_one(b, dir, i, field(b, dir, i, 0));
+    }
+    i
+}
+
+fn store_representatives(b: &[u8], dir: &mut [u16])
+    requires { ⌜ (Directory (now b) (now dir)) × (Sizes (now b) (now dir) (P.structCount (now b))) × Sound (P.parse (now b)) ⌝ }
+    ensures { λ _. ⌜ Represented (now (b .entry)) (now (dir .exit)) ⌝ }
+{
+    let n = count(b, 0);
+    let mut i: usize = 0;
+    while i < n {
+        let r = find_representative(b, dir, i);
+        put(dir, 320 + i, r);
+        i += 1;
+    }
+}
+
 // ---- the whole schema
 // Whether the bytes are a lawful schema; where they are, the directory says where everything stands.
 pub fn judge_schema(b: &[u8], dir: &mut [u16]) -> bool
-    requires { ⌜ length (now dir) ≡ 320 ⌝ }
+    requires { ⌜ length (now dir) ≡ 384 ⌝ }
     ensures { λ r. ⌜ Judged (now (b .entry)) (now (dir .exit)) r ⌝ }
 {
     if !shape(b, dir) {
@@ -686,14 +770,18 @@ pub fn judge_schema(b: &[u8], dir: &mut [u16]) -> bool
     if !structs_ok(b, dir) {
         return false;
     }
-    rules(b, dir)
+    if !rules(b, dir) {
+        return false;
+    }
+    store_representatives(b, dir);
+    true
 }
 
 // The same with a directory of its own.
 pub fn is_lawful(b: &[u8]) -> bool
     ensures { λ r. ⌜ r ≡ L.lawful (now (b .entry)) ⌝ }
 {
-    let mut dir: [u16; 320] = [0; 320];
+    let mut dir: [u16; 384] = [0; 384];
     judge_schema(b, &mut dir)
 }
 
@@ -703,4 +791,12 @@ pub fn stored_size(b: &[u8], dir: &[u16], s: usize) -> usize
     ensures { λ r. ⌜ (r ≡ S.structSize (P.parse (now (b .entry))) s) × (r ≤ 4096) ⌝ }
 {
     entry(dir, 256, s)
+}
+
+// A struct's representative, as it was stored.
+pub fn representative(b: &[u8], dir: &[u16], s: usize) -> usize
+    requires { ⌜ (Accepted (now b) (now dir)) × (s < P.structCount (now b)) ⌝ }
+    ensures { λ r. ⌜ (Represents (P.parse (now (b .entry))) s r) × (r < 65536) ⌝ }
+{
+    entry(dir, 320, s)
 }

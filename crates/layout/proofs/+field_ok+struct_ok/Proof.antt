@@ -6,7 +6,7 @@ use lib.ListN.{length, drop}
 use Rattle.coding.specs.Packed as P
 use Rattle.coding.specs.Schema as Sc
 use Rattle.coding.specs.Structs.{total, structSize, flatsOk, structOk}
-use Rattle.layout.proofs.Booleans.{field-boolean, field-integer, field-float, field-enum, field-struct, boolean-inside, struct-inside, struct-lower, flat-weaker, all-left, all-inside, field-sound, field-inside, next-inside, booleans-bad, booleans-turn, booleans-done}
+use Rattle.layout.proofs.Booleans.{field-boolean, field-integer, field-float, field-enum, field-struct, boolean-inside, struct-inside, struct-lower, flat-weaker, booleans-none, lower-index, lower-count, all-left, all-inside, field-sound, field-inside, next-inside, booleans-bad, booleans-turn, booleans-done}
 use borrow.Fn.Kinds.{In}
 use borrow.Fn.PlainCycle.{Measures, is, falls, and}
 use Rattle.layout.proofs.field_ok.Reads as field-ok
@@ -18,6 +18,7 @@ use Rattle.layout.proofs.+field_ok+struct_ok.Lts-struct_ok as struct-ok
 use Rattle.layout.proofs.flat_width.Reads as flat-width-reads
 use Rattle.schema.proofs.field.Reads as field-reads
 use Rattle.schema.proofs.field_count.Reads as field-count-reads
+use Rattle.schema.proofs.representative.Reads as representative-reads
 use Rattle.wire.proofs.byte_in.Reads as byte-in-reads
 use Rattle.wire.proofs.index.Reads as index-reads
 use Rattle.layout.proofs.+field_ok+struct_ok.{statement}
@@ -47,113 +48,103 @@ abbrev field-ok-R : ℕ → field-ok-lts.Claims
 field-ok-R t = (byte-in-reads.Asked, byte-in-reads.Learnt, index-reads.Asked, index-reads.Learnt, struct-ok-below t, struct-ok.Post)
 
 abbrev struct-ok-R : ℕ → struct-ok-lts.Claims
-struct-ok-R t = (field-count-reads.Asked, field-count-reads.Learnt, field-reads.Asked, field-reads.Learnt, field-ok-below t, field-ok.Post, flat-width-reads.Asked, flat-width-reads.Learnt)
+struct-ok-R t = (representative-reads.Asked, representative-reads.Learnt, field-count-reads.Asked, field-count-reads.Learnt, field-reads.Asked, field-reads.Learnt, field-ok-below t, field-ok.Post, flat-width-reads.Asked, flat-width-reads.Learnt)
 
--- src/lib.rt:208:26
 field-ok-enum-told : (t : ℕ) → field-ok-lts.Need-enum-told (field-ok-R t) (field-ok-at t) field-ok.Post
 field-ok-enum-told t c = search needs
 
--- src/lib.rt:208:26
 field-ok-byte-in-requires : (t : ℕ) → field-ok-lts.Need-byte-in-requires (field-ok-R t) (field-ok-at t) field-ok.Post
 field-ok-byte-in-requires t c κs = search (boolean-inside, needs)
 
--- src/lib.rt:209:32
 field-ok-enum-told-2 : (t : ℕ) → field-ok-lts.Need-enum-told-2 (field-ok-R t) (field-ok-at t) field-ok.Post
 field-ok-enum-told-2 t c = search needs
 
--- src/lib.rt:210:27
 field-ok-enum-told-3 : (t : ℕ) → field-ok-lts.Need-enum-told-3 (field-ok-R t) (field-ok-at t) field-ok.Post
 field-ok-enum-told-3 t c = search needs
 
--- src/lib.rt:211:32
 field-ok-enum-told-4 : (t : ℕ) → field-ok-lts.Need-enum-told-4 (field-ok-R t) (field-ok-at t) field-ok.Post
 field-ok-enum-told-4 t c = search needs
 
--- src/lib.rt:212:22
 field-ok-enum-known-k : (t : ℕ) → field-ok-lts.Need-enum-known-k (field-ok-R t) (field-ok-at t) field-ok.Post
 field-ok-enum-known-k t c = search needs
 
--- src/lib.rt:212:49
 field-ok-index-requires : (t : ℕ) → field-ok-lts.Need-index-requires (field-ok-R t) (field-ok-at t) field-ok.Post
 field-ok-index-requires t c κs = search needs
 
--- src/lib.rt:212:28
 field-ok-struct-ok-requires : (t : ℕ) → field-ok-lts.Need-struct-ok-requires (field-ok-R t) (field-ok-at t) field-ok.Post
 field-ok-struct-ok-requires t c κs =
     let l : c .index .result < c .before .before .before .before .before .before .before .args .i = search struct-lower in
     (omega arith, (search needs, omega arith, search struct-inside))
 
--- src/lib.rt:202:1
 field-ok-returns : (t : ℕ) → field-ok-lts.Need-returns (field-ok-R t) (field-ok-at t) field-ok.Post
 field-ok-returns t c = search field-boolean
 
--- src/lib.rt:202:1
 field-ok-returns-2 : (t : ℕ) → field-ok-lts.Need-returns-2 (field-ok-R t) (field-ok-at t) field-ok.Post
 field-ok-returns-2 t c = search field-integer
 
--- src/lib.rt:202:1
 field-ok-returns-3 : (t : ℕ) → field-ok-lts.Need-returns-3 (field-ok-R t) (field-ok-at t) field-ok.Post
 field-ok-returns-3 t c = search field-float
 
--- src/lib.rt:202:1
 field-ok-returns-4 : (t : ℕ) → field-ok-lts.Need-returns-4 (field-ok-R t) (field-ok-at t) field-ok.Post
 field-ok-returns-4 t c = search field-enum
 
--- src/lib.rt:202:1
 field-ok-returns-5 : (t : ℕ) → field-ok-lts.Need-returns-5 (field-ok-R t) (field-ok-at t) field-ok.Post
 field-ok-returns-5 t c = search field-struct
 
 abbrev struct-ok-Inv-loop : struct-ok-lts.InvT-loop
-struct-ok-Inv-loop b dir m i at n pos₀ j₀ pos j =
-    (j ≤ n) × (structOk (P.parse b) m i at ≡ flatsOk (structOk (P.parse b) m) (P.parse b) m (drop j (Sc.structOf (P.parse b) i)) pos)
-    × (pos + total (structSize (P.parse b)) (drop j (Sc.structOf (P.parse b) i)) ≤ length m)
+struct-ok-Inv-loop b dir m i at s n pos₀ j₀ pos j =
+    (j ≤ n) × (structOk (P.parse b) m i at ≡ flatsOk (structOk (P.parse b) m) (P.parse b) m (drop j (Sc.structOf (P.parse b) s)) pos)
+    × (pos + total (structSize (P.parse b)) (drop j (Sc.structOf (P.parse b) s)) ≤ length m) × (s < P.structCount b) × (s ≤ i)
 
 abbrev struct-ok-μ-loop : struct-ok-lts.MeasureT-loop
-struct-ok-μ-loop b dir m i at n pos₀ j₀ pos j = n - j
+struct-ok-μ-loop b dir m i at s n pos₀ j₀ pos j = n - j
 
--- src/lib.rt:221:9
+struct-ok-representative-requires : (t : ℕ) → struct-ok-lts.Need-representative-requires (struct-ok-R t) (struct-ok-at t) struct-ok.Post struct-ok-Inv-loop struct-ok-μ-loop
+struct-ok-representative-requires t c κs = search needs
+
+struct-ok-returns : (t : ℕ) → struct-ok-lts.Need-returns (struct-ok-R t) (struct-ok-at t) struct-ok.Post struct-ok-Inv-loop struct-ok-μ-loop
+struct-ok-returns t c = search booleans-none
+
 struct-ok-field-count-requires : (t : ℕ) → struct-ok-lts.Need-field-count-requires (struct-ok-R t) (struct-ok-at t) struct-ok.Post struct-ok-Inv-loop struct-ok-μ-loop
-struct-ok-field-count-requires t c κs = search needs
+struct-ok-field-count-requires t c κs = search (lower-count, needs)
 
--- src/lib.rt:224:5
 struct-ok-loop-holds : (t : ℕ) → struct-ok-lts.Need-loop-holds (struct-ok-R t) (struct-ok-at t) struct-ok.Post struct-ok-Inv-loop struct-ok-μ-loop
-struct-ok-loop-holds t c = (omega arith, search all-left, search all-inside)
+struct-ok-loop-holds t c = (omega arith, search all-left, search all-inside, search lower-count, search lower-index)
 
--- src/lib.rt:225:13
 struct-ok-field-requires : (t : ℕ) → struct-ok-lts.Need-field-requires (struct-ok-R t) (struct-ok-at t) struct-ok.Post struct-ok-Inv-loop struct-ok-μ-loop
 struct-ok-field-requires t c κs = search needs
 
--- src/lib.rt:226:13
 struct-ok-field-ok-requires : (t : ℕ) → struct-ok-lts.Need-field-ok-requires (struct-ok-R t) (struct-ok-at t) struct-ok.Post struct-ok-Inv-loop struct-ok-μ-loop
 struct-ok-field-ok-requires t c κs = search (field-sound, field-inside, needs)
 
--- src/lib.rt:227:13
-struct-ok-returns : (t : ℕ) → struct-ok-lts.Need-returns (struct-ok-R t) (struct-ok-at t) struct-ok.Post struct-ok-Inv-loop struct-ok-μ-loop
-struct-ok-returns t c = search booleans-bad
+struct-ok-returns-2 : (t : ℕ) → struct-ok-lts.Need-returns-2 (struct-ok-R t) (struct-ok-at t) struct-ok.Post struct-ok-Inv-loop struct-ok-μ-loop
+struct-ok-returns-2 t c = search booleans-bad
 
--- src/lib.rt:229:16
 struct-ok-flat-width-requires : (t : ℕ) → struct-ok-lts.Need-flat-width-requires (struct-ok-R t) (struct-ok-at t) struct-ok.Post struct-ok-Inv-loop struct-ok-μ-loop
 struct-ok-flat-width-requires t c κs = search (flat-weaker, field-sound, needs)
 
--- src/lib.rt:229:9
 struct-ok-add-pos : (t : ℕ) → struct-ok-lts.Need-add-pos (struct-ok-R t) (struct-ok-at t) struct-ok.Post struct-ok-Inv-loop struct-ok-μ-loop
 struct-ok-add-pos t c = search needs
 
--- src/lib.rt:230:9
 struct-ok-add-j : (t : ℕ) → struct-ok-lts.Need-add-j (struct-ok-R t) (struct-ok-at t) struct-ok.Post struct-ok-Inv-loop struct-ok-μ-loop
 struct-ok-add-j t c = search needs
 
--- src/lib.rt:224:5
 struct-ok-loop-less : (t : ℕ) → struct-ok-lts.Need-loop-less (struct-ok-R t) (struct-ok-at t) struct-ok.Post struct-ok-Inv-loop struct-ok-μ-loop
 struct-ok-loop-less t c = search needs
 
--- src/lib.rt:224:5
 struct-ok-loop-again : (t : ℕ) → struct-ok-lts.Need-loop-again (struct-ok-R t) (struct-ok-at t) struct-ok.Post struct-ok-Inv-loop struct-ok-μ-loop
-struct-ok-loop-again t c = (omega arith, search booleans-turn, search next-inside)
+struct-ok-loop-again t c =
+    let e = c .before in
+    let o = e .before in
+    let f = o .before in
+    let w = f .before in
+    let l = w .before in
+    let n = l .before .field-count .ensures .0 in
+    let v = l .loop .inv in
+    (omega arith, booleans-turn _ _ _ _ _ n (w .loop-test .taken) _ (f .field .ensures) _ _ _ (v .1) _ (o .field-ok .ensures) (e .if2 .left) _ (c .flat-width .ensures .0), next-inside _ _ _ _ _ n (w .loop-test .taken) _ (f .field .ensures) _ (v .2) _ (c .flat-width .ensures .0), v .3, v .4)
 
--- src/lib.rt:217:1
-struct-ok-returns-2 : (t : ℕ) → struct-ok-lts.Need-returns-2 (struct-ok-R t) (struct-ok-at t) struct-ok.Post struct-ok-Inv-loop struct-ok-μ-loop
-struct-ok-returns-2 t c = search booleans-done
+struct-ok-returns-3 : (t : ℕ) → struct-ok-lts.Need-returns-3 (struct-ok-R t) (struct-ok-at t) struct-ok.Post struct-ok-Inv-loop struct-ok-μ-loop
+struct-ok-returns-3 t c = search booleans-done
 
 pub +field-ok+struct-ok-spec : {M : Type 1} → statement M
 +field-ok+struct-ok-spec = close μ-field-ok μ-struct-ok (λ t. field-ok-lts.spec (field-ok-R t)
@@ -177,14 +168,16 @@ pub +field-ok+struct-ok-spec : {M : Type 1} → statement M
     struct-ok.Post
     struct-ok-Inv-loop
     struct-ok-μ-loop
+    (struct-ok-representative-requires t)
+    (struct-ok-returns t)
     (struct-ok-field-count-requires t)
     (struct-ok-loop-holds t)
     (struct-ok-field-requires t)
     (struct-ok-field-ok-requires t)
-    (struct-ok-returns t)
+    (struct-ok-returns-2 t)
     (struct-ok-flat-width-requires t)
     (struct-ok-add-pos t)
     (struct-ok-add-j t)
     (struct-ok-loop-less t)
     (struct-ok-loop-again t)
-    (struct-ok-returns-2 t)
+    (struct-ok-returns-3 t)

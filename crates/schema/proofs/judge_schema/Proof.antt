@@ -1,5 +1,6 @@
 -- `schema::judge_schema` meets its contract: the shape, the structs and the other rules together are the definition.
-use Rattle.schema.proofs.PartRules.{shaped, judged-1, judged-2, judged-3}
+use borrow.Author.Tests.{not-false}
+use Rattle.schema.proofs.PartRules.{shaped, judged-1, judged-2, judged-3, judged-sound, judged-4}
 use borrow.Author.Needs.{needs}
 use Rattle.schema.proofs.judge_schema.Statement.{statement}
 use Rattle.schema.proofs.judge_schema.Tie as tie
@@ -29,13 +30,33 @@ same-length-3 : tie.Need-same-length-3
 same-length-3 c = search needs
 
 returns-3 : tie.Need-returns-3
-returns-3 c =
-    let u = c .before .before in
+returns-3 c = search judged-3
+
+store-representatives-requires : tie.Need-store-representatives-requires
+store-representatives-requires c κs =
+    let e = c .before in
+    let t = e .before in
+    let u = t .before .before in
     let z = u .before .before .before in
     let h = z .before .before in
     let s = h .before .before .before in
     let k = s .before .before .before in
-    judged-3 _ _ _ (s .shape .ensures) (h .if1 .left) _ _ (z .structs-ok .ensures) (u .if2 .left) (λ i. k .shared-slice-known .given i .fits) _ (c .rules .ensures)
+    (z .structs-ok .ensures .directory, z .structs-ok .ensures .sizes (not-false _ (u .if2 .left)), judged-sound _ _ _ (s .shape .ensures) (h .if1 .left) _ _ (z .structs-ok .ensures) (u .if2 .left) _ (t .rules .ensures) (e .if3 .left) (λ i. k .shared-slice-known .given i .fits))
+
+same-length-4 : tie.Need-same-length-4
+same-length-4 c = search needs
+
+returns-4 : tie.Need-returns-4
+returns-4 c =
+    let w = c .before .before in
+    let e = w .before .before in
+    let t = e .before in
+    let u = t .before .before in
+    let z = u .before .before .before in
+    let h = z .before .before in
+    let s = h .before .before .before in
+    let k = s .before .before .before in
+    judged-4 _ _ _ (s .shape .ensures) (h .if1 .left) _ _ (z .structs-ok .ensures) (u .if2 .left) _ (t .rules .ensures) (e .if3 .left) (λ i. k .shared-slice-known .given i .fits) _ (w .store-representatives .ensures)
 
 pub judge-schema-spec : {M : Type 1} → statement M
 judge-schema-spec =
@@ -49,4 +70,7 @@ judge-schema-spec =
     returns-2
     rules-requires
     same-length-3
-    returns-3)
+    returns-3
+    store-representatives-requires
+    same-length-4
+    returns-4)
