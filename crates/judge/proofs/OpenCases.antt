@@ -89,6 +89,14 @@ module _ (S : Schema) (m : List ℕ) (ob : Object) (p : Place) where
   unfolding W.openObject
   open-inplace a n r e q = rw e q
 
+-- a text by its offset
+module _ (S : Schema) (m : List ℕ) (x : ℕ) (g : Header) (eg : g ≡ headerOf u48 m 0xD812C8F5 x) where
+  pub text-header-refused : (n : ℕ) → g ≡ Hd.Refused n → Op.Refused n ≡ W.openObject u48 S m O.Text (ByOffset x)
+  text-header-refused n f = open-refused S m O.Text (ByOffset x) x refl g (header-text S m O.Text x g refl eg) n f
+
+  pub text-header-length : (n : ℕ) (r : Opened) → g ≡ Hd.Length n → r ≡ W.openContent u48 S m O.Text (x + 10) n → r ≡ W.openObject u48 S m O.Text (ByOffset x)
+  text-header-length n r f q = open-offset S m O.Text (ByOffset x) x refl g (header-text S m O.Text x g refl eg) n r f q
+
 -- ---- content of each object
 module _ (S : Schema) (m : List ℕ) (start n : ℕ) where
   pub text-short : length m < start + (n + 1) → Op.Refused 6 ≡ W.openContent u48 S m O.Text start n

@@ -1,28 +1,22 @@
 -- The ways out of the walkers, one lemma for each, in the words of the walk's definition.
 use mathlib.Core.Path.{_≡_, refl, sym, ap, _∙_, subst}
-use mathlib.Core.Bool.{Bool, true, false, not}
-use mathlib.Core.List.{List, [], _∷_}
-use Prim.Native.Nat.{ℕ, zero, suc, _+_, _-_, _*_, _%_, _<_, _≤_}
+use mathlib.Core.Bool.{Bool, true}
+use mathlib.Core.List.{List}
+use Prim.Native.Nat.{ℕ, zero, suc, _+_, _-_, _*_, _<_, _≤_}
 use native.Mathlib.Omega.{arith}
 use native.Mathlib.Numerals.{sub-one, add-one}
-use lib.ListN.{length, getD, drop, drop-of-length-le}
+use lib.ListN.{length, drop, drop-of-length-le}
 use lib.Seq.{drop-cons}
-use lib.Dec.{ltb, eqb}
-use Rattle.coding.specs.Lists.{pick}
-use borrow.Author.Tests.{eq-eqb, ne-eqb, lt-ltb, le-ltb, not-true}
-use Rattle.coding.specs.Bytes.{u48, le, isNaN}
+use borrow.Author.Tests.{eq-eqb, ne-eqb, lt-ltb, le-ltb}
+use Rattle.coding.specs.Bytes.{u48}
 use Rattle.coding.specs.Schema as Sc
 use Rattle.coding.specs.Schema.{Schema}
 use Rattle.coding.specs.Packed as P
 use Rattle.coding.specs.Layout as L
 use Rattle.coding.specs.Step as T
 use Rattle.coding.specs.Walk as W
-use Rattle.coding.specs.declared.Flat.{Flat}
-use Rattle.coding.specs.declared.Flat.the-variants as F
 use Rattle.coding.specs.declared.Object.{Object}
 use Rattle.coding.specs.declared.Object.the-variants as O
-use Rattle.coding.specs.declared.Kind.{Kind}
-use Rattle.coding.specs.declared.Kind.the-variants.{OfFlat, OfObject, OfUnion}
 use Rattle.coding.specs.declared.Member.{Member}
 use Rattle.coding.specs.declared.Cursor.{Cursor}
 use Rattle.coding.specs.declared.Place.{Place}
@@ -36,12 +30,14 @@ use Rattle.coding.specs.declared.Spent.{Spent}
 use Rattle.coding.specs.declared.Refusal.{Refusal}
 use Rattle.coding.specs.declared.Walked.{Walked}
 use Rattle.coding.specs.declared.Walked.the-variants.{Going, Refused}
-use Rattle.laws.specs.Sound.{NoStruct, ObjectSound, MemberSound}
+use Rattle.laws.specs.Sound.{ObjectSound, MemberSound}
 use Rattle.laws.specs.SoundAt.{member-sound-at}
 use Rattle.schema.specs.Directory.{Accepted, accepted-sound}
 use Rattle.layout.specs.Bounds.{Laid}
 use Rattle.step.specs.Lead.{leadOf, PlaceSmall, StepSmall, Stepped}
-use Rattle.judge.specs.Headers.{leads, Led}
+use Rattle.judge.specs.Headers.{isText, Led}
+use Rattle.judge.proofs.EndCases.{Ended, members-past}
+use Rattle.judge.proofs.TextCases.{text-only}
 
 -- ---- an arrival
 abbrev pub one-more : Spent → Spent
@@ -78,6 +74,39 @@ module _ (d : ℕ) (S : Schema) (m : List ℕ) (b : Budget) (ob : Object) (p : P
           by : (k : ℕ) → (k ≡ 0 → ⊥) → r ≡ W.content (W.visit (k - 1) u48 S m b) u48 S m ob at start n t → r ≡ W.visit k u48 S m b ob p s
           by zero l′ q = absurd (l′ refl)
           by (suc k) l′ q = simp (lt-ltb _ _ h, ← eg, eq, ← e, ← et) (rw sub-one at q)
+
+-- ---- a text by its offset
+module _ (d : ℕ) (S : Schema) (m : List ℕ) (b : Budget) (x : ℕ) (s : Spent) where
+  module _ (r : Walked) where
+    pub text-spent : b .visits ≤ s .visits → r ≡ W.refuse 4 x s → r ≡ W.visit d u48 S m b O.Text (ByOffset x) s
+    unfolding W.placed
+    text-spent h f = visit-spent d S m b O.Text (ByOffset x) s x refl r h f
+
+    pub text-deep : s .visits < b .visits → (t : Spent) → t ≡ one-more s → d ≡ 0 → r ≡ W.refuse 5 x t → r ≡ W.visit d u48 S m b O.Text (ByOffset x) s
+    unfolding W.placed
+    text-deep h t et z f = visit-deep d S m b O.Text (ByOffset x) s x refl r h t et z f
+
+    pub text-refused : s .visits < b .visits → (t : Spent) → t ≡ one-more s → (d ≡ 0 → ⊥) → (g : Opened) → g ≡ W.openObject u48 S m O.Text (ByOffset x)
+        → (n : ℕ) → g ≡ Op.Refused n → r ≡ W.refuse n x t → r ≡ W.visit d u48 S m b O.Text (ByOffset x) s
+    unfolding W.placed
+    text-refused h t et l g eg n eq f = visit-refused d S m b O.Text (ByOffset x) s x refl r h t et l g eg n eq f
+
+  pub text-judged : s .visits < b .visits → (t : Spent) → t ≡ one-more s → (d ≡ 0 → ⊥) → (g : Opened) → g ≡ W.openObject u48 S m O.Text (ByOffset x)
+      → (start n : ℕ) → g ≡ Op.Content start n → Going t ≡ W.visit d u48 S m b O.Text (ByOffset x) s
+  unfolding W.placed W.content
+  text-judged h t et l g eg start n eq = visit-content d S m b O.Text (ByOffset x) s x refl (Going t) h t et l g eg start n eq refl
+
+-- ---- an arrival by its place
+module _ (d : ℕ) (S : Schema) (m : List ℕ) (b : Budget) (ob : Object) (p : Place) (s : Spent) (r : Walked) where
+  pub arrive-text : (x : ℕ) → p ≡ ByOffset x → (t : Bool) → t ≡ isText ob → t ≡ true → r ≡ W.visit d u48 S m b O.Text (ByOffset x) s
+      → r ≡ W.visit d u48 S m b ob p s
+  arrive-text x e t et h f = rw e (f ∙ ap (λ (q : Object). W.visit d u48 S m b q (ByOffset x) s) (sym (text-only ob t et h)))
+
+  pub arrive-offset : (x : ℕ) → p ≡ ByOffset x → r ≡ W.visit d u48 S m b ob (ByOffset x) s → r ≡ W.visit d u48 S m b ob p s
+  arrive-offset x e f = rw e f
+
+  pub arrive-inplace : (a n : ℕ) → p ≡ InPlace a n → r ≡ W.visit d u48 S m b ob (InPlace a n) s → r ≡ W.visit d u48 S m b ob p s
+  arrive-inplace a n e f = rw e f
 
 -- ---- content by the object
 module _ (child : W.Child) (S : Schema) (m : List ℕ) (ob : Object) (holder start n : ℕ) (s : Spent) where
@@ -194,6 +223,14 @@ module _ (child : W.Child) (S : Schema) (m : List ℕ) (holder start n t : ℕ) 
 
   module _ (c : Cursor) (j : ℕ) (v : Spent)
       (inv : W.members child u48 S m holder start n L.begin (Sc.tableOf S t .members) s ≡ W.members child u48 S m holder start n c (drop j (Sc.tableOf S t .members)) v)
+    where
+      pub members-ended : (x : ℕ) → x ≡ L.bitByte c → x ≤ c .end → n ≤ x → Going v ≡ W.members child u48 S m holder start n L.begin (Sc.tableOf S t .members) s
+      members-ended x ex l h =
+          let ended : Ended n c = record { end = omega arith; byte = omega arith } in
+          sym (inv ∙ members-past child S m holder start n c (drop j (Sc.tableOf S t .members)) v ended)
+
+  module _ (c : Cursor) (j : ℕ) (v : Spent)
+      (inv : W.members child u48 S m holder start n L.begin (Sc.tableOf S t .members) s ≡ W.members child u48 S m holder start n c (drop j (Sc.tableOf S t .members)) v)
       (count : ℕ) (ec : count ≡ length (Sc.tableOf S t .members)) where
     pub members-done : count ≤ j → Going v ≡ W.members child u48 S m holder start n L.begin (Sc.tableOf S t .members) s
     unfolding W.members
@@ -226,93 +263,6 @@ module _ (child : W.Child) (S : Schema) (m : List ℕ) (holder start n t : ℕ) 
           split ∙ ap (λ (w : Walked). W.andThen w behind) f
           ∙ ap (λ (q : Cursor). W.members child u48 S m holder start n q (drop (suc j) (Sc.tableOf S t .members)) u) (sym en)
           ∙ ap (λ (k : ℕ). W.members child u48 S m holder start n next (drop k (Sc.tableOf S t .members)) u) (sym (add-one j))
-
--- ---- the elements of a list
-flat-follows : (child : W.Child) (holder : ℕ) (S : Schema) (m : List ℕ) (k : Flat) (at bit : ℕ) (v : Spent) → NoStruct (OfFlat k)
-    → W.follow child holder (T.flatStep S m k true at bit) v ≡ Going v
-unfolding T.flatStep T.floatStep T.enumStep W.follow
-flat-follows child holder S m F.Boolean at bit v h = refl
-flat-follows child holder S m (F.Integer s w) at bit v h = refl
-flat-follows child holder S m (F.Float w) at bit v h = by (isNaN w (le m at w))
-  where
-    by : (t : Bool) → W.follow child holder (pick t St.Absent (St.Value (le m at w))) v ≡ Going v
-    by true = refl
-    by false = refl
-flat-follows child holder S m (F.Enumerated n) at bit v h = by (eqb (getD m at 0) 255) (ltb (getD m at 0) n)
-  where
-    by : (t u : Bool) → W.follow child holder (pick t St.Absent (pick u (St.Value (getD m at 0)) (St.Unknown (getD m at 0)))) v ≡ Going v
-    by true u = refl
-    by false true = refl
-    by false false = refl
-flat-follows child holder S m (F.Struct i) at bit v h = absurd h
-
-first-goes : (child : W.Child) (S : Schema) (m : List ℕ) (holder start : ℕ) (k : Kind) (f : Flat) (i : ℕ) (s : Spent) → k ≡ OfFlat f → NoStruct k
-    → W.follow child holder (T.elementStep u48 S m k start i) s ≡ Going s
-unfolding T.elementStep T.valueStep
-first-goes child S m holder start k f i s e h =
-    rw e (flat-follows child holder S m f (T.elementPlace u48 S (OfFlat f) start i) (i % 8) s (subst NoStruct e h))
-
--- elements that lead nowhere
-pub scalars-go : (child : W.Child) (S : Schema) (m : List ℕ) (holder start : ℕ) (k : Kind) (f : Flat) (n i : ℕ) (s : Spent) → k ≡ OfFlat f → NoStruct k
-    → Going s ≡ W.elements child u48 S m holder start k n i s
-unfolding W.elements W.andThen
-scalars-go child S m holder start k f zero i s e h = refl
-scalars-go child S m holder start k f (suc n) i s e h =
-    scalars-go child S m holder start k f n (i + 1) s e h
-    ∙ sym (ap (λ (w : Walked). W.andThen w (W.elements child u48 S m holder start k n (i + 1))) (first-goes child S m holder start k f i s e h))
-
-flat-kind : (k : Kind) (t : Bool) → t ≡ leads k → not t ≡ true → (f : Flat) × (k ≡ OfFlat f)
-unfolding leads
-flat-kind (OfFlat f) t e h = (f, refl)
-flat-kind (OfObject ob) t e h = absurd (let z : false ≡ true = sym (not-true t h) ∙ e in let y : _≡_ {A = ℕ} 0 1 = cc in omega arith)
-flat-kind (OfUnion i) t e h = absurd (let z : false ≡ true = sym (not-true t h) ∙ e in let y : _≡_ {A = ℕ} 0 1 = cc in omega arith)
-
-pub elements-none : (b dir : List ℕ) → Accepted b dir → (child : W.Child) (m : List ℕ) (holder start i n : ℕ) (s : Spent) (k : Kind) → k ≡ Sc.elementOf (P.parse b) i
-    → (t : Bool) → t ≡ leads k → not t ≡ true → Going s ≡ W.elements child u48 (P.parse b) m holder start (Sc.elementOf (P.parse b) i) n 0 s
-elements-none b dir a child m holder start i n s k ek t et h =
-    let f = flat-kind k t et h in
-    scalars-go child (P.parse b) m holder start (Sc.elementOf (P.parse b) i) (f .0) n 0 s (sym ek ∙ f .1) (accepted-sound b dir a .lists i .scalar)
-
--- from element j on
-module _ (child : W.Child) (S : Schema) (m : List ℕ) (holder start i n : ℕ) (s : Spent) (k : Kind) where
-  pub elements-start : k ≡ Sc.elementOf S i
-      → W.elements child u48 S m holder start (Sc.elementOf S i) n 0 s ≡ W.elements child u48 S m holder start k (n - 0) 0 s
-  elements-start e =
-      let z : n ≡ n - 0 = omega arith in
-      ap (λ (q : Kind). W.elements child u48 S m holder start q n 0 s) (sym e) ∙ ap (λ (l : ℕ). W.elements child u48 S m holder start k l 0 s) z
-
-  module _ (j : ℕ) (v : Spent)
-      (inv : W.elements child u48 S m holder start (Sc.elementOf S i) n 0 s ≡ W.elements child u48 S m holder start k (n - j) j v) where
-    pub elements-done : n ≤ j → Going v ≡ W.elements child u48 S m holder start (Sc.elementOf S i) n 0 s
-    unfolding W.elements
-    elements-done h =
-        let z : n - j ≡ 0 = omega arith in
-        sym (inv ∙ ap (λ (l : ℕ). W.elements child u48 S m holder start k l j v) z)
-
-    module _ (h : j < n) (step : Step) (es : step ≡ leadOf (T.elementStep u48 S m k start j)) (g : Walked) (eg : g ≡ W.follow child holder step v) where
-      abbrev rest : Spent → Walked
-      rest = W.elements child u48 S m holder start k (n - (j + 1)) (j + 1)
-
-      turned : W.elements child u48 S m holder start (Sc.elementOf S i) n 0 s ≡ W.andThen g rest
-      unfolding W.elements
-      turned =
-          let z : n - j ≡ suc (n - (j + 1)) = omega arith in
-          inv ∙ ap (λ (l : ℕ). W.elements child u48 S m holder start k l j v) z
-          ∙ ap (λ (w : Walked). W.andThen w rest)
-          (sym (lead-follows child holder (T.elementStep u48 S m k start j) v) ∙ ap (λ (q : Step). W.follow child holder q v) (sym es) ∙ sym eg)
-
-      pub elements-stopped : (x : Refusal) (y : Spent) → g ≡ Refused x y → Refused x y ≡ W.elements child u48 S m holder start (Sc.elementOf S i) n 0 s
-      unfolding W.andThen
-      elements-stopped x y f = sym (turned ∙ ap (λ (w : Walked). W.andThen w rest) f)
-
-      pub elements-turn : (u : Spent) → g ≡ Going u
-          → W.elements child u48 S m holder start (Sc.elementOf S i) n 0 s ≡ W.elements child u48 S m holder start k (n - (j + 1)) (j + 1) u
-      unfolding W.andThen
-      elements-turn u f = turned ∙ ap (λ (w : Walked). W.andThen w rest) f
-
-pub elements-there : (S : Schema) (k : Kind) (i start n c : ℕ) → k ≡ Sc.elementOf S i → start + T.elementsSize u48 S (Sc.elementOf S i) n ≤ c
-    → start + T.elementsSize u48 S k n ≤ c
-elements-there S k i start n c e h = subst (λ (q : Kind). start + T.elementsSize u48 S q n ≤ c) (sym e) h
 
 -- ---- one member
 pub member-sound-of : (b dir : List ℕ) → Accepted b dir → (t j : ℕ) (r : Member) → r ≡ Sc.memberOf (P.parse b) t j

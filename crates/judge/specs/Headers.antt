@@ -11,8 +11,8 @@ use Rattle.coding.specs.Schema.{Schema, memberOf}
 use Rattle.coding.specs.Layout.{afterMember}
 use Rattle.coding.specs.Step.{memberStep}
 use Rattle.coding.specs.Walk.{headerSize}
-use Rattle.coding.specs.declared.Kind.{Kind}
-use Rattle.coding.specs.declared.Kind.the-variants.{OfFlat, OfObject, OfUnion}
+use Rattle.coding.specs.declared.Object.{Object}
+use Rattle.coding.specs.declared.Object.the-variants as O
 use Rattle.coding.specs.declared.Cursor.{Cursor}
 use Rattle.coding.specs.declared.Step.{Step}
 use Rattle.coding.specs.declared.Opened.{Opened}
@@ -37,11 +37,12 @@ abbrev pub Small : Header → Type 0
 Small (Hd.Refused n) = Unit {0}
 Small (Hd.Length n) = n < 2 ^ 48
 
--- kinds whose elements lead to objects
-unfoldable pub leads : Kind → Bool
-leads (OfFlat k) = false
-leads (OfObject ob) = true
-leads (OfUnion i) = true
+-- texts
+unfoldable pub isText : Object → Bool
+isText O.Text = true
+isText O.Bytes = false
+isText (O.List i) = false
+isText (O.Table i) = false
 
 -- where member j of table t leads, where the cursor stands, and the cursor behind it
 pub record Led (S : Schema) (m : List ℕ) (t j start n : ℕ) (c : Cursor) (s : Step) (next : Cursor) : Type 0 where

@@ -247,17 +247,101 @@ fn refuse(n: u8, at: usize, s: Spent) -> Walked
     Walked::Refused(why, s)
 }
 
-// Whether elements of a kind lead to objects.
-fn leads(k: Kind) -> bool
-    ensures { λ r. ⌜ r ≡ Hs.leads k ⌝ }
+// ---- texts, which no walker needs
+fn is_text(ob: Object) -> bool
+    ensures { λ r. ⌜ r ≡ Hs.isText ob ⌝ }
 {
-    match k {
-        Kind::OfFlat(_) => false,
-        Kind::OfObject(_) => true,
-        Kind::OfUnion(_) => true,
+    match ob {
+        Object::Text => true,
+        Object::Bytes => false,
+        Object::List(_) => false,
+        Object::Table(_) => false,
     }
 }
 
+// The text at an offset.
+fn open_text(b: &[u8], m: &[u8], x: usize) -> Opened
+    requires { ⌜ x < 2 ^ 48 ⌝ }
+    ensures { λ r. ⌜ r ≡ W.openObject B.u48 (P.parse (now (b .entry))) (now (m .entry)) Object.Text (Place.ByOffset x) ⌝ }
+{
+    match TextObject::header(m, x) {
+        Header::Refused(e) => Opened::Refused(e),
+        Header::Length(n) => text_content(b, m, x + 10, n),
+    }
+}
+
+// An arrival at the text at an offset.
+fn visit_text(b: &[u8], m: &[u8], budget: Budget, d: usize, x: usize, s: Spent) -> Walked
+    requires { ⌜ x < 2 ^ 48 ⌝ }
+    ensures { λ r. ⌜ r ≡ W.visit d B.u48 (P.parse (now (b .entry))) (now (m .entry)) budget Object.Text (Place.ByOffset x) s ⌝ }
+{
+    let spent = s.visits;
+    if budget.visits <= spent {
+        return refuse(4, x, s);
+    }
+    let t = Spent { visits: spent + 1 };
+    if d == 0 {
+        return refuse(5, x, t);
+    }
+    match open_text(b, m, x) {
+        Opened::Refused(e) => refuse(e, x, t),
+        Opened::Content(_, _) => Walked::Going(t),
+    }
+}
+
+// What an offset in a list of texts leads to.
+fn refer_text(
+    b: &[u8],
+    m: &[u8],
+    budget: Budget,
+    d: usize,
+    holder: usize,
+    x: usize,
+    s: Spent,
+) -> Walked
+    requires { ⌜ x < 2 ^ 48 ⌝ }
+    ensures { λ r. ⌜ r ≡ W.follow (W.visit d B.u48 (P.parse (now (b .entry))) (now (m .entry)) budget) holder (T.objectStep Object.Text false 0 x) s ⌝ }
+{
+    if x == 0 {
+        return Walked::Going(s);
+    }
+    visit_text(b, m, budget, d, x, s)
+}
+
+// The n texts of a list, whose offsets start at `start`.
+fn texts(
+    b: &[u8],
+    m: &[u8],
+    budget: Budget,
+    d: usize,
+    holder: usize,
+    start: usize,
+    n: usize,
+    s: Spent,
+) -> Walked
+    requires { ⌜ (length (now m) ≤ 16777215) × (start + 6 * n ≤ length (now m)) ⌝ }
+    ensures { λ r. ⌜ r ≡ W.elements (W.visit d B.u48 (P.parse (now (b .entry))) (now (m .entry)) budget) B.u48 (P.parse (now (b .entry))) (now (m .entry)) holder start (Kind.OfObject Object.Text) n 0 s ⌝ }
+{
+    let mut v = s;
+    let mut at = start;
+    let mut j: usize = 0;
+    while j < n {
+        let x = wire::u48_in(m, at) as usize;
+        match refer_text(b, m, budget, d, holder, x, v) {
+            Walked::Going(u) => {
+                v = u;
+            }
+            Walked::Refused(y, u) => {
+                return Walked::Refused(y, u);
+            }
+        }
+        at += 6;
+        j += 1;
+    }
+    Walked::Going(v)
+}
+
+// ---- the walkers
 // Member j of table t, where the cursor stands: where it leads, and the cursor behind it.
 fn lead_member(
     b: &[u8],
@@ -352,6 +436,9 @@ fn table(
     let mut v = s;
     let mut j: usize = 0;
     while j < count {
+        if n <= layout::bit_byte(c) {
+            return Walked::Going(v);
+        }
         let q = lead_member(b, dir, m, t, j, start, n, c);
         let step = q.step;
         match follow(b, dir, m, budget, d, holder, step, v) {
@@ -385,25 +472,131 @@ fn list(
     requires { ⌜ start + T.elementsSize B.u48 (P.parse (now b)) (Sc.elementOf (P.parse (now b)) i) n ≤ length (now m) ⌝ }
     ensures { λ r. ⌜ r ≡ W.elements (W.visit d B.u48 (P.parse (now (b .entry))) (now (m .entry)) budget) B.u48 (P.parse (now (b .entry))) (now (m .entry)) holder start (Sc.elementOf (P.parse (now (b .entry))) i) n 0 s ⌝ }
 {
-    let k = schema::element(b, dir, i);
-    if !leads(k) {
-        return Walked::Going(s);
+    match schema::element(b, dir, i) {
+        Kind::OfFlat(_) => Walked::Going(s),
+        Kind::OfObject(ob) => references(b, dir, m, budget, d, ob, holder, start, n, s),
+        Kind::OfUnion(u) => choices(b, dir, m, budget, d, wire::index(u), holder, start, n, s),
+    }
+}
+
+// The n objects of a list, whose offsets start at `start`.
+fn references(
+    b: &[u8],
+    dir: &[u16],
+    m: &[u8],
+    budget: Budget,
+    d: usize,
+    ob: Object,
+    holder: usize,
+    start: usize,
+    n: usize,
+    s: Spent,
+) -> Walked
+    requires { ⌜ (Accepted (now b) (now dir)) × (length (now m) ≤ 16777215) × (ObjectSound (P.parse (now b)) ob) × (start + 6 * n ≤ length (now m)) ⌝ }
+    ensures { λ r. ⌜ r ≡ W.elements (W.visit d B.u48 (P.parse (now (b .entry))) (now (m .entry)) budget) B.u48 (P.parse (now (b .entry))) (now (m .entry)) holder start (Kind.OfObject ob) n 0 s ⌝ }
+{
+    if is_text(ob) {
+        return texts(b, m, budget, d, holder, start, n, s);
     }
     let mut v = s;
+    let mut at = start;
     let mut j: usize = 0;
     while j < n {
-        let step = step::element_lead(b, dir, m, k, start, n, j);
-        match follow(b, dir, m, budget, d, holder, step, v) {
+        let x = wire::u48_in(m, at) as usize;
+        match refer(b, dir, m, budget, d, ob, holder, x, v) {
             Walked::Going(u) => {
                 v = u;
             }
-            Walked::Refused(x, u) => {
-                return Walked::Refused(x, u);
+            Walked::Refused(y, u) => {
+                return Walked::Refused(y, u);
             }
         }
+        at += 6;
         j += 1;
     }
     Walked::Going(v)
+}
+
+// What an offset in a list leads to.
+fn refer(
+    b: &[u8],
+    dir: &[u16],
+    m: &[u8],
+    budget: Budget,
+    d: usize,
+    ob: Object,
+    holder: usize,
+    x: usize,
+    s: Spent,
+) -> Walked
+    requires { ⌜ (Accepted (now b) (now dir)) × (length (now m) ≤ 16777215) × (ObjectSound (P.parse (now b)) ob) × (x < 2 ^ 48) ⌝ }
+    ensures { λ r. ⌜ r ≡ W.follow (W.visit d B.u48 (P.parse (now (b .entry))) (now (m .entry)) budget) holder (T.objectStep ob false 0 x) s ⌝ }
+{
+    if x == 0 {
+        return Walked::Going(s);
+    }
+    visit(b, dir, m, budget, d, ob, Place::ByOffset(x), s)
+}
+
+// The n choices of a list of union i, which start at `start`.
+fn choices(
+    b: &[u8],
+    dir: &[u16],
+    m: &[u8],
+    budget: Budget,
+    d: usize,
+    i: usize,
+    holder: usize,
+    start: usize,
+    n: usize,
+    s: Spent,
+) -> Walked
+    requires { ⌜ (Accepted (now b) (now dir)) × (length (now m) ≤ 16777215) × (i < P.unionCount (now b)) × (start + 8 * n ≤ length (now m)) ⌝ }
+    ensures { λ r. ⌜ r ≡ W.elements (W.visit d B.u48 (P.parse (now (b .entry))) (now (m .entry)) budget) B.u48 (P.parse (now (b .entry))) (now (m .entry)) holder start (Kind.OfUnion i) n 0 s ⌝ }
+{
+    let mut v = s;
+    let mut at = start;
+    let mut j: usize = 0;
+    while j < n {
+        match choice(b, dir, m, budget, d, i, holder, at, v) {
+            Walked::Going(u) => {
+                v = u;
+            }
+            Walked::Refused(y, u) => {
+                return Walked::Refused(y, u);
+            }
+        }
+        at += 8;
+        j += 1;
+    }
+    Walked::Going(v)
+}
+
+// What a choice of union i in a list leads to.
+fn choice(
+    b: &[u8],
+    dir: &[u16],
+    m: &[u8],
+    budget: Budget,
+    d: usize,
+    i: usize,
+    holder: usize,
+    at: usize,
+    s: Spent,
+) -> Walked
+    requires { ⌜ (Accepted (now b) (now dir)) × (length (now m) ≤ 16777215) × (i < P.unionCount (now b)) × (at + 8 ≤ length (now m)) ⌝ }
+    ensures { λ r. ⌜ r ≡ W.follow (W.visit d B.u48 (P.parse (now (b .entry))) (now (m .entry)) budget) holder (T.unionStep (Sc.casesOf (P.parse (now (b .entry))) i) false 0 (B.le (now (m .entry)) at 2) (B.le (now (m .entry)) (at + 2) 6)) s ⌝ }
+{
+    let c = wire::u16_in(m, at) as usize;
+    if c == 0 {
+        return Walked::Going(s);
+    }
+    if schema::case_count(b, dir, i) < c {
+        return Walked::Going(s);
+    }
+    let ob = schema::union_case(b, dir, i, c);
+    let x = wire::u48_in(m, at + 2) as usize;
+    union(b, dir, m, budget, d, holder, ob, Place::ByOffset(x), s)
 }
 
 // What a step of the object at `holder` leads to.
@@ -426,8 +619,33 @@ fn follow(
         Step::Value(_) => Walked::Going(s),
         Step::Unknown(_) => Walked::Going(s),
         Step::Struct(_, _) => Walked::Going(s),
-        Step::Object(ob, p) => visit(b, dir, m, budget, d, ob, p, s),
+        Step::Object(ob, p) => arrive(b, dir, m, budget, d, ob, p, s),
         Step::Choice(_, ob, p) => union(b, dir, m, budget, d, holder, ob, p, s),
+    }
+}
+
+// An arrival at an object, a text by its offset at once.
+fn arrive(
+    b: &[u8],
+    dir: &[u16],
+    m: &[u8],
+    budget: Budget,
+    d: usize,
+    ob: Object,
+    p: Place,
+    s: Spent,
+) -> Walked
+    requires { ⌜ (Accepted (now b) (now dir)) × (length (now m) ≤ 16777215) × (ObjectSound (P.parse (now b)) ob) × D.PlaceSmall p ⌝ }
+    ensures { λ r. ⌜ r ≡ W.visit d B.u48 (P.parse (now (b .entry))) (now (m .entry)) budget ob p s ⌝ }
+{
+    match p {
+        Place::ByOffset(x) => {
+            if is_text(ob) {
+                return visit_text(b, m, budget, d, x, s);
+            }
+            visit(b, dir, m, budget, d, ob, Place::ByOffset(x), s)
+        }
+        Place::InPlace(a, n) => visit(b, dir, m, budget, d, ob, Place::InPlace(a, n), s),
     }
 }
 
