@@ -1,7 +1,8 @@
 pub mod HeaderCases
 pub mod TextCases
 pub mod EndCases
+pub mod SizeCases
+pub mod OpenCases
 pub mod WalkCases
 pub mod ListCases
-pub mod OpenCases
 pub mod VerdictCases

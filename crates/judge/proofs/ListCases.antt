@@ -33,6 +33,7 @@ use Rattle.laws.specs.SoundAt.{union-index, case-sound-at}
 use Rattle.schema.specs.Directory.{Accepted, accepted-sound}
 use Rattle.wire.specs.Numbers.{Number}
 use Rattle.judge.specs.Headers.{isText}
+use Rattle.judge.proofs.SizeCases.{element-flat, element-object, element-union, list-kind}
 use Rattle.judge.proofs.TextCases.{text-only}
 
 -- ---- elements that lead nowhere
@@ -68,43 +69,45 @@ scalars-go child S m holder start k f (suc n) i s e h =
     scalars-go child S m holder start k f n (i + 1) s e h
     ∙ sym (ap (λ (w : Walked). W.andThen w (W.elements child u48 S m holder start k n (i + 1))) (first-goes child S m holder start k f i s e h))
 
--- ---- a list by its element
-pub list-flat : (b dir : List ℕ) → Accepted b dir → (child : W.Child) (m : List ℕ) (holder start i n : ℕ) (s : Spent) (k : Kind) → k ≡ Sc.elementOf (P.parse b) i
-    → (f : Flat) → k ≡ OfFlat f → Going s ≡ W.elements child u48 (P.parse b) m holder start (Sc.elementOf (P.parse b) i) n 0 s
-list-flat b dir a child m holder start i n s k ek f e =
-    scalars-go child (P.parse b) m holder start (Sc.elementOf (P.parse b) i) f n 0 s (sym ek ∙ e) (accepted-sound b dir a .lists i .scalar)
+-- ---- a list by the number of its element's kind
+pub list-flat : (b dir : List ℕ) → Accepted b dir → (child : W.Child) (m : List ℕ) (holder start i n : ℕ) (s : Spent) → i < P.listCount b → (at : ℕ) → at ≡ P.listPlace b i
+    → (k : ℕ) → k ≡ P.kindAt b at → k < 13 → Going s ≡ W.elements child u48 (P.parse b) m holder start (Sc.elementOf (P.parse b) i) n 0 s
+list-flat b dir a child m holder start i n s l at ea k ek h =
+    scalars-go child (P.parse b) m holder start (Sc.elementOf (P.parse b) i) (P.flatOf k (P.argumentAt b at)) n 0 s
+    (sym (list-kind b i at l ea) ∙ element-flat b at k ek h) (accepted-sound b dir a .lists i .scalar)
 
-module _ (child : W.Child) (S : Schema) (m : List ℕ) (holder start i n : ℕ) (s : Spent) (k : Kind) (ek : k ≡ Sc.elementOf S i) (r : Walked) where
-  pub list-objects : (ob : Object) → k ≡ OfObject ob → r ≡ W.elements child u48 S m holder start (OfObject ob) n 0 s
-      → r ≡ W.elements child u48 S m holder start (Sc.elementOf S i) n 0 s
-  list-objects ob e f = f ∙ ap (λ (q : Kind). W.elements child u48 S m holder start q n 0 s) (sym e ∙ ek)
+module _ (b : List ℕ) (i : ℕ) (l : i < P.listCount b) (at : ℕ) (ea : at ≡ P.listPlace b i) (k : ℕ) (ek : k ≡ P.kindAt b at) where
+  of-object : 13 ≤ k → k < 17 → (ob : Object) → ob ≡ P.objectAt b at → OfObject ob ≡ Sc.elementOf (P.parse b) i
+  of-object f h ob eo = sym (element-object b at k ek f h ob eo) ∙ list-kind b i at l ea
 
-  pub list-unions : (u j : ℕ) → k ≡ OfUnion u → j ≡ u → r ≡ W.elements child u48 S m holder start (OfUnion j) n 0 s
-      → r ≡ W.elements child u48 S m holder start (Sc.elementOf S i) n 0 s
-  list-unions u j e ej f = f ∙ ap (λ (q : Kind). W.elements child u48 S m holder start q n 0 s) (ap OfUnion ej ∙ sym e ∙ ek)
+  of-union : 17 ≤ k → (a u : ℕ) → a ≡ P.argumentAt b at → u ≡ a → OfUnion u ≡ Sc.elementOf (P.parse b) i
+  of-union h a u e eu = sym (element-union b at k ek h u (eu ∙ e)) ∙ list-kind b i at l ea
 
--- what its walkers require
-module _ (b dir : List ℕ) (a : Accepted b dir) (i : ℕ) (k : Kind) (ek : k ≡ Sc.elementOf (P.parse b) i) where
-  kind-of : (q : Kind) → k ≡ q → KindSound (P.parse b) q
-  kind-of q e = subst (KindSound (P.parse b)) (sym ek ∙ e) (accepted-sound b dir a .lists i .kind)
+  module _ (child : W.Child) (m : List ℕ) (holder start n : ℕ) (s : Spent) (r : Walked) where
+    pub list-objects : 13 ≤ k → k < 17 → (ob : Object) → ob ≡ P.objectAt b at → r ≡ W.elements child u48 (P.parse b) m holder start (OfObject ob) n 0 s
+        → r ≡ W.elements child u48 (P.parse b) m holder start (Sc.elementOf (P.parse b) i) n 0 s
+    list-objects f h ob eo g = g ∙ ap (λ (q : Kind). W.elements child u48 (P.parse b) m holder start q n 0 s) (of-object f h ob eo)
 
-  pub objects-sound : (ob : Object) → k ≡ OfObject ob → ObjectSound (P.parse b) ob
-  objects-sound ob e = kind-of (OfObject ob) e
+    pub list-unions : 17 ≤ k → (a u : ℕ) → a ≡ P.argumentAt b at → u ≡ a → r ≡ W.elements child u48 (P.parse b) m holder start (OfUnion u) n 0 s
+        → r ≡ W.elements child u48 (P.parse b) m holder start (Sc.elementOf (P.parse b) i) n 0 s
+    list-unions h a u e eu g = g ∙ ap (λ (q : Kind). W.elements child u48 (P.parse b) m holder start q n 0 s) (of-union h a u e eu)
 
-  pub unions-counted : (u j : ℕ) → k ≡ OfUnion u → j ≡ u → j < P.unionCount b
-  unions-counted u j e ej = rw ej (union-index b u (kind-of (OfUnion u) e))
+  -- what its walkers require
+  module _ (dir : List ℕ) (acc : Accepted b dir) where
+    pub objects-sound : 13 ≤ k → k < 17 → (ob : Object) → ob ≡ P.objectAt b at → ObjectSound (P.parse b) ob
+    objects-sound f h ob eo = subst (KindSound (P.parse b)) (sym (of-object f h ob eo)) (accepted-sound b dir acc .lists i .kind)
 
-module _ (S : Schema) (i start n c : ℕ) (k : Kind) (ek : k ≡ Sc.elementOf S i) (h : start + T.elementsSize u48 S (Sc.elementOf S i) n ≤ c) where
-  of-kind : (q : Kind) → k ≡ q → start + T.elementsSize u48 S q n ≤ c
-  of-kind q e = subst (λ (z : Kind). start + T.elementsSize u48 S z n ≤ c) (sym ek ∙ e) h
+    pub unions-counted : 17 ≤ k → (a u : ℕ) → a ≡ P.argumentAt b at → u ≡ a → u < P.unionCount b
+    unions-counted h a u e eu = union-index b u (subst (KindSound (P.parse b)) (sym (of-union h a u e eu)) (accepted-sound b dir acc .lists i .kind))
 
-  pub objects-there : (ob : Object) → k ≡ OfObject ob → start + 6 * n ≤ c
-  unfolding T.elementsSize L.isBool L.width u48
-  objects-there ob e = of-kind (OfObject ob) e
+  module _ (start n c : ℕ) (fits : start + T.elementsSize u48 (P.parse b) (Sc.elementOf (P.parse b) i) n ≤ c) where
+    pub objects-there : 13 ≤ k → k < 17 → (ob : Object) → ob ≡ P.objectAt b at → start + 6 * n ≤ c
+    unfolding T.elementsSize L.isBool L.width u48
+    objects-there f h ob eo = subst (λ (q : Kind). start + T.elementsSize u48 (P.parse b) q n ≤ c) (sym (of-object f h ob eo)) fits
 
-  pub unions-there : (u : ℕ) → k ≡ OfUnion u → start + 8 * n ≤ c
-  unfolding T.elementsSize L.isBool L.width u48
-  unions-there u e = of-kind (OfUnion u) e
+    pub unions-there : 17 ≤ k → (a u : ℕ) → a ≡ P.argumentAt b at → u ≡ a → start + 8 * n ≤ c
+    unfolding T.elementsSize L.isBool L.width u48
+    unions-there h a u e eu = subst (λ (q : Kind). start + T.elementsSize u48 (P.parse b) q n ≤ c) (sym (of-union h a u e eu)) fits
 
 -- ---- from element j on
 module _ (child : W.Child) (S : Schema) (m : List ℕ) (holder start : ℕ) (k : Kind) (n : ℕ) (s : Spent) where

@@ -13,7 +13,6 @@ use Rattle.coding.specs.Bytes.{u48, le}
 use Rattle.coding.specs.Schema as Sc
 use Rattle.coding.specs.Schema.{Schema}
 use Rattle.coding.specs.Packed as P
-use Rattle.coding.specs.Layout as L
 use Rattle.coding.specs.Step as T
 use Rattle.coding.specs.Walk as W
 use Rattle.coding.specs.declared.Object.{Object}
@@ -23,10 +22,11 @@ use Rattle.coding.specs.declared.Place.{Place}
 use Rattle.coding.specs.declared.Place.the-variants.{ByOffset, InPlace}
 use Rattle.coding.specs.declared.Opened.{Opened}
 use Rattle.coding.specs.declared.Opened.the-variants as Op
-use Rattle.laws.specs.Sound.{ObjectSound, KindSound}
+use Rattle.laws.specs.Sound.{NoStruct, ObjectSound}
 use Rattle.laws.specs.SoundAt.{list-index, table-index}
-use Rattle.schema.specs.Directory.{Accepted, accepted-sound}
+use Rattle.schema.specs.Directory.{Accepted}
 use Rattle.step.specs.Lead.{PlaceSmall}
+use Rattle.judge.proofs.SizeCases.{list-kind, element-scalar}
 use Rattle.judge.specs.Headers.{headerOf, fitted, Small}
 use Rattle.judge.specs.declared.Header.{Header}
 use Rattle.judge.specs.declared.Header.the-variants as Hd
@@ -121,11 +121,6 @@ module _ (S : Schema) (m : List ℕ) (start n : ℕ) where
     unfolding W.openContent W.contentSize W.endOk fitted
     table-fit i e = e
 
-    pub list-fit : (i j : ℕ) (k : Kind) (size : ℕ) → j ≡ i → k ≡ Sc.elementOf S j → size ≡ T.elementsSize u48 S k n → r ≡ fitted m start size n
-        → r ≡ W.openContent u48 S m (O.List i) start n
-    unfolding W.openContent W.contentSize W.endOk fitted
-    list-fit i j k size ej ek es e = simp (← ej, ← ek, ← es) e
-
     module _ (ob : Object) where
       pub content-of-text : ob ≡ O.Text → r ≡ W.openContent u48 S m O.Text start n → r ≡ W.openContent u48 S m ob start n
       content-of-text e f = rw e f
@@ -179,23 +174,23 @@ module _ (m : List ℕ) (start size n : ℕ) where
   unfolding fitted
   fit-no h = simp (lt-leb _ _ h)
 
--- ---- the size of a list's elements
-module _ (S : Schema) (k : Kind) (n : ℕ) (t : Bool) (et : t ≡ L.isBool k) where
-  pub size-bool : t ≡ true → (n + 7) / 8 ≡ T.elementsSize u48 S k n
-  unfolding T.elementsSize
-  size-bool f = simp (← et, f)
+-- ---- a list by the place of its element
+pub list-counted : (b : List ℕ) (i j : ℕ) → ObjectSound (P.parse b) (O.List i) → j ≡ i → j < P.listCount b
+list-counted b i j h e = rw e (list-index b i h)
 
-  pub size-other : t ≡ false → (w : ℕ) → w ≡ L.width u48 S k → (x : ℕ) → x ≡ w * n → x ≡ T.elementsSize u48 S k n
-  unfolding T.elementsSize
-  size-other f w ew x ex = simp (← et, f, ← ew) ex
+pub list-fit : (b m : List ℕ) (start n : ℕ) (r : Opened) (i j : ℕ) → j ≡ i → ObjectSound (P.parse b) (O.List i) → (at : ℕ) → at ≡ P.listPlace b j → (size : ℕ)
+    → size ≡ T.elementsSize u48 (P.parse b) (P.elementAt b at) n → r ≡ fitted m start size n → r ≡ W.openContent u48 (P.parse b) m (O.List i) start n
+unfolding W.openContent W.contentSize W.endOk fitted
+list-fit b m start n r i j ej h at ea size es e =
+    e ∙ ap (λ (q : ℕ). fitted m start q n) (es ∙ ap (λ (k : Kind). T.elementsSize u48 (P.parse b) k n) (list-kind b j at (list-counted b i j h ej) ea ∙ ap (Sc.elementOf (P.parse b)) ej))
+
+pub scalar-of : (b dir : List ℕ) → Accepted b dir → (i j : ℕ) → j ≡ i → ObjectSound (P.parse b) (O.List i) → (at : ℕ) → at ≡ P.listPlace b j → NoStruct (P.elementAt b at)
+scalar-of b dir a i j ej h at ea = element-scalar b dir a j at (list-counted b i j h ej) ea
 
 pub size-times : (w n : ℕ) → w ≤ 4096 → n < 2 ^ 48 → w * n ≤ 4096 * 2 ^ 48
 size-times w n h l = mul-le-mul h (le-of-lt l)
 
 -- ---- indices and places in range
-pub list-counted : (b : List ℕ) (i j : ℕ) → ObjectSound (P.parse b) (O.List i) → j ≡ i → j < P.listCount b
-list-counted b i j h e = rw e (list-index b i h)
-
 pub list-counted-of : (b : List ℕ) (ob : Object) (i j : ℕ) → ObjectSound (P.parse b) ob → ob ≡ O.List i → j ≡ i → j < P.listCount b
 list-counted-of b ob i j h f e = list-counted b i j (subst (ObjectSound (P.parse b)) f h) e
 
@@ -204,9 +199,6 @@ table-counted-of b ob i j h f e = rw e (table-index b i (subst (ObjectSound (P.p
 
 pub object-list : (S : Schema) (ob : Object) (i : ℕ) → ObjectSound S ob → ob ≡ O.List i → ObjectSound S (O.List i)
 object-list S ob i h e = subst (ObjectSound S) e h
-
-pub element-sound : (b dir : List ℕ) → Accepted b dir → (i : ℕ) (k : Kind) → k ≡ Sc.elementOf (P.parse b) i → KindSound (P.parse b) k
-element-sound b dir a i k e = rw e (accepted-sound b dir a .lists i .kind)
 
 module _ (p : Place) (small : PlaceSmall p) where
   pub offset-small : (x : ℕ) → p ≡ ByOffset x → x < 2 ^ 48

@@ -20,7 +20,7 @@ ghost use Rattle.coding.specs.Packed as P;
 ghost use Rattle.coding.specs.Schema as Sc;
 ghost use Rattle.coding.specs.Step as T;
 ghost use Rattle.coding.specs.Walk as W;
-ghost use Rattle.laws.specs.Sound.{ObjectSound, KindSound};
+ghost use Rattle.laws.specs.Sound.{NoStruct, ObjectSound};
 ghost use Rattle.layout.specs.Bounds.{Laid};
 ghost use Rattle.schema.specs.Directory.{Accepted};
 ghost use Rattle.step.specs.Lead as D;
@@ -167,23 +167,33 @@ fn times(w: usize, n: usize) -> usize
     w * n
 }
 
-// The bytes of n elements.
-fn elements_size(b: &[u8], dir: &[u16], k: Kind, n: usize) -> usize
-    requires { ⌜ (Accepted (now b) (now dir)) × (KindSound (P.parse (now b)) k) × (n < 2 ^ 48) ⌝ }
-    ensures { λ r. ⌜ (r ≡ T.elementsSize B.u48 (P.parse (now (b .entry))) k n) × (r < 2 ^ 61) ⌝ }
+// The bytes of n elements of the record at `at`.
+fn elements_size(b: &[u8], at: usize, n: usize) -> usize
+    requires { ⌜ (at + 1 < length (now b)) × (NoStruct (P.elementAt (now b) at)) × (n < 2 ^ 48) ⌝ }
+    ensures { λ r. ⌜ (r ≡ T.elementsSize B.u48 (P.parse (now (b .entry))) (P.elementAt (now (b .entry)) at) n) × (r < 2 ^ 61) ⌝ }
 {
-    if layout::is_bool(k) {
+    let k = schema::kind_at(b, at);
+    if k == 0 {
         return (n + 7) / 8;
     }
-    times(layout::width(b, dir, k), n)
+    if k < 11 {
+        return times(wire::index(schema::width_of(k)), n);
+    }
+    if k == 11 {
+        return n;
+    }
+    if k < 17 {
+        return times(6, n);
+    }
+    times(8, n)
 }
 
 fn list_content(b: &[u8], dir: &[u16], m: &[u8], i: u8, start: usize, n: usize) -> Opened
     requires { ⌜ (Accepted (now b) (now dir)) × (ObjectSound (P.parse (now b)) (Object.List i)) × (start < 2 ^ 60) × (n < 2 ^ 48) ⌝ }
     ensures { λ r. ⌜ r ≡ W.openContent B.u48 (P.parse (now (b .entry))) (now (m .entry)) (Object.List i) start n ⌝ }
 {
-    let k = schema::element(b, dir, wire::index(i));
-    fits(m, start, elements_size(b, dir, k, n), n)
+    let at = schema::list_place(b, dir, wire::index(i));
+    fits(m, start, elements_size(b, at, n), n)
 }
 
 // The header of the object at an offset.
@@ -472,11 +482,17 @@ fn list(
     requires { ⌜ start + T.elementsSize B.u48 (P.parse (now b)) (Sc.elementOf (P.parse (now b)) i) n ≤ length (now m) ⌝ }
     ensures { λ r. ⌜ r ≡ W.elements (W.visit d B.u48 (P.parse (now (b .entry))) (now (m .entry)) budget) B.u48 (P.parse (now (b .entry))) (now (m .entry)) holder start (Sc.elementOf (P.parse (now (b .entry))) i) n 0 s ⌝ }
 {
-    match schema::element(b, dir, i) {
-        Kind::OfFlat(_) => Walked::Going(s),
-        Kind::OfObject(ob) => references(b, dir, m, budget, d, ob, holder, start, n, s),
-        Kind::OfUnion(u) => choices(b, dir, m, budget, d, wire::index(u), holder, start, n, s),
+    let at = schema::list_place(b, dir, i);
+    let k = schema::kind_at(b, at);
+    if k < 13 {
+        return Walked::Going(s);
     }
+    if k < 17 {
+        let ob = schema::object_at(b, at);
+        return references(b, dir, m, budget, d, ob, holder, start, n, s);
+    }
+    let u = wire::index(schema::argument_at(b, at));
+    choices(b, dir, m, budget, d, u, holder, start, n, s)
 }
 
 // The n objects of a list, whose offsets start at `start`.

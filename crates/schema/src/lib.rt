@@ -59,7 +59,7 @@ pub fn argument_at(b: &[u8], at: usize) -> u8
 
 const WIDTHS: [u8; 11] = [1, 1, 2, 4, 8, 1, 2, 4, 8, 4, 8];
 
-fn width_of(k: usize) -> u8
+pub fn width_of(k: usize) -> u8
     requires { ⌜ k < 11 ⌝ }
     ensures { λ r. ⌜ r ≡ P.widthOf k ⌝ }
 {

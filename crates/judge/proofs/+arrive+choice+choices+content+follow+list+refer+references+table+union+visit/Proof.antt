@@ -58,7 +58,10 @@ use Rattle.judge.proofs.visit_text.Reads as visit-text-reads
 use Rattle.layout.proofs.begin.Reads as begin-reads
 use Rattle.layout.proofs.bit_byte.Reads as bit-byte-reads
 use Rattle.schema.proofs.case_count.Reads as case-count-reads
-use Rattle.schema.proofs.element.Reads as element-reads
+use Rattle.schema.proofs.list_place.Reads as list-place-reads
+use Rattle.schema.proofs.kind_at.Reads as kind-at-reads
+use Rattle.schema.proofs.object_at.Reads as object-at-reads
+use Rattle.schema.proofs.argument_at.Reads as argument-at-reads
 use Rattle.schema.proofs.member_count.Reads as member-count-reads
 use Rattle.schema.proofs.union_case.Reads as union-case-reads
 use Rattle.wire.proofs.index.Reads as index-reads
@@ -188,7 +191,7 @@ abbrev follow-R : ℕ → follow-lts.Claims
 follow-R t = (refuse-reads.Asked, refuse-reads.Learnt, arrive-below t, arrive.Post, union-below t, union.Post)
 
 abbrev list-R : ℕ → list-lts.Claims
-list-R t = (element-reads.Asked, element-reads.Learnt, references-below t, references.Post, index-reads.Asked, index-reads.Learnt, choices-below t, choices.Post)
+list-R t = (list-place-reads.Asked, list-place-reads.Learnt, kind-at-reads.Asked, kind-at-reads.Learnt, object-at-reads.Asked, object-at-reads.Learnt, references-below t, references.Post, argument-at-reads.Asked, argument-at-reads.Learnt, index-reads.Asked, index-reads.Learnt, choices-below t, choices.Post)
 
 abbrev refer-R : ℕ → refer-lts.Claims
 refer-R t = (visit-below t, visit.Post)
@@ -441,43 +444,33 @@ follow-returns-6 t c = search follow-object
 follow-returns-7 : (t : ℕ) → follow-lts.Need-returns-7 (follow-R t) (follow-at t) follow.Post
 follow-returns-7 t c = search follow-choice
 
--- src/lib.rt:475:11
-list-element-requires : (t : ℕ) → list-lts.Need-element-requires (list-R t) (list-at t) list.Post
-list-element-requires t c κs = search needs
+list-list-place-requires : (t : ℕ) → list-lts.Need-list-place-requires (list-R t) (list-at t) list.Post
+list-list-place-requires t c κs = search needs
 
--- src/lib.rt:476:28
-list-enum-told : (t : ℕ) → list-lts.Need-enum-told (list-R t) (list-at t) list.Post
-list-enum-told t c = search needs
+list-kind-at-requires : (t : ℕ) → list-lts.Need-kind-at-requires (list-R t) (list-at t) list.Post
+list-kind-at-requires t c κs = search needs
 
--- src/lib.rt:477:24
-list-enum-known-ob : (t : ℕ) → list-lts.Need-enum-known-ob (list-R t) (list-at t) list.Post
-list-enum-known-ob t c = search needs
-
--- src/lib.rt:477:31
-list-references-requires : (t : ℕ) → list-lts.Need-references-requires (list-R t) (list-at t) list.Post
-list-references-requires t c κs = (omega arith, (c .before .before .before .before .before .before .before .pre .1 .0 .0, c .before .before .before .before .before .before .before .pre .1 .0 .1, search objects-sound, search objects-there))
-
--- src/lib.rt:478:23
-list-enum-known-u : (t : ℕ) → list-lts.Need-enum-known-u (list-R t) (list-at t) list.Post
-list-enum-known-u t c = search needs
-
--- src/lib.rt:478:59
-list-index-requires : (t : ℕ) → list-lts.Need-index-requires (list-R t) (list-at t) list.Post
-list-index-requires t c κs = search needs
-
--- src/lib.rt:478:29
-list-choices-requires : (t : ℕ) → list-lts.Need-choices-requires (list-R t) (list-at t) list.Post
-list-choices-requires t c κs = (omega arith, (c .before .before .before .before .before .before .before .before .pre .1 .0 .0, c .before .before .before .before .before .before .before .before .pre .1 .0 .1, search unions-counted, search unions-there))
-
--- src/lib.rt:459:1
 list-returns : (t : ℕ) → list-lts.Need-returns (list-R t) (list-at t) list.Post
 list-returns t c = search list-flat
 
--- src/lib.rt:459:1
+list-object-at-requires : (t : ℕ) → list-lts.Need-object-at-requires (list-R t) (list-at t) list.Post
+list-object-at-requires t c κs = search needs
+
+list-references-requires : (t : ℕ) → list-lts.Need-references-requires (list-R t) (list-at t) list.Post
+list-references-requires t c κs = (omega arith, (c .before .before .before .before .before .before .before .before .pre .1 .0 .0, c .before .before .before .before .before .before .before .before .pre .1 .0 .1, search objects-sound, search objects-there))
+
 list-returns-2 : (t : ℕ) → list-lts.Need-returns-2 (list-R t) (list-at t) list.Post
 list-returns-2 t c = search list-objects
 
--- src/lib.rt:459:1
+list-argument-at-requires : (t : ℕ) → list-lts.Need-argument-at-requires (list-R t) (list-at t) list.Post
+list-argument-at-requires t c κs = search needs
+
+list-index-requires : (t : ℕ) → list-lts.Need-index-requires (list-R t) (list-at t) list.Post
+list-index-requires t c κs = search needs
+
+list-choices-requires : (t : ℕ) → list-lts.Need-choices-requires (list-R t) (list-at t) list.Post
+list-choices-requires t c κs = (omega arith, (c .before .before .before .before .before .before .before .before .before .pre .1 .0 .0, c .before .before .before .before .before .before .before .before .before .pre .1 .0 .1, search unions-counted, search unions-there))
+
 list-returns-3 : (t : ℕ) → list-lts.Need-returns-3 (list-R t) (list-at t) list.Post
 list-returns-3 t c = search list-unions
 
@@ -806,15 +799,15 @@ pub +arrive+choice+choices+content+follow+list+refer+references+table+union+visi
     (λ t. list-lts.spec (list-R t)
     (list-at t)
     list.Post
-    (list-element-requires t)
-    (list-enum-told t)
-    (list-enum-known-ob t)
+    (list-list-place-requires t)
+    (list-kind-at-requires t)
+    (list-returns t)
+    (list-object-at-requires t)
     (list-references-requires t)
-    (list-enum-known-u t)
+    (list-returns-2 t)
+    (list-argument-at-requires t)
     (list-index-requires t)
     (list-choices-requires t)
-    (list-returns t)
-    (list-returns-2 t)
     (list-returns-3 t))
     (λ t. refer-lts.spec
     (refer-R t)

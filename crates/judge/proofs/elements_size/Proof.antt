@@ -1,41 +1,64 @@
 use native.Mathlib.Omega.{arith}
-use mathlib.Core.Path.{_≡_, refl, sym, ap, _∙_}
-use borrow.Author.Tests.{le-ltb, lt-ltb, le-leb, lt-leb, eq-eqb, ne-eqb}
-use Rattle.judge.proofs.OpenCases.{size-bool, size-other}
+use Rattle.judge.proofs.SizeCases.{size-bools, size-numbers, size-enums, size-objects, size-unions}
 use borrow.Author.Needs.{needs}
 use Rattle.judge.proofs.elements_size.Statement.{statement}
 use Rattle.judge.proofs.elements_size.Tie as tie
 use Rattle.judge.proofs.elements_size.Reads as reads
 use Rattle.judge.proofs.elements_size.Lts as lts
 use Rattle.judge.proofs.times.Reads as times-reads
-use Rattle.layout.proofs.is_bool.Reads as is-bool-reads
-use Rattle.layout.proofs.width.Reads as width-reads
+use Rattle.schema.proofs.kind_at.Reads as kind-at-reads
+use Rattle.schema.proofs.width_of.Reads as width-of-reads
+use Rattle.wire.proofs.index.Reads as index-reads
 
--- src/lib.rt:172:8
-is-bool-requires : tie.Need-is-bool-requires
-is-bool-requires c κs = search needs
+kind-at-requires : tie.Need-kind-at-requires
+kind-at-requires c κs = search needs
 
--- src/lib.rt:173:17
 add-result : tie.Need-add-result
 add-result c = search needs
 
--- src/lib.rt:173:9
 returns : tie.Need-returns
-returns c = (search size-bool, omega arith)
+returns c = (search size-bools, omega arith)
 
--- src/lib.rt:175:11
-width-requires : tie.Need-width-requires
-width-requires c κs = search needs
+width-of-requires : tie.Need-width-of-requires
+width-of-requires c κs = search needs
 
--- src/lib.rt:175:5
+index-requires : tie.Need-index-requires
+index-requires c κs = search needs
+
 times-requires : tie.Need-times-requires
 times-requires c κs = search needs
 
--- src/lib.rt:168:1
 returns-2 : tie.Need-returns-2
-returns-2 c = (search size-other, omega arith)
+returns-2 c = (search size-numbers, omega arith)
+
+returns-3 : tie.Need-returns-3
+returns-3 c = (search size-enums, omega arith)
+
+times-requires-2 : tie.Need-times-requires-2
+times-requires-2 c κs = search needs
+
+returns-4 : tie.Need-returns-4
+returns-4 c = (search size-objects, omega arith)
+
+times-requires-3 : tie.Need-times-requires-3
+times-requires-3 c κs = search needs
+
+returns-5 : tie.Need-returns-5
+returns-5 c = (search size-unions, omega arith)
 
 pub elements-size-spec : {M : Type 1} → statement M
 elements-size-spec =
     tie.close
-    (tie.spec is-bool-requires add-result returns width-requires times-requires returns-2)
+    (tie.spec
+    kind-at-requires
+    add-result
+    returns
+    width-of-requires
+    index-requires
+    times-requires
+    returns-2
+    returns-3
+    times-requires-2
+    returns-4
+    times-requires-3
+    returns-5)
