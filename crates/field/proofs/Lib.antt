@@ -1,0 +1,6 @@
+pub mod StepsWithin
+pub mod FoundsWithin
+pub mod FollowCases
+pub mod PartCases
+pub mod PathCases
+pub mod AnswerCases
