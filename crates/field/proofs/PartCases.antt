@@ -92,36 +92,39 @@ pub field-sound-before : (b dir : List ℕ) → Accepted b dir → (s i j : ℕ)
 field-sound-before b dir a s i j l h g k e =
     flat-weaker b s k l (field-sound b dir a s i (length (Sc.structOf (P.parse b) s)) refl k e (omega arith))
 
-pub field-sound-here : (b dir : List ℕ) → Accepted b dir → (i s : ℕ) → i < length (P.parse b .structs) → s ≡ i
-    → (n j : ℕ) → n ≡ length (Sc.structOf (P.parse b) s) → j < n → (k : Flat) → k ≡ Sc.fieldOf (P.parse b) s j
-    → FlatSound (length (P.parse b .structs)) k
-field-sound-here b dir a i s l es n j en h k e =
-    flat-weaker b s k (omega (arith, structs-length b)) (field-sound b dir a s j n en k e h)
+pub field-sound-here : (b dir : List ℕ) → Accepted b dir → (s j : ℕ) → s < P.structCount b → j < length (Sc.structOf (P.parse b) s)
+    → (k : Flat) → k ≡ Sc.fieldOf (P.parse b) s j → FlatSound (length (P.parse b .structs)) k
+field-sound-here b dir a s j l h k e = flat-weaker b s k l (field-sound b dir a s j (length (Sc.structOf (P.parse b) s)) refl k e h)
 
-pub struct-counted : (b : List ℕ) (i s : ℕ) → i < length (P.parse b .structs) → s ≡ i → s < P.structCount b
-struct-counted b i s l e = rw e (struct-index b i l)
+-- a place in the message is a small number
+pub field-low : (m : List ℕ) → Readable m → (at z : ℕ) → at + z ≤ length m → (size j : ℕ) → size ≤ 4096 * j → j < 256 → at + size < 2 ^ 60
+field-low m r at z h size j l g = omega (arith, r .size)
 
-module _ (S : Schema) (m : List ℕ) (i at holder j s : ℕ) (es : s ≡ i) (n : ℕ) (en : n ≡ length (Sc.structOf S s)) (r : Found) where
-  pub struct-none : n ≤ j → r ≡ Fd.Refused (Field.refusal 15 holder) → r ≡ Field.structPart u48 S m i at holder j
-  unfolding Field.structPart Field.noPart
-  struct-none h e = simp (← es, ← en, le-ltb _ _ h) e
+pub field-at-is : (S : Schema) (m : List ℕ) (s at j : ℕ) (k : Flat) (size : ℕ) → size ≡ total (structSize S) (take j (Sc.structOf S s))
+    → (r : Step) → r ≡ T.fieldStep m k (at + size) → r ≡ T.fieldStep m k (at + total (structSize S) (take j (Sc.structOf S s)))
+field-at-is S m s at j k size ez r e = e ∙ ap (λ (x : ℕ). T.fieldStep m k (at + x)) ez
 
-  pub struct-there : j < n → (k : Flat) → k ≡ Sc.fieldOf S s j → (size : ℕ) → size ≡ total (structSize S) (take j (Sc.structOf S s))
-      → (step : Step) → step ≡ T.fieldStep m k (at + size) → r ≡ Field.stepped 0 u48 S m holder (OfFlat k) step
-      → r ≡ Field.structPart u48 S m i at holder j
-  unfolding Field.structPart
-  struct-there h k ek size ez step et e = simp (← es, ← en, lt-ltb _ _ h, ← ek, ← ez, ← et) e
-
-pub struct-step-within : (b dir m : List ℕ) → Accepted b dir → Readable m → (i s at : ℕ) → i < length (P.parse b .structs) → s ≡ i
-    → at + structSize (P.parse b) i ≤ length m → (n j : ℕ) → n ≡ length (Sc.structOf (P.parse b) s) → j < n
-    → (k : Flat) → k ≡ Sc.fieldOf (P.parse b) s j → (size : ℕ) → size ≡ total (structSize (P.parse b)) (take j (Sc.structOf (P.parse b) s))
+pub field-at-within : (b dir m : List ℕ) → Accepted b dir → Readable m → (s at j : ℕ) → s < P.structCount b
+    → at + structSize (P.parse b) s ≤ length m → j < length (Sc.structOf (P.parse b) s) → (k : Flat) → k ≡ Sc.fieldOf (P.parse b) s j
+    → (size : ℕ) → size ≡ total (structSize (P.parse b)) (take j (Sc.structOf (P.parse b) s))
     → (step : Step) → step ≡ T.fieldStep m k (at + size) → StepWithin (P.parse b) m step
-struct-step-within b dir m a r i s at l es h n j en g k ek size ez step e =
+field-at-within b dir m a r s at j l h g k ek size ez step e =
     subst (StepWithin (P.parse b) m)
     (sym
     (e ∙ ap (λ (f : Flat). T.fieldStep m f (at + size)) ek
     ∙ ap (λ (x : ℕ). T.fieldStep m (Sc.fieldOf (P.parse b) s j) (at + x)) ez))
-    (field-within (P.parse b) (accepted-sound b dir a) m r s at j (omega arith) (rw es h) (omega arith))
+    (field-within (P.parse b) (accepted-sound b dir a) m r s at j (omega (arith, structs-length b)) h g)
+
+module _ (S : Schema) (m : List ℕ) (s at holder j n : ℕ) (en : n ≡ length (Sc.structOf S s)) (r : Found) where
+  pub struct-none : n ≤ j → r ≡ Fd.Refused (Field.refusal 15 holder) → r ≡ Field.structPart u48 S m s at holder j
+  unfolding Field.structPart Field.noPart
+  struct-none h e = simp (← en, le-ltb _ _ h) e
+
+  pub struct-there : j < n → (k : Flat) → k ≡ Sc.fieldOf S s j → (step : Step)
+      → step ≡ T.fieldStep m k (at + total (structSize S) (take j (Sc.structOf S s)))
+      → r ≡ Field.stepped 0 u48 S m holder (OfFlat k) step → r ≡ Field.structPart u48 S m s at holder j
+  unfolding Field.structPart
+  struct-there h k ek step et e = simp (← en, lt-ltb _ _ h, ← ek, ← et) e
 
 -- ---- the cursor at a member
 module _ (S : Schema) (t : ℕ) where
@@ -161,31 +164,34 @@ pub member-sound-of : (b dir : List ℕ) → Accepted b dir → (t j : ℕ) (r :
     → j < length (Sc.tableOf (P.parse b) t .members) → MemberSound (P.parse b) r
 member-sound-of b dir a t j r e h = rw e (member-sound-at (P.parse b) (accepted-sound b dir a) t j h)
 
-pub member-sound-counted : (b dir : List ℕ) → Accepted b dir → (t j n : ℕ) (r : Member) → r ≡ Sc.memberOf (P.parse b) t j
-    → n ≡ length (Sc.tableOf (P.parse b) t .members) → j < n → MemberSound (P.parse b) r
-member-sound-counted b dir a t j n r e en h = member-sound-of b dir a t j r e (omega arith)
-
 -- ---- a table's member
+module _ (S : Schema) (m : List ℕ) (t start n j : ℕ) (x : Member) (c : Cursor)
+    (ec : c ≡ L.afterMembers u48 S (take j (Sc.tableOf S t .members)) L.begin) (step : Step) (next : Cursor)
+    (h : Stepped (T.memberStep u48 S m start n c x) (L.afterMember u48 S x c) (c .end) step next) where
+  pub member-at-is : step ≡ T.memberStep u48 S m start n (L.afterMembers u48 S (take j (Sc.tableOf S t .members)) L.begin) x
+  member-at-is = h .step-is ∙ ap (λ (k : Cursor). T.memberStep u48 S m start n k x) ec
+
+pub member-at-within : (b dir m : List ℕ) → Accepted b dir → Readable m → (t start n j : ℕ) → start + n ≤ length m
+    → j < length (Sc.tableOf (P.parse b) t .members) → (x : Member) → x ≡ Sc.memberOf (P.parse b) t j
+    → (c : Cursor) (step : Step) (next : Cursor) → Stepped (T.memberStep u48 (P.parse b) m start n c x) (L.afterMember u48 (P.parse b) x c) (c .end) step next
+    → StepWithin (P.parse b) m step
+member-at-within b dir m a r t start n j h g x ex c step next q =
+    subst (StepWithin (P.parse b) m) (sym (q .step-is))
+    (member-within (P.parse b) (accepted-sound b dir a) m r x (member-sound-of b dir a t j x ex g) start n c h)
+
+pub cursor-low : (c : Cursor) (j : ℕ) → Laid (4097 * j) c → j < 256 → c .end < 2 ^ 58
+cursor-low c j l h = omega (arith, l .end)
+
 module _ (S : Schema) (m : List ℕ) (t at start n d j count : ℕ) (ec : count ≡ length (Sc.tableOf S t .members)) (r : Found) where
   pub table-none : count ≤ j → r ≡ Fd.Refused (Field.refusal 15 at) → r ≡ Field.objectPart u48 S m (O.Table t) at start n d j
   unfolding Field.objectPart Field.noPart
   table-none h e = simp (← ec, le-ltb _ _ h) e
 
-  pub table-there : j < count → (x : Member) → x ≡ Sc.memberOf S t j → (c : Cursor)
-      → c ≡ L.afterMembers u48 S (take j (Sc.tableOf S t .members)) L.begin → (step : Step) (next : Cursor)
-      → Stepped (T.memberStep u48 S m start n c x) (L.afterMember u48 S x c) (c .end) step next
+  pub table-there : j < count → (x : Member) → x ≡ Sc.memberOf S t j → (step : Step)
+      → step ≡ T.memberStep u48 S m start n (L.afterMembers u48 S (take j (Sc.tableOf S t .members)) L.begin) x
       → r ≡ Field.stepped d u48 S m at (x .kind) step → r ≡ Field.objectPart u48 S m (O.Table t) at start n d j
   unfolding Field.objectPart
-  table-there h x ex c es step next q e =
-      let p : step ≡ T.memberStep u48 S m start n c x = q .step-is in simp (← ec, lt-ltb _ _ h, ← ex, ← es, ← p) e
-
-pub member-step-within : (b dir m : List ℕ) → Accepted b dir → Readable m → (t start n j count : ℕ) → start + n ≤ length m
-    → count ≡ length (Sc.tableOf (P.parse b) t .members) → j < count → (x : Member) → x ≡ Sc.memberOf (P.parse b) t j
-    → (c : Cursor) (step : Step) (next : Cursor) → Stepped (T.memberStep u48 (P.parse b) m start n c x) (L.afterMember u48 (P.parse b) x c) (c .end) step next
-    → StepWithin (P.parse b) m step
-member-step-within b dir m a r t start n j count h ec g x ex c step next q =
-    subst (StepWithin (P.parse b) m) (sym (q .step-is))
-    (member-within (P.parse b) (accepted-sound b dir a) m r x (member-sound-counted b dir a t j count x ex ec g) start n c h)
+  table-there h x ex step es e = simp (← ec, lt-ltb _ _ h, ← ex, ← es) e
 
 -- ---- a list's element
 module _ (S : Schema) (m : List ℕ) (i at start n d j : ℕ) (r : Found) where
@@ -242,9 +248,9 @@ module _ (S : Schema) (m : List ℕ) (f : Found) (j : ℕ) where
     unfolding Field.partOf Field.noPart
     of-value k x holder e q = rw e q
 
-    pub of-struct : (i at holder : ℕ) → f ≡ Fd.Struct i at holder → r ≡ Field.structPart u48 S m i at holder j → r ≡ Field.partOf u48 S m f j
+    pub of-struct : (i at holder s : ℕ) → f ≡ Fd.Struct i at holder → s ≡ i → r ≡ Field.structPart u48 S m s at holder j → r ≡ Field.partOf u48 S m f j
     unfolding Field.partOf
-    of-struct i at holder e q = rw e q
+    of-struct i at holder s e es q = rw e (q ∙ ap (λ (x : ℕ). Field.structPart u48 S m x at holder j) es)
 
     pub of-object : (ob : Object) (at start n d : ℕ) → f ≡ Fd.Object ob at start n d → r ≡ Field.objectPart u48 S m ob at start n d j
         → r ≡ Field.partOf u48 S m f j
@@ -253,11 +259,8 @@ module _ (S : Schema) (m : List ℕ) (f : Found) (j : ℕ) where
 
 -- what it needs of what was found
 module _ (S : Schema) (m : List ℕ) (f : Found) (within : FoundWithin S m f) where
-  pub struct-index-of : (i at holder : ℕ) → f ≡ Fd.Struct i at holder → i < length (S .structs)
-  struct-index-of i at holder e = subst (FoundWithin S m) e within .0
-
-  pub struct-fits : (i at holder : ℕ) → f ≡ Fd.Struct i at holder → at + structSize S i ≤ length m
-  struct-fits i at holder e = subst (FoundWithin S m) e within .1
+  pub struct-fits : (i at holder s : ℕ) → f ≡ Fd.Struct i at holder → s ≡ i → at + structSize S s ≤ length m
+  struct-fits i at holder s e es = rw es (subst (FoundWithin S m) e within .1)
 
   pub object-index : (ob : Object) (at start n d : ℕ) → f ≡ Fd.Object ob at start n d → ObjectSound S ob
   object-index ob at start n d e = subst (FoundWithin S m) e within .0
@@ -280,3 +283,7 @@ cursor-done S t c i j e h l =
 
 pub laid-done : (c : Cursor) (i j : ℕ) → Laid (4097 * i) c → i ≤ j → j ≤ i → Laid (4097 * j) c
 laid-done c i j h l g = let z : i ≡ j = omega arith in subst (λ (x : ℕ). Laid (4097 * x) c) z h
+
+pub struct-counted-of : (b m : List ℕ) (f : Found) → FoundWithin (P.parse b) m f → (i at holder s : ℕ) → f ≡ Fd.Struct i at holder → s ≡ i
+    → s < P.structCount b
+struct-counted-of b m f within i at holder s e es = rw es (struct-index b i (subst (FoundWithin (P.parse b) m) e within .0))

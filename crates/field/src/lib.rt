@@ -5,6 +5,7 @@ use coding::Cursor;
 use coding::Flat;
 use coding::Found;
 use coding::Kind;
+use coding::Member;
 use coding::Object;
 use coding::Opened;
 use coding::Place;
@@ -116,17 +117,34 @@ fn fields_size(b: &[u8], dir: &[u16], s: usize, j: usize) -> usize
     size
 }
 
-// Member j of the struct i at a place.
-fn struct_part(b: &[u8], dir: &[u16], m: &[u8], i: u8, at: usize, holder: usize, j: usize) -> Found
-    requires { ⌜ (Accepted (now b) (now dir)) × (Readable (now m)) × (i < length (P.parse (now b) .structs)) × (at + S.structSize (P.parse (now b)) i ≤ length (now m)) ⌝ }
-    ensures { λ r. ⌜ r ≡ F.structPart B.u48 (P.parse (now (b .entry))) (now (m .entry)) i at holder j ⌝ }
+// What stands at member j, of kind k, of the struct s at a place.
+fn field_at(b: &[u8], dir: &[u16], m: &[u8], s: usize, at: usize, j: usize, k: Flat) -> Step
+    requires { ⌜ (Accepted (now b) (now dir)) × (Readable (now m)) × (s < P.structCount (now b)) × (at + S.structSize (P.parse (now b)) s ≤ length (now m)) ⌝ }
+    requires { ⌜ (j < length (Sc.structOf (P.parse (now b)) s)) × (j < 256) × (k ≡ Sc.fieldOf (P.parse (now b)) s j) ⌝ }
+    ensures { λ r. ⌜ (r ≡ T.fieldStep (now (m .entry)) k (at + S.total (S.structSize (P.parse (now (b .entry)))) (take j (Sc.structOf (P.parse (now (b .entry))) s)))) × StepWithin (P.parse (now (b .entry))) (now (m .entry)) r ⌝ }
 {
-    let s = wire::index(i);
+    let size = fields_size(b, dir, s, j);
+    field_step(b, m, k, at + size)
+}
+
+// Member j of the struct s at a place.
+fn struct_part(
+    b: &[u8],
+    dir: &[u16],
+    m: &[u8],
+    s: usize,
+    at: usize,
+    holder: usize,
+    j: usize,
+) -> Found
+    requires { ⌜ (Accepted (now b) (now dir)) × (Readable (now m)) × (s < P.structCount (now b)) × (at + S.structSize (P.parse (now b)) s ≤ length (now m)) ⌝ }
+    ensures { λ r. ⌜ r ≡ F.structPart B.u48 (P.parse (now (b .entry))) (now (m .entry)) s at holder j ⌝ }
+{
     if schema::field_count(b, dir, s) <= j {
         return refuse(15, holder);
     }
     let k = schema::field(b, dir, s, j);
-    let step = field_step(b, m, k, at + fields_size(b, dir, s, j));
+    let step = field_at(b, dir, m, s, at, j, k);
     follow(b, dir, m, 0, holder, Kind::OfFlat(k), step)
 }
 
@@ -155,7 +173,27 @@ fn cursor_at(b: &[u8], dir: &[u16], t: usize, j: usize) -> Cursor
     c
 }
 
-// Member j of a table, whose fixed part has n bytes from `start`.
+// What member j, which is r, of table t holds. The fixed part has n bytes from `start`.
+fn member_at(
+    b: &[u8],
+    dir: &[u16],
+    m: &[u8],
+    t: usize,
+    start: usize,
+    n: usize,
+    j: usize,
+    r: Member,
+) -> Step
+    requires { ⌜ (Accepted (now b) (now dir)) × (Readable (now m)) × (t < P.tableCount (now b)) × (start + n ≤ length (now m)) ⌝ }
+    requires { ⌜ (j < length (Sc.tableOf (P.parse (now b)) t .members)) × (j < 256) × (r ≡ Sc.memberOf (P.parse (now b)) t j) ⌝ }
+    ensures { λ q. ⌜ (q ≡ T.memberStep B.u48 (P.parse (now (b .entry))) (now (m .entry)) start n (L.afterMembers B.u48 (P.parse (now (b .entry))) (take j (Sc.tableOf (P.parse (now (b .entry))) t .members)) L.begin) r) × StepWithin (P.parse (now (b .entry))) (now (m .entry)) q ⌝ }
+{
+    let c = cursor_at(b, dir, t, j);
+    let q = step::member_step(b, dir, m, start, n, c, r);
+    q.step
+}
+
+// Member j of table t.
 fn table_part(
     b: &[u8],
     dir: &[u16],
@@ -174,10 +212,8 @@ fn table_part(
         return refuse(15, at);
     }
     let r = schema::member(b, dir, t, j);
-    let c = cursor_at(b, dir, t, j);
+    let step = member_at(b, dir, m, t, start, n, j, r);
     let k = r.kind;
-    let q = step::member_step(b, dir, m, start, n, c, r);
-    let step = q.step;
     follow(b, dir, m, d, at, k, step)
 }
 
@@ -240,7 +276,7 @@ fn part_of(b: &[u8], dir: &[u16], m: &[u8], f: Found, j: usize) -> Found
         Found::Absent => Found::Absent,
         Found::Unknown(x) => Found::Unknown(x),
         Found::Value(_, _, holder) => refuse(15, holder),
-        Found::Struct(i, at, holder) => struct_part(b, dir, m, i, at, holder, j),
+        Found::Struct(i, at, holder) => struct_part(b, dir, m, wire::index(i), at, holder, j),
         Found::Object(ob, at, start, n, d) => object_part(b, dir, m, ob, at, start, n, d, j),
     }
 }

@@ -1,3 +1,6 @@
+use Rattle.field.proofs.PartCases.{part-text, part-bytes, part-list, part-table}
+use Rattle.judge.proofs.OpenCases.{list-counted-of, table-counted-of}
+use Rattle.judge.proofs.WalkCases.{list-fits, table-fits}
 use borrow.Author.Needs.{needs}
 use Rattle.field.proofs.object_part.Statement.{statement}
 use Rattle.field.proofs.object_part.Tie as tie
@@ -34,7 +37,7 @@ index-requires c κs = search needs
 
 -- src/lib.rt:227:28
 list-part-requires : tie.Need-list-part-requires
-list-part-requires c κs = ?
+list-part-requires c κs = search (list-counted-of, list-fits, needs)
 
 -- src/lib.rt:228:23
 enum-known-ob-2 : tie.Need-enum-known-ob-2
@@ -46,23 +49,23 @@ index-requires-2 c κs = search needs
 
 -- src/lib.rt:228:29
 table-part-requires : tie.Need-table-part-requires
-table-part-requires c κs = ?
+table-part-requires c κs = search (table-counted-of, table-fits, needs)
 
 -- src/lib.rt:209:1
 returns : tie.Need-returns
-returns c = ?
+returns c = search part-text
 
 -- src/lib.rt:209:1
 returns-2 : tie.Need-returns-2
-returns-2 c = ?
+returns-2 c = search part-bytes
 
 -- src/lib.rt:209:1
 returns-3 : tie.Need-returns-3
-returns-3 c = ?
+returns-3 c = search part-list
 
 -- src/lib.rt:209:1
 returns-4 : tie.Need-returns-4
-returns-4 c = ?
+returns-4 c = search part-table
 
 pub object-part-spec : {M : Type 1} → statement M
 object-part-spec =
