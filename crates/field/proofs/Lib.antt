@@ -4,3 +4,5 @@ pub mod FollowCases
 pub mod PartCases
 pub mod PathCases
 pub mod AnswerCases
+pub mod TextCases
+pub mod ReaderCases

@@ -82,13 +82,9 @@ refused-within S m n at r e = rw e tt
 pub schema-accepted : (b dir : List ℕ) (t : Bool) → Judged b dir t → t ≡ true → Accepted b dir
 schema-accepted b dir t j e = j .right e
 
-unlawful : (b dir m path : List ℕ) (t : Bool) → Judged b dir t → t ≡ false → Field.fieldFound u48 b m path ≡ Fd.Refused (Field.refusal 1 0)
+pub unlawful : (b dir m path : List ℕ) (t : Bool) → Judged b dir t → t ≡ false → Field.fieldFound u48 b m path ≡ Fd.Refused (Field.refusal 1 0)
 unfolding Field.fieldFound Field.before
 unlawful b dir m path t j f = simp (← (j .is), f)
-
-pub field-unlawful : (b dir m path : List ℕ) (t : Bool) → Judged b dir t → t ≡ false → A.Refused (Field.refusal 1 0) ≡ Field.field u48 b m path
-unfolding Field.field Field.answerOf
-field-unlawful b dir m path t j f = sym (ap Field.answerOf (unlawful b dir m path t j f))
 
 pub field-found : (b m path : List ℕ) (g : Found) → g ≡ Field.fieldFound u48 b m path → (r : Answer) → r ≡ Field.answerOf g → r ≡ Field.field u48 b m path
 unfolding Field.field

@@ -1,2 +1,3 @@
--- What a path has come to lies within the message.
+-- What is found lies within the message; an answer as a case number; a reader's answers.
 pub mod Within
+pub mod Cases

@@ -14,10 +14,11 @@ use coding::Step;
 ghost use mathlib.Core.Path.{_≡_};
 ghost use mathlib.Core.Bool.{Bool, true, false};
 ghost use Prim.Native.Nat.{ℕ, _+_, _-_, _*_, _<_, _≤_, _^_};
-ghost use lib.ListN.{length, getD, take};
+ghost use lib.ListN.{length, getD, take, drop};
 ghost use Rattle.coding.specs.Bytes as B;
 ghost use Rattle.coding.specs.Field as F;
 ghost use Rattle.coding.specs.Layout as L;
+ghost use Rattle.coding.specs.Lists.{pick};
 ghost use Rattle.coding.specs.Packed as P;
 ghost use Rattle.coding.specs.Schema as Sc;
 ghost use Rattle.coding.specs.Step as T;
@@ -27,7 +28,8 @@ ghost use Rattle.laws.specs.Sound.{FlatSound, ObjectSound, KindSound};
 ghost use Rattle.layout.specs.Bounds.{Laid};
 ghost use Rattle.schema.specs.Directory.{Accepted};
 ghost use Rattle.step.specs.Lead as D;
-ghost use Rattle.field.specs.Within.{Readable, StepWithin, FoundWithin};
+ghost use Rattle.field.specs.Cases as C;
+ghost use Rattle.field.specs.Within.{Readable, StepWithin, FoundWithin, Spans};
 
 // ---- arrivals
 fn refuse(n: u8, at: usize) -> Found
@@ -376,17 +378,278 @@ fn answer_of(b: &[u8], m: &[u8], f: Found) -> Answer
     }
 }
 
+// What a path comes to, of any message by any schema.
+pub fn field_found(b: &[u8], m: &[u8], path: &[u32]) -> Found
+    ensures { λ r. ⌜ (r ≡ F.fieldFound B.u48 (now (b .entry)) (now (m .entry)) (now (path .entry))) × FoundWithin (P.parse (now (b .entry))) (now (m .entry)) r ⌝ }
+{
+    let mut dir: [u16; 320] = [0; 320];
+    if schema::judge_schema(b, &mut dir) {
+        return found_by(b, &dir, m, path);
+    }
+    refuse(1, 0)
+}
+
 // One field's answer, of any message by any schema.
 pub fn field(b: &[u8], m: &[u8], path: &[u32]) -> Answer
     ensures { λ r. ⌜ r ≡ F.field B.u48 (now (b .entry)) (now (m .entry)) (now (path .entry)) ⌝ }
 {
+    let f = field_found(b, m, path);
+    answer_of(b, m, f)
+}
+
+// ---- the answer as a case number and three numbers
+pub struct Case {
+    pub case: u32,
+    pub a: u64,
+    pub b: u64,
+    pub c: u64,
+}
+
+fn bit(x: bool) -> u64
+    ensures { λ r. ⌜ r ≡ pick x 1 0 ⌝ }
+{
+    if x {
+        return 1;
+    }
+    0
+}
+
+pub fn case_of(answer: Answer) -> Case
+    ensures { λ r. ⌜ r ≡ C.caseOf answer ⌝ }
+{
+    match answer {
+        Answer::Boolean(x) => Case {
+            case: 0,
+            a: bit(x),
+            b: 0,
+            c: 0,
+        },
+        Answer::Number(x, w, s) => Case {
+            case: 1,
+            a: x,
+            b: wire::wide(w),
+            c: bit(s),
+        },
+        Answer::Float(x, w) => Case {
+            case: 2,
+            a: x,
+            b: wire::wide(w),
+            c: 0,
+        },
+        Answer::Object(k, at, n) => Case {
+            case: 3,
+            a: wire::wide(k),
+            b: at as u64,
+            c: n as u64,
+        },
+        Answer::Struct(at) => Case {
+            case: 4,
+            a: at as u64,
+            b: 0,
+            c: 0,
+        },
+        Answer::Absent => Case {
+            case: 5,
+            a: 0,
+            b: 0,
+            c: 0,
+        },
+        Answer::Unknown(x) => Case {
+            case: 6,
+            a: x as u64,
+            b: 0,
+            c: 0,
+        },
+        Answer::Refused(why) => Case {
+            case: 7,
+            a: wire::wide(why.number),
+            b: why.place as u64,
+            c: 0,
+        },
+    }
+}
+
+// ---- a text or bytes as a part of the message
+// Where a part of the message stands.
+pub struct Span {
+    pub start: usize,
+    pub length: usize,
+}
+
+fn object_span(b: &[u8], m: &[u8], ob: Object, start: usize, n: usize) -> Span
+    requires { ⌜ start + W.contentSize B.u48 (P.parse (now b)) ob n ≤ length (now m) ⌝ }
+    ensures { λ r. ⌜ Spans (now (m .entry)) (F.objectText (now (m .entry)) ob start n) (r .start) (r .length) ⌝ }
+{
+    match ob {
+        Object::Text => Span { start, length: n },
+        Object::Bytes => Span { start, length: n },
+        Object::List(_) => Span {
+            start: 0,
+            length: 0,
+        },
+        Object::Table(_) => Span {
+            start: 0,
+            length: 0,
+        },
+    }
+}
+
+fn span_of(b: &[u8], m: &[u8], f: Found) -> Span
+    requires { ⌜ FoundWithin (P.parse (now b)) (now m) f ⌝ }
+    ensures { λ r. ⌜ Spans (now (m .entry)) (F.foundText (now (m .entry)) f) (r .start) (r .length) ⌝ }
+{
+    match f {
+        Found::Refused(_) => Span {
+            start: 0,
+            length: 0,
+        },
+        Found::Absent => Span {
+            start: 0,
+            length: 0,
+        },
+        Found::Unknown(_) => Span {
+            start: 0,
+            length: 0,
+        },
+        Found::Value(_, _, _) => Span {
+            start: 0,
+            length: 0,
+        },
+        Found::Struct(_, _, _) => Span {
+            start: 0,
+            length: 0,
+        },
+        Found::Object(ob, _, start, n, _) => object_span(b, m, ob, start, n),
+    }
+}
+
+// Where the text or the bytes stand that a path leads to; an empty part where it leads to anything else.
+pub fn text_span(b: &[u8], m: &[u8], path: &[u32]) -> Span
+    ensures { λ r. ⌜ Spans (now (m .entry)) (F.fieldText B.u48 (now (b .entry)) (now (m .entry)) (now (path .entry))) (r .start) (r .length) ⌝ }
+{
+    let f = field_found(b, m, path);
+    span_of(b, m, f)
+}
+
+fn part_at<'a>(m: &'a [u8], start: usize, n: usize) -> &'a [u8]
+    requires { ⌜ start + n ≤ length (now m) ⌝ }
+    ensures { λ r. ⌜ now r ≡ take n (drop start (now (m .entry))) ⌝ }
+{
+    &m[start..start + n]
+}
+
+// The text or the bytes that a path leads to, as a part of the message.
+pub fn field_text<'a>(b: &[u8], m: &'a [u8], path: &[u32]) -> &'a [u8]
+    ensures { λ r. ⌜ now r ≡ F.fieldText B.u48 (now (b .entry)) (now (m .entry)) (now (path .entry)) ⌝ }
+{
+    let s = text_span(b, m, path);
+    part_at(m, s.start, s.length)
+}
+
+// ---- the list reader
+// Whether elements of a kind lead to objects.
+fn leads(k: Kind) -> bool
+    ensures { λ r. ⌜ r ≡ F.leads k ⌝ }
+{
+    match k {
+        Kind::OfFlat(_) => false,
+        Kind::OfObject(_) => true,
+        Kind::OfUnion(_) => true,
+    }
+}
+
+fn list_of(b: &[u8], dir: &[u16], ob: Object, at: usize, start: usize, n: usize, d: usize) -> Found
+    requires { ⌜ (Accepted (now b) (now dir)) × ObjectSound (P.parse (now b)) ob ⌝ }
+    ensures { λ r. ⌜ r ≡ F.listFound (P.parse (now (b .entry))) ob at start n d ⌝ }
+{
+    match ob {
+        Object::Text => refuse(15, 0),
+        Object::Bytes => refuse(15, 0),
+        Object::List(i) => {
+            if leads(schema::element(b, dir, wire::index(i))) {
+                return Found::Object(Object::List(i), at, start, n, d);
+            }
+            refuse(15, 0)
+        }
+        Object::Table(_) => refuse(15, 0),
+    }
+}
+
+fn reader_of(b: &[u8], dir: &[u16], m: &[u8], f: Found) -> Found
+    requires { ⌜ (Accepted (now b) (now dir)) × FoundWithin (P.parse (now b)) (now m) f ⌝ }
+    ensures { λ r. ⌜ (r ≡ F.readerOf (P.parse (now (b .entry))) f) × FoundWithin (P.parse (now (b .entry))) (now (m .entry)) r ⌝ }
+{
+    match f {
+        Found::Refused(x) => Found::Refused(x),
+        Found::Absent => refuse(15, 0),
+        Found::Unknown(_) => refuse(15, 0),
+        Found::Value(_, _, _) => refuse(15, 0),
+        Found::Struct(_, _, _) => refuse(15, 0),
+        Found::Object(ob, at, start, n, d) => list_of(b, dir, ob, at, start, n, d),
+    }
+}
+
+// The list that a reader goes over, or why there is none, by a schema that was judged before.
+fn reader_by(b: &[u8], dir: &[u16], m: &[u8], path: &[u32]) -> Found
+    requires { ⌜ Accepted (now b) (now dir) ⌝ }
+    ensures { λ r. ⌜ (r ≡ F.readerStart B.u48 (now (b .entry)) (now (m .entry)) (now (path .entry))) × FoundWithin (P.parse (now (b .entry))) (now (m .entry)) r ⌝ }
+{
+    let f = found_by(b, dir, m, path);
+    reader_of(b, dir, m, f)
+}
+
+// The same, of any message by any schema.
+pub fn reader_start(b: &[u8], m: &[u8], path: &[u32]) -> Found
+    ensures { λ r. ⌜ (r ≡ F.readerStart B.u48 (now (b .entry)) (now (m .entry)) (now (path .entry))) × FoundWithin (P.parse (now (b .entry))) (now (m .entry)) r ⌝ }
+{
     let mut dir: [u16; 320] = [0; 320];
     if schema::judge_schema(b, &mut dir) {
-        return answer_of(b, m, found_by(b, &dir, m, path));
+        return reader_by(b, &dir, m, path);
+    }
+    refuse(1, 0)
+}
+
+// The answer of the step at element j of the list that was found.
+pub fn reader_step(b: &[u8], dir: &[u16], m: &[u8], list: Found, j: usize) -> Answer
+    requires { ⌜ (Accepted (now b) (now dir)) × (Readable (now m)) × (FoundWithin (P.parse (now b)) (now m) list) ⌝ }
+    ensures { λ r. ⌜ r ≡ F.answerOf (F.partOf B.u48 (P.parse (now (b .entry))) (now (m .entry)) list j) ⌝ }
+{
+    let f = part_of(b, dir, m, list, j);
+    answer_of(b, m, f)
+}
+
+fn reader_at(b: &[u8], dir: &[u16], m: &[u8], path: &[u32], j: usize) -> Answer
+    requires { ⌜ Accepted (now b) (now dir) ⌝ }
+    ensures { λ r. ⌜ r ≡ C.readerGives B.u48 (now (b .entry)) (now (m .entry)) (now (path .entry)) j ⌝ }
+{
+    let list = reader_by(b, dir, m, path);
+    if 16777215 < m.len() {
+        return answer_of(b, m, list);
+    }
+    reader_step(b, dir, m, list, j)
+}
+
+// The answer of the step at element j, of any message by any schema.
+pub fn reader_answer(b: &[u8], m: &[u8], path: &[u32], j: usize) -> Answer
+    ensures { λ r. ⌜ r ≡ C.readerGives B.u48 (now (b .entry)) (now (m .entry)) (now (path .entry)) j ⌝ }
+{
+    let mut dir: [u16; 320] = [0; 320];
+    if schema::judge_schema(b, &mut dir) {
+        return reader_at(b, &dir, m, path, j);
     }
     let why = Refusal {
         number: 1,
         place: 0,
     };
     Answer::Refused(why)
+}
+
+// Where the reader of a list of n elements stands after the step at element j.
+pub fn reader_next(n: usize, j: usize) -> usize
+    ensures { λ r. ⌜ r ≡ F.readerNext n j ⌝ }
+{
+    if j < n {
+        return j + 1;
+    }
+    j
 }
