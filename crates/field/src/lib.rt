@@ -393,8 +393,8 @@ pub fn field_found(b: &[u8], m: &[u8], path: &[u32]) -> Found
 pub fn field(b: &[u8], m: &[u8], path: &[u32]) -> Answer
     ensures { λ r. ⌜ r ≡ F.field B.u48 (now (b .entry)) (now (m .entry)) (now (path .entry)) ⌝ }
 {
-    let f = field_found(b, m, path);
-    answer_of(b, m, f)
+    let found = field_found(b, m, path);
+    answer_of(b, m, found)
 }
 
 // ---- the answer as a case number and three numbers
