@@ -51,12 +51,6 @@ module _ (c : ℕ) (k : Flat) (sound : FlatSound c k) (w : ℕ) where
   pub float-bits : k ≡ F.Float w → 8 * w < 2 ^ 8
   float-bits e = ⊎-elim (λ h. omega arith) (λ h. omega arith) (subst (FlatSound c) e sound)
 
-  pub integer-eight : (s : Bool) → k ≡ F.Integer s w → (v : ℕ) → v ≡ w → v ≤ 8
-  integer-eight s e v ev = let h = subst (FlatSound c) e sound in omega arith
-
-  pub float-eight : k ≡ F.Float w → (v : ℕ) → v ≡ w → v ≤ 8
-  float-eight e v ev = ⊎-elim (λ h. omega arith) (λ h. omega arith) (subst (FlatSound c) e sound)
-
 module _ (k : Kind) (x : ℕ) where
   pub value-flat : (f : Flat) → k ≡ OfFlat f → (r : Answer) → r ≡ Field.flatAnswer f x → r ≡ Field.valueAnswer k x
   unfolding Field.valueAnswer
@@ -69,9 +63,6 @@ module _ (k : Kind) (x : ℕ) where
   pub value-union : (i : ℕ) → k ≡ OfUnion i → A.Absent ≡ Field.valueAnswer k x
   unfolding Field.valueAnswer
   value-union i e = rw e
-
-pub flat-sound : (S : Schema) (k : Kind) → KindSound S k → (f : Flat) → k ≡ OfFlat f → FlatSound (length (S .structs)) f
-flat-sound S k s f e = subst (KindSound S) e s
 
 -- ---- objects
 module _ (ob : Object) where

@@ -32,7 +32,7 @@ use Rattle.coding.specs.declared.Found.{Found}
 use Rattle.coding.specs.declared.Found.the-variants as Fd
 use Rattle.coding.specs.declared.Refusal.{Refusal}
 use Rattle.laws.specs.Sound.{FlatSound, ObjectSound, KindSound, MemberSound}
-use Rattle.laws.specs.SoundAt.{member-sound-at, struct-index}
+use Rattle.laws.specs.SoundAt.{struct-index}
 use Rattle.laws.specs.Parsed.{structs-length}
 use Rattle.layout.specs.Bounds.{Laid, Stands}
 use Rattle.layout.proofs.Booleans.{flat-weaker, field-sound}
@@ -40,7 +40,8 @@ use Rattle.schema.specs.Directory.{Accepted, accepted-sound}
 use Rattle.step.specs.Lead.{Stepped}
 use Rattle.wire.specs.Numbers.{Number}
 use Rattle.field.specs.Within.{Readable, StepWithin, FoundWithin}
-use Rattle.field.proofs.StepsWithin.{member-within, element-within, field-within}
+use Rattle.judge.proofs.WalkCases.{member-sound-of}
+use Rattle.field.proofs.StepsWithin.{total-append, member-within, element-within, field-within}
 
 -- ---- a struct's member
 module _ (m : List ℕ) (k : Flat) (at : ℕ) where
@@ -66,11 +67,6 @@ module _ (m : List ℕ) (k : Flat) (at : ℕ) where
 
 -- the bytes of the members before it
 module _ (S : Schema) (s : ℕ) where
-  total-append : (ks ls : List Flat) → total (structSize S) (ks ++ ls) ≡ total (structSize S) ks + total (structSize S) ls
-  unfolding total
-  total-append [] ls = omega arith
-  total-append (k ∷ ks) ls = omega (arith, total-append ks ls)
-
   pub size-start : 0 ≡ total (structSize S) (take 0 (Sc.structOf S s))
   unfolding total
   size-start = refl
@@ -82,7 +78,7 @@ module _ (S : Schema) (s : ℕ) where
       let ks = Sc.structOf S s in
       let p : take (i + 1) ks ≡ take i ks ++ Sc.fieldOf S s i ∷ [] = ap (λ (x : ℕ). take x ks) (add-one i) ∙ take-suc ks i F.Boolean (omega arith) in
       let q : total (structSize S) (take (i + 1) ks) ≡ total (structSize S) (take i ks) + total (structSize S) (Sc.fieldOf S s i ∷ []) =
-      ap (total (structSize S)) p ∙ total-append (take i ks) (Sc.fieldOf S s i ∷ []) in
+      ap (total (structSize S)) p ∙ total-append S (take i ks) (Sc.fieldOf S s i ∷ []) in
       let z : w ≡ flatWidth (structSize S) (Sc.fieldOf S s i) = ew ∙ ap (flatWidth (structSize S)) ek in
       omega (arith, q, z, e)
 
@@ -159,10 +155,6 @@ after-laid S i c l r s next h =
     let q = h .laid in
     let g = q .end in
     record { end = omega arith; byte = q .byte; bit = q .bit }
-
-pub member-sound-of : (b dir : List ℕ) → Accepted b dir → (t j : ℕ) (r : Member) → r ≡ Sc.memberOf (P.parse b) t j
-    → j < length (Sc.tableOf (P.parse b) t .members) → MemberSound (P.parse b) r
-member-sound-of b dir a t j r e h = rw e (member-sound-at (P.parse b) (accepted-sound b dir a) t j h)
 
 -- ---- a table's member
 module _ (S : Schema) (m : List ℕ) (t start n j : ℕ) (x : Member) (c : Cursor)

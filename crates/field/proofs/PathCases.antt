@@ -79,9 +79,6 @@ pub refused-within : (S : Schema) (m : List ℕ) (n at : ℕ) (r : Found) → r 
 refused-within S m n at r e = rw e tt
 
 -- ---- the schema
-pub schema-accepted : (b dir : List ℕ) (t : Bool) → Judged b dir t → t ≡ true → Accepted b dir
-schema-accepted b dir t j e = j .right e
-
 pub unlawful : (b dir m path : List ℕ) (t : Bool) → Judged b dir t → t ≡ false → Field.fieldFound u48 b m path ≡ Fd.Refused (Field.refusal 1 0)
 unfolding Field.fieldFound Field.before
 unlawful b dir m path t j f = simp (← (j .is), f)

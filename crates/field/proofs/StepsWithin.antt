@@ -37,6 +37,12 @@ use Rattle.step.proofs.ReachCases.{slot-size}
 use Rattle.step.proofs.StepCases.{element-inside}
 use Rattle.field.specs.Within.{Readable, StepWithin}
 
+-- the bytes of joined members
+pub total-append : (S : Schema) (ks ls : List Flat) → total (structSize S) (ks ++ ls) ≡ total (structSize S) ks + total (structSize S) ls
+unfolding total
+total-append S [] ls = omega arith
+total-append S (k ∷ ks) ls = omega (arith, total-append S ks ls)
+
 place-small : (inplace : Bool) (tail x : ℕ) → tail < 2 ^ 48 → x < 2 ^ 48 → PlaceSmall (T.placeOf inplace tail x)
 unfolding T.placeOf
 place-small inplace tail x h l = pick-holds PlaceSmall inplace (InPlace tail x) (ByOffset x) (λ e. (h, l)) (λ e. l)
@@ -118,11 +124,6 @@ module _ (S : Schema) (sound : Sound S) (m : List ℕ) (readable : Readable m) w
       value-within k s true false 0 (T.elementPlace u48 S k start i) (i % 8) (omega arith) (omega (arith, element-inside S k start n i l))
 
   -- ---- a struct's member
-  total-append : (ks ls : List Flat) → total (structSize S) (ks ++ ls) ≡ total (structSize S) ks + total (structSize S) ls
-  unfolding total
-  total-append [] ls = omega arith
-  total-append (k ∷ ks) ls = omega (arith, total-append ks ls)
-
   before-and-here : (i j : ℕ) → j < length (Sc.structOf S i)
       → total (structSize S) (take j (Sc.structOf S i)) + flatWidth (structSize S) (Sc.fieldOf S i j) ≤ structSize S i
   unfolding total Sc.fieldOf
@@ -130,7 +131,7 @@ module _ (S : Schema) (sound : Sound S) (m : List ℕ) (readable : Readable m) w
       let ks = Sc.structOf S i in
       let p : total (structSize S) (take j ks ++ drop j ks) ≡ total (structSize S) ks = ap (total (structSize S)) (take-append-drop j ks) in
       let q : total (structSize S) (drop j ks) ≡ total (structSize S) (Sc.fieldOf S i j ∷ drop (suc j) ks) = ap (total (structSize S)) (drop-cons ks j F.Boolean l) in
-      omega (arith, p, q, total-append (take j ks) (drop j ks), struct-size-is S sound i)
+      omega (arith, p, q, total-append S (take j ks) (drop j ks), struct-size-is S sound i)
 
   weaker : (i : ℕ) → i < length (S .structs) → (k : Flat) → FlatSound i k → FlatSound (length (S .structs)) k
   weaker i l F.Boolean h = tt

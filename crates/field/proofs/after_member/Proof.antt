@@ -1,4 +1,5 @@
-use Rattle.field.proofs.PartCases.{after-is, after-laid, member-sound-of}
+use Rattle.judge.proofs.WalkCases.{member-sound-of}
+use Rattle.field.proofs.PartCases.{after-is, after-laid}
 use borrow.Author.Needs.{needs}
 use Rattle.field.proofs.after_member.Statement.{statement}
 use Rattle.field.proofs.after_member.Tie as tie

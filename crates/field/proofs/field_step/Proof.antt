@@ -1,6 +1,6 @@
+use Rattle.step.proofs.Inside.{integer-eight, float-eight}
 use native.Mathlib.Omega.{arith}
 use Rattle.field.proofs.PartCases.{at-boolean, at-integer, at-float, at-enum, at-struct}
-use Rattle.field.proofs.AnswerCases.{integer-eight, float-eight}
 use borrow.Author.Needs.{needs}
 use Rattle.field.proofs.field_step.Statement.{statement}
 use Rattle.field.proofs.field_step.Tie as tie

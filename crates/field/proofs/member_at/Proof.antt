@@ -1,5 +1,6 @@
+use Rattle.judge.proofs.WalkCases.{member-sound-of}
 use native.Mathlib.Omega.{arith}
-use Rattle.field.proofs.PartCases.{member-sound-of, cursor-low, member-at-is, member-at-within}
+use Rattle.field.proofs.PartCases.{cursor-low, member-at-is, member-at-within}
 use borrow.Author.Needs.{needs}
 use Rattle.field.proofs.member_at.Statement.{statement}
 use Rattle.field.proofs.member_at.Tie as tie

@@ -1,4 +1,5 @@
-use Rattle.field.proofs.PathCases.{schema-accepted, refused-within}
+use Rattle.judge.proofs.VerdictCases.{schema-accepted}
+use Rattle.field.proofs.PathCases.{refused-within}
 use Rattle.field.proofs.ReaderCases.{reader-unlawful}
 use borrow.Author.Needs.{needs}
 use Rattle.field.proofs.reader_start.Statement.{statement}

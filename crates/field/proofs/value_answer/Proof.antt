@@ -1,4 +1,5 @@
-use Rattle.field.proofs.AnswerCases.{value-flat, value-object, value-union, flat-sound}
+use Rattle.step.proofs.Inside.{flat-sound}
+use Rattle.field.proofs.AnswerCases.{value-flat, value-object, value-union}
 use borrow.Author.Needs.{needs}
 use Rattle.field.proofs.value_answer.Statement.{statement}
 use Rattle.field.proofs.value_answer.Tie as tie
