@@ -1,13 +1,10 @@
 -- What a path comes to lies within the message.
-use mathlib.Core.Path.{_≡_, refl, sym, ap, _∙_, subst}
-use mathlib.Core.Bool.{Bool, true, false}
-use mathlib.Core.List.{List, [], _∷_}
+use mathlib.Core.Path.{_≡_, refl}
+use mathlib.Core.List.{List}
 use Prim.Native.Nat.{ℕ, zero, suc, _+_, _<_, _≤_}
-use native.Mathlib.Omega.{arith}
 use lib.ListN.{length, take}
 use lib.Dec.{ltb, eqb}
 use borrow.Author.Tests.{ltb-true}
-use Rattle.coding.specs.Lists.{pick}
 use Rattle.coding.specs.Bytes.{u48}
 use Rattle.coding.specs.Schema as Sc
 use Rattle.coding.specs.Schema.{Schema}

@@ -1,8 +1,8 @@
 -- The ways out of a struct's members, of a table's members, of a list's elements, and of one number of a path.
 use mathlib.Core.Path.{_≡_, refl, sym, ap, _∙_, subst}
-use mathlib.Core.Bool.{Bool, true, false}
+use mathlib.Core.Bool.{Bool}
 use mathlib.Core.List.{List, [], _∷_, _++_}
-use Prim.Native.Nat.{ℕ, suc, _+_, _*_, _^_, _<_, _≤_}
+use Prim.Native.Nat.{ℕ, _+_, _*_, _^_, _<_, _≤_}
 use native.Mathlib.Omega.{arith}
 use native.Mathlib.Numerals.{add-one}
 use lib.ListN.{length, getD, take}
@@ -31,7 +31,7 @@ use Rattle.coding.specs.declared.Step.the-variants as St
 use Rattle.coding.specs.declared.Found.{Found}
 use Rattle.coding.specs.declared.Found.the-variants as Fd
 use Rattle.coding.specs.declared.Refusal.{Refusal}
-use Rattle.laws.specs.Sound.{FlatSound, ObjectSound, KindSound, MemberSound}
+use Rattle.laws.specs.Sound.{FlatSound, ObjectSound, KindSound}
 use Rattle.laws.specs.SoundAt.{struct-index}
 use Rattle.laws.specs.Parsed.{structs-length}
 use Rattle.layout.specs.Bounds.{Laid, Stands}

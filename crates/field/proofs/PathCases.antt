@@ -1,13 +1,11 @@
 -- The ways out of a path, number by number, and of what comes before it.
-use mathlib.Core.Path.{_≡_, refl, sym, ap, _∙_, subst}
-use mathlib.Core.Bool.{Bool, true, false, _&&_}
-use mathlib.Core.List.{List, [], _∷_}
+use mathlib.Core.Path.{_≡_, refl, sym, ap, _∙_}
+use mathlib.Core.Bool.{Bool, true, false}
+use mathlib.Core.List.{List}
 use Prim.Native.Nat.{ℕ, suc, _+_, _<_, _≤_}
-use native.Mathlib.Omega.{arith}
 use native.Mathlib.Numerals.{add-one}
 use lib.ListN.{length, getD, drop, drop-of-length-le}
 use lib.Seq.{drop-cons}
-use lib.Dec.{leb}
 use borrow.Author.Tests.{le-leb, lt-leb}
 use Rattle.coding.specs.Bytes.{u48, largest, deepest}
 use Rattle.coding.specs.Schema.{Schema}
@@ -20,15 +18,11 @@ use Rattle.coding.specs.declared.Place.{Place}
 use Rattle.coding.specs.declared.Found.{Found}
 use Rattle.coding.specs.declared.Found.the-variants as Fd
 use Rattle.coding.specs.declared.Answer.{Answer}
-use Rattle.coding.specs.declared.Answer.the-variants as A
 use Rattle.schema.specs.Directory.{Accepted, Judged}
-use Rattle.field.specs.Within.{Readable, FoundWithin}
+use Rattle.field.specs.Within.{FoundWithin}
 
 -- ---- the numbers of a path, from number i on
 module _ (S : Schema) (m : List ℕ) (from : Found) (path : List ℕ) where
-  pub along-start : Field.along u48 S m from path ≡ Field.along u48 S m from (drop 0 path)
-  along-start = refl
-
   module _ (f : Found) (i : ℕ) (inv : Field.along u48 S m from path ≡ Field.along u48 S m f (drop i path)) where
     pub along-done : length path ≤ i → f ≡ Field.along u48 S m from path
     unfolding Field.along

@@ -3,11 +3,10 @@ use mathlib.Core.Path.{_≡_, refl, sym, ap, _∙_, subst}
 use mathlib.Core.Bool.{Bool, true, false}
 use mathlib.Core.List.{List}
 use Prim.Native.Nat.{ℕ, _+_, _<_, _≤_}
-use native.Mathlib.Omega.{arith}
 use lib.ListN.{length}
 use lib.Dec.{leb}
-use borrow.Author.Tests.{le-leb, lt-leb, lt-ltb, le-ltb}
-use mathlib.Core.Bool.{_&&_, and-false}
+use borrow.Author.Tests.{lt-leb, lt-ltb, le-ltb}
+use mathlib.Core.Bool.{and-false}
 use Rattle.coding.specs.Lists.{pick}
 use Rattle.coding.specs.Bytes.{u48, largest}
 use Rattle.coding.specs.Schema as Sc
@@ -26,7 +25,6 @@ use Rattle.coding.specs.declared.Found.the-variants as Fd
 use Rattle.coding.specs.declared.Refusal.{Refusal}
 use Rattle.coding.specs.declared.Answer.{Answer}
 use Rattle.coding.specs.declared.Answer.the-variants as A
-use Rattle.laws.specs.Sound.{ObjectSound}
 use Rattle.laws.specs.Lists.{pick-holds}
 use Rattle.schema.specs.Directory.{Judged}
 use Rattle.field.specs.Cases.{readerGives}

@@ -1,8 +1,8 @@
 -- What a member's, an element's and a struct member's step leads to lies within the message.
-use mathlib.Core.Path.{_≡_, refl, sym, ap, _∙_, subst}
+use mathlib.Core.Path.{_≡_, ap}
 use mathlib.Core.Bool.{Bool, true, false, _&&_}
 use mathlib.Core.List.{List, [], _∷_, _++_}
-use Prim.Native.Nat.{ℕ, suc, _+_, _*_, _%_, _^_, _<_, _≤_}
+use Prim.Native.Nat.{ℕ, suc, _+_, _%_, _^_, _<_, _≤_}
 use native.Mathlib.Omega.{arith}
 use lib.ListN.{length, getD, take, drop, take-append-drop}
 use lib.Seq.{drop-cons}
@@ -23,12 +23,11 @@ use Rattle.coding.specs.declared.Kind.the-variants.{OfFlat, OfObject, OfUnion}
 use Rattle.coding.specs.declared.Member.{Member}
 use Rattle.coding.specs.declared.Cursor.{Cursor}
 use Rattle.coding.specs.declared.Slot.{Slot}
-use Rattle.coding.specs.declared.Place.{Place}
 use Rattle.coding.specs.declared.Place.the-variants.{ByOffset, InPlace}
 use Rattle.coding.specs.declared.Step.{Step}
 use Rattle.coding.specs.declared.Step.the-variants as St
 use Rattle.laws.specs.Sound.{Sound, FlatSound, ObjectSound, KindSound, MemberSound}
-use Rattle.laws.specs.SoundAt.{field-sound-at, case-sound-at, member-sound-at}
+use Rattle.laws.specs.SoundAt.{field-sound-at, case-sound-at}
 use Rattle.laws.specs.Lists.{pick-holds}
 use Rattle.laws.specs.Sizes.{struct-size-is}
 use Rattle.wire.specs.Numbers.{le-small}

@@ -3,10 +3,6 @@ use Rattle.field.proofs.PartCases.{after-is, after-laid}
 use borrow.Author.Needs.{needs}
 use Rattle.field.proofs.after_member.Statement.{statement}
 use Rattle.field.proofs.after_member.Tie as tie
-use Rattle.field.proofs.after_member.Reads as reads
-use Rattle.field.proofs.after_member.Lts as lts
-use Rattle.layout.proofs.place_member.Reads as place-member-reads
-use Rattle.schema.proofs.member.Reads as member-reads
 
 -- src/lib.rt:139:9
 member-requires : tie.Need-member-requires

@@ -1,4 +1,4 @@
-use Prim.Native.Nat.{ℕ, _+_, _-_, _*_, _<_, _≤_}
+use Prim.Native.Nat.{_-_, _≤_}
 use mathlib.Core.Path.{_≡_}
 use native.Mathlib.Omega.{arith}
 use lib.ListN.{length, drop}
@@ -6,14 +6,11 @@ use Rattle.coding.specs.Bytes as B
 use Rattle.coding.specs.Packed as P
 use Rattle.coding.specs.Field as Field
 use Rattle.field.specs.Within.{FoundWithin}
-use Rattle.field.proofs.PathCases.{along-start, along-turn, along-done}
+use Rattle.field.proofs.PathCases.{along-turn, along-done}
 use Rattle.field.proofs.FoundsWithin.{next-within}
 use borrow.Author.Needs.{needs}
 use Rattle.field.proofs.along.Statement.{statement}
 use Rattle.field.proofs.along.Tie as tie
-use Rattle.field.proofs.along.Reads as reads
-use Rattle.field.proofs.along.Lts as lts
-use Rattle.field.proofs.part_of.Reads as part-of-reads
 
 abbrev Inv-loop : tie.InvT-loop
 Inv-loop b dir m path f₀ i₀ f i = (i ≤ length path) × (Field.along B.u48 (P.parse b) m f₀ path ≡ Field.along B.u48 (P.parse b) m f (drop i path)) × FoundWithin (P.parse b) m f
@@ -23,7 +20,7 @@ abbrev μ-loop : tie.MeasureT-loop
 
 -- src/lib.rt:255:5
 loop-holds : tie.Need-loop-holds Inv-loop μ-loop
-loop-holds c = (omega arith, search along-start, search needs)
+loop-holds c = (omega arith, search needs, search needs)
 
 -- src/lib.rt:256:35
 mul-part-of : tie.Need-mul-part-of Inv-loop μ-loop

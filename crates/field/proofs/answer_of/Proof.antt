@@ -3,10 +3,6 @@ use Rattle.field.proofs.PartCases.{value-sound}
 use borrow.Author.Needs.{needs}
 use Rattle.field.proofs.answer_of.Statement.{statement}
 use Rattle.field.proofs.answer_of.Tie as tie
-use Rattle.field.proofs.answer_of.Reads as reads
-use Rattle.field.proofs.answer_of.Lts as lts
-use Rattle.field.proofs.record_kind.Reads as record-kind-reads
-use Rattle.field.proofs.value_answer.Reads as value-answer-reads
 
 -- src/lib.rt:334:24
 enum-known-f : tie.Need-enum-known-f

@@ -2,11 +2,6 @@ use Rattle.field.proofs.FollowCases.{arrive-deep, arrive-refused, arriv
 use borrow.Author.Needs.{needs}
 use Rattle.field.proofs.arrive.Statement.{statement}
 use Rattle.field.proofs.arrive.Tie as tie
-use Rattle.field.proofs.arrive.Reads as reads
-use Rattle.field.proofs.arrive.Lts as lts
-use Rattle.field.proofs.refuse.Reads as refuse-reads
-use Rattle.judge.proofs.open_object.Reads as open-object-reads
-use Rattle.judge.proofs.placed.Reads as placed-reads
 
 -- src/lib.rt:47:9
 placed-requires : tie.Need-placed-requires

@@ -1,9 +1,6 @@
 use Rattle.field.proofs.TextCases.{bit-set, bit-clear}
-use borrow.Author.Needs.{needs}
 use Rattle.field.proofs.bit.Statement.{statement}
 use Rattle.field.proofs.bit.Tie as tie
-use Rattle.field.proofs.bit.Reads as reads
-use Rattle.field.proofs.bit.Lts as lts
 
 returns : tie.Need-returns
 returns c = search bit-set

@@ -2,8 +2,6 @@ use Rattle.field.proofs.TextCases.{case-boolean, case-number, case-floa
 use borrow.Author.Needs.{needs}
 use Rattle.field.proofs.case_of.Statement.{statement}
 use Rattle.field.proofs.case_of.Tie as tie
-use Rattle.field.proofs.case_of.Reads as reads
-use Rattle.field.proofs.case_of.Lts as lts
 
 enum-known-answer : tie.Need-enum-known-answer
 enum-known-answer c = search needs

@@ -3,10 +3,6 @@ use Rattle.judge.proofs.OpenCases.{offset-small, inplace-first, inplace-length}
 use borrow.Author.Needs.{needs}
 use Rattle.field.proofs.choose.Statement.{statement}
 use Rattle.field.proofs.choose.Tie as tie
-use Rattle.field.proofs.choose.Reads as reads
-use Rattle.field.proofs.choose.Lts as lts
-use Rattle.field.proofs.arrive.Reads as arrive-reads
-use Rattle.field.proofs.refuse.Reads as refuse-reads
 
 -- src/lib.rt:63:25
 enum-known-p : tie.Need-enum-known-p

@@ -1,4 +1,4 @@
-use Prim.Native.Nat.{ℕ, _+_, _-_, _*_, _<_, _≤_}
+use Prim.Native.Nat.{_-_, _*_, _≤_}
 use mathlib.Core.Path.{_≡_}
 use native.Mathlib.Omega.{arith}
 use lib.ListN.{take}
@@ -11,10 +11,6 @@ use Rattle.field.proofs.PartCases.{cursor-start, cursor-turn, cursor-do
 use borrow.Author.Needs.{needs}
 use Rattle.field.proofs.cursor_at.Statement.{statement}
 use Rattle.field.proofs.cursor_at.Tie as tie
-use Rattle.field.proofs.cursor_at.Reads as reads
-use Rattle.field.proofs.cursor_at.Lts as lts
-use Rattle.field.proofs.after_member.Reads as after-member-reads
-use Rattle.layout.proofs.begin.Reads as begin-reads
 
 abbrev Inv-loop : tie.InvT-loop
 Inv-loop b dir t j c₀ i₀ c i = (i ≤ j) × (c ≡ L.afterMembers B.u48 (P.parse b) (take i (Sc.tableOf (P.parse b) t .members)) L.begin) × Laid (4097 * i) c

@@ -2,8 +2,6 @@ use Rattle.field.proofs.PathCases.{field-found}
 use borrow.Author.Needs.{needs}
 use Rattle.field.proofs.field.Statement.{statement}
 use Rattle.field.proofs.field.Tie as tie
-use Rattle.field.proofs.field.Reads as reads
-use Rattle.field.proofs.field.Lts as lts
 
 field-found-requires : tie.Need-field-found-requires
 field-found-requires c κs = search needs

@@ -1,10 +1,7 @@
-use native.Mathlib.Omega.{arith}
 use Rattle.field.proofs.PartCases.{field-sound-here, field-low, field-at-is, field-at-within}
 use borrow.Author.Needs.{needs}
 use Rattle.field.proofs.field_at.Statement.{statement}
 use Rattle.field.proofs.field_at.Tie as tie
-use Rattle.field.proofs.field_at.Reads as reads
-use Rattle.field.proofs.field_at.Lts as lts
 
 fields-size-requires : tie.Need-fields-size-requires
 fields-size-requires c κs = search needs

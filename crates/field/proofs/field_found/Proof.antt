@@ -4,8 +4,6 @@ use Rattle.field.proofs.ReaderCases.{found-unlawful}
 use borrow.Author.Needs.{needs}
 use Rattle.field.proofs.field_found.Statement.{statement}
 use Rattle.field.proofs.field_found.Tie as tie
-use Rattle.field.proofs.field_found.Reads as reads
-use Rattle.field.proofs.field_found.Lts as lts
 
 slice-aggregate-judge-schema : tie.Need-slice-aggregate-judge-schema
 slice-aggregate-judge-schema c = search needs

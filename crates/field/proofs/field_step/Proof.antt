@@ -4,13 +4,6 @@ use Rattle.field.proofs.PartCases.{at-boolean, at-integer, at-float, at
 use borrow.Author.Needs.{needs}
 use Rattle.field.proofs.field_step.Statement.{statement}
 use Rattle.field.proofs.field_step.Tie as tie
-use Rattle.field.proofs.field_step.Reads as reads
-use Rattle.field.proofs.field_step.Lts as lts
-use Rattle.step.proofs.enum_step.Reads as enum-step-reads
-use Rattle.wire.proofs.byte.Reads as byte-reads
-use Rattle.wire.proofs.index.Reads as index-reads
-use Rattle.wire.proofs.number.Reads as number-reads
-use Rattle.wire.proofs.wide.Reads as wide-reads
 
 -- src/lib.rt:96:49
 enum-told : tie.Need-enum-told

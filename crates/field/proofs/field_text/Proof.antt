@@ -2,8 +2,6 @@ use Rattle.field.proofs.TextCases.{text-is}
 use borrow.Author.Needs.{needs}
 use Rattle.field.proofs.field_text.Statement.{statement}
 use Rattle.field.proofs.field_text.Tie as tie
-use Rattle.field.proofs.field_text.Reads as reads
-use Rattle.field.proofs.field_text.Lts as lts
 
 text-span-requires : tie.Need-text-span-requires
 text-span-requires c κs = search needs

@@ -1,4 +1,4 @@
-use Prim.Native.Nat.{ℕ, _+_, _-_, _*_, _<_, _≤_}
+use Prim.Native.Nat.{_-_, _*_, _≤_}
 use mathlib.Core.Path.{_≡_}
 use native.Mathlib.Omega.{arith}
 use lib.ListN.{take}
@@ -9,10 +9,6 @@ use Rattle.field.proofs.PartCases.{size-start, size-turn, size-done, fi
 use borrow.Author.Needs.{needs}
 use Rattle.field.proofs.fields_size.Statement.{statement}
 use Rattle.field.proofs.fields_size.Tie as tie
-use Rattle.field.proofs.fields_size.Reads as reads
-use Rattle.field.proofs.fields_size.Lts as lts
-use Rattle.layout.proofs.flat_width.Reads as flat-width-reads
-use Rattle.schema.proofs.field.Reads as field-reads
 
 abbrev Inv-loop : tie.InvT-loop
 Inv-loop b dir s j size₀ i₀ size i = (i ≤ j) × (size ≡ total (structSize (P.parse b)) (take i (Sc.structOf (P.parse b) s))) × (size ≤ 4096 * i)

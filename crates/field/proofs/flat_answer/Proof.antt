@@ -2,8 +2,6 @@ use Rattle.field.proofs.AnswerCases.{flat-boolean, flat-integer, flat-f
 use borrow.Author.Needs.{needs}
 use Rattle.field.proofs.flat_answer.Statement.{statement}
 use Rattle.field.proofs.flat_answer.Tie as tie
-use Rattle.field.proofs.flat_answer.Reads as reads
-use Rattle.field.proofs.flat_answer.Lts as lts
 
 -- src/lib.rt:299:42
 enum-told : tie.Need-enum-told

@@ -2,11 +2,6 @@ use Rattle.field.proofs.FollowCases.{follow-refused, follow-absent, fol
 use borrow.Author.Needs.{needs}
 use Rattle.field.proofs.follow.Statement.{statement}
 use Rattle.field.proofs.follow.Tie as tie
-use Rattle.field.proofs.follow.Reads as reads
-use Rattle.field.proofs.follow.Lts as lts
-use Rattle.field.proofs.arrive.Reads as arrive-reads
-use Rattle.field.proofs.choose.Reads as choose-reads
-use Rattle.field.proofs.refuse.Reads as refuse-reads
 
 -- src/lib.rt:79:23
 enum-known-step : tie.Need-enum-known-step

@@ -1,10 +1,7 @@
-use native.Mathlib.Omega.{arith}
 use Rattle.field.proofs.PathCases.{found-far, found-short, found-long, found-there, found-other, refused-within}
 use borrow.Author.Needs.{needs}
 use Rattle.field.proofs.found_by.Statement.{statement}
 use Rattle.field.proofs.found_by.Tie as tie
-use Rattle.field.proofs.found_by.Reads as reads
-use Rattle.field.proofs.found_by.Lts as lts
 
 refuse-requires : tie.Need-refuse-requires
 refuse-requires c κs = search needs

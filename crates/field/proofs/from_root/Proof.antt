@@ -3,8 +3,6 @@ use Rattle.field.proofs.FoundsWithin.{arrival-within}
 use borrow.Author.Needs.{needs}
 use Rattle.field.proofs.from_root.Statement.{statement}
 use Rattle.field.proofs.from_root.Tie as tie
-use Rattle.field.proofs.from_root.Reads as reads
-use Rattle.field.proofs.from_root.Lts as lts
 
 root-object-requires : tie.Need-root-object-requires
 root-object-requires c κs = search needs

@@ -2,8 +2,6 @@ use Rattle.field.proofs.ReaderCases.{leads-flat, leads-object, leads-un
 use borrow.Author.Needs.{needs}
 use Rattle.field.proofs.leads.Statement.{statement}
 use Rattle.field.proofs.leads.Tie as tie
-use Rattle.field.proofs.leads.Reads as reads
-use Rattle.field.proofs.leads.Lts as lts
 
 enum-told : tie.Need-enum-told
 enum-told c = search needs

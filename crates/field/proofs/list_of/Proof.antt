@@ -3,8 +3,6 @@ use Rattle.judge.proofs.OpenCases.{list-counted-of}
 use borrow.Author.Needs.{needs}
 use Rattle.field.proofs.list_of.Statement.{statement}
 use Rattle.field.proofs.list_of.Tie as tie
-use Rattle.field.proofs.list_of.Reads as reads
-use Rattle.field.proofs.list_of.Lts as lts
 
 enum-told : tie.Need-enum-told
 enum-told c = search needs

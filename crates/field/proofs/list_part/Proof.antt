@@ -4,12 +4,6 @@ use Rattle.judge.proofs.WalkCases.{elements-there}
 use borrow.Author.Needs.{needs}
 use Rattle.field.proofs.list_part.Statement.{statement}
 use Rattle.field.proofs.list_part.Tie as tie
-use Rattle.field.proofs.list_part.Reads as reads
-use Rattle.field.proofs.list_part.Lts as lts
-use Rattle.field.proofs.follow.Reads as follow-reads
-use Rattle.field.proofs.refuse.Reads as refuse-reads
-use Rattle.schema.proofs.element.Reads as element-reads
-use Rattle.step.proofs.element_step.Reads as element-step-reads
 
 -- src/lib.rt:201:9
 refuse-requires : tie.Need-refuse-requires

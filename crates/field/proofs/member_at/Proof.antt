@@ -1,11 +1,8 @@
 use Rattle.judge.proofs.WalkCases.{member-sound-of}
-use native.Mathlib.Omega.{arith}
 use Rattle.field.proofs.PartCases.{cursor-low, member-at-is, member-at-within}
 use borrow.Author.Needs.{needs}
 use Rattle.field.proofs.member_at.Statement.{statement}
 use Rattle.field.proofs.member_at.Tie as tie
-use Rattle.field.proofs.member_at.Reads as reads
-use Rattle.field.proofs.member_at.Lts as lts
 
 cursor-at-requires : tie.Need-cursor-at-requires
 cursor-at-requires c κs = search needs

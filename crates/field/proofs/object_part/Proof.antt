@@ -4,12 +4,6 @@ use Rattle.judge.proofs.WalkCases.{list-fits, table-fits}
 use borrow.Author.Needs.{needs}
 use Rattle.field.proofs.object_part.Statement.{statement}
 use Rattle.field.proofs.object_part.Tie as tie
-use Rattle.field.proofs.object_part.Reads as reads
-use Rattle.field.proofs.object_part.Lts as lts
-use Rattle.field.proofs.list_part.Reads as list-part-reads
-use Rattle.field.proofs.refuse.Reads as refuse-reads
-use Rattle.field.proofs.table_part.Reads as table-part-reads
-use Rattle.wire.proofs.index.Reads as index-reads
 
 -- src/lib.rt:225:25
 enum-told : tie.Need-enum-told

@@ -2,8 +2,6 @@ use Rattle.field.proofs.TextCases.{span-text, span-bytes, span-list, sp
 use borrow.Author.Needs.{needs}
 use Rattle.field.proofs.object_span.Statement.{statement}
 use Rattle.field.proofs.object_span.Tie as tie
-use Rattle.field.proofs.object_span.Reads as reads
-use Rattle.field.proofs.object_span.Lts as lts
 
 enum-told : tie.Need-enum-told
 enum-told c = search needs

@@ -2,8 +2,6 @@ use Rattle.field.proofs.TextCases.{part-is}
 use borrow.Author.Needs.{needs}
 use Rattle.field.proofs.part_at.Statement.{statement}
 use Rattle.field.proofs.part_at.Tie as tie
-use Rattle.field.proofs.part_at.Reads as reads
-use Rattle.field.proofs.part_at.Lts as lts
 
 add-result : tie.Need-add-result
 add-result c = search needs

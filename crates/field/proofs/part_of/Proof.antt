@@ -2,8 +2,6 @@ use Rattle.field.proofs.PartCases.{of-refused, of-absent, of-unknown, o
 use borrow.Author.Needs.{needs}
 use Rattle.field.proofs.part_of.Statement.{statement}
 use Rattle.field.proofs.part_of.Tie as tie
-use Rattle.field.proofs.part_of.Reads as reads
-use Rattle.field.proofs.part_of.Lts as lts
 
 enum-known-f : tie.Need-enum-known-f
 enum-known-f c = search needs

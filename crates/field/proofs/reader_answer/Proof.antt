@@ -3,8 +3,6 @@ use Rattle.field.proofs.ReaderCases.{gives-unlawful}
 use borrow.Author.Needs.{needs}
 use Rattle.field.proofs.reader_answer.Statement.{statement}
 use Rattle.field.proofs.reader_answer.Tie as tie
-use Rattle.field.proofs.reader_answer.Reads as reads
-use Rattle.field.proofs.reader_answer.Lts as lts
 
 slice-aggregate-judge-schema : tie.Need-slice-aggregate-judge-schema
 slice-aggregate-judge-schema c = search needs

@@ -2,8 +2,6 @@ use Rattle.field.proofs.ReaderCases.{gives-long, gives-step}
 use borrow.Author.Needs.{needs}
 use Rattle.field.proofs.reader_at.Statement.{statement}
 use Rattle.field.proofs.reader_at.Tie as tie
-use Rattle.field.proofs.reader_at.Reads as reads
-use Rattle.field.proofs.reader_at.Lts as lts
 
 reader-by-requires : tie.Need-reader-by-requires
 reader-by-requires c κs = search needs

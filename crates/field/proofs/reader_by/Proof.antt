@@ -2,8 +2,6 @@ use Rattle.field.proofs.ReaderCases.{reader-found}
 use borrow.Author.Needs.{needs}
 use Rattle.field.proofs.reader_by.Statement.{statement}
 use Rattle.field.proofs.reader_by.Tie as tie
-use Rattle.field.proofs.reader_by.Reads as reads
-use Rattle.field.proofs.reader_by.Lts as lts
 
 found-by-requires : tie.Need-found-by-requires
 found-by-requires c κs = search needs

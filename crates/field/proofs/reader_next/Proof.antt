@@ -2,8 +2,6 @@ use Rattle.field.proofs.ReaderCases.{next-more, next-stays}
 use borrow.Author.Needs.{needs}
 use Rattle.field.proofs.reader_next.Statement.{statement}
 use Rattle.field.proofs.reader_next.Tie as tie
-use Rattle.field.proofs.reader_next.Reads as reads
-use Rattle.field.proofs.reader_next.Lts as lts
 
 add-result : tie.Need-add-result
 add-result c = search needs

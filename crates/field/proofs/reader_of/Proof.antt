@@ -4,8 +4,6 @@ use Rattle.field.proofs.PartCases.{object-index}
 use borrow.Author.Needs.{needs}
 use Rattle.field.proofs.reader_of.Statement.{statement}
 use Rattle.field.proofs.reader_of.Tie as tie
-use Rattle.field.proofs.reader_of.Reads as reads
-use Rattle.field.proofs.reader_of.Lts as lts
 
 enum-known-f : tie.Need-enum-known-f
 enum-known-f c = search needs

@@ -4,8 +4,6 @@ use Rattle.field.proofs.ReaderCases.{reader-unlawful}
 use borrow.Author.Needs.{needs}
 use Rattle.field.proofs.reader_start.Statement.{statement}
 use Rattle.field.proofs.reader_start.Tie as tie
-use Rattle.field.proofs.reader_start.Reads as reads
-use Rattle.field.proofs.reader_start.Lts as lts
 
 slice-aggregate-judge-schema : tie.Need-slice-aggregate-judge-schema
 slice-aggregate-judge-schema c = search needs

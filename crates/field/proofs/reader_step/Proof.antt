@@ -4,8 +4,6 @@ use Rattle.field.proofs.FoundsWithin.{next-within}
 use borrow.Author.Needs.{needs}
 use Rattle.field.proofs.reader_step.Statement.{statement}
 use Rattle.field.proofs.reader_step.Tie as tie
-use Rattle.field.proofs.reader_step.Reads as reads
-use Rattle.field.proofs.reader_step.Lts as lts
 
 part-of-requires : tie.Need-part-of-requires
 part-of-requires c κs = search needs

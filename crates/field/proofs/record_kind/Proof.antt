@@ -2,8 +2,6 @@ use Rattle.field.proofs.AnswerCases.{record-text, record-bytes, record-
 use borrow.Author.Needs.{needs}
 use Rattle.field.proofs.record_kind.Statement.{statement}
 use Rattle.field.proofs.record_kind.Tie as tie
-use Rattle.field.proofs.record_kind.Reads as reads
-use Rattle.field.proofs.record_kind.Lts as lts
 
 -- src/lib.rt:322:25
 enum-told : tie.Need-enum-told

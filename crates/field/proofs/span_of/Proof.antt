@@ -3,8 +3,6 @@ use Rattle.field.proofs.PartCases.{object-fits}
 use borrow.Author.Needs.{needs}
 use Rattle.field.proofs.span_of.Statement.{statement}
 use Rattle.field.proofs.span_of.Tie as tie
-use Rattle.field.proofs.span_of.Reads as reads
-use Rattle.field.proofs.span_of.Lts as lts
 
 enum-told : tie.Need-enum-told
 enum-told c = search needs

@@ -3,8 +3,6 @@ use Rattle.field.proofs.PartCases.{struct-none, struct-there}
 use borrow.Author.Needs.{needs}
 use Rattle.field.proofs.struct_part.Statement.{statement}
 use Rattle.field.proofs.struct_part.Tie as tie
-use Rattle.field.proofs.struct_part.Reads as reads
-use Rattle.field.proofs.struct_part.Lts as lts
 
 field-count-requires : tie.Need-field-count-requires
 field-count-requires c κs = search needs

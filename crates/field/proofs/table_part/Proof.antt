@@ -3,8 +3,6 @@ use Rattle.field.proofs.PartCases.{table-none, table-there}
 use borrow.Author.Needs.{needs}
 use Rattle.field.proofs.table_part.Statement.{statement}
 use Rattle.field.proofs.table_part.Tie as tie
-use Rattle.field.proofs.table_part.Reads as reads
-use Rattle.field.proofs.table_part.Lts as lts
 
 member-count-requires : tie.Need-member-count-requires
 member-count-requires c κs = search needs

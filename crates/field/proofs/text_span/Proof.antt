@@ -2,8 +2,6 @@ use Rattle.field.proofs.TextCases.{text-spans}
 use borrow.Author.Needs.{needs}
 use Rattle.field.proofs.text_span.Statement.{statement}
 use Rattle.field.proofs.text_span.Tie as tie
-use Rattle.field.proofs.text_span.Reads as reads
-use Rattle.field.proofs.text_span.Lts as lts
 
 field-found-requires : tie.Need-field-found-requires
 field-found-requires c κs = search needs

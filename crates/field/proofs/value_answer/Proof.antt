@@ -3,9 +3,6 @@ use Rattle.field.proofs.AnswerCases.{value-flat, value-object, value-un
 use borrow.Author.Needs.{needs}
 use Rattle.field.proofs.value_answer.Statement.{statement}
 use Rattle.field.proofs.value_answer.Tie as tie
-use Rattle.field.proofs.value_answer.Reads as reads
-use Rattle.field.proofs.value_answer.Lts as lts
-use Rattle.field.proofs.flat_answer.Reads as flat-answer-reads
 
 -- src/lib.rt:312:22
 enum-known-k : tie.Need-enum-known-k
