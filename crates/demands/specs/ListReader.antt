@@ -2,7 +2,7 @@
 -- its list answers from the list alone. A path to an object has at most 31 numbers, since each goes one object deeper, so the
 -- path of an element is never too long.
 -- `o` is the width of an offset in bytes.
-use mathlib.Core.Path.{_≡_, refl, ap}
+use mathlib.Core.Path.{_≡_, refl, sym, ap, _∙_}
 use mathlib.Core.List.{List, [], _∷_, _++_}
 use mathlib.Core.Bool.{Bool, true, false}
 use Prim.Native.Nat.{ℕ, zero, suc, _+_, _<_, _≤_}
@@ -202,3 +202,8 @@ module _ (o : ℕ) (b m path : List ℕ) (i at start n left : ℕ)
   pub reader-stays : (j : ℕ) → n ≤ j → Field.readerNext n j ≡ j
   unfolding Field.readerNext
   reader-stays j l = rw (le-ltb j n l)
+
+  -- what the code of a step gives: the answer at element j of what the reader starts from
+  pub reader-gives : (j : ℕ) → Field.answerOf (Field.partOf o (parse b) m (Field.readerStart o b m path) j) ≡ Field.readerAnswer o b m path j
+  unfolding Field.partOf
+  reader-gives j = ap (λ (f : Found). Field.answerOf (Field.partOf o (parse b) m f j)) has ∙ sym (reader-step j)

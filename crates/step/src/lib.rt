@@ -107,7 +107,7 @@ fn union_step(b: &[u8], dir: &[u16], u: usize, inplace: bool, tail: usize, c: u1
 }
 
 // ---- values
-fn enum_step(n: u8, x: u8) -> Step
+pub fn enum_step(n: u8, x: u8) -> Step
     ensures { λ r. ⌜ r ≡ T.enumStep n x ⌝ }
 {
     if x == 255 {

@@ -1,0 +1,3 @@
+-- What is found lies within the message; an answer as a case number; a reader's answers.
+pub mod Within
+pub mod Cases
