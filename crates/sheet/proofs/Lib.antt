@@ -1,2 +1,4 @@
 pub mod PartLaws
 pub mod Walked
+pub mod Remaining
+pub mod Leaves

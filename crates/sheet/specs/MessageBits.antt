@@ -1,8 +1,9 @@
 -- The sheet's bits of what stands in a message: encode of read, part by part, as the code goes over it.
-use Prim.Native.Nat.{ℕ, _+_, _*_}
-use mathlib.Core.List.{List, _++_}
-use lib.ListN.{take, drop}
-use Rattle.coding.specs.Bytes.{u48}
+use Prim.Native.Nat.{ℕ, zero, suc, _+_, _*_, _/_, _%_}
+use mathlib.Core.List.{List, [], _++_}
+use lib.Dec.{ltb, eqb}
+use Rattle.coding.specs.Lists.{pick}
+use Rattle.coding.specs.Bytes.{u48, le, bitAt}
 use Rattle.coding.specs.Schema.{Schema}
 use Rattle.coding.specs.Bits.{bitsOf}
 use Rattle.coding.specs.Read as R
@@ -69,6 +70,24 @@ stepAt d S m k (St.Unknown x) = marked 2 (E.unknownWidth k) x
 stepAt d S m k (St.Struct i at) = bitsOf 2 1 ++ structAt S m i at
 stepAt d S m k (St.Object ob p) = bitsOf 2 1 ++ objectAt d S m ob p
 stepAt d S m k (St.Choice c ob p) = marked 1 16 c ++ objectAt d S m ob p
+
+-- an enum in a struct
+unfoldable pub enumAt : ℕ → ℕ → List ℕ
+enumAt n x = pick (eqb x 255) (bitsOf 2 0) (pick (ltb x n) (marked 1 8 x) (marked 2 8 x))
+
+-- ---- elements without a mark
+-- n numbers of w bytes
+unfoldable pub numbersAt : List ℕ → ℕ → ℕ → ℕ → List ℕ
+numbersAt m w zero at = []
+numbersAt m w (suc n) at = bitsOf (8 * w) (le m at w) ++ numbersAt m w n (at + w)
+
+unfoldable pub boolAt : List ℕ → ℕ → ℕ → ℕ
+boolAt m start i = bitAt m (start + i / 8) (i % 8)
+
+-- n bools from bool i on
+unfoldable pub boolsAt : List ℕ → ℕ → ℕ → ℕ → List ℕ
+boolsAt m start zero i = []
+boolsAt m start (suc n) i = bitsOf 1 (boolAt m start i) ++ boolsAt m start n (i + 1)
 
 -- the width of an integer kind in bytes, or 0
 unfoldable pub flatInteger : Flat → ℕ

@@ -1,1 +1,1 @@
-// Reading to a sheet: a message's values as their sheet.
+// Reading to a sheet.
