@@ -2,3 +2,5 @@ pub mod PartLaws
 pub mod Walked
 pub mod Remaining
 pub mod Leaves
+pub mod Objects
+pub mod Parts

@@ -102,6 +102,10 @@ integerWidth (OfFlat k) = flatInteger k
 integerWidth (OfObject ob) = 0
 integerWidth (OfUnion i) = 0
 
+-- a list's count and its n elements
+unfoldable pub listAt : ℕ → Schema → List ℕ → Kind → ℕ → ℕ → List ℕ
+listAt d S m k start n = bitsOf 32 n ++ elementsAt d S m k start n 0
+
 -- ---- the whole sheet
 unfoldable pub rootAt : Schema → List ℕ → List ℕ
 rootAt S m = E.sheetBits S (R.messageRead u48 S m)
