@@ -128,7 +128,16 @@ fn write_number(m: &[u8], out: &mut [u8], pos: usize, w: usize, at: usize) -> us
     bitio::write(out, pos, 8 * w, wire::number(m, at, w))
 }
 
-fn write_field(b: &[u8], dir: &[u16], m: &[u8], out: &mut [u8], i: usize, k: Flat, at: usize, pos: usize) -> usize
+fn write_field(
+    b: &[u8],
+    dir: &[u16],
+    m: &[u8],
+    out: &mut [u8],
+    i: usize,
+    k: Flat,
+    at: usize,
+    pos: usize,
+) -> usize
     requires { ⌜ Room (now out) pos ⌝ }
     requires { ⌜ (Accepted (now b) (now dir)) × (FlatSound i k) × (i < P.structCount (now b)) × (length (now m) ≤ 16777215) ⌝ }
     requires { ⌜ at + S.flatWidth (S.structSize (P.parse (now b))) k ≤ length (now m) ⌝ }
@@ -144,7 +153,15 @@ fn write_field(b: &[u8], dir: &[u16], m: &[u8], out: &mut [u8], i: usize, k: Fla
 }
 
 // The struct i at a place.
-fn write_struct(b: &[u8], dir: &[u16], m: &[u8], out: &mut [u8], i: usize, at: usize, pos: usize) -> usize
+fn write_struct(
+    b: &[u8],
+    dir: &[u16],
+    m: &[u8],
+    out: &mut [u8],
+    i: usize,
+    at: usize,
+    pos: usize,
+) -> usize
     requires { ⌜ Room (now out) pos ⌝ }
     requires { ⌜ (Accepted (now b) (now dir)) × (i < P.structCount (now b)) × (length (now m) ≤ 16777215) ⌝ }
     requires { ⌜ at + S.structSize (P.parse (now b)) i ≤ length (now m) ⌝ }
