@@ -4,3 +4,4 @@ pub mod Remaining
 pub mod Leaves
 pub mod Objects
 pub mod Parts
+pub mod Whole

@@ -2,3 +2,4 @@
 pub mod MessageBits
 pub mod Readable
 pub mod Stepping
+pub mod Answers

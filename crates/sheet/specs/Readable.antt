@@ -3,12 +3,12 @@ use mathlib.Core.Path.{_≡_}
 use Prim.Native.Nat.{ℕ, zero, suc, _+_, _<_, _≤_}
 use mathlib.Core.List.{List, [], _∷_}
 use lib.ListN.{length}
-use Rattle.coding.specs.Bytes.{u48, le}
+use Rattle.coding.specs.Bytes.{u48, le, deepest}
 use Rattle.coding.specs.Schema.{Schema, elementOf, tableOf}
 use Rattle.coding.specs.Structs.{structSize}
 use Rattle.coding.specs.Layout.{begin, afterMember}
 use Rattle.coding.specs.Step.{memberStep, elementStep}
-use Rattle.coding.specs.Walk.{contentSize}
+use Rattle.coding.specs.Walk.{contentSize, rootPlace}
 use Rattle.coding.specs.declared.Object.{Object}
 use Rattle.coding.specs.declared.Object.the-variants as O
 use Rattle.coding.specs.declared.Kind.{Kind}
@@ -73,3 +73,9 @@ pub record Entered (child : Child) (S : Schema) (m : List ℕ) (ob : Object) (st
 unfoldable pub ObjectReadable : ℕ → Schema → List ℕ → Child
 ObjectReadable zero S m ob p = ⊥
 ObjectReadable (suc d) S m ob p = HeaderInside m p × Entered (ObjectReadable d S m) S m ob (startOf p) (lengthOf m p)
+
+-- the whole message: its start, and the root table
+pub record MessageReadable (S : Schema) (m : List ℕ) : Type 0 where
+  pub long : 10 ≤ length m
+  pub short : length m ≤ 16777215
+  pub root : ObjectReadable deepest S m (O.Table (S .root)) (rootPlace u48 m)
