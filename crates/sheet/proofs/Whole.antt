@@ -48,9 +48,10 @@ says-number Q (Refused r s) h e = absurd (h e)
 
 sizes : (m : List ℕ) → W.sizeOk u48 m ≡ true → (10 ≤ length m) × (length m ≤ 16777215)
 unfolding W.sizeOk W.headerSize u48 largest
-sizes m e =
-    (leb-true 10 (length m) (both-left (leb 10 (length m)) (leb (length m) 16777215) e)
-    , leb-true (length m) 16777215 (both-right (leb 10 (length m)) (leb (length m) 16777215) e))
+sizes m e = (
+  leb-true 10 (length m) (both-left (leb 10 (length m)) (leb (length m) 16777215) e),
+  leb-true (length m) 16777215 (both-right (leb 10 (length m)) (leb (length m) 16777215) e),
+)
 
 rooted : (b dir m : List ℕ) → Accepted b dir → (budget : Budget) → W.verdictOf (W.walk u48 (P.parse b) m budget) .number ≡ 0
     → D.ObjectReadable deepest (P.parse b) m (O.Table (P.parse b .root)) (W.rootPlace u48 m)

@@ -29,6 +29,7 @@ ghost use Rattle.bitio.specs.Puts.{Room, Puts, saturated};
 ghost use Rattle.sheet.specs.MessageBits as Bt;
 ghost use Rattle.sheet.specs.Readable as D;
 ghost use Rattle.sheet.specs.Stepping.{MemberAt};
+ghost use Rattle.sheet.specs.Answers as An;
 
 // ---- numbers
 fn number64(x: usize) -> u64
@@ -462,4 +463,109 @@ fn write_elements(
         j += 1;
     }
     p
+}
+
+// ---- the whole sheet
+// The root's bits, where there is room, and where they end.
+fn write_root(b: &[u8], dir: &[u16], m: &[u8], out: &mut [u8]) -> usize
+    requires { ⌜ Room (now out) 0 ⌝ }
+    requires { ⌜ (Accepted (now b) (now dir)) × (D.MessageReadable (P.parse (now b)) (now m)) ⌝ }
+    ensures { λ r. ⌜ Puts (now (out .entry)) 0 (Bt.rootAt (P.parse (now (b .entry))) (now (m .entry))) (now (out .exit)) r ⌝ }
+{
+    let ob = judge::root_object(b, dir);
+    let p = judge::root_place(m);
+    write_object(b, dir, m, out, 32, ob, p, 0)
+}
+
+// How many bits, or one more than a sheet may have; nothing is written.
+fn count_bits(b: &[u8], dir: &[u16], m: &[u8], out: &mut [u8]) -> usize
+    requires { ⌜ (Accepted (now b) (now dir)) × (D.MessageReadable (P.parse (now b)) (now m)) ⌝ }
+    ensures { λ r. ⌜ r ≡ saturated (length (Bt.rootAt (P.parse (now (b .entry))) (now (m .entry)))) ⌝ }
+    ensures { λ _. ⌜ now (out .exit) ≡ now (out .entry) ⌝ }
+{
+    write_root(b, dir, m, &mut out[..0])
+}
+
+// The sheet, into a buffer of its size.
+fn fill(b: &[u8], dir: &[u16], m: &[u8], out: &mut [u8])
+    requires { ⌜ (Accepted (now b) (now dir)) × (D.MessageReadable (P.parse (now b)) (now m)) ⌝ }
+    requires { ⌜ length (now out) ≡ byteCount (Bt.rootAt (P.parse (now b)) (now m)) ⌝ }
+    requires { ⌜ length (now out) ≤ 16777215 ⌝ }
+    ensures { λ _. ⌜ now (out .exit) ≡ packed (Bt.rootAt (P.parse (now (b .entry))) (now (m .entry))) ⌝ }
+{
+    bitio::clear_last(out);
+    write_root(b, dir, m, out);
+}
+
+// No room in the output, or a sheet over the size.
+fn no_room(v: Verdict) -> ReadAnswer
+    ensures { λ r. ⌜ r ≡ An.noRoom v ⌝ }
+{
+    let refusal = Verdict {
+        number: 14,
+        place: 0,
+        visits: v.visits,
+    };
+    ReadAnswer {
+        verdict: refusal,
+        length: 0,
+    }
+}
+
+// The sheet of an accepted message, whose verdict is v.
+fn read_accepted(b: &[u8], dir: &[u16], m: &[u8], v: Verdict, out: &mut [u8]) -> ReadAnswer
+    requires { ⌜ (Accepted (now b) (now dir)) × (D.MessageReadable (P.parse (now b)) (now m)) ⌝ }
+    ensures { λ r. ⌜ r ≡ An.sheetAnswer (Bt.rootAt (P.parse (now (b .entry))) (now (m .entry))) v (now (out .entry)) ⌝ }
+    ensures { λ _. ⌜ now (out .exit) ≡ An.sheetOver (Bt.rootAt (P.parse (now (b .entry))) (now (m .entry))) (now (out .entry)) ⌝ }
+{
+    let n = count_bits(b, dir, m, out);
+    if 134217720 < n {
+        return no_room(v);
+    }
+    let k = (n + 7) / 8;
+    if out.len() < k {
+        return no_room(v);
+    }
+    fill(b, dir, m, &mut out[..k]);
+    ReadAnswer {
+        verdict: v,
+        length: k,
+    }
+}
+
+// By a schema that was judged before.
+fn read_judged(b: &[u8], dir: &[u16], m: &[u8], budget: Budget, out: &mut [u8]) -> ReadAnswer
+    requires { ⌜ Accepted (now b) (now dir) ⌝ }
+    ensures { λ r. ⌜ r ≡ M.readAnswer B.u48 (now (b .entry)) (now (m .entry)) budget (now (out .entry)) ⌝ }
+    ensures { λ _. ⌜ now (out .exit) ≡ M.readOut B.u48 (now (b .entry)) (now (m .entry)) budget (now (out .entry)) ⌝ }
+{
+    let v = judge::judged(b, dir, m, budget);
+    if v.number == 0 {
+        return read_accepted(b, dir, m, v, out);
+    }
+    ReadAnswer {
+        verdict: v,
+        length: 0,
+    }
+}
+
+// Reads a message to its sheet: the verdict's refusal, or 14 where there is no room or the sheet is over the size; else the
+// sheet's length, and the sheet in the output, whose bytes after it keep what they held.
+pub fn read(b: &[u8], m: &[u8], budget: Budget, out: &mut [u8]) -> ReadAnswer
+    ensures { λ r. ⌜ r ≡ M.readAnswer B.u48 (now (b .entry)) (now (m .entry)) budget (now (out .entry)) ⌝ }
+    ensures { λ _. ⌜ now (out .exit) ≡ M.readOut B.u48 (now (b .entry)) (now (m .entry)) budget (now (out .entry)) ⌝ }
+{
+    let mut dir: [u16; 320] = [0; 320];
+    if schema::judge_schema(b, &mut dir) {
+        return read_judged(b, &dir, m, budget, out);
+    }
+    let refusal = Verdict {
+        number: 1,
+        place: 0,
+        visits: 0,
+    };
+    ReadAnswer {
+        verdict: refusal,
+        length: 0,
+    }
 }
