@@ -382,7 +382,7 @@ fn answer_of(b: &[u8], m: &[u8], f: Found) -> Answer
 pub fn field_found(b: &[u8], m: &[u8], path: &[u32]) -> Found
     ensures { λ r. ⌜ (r ≡ F.fieldFound B.u48 (now (b .entry)) (now (m .entry)) (now (path .entry))) × FoundWithin (P.parse (now (b .entry))) (now (m .entry)) r ⌝ }
 {
-    let mut dir: [u16; 320] = [0; 320];
+    let mut dir: [u16; 384] = [0; 384];
     if schema::judge_schema(b, &mut dir) {
         return found_by(b, &dir, m, path);
     }
@@ -602,7 +602,7 @@ fn reader_by(b: &[u8], dir: &[u16], m: &[u8], path: &[u32]) -> Found
 pub fn reader_start(b: &[u8], m: &[u8], path: &[u32]) -> Found
     ensures { λ r. ⌜ (r ≡ F.readerStart B.u48 (now (b .entry)) (now (m .entry)) (now (path .entry))) × FoundWithin (P.parse (now (b .entry))) (now (m .entry)) r ⌝ }
 {
-    let mut dir: [u16; 320] = [0; 320];
+    let mut dir: [u16; 384] = [0; 384];
     if schema::judge_schema(b, &mut dir) {
         return reader_by(b, &dir, m, path);
     }
@@ -633,7 +633,7 @@ fn reader_at(b: &[u8], dir: &[u16], m: &[u8], path: &[u32], j: usize) -> Answer
 pub fn reader_answer(b: &[u8], m: &[u8], path: &[u32], j: usize) -> Answer
     ensures { λ r. ⌜ r ≡ C.readerGives B.u48 (now (b .entry)) (now (m .entry)) (now (path .entry)) j ⌝ }
 {
-    let mut dir: [u16; 320] = [0; 320];
+    let mut dir: [u16; 384] = [0; 384];
     if schema::judge_schema(b, &mut dir) {
         return reader_at(b, &dir, m, path, j);
     }

@@ -764,7 +764,7 @@ fn walk(b: &[u8], dir: &[u16], m: &[u8], budget: Budget) -> Walked
 }
 
 // The verdict by a schema that was judged before.
-fn judged(b: &[u8], dir: &[u16], m: &[u8], budget: Budget) -> Verdict
+pub fn judged(b: &[u8], dir: &[u16], m: &[u8], budget: Budget) -> Verdict
     requires { ⌜ Accepted (now b) (now dir) ⌝ }
     ensures { λ r. ⌜ r ≡ W.verdict B.u48 (now (b .entry)) (now (m .entry)) budget ⌝ }
 {

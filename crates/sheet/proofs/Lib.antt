@@ -1,0 +1,7 @@
+pub mod PartLaws
+pub mod Walked
+pub mod Remaining
+pub mod Leaves
+pub mod Objects
+pub mod Parts
+pub mod Whole

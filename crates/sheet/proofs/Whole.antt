@@ -1,0 +1,231 @@
+-- The whole sheet: an accepted message is readable; counting the bits, filling the buffer, and the answers.
+use mathlib.Core.Path.{_≡_, refl, sym, ap, ap₂, _∙_, subst}
+use mathlib.Core.Bool.{Bool, true, false, _&&_}
+use mathlib.Core.List.{List, [], _∷_, _++_}
+use Prim.Native.Nat.{ℕ, zero, suc, _+_, _-_, _*_, _/_, _^_, _<_, _≤_}
+use native.Mathlib.Nat.{zero-add}
+use native.Mathlib.Omega.{arith}
+use lib.Dec.{leb, eqb}
+use lib.ListN.{length, getD, take, drop, set, length-set, drop-of-length-le}
+use lib.Seq.{length-take-le, getD-set-same, set-out}
+use borrow.Author.Tests.{le-leb, lt-leb, leb-true, leb-false, eq-eqb, ne-eqb}
+use Rattle.coding.specs.Lists.{pick}
+use Rattle.coding.specs.Bytes.{u48, deepest, largest}
+use Rattle.coding.specs.Packed as P
+use Rattle.coding.specs.Schema.{Schema}
+use Rattle.coding.specs.Walk as W
+use Rattle.coding.specs.Bits.{bits, packed, byteCount}
+use Rattle.coding.specs.Read as R
+use Rattle.coding.specs.Sheet as E
+use Rattle.coding.specs.Message as M
+use Rattle.coding.specs.declared.Object.{Object}
+use Rattle.coding.specs.declared.Object.the-variants as O
+use Rattle.coding.specs.declared.Place.{Place}
+use Rattle.coding.specs.declared.Budget.{Budget}
+use Rattle.coding.specs.declared.Spent.{Spent}
+use Rattle.coding.specs.declared.Walked.{Walked}
+use Rattle.coding.specs.declared.Walked.the-variants.{Going, Refused}
+use Rattle.coding.specs.declared.Verdict.{Verdict}
+use Rattle.coding.specs.declared.ReadAnswer.{ReadAnswer}
+use Rattle.laws.specs.Sound.{All}
+use Rattle.laws.specs.All.{all-index}
+use Rattle.laws.specs.Lists.{both-left, both-right}
+use Rattle.laws.specs.Bits.{Byte, packed-length}
+use Rattle.schema.specs.Directory.{Accepted, Judged, accepted-sound}
+use Rattle.bitio.specs.Puts.{Room, Puts, saturated}
+use Rattle.bitio.specs.PutsLaws.{count-in}
+use Rattle.bitio.specs.Filled.{sheet-filled}
+use Rattle.sheet.specs.MessageBits as A
+use Rattle.sheet.specs.Readable as D
+use Rattle.sheet.specs.Answers.{noRoom, sheetAnswer, sheetOver}
+use Rattle.sheet.proofs.Walked.{Says, visit-says}
+
+-- ---- acceptance
+says-number : (Q : Type 0) (w : Walked) → Says Q w → W.verdictOf w .number ≡ 0 → Q
+unfolding W.verdictOf
+says-number Q (Going s) h e = h
+says-number Q (Refused r s) h e = absurd (h e)
+
+sizes : (m : List ℕ) → W.sizeOk u48 m ≡ true → (10 ≤ length m) × (length m ≤ 16777215)
+unfolding W.sizeOk W.headerSize u48 largest
+sizes m e = (
+  leb-true 10 (length m) (both-left (leb 10 (length m)) (leb (length m) 16777215) e),
+  leb-true (length m) 16777215 (both-right (leb 10 (length m)) (leb (length m) 16777215) e),
+)
+
+rooted : (b dir m : List ℕ) → Accepted b dir → (budget : Budget) → W.verdictOf (W.walk u48 (P.parse b) m budget) .number ≡ 0
+    → D.ObjectReadable deepest (P.parse b) m (O.Table (P.parse b .root)) (W.rootPlace u48 m)
+unfolding W.walk
+rooted b dir m a budget q =
+    says-number (D.ObjectReadable deepest (P.parse b) m (O.Table (P.parse b .root)) (W.rootPlace u48 m))
+    (W.visit deepest u48 (P.parse b) m budget (O.Table (P.parse b .root)) (W.rootPlace u48 m) (record { visits = 0 }))
+    (visit-says (P.parse b) (accepted-sound b dir a) m budget deepest (O.Table (P.parse b .root)) (W.rootPlace u48 m) (record { visits = 0 }) (accepted-sound b dir a .root))
+    q
+
+pub message-readable : (b dir m : List ℕ) → Accepted b dir → (budget : Budget) (v : Verdict) → v ≡ W.verdict u48 b m budget → v .number ≡ 0 → D.MessageReadable (P.parse b) m
+unfolding W.verdict W.early
+message-readable b dir m a budget v ev h =
+    by (W.sizeOk u48 m) (W.startOk m) refl
+    (subst (λ (x : Verdict). x .number ≡ 0)
+    (ev ∙ ap (λ (t : Bool). pick t (pick (W.sizeOk u48 m) (pick (W.startOk m) (W.verdictOf (W.walk u48 (P.parse b) m budget)) (W.early 3)) (W.early 2)) (W.early 1)) (a .lawful)) h)
+  where
+    sized : W.sizeOk u48 m ≡ true → (10 ≤ length m) × (length m ≤ 16777215)
+    sized e = sizes m e
+
+    by : (t u : Bool) → W.sizeOk u48 m ≡ t → pick t (pick u (W.verdictOf (W.walk u48 (P.parse b) m budget)) (W.early 3)) (W.early 2) .number ≡ 0 → D.MessageReadable (P.parse b) m
+    by true true e q = record { long = sized e .0; short = sized e .1; root = rooted b dir m a budget q }
+    by true false e q = absurd (let z : 3 ≡ 0 = q in omega arith)
+    by false u e q = absurd (let z : 2 ≡ 0 = q in omega arith)
+
+pub root-readable : (S : Schema) (m : List ℕ) → D.MessageReadable S m → (ob : Object) (p : Place) → ob ≡ O.Table (S .root) → p ≡ W.rootPlace u48 m → D.ObjectReadable 32 S m ob p
+unfolding deepest
+root-readable S m h ob p eo ep =
+    subst (λ (x : Object). D.ObjectReadable 32 S m x p) (sym eo) (subst (λ (x : Place). D.ObjectReadable 32 S m (O.Table (S .root)) x) (sym ep) (h .root))
+
+pub root-puts : (S : Schema) (m : List ℕ) (ob : Object) (p : Place) (o o₁ : List ℕ) (r : ℕ) → ob ≡ O.Table (S .root) → p ≡ W.rootPlace u48 m
+    → Puts o 0 (A.objectAt 32 S m ob p) o₁ r → Puts o 0 (A.rootAt S m) o₁ r
+unfolding A.rootAt A.objectAt E.sheetBits R.messageRead deepest
+root-puts S m ob p o o₁ r eo ep h =
+    subst (λ (x : Place). Puts o 0 (E.encode 32 S (O.Table (S .root)) (R.read 32 u48 S m (O.Table (S .root)) x)) o₁ r) ep
+    (subst (λ (x : Object). Puts o 0 (E.encode 32 S x (R.read 32 u48 S m x p)) o₁ r) eo h)
+
+-- ---- counting
+pub count-is : (xs o o₁ : List ℕ) (r : ℕ) → Puts o 0 xs o₁ r → r ≡ saturated (length xs)
+count-is xs o o₁ r h = h .end ∙ ap saturated (zero-add (length xs))
+
+pub none-front : (l o : List ℕ) → length l ≡ 0 → l ++ o ≡ o
+none-front [] o e = refl
+none-front (x ∷ l) o e = absurd (let z : suc (length l) ≡ 0 = e in let n : ⊥ = omega arith in n)
+
+opened : (n : ℕ) → saturated n ≡ pick (leb n 134217720) n 134217721
+unfolding saturated
+opened n = refl
+
+case-in : (n k : ℕ) (b : Bool) → n ≡ pick b k 134217721 → n ≤ 134217720 → n ≡ k
+case-in n k true f h = f
+case-in n k false f h = absurd (let z : ⊥ = omega arith in z)
+
+case-over : (n k : ℕ) (b : Bool) → leb k 134217720 ≡ b → n ≡ pick b k 134217721 → 134217720 < n → 134217720 < k
+case-over n k true e f h = omega arith
+case-over n k false e f h = leb-false k 134217720 e
+
+counted : (n k : ℕ) → n ≡ saturated k → n ≤ 134217720 → n ≡ k
+counted n k e h = case-in n k (leb k 134217720) (e ∙ opened k) h
+
+over : (n k : ℕ) → n ≡ saturated k → 134217720 < n → 134217720 < k
+over n k e h = case-over n k (leb k 134217720) refl (e ∙ opened k) h
+
+-- ---- filling
+last-zero : (l : List ℕ) → getD (set l (length l - 1) 0) (length l - 1) 0 ≡ 0
+last-zero [] = refl
+last-zero (x ∷ l) = getD-set-same (x ∷ l) (length (x ∷ l) - 1) 0 0 (let z : length (x ∷ l) ≡ suc (length l) = refl in omega arith)
+
+pub fill-done : (xs o o₁ o₂ : List ℕ) (q : ℕ) → length o ≡ byteCount xs → length o ≤ 16777215 → o₁ ≡ set o (length o - 1) 0 → Puts o₁ 0 xs o₂ q
+    → ((i : ℕ) → getD o₂ i 0 < 2 ^ 8) → o₂ ≡ packed xs
+unfolding byteCount
+fill-done xs o o₁ o₂ q e h f put k =
+    let l : length o₁ ≡ length o = ap length f ∙ length-set o (length o - 1) 0 in
+    let z : getD o₁ (byteCount xs - 1) 0 ≡ 0 = ap₂ (λ (s : List ℕ) (i : ℕ). getD s (i - 1) 0) f (sym e) ∙ last-zero o in
+    let g : length o ≡ (length xs + 7) / 8 = e in
+    sheet-filled o₁ o₂ xs (all-index Byte 0 o₂ (λ i. k i)) (l ∙ e) z (put .put (omega arith))
+
+pub fill-room : (o o₁ : List ℕ) → length o ≤ 16777215 → o₁ ≡ set o (length o - 1) 0 → Room o₁ 0
+fill-room o o₁ h f = let l : length o₁ ≡ length o = ap length f ∙ length-set o (length o - 1) 0 in record { short = omega arith; most = omega arith }
+
+-- ---- the answers of an accepted message: o₁ is the buffer after the count
+pub taken : (k : ℕ) (l : List ℕ) → k ≤ length l → k ≡ length (take k l)
+taken k l h = sym (length-take-le k l h)
+
+module _ (xs : List ℕ) (v : Verdict) (o o₁ : List ℕ) (n : ℕ) (e : n ≡ saturated (length xs)) (f : o₁ ≡ o) where
+  module _ (h : 134217720 < n) where
+    long : 16777215 < length (packed xs)
+    unfolding byteCount
+    long = let k = over n (length xs) e h in let l = packed-length xs in omega arith
+
+    pub long-answer : (r : ReadAnswer) → r ≡ noRoom v → r ≡ sheetAnswer xs v o
+    unfolding sheetAnswer M.fitsRoom largest
+    long-answer r er = simp (lt-leb (length (packed xs)) 16777215 long) er
+
+    pub long-over : o₁ ≡ sheetOver xs o
+    unfolding sheetOver M.fitsRoom largest
+    long-over = simp (lt-leb (length (packed xs)) 16777215 long) f
+
+  module _ (h : n ≤ 134217720) where
+    sized : (n + 7) / 8 ≡ length (packed xs)
+    unfolding byteCount
+    sized = ap (λ (k : ℕ). (k + 7) / 8) (counted n (length xs) e h) ∙ sym (packed-length xs)
+
+    few : length (packed xs) ≤ 16777215
+    few = let z = sized in omega arith
+
+    same : length o₁ ≡ length o
+    same = ap length f
+
+    module _ (l : length o₁ < (n + 7) / 8) where
+      short : length o < length (packed xs)
+      short = let z = sized in let y = same in omega arith
+
+      pub short-answer : (r : ReadAnswer) → r ≡ noRoom v → r ≡ sheetAnswer xs v o
+      unfolding sheetAnswer M.fitsRoom largest
+      short-answer r er = simp (le-leb (length (packed xs)) 16777215 few, lt-leb (length (packed xs)) (length o) short) er
+
+      pub short-over : o₁ ≡ sheetOver xs o
+      unfolding sheetOver M.fitsRoom largest
+      short-over = simp (le-leb (length (packed xs)) 16777215 few, lt-leb (length (packed xs)) (length o) short) f
+
+    module _ (l : (n + 7) / 8 ≤ length o₁) where
+      fits : length (packed xs) ≤ length o
+      fits = let z = sized in let y = same in omega arith
+
+      pub part-size : length (take ((n + 7) / 8) o₁) ≡ byteCount xs
+      part-size = length-take-le ((n + 7) / 8) o₁ l ∙ sized ∙ packed-length xs
+
+      pub part-few : length (take ((n + 7) / 8) o₁) ≤ 16777215
+      part-few = let z = length-take-le ((n + 7) / 8) o₁ l in let y = few in let x = sized in omega arith
+
+      pub whole-answer : record { verdict = v; length = (n + 7) / 8 } ≡ sheetAnswer xs v o
+      unfolding sheetAnswer M.fitsRoom largest
+      whole-answer =
+          simp (le-leb (length (packed xs)) 16777215 few, le-leb (length (packed xs)) (length o) fits)
+          (ap (λ (k : ℕ). record { verdict = v; length = k }) sized)
+
+      pub whole-over : (s : List ℕ) → s ≡ packed xs → s ++ drop ((n + 7) / 8) o₁ ≡ sheetOver xs o
+      unfolding sheetOver M.fitsRoom largest
+      whole-over s g =
+          simp (le-leb (length (packed xs)) 16777215 few, le-leb (length (packed xs)) (length o) fits)
+          (ap₂ (λ (a c : List ℕ). a ++ c) g (ap₂ (λ (k : ℕ) (c : List ℕ). drop k c) sized f))
+
+-- ---- the answers of the reader
+module _ (b m o : List ℕ) (budget : Budget) (v : Verdict) (ev : v ≡ W.verdict u48 b m budget) where
+  module _ (h : v .number ≡ 0) where
+    pub read-answer : (r : ReadAnswer) → r ≡ sheetAnswer (A.rootAt (P.parse b) m) v o → r ≡ M.readAnswer u48 b m budget o
+    unfolding M.readAnswer M.messageSheet E.sheetOf sheetAnswer noRoom A.rootAt
+    read-answer r er = er ∙ simp (← ev, eq-eqb _ _ h)
+
+    pub read-over : (o₁ : List ℕ) → o₁ ≡ sheetOver (A.rootAt (P.parse b) m) o → o₁ ≡ M.readOut u48 b m budget o
+    unfolding M.readOut M.messageSheet E.sheetOf sheetOver A.rootAt
+    read-over o₁ er = er ∙ simp (← ev, eq-eqb _ _ h)
+
+  module _ (h : v .number ≡ 0 → ⊥) where
+    pub refused-answer : record { verdict = v; length = 0 } ≡ M.readAnswer u48 b m budget o
+    unfolding M.readAnswer
+    refused-answer = simp (← ev, ne-eqb _ _ h)
+
+    pub refused-over : o ≡ M.readOut u48 b m budget o
+    unfolding M.readOut
+    refused-over = simp (← ev, ne-eqb _ _ h)
+
+-- ---- a schema that is not lawful
+pub schema-accepted : (b dir : List ℕ) (t : Bool) → Judged b dir t → t ≡ true → Accepted b dir
+schema-accepted b dir t j e = j .right e
+
+unlawful : (b dir m : List ℕ) (budget : Budget) (t : Bool) → Judged b dir t → t ≡ false → W.verdict u48 b m budget ≡ record { number = 1; place = 0; visits = 0 }
+unfolding W.verdict W.early
+unlawful b dir m budget t j f = simp (← (j .is), f)
+
+module _ (b dir m o : List ℕ) (budget : Budget) (t : Bool) (j : Judged b dir t) (f : t ≡ false) where
+  pub unlawful-answer : record { verdict = record { number = 1; place = 0; visits = 0 }; length = 0 } ≡ M.readAnswer u48 b m budget o
+  unlawful-answer = refused-answer b m o budget (record { number = 1; place = 0; visits = 0 }) (sym (unlawful b dir m budget t j f)) (λ e. omega arith)
+
+  pub unlawful-over : o ≡ M.readOut u48 b m budget o
+  unlawful-over = refused-over b m o budget (record { number = 1; place = 0; visits = 0 }) (sym (unlawful b dir m budget t j f)) (λ e. omega arith)

@@ -1,0 +1,31 @@
+use Rattle.sheet.proofs.Leaves.{bool-is}
+use borrow.Author.Needs.{needs}
+use Rattle.sheet.proofs.bool_at.Statement.{statement}
+use Rattle.sheet.proofs.bool_at.Tie as tie
+use Rattle.sheet.proofs.bool_at.Reads as reads
+use Rattle.sheet.proofs.bool_at.Lts as lts
+use Rattle.wire.proofs.eighth.Reads as eighth-reads
+use Rattle.wire.proofs.byte.Reads as byte-reads
+use Rattle.wire.proofs.low_three.Reads as low-three-reads
+use Rattle.wire.proofs.bit_value.Reads as bit-value-reads
+
+eighth-requires : tie.Need-eighth-requires
+eighth-requires c κs = search needs
+
+add-byte : tie.Need-add-byte
+add-byte c = search needs
+
+byte-requires : tie.Need-byte-requires
+byte-requires c κs = search needs
+
+low-three-requires : tie.Need-low-three-requires
+low-three-requires c κs = search needs
+
+bit-value-requires : tie.Need-bit-value-requires
+bit-value-requires c κs = search needs
+
+returns : tie.Need-returns
+returns c = search bool-is
+
+pub bool-at-spec : {M : Type 1} → statement M
+bool-at-spec = tie.close (tie.spec eighth-requires add-byte byte-requires low-three-requires bit-value-requires returns)

@@ -1,0 +1,26 @@
+use Rattle.sheet.proofs.Whole.{message-readable, read-answer, read-over, refused-answer, refused-over}
+use borrow.Author.Needs.{needs}
+use Rattle.sheet.proofs.read_judged.Statement.{statement}
+use Rattle.sheet.proofs.read_judged.Tie as tie
+use Rattle.sheet.proofs.read_judged.Reads as reads
+use Rattle.sheet.proofs.read_judged.Lts as lts
+use Rattle.judge.proofs.judged.Reads as judged-reads
+use Rattle.sheet.proofs.read_accepted.Reads as read-accepted-reads
+
+judged-requires : tie.Need-judged-requires
+judged-requires c κs = search needs
+
+read-accepted-requires : tie.Need-read-accepted-requires
+read-accepted-requires c κs = (search needs, search message-readable)
+
+same-length : tie.Need-same-length
+same-length c = search needs
+
+returns : tie.Need-returns
+returns c = (search read-answer, search read-over)
+
+returns-2 : tie.Need-returns-2
+returns-2 c = (search refused-answer, search refused-over)
+
+pub read-judged-spec : {M : Type 1} → statement M
+read-judged-spec = tie.close (tie.spec judged-requires read-accepted-requires same-length returns returns-2)

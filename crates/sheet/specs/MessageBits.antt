@@ -1,0 +1,111 @@
+-- The sheet's bits of what stands in a message: encode of read, part by part, as the code goes over it.
+use Prim.Native.Nat.{ℕ, zero, suc, _+_, _*_, _/_, _%_}
+use mathlib.Core.List.{List, [], _++_}
+use lib.Dec.{ltb, eqb}
+use Rattle.coding.specs.Lists.{pick}
+use Rattle.coding.specs.Bytes.{u48, le, bitAt}
+use Rattle.coding.specs.Schema.{Schema}
+use Rattle.coding.specs.Bits.{bitsOf}
+use Rattle.coding.specs.Read as R
+use Rattle.coding.specs.Sheet as E
+use Rattle.coding.specs.Step.{fieldStep}
+use Rattle.coding.specs.declared.Flat.{Flat}
+use Rattle.coding.specs.declared.Flat.the-variants as F
+use Rattle.coding.specs.declared.Object.{Object}
+use Rattle.coding.specs.declared.Kind.{Kind}
+use Rattle.coding.specs.declared.Kind.the-variants.{OfFlat, OfObject, OfUnion}
+use Rattle.coding.specs.declared.Member.{Member}
+use Rattle.coding.specs.declared.Cursor.{Cursor}
+use Rattle.coding.specs.declared.Place.{Place}
+use Rattle.coding.specs.declared.Step.{Step}
+use Rattle.coding.specs.declared.Step.the-variants as St
+
+-- ---- structs
+unfoldable pub structAt : Schema → List ℕ → ℕ → ℕ → List ℕ
+structAt S m i at = E.structBits S i (R.structRead S m i at)
+
+unfoldable pub fieldAt : Schema → List ℕ → Flat → ℕ → List ℕ
+fieldAt S m k at = E.fieldBits (E.structBits S) k (R.stepRead (R.structRead S m) R.noObject (fieldStep m k at))
+
+unfoldable pub fieldsAt : Schema → List ℕ → List Flat → ℕ → List ℕ
+fieldsAt S m ks at = E.fieldsBits (E.structBits S) ks (R.fieldsRead (R.structRead S m) S m ks at)
+
+-- ---- objects, with d objects of depth left
+unfoldable pub objectAt : ℕ → Schema → List ℕ → Object → Place → List ℕ
+objectAt d S m ob p = E.encode d S ob (R.read d u48 S m ob p)
+
+unfoldable pub contentAt : ℕ → Schema → List ℕ → Object → ℕ → ℕ → List ℕ
+contentAt d S m ob start n = E.contentBits (E.encode d S) S ob (R.contentRead (R.read d u48 S m) u48 S m ob start n)
+
+unfoldable pub membersAt : ℕ → Schema → List ℕ → ℕ → ℕ → Cursor → List Member → List ℕ
+membersAt d S m start n c rs = E.membersBits (E.encode d S) S rs (R.membersRead (R.read d u48 S m) u48 S m start n c rs)
+
+-- n elements from element i on
+unfoldable pub elementsAt : ℕ → Schema → List ℕ → Kind → ℕ → ℕ → ℕ → List ℕ
+elementsAt d S m k start n i = E.elementsBits (E.encode d S) S k (R.elementsRead (R.read d u48 S m) u48 S m start k n i)
+
+-- ---- a member's or element's mark, and what follows it
+-- the bits of a value that leads nowhere
+unfoldable pub flatValue : Flat → ℕ
+flatValue F.Boolean = 1
+flatValue (F.Integer s w) = 8 * w
+flatValue (F.Float w) = 8 * w
+flatValue (F.Enumerated n) = 8
+flatValue (F.Struct i) = 0
+
+unfoldable pub valueWidth : Kind → ℕ
+valueWidth (OfFlat k) = flatValue k
+valueWidth (OfObject ob) = 0
+valueWidth (OfUnion i) = 0
+
+unfoldable pub marked : ℕ → ℕ → ℕ → List ℕ
+marked mark w x = bitsOf 2 mark ++ bitsOf w x
+
+-- the bits of what a member or an element of a kind holds
+unfoldable pub stepAt : ℕ → Schema → List ℕ → Kind → Step → List ℕ
+stepAt d S m k (St.Refused n) = bitsOf 2 0
+stepAt d S m k St.Absent = bitsOf 2 0
+stepAt d S m k (St.Value x) = marked 1 (valueWidth k) x
+stepAt d S m k (St.Unknown x) = marked 2 (E.unknownWidth k) x
+stepAt d S m k (St.Struct i at) = bitsOf 2 1 ++ structAt S m i at
+stepAt d S m k (St.Object ob p) = bitsOf 2 1 ++ objectAt d S m ob p
+stepAt d S m k (St.Choice c ob p) = marked 1 16 c ++ objectAt d S m ob p
+
+-- an enum in a struct
+unfoldable pub enumAt : ℕ → ℕ → List ℕ
+enumAt n x = pick (eqb x 255) (bitsOf 2 0) (pick (ltb x n) (marked 1 8 x) (marked 2 8 x))
+
+-- ---- elements without a mark
+-- n numbers of w bytes
+unfoldable pub numbersAt : List ℕ → ℕ → ℕ → ℕ → List ℕ
+numbersAt m w zero at = []
+numbersAt m w (suc n) at = bitsOf (8 * w) (le m at w) ++ numbersAt m w n (at + w)
+
+unfoldable pub boolAt : List ℕ → ℕ → ℕ → ℕ
+boolAt m start i = bitAt m (start + i / 8) (i % 8)
+
+-- n bools from bool i on
+unfoldable pub boolsAt : List ℕ → ℕ → ℕ → ℕ → List ℕ
+boolsAt m start zero i = []
+boolsAt m start (suc n) i = bitsOf 1 (boolAt m start i) ++ boolsAt m start n (i + 1)
+
+-- the width of an integer kind in bytes, or 0
+unfoldable pub flatInteger : Flat → ℕ
+flatInteger F.Boolean = 0
+flatInteger (F.Integer s w) = w
+flatInteger (F.Float w) = 0
+flatInteger (F.Enumerated n) = 0
+flatInteger (F.Struct i) = 0
+
+unfoldable pub integerWidth : Kind → ℕ
+integerWidth (OfFlat k) = flatInteger k
+integerWidth (OfObject ob) = 0
+integerWidth (OfUnion i) = 0
+
+-- a list's count and its n elements
+unfoldable pub listAt : ℕ → Schema → List ℕ → Kind → ℕ → ℕ → List ℕ
+listAt d S m k start n = bitsOf 32 n ++ elementsAt d S m k start n 0
+
+-- ---- the whole sheet
+unfoldable pub rootAt : Schema → List ℕ → List ℕ
+rootAt S m = E.sheetBits S (R.messageRead u48 S m)

@@ -1,0 +1,81 @@
+-- What an accepted message gives to those who read it: every place that is read lies within the message.
+use mathlib.Core.Path.{_≡_}
+use Prim.Native.Nat.{ℕ, zero, suc, _+_, _<_, _≤_}
+use mathlib.Core.List.{List, [], _∷_}
+use lib.ListN.{length}
+use Rattle.coding.specs.Bytes.{u48, le, deepest}
+use Rattle.coding.specs.Schema.{Schema, elementOf, tableOf}
+use Rattle.coding.specs.Structs.{structSize}
+use Rattle.coding.specs.Layout.{begin, afterMember}
+use Rattle.coding.specs.Step.{memberStep, elementStep}
+use Rattle.coding.specs.Walk.{contentSize, rootPlace}
+use Rattle.coding.specs.declared.Object.{Object}
+use Rattle.coding.specs.declared.Object.the-variants as O
+use Rattle.coding.specs.declared.Kind.{Kind}
+use Rattle.coding.specs.declared.Member.{Member}
+use Rattle.coding.specs.declared.Cursor.{Cursor}
+use Rattle.coding.specs.declared.Place.{Place}
+use Rattle.coding.specs.declared.Place.the-variants.{ByOffset, InPlace}
+use Rattle.coding.specs.declared.Step.{Step}
+use Rattle.coding.specs.declared.Step.the-variants as St
+use Rattle.laws.specs.Sound.{ObjectSound}
+
+-- ---- an object's content by its place
+unfoldable pub startOf : Place → ℕ
+startOf (ByOffset x) = x + 10
+startOf (InPlace a n) = a
+
+unfoldable pub lengthOf : List ℕ → Place → ℕ
+lengthOf m (ByOffset x) = le m (x + 4) 6
+lengthOf m (InPlace a n) = n
+
+-- the header lies within the message
+unfoldable pub HeaderInside : List ℕ → Place → Type 0
+HeaderInside m (ByOffset x) = x + 10 ≤ length m
+HeaderInside m (InPlace a n) = Unit {0}
+
+-- ---- by the step
+abbrev pub Child : Type 1
+Child = Object → Place → Type 0
+
+unfoldable pub StepReadable : Child → Schema → List ℕ → Step → Type 0
+StepReadable child S m (St.Refused n) = Unit {0}
+StepReadable child S m St.Absent = Unit {0}
+StepReadable child S m (St.Value x) = Unit {0}
+StepReadable child S m (St.Unknown x) = Unit {0}
+StepReadable child S m (St.Struct i at) = (i < length (S .structs)) × (at + structSize S i ≤ length m)
+StepReadable child S m (St.Object ob p) = child ob p
+StepReadable child S m (St.Choice c ob p) = child ob p
+
+unfoldable pub MembersReadable : Child → Schema → List ℕ → ℕ → ℕ → Cursor → List Member → Type 0
+MembersReadable child S m start n c [] = Unit {0}
+MembersReadable child S m start n c (r ∷ rs) =
+    StepReadable child S m (memberStep u48 S m start n c r) × MembersReadable child S m start n (afterMember u48 S r c) rs
+
+unfoldable pub ElementsReadable : Child → Schema → List ℕ → Kind → ℕ → ℕ → ℕ → Type 0
+ElementsReadable child S m k start zero i = Unit {0}
+ElementsReadable child S m k start (suc n) i =
+    StepReadable child S m (elementStep u48 S m k start i) × ElementsReadable child S m k start n (i + 1)
+
+unfoldable pub ContentReadable : Child → Schema → List ℕ → Object → ℕ → ℕ → Type 0
+ContentReadable child S m O.Text start n = Unit {0}
+ContentReadable child S m O.Bytes start n = Unit {0}
+ContentReadable child S m (O.List i) start n = ElementsReadable child S m (elementOf S i) start n 0
+ContentReadable child S m (O.Table i) start n = MembersReadable child S m start n begin (tableOf S i .members)
+
+-- an object with its content
+pub record Entered (child : Child) (S : Schema) (m : List ℕ) (ob : Object) (start n : ℕ) : Type 0 where
+  pub sound : ObjectSound S ob
+  pub inside : start + contentSize u48 S ob n ≤ length m
+  pub parts : ContentReadable child S m ob start n
+
+-- an object with d objects of depth left
+unfoldable pub ObjectReadable : ℕ → Schema → List ℕ → Child
+ObjectReadable zero S m ob p = ⊥
+ObjectReadable (suc d) S m ob p = HeaderInside m p × Entered (ObjectReadable d S m) S m ob (startOf p) (lengthOf m p)
+
+-- the whole message: its start, and the root table
+pub record MessageReadable (S : Schema) (m : List ℕ) : Type 0 where
+  pub long : 10 ≤ length m
+  pub short : length m ≤ 16777215
+  pub root : ObjectReadable deepest S m (O.Table (S .root)) (rootPlace u48 m)
