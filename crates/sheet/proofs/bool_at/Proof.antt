@@ -1,4 +1,4 @@
-use Rattle.sheet.proofs.Leaves.{bool-is}
+use Rattle.sheet.proofs.Bools.{bool-is}
 use borrow.Author.Needs.{needs}
 use Rattle.sheet.proofs.bool_at.Statement.{statement}
 use Rattle.sheet.proofs.bool_at.Tie as tie
@@ -25,7 +25,7 @@ bit-value-requires : tie.Need-bit-value-requires
 bit-value-requires c κs = search needs
 
 returns : tie.Need-returns
-returns c = search bool-is
+returns c = (search bool-is, search needs)
 
 pub bool-at-spec : {M : Type 1} → statement M
 bool-at-spec = tie.close (tie.spec eighth-requires add-byte byte-requires low-three-requires bit-value-requires returns)
