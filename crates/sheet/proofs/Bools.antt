@@ -1,11 +1,10 @@
 -- The bools of a list: up to 32 are gathered into a number, and it is written at once.
 use mathlib.Core.Path.{_≡_, refl, sym, ap, ap₂, _∙_, subst}
-use mathlib.Core.List.{List, [], _∷_, _++_, append-assoc, append-nil}
+use mathlib.Core.List.{List, [], _++_, append-assoc, append-nil}
 use Prim.Native.Nat.{ℕ, zero, suc, _+_, _-_, _*_, _/_, _%_, _^_, _<_, _≤_}
 use native.Mathlib.Omega.{arith}
-use native.Mathlib.Nat.{add-zero, zero-add}
-use native.Mathlib.Numerals.{add-one}
-use lib.ListN.{length, getD}
+use native.Mathlib.Nat.{zero-add}
+use lib.ListN.{getD}
 use lib.Pow.{pow-add, shl-exact}
 use lib.Bits.{bitOr, or-shifted}
 use Rattle.coding.specs.Bytes.{bitAt}

@@ -1,9 +1,9 @@
 -- The ways out of the writers that lead to no object.
 use mathlib.Core.Path.{_≡_, refl, sym, ap, ap₂, _∙_, subst}
 use mathlib.Core.Bool.{Bool, true, false}
-use mathlib.Core.List.{List, [], _∷_, _++_}
-use mathlib.Core.Logic.{_⊎_, ⊎-elim}
-use Prim.Native.Nat.{ℕ, zero, suc, _+_, _-_, _*_, _/_, _%_, _^_, _<_, _≤_}
+use mathlib.Core.List.{List, _∷_, _++_}
+use mathlib.Core.Logic.{⊎-elim}
+use Prim.Native.Nat.{ℕ, suc, _+_, _-_, _*_, _<_, _≤_}
 use native.Mathlib.Omega.{arith}
 use native.Mathlib.Numerals.{add-one}
 use lib.ListN.{length, getD, drop, drop-of-length-le}
@@ -11,11 +11,11 @@ use lib.Seq.{drop-cons}
 use lib.Dec.{eqb, ltb}
 use borrow.Author.Tests.{eq-eqb, ne-eqb, lt-ltb, le-ltb}
 use Rattle.coding.specs.Lists.{pick}
-use Rattle.coding.specs.Bytes.{le, bitAt}
+use Rattle.coding.specs.Bytes.{le}
 use Rattle.coding.specs.Schema as Sc
 use Rattle.coding.specs.Schema.{Schema}
 use Rattle.coding.specs.Packed as P
-use Rattle.coding.specs.Structs.{flatWidth, total, structSize}
+use Rattle.coding.specs.Structs.{flatWidth, structSize}
 use Rattle.coding.specs.Step as T
 use Rattle.coding.specs.Value.{asNumber, first, others}
 use Rattle.coding.specs.Read as R
@@ -26,7 +26,6 @@ use Rattle.coding.specs.declared.Flat.the-variants as F
 use Rattle.coding.specs.declared.Object.{Object}
 use Rattle.coding.specs.declared.Kind.{Kind}
 use Rattle.coding.specs.declared.Kind.the-variants.{OfFlat, OfObject, OfUnion}
-use Rattle.coding.specs.declared.Step.{Step}
 use Rattle.coding.specs.declared.Step.the-variants as St
 use Rattle.laws.specs.Sound.{FlatSound, KindSound}
 use Rattle.schema.specs.Directory.{Accepted, accepted-sound}

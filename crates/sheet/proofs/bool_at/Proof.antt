@@ -2,12 +2,6 @@ use Rattle.sheet.proofs.Bools.{bool-is}
 use borrow.Author.Needs.{needs}
 use Rattle.sheet.proofs.bool_at.Statement.{statement}
 use Rattle.sheet.proofs.bool_at.Tie as tie
-use Rattle.sheet.proofs.bool_at.Reads as reads
-use Rattle.sheet.proofs.bool_at.Lts as lts
-use Rattle.wire.proofs.eighth.Reads as eighth-reads
-use Rattle.wire.proofs.byte.Reads as byte-reads
-use Rattle.wire.proofs.low_three.Reads as low-three-reads
-use Rattle.wire.proofs.bit_value.Reads as bit-value-reads
 
 eighth-requires : tie.Need-eighth-requires
 eighth-requires c κs = search needs

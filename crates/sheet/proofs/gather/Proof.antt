@@ -1,4 +1,4 @@
-use Prim.Native.Nat.{ℕ, _+_, _-_, _^_, _<_, _≤_}
+use Prim.Native.Nat.{_-_, _^_, _<_, _≤_}
 use mathlib.Core.Path.{_≡_}
 use native.Mathlib.Omega.{arith}
 use Rattle.coding.specs.Bits.{bitsOf}
@@ -7,9 +7,6 @@ use Rattle.sheet.proofs.Bools.{gather-none, gather-small, gather-turn, 
 use borrow.Author.Needs.{needs}
 use Rattle.sheet.proofs.gather.Statement.{statement}
 use Rattle.sheet.proofs.gather.Tie as tie
-use Rattle.sheet.proofs.gather.Reads as reads
-use Rattle.sheet.proofs.gather.Lts as lts
-use Rattle.sheet.proofs.bool_at.Reads as bool-at-reads
 
 abbrev Inv-loop : tie.InvT-loop
 Inv-loop m start i n v₀ j₀ v j = (j ≤ n) × (v < 2 ^ j) × (bitsOf j v ≡ A.boolsAt m start j i)
@@ -35,9 +32,11 @@ loop-less c = search needs
 loop-again : tie.Need-loop-again Inv-loop μ-loop
 loop-again c =
     let few : c .before .before .loop .j < 32 = omega (arith, c .before .before .before .before .pre .0, c .before .loop-test .taken) in
-    let inv = c .before .before .loop .inv in
-    (omega arith, gather-small _ _ _ few (inv .1) (c .bool-at .ensures .1)
-    , gather-turn _ _ _ few (inv .1) (c .bool-at .ensures .1) _ _ _ (inv .2) (c .bool-at .ensures .0))
+    let inv = c .before .before .loop .inv in (
+      omega arith,
+      gather-small _ _ _ few (inv .1) (c .bool-at .ensures .1),
+      gather-turn _ _ _ few (inv .1) (c .bool-at .ensures .1) _ _ _ (inv .2) (c .bool-at .ensures .0),
+    )
 
 returns : tie.Need-returns Inv-loop μ-loop
 returns c = search gather-done

@@ -1,8 +1,8 @@
-use Prim.Native.Nat.{ℕ, _+_, _-_, _*_, _^_, _<_, _≤_}
-use mathlib.Core.Path.{_≡_, refl, sym, ap, _∙_}
+use Prim.Native.Nat.{_-_, _≤_}
+use mathlib.Core.Path.{_≡_, refl}
 use native.Mathlib.Omega.{arith}
 use lib.ListN.{length}
-use Rattle.bitio.specs.Puts.{Room, Puts}
+use Rattle.bitio.specs.Puts.{Room}
 use Rattle.bitio.specs.PutsLaws.{room-next}
 use Rattle.sheet.specs.MessageBits as A
 use Rattle.sheet.proofs.Remaining.{Remaining, remaining-over}
@@ -10,11 +10,6 @@ use Rattle.sheet.proofs.Bools.{bools-start, bools-turn, bools-done}
 use borrow.Author.Needs.{needs}
 use Rattle.sheet.proofs.write_bools.Statement.{statement}
 use Rattle.sheet.proofs.write_bools.Tie as tie
-use Rattle.sheet.proofs.write_bools.Reads as reads
-use Rattle.sheet.proofs.write_bools.Lts as lts
-use Rattle.sheet.proofs.gather.Reads as gather-reads
-use Rattle.sheet.proofs.gathered.Reads as gathered-reads
-use Rattle.bitio.proofs.write.Reads as write-reads
 
 abbrev Inv-loop : tie.InvT-loop
 Inv-loop m out₀ pos start n p₀ i₀ out p i =
