@@ -1,9 +1,9 @@
 -- The ways out of the writers that lead to no object.
 use mathlib.Core.Path.{_≡_, refl, sym, ap, ap₂, _∙_, subst}
 use mathlib.Core.Bool.{Bool, true, false}
-use mathlib.Core.List.{List, [], _∷_, _++_}
-use mathlib.Core.Logic.{_⊎_, ⊎-elim}
-use Prim.Native.Nat.{ℕ, zero, suc, _+_, _-_, _*_, _/_, _%_, _^_, _<_, _≤_}
+use mathlib.Core.List.{List, _∷_, _++_}
+use mathlib.Core.Logic.{⊎-elim}
+use Prim.Native.Nat.{ℕ, suc, _+_, _-_, _*_, _<_, _≤_}
 use native.Mathlib.Omega.{arith}
 use native.Mathlib.Numerals.{add-one}
 use lib.ListN.{length, getD, drop, drop-of-length-le}
@@ -11,11 +11,11 @@ use lib.Seq.{drop-cons}
 use lib.Dec.{eqb, ltb}
 use borrow.Author.Tests.{eq-eqb, ne-eqb, lt-ltb, le-ltb}
 use Rattle.coding.specs.Lists.{pick}
-use Rattle.coding.specs.Bytes.{le, bitAt}
+use Rattle.coding.specs.Bytes.{le}
 use Rattle.coding.specs.Schema as Sc
 use Rattle.coding.specs.Schema.{Schema}
 use Rattle.coding.specs.Packed as P
-use Rattle.coding.specs.Structs.{flatWidth, total, structSize}
+use Rattle.coding.specs.Structs.{flatWidth, structSize}
 use Rattle.coding.specs.Step as T
 use Rattle.coding.specs.Value.{asNumber, first, others}
 use Rattle.coding.specs.Read as R
@@ -26,7 +26,6 @@ use Rattle.coding.specs.declared.Flat.the-variants as F
 use Rattle.coding.specs.declared.Object.{Object}
 use Rattle.coding.specs.declared.Kind.{Kind}
 use Rattle.coding.specs.declared.Kind.the-variants.{OfFlat, OfObject, OfUnion}
-use Rattle.coding.specs.declared.Step.{Step}
 use Rattle.coding.specs.declared.Step.the-variants as St
 use Rattle.laws.specs.Sound.{FlatSound, KindSound}
 use Rattle.schema.specs.Directory.{Accepted, accepted-sound}
@@ -247,27 +246,3 @@ unfolding A.numbersAt
 numbers-done o₀ o p₀ p whole m w n at inv g h =
     let z : n ≡ 0 = omega arith in
     remaining-done o₀ o p₀ p whole (A.numbersAt m w n at) inv g (ap (λ (k : ℕ). A.numbersAt m w k at) z)
-
--- ---- bools
-pub bool-is : (m : List ℕ) (start i j k x r : ℕ) → j ≡ i / 8 → k ≡ i % 8 → x ≡ getD m (start + j) 0 → r ≡ x / 2 ^ k % 2 → r ≡ A.boolAt m start i
-unfolding A.boolAt bitAt
-bool-is m start i j k x r ej ek ex er = er ∙ ap₂ (λ (a c : ℕ). a / 2 ^ c % 2) (ex ∙ ap (λ (a : ℕ). getD m (start + a) 0) ej) ek
-
-pub bools-start : (o : List ℕ) (p : ℕ) (m : List ℕ) (start n : ℕ) → Remaining o p (A.boolsAt m start n 0) o p (A.boolsAt m start (n - 0) 0)
-bools-start o p m start n =
-    let z : n - 0 ≡ n = omega arith in
-    remaining-all o p (A.boolsAt m start n 0) (A.boolsAt m start (n - 0) 0) (ap (λ (k : ℕ). A.boolsAt m start k 0) z)
-
-pub bools-turn : (o₀ o o₁ : List ℕ) (p₀ p p₁ : ℕ) (whole m : List ℕ) (start n i x : ℕ) → Remaining o₀ p₀ whole o p (A.boolsAt m start (n - i) i) → Room o p → i < n
-    → x ≡ A.boolAt m start i → Puts o p (bitsOf 1 x) o₁ p₁ → Remaining o₀ p₀ whole o₁ p₁ (A.boolsAt m start (n - (i + 1)) (i + 1))
-unfolding A.boolsAt
-bools-turn o₀ o o₁ p₀ p p₁ whole m start n i x inv g h ex k =
-    let z : n - i ≡ suc (n - (i + 1)) = omega arith in
-    remaining-turn o₀ o o₁ p₀ p p₁ whole (A.boolsAt m start (n - i) i) (bitsOf 1 x) (A.boolsAt m start (n - (i + 1)) (i + 1)) inv (g .short)
-    (ap (λ (j : ℕ). A.boolsAt m start j i) z ∙ ap (λ (y : ℕ). bitsOf 1 y ++ A.boolsAt m start (n - (i + 1)) (i + 1)) (sym ex)) k
-
-pub bools-done : (o₀ o : List ℕ) (p₀ p : ℕ) (whole m : List ℕ) (start n i : ℕ) → Remaining o₀ p₀ whole o p (A.boolsAt m start (n - i) i) → Room o p → n ≤ i → Puts o₀ p₀ whole o p
-unfolding A.boolsAt
-bools-done o₀ o p₀ p whole m start n i inv g h =
-    let z : n - i ≡ 0 = omega arith in
-    remaining-done o₀ o p₀ p whole (A.boolsAt m start (n - i) i) inv g (ap (λ (k : ℕ). A.boolsAt m start k i) z)

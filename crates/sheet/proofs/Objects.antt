@@ -1,19 +1,15 @@
 -- The ways out of the writers of members, elements and objects.
 use mathlib.Core.Path.{_≡_, refl, sym, ap, ap₂, _∙_, subst}
-use mathlib.Core.Bool.{Bool, true, false}
-use mathlib.Core.List.{List, [], _∷_, _++_}
-use Prim.Native.Nat.{ℕ, zero, suc, _+_, _-_, _*_, _/_, _%_, _^_, _<_, _≤_}
+use mathlib.Core.List.{List, _++_}
+use Prim.Native.Nat.{ℕ, zero, suc, _+_, _-_, _*_, _<_, _≤_}
 use native.Mathlib.Omega.{arith}
-use native.Mathlib.Nat.{mul-zero, add-zero}
-use native.Mathlib.Numerals.{sub-one, add-one}
-use lib.ListN.{length, getD, take, drop, drop-of-length-le}
-use lib.Seq.{drop-cons}
-use Rattle.coding.specs.Lists.{pick}
-use Rattle.coding.specs.Bytes.{u48, le, bitAt}
+use native.Mathlib.Numerals.{sub-one}
+use lib.ListN.{length, take, drop}
+use Rattle.coding.specs.Bytes.{u48}
 use Rattle.coding.specs.Schema as Sc
 use Rattle.coding.specs.Schema.{Schema}
 use Rattle.coding.specs.Packed as P
-use Rattle.coding.specs.Structs.{flatWidth, structSize}
+use Rattle.coding.specs.Structs.{structSize}
 use Rattle.coding.specs.Layout as L
 use Rattle.coding.specs.Step as T
 use Rattle.coding.specs.Walk as W
@@ -21,12 +17,9 @@ use Rattle.coding.specs.Value as Tree
 use Rattle.coding.specs.Read as R
 use Rattle.coding.specs.Bits.{bitsOf}
 use Rattle.coding.specs.Sheet as E
-use Rattle.coding.specs.declared.Flat.{Flat}
-use Rattle.coding.specs.declared.Flat.the-variants as F
 use Rattle.coding.specs.declared.Object.{Object}
 use Rattle.coding.specs.declared.Object.the-variants as O
 use Rattle.coding.specs.declared.Kind.{Kind}
-use Rattle.coding.specs.declared.Kind.the-variants.{OfFlat, OfObject, OfUnion}
 use Rattle.coding.specs.declared.Member.{Member}
 use Rattle.coding.specs.declared.Cursor.{Cursor}
 use Rattle.coding.specs.declared.Place.{Place}
@@ -38,15 +31,12 @@ use Rattle.laws.specs.SoundAt.{member-sound-at, struct-index, list-index, table
 use Rattle.schema.specs.Directory.{Accepted, accepted-sound}
 use Rattle.layout.specs.Bounds.{Laid}
 use Rattle.step.specs.Lead.{Stepped}
-use Rattle.step.proofs.Inside.{index-small}
 use Rattle.wire.specs.Numbers.{Number}
 use Rattle.bitio.specs.Puts.{Room, Puts}
 use Rattle.bitio.specs.PutsLaws.{puts-none, puts-then, puts-same}
 use Rattle.sheet.specs.MessageBits as A
 use Rattle.sheet.specs.Readable as D
 use Rattle.sheet.specs.Stepping.{MemberAt}
-use Rattle.sheet.proofs.PartLaws.{member-part, element-part}
-use Rattle.sheet.proofs.Remaining.{Remaining, remaining-all, remaining-turn, remaining-over, remaining-done}
 
 -- ---- places
 module _ (m : List ℕ) (p : Place) where

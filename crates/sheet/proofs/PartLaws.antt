@@ -1,9 +1,9 @@
 -- The bits of what a member or an element holds are the encoding of what it reads as; a struct's bits are those of its
 -- members in turn.
-use mathlib.Core.Path.{_≡_, refl, sym, ap, ap₂, _∙_, subst}
+use mathlib.Core.Path.{_≡_, refl, sym, ap₂, subst}
 use mathlib.Core.Bool.{Bool, true, false, _&&_}
 use mathlib.Core.List.{List, [], _∷_, _++_, append-assoc}
-use Prim.Native.Nat.{ℕ, zero, suc, _+_, _*_, _%_, _<_, _≤_}
+use Prim.Native.Nat.{ℕ, zero, suc, _+_, _%_, _<_}
 use lib.ListN.{length, getD}
 use lib.Dec.{eqb, leb, ltb}
 use Rattle.coding.specs.Lists.{pick}
@@ -12,7 +12,7 @@ use Rattle.coding.specs.Schema.{Schema, structOf, casesOf, caseOf}
 use Rattle.coding.specs.Structs.{lower, byIndex, flatWidth, structSize, structOk}
 use Rattle.coding.specs.Layout as L
 use Rattle.coding.specs.Step as T
-use Rattle.coding.specs.Value.{Value, absent, unknown, number, blob, row, chosen, asNumber, asBlob, asRow, asObject, first, others}
+use Rattle.coding.specs.Value.{Value, asNumber, asRow, asObject, first, others}
 use Rattle.coding.specs.Read as R
 use Rattle.coding.specs.Bits.{bitsOf}
 use Rattle.coding.specs.Sheet as E
@@ -34,7 +34,7 @@ use Rattle.step.specs.Lead.{reached, reachOf}
 use Rattle.step.specs.declared.Reach.{Reach}
 use Rattle.step.specs.declared.Reach.the-variants.{Cut, Past, Here}
 use Rattle.step.proofs.ReachCases.{step-reached}
-use Rattle.sheet.specs.MessageBits.{structAt, fieldAt, fieldsAt, objectAt, flatValue, valueWidth, marked, stepAt}
+use Rattle.sheet.specs.MessageBits.{structAt, fieldsAt, objectAt, flatValue, valueWidth, marked, stepAt}
 use Rattle.sheet.specs.Readable.{StepReadable, ObjectReadable}
 
 -- ---- structs

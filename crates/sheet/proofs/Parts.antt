@@ -1,7 +1,7 @@
 -- The members of a table and the elements of a list, turn by turn.
 use mathlib.Core.Path.{_≡_, refl, sym, ap, ap₂, _∙_, subst}
 use mathlib.Core.Bool.{Bool, true, false}
-use mathlib.Core.List.{List, [], _∷_, _++_}
+use mathlib.Core.List.{List, _∷_, _++_}
 use Prim.Native.Nat.{ℕ, zero, suc, _+_, _-_, _*_, _/_, _%_, _^_, _<_, _≤_}
 use native.Mathlib.Omega.{arith}
 use native.Mathlib.Nat.{mul-zero, add-zero, mul-suc}
@@ -13,22 +13,19 @@ use Rattle.coding.specs.Bytes.{u48, le, bitAt}
 use Rattle.coding.specs.Schema as Sc
 use Rattle.coding.specs.Schema.{Schema}
 use Rattle.coding.specs.Packed as P
-use Rattle.coding.specs.Structs.{flatWidth, structSize}
+use Rattle.coding.specs.Structs.{flatWidth}
 use Rattle.coding.specs.Layout as L
 use Rattle.coding.specs.Step as T
 use Rattle.coding.specs.Value as Tree
 use Rattle.coding.specs.Read as R
 use Rattle.coding.specs.Bits.{bitsOf}
 use Rattle.coding.specs.Sheet as E
-use Rattle.coding.specs.declared.Flat.{Flat}
 use Rattle.coding.specs.declared.Flat.the-variants as F
-use Rattle.coding.specs.declared.Object.{Object}
 use Rattle.coding.specs.declared.Kind.{Kind}
 use Rattle.coding.specs.declared.Kind.the-variants.{OfFlat, OfObject, OfUnion}
 use Rattle.coding.specs.declared.Member.{Member}
 use Rattle.coding.specs.declared.Cursor.{Cursor}
 use Rattle.coding.specs.declared.Step.{Step}
-use Rattle.coding.specs.declared.Step.the-variants as St
 use Rattle.laws.specs.Sound.{KindSound}
 use Rattle.schema.specs.Directory.{Accepted, accepted-sound}
 use Rattle.step.proofs.Inside.{index-small}
@@ -38,7 +35,7 @@ use Rattle.sheet.specs.MessageBits as A
 use Rattle.sheet.specs.Readable as D
 use Rattle.sheet.specs.Stepping.{MemberAt}
 use Rattle.sheet.proofs.PartLaws.{member-part, element-part}
-use Rattle.sheet.proofs.Remaining.{Remaining, remaining-all, remaining-turn, remaining-over, remaining-done}
+use Rattle.sheet.proofs.Remaining.{Remaining, remaining-all, remaining-turn, remaining-done}
 
 -- ---- members
 pub members-start : (d : ℕ) (S : Schema) (m : List ℕ) (start n t : ℕ) (c : Cursor) (o : List ℕ) (p : ℕ) → c ≡ L.begin

@@ -1,13 +1,13 @@
 -- The whole sheet: an accepted message is readable; counting the bits, filling the buffer, and the answers.
 use mathlib.Core.Path.{_≡_, refl, sym, ap, ap₂, _∙_, subst}
-use mathlib.Core.Bool.{Bool, true, false, _&&_}
+use mathlib.Core.Bool.{Bool, true, false}
 use mathlib.Core.List.{List, [], _∷_, _++_}
-use Prim.Native.Nat.{ℕ, zero, suc, _+_, _-_, _*_, _/_, _^_, _<_, _≤_}
+use Prim.Native.Nat.{ℕ, suc, _+_, _-_, _/_, _^_, _<_, _≤_}
 use native.Mathlib.Nat.{zero-add}
 use native.Mathlib.Omega.{arith}
-use lib.Dec.{leb, eqb}
-use lib.ListN.{length, getD, take, drop, set, length-set, drop-of-length-le}
-use lib.Seq.{length-take-le, getD-set-same, set-out}
+use lib.Dec.{leb}
+use lib.ListN.{length, getD, take, drop, set, length-set}
+use lib.Seq.{length-take-le, getD-set-same}
 use borrow.Author.Tests.{le-leb, lt-leb, leb-true, leb-false, eq-eqb, ne-eqb}
 use Rattle.coding.specs.Lists.{pick}
 use Rattle.coding.specs.Bytes.{u48, deepest, largest}
@@ -22,18 +22,15 @@ use Rattle.coding.specs.declared.Object.{Object}
 use Rattle.coding.specs.declared.Object.the-variants as O
 use Rattle.coding.specs.declared.Place.{Place}
 use Rattle.coding.specs.declared.Budget.{Budget}
-use Rattle.coding.specs.declared.Spent.{Spent}
 use Rattle.coding.specs.declared.Walked.{Walked}
 use Rattle.coding.specs.declared.Walked.the-variants.{Going, Refused}
 use Rattle.coding.specs.declared.Verdict.{Verdict}
 use Rattle.coding.specs.declared.ReadAnswer.{ReadAnswer}
-use Rattle.laws.specs.Sound.{All}
 use Rattle.laws.specs.All.{all-index}
 use Rattle.laws.specs.Lists.{both-left, both-right}
 use Rattle.laws.specs.Bits.{Byte, packed-length}
 use Rattle.schema.specs.Directory.{Accepted, Judged, accepted-sound}
 use Rattle.bitio.specs.Puts.{Room, Puts, saturated}
-use Rattle.bitio.specs.PutsLaws.{count-in}
 use Rattle.bitio.specs.Filled.{sheet-filled}
 use Rattle.sheet.specs.MessageBits as A
 use Rattle.sheet.specs.Readable as D

@@ -1,5 +1,4 @@
 -- What an accepted message gives to those who read it: every place that is read lies within the message.
-use mathlib.Core.Path.{_≡_}
 use Prim.Native.Nat.{ℕ, zero, suc, _+_, _<_, _≤_}
 use mathlib.Core.List.{List, [], _∷_}
 use lib.ListN.{length}

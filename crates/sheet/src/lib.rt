@@ -205,9 +205,31 @@ fn write_numbers(m: &[u8], out: &mut [u8], pos: usize, w: usize, at: usize, n: u
 // Bool i of the bytes from `start`.
 fn bool_at(m: &[u8], start: usize, i: usize) -> u64
     requires { ⌜ (start < 2 ^ 59) × (i < 2 ^ 59) ⌝ }
-    ensures { λ r. ⌜ r ≡ Bt.boolAt (now (m .entry)) start i ⌝ }
+    ensures { λ r. ⌜ (r ≡ Bt.boolAt (now (m .entry)) start i) × (r < 2) ⌝ }
 {
     wire::bit_value(wire::byte(m, start + wire::eighth(i)), wire::low_three(i))
+}
+
+// The n bools from bool i on as a number, the first one highest.
+fn gather(m: &[u8], start: usize, i: usize, n: usize) -> u64
+    requires { ⌜ (n ≤ 32) × (start < 2 ^ 59) × (i < 2 ^ 58) ⌝ }
+    ensures { λ r. ⌜ bitsOf n r ≡ Bt.boolsAt (now (m .entry)) start n i ⌝ }
+{
+    let mut v: u64 = 0;
+    let mut j: usize = 0;
+    while j < n {
+        v = v << 1 | bool_at(m, start, i + j);
+        j += 1;
+    }
+    v
+}
+
+// How many of the bools that are left go into one number.
+fn gathered(left: usize) -> usize
+    requires { ⌜ 0 < left ⌝ }
+    ensures { λ r. ⌜ (0 < r) × (r ≤ left) × (r ≤ 32) ⌝ }
+{
+    if left < 32 { left } else { 32 }
 }
 
 // The n bools of the bytes from `start`.
@@ -222,8 +244,9 @@ fn write_bools(m: &[u8], out: &mut [u8], pos: usize, start: usize, n: usize) -> 
         if 134217720 < p {
             return p;
         }
-        p = bitio::write(out, p, 1, bool_at(m, start, i));
-        i += 1;
+        let w = gathered(n - i);
+        p = bitio::write(out, p, w, gather(m, start, i, w));
+        i += w;
     }
     p
 }

@@ -1,13 +1,7 @@
-use Rattle.sheet.proofs.Leaves.{bool-is}
+use Rattle.sheet.proofs.Bools.{bool-is}
 use borrow.Author.Needs.{needs}
 use Rattle.sheet.proofs.bool_at.Statement.{statement}
 use Rattle.sheet.proofs.bool_at.Tie as tie
-use Rattle.sheet.proofs.bool_at.Reads as reads
-use Rattle.sheet.proofs.bool_at.Lts as lts
-use Rattle.wire.proofs.eighth.Reads as eighth-reads
-use Rattle.wire.proofs.byte.Reads as byte-reads
-use Rattle.wire.proofs.low_three.Reads as low-three-reads
-use Rattle.wire.proofs.bit_value.Reads as bit-value-reads
 
 eighth-requires : tie.Need-eighth-requires
 eighth-requires c κs = search needs
@@ -25,7 +19,7 @@ bit-value-requires : tie.Need-bit-value-requires
 bit-value-requires c κs = search needs
 
 returns : tie.Need-returns
-returns c = search bool-is
+returns c = (search bool-is, search needs)
 
 pub bool-at-spec : {M : Type 1} → statement M
 bool-at-spec = tie.close (tie.spec eighth-requires add-byte byte-requires low-three-requires bit-value-requires returns)

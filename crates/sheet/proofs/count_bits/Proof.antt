@@ -2,9 +2,6 @@ use Rattle.sheet.proofs.Whole.{count-is, none-front}
 use borrow.Author.Needs.{needs}
 use Rattle.sheet.proofs.count_bits.Statement.{statement}
 use Rattle.sheet.proofs.count_bits.Tie as tie
-use Rattle.sheet.proofs.count_bits.Reads as reads
-use Rattle.sheet.proofs.count_bits.Lts as lts
-use Rattle.sheet.proofs.write_root.Reads as write-root-reads
 
 slice-relend-prefix-write-root : tie.Need-slice-relend-prefix-write-root
 slice-relend-prefix-write-root c = search needs

@@ -2,10 +2,6 @@ use Rattle.sheet.proofs.Whole.{fill-room, fill-done}
 use borrow.Author.Needs.{needs}
 use Rattle.sheet.proofs.fill.Statement.{statement}
 use Rattle.sheet.proofs.fill.Tie as tie
-use Rattle.sheet.proofs.fill.Reads as reads
-use Rattle.sheet.proofs.fill.Lts as lts
-use Rattle.bitio.proofs.clear_last.Reads as clear-last-reads
-use Rattle.sheet.proofs.write_root.Reads as write-root-reads
 
 clear-last-requires : tie.Need-clear-last-requires
 clear-last-requires c κs = search needs

@@ -2,9 +2,6 @@ use Rattle.sheet.proofs.Leaves.{integer-boolean, integer-integer, integ
 use borrow.Author.Needs.{needs}
 use Rattle.sheet.proofs.integer_width.Statement.{statement}
 use Rattle.sheet.proofs.integer_width.Tie as tie
-use Rattle.sheet.proofs.integer_width.Reads as reads
-use Rattle.sheet.proofs.integer_width.Lts as lts
-use Rattle.wire.proofs.index.Reads as index-reads
 
 enum-known-k : tie.Need-enum-known-k
 enum-known-k c = search needs

@@ -3,9 +3,6 @@ use Rattle.sheet.proofs.Objects.{length-offset, length-inplace, header-
 use borrow.Author.Needs.{needs}
 use Rattle.sheet.proofs.length_of.Statement.{statement}
 use Rattle.sheet.proofs.length_of.Tie as tie
-use Rattle.sheet.proofs.length_of.Reads as reads
-use Rattle.sheet.proofs.length_of.Lts as lts
-use Rattle.wire.proofs.u48_in.Reads as u48-in-reads
 
 -- src/lib.rt:230:25
 enum-known-p : tie.Need-enum-known-p

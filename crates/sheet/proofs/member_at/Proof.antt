@@ -2,10 +2,6 @@ use Rattle.sheet.proofs.Objects.{member-sound-of, member-is}
 use borrow.Author.Needs.{needs}
 use Rattle.sheet.proofs.member_at.Statement.{statement}
 use Rattle.sheet.proofs.member_at.Tie as tie
-use Rattle.sheet.proofs.member_at.Reads as reads
-use Rattle.sheet.proofs.member_at.Lts as lts
-use Rattle.schema.proofs.member.Reads as member-reads
-use Rattle.step.proofs.member_step.Reads as member-step-reads
 
 member-requires : tie.Need-member-requires
 member-requires c κs = search needs

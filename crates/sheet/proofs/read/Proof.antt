@@ -2,10 +2,6 @@ use Rattle.sheet.proofs.Whole.{schema-accepted, unlawful-answer, unlawf
 use borrow.Author.Needs.{needs}
 use Rattle.sheet.proofs.read.Statement.{statement}
 use Rattle.sheet.proofs.read.Tie as tie
-use Rattle.sheet.proofs.read.Reads as reads
-use Rattle.sheet.proofs.read.Lts as lts
-use Rattle.schema.proofs.judge_schema.Reads as judge-schema-reads
-use Rattle.sheet.proofs.read_judged.Reads as read-judged-reads
 
 slice-aggregate-judge-schema : tie.Need-slice-aggregate-judge-schema
 slice-aggregate-judge-schema c = search needs

@@ -2,11 +2,6 @@ use Rattle.sheet.proofs.Whole.{taken, part-size, part-few, long-answer,
 use borrow.Author.Needs.{needs}
 use Rattle.sheet.proofs.read_accepted.Statement.{statement}
 use Rattle.sheet.proofs.read_accepted.Tie as tie
-use Rattle.sheet.proofs.read_accepted.Reads as reads
-use Rattle.sheet.proofs.read_accepted.Lts as lts
-use Rattle.sheet.proofs.count_bits.Reads as count-bits-reads
-use Rattle.sheet.proofs.no_room.Reads as no-room-reads
-use Rattle.sheet.proofs.fill.Reads as fill-reads
 
 count-bits-requires : tie.Need-count-bits-requires
 count-bits-requires c κs = search needs

@@ -2,10 +2,6 @@ use Rattle.sheet.proofs.Whole.{message-readable, read-answer, read-over
 use borrow.Author.Needs.{needs}
 use Rattle.sheet.proofs.read_judged.Statement.{statement}
 use Rattle.sheet.proofs.read_judged.Tie as tie
-use Rattle.sheet.proofs.read_judged.Reads as reads
-use Rattle.sheet.proofs.read_judged.Lts as lts
-use Rattle.judge.proofs.judged.Reads as judged-reads
-use Rattle.sheet.proofs.read_accepted.Reads as read-accepted-reads
 
 judged-requires : tie.Need-judged-requires
 judged-requires c κs = search needs

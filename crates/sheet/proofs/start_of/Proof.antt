@@ -3,8 +3,6 @@ use Rattle.sheet.proofs.Objects.{start-offset, start-inplace, header-in
 use borrow.Author.Needs.{needs}
 use Rattle.sheet.proofs.start_of.Statement.{statement}
 use Rattle.sheet.proofs.start_of.Tie as tie
-use Rattle.sheet.proofs.start_of.Reads as reads
-use Rattle.sheet.proofs.start_of.Lts as lts
 
 -- src/lib.rt:220:25
 enum-known-p : tie.Need-enum-known-p

@@ -3,8 +3,6 @@ use Rattle.sheet.proofs.Leaves.{unknown-boolean, unknown-integer, unkno
 use borrow.Author.Needs.{needs}
 use Rattle.sheet.proofs.unknown_width.Statement.{statement}
 use Rattle.sheet.proofs.unknown_width.Tie as tie
-use Rattle.sheet.proofs.unknown_width.Reads as reads
-use Rattle.sheet.proofs.unknown_width.Lts as lts
 
 -- src/lib.rt:79:22
 enum-known-k : tie.Need-enum-known-k

@@ -3,9 +3,6 @@ use Rattle.sheet.proofs.Leaves.{width-boolean, width-integer, width-flo
 use borrow.Author.Needs.{needs}
 use Rattle.sheet.proofs.value_width.Statement.{statement}
 use Rattle.sheet.proofs.value_width.Tie as tie
-use Rattle.sheet.proofs.value_width.Reads as reads
-use Rattle.sheet.proofs.value_width.Lts as lts
-use Rattle.wire.proofs.index.Reads as index-reads
 
 enum-known-k : tie.Need-enum-known-k
 enum-known-k c = search needs

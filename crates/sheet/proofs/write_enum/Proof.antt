@@ -2,11 +2,6 @@ use Rattle.sheet.proofs.Leaves.{enum-none, enum-known, enum-unknown}
 use borrow.Author.Needs.{needs}
 use Rattle.sheet.proofs.write_enum.Statement.{statement}
 use Rattle.sheet.proofs.write_enum.Tie as tie
-use Rattle.sheet.proofs.write_enum.Reads as reads
-use Rattle.sheet.proofs.write_enum.Lts as lts
-use Rattle.bitio.proofs.write.Reads as write-reads
-use Rattle.wire.proofs.wide.Reads as wide-reads
-use Rattle.sheet.proofs.write_marked.Reads as write-marked-reads
 
 write-requires : tie.Need-write-requires
 write-requires c κs = search needs

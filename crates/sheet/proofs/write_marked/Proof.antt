@@ -2,9 +2,6 @@ use Rattle.sheet.proofs.Leaves.{marked-puts}
 use borrow.Author.Needs.{needs}
 use Rattle.sheet.proofs.write_marked.Statement.{statement}
 use Rattle.sheet.proofs.write_marked.Tie as tie
-use Rattle.sheet.proofs.write_marked.Reads as reads
-use Rattle.sheet.proofs.write_marked.Lts as lts
-use Rattle.bitio.proofs.write.Reads as write-reads
 
 write-requires : tie.Need-write-requires
 write-requires c κs = search needs

@@ -2,10 +2,6 @@ use Rattle.sheet.proofs.Leaves.{number-puts}
 use borrow.Author.Needs.{needs}
 use Rattle.sheet.proofs.write_number.Statement.{statement}
 use Rattle.sheet.proofs.write_number.Tie as tie
-use Rattle.sheet.proofs.write_number.Reads as reads
-use Rattle.sheet.proofs.write_number.Lts as lts
-use Rattle.bitio.proofs.write.Reads as write-reads
-use Rattle.wire.proofs.number.Reads as number-reads
 
 -- src/lib.rt:128:28
 mul-write : tie.Need-mul-write

@@ -1,8 +1,8 @@
-use Prim.Native.Nat.{ℕ, _+_, _-_, _*_, _^_, _<_, _≤_}
-use mathlib.Core.Path.{_≡_, refl, sym, ap, _∙_}
+use Prim.Native.Nat.{_+_, _*_, _≤_}
+use mathlib.Core.Path.{_≡_, refl}
 use native.Mathlib.Omega.{arith}
 use lib.ListN.{length}
-use Rattle.bitio.specs.Puts.{Room, Puts}
+use Rattle.bitio.specs.Puts.{Room}
 use Rattle.bitio.specs.PutsLaws.{room-next}
 use Rattle.sheet.specs.MessageBits as A
 use Rattle.sheet.proofs.Remaining.{Remaining, remaining-over}
@@ -10,9 +10,6 @@ use Rattle.sheet.proofs.Leaves.{numbers-start, numbers-turn, numbers-do
 use borrow.Author.Needs.{needs}
 use Rattle.sheet.proofs.write_numbers.Statement.{statement}
 use Rattle.sheet.proofs.write_numbers.Tie as tie
-use Rattle.sheet.proofs.write_numbers.Reads as reads
-use Rattle.sheet.proofs.write_numbers.Lts as lts
-use Rattle.sheet.proofs.write_number.Reads as write-number-reads
 
 abbrev Inv-loop : tie.InvT-loop
 Inv-loop m out₀ pos w at n p₀ from₀ left₀ out p from left =

@@ -2,11 +2,6 @@ use Rattle.sheet.proofs.Whole.{root-readable, root-puts}
 use borrow.Author.Needs.{needs}
 use Rattle.sheet.proofs.write_root.Statement.{statement}
 use Rattle.sheet.proofs.write_root.Tie as tie
-use Rattle.sheet.proofs.write_root.Reads as reads
-use Rattle.sheet.proofs.write_root.Lts as lts
-use Rattle.judge.proofs.root_object.Reads as root-object-reads
-use Rattle.judge.proofs.root_place.Reads as root-place-reads
-use Rattle.sheet.proofs.write_object.Reads as write-object-reads
 
 root-object-requires : tie.Need-root-object-requires
 root-object-requires c κs = search needs
