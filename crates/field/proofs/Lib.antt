@@ -6,3 +6,4 @@ pub mod PathCases
 pub mod AnswerCases
 pub mod TextCases
 pub mod ReaderCases
+pub mod ElementSound

@@ -6,3 +6,4 @@ pub mod Bools
 pub mod Objects
 pub mod Parts
 pub mod Whole
+pub mod StructInside

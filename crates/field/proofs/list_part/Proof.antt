@@ -1,6 +1,5 @@
 use Rattle.field.proofs.PartCases.{list-none, list-there, element-step-within}
-use Rattle.judge.proofs.OpenCases.{element-sound}
-use Rattle.judge.proofs.WalkCases.{elements-there}
+use Rattle.field.proofs.ElementSound.{element-sound, elements-there}
 use borrow.Author.Needs.{needs}
 use Rattle.field.proofs.list_part.Statement.{statement}
 use Rattle.field.proofs.list_part.Tie as tie

@@ -6,7 +6,8 @@ use lib.ListN.{length, drop}
 use Rattle.coding.specs.Packed as P
 use Rattle.coding.specs.Schema as Sc
 use Rattle.coding.specs.Structs.{total, structSize}
-use Rattle.layout.proofs.Booleans.{struct-inside, struct-lower, flat-weaker, all-inside, field-sound, field-inside, next-inside}
+use Rattle.layout.proofs.Booleans.{struct-inside, struct-lower, flat-weaker, field-sound, field-inside, next-inside}
+use Rattle.sheet.proofs.StructInside.{all-inside}
 use Rattle.step.proofs.Inside.{integer-eight, float-eight}
 use Rattle.bitio.specs.Puts.{Room}
 use Rattle.bitio.specs.PutsLaws.{room-next}
