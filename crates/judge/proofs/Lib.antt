@@ -3,6 +3,7 @@ pub mod TextCases
 pub mod EndCases
 pub mod SizeCases
 pub mod OpenCases
+pub mod PlainCases
 pub mod WalkCases
 pub mod ListCases
 pub mod VerdictCases

@@ -1,6 +1,6 @@
 -- A header: offset and header fit, magic, and the length that it gives; content that fits; where a member leads.
 use mathlib.Core.Path.{_≡_}
-use Prim.Native.Nat.{ℕ, _+_, _*_, _^_, _<_}
+use Prim.Native.Nat.{ℕ, _+_, _*_, _%_, _^_, _<_, _≤_}
 use mathlib.Core.Bool.{Bool, true, false, _&&_}
 use mathlib.Core.List.{List}
 use lib.ListN.{length}
@@ -8,6 +8,7 @@ use lib.Dec.{leb, eqb}
 use Rattle.coding.specs.Lists.{pick}
 use Rattle.coding.specs.Bytes.{le, u48}
 use Rattle.coding.specs.Schema.{Schema, memberOf}
+use Rattle.coding.specs.Packed.{widthOf}
 use Rattle.coding.specs.Layout.{afterMember}
 use Rattle.coding.specs.Step.{memberStep}
 use Rattle.coding.specs.Walk.{headerSize}
@@ -43,6 +44,15 @@ isText O.Text = true
 isText O.Bytes = false
 isText (O.List i) = false
 isText (O.Table i) = false
+
+-- the first byte of a record whose kind is a number, a float or an enum, neither optional nor in place
+pub record Plain (h : ℕ) : Type 0 where
+  pub low : 8 ≤ h
+  pub high : h ≤ 95
+  pub flags : h % 8 ≡ 0
+
+unfoldable pub plainWidth : ℕ → ℕ
+plainWidth k = pick (eqb k 11) 1 (widthOf k)
 
 -- where member j of table t leads, where the cursor stands, and the cursor behind it
 pub record Led (S : Schema) (m : List ℕ) (t j start n : ℕ) (c : Cursor) (s : Step) (next : Cursor) : Type 0 where

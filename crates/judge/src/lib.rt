@@ -352,6 +352,72 @@ fn texts(
 }
 
 // ---- the walkers
+// Whether a record's first byte says a number, a float or an enum, neither optional nor in place.
+fn is_plain(h: usize) -> bool
+    ensures { λ r. ⌜ (r ≡ true → Hs.Plain h) ⌝ }
+{
+    if h < 8 {
+        return false;
+    }
+    if 95 < h {
+        return false;
+    }
+    if wire::low_three(h) == 0 {
+        return true;
+    }
+    false
+}
+
+// The bytes of a number, a float or an enum by its kind.
+fn plain_width(k: usize) -> usize
+    requires { ⌜ k < 12 ⌝ }
+    ensures { λ r. ⌜ (r ≡ Hs.plainWidth k) × (r < 256) ⌝ }
+{
+    if k == 11 {
+        return 1;
+    }
+    wire::index(schema::width_of(k))
+}
+
+// Such a member of the record at `at`: it leads nowhere, but may be cut.
+fn lead_number(
+    b: &[u8],
+    m: &[u8],
+    at: usize,
+    start: usize,
+    n: usize,
+    c: Cursor,
+    h: usize,
+) -> step::SteppedMember
+    requires { ⌜ (h ≡ getD (now b) at 0) × (Hs.Plain h) ⌝ }
+    requires { ⌜ (c .byte ≤ c .end) × (c .bit ≤ 8) × (c .end < 2 ^ 58) ⌝ }
+    ensures { λ q. ⌜ (D.Stepped (D.leadOf (T.memberStep B.u48 (P.parse (now (b .entry))) (now (m .entry)) start n c (P.memberAt (now (b .entry)) at))) (L.afterMember B.u48 (P.parse (now (b .entry))) (P.memberAt (now (b .entry)) at) c) (c .end) (q .step) (q .next)) × D.StepSmall (P.parse (now (b .entry))) (q .step) ⌝ }
+{
+    let w = plain_width(wire::eighth(h));
+    let end = c.end;
+    let next = Cursor {
+        end: end + w,
+        byte: c.byte,
+        bit: c.bit,
+    };
+    if n <= end {
+        return step::SteppedMember {
+            step: Step::Absent,
+            next,
+        };
+    }
+    if end + w <= n {
+        return step::SteppedMember {
+            step: Step::Absent,
+            next,
+        };
+    }
+    step::SteppedMember {
+        step: Step::Refused(8),
+        next,
+    }
+}
+
 // Member j of table t, where the cursor stands: where it leads, and the cursor behind it.
 fn lead_member(
     b: &[u8],
@@ -367,6 +433,11 @@ fn lead_member(
     requires { ⌜ (start + n ≤ length (now m)) × (length (now m) ≤ 16777215) × (Laid (4097 * j) c) ⌝ }
     ensures { λ q. ⌜ Hs.Led (P.parse (now (b .entry))) (now (m .entry)) t j start n c (q .step) (q .next) ⌝ }
 {
+    let at = schema::record_place(4, schema::table_place(b, dir, t), j);
+    let h = wire::index(wire::byte_in(b, at));
+    if is_plain(h) {
+        return lead_number(b, m, at, start, n, c, h);
+    }
     let r = schema::member(b, dir, t, j);
     step::member_lead(b, dir, m, start, n, c, r)
 }
