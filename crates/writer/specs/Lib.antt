@@ -1,0 +1,6 @@
+-- What the writer's code promises, and that it is what the definitions say.
+pub mod Survey
+pub mod Mapped
+pub mod Summed
+pub mod SlotSizes
+pub mod SurveyFlats
