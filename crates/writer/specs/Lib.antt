@@ -4,3 +4,6 @@ pub mod Mapped
 pub mod Summed
 pub mod SlotSizes
 pub mod SurveyFlats
+pub mod SurveyParts
+pub mod Widths
+pub mod SurveyObjects
