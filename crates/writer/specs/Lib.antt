@@ -7,3 +7,4 @@ pub mod SurveyFlats
 pub mod SurveyParts
 pub mod Widths
 pub mod SurveyObjects
+pub mod Surveyed

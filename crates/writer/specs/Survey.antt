@@ -59,11 +59,15 @@ surveyFlat inner optional (Float w) xs = testNumber (8 * w) (floatFine optional 
 surveyFlat inner optional (Enumerated n) xs = testIf 8 (belowCount n) true xs
 surveyFlat inner optional (Struct i) xs = inner i xs
 
+-- an enum of a struct, with its mark
+unfoldable pub enumField : ℕ → List ℕ → Parsed Bool
+enumField n xs = surveyMark true (testIf 8 (unknownEnum n) false) (testIf 8 (belowCount n) true) xs
+
 unfoldable pub surveyField : (ℕ → List ℕ → Parsed Bool) → Flat → List ℕ → Parsed Bool
 surveyField inner Boolean xs = surveyFlat inner false Boolean xs
 surveyField inner (Integer s w) xs = surveyFlat inner false (Integer s w) xs
 surveyField inner (Float w) xs = surveyFlat inner false (Float w) xs
-surveyField inner (Enumerated n) xs = surveyMark true (testIf 8 (unknownEnum n) false) (surveyFlat inner false (Enumerated n)) xs
+surveyField inner (Enumerated n) xs = enumField n xs
 surveyField inner (Struct i) xs = surveyFlat inner false (Struct i) xs
 
 -- `fine`: the members before can be written

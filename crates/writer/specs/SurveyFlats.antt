@@ -13,7 +13,7 @@ use Rattle.coding.specs.declared.Flat.{Flat}
 use Rattle.coding.specs.declared.Flat.the-variants.{Boolean, Integer, Float, Enumerated, Struct}
 use Rattle.laws.specs.Sound.{All, FlatSound, Sound}
 use Rattle.laws.specs.Structs.{index-holds₃}
-use Rattle.writer.specs.Survey.{testNumber, testIf, surveyMark, anyNumber, floatFine, belowCount, surveyFlat, surveyField, surveyFields, surveyBy, surveyNothing, surveyStruct, surveyLostFlat}
+use Rattle.writer.specs.Survey.{testNumber, testIf, surveyMark, anyNumber, floatFine, belowCount, surveyFlat, enumField, surveyField, surveyFields, surveyBy, surveyNothing, surveyStruct, surveyLostFlat}
 use Rattle.writer.specs.Mapped.{mapped, Has, mapped-same, bind-mapped, bind-has, seq, mark-mapped}
 
 -- a value that is there
@@ -56,7 +56,7 @@ pub record StructSurveyed (survey : List ℕ → Parsed Bool) (take : List ℕ �
 module _ (S : Schema) (i : ℕ) (survey : ℕ → List ℕ → Parsed Bool) (take : ℕ → List ℕ → Parsed Value) (fine : ℕ → Value → Bool)
     (inner : (j : ℕ) → j < i → StructSurveyed (survey j) (take j) (fine j)) where
   field-surveyed : (k : Flat) → FlatSound i k → (xs : List ℕ) → surveyField survey k xs ≡ mapped (flatKnown fine k) (takeField take k xs)
-  unfolding surveyField surveyFlat takeField takeFlat flatKnown floatFine known takeLostEnum takeEnum
+  unfolding surveyField surveyFlat enumField takeField takeFlat flatKnown floatFine known takeLostEnum takeEnum
   field-surveyed Boolean ok xs = number-tested _ 1 anyNumber (λ x. refl) xs
   field-surveyed (Integer s w) ok xs = number-tested _ (8 * w) anyNumber (λ x. refl) xs
   field-surveyed (Float w) ok xs = number-tested _ (8 * w) (floatFine false w) (λ x. refl) xs
