@@ -26,9 +26,14 @@ pub record TestedAt (s : List ℕ) (p : Parsed Bool) (whole fine : Bool) (next :
 -- numbers that fit
 pub record Small (e : Extent) : Type 0 where
   pub length : e .length < 2 ^ 40
-  pub width : e .width < 2 ^ 40
+  pub width : e .width < 2 ^ 48
   pub chain : e .chain ≤ 16777216
   pub below : e .below ≤ 16777216
+
+-- r is the extent x, and its numbers fit
+pub record Fits (x r : Extent) : Type 0 where
+  pub is : r ≡ x
+  pub small : Small r
 
 pub record SurveyedAt (s : List ℕ) (p : Parsed Extent) (whole : Bool) (e : Extent) (next : ℕ) : Type 0 where
   pub is : p ≡ pick whole (got e (drop next (bits s))) fail
