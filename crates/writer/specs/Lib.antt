@@ -8,3 +8,7 @@ pub mod SurveyParts
 pub mod Widths
 pub mod SurveyObjects
 pub mod Surveyed
+pub mod Emit
+pub mod Stores
+pub mod CellLengths
+pub mod EmitLayout
