@@ -12,3 +12,5 @@ pub mod Emit
 pub mod Stores
 pub mod CellLengths
 pub mod EmitLayout
+pub mod EmitSheet
+pub mod EmitFlats
