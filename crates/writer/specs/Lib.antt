@@ -14,3 +14,4 @@ pub mod CellLengths
 pub mod EmitLayout
 pub mod EmitSheet
 pub mod EmitFlats
+pub mod EmitParts
