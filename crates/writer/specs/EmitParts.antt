@@ -98,7 +98,7 @@ module _ (o : ℕ) (S : Schema) (sound : Sound S) (child : Emitter) (measure : S
     (measured : (ob : Object) (xs : List ℕ) → ObjectSurveyed o S sound measure decoder P test ob xs)
     (inner : (ob : Object) (st : State) (xs : List ℕ) → child ob st xs ≡ mapped (λ v. emitSlots o st (P ob v)) (decoder ob xs)) where
   -- ---- an object, by offset or in place
-  refer-emitted : (inplace : Bool) (ob : Object) (st : State) (xs : List ℕ)
+  pub refer-emitted : (inplace : Bool) (ob : Object) (st : State) (xs : List ℕ)
       → emitRefer child measure o S inplace ob st xs ≡ mapped (λ v. emitSlots o st (referSlots P o S inplace ob v end)) (decoder ob xs)
   unfolding emitRefer emitContentAt emitObject openObject putNumber referSlots objectSlots emitSlots bind width chain packBits
   refer-emitted inplace ob st xs = by (decoder ob xs) (measured ob xs .is) (λ st′. inner ob st′ xs)

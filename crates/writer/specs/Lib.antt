@@ -15,3 +15,4 @@ pub mod EmitLayout
 pub mod EmitSheet
 pub mod EmitFlats
 pub mod EmitParts
+pub mod WriteLaws

@@ -155,7 +155,7 @@ module _ (o : ℕ) (S : Schema) (sound : Sound S) where
       summed (writable d o S ob v) (lengthOf o S ob v) (width o (packBits 0 (plan d o S ob v)))
       (chain o (packBits 0 (plan d o S ob v))) (below o (packBits 0 (plan d o S ob v)))
 
-  object-surveyed : (d : ℕ) (ob : Object) (xs : List ℕ) → ObjectSurveyed o S sound (survey d o S) (decode d S) (plan d o S) (writable d o S) ob xs
+  pub object-surveyed : (d : ℕ) (ob : Object) (xs : List ℕ) → ObjectSurveyed o S sound (survey d o S) (decode d S) (plan d o S) (writable d o S) ob xs
   unfolding survey decode plan writable
   object-surveyed zero ob xs = record { is = refl; there = tt }
   object-surveyed (suc d) ob xs =
