@@ -39,16 +39,18 @@ putBitAt x (suc f) st =
 unfoldable pub putBit : ℕ → State → State
 putBit x st = putBitAt x (st .free) st
 
--- an object of w bytes with c bytes in place behind it; and back where it is referred to
+-- an object of w bytes with c bytes in place behind it; and back where it is referred to. Places count to one past the size.
 unfoldable pub enterObject : ℕ → ℕ → State → State
-enterObject w c st = record { at = st .next; last = 0; free = 0; tail = st .next + w; next = st .next + w + c; out = st .out }
+enterObject w c st =
+    record { at = st .next; last = 0; free = 0; tail = capped (st .next + w); next = capped (st .next + w + c); out = st .out }
 
 unfoldable pub leaveObject : State → State → State
 leaveObject st inner = record { at = st .at; last = st .last; free = st .free; tail = st .tail; next = inner .next; out = inner .out }
 
 -- a content of w bytes in place; and back where its length stands
 unfoldable pub enterContent : ℕ → State → State
-enterContent w st = record { at = st .tail; last = 0; free = 0; tail = st .tail + w; next = st .next; out = st .out }
+enterContent w st =
+    record { at = st .tail; last = 0; free = 0; tail = capped (st .tail + w); next = st .next; out = st .out }
 
 unfoldable pub leaveContent : State → State → State
 leaveContent st inner = record { at = st .at; last = st .last; free = st .free; tail = inner .tail; next = inner .next; out = inner .out }

@@ -292,10 +292,12 @@ module _ (o : ℕ) where
       let m1 = sets m p (leBytes o s) in
       let l1 = length-sets m p (leBytes o s) in
       let cap : capped c ≡ c = capped-in c (omega arith) in
-      let deep = emitSlots o (state s 0 0 (s + w) (s + w + capped c) m1) k in
-      let h0 = emitted s 0 0 (s + w) (s + w + capped c) m1 k (omega arith) tt (omega arith) (omega arith) (omega arith) in
-      let z : s + w + capped c ≡ s + (w + c) = omega arith in
-      let hk = subst (λ (n : ℕ). Done m1 (deep .out) s 0 0 (s + w) n k) z (h0 .done) in
+      let capw : capped (s + w) ≡ s + w = capped-in (s + w) (omega arith) in
+      let capn : capped (s + w + capped c) ≡ s + w + capped c = capped-in (s + w + capped c) (omega arith) in
+      let deep = emitSlots o (state s 0 0 (capped (s + w)) (capped (s + w + capped c)) m1) k in
+      let h0 = emitted s 0 0 (capped (s + w)) (capped (s + w + capped c)) m1 k (omega arith) tt (omega arith) (omega arith) (omega arith) in
+      let z : capped (s + w + capped c) ≡ s + (w + c) = omega arith in
+      let hk = subst (λ (n : ℕ). Done m1 (deep .out) s 0 0 (s + w) n k) z (subst (λ (n : ℕ). Done m1 (deep .out) s 0 0 n (capped (s + w + capped c)) k) capw (h0 .done)) in
       let lk = hk .len in
       let hn = h0 .next in
       let er : deep .next ≡ r = omega arith in
@@ -308,17 +310,19 @@ module _ (o : ℕ) where
       let kc = packBits 0 k in
       let w = width o kc in
       let c = chain o kc in
-      let deep = emitSlots o (state e 0 0 (e + w) s m) k in
-      let hk = emitted e 0 0 (e + w) s m k big tt (omega arith) (omega arith) (omega arith) in
+      let capw : capped (e + w) ≡ e + w = capped-in (e + w) (omega arith) in
+      let deep = emitSlots o (state e 0 0 (capped (e + w)) s m) k in
+      let hk = emitted e 0 0 (capped (e + w)) s m k big tt (omega arith) (omega arith) (omega arith) in
       let lk = hk .done .len in
-      let ht = hk .tail in
+      let ht : deep .tail ≡ e + w + c = omega (arith, hk .tail) in
       let hn = hk .next in
+      let hj = subst (λ (n : ℕ). Done m (deep .out) e 0 0 n s k) capw (hk .done) in
       let hc = emitted p l f (deep .tail) (deep .next) (deep .out) t (omega arith) ok (omega arith) (omega arith) (omega arith) in
       let last = emitSlots o (state p l f (deep .tail) (deep .next) (deep .out)) t in
       let hd = subst (λ (n : ℕ). Done (deep .out) (last .out) p l f (e + w + c) n t) hn (subst (λ (n : ℕ). Done (deep .out) (last .out) p l f n (deep .next) t) ht (hc .done)) in
       let xt = hc .tail in
       let xn = hc .next in
-      record { done = done-inPlace m (deep .out) (last .out) p l f e s k t ok a b d (hk .done) hd; tail = omega arith; next = omega arith }
+      record { done = done-inPlace m (deep .out) (last .out) p l f e s k t ok a b d hj hd; tail = omega arith; next = omega arith }
 
   -- what the pass leaves in a buffer as long as the message is the message
   pub emit-layout : (m : List ℕ) (t : Slots) → length m ≡ length (layout o (packBits 0 t)) → length m ≤ largest
