@@ -29,7 +29,7 @@ use Rattle.writer.specs.EmitSheet.{putByte, putNumber, emitNumber, emitI
 -- ---- runs of bytes
 pub put-none : (st : State) → putBytes [] st ≡ st
 unfolding putBytes
-put-none st = ap (λ (n : ℕ). record { at = n; last = st .last; free = st .free; tail = st .tail; next = st .next; out = st .out }) (add-zero (st .at))
+put-none st = ap (λ (n : ℕ). record { at = n; last = st .last; free = st .free; held = st .held; tail = st .tail; next = st .next; out = st .out }) (add-zero (st .at))
 
 sets-append : (m : List ℕ) (p : ℕ) (a b : List ℕ) → sets m p (a ++ b) ≡ sets (sets m p a) (p + length a) b
 sets-append m p [] b = ap (λ (n : ℕ). sets m n b) (sym (add-zero p))
@@ -41,7 +41,7 @@ pub put-append : (a b : List ℕ) (st : State) → putBytes b (putBytes a st) �
 unfolding putBytes
 put-append a b st =
     let e : st .at + length a + length b ≡ st .at + length (a ++ b) = omega (arith, length-append a b) in
-    ap₂ (λ (n : ℕ) (m : List ℕ). record { at = n; last = st .last; free = st .free; tail = st .tail; next = st .next; out = m }) e
+    ap₂ (λ (n : ℕ) (m : List ℕ). record { at = n; last = st .last; free = st .free; held = st .held; tail = st .tail; next = st .next; out = m }) e
     (sym (sets-append (st .out) (st .at) a b))
 
 -- ---- numbers

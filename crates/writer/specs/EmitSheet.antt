@@ -173,4 +173,4 @@ emit (suc d) o S ob st xs = emitContent (emit d o S) (survey d o S) o S ob st xs
 unfoldable pub emitMessage : ℕ → Schema → List ℕ → List ℕ → Parsed State
 emitMessage o S out xs =
     emitRefer (emit deepest o S) (survey deepest o S) o S false (O.Table (S .root))
-    (putNumber 4 0xB5C0_C4B3 (record { at = 0; last = 0; free = 0; tail = headerSize o; next = headerSize o; out = out })) xs
+    (putNumber 4 0xB5C0_C4B3 (record { at = 0; last = 0; free = 0; held = 0; tail = headerSize o; next = headerSize o; out = out })) xs

@@ -72,7 +72,7 @@ module _ (o : ℕ) (S : Schema) (sound : Sound S) where
   messageSlots v = bytes (leBytes 4 0xB5C0_C4B3) (reference (objectSlots (plan deepest o S) o S (O.Table (S .root)) v) end)
 
   messageState : List ℕ → State
-  messageState out = state o 0 0 0 (headerSize o) (headerSize o) out
+  messageState out = state o 0 0 0 0 (headerSize o) (headerSize o) out
 
   message-is : (out xs : List ℕ)
       → emitMessage o S out xs ≡ mapped (λ v. emitSlots o (messageState out) (messageSlots v)) (decode deepest S (O.Table (S .root)) xs)
@@ -152,7 +152,7 @@ module _ (o : ℕ) (S : Schema) (sound : Sound S) where
         let w = slots-width in
         let c = slots-chain in
         let n : width o p + chain o p ≡ headerSize o = omega arith in
-        ap₂ (λ (i j : ℕ). emitSlots o (state o 0 0 0 i j out) (messageSlots v) .out) (sym w) (sym n)
+        ap₂ (λ (i j : ℕ). emitSlots o (state o 0 0 0 0 i j out) (messageSlots v) .out) (sym w) (sym n)
         ∙ emit-layout o out (messageSlots v) (e ∙ sym message-length) (omega arith)
 
 -- ---- the answers, each over the whole sheet
