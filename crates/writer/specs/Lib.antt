@@ -16,3 +16,4 @@ pub mod EmitSheet
 pub mod EmitFlats
 pub mod EmitParts
 pub mod WriteLaws
+pub mod Emitting

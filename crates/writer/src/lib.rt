@@ -4,10 +4,11 @@ use coding::Kind;
 use coding::Object;
 ghost use mathlib.Core.Path.{_≡_};
 ghost use mathlib.Core.Bool.{Bool, true, false, _&&_};
-ghost use Prim.Native.Nat.{ℕ, _+_, _-_, _*_, _<_, _≤_, _^_};
-ghost use lib.ListN.{length, drop};
+ghost use Prim.Native.Nat.{ℕ, _+_, _-_, _*_, _%_, _<_, _≤_, _^_};
+ghost use lib.ListN.{length, take, drop, set, replicate};
+ghost use lib.Seq.{sets};
 ghost use Rattle.coding.specs.Bytes as B;
-ghost use Rattle.coding.specs.Bits.{bits};
+ghost use Rattle.coding.specs.Bits.{bits, value, pack};
 ghost use Rattle.coding.specs.Packed as P;
 ghost use Rattle.coding.specs.Sheet as Sh;
 ghost use Rattle.coding.specs.Layout as L;
@@ -18,6 +19,8 @@ ghost use lib.Dec.{ltb};
 ghost use Rattle.laws.specs.Sound.{FlatSound, ObjectSound, KindSound};
 ghost use Rattle.schema.specs.Directory.{Accepted};
 ghost use Rattle.writer.specs.Survey as Sv;
+ghost use Rattle.writer.specs.Emit as Em;
+ghost use Rattle.writer.specs.Emitting.{stateOf, HeldOk, BitPut};
 ghost use Rattle.writer.specs.Surveyed.{TestedAt, Small, Fits, SurveyedAt};
 
 // What an object of the sheet takes: whether it can be written; the length that its header gives; the bytes of its content,
@@ -660,5 +663,125 @@ fn object(b: &[u8], dir: &[u16], s: &[u8], d: usize, ob: Object, pos: usize) -> 
         Object::Bytes => blob(s, pos, 0),
         Object::List(i) => list(b, dir, s, d - 1, wire::index(i), pos),
         Object::Table(t) => table(b, dir, s, d - 1, wire::index(t), pos),
+    }
+}
+
+// ---- stores into the message; what lies past the buffer is not stored
+fn low_byte(x: u64) -> u8
+    ensures { λ r. ⌜ r ≡ x % 256 ⌝ }
+{
+    (x & 255) as u8
+}
+
+fn store_byte(out: &mut [u8], i: usize, x: u8)
+    ensures { λ _. ⌜ now (out .exit) ≡ set (now (out .entry)) i x ⌝ }
+{
+    if i < out.len() {
+        out[i] = x;
+    }
+}
+
+// The w bytes of a number, lowest first.
+fn store_number(out: &mut [u8], at: usize, w: usize, x: u64)
+    requires { ⌜ (at < 2 ^ 61) × (w ≤ 8) ⌝ }
+    ensures { λ _. ⌜ now (out .exit) ≡ sets (now (out .entry)) at (B.leBytes w x) ⌝ }
+{
+    let mut i = at;
+    let mut left = w;
+    let mut v = x;
+    while 0 < left {
+        store_byte(out, i, low_byte(v));
+        i += 1;
+        left -= 1;
+        v = v >> 8;
+    }
+}
+
+fn store_zeros(out: &mut [u8], at: usize, n: usize)
+    requires { ⌜ (at < 2 ^ 61) × (n < 2 ^ 40) ⌝ }
+    ensures { λ _. ⌜ now (out .exit) ≡ sets (now (out .entry)) at (replicate n 0) ⌝ }
+{
+    let mut i = at;
+    let mut left = n;
+    while 0 < left {
+        store_byte(out, i, 0);
+        i += 1;
+        left -= 1;
+    }
+}
+
+// The byte of the sheet at a bit.
+fn sheet_byte(s: &[u8], pos: usize) -> u8
+    requires { ⌜ (length (now s) ≤ 16777215) × (pos + 8 ≤ 8 * length (now s)) ⌝ }
+    ensures { λ r. ⌜ r ≡ value (take 8 (drop pos (bits (now (s .entry))))) ⌝ }
+{
+    bitio::get(s, pos, 8) as u8
+}
+
+// n bytes of the sheet.
+fn store_copy(s: &[u8], pos: usize, out: &mut [u8], at: usize, n: usize)
+    requires { ⌜ (length (now s) ≤ 16777215) × (pos + 8 * n ≤ 8 * length (now s)) × (at < 2 ^ 61) ⌝ }
+    ensures { λ _. ⌜ now (out .exit) ≡ sets (now (out .entry)) at (pack n (drop pos (bits (now (s .entry))))) ⌝ }
+{
+    let mut p = pos;
+    let mut i = at;
+    let mut left = n;
+    while 0 < left {
+        store_byte(out, i, sheet_byte(s, p));
+        p += 8;
+        i += 1;
+        left -= 1;
+    }
+}
+
+// Where the message goes on: the next byte of the present sequence; its last bool byte, how many bits are free there, and
+// what the byte holds so far; where the next content in place starts, and where the next object does.
+pub struct Places {
+    pub at: usize,
+    pub last: usize,
+    pub free: usize,
+    pub held: usize,
+    pub tail: usize,
+    pub next: usize,
+}
+
+// A bit at its place in a bool byte.
+fn bit_at(x: usize, k: usize) -> usize
+    requires { ⌜ (x < 2) × (k < 8) ⌝ }
+    ensures { λ r. ⌜ (r ≡ x * 2 ^ k) × (r ≤ 2 ^ k) ⌝ }
+{
+    x << k
+}
+
+// A bit into a new byte, or into the last bool byte.
+fn put_bit(out: &mut [u8], c: Places, x: usize) -> Places
+    requires { ⌜ (x < 2) × HeldOk c × (c .at < 2 ^ 61) ⌝ }
+    ensures { λ r. ⌜ BitPut (Em.putBit x (stateOf c (now (out .entry)))) (stateOf r (now (out .exit))) c r ⌝ }
+{
+    let at = c.at;
+    let last = c.last;
+    let free = c.free;
+    let tail = c.tail;
+    let next = c.next;
+    if free == 0 {
+        store_byte(out, at, x as u8);
+        return Places {
+            at: at + 1,
+            last: at,
+            free: 7,
+            held: x,
+            tail: tail,
+            next: next,
+        };
+    }
+    let held = c.held + bit_at(x, 8 - free);
+    store_byte(out, last, held as u8);
+    Places {
+        at: at,
+        last: last,
+        free: free - 1,
+        held: held,
+        tail: tail,
+        next: next,
     }
 }
