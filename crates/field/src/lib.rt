@@ -610,7 +610,7 @@ pub fn reader_start(b: &[u8], m: &[u8], path: &[u32]) -> Found
 }
 
 // The answer of the step at element j of the list that was found.
-pub fn reader_step(b: &[u8], dir: &[u16], m: &[u8], list: Found, j: usize) -> Answer
+fn reader_step(b: &[u8], dir: &[u16], m: &[u8], list: Found, j: usize) -> Answer
     requires { ⌜ (Accepted (now b) (now dir)) × (Readable (now m)) × (FoundWithin (P.parse (now b)) (now m) list) ⌝ }
     ensures { λ r. ⌜ r ≡ F.answerOf (F.partOf B.u48 (P.parse (now (b .entry))) (now (m .entry)) list j) ⌝ }
 {

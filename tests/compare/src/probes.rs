@@ -7,13 +7,12 @@ use crate::message_gen;
 use crate::paths;
 use crate::program::{Answer, Program, Verdict};
 use crate::rng::Rng;
-use crate::schema::{Schema, DEPTH_LIMIT, SIZE_LIMIT};
+use crate::schema::{Schema, SIZE_LIMIT};
 use crate::schema_faults;
-use crate::schema_gen;
 use crate::sheet;
 use crate::sheet_faults;
+use crate::subjects;
 use crate::value::{objects, Value};
-use crate::value_gen::{self, Purpose, Size};
 
 /// What is asked of a program about a schema and a message or a sheet.
 #[derive(Clone, Debug)]
@@ -67,8 +66,8 @@ impl Probe {
 
 /// Probes of one random schema and value.
 pub fn random_probes(rng: &mut Rng) -> Vec<Probe> {
-    let schema = some_schema(rng);
-    let value = some_value(rng, &schema);
+    let schema = subjects::some_schema(rng, 12);
+    let value = subjects::some_value(rng, &schema, 20);
     let packed = match rng.below(20) {
         0 => schema_faults::damaged(rng, &schema.pack()),
         1 => {
@@ -100,28 +99,6 @@ pub fn random_probes(rng: &mut Rng) -> Vec<Probe> {
         });
     }
     probes
-}
-
-fn some_schema(rng: &mut Rng) -> Schema {
-    if rng.one_in(12) {
-        schema_gen::recursive(rng)
-    } else {
-        schema_gen::lawful_schema(rng)
-    }
-}
-
-fn some_value(rng: &mut Rng, schema: &Schema) -> Value {
-    let mut size = value_gen::some_size(rng);
-    if rng.one_in(20) {
-        let depth = DEPTH_LIMIT + rng.range(0, 2) as u32;
-        size = Size {
-            objects: size.objects,
-            depth,
-            spine: depth,
-        };
-    }
-    let purpose = rng.pick(&[Purpose::Writable, Purpose::Wild, Purpose::Wild]);
-    value_gen::root_value(schema, rng, purpose, size)
 }
 
 /// Messages near a value, with budgets that walk them to the end or nearly.

@@ -66,8 +66,8 @@ struct Maker {
 
 /// The subjects of one random schema and value.
 pub fn of_round(rng: &mut Rng) -> Vec<Subject> {
-    let schema = some_schema(rng);
-    let value = some_value(rng, &schema);
+    let schema = some_schema(rng, 10);
+    let value = some_value(rng, &schema, 12);
     let mut maker = Maker {
         packed: schema.pack(),
         schema,
@@ -80,18 +80,19 @@ pub fn of_round(rng: &mut Rng) -> Vec<Subject> {
     maker.subjects
 }
 
-fn some_schema(rng: &mut Rng) -> Schema {
-    if rng.one_in(10) {
+/// A lawful schema; once in `recursive` times one whose tables lead back to themselves.
+pub fn some_schema(rng: &mut Rng, recursive: usize) -> Schema {
+    if rng.one_in(recursive) {
         schema_gen::recursive(rng)
     } else {
         schema_gen::lawful_schema(rng)
     }
 }
 
-/// A value; now and then one that is as deep as may be, or too deep.
-fn some_value(rng: &mut Rng, schema: &Schema) -> Value {
+/// A value; once in `deep` times one that is as deep as may be, or too deep.
+pub fn some_value(rng: &mut Rng, schema: &Schema, deep: usize) -> Value {
     let mut size = value_gen::some_size(rng);
-    if rng.one_in(12) {
+    if rng.one_in(deep) {
         let depth = DEPTH_LIMIT + rng.range(0, 2) as u32;
         size = Size {
             objects: size.objects,
@@ -185,7 +186,7 @@ impl Maker {
     fn other_schemas(&mut self, rng: &mut Rng) {
         let message = self.earlier(rng);
         let newer = append_gen::newer(rng, &self.schema);
-        let value = some_value(rng, &newer);
+        let value = some_value(rng, &newer, 12);
         let by_older = message_gen::lay_out(&newer, rng, value, None).bytes;
         self.add(Sort::OtherSchema, by_older);
         let other = if rng.coin() {
