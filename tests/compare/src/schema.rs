@@ -261,3 +261,15 @@ impl Schema {
             })
     }
 }
+
+/// A schema of one table, which has the one member.
+pub fn root_with(member: Record) -> Schema {
+    let table = Table {
+        id: 0x5EA7_0001,
+        members: vec![member],
+    };
+    Schema {
+        tables: vec![table],
+        ..Schema::default()
+    }
+}

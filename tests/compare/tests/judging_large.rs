@@ -8,17 +8,6 @@ use compare::schema::*;
 use compare::subjects::{Sort, Subject};
 use compare::value::Value;
 
-fn root_with(member: Record) -> Schema {
-    let table = Table {
-        id: 0x5EA7_0001,
-        members: vec![member],
-    };
-    Schema {
-        tables: vec![table],
-        ..Schema::default()
-    }
-}
-
 /// What both judges answer.
 fn judged(schema: &Schema, message: &[u8], budget: u32) -> (u32, u64, u32) {
     let subject = Subject {

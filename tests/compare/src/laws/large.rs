@@ -6,17 +6,6 @@ use crate::schema::*;
 use crate::sheet;
 use crate::value::Value;
 
-fn root_with(member: Record) -> Schema {
-    let table = Table {
-        id: 0x5EA7_0001,
-        members: vec![member],
-    };
-    Schema {
-        tables: vec![table],
-        ..Schema::default()
-    }
-}
-
 /// Runs the large cases once.
 pub fn run<P: Program + Relations>(program: &P, counts: &mut Counts) -> Result<(), String> {
     let mut context = Context {
