@@ -2,7 +2,10 @@
 use coding::Budget;
 ghost use mathlib.Core.Path.{_≡_};
 ghost use Rattle.coding.specs.Bytes as B;
+ghost use Rattle.coding.specs.Field as F;
+ghost use Rattle.coding.specs.Message as M;
 ghost use Rattle.coding.specs.Walk as W;
+ghost use Rattle.field.specs.Cases as C;
 
 // Judges a message by a packed schema: answers the number, and stores place and visits.
 #[no_mangle]
@@ -21,4 +24,51 @@ pub extern "C" fn scalgo_judge(
     *place = v.place as u64;
     *visits = v.visits;
     v.number as u32
+}
+
+// One field's answer at a path: answers its case, and stores the case's three numbers.
+#[no_mangle]
+pub extern "C" fn scalgo_field(
+    schema: &[u8],
+    message: &[u8],
+    path: &[u32],
+    a: &mut u64,
+    b: &mut u64,
+    c: &mut u64,
+) -> u32
+    ensures { λ r. ⌜ r ≡ C.caseOf (F.field B.u48 (now (schema .entry)) (now (message .entry)) (now (path .entry))) .case ⌝ }
+    ensures { λ _. ⌜ now (a .exit) ≡ C.caseOf (F.field B.u48 (now (schema .entry)) (now (message .entry)) (now (path .entry))) .a ⌝ }
+    ensures { λ _. ⌜ now (b .exit) ≡ C.caseOf (F.field B.u48 (now (schema .entry)) (now (message .entry)) (now (path .entry))) .b ⌝ }
+    ensures { λ _. ⌜ now (c .exit) ≡ C.caseOf (F.field B.u48 (now (schema .entry)) (now (message .entry)) (now (path .entry))) .c ⌝ }
+{
+    let answer = field::case_of(field::field(schema, message, path));
+    *a = answer.a;
+    *b = answer.b;
+    *c = answer.c;
+    answer.case
+}
+
+// Reads a message to its value sheet: answers the number, and stores place, visits and the sheet's length.
+#[no_mangle]
+pub extern "C" fn scalgo_read(
+    schema: &[u8],
+    message: &[u8],
+    budget: u32,
+    sheet: &mut [u8],
+    place: &mut u64,
+    visits: &mut u32,
+    length: &mut u64,
+) -> u32
+    ensures { λ r. ⌜ r ≡ M.readAnswer B.u48 (now (schema .entry)) (now (message .entry)) (record { visits = budget }) (now (sheet .entry)) .verdict .number ⌝ }
+    ensures { λ _. ⌜ now (place .exit) ≡ M.readAnswer B.u48 (now (schema .entry)) (now (message .entry)) (record { visits = budget }) (now (sheet .entry)) .verdict .place ⌝ }
+    ensures { λ _. ⌜ now (visits .exit) ≡ M.readAnswer B.u48 (now (schema .entry)) (now (message .entry)) (record { visits = budget }) (now (sheet .entry)) .verdict .visits ⌝ }
+    ensures { λ _. ⌜ now (length .exit) ≡ M.readAnswer B.u48 (now (schema .entry)) (now (message .entry)) (record { visits = budget }) (now (sheet .entry)) .length ⌝ }
+    ensures { λ _. ⌜ now (sheet .exit) ≡ M.readOut B.u48 (now (schema .entry)) (now (message .entry)) (record { visits = budget }) (now (sheet .entry)) ⌝ }
+{
+    let answer = sheet::read(schema, message, Budget { visits: budget }, sheet);
+    let verdict = answer.verdict;
+    *place = verdict.place as u64;
+    *visits = verdict.visits;
+    *length = answer.length as u64;
+    verdict.number as u32
 }
