@@ -1,6 +1,6 @@
 //! Times the library and the second program on the same messages, in one process and in turn, and
 //! measures the stack that each uses at the greatest depth. `--quick` takes few samples; `--tasks`
-//! times all but judging.
+//! times all but judging, and `--spin NAME` runs one of those for a profiler.
 //!
 //! It fails where a verdict is not the expected one or the two programs differ.
 
@@ -16,6 +16,7 @@ use cases::{Case, CASES};
 use reference::Verdict;
 use std::hint::black_box;
 use std::process::ExitCode;
+use std::time::{Duration, Instant};
 use tasks::{Task, SUMMED, TASKS};
 use timing::Plan;
 
@@ -181,30 +182,54 @@ fn stacks() -> bool {
     sound
 }
 
+/// Runs the library's side of one task for some seconds, for a profiler.
+fn spin(name: &str) -> bool {
+    let found = TASKS
+        .iter()
+        .map(|build| build())
+        .find(|task| task.name.contains(name));
+    let Some(task) = found else {
+        return false;
+    };
+    SUMMED.with_borrow_mut(|summed| *summed = false);
+    let began = Instant::now();
+    while began.elapsed() < Duration::from_secs(3) {
+        black_box((task.ours)());
+    }
+    true
+}
+
+const USAGE: &str = "usage: bench [--quick] [--tasks]
+       bench --spin NAME";
+
 fn main() -> ExitCode {
     let arguments: Vec<String> = std::env::args().skip(1).collect();
-    let given = |name: &str| arguments.iter().any(|word| word == name);
-    let known = ["--quick", "--tasks"];
-    if !arguments.iter().all(|word| known.contains(&word.as_str())) {
-        eprintln!("usage: bench [--quick] [--tasks]");
-        return ExitCode::from(2);
-    }
-    let plan = match given("--quick") {
-        true => Plan::quick(),
-        false => Plan::full(),
+    let words: Vec<&str> = arguments.iter().map(String::as_str).collect();
+    let full = Plan::full();
+    let sound = match words.as_slice() {
+        [] => all(&full),
+        ["--quick"] => all(&Plan::quick()),
+        ["--tasks"] => time_tasks(&full),
+        ["--quick", "--tasks"] => time_tasks(&Plan::quick()),
+        ["--spin", name] => spin(name),
+        _ => {
+            eprintln!("{USAGE}");
+            return ExitCode::from(2);
+        }
     };
-    let mut sound = true;
-    if !given("--tasks") {
-        sound &= times(&plan);
-        println!();
-        sound &= stacks();
-        println!();
-    }
-    sound &= time_tasks(&plan);
     match sound {
         true => ExitCode::SUCCESS,
         false => ExitCode::FAILURE,
     }
+}
+
+fn all(plan: &Plan) -> bool {
+    let timed = times(plan);
+    println!();
+    let measured = stacks();
+    println!();
+    let worked = time_tasks(plan);
+    timed && measured && worked
 }
 
 #[cfg(test)]
