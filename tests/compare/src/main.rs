@@ -4,7 +4,8 @@
 //! `--library` on the proved library, or one case of a run with `--case K`.
 //! `compare judge --cases N --seed S` judges N messages with the proved library
 //! and the second program side by side, or those of one round of a run with
-//! `--round K`. `compare fields`, `reads` and `writes` put N calls to both.
+//! `--round K`. `compare fields`, `reads` and `writes` put N calls to both, and
+//! `compare all` does each of these with N, and the laws on the library.
 //! `compare cases FOLDER` writes the stored cases into the folder of their
 //! crate, and `compare names` says what each of them is.
 
@@ -20,7 +21,7 @@ use std::process::ExitCode;
 
 const USAGE: &str = "usage: compare laws [--library] [--cases N] [--seed S] [--case K]
        compare judge [--cases N] [--seed S] [--round K]
-       compare fields|reads|writes [--cases N] [--seed S]
+       compare fields|reads|writes|all [--cases N] [--seed S]
        compare cases FOLDER
        compare names";
 
@@ -73,6 +74,26 @@ fn run_calls(arguments: &[String]) -> Result<String, String> {
     Ok(counts.to_string())
 }
 
+/// Every side by side with so many calls each, and the laws on the library with
+/// a tenth of as many cases.
+fn run_all(arguments: &[String]) -> Result<String, String> {
+    let calls = number_after(arguments, "--cases").unwrap_or(200_000);
+    let seed = number_after(arguments, "--seed").unwrap_or(1);
+    let programs = Programs {
+        program: &Library,
+        relations: &Second,
+    };
+    let mut seen = vec![
+        judging::run(&Library, &Second, seed, calls)?.to_string(),
+        fields::run(&LibraryCalls, &SecondCalls, seed, calls)?.to_string(),
+        reads::run(&LibraryCalls, &SecondCalls, seed, calls)?.to_string(),
+    ];
+    #[cfg(feature = "write")]
+    seen.push(compare::calls::writes::run(&LibraryCalls, &SecondCalls, seed, calls)?.to_string());
+    seen.push(laws::run(&programs, seed, calls / 10)?.to_string());
+    Ok(seen.join("\n"))
+}
+
 fn write_cases(arguments: &[String]) -> Result<String, String> {
     let folder = arguments.get(1).ok_or(USAGE)?;
     match stored::write(Path::new(folder)) {
@@ -87,6 +108,7 @@ fn main() -> ExitCode {
         Some("laws") => run_laws(&arguments),
         Some("judge") => run_judges(&arguments),
         Some("fields" | "reads" | "writes") => run_calls(&arguments),
+        Some("all") => run_all(&arguments),
         Some("cases") => write_cases(&arguments),
         Some("names") => Ok(stored::names(&stored::cases())),
         _ => {

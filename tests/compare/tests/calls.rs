@@ -1,8 +1,8 @@
 //! The library's C interface and the second program side by side: the numbers
 //! of every call, and every output before and after it.
 //!
-//! A longer run: `compare fields --cases 10000000 --seed S`, and the same with
-//! `reads` and `writes`.
+//! A longer run: `compare all --cases 10000000 --seed S`, or `fields`, `reads`
+//! or `writes` alone.
 
 use compare::calls::{fields, reads, LibraryCalls, SecondCalls};
 use compare::counts::Counts;
