@@ -163,7 +163,10 @@ fn time_tasks(plan: &Plan) -> bool {
 
 fn stacks() -> bool {
     println!("Bytes of stack touched by a message of 32 objects, each in the one before:");
-    println!("{:<46} {:>12} {:>12}", "objects", "ours", "reference");
+    println!(
+        "{:<46} {:>12} {:>12} {:>12} {:>12}",
+        "objects", "ours", "reference", "ours to sheet", "reference",
+    );
     let mut sound = true;
     for case in depth::cases() {
         if let Some(report) = fault(&case) {
@@ -171,13 +174,24 @@ fn stacks() -> bool {
             sound = false;
             continue;
         }
-        let ours = stack::touched(&|| {
-            black_box(ours(&case));
-        });
-        let second = stack::touched(&|| {
-            black_box(second(&case));
-        });
-        println!("{:<46} {ours:>12} {second:>12}", case.name);
+        let bytes = [
+            stack::touched(&|| {
+                black_box(ours(&case));
+            }),
+            stack::touched(&|| {
+                black_box(second(&case));
+            }),
+            stack::touched(&|| {
+                let mut sheet = vec![0; 1 << 16];
+                black_box(scalgo::read(&case.schema, &case.message, 100, &mut sheet));
+            }),
+            stack::touched(&|| {
+                black_box(reference::read(&case.schema, &case.message, 100, 1 << 16));
+            }),
+        ];
+        let [ours, second, sheet, second_sheet] = bytes;
+        let name = case.name;
+        println!("{name:<46} {ours:>12} {second:>12} {sheet:>12} {second_sheet:>12}");
     }
     sound
 }
