@@ -76,6 +76,34 @@ uint32_t scalgo_field(const uint8_t *schema, size_t schema_len,
                       const uint32_t *path, size_t path_len,
                       uint64_t *a, uint64_t *b, uint64_t *c);
 
+/* Says where a text or bytes stand: answers 1 where the path leads to such, and the part is
+ * message[*start .. *start + *length], all of it within the message; a text's end byte is not in
+ * it. Otherwise, a refusal among it, answers 0 with *start 0 and *length 0.
+ *
+ * path: as of scalgo_field.
+ */
+uint32_t scalgo_text(const uint8_t *schema, size_t schema_len,
+                     const uint8_t *message, size_t message_len,
+                     const uint32_t *path, size_t path_len,
+                     uint64_t *start, uint64_t *length);
+
+/* Reads many elements of a list of texts, bytes, lists, tables or unions: steps of a list reader
+ * that starts at element `from`. Answers how many elements the list has.
+ *
+ * path: as of scalgo_field, to the list.
+ * cases, cases_len: four numbers a step: what scalgo_field answers at the path of that element,
+ *         and its a, b and c. There are as many steps as there is room for, cases_len / 4; the
+ *         numbers left over, three at most, keep what they held.
+ *
+ * A step after the last element is refused by 15 at the list. Where there is no such list every
+ * step is refused: by the path's own refusal, or by 15 at 0 if it leads to anything else; and the
+ * answer is 0.
+ */
+uint64_t scalgo_list(const uint8_t *schema, size_t schema_len,
+                     const uint8_t *message, size_t message_len,
+                     const uint32_t *path, size_t path_len,
+                     uint64_t from, uint64_t *cases, size_t cases_len);
+
 /* Reads a message to its value sheet and answers 0 to 10 as scalgo_judge does, or 14.
  *
  * budget, *place, *visits: as of scalgo_judge; with 14 the place is 0 and the visits are those of

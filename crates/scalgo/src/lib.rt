@@ -1,11 +1,13 @@
 // The library's C interface: thin, no logic. include/scalgo.h declares it.
 use coding::Budget;
 ghost use mathlib.Core.Path.{_≡_};
+ghost use Prim.Native.Nat.{_+_, _≤_};
+ghost use lib.ListN as N;
 ghost use Rattle.coding.specs.Bytes as B;
 ghost use Rattle.coding.specs.Field as F;
+ghost use Rattle.coding.specs.Lists.{pick};
 ghost use Rattle.coding.specs.Message as M;
 ghost use Rattle.coding.specs.Walk as W;
-ghost use Rattle.field.specs.Cases as C;
 
 // Judges a message by a packed schema: answers the number, and stores place and visits.
 #[no_mangle]
@@ -36,16 +38,53 @@ pub extern "C" fn scalgo_field(
     b: &mut u64,
     c: &mut u64,
 ) -> u32
-    ensures { λ r. ⌜ r ≡ C.caseOf (F.field B.u48 (now (schema .entry)) (now (message .entry)) (now (path .entry))) .case ⌝ }
-    ensures { λ _. ⌜ now (a .exit) ≡ C.caseOf (F.field B.u48 (now (schema .entry)) (now (message .entry)) (now (path .entry))) .a ⌝ }
-    ensures { λ _. ⌜ now (b .exit) ≡ C.caseOf (F.field B.u48 (now (schema .entry)) (now (message .entry)) (now (path .entry))) .b ⌝ }
-    ensures { λ _. ⌜ now (c .exit) ≡ C.caseOf (F.field B.u48 (now (schema .entry)) (now (message .entry)) (now (path .entry))) .c ⌝ }
+    ensures { λ r. ⌜ r ≡ F.answerCase (F.field B.u48 (now (schema .entry)) (now (message .entry)) (now (path .entry))) .case ⌝ }
+    ensures { λ _. ⌜ now (a .exit) ≡ F.answerCase (F.field B.u48 (now (schema .entry)) (now (message .entry)) (now (path .entry))) .a ⌝ }
+    ensures { λ _. ⌜ now (b .exit) ≡ F.answerCase (F.field B.u48 (now (schema .entry)) (now (message .entry)) (now (path .entry))) .b ⌝ }
+    ensures { λ _. ⌜ now (c .exit) ≡ F.answerCase (F.field B.u48 (now (schema .entry)) (now (message .entry)) (now (path .entry))) .c ⌝ }
 {
     let answer = field::case_of(field::field(schema, message, path));
     *a = answer.a;
     *b = answer.b;
     *c = answer.c;
     answer.case
+}
+
+// Where the text or the bytes stand that a path leads to: answers 1 where it leads to such and 0 otherwise, and stores where the
+// part of the message starts and its length.
+#[no_mangle]
+pub extern "C" fn scalgo_text(
+    schema: &[u8],
+    message: &[u8],
+    path: &[u32],
+    start: &mut u64,
+    length: &mut u64,
+) -> u32
+    ensures { λ r. ⌜ r ≡ pick (F.fieldSpan B.u48 (now (schema .entry)) (now (message .entry)) (now (path .entry)) .there) 1 0 ⌝ }
+    ensures { λ _. ⌜ now (start .exit) ≡ F.fieldSpan B.u48 (now (schema .entry)) (now (message .entry)) (now (path .entry)) .start ⌝ }
+    ensures { λ _. ⌜ now (length .exit) ≡ F.fieldSpan B.u48 (now (schema .entry)) (now (message .entry)) (now (path .entry)) .length ⌝ }
+    ensures { λ _. ⌜ now (start .exit) + now (length .exit) ≤ N.length (now (message .entry)) ⌝ }
+{
+    let span = field::text_span(schema, message, path);
+    *start = span.start as u64;
+    *length = span.length as u64;
+    span.there as u32
+}
+
+// Many steps of a list reader: stores the case and the three numbers of each step from an element on, as many steps as there is
+// room for, and answers how many elements the list has.
+#[no_mangle]
+pub extern "C" fn scalgo_list(
+    schema: &[u8],
+    message: &[u8],
+    path: &[u32],
+    from: u64,
+    cases: &mut [u64],
+) -> u64
+    ensures { λ r. ⌜ r ≡ F.readerCount B.u48 (now (schema .entry)) (now (message .entry)) (now (path .entry)) ⌝ }
+    ensures { λ _. ⌜ now (cases .exit) ≡ F.readerOver B.u48 (now (schema .entry)) (now (message .entry)) (now (path .entry)) from (now (cases .entry)) ⌝ }
+{
+    field::read_list(schema, message, path, from as usize, cases) as u64
 }
 
 // Reads a message to its value sheet: answers the number, and stores place, visits and the sheet's length.

@@ -3,23 +3,16 @@ use mathlib.Core.Path.{ap}
 use borrow.Author.Needs.{needs}
 use Rattle.scalgo.proofs.scalgo_read.Statement.{statement}
 use Rattle.scalgo.proofs.scalgo_read.Tie as tie
-use Rattle.scalgo.proofs.scalgo_read.Reads as reads
-use Rattle.scalgo.proofs.scalgo_read.Lts as lts
-use Rattle.sheet.proofs.read.Reads as read-reads
 
--- src/lib.rt:68:9
 read-requires : tie.Need-read-requires
 read-requires c κs = search needs
 
--- src/lib.rt:73:5
 cast-result : tie.Need-cast-result
 cast-result c = search needs
 
--- src/lib.rt:52:1
 same-length : tie.Need-same-length
 same-length c = search needs
 
--- src/lib.rt:52:1
 returns : tie.Need-returns
 returns c =
     let e = c .before .before .before .before .read .ensures .0 in (
