@@ -2,8 +2,10 @@
  *
  * What holds of every function here:
  * - A pointer to bytes comes with their number. It must not be NULL; with length 0 it is not read.
+ * - So does a pointer to 32-bit or 64-bit numbers; it must be aligned for them.
  * - A pointer to one number must not be NULL, must be aligned for that number, and must point to
  *   nothing else that the call is given. The number is written on every return.
+ * - A buffer that a call writes must not overlap anything else that the call is given.
  * - Nothing else may write the bytes during a call. The library writes only through pointers that
  *   are not const, keeps no pointer after the call, holds no state and allocates nothing, so that
  *   calls may run on several threads at once.
@@ -19,7 +21,7 @@
 extern "C" {
 #endif
 
-/* What scalgo_judge answers. */
+/* Why a message is refused, as scalgo_judge and scalgo_read answer it, and a refusal of scalgo_field. */
 enum {
     SCALGO_ACCEPTED = 0,
     SCALGO_SCHEMA = 1,         /* the schema is not lawful */
@@ -31,10 +33,24 @@ enum {
     SCALGO_OBJECT_MAGIC = 7,   /* wrong object magic */
     SCALGO_CUT = 8,            /* a member cut by its table's end, or a flag without its value */
     SCALGO_UNION_OFFSET = 9,   /* a known union choice, not in place, with offset 0 */
-    SCALGO_BYTE = 10           /* a struct's boolean not 0 or 1, or a text's end byte not 0 */
+    SCALGO_BYTE = 10,          /* a struct's boolean not 0 or 1, or a text's end byte not 0 */
+    SCALGO_ROOM = 14,          /* no room in the output, or a sheet over 16,777,215 bytes */
+    SCALGO_PATH = 15           /* a path's step has no such part, or a path over 96 numbers */
 };
 
-/* Judges a message by a packed schema and answers one of the numbers above.
+/* What scalgo_field answers. */
+enum {
+    SCALGO_CASE_BOOLEAN = 0,   /* a: the value */
+    SCALGO_CASE_NUMBER = 1,    /* a: its bits, zero above the width; b: its width in bits; c: 1 if it is signed */
+    SCALGO_CASE_FLOAT = 2,     /* a: its bits; b: its width in bits */
+    SCALGO_CASE_OBJECT = 3,    /* a: 13 text, 14 bytes, 15 list, 16 table; b: its place; c: its length */
+    SCALGO_CASE_STRUCT = 4,    /* a: its place */
+    SCALGO_CASE_ABSENT = 5,
+    SCALGO_CASE_UNKNOWN = 6,   /* an enum or a union's choice that the schema does not know; a: the number */
+    SCALGO_CASE_REFUSED = 7    /* a: one of the numbers above; b: its place */
+};
+
+/* Judges a message by a packed schema and answers 0 to 10 of the numbers above.
  *
  * budget: how many objects may be visited, each arrival at a shared object counted.
  * *place: where the object of a refusal from 4 to 10 stands, counted from the message's first
@@ -44,6 +60,62 @@ enum {
 uint32_t scalgo_judge(const uint8_t *schema, size_t schema_len,
                       const uint8_t *message, size_t message_len,
                       uint32_t budget, uint64_t *place, uint32_t *visits);
+
+/* Reads one field and answers its case.
+ *
+ * path: a number for each table member, list element or struct member on the way from the root
+ *       table, counted from 0; a union is passed through without one. An empty path leads to the
+ *       root table. Only what is on the path is judged, without a budget.
+ * *a, *b, *c: what the case has; 0 where it has no such number.
+ *
+ * A refusal is 1, 2 or 3, 5 to 10 or 15; its place is that of the last object judged, 0 with 1, 2
+ * and 3 and with a path over 96 numbers.
+ */
+uint32_t scalgo_field(const uint8_t *schema, size_t schema_len,
+                      const uint8_t *message, size_t message_len,
+                      const uint32_t *path, size_t path_len,
+                      uint64_t *a, uint64_t *b, uint64_t *c);
+
+/* Says where a text or bytes stand: answers 1 where the path leads to such, and the part is
+ * message[*start .. *start + *length], all of it within the message; a text's end byte is not in
+ * it. Otherwise, a refusal among it, answers 0 with *start 0 and *length 0.
+ *
+ * path: as of scalgo_field.
+ */
+uint32_t scalgo_text(const uint8_t *schema, size_t schema_len,
+                     const uint8_t *message, size_t message_len,
+                     const uint32_t *path, size_t path_len,
+                     uint64_t *start, uint64_t *length);
+
+/* Reads many elements of a list of texts, bytes, lists, tables or unions: steps of a list reader
+ * that starts at element `from`. Answers how many elements the list has.
+ *
+ * path: as of scalgo_field, to the list.
+ * cases, cases_len: four numbers a step: what scalgo_field answers at the path of that element,
+ *         and its a, b and c. There are as many steps as there is room for, cases_len / 4; the
+ *         numbers left over, three at most, keep what they held.
+ *
+ * A step after the last element is refused by 15 at the list. Where there is no such list every
+ * step is refused: by the path's own refusal, or by 15 at 0 if it leads to anything else; and the
+ * answer is 0.
+ */
+uint64_t scalgo_list(const uint8_t *schema, size_t schema_len,
+                     const uint8_t *message, size_t message_len,
+                     const uint32_t *path, size_t path_len,
+                     uint64_t from, uint64_t *cases, size_t cases_len);
+
+/* Reads a message to its value sheet and answers 0 to 10 as scalgo_judge does, or 14.
+ *
+ * budget, *place, *visits: as of scalgo_judge; with 14 the place is 0 and the visits are those of
+ *         the accepted message.
+ * sheet, room: where the sheet goes. With a refusal it is unchanged; else its first *length bytes
+ *         are the sheet, and the bytes after them keep what they held.
+ * *length: the bytes of the sheet; 0 with a refusal.
+ */
+uint32_t scalgo_read(const uint8_t *schema, size_t schema_len,
+                     const uint8_t *message, size_t message_len,
+                     uint32_t budget, uint8_t *sheet, size_t room,
+                     uint64_t *place, uint32_t *visits, uint64_t *length);
 
 #ifdef __cplusplus
 }

@@ -1,6 +1,6 @@
 -- One field's answer at a path, through the same steps as the walk; a text as a part of the message; the list reader's
 -- answers. `o` is the width of an offset in bytes.
-use Prim.Native.Nat.{ℕ, zero, suc, _+_, _*_}
+use Prim.Native.Nat.{ℕ, zero, suc, _+_, _*_, _/_}
 use mathlib.Core.List.{List, [], _∷_, _++_}
 use mathlib.Core.Bool.{Bool, true, false}
 use lib.ListN.{length, take, drop}
@@ -32,6 +32,8 @@ use Rattle.coding.specs.declared.Found.the-variants as Fd
 use Rattle.coding.specs.declared.Verdict.{Verdict}
 use Rattle.coding.specs.declared.Answer.{Answer}
 use Rattle.coding.specs.declared.Answer.the-variants as A
+use Rattle.coding.specs.declared.Case.{Case}
+use Rattle.coding.specs.declared.Span.{Span}
 
 abbrev pub refusal : ℕ → ℕ → Refusal
 refusal n at = record { number = n; place = at }
@@ -156,23 +158,50 @@ fieldFound o b m path =
 unfoldable pub field : ℕ → List ℕ → List ℕ → List ℕ → Answer
 field o b m path = answerOf (fieldFound o b m path)
 
--- ---- "texts and bytes can be had as a part of the message": the content where the answer is a text or bytes, else nothing
-unfoldable pub objectText : List ℕ → Object → ℕ → ℕ → List ℕ
-objectText m O.Text start n = take n (drop start m)
-objectText m O.Bytes start n = take n (drop start m)
-objectText m (O.List i) start n = []
-objectText m (O.Table i) start n = []
+-- ---- an answer as numbers: "Where an answer is an enum, a definition gives this paper's number and values for each of its
+-- cases." 0 a boolean, 1 a number (its bits, its width in bits, 1 where it has a sign), 2 a float (its bits, its width), 3 an
+-- object (its record kind, place and length), 4 a struct (its place), 5 absent, 6 unknown (its number), 7 refused (number,
+-- place)
+unfoldable pub answerCase : Answer → Case
+answerCase (A.Boolean x) = record { case = 0; a = pick x 1 0; b = 0; c = 0 }
+answerCase (A.Number x w s) = record { case = 1; a = x; b = w; c = pick s 1 0 }
+answerCase (A.Float x w) = record { case = 2; a = x; b = w; c = 0 }
+answerCase (A.Object k at n) = record { case = 3; a = k; b = at; c = n }
+answerCase (A.Struct at) = record { case = 4; a = at; b = 0; c = 0 }
+answerCase A.Absent = record { case = 5; a = 0; b = 0; c = 0 }
+answerCase (A.Unknown x) = record { case = 6; a = x; b = 0; c = 0 }
+answerCase (A.Refused r) = record { case = 7; a = r .number; b = r .place; c = 0 }
 
-unfoldable pub foundText : List ℕ → Found → List ℕ
-foundText m (Fd.Refused r) = []
-foundText m Fd.Absent = []
-foundText m (Fd.Unknown x) = []
-foundText m (Fd.Value k x holder) = []
-foundText m (Fd.Struct i at holder) = []
-foundText m (Fd.Object ob at start n d) = objectText m ob start n
+-- ---- "texts and bytes can be had as a part of the message": the content where the answer is a text or bytes, else nothing
+unfoldable pub noSpan : Span
+noSpan = record { there = false; start = 0; length = 0 }
+
+unfoldable pub spanAt : ℕ → ℕ → Span
+spanAt start n = record { there = true; start = start; length = n }
+
+unfoldable pub objectSpan : Object → ℕ → ℕ → Span
+objectSpan O.Text start n = spanAt start n
+objectSpan O.Bytes start n = spanAt start n
+objectSpan (O.List i) start n = noSpan
+objectSpan (O.Table i) start n = noSpan
+
+unfoldable pub foundSpan : Found → Span
+foundSpan (Fd.Refused r) = noSpan
+foundSpan Fd.Absent = noSpan
+foundSpan (Fd.Unknown x) = noSpan
+foundSpan (Fd.Value k x holder) = noSpan
+foundSpan (Fd.Struct i at holder) = noSpan
+foundSpan (Fd.Object ob at start n d) = objectSpan ob start n
+
+unfoldable pub fieldSpan : ℕ → List ℕ → List ℕ → List ℕ → Span
+fieldSpan o b m path = foundSpan (fieldFound o b m path)
+
+-- the bytes of such a part
+unfoldable pub textOf : List ℕ → Span → List ℕ
+textOf m p = take (p .length) (drop (p .start) m)
 
 unfoldable pub fieldText : ℕ → List ℕ → List ℕ → List ℕ → List ℕ
-fieldText o b m path = foundText m (fieldFound o b m path)
+fieldText o b m path = textOf m (fieldSpan o b m path)
 
 -- ---- the list reader. "It starts from a path to a list whose elements are of kinds 13 to 17; a refused path gives its own
 -- refusal, any other answer is 15 at 0."
@@ -207,3 +236,38 @@ readerAnswer o b m path j = field o b m (path ++ j ∷ [])
 -- "and moves on, refused or not": where the reader of a list of n elements stands after a step at element j
 unfoldable pub readerNext : ℕ → ℕ → ℕ
 readerNext n j = pick (ltb j n) (j + 1) j
+
+-- the answer of a step at element j: the refusal of the reader's start, or what stands at element j of its list, 15 at the
+-- list after the last
+unfoldable pub listGives : ℕ → Schema → List ℕ → Found → ℕ → Answer
+listGives o S m list j = answerOf (partOf o S m list j)
+
+unfoldable pub readerGives : ℕ → List ℕ → List ℕ → List ℕ → ℕ → Answer
+readerGives o b m path j = listGives o (parse b) m (readerStart o b m path) j
+
+-- how many elements the reader's list has; none where there is no list
+unfoldable pub listCount : Found → ℕ
+listCount (Fd.Refused r) = 0
+listCount Fd.Absent = 0
+listCount (Fd.Unknown x) = 0
+listCount (Fd.Value k x holder) = 0
+listCount (Fd.Struct i at holder) = 0
+listCount (Fd.Object ob at start n d) = n
+
+unfoldable pub readerCount : ℕ → List ℕ → List ℕ → List ℕ → ℕ
+readerCount o b m path = listCount (readerStart o b m path)
+
+-- ---- many steps at once: k steps from element j on, of a reader of n elements, each with the four numbers of its case
+unfoldable pub caseNumbers : Case → List ℕ
+caseNumbers x = x .case ∷ x .a ∷ x .b ∷ x .c ∷ []
+
+unfoldable pub stepNumbers : (ℕ → Answer) → ℕ → ℕ → ℕ → List ℕ
+stepNumbers gives n j zero = []
+stepNumbers gives n j (suc k) = caseNumbers (answerCase (gives j)) ++ stepNumbers gives n (readerNext n j) k
+
+-- as many steps as there is room for; the numbers left over, three at most, are as they were
+unfoldable pub stepsOver : (ℕ → Answer) → ℕ → ℕ → List ℕ → List ℕ
+stepsOver gives n j out = stepNumbers gives n j (length out / 4) ++ drop (4 * (length out / 4)) out
+
+unfoldable pub readerOver : ℕ → List ℕ → List ℕ → List ℕ → ℕ → List ℕ → List ℕ
+readerOver o b m path from out = stepsOver (readerGives o b m path) (readerCount o b m path) from out

@@ -147,3 +147,18 @@ pub enum Answer {
     Unknown(u16),
     Refused(Refusal),
 }
+
+// An answer as a case number and three numbers; what a case does not use is 0.
+pub struct Case {
+    pub case: u32,
+    pub a: u64,
+    pub b: u64,
+    pub c: u64,
+}
+
+// Where a text or bytes stand in the message: whether there is one, where it starts, and its length.
+pub struct Span {
+    pub there: bool,
+    pub start: usize,
+    pub length: usize,
+}

@@ -329,8 +329,8 @@ module _ (o : ℕ) (S : Schema) (m : List ℕ) (b : Budget) where
   object-entry child (O.Table i) at start n h = refl
 
   object-text : (child : Read.Child) (ob : Object) (start n : ℕ)
-      → Field.objectText m ob start n ≡ Tree.asBlob (Read.contentRead child o S m ob start n)
-  unfolding Field.objectText Read.contentRead Tree.asBlob
+      → Field.textOf m (Field.objectSpan ob start n) ≡ Tree.asBlob (Read.contentRead child o S m ob start n)
+  unfolding Field.textOf Field.objectSpan Field.spanAt Field.noSpan Read.contentRead Tree.asBlob
   object-text child O.Text start n = refl
   object-text child O.Bytes start n = refl
   object-text child (O.List i) start n = refl
@@ -345,8 +345,8 @@ module _ (o : ℕ) (S : Schema) (m : List ℕ) (b : Budget) where
   shows-entry (fields i at holder) = refl
   shows-entry (within ob at start n d s t e fits) = object-entry (Read.read d o S m) ob at start n fits
 
-  pub shows-text : {f : Found} {p : E.Part} → Shows o S m b f p → Field.foundText m f ≡ E.textOf p
-  unfolding Field.foundText E.textOf
+  pub shows-text : {f : Found} {p : E.Part} → Shows o S m b f p → Field.textOf m (Field.foundSpan f) ≡ E.textOf p
+  unfolding Field.foundSpan Field.noSpan Field.textOf E.textOf
   shows-text (no-part at) = refl
   shows-text no-value = refl
   shows-text (unknown-number x) = refl

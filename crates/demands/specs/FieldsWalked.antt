@@ -10,7 +10,7 @@ use Rattle.coding.specs.Packed.{parse}
 use Rattle.coding.specs.Lawful.{lawful}
 use Rattle.coding.specs.Walk.{walk, sizeOk, startOk}
 use Rattle.coding.specs.Read.{messageRead}
-use Rattle.coding.specs.Field.{found, answerOf, fieldFound, field, foundText, fieldText}
+use Rattle.coding.specs.Field.{found, answerOf, fieldFound, field, foundSpan, fieldSpan, textOf, fieldText}
 use Rattle.laws.specs.Sound.{Sound}
 use Rattle.demands.specs.FieldEntries.{shown, entryAt, textAt}
 use Rattle.demands.specs.FieldShows.{found-shows, shows-entry, shows-text, shows-refusal}
@@ -36,9 +36,9 @@ module _ (o : ℕ) (b m : List ℕ) (budget : Budget) (path : List ℕ) (sound :
       ∙ shows-entry o (parse b) m budget (found-shows o (parse b) sound m budget spent walks path)
 
   pub walked-text : fieldText o b m path ≡ textAt (parse b) (O.Table (parse b .root)) (messageRead o (parse b) m) path
-  unfolding fieldText textAt
+  unfolding fieldText fieldSpan textAt
   walked-text =
-      ap (foundText m) path-found ∙ shows-text o (parse b) m budget (found-shows o (parse b) sound m budget spent walks path)
+      ap (λ (f : Found). textOf m (foundSpan f)) path-found ∙ shows-text o (parse b) m budget (found-shows o (parse b) sound m budget spent walks path)
 
   pub walked-refusal : (r : Refusal) → field o b m path ≡ A.Refused r → r .number ≡ 15
   unfolding field

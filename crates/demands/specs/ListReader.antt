@@ -5,9 +5,11 @@
 use mathlib.Core.Path.{_≡_, refl, sym, ap, _∙_}
 use mathlib.Core.List.{List, [], _∷_, _++_}
 use mathlib.Core.Bool.{Bool, true, false}
-use Prim.Native.Nat.{ℕ, zero, suc, _+_, _<_, _≤_}
+use mathlib.Core.Logic.{_⊎_, inl, inr}
+use Prim.Native.Nat.{ℕ, zero, suc, _+_, _*_, _/_, _<_, _≤_}
 use native.Mathlib.Omega.{arith}
-use lib.ListN.{length, length-append, take}
+use lib.ListN.{length, length-append, length-drop, take, drop}
+use lib.Seq.{take-append-le, drop-append-le}
 use lib.Dec.{ltb, leb, eqb}
 use borrow.Author.Tests.{ltb-true, ltb-false, le-ltb, le-leb}
 use Rattle.coding.specs.Lists.{pick}
@@ -23,7 +25,9 @@ use Rattle.coding.specs.Field as Field
 use Rattle.coding.specs.declared.Object.{Object}
 use Rattle.coding.specs.declared.Object.the-variants as O
 use Rattle.coding.specs.declared.Kind.{Kind}
-use Rattle.coding.specs.declared.Kind.the-variants.{OfFlat}
+use Rattle.coding.specs.declared.Kind.the-variants.{OfFlat, OfObject, OfUnion}
+use Rattle.coding.specs.declared.Flat.{Flat}
+use Rattle.coding.specs.declared.Flat.the-variants as F
 use Rattle.coding.specs.declared.Place.{Place}
 use Rattle.coding.specs.declared.Place.the-variants.{ByOffset, InPlace}
 use Rattle.coding.specs.declared.Step.{Step}
@@ -33,6 +37,7 @@ use Rattle.coding.specs.declared.Opened.the-variants as Op
 use Rattle.coding.specs.declared.Refusal.{Refusal}
 use Rattle.coding.specs.declared.Found.{Found}
 use Rattle.coding.specs.declared.Found.the-variants as Fd
+use Rattle.coding.specs.declared.Answer.{Answer}
 use Rattle.coding.specs.declared.Answer.the-variants as A
 
 -- ---- depth: an object that is found counts itself and what is left below it; anything else counts nothing
@@ -140,6 +145,43 @@ module _ (o : ℕ) (S : Schema) (m : List ℕ) where
   unfolding Field.found
   found-last path j = along-last _ path j
 
+-- ---- a refusal is found where the answer is one
+flat-answers : (k : Flat) (x : ℕ) (r : Refusal) → Field.flatAnswer k x ≡ A.Refused r → ⊥
+unfolding Field.flatAnswer
+flat-answers F.Boolean x r e = let z : _≡_ {A = ℕ} 0 1 = cc in omega arith
+flat-answers (F.Integer s w) x r e = let z : _≡_ {A = ℕ} 0 1 = cc in omega arith
+flat-answers (F.Float w) x r e = let z : _≡_ {A = ℕ} 0 1 = cc in omega arith
+flat-answers (F.Enumerated n) x r e = let z : _≡_ {A = ℕ} 0 1 = cc in omega arith
+flat-answers (F.Struct i) x r e = let z : _≡_ {A = ℕ} 0 1 = cc in omega arith
+
+only-refused : (f : Found) (r : Refusal) → Field.answerOf f ≡ A.Refused r → f ≡ Fd.Refused r
+unfolding Field.answerOf Field.valueAnswer
+only-refused (Fd.Refused q) r e = cc
+only-refused Fd.Absent r e = cc
+only-refused (Fd.Unknown x) r e = cc
+only-refused (Fd.Value (OfFlat k) x holder) r e = absurd (flat-answers k x r e)
+only-refused (Fd.Value (OfObject ob) x holder) r e = cc
+only-refused (Fd.Value (OfUnion i) x holder) r e = cc
+only-refused (Fd.Struct i at holder) r e = cc
+only-refused (Fd.Object ob at start n left) r e = cc
+
+refused-start : (S : Schema) (f : Found) (r : Refusal) → Field.readerOf S f ≡ Fd.Refused r
+    → (Field.answerOf f ≡ A.Refused r) ⊎ (r ≡ Field.refusal 15 0)
+unfolding Field.readerOf Field.listFound Field.before Field.answerOf
+refused-start S (Fd.Refused q) r e = inl (cc)
+refused-start S Fd.Absent r e = inr (cc)
+refused-start S (Fd.Unknown x) r e = inr (cc)
+refused-start S (Fd.Value k x holder) r e = inr (cc)
+refused-start S (Fd.Struct i at holder) r e = inr (cc)
+refused-start S (Fd.Object O.Text at start n d) r e = inr (cc)
+refused-start S (Fd.Object O.Bytes at start n d) r e = inr (cc)
+refused-start S (Fd.Object (O.Table i) at start n d) r e = inr (cc)
+refused-start S (Fd.Object (O.List i) at start n d) r e = inr (by (Field.leads (elementOf S i)) e)
+  where
+    by : (t : Bool) → pick t (Fd.Object (O.List i) at start n d) (Fd.Refused (Field.refusal 15 0)) ≡ Fd.Refused r → r ≡ Field.refusal 15 0
+    by true q = cc
+    by false q = cc
+
 -- ---- a reader that has its list
 module _ (o : ℕ) (b m path : List ℕ) (i at start n left : ℕ)
     (has : Field.readerStart o b m path ≡ Fd.Object (O.List i) at start n left) where
@@ -203,7 +245,100 @@ module _ (o : ℕ) (b m path : List ℕ) (i at start n left : ℕ)
   unfolding Field.readerNext
   reader-stays j l = rw (le-ltb j n l)
 
-  -- what the code of a step gives: the answer at element j of what the reader starts from
-  pub reader-gives : (j : ℕ) → Field.answerOf (Field.partOf o (parse b) m (Field.readerStart o b m path) j) ≡ Field.readerAnswer o b m path j
-  unfolding Field.partOf
-  reader-gives j = ap (λ (f : Found). Field.answerOf (Field.partOf o (parse b) m f j)) has ∙ sym (reader-step j)
+  -- THE CLAIM, of what a step gives: as the element's path would; 15 at the list after the last
+  pub gives-path : (j : ℕ) → Field.readerGives o b m path j ≡ Field.field o b m (path ++ j ∷ [])
+  unfolding Field.readerGives Field.listGives Field.partOf Field.readerAnswer
+  gives-path j = ap (λ (f : Found). Field.answerOf (Field.partOf o (parse b) m f j)) has ∙ sym (reader-step j)
+
+  pub gives-end : (j : ℕ) → n ≤ j → Field.readerGives o b m path j ≡ A.Refused (Field.refusal 15 at)
+  unfolding Field.readerAnswer
+  gives-end j l = gives-path j ∙ reader-end j l
+
+  pub counts : Field.readerCount o b m path ≡ n
+  unfolding Field.readerCount Field.listCount
+  counts = ap Field.listCount has
+
+-- ---- "It starts from a path to a list whose elements are of kinds 13 to 17; a refused path gives its own refusal, any other
+-- answer is 15 at 0."
+module _ (o : ℕ) (b m path : List ℕ) where
+  pub starts : (i at start n left : ℕ) → Field.fieldFound o b m path ≡ Fd.Object (O.List i) at start n left
+      → Field.leads (elementOf (parse b) i) ≡ true → Field.readerStart o b m path ≡ Fd.Object (O.List i) at start n left
+  unfolding Field.readerStart Field.readerOf Field.listFound
+  starts i at start n left e l = rw (e, l)
+
+  -- a reader with no list answers the refusal at every step
+  pub gives-refusal : (r : Refusal) → Field.readerStart o b m path ≡ Fd.Refused r
+      → (Field.readerCount o b m path ≡ 0) × ((j : ℕ) → Field.readerGives o b m path j ≡ A.Refused r)
+  unfolding Field.readerGives Field.listGives Field.partOf Field.answerOf Field.readerCount Field.listCount
+  gives-refusal r e =
+      (ap Field.listCount e, λ j. ap (λ (f : Found). Field.answerOf (Field.partOf o (parse b) m f j)) e)
+
+  -- the path's own
+  pub refused-path : (r : Refusal) → Field.field o b m path ≡ A.Refused r → Field.readerStart o b m path ≡ Fd.Refused r
+  unfolding Field.readerStart Field.readerOf Field.field
+  refused-path r e = rw (only-refused (Field.fieldFound o b m path) r e)
+
+  -- or 15 at 0, and no other
+  pub start-refused : (r : Refusal) → Field.readerStart o b m path ≡ Fd.Refused r
+      → (Field.field o b m path ≡ A.Refused r) ⊎ (r ≡ Field.refusal 15 0)
+  unfolding Field.readerStart Field.field
+  start-refused r e = refused-start (parse b) (Field.fieldFound o b m path) r e
+
+-- ---- many steps at once: step i answers as the step at element from + i would
+module _ (o : ℕ) (S : Schema) (m : List ℕ) where
+  -- after the last, and where there is no list, every element answers the same
+  list-stays : (f : Found) (j k : ℕ) → Field.listCount (Field.readerOf S f) ≤ j → j ≤ k
+      → Field.listGives o S m (Field.readerOf S f) j ≡ Field.listGives o S m (Field.readerOf S f) k
+  unfolding Field.readerOf Field.listFound Field.before Field.listGives Field.partOf Field.listCount
+  list-stays (Fd.Refused r) j k h l = refl
+  list-stays Fd.Absent j k h l = refl
+  list-stays (Fd.Unknown x) j k h l = refl
+  list-stays (Fd.Value q x holder) j k h l = refl
+  list-stays (Fd.Struct i at holder) j k h l = refl
+  list-stays (Fd.Object O.Text at start n d) j k h l = refl
+  list-stays (Fd.Object O.Bytes at start n d) j k h l = refl
+  list-stays (Fd.Object (O.Table i) at start n d) j k h l = refl
+  list-stays (Fd.Object (O.List i) at start n d) j k h l = by (Field.leads (elementOf S i)) h
+    where
+      by : (t : Bool) → Field.listCount (pick t (Fd.Object (O.List i) at start n d) (Fd.Refused (Field.refusal 15 0))) ≤ j
+          → Field.answerOf (Field.partOf o S m (pick t (Fd.Object (O.List i) at start n d) (Fd.Refused (Field.refusal 15 0))) j)
+          ≡ Field.answerOf (Field.partOf o S m (pick t (Fd.Object (O.List i) at start n d) (Fd.Refused (Field.refusal 15 0))) k)
+      by true h = unfold Field.objectPart in rw (le-ltb j n h, le-ltb k n (omega arith))
+      by false h = refl
+
+module _ (gives : ℕ → Answer) (n : ℕ) (stays : (j k : ℕ) → n ≤ j → j ≤ k → gives j ≡ gives k) where
+  steps-length : (k j : ℕ) → length (Field.stepNumbers gives n j k) ≡ 4 * k
+  unfolding Field.stepNumbers Field.caseNumbers
+  steps-length zero j = refl
+  steps-length (suc k) j = let e = steps-length k (Field.readerNext n j) in omega arith
+
+  next-gives : (j i : ℕ) → gives (Field.readerNext n j + i) ≡ gives (j + suc i)
+  unfolding Field.readerNext
+  next-gives j i = by (ltb j n) refl
+    where
+      by : (t : Bool) → ltb j n ≡ t → gives (pick t (j + 1) j + i) ≡ gives (j + suc i)
+      by true h = ap gives (omega arith)
+      by false h = let l = ltb-false j n h in stays (j + i) (j + suc i) (omega arith) (omega arith)
+
+  step-numbers : (k i j : ℕ) → i < k → take 4 (drop (4 * i) (Field.stepNumbers gives n j k)) ≡ Field.caseNumbers (Field.answerCase (gives (j + i)))
+  unfolding Field.stepNumbers Field.caseNumbers
+  step-numbers zero i j h = absurd (omega arith)
+  step-numbers (suc k) zero j h = ap (λ (x : ℕ). Field.caseNumbers (Field.answerCase (gives x))) (omega arith)
+  step-numbers (suc k) (suc i) j h =
+      let e : 4 * suc i ≡ suc (suc (suc (suc (4 * i)))) = omega arith in
+      rw e (step-numbers k i (Field.readerNext n j) (omega arith) ∙ ap (λ (x : Answer). Field.caseNumbers (Field.answerCase x)) (next-gives j i))
+
+-- THE CLAIM, of many steps: the four numbers of step i are the case of the answer at element from + i
+pub over-gives : (o : ℕ) (b m path : List ℕ) (from : ℕ) (out : List ℕ) (i : ℕ) → i < length out / 4
+    → take 4 (drop (4 * i) (Field.readerOver o b m path from out)) ≡ Field.caseNumbers (Field.answerCase (Field.readerGives o b m path (from + i)))
+unfolding Field.readerOver Field.stepsOver Field.readerGives Field.readerCount Field.readerStart
+over-gives o b m path from out i h =
+    let f = Field.readerOf (parse b) (Field.fieldFound o b m path) in
+    let g = Field.readerGives o b m path in
+    let n = Field.listCount f in
+    let stays : (j k : ℕ) → n ≤ j → j ≤ k → g j ≡ g k = list-stays o (parse b) m (Field.fieldFound o b m path) in
+    let steps = Field.stepNumbers g n from (length out / 4) in
+    let l : length steps ≡ 4 * (length out / 4) = steps-length g n stays (length out / 4) from in
+    let four : 4 ≤ length (drop (4 * i) steps) = simp length-drop (omega arith) in
+    rw (drop-append-le (4 * i) steps (drop (4 * (length out / 4)) out) (omega arith))
+    (take-append-le 4 (drop (4 * i) steps) (drop (4 * (length out / 4)) out) four ∙ step-numbers g n stays (length out / 4) i from h)

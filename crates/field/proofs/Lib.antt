@@ -5,5 +5,6 @@ pub mod PartCases
 pub mod PathCases
 pub mod AnswerCases
 pub mod TextCases
+pub mod ListCases
 pub mod ReaderCases
 pub mod ElementSound

@@ -27,7 +27,7 @@ use Rattle.coding.specs.declared.Answer.{Answer}
 use Rattle.coding.specs.declared.Answer.the-variants as A
 use Rattle.laws.specs.Lists.{pick-holds}
 use Rattle.schema.specs.Directory.{Judged}
-use Rattle.field.specs.Cases.{readerGives}
+use Rattle.coding.specs.Field.{listGives, readerGives}
 use Rattle.field.specs.Within.{FoundWithin}
 use Rattle.field.proofs.PathCases.{unlawful}
 
@@ -128,15 +128,29 @@ module _ (b dir m path : List ℕ) (t : Bool) (j : Judged b dir t) (f : t ≡ fa
   pub reader-unlawful : (r : Found) → r ≡ Fd.Refused (Field.refusal 1 0) → r ≡ Field.readerStart u48 b m path
   reader-unlawful r e = e ∙ sym start-unlawful
 
+  pub count-unlawful : 0 ≡ Field.readerCount u48 b m path
+  unfolding Field.readerCount Field.listCount
+  count-unlawful = sym (ap Field.listCount start-unlawful)
+
   pub gives-unlawful : (i : ℕ) → A.Refused (Field.refusal 1 0) ≡ readerGives u48 b m path i
-  unfolding readerGives Field.partOf Field.answerOf
+  unfolding readerGives listGives Field.partOf Field.answerOf
   gives-unlawful i = sym (ap (λ (g : Found). Field.answerOf (Field.partOf u48 (P.parse b) m g i)) start-unlawful)
+
+-- ---- a message over the size has no list
+pub count-long : (b m path : List ℕ) → 16777215 < length m → 0 ≡ Field.readerCount u48 b m path
+unfolding Field.readerCount Field.readerStart Field.fieldFound Field.readerOf Field.before Field.listCount W.sizeOk largest
+count-long b m path h = simp (lt-leb _ _ h, and-false) (by (lawful b) (leb (length path) 96))
+  where
+    by : (s t : Bool) → 0 ≡ Field.listCount (Field.readerOf (P.parse b) (pick s (pick t (Field.before 2) (Field.before 15)) (Field.before 1)))
+    by true true = refl
+    by true false = refl
+    by false t = refl
 
 -- ---- a step
 module _ (b m path : List ℕ) (list : Found) (el : list ≡ Field.readerStart u48 b m path) (i : ℕ) (r : Answer) where
-  pub gives-step : r ≡ Field.answerOf (Field.partOf u48 (P.parse b) m list i) → r ≡ readerGives u48 b m path i
+  pub gives-step : r ≡ listGives u48 (P.parse b) m list i → r ≡ readerGives u48 b m path i
   unfolding readerGives
-  gives-step e = e ∙ ap (λ (g : Found). Field.answerOf (Field.partOf u48 (P.parse b) m g i)) el
+  gives-step e = e ∙ ap (λ (g : Found). listGives u48 (P.parse b) m g i) el
 
   -- a message over the size has no list: its refusal stays
   refused-stays : 16777215 < length m
@@ -153,7 +167,7 @@ module _ (b m path : List ℕ) (list : Found) (el : list ≡ Field.readerStart u
       by false t = refl
 
   pub gives-long : 16777215 < length m → r ≡ Field.answerOf list → r ≡ readerGives u48 b m path i
-  unfolding readerGives
+  unfolding readerGives listGives
   gives-long h e = e ∙ ap Field.answerOf (el ∙ sym (refused-stays h))
 
 -- ---- moving on

@@ -1,7 +1,7 @@
 -- The ways out of a text as a part of the message, and of an answer's case number.
 use mathlib.Core.Path.{_≡_, refl, sym, ap, _∙_, subst}
 use mathlib.Core.Bool.{Bool, true, false}
-use mathlib.Core.List.{List, []}
+use mathlib.Core.List.{List}
 use Prim.Native.Nat.{ℕ, _+_, _-_, _≤_}
 use native.Mathlib.Omega.{arith}
 use lib.ListN.{length, take, drop}
@@ -18,71 +18,87 @@ use Rattle.coding.specs.declared.Found.the-variants as Fd
 use Rattle.coding.specs.declared.Refusal.{Refusal}
 use Rattle.coding.specs.declared.Answer.{Answer}
 use Rattle.coding.specs.declared.Answer.the-variants as A
-use Rattle.field.specs.Cases.{caseOf}
-use Rattle.field.specs.Within.{Spans}
+use Rattle.coding.specs.declared.Span.{Span}
+use Rattle.coding.specs.Field.{answerCase}
+use Rattle.field.specs.Within.{FoundWithin}
 
--- ---- nothing, or n bytes
-empty : (m : List ℕ) → Spans m [] 0 0
-empty m = record { is = refl; inside = omega arith }
+-- ---- where a text stands
+module _ (ob : Object) (start n : ℕ) (r : Span) where
+  pub span-text : ob ≡ O.Text → r ≡ Field.spanAt start n → r ≡ Field.objectSpan ob start n
+  unfolding Field.objectSpan
+  span-text e q = rw e q
 
-module _ (S : Schema) (m : List ℕ) (ob : Object) (start n : ℕ) where
-  pub span-text : ob ≡ O.Text → start + W.contentSize u48 S ob n ≤ length m → Spans m (Field.objectText m ob start n) start n
-  unfolding Field.objectText W.contentSize
-  span-text e h =
-      let l = subst (λ (o : Object). start + W.contentSize u48 S o n ≤ length m) e h in
-      record { is = sym (ap (λ (o : Object). Field.objectText m o start n) e); inside = omega arith }
+  pub span-bytes : ob ≡ O.Bytes → r ≡ Field.spanAt start n → r ≡ Field.objectSpan ob start n
+  unfolding Field.objectSpan
+  span-bytes e q = rw e q
 
-  pub span-bytes : ob ≡ O.Bytes → start + W.contentSize u48 S ob n ≤ length m → Spans m (Field.objectText m ob start n) start n
-  unfolding Field.objectText W.contentSize
-  span-bytes e h =
-      let l = subst (λ (o : Object). start + W.contentSize u48 S o n ≤ length m) e h in
-      record { is = sym (ap (λ (o : Object). Field.objectText m o start n) e); inside = omega arith }
+  pub span-list : (i : ℕ) → ob ≡ O.List i → r ≡ Field.noSpan → r ≡ Field.objectSpan ob start n
+  unfolding Field.objectSpan
+  span-list i e q = rw e q
 
-module _ (m : List ℕ) (ob : Object) (start n : ℕ) where
-  pub span-list : (i : ℕ) → ob ≡ O.List i → Spans m (Field.objectText m ob start n) 0 0
-  unfolding Field.objectText
-  span-list i e = rw e (empty m)
+  pub span-table : (i : ℕ) → ob ≡ O.Table i → r ≡ Field.noSpan → r ≡ Field.objectSpan ob start n
+  unfolding Field.objectSpan
+  span-table i e q = rw e q
 
-  pub span-table : (i : ℕ) → ob ≡ O.Table i → Spans m (Field.objectText m ob start n) 0 0
-  unfolding Field.objectText
-  span-table i e = rw e (empty m)
+module _ (f : Found) (r : Span) where
+  pub span-refused : (x : Refusal) → f ≡ Fd.Refused x → r ≡ Field.noSpan → r ≡ Field.foundSpan f
+  unfolding Field.foundSpan
+  span-refused x e q = rw e q
 
-module _ (m : List ℕ) (f : Found) where
-  pub span-refused : (x : Refusal) → f ≡ Fd.Refused x → Spans m (Field.foundText m f) 0 0
-  unfolding Field.foundText
-  span-refused x e = rw e (empty m)
+  pub span-absent : f ≡ Fd.Absent → r ≡ Field.noSpan → r ≡ Field.foundSpan f
+  unfolding Field.foundSpan
+  span-absent e q = rw e q
 
-  pub span-absent : f ≡ Fd.Absent → Spans m (Field.foundText m f) 0 0
-  unfolding Field.foundText
-  span-absent e = rw e (empty m)
+  pub span-unknown : (x : ℕ) → f ≡ Fd.Unknown x → r ≡ Field.noSpan → r ≡ Field.foundSpan f
+  unfolding Field.foundSpan
+  span-unknown x e q = rw e q
 
-  pub span-unknown : (x : ℕ) → f ≡ Fd.Unknown x → Spans m (Field.foundText m f) 0 0
-  unfolding Field.foundText
-  span-unknown x e = rw e (empty m)
+  pub span-value : (k : Kind) (x holder : ℕ) → f ≡ Fd.Value k x holder → r ≡ Field.noSpan → r ≡ Field.foundSpan f
+  unfolding Field.foundSpan
+  span-value k x holder e q = rw e q
 
-  pub span-value : (k : Kind) (x holder : ℕ) → f ≡ Fd.Value k x holder → Spans m (Field.foundText m f) 0 0
-  unfolding Field.foundText
-  span-value k x holder e = rw e (empty m)
+  pub span-struct : (i at holder : ℕ) → f ≡ Fd.Struct i at holder → r ≡ Field.noSpan → r ≡ Field.foundSpan f
+  unfolding Field.foundSpan
+  span-struct i at holder e q = rw e q
 
-  pub span-struct : (i at holder : ℕ) → f ≡ Fd.Struct i at holder → Spans m (Field.foundText m f) 0 0
-  unfolding Field.foundText
-  span-struct i at holder e = rw e (empty m)
+  pub span-object : (ob : Object) (at start n d : ℕ) → f ≡ Fd.Object ob at start n d → r ≡ Field.objectSpan ob start n → r ≡ Field.foundSpan f
+  unfolding Field.foundSpan
+  span-object ob at start n d e q = rw e q
 
-  pub span-object : (ob : Object) (at start n d : ℕ) → f ≡ Fd.Object ob at start n d → (x y : ℕ) → Spans m (Field.objectText m ob start n) x y
-      → Spans m (Field.foundText m f) x y
-  unfolding Field.foundText
-  span-object ob at start n d e x y h = rw e h
+pub span-found : (b m path : List ℕ) (f : Found) → f ≡ Field.fieldFound u48 b m path → (r : Span) → r ≡ Field.foundSpan f
+    → r ≡ Field.fieldSpan u48 b m path
+unfolding Field.fieldSpan
+span-found b m path f e r q = q ∙ ap Field.foundSpan e
 
-pub text-spans : (b m path : List ℕ) (f : Found) → f ≡ Field.fieldFound u48 b m path → (x y : ℕ) → Spans m (Field.foundText m f) x y
-    → Spans m (Field.fieldText u48 b m path) x y
-unfolding Field.fieldText
-text-spans b m path f e x y h = subst (λ (g : Found). Spans m (Field.foundText m g) x y) e h
+-- it lies within the message
+module _ (S : Schema) (m : List ℕ) where
+  object-inside : (ob : Object) (start n : ℕ) → start + W.contentSize u48 S ob n ≤ length m
+      → Field.objectSpan ob start n .start + Field.objectSpan ob start n .length ≤ length m
+  unfolding Field.objectSpan Field.spanAt Field.noSpan W.contentSize
+  object-inside O.Text start n h = omega arith
+  object-inside O.Bytes start n h = h
+  object-inside (O.List i) start n h = omega arith
+  object-inside (O.Table i) start n h = omega arith
+
+  found-inside : (f : Found) → FoundWithin S m f → Field.foundSpan f .start + Field.foundSpan f .length ≤ length m
+  unfolding Field.foundSpan Field.noSpan
+  found-inside (Fd.Refused r) h = omega arith
+  found-inside Fd.Absent h = omega arith
+  found-inside (Fd.Unknown x) h = omega arith
+  found-inside (Fd.Value k x holder) h = omega arith
+  found-inside (Fd.Struct i at holder) h = omega arith
+  found-inside (Fd.Object ob at start n d) h = object-inside ob start n (h .1)
+
+  pub span-inside : (f : Found) → FoundWithin S m f → (r : Span) → r ≡ Field.foundSpan f → r .start + r .length ≤ length m
+  span-inside f h r e = subst (λ (x : Span). x .start + x .length ≤ length m) (sym e) (found-inside f h)
 
 pub part-is : (m : List ℕ) (start n : ℕ) → take (start + n - start) (drop start m) ≡ take n (drop start m)
 part-is m start n = let z : start + n - start ≡ n = omega arith in ap (λ (k : ℕ). take k (drop start m)) z
 
-pub text-is : (m part : List ℕ) (x y : ℕ) → Spans m part x y → (r : List ℕ) → r ≡ take y (drop x m) → r ≡ part
-text-is m part x y h r e = e ∙ h .is
+pub text-is : (b m path : List ℕ) (x : Span) → x ≡ Field.fieldSpan u48 b m path → (r : List ℕ) → r ≡ take (x .length) (drop (x .start) m)
+    → r ≡ Field.fieldText u48 b m path
+unfolding Field.fieldText Field.textOf
+text-is b m path x e r q = q ∙ ap (λ (y : Span). take (y .length) (drop (y .start) m)) e
 
 -- ---- case numbers
 pub bit-set : (x : Bool) → x ≡ true → _≡_ {A = ℕ} 1 (pick x 1 0)
@@ -92,35 +108,35 @@ pub bit-clear : (x : Bool) → x ≡ false → _≡_ {A = ℕ} 0 (pick x 1 0)
 bit-clear x e = rw e
 
 module _ (q : Answer) where
-  pub case-boolean : (x : Bool) → q ≡ A.Boolean x → (v : ℕ) → v ≡ pick x 1 0 → record { case = 0; a = v; b = 0; c = 0 } ≡ caseOf q
-  unfolding caseOf
+  pub case-boolean : (x : Bool) → q ≡ A.Boolean x → (v : ℕ) → v ≡ pick x 1 0 → record { case = 0; a = v; b = 0; c = 0 } ≡ answerCase q
+  unfolding answerCase
   case-boolean x e v ev = rw (e, ev)
 
   pub case-number : (x w : ℕ) (s : Bool) → q ≡ A.Number x w s → (u : ℕ) → u ≡ w → (v : ℕ) → v ≡ pick s 1 0
-      → record { case = 1; a = x; b = u; c = v } ≡ caseOf q
-  unfolding caseOf
+      → record { case = 1; a = x; b = u; c = v } ≡ answerCase q
+  unfolding answerCase
   case-number x w s e u eu v ev = rw (e, eu, ev)
 
-  pub case-float : (x w : ℕ) → q ≡ A.Float x w → (u : ℕ) → u ≡ w → record { case = 2; a = x; b = u; c = 0 } ≡ caseOf q
-  unfolding caseOf
+  pub case-float : (x w : ℕ) → q ≡ A.Float x w → (u : ℕ) → u ≡ w → record { case = 2; a = x; b = u; c = 0 } ≡ answerCase q
+  unfolding answerCase
   case-float x w e u eu = rw (e, eu)
 
-  pub case-object : (k at n : ℕ) → q ≡ A.Object k at n → (u : ℕ) → u ≡ k → record { case = 3; a = u; b = at; c = n } ≡ caseOf q
-  unfolding caseOf
+  pub case-object : (k at n : ℕ) → q ≡ A.Object k at n → (u : ℕ) → u ≡ k → record { case = 3; a = u; b = at; c = n } ≡ answerCase q
+  unfolding answerCase
   case-object k at n e u eu = rw (e, eu)
 
-  pub case-struct : (at : ℕ) → q ≡ A.Struct at → record { case = 4; a = at; b = 0; c = 0 } ≡ caseOf q
-  unfolding caseOf
+  pub case-struct : (at : ℕ) → q ≡ A.Struct at → record { case = 4; a = at; b = 0; c = 0 } ≡ answerCase q
+  unfolding answerCase
   case-struct at e = rw e
 
-  pub case-absent : q ≡ A.Absent → record { case = 5; a = 0; b = 0; c = 0 } ≡ caseOf q
-  unfolding caseOf
+  pub case-absent : q ≡ A.Absent → record { case = 5; a = 0; b = 0; c = 0 } ≡ answerCase q
+  unfolding answerCase
   case-absent e = rw e
 
-  pub case-unknown : (x : ℕ) → q ≡ A.Unknown x → record { case = 6; a = x; b = 0; c = 0 } ≡ caseOf q
-  unfolding caseOf
+  pub case-unknown : (x : ℕ) → q ≡ A.Unknown x → record { case = 6; a = x; b = 0; c = 0 } ≡ answerCase q
+  unfolding answerCase
   case-unknown x e = rw e
 
-  pub case-refused : (r : Refusal) → q ≡ A.Refused r → (u : ℕ) → u ≡ r .number → record { case = 7; a = u; b = r .place; c = 0 } ≡ caseOf q
-  unfolding caseOf
+  pub case-refused : (r : Refusal) → q ≡ A.Refused r → (u : ℕ) → u ≡ r .number → record { case = 7; a = u; b = r .place; c = 0 } ≡ answerCase q
+  unfolding answerCase
   case-refused r e u eu = rw (e, eu)

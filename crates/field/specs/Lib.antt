@@ -1,3 +1,3 @@
--- What is found lies within the message; an answer as a case number; a reader's answers.
+-- What is found lies within the message; what the loop over a list's steps has still to do.
 pub mod Within
-pub mod Cases
+pub mod Stepping

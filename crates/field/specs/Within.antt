@@ -1,8 +1,7 @@
 -- What a step and a path come to: indices are in range, and what is found lies within the message.
-use mathlib.Core.Path.{_≡_}
 use Prim.Native.Nat.{ℕ, _+_, _<_, _≤_}
 use mathlib.Core.List.{List}
-use lib.ListN.{length, getD, take, drop}
+use lib.ListN.{length, getD}
 use Rattle.coding.specs.Bytes.{u48}
 use Rattle.coding.specs.Schema.{Schema}
 use Rattle.coding.specs.Structs.{structSize}
@@ -35,8 +34,3 @@ FoundWithin S m (Fd.Unknown x) = Unit {0}
 FoundWithin S m (Fd.Value k x holder) = KindSound S k
 FoundWithin S m (Fd.Struct i at holder) = (i < length (S .structs)) × (at + structSize S i ≤ length m)
 FoundWithin S m (Fd.Object ob at start n d) = ObjectSound S ob × (start + contentSize u48 S ob n ≤ length m)
-
--- n bytes from `start` on are the part of the message that is meant
-pub record Spans (m part : List ℕ) (start n : ℕ) : Type 0 where
-  pub is : take n (drop start m) ≡ part
-  pub inside : start + n ≤ length m

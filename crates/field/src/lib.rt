@@ -1,6 +1,7 @@
 // One field's answer at a path, a text or bytes as a part of the message, and the list reader's steps. Only the objects and
 // members on the path are judged.
 use coding::Answer;
+use coding::Case;
 use coding::Cursor;
 use coding::Flat;
 use coding::Found;
@@ -10,11 +11,13 @@ use coding::Object;
 use coding::Opened;
 use coding::Place;
 use coding::Refusal;
+use coding::Span;
 use coding::Step;
 ghost use mathlib.Core.Path.{_≡_};
 ghost use mathlib.Core.Bool.{Bool, true, false};
 ghost use Prim.Native.Nat.{ℕ, _+_, _-_, _*_, _<_, _≤_, _^_};
 ghost use lib.ListN.{length, getD, take, drop};
+ghost use mathlib.Core.List.{_++_};
 ghost use Rattle.coding.specs.Bytes as B;
 ghost use Rattle.coding.specs.Field as F;
 ghost use Rattle.coding.specs.Layout as L;
@@ -28,8 +31,8 @@ ghost use Rattle.laws.specs.Sound.{FlatSound, ObjectSound, KindSound};
 ghost use Rattle.layout.specs.Bounds.{Laid};
 ghost use Rattle.schema.specs.Directory.{Accepted};
 ghost use Rattle.step.specs.Lead as D;
-ghost use Rattle.field.specs.Cases as C;
-ghost use Rattle.field.specs.Within.{Readable, StepWithin, FoundWithin, Spans};
+ghost use Rattle.field.specs.Stepping as St;
+ghost use Rattle.field.specs.Within.{Readable, StepWithin, FoundWithin};
 
 // ---- arrivals
 fn refuse(n: u8, at: usize) -> Found
@@ -398,13 +401,6 @@ pub fn field(b: &[u8], m: &[u8], path: &[u32]) -> Answer
 }
 
 // ---- the answer as a case number and three numbers
-pub struct Case {
-    pub case: u32,
-    pub a: u64,
-    pub b: u64,
-    pub c: u64,
-}
-
 fn bit(x: bool) -> u64
     ensures { λ r. ⌜ r ≡ pick x 1 0 ⌝ }
 {
@@ -415,7 +411,7 @@ fn bit(x: bool) -> u64
 }
 
 pub fn case_of(answer: Answer) -> Case
-    ensures { λ r. ⌜ r ≡ C.caseOf answer ⌝ }
+    ensures { λ r. ⌜ r ≡ F.answerCase answer ⌝ }
 {
     match answer {
         Answer::Boolean(x) => Case {
@@ -470,65 +466,56 @@ pub fn case_of(answer: Answer) -> Case
 }
 
 // ---- a text or bytes as a part of the message
-// Where a part of the message stands.
-pub struct Span {
-    pub start: usize,
-    pub length: usize,
+fn no_span() -> Span
+    ensures { λ r. ⌜ r ≡ F.noSpan ⌝ }
+{
+    Span {
+        there: false,
+        start: 0,
+        length: 0,
+    }
 }
 
-fn object_span(b: &[u8], m: &[u8], ob: Object, start: usize, n: usize) -> Span
-    requires { ⌜ start + W.contentSize B.u48 (P.parse (now b)) ob n ≤ length (now m) ⌝ }
-    ensures { λ r. ⌜ Spans (now (m .entry)) (F.objectText (now (m .entry)) ob start n) (r .start) (r .length) ⌝ }
+fn span_at(start: usize, n: usize) -> Span
+    ensures { λ r. ⌜ r ≡ F.spanAt start n ⌝ }
+{
+    Span {
+        there: true,
+        start,
+        length: n,
+    }
+}
+
+fn object_span(ob: Object, start: usize, n: usize) -> Span
+    ensures { λ r. ⌜ r ≡ F.objectSpan ob start n ⌝ }
 {
     match ob {
-        Object::Text => Span { start, length: n },
-        Object::Bytes => Span { start, length: n },
-        Object::List(_) => Span {
-            start: 0,
-            length: 0,
-        },
-        Object::Table(_) => Span {
-            start: 0,
-            length: 0,
-        },
+        Object::Text => span_at(start, n),
+        Object::Bytes => span_at(start, n),
+        Object::List(_) => no_span(),
+        Object::Table(_) => no_span(),
     }
 }
 
-fn span_of(b: &[u8], m: &[u8], f: Found) -> Span
-    requires { ⌜ FoundWithin (P.parse (now b)) (now m) f ⌝ }
-    ensures { λ r. ⌜ Spans (now (m .entry)) (F.foundText (now (m .entry)) f) (r .start) (r .length) ⌝ }
+fn span_of(f: Found) -> Span
+    ensures { λ r. ⌜ r ≡ F.foundSpan f ⌝ }
 {
     match f {
-        Found::Refused(_) => Span {
-            start: 0,
-            length: 0,
-        },
-        Found::Absent => Span {
-            start: 0,
-            length: 0,
-        },
-        Found::Unknown(_) => Span {
-            start: 0,
-            length: 0,
-        },
-        Found::Value(_, _, _) => Span {
-            start: 0,
-            length: 0,
-        },
-        Found::Struct(_, _, _) => Span {
-            start: 0,
-            length: 0,
-        },
-        Found::Object(ob, _, start, n, _) => object_span(b, m, ob, start, n),
+        Found::Refused(_) => no_span(),
+        Found::Absent => no_span(),
+        Found::Unknown(_) => no_span(),
+        Found::Value(_, _, _) => no_span(),
+        Found::Struct(_, _, _) => no_span(),
+        Found::Object(ob, _, start, n, _) => object_span(ob, start, n),
     }
 }
 
-// Where the text or the bytes stand that a path leads to; an empty part where it leads to anything else.
+// Where the text or the bytes stand that a path leads to, if it leads to such.
 pub fn text_span(b: &[u8], m: &[u8], path: &[u32]) -> Span
-    ensures { λ r. ⌜ Spans (now (m .entry)) (F.fieldText B.u48 (now (b .entry)) (now (m .entry)) (now (path .entry))) (r .start) (r .length) ⌝ }
+    ensures { λ r. ⌜ (r ≡ F.fieldSpan B.u48 (now (b .entry)) (now (m .entry)) (now (path .entry))) × (r .start + r .length ≤ length (now (m .entry))) ⌝ }
 {
     let f = field_found(b, m, path);
-    span_of(b, m, f)
+    span_of(f)
 }
 
 fn part_at<'a>(m: &'a [u8], start: usize, n: usize) -> &'a [u8]
@@ -612,7 +599,7 @@ pub fn reader_start(b: &[u8], m: &[u8], path: &[u32]) -> Found
 // The answer of the step at element j of the list that was found.
 fn reader_step(b: &[u8], dir: &[u16], m: &[u8], list: Found, j: usize) -> Answer
     requires { ⌜ (Accepted (now b) (now dir)) × (Readable (now m)) × (FoundWithin (P.parse (now b)) (now m) list) ⌝ }
-    ensures { λ r. ⌜ r ≡ F.answerOf (F.partOf B.u48 (P.parse (now (b .entry))) (now (m .entry)) list j) ⌝ }
+    ensures { λ r. ⌜ r ≡ F.listGives B.u48 (P.parse (now (b .entry))) (now (m .entry)) list j ⌝ }
 {
     let f = part_of(b, dir, m, list, j);
     answer_of(b, m, f)
@@ -620,7 +607,7 @@ fn reader_step(b: &[u8], dir: &[u16], m: &[u8], list: Found, j: usize) -> Answer
 
 fn reader_at(b: &[u8], dir: &[u16], m: &[u8], path: &[u32], j: usize) -> Answer
     requires { ⌜ Accepted (now b) (now dir) ⌝ }
-    ensures { λ r. ⌜ r ≡ C.readerGives B.u48 (now (b .entry)) (now (m .entry)) (now (path .entry)) j ⌝ }
+    ensures { λ r. ⌜ r ≡ F.readerGives B.u48 (now (b .entry)) (now (m .entry)) (now (path .entry)) j ⌝ }
 {
     let list = reader_by(b, dir, m, path);
     if 16777215 < m.len() {
@@ -631,7 +618,7 @@ fn reader_at(b: &[u8], dir: &[u16], m: &[u8], path: &[u32], j: usize) -> Answer
 
 // The answer of the step at element j, of any message by any schema.
 pub fn reader_answer(b: &[u8], m: &[u8], path: &[u32], j: usize) -> Answer
-    ensures { λ r. ⌜ r ≡ C.readerGives B.u48 (now (b .entry)) (now (m .entry)) (now (path .entry)) j ⌝ }
+    ensures { λ r. ⌜ r ≡ F.readerGives B.u48 (now (b .entry)) (now (m .entry)) (now (path .entry)) j ⌝ }
 {
     let mut dir: [u16; 384] = [0; 384];
     if schema::judge_schema(b, &mut dir) {
@@ -652,4 +639,91 @@ pub fn reader_next(n: usize, j: usize) -> usize
         return j + 1;
     }
     j
+}
+
+// ---- many steps of the list reader at once
+fn list_count(list: Found) -> usize
+    ensures { λ r. ⌜ r ≡ F.listCount list ⌝ }
+{
+    match list {
+        Found::Refused(_) => 0,
+        Found::Absent => 0,
+        Found::Unknown(_) => 0,
+        Found::Value(_, _, _) => 0,
+        Found::Struct(_, _, _) => 0,
+        Found::Object(_, _, _, n, _) => n,
+    }
+}
+
+fn put_case(out: &mut [u64], at: usize, x: Case)
+    requires { ⌜ at + 4 ≤ length (now out) ⌝ }
+    ensures { λ _. ⌜ now (out .exit) ≡ take at (now (out .entry)) ++ (F.caseNumbers x ++ drop (at + 4) (now (out .entry))) ⌝ }
+{
+    out[at] = x.case as u64;
+    out[at + 1] = x.a;
+    out[at + 2] = x.b;
+    out[at + 3] = x.c;
+}
+
+// As many steps as the output has room for, where every step answers the same.
+fn put_same(out: &mut [u64], answer: Answer)
+    ensures { λ _. ⌜ now (out .exit) ≡ F.stepsOver (St.always answer) 0 0 (now (out .entry)) ⌝ }
+{
+    let x = case_of(answer);
+    let steps = out.len() / 4;
+    let mut i: usize = 0;
+    while i < steps {
+        put_case(out, 4 * i, x);
+        i += 1;
+    }
+}
+
+// As many steps as the output has room for, from an element on, of the list that was found.
+fn put_steps(b: &[u8], dir: &[u16], m: &[u8], list: Found, from: usize, out: &mut [u64])
+    requires { ⌜ (Accepted (now b) (now dir)) × (Readable (now m)) × (FoundWithin (P.parse (now b)) (now m) list) ⌝ }
+    ensures { λ _. ⌜ now (out .exit) ≡ F.stepsOver (F.listGives B.u48 (P.parse (now (b .entry))) (now (m .entry)) list) (F.listCount list) from (now (out .entry)) ⌝ }
+{
+    let n = list_count(list);
+    let steps = out.len() / 4;
+    let mut j = from;
+    let mut i: usize = 0;
+    while i < steps {
+        let answer = reader_step(b, dir, m, list, j);
+        put_case(out, 4 * i, case_of(answer));
+        j = reader_next(n, j);
+        i += 1;
+    }
+}
+
+// By a schema that was judged before.
+fn list_by(b: &[u8], dir: &[u16], m: &[u8], path: &[u32], from: usize, out: &mut [u64]) -> usize
+    requires { ⌜ Accepted (now b) (now dir) ⌝ }
+    ensures { λ r. ⌜ r ≡ F.readerCount B.u48 (now (b .entry)) (now (m .entry)) (now (path .entry)) ⌝ }
+    ensures { λ _. ⌜ now (out .exit) ≡ F.readerOver B.u48 (now (b .entry)) (now (m .entry)) (now (path .entry)) from (now (out .entry)) ⌝ }
+{
+    let list = reader_by(b, dir, m, path);
+    if 16777215 < m.len() {
+        put_same(out, answer_of(b, m, list));
+        return 0;
+    }
+    put_steps(b, dir, m, list, from, out);
+    list_count(list)
+}
+
+// Many steps of a list reader, of any message by any schema: from an element on, the case and the three numbers of each step,
+// as many as the output has room for. Answers how many elements the list has.
+pub fn read_list(b: &[u8], m: &[u8], path: &[u32], from: usize, out: &mut [u64]) -> usize
+    ensures { λ r. ⌜ r ≡ F.readerCount B.u48 (now (b .entry)) (now (m .entry)) (now (path .entry)) ⌝ }
+    ensures { λ _. ⌜ now (out .exit) ≡ F.readerOver B.u48 (now (b .entry)) (now (m .entry)) (now (path .entry)) from (now (out .entry)) ⌝ }
+{
+    let mut dir: [u16; 384] = [0; 384];
+    if schema::judge_schema(b, &mut dir) {
+        return list_by(b, &dir, m, path, from, out);
+    }
+    let why = Refusal {
+        number: 1,
+        place: 0,
+    };
+    put_same(out, Answer::Refused(why));
+    0
 }

@@ -3,7 +3,7 @@
 use coding::Answer;
 ghost use mathlib.Core.Path.{_≡_};
 ghost use Rattle.coding.specs.Bytes as B;
-ghost use Rattle.field.specs.Cases as C;
+ghost use Rattle.coding.specs.Field as F;
 
 pub struct ListReader<'a, 'b, 'c> {
     pub schema: &'a [u8],
@@ -30,7 +30,7 @@ pub fn new<'a, 'b, 'c>(
 
 // The answer of the step at the reader's element.
 pub fn answer<'a, 'b, 'c>(r: ListReader<'a, 'b, 'c>) -> Answer
-    ensures { λ q. ⌜ q ≡ C.readerGives B.u48 (now (r .entry .schema)) (now (r .entry .message)) (now (r .entry .path)) (r .entry .element) ⌝ }
+    ensures { λ q. ⌜ q ≡ F.readerGives B.u48 (now (r .entry .schema)) (now (r .entry .message)) (now (r .entry .path)) (r .entry .element) ⌝ }
 {
     field::reader_answer(r.schema, r.message, r.path, r.element)
 }

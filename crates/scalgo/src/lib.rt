@@ -1,7 +1,12 @@
 // The library's C interface: thin, no logic. include/scalgo.h declares it.
 use coding::Budget;
 ghost use mathlib.Core.Path.{_≡_};
+ghost use Prim.Native.Nat.{_+_, _≤_};
+ghost use lib.ListN as N;
 ghost use Rattle.coding.specs.Bytes as B;
+ghost use Rattle.coding.specs.Field as F;
+ghost use Rattle.coding.specs.Lists.{pick};
+ghost use Rattle.coding.specs.Message as M;
 ghost use Rattle.coding.specs.Walk as W;
 
 // Judges a message by a packed schema: answers the number, and stores place and visits.
@@ -21,4 +26,88 @@ pub extern "C" fn scalgo_judge(
     *place = v.place as u64;
     *visits = v.visits;
     v.number as u32
+}
+
+// One field's answer at a path: answers its case, and stores the case's three numbers.
+#[no_mangle]
+pub extern "C" fn scalgo_field(
+    schema: &[u8],
+    message: &[u8],
+    path: &[u32],
+    a: &mut u64,
+    b: &mut u64,
+    c: &mut u64,
+) -> u32
+    ensures { λ r. ⌜ r ≡ F.answerCase (F.field B.u48 (now (schema .entry)) (now (message .entry)) (now (path .entry))) .case ⌝ }
+    ensures { λ _. ⌜ now (a .exit) ≡ F.answerCase (F.field B.u48 (now (schema .entry)) (now (message .entry)) (now (path .entry))) .a ⌝ }
+    ensures { λ _. ⌜ now (b .exit) ≡ F.answerCase (F.field B.u48 (now (schema .entry)) (now (message .entry)) (now (path .entry))) .b ⌝ }
+    ensures { λ _. ⌜ now (c .exit) ≡ F.answerCase (F.field B.u48 (now (schema .entry)) (now (message .entry)) (now (path .entry))) .c ⌝ }
+{
+    let answer = field::case_of(field::field(schema, message, path));
+    *a = answer.a;
+    *b = answer.b;
+    *c = answer.c;
+    answer.case
+}
+
+// Where the text or the bytes stand that a path leads to: answers 1 where it leads to such and 0 otherwise, and stores where the
+// part of the message starts and its length.
+#[no_mangle]
+pub extern "C" fn scalgo_text(
+    schema: &[u8],
+    message: &[u8],
+    path: &[u32],
+    start: &mut u64,
+    length: &mut u64,
+) -> u32
+    ensures { λ r. ⌜ r ≡ pick (F.fieldSpan B.u48 (now (schema .entry)) (now (message .entry)) (now (path .entry)) .there) 1 0 ⌝ }
+    ensures { λ _. ⌜ now (start .exit) ≡ F.fieldSpan B.u48 (now (schema .entry)) (now (message .entry)) (now (path .entry)) .start ⌝ }
+    ensures { λ _. ⌜ now (length .exit) ≡ F.fieldSpan B.u48 (now (schema .entry)) (now (message .entry)) (now (path .entry)) .length ⌝ }
+    ensures { λ _. ⌜ now (start .exit) + now (length .exit) ≤ N.length (now (message .entry)) ⌝ }
+{
+    let span = field::text_span(schema, message, path);
+    *start = span.start as u64;
+    *length = span.length as u64;
+    span.there as u32
+}
+
+// Many steps of a list reader: stores the case and the three numbers of each step from an element on, as many steps as there is
+// room for, and answers how many elements the list has.
+#[no_mangle]
+pub extern "C" fn scalgo_list(
+    schema: &[u8],
+    message: &[u8],
+    path: &[u32],
+    from: u64,
+    cases: &mut [u64],
+) -> u64
+    ensures { λ r. ⌜ r ≡ F.readerCount B.u48 (now (schema .entry)) (now (message .entry)) (now (path .entry)) ⌝ }
+    ensures { λ _. ⌜ now (cases .exit) ≡ F.readerOver B.u48 (now (schema .entry)) (now (message .entry)) (now (path .entry)) from (now (cases .entry)) ⌝ }
+{
+    field::read_list(schema, message, path, from as usize, cases) as u64
+}
+
+// Reads a message to its value sheet: answers the number, and stores place, visits and the sheet's length.
+#[no_mangle]
+pub extern "C" fn scalgo_read(
+    schema: &[u8],
+    message: &[u8],
+    budget: u32,
+    sheet: &mut [u8],
+    place: &mut u64,
+    visits: &mut u32,
+    length: &mut u64,
+) -> u32
+    ensures { λ r. ⌜ r ≡ M.readAnswer B.u48 (now (schema .entry)) (now (message .entry)) (record { visits = budget }) (now (sheet .entry)) .verdict .number ⌝ }
+    ensures { λ _. ⌜ now (place .exit) ≡ M.readAnswer B.u48 (now (schema .entry)) (now (message .entry)) (record { visits = budget }) (now (sheet .entry)) .verdict .place ⌝ }
+    ensures { λ _. ⌜ now (visits .exit) ≡ M.readAnswer B.u48 (now (schema .entry)) (now (message .entry)) (record { visits = budget }) (now (sheet .entry)) .verdict .visits ⌝ }
+    ensures { λ _. ⌜ now (length .exit) ≡ M.readAnswer B.u48 (now (schema .entry)) (now (message .entry)) (record { visits = budget }) (now (sheet .entry)) .length ⌝ }
+    ensures { λ _. ⌜ now (sheet .exit) ≡ M.readOut B.u48 (now (schema .entry)) (now (message .entry)) (record { visits = budget }) (now (sheet .entry)) ⌝ }
+{
+    let answer = sheet::read(schema, message, Budget { visits: budget }, sheet);
+    let verdict = answer.verdict;
+    *place = verdict.place as u64;
+    *visits = verdict.visits;
+    *length = answer.length as u64;
+    verdict.number as u32
 }

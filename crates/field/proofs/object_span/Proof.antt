@@ -6,14 +6,26 @@ use Rattle.field.proofs.object_span.Tie as tie
 enum-told : tie.Need-enum-told
 enum-told c = search needs
 
+span-at-requires : tie.Need-span-at-requires
+span-at-requires c κs = search needs
+
 enum-told-2 : tie.Need-enum-told-2
 enum-told-2 c = search needs
+
+span-at-requires-2 : tie.Need-span-at-requires-2
+span-at-requires-2 c κs = search needs
 
 enum-told-3 : tie.Need-enum-told-3
 enum-told-3 c = search needs
 
+no-span-requires : tie.Need-no-span-requires
+no-span-requires c κs = search needs
+
 enum-told-4 : tie.Need-enum-told-4
 enum-told-4 c = search needs
+
+no-span-requires-2 : tie.Need-no-span-requires-2
+no-span-requires-2 c κs = search needs
 
 returns : tie.Need-returns
 returns c = search span-text
@@ -32,9 +44,13 @@ object-span-spec =
     tie.close
     (tie.spec
     enum-told
+    span-at-requires
     enum-told-2
+    span-at-requires-2
     enum-told-3
+    no-span-requires
     enum-told-4
+    no-span-requires-2
     returns
     returns-2
     returns-3

@@ -12,6 +12,7 @@ answer-of-requires : tie.Need-answer-of-requires
 answer-of-requires c κs = search next-within
 
 returns : tie.Need-returns
+unfolding Field.listGives
 returns c = c .answer-of .ensures ∙ ap Field.answerOf (c .before .part-of .ensures)
 
 pub reader-step-spec : {M : Type 1} → statement M

@@ -1,5 +1,4 @@
 use Rattle.field.proofs.TextCases.{span-refused, span-absent, span-unknown, span-value, span-struct, span-object}
-use Rattle.field.proofs.PartCases.{object-fits}
 use borrow.Author.Needs.{needs}
 use Rattle.field.proofs.span_of.Statement.{statement}
 use Rattle.field.proofs.span_of.Tie as tie
@@ -7,23 +6,38 @@ use Rattle.field.proofs.span_of.Tie as tie
 enum-told : tie.Need-enum-told
 enum-told c = search needs
 
+no-span-requires : tie.Need-no-span-requires
+no-span-requires c κs = search needs
+
 enum-told-2 : tie.Need-enum-told-2
 enum-told-2 c = search needs
+
+no-span-requires-2 : tie.Need-no-span-requires-2
+no-span-requires-2 c κs = search needs
 
 enum-told-3 : tie.Need-enum-told-3
 enum-told-3 c = search needs
 
+no-span-requires-3 : tie.Need-no-span-requires-3
+no-span-requires-3 c κs = search needs
+
 enum-told-4 : tie.Need-enum-told-4
 enum-told-4 c = search needs
 
+no-span-requires-4 : tie.Need-no-span-requires-4
+no-span-requires-4 c κs = search needs
+
 enum-told-5 : tie.Need-enum-told-5
 enum-told-5 c = search needs
+
+no-span-requires-5 : tie.Need-no-span-requires-5
+no-span-requires-5 c κs = search needs
 
 enum-known-f : tie.Need-enum-known-f
 enum-known-f c = search needs
 
 object-span-requires : tie.Need-object-span-requires
-object-span-requires c κs = search object-fits
+object-span-requires c κs = search needs
 
 returns : tie.Need-returns
 returns c = search span-refused
@@ -48,10 +62,15 @@ span-of-spec =
     tie.close
     (tie.spec
     enum-told
+    no-span-requires
     enum-told-2
+    no-span-requires-2
     enum-told-3
+    no-span-requires-3
     enum-told-4
+    no-span-requires-4
     enum-told-5
+    no-span-requires-5
     enum-known-f
     object-span-requires
     returns

@@ -42,7 +42,7 @@ use denote.Triple.Walked.{says, Stays, stay-none, walkOf, goes-none, Walks, ends
 use denote.Exit.{yes}
 use denote.Triple.Clauses.{ensured, lasts}
 use Rattle.coding.specs.Bytes as Bytes
-use Rattle.field.specs.Cases.{readerGives}
+use Rattle.coding.specs.Field.{readerGives}
 use Rattle.coding.specs.declared.Answer.{Answer}
 use Rattle.reader.specs.declared.ListReader.{ListReader}
 use Rattle.reader.proofs.ListReader as T

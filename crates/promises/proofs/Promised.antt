@@ -1,0 +1,92 @@
+-- The demands, of what the called functions answer.
+use mathlib.Core.Path.{_≡_, sym, ap, _∙_, subst}
+use mathlib.Core.List.{List, [], _∷_, _++_}
+use mathlib.Core.Logic.{_↔_}
+use mathlib.Core.Option.{Option, some, Option·some-injective}
+use Prim.Native.Nat.{ℕ, _≤_}
+use lib.ListN.{length, take}
+use Rattle.coding.specs.Bytes.{u48}
+use Rattle.coding.specs.Packed.{parse}
+use Rattle.coding.specs.Walk.{verdict}
+use Rattle.coding.specs.Value.{Value}
+use Rattle.coding.specs.Read.{messageRead}
+use Rattle.coding.specs.Sheet.{sheetTree, treeOf}
+use Rattle.coding.specs.Message.{messageSheet, readAnswer, readOut}
+use Rattle.coding.specs.Field as Field
+use Rattle.coding.specs.Append.{Appends, sheetWithout}
+use Rattle.coding.specs.declared.Object.the-variants as O
+use Rattle.coding.specs.declared.Found.the-variants as Fd
+use Rattle.coding.specs.declared.Answer.{Answer}
+use Rattle.coding.specs.declared.Answer.the-variants as A
+use Rattle.coding.specs.declared.Budget.{Budget}
+use Rattle.coding.specs.declared.Span.{Span}
+use Rattle.coding.specs.declared.Verdict.{Verdict}
+use Rattle.coding.specs.declared.ReadAnswer.{ReadAnswer}
+use Rattle.demands.specs.Arrivals.{LawfulMessage, messageArrivals}
+use Rattle.demands.specs.Reached.{accepted-exactly, accepted-visits}
+use Rattle.demands.specs.Sheets.{verdict-sheet-tree, verdict-sheet-lawful}
+use Rattle.demands.specs.Appending.{AreBytes, older-accepts, older-sheet}
+use Rattle.demands.specs.FieldEntries.{shown, textAt}
+use Rattle.demands.specs.Fields.{sheetEntry, sheet-entry, field-text}
+use Rattle.demands.specs.ListReader.{gives-path, gives-end}
+use Rattle.promises.proofs.Reading.{Handed, handed, given-room}
+
+-- ---- judging
+module _ (b m : List ℕ) (budget : Budget) (r : Verdict) (e : r ≡ verdict u48 b m budget) where
+  pub judges-exactly : (r .number ≡ 0) ↔ LawfulMessage u48 b m budget
+  judges-exactly = rw e (accepted-exactly u48 b m budget)
+
+  pub judges-arrivals : r .number ≡ 0 → r .visits ≡ messageArrivals u48 (parse b) m
+  judges-arrivals = rw e (accepted-visits u48 b m budget)
+
+module _ (older newer m : List ℕ) (budget : Budget) (older-bytes : AreBytes older) (r s : Verdict) (er : r ≡ verdict u48 older m budget)
+    (es : s ≡ verdict u48 newer m budget) where
+  pub both-judge : Appends older newer → s .number ≡ 0 → (r .number ≡ 0) × (r .visits ≤ s .visits)
+  both-judge appends = rw (er, es) (older-accepts older newer older-bytes appends u48 m budget)
+
+-- ---- reading to a sheet
+module _ (b m : List ℕ) (schema-bytes : AreBytes b) (message-bytes : AreBytes m) (budget : Budget) (out : List ℕ) (a : ReadAnswer) (out′ : List ℕ)
+    (ea : a ≡ readAnswer u48 b m budget out) (eo : out′ ≡ readOut u48 b m budget out) (h : a .verdict .number ≡ 0) where
+  got : Handed b m budget a out′
+  got = handed b m budget out a out′ ea eo h
+
+  pub reads-lawful : sheetTree (parse b) (take (a .length) out′) ≡ some (messageRead u48 (parse b) m)
+  reads-lawful = rw (got .sheet) (verdict-sheet-lawful b m schema-bytes message-bytes budget (got .accepted) (got .sized))
+
+  module _ (path : List ℕ) (short : length path ≤ 96) where
+    pub reads-field : (q : Answer) → q ≡ Field.field u48 b m path → shown q ≡ sheetEntry (parse b) (take (a .length) out′) path
+    reads-field q eq =
+        ap shown eq ∙ sheet-entry b m schema-bytes message-bytes budget (got .accepted) path short
+        ∙ ap (λ (s : List ℕ). sheetEntry (parse b) s path) (sym (got .sheet))
+
+    pub reads-text : (p : Span) → p ≡ Field.fieldSpan u48 b m path → (v : Value) → treeOf (parse b) (take (a .length) out′) ≡ some v
+        → Field.textOf m p ≡ textAt (parse b) (O.Table (parse b .root)) v path
+    unfolding Field.fieldText
+    reads-text p ep v ev =
+        let t = sym (verdict-sheet-tree b m schema-bytes message-bytes budget (got .accepted)) ∙ ap (treeOf (parse b)) (sym (got .sheet)) ∙ ev in
+        ap (Field.textOf m) ep ∙ field-text u48 b schema-bytes m budget (got .accepted) path short
+        ∙ ap (λ (w : Value). textAt (parse b) (O.Table (parse b .root)) w path) (Option·some-injective _ _ t)
+
+module _ (older newer m : List ℕ) (older-bytes : AreBytes older) (newer-bytes : AreBytes newer) (message-bytes : AreBytes m) (budget : Budget)
+    (older-out older-out′ newer-out newer-out′ : List ℕ) (a c : ReadAnswer) (ea : a ≡ readAnswer u48 older m budget older-out)
+    (eo : older-out′ ≡ readOut u48 older m budget older-out) (ec : c ≡ readAnswer u48 newer m budget newer-out)
+    (en : newer-out′ ≡ readOut u48 newer m budget newer-out) where
+  pub both-read : Appends older newer → c .verdict .number ≡ 0 → (a .verdict .number ≡ 14 → ⊥)
+      → (a .verdict .number ≡ 0) × (take (a .length) older-out′ ≡ sheetWithout older newer (take (c .length) newer-out′))
+  both-read appends h room =
+      let by-newer = handed newer m budget newer-out c newer-out′ ec en h in
+      let agrees = older-sheet older newer m older-bytes newer-bytes message-bytes appends budget (by-newer .accepted) in
+      let zero-too = given-room older m budget older-out a ea (agrees .accepts) room in
+      let by-older = handed older m budget older-out a older-out′ ea eo zero-too in
+      (zero-too, by-older .sheet ∙ agrees .sheet ∙ ap (sheetWithout older newer) (sym (by-newer .sheet)))
+
+-- ---- the list reader
+module _ (b m path : List ℕ) (j : ℕ) (q : Answer) (eq : q ≡ Field.readerGives u48 b m path j) where
+  pub steps-same : (element : List ℕ) (r : Answer) → r ≡ Field.field u48 b m element → (i at start n left : ℕ)
+      → Field.readerStart u48 b m path ≡ Fd.Object (O.List i) at start n left → element ≡ path ++ j ∷ [] → q ≡ r
+  steps-same element r er i at start n left has e =
+      eq ∙ gives-path u48 b m path i at start n left has j ∙ ap (Field.field u48 b m) (sym e) ∙ sym er
+
+  pub steps-end : (i at start n left : ℕ) → Field.readerStart u48 b m path ≡ Fd.Object (O.List i) at start n left → n ≤ j
+      → q ≡ A.Refused (Field.refusal 15 at)
+  steps-end i at start n left has l = eq ∙ gives-end u48 b m path i at start n left has j l

@@ -1,0 +1,13 @@
+use Rattle.promises.proofs.Promised.{judges-exactly, judges-arrivals}
+use borrow.Author.Needs.{needs}
+use Rattle.promises.proofs.judged.Statement.{statement}
+use Rattle.promises.proofs.judged.Tie as tie
+
+judge-requires : tie.Need-judge-requires
+judge-requires c κs = search needs
+
+returns : tie.Need-returns
+returns c = (judges-exactly _ _ _ _ (c .judge .ensures), judges-arrivals _ _ _ _ (c .judge .ensures))
+
+pub judged-spec : {M : Type 1} → statement M
+judged-spec = tie.close (tie.spec judge-requires returns)

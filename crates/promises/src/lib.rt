@@ -1,0 +1,154 @@
+// What the papers demand of the running functions. Each function here calls public functions of the library, and its contract is
+// the demand itself, in the words of `coding` and `demands`: it follows from the contracts of what is called and a theorem.
+use coding::Answer;
+use coding::Budget;
+use coding::Found;
+use coding::Object;
+use coding::ReadAnswer;
+use coding::Span;
+use coding::Verdict;
+ghost use mathlib.Core.Path.{_≡_};
+ghost use mathlib.Core.List.{List, [], _∷_, _++_};
+ghost use mathlib.Core.Logic.{_↔_};
+ghost use mathlib.Core.Option.{some};
+ghost use Prim.Native.Nat.{ℕ, _≤_};
+ghost use lib.ListN.{length, take};
+ghost use Rattle.coding.specs.Append as Ap;
+ghost use Rattle.coding.specs.Bytes as B;
+ghost use Rattle.coding.specs.Field as F;
+ghost use Rattle.coding.specs.Packed as P;
+ghost use Rattle.coding.specs.Read as Rd;
+ghost use Rattle.coding.specs.Sheet as S;
+ghost use Rattle.coding.specs.Value.{Value};
+ghost use Rattle.demands.specs.Arrivals.{LawfulMessage, messageArrivals};
+ghost use Rattle.demands.specs.FieldEntries.{shown, textAt};
+ghost use Rattle.demands.specs.Fields.{sheetEntry};
+
+// "a message is accepted exactly when every object reached by its schema is lawful, within depth and budget"; and its visits are
+// then the arrivals, shared objects each time.
+pub fn judged(schema: &[u8], message: &[u8], budget: Budget) -> Verdict
+    ensures exactly { λ r. ⌜ (r .number ≡ 0) ↔ LawfulMessage B.u48 (now (schema .entry)) (now (message .entry)) budget ⌝ }
+    ensures arrivals { λ r. ⌜ (r .number ≡ 0 → r .visits ≡ messageArrivals B.u48 (P.parse (now (schema .entry))) (now (message .entry))) ⌝ }
+{
+    judge::judge(schema, message, budget)
+}
+
+// "the sheet of an accepted message is lawful": what is handed out decodes to the values that the message holds.
+pub fn read(schema: &[u8], message: &[u8], budget: Budget, out: &mut [u8]) -> ReadAnswer
+    ensures { λ r. ⌜ (r .verdict .number ≡ 0 → S.sheetTree (P.parse (now (schema .entry))) (take (r .length) (now (out .exit))) ≡ some (Rd.messageRead B.u48 (P.parse (now (schema .entry))) (now (message .entry)))) ⌝ }
+{
+    sheet::read(schema, message, budget, out)
+}
+
+// The verdicts of two schemas, of which the newer appends to the older.
+pub struct Verdicts {
+    pub older: Verdict,
+    pub newer: Verdict,
+}
+
+// "whatever bytes the newer accepts with a budget, the older accepts with the same budget"
+pub fn judged_by_both(older: &[u8], newer: &[u8], message: &[u8], budget: Budget) -> Verdicts
+    ensures { λ r. ⌜ (Ap.Appends (now (older .entry)) (now (newer .entry)) → r .newer .number ≡ 0 → (r .older .number ≡ 0) × (r .older .visits ≤ r .newer .visits)) ⌝ }
+{
+    let by_older = judge::judge(older, message, budget);
+    let by_newer = judge::judge(newer, message, budget);
+    Verdicts {
+        older: by_older,
+        newer: by_newer,
+    }
+}
+
+// The sheets by two schemas, of which the newer appends to the older. The older's goes to the first output.
+pub struct Sheets {
+    pub older: ReadAnswer,
+    pub newer: ReadAnswer,
+}
+
+// "the older's sheet is the newer's sheet without the appended members, as bytes", given room: wherever 14 is not the answer.
+pub fn read_by_both(
+    older: &[u8],
+    newer: &[u8],
+    message: &[u8],
+    budget: Budget,
+    first: &mut [u8],
+    second: &mut [u8],
+) -> Sheets
+    ensures { λ r. ⌜ (Ap.Appends (now (older .entry)) (now (newer .entry)) → r .newer .verdict .number ≡ 0 → (r .older .verdict .number ≡ 14 → ⊥) → (r .older .verdict .number ≡ 0) × (take (r .older .length) (now (first .exit)) ≡ Ap.sheetWithout (now (older .entry)) (now (newer .entry)) (take (r .newer .length) (now (second .exit))))) ⌝ }
+{
+    let by_older = sheet::read(older, message, budget, first);
+    let by_newer = sheet::read(newer, message, budget, second);
+    Sheets {
+        older: by_older,
+        newer: by_newer,
+    }
+}
+
+// One field and the whole sheet of a message.
+pub struct FieldAndSheet {
+    pub field: Answer,
+    pub sheet: ReadAnswer,
+}
+
+// "On an accepted message it equals the sheet's entry."
+pub fn field_and_sheet(
+    schema: &[u8],
+    message: &[u8],
+    budget: Budget,
+    path: &[u32],
+    out: &mut [u8],
+) -> FieldAndSheet
+    ensures { λ r. ⌜ (r .sheet .verdict .number ≡ 0 → length (now (path .entry)) ≤ 96 → shown (r .field) ≡ sheetEntry (P.parse (now (schema .entry))) (take (r .sheet .length) (now (out .exit))) (now (path .entry))) ⌝ }
+{
+    let answer = field::field(schema, message, path);
+    let read = sheet::read(schema, message, budget, out);
+    FieldAndSheet {
+        field: answer,
+        sheet: read,
+    }
+}
+
+// Where a text stands, and the whole sheet of a message.
+pub struct TextAndSheet {
+    pub text: Span,
+    pub sheet: ReadAnswer,
+}
+
+// "texts and bytes can be had as a part of the message": on an accepted message it is the text of the sheet there.
+pub fn text_and_sheet(
+    schema: &[u8],
+    message: &[u8],
+    budget: Budget,
+    path: &[u32],
+    out: &mut [u8],
+) -> TextAndSheet
+    ensures { λ r. ⌜ (r .sheet .verdict .number ≡ 0 → length (now (path .entry)) ≤ 96 → (v : Value) → S.treeOf (P.parse (now (schema .entry))) (take (r .sheet .length) (now (out .exit))) ≡ some v → F.textOf (now (message .entry)) (r .text) ≡ textAt (P.parse (now (schema .entry))) (Object.Table (P.parse (now (schema .entry)) .root)) v (now (path .entry))) ⌝ }
+{
+    let text = field::text_span(schema, message, path);
+    let read = sheet::read(schema, message, budget, out);
+    TextAndSheet { text, sheet: read }
+}
+
+// A step of the list reader and the field at the element's path, which is given whole.
+pub struct StepAndField {
+    pub step: Answer,
+    pub field: Answer,
+}
+
+// "Each step answers as that element's path would"; "after the last it answers 15 at the list and stays".
+pub fn step_and_field(
+    schema: &[u8],
+    message: &[u8],
+    path: &[u32],
+    element: usize,
+    whole: &[u32],
+) -> StepAndField
+    ensures same { λ r. ⌜ ((i at start n left : ℕ) → F.readerStart B.u48 (now (schema .entry)) (now (message .entry)) (now (path .entry)) ≡ Found.Object (Object.List i) at start n left → now (whole .entry) ≡ now (path .entry) ++ element ∷ [] → r .step ≡ r .field) ⌝ }
+    ensures end { λ r. ⌜ ((i at start n left : ℕ) → F.readerStart B.u48 (now (schema .entry)) (now (message .entry)) (now (path .entry)) ≡ Found.Object (Object.List i) at start n left → n ≤ element → r .step ≡ Answer.Refused (F.refusal 15 at)) ⌝ }
+{
+    let step = field::reader_answer(schema, message, path, element);
+    let answer = field::field(schema, message, whole);
+    StepAndField {
+        step,
+        field: answer,
+    }
+}

@@ -1,0 +1,20 @@
+use Rattle.coding.specs.declared.Case.{Case}
+use Rattle.coding.specs.Field.{answerCase}
+use mathlib.Core.Path.{_≡_, ap, _∙_}
+use borrow.Author.Needs.{needs}
+use Rattle.scalgo.proofs.scalgo_field.Statement.{statement}
+use Rattle.scalgo.proofs.scalgo_field.Tie as tie
+
+field-requires : tie.Need-field-requires
+field-requires c κs = search needs
+
+case-of-requires : tie.Need-case-of-requires
+case-of-requires c κs = search needs
+
+returns : tie.Need-returns
+returns c =
+    let e = c .case-of .ensures ∙ ap answerCase (c .before .field .ensures) in
+    (ap (λ (x : Case). x .case) e, (ap (λ (x : Case). x .a) e, (ap (λ (x : Case). x .b) e, ap (λ (x : Case). x .c) e)))
+
+pub scalgo-field-spec : {M : Type 1} → statement M
+scalgo-field-spec = tie.close (tie.spec field-requires case-of-requires returns)
