@@ -1,4 +1,6 @@
-//! One field of a message.
+//! One field of a message, and a text or bytes as a part of it.
+
+use crate::Answer;
 
 extern "C" {
     fn scalgo_field(
@@ -12,62 +14,37 @@ extern "C" {
         b: *mut u64,
         c: *mut u64,
     ) -> u32;
-}
 
-/// What stands at the end of a path.
-#[derive(Clone, Copy, Debug, PartialEq, Eq)]
-pub enum Answer {
-    /// A boolean.
-    Boolean(bool),
-    /// A number: its bits, zero above the width; its width in bits; whether it has a sign.
-    Number { bits: u64, width: u32, signed: bool },
-    /// A float: its bits, and its width in bits.
-    Float { bits: u64, width: u32 },
-    /// An object: its record kind (13 text, 14 bytes, 15 list, 16 table), its place and its length.
-    Object { kind: u8, place: u64, length: u64 },
-    /// A struct, where it starts.
-    Struct { place: u64 },
-    /// No value.
-    Absent,
-    /// An enum's number or a union's choice that the schema does not know.
-    Unknown(u16),
-    /// A refusal: its number, and where the last object judged stands.
-    Refused { number: u32, place: u64 },
-}
-
-impl Answer {
-    /// The library's case with its numbers, each within the type that it has here.
-    fn new(case: u32, a: u64, b: u64, c: u64) -> Answer {
-        match case {
-            0 => Answer::Boolean(a != 0),
-            1 => Answer::Number {
-                bits: a,
-                width: b as u32,
-                signed: c != 0,
-            },
-            2 => Answer::Float {
-                bits: a,
-                width: b as u32,
-            },
-            3 => Answer::Object {
-                kind: a as u8,
-                place: b,
-                length: c,
-            },
-            4 => Answer::Struct { place: a },
-            5 => Answer::Absent,
-            6 => Answer::Unknown(a as u16),
-            // There is no case above 7.
-            _ => Answer::Refused {
-                number: a as u32,
-                place: b,
-            },
-        }
-    }
+    fn scalgo_text(
+        schema: *const u8,
+        schema_len: usize,
+        message: *const u8,
+        message_len: usize,
+        path: *const u32,
+        path_len: usize,
+        start: *mut u64,
+        length: *mut u64,
+    ) -> u32;
 }
 
 /// Reads one field. A path names a member, element or struct member per number; unions are passed
 /// through without one. Only what is on the path is judged.
+///
+/// ```
+/// # let schema = b"\x00\x00\x00\x01\x00\x4C\x49\x43\x45\x02\x10\x00\x68\x00";
+/// # let message = b"\xB3\xC4\xC0\xB5\x0A\x00\x00\x00\x00\x00\
+/// #     \x45\x43\x49\x4C\x08\x00\x00\x00\x00\x00\x03\x00\x1C\x00\x00\x00\x00\x00\
+/// #     \xF5\xC8\x12\xD8\x02\x00\x00\x00\x00\x00ab\x00";
+/// use scalgo::{field, Answer};
+///
+/// let number = Answer::Number { bits: 3, width: 16, signed: false };
+/// assert_eq!(field(schema, message, &[0]), number);
+/// let text = Answer::Object { kind: 13, place: 28, length: 2 };
+/// assert_eq!(field(schema, message, &[1]), text);
+/// // The table at 10 has two members.
+/// let none = Answer::Refused { number: 15, place: 10 };
+/// assert_eq!(field(schema, message, &[2]), none);
+/// ```
 pub fn field(schema: &[u8], message: &[u8], path: &[u32]) -> Answer {
     let (mut a, mut b, mut c) = (0, 0, 0);
     // SAFETY: each slice is given as its pointer, which is not null, and its length; no one writes
@@ -85,5 +62,38 @@ pub fn field(schema: &[u8], message: &[u8], path: &[u32]) -> Answer {
             &mut c,
         )
     };
-    Answer::new(case, a, b, c)
+    Answer::new([u64::from(case), a, b, c])
+}
+
+/// A text without its zero byte, or bytes: a part of the message, where the path leads to one.
+///
+/// ```
+/// # let schema = b"\x00\x00\x00\x01\x00\x4C\x49\x43\x45\x02\x10\x00\x68\x00";
+/// # let message = b"\xB3\xC4\xC0\xB5\x0A\x00\x00\x00\x00\x00\
+/// #     \x45\x43\x49\x4C\x08\x00\x00\x00\x00\x00\x03\x00\x1C\x00\x00\x00\x00\x00\
+/// #     \xF5\xC8\x12\xD8\x02\x00\x00\x00\x00\x00ab\x00";
+/// assert_eq!(scalgo::text(schema, message, &[1]), Some(&b"ab"[..]));
+/// assert_eq!(scalgo::text(schema, message, &[0]), None);
+/// ```
+pub fn text<'m>(schema: &[u8], message: &'m [u8], path: &[u32]) -> Option<&'m [u8]> {
+    let (mut start, mut length) = (0, 0);
+    // SAFETY: as in `field`, with two numbers.
+    let found = unsafe {
+        scalgo_text(
+            schema.as_ptr(),
+            schema.len(),
+            message.as_ptr(),
+            message.len(),
+            path.as_ptr(),
+            path.len(),
+            &mut start,
+            &mut length,
+        )
+    };
+    if found == 0 {
+        return None;
+    }
+    message
+        .get(start as usize..)
+        .and_then(|rest| rest.get(..length as usize))
 }

@@ -21,6 +21,11 @@
 //! | 8 | a member cut by its table's end, or a flag without its value | the table |
 //! | 9 | a known union choice, not in place, with offset 0 | the holder |
 //! | 10 | a struct's boolean not 0 or 1, or a text's end byte not 0 | the object |
+//! | 11 | the sheet is not lawful, over 16,777,215 bytes, or deeper than 32 objects | 0 |
+//! | 12 | the sheet is lawful but cannot be written | 0 |
+//! | 13 | the message would be over 16,777,215 bytes | 0 |
+//! | 14 | no room in the output, or a sheet over 16,777,215 bytes | 0 |
+//! | 15 | a step that has no such part, or a path over 96 numbers | the last object judged; 0 for length |
 //!
 //! # Example
 //!
@@ -39,16 +44,18 @@
 //! assert_eq!((cut.number, cut.place, cut.visits), (6, 28, 2));
 //! ```
 
-mod judge;
-
-#[cfg(feature = "field")]
+mod answer;
 mod field;
-#[cfg(feature = "sheet")]
-mod sheet;
+mod judge;
+mod list;
+mod read;
+#[cfg(feature = "write")]
+mod write;
 
+pub use answer::Answer;
+pub use field::{field, text};
 pub use judge::{judge, Verdict};
-
-#[cfg(feature = "field")]
-pub use field::{field, Answer};
-#[cfg(feature = "sheet")]
-pub use sheet::{read, write, ReadAnswer, WriteAnswer};
+pub use list::{list, List};
+pub use read::{read, ReadAnswer};
+#[cfg(feature = "write")]
+pub use write::{write, WriteAnswer};

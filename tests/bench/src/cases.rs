@@ -126,7 +126,7 @@ fn put_tables() -> Vec<u8> {
     message.finish()
 }
 
-fn tables() -> Case {
+pub fn tables() -> Case {
     let schema = Schema {
         lists: vec![Record::of(TABLE, 1)],
         tables: vec![root(0), Table::new(INNER, &[plain(U16), plain(TEXT)])],
@@ -161,7 +161,7 @@ fn largest(element: Record) -> Schema {
     }
 }
 
-fn tables_late() -> Case {
+pub fn tables_late() -> Case {
     let schema = largest(Record::of(TABLE, MOST - 1));
     let visits = 2 + 2 * ELEMENTS as u32;
     let name = "(b) the same, at the largest schema's end";
@@ -184,7 +184,7 @@ fn unions_late() -> Case {
 
 /// A table with 64 members: all kinds in turn, the second time optional where they may be, and the
 /// third text in place.
-fn every_kind() -> Case {
+pub fn every_kind() -> Case {
     const KINDS: usize = 18;
     const IN_PLACE: usize = 2 * KINDS + TEXT as usize;
     const CASES: [u8; 4] = [TEXT, BYTES, LIST, TABLE];
@@ -276,7 +276,7 @@ fn every_kind() -> Case {
     Case::accepted(name, &schema, message.finish(), visits)
 }
 
-fn numbers(name: &'static str, count: usize) -> Case {
+pub fn numbers(name: &'static str, count: usize) -> Case {
     let schema = Schema {
         lists: vec![plain(U64)],
         tables: vec![root(0)],
@@ -287,7 +287,7 @@ fn numbers(name: &'static str, count: usize) -> Case {
     Case::accepted(name, &schema, message.finish(), 2)
 }
 
-fn texts() -> Case {
+pub fn texts() -> Case {
     const TEXTS: usize = 10_000;
     let schema = Schema {
         lists: vec![plain(TEXT)],

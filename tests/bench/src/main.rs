@@ -1,5 +1,6 @@
 //! Times the library and the second program on the same messages, in one process and in turn, and
-//! measures the stack that each uses at the greatest depth. `--quick` takes few samples.
+//! measures the stack that each uses at the greatest depth. `--quick` takes few samples; `--tasks`
+//! times all but judging, and `--spin NAME` runs one of those for a profiler.
 //!
 //! It fails where a verdict is not the expected one or the two programs differ.
 
@@ -8,12 +9,15 @@ mod depth;
 mod message;
 mod schema;
 mod stack;
+mod tasks;
 mod timing;
 
 use cases::{Case, CASES};
 use reference::Verdict;
 use std::hint::black_box;
 use std::process::ExitCode;
+use std::time::{Duration, Instant};
+use tasks::{Task, SUMMED, TASKS};
 use timing::Plan;
 
 fn ours(case: &Case) -> Verdict {
@@ -103,9 +107,66 @@ fn times(plan: &Plan) -> bool {
     sound
 }
 
+fn time_task(plan: &Plan, task: &Task) {
+    SUMMED.with_borrow_mut(|summed| *summed = false);
+    let (ours, second) = timing::in_turn(
+        plan,
+        &|| {
+            black_box((task.ours)());
+        },
+        &|| {
+            black_box((task.second)());
+        },
+    );
+    SUMMED.with_borrow_mut(|summed| *summed = true);
+    println!(
+        "{:<46} {:>12.0} {:>12.0} {:>12.0} {:>12.0} {:>7.2} {:>7.2} {}",
+        task.name,
+        ours.best,
+        ours.median,
+        second.best,
+        second.median,
+        ours.best / second.best,
+        ours.median / second.median,
+        speed(task.bytes, ours.median, second.median),
+    );
+}
+
+/// Bytes read and written in a nanosecond, where there are many: billions in a second.
+fn speed(bytes: usize, ours: f64, second: f64) -> String {
+    if bytes < 1_000_000 {
+        return String::new();
+    }
+    let bytes = bytes as f64 / 2.0;
+    format!("{:>8.2} {:>8.2}", bytes / ours, bytes / second)
+}
+
+fn time_tasks(plan: &Plan) -> bool {
+    println!("Nanoseconds a call; the last two are GB/s, half of the bytes in and out together.");
+    println!(
+        "{:<46} {:>12} {:>12} {:>12} {:>12} {:>7} {:>7} {:>8} {:>8}",
+        "task", "ours best", "median", "ref best", "median", "best", "median", "ours", "ref",
+    );
+    let mut sound = true;
+    for build in TASKS {
+        let task = build();
+        match task.fault() {
+            None => time_task(plan, &task),
+            Some(report) => {
+                println!("{report}");
+                sound = false;
+            }
+        }
+    }
+    sound
+}
+
 fn stacks() -> bool {
     println!("Bytes of stack touched by a message of 32 objects, each in the one before:");
-    println!("{:<46} {:>12} {:>12}", "objects", "ours", "reference");
+    println!(
+        "{:<46} {:>12} {:>12} {:>12} {:>12}",
+        "objects", "ours", "reference", "ours to sheet", "reference",
+    );
     let mut sound = true;
     for case in depth::cases() {
         if let Some(report) = fault(&case) {
@@ -113,46 +174,95 @@ fn stacks() -> bool {
             sound = false;
             continue;
         }
-        let ours = stack::touched(&|| {
-            black_box(ours(&case));
-        });
-        let second = stack::touched(&|| {
-            black_box(second(&case));
-        });
-        println!("{:<46} {ours:>12} {second:>12}", case.name);
+        let bytes = [
+            stack::touched(&|| {
+                black_box(ours(&case));
+            }),
+            stack::touched(&|| {
+                black_box(second(&case));
+            }),
+            stack::touched(&|| {
+                let mut sheet = vec![0; 1 << 16];
+                black_box(scalgo::read(&case.schema, &case.message, 100, &mut sheet));
+            }),
+            stack::touched(&|| {
+                black_box(reference::read(&case.schema, &case.message, 100, 1 << 16));
+            }),
+        ];
+        let [ours, second, sheet, second_sheet] = bytes;
+        let name = case.name;
+        println!("{name:<46} {ours:>12} {second:>12} {sheet:>12} {second_sheet:>12}");
     }
     sound
 }
 
+/// Runs the library's side of one task for some seconds, for a profiler.
+fn spin(name: &str) -> bool {
+    let found = TASKS
+        .iter()
+        .map(|build| build())
+        .find(|task| task.name.contains(name));
+    let Some(task) = found else {
+        return false;
+    };
+    SUMMED.with_borrow_mut(|summed| *summed = false);
+    let began = Instant::now();
+    while began.elapsed() < Duration::from_secs(3) {
+        black_box((task.ours)());
+    }
+    true
+}
+
+const USAGE: &str = "usage: bench [--quick] [--tasks]
+       bench --spin NAME";
+
 fn main() -> ExitCode {
     let arguments: Vec<String> = std::env::args().skip(1).collect();
-    let plan = match arguments.as_slice() {
-        [] => Plan::full(),
-        [quick] if quick == "--quick" => Plan::quick(),
+    let words: Vec<&str> = arguments.iter().map(String::as_str).collect();
+    let full = Plan::full();
+    let sound = match words.as_slice() {
+        [] => all(&full),
+        ["--quick"] => all(&Plan::quick()),
+        ["--tasks"] => time_tasks(&full),
+        ["--quick", "--tasks"] => time_tasks(&Plan::quick()),
+        ["--spin", name] => spin(name),
         _ => {
-            eprintln!("usage: bench [--quick]");
+            eprintln!("{USAGE}");
             return ExitCode::from(2);
         }
     };
-    let timed = times(&plan);
+    match sound {
+        true => ExitCode::SUCCESS,
+        false => ExitCode::FAILURE,
+    }
+}
+
+fn all(plan: &Plan) -> bool {
+    let timed = times(plan);
     println!();
     let measured = stacks();
-    if timed && measured {
-        ExitCode::SUCCESS
-    } else {
-        ExitCode::FAILURE
-    }
+    println!();
+    let worked = time_tasks(plan);
+    timed && measured && worked
 }
 
 #[cfg(test)]
 mod tests {
-    use super::{depth, fault, stack, CASES};
+    use super::{depth, fault, stack, CASES, TASKS};
 
     #[test]
     fn both_programs_give_the_expected_verdicts() {
         let faults: Vec<String> = (CASES.iter().map(|build| build()))
             .chain(depth::cases())
             .filter_map(|case| fault(&case))
+            .collect();
+        assert!(faults.is_empty(), "{}", faults.join("\n"));
+    }
+
+    #[test]
+    fn both_programs_do_the_same_tasks() {
+        let faults: Vec<String> = (TASKS.iter().map(|build| build()))
+            .filter_map(|task| task.fault())
             .collect();
         assert!(faults.is_empty(), "{}", faults.join("\n"));
     }

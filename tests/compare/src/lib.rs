@@ -3,6 +3,7 @@
 
 pub mod append_gen;
 pub mod bits;
+pub mod calls;
 pub mod canonical;
 pub mod canvas;
 pub mod counts;

@@ -21,6 +21,7 @@ pub enum Question {
     Read { budget: u32, room: usize },
     Write { room: usize },
     Field { path: Vec<u32> },
+    Text { path: Vec<u32> },
     List { path: Vec<u32>, steps: usize },
 }
 
@@ -39,6 +40,7 @@ pub enum Outcome {
     Read(Verdict, Vec<u8>),
     Written(u32, Vec<u8>),
     Field(Answer),
+    Text(Option<Vec<u8>>),
     List(Result<Vec<Answer>, Answer>),
 }
 
@@ -57,6 +59,7 @@ impl Probe {
                 Outcome::Written(number, message)
             }
             Question::Field { path } => Outcome::Field(program.field(schema, bytes, path)),
+            Question::Text { path } => Outcome::Text(program.text(schema, bytes, path)),
             Question::List { path, steps } => {
                 Outcome::List(program.list_steps(schema, bytes, path, *steps))
             }
@@ -134,6 +137,7 @@ fn questions(rng: &mut Rng, schema: &Schema, value: &Value, budgets: &[u32]) -> 
     }
     for _ in 0..4 {
         let path = paths::random_path(schema, rng, value);
+        out.push(Question::Text { path: path.clone() });
         out.push(Question::Field { path });
     }
     let lists = paths::list_paths(schema, value);

@@ -1,6 +1,7 @@
 //! Programs under test, and running two of them side by side.
 
 pub use reference::{Answer, Verdict};
+use std::cell::RefCell;
 
 /// The verdict of an accepted message.
 pub fn accepted(visits: u32) -> Verdict {
@@ -42,6 +43,8 @@ pub trait Program: Judge {
     fn write(&self, schema: &[u8], sheet: &[u8], room: usize) -> (u32, Vec<u8>);
     /// Answers one field.
     fn field(&self, schema: &[u8], message: &[u8], path: &[u32]) -> Answer;
+    /// The bytes of a text or of bytes, where the path leads to such.
+    fn text(&self, schema: &[u8], message: &[u8], path: &[u32]) -> Option<Vec<u8>>;
     /// Starts a list reader and takes so many steps.
     fn list_steps(
         &self,
@@ -64,7 +67,7 @@ pub trait Relations {
     fn with_added(&self, older: &[u8], newer: &[u8], sheet: &[u8]) -> Option<Vec<u8>>;
 }
 
-/// The proved library, called through its C interface.
+/// The proved library, called through its Rust wrapper.
 pub struct Library;
 
 impl Judge for Library {
@@ -79,6 +82,106 @@ impl Judge for Library {
             place: verdict.place,
             visits: verdict.visits,
         }
+    }
+}
+
+thread_local! {
+    /// What the library reads and writes into, as large as was ever asked for.
+    static OUTPUT: RefCell<Vec<u8>> = const { RefCell::new(Vec::new()) };
+}
+
+/// Lends a call so much room; gives its answer and the bytes it says it wrote.
+fn with_room<T>(room: usize, call: impl FnOnce(&mut [u8]) -> (T, usize)) -> (T, Vec<u8>) {
+    OUTPUT.with_borrow_mut(|output| {
+        if output.len() < room {
+            output.resize(room, 0);
+        }
+        let (answer, length) = call(&mut output[..room]);
+        (answer, output[..length].to_vec())
+    })
+}
+
+/// The wrapper's answer as the second program's.
+fn answer(answer: scalgo::Answer) -> Answer {
+    match answer {
+        scalgo::Answer::Boolean(value) => Answer::Boolean(value),
+        scalgo::Answer::Number {
+            bits,
+            width,
+            signed,
+        } => Answer::Number {
+            bits,
+            width,
+            signed,
+        },
+        scalgo::Answer::Float { bits, width } => Answer::Float { bits, width },
+        scalgo::Answer::Object {
+            kind,
+            place,
+            length,
+        } => Answer::Object {
+            kind: u32::from(kind),
+            place,
+            length,
+        },
+        scalgo::Answer::Struct { place } => Answer::Struct { place },
+        scalgo::Answer::Absent => Answer::Absent,
+        scalgo::Answer::Unknown(number) => Answer::Unknown(u64::from(number)),
+        scalgo::Answer::Refused { number, place } => Answer::Refused { number, place },
+    }
+}
+
+impl Program for Library {
+    fn read(&self, schema: &[u8], message: &[u8], budget: u32, room: usize) -> (Verdict, Vec<u8>) {
+        let (verdict, sheet) = with_room(room, |sheet| {
+            let answer = scalgo::read(schema, message, budget, sheet);
+            (answer.verdict, answer.length)
+        });
+        let verdict = Verdict {
+            number: verdict.number,
+            place: verdict.place,
+            visits: verdict.visits,
+        };
+        (verdict, sheet)
+    }
+
+    #[cfg(feature = "write")]
+    fn write(&self, schema: &[u8], sheet: &[u8], room: usize) -> (u32, Vec<u8>) {
+        with_room(room, |message| {
+            let answer = scalgo::write(schema, sheet, message);
+            (answer.number, answer.length)
+        })
+    }
+
+    /// The archive has no writer yet, so that the second program writes what
+    /// the library is to read.
+    #[cfg(not(feature = "write"))]
+    fn write(&self, schema: &[u8], sheet: &[u8], room: usize) -> (u32, Vec<u8>) {
+        Second.write(schema, sheet, room)
+    }
+
+    fn field(&self, schema: &[u8], message: &[u8], path: &[u32]) -> Answer {
+        answer(scalgo::field(schema, message, path))
+    }
+
+    fn text(&self, schema: &[u8], message: &[u8], path: &[u32]) -> Option<Vec<u8>> {
+        scalgo::text(schema, message, path).map(<[u8]>::to_vec)
+    }
+
+    fn list_steps(
+        &self,
+        schema: &[u8],
+        message: &[u8],
+        path: &[u32],
+        steps: usize,
+    ) -> Result<Vec<Answer>, Answer> {
+        let list = scalgo::list(schema, message, path).map_err(answer)?;
+        let mut answers: Vec<Answer> = list.take(steps).map(answer).collect();
+        // The iterator has an end where the list reader says 15 at the list.
+        if let Answer::Object { place, .. } = self.field(schema, message, path) {
+            answers.resize(steps, Answer::Refused { number: 15, place });
+        }
+        Ok(answers)
     }
 }
 
@@ -111,6 +214,11 @@ impl Program for Second {
 
     fn field(&self, schema: &[u8], message: &[u8], path: &[u32]) -> Answer {
         reference::field(schema, message, path)
+    }
+
+    fn text(&self, schema: &[u8], message: &[u8], path: &[u32]) -> Option<Vec<u8>> {
+        let (start, length) = reference::text(schema, message, path)?;
+        Some(message[start..start + length].to_vec())
     }
 
     fn list_steps(

@@ -1,8 +1,8 @@
-//! The cases of the requirements' own table, on this crate's model and on the
-//! second program.
+//! The cases of the requirements' own table, on this crate's model, on the
+//! second program and on the proved library.
 
 use compare::canonical;
-use compare::program::{Judge, Library, Program, Second, Verdict};
+use compare::program::{Answer, Judge, Library, Program, Second, Verdict};
 use compare::schema::{Record, Schema, Slot, Table, BOOL};
 use compare::schema_rules;
 use compare::sheet;
@@ -71,16 +71,90 @@ fn library_judges_as_the_table_says() {
     judges_as_the_table_says(&Library);
 }
 
+fn gives_the_table_s_sheets(program: &dyn Program) {
+    let read = program.read(&NEWER, &MESSAGE, 2, 9);
+    assert_eq!(read, (verdict(0, 0, 2), SHEET.to_vec()));
+    let read = program.read(&OLDER, &MESSAGE, 1, 3);
+    assert_eq!(read, (verdict(0, 0, 1), vec![0x40, 0, 0xC0]));
+    let read = program.read(&NEWER, &changed(14, 2), 2, 9);
+    assert_eq!(read, (verdict(0, 0, 1), vec![0x40, 0, 0xC0]));
+    let read = program.read(&NEWER, &changed(14, 0), 2, 9);
+    assert_eq!(read, (verdict(0, 0, 1), vec![0]));
+    let read = program.read(&NEWER, &MESSAGE, 2, 8);
+    assert_eq!(read, (verdict(14, 0, 2), Vec::new()));
+}
+
 #[test]
 fn second_program_gives_the_table_s_sheets() {
-    let read = Second.read(&NEWER, &MESSAGE, 2, 9);
-    assert_eq!(read, (verdict(0, 0, 2), SHEET.to_vec()));
-    let read = Second.read(&OLDER, &MESSAGE, 1, 3);
-    assert_eq!(read, (verdict(0, 0, 1), vec![0x40, 0, 0xC0]));
-    let read = Second.read(&NEWER, &changed(14, 2), 2, 9);
-    assert_eq!(read, (verdict(0, 0, 1), vec![0x40, 0, 0xC0]));
-    let read = Second.read(&NEWER, &changed(14, 0), 2, 9);
-    assert_eq!(read, (verdict(0, 0, 1), vec![0]));
+    gives_the_table_s_sheets(&Second);
+}
+
+#[test]
+fn library_gives_the_table_s_sheets() {
+    gives_the_table_s_sheets(&Library);
+}
+
+/// The table's entries one by one.
+fn answers_the_table_s_fields(program: &dyn Program) {
+    let by_newer = |message: &[u8], path: &[u32]| program.field(&NEWER, message, path);
+    let number = Answer::Number {
+        bits: 3,
+        width: 16,
+        signed: false,
+    };
+    let object = |kind, place, length| Answer::Object {
+        kind,
+        place,
+        length,
+    };
+    let refused = |number, place| Answer::Refused { number, place };
+    assert_eq!(by_newer(&MESSAGE, &[]), object(16, 10, 8));
+    assert_eq!(by_newer(&MESSAGE, &[0]), number);
+    assert_eq!(by_newer(&MESSAGE, &[1]), object(13, 28, 2));
+    assert_eq!(program.text(&NEWER, &MESSAGE, &[1]), Some(b"ab".to_vec()));
+    assert_eq!(program.text(&NEWER, &MESSAGE, &[0]), None);
+    assert_eq!(program.field(&OLDER, &MESSAGE, &[1]), refused(15, 10));
+    assert_eq!(by_newer(&changed(14, 5), &[0]), number);
+    assert_eq!(by_newer(&changed(14, 5), &[1]), refused(8, 10));
+    assert_eq!(by_newer(&changed(14, 2), &[1]), Answer::Absent);
+    assert_eq!(by_newer(&changed(14, 0), &[0]), Answer::Absent);
+    assert_eq!(by_newer(&changed(40, 1), &[1]), refused(10, 28));
+    assert_eq!(by_newer(&MESSAGE[..40], &[1]), refused(6, 28));
+    assert_eq!(by_newer(&[], &[1]), refused(2, 0));
+    assert_eq!(by_newer(&changed(22, 9), &[1]), refused(6, 9));
+    let list = program.list_steps(&NEWER, &MESSAGE, &[1], 1);
+    assert_eq!(list, Err(refused(15, 0)));
+}
+
+#[test]
+fn second_program_answers_the_table_s_fields() {
+    answers_the_table_s_fields(&Second);
+}
+
+#[test]
+fn library_answers_the_table_s_fields() {
+    answers_the_table_s_fields(&Library);
+}
+
+fn writes_the_table_s_message(program: &dyn Program) {
+    let write = |sheet: &[u8], room| program.write(&NEWER, sheet, room);
+    assert_eq!(write(&SHEET, 41), (0, MESSAGE.to_vec()));
+    assert_eq!(write(&SHEET, 40), (14, Vec::new()));
+    assert_eq!(write(&SHEET[..8], 41), (11, Vec::new()));
+    // Both absent; a plain number may not be.
+    assert_eq!(write(&[0], 41), (12, Vec::new()));
+    assert_eq!(program.write(&[], &SHEET, 41), (1, Vec::new()));
+}
+
+#[test]
+fn second_program_writes_the_table_s_message() {
+    writes_the_table_s_message(&Second);
+}
+
+#[cfg(feature = "write")]
+#[test]
+fn library_writes_the_table_s_message() {
+    writes_the_table_s_message(&Library);
 }
 
 #[test]

@@ -3,7 +3,7 @@
 
 use compare::counts::Counts;
 use compare::judging;
-use compare::laws;
+use compare::laws::{self, Programs};
 use compare::program::{Answer, Judge, Program, Relations, Second, Verdict};
 use compare::side_by_side::side_by_side;
 
@@ -20,6 +20,7 @@ enum Flaw {
     ReadsWithoutRoom,
     NumbersSigned,
     ListReaderStaysOneShort,
+    TextWithItsZero,
     NeverAppends,
     AlwaysAppends,
     NothingTakenAway,
@@ -89,6 +90,14 @@ impl Program for Flawed {
                 signed: true,
             },
             (_, answer) => answer,
+        }
+    }
+
+    fn text(&self, schema: &[u8], message: &[u8], path: &[u32]) -> Option<Vec<u8>> {
+        let text = Second.text(schema, message, path)?;
+        match self.0 {
+            Flaw::TextWithItsZero => Some([&text[..], &[0]].concat()),
+            _ => Some(text),
         }
     }
 
@@ -162,14 +171,16 @@ fn laws_catch_flawed_programs() {
     for flaw in calls.chain(IN_RELATIONS) {
         let mut counts = Counts::default();
         let program = Flawed(flaw);
-        let caught = (0..3000).any(|case| laws::run_case(&program, 9, case, &mut counts).is_err());
+        let programs = Programs::one(&program);
+        let caught = (0..3000).any(|case| laws::run_case(&programs, 9, case, &mut counts).is_err());
         assert!(caught, "the laws miss {flaw:?}");
     }
 }
 
 #[test]
 fn comparison_catches_flawed_programs() {
-    for flaw in IN_VERDICTS.into_iter().chain(IN_OTHER_CALLS) {
+    let calls = IN_VERDICTS.into_iter().chain(IN_OTHER_CALLS);
+    for flaw in calls.chain([Flaw::TextWithItsZero]) {
         let outcome = side_by_side(&Flawed(flaw), &Second, 9, 300);
         assert!(outcome.is_err(), "the comparison misses {flaw:?}");
     }

@@ -67,18 +67,32 @@ impl From<Object> for Answer {
 
 /// Reads one field.
 pub fn field(schema: &[u8], message: &[u8], path: &[u32]) -> Answer {
-    let Some(schema) = Schema::parse(schema) else {
-        return Refusal::new(1, 0).into();
-    };
-    let followed = Path {
-        schema: &schema,
-        message,
-    };
-    match followed.end(path) {
+    match end_of(schema, message, path) {
         Ok(End::Object(object, _)) => object.into(),
         Ok(End::Other(answer)) => answer,
         Err(refusal) => refusal.into(),
     }
+}
+
+/// "texts and bytes can be had as a part of the message": where the part starts
+/// and its length, where the path leads to a text or bytes.
+pub fn text(schema: &[u8], message: &[u8], path: &[u32]) -> Option<(usize, usize)> {
+    match end_of(schema, message, path) {
+        Ok(End::Object(object, _)) => match object.target {
+            Target::Text | Target::Bytes => Some((object.start, object.length)),
+            Target::List(_) | Target::Table(_) => None,
+        },
+        Ok(End::Other(_)) | Err(_) => None,
+    }
+}
+
+fn end_of(schema: &[u8], message: &[u8], path: &[u32]) -> Result<End, Refusal> {
+    let schema = Schema::parse(schema).ok_or(Refusal::new(1, 0))?;
+    let followed = Path {
+        schema: &schema,
+        message,
+    };
+    followed.end(path)
 }
 
 /// Where a path ends: at an object and its depth, or at an answer.

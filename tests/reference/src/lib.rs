@@ -28,7 +28,7 @@ mod walk;
 mod write;
 
 pub use append::{appends, with_added, without_appended};
-pub use field::{field, Answer, ListReader};
+pub use field::{field, text, Answer, ListReader};
 pub use schema::Schema;
 pub use sheet::read;
 pub use walk::{judge, judge_parsed, Verdict};

@@ -3,7 +3,7 @@
 mod common;
 
 use common::*;
-use reference::{field, Answer, ListReader};
+use reference::{field, text, Answer, ListReader};
 
 fn refused(number: u32, place: u64) -> Answer {
     Answer::Refused { number, place }
@@ -214,6 +214,32 @@ fn objects() {
     assert_eq!(at(&[4, 1]), Answer::Boolean(true));
     assert_eq!(at(&[4, 10]), Answer::Boolean(true));
     assert_eq!(at(&[4, 11]), refused(15, 50));
+}
+
+/// "texts and bytes can be had as a part of the message".
+#[test]
+fn texts_and_bytes_as_a_part() {
+    let members = [in_place(union(0)), TEXT, BYTES, list(4), TEXT, TEXT, U8];
+    let schema = with_members(&members);
+    let mut message = Message::new(10);
+    // Fixed 20 to 59, the in-place text "x" to 61.
+    message.table(ID, 39).choice(1, 1).u48(61).u48(74);
+    message.u48(86).u48(113).u48(0).raw(&[7]).raw(b"x\0");
+    message.text("ab").bytes_head(2).raw(b"cd");
+    message.list_head(2).u48(61).u48(108).raw(&[0; 5]);
+    message.text_head(0).raw(&[1]);
+    let at = |path: &[u32]| text(&schema, &message.bytes, path);
+    assert_eq!(at(&[0]), Some((59, 1)));
+    assert_eq!(at(&[1]), Some((71, 2)));
+    assert_eq!(at(&[2]), Some((84, 2)));
+    assert_eq!(at(&[3, 0]), Some((71, 2)));
+    // A list, wrong magic, a wrong end byte, absent, a number, no such part, the root.
+    for path in [&[3][..], &[3, 1], &[4], &[5], &[6], &[7], &[1, 0], &[]] {
+        assert_eq!(at(path), None);
+    }
+    assert_eq!(text(&[], &message.bytes, &[1]), None);
+    assert_eq!(text(&schema, &message.bytes[..9], &[1]), None);
+    assert_eq!(text(&schema, &message.bytes, &[1; 97]), None);
 }
 
 /// "A holder is judged before 15 is given at it."

@@ -7,12 +7,12 @@ use crate::sheet;
 use crate::value::Value;
 
 /// Runs the large cases once.
-pub fn run<P: Program + Relations>(program: &P, counts: &mut Counts) -> Result<(), String> {
+pub fn run(programs: &Programs, counts: &mut Counts) -> Result<(), String> {
     let mut context = Context {
         rng: Rng::new(0),
         counts,
-        program,
-        relations: program,
+        program: programs.program,
+        relations: programs.relations,
     };
     let checks = [
         text_at_the_limit,

@@ -19,6 +19,24 @@ use std::panic::{catch_unwind, AssertUnwindSafe};
 
 pub use large::run as run_large;
 
+/// The program whose calls the laws are about, and the one that says what a
+/// schema is to another.
+#[derive(Clone, Copy)]
+pub struct Programs<'a> {
+    pub program: &'a dyn Program,
+    pub relations: &'a dyn Relations,
+}
+
+impl<'a> Programs<'a> {
+    /// One program for both.
+    pub fn one<P: Program + Relations>(program: &'a P) -> Programs<'a> {
+        Programs {
+            program,
+            relations: program,
+        }
+    }
+}
+
 /// A law that did not hold, with all that is needed to see it again.
 pub struct Failure {
     pub text: String,
@@ -138,8 +156,8 @@ const LAWS: [(usize, &str, Law); 7] = [
 ];
 
 /// Runs one numbered case of a seeded run.
-pub fn run_case<P: Program + Relations>(
-    program: &P,
+pub fn run_case(
+    programs: &Programs,
     seed: u64,
     case: u64,
     counts: &mut Counts,
@@ -147,8 +165,8 @@ pub fn run_case<P: Program + Relations>(
     let mut context = Context {
         rng: Rng::for_case(seed, case),
         counts,
-        program,
-        relations: program,
+        program: programs.program,
+        relations: programs.relations,
     };
     let mut draw = context.rng.below(100);
     let mut chosen = LAWS[0];
@@ -170,11 +188,11 @@ pub fn run_case<P: Program + Relations>(
 }
 
 /// Runs cases 0 to `cases`, then the large ones; stops at the first failure.
-pub fn run<P: Program + Relations>(program: &P, seed: u64, cases: u64) -> Result<Counts, String> {
+pub fn run(programs: &Programs, seed: u64, cases: u64) -> Result<Counts, String> {
     let mut counts = Counts::default();
     for case in 0..cases {
-        run_case(program, seed, case, &mut counts)?;
+        run_case(programs, seed, case, &mut counts)?;
     }
-    run_large(program, &mut counts)?;
+    run_large(programs, &mut counts)?;
     Ok(counts)
 }

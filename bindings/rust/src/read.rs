@@ -1,4 +1,4 @@
-//! A message to a value sheet, and a value sheet to a message.
+//! A message to its value sheet.
 
 use crate::Verdict;
 
@@ -15,16 +15,6 @@ extern "C" {
         visits: *mut u32,
         length: *mut u64,
     ) -> u32;
-
-    fn scalgo_write(
-        schema: *const u8,
-        schema_len: usize,
-        sheet: *const u8,
-        sheet_len: usize,
-        message: *mut u8,
-        room: usize,
-        length: *mut u64,
-    ) -> u32;
 }
 
 /// What reading a message to a sheet answers.
@@ -36,17 +26,26 @@ pub struct ReadAnswer {
     pub length: usize,
 }
 
-/// What writing a sheet as a message answers.
-#[derive(Clone, Copy, Debug, PartialEq, Eq)]
-pub struct WriteAnswer {
-    /// 0 where the message is written, else 1, 11, 12, 13 or 14.
-    pub number: u32,
-    /// The bytes written; 0 with a refusal.
-    pub length: usize,
-}
-
 /// Judges a message and writes its value sheet to the front of `sheet`. The bytes after the length
 /// that is answered keep what they held; with a refusal all do.
+///
+/// ```
+/// # let schema = b"\x00\x00\x00\x01\x00\x4C\x49\x43\x45\x02\x10\x00\x68\x00";
+/// # let message = b"\xB3\xC4\xC0\xB5\x0A\x00\x00\x00\x00\x00\
+/// #     \x45\x43\x49\x4C\x08\x00\x00\x00\x00\x00\x03\x00\x1C\x00\x00\x00\x00\x00\
+/// #     \xF5\xC8\x12\xD8\x02\x00\x00\x00\x00\x00ab\x00";
+/// let mut sheet = [0xEE; 12];
+/// let answer = scalgo::read(schema, message, 2, &mut sheet);
+/// assert!(answer.verdict.accepted());
+/// assert_eq!((answer.verdict.visits, answer.length), (2, 9));
+/// assert_eq!(sheet, *b"\x40\x00\xD0\x00\x00\x00\x26\x16\x20\xEE\xEE\xEE");
+///
+/// // A budget of 1, and a sheet of 8 bytes.
+/// let spent = scalgo::read(schema, message, 1, &mut sheet).verdict;
+/// assert_eq!((spent.number, spent.place, spent.visits), (4, 28, 1));
+/// let short = scalgo::read(schema, message, 2, &mut sheet[..8]).verdict;
+/// assert_eq!((short.number, short.place, short.visits), (14, 0, 2));
+/// ```
 pub fn read(schema: &[u8], message: &[u8], budget: u32, sheet: &mut [u8]) -> ReadAnswer {
     let (mut place, mut visits, mut length) = (0, 0, 0);
     // SAFETY: each slice is given as its pointer, which is not null, and its length; no one writes
@@ -72,28 +71,6 @@ pub fn read(schema: &[u8], message: &[u8], budget: u32, sheet: &mut [u8]) -> Rea
             place,
             visits,
         },
-        length: length as usize,
-    }
-}
-
-/// Writes a value sheet as a message to the front of `message`. The bytes after the length that is
-/// answered keep what they held; with a refusal all do.
-pub fn write(schema: &[u8], sheet: &[u8], message: &mut [u8]) -> WriteAnswer {
-    let mut length = 0;
-    // SAFETY: as in `read`.
-    let number = unsafe {
-        scalgo_write(
-            schema.as_ptr(),
-            schema.len(),
-            sheet.as_ptr(),
-            sheet.len(),
-            message.as_mut_ptr(),
-            message.len(),
-            &mut length,
-        )
-    };
-    WriteAnswer {
-        number,
         length: length as usize,
     }
 }

@@ -1,0 +1,59 @@
+//! What stands at the end of a path.
+
+/// What stands at the end of a path.
+#[derive(Clone, Copy, Debug, PartialEq, Eq)]
+pub enum Answer {
+    /// A boolean.
+    Boolean(bool),
+    /// A number: its bits, zero above the width; its width in bits; whether it has a sign.
+    Number { bits: u64, width: u32, signed: bool },
+    /// A float: its bits, and its width in bits.
+    Float { bits: u64, width: u32 },
+    /// An object: its record kind (13 text, 14 bytes, 15 list, 16 table), its place and its length.
+    Object { kind: u8, place: u64, length: u64 },
+    /// A struct, where it starts.
+    Struct { place: u64 },
+    /// No value.
+    Absent,
+    /// An enum's number or a union's choice that the schema does not know.
+    Unknown(u16),
+    /// A refusal: its number, and where the last object judged stands.
+    Refused { number: u32, place: u64 },
+}
+
+/// The record kind of a list.
+pub(crate) const LIST: u8 = 15;
+
+/// The refusal of a step that has no such part.
+pub(crate) const NO_PART: u32 = 15;
+
+impl Answer {
+    /// The library's case with its three numbers, each within the type that it has here.
+    pub(crate) fn new([case, a, b, c]: [u64; 4]) -> Answer {
+        match case {
+            0 => Answer::Boolean(a != 0),
+            1 => Answer::Number {
+                bits: a,
+                width: b as u32,
+                signed: c != 0,
+            },
+            2 => Answer::Float {
+                bits: a,
+                width: b as u32,
+            },
+            3 => Answer::Object {
+                kind: a as u8,
+                place: b,
+                length: c,
+            },
+            4 => Answer::Struct { place: a },
+            5 => Answer::Absent,
+            6 => Answer::Unknown(a as u16),
+            // There is no case above 7.
+            _ => Answer::Refused {
+                number: a as u32,
+                place: b,
+            },
+        }
+    }
+}

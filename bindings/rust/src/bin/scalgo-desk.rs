@@ -1,0 +1,151 @@
+//! The whole library at the desk, on files. See `USAGE`.
+
+use scalgo::Answer;
+use std::process::ExitCode;
+
+const USAGE: &str = "\
+usage:
+  scalgo-desk judge SCHEMA MESSAGE          prints number, place, visits
+  scalgo-desk field SCHEMA MESSAGE N N N..  prints what stands at the path
+  scalgo-desk list SCHEMA MESSAGE N N N..   prints what each element of the list is
+  scalgo-desk read SCHEMA MESSAGE SHEET     prints number, place, visits, length; writes SHEET
+  scalgo-desk write SCHEMA SHEET MESSAGE    prints number, length; writes MESSAGE
+SCHEMA, MESSAGE and SHEET are files; a refusal writes none. The budget is 100000.";
+
+const BUDGET: u32 = 100_000;
+
+/// The most bytes of a sheet or a message.
+const SIZE: usize = 16_777_215;
+
+fn main() -> ExitCode {
+    let arguments: Vec<String> = std::env::args().skip(1).collect();
+    let words: Vec<&str> = arguments.iter().map(String::as_str).collect();
+    match run(&words) {
+        Ok(text) => {
+            print!("{text}");
+            ExitCode::SUCCESS
+        }
+        Err(trouble) => {
+            eprintln!("{trouble}");
+            ExitCode::from(2)
+        }
+    }
+}
+
+/// Runs one command and gives what it prints.
+fn run(words: &[&str]) -> Result<String, String> {
+    match words {
+        ["judge", schema, message] => {
+            let verdict = scalgo::judge(&load(schema)?, &load(message)?, BUDGET);
+            let (number, place, visits) = (verdict.number, verdict.place, verdict.visits);
+            Ok(format!("{number} {place} {visits}\n"))
+        }
+        ["field", schema, message, path @ ..] => {
+            let (schema, message, path) = (load(schema)?, load(message)?, numbers(path)?);
+            Ok(format!("{}\n", field(&schema, &message, &path)))
+        }
+        ["list", schema, message, path @ ..] => {
+            let (schema, message, path) = (load(schema)?, load(message)?, numbers(path)?);
+            Ok(list(&schema, &message, &path))
+        }
+        ["read", schema, message, sheet] => read(&load(schema)?, &load(message)?, sheet),
+        #[cfg(feature = "write")]
+        ["write", schema, sheet, message] => write(&load(schema)?, &load(sheet)?, message),
+        _ => Err(USAGE.to_string()),
+    }
+}
+
+/// What stands at a path, a text or bytes with its content.
+fn field(schema: &[u8], message: &[u8], path: &[u32]) -> String {
+    let line = line(scalgo::field(schema, message, path));
+    match scalgo::text(schema, message, path) {
+        Some(text) => format!("{line}: {}", text.escape_ascii()),
+        None => line,
+    }
+}
+
+fn list(schema: &[u8], message: &[u8], path: &[u32]) -> String {
+    match scalgo::list(schema, message, path) {
+        Ok(list) => list.map(|element| line(element) + "\n").collect(),
+        Err(refusal) => line(refusal) + "\n",
+    }
+}
+
+fn read(schema: &[u8], message: &[u8], file: &str) -> Result<String, String> {
+    let mut sheet = vec![0; SIZE];
+    let answer = scalgo::read(schema, message, BUDGET, &mut sheet);
+    let verdict = answer.verdict;
+    if verdict.accepted() {
+        save(file, &sheet[..answer.length])?;
+    }
+    let (number, place, visits) = (verdict.number, verdict.place, verdict.visits);
+    Ok(format!("{number} {place} {visits} {}\n", answer.length))
+}
+
+#[cfg(feature = "write")]
+fn write(schema: &[u8], sheet: &[u8], file: &str) -> Result<String, String> {
+    let mut message = vec![0; SIZE];
+    let answer = scalgo::write(schema, sheet, &mut message);
+    if answer.number == 0 {
+        save(file, &message[..answer.length])?;
+    }
+    Ok(format!("{} {}\n", answer.number, answer.length))
+}
+
+/// An answer in words.
+fn line(answer: Answer) -> String {
+    match answer {
+        Answer::Boolean(value) => format!("boolean {value}"),
+        Answer::Number {
+            bits,
+            width,
+            signed: false,
+        } => format!("unsigned number of {width} bits: {bits}"),
+        Answer::Number { bits, width, .. } => {
+            format!("signed number of {width} bits: {}", signed(bits, width))
+        }
+        Answer::Float { bits, width: 32 } => {
+            format!("float of 32 bits: {}", f32::from_bits(bits as u32))
+        }
+        Answer::Float { bits, width } => {
+            format!("float of {width} bits: {}", f64::from_bits(bits))
+        }
+        Answer::Object {
+            kind,
+            place,
+            length,
+        } => format!("{} at {place}, length {length}", name(kind)),
+        Answer::Struct { place } => format!("struct at {place}"),
+        Answer::Absent => "absent".to_string(),
+        Answer::Unknown(number) => format!("unknown {number}"),
+        Answer::Refused { number, place } => format!("refused: {number} at {place}"),
+    }
+}
+
+/// The number whose two's complement of so many bits these are.
+fn signed(bits: u64, width: u32) -> i64 {
+    let unused = 64 - width.clamp(1, 64);
+    (bits << unused) as i64 >> unused
+}
+
+fn name(kind: u8) -> &'static str {
+    match kind {
+        13 => "text",
+        14 => "bytes",
+        15 => "list",
+        _ => "table",
+    }
+}
+
+fn load(file: &str) -> Result<Vec<u8>, String> {
+    std::fs::read(file).map_err(|trouble| format!("{file}: {trouble}"))
+}
+
+fn save(file: &str, bytes: &[u8]) -> Result<(), String> {
+    std::fs::write(file, bytes).map_err(|trouble| format!("{file}: {trouble}"))
+}
+
+fn numbers(words: &[&str]) -> Result<Vec<u32>, String> {
+    let number = |word: &&str| word.parse().map_err(|_| format!("{word}: no path number"));
+    words.iter().map(number).collect()
+}

@@ -1,0 +1,102 @@
+//! The desk's commands on files, with what the requirements' own table says.
+
+use std::fs;
+use std::path::{Path, PathBuf};
+use std::process::Command;
+
+const SCHEMA: &[u8] = b"\x00\x00\x00\x01\x00\x4C\x49\x43\x45\x02\x10\x00\x68\x00";
+const MESSAGE: &[u8] = b"\xB3\xC4\xC0\xB5\x0A\x00\x00\x00\x00\x00\
+    \x45\x43\x49\x4C\x08\x00\x00\x00\x00\x00\x03\x00\x1C\x00\x00\x00\x00\x00\
+    \xF5\xC8\x12\xD8\x02\x00\x00\x00\x00\x00ab\x00";
+const SHEET: &[u8] = b"\x40\x00\xD0\x00\x00\x00\x26\x16\x20";
+
+/// A folder of its own with the schema, the message and the sheet.
+fn folder(name: &str) -> PathBuf {
+    let folder = Path::new(env!("CARGO_TARGET_TMPDIR")).join(name);
+    fs::create_dir_all(&folder).expect("a folder");
+    let files = [("schema", SCHEMA), ("message", MESSAGE), ("sheet", SHEET)];
+    for (name, bytes) in files {
+        fs::write(folder.join(name), bytes).expect("a file is written");
+    }
+    folder
+}
+
+/// What a command prints, and whether it went well.
+fn run(folder: &Path, words: &str) -> (String, bool) {
+    let mut command = Command::new(env!("CARGO_BIN_EXE_scalgo-desk"));
+    let output = command.args(words.split(' ')).current_dir(folder).output();
+    let output = output.expect("the program runs");
+    let printed = String::from_utf8(output.stdout).expect("plain letters");
+    (printed, output.status.success())
+}
+
+fn prints(folder: &Path, words: &str, expected: &str) {
+    assert_eq!(run(folder, words), (format!("{expected}\n"), true));
+}
+
+#[test]
+fn judging_and_fields() {
+    let folder = folder("fields");
+    prints(&folder, "judge schema message", "0 0 2");
+    prints(&folder, "field schema message", "table at 10, length 8");
+    let number = "unsigned number of 16 bits: 3";
+    prints(&folder, "field schema message 0", number);
+    let text = "text at 28, length 2: ab";
+    prints(&folder, "field schema message 1", text);
+    prints(&folder, "field schema message 2", "refused: 15 at 10");
+    prints(&folder, "list schema message 1", "refused: 15 at 0");
+    fs::write(folder.join("message"), &MESSAGE[..40]).expect("a file is written");
+    prints(&folder, "judge schema message", "6 28 2");
+    prints(&folder, "field schema message 1", "refused: 6 at 28");
+    prints(&folder, "judge message schema", "1 0 0");
+}
+
+/// A table with a list of texts: "ab", none, and one that is not there.
+#[test]
+fn a_list() {
+    let folder = folder("lists");
+    let schema = b"\x00\x01\x00\x01\x00\x68\x00\x4C\x49\x43\x45\x01\x78\x00";
+    let message = b"\xB3\xC4\xC0\xB5\x0A\x00\x00\x00\x00\x00\
+        \x45\x43\x49\x4C\x06\x00\x00\x00\x00\x00\x1A\x00\x00\x00\x00\x00\
+        \x46\xBB\x00\x34\x03\x00\x00\x00\x00\x00\
+        \x36\x00\x00\x00\x00\x00\x00\x00\x00\x00\x00\x00\x09\x00\x00\x00\x00\x00\
+        \xF5\xC8\x12\xD8\x02\x00\x00\x00\x00\x00ab\x00";
+    fs::write(folder.join("schema"), schema).expect("a file is written");
+    fs::write(folder.join("message"), message).expect("a file is written");
+    let elements = "text at 54, length 2\nabsent\nrefused: 6 at 9";
+    prints(&folder, "list schema message 0", elements);
+}
+
+#[test]
+fn reading_to_a_sheet() {
+    let folder = folder("sheets");
+    prints(&folder, "read schema message read", "0 0 2 9");
+    assert_eq!(fs::read(folder.join("read")).expect("a sheet"), SHEET);
+    fs::write(folder.join("message"), &MESSAGE[..40]).expect("a file is written");
+    fs::remove_file(folder.join("read")).expect("the sheet goes away");
+    prints(&folder, "read schema message read", "6 28 2 0");
+    assert!(!folder.join("read").exists());
+}
+
+#[cfg(feature = "write")]
+#[test]
+fn writing_a_message() {
+    let folder = folder("messages");
+    prints(&folder, "write schema sheet written", "0 41");
+    assert_eq!(fs::read(folder.join("written")).expect("bytes"), MESSAGE);
+    fs::remove_file(folder.join("written")).expect("the message goes away");
+    prints(&folder, "write schema message written", "11 0");
+    assert!(!folder.join("written").exists());
+}
+
+#[test]
+fn wrong_words_and_missing_files() {
+    let folder = folder("wrong");
+    for words in [
+        "judge schema",
+        "field schema message x",
+        "judge schema none",
+    ] {
+        assert_eq!(run(&folder, words), (String::new(), false));
+    }
+}

@@ -1,0 +1,263 @@
+//! Fields, lists, sheets and messages written: what is timed apart from judging.
+
+use crate::cases::{self, Case};
+use crate::message::{Message, LIST_MAGIC};
+use crate::schema::{plain, Record, Schema, Table, LIST, TABLE, TEXT, U16};
+use std::cell::RefCell;
+use std::hint::black_box;
+
+/// One call of either program: what it gives, as numbers and bytes.
+pub type Call = Box<dyn Fn() -> Outcome>;
+
+/// The numbers and the bytes that came out.
+#[derive(Debug, PartialEq)]
+pub struct Outcome {
+    pub numbers: Vec<u64>,
+    /// The bytes' sum, so that large outputs are compared without a copy.
+    pub sum: u64,
+}
+
+/// The same work for both programs.
+pub struct Task {
+    pub name: String,
+    /// The bytes read and written, by which the speed is counted; 0 where that says nothing.
+    pub bytes: usize,
+    pub ours: Call,
+    pub second: Call,
+}
+
+impl Task {
+    /// What is wrong with the task, if anything is.
+    pub fn fault(&self) -> Option<String> {
+        let (ours, second) = ((self.ours)(), (self.second)());
+        if ours == second && ours.numbers.first() == Some(&0) {
+            return None;
+        }
+        Some(format!(
+            "{}:\n  ours: {ours:?}\n  reference: {second:?}",
+            self.name
+        ))
+    }
+}
+
+/// Each task is built when its turn comes.
+pub const TASKS: &[fn() -> Task] = &[
+    field_at_depth_5,
+    text_at_depth_5,
+    field_by_the_largest_schema,
+    list_of_tables,
+    || read(cases::texts()),
+    || read(cases::every_kind()),
+    || read(cases::numbers("(d) a list of 1,000,000 U64", 1_000_000)),
+    || read(cases::tables()),
+    #[cfg(feature = "write")]
+    || write(cases::texts()),
+    #[cfg(feature = "write")]
+    || write(cases::every_kind()),
+    #[cfg(feature = "write")]
+    || write(cases::numbers("(d) a list of 1,000,000 U64", 1_000_000)),
+    #[cfg(feature = "write")]
+    || write(cases::tables()),
+];
+
+/// Enough of a sum to tell outputs apart; the timed calls do not take it.
+fn sum(bytes: &[u8]) -> u64 {
+    let add = |sum: u64, byte: &u8| sum.wrapping_mul(31).wrapping_add(u64::from(*byte));
+    bytes.iter().fold(bytes.len() as u64, add)
+}
+
+/// An outcome without bytes. A first number of 0 says that the call went well.
+fn numbers(numbers: &[u64]) -> Outcome {
+    Outcome {
+        numbers: numbers.to_vec(),
+        sum: 0,
+    }
+}
+
+const OUTER: usize = 1000;
+const INNER: usize = 100;
+
+/// The root, a list of 1,000 tables, each with a list of 100 tables of a U16 and a text.
+fn nested() -> (Schema, Vec<u8>) {
+    let schema = Schema {
+        lists: vec![Record::of(TABLE, 1), Record::of(TABLE, 2)],
+        tables: vec![
+            Table::new(1, &[Record::of(LIST, 0)]),
+            Table::new(2, &[plain(U16), Record::of(LIST, 1)]),
+            Table::new(3, &[plain(U16), plain(TEXT)]),
+        ],
+        ..Schema::default()
+    };
+    let mut message = Message::new();
+    message.header(1, 6);
+    message.refer_behind();
+    message.header(LIST_MAGIC, OUTER);
+    let outer = message.end();
+    message.zeros(6 * OUTER);
+    for table in 0..OUTER {
+        message.set_u48(outer + 6 * table, message.end());
+        message.header(2, 8);
+        message.u16(table as u16);
+        message.refer_behind();
+        message.header(LIST_MAGIC, INNER);
+        let inner = message.end();
+        message.zeros(6 * INNER);
+        for element in 0..INNER {
+            message.set_u48(inner + 6 * element, message.end());
+            message.header(3, 8);
+            message.u16((table + element) as u16);
+            message.refer_behind();
+            message.text(b"ab");
+        }
+    }
+    (schema, message.finish())
+}
+
+/// One field: both must give the number expected of it.
+fn field(name: &str, schema: Vec<u8>, message: Vec<u8>, path: Vec<u32>, expected: u64) -> Task {
+    let (same_schema, same_message, same_path) = (schema.clone(), message.clone(), path.clone());
+    let ours = move || match scalgo::field(&schema, &message, black_box(&path)) {
+        scalgo::Answer::Number { bits, .. } => numbers(&[u64::from(bits != expected), bits]),
+        other => panic!("{other:?}"),
+    };
+    let second = move || match reference::field(&same_schema, &same_message, black_box(&same_path))
+    {
+        reference::Answer::Number { bits, .. } => numbers(&[u64::from(bits != expected), bits]),
+        other => panic!("{other:?}"),
+    };
+    Task {
+        name: name.to_string(),
+        bytes: 0,
+        ours: Box::new(ours),
+        second: Box::new(second),
+    }
+}
+
+fn field_at_depth_5() -> Task {
+    let (schema, message) = nested();
+    let name = format!("a field at depth 5 of {} bytes", message.len());
+    field(&name, schema.pack(), message, vec![0, 777, 1, 55, 0], 832)
+}
+
+fn field_by_the_largest_schema() -> Task {
+    let case = cases::tables_late();
+    let name = "a field at depth 3 by the largest schema";
+    field(name, case.schema, case.message, vec![0, 50_000, 0], 50_000)
+}
+
+fn text_at_depth_5() -> Task {
+    let (schema, message) = nested();
+    let (schema, path) = (schema.pack(), vec![0, 777, 1, 55, 1]);
+    let (same_schema, same_message, same_path) = (schema.clone(), message.clone(), path.clone());
+    let ours = move || match scalgo::text(&schema, &message, black_box(&path)) {
+        Some(text) => numbers(&[0, text.len() as u64, u64::from(text[0])]),
+        None => panic!("no text"),
+    };
+    let second = move || match reference::text(&same_schema, &same_message, black_box(&same_path)) {
+        Some((at, length)) => numbers(&[0, length as u64, u64::from(same_message[at])]),
+        None => panic!("no text"),
+    };
+    Task {
+        name: "a text at depth 6 of the same".to_string(),
+        bytes: 0,
+        ours: Box::new(ours),
+        second: Box::new(second),
+    }
+}
+
+/// A list read to its end: the sum of the places is the same.
+fn list_of_tables() -> Task {
+    let case = cases::tables();
+    let (schema, message) = (case.schema.clone(), case.message.clone());
+    let ours = move || {
+        let list = scalgo::list(&schema, &message, &[0]).expect("a list");
+        let places = list.map(|answer| match answer {
+            scalgo::Answer::Object { place, .. } => place,
+            other => panic!("{other:?}"),
+        });
+        numbers(&[0, places.sum()])
+    };
+    let second = move || {
+        let path = [0];
+        let reader = reference::ListReader::new(&case.schema, &case.message, &path);
+        let mut reader = reader.unwrap_or_else(|refusal| panic!("{refusal:?}"));
+        let mut sum = 0;
+        while let reference::Answer::Object { place, .. } = reader.step() {
+            sum += place;
+        }
+        numbers(&[0, sum])
+    };
+    Task {
+        name: "the list reader over 100,000 tables".to_string(),
+        bytes: 0,
+        ours: Box::new(ours),
+        second: Box::new(second),
+    }
+}
+
+thread_local! {
+    /// Whether the calls sum up their output; not while they are timed.
+    pub static SUMMED: RefCell<bool> = const { RefCell::new(true) };
+}
+
+fn outcome(numbers: &[u64], bytes: &[u8]) -> Outcome {
+    let summed = SUMMED.with_borrow(|summed| *summed);
+    Outcome {
+        numbers: numbers.to_vec(),
+        sum: if summed { sum(bytes) } else { 0 },
+    }
+}
+
+/// A message to its sheet. The library is lent its output; the second program makes its own.
+fn read(case: Case) -> Task {
+    const ROOM: usize = 16_777_215;
+    let (_, sheet) = reference::read(&case.schema, &case.message, case.budget, ROOM);
+    let output = RefCell::new(vec![0; sheet.len() + 100]);
+    let room = sheet.len() + 100;
+    let (schema, message) = (case.schema.clone(), case.message.clone());
+    let ours = move || {
+        let mut output = output.borrow_mut();
+        let answer = scalgo::read(&schema, &message, u32::MAX, &mut output);
+        let number = u64::from(answer.verdict.number);
+        outcome(&[number, answer.length as u64], &output[..answer.length])
+    };
+    let bytes = case.message.len() + sheet.len();
+    let name = format!("reading {}", case.name);
+    let second = move || {
+        let (verdict, sheet) = reference::read(&case.schema, &case.message, u32::MAX, room);
+        outcome(&[u64::from(verdict.number), sheet.len() as u64], &sheet)
+    };
+    Task {
+        name,
+        bytes,
+        ours: Box::new(ours),
+        second: Box::new(second),
+    }
+}
+
+/// A sheet to its message, outputs as in `read`.
+#[cfg(feature = "write")]
+fn write(case: Case) -> Task {
+    const ROOM: usize = 16_777_215;
+    let (_, sheet) = reference::read(&case.schema, &case.message, case.budget, ROOM);
+    let room = case.message.len() + 100;
+    let output = RefCell::new(vec![0; room]);
+    let (schema, same_sheet) = (case.schema.clone(), sheet.clone());
+    let bytes = case.message.len() + sheet.len();
+    let ours = move || {
+        let mut output = output.borrow_mut();
+        let answer = scalgo::write(&schema, &sheet, &mut output);
+        let number = u64::from(answer.number);
+        outcome(&[number, answer.length as u64], &output[..answer.length])
+    };
+    let second = move || {
+        let (number, message) = reference::write(&case.schema, &same_sheet, room);
+        outcome(&[u64::from(number), message.len() as u64], &message)
+    };
+    Task {
+        name: format!("writing {}", case.name),
+        bytes,
+        ours: Box::new(ours),
+        second: Box::new(second),
+    }
+}

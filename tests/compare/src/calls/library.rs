@@ -1,0 +1,182 @@
+//! The proved library, called as a C program calls it.
+
+use super::Calls;
+#[cfg(feature = "write")]
+use super::Writes;
+// The archive is linked with the wrapper.
+use scalgo as _;
+
+extern "C" {
+    fn scalgo_field(
+        schema: *const u8,
+        schema_len: usize,
+        message: *const u8,
+        message_len: usize,
+        path: *const u32,
+        path_len: usize,
+        a: *mut u64,
+        b: *mut u64,
+        c: *mut u64,
+    ) -> u32;
+
+    fn scalgo_text(
+        schema: *const u8,
+        schema_len: usize,
+        message: *const u8,
+        message_len: usize,
+        path: *const u32,
+        path_len: usize,
+        start: *mut u64,
+        length: *mut u64,
+    ) -> u32;
+
+    fn scalgo_list(
+        schema: *const u8,
+        schema_len: usize,
+        message: *const u8,
+        message_len: usize,
+        path: *const u32,
+        path_len: usize,
+        from: u64,
+        cases: *mut u64,
+        cases_len: usize,
+    ) -> u64;
+
+    fn scalgo_read(
+        schema: *const u8,
+        schema_len: usize,
+        message: *const u8,
+        message_len: usize,
+        budget: u32,
+        sheet: *mut u8,
+        room: usize,
+        place: *mut u64,
+        visits: *mut u32,
+        length: *mut u64,
+    ) -> u32;
+
+    #[cfg(feature = "write")]
+    fn scalgo_write(
+        schema: *const u8,
+        schema_len: usize,
+        sheet: *const u8,
+        sheet_len: usize,
+        message: *mut u8,
+        room: usize,
+        length: *mut u64,
+    ) -> u32;
+}
+
+/// What a number holds before a call that must store one.
+const UNSET: u64 = 0x5A5A_5A5A_5A5A_5A5A;
+
+/// The proved library.
+pub struct LibraryCalls;
+
+impl Calls for LibraryCalls {
+    fn name(&self) -> &'static str {
+        "proved library"
+    }
+
+    fn field(&self, schema: &[u8], message: &[u8], path: &[u32]) -> [u64; 4] {
+        let (mut a, mut b, mut c) = (UNSET, UNSET, UNSET);
+        // SAFETY: each slice is given as its pointer and its length and is not written to during
+        // the call; the three numbers are this function's own.
+        let case = unsafe {
+            scalgo_field(
+                schema.as_ptr(),
+                schema.len(),
+                message.as_ptr(),
+                message.len(),
+                path.as_ptr(),
+                path.len(),
+                &mut a,
+                &mut b,
+                &mut c,
+            )
+        };
+        [u64::from(case), a, b, c]
+    }
+
+    fn text(&self, schema: &[u8], message: &[u8], path: &[u32]) -> [u64; 3] {
+        let (mut start, mut length) = (UNSET, UNSET);
+        // SAFETY: as in `field`, with two numbers.
+        let found = unsafe {
+            scalgo_text(
+                schema.as_ptr(),
+                schema.len(),
+                message.as_ptr(),
+                message.len(),
+                path.as_ptr(),
+                path.len(),
+                &mut start,
+                &mut length,
+            )
+        };
+        [u64::from(found), start, length]
+    }
+
+    fn list(
+        &self,
+        schema: &[u8],
+        message: &[u8],
+        path: &[u32],
+        from: u64,
+        cases: &mut [u64],
+    ) -> u64 {
+        // SAFETY: as in `field`; the cases are lent to this function alone.
+        unsafe {
+            scalgo_list(
+                schema.as_ptr(),
+                schema.len(),
+                message.as_ptr(),
+                message.len(),
+                path.as_ptr(),
+                path.len(),
+                from,
+                cases.as_mut_ptr(),
+                cases.len(),
+            )
+        }
+    }
+
+    fn read(&self, schema: &[u8], message: &[u8], budget: u32, sheet: &mut [u8]) -> [u64; 4] {
+        let (mut place, mut visits, mut length) = (UNSET, UNSET as u32, UNSET);
+        // SAFETY: as in `field`; the sheet is lent to this function alone.
+        let number = unsafe {
+            scalgo_read(
+                schema.as_ptr(),
+                schema.len(),
+                message.as_ptr(),
+                message.len(),
+                budget,
+                sheet.as_mut_ptr(),
+                sheet.len(),
+                &mut place,
+                &mut visits,
+                &mut length,
+            )
+        };
+        [u64::from(number), place, u64::from(visits), length]
+    }
+}
+
+#[cfg(feature = "write")]
+impl Writes for LibraryCalls {
+    fn write(&self, schema: &[u8], sheet: &[u8], message: &mut [u8]) -> [u64; 2] {
+        let mut length = UNSET;
+        // SAFETY: as in `read`, with the message lent.
+        let number = unsafe {
+            scalgo_write(
+                schema.as_ptr(),
+                schema.len(),
+                sheet.as_ptr(),
+                sheet.len(),
+                message.as_mut_ptr(),
+                message.len(),
+                &mut length,
+            )
+        };
+        [u64::from(number), length]
+    }
+}

@@ -1,0 +1,143 @@
+//! The list reader put to both, and beside it the answers of its elements'
+//! own paths.
+
+use super::fields::{sort_of, Place, Run};
+use crate::canonical::HEADER;
+use crate::rng::Rng;
+
+/// What the numbers hold before a call.
+const UNSET: u64 = 0xA5A5_A5A5_A5A5_A5A5;
+
+/// The list reader at a path whose own answer is `whole`.
+pub fn at_list(
+    run: &mut Run,
+    rng: &mut Rng,
+    place: &Place,
+    path: &[u32],
+    whole: [u64; 4],
+) -> Result<(), String> {
+    let length = if whole[..2] == [3, 15] { whole[3] } else { 3 };
+    let from = first_element(rng, length);
+    let left = length.saturating_sub(from).min(12) as usize;
+    let steps = rng.range(0, left + 2);
+    // Up to three numbers more than fit an answer stay as they are.
+    let mut cases = vec![UNSET; 4 * steps + rng.below(4)];
+    let mut second = cases.clone();
+    let (schema, message) = (&place.subject.schema, &place.subject.message);
+    let count = run.first.list(schema, message, path, from, &mut cases);
+    let other = run.second.list(schema, message, path, from, &mut second);
+    if (count, &cases) != (other, &second) {
+        let call = format!("list from {from}");
+        let (one, two) = (format!("{count} {cases:?}"), format!("{other} {second:?}"));
+        return Err(place.report(&call, path, &one, &two));
+    }
+    let answers: Vec<[u64; 4]> = (cases.chunks_exact(4))
+        .map(|case| [case[0], case[1], case[2], case[3]])
+        .collect();
+    if count == 0 {
+        return started_nowhere(run, place, path, whole, &answers);
+    }
+    run.counts.note("lists");
+    by_elements(run, place, path, whole, from, &answers)
+}
+
+/// The list reader where some of the list's bytes were changed, so that
+/// elements between others are refused.
+pub fn damaged(
+    run: &mut Run,
+    rng: &mut Rng,
+    place: &Place,
+    path: &[u32],
+    whole: [u64; 4],
+) -> Result<(), String> {
+    let mut subject = place.subject.clone();
+    let message = &mut subject.message;
+    let (at, length) = (whole[2] as usize, whole[3] as usize);
+    // Six bytes a reference, eight a union; in place there is no header.
+    let start = at + rng.pick(&[HEADER, HEADER, HEADER, 0]);
+    let (size, skipped) = rng.pick(&[(6, 0), (8, 0), (8, 2)]);
+    for _ in 0..rng.range(1, 3) {
+        let element = start + size * rng.below(length.max(1)) + skipped;
+        let near = rng.below(message.len() + 20) as u64;
+        let number = rng.pick(&[0, 1, 9, 10, at as u64, near, near, 1 << 40]);
+        if let Some(bytes) = message.get_mut(element..element + 6) {
+            bytes.copy_from_slice(&number.to_le_bytes()[..6]);
+        }
+    }
+    let place = place.with(&subject);
+    let (schema, message) = (&subject.schema, &subject.message);
+    let whole = run.first.field(schema, message, path);
+    at_list(run, rng, &place, path, whole)
+}
+
+/// Mostly the first, and every sort of place around the end.
+fn first_element(rng: &mut Rng, length: u64) -> u64 {
+    match rng.below(8) {
+        0 => length,
+        1 => length + 1,
+        2 => rng.pick(&[u64::MAX, u64::MAX - 3, 1 << 32, 1 << 61, 1 << 62, 1 << 63]),
+        3 | 4 => rng.below(length as usize + 1) as u64,
+        _ => 0,
+    }
+}
+
+/// "a refused path gives its own refusal, any other answer is 15 at 0"; a list
+/// without elements answers 15 at itself.
+fn started_nowhere(
+    run: &mut Run,
+    place: &Place,
+    path: &[u32],
+    whole: [u64; 4],
+    answers: &[[u64; 4]],
+) -> Result<(), String> {
+    let allowed: &[[u64; 4]] = match whole {
+        [7, ..] => &[whole],
+        [3, 15, at, 0] => &[[7, 15, at, 0], [7, 15, 0, 0]],
+        _ => &[[7, 15, 0, 0]],
+    };
+    for answer in answers {
+        if !allowed.contains(answer) {
+            let (one, two) = (format!("{answer:?}"), format!("one of {allowed:?}"));
+            return Err(place.report("list that is none", path, &one, &two));
+        }
+        run.counts.note("answers of lists that are none");
+    }
+    run.counts.note(&match (whole, answers.first()) {
+        ([3, 15, ..], Some([_, _, 0, _])) => "list starts: plain elements".to_string(),
+        ([3, 15, _, 0], Some(_)) => "list starts: no elements".to_string(),
+        ([3, 15, ..], _) => "list starts: a list, no step".to_string(),
+        _ => format!("list starts: {}", sort_of(whole)),
+    });
+    Ok(())
+}
+
+/// "Each step answers as that element's path would and moves on, refused or
+/// not; after the last it answers 15 at the list and stays."
+fn by_elements(
+    run: &mut Run,
+    place: &Place,
+    path: &[u32],
+    whole: [u64; 4],
+    from: u64,
+    answers: &[[u64; 4]],
+) -> Result<(), String> {
+    let [_, _, at, length] = whole;
+    for (step, answer) in answers.iter().enumerate() {
+        let number = from.saturating_add(step as u64).min(length);
+        let mut element = path.to_vec();
+        element.push(number as u32);
+        let (schema, message) = (&place.subject.schema, &place.subject.message);
+        let own = run.first.field(schema, message, &element);
+        let ended = number == length && own != [7, 15, at, 0];
+        if own != *answer || ended {
+            let (one, two) = (format!("{answer:?}"), format!("its own path: {own:?}"));
+            return Err(place.report(&format!("step {step} from {from}"), path, &one, &two));
+        }
+        run.counts.note(&if number == length {
+            "list steps: after the last".to_string()
+        } else {
+            format!("list steps: {}", sort_of(own))
+        });
+    }
+    Ok(())
+}

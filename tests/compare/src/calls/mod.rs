@@ -1,0 +1,75 @@
+//! The library's functions as a C program sees them: every number that a call
+//! stores, and every buffer before and after it; run side by side.
+
+pub mod fields;
+pub mod library;
+pub mod lists;
+pub mod reads;
+pub mod second;
+pub mod writes;
+
+pub use library::LibraryCalls;
+pub use second::SecondCalls;
+
+/// The calls that read.
+pub trait Calls {
+    /// What reports call it.
+    fn name(&self) -> &'static str;
+    /// One field: the case and its three numbers.
+    fn field(&self, schema: &[u8], message: &[u8], path: &[u32]) -> [u64; 4];
+    /// A text or bytes: 1, start and length, or three times 0.
+    fn text(&self, schema: &[u8], message: &[u8], path: &[u32]) -> [u64; 3];
+    /// A list's elements from one on, four numbers each as far as they fit;
+    /// gives the number of elements.
+    fn list(
+        &self,
+        schema: &[u8],
+        message: &[u8],
+        path: &[u32],
+        from: u64,
+        cases: &mut [u64],
+    ) -> u64;
+    /// A message to its sheet: number, place, visits and length.
+    fn read(&self, schema: &[u8], message: &[u8], budget: u32, sheet: &mut [u8]) -> [u64; 4];
+}
+
+/// The call that writes, and those that read what was written.
+pub trait Writes: Calls {
+    /// A sheet to its message: number and length.
+    fn write(&self, schema: &[u8], sheet: &[u8], message: &mut [u8]) -> [u64; 2];
+}
+
+/// The bytes on either side of an output that no call may touch.
+const GUARD: usize = 16;
+
+/// An output with its surroundings, filled so that any change shows.
+pub struct Output {
+    bytes: Vec<u8>,
+    room: usize,
+}
+
+impl Output {
+    /// An output of so many bytes; no two neighbours are equal.
+    pub fn new(room: usize, fill: u8) -> Output {
+        let bytes = (0..room + 2 * GUARD).map(|at| (at as u8).wrapping_mul(37) ^ fill);
+        Output {
+            bytes: bytes.collect(),
+            room,
+        }
+    }
+
+    /// The output itself.
+    pub fn lent(&mut self) -> &mut [u8] {
+        &mut self.bytes[GUARD..GUARD + self.room]
+    }
+
+    /// The first bytes of the output.
+    pub fn front(&self, length: usize) -> &[u8] {
+        &self.bytes[GUARD..GUARD + length]
+    }
+
+    /// The output and all around it.
+    pub fn whole(&self) -> &[u8] {
+        &self.bytes
+    }
+}

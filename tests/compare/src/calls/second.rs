@@ -1,0 +1,94 @@
+//! What the second program says, in the C interface's numbers.
+
+use super::{Calls, Writes};
+use reference::{Answer, ListReader};
+
+/// The second program.
+pub struct SecondCalls;
+
+/// The case of an answer and its numbers; what a case does not use is 0.
+pub fn numbers(answer: Answer) -> [u64; 4] {
+    match answer {
+        Answer::Boolean(value) => [0, u64::from(value), 0, 0],
+        Answer::Number {
+            bits,
+            width,
+            signed,
+        } => [1, bits, u64::from(width), u64::from(signed)],
+        Answer::Float { bits, width } => [2, bits, u64::from(width), 0],
+        Answer::Object {
+            kind,
+            place,
+            length,
+        } => [3, u64::from(kind), place, length],
+        Answer::Struct { place } => [4, place, 0, 0],
+        Answer::Absent => [5, 0, 0, 0],
+        Answer::Unknown(number) => [6, number, 0, 0],
+        Answer::Refused { number, place } => [7, u64::from(number), place, 0],
+    }
+}
+
+/// Stores an answer in each four numbers; what is left over stays.
+fn store(cases: &mut [u64], mut answer: impl FnMut() -> Answer) {
+    for case in cases.chunks_exact_mut(4) {
+        case.copy_from_slice(&numbers(answer()));
+    }
+}
+
+impl Calls for SecondCalls {
+    fn name(&self) -> &'static str {
+        "second program"
+    }
+
+    fn field(&self, schema: &[u8], message: &[u8], path: &[u32]) -> [u64; 4] {
+        numbers(reference::field(schema, message, path))
+    }
+
+    fn text(&self, schema: &[u8], message: &[u8], path: &[u32]) -> [u64; 3] {
+        match reference::text(schema, message, path) {
+            Some((start, length)) => [1, start as u64, length as u64],
+            None => [0; 3],
+        }
+    }
+
+    fn list(
+        &self,
+        schema: &[u8],
+        message: &[u8],
+        path: &[u32],
+        from: u64,
+        cases: &mut [u64],
+    ) -> u64 {
+        let mut reader = match ListReader::new(schema, message, path) {
+            Ok(reader) => reader,
+            Err(refusal) => {
+                store(cases, || refusal);
+                return 0;
+            }
+        };
+        let Answer::Object { length, .. } = reference::field(schema, message, path) else {
+            unreachable!("a list reader starts only at a list");
+        };
+        // After the last it stays.
+        for _ in 0..from.min(length) {
+            reader.step();
+        }
+        store(cases, || reader.step());
+        length
+    }
+
+    fn read(&self, schema: &[u8], message: &[u8], budget: u32, sheet: &mut [u8]) -> [u64; 4] {
+        let (verdict, read) = reference::read(schema, message, budget, sheet.len());
+        sheet[..read.len()].copy_from_slice(&read);
+        let (number, visits) = (u64::from(verdict.number), u64::from(verdict.visits));
+        [number, verdict.place, visits, read.len() as u64]
+    }
+}
+
+impl Writes for SecondCalls {
+    fn write(&self, schema: &[u8], sheet: &[u8], message: &mut [u8]) -> [u64; 2] {
+        let (number, written) = reference::write(schema, sheet, message.len());
+        message[..written.len()].copy_from_slice(&written);
+        [u64::from(number), written.len() as u64]
+    }
+}

@@ -1,0 +1,183 @@
+//! Writing a sheet put to both: the number, the length, and the whole output
+//! with its surroundings; and what was written read back.
+
+use super::{Output, Writes};
+use crate::counts::Counts;
+use crate::damage;
+use crate::laws::hex;
+use crate::message_gen;
+use crate::rng::Rng;
+use crate::schema::{Schema, SIZE_LIMIT};
+use crate::schema_faults;
+use crate::sheet;
+use crate::sheet_faults;
+use crate::subjects;
+use crate::value::Value;
+use crate::value_gen::{self, Purpose};
+
+/// Two programs, and what was seen of them.
+pub struct Run<'a> {
+    pub first: &'a dyn Writes,
+    pub second: &'a dyn Writes,
+    pub counts: Counts,
+}
+
+/// Any bytes as a sheet, and the schema they are written by.
+struct Subject {
+    sort: &'static str,
+    schema: Vec<u8>,
+    sheet: Vec<u8>,
+}
+
+/// Writes sheets with both until at least so many calls were compared.
+pub fn run(
+    first: &dyn Writes,
+    second: &dyn Writes,
+    seed: u64,
+    calls: u64,
+) -> Result<Counts, String> {
+    let mut run = Run {
+        first,
+        second,
+        counts: Counts::default(),
+    };
+    let mut round = 0;
+    while run.counts.named("writes") < calls {
+        on_round(&mut run, seed, round)?;
+        round += 1;
+    }
+    Ok(run.counts)
+}
+
+/// One numbered round of a seeded run.
+pub fn on_round(run: &mut Run, seed: u64, round: u64) -> Result<(), String> {
+    let mut rng = Rng::for_case(seed, round);
+    for subject in of_round(&mut rng) {
+        on_subject(run, &mut rng, &subject)
+            .map_err(|report| format!("seed {seed} round {round}: {report}"))?;
+    }
+    Ok(())
+}
+
+/// The sheets of one random schema.
+fn of_round(rng: &mut Rng) -> Vec<Subject> {
+    let schema = subjects::some_schema(rng, 10);
+    let size = value_gen::some_size(rng);
+    let writable = value_gen::root_value(&schema, rng, Purpose::Writable, size);
+    let any = subjects::some_value(rng, &schema, 12);
+    let mut sheets = vec![
+        ("of a writable value", sheet::encode(&schema, &writable)),
+        ("of any value", sheet::encode(&schema, &any)),
+    ];
+    if let Some((spoiled, _)) = sheet_faults::unwritable(&schema, rng, &writable) {
+        sheets.push(("made unwritable", sheet::encode(&schema, &spoiled)));
+    }
+    for at in [0, 0, 1] {
+        let damaged = damage::sheet(rng, &sheets[at].1);
+        sheets.push(("damaged", damaged));
+    }
+    if let Some(read) = read_from_damaged(rng, &schema, any) {
+        sheets.push(("read from a damaged message", read));
+    }
+    let length = rng.range(0, 30);
+    sheets.push(("random bytes", rng.bytes(length)));
+    let mut out = Vec::new();
+    let packed = schema.pack();
+    let broken = schema_faults::damaged(rng, &packed);
+    for (sort, sheet) in sheets {
+        let by_broken = rng.one_in(12);
+        out.push(Subject {
+            sort: if by_broken {
+                "by a damaged schema"
+            } else {
+                sort
+            },
+            schema: if by_broken { &broken } else { &packed }.clone(),
+            sheet,
+        });
+    }
+    out
+}
+
+/// The sheet of a damaged message that is still accepted.
+fn read_from_damaged(rng: &mut Rng, schema: &Schema, value: Value) -> Option<Vec<u8>> {
+    let wild = message_gen::lay_out(schema, rng, value, None);
+    let bytes = damage::message(rng, &wild.bytes, &wild.spots);
+    let (verdict, sheet) = reference::read(&schema.pack(), &bytes, 3000, 1 << 16);
+    (verdict.number == 0).then_some(sheet)
+}
+
+/// A sheet with rooms around the one that it needs.
+fn on_subject(run: &mut Run, rng: &mut Rng, subject: &Subject) -> Result<(), String> {
+    let (number, message) = reference::write(&subject.schema, &subject.sheet, SIZE_LIMIT);
+    let name = format!("sheets {}, answer {number}", subject.sort);
+    run.counts.note(&name);
+    let length = message.len();
+    if number != 0 {
+        let room = rng.below(200);
+        one(run, rng, subject, room, "room: some")?;
+        return one(run, rng, subject, 0, "room: none").map(|_| ());
+    }
+    let (larger, less) = (length + 1 + rng.below(40), rng.below(length));
+    one(run, rng, subject, larger, "room: larger")?;
+    one(run, rng, subject, length - 1, "room: one less")?;
+    one(run, rng, subject, less, "room: some less")?;
+    one(run, rng, subject, 0, "room: none")?;
+    let written = one(run, rng, subject, length, "room: exact")?;
+    read_back(run, subject, written.front(length))
+}
+
+/// One call of both with a room; gives the first's output.
+fn one(
+    run: &mut Run,
+    rng: &mut Rng,
+    subject: &Subject,
+    room: usize,
+    sort: &str,
+) -> Result<Output, String> {
+    let fill = rng.bits() as u8;
+    let (mut message, mut expected) = (Output::new(room, fill), Output::new(room, fill));
+    let (schema, sheet) = (&subject.schema, &subject.sheet);
+    let given = run.first.write(schema, sheet, message.lent());
+    let second = run.second.write(schema, sheet, expected.lent());
+    run.counts.note("writes");
+    run.counts.note(&format!("{sort}, answer {}", given[0]));
+    run.counts.answer(given[0] as u32);
+    if given == second && message.whole() == expected.whole() {
+        return Ok(message);
+    }
+    Err(format!(
+        "{}, room {room}\n  {}: {given:?}\n  {}: {second:?}\n  \
+         output:   {}\n  expected: {}\n  schema: {}\n  sheet: {}",
+        subject.sort,
+        run.first.name(),
+        run.second.name(),
+        hex(message.whole()),
+        hex(expected.whole()),
+        hex(schema),
+        hex(sheet),
+    ))
+}
+
+/// The round trip: what the first has written, the first reads as the sheet.
+fn read_back(run: &mut Run, subject: &Subject, message: &[u8]) -> Result<(), String> {
+    let length = subject.sheet.len();
+    let mut back = Output::new(length, 0);
+    let [number, place, visits, read] =
+        run.first
+            .read(&subject.schema, message, u32::MAX, back.lent());
+    run.counts.note("round trips");
+    let whole = read == length as u64 && back.front(length) == subject.sheet;
+    if number == 0 && place == 0 && visits > 0 && whole {
+        return Ok(());
+    }
+    Err(format!(
+        "{}: read back with {number} {place} {visits} and {read} bytes\n  \
+         sheet read: {}\n  sheet: {}\n  schema: {}\n  message: {}",
+        subject.sort,
+        hex(back.front(length)),
+        hex(&subject.sheet),
+        hex(&subject.schema),
+        hex(message),
+    ))
+}

@@ -1,0 +1,45 @@
+//! A C program that includes the header and calls every function, compiled with
+//! every warning an error; what it prints was written down from the
+//! requirements.
+
+use std::path::Path;
+use std::process::Command;
+
+/// The archive's folder, as the wrapper's build finds it.
+fn archive() -> String {
+    let root = concat!(env!("CARGO_MANIFEST_DIR"), "/../../bindings/rust");
+    let named = std::env::var("SCALGO_LIB_DIR");
+    let folder = named.unwrap_or_else(|_| "../../target/staticlib".to_string());
+    let archive = Path::new(root).join(folder).join("libscalgo.a");
+    archive.display().to_string()
+}
+
+/// What the program must print.
+fn expected() -> String {
+    let all = include_str!("../c/every_call.txt").to_string();
+    if cfg!(feature = "write") {
+        return all + include_str!("../c/every_call_writes.txt");
+    }
+    all
+}
+
+#[test]
+fn every_call_from_c() {
+    let source = concat!(env!("CARGO_MANIFEST_DIR"), "/c/every_call.c");
+    let include = concat!("-I", env!("CARGO_MANIFEST_DIR"), "/../../include");
+    let program = concat!(env!("CARGO_TARGET_TMPDIR"), "/every_call");
+    let mut compiler = Command::new("cc");
+    compiler.args(["-std=c99", "-Wall", "-Wextra", "-Werror", "-pedantic"]);
+    if cfg!(feature = "write") {
+        compiler.arg("-DWITH_WRITE");
+    }
+    let archive = archive();
+    let compiled = compiler.args([include, source, &archive, "-o", program]);
+    let compiled = compiled.output().expect("cc runs");
+    let said = String::from_utf8_lossy(&compiled.stderr);
+    assert!(compiled.status.success() && said.is_empty(), "{said}");
+    let run = Command::new(program).output().expect("the program runs");
+    assert!(run.status.success() && run.stderr.is_empty());
+    let printed = String::from_utf8(run.stdout).expect("plain letters");
+    assert_eq!(printed, expected());
+}

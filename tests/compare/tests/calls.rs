@@ -1,0 +1,192 @@
+//! The library's C interface and the second program side by side: the numbers
+//! of every call, and every output before and after it.
+//!
+//! A longer run: `compare all --cases 10000000 --seed S`, or `fields`, `reads`
+//! or `writes` alone.
+
+use compare::calls::{fields, reads, LibraryCalls, SecondCalls};
+use compare::counts::Counts;
+
+/// What a run did not reach often enough.
+fn shortfalls(counts: &Counts, wanted: &[(&str, u64)]) -> Vec<String> {
+    let mut short = Vec::new();
+    for &(name, least) in wanted {
+        let count = counts.named(name);
+        if count < least {
+            short.push(format!("{name}: {count}, at least {least} wanted"));
+        }
+    }
+    short
+}
+
+/// No difference, and everything reached.
+fn reached(outcome: Result<Counts, String>, wanted: &[(&str, u64)]) {
+    let counts = match outcome {
+        Ok(counts) => counts,
+        Err(report) => panic!("{report}"),
+    };
+    println!("{counts}");
+    let short = shortfalls(&counts, wanted);
+    assert!(short.is_empty(), "not reached often enough: {short:#?}");
+}
+
+/// The answers of fields: every case, every refusal but 4, every kind.
+const ANSWERS: [(&str, u64); 37] = [
+    ("boolean 0", 10_000),
+    ("boolean 1", 10_000),
+    ("number of 8, signed 0", 10_000),
+    ("number of 8, signed 1", 3000),
+    ("number of 16, signed 0", 3000),
+    ("number of 16, signed 1", 3000),
+    ("number of 32, signed 0", 3000),
+    ("number of 32, signed 1", 3000),
+    ("number of 64, signed 0", 3000),
+    ("number of 64, signed 1", 3000),
+    ("float of 32", 5000),
+    ("float of 64", 5000),
+    ("object 13", 15_000),
+    ("object 14", 8000),
+    ("object 15", 15_000),
+    ("object 16", 50_000),
+    ("struct", 15_000),
+    ("absent", 100_000),
+    ("unknown below 256", 5000),
+    ("unknown from 256", 4000),
+    ("refused 1", 8000),
+    ("refused 2", 1500),
+    ("refused 3", 3000),
+    ("refused 5", 80),
+    ("refused 6", 15_000),
+    ("refused 7", 8000),
+    ("refused 8", 8000),
+    ("refused 9", 500),
+    ("refused 10", 1500),
+    ("refused 15", 50_000),
+    ("parts: bytes", 20_000),
+    ("parts: empty", 5000),
+    ("paths: 32 to 95 numbers", 200),
+    ("paths: 96 numbers", 5000),
+    ("paths: 97 numbers", 3000),
+    ("paths: over 97 numbers", 5000),
+    ("messages: Damaged", 15_000),
+];
+
+/// The list reader: its steps, and what it starts at.
+const LISTS: [(&str, u64); 35] = [
+    ("lists", 20_000),
+    ("list steps: object 13", 1500),
+    ("list steps: object 14", 1500),
+    ("list steps: object 15", 3000),
+    ("list steps: object 16", 5000),
+    ("list steps: absent", 10_000),
+    ("list steps: unknown below 256", 500),
+    ("list steps: unknown from 256", 500),
+    ("list steps: refused 6", 2000),
+    ("list steps: refused 7", 1000),
+    ("list steps: refused 9", 100),
+    ("list steps: refused 10", 30),
+    ("list steps: after the last", 15_000),
+    ("answers of lists that are none", 100_000),
+    ("list starts: no elements", 1000),
+    ("list starts: plain elements", 3000),
+    ("list starts: absent", 10_000),
+    ("list starts: boolean 0", 1500),
+    ("list starts: boolean 1", 1500),
+    ("list starts: float of 32", 500),
+    ("list starts: float of 64", 500),
+    ("list starts: number of 8, signed 0", 1000),
+    ("list starts: number of 64, signed 1", 300),
+    ("list starts: object 13", 1500),
+    ("list starts: object 14", 800),
+    ("list starts: object 16", 5000),
+    ("list starts: struct", 2000),
+    ("list starts: unknown below 256", 500),
+    ("list starts: unknown from 256", 500),
+    ("list starts: refused 1", 800),
+    ("list starts: refused 2", 150),
+    ("list starts: refused 6", 2000),
+    ("list starts: refused 8", 800),
+    ("list starts: refused 10", 100),
+    ("list starts: refused 15", 5000),
+];
+
+#[test]
+fn fields_texts_and_lists() {
+    let outcome = fields::run(&LibraryCalls, &SecondCalls, 1, 1_000_000);
+    reached(outcome, &[&ANSWERS[..], &LISTS].concat());
+}
+
+const READS: [(&str, u64); 30] = [
+    ("accepted: Written", 2500),
+    ("accepted: Wild", 3500),
+    ("accepted: Damaged", 5000),
+    ("accepted: OtherSchema", 4000),
+    ("accepted: DamagedSchema", 200),
+    ("accepted: Random", 900),
+    ("refused: BadStart", 3000),
+    ("refused: BrokenSchema", 3000),
+    ("refused: Damaged", 20_000),
+    ("refused: Faulty", 7000),
+    ("room: exact, answer 0", 15_000),
+    ("room: larger, answer 0", 15_000),
+    ("room: one less, answer 14", 15_000),
+    ("room: some less, answer 14", 15_000),
+    ("room: none, answer 14", 15_000),
+    ("room: none, answer 0", 300),
+    ("budget: less, answer 4", 15_000),
+    ("room: some, answer 1", 10_000),
+    ("room: some, answer 2", 2000),
+    ("room: some, answer 3", 3000),
+    ("room: some, answer 5", 1000),
+    ("room: some, answer 6", 15_000),
+    ("room: some, answer 7", 8000),
+    ("room: some, answer 8", 4000),
+    ("room: some, answer 9", 500),
+    ("room: some, answer 10", 1000),
+    ("room: none, answer 4", 10_000),
+    ("room: none, answer 6", 10_000),
+    ("room: none, answer 9", 300),
+    ("room: none, answer 10", 600),
+];
+
+#[test]
+fn reading_to_a_sheet() {
+    let outcome = reads::run(&LibraryCalls, &SecondCalls, 1, 400_000);
+    reached(outcome, &READS);
+}
+
+#[cfg(feature = "write")]
+const WRITES: [(&str, u64); 24] = [
+    ("sheets of a writable value, answer 0", 8000),
+    ("sheets of any value, answer 0", 5000),
+    ("sheets of any value, answer 11", 300),
+    ("sheets of any value, answer 12", 2500),
+    ("sheets made unwritable, answer 12", 8000),
+    ("sheets damaged, answer 0", 4000),
+    ("sheets damaged, answer 11", 20_000),
+    ("sheets damaged, answer 12", 600),
+    ("sheets read from a damaged message, answer 0", 1200),
+    ("sheets read from a damaged message, answer 12", 900),
+    ("sheets random bytes, answer 11", 8000),
+    ("sheets by a damaged schema, answer 0", 60),
+    ("sheets by a damaged schema, answer 1", 5000),
+    ("room: exact, answer 0", 20_000),
+    ("room: larger, answer 0", 20_000),
+    ("room: one less, answer 14", 20_000),
+    ("room: some less, answer 14", 20_000),
+    ("room: none, answer 14", 20_000),
+    ("room: some, answer 1", 5000),
+    ("room: some, answer 11", 30_000),
+    ("room: some, answer 12", 10_000),
+    ("room: none, answer 11", 30_000),
+    ("room: none, answer 12", 10_000),
+    ("round trips", 20_000),
+];
+
+#[cfg(feature = "write")]
+#[test]
+fn writing_a_message() {
+    use compare::calls::writes;
+    let outcome = writes::run(&LibraryCalls, &SecondCalls, 1, 400_000);
+    reached(outcome, &WRITES);
+}

@@ -1,0 +1,232 @@
+//! The C interface at the largest sizes: messages that are full, sheets at and
+//! over the size, and sheets that would be far larger than their messages.
+
+use compare::calls::{Calls, LibraryCalls, Output, SecondCalls};
+use compare::canonical::{self, HEADER};
+use compare::schema::*;
+use compare::value::Value;
+use std::time::{Duration, Instant};
+
+/// Reads with both into outputs of their own; gives number and length.
+fn read(schema: &Schema, message: &[u8], room: usize) -> (u64, usize) {
+    let packed = schema.pack();
+    let (mut sheet, mut expected) = (Output::new(room, 7), Output::new(room, 7));
+    let given = LibraryCalls.read(&packed, message, u32::MAX, sheet.lent());
+    let second = SecondCalls.read(&packed, message, u32::MAX, expected.lent());
+    assert_eq!(given, second);
+    assert!(sheet.whole() == expected.whole(), "outputs differ");
+    (given[0], given[3] as usize)
+}
+
+/// A root and one object that is filled up to the largest message with bytes
+/// that no two kinds read alike.
+fn filled(schema: &Schema, empty: Value, length: u64) -> Vec<u8> {
+    let mut message = canonical::message(schema, &Value::Table(vec![empty]));
+    let start = message.len();
+    message.resize(SIZE_LIMIT, 0);
+    for at in start..SIZE_LIMIT - 1 {
+        message[at] = (at as u8).wrapping_mul(29) ^ (at >> 9) as u8;
+    }
+    message[30..36].copy_from_slice(&length.to_le_bytes()[..6]);
+    message
+}
+
+/// The bytes for content behind the root, its one reference and a header.
+const CONTENT: u64 = (SIZE_LIMIT - 2 * HEADER - 6 - HEADER) as u64;
+
+#[test]
+fn full_lists_of_every_plain_kind() {
+    let kinds = [(BOOL, 1, 1), (F32, 32, 34), (F64, 64, 66), (ENUM, 8, 10)];
+    let integers = [(1, 8), (2, 16), (3, 32), (4, 64), (5, 8), (8, 64)];
+    let integers = integers.map(|(kind, bits)| (kind, bits, bits));
+    for (kind, bits, in_sheet) in kinds.into_iter().chain(integers) {
+        let mut schema = root_with(Record::plain(LIST, 0));
+        schema.lists = vec![Record::plain(kind, if kind == ENUM { 200 } else { 0 })];
+        let most = 8 * CONTENT / bits;
+        let message = filled(&schema, Value::List(Vec::new()), most);
+        // A mark and a count, and the elements, few of which are absent.
+        let (number, length) = read(&schema, &message, SIZE_LIMIT);
+        if in_sheet == bits {
+            let exact = (34 + most * bits).div_ceil(8) as usize;
+            assert_eq!((number, length), (0, exact), "kind {kind}");
+            assert_eq!(read(&schema, &message, exact - 1), (14, 0));
+            assert_eq!(read(&schema, &message, exact), (0, exact));
+        } else {
+            assert_eq!((number, length), (14, 0), "kind {kind}");
+        }
+        let fewer = filled(&schema, Value::List(Vec::new()), most / 2);
+        assert_eq!(read(&schema, &fewer, SIZE_LIMIT).0, 0);
+    }
+}
+
+#[test]
+fn full_texts_and_bytes() {
+    for (kind, length) in [(TEXT, CONTENT - 1), (BYTES, CONTENT)] {
+        let schema = root_with(Record::plain(kind, 0));
+        let message = filled(&schema, Value::Blob(Vec::new()), length);
+        let exact = (34 + 8 * length).div_ceil(8) as usize;
+        for room in [exact, SIZE_LIMIT, SIZE_LIMIT + 1000] {
+            assert_eq!(read(&schema, &message, room), (0, exact));
+        }
+        assert_eq!(read(&schema, &message, exact - 1), (14, 0));
+    }
+}
+
+/// A text of the given length, named so often by one list, and a list of that
+/// list.
+fn naming(schema: &Schema, text: usize, lists: usize, texts: usize) -> Vec<u8> {
+    let mut message = canonical::message(schema, &Value::Table(vec![Value::Absent]));
+    let inner = message.len() + HEADER + 6 * lists;
+    let content = inner + HEADER + 6 * texts;
+    let outer = message.len() as u64;
+    message[20..26].copy_from_slice(&outer.to_le_bytes()[..6]);
+    for (count, to) in [(lists, inner), (texts, content)] {
+        message.extend_from_slice(&0x3400_BB46u32.to_le_bytes());
+        message.extend_from_slice(&(count as u64).to_le_bytes()[..6]);
+        for _ in 0..count {
+            message.extend_from_slice(&(to as u64).to_le_bytes()[..6]);
+        }
+    }
+    message.extend_from_slice(&0xD812_C8F5u32.to_le_bytes());
+    message.extend_from_slice(&(text as u64).to_le_bytes()[..6]);
+    message.resize(message.len() + text, b'x');
+    message.push(0);
+    message
+}
+
+/// The sheet of a text named often, at the size and over it; and one that
+/// would be some 65 billion bytes, which is refused without that work.
+#[test]
+fn a_text_named_often() {
+    let mut schema = root_with(Record::plain(LIST, 0));
+    schema.lists = vec![Record::plain(LIST, 1), Record::plain(TEXT, 0)];
+    let bits = |text: usize, texts: usize| 34 + 34 + texts * (34 + 8 * text);
+    let exact = bits(65_530, 256).div_ceil(8);
+    assert_eq!(exact, 16_776_777);
+    let fits = naming(&schema, 65_530, 1, 256);
+    assert_eq!(read(&schema, &fits, exact), (0, exact));
+    assert_eq!(read(&schema, &fits, exact - 1), (14, 0));
+    let over = naming(&schema, 65_530, 1, 257);
+    assert_eq!(read(&schema, &over, SIZE_LIMIT + 70_000), (14, 0));
+    let packed = schema.pack();
+    let far_over = naming(&schema, 65_530, 1000, 1000);
+    let mut sheet = vec![3; SIZE_LIMIT];
+    let began = Instant::now();
+    let given = LibraryCalls.read(&packed, &far_over, u32::MAX, &mut sheet);
+    assert!(began.elapsed() < Duration::from_secs(2), "too much work");
+    assert_eq!(given, [14, 0, 2 + 1000 + 1_000_000, 0]);
+    assert!(sheet.iter().all(|&byte| byte == 3));
+}
+
+/// A list of 100,000 texts of which every fifth is refused, from every place.
+#[test]
+fn a_long_list() {
+    let count = 100_000;
+    let mut schema = root_with(Record::plain(LIST, 0));
+    schema.lists = vec![Record::plain(TEXT, 0)];
+    let list = Value::List(vec![Value::Blob(b"ab".to_vec()); count]);
+    let mut message = canonical::message(&schema, &Value::Table(vec![list]));
+    for number in (0..count).step_by(5) {
+        message[36 + 6 * number] ^= 1;
+    }
+    let packed = schema.pack();
+    let mut cases = vec![9; 4 * count + 7];
+    let mut second = cases.clone();
+    let given = LibraryCalls.list(&packed, &message, &[0], 0, &mut cases);
+    let expected = SecondCalls.list(&packed, &message, &[0], 0, &mut second);
+    assert_eq!((given, expected), (count as u64, count as u64));
+    assert!(cases == second, "answers differ");
+    let refused = cases.chunks_exact(4).filter(|case| case[0] == 7).count();
+    // The last that fits is after the last element.
+    assert_eq!(refused, count / 5 + 1);
+    for from in [1, 4999, 99_998, 99_999, 100_000, 100_001] {
+        let mut part = [9; 11];
+        let given = LibraryCalls.list(&packed, &message, &[0], from as u64, &mut part);
+        assert_eq!(given, count as u64);
+        for (step, case) in part[..8].chunks_exact(4).enumerate() {
+            let at = 4 * (from + step).min(count);
+            assert_eq!(case, &cases[at..at + 4], "from {from}");
+        }
+        assert_eq!(part[8..], [9; 3]);
+    }
+}
+
+#[cfg(feature = "write")]
+mod writing {
+    use super::*;
+    use compare::calls::Writes;
+    use compare::sheet;
+
+    /// Writes with both into outputs of their own; gives number and length.
+    fn write(schema: &Schema, bytes: &[u8], room: usize) -> (u64, usize) {
+        let packed = schema.pack();
+        let (mut message, mut expected) = (Output::new(room, 7), Output::new(room, 7));
+        let given = LibraryCalls.write(&packed, bytes, message.lent());
+        let second = SecondCalls.write(&packed, bytes, expected.lent());
+        assert_eq!(given, second);
+        assert!(message.whole() == expected.whole(), "outputs differ");
+        (given[0], given[1] as usize)
+    }
+
+    #[test]
+    fn full_lists_of_every_plain_kind() {
+        for (kind, bits) in [(BOOL, 1), (1, 8), (2, 16), (3, 32), (4, 64), (8, 64)] {
+            let mut schema = root_with(Record::plain(LIST, 0));
+            schema.lists = vec![Record::plain(kind, 0)];
+            let most = 8 * CONTENT / bits;
+            let message = filled(&schema, Value::List(Vec::new()), most);
+            let mut sheet = vec![0; SIZE_LIMIT];
+            let packed = schema.pack();
+            let [_, _, _, length] = SecondCalls.read(&packed, &message, 2, &mut sheet);
+            let bytes = &sheet[..length as usize];
+            let used = 36 + (most * bits).div_ceil(8) as usize;
+            for room in [used, SIZE_LIMIT, SIZE_LIMIT + 100] {
+                assert_eq!(write(&schema, bytes, room), (0, used), "kind {kind}");
+            }
+            assert_eq!(write(&schema, bytes, used - 1), (14, 0));
+        }
+    }
+
+    #[test]
+    fn a_text_at_and_over_the_size() {
+        let schema = root_with(Record::plain(TEXT, 0));
+        let value = |length| Value::Table(vec![Value::Blob(vec![b'x'; length])]);
+        let longest = CONTENT as usize - 1;
+        let bytes = sheet::encode(&schema, &value(longest));
+        assert_eq!(write(&schema, &bytes, SIZE_LIMIT), (0, SIZE_LIMIT));
+        assert_eq!(write(&schema, &bytes, SIZE_LIMIT - 1), (14, 0));
+        let over = sheet::encode(&schema, &value(longest + 1));
+        for room in [0, SIZE_LIMIT, SIZE_LIMIT + 1] {
+            assert_eq!(write(&schema, &over, room), (13, 0));
+        }
+    }
+
+    /// A sheet of 2 bits an element for 8 bytes in the message.
+    #[test]
+    fn absent_elements() {
+        let mut schema = root_with(Record::plain(LIST, 0));
+        schema.lists = vec![Record::plain(F64, 0)];
+        let most = CONTENT as usize / 8;
+        let value = |count| Value::Table(vec![Value::List(vec![Value::Absent; count])]);
+        let bytes = sheet::encode(&schema, &value(most));
+        let used = 36 + 8 * most;
+        assert_eq!(write(&schema, &bytes, SIZE_LIMIT), (0, used));
+        assert_eq!(write(&schema, &bytes, used - 1), (14, 0));
+        let over = sheet::encode(&schema, &value(most + 1));
+        assert_eq!(write(&schema, &over, SIZE_LIMIT), (13, 0));
+    }
+
+    /// A count that the sheet's few bytes cannot hold is not lawful, and costs
+    /// nothing.
+    #[test]
+    fn counts_without_elements() {
+        let mut schema = root_with(Record::plain(LIST, 0));
+        for kind in [BOOL, 1, 4, F64, ENUM, TEXT] {
+            schema.lists = vec![Record::plain(kind, u8::from(kind == ENUM))];
+            let bytes = [0x7F, 0xFF, 0xFF, 0xFF, 0xC0];
+            let began = Instant::now();
+            assert_eq!(write(&schema, &bytes, SIZE_LIMIT), (11, 0));
+            assert!(began.elapsed() < Duration::from_secs(1));
+        }
+    }
+}
