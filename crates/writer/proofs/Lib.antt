@@ -1,6 +1,2 @@
-pub mod FlatCases
-pub mod ExtentCases
-pub mod PartCases
-pub mod ObjectCases
 pub mod StoreCases
 pub mod BitCases

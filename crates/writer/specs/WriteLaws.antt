@@ -25,17 +25,17 @@ use Rattle.coding.specs.declared.Object.{Object}
 use Rattle.coding.specs.declared.Object.the-variants as O
 use Rattle.laws.specs.Sound.{Sound}
 use Rattle.laws.specs.Lists.{never}
-use Rattle.writer.specs.Survey.{capped, survey}
-use Rattle.writer.specs.Mapped.{mapped}
-use Rattle.writer.specs.Summed.{capped-in, capped-over}
-use Rattle.writer.specs.SlotSizes.{length-leBytes}
-use Rattle.writer.specs.SurveyObjects.{extentOf, object-surveyed, survey-is}
+use Rattle.survey.specs.Survey.{capped, survey}
+use Rattle.survey.specs.Mapped.{mapped}
+use Rattle.survey.specs.Summed.{capped-in, capped-over}
+use Rattle.survey.specs.SlotSizes.{length-leBytes}
+use Rattle.survey.specs.SurveyObjects.{extentOf, object-surveyed, survey-is}
 use Rattle.writer.specs.CellLengths.{length-layout}
 use Rattle.writer.specs.Emit.{State, putBytes, emitSlots}
 use Rattle.writer.specs.EmitLayout.{state, emit-layout}
 use Rattle.writer.specs.EmitSheet.{putNumber, emitRefer, emit, emitMessage}
 use Rattle.writer.specs.EmitParts.{refer-emitted, content-emitted}
-use Rattle.writer.specs.declared.Extent.{Extent}
+use Rattle.survey.specs.declared.Extent.{Extent}
 
 -- ---- what was got, through a function
 abbrev got-first : {A : Type 0} → A → Parsed A → A
