@@ -795,7 +795,7 @@ fn emit_part(
 ) -> Emitted
     requires { ⌜ (Accepted (now b) (now dir)) × (KindSound (P.parse (now b)) (r .kind)) ⌝ }
     requires { ⌜ Room (now s) pos c ⌝ }
-    ensures { λ r. ⌜ EmittedAt (now (s .entry)) (Eg.emitMember (Es.emit d B.u48 (P.parse (now (b .entry)))) (Sv.survey d B.u48 (P.parse (now (b .entry)))) B.u48 (P.parse (now (b .entry))) r (stateOf c (now (out .entry))) (drop pos (bits (now (s .entry))))) pos c 0 (r .whole) (r .places) (now (out .exit)) (r .next) ⌝ }
+    ensures { λ q. ⌜ EmittedAt (now (s .entry)) (Eg.emitMember (Es.emit d B.u48 (P.parse (now (b .entry)))) (Sv.survey d B.u48 (P.parse (now (b .entry)))) B.u48 (P.parse (now (b .entry))) r (stateOf c (now (out .entry))) (drop pos (bits (now (s .entry))))) pos c 0 (q .whole) (q .places) (now (out .exit)) (q .next) ⌝ }
 {
     let x = bitio::take_number(s, pos, 2);
     if !x.whole {
