@@ -1,2 +1,3 @@
 pub mod StoreCases
 pub mod BitCases
+pub mod WriteCases

@@ -3,18 +3,22 @@
 use Prim.Native.Nat.{ℕ, _+_, _*_, _-_, _^_, _≤_, _<_}
 use mathlib.Core.Path.{_≡_}
 use mathlib.Core.List.{List}
-use mathlib.Core.Bool.{Bool}
+use mathlib.Core.Bool.{Bool, true, _&&_}
+use lib.Dec.{ltb}
 use lib.ListN.{length, drop}
 use Rattle.coding.specs.Lists.{pick}
-use Rattle.coding.specs.Bytes.{u48}
-use Rattle.coding.specs.Bits.{bits}
+use Rattle.coding.specs.Bytes.{u48, largest, deepest}
+use Rattle.coding.specs.Packed.{parse}
+use Rattle.coding.specs.Bits.{bits, allZero}
 use Rattle.coding.specs.Schema.{Schema}
 use Rattle.coding.specs.Sheet.{Parsed, fail, got, unknownEnum}
 use Rattle.coding.specs.declared.Object.{Object}
+use Rattle.coding.specs.declared.Object.the-variants as O
 use Rattle.coding.specs.declared.Kind.{Kind}
 use Rattle.coding.specs.declared.Kind.the-variants.{OfFlat, OfObject, OfUnion}
 use Rattle.coding.specs.declared.Member.{Member}
-use Rattle.survey.specs.Survey.{capped, belowCount, surveyMark, Surveyor}
+use Rattle.survey.specs.Survey.{capped, belowCount, surveyMark, Surveyor, survey}
+use Rattle.survey.specs.Surveyed.{Small}
 use Rattle.survey.specs.declared.Extent.{Extent}
 use Rattle.writer.specs.Emit.{State, enterContent}
 use Rattle.writer.specs.EmitSheet.{Emitter, putByte, putNumber, putNothing, emitIf, openObject, emitPart, flagged}
@@ -130,3 +134,20 @@ pub record Opens (put now : State) (r : Places) : Type 0 where
   pub at : r .at ≤ 16777226
   pub tail : r .tail ≤ 16777216
   pub next : r .next ≤ 16777216
+
+-- ---- the whole sheet
+-- "then zero bits to the byte end, nothing more"
+unfoldable pub onlyEnd : List ℕ → Bool
+onlyEnd xs = ltb (length xs) 8 && allZero xs
+
+-- the length of the message whose root table takes x: the message's start, the root's header, and what it takes
+unfoldable pub messageSize : Extent → ℕ
+messageSize x = 20 + (x .width + x .chain) + x .below
+
+-- the sheet s is lawful, and its root table takes x
+pub record LawfulSheet (b s : List ℕ) (x : Extent) : Type 0 where
+  pub short : length s ≤ largest
+  pub rest : List ℕ
+  pub sheet : survey deepest u48 (parse b) (O.Table (parse b .root)) (bits s) ≡ got x rest
+  pub end : onlyEnd rest ≡ true
+  pub small : Small x

@@ -955,3 +955,87 @@ fn emit_message(b: &[u8], dir: &[u16], s: &[u8], out: &mut [u8]) -> Emitted
     let p = put_number(out, start, 4, 0xB5C0_C4B3);
     emit_refer(b, dir, s, out, 32, ob, false, p, 0)
 }
+
+// ---- the answers
+fn refused(number: u8) -> WriteAnswer
+    ensures { λ r. ⌜ (r .number ≡ number) × (r .length ≡ 0) ⌝ }
+{
+    WriteAnswer { number, length: 0 }
+}
+
+// Whether less than a byte of the sheet is left, and zero bits only.
+fn closed(s: &[u8], pos: usize) -> bool
+    requires { ⌜ (length (now s) ≤ 16777215) × (pos ≤ 8 * length (now s)) ⌝ }
+    ensures { λ r. ⌜ r ≡ Eg.onlyEnd (drop pos (bits (now (s .entry)))) ⌝ }
+{
+    let left = 8 * s.len() - pos;
+    if 8 <= left {
+        return false;
+    }
+    bitio::get(s, pos, left) == 0
+}
+
+// The length of the message whose root table takes e.
+fn message_size(e: Extent) -> usize
+    requires { ⌜ Small e ⌝ }
+    ensures { λ r. ⌜ r ≡ Eg.messageSize e ⌝ }
+{
+    let content = e.width + e.chain;
+    20 + content + e.below
+}
+
+// A sheet that is lawful, whose root table takes e.
+fn write_lawful(b: &[u8], dir: &[u16], s: &[u8], e: Extent, out: &mut [u8]) -> WriteAnswer
+    requires { ⌜ (Accepted (now b) (now dir)) × Eg.LawfulSheet (now b) (now s) e ⌝ }
+    ensures { λ r. ⌜ r ≡ M.writeAnswer B.u48 (now (b .entry)) (now (s .entry)) (now (out .entry)) ⌝ }
+    ensures { λ _. ⌜ now (out .exit) ≡ M.writeOut B.u48 (now (b .entry)) (now (s .entry)) (now (out .entry)) ⌝ }
+{
+    if !e.writable {
+        return refused(12);
+    }
+    let n = message_size(e);
+    if 16777215 < n {
+        return refused(13);
+    }
+    if out.len() < n {
+        return refused(14);
+    }
+    emit_message(b, dir, s, &mut out[..n]);
+    WriteAnswer {
+        number: 0,
+        length: n,
+    }
+}
+
+// By a schema that was judged before.
+fn write_judged(b: &[u8], dir: &[u16], s: &[u8], out: &mut [u8]) -> WriteAnswer
+    requires { ⌜ Accepted (now b) (now dir) ⌝ }
+    ensures { λ r. ⌜ r ≡ M.writeAnswer B.u48 (now (b .entry)) (now (s .entry)) (now (out .entry)) ⌝ }
+    ensures { λ _. ⌜ now (out .exit) ≡ M.writeOut B.u48 (now (b .entry)) (now (s .entry)) (now (out .entry)) ⌝ }
+{
+    if 16777215 < s.len() {
+        return refused(11);
+    }
+    let ob = judge::root_object(b, dir);
+    let x = survey::object(b, dir, s, 32, ob, 0);
+    if !x.whole {
+        return refused(11);
+    }
+    if !closed(s, x.next) {
+        return refused(11);
+    }
+    write_lawful(b, dir, s, x.extent, out)
+}
+
+// Writes a sheet as a message: 1, 11, 12, 13 or 14, each over the whole sheet; else the message's length, and the message in
+// the output, whose bytes after it keep what they held.
+pub fn write(b: &[u8], s: &[u8], out: &mut [u8]) -> WriteAnswer
+    ensures { λ r. ⌜ r ≡ M.writeAnswer B.u48 (now (b .entry)) (now (s .entry)) (now (out .entry)) ⌝ }
+    ensures { λ _. ⌜ now (out .exit) ≡ M.writeOut B.u48 (now (b .entry)) (now (s .entry)) (now (out .entry)) ⌝ }
+{
+    let mut dir: [u16; 384] = [0; 384];
+    if schema::judge_schema(b, &mut dir) {
+        return write_judged(b, &dir, s, out);
+    }
+    refused(1)
+}
