@@ -803,19 +803,20 @@ fn emit_part(
     }
     let mark = x.value;
     let next = x.next;
+    let k = r.kind;
     if mark == 1 {
         let p = flag(out, r, 1, c);
-        return emit_body(b, dir, s, out, d, r.kind, r.inplace, p, next);
+        return emit_body(b, dir, s, out, d, k, r.inplace, p, next);
     }
     if mark == 3 {
         return not_lawful(c, pos);
     }
     let p = flag(out, r, 0, c);
-    let q = lack(b, dir, out, r.kind, p);
+    let q = lack(b, dir, out, k, p);
     if mark == 0 {
         return stored(q, next);
     }
-    pass(b, dir, s, out, r.kind, q, next)
+    pass(b, dir, s, out, k, q, next)
 }
 
 fn emit_element(
