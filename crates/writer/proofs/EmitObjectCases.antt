@@ -2,7 +2,7 @@
 use mathlib.Core.Path.{_≡_, refl, sym, ap, _∙_, subst}
 use mathlib.Core.Bool.{Bool, true, false, not}
 use mathlib.Core.List.{List, [], _∷_}
-use Prim.Native.Nat.{ℕ, zero, suc, _+_, _-_, _*_, _^_, _<_, _≤_}
+use Prim.Native.Nat.{ℕ, zero, suc, _+_, _-_, _*_, _<_, _≤_}
 use native.Mathlib.Omega.{arith}
 use native.Mathlib.Numerals.{add-one, sub-one}
 use lib.ListN.{length, drop, drop-of-length-le}
@@ -13,15 +13,11 @@ use Rattle.coding.specs.Bytes.{u48}
 use Rattle.coding.specs.Bits.{bits}
 use Rattle.coding.specs.Schema as Sc
 use Rattle.coding.specs.Schema.{Schema}
-use Rattle.coding.specs.Packed as P
 use Rattle.coding.specs.Sheet.{Parsed, fail, got, bind}
 use Rattle.coding.specs.declared.Object.{Object}
 use Rattle.coding.specs.declared.Object.the-variants as O
 use Rattle.coding.specs.declared.Kind.{Kind}
 use Rattle.coding.specs.declared.Member.{Member}
-use Rattle.laws.specs.Sound.{ObjectSound, KindSound}
-use Rattle.laws.specs.SoundAt.{member-sound-at, list-index, table-index}
-use Rattle.schema.specs.Directory.{Accepted, accepted-sound}
 use Rattle.bitio.specs.Taken.{TakenNumber}
 use Rattle.survey.specs.Survey.{Surveyor, survey}
 use Rattle.survey.specs.Surveyed.{SurveyedAt}
@@ -30,26 +26,9 @@ use Rattle.writer.specs.Emit.{State}
 use Rattle.writer.specs.EmitSheet.{Emitter, emitRefer, emitElement, emitMembers, emitElements, emitBlob, emitContent, emit}
 use Rattle.writer.specs.Emitting.{stateOf, closed, referred, opened, emitMember, Room, EmittedAt, Stood, Opens}
 use Rattle.writer.specs.declared.Places.{Places}
-use Rattle.writer.proofs.EmitRoom.{taken-at, refused}
+use Rattle.writer.proofs.EmitRoom.{refused}
 use Rattle.writer.proofs.EmitRest.{emitted-on}
 use Rattle.writer.proofs.EmitPartCases.{refer-closed}
-
--- ---- indices and kinds in range
-pub list-counted : (b : List ℕ) (ob : Object) (i j : ℕ) → ObjectSound (P.parse b) ob → ob ≡ O.List i → j ≡ i → j < P.listCount b
-list-counted b ob i j h f e = rw e (list-index b i (subst (ObjectSound (P.parse b)) f h))
-
-pub table-counted : (b : List ℕ) (ob : Object) (i j : ℕ) → ObjectSound (P.parse b) ob → ob ≡ O.Table i → j ≡ i → j < P.tableCount b
-table-counted b ob i j h f e = rw e (table-index b i (subst (ObjectSound (P.parse b)) f h))
-
-pub element-sound : (b dir : List ℕ) → Accepted b dir → (i : ℕ) (k : Kind) → k ≡ Sc.elementOf (P.parse b) i → KindSound (P.parse b) k
-element-sound b dir a i k e = rw e (accepted-sound b dir a .lists i .kind)
-
-pub member-kind : (b dir : List ℕ) → Accepted b dir → (t j : ℕ) (r : Member) → r ≡ Sc.memberOf (P.parse b) t j → (count : ℕ) → count ≡ length (Sc.tableOf (P.parse b) t .members)
-    → j < count → KindSound (P.parse b) (r .kind)
-member-kind b dir a t j r e count ec h = rw e (member-sound-at (P.parse b) (accepted-sound b dir a) t j (omega arith) .kind)
-
-pub member-counted : (S : Schema) (t j count : ℕ) → count ≡ length (Sc.tableOf S t .members) → j < count → j < length (Sc.tableOf S t .members)
-member-counted S t j count e h = omega arith
 
 -- ---- an object that is referred to: its content goes forward in the sheet
 module _ (d : ℕ) (S : Schema) (s : List ℕ) (inplace : Bool) (ob : Object) (c : Places) (o : List ℕ) (pos : ℕ) (room : Room s pos c)

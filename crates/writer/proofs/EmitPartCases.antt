@@ -1,29 +1,24 @@
 -- The ways out of the pass over members and elements, one lemma for each.
 use mathlib.Core.Path.{_≡_, refl, sym, ap, _∙_, subst}
-use mathlib.Core.Bool.{Bool, true, false, _&&_, not, false≢true}
+use mathlib.Core.Bool.{Bool, true, false, not, false≢true}
 use mathlib.Core.List.{List}
 use Prim.Native.Nat.{ℕ, zero, suc, _+_, _*_, _^_, _<_, _≤_}
 use native.Mathlib.Omega.{arith}
 use lib.ListN.{length, drop}
-use lib.Dec.{leb, eqb}
+use lib.Dec.{eqb}
 use borrow.Author.Tests.{eq-eqb, ne-eqb, le-leb, lt-leb, not-true, not-false}
 use Rattle.coding.specs.Lists.{pick}
 use Rattle.coding.specs.Bytes.{u48}
 use Rattle.coding.specs.Bits.{bits}
 use Rattle.coding.specs.Schema as Sc
 use Rattle.coding.specs.Schema.{Schema}
-use Rattle.coding.specs.Packed as P
 use Rattle.coding.specs.Layout.{hasFlag}
-use Rattle.coding.specs.Sheet.{Parsed, fail, got, bind, takeNumber, bare, flatBare}
+use Rattle.coding.specs.Sheet.{Parsed, fail, got, bind, bare}
 use Rattle.coding.specs.declared.Flat.{Flat}
-use Rattle.coding.specs.declared.Flat.the-variants.{Boolean, Integer, Float, Enumerated, Struct}
 use Rattle.coding.specs.declared.Object.{Object}
 use Rattle.coding.specs.declared.Kind.{Kind}
 use Rattle.coding.specs.declared.Kind.the-variants.{OfFlat, OfObject, OfUnion}
 use Rattle.coding.specs.declared.Member.{Member}
-use Rattle.laws.specs.Sound.{FlatSound, ObjectSound, KindSound}
-use Rattle.laws.specs.SoundAt.{case-sound-at, union-index}
-use Rattle.schema.specs.Directory.{Accepted, accepted-sound}
 use Rattle.bitio.specs.Taken.{TakenNumber}
 use Rattle.survey.specs.Survey.{Surveyor, surveyMark}
 use Rattle.survey.specs.Surveyed.{SurveyedAt}
@@ -33,21 +28,6 @@ use Rattle.writer.specs.EmitSheet.{Emitter, putNumber, emitFlat, lack, p
 use Rattle.writer.specs.Emitting.{stateOf, HeldOk, leftObject, leftContent, closed, referred, opened, emitMember, Room, EmittedAt, Stood, BitPut, Lacks, Opens, extra}
 use Rattle.writer.specs.declared.Places.{Places}
 use Rattle.writer.proofs.EmitRoom.{taken-at, refused, extra-most, held-same}
-
--- ---- what a kind is, in range
-pub kind-flat : (S : Schema) (k : Kind) (f : Flat) → k ≡ OfFlat f → KindSound S k → FlatSound (length (S .structs)) f
-kind-flat S k f e h = subst (KindSound S) e h
-
-pub kind-object : (S : Schema) (k : Kind) (ob : Object) → k ≡ OfObject ob → KindSound S k → ObjectSound S ob
-kind-object S k ob e h = subst (KindSound S) e h
-
-pub union-counted : (b : List ℕ) (k : Kind) (u j : ℕ) → k ≡ OfUnion u → j ≡ u → KindSound (P.parse b) k → j < P.unionCount b
-union-counted b k u j e ej h = rw ej (union-index b u (subst (KindSound (P.parse b)) e h))
-
-pub case-sound : (b dir : List ℕ) → Accepted b dir → (u x c : ℕ) → (x ≡ 0 → ⊥) → c ≡ length (Sc.casesOf (P.parse b) u) → x ≤ c → (ob : Object)
-    → ob ≡ Sc.caseOf (Sc.casesOf (P.parse b) u) x → ObjectSound (P.parse b) ob
-case-sound b dir a u zero c h ec l ob e = absurd (h refl)
-case-sound b dir a u (suc x) c h ec l ob e = rw e (case-sound-at (P.parse b) (accepted-sound b dir a) u (suc x) (omega arith) (omega arith))
 
 -- ---- an object: what refers to it, its content, and back; by offset or in place
 refer-is : (child : Emitter) (measure : Surveyor) (S : Schema) (inplace : Bool) (ob : Object) (x : Extent) (st : State) (xs ys : List ℕ) → measure ob xs ≡ got x ys
@@ -128,6 +108,10 @@ module _ (child : Emitter) (measure : Surveyor) (S : Schema) (s : List ℕ) (inp
         })
 
 -- ---- a union's known choice
+positive : (y : ℕ) → (y ≡ 0 → ⊥) → 1 ≤ y
+positive zero f = absurd (f refl)
+positive (suc y) f = omega arith
+
 module _ (child : Emitter) (measure : Surveyor) (S : Schema) (s : List ℕ) (inplace : Bool) (u : ℕ) (c : Places) (o : List ℕ) (pos : ℕ) (room : Room s pos c)
     (whole : Bool) (x next : ℕ) (taken : TakenNumber s pos 16 whole x next) where
   pub choice-cut : not whole ≡ true → (w : Bool) (q : Places) (n : ℕ) → w ≡ false → q ≡ c → n ≡ pos
@@ -148,20 +132,16 @@ module _ (child : Emitter) (measure : Surveyor) (S : Schema) (s : List ℕ) (inp
           → EmittedAt s (emitChoice child measure u48 S inplace (Sc.casesOf S u) (stateOf c o) (drop pos (bits s))) pos c 6 w q o n
       unfolding emitChoice bind
       choice-above g w q n ew eq en =
-          let one : 1 ≤ x = by x h0 in
+          let one : 1 ≤ x = positive x h0 in
           let lt : length (Sc.casesOf S u) < x = omega arith in
           refused s _ pos c 6 (rw (taken .number, not-false whole h) (simp (le-leb 1 x one, lt-leb x (length (Sc.casesOf S u)) lt))) room w q o n ew eq en
-        where
-          by : (y : ℕ) → (y ≡ 0 → ⊥) → 1 ≤ y
-          by zero f = absurd (f refl)
-          by (suc y) f = omega arith
 
       pub choice-known : x ≤ m → (ob : Object) → ob ≡ Sc.caseOf (Sc.casesOf S u) x → (p : Places) (o₁ : List ℕ) → Stood 2 (putNumber 2 x (stateOf c o)) (stateOf p o₁) c p
           → (w : Bool) (q : Places) (o₂ : List ℕ) (n : ℕ) → EmittedAt s (emitRefer child measure u48 S inplace ob (stateOf p o₁) (drop next (bits s))) next p 6 w q o₂ n
           → EmittedAt s (emitChoice child measure u48 S inplace (Sc.casesOf S u) (stateOf c o) (drop pos (bits s))) pos c 6 w q o₂ n
       unfolding emitChoice bind
       choice-known g ob eo p o₁ st w q o₂ n t =
-          let one : 1 ≤ x = by x h0 in
+          let one : 1 ≤ x = positive x h0 in
           let le : x ≤ length (Sc.casesOf S u) = omega arith in
           let e = taken-at s pos 16 whole x next taken (room .here) h in
           let a = t .at in
@@ -176,10 +156,6 @@ module _ (child : Emitter) (measure : Surveyor) (S : Schema) (s : List ℕ) (inp
             tail = t .tail;
             next = t .next;
           }
-        where
-          by : (y : ℕ) → (y ≡ 0 → ⊥) → 1 ≤ y
-          by zero f = absurd (f refl)
-          by (suc y) f = omega arith
 
 -- ---- what is there
 module _ (child : Emitter) (measure : Surveyor) (S : Schema) (s : List ℕ) (k : Kind) (inplace : Bool) (c : Places) (o : List ℕ) (pos : ℕ) (w : Bool) (q : Places) (o₁ : List ℕ) (n : ℕ) where

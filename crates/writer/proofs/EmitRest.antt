@@ -1,14 +1,14 @@
 -- The pass goes forward: no part of it leaves more of the sheet than it was given.
-use mathlib.Core.Path.{_≡_, refl, sym, ap, _∙_, subst}
+use mathlib.Core.Path.{_≡_, subst}
 use mathlib.Core.Bool.{Bool, true, false, _&&_, not}
 use mathlib.Core.List.{List, [], _∷_}
-use Prim.Native.Nat.{ℕ, zero, suc, _+_, _-_, _*_, _<_, _≤_}
+use Prim.Native.Nat.{ℕ, zero, suc, _*_, _≤_}
 use native.Mathlib.Omega.{arith}
-use lib.ListN.{length, take, drop, length-drop}
-use lib.Dec.{ltb, leb, eqb}
+use lib.ListN.{length, drop, length-drop}
+use lib.Dec.{leb, eqb}
 use borrow.Author.Tests.{not-false}
 use Rattle.coding.specs.Lists.{pick}
-use Rattle.coding.specs.Bits.{bits, value, pack}
+use Rattle.coding.specs.Bits.{bits}
 use Rattle.coding.specs.Schema as Sc
 use Rattle.coding.specs.Schema.{Schema}
 use Rattle.coding.specs.Structs.{lower, byIndex}
@@ -22,10 +22,9 @@ use Rattle.coding.specs.declared.Kind.the-variants.{OfFlat, OfObject, OfUnion}
 use Rattle.coding.specs.declared.Member.{Member}
 use Rattle.laws.specs.Bits.{bits-length}
 use Rattle.survey.specs.Survey.{belowCount, aboveCount, surveyMark, Surveyor, survey}
-use Rattle.survey.specs.declared.Extent.{Extent}
-use Rattle.writer.specs.Emit.{State, leaveObject, leaveContent, putBytes, enterContent}
+use Rattle.writer.specs.Emit.{State, enterContent}
 use Rattle.writer.specs.EmitSheet.{Emitter, putNumber, putByte, putNothing, openObject, emitNumber, emitIf, emitField, emitFields, emitBy, emitNothing, emitStruct, emitFlat, lack, passFlat, pass, emitObject, emitContentAt, emitRefer, emitChoice, emitBody, emitPart, emitElement, flagged, emitMembers, emitElements, emitBlob, emitContent, emit}
-use Rattle.writer.specs.Emitting.{EmittedAt}
+use Rattle.writer.specs.Emitting.{stateOf, EmittedAt}
 use Rattle.writer.specs.declared.Places.{Places}
 
 -- the bits that are left
@@ -188,10 +187,10 @@ pub emitted-on : (d o : ℕ) (S : Schema) (s : List ℕ) (ob : Object) (st : Sta
     → EmittedAt s (emit d o S ob st (drop pos (bits s))) pos from e whole c out end → pos ≤ 8 * length s → not whole ≡ false → pos ≤ end
 unfolding left
 emitted-on d o S s ob st pos from e whole c out end t l h =
-    let a : left (pick whole (got (Rattle.writer.specs.Emitting.stateOf c out) (drop end (bits s))) fail) ≤ length (drop pos (bits s)) =
+    let a : left (pick whole (got (stateOf c out) (drop end (bits s))) fail) ≤ length (drop pos (bits s)) =
     subst (λ (p : Parsed State). left p ≤ length (drop pos (bits s))) (t .is) (emit-left d o S ob st (drop pos (bits s)) (length (drop pos (bits s))) (omega arith)) in
     let b : length (drop end (bits s)) ≤ length (drop pos (bits s)) =
-    subst (λ (u : Bool). left (pick u (got (Rattle.writer.specs.Emitting.stateOf c out) (drop end (bits s))) fail) ≤ length (drop pos (bits s))) (not-false whole h) a in
+    subst (λ (u : Bool). left (pick u (got (stateOf c out) (drop end (bits s))) fail) ≤ length (drop pos (bits s))) (not-false whole h) a in
     let i = t .here in
     let f = length-drop end (bits s) in
     let g = length-drop pos (bits s) in

@@ -1,5 +1,5 @@
 use Prim.Native.Nat.{ℕ, _+_, _-_, _*_, _^_, _<_, _≤_}
-use mathlib.Core.Path.{_≡_, refl, _∙_}
+use mathlib.Core.Path.{_≡_, _∙_}
 use native.Mathlib.Omega.{arith}
 use borrow.Author.Needs.{needs}
 use lib.ListN.{length, drop}
@@ -11,9 +11,11 @@ use Rattle.coding.specs.declared.Object.the-variants as O
 use Rattle.survey.specs.Survey.{survey}
 use Rattle.writer.specs.EmitSheet.{emitMembers, emitElements, emitContent, emit}
 use Rattle.writer.specs.Emitting.{stateOf, Room}
+use Rattle.survey.proofs.PartCases.{kind-flat, kind-object, union-counted, case-sound}
+use Rattle.survey.proofs.ObjectCases.{list-counted, table-counted, element-sound, member-kind, member-counted}
 use Rattle.writer.proofs.EmitRoom.{room-taken, taken-on, room-choice, room-flag, room-lack, room-open, room-part, room-below, stood-next, stood-tail}
-use Rattle.writer.proofs.EmitPartCases.{kind-flat, kind-object, union-counted, case-sound, refer-lost, refer-cut, choice-cut, choice-zero, choice-above, choice-known, body-flat, body-object, body-union, part-cut, part-there, part-bad, part-none, part-pass, element-bare, element-marked}
-use Rattle.writer.proofs.EmitObjectCases.{list-counted, table-counted, element-sound, member-kind, member-counted, refer-done, members-start, members-done, members-stopped, members-turn, elements-cut, elements-start, elements-done, elements-stopped, elements-turn, content-deep, content-text, content-bytes, content-list, content-table}
+use Rattle.writer.proofs.EmitPartCases.{refer-lost, refer-cut, choice-cut, choice-zero, choice-above, choice-known, body-flat, body-object, body-union, part-cut, part-there, part-bad, part-none, part-pass, element-bare, element-marked}
+use Rattle.writer.proofs.EmitObjectCases.{refer-done, members-start, members-done, members-stopped, members-turn, elements-cut, elements-start, elements-done, elements-stopped, elements-turn, content-deep, content-text, content-bytes, content-list, content-table}
 use borrow.Fn.Kinds.{In}
 use borrow.Fn.PlainCycle.{Measures, is, falls, and}
 use Rattle.writer.proofs.emit_body.Reads as emit-body
