@@ -49,41 +49,49 @@ taken-at s pos w whole x next t l h =
 pub held-same : (c p : Places) → HeldOk c → p .free ≡ c .free → p .held ≡ c .held → HeldOk p
 held-same c p ok e f = record { free = rw e (ok .free); held = rw (e, f) (ok .held) }
 
-pub room-taken : (s : List ℕ) (pos w : ℕ) (c : Places) → Room s pos c → (whole : Bool) (x next : ℕ) → TakenNumber s pos w whole x next → not whole ≡ false → Room s next c
-room-taken s pos w c room whole x next taken h =
-    let e = taken-at s pos w whole x next taken (room .here) h in
-    let a = room .at in
-    record { short = room .short; here = taken .inside; at = omega arith; bool = room .bool; tail = room .tail; next = room .next }
+module _ (s : List ℕ) (pos w : ℕ) (c : Places) (room : Room s pos c) (whole : Bool) (x next : ℕ) (taken : TakenNumber s pos w whole x next) (h : not whole ≡ false) where
+  pub room-taken : Room s next c
+  room-taken =
+      let e = taken-at s pos w whole x next taken (room .here) h in
+      let a = room .at in
+      record { short = room .short; here = taken .inside; at = omega arith; bool = room .bool; tail = room .tail; next = room .next }
 
-pub taken-on : (s : List ℕ) (pos w : ℕ) (c : Places) → Room s pos c → (whole : Bool) (x next : ℕ) → TakenNumber s pos w whole x next → not whole ≡ false
-    → c .at + 8192 * pos ≤ c .at + 8192 * next
-taken-on s pos w c room whole x next taken h = let e = taken-at s pos w whole x next taken (room .here) h in omega arith
+  pub taken-on : c .at + 8192 * pos ≤ c .at + 8192 * next
+  taken-on = let e = taken-at s pos w whole x next taken (room .here) h in omega arith
+
+  -- behind n bytes
+  pub room-stood : (n : ℕ) → n ≤ 8192 * w → (put now : State) (p : Places) → Stood n put now c p → Room s next p
+  room-stood n l put now p t =
+      let e = taken-at s pos w whole x next taken (room .here) h in
+      let a = room .at in
+      let f = t .at in
+      record {
+        short = room .short;
+        here = taken .inside;
+        at = omega arith;
+        bool = held-same c p (room .bool) (t .free) (t .held);
+        tail = rw (t .tail) (room .tail);
+        next = rw (t .next) (room .next);
+      }
+
+  -- behind a bit
+  pub room-bit : 1 ≤ w → (put now : State) (p : Places) → BitPut put now c p → Room s next p
+  room-bit l put now p t =
+      let e = taken-at s pos w whole x next taken (room .here) h in
+      let a = room .at in
+      let f = t .at in
+      record { short = room .short; here = taken .inside; at = omega arith; bool = t .bool; tail = rw (t .tail) (room .tail); next = rw (t .next) (room .next) }
 
 -- behind a choice's number
 pub room-choice : (s : List ℕ) (pos : ℕ) (c : Places) → Room s pos c → (whole : Bool) (x next : ℕ) → TakenNumber s pos 16 whole x next → not whole ≡ false
     → (put now : State) (p : Places) → Stood 2 put now c p → Room s next p
-room-choice s pos c room whole x next taken h put now p t =
-    let e = taken-at s pos 16 whole x next taken (room .here) h in
-    let a = room .at in
-    let f = t .at in
-    record {
-      short = room .short;
-      here = taken .inside;
-      at = omega arith;
-      bool = held-same c p (room .bool) (t .free) (t .held);
-      tail = rw (t .tail) (room .tail);
-      next = rw (t .next) (room .next);
-    }
+room-choice s pos c room whole x next taken h put now p t = room-stood s pos 16 c room whole x next taken h 2 (omega arith) put now p t
 
 module _ (s : List ℕ) (pos : ℕ) (c : Places) (room : Room s pos c) (whole : Bool) (x next : ℕ) (taken : TakenNumber s pos 2 whole x next) (h : not whole ≡ false)
     (put now : State) (p : Places) (t : BitPut put now c p) where
   -- behind a flag
   pub room-flag : Room s next p
-  room-flag =
-      let e = taken-at s pos 2 whole x next taken (room .here) h in
-      let a = room .at in
-      let f = t .at in
-      record { short = room .short; here = taken .inside; at = omega arith; bool = t .bool; tail = rw (t .tail) (room .tail); next = rw (t .next) (room .next) }
+  room-flag = room-bit s pos 2 c room whole x next taken h (omega arith) put now p t
 
   -- behind a flag and what stands for no value
   pub room-lack : (put₁ now₁ : State) (q : Places) → Lacks put₁ now₁ p q → Room s next q
