@@ -1,2 +1,4 @@
 pub mod StoreCases
 pub mod BitCases
+pub mod EmitRoom
+pub mod PutCases
