@@ -11,7 +11,6 @@ use Rattle.coding.specs.Bytes.{u48, leBytes, largest}
 use Rattle.coding.specs.Bits.{bits, pack}
 use Rattle.coding.specs.Schema as Sc
 use Rattle.coding.specs.Schema.{Schema}
-use Rattle.coding.specs.Packed as P
 use Rattle.coding.specs.Layout.{hasFlag}
 use Rattle.coding.specs.Walk.{headerSize, magic}
 use Rattle.coding.specs.Message.{zeros}
@@ -19,8 +18,6 @@ use Rattle.coding.specs.declared.Object.{Object}
 use Rattle.coding.specs.declared.Object.the-variants as O
 use Rattle.coding.specs.declared.Member.{Member}
 use Rattle.laws.specs.Bits.{pack-length}
-use Rattle.laws.specs.Sound.{ObjectSound}
-use Rattle.laws.specs.SoundAt.{table-index}
 use Rattle.survey.specs.Survey.{capped}
 use Rattle.survey.specs.Summed.{capped-most}
 use Rattle.survey.specs.SlotSizes.{length-leBytes}
@@ -29,7 +26,6 @@ use Rattle.writer.specs.Emit.{State, putBytes, putBit, enterObject, ente
 use Rattle.writer.specs.EmitSheet.{putByte, putNumber, openObject, flagged}
 use Rattle.writer.specs.Emitting.{stateOf, forward, enteredObject, enteredContent, leftObject, leftContent, closed, referred, opened, HeldOk, Stood, BitPut, Opens}
 use Rattle.writer.specs.declared.Places.{Places}
-use Rattle.writer.proofs.EmitRoom.{held-same}
 
 -- ---- moves
 pub forward-is : (c : Places) (n : ℕ)
@@ -123,9 +119,6 @@ module _ (S : Schema) (ob : Object) where
   pub magic-table : (i j r : ℕ) → ob ≡ O.Table i → j ≡ i → r ≡ Sc.tableOf S j .id → r ≡ magic S ob
   unfolding magic
   magic-table i j r e ej er = rw (e, ← ej) er
-
-pub table-counted : (b : List ℕ) (ob : Object) (i j : ℕ) → ob ≡ O.Table i → j ≡ i → ObjectSound (P.parse b) ob → j < P.tableCount b
-table-counted b ob i j e ej h = rw ej (table-index b i (subst (ObjectSound (P.parse b)) e h))
 
 -- ---- references
 module _ (inplace : Bool) (x : Extent) (c r : Places) (o o₁ : List ℕ) where

@@ -1,5 +1,6 @@
 use borrow.Author.Needs.{needs}
-use Rattle.writer.proofs.PutCases.{magic-text, magic-bytes, magic-list, magic-table, table-counted}
+use Rattle.judge.proofs.OpenCases.{table-counted-of}
+use Rattle.writer.proofs.PutCases.{magic-text, magic-bytes, magic-list, magic-table}
 use Rattle.writer.proofs.object_magic.Statement.{statement}
 use Rattle.writer.proofs.object_magic.Tie as tie
 use Rattle.writer.proofs.object_magic.Reads as reads
@@ -29,7 +30,7 @@ index-requires c κs = search needs
 
 -- src/lib.rt:633:29
 table-id-requires : tie.Need-table-id-requires
-table-id-requires c κs = search (table-counted, needs)
+table-id-requires c κs = search (table-counted-of, needs)
 
 -- src/lib.rt:625:1
 returns : tie.Need-returns
