@@ -1,6 +1,9 @@
 pub mod StoreCases
 pub mod BitCases
 pub mod EmitRoom
+pub mod PutCases
+pub mod EmitCases
+pub mod StructCases
 pub mod EmitRest
 pub mod EmitPartCases
 pub mod EmitObjectCases

@@ -172,13 +172,6 @@ fn forward(c: Places, n: usize) -> Places
     }
 }
 
-// A count of bytes, to one past the size.
-fn capped(n: usize) -> usize
-    ensures { λ r. ⌜ (r ≡ Sv.capped n) × (r ≤ 16777216) ⌝ }
-{
-    if n <= 16777215 { n } else { 16777216 }
-}
-
 // At the start of the next object: of w bytes, with `chain` bytes in place behind it.
 fn enter_object(c: Places, w: usize, chain: usize) -> Places
     requires { ⌜ (c .next ≤ 16777216) × (w < 2 ^ 49) × (chain ≤ 16777216) ⌝ }
@@ -191,8 +184,8 @@ fn enter_object(c: Places, w: usize, chain: usize) -> Places
         last: 0,
         free: 0,
         held: 0,
-        tail: capped(end),
-        next: capped(end + chain),
+        tail: survey::capped(end),
+        next: survey::capped(end + chain),
     }
 }
 
@@ -208,7 +201,7 @@ fn enter_content(c: Places, w: usize) -> Places
         last: 0,
         free: 0,
         held: 0,
-        tail: capped(tail + w),
+        tail: survey::capped(tail + w),
         next,
     }
 }
