@@ -80,16 +80,20 @@ module _ (S : Schema) (s : List ℕ) (k : Flat) (pos : ℕ) (c : Places) (st : S
   flat-struct i j e ej u = rw e (subst (λ (a : ℕ). EmittedAt s (emitStruct S a st (drop pos (bits s))) pos c 0 t p out n) ej u)
 
 -- ---- the members from j on
+pub field-counted : (j m l : ℕ) → m ≡ l → j < m → j < l
+field-counted j m l e h = omega arith
+
 -- from p and `mid` on they give what the struct does from c and `pos` on, and that is paid for so far
 pub record FieldsFrom (S : Schema) (s : List ℕ) (i pos : ℕ) (c : Places) (o : List ℕ) (j mid : ℕ) (p : Places) (out : List ℕ) : Type 0 where
   pub is : emitStruct S i (stateOf c o) (drop pos (bits s)) ≡ emitFields (emitStruct S) (drop j (Sc.structOf S i)) (stateOf p out) (drop mid (bits s))
   pub paid : p .at + 8192 * pos ≤ c .at + 8192 * mid
   pub room : Room s mid p
+  pub start : Room s pos c
 
 pub fields-all : (b dir : List ℕ) → Accepted b dir → (s : List ℕ) (i pos : ℕ) (c : Places) → Room s pos c → (o : List ℕ)
     → FieldsFrom (P.parse b) s i pos c o 0 pos c o
 fields-all b dir a s i pos c room o =
-    record { is = struct-is (P.parse b) (accepted-sound b dir a) i (stateOf c o) (drop pos (bits s)); paid = omega arith; room = room }
+    record { is = struct-is (P.parse b) (accepted-sound b dir a) i (stateOf c o) (drop pos (bits s)); paid = omega arith; room = room; start = room }
 
 pub fields-room : (S : Schema) (s : List ℕ) (i pos : ℕ) (c : Places) (o : List ℕ) (j mid : ℕ) (p : Places) (out : List ℕ) → FieldsFrom S s i pos c o j mid p out → Room s mid p
 fields-room S s i pos c o j mid p out f = f .room
@@ -123,13 +127,13 @@ module _ (S : Schema) (s : List ℕ) (i pos : ℕ) (c : Places) (o : List ℕ) (
         ∙ ap (λ d. bind d (λ a ys. emitFields (emitStruct S) (drop (suc j) (Sc.structOf S i)) a ys))
         (ap (λ (f : Flat). emitField (emitStruct S) f (stateOf p out) (drop mid (bits s))) (sym ek) ∙ u .is)
 
-    pub fields-cut : Room s pos c → not whole ≡ true → (t : Bool) (r : Places) (n : ℕ) → t ≡ false → r ≡ c → n ≡ pos
+    pub fields-cut : not whole ≡ true → (t : Bool) (r : Places) (n : ℕ) → t ≡ false → r ≡ c → n ≡ pos
         → EmittedAt s (emitStruct S i (stateOf c o) (drop pos (bits s))) pos c 0 t r out₁ n
     unfolding bind
-    fields-cut room e t r n et er en =
+    fields-cut e t r n et er en =
         refused s _ pos c 0
         (turned ∙ ap (λ y. bind (pick y (got (stateOf q out₁) (drop next (bits s))) fail) (λ a ys. emitFields (emitStruct S) (drop (suc j) (Sc.structOf S i)) a ys)) (not-true whole e))
-        room t r out₁ n et er en
+        (inv .start) t r out₁ n et er en
 
     pub fields-turn : not whole ≡ false → FieldsFrom S s i pos c o (j + 1) next q out₁
     unfolding bind
@@ -143,4 +147,5 @@ module _ (S : Schema) (s : List ℕ) (i pos : ℕ) (c : Places) (o : List ℕ) (
               ∙ ap (λ (l : ℕ). emitFields (emitStruct S) (drop l (Sc.structOf S i)) (stateOf q out₁) (drop next (bits s))) (sym (add-one j));
           paid = omega arith;
           room = record { short = inv .room .short; here = u .here; at = omega arith; bool = u .bool; tail = u .tail; next = u .next };
+          start = inv .start;
         }

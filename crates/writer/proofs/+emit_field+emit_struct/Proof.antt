@@ -6,7 +6,7 @@ use lib.ListN.{length}
 use Rattle.coding.specs.Packed as P
 use Rattle.survey.proofs.FlatCases.{struct-lower, field-sound}
 use Rattle.writer.proofs.EmitCases.{integer-eight, float-eight}
-use Rattle.writer.proofs.StructCases.{FieldsFrom, field-boolean, field-integer, field-float, field-enum, field-struct, fields-all, fields-room, fields-cut, fields-turn, fields-done}
+use Rattle.writer.proofs.StructCases.{FieldsFrom, field-counted, field-boolean, field-integer, field-float, field-enum, field-struct, fields-all, fields-room, fields-cut, fields-turn, fields-done}
 use borrow.Fn.Kinds.{In}
 use borrow.Fn.PlainCycle.{Measures, is, falls, and}
 use Rattle.writer.proofs.emit_field.Reads as emit-field
@@ -104,7 +104,7 @@ emit-field-index-requires-3 t c κs = search needs
 
 -- src/lib.rt:425:28
 emit-field-emit-struct-requires : (t : ℕ) → emit-field-lts.Need-emit-struct-requires (emit-field-R t) (emit-field-at t) emit-field.Post
-emit-field-emit-struct-requires t c κs = (let l : c .index3 .result < c .before .before .before .before .before .before .before .args .i = search struct-lower in (omega arith, ((search needs, omega arith), search needs)))
+emit-field-emit-struct-requires t c κs = (let l : c .index3 .result < c .before .before .before .before .before .before .before .before .before .args .i = search struct-lower in (omega arith, ((search needs, omega arith), search needs)))
 
 -- src/lib.rt:406:1
 emit-field-same-length : (t : ℕ) → emit-field-lts.Need-same-length (emit-field-R t) (emit-field-at t) emit-field.Post
@@ -162,7 +162,7 @@ emit-struct-loop-holds t c = (omega arith, refl, search fields-all)
 
 -- src/lib.rt:447:13
 emit-struct-field-requires : (t : ℕ) → emit-struct-lts.Need-field-requires (emit-struct-R t) (emit-struct-at t) emit-struct.Post emit-struct-Inv-loop emit-struct-μ-loop
-emit-struct-field-requires t c κs = search needs
+emit-struct-field-requires t c κs = (search needs, search needs, search field-counted, omega (arith, c .before .before .field-count .ensures .1, c .loop-test .taken))
 
 -- src/lib.rt:448:13
 emit-struct-emit-field-requires : (t : ℕ) → emit-struct-lts.Need-emit-field-requires (emit-struct-R t) (emit-struct-at t) emit-struct.Post emit-struct-Inv-loop emit-struct-μ-loop
@@ -178,7 +178,7 @@ emit-struct-same-length t c = search needs
 
 -- src/lib.rt:450:13
 emit-struct-returns : (t : ℕ) → emit-struct-lts.Need-returns (emit-struct-R t) (emit-struct-at t) emit-struct.Post emit-struct-Inv-loop emit-struct-μ-loop
-emit-struct-returns t c = search fields-cut
+emit-struct-returns t c = search (fields-cut, c .before .before .before .before .before .emit-field .ensures, c .before .before .before .before .before .before .before .before .before .loop .inv .2)
 
 -- src/lib.rt:454:9
 emit-struct-add-j : (t : ℕ) → emit-struct-lts.Need-add-j (emit-struct-R t) (emit-struct-at t) emit-struct.Post emit-struct-Inv-loop emit-struct-μ-loop
@@ -190,7 +190,7 @@ emit-struct-loop-less t c = search needs
 
 -- src/lib.rt:446:5
 emit-struct-loop-again : (t : ℕ) → emit-struct-lts.Need-loop-again (emit-struct-R t) (emit-struct-at t) emit-struct.Post emit-struct-Inv-loop emit-struct-μ-loop
-emit-struct-loop-again t c = (search needs, search needs, search fields-turn)
+emit-struct-loop-again t c = (search needs, search needs, search (fields-turn, c .before .before .before .before .before .emit-field .ensures, c .before .before .before .before .before .before .before .before .before .loop .inv .2))
 
 -- src/lib.rt:456:5
 emit-struct-stored-requires : (t : ℕ) → emit-struct-lts.Need-stored-requires (emit-struct-R t) (emit-struct-at t) emit-struct.Post emit-struct-Inv-loop emit-struct-μ-loop
