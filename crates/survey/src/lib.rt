@@ -310,7 +310,7 @@ fn plain_of(t: Tested) -> Surveyed
 }
 
 // A count of bytes, to one past the size.
-fn capped(n: usize) -> usize
+pub fn capped(n: usize) -> usize
     ensures { λ r. ⌜ (r ≡ Sv.capped n) × (r ≤ 16777216) ⌝ }
 {
     if n <= 16777215 { n } else { 16777216 }

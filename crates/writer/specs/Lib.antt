@@ -8,3 +8,4 @@ pub mod EmitFlats
 pub mod EmitParts
 pub mod WriteLaws
 pub mod Emitting
+pub mod EmitStructs

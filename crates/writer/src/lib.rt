@@ -172,13 +172,6 @@ fn forward(c: Places, n: usize) -> Places
     }
 }
 
-// A count of bytes, to one past the size.
-fn capped(n: usize) -> usize
-    ensures { λ r. ⌜ (r ≡ Sv.capped n) × (r ≤ 16777216) ⌝ }
-{
-    if n <= 16777215 { n } else { 16777216 }
-}
-
 // At the start of the next object: of w bytes, with `chain` bytes in place behind it.
 fn enter_object(c: Places, w: usize, chain: usize) -> Places
     requires { ⌜ (c .next ≤ 16777216) × (w < 2 ^ 49) × (chain ≤ 16777216) ⌝ }
@@ -191,8 +184,8 @@ fn enter_object(c: Places, w: usize, chain: usize) -> Places
         last: 0,
         free: 0,
         held: 0,
-        tail: capped(end),
-        next: capped(end + chain),
+        tail: survey::capped(end),
+        next: survey::capped(end + chain),
     }
 }
 
@@ -208,7 +201,7 @@ fn enter_content(c: Places, w: usize) -> Places
         last: 0,
         free: 0,
         held: 0,
-        tail: capped(tail + w),
+        tail: survey::capped(tail + w),
         next,
     }
 }
@@ -803,19 +796,20 @@ fn emit_part(
     }
     let mark = x.value;
     let next = x.next;
+    let k = r.kind;
     if mark == 1 {
         let p = flag(out, r, 1, c);
-        return emit_body(b, dir, s, out, d, r.kind, r.inplace, p, next);
+        return emit_body(b, dir, s, out, d, k, r.inplace, p, next);
     }
     if mark == 3 {
         return not_lawful(c, pos);
     }
     let p = flag(out, r, 0, c);
-    let q = lack(b, dir, out, r.kind, p);
+    let q = lack(b, dir, out, k, p);
     if mark == 0 {
         return stored(q, next);
     }
-    pass(b, dir, s, out, r.kind, q, next)
+    pass(b, dir, s, out, k, q, next)
 }
 
 fn emit_element(
