@@ -22,6 +22,7 @@ use Rattle.coding.specs.declared.WriteAnswer.{WriteAnswer}
 use Rattle.demands.specs.Appending.{AreBytes}
 use Rattle.demands.specs.RoundTrip.{enough, written-layout, written-verdict, written-too-little, written-answer, written-out}
 use Rattle.demands.specs.NewerAgrees.{newer-agrees}
+use Rattle.demands.specs.WrittenSheet.{WrittenAs, written-as}
 use Rattle.promises.proofs.Reading.{handed, given-room}
 use Rattle.promises.proofs.Writing.{made}
 
@@ -36,6 +37,10 @@ lays-out b s out a ea out′ eo v l d w z r =
     let e = written-layout u48 b s v l d w .0 z in
     let f = le-leb (length (messageOf u48 (parse b) v)) (length out) r in
     (ea ∙ rw (e, f), eo ∙ rw (e, f))
+
+pub lays-out-only : (b s out : List ℕ) (a : WriteAnswer) → a ≡ writeAnswer u48 b s out → (out′ : List ℕ) → out′ ≡ writeOut u48 b s out
+    → a .number ≡ 0 → WrittenAs u48 b s (take (a .length) out′)
+lays-out-only b s out a ea out′ eo h = written-as u48 b s (take (a .length) out′) (made b s out a ea out′ eo h)
 
 -- ---- writing, then reading
 module _ (b s : List ℕ) (schema-bytes : AreBytes b) (sheet-bytes : AreBytes s) (room room′ : List ℕ) (w : WriteAnswer)

@@ -28,6 +28,7 @@ ghost use Rattle.demands.specs.Arrivals.{LawfulMessage, messageArrivals};
 ghost use Rattle.demands.specs.FieldEntries.{shown, textAt};
 ghost use Rattle.demands.specs.Fields.{sheetEntry};
 ghost use Rattle.demands.specs.RoundTrip.{enough};
+ghost use Rattle.demands.specs.WrittenSheet.{WrittenAs};
 
 // "a message is accepted exactly when every object reached by its schema is lawful, within depth and budget"; and its visits are
 // then the arrivals, shared objects each time.
@@ -165,9 +166,10 @@ pub fn steps(schema: &[u8], message: &[u8], path: &[u32], from: usize, out: &mut
     field::read_list(schema, message, path, from, out)
 }
 
-// "every writable sheet becomes the one message of the stated layout", within the size and given room.
+// "every writable sheet becomes the one message of the stated layout", within the size and given room; and nothing else is written.
 pub fn written(schema: &[u8], sheet: &[u8], out: &mut [u8]) -> WriteAnswer
-    ensures { λ r. ⌜ ((v : Value) → lawful (now (schema .entry)) ≡ true → S.sheetTree (P.parse (now (schema .entry))) (now (sheet .entry)) ≡ some v → M.writable B.deepest B.u48 (P.parse (now (schema .entry))) (Object.Table (P.parse (now (schema .entry)) .root)) v ≡ true → length (M.messageOf B.u48 (P.parse (now (schema .entry))) v) ≤ B.largest → length (M.messageOf B.u48 (P.parse (now (schema .entry))) v) ≤ length (now (out .entry)) → (r ≡ record { number = 0; length = length (M.messageOf B.u48 (P.parse (now (schema .entry))) v) }) × (now (out .exit) ≡ M.messageOf B.u48 (P.parse (now (schema .entry))) v ++ drop (length (M.messageOf B.u48 (P.parse (now (schema .entry))) v)) (now (out .entry)))) ⌝ }
+    ensures every { λ r. ⌜ ((v : Value) → lawful (now (schema .entry)) ≡ true → S.sheetTree (P.parse (now (schema .entry))) (now (sheet .entry)) ≡ some v → M.writable B.deepest B.u48 (P.parse (now (schema .entry))) (Object.Table (P.parse (now (schema .entry)) .root)) v ≡ true → length (M.messageOf B.u48 (P.parse (now (schema .entry))) v) ≤ B.largest → length (M.messageOf B.u48 (P.parse (now (schema .entry))) v) ≤ length (now (out .entry)) → (r ≡ record { number = 0; length = length (M.messageOf B.u48 (P.parse (now (schema .entry))) v) }) × (now (out .exit) ≡ M.messageOf B.u48 (P.parse (now (schema .entry))) v ++ drop (length (M.messageOf B.u48 (P.parse (now (schema .entry))) v)) (now (out .entry)))) ⌝ }
+    ensures only { λ r. ⌜ (r .number ≡ 0 → WrittenAs B.u48 (now (schema .entry)) (now (sheet .entry)) (take (r .length) (now (out .exit)))) ⌝ }
 {
     writer::write(schema, sheet, out)
 }
