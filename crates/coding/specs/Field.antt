@@ -228,22 +228,17 @@ readerOf S (Fd.Object ob at start n d) = listFound S ob at start n d
 unfoldable pub readerStart : ℕ → List ℕ → List ℕ → List ℕ → Found
 readerStart o b m path = readerOf (parse b) (fieldFound o b m path)
 
--- "Each step answers as that element's path would ..; after the last it answers 15 at the list and stays.": the answer of
--- the step at element j. A path to a list has at most 31 numbers, so one more is never too long.
-unfoldable pub readerAnswer : ℕ → List ℕ → List ℕ → List ℕ → ℕ → Answer
-readerAnswer o b m path j = field o b m (path ++ j ∷ [])
-
--- "and moves on, refused or not": where the reader of a list of n elements stands after a step at element j
-unfoldable pub readerNext : ℕ → ℕ → ℕ
-readerNext n j = pick (ltb j n) (j + 1) j
-
--- the answer of a step at element j: the refusal of the reader's start, or what stands at element j of its list, 15 at the
--- list after the last
+-- "Each step answers as that element's path would ..; after the last it answers 15 at the list and stays.": the answer of the
+-- step at element j, as a number more would give it at the end of the list's path; or the refusal of the reader's start
 unfoldable pub listGives : ℕ → Schema → List ℕ → Found → ℕ → Answer
 listGives o S m list j = answerOf (partOf o S m list j)
 
 unfoldable pub readerGives : ℕ → List ℕ → List ℕ → List ℕ → ℕ → Answer
 readerGives o b m path j = listGives o (parse b) m (readerStart o b m path) j
+
+-- "and moves on, refused or not": where the reader of a list of n elements stands after a step at element j
+unfoldable pub readerNext : ℕ → ℕ → ℕ
+readerNext n j = pick (ltb j n) (j + 1) j
 
 -- how many elements the reader's list has; none where there is no list
 unfoldable pub listCount : Found → ℕ

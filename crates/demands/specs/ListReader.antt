@@ -228,8 +228,8 @@ module _ (o : ℕ) (b m path : List ℕ) (i at start n left : ℕ)
       by false s z g e f q h = absurd (no-refusal _ h)
 
   -- "Each step answers as that element's path would"
-  pub reader-step : (j : ℕ) → Field.readerAnswer o b m path j ≡ Field.answerOf (Field.objectPart o (parse b) m (O.List i) at start n left j)
-  unfolding Field.readerAnswer Field.field Field.fieldFound Field.partOf deepest
+  pub reader-step : (j : ℕ) → Field.field o b m (path ++ j ∷ []) ≡ Field.answerOf (Field.objectPart o (parse b) m (O.List i) at start n left j)
+  unfolding Field.field Field.fieldFound Field.partOf deepest
   reader-step j =
       let h = reader-leads in
       let l = object-path o (parse b) m path (O.List i) at start n left (h .leads) in
@@ -237,7 +237,7 @@ module _ (o : ℕ) (b m path : List ℕ) (i at start n left : ℕ)
       rw (h .schema, le-leb (length (path ++ j ∷ [])) 96 s, h .size, h .begins, found-last o (parse b) m path j, h .leads)
 
   -- "after the last it answers 15 at the list and stays"
-  pub reader-end : (j : ℕ) → n ≤ j → Field.readerAnswer o b m path j ≡ A.Refused (Field.refusal 15 at)
+  pub reader-end : (j : ℕ) → n ≤ j → Field.field o b m (path ++ j ∷ []) ≡ A.Refused (Field.refusal 15 at)
   unfolding Field.objectPart Field.noPart Field.answerOf
   reader-end j l = rw (reader-step j, le-ltb j n l)
 
@@ -247,11 +247,10 @@ module _ (o : ℕ) (b m path : List ℕ) (i at start n left : ℕ)
 
   -- THE CLAIM, of what a step gives: as the element's path would; 15 at the list after the last
   pub gives-path : (j : ℕ) → Field.readerGives o b m path j ≡ Field.field o b m (path ++ j ∷ [])
-  unfolding Field.readerGives Field.listGives Field.partOf Field.readerAnswer
+  unfolding Field.readerGives Field.listGives Field.partOf
   gives-path j = ap (λ (f : Found). Field.answerOf (Field.partOf o (parse b) m f j)) has ∙ sym (reader-step j)
 
   pub gives-end : (j : ℕ) → n ≤ j → Field.readerGives o b m path j ≡ A.Refused (Field.refusal 15 at)
-  unfolding Field.readerAnswer
   gives-end j l = gives-path j ∙ reader-end j l
 
   pub counts : Field.readerCount o b m path ≡ n

@@ -5,7 +5,7 @@ use mathlib.Core.Logic.{_↔_}
 use mathlib.Core.Option.{Option, some, Option·some-injective}
 use Prim.Native.Nat.{ℕ, _+_, _*_, _/_, _<_, _≤_}
 use lib.ListN.{length, take, drop}
-use Rattle.coding.specs.Bytes.{u48}
+use Rattle.coding.specs.Bytes.{u48, largest}
 use Rattle.coding.specs.Packed.{parse}
 use Rattle.coding.specs.Walk.{verdict}
 use Rattle.coding.specs.Value.{Value}
@@ -29,7 +29,7 @@ use Rattle.demands.specs.Appending.{AreBytes, older-accepts, older-sheet}
 use Rattle.demands.specs.FieldEntries.{shown, textAt}
 use Rattle.demands.specs.Fields.{sheetEntry, sheet-entry, field-text}
 use Rattle.demands.specs.ListReader.{gives-path, gives-end, counts, over-gives}
-use Rattle.promises.proofs.Reading.{Handed, handed, given-room}
+use Rattle.promises.proofs.Reading.{Handed, handed, given-room, fits-read}
 
 -- ---- judging
 module _ (b m : List ℕ) (budget : Budget) (r : Verdict) (e : r ≡ verdict u48 b m budget) where
@@ -45,6 +45,10 @@ module _ (older newer m : List ℕ) (budget : Budget) (older-bytes : AreBytes ol
   both-judge appends = rw (er, es) (older-accepts older newer older-bytes appends u48 m budget)
 
 -- ---- reading to a sheet
+pub reads-every : (b m : List ℕ) (budget : Budget) (out : List ℕ) (a : ReadAnswer) → a ≡ readAnswer u48 b m budget out
+    → LawfulMessage u48 b m budget → length (messageSheet u48 b m) ≤ largest → length (messageSheet u48 b m) ≤ length out → a .verdict .number ≡ 0
+reads-every b m budget out a ea h = fits-read b m budget out a ea (accepted-exactly u48 b m budget .1 h)
+
 module _ (b m : List ℕ) (schema-bytes : AreBytes b) (message-bytes : AreBytes m) (budget : Budget) (out : List ℕ) (a : ReadAnswer) (out′ : List ℕ)
     (ea : a ≡ readAnswer u48 b m budget out) (eo : out′ ≡ readOut u48 b m budget out) (h : a .verdict .number ≡ 0) where
   got : Handed b m budget a out′

@@ -7,7 +7,7 @@ use native.Mathlib.Omega.{arith}
 use lib.ListN.{length, take, drop}
 use lib.Seq.{take-append-seam}
 use lib.Dec.{leb, eqb}
-use borrow.Author.Tests.{eqb-true, eqb-false, leb-true}
+use borrow.Author.Tests.{eqb-false, eq-eqb, leb-true, le-leb}
 use Rattle.coding.specs.Lists.{pick}
 use Rattle.coding.specs.Bytes.{u48, largest}
 use Rattle.coding.specs.Walk.{verdict}
@@ -74,3 +74,11 @@ module _ (b m : List ℕ) (budget : Budget) (out : List ℕ) where
   given-room a ea h room =
       ap (λ (x : ReadAnswer). x .verdict .number) ea
       ∙ room-by _ (fitsRoom sheet out) refl h (λ z. room (ap (λ (x : ReadAnswer). x .verdict .number) ea ∙ z))
+
+  -- where its sheet fits, it is read
+  pub fits-read : (a : ReadAnswer) → a ≡ readAnswer u48 b m budget out → judged .number ≡ 0 → length sheet ≤ largest → length sheet ≤ length out
+      → a .verdict .number ≡ 0
+  unfolding readAnswer fitsRoom
+  fits-read a ea h l r =
+      ap (λ (x : ReadAnswer). x .verdict .number) ea
+      ∙ rw (eq-eqb (judged .number) 0 h, le-leb (length sheet) largest l, le-leb (length sheet) (length out) r) h

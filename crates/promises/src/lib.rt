@@ -39,9 +39,11 @@ pub fn judged(schema: &[u8], message: &[u8], budget: Budget) -> Verdict
     judge::judge(schema, message, budget)
 }
 
-// "the sheet of an accepted message is lawful": what is handed out decodes to the values that the message holds.
+// "the sheet of an accepted message is lawful": what is handed out decodes to the values that the message holds. It is handed out
+// for every lawful message, given room.
 pub fn read(schema: &[u8], message: &[u8], budget: Budget, out: &mut [u8]) -> ReadAnswer
-    ensures { λ r. ⌜ (r .verdict .number ≡ 0 → S.sheetTree (P.parse (now (schema .entry))) (take (r .length) (now (out .exit))) ≡ some (Rd.messageRead B.u48 (P.parse (now (schema .entry))) (now (message .entry)))) ⌝ }
+    ensures every { λ r. ⌜ (LawfulMessage B.u48 (now (schema .entry)) (now (message .entry)) budget → length (M.messageSheet B.u48 (now (schema .entry)) (now (message .entry))) ≤ B.largest → length (M.messageSheet B.u48 (now (schema .entry)) (now (message .entry))) ≤ length (now (out .entry)) → r .verdict .number ≡ 0) ⌝ }
+    ensures lawful { λ r. ⌜ (r .verdict .number ≡ 0 → S.sheetTree (P.parse (now (schema .entry))) (take (r .length) (now (out .exit))) ≡ some (Rd.messageRead B.u48 (P.parse (now (schema .entry))) (now (message .entry)))) ⌝ }
 {
     sheet::read(schema, message, budget, out)
 }
