@@ -132,10 +132,15 @@ fn store_number(out: &mut [u8], at: usize, w: usize, x: u64)
         store_two(out, at, x);
         return;
     }
+    if w == 1 {
+        store_byte(out, at, low_byte(x));
+        return;
+    }
     store_each(out, at, w, x);
 }
 
-fn store_zeros(out: &mut [u8], at: usize, n: usize)
+// n zero bytes, a byte a turn.
+fn zeros_each(out: &mut [u8], at: usize, n: usize)
     requires { ⌜ (at < 2 ^ 61) × (n < 2 ^ 40) ⌝ }
     ensures { λ _. ⌜ now (out .exit) ≡ sets (now (out .entry)) at (replicate n 0) ⌝ }
 {
@@ -146,6 +151,30 @@ fn store_zeros(out: &mut [u8], at: usize, n: usize)
         i += 1;
         left -= 1;
     }
+}
+
+// Zero bytes, as many as dst has.
+fn clear(dst: &mut [u8])
+    ensures { λ _. ⌜ now (dst .exit) ≡ replicate (length (now (dst .entry))) 0 ⌝ }
+{
+    let mut j = 0;
+    while j < dst.len() {
+        dst[j] = 0;
+        j += 1;
+    }
+}
+
+// n zero bytes.
+fn store_zeros(out: &mut [u8], at: usize, n: usize)
+    requires { ⌜ (at < 2 ^ 61) × (n < 2 ^ 40) ⌝ }
+    ensures { λ _. ⌜ now (out .exit) ≡ sets (now (out .entry)) at (replicate n 0) ⌝ }
+{
+    let end = at + n;
+    if out.len() < end {
+        zeros_each(out, at, n);
+        return;
+    }
+    clear(&mut out[at..end]);
 }
 
 // The byte of the sheet at a bit.
@@ -586,8 +615,8 @@ fn lack(b: &[u8], dir: &[u16], out: &mut [u8], k: Kind, c: Places) -> Places
 {
     match k {
         Kind::OfFlat(f) => lack_flat(b, dir, out, f, c),
-        Kind::OfObject(_) => put_zeros(out, c, 6),
-        Kind::OfUnion(_) => put_zeros(out, c, 8),
+        Kind::OfObject(_) => put_number(out, c, 6, 0),
+        Kind::OfUnion(_) => put_number(out, c, 8, 0),
     }
 }
 

@@ -1,9 +1,11 @@
 use borrow.Author.Needs.{needs}
-use Rattle.writer.proofs.StoreCases.{width-stored}
+use Rattle.writer.proofs.StoreCases.{one-stored, width-stored}
 use Rattle.writer.proofs.store_number.Statement.{statement}
 use Rattle.writer.proofs.store_number.Tie as tie
 use Rattle.writer.proofs.store_number.Reads as reads
 use Rattle.writer.proofs.store_number.Lts as lts
+use Rattle.writer.proofs.low_byte.Reads as low-byte-reads
+use Rattle.writer.proofs.store_byte.Reads as store-byte-reads
 use Rattle.writer.proofs.store_each.Reads as store-each-reads
 use Rattle.writer.proofs.store_eight.Reads as store-eight-reads
 use Rattle.writer.proofs.store_four.Reads as store-four-reads
@@ -74,17 +76,33 @@ same-length-5 c = search needs
 returns-5 : tie.Need-returns-5
 returns-5 c = search width-stored
 
--- src/lib.rt:135:5
+-- src/lib.rt:136:29
+low-byte-requires : tie.Need-low-byte-requires
+low-byte-requires c κs = search needs
+
+-- src/lib.rt:136:9
+store-byte-requires : tie.Need-store-byte-requires
+store-byte-requires c κs = search needs
+
+-- src/lib.rt:137:9
+same-length-6 : tie.Need-same-length-6
+same-length-6 c = search needs
+
+-- src/lib.rt:137:9
+returns-6 : tie.Need-returns-6
+returns-6 c = search one-stored
+
+-- src/lib.rt:139:5
 store-each-requires-2 : tie.Need-store-each-requires-2
 store-each-requires-2 c κs = search needs
 
 -- src/lib.rt:111:1
-same-length-6 : tie.Need-same-length-6
-same-length-6 c = search needs
+same-length-7 : tie.Need-same-length-7
+same-length-7 c = search needs
 
 -- src/lib.rt:111:1
-returns-6 : tie.Need-returns-6
-returns-6 c = search needs
+returns-7 : tie.Need-returns-7
+returns-7 c = search needs
 
 pub store-number-spec : {M : Type 1} → statement M
 store-number-spec =
@@ -106,6 +124,10 @@ store-number-spec =
     store-two-requires
     same-length-5
     returns-5
-    store-each-requires-2
+    low-byte-requires
+    store-byte-requires
     same-length-6
-    returns-6)
+    returns-6
+    store-each-requires-2
+    same-length-7
+    returns-7)
