@@ -68,8 +68,8 @@ uint32_t scalgo_judge(const uint8_t *schema, size_t schema_len,
  *       root table. Only what is on the path is judged, without a budget.
  * *a, *b, *c: what the case has; 0 where it has no such number.
  *
- * A refusal is 1, 2 or 3, 5 to 10 or 15; its place is that of the last object judged, 0 with 1, 2
- * and 3 and with a path over 96 numbers.
+ * A refusal is 1, 2 or 3, 5 to 10 or 15. With 5 to 10 its place is as of scalgo_judge; with 15 it
+ * is that of the last object judged; it is 0 with 1, 2 and 3 and with a path over 96 numbers.
  */
 uint32_t scalgo_field(const uint8_t *schema, size_t schema_len,
                       const uint8_t *message, size_t message_len,

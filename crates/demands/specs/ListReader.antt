@@ -261,10 +261,18 @@ module _ (o : ℕ) (b m path : List ℕ) (i at start n left : ℕ)
 -- ---- "It starts from a path to a list whose elements are of kinds 13 to 17; a refused path gives its own refusal, any other
 -- answer is 15 at 0."
 module _ (o : ℕ) (b m path : List ℕ) where
-  pub starts : (i at start n left : ℕ) → Field.fieldFound o b m path ≡ Fd.Object (O.List i) at start n left
-      → Field.leads (elementOf (parse b) i) ≡ true → Field.readerStart o b m path ≡ Fd.Object (O.List i) at start n left
-  unfolding Field.readerStart Field.readerOf Field.listFound
-  starts i at start n left e l = rw (e, l)
+  module _ (i at start n left : ℕ) (e : Field.fieldFound o b m path ≡ Fd.Object (O.List i) at start n left) where
+    pub starts-object : (ob : Object) → elementOf (parse b) i ≡ OfObject ob → Field.readerStart o b m path ≡ Fd.Object (O.List i) at start n left
+    unfolding Field.readerStart Field.readerOf Field.listFound Field.leads
+    starts-object ob k = rw (e, k)
+
+    pub starts-union : (u : ℕ) → elementOf (parse b) i ≡ OfUnion u → Field.readerStart o b m path ≡ Fd.Object (O.List i) at start n left
+    unfolding Field.readerStart Field.readerOf Field.listFound Field.leads
+    starts-union u k = rw (e, k)
+
+    pub starts-flat : (f : Flat) → elementOf (parse b) i ≡ OfFlat f → Field.readerStart o b m path ≡ Fd.Refused (Field.refusal 15 0)
+    unfolding Field.readerStart Field.readerOf Field.listFound Field.leads Field.before
+    starts-flat f k = rw (e, k)
 
   -- a reader with no list answers the refusal at every step
   pub gives-refusal : (r : Refusal) → Field.readerStart o b m path ≡ Fd.Refused r

@@ -1,0 +1,80 @@
+-- What the answer of writing says: number 0 is a message that was made and handed out.
+use mathlib.Core.Path.{_≡_, refl, sym, ap, _∙_, subst}
+use mathlib.Core.Bool.{Bool, true, false}
+use mathlib.Core.List.{List, _++_}
+use mathlib.Core.Option.{Option}
+use mathlib.Core.Option as Op
+use Prim.Native.Nat.{ℕ, _<_, _≤_}
+use native.Mathlib.Omega.{arith}
+use lib.ListN.{length, take, drop}
+use lib.Seq.{take-append-seam}
+use lib.Dec.{leb}
+use borrow.Author.Tests.{leb-true, le-leb}
+use Rattle.coding.specs.Lists.{pick}
+use Rattle.coding.specs.Bytes.{u48, deepest, largest}
+use Rattle.coding.specs.Schema.{Schema}
+use Rattle.coding.specs.Packed.{parse}
+use Rattle.coding.specs.Lawful.{lawful}
+use Rattle.coding.specs.Value.{Value}
+use Rattle.coding.specs.Sheet.{sheetTree}
+use Rattle.coding.specs.Message.{Written, refused, message, writable, messageOf, writtenTree, written, writeRoom, writeOver, writeAnswer, writeOut}
+use Rattle.coding.specs.declared.Object.the-variants as O
+use Rattle.coding.specs.declared.WriteAnswer.{WriteAnswer}
+
+-- ---- the writer refuses by 1, 11, 12 or 13, and never by 0
+abbrev Refuses : Written → Type 0
+Refuses (refused n) = 0 < n
+Refuses (message m) = Unit {0}
+
+tree-refuses : (S : Schema) (t : Option Value) → Refuses (writtenTree u48 S t)
+unfolding writtenTree
+tree-refuses S Op.none = omega arith
+tree-refuses S (Op.some v) = by (writable deepest u48 S (O.Table (S .root)) v) (leb (length (messageOf u48 S v)) largest)
+  where
+    by : (s t : Bool) → Refuses (pick s (pick t (message (messageOf u48 S v)) (refused 13)) (refused 12))
+    by true true = tt
+    by true false = omega arith
+    by false t = omega arith
+
+writes-or-refuses : (b s : List ℕ) → Refuses (written u48 b s)
+unfolding written
+writes-or-refuses b s = by (lawful b)
+  where
+    by : (t : Bool) → Refuses (pick t (writtenTree u48 (parse b) (sheetTree (parse b) s)) (refused 1))
+    by true = tree-refuses (parse b) (sheetTree (parse b) s)
+    by false = omega arith
+
+-- ---- number 0
+room-length : (w : Written) (n : ℕ) → writeRoom w n .length ≤ n
+unfolding writeRoom
+room-length (refused k) n = omega arith
+room-length (message m) n = by (leb (length m) n) refl
+  where
+    by : (t : Bool) → leb (length m) n ≡ t
+        → pick {A = WriteAnswer} t (record { number = 0; length = length m }) (record { number = 14; length = 0 }) .length ≤ n
+    by true e = leb-true (length m) n e
+    by false e = omega arith
+
+room-made : (w : Written) → Refuses w → (out : List ℕ) → writeRoom w (length out) .number ≡ 0
+    → w ≡ message (take (writeRoom w (length out) .length) (writeOver w out))
+unfolding writeRoom writeOver
+room-made (refused k) f out h = absurd (omega arith)
+room-made (message m) f out h = by (leb (length m) (length out)) h
+  where
+    by : (t : Bool) → pick {A = WriteAnswer} t (record { number = 0; length = length m }) (record { number = 14; length = 0 }) .number ≡ 0
+        → message m
+        ≡ message
+        (take (pick {A = WriteAnswer} t (record { number = 0; length = length m }) (record { number = 14; length = 0 }) .length)
+        (pick t (m ++ drop (length m) out) out))
+    by true h = ap message (sym (take-append-seam m (drop (length m) out)))
+    by false h = absurd (omega arith)
+
+module _ (b s out : List ℕ) (a : WriteAnswer) (ea : a ≡ writeAnswer u48 b s out) where
+  pub within-room : a .length ≤ length out
+  unfolding writeAnswer
+  within-room = subst (λ (x : WriteAnswer). x .length ≤ length out) (sym ea) (room-length (written u48 b s) (length out))
+
+  pub made : (out′ : List ℕ) → out′ ≡ writeOut u48 b s out → a .number ≡ 0 → written u48 b s ≡ message (take (a .length) out′)
+  unfolding writeAnswer writeOut
+  made out′ eo h =
+      rw (ea, eo) (room-made (written u48 b s) (writes-or-refuses b s) out (ap (λ (x : WriteAnswer). x .number) (sym ea) ∙ h))
