@@ -23,6 +23,28 @@ fn expected() -> String {
     all
 }
 
+/// "The archive has no data of its own and calls only `memset`."
+#[test]
+fn what_the_archive_needs() {
+    let listed = Command::new("nm").arg(archive()).output();
+    let listed = listed.expect("nm runs");
+    assert!(listed.status.success());
+    let listed = String::from_utf8(listed.stdout).expect("plain letters");
+    let mut needed = Vec::new();
+    for line in listed.lines() {
+        let mut words = line.split_whitespace().rev();
+        let (name, sort) = (words.next(), words.next());
+        match (name, sort) {
+            (Some(name), Some("U")) => needed.push(name),
+            (Some(name), Some("T")) => assert!(name.starts_with("scalgo_"), "{name}"),
+            // Local functions and constants; neither can be written to.
+            (_, None | Some("t" | "r")) => {}
+            (name, sort) => panic!("{name:?} is of sort {sort:?}"),
+        }
+    }
+    assert_eq!(needed, ["memset"]);
+}
+
 #[test]
 fn every_call_from_c() {
     let source = concat!(env!("CARGO_MANIFEST_DIR"), "/c/every_call.c");
