@@ -50,13 +50,9 @@ pub const TASKS: &[fn() -> Task] = &[
     || read(cases::every_kind()),
     || read(cases::numbers("(d) a list of 1,000,000 U64", 1_000_000)),
     || read(cases::tables()),
-    #[cfg(feature = "write")]
     || write(cases::texts()),
-    #[cfg(feature = "write")]
     || write(cases::every_kind()),
-    #[cfg(feature = "write")]
     || write(cases::numbers("(d) a list of 1,000,000 U64", 1_000_000)),
-    #[cfg(feature = "write")]
     || write(cases::tables()),
 ];
 
@@ -236,7 +232,6 @@ fn read(case: Case) -> Task {
 }
 
 /// A sheet to its message, outputs as in `read`.
-#[cfg(feature = "write")]
 fn write(case: Case) -> Task {
     const ROOM: usize = 16_777_215;
     let (_, sheet) = reference::read(&case.schema, &case.message, case.budget, ROOM);

@@ -151,7 +151,6 @@ fn a_long_list() {
     }
 }
 
-#[cfg(feature = "write")]
 mod writing {
     use super::*;
     use compare::calls::Writes;
