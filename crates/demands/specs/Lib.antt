@@ -1,4 +1,4 @@
--- The theorems. A reader's way in: Counter, Traps, Sheets, Reached, RoundTrip, Appending, NewerAgrees, Fields, ListReader; the
+-- The theorems. A reader's way in: Counter, Traps, Sheets, Reached, RoundTrip, Appending, NewerAgrees, Fields, Texts, ListReader; the
 -- other modules are their lemmas.
 pub mod Counter
 pub mod Traps
@@ -53,4 +53,5 @@ pub mod StepKinds
 pub mod FieldShows
 pub mod FieldsWalked
 pub mod Fields
+pub mod Texts
 pub mod ListReader

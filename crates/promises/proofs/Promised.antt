@@ -3,8 +3,8 @@ use mathlib.Core.Path.{_≡_, sym, ap, _∙_, subst}
 use mathlib.Core.List.{List, [], _∷_, _++_}
 use mathlib.Core.Logic.{_↔_}
 use mathlib.Core.Option.{Option, some, Option·some-injective}
-use Prim.Native.Nat.{ℕ, _≤_}
-use lib.ListN.{length, take}
+use Prim.Native.Nat.{ℕ, _+_, _*_, _/_, _<_, _≤_}
+use lib.ListN.{length, take, drop}
 use Rattle.coding.specs.Bytes.{u48}
 use Rattle.coding.specs.Packed.{parse}
 use Rattle.coding.specs.Walk.{verdict}
@@ -28,7 +28,7 @@ use Rattle.demands.specs.Sheets.{verdict-sheet-tree, verdict-sheet-lawful}
 use Rattle.demands.specs.Appending.{AreBytes, older-accepts, older-sheet}
 use Rattle.demands.specs.FieldEntries.{shown, textAt}
 use Rattle.demands.specs.Fields.{sheetEntry, sheet-entry, field-text}
-use Rattle.demands.specs.ListReader.{gives-path, gives-end}
+use Rattle.demands.specs.ListReader.{gives-path, gives-end, counts, over-gives}
 use Rattle.promises.proofs.Reading.{Handed, handed, given-room}
 
 -- ---- judging
@@ -90,3 +90,17 @@ module _ (b m path : List ℕ) (j : ℕ) (q : Answer) (eq : q ≡ Field.readerGi
   pub steps-end : (i at start n left : ℕ) → Field.readerStart u48 b m path ≡ Fd.Object (O.List i) at start n left → n ≤ j
       → q ≡ A.Refused (Field.refusal 15 at)
   steps-end i at start n left has l = eq ∙ gives-end u48 b m path i at start n left has j l
+
+module _ (b m path : List ℕ) (from : ℕ) (out out′ : List ℕ) (r : ℕ) (er : r ≡ Field.readerCount u48 b m path)
+    (eo : out′ ≡ Field.readerOver u48 b m path from out) where
+  pub steps-all : (i at start n left : ℕ) → Field.readerStart u48 b m path ≡ Fd.Object (O.List i) at start n left
+      → (r ≡ n)
+      × ((k : ℕ) → k < length out / 4
+      → take 4 (drop (4 * k) out′) ≡ Field.caseNumbers (Field.answerCase (Field.field u48 b m (path ++ (from + k) ∷ []))))
+  steps-all i at start n left has = (
+    er ∙ counts u48 b m path i at start n left has,
+    λ k h.
+        ap (λ (l : List ℕ). take 4 (drop (4 * k) l)) eo
+        ∙ over-gives u48 b m path from out k h
+        ∙ ap (λ (q : Answer). Field.caseNumbers (Field.answerCase q)) (gives-path u48 b m path i at start n left has (from + k)),
+  )

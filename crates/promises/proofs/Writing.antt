@@ -1,15 +1,14 @@
 -- What the answer of writing says: number 0 is a message that was made and handed out.
-use mathlib.Core.Path.{_≡_, refl, sym, ap, _∙_, subst}
+use mathlib.Core.Path.{_≡_, refl, sym, ap, _∙_}
 use mathlib.Core.Bool.{Bool, true, false}
 use mathlib.Core.List.{List, _++_}
 use mathlib.Core.Option.{Option}
 use mathlib.Core.Option as Op
 use Prim.Native.Nat.{ℕ, _<_, _≤_}
 use native.Mathlib.Omega.{arith}
-use lib.ListN.{length, take, drop}
-use lib.Seq.{take-append-seam}
+use lib.ListN.{length, take, drop, length-append}
+use lib.Seq.{take-append-seam, length-take-le}
 use lib.Dec.{leb}
-use borrow.Author.Tests.{leb-true, le-leb}
 use Rattle.coding.specs.Lists.{pick}
 use Rattle.coding.specs.Bytes.{u48, deepest, largest}
 use Rattle.coding.specs.Schema.{Schema}
@@ -45,15 +44,16 @@ writes-or-refuses b s = by (lawful b)
     by false = omega arith
 
 -- ---- number 0
-room-length : (w : Written) (n : ℕ) → writeRoom w n .length ≤ n
-unfolding writeRoom
-room-length (refused k) n = omega arith
-room-length (message m) n = by (leb (length m) n) refl
+room-length : (w : Written) (out : List ℕ) → writeRoom w (length out) .length ≤ length (writeOver w out)
+unfolding writeRoom writeOver
+room-length (refused k) out = omega arith
+room-length (message m) out = by (leb (length m) (length out))
   where
-    by : (t : Bool) → leb (length m) n ≡ t
-        → pick {A = WriteAnswer} t (record { number = 0; length = length m }) (record { number = 14; length = 0 }) .length ≤ n
-    by true e = leb-true (length m) n e
-    by false e = omega arith
+    by : (t : Bool)
+        → pick {A = WriteAnswer} t (record { number = 0; length = length m }) (record { number = 14; length = 0 }) .length
+        ≤ length (pick t (m ++ drop (length m) out) out)
+    by true = omega (arith, length-append m (drop (length m) out))
+    by false = omega arith
 
 room-made : (w : Written) → Refuses w → (out : List ℕ) → writeRoom w (length out) .number ≡ 0
     → w ≡ message (take (writeRoom w (length out) .length) (writeOver w out))
@@ -70,9 +70,12 @@ room-made (message m) f out h = by (leb (length m) (length out)) h
     by false h = absurd (omega arith)
 
 module _ (b s out : List ℕ) (a : WriteAnswer) (ea : a ≡ writeAnswer u48 b s out) where
-  pub within-room : a .length ≤ length out
-  unfolding writeAnswer
-  within-room = subst (λ (x : WriteAnswer). x .length ≤ length out) (sym ea) (room-length (written u48 b s) (length out))
+  pub within-room : (out′ : List ℕ) → out′ ≡ writeOut u48 b s out → a .length ≤ length out′
+  unfolding writeAnswer writeOut
+  within-room out′ eo = rw (ea, eo) (room-length (written u48 b s) out)
+
+  pub part-length : (out′ : List ℕ) → out′ ≡ writeOut u48 b s out → a .length ≡ length (take (a .length) out′)
+  part-length out′ eo = sym (length-take-le (a .length) out′ (within-room out′ eo))
 
   pub made : (out′ : List ℕ) → out′ ≡ writeOut u48 b s out → a .number ≡ 0 → written u48 b s ≡ message (take (a .length) out′)
   unfolding writeAnswer writeOut

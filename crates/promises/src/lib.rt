@@ -11,8 +11,8 @@ ghost use mathlib.Core.Path.{_≡_};
 ghost use mathlib.Core.List.{List, [], _∷_, _++_};
 ghost use mathlib.Core.Logic.{_↔_};
 ghost use mathlib.Core.Option.{some};
-ghost use Prim.Native.Nat.{ℕ, _≤_};
-ghost use lib.ListN.{length, take};
+ghost use Prim.Native.Nat.{ℕ, _+_, _*_, _/_, _<_, _≤_};
+ghost use lib.ListN.{length, take, drop};
 ghost use Rattle.coding.specs.Append as Ap;
 ghost use Rattle.coding.specs.Bytes as B;
 ghost use Rattle.coding.specs.Field as F;
@@ -151,4 +151,11 @@ pub fn step_and_field(
         step,
         field: answer,
     }
+}
+
+// Many steps of the list reader at once: each has the numbers of the answer at the element's path.
+pub fn steps(schema: &[u8], message: &[u8], path: &[u32], from: usize, out: &mut [u64]) -> usize
+    ensures { λ r. ⌜ ((i at start n left : ℕ) → F.readerStart B.u48 (now (schema .entry)) (now (message .entry)) (now (path .entry)) ≡ Found.Object (Object.List i) at start n left → (r ≡ n) × ((k : ℕ) → k < length (now (out .entry)) / 4 → take 4 (drop (4 * k) (now (out .exit))) ≡ F.caseNumbers (F.answerCase (F.field B.u48 (now (schema .entry)) (now (message .entry)) (now (path .entry) ++ (from + k) ∷ []))))) ⌝ }
+{
+    field::read_list(schema, message, path, from, out)
 }

@@ -1,6 +1,11 @@
-pub mod FlatCases
-pub mod ExtentCases
-pub mod PartCases
-pub mod ObjectCases
 pub mod StoreCases
 pub mod BitCases
+pub mod WriteCases
+pub mod EmitRoom
+pub mod PutCases
+pub mod EmitCases
+pub mod StructCases
+pub mod EmitRest
+pub mod EmitPartCases
+pub mod EmitObjectCases
+pub mod EmitMessageCases

@@ -7,7 +7,7 @@ use lib.ListN.{length, length-append}
 use Rattle.coding.specs.Bytes.{leBytes}
 use Rattle.coding.specs.Cells.{Cells, width, chain, below, widthBytes, chainBytes, belowBytes, layout}
 use Rattle.coding.specs.Cells.Cells.{end, bytes, reference, inPlace}
-use Rattle.writer.specs.SlotSizes.{length-leBytes}
+use Rattle.survey.specs.SlotSizes.{length-leBytes}
 
 module _ (o : ℕ) where
   pub length-widthBytes : (s : ℕ) (c : Cells) → length (widthBytes o s c) ≡ width o c

@@ -7,7 +7,7 @@ use lib.Seq.{sets}
 use Rattle.coding.specs.Bytes.{leBytes}
 use Rattle.coding.specs.Cells.{width, chain, Slots, packBits}
 use Rattle.coding.specs.Cells.Slots.{end, bytes, bit, reference, inPlace}
-use Rattle.writer.specs.Survey.{capped}
+use Rattle.survey.specs.Survey.{capped}
 
 -- where the message goes on: the next byte of the present sequence; its last bool byte, how many bits are free there, and
 -- what the byte holds so far; where the next content in place starts, where the next object starts; and the buffer

@@ -20,9 +20,9 @@ use Rattle.coding.specs.declared.Flat.{Flat}
 use Rattle.coding.specs.declared.Flat.the-variants.{Boolean, Integer, Float, Enumerated, Struct}
 use Rattle.laws.specs.Sound.{All, FlatSound, Sound}
 use Rattle.laws.specs.Structs.{index-holds₃}
-use Rattle.writer.specs.Survey.{belowCount, surveyMark}
-use Rattle.writer.specs.Mapped.{mapped, Has, mapped-same, bind-mapped, seq, mark-mapped}
-use Rattle.writer.specs.SurveyFlats.{Present, flat-there}
+use Rattle.survey.specs.Survey.{belowCount, surveyMark}
+use Rattle.survey.specs.Mapped.{mapped, Has, mapped-same, bind-mapped, seq, mark-mapped}
+use Rattle.survey.specs.SurveyFlats.{Present, flat-there}
 use Rattle.writer.specs.Emit.{State, putBytes, putBit, emitSlots}
 use Rattle.writer.specs.EmitSheet.{putByte, putNumber, emitNumber, emitIf, putNothing, emitField, emitFields, emitBy, emitNothing, emitStruct, emitFlat, lackFlat, passFlat}
 

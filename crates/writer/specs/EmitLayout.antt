@@ -9,9 +9,9 @@ use lib.Seq.{sets, length-sets, getD-set-same, getD-set-other, take-all}
 use Rattle.coding.specs.Bytes.{leBytes, largest}
 use Rattle.coding.specs.Cells.{width, chain, below, widthBytes, chainBytes, belowBytes, layout, Slots, gather, packBits}
 use Rattle.coding.specs.Cells.Slots.{end, bytes, bit, reference, inPlace}
-use Rattle.writer.specs.Survey.{capped}
-use Rattle.writer.specs.Summed.{capped-in}
-use Rattle.writer.specs.SlotSizes.{length-leBytes}
+use Rattle.survey.specs.Survey.{capped}
+use Rattle.survey.specs.Summed.{capped-in}
+use Rattle.survey.specs.SlotSizes.{length-leBytes}
 use Rattle.writer.specs.CellLengths.{length-widthBytes, length-chainBytes, length-belowBytes, length-layout}
 use Rattle.writer.specs.Stores.{Holds, Same, holds-same, holds-append, holds-take, sets-before, sets-after, sets-holds}
 use Rattle.writer.specs.Emit.{State, putBytes, putBitAt, putBit, enterObject, leaveObject, enterContent, leaveContent, emitSlots}

@@ -24,15 +24,15 @@ use Rattle.coding.specs.declared.Kind.{Kind}
 use Rattle.coding.specs.declared.Kind.the-variants.{OfFlat, OfObject, OfUnion}
 use Rattle.coding.specs.declared.Member.{Member}
 use Rattle.laws.specs.Sound.{Sound}
-use Rattle.writer.specs.Survey.{capped, aboveCount, surveyMark, Surveyor}
-use Rattle.writer.specs.Mapped.{mapped, Has, mapped-same, bind-mapped, bind-has, seq, mark-mapped}
-use Rattle.writer.specs.SlotSizes.{length-leBytes}
-use Rattle.writer.specs.SurveyFlats.{Present, flat-there}
-use Rattle.writer.specs.SurveyParts.{objectExtent, ObjectSurveyed}
+use Rattle.survey.specs.Survey.{capped, aboveCount, surveyMark, Surveyor}
+use Rattle.survey.specs.Mapped.{mapped, Has, mapped-same, bind-mapped, bind-has, seq, mark-mapped}
+use Rattle.survey.specs.SlotSizes.{length-leBytes}
+use Rattle.survey.specs.SurveyFlats.{Present, flat-there}
+use Rattle.survey.specs.SurveyParts.{objectExtent, ObjectSurveyed}
 use Rattle.writer.specs.Emit.{State, putBytes, putBit, enterObject, leaveObject, enterContent, leaveContent, emitSlots}
 use Rattle.writer.specs.EmitSheet.{putByte, putNumber, emitIf, putNothing, emitFlat, lackFlat, lack, passFlat, pass, Emitter, openObject, emitObject, emitContentAt, emitRefer, emitChoice, emitBody, emitPart, emitElement, flagged, emitMembers, emitElements, emitBlob, emitContent}
 use Rattle.writer.specs.EmitFlats.{put-none, if-emitted, flat-emitted, lack-emitted}
-use Rattle.writer.specs.declared.Extent.{Extent}
+use Rattle.survey.specs.declared.Extent.{Extent}
 
 has-all : {A : Type 0} (P : A → Type 0) → ((a : A) → P a) → (p : Parsed A) → Has P p
 has-all P h fail = tt

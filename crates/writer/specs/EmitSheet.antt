@@ -20,9 +20,9 @@ use Rattle.coding.specs.declared.Object.the-variants as O
 use Rattle.coding.specs.declared.Kind.{Kind}
 use Rattle.coding.specs.declared.Kind.the-variants.{OfFlat, OfObject, OfUnion}
 use Rattle.coding.specs.declared.Member.{Member}
-use Rattle.writer.specs.Survey.{belowCount, aboveCount, surveyMark, Surveyor, survey}
+use Rattle.survey.specs.Survey.{belowCount, aboveCount, surveyMark, Surveyor, survey}
 use Rattle.writer.specs.Emit.{State, putBytes, putBit, enterObject, leaveObject, enterContent, leaveContent}
-use Rattle.writer.specs.declared.Extent.{Extent}
+use Rattle.survey.specs.declared.Extent.{Extent}
 
 -- ---- numbers
 -- a byte, and a number of w bytes

@@ -1,13 +1,4 @@
--- What the writer's code promises, and that it is what the definitions say.
-pub mod Survey
-pub mod Mapped
-pub mod Summed
-pub mod SlotSizes
-pub mod SurveyFlats
-pub mod SurveyParts
-pub mod Widths
-pub mod SurveyObjects
-pub mod Surveyed
+-- The pass that stores a message, that what it leaves is the message of the definitions, and what its code promises.
 pub mod Emit
 pub mod Stores
 pub mod CellLengths
@@ -17,3 +8,4 @@ pub mod EmitFlats
 pub mod EmitParts
 pub mod WriteLaws
 pub mod Emitting
+pub mod EmitStructs

@@ -25,17 +25,17 @@ use Rattle.coding.specs.declared.Object.{Object}
 use Rattle.coding.specs.declared.Object.the-variants as O
 use Rattle.laws.specs.Sound.{Sound}
 use Rattle.laws.specs.Lists.{never}
-use Rattle.writer.specs.Survey.{capped, survey}
-use Rattle.writer.specs.Mapped.{mapped}
-use Rattle.writer.specs.Summed.{capped-in, capped-over}
-use Rattle.writer.specs.SlotSizes.{length-leBytes}
-use Rattle.writer.specs.SurveyObjects.{extentOf, object-surveyed, survey-is}
+use Rattle.survey.specs.Survey.{capped, survey}
+use Rattle.survey.specs.Mapped.{mapped}
+use Rattle.survey.specs.Summed.{capped-in, capped-over}
+use Rattle.survey.specs.SlotSizes.{length-leBytes}
+use Rattle.survey.specs.SurveyObjects.{extentOf, object-surveyed, survey-is}
 use Rattle.writer.specs.CellLengths.{length-layout}
 use Rattle.writer.specs.Emit.{State, putBytes, emitSlots}
 use Rattle.writer.specs.EmitLayout.{state, emit-layout}
 use Rattle.writer.specs.EmitSheet.{putNumber, emitRefer, emit, emitMessage}
 use Rattle.writer.specs.EmitParts.{refer-emitted, content-emitted}
-use Rattle.writer.specs.declared.Extent.{Extent}
+use Rattle.survey.specs.declared.Extent.{Extent}
 
 -- ---- what was got, through a function
 abbrev got-first : {A : Type 0} → A → Parsed A → A
@@ -46,7 +46,7 @@ abbrev got-rest : {A : Type 0} → Parsed A → List ℕ
 got-rest fail = []
 got-rest (got a xs) = xs
 
-abbrev is-got : {A : Type 0} → Parsed A → Bool
+abbrev pub is-got : {A : Type 0} → Parsed A → Bool
 is-got fail = false
 is-got (got a xs) = true
 
@@ -187,6 +187,13 @@ module _ (o : ℕ) (b s : List ℕ) (right : lawful b ≡ true) (sound : Sound (
       found =
           mapped-got-is (extentOf o S sound deepest (O.Table (S .root))) (decode deepest S (O.Table (S .root)) (bits s)) x ys
           (sym (survey-is o S sound deepest (O.Table (S .root)) (bits s)) ∙ h)
+
+      -- the pass does not fail
+      pub message-got : (out : List ℕ) → (st : State) × (emitMessage o S out (bits s) ≡ got st ys)
+      message-got out = (
+        emitSlots o (messageState o S sound out) (messageSlots o S sound (found .0)),
+        message-is o S sound out (bits s) ∙ ap (mapped (λ w. emitSlots o (messageState o S sound out) (messageSlots o S sound w))) (found .1),
+      )
 
       pub written-open : (ltb (length ys) 8 && allZero ys) ≡ false → written o b s ≡ refused 11
       unfolding closed writtenTree

@@ -1,8 +1,15 @@
-// Writing a message from a value sheet: a survey of the sheet that reads only, and then the message.
+// Writing a message from a value sheet: the sheet is surveyed first, and then one pass over it stores the message.
 use coding::Flat;
 use coding::Kind;
+use coding::Member;
 use coding::Object;
+use coding::WriteAnswer;
+use judge::BytesObject;
+use judge::ListObject;
+use judge::TextObject;
+use survey::Extent;
 ghost use mathlib.Core.Path.{_≡_};
+ghost use mathlib.Core.List.{[], _∷_};
 ghost use mathlib.Core.Bool.{Bool, true, false, _&&_};
 ghost use Prim.Native.Nat.{ℕ, _+_, _-_, _*_, _%_, _<_, _≤_, _^_};
 ghost use lib.ListN.{length, take, drop, set, replicate};
@@ -10,660 +17,28 @@ ghost use lib.Seq.{sets};
 ghost use Rattle.coding.specs.Bytes as B;
 ghost use Rattle.coding.specs.Bits.{bits, value, pack};
 ghost use Rattle.coding.specs.Packed as P;
-ghost use Rattle.coding.specs.Sheet as Sh;
-ghost use Rattle.coding.specs.Layout as L;
-ghost use Rattle.coding.specs.Lists.{pick};
 ghost use Rattle.coding.specs.Schema as Sc;
-ghost use Rattle.coding.specs.Step as T;
-ghost use lib.Dec.{ltb};
-ghost use Rattle.laws.specs.Sound.{FlatSound, ObjectSound, KindSound};
+ghost use Rattle.coding.specs.Message as M;
+ghost use Rattle.coding.specs.Sheet as Sh;
+ghost use Rattle.coding.specs.Walk as W;
+ghost use Rattle.laws.specs.Sound.{FlatSound, ObjectSound, KindSound, MemberSound};
 ghost use Rattle.schema.specs.Directory.{Accepted};
-ghost use Rattle.writer.specs.Survey as Sv;
+ghost use Rattle.survey.specs.Survey as Sv;
+ghost use Rattle.survey.specs.Surveyed.{Small};
 ghost use Rattle.writer.specs.Emit as Em;
-ghost use Rattle.writer.specs.Emitting.{stateOf, HeldOk, BitPut};
-ghost use Rattle.writer.specs.Surveyed.{TestedAt, Small, Fits, SurveyedAt};
+ghost use Rattle.writer.specs.EmitSheet as Es;
+ghost use Rattle.writer.specs.Emitting as Eg;
+ghost use Rattle.writer.specs.Emitting.{stateOf, HeldOk, BitPut, Room, EmittedAt, Stood};
 
-// What an object of the sheet takes: whether it can be written; the length that its header gives; the bytes of its content,
-// of the contents in place behind it, and of the objects that these refer to. The last two count to one past the size.
-pub struct Extent {
-    pub writable: bool,
-    pub length: usize,
-    pub width: usize,
-    pub chain: usize,
-    pub below: usize,
-}
-
-// ---- what leads to no object
-// Whether it is lawful; if so, whether it can be written, and where the sheet goes on, in bits.
-pub struct Tested {
-    pub whole: bool,
-    pub fine: bool,
+// Where the message goes on: the next byte of the present sequence; its last bool byte, how many bits are free there, and
+// what the byte holds so far; where the next content in place starts, and where the next object does.
+pub struct Places {
+    pub at: usize,
+    pub last: usize,
+    pub free: usize,
+    pub held: usize,
+    pub tail: usize,
     pub next: usize,
-}
-
-fn not_lawful(pos: usize) -> Tested
-    ensures { λ r. ⌜ (r .whole ≡ false) × (r .next ≡ pos) ⌝ }
-{
-    Tested {
-        whole: false,
-        fine: false,
-        next: pos,
-    }
-}
-
-// The answer of a number that must pass a test.
-fn tested_if(whole: bool, ok: bool, answer: bool, next: usize) -> Tested
-    ensures { λ r. ⌜ (r .whole ≡ (whole && ok)) × (r .fine ≡ answer) × (r .next ≡ next) ⌝ }
-{
-    if whole {
-        return Tested {
-            whole: ok,
-            fine: answer,
-            next: next,
-        };
-    }
-    Tested {
-        whole: false,
-        fine: answer,
-        next: next,
-    }
-}
-
-fn is_nan(w: u8, x: u64) -> bool
-    ensures { λ r. ⌜ r ≡ B.isNaN w x ⌝ }
-{
-    if w == 4 {
-        return 0x7F80_0000 < x % 0x8000_0000;
-    }
-    0x7FF0_0000_0000_0000 < x % 0x8000_0000_0000_0000
-}
-
-fn float_fine(optional: bool, w: u8, x: u64) -> bool
-    ensures { λ r. ⌜ r ≡ Sv.floatFine optional w x ⌝ }
-{
-    if optional {
-        return !is_nan(w, x);
-    }
-    true
-}
-
-fn unknown_enum(n: u8, x: u64) -> bool
-    ensures { λ r. ⌜ r ≡ Sh.unknownEnum n x ⌝ }
-{
-    if wire::wide(n) <= x {
-        return x != 255;
-    }
-    false
-}
-
-// Any number of w bits.
-fn any_number(s: &[u8], pos: usize, w: usize) -> Tested
-    requires { ⌜ (length (now s) ≤ 16777215) × (pos ≤ 8 * length (now s)) × (w ≤ 64) ⌝ }
-    ensures { λ r. ⌜ TestedAt (now (s .entry)) (Sv.testNumber w Sv.anyNumber (drop pos (bits (now (s .entry))))) (r .whole) (r .fine) (r .next) ⌝ }
-{
-    let x = bitio::take_number(s, pos, w);
-    Tested {
-        whole: x.whole,
-        fine: true,
-        next: x.next,
-    }
-}
-
-fn float_number(s: &[u8], pos: usize, optional: bool, w: u8) -> Tested
-    requires { ⌜ (length (now s) ≤ 16777215) × (pos ≤ 8 * length (now s)) × (w ≤ 8) ⌝ }
-    ensures { λ r. ⌜ TestedAt (now (s .entry)) (Sv.testNumber (8 * w) (Sv.floatFine optional w) (drop pos (bits (now (s .entry))))) (r .whole) (r .fine) (r .next) ⌝ }
-{
-    let x = bitio::take_number(s, pos, 8 * wire::index(w));
-    let v = x.value;
-    Tested {
-        whole: x.whole,
-        fine: float_fine(optional, w, v),
-        next: x.next,
-    }
-}
-
-// An enum's number below its count.
-fn enum_known(s: &[u8], pos: usize, n: u8) -> Tested
-    requires { ⌜ (length (now s) ≤ 16777215) × (pos ≤ 8 * length (now s)) ⌝ }
-    ensures { λ r. ⌜ TestedAt (now (s .entry)) (Sv.testIf 8 (Sv.belowCount n) true (drop pos (bits (now (s .entry))))) (r .whole) (r .fine) (r .next) ⌝ }
-{
-    let x = bitio::take_number(s, pos, 8);
-    let ok = x.value < wire::wide(n);
-    tested_if(x.whole, ok, true, x.next)
-}
-
-// An enum's unknown number.
-fn enum_lost(s: &[u8], pos: usize, n: u8) -> Tested
-    requires { ⌜ (length (now s) ≤ 16777215) × (pos ≤ 8 * length (now s)) ⌝ }
-    ensures { λ r. ⌜ TestedAt (now (s .entry)) (Sv.testIf 8 (Sh.unknownEnum n) false (drop pos (bits (now (s .entry))))) (r .whole) (r .fine) (r .next) ⌝ }
-{
-    let x = bitio::take_number(s, pos, 8);
-    let v = x.value;
-    let ok = unknown_enum(n, v);
-    tested_if(x.whole, ok, false, x.next)
-}
-
-// A struct's enum, with its mark.
-fn enum_field(s: &[u8], pos: usize, n: u8) -> Tested
-    requires { ⌜ (length (now s) ≤ 16777215) × (pos ≤ 8 * length (now s)) ⌝ }
-    ensures { λ r. ⌜ TestedAt (now (s .entry)) (Sv.enumField n (drop pos (bits (now (s .entry))))) (r .whole) (r .fine) (r .next) ⌝ }
-{
-    let x = bitio::take_number(s, pos, 2);
-    if !x.whole {
-        return not_lawful(pos);
-    }
-    let mark = x.value;
-    let next = x.next;
-    if mark == 0 {
-        return Tested {
-            whole: true,
-            fine: true,
-            next: next,
-        };
-    }
-    if mark == 1 {
-        return enum_known(s, next, n);
-    }
-    if mark == 2 {
-        return enum_lost(s, next, n);
-    }
-    not_lawful(pos)
-}
-
-// ---- structs, by recursion on the struct index, which falls at every inner struct
-fn field_test(b: &[u8], dir: &[u16], s: &[u8], i: usize, k: Flat, pos: usize) -> Tested
-    requires { ⌜ (Accepted (now b) (now dir)) × (FlatSound i k) × (i < P.structCount (now b)) × (length (now s) ≤ 16777215) × (pos ≤ 8 * length (now s)) ⌝ }
-    ensures { λ r. ⌜ TestedAt (now (s .entry)) (Sv.surveyField (Sv.surveyStruct (P.parse (now (b .entry)))) k (drop pos (bits (now (s .entry))))) (r .whole) (r .fine) (r .next) ⌝ }
-{
-    match k {
-        Flat::Boolean => any_number(s, pos, 1),
-        Flat::Integer(_, w) => any_number(s, pos, 8 * wire::index(w)),
-        Flat::Float(w) => float_number(s, pos, false, w),
-        Flat::Enumerated(n) => enum_field(s, pos, n),
-        Flat::Struct(a) => struct_test(b, dir, s, wire::index(a), pos),
-    }
-}
-
-// Whether a struct has no unknown enum.
-fn struct_test(b: &[u8], dir: &[u16], s: &[u8], i: usize, at: usize) -> Tested
-    requires { ⌜ (Accepted (now b) (now dir)) × (i < P.structCount (now b)) × (length (now s) ≤ 16777215) × (at ≤ 8 * length (now s)) ⌝ }
-    ensures { λ r. ⌜ TestedAt (now (s .entry)) (Sv.surveyStruct (P.parse (now (b .entry))) i (drop at (bits (now (s .entry))))) (r .whole) (r .fine) (r .next) ⌝ }
-{
-    let n = schema::field_count(b, dir, i);
-    let mut pos = at;
-    let mut fine = true;
-    let mut j: usize = 0;
-    while j < n {
-        let k = schema::field(b, dir, i, j);
-        let t = field_test(b, dir, s, i, k, pos);
-        if !t.whole {
-            return not_lawful(at);
-        }
-        fine = both(fine, t.fine);
-        pos = t.next;
-        j += 1;
-    }
-    Tested {
-        whole: true,
-        fine: fine,
-        next: pos,
-    }
-}
-
-fn both(a: bool, b: bool) -> bool
-    ensures { λ r. ⌜ r ≡ (a && b) ⌝ }
-{
-    if a { b } else { false }
-}
-
-// What leads to no object, as a member or an element.
-fn flat_test(b: &[u8], dir: &[u16], s: &[u8], pos: usize, optional: bool, k: Flat) -> Tested
-    requires { ⌜ (Accepted (now b) (now dir)) × (FlatSound (length (P.parse (now b) .structs)) k) × (length (now s) ≤ 16777215) × (pos ≤ 8 * length (now s)) ⌝ }
-    ensures { λ r. ⌜ TestedAt (now (s .entry)) (Sv.surveyFlat (Sv.surveyStruct (P.parse (now (b .entry)))) optional k (drop pos (bits (now (s .entry))))) (r .whole) (r .fine) (r .next) ⌝ }
-{
-    match k {
-        Flat::Boolean => any_number(s, pos, 1),
-        Flat::Integer(_, w) => any_number(s, pos, 8 * wire::index(w)),
-        Flat::Float(w) => float_number(s, pos, optional, w),
-        Flat::Enumerated(n) => enum_known(s, pos, n),
-        Flat::Struct(a) => struct_test(b, dir, s, wire::index(a), pos),
-    }
-}
-
-// Its unknown number, of an enum only.
-fn flat_lost(s: &[u8], pos: usize, k: Flat) -> Tested
-    requires { ⌜ (length (now s) ≤ 16777215) × (pos ≤ 8 * length (now s)) ⌝ }
-    ensures { λ r. ⌜ TestedAt (now (s .entry)) (Sv.surveyLostFlat k (drop pos (bits (now (s .entry))))) (r .whole) (r .fine) (r .next) ⌝ }
-{
-    match k {
-        Flat::Boolean => not_lawful(pos),
-        Flat::Integer(_, _) => not_lawful(pos),
-        Flat::Float(_) => not_lawful(pos),
-        Flat::Enumerated(n) => enum_lost(s, pos, n),
-        Flat::Struct(_) => not_lawful(pos),
-    }
-}
-
-// A union's unknown choice.
-fn choice_lost(b: &[u8], dir: &[u16], s: &[u8], pos: usize, u: usize) -> Tested
-    requires { ⌜ (Accepted (now b) (now dir)) × (u < P.unionCount (now b)) × (length (now s) ≤ 16777215) × (pos ≤ 8 * length (now s)) ⌝ }
-    ensures { λ r. ⌜ TestedAt (now (s .entry)) (Sv.testIf 16 (Sv.aboveCount (length (Sc.casesOf (P.parse (now (b .entry))) u))) false (drop pos (bits (now (s .entry))))) (r .whole) (r .fine) (r .next) ⌝ }
-{
-    let n = schema::case_count(b, dir, u);
-    let x = bitio::take_number(s, pos, 16);
-    let ok = (n as u64) < x.value;
-    tested_if(x.whole, ok, false, x.next)
-}
-
-// ---- extents
-// Whether a part of the sheet is lawful; if so, what it takes, and where the sheet goes on, in bits.
-pub struct Surveyed {
-    pub whole: bool,
-    pub extent: Extent,
-    pub next: usize,
-}
-
-fn plain(fine: bool) -> Extent
-    ensures { λ r. ⌜ Fits (Sv.plain fine) r ⌝ }
-{
-    Extent {
-        writable: fine,
-        length: 0,
-        width: 0,
-        chain: 0,
-        below: 0,
-    }
-}
-
-fn opened(n: usize, w: usize) -> Extent
-    requires { ⌜ (n < 2 ^ 40) × (w < 2 ^ 48) ⌝ }
-    ensures { λ r. ⌜ Fits (Sv.opened n w) r ⌝ }
-{
-    Extent {
-        writable: true,
-        length: n,
-        width: w,
-        chain: 0,
-        below: 0,
-    }
-}
-
-fn unlawful(pos: usize) -> Surveyed
-    ensures { λ r. ⌜ (r .whole ≡ false) × (r .next ≡ pos) × Small (r .extent) ⌝ }
-{
-    Surveyed {
-        whole: false,
-        extent: plain(false),
-        next: pos,
-    }
-}
-
-fn plain_of(t: Tested) -> Surveyed
-    ensures { λ r. ⌜ (r .whole ≡ t .whole) × (r .next ≡ t .next) × Fits (Sv.plain (t .fine)) (r .extent) ⌝ }
-{
-    let whole = t.whole;
-    let next = t.next;
-    Surveyed {
-        whole: whole,
-        extent: plain(t.fine),
-        next: next,
-    }
-}
-
-// A count of bytes, to one past the size.
-fn capped(n: usize) -> usize
-    ensures { λ r. ⌜ (r ≡ Sv.capped n) × (r ≤ 16777216) ⌝ }
-{
-    if n <= 16777215 { n } else { 16777216 }
-}
-
-fn joined(a: Extent, e: Extent) -> Extent
-    requires { ⌜ Small a × Small e ⌝ }
-    ensures { λ r. ⌜ Fits (Sv.joined a e) r ⌝ }
-{
-    let length = a.length;
-    let width = a.width;
-    let chain = a.chain + e.chain;
-    let below = a.below + e.below;
-    Extent {
-        writable: both(a.writable, e.writable),
-        length: length,
-        width: width,
-        chain: capped(chain),
-        below: capped(below),
-    }
-}
-
-// In place: of some length, unless it may be of length 0.
-fn in_place_fine(may: bool, n: usize, fine: bool) -> bool
-    ensures { λ r. ⌜ r ≡ (pick may true (ltb 0 n) && fine) ⌝ }
-{
-    if may {
-        return fine;
-    }
-    if 0 < n { fine } else { false }
-}
-
-fn referred(inplace: bool, may: bool, e: Extent) -> Extent
-    requires { ⌜ Small e ⌝ }
-    ensures { λ r. ⌜ Fits (Sv.referred B.u48 inplace may e) r ⌝ }
-{
-    let fine = e.writable;
-    let below = e.below;
-    let size = e.width + e.chain;
-    if inplace {
-        return Extent {
-            writable: in_place_fine(may, e.length, fine),
-            length: 0,
-            width: 0,
-            chain: capped(size),
-            below: below,
-        };
-    }
-    Extent {
-        writable: fine,
-        length: 0,
-        width: 0,
-        chain: 0,
-        below: capped(10 + size + below),
-    }
-}
-
-// ---- sizes
-// The bytes of n elements of width w.
-fn times(w: usize, n: usize) -> usize
-    requires { ⌜ (w ≤ 4096) × (n < 2 ^ 32) ⌝ }
-    ensures { λ r. ⌜ (r ≡ w * n) × (r ≤ 4096 * 2 ^ 32) ⌝ }
-{
-    w * n
-}
-
-fn elements_size(b: &[u8], dir: &[u16], k: Kind, n: usize) -> usize
-    requires { ⌜ (Accepted (now b) (now dir)) × (KindSound (P.parse (now b)) k) × (n < 2 ^ 32) ⌝ }
-    ensures { λ r. ⌜ (r ≡ T.elementsSize B.u48 (P.parse (now (b .entry))) k n) × (r < 2 ^ 48) ⌝ }
-{
-    if layout::is_bool(k) {
-        return (n + 7) / 8;
-    }
-    times(layout::width(b, dir, k), n)
-}
-
-// A table's full fixed part.
-fn fixed_size(b: &[u8], dir: &[u16], t: usize) -> usize
-    requires { ⌜ (Accepted (now b) (now dir)) × (t < P.tableCount (now b)) ⌝ }
-    ensures { λ r. ⌜ (r ≡ L.fixedSize B.u48 (P.parse (now (b .entry))) (Sc.tableOf (P.parse (now (b .entry))) t .members)) × (r < 2 ^ 40) ⌝ }
-{
-    let count = schema::member_count(b, dir, t);
-    let mut c = layout::begin();
-    let mut j: usize = 0;
-    while j < count {
-        let r = schema::member(b, dir, t, j);
-        let q = layout::place_member(b, dir, r, c);
-        c = q.next;
-        j += 1;
-    }
-    c.end
-}
-
-// ---- members, elements and objects
-// Whether there may be no value.
-fn may_lack(optional: bool, k: Kind) -> bool
-    ensures { λ r. ⌜ r ≡ Sv.mayLack optional k ⌝ }
-{
-    match k {
-        Kind::OfFlat(f) => match f {
-            Flat::Boolean => optional,
-            Flat::Integer(_, _) => optional,
-            Flat::Float(_) => optional,
-            Flat::Enumerated(_) => true,
-            Flat::Struct(_) => optional,
-        },
-        Kind::OfObject(_) => true,
-        Kind::OfUnion(_) => true,
-    }
-}
-
-// Elements without a mark.
-fn bare(k: Kind) -> bool
-    ensures { λ r. ⌜ r ≡ Sh.bare k ⌝ }
-{
-    match k {
-        Kind::OfFlat(f) => match f {
-            Flat::Boolean => true,
-            Flat::Integer(_, _) => true,
-            Flat::Float(_) => false,
-            Flat::Enumerated(_) => false,
-            Flat::Struct(_) => false,
-        },
-        Kind::OfObject(_) => false,
-        Kind::OfUnion(_) => false,
-    }
-}
-
-// A text or bytes; a text has a byte more behind its own.
-fn blob(s: &[u8], pos: usize, more: usize) -> Surveyed
-    requires { ⌜ (length (now s) ≤ 16777215) × (pos ≤ 8 * length (now s)) × (more ≤ 1) ⌝ }
-    ensures { λ r. ⌜ SurveyedAt (now (s .entry)) (Sv.surveyBlob more (drop pos (bits (now (s .entry))))) (r .whole) (r .extent) (r .next) ⌝ }
-{
-    let x = bitio::take_number(s, pos, 32);
-    if !x.whole {
-        return unlawful(pos);
-    }
-    let n = x.value as usize;
-    let y = bitio::skip_bytes(s, x.next, n);
-    let whole = y.whole;
-    let next = y.next;
-    Surveyed {
-        whole: whole,
-        extent: opened(n, n + more),
-        next: next,
-    }
-}
-
-// No known value.
-fn lost(b: &[u8], dir: &[u16], s: &[u8], pos: usize, k: Kind) -> Surveyed
-    requires { ⌜ (Accepted (now b) (now dir)) × (KindSound (P.parse (now b)) k) × (length (now s) ≤ 16777215) × (pos ≤ 8 * length (now s)) ⌝ }
-    ensures { λ r. ⌜ SurveyedAt (now (s .entry)) (Sv.surveyLost (P.parse (now (b .entry))) k (drop pos (bits (now (s .entry))))) (r .whole) (r .extent) (r .next) ⌝ }
-{
-    match k {
-        Kind::OfFlat(f) => plain_of(flat_lost(s, pos, f)),
-        Kind::OfObject(_) => unlawful(pos),
-        Kind::OfUnion(u) => plain_of(choice_lost(b, dir, s, pos, wire::index(u))),
-    }
-}
-
-// An object that is referred to, or stands in place.
-fn refer(
-    b: &[u8],
-    dir: &[u16],
-    s: &[u8],
-    d: usize,
-    ob: Object,
-    inplace: bool,
-    may: bool,
-    pos: usize,
-) -> Surveyed
-    requires { ⌜ (Accepted (now b) (now dir)) × (ObjectSound (P.parse (now b)) ob) × (length (now s) ≤ 16777215) × (pos ≤ 8 * length (now s)) ⌝ }
-    ensures { λ r. ⌜ SurveyedAt (now (s .entry)) (Sv.surveyObject (Sv.survey d B.u48 (P.parse (now (b .entry)))) B.u48 inplace may ob (drop pos (bits (now (s .entry))))) (r .whole) (r .extent) (r .next) ⌝ }
-{
-    let x = object(b, dir, s, d, ob, pos);
-    let whole = x.whole;
-    let next = x.next;
-    Surveyed {
-        whole: whole,
-        extent: referred(inplace, may, x.extent),
-        next: next,
-    }
-}
-
-// A union's known choice.
-fn choice(
-    b: &[u8],
-    dir: &[u16],
-    s: &[u8],
-    d: usize,
-    u: usize,
-    inplace: bool,
-    pos: usize,
-) -> Surveyed
-    requires { ⌜ (Accepted (now b) (now dir)) × (u < P.unionCount (now b)) × (length (now s) ≤ 16777215) × (pos ≤ 8 * length (now s)) ⌝ }
-    ensures { λ r. ⌜ SurveyedAt (now (s .entry)) (Sv.surveyChoice (Sv.survey d B.u48 (P.parse (now (b .entry)))) B.u48 inplace (Sc.casesOf (P.parse (now (b .entry))) u) (drop pos (bits (now (s .entry))))) (r .whole) (r .extent) (r .next) ⌝ }
-{
-    let n = schema::case_count(b, dir, u);
-    let x = bitio::take_number(s, pos, 16);
-    if !x.whole {
-        return unlawful(pos);
-    }
-    let c = x.value as usize;
-    if c == 0 {
-        return unlawful(pos);
-    }
-    if n < c {
-        return unlawful(pos);
-    }
-    let ob = schema::union_case(b, dir, u, c);
-    refer(b, dir, s, d, ob, inplace, true, x.next)
-}
-
-// What is there.
-fn body(
-    b: &[u8],
-    dir: &[u16],
-    s: &[u8],
-    d: usize,
-    k: Kind,
-    optional: bool,
-    inplace: bool,
-    pos: usize,
-) -> Surveyed
-    requires { ⌜ (Accepted (now b) (now dir)) × (KindSound (P.parse (now b)) k) × (length (now s) ≤ 16777215) × (pos ≤ 8 * length (now s)) ⌝ }
-    ensures { λ r. ⌜ SurveyedAt (now (s .entry)) (Sv.surveyBody (Sv.survey d B.u48 (P.parse (now (b .entry)))) B.u48 (P.parse (now (b .entry))) k optional inplace (drop pos (bits (now (s .entry))))) (r .whole) (r .extent) (r .next) ⌝ }
-{
-    match k {
-        Kind::OfFlat(f) => plain_of(flat_test(b, dir, s, pos, optional, f)),
-        Kind::OfObject(ob) => refer(b, dir, s, d, ob, inplace, false, pos),
-        Kind::OfUnion(u) => choice(b, dir, s, d, wire::index(u), inplace, pos),
-    }
-}
-
-// A member or an element with its mark.
-fn part(
-    b: &[u8],
-    dir: &[u16],
-    s: &[u8],
-    d: usize,
-    k: Kind,
-    optional: bool,
-    inplace: bool,
-    pos: usize,
-) -> Surveyed
-    requires { ⌜ (Accepted (now b) (now dir)) × (KindSound (P.parse (now b)) k) × (length (now s) ≤ 16777215) × (pos ≤ 8 * length (now s)) ⌝ }
-    ensures { λ r. ⌜ SurveyedAt (now (s .entry)) (Sv.surveyPart (Sv.survey d B.u48 (P.parse (now (b .entry)))) B.u48 (P.parse (now (b .entry))) k optional inplace (drop pos (bits (now (s .entry))))) (r .whole) (r .extent) (r .next) ⌝ }
-{
-    let x = bitio::take_number(s, pos, 2);
-    if !x.whole {
-        return unlawful(pos);
-    }
-    let mark = x.value;
-    let next = x.next;
-    if mark == 0 {
-        return Surveyed {
-            whole: true,
-            extent: plain(may_lack(optional, k)),
-            next: next,
-        };
-    }
-    if mark == 1 {
-        return body(b, dir, s, d, k, optional, inplace, next);
-    }
-    if mark == 2 {
-        return lost(b, dir, s, next, k);
-    }
-    unlawful(pos)
-}
-
-fn element(b: &[u8], dir: &[u16], s: &[u8], d: usize, k: Kind, pos: usize) -> Surveyed
-    requires { ⌜ (Accepted (now b) (now dir)) × (KindSound (P.parse (now b)) k) × (length (now s) ≤ 16777215) × (pos ≤ 8 * length (now s)) ⌝ }
-    ensures { λ r. ⌜ SurveyedAt (now (s .entry)) (Sv.surveyElement (Sv.survey d B.u48 (P.parse (now (b .entry)))) B.u48 (P.parse (now (b .entry))) k (drop pos (bits (now (s .entry))))) (r .whole) (r .extent) (r .next) ⌝ }
-{
-    if bare(k) {
-        return body(b, dir, s, d, k, true, false, pos);
-    }
-    part(b, dir, s, d, k, true, false, pos)
-}
-
-// A table's content.
-fn table(b: &[u8], dir: &[u16], s: &[u8], d: usize, t: usize, at: usize) -> Surveyed
-    requires { ⌜ (Accepted (now b) (now dir)) × (t < P.tableCount (now b)) × (length (now s) ≤ 16777215) × (at ≤ 8 * length (now s)) ⌝ }
-    ensures { λ r. ⌜ SurveyedAt (now (s .entry)) (Sv.surveyContent (Sv.survey d B.u48 (P.parse (now (b .entry)))) B.u48 (P.parse (now (b .entry))) (Object.Table t) (drop at (bits (now (s .entry))))) (r .whole) (r .extent) (r .next) ⌝ }
-{
-    let count = schema::member_count(b, dir, t);
-    let size = fixed_size(b, dir, t);
-    let mut a = opened(size, size);
-    let mut pos = at;
-    let mut j: usize = 0;
-    while j < count {
-        let r = schema::member(b, dir, t, j);
-        let k = r.kind;
-        let x = part(b, dir, s, d, k, r.optional, r.inplace, pos);
-        if !x.whole {
-            return unlawful(at);
-        }
-        pos = x.next;
-        a = joined(a, x.extent);
-        j += 1;
-    }
-    Surveyed {
-        whole: true,
-        extent: a,
-        next: pos,
-    }
-}
-
-// A list's content.
-fn list(b: &[u8], dir: &[u16], s: &[u8], d: usize, i: usize, at: usize) -> Surveyed
-    requires { ⌜ (Accepted (now b) (now dir)) × (i < P.listCount (now b)) × (length (now s) ≤ 16777215) × (at ≤ 8 * length (now s)) ⌝ }
-    ensures { λ r. ⌜ SurveyedAt (now (s .entry)) (Sv.surveyContent (Sv.survey d B.u48 (P.parse (now (b .entry)))) B.u48 (P.parse (now (b .entry))) (Object.List i) (drop at (bits (now (s .entry))))) (r .whole) (r .extent) (r .next) ⌝ }
-{
-    let y = bitio::take_number(s, at, 32);
-    if !y.whole {
-        return unlawful(at);
-    }
-    let n = y.value as usize;
-    let k = schema::element(b, dir, i);
-    let mut a = opened(n, elements_size(b, dir, k, n));
-    let mut pos = y.next;
-    let mut j: usize = 0;
-    while j < n {
-        let x = element(b, dir, s, d, k, pos);
-        if !x.whole {
-            return unlawful(at);
-        }
-        pos = x.next;
-        a = joined(a, x.extent);
-        j += 1;
-    }
-    Surveyed {
-        whole: true,
-        extent: a,
-        next: pos,
-    }
-}
-
-// An object, d objects deep.
-fn object(b: &[u8], dir: &[u16], s: &[u8], d: usize, ob: Object, pos: usize) -> Surveyed
-    requires { ⌜ (Accepted (now b) (now dir)) × (ObjectSound (P.parse (now b)) ob) × (length (now s) ≤ 16777215) × (pos ≤ 8 * length (now s)) ⌝ }
-    ensures { λ r. ⌜ SurveyedAt (now (s .entry)) (Sv.survey d B.u48 (P.parse (now (b .entry))) ob (drop pos (bits (now (s .entry))))) (r .whole) (r .extent) (r .next) ⌝ }
-{
-    if d == 0 {
-        return unlawful(pos);
-    }
-    match ob {
-        Object::Text => blob(s, pos, 1),
-        Object::Bytes => blob(s, pos, 0),
-        Object::List(i) => list(b, dir, s, d - 1, wire::index(i), pos),
-        Object::Table(t) => table(b, dir, s, d - 1, wire::index(t), pos),
-    }
 }
 
 // ---- stores into the message; what lies past the buffer is not stored
@@ -734,17 +109,6 @@ fn store_copy(s: &[u8], pos: usize, out: &mut [u8], at: usize, n: usize)
     }
 }
 
-// Where the message goes on: the next byte of the present sequence; its last bool byte, how many bits are free there, and
-// what the byte holds so far; where the next content in place starts, and where the next object does.
-pub struct Places {
-    pub at: usize,
-    pub last: usize,
-    pub free: usize,
-    pub held: usize,
-    pub tail: usize,
-    pub next: usize,
-}
-
 // A bit at its place in a bool byte.
 fn bit_at(x: usize, k: usize) -> usize
     requires { ⌜ (x < 2) × (k < 8) ⌝ }
@@ -784,4 +148,888 @@ fn put_bit(out: &mut [u8], c: Places, x: usize) -> Places
         tail: tail,
         next: next,
     }
+}
+
+// ---- moves of the places
+// Behind n bytes more of the present sequence.
+fn forward(c: Places, n: usize) -> Places
+    requires { ⌜ c .at + n < 2 ^ 64 ⌝ }
+    ensures { λ r. ⌜ r ≡ Eg.forward n c ⌝ }
+{
+    let at = c.at;
+    let last = c.last;
+    let free = c.free;
+    let held = c.held;
+    let tail = c.tail;
+    let next = c.next;
+    Places {
+        at: at + n,
+        last,
+        free,
+        held,
+        tail,
+        next,
+    }
+}
+
+// At the start of the next object: of w bytes, with `chain` bytes in place behind it.
+fn enter_object(c: Places, w: usize, chain: usize) -> Places
+    requires { ⌜ (c .next ≤ 16777216) × (w < 2 ^ 49) × (chain ≤ 16777216) ⌝ }
+    ensures { λ r. ⌜ r ≡ Eg.enteredObject w chain c ⌝ }
+{
+    let next = c.next;
+    let end = next + w;
+    Places {
+        at: next,
+        last: 0,
+        free: 0,
+        held: 0,
+        tail: survey::capped(end),
+        next: survey::capped(end + chain),
+    }
+}
+
+// At the start of the next content in place, of w bytes.
+fn enter_content(c: Places, w: usize) -> Places
+    requires { ⌜ (c .tail ≤ 16777216) × (w < 2 ^ 49) ⌝ }
+    ensures { λ r. ⌜ r ≡ Eg.enteredContent w c ⌝ }
+{
+    let tail = c.tail;
+    let next = c.next;
+    Places {
+        at: tail,
+        last: 0,
+        free: 0,
+        held: 0,
+        tail: survey::capped(tail + w),
+        next,
+    }
+}
+
+// Back from an object that was stored: c is behind its offset.
+fn leave_object(c: Places, inner: Places) -> Places
+    ensures { λ r. ⌜ r ≡ Eg.leftObject c inner ⌝ }
+{
+    let at = c.at;
+    let last = c.last;
+    let free = c.free;
+    let held = c.held;
+    let tail = c.tail;
+    let next = inner.next;
+    Places {
+        at,
+        last,
+        free,
+        held,
+        tail,
+        next,
+    }
+}
+
+// Back from a content in place: c is behind its length.
+fn leave_content(c: Places, inner: Places) -> Places
+    ensures { λ r. ⌜ r ≡ Eg.leftContent c inner ⌝ }
+{
+    let at = c.at;
+    let last = c.last;
+    let free = c.free;
+    let held = c.held;
+    let tail = inner.tail;
+    let next = inner.next;
+    Places {
+        at,
+        last,
+        free,
+        held,
+        tail,
+        next,
+    }
+}
+
+// ---- numbers
+// The w bytes of a number.
+fn put_number(out: &mut [u8], c: Places, w: usize, x: u64) -> Places
+    requires { ⌜ (c .at < 2 ^ 61) × (w ≤ 8) ⌝ }
+    ensures { λ r. ⌜ Stood w (Es.putNumber w x (stateOf c (now (out .entry)))) (stateOf r (now (out .exit))) c r ⌝ }
+{
+    store_number(out, c.at, w, x);
+    forward(c, w)
+}
+
+fn put_byte(out: &mut [u8], c: Places, x: u8) -> Places
+    requires { ⌜ c .at < 2 ^ 61 ⌝ }
+    ensures { λ r. ⌜ Stood 1 (Es.putByte x (stateOf c (now (out .entry)))) (stateOf r (now (out .exit))) c r ⌝ }
+{
+    store_byte(out, c.at, x);
+    forward(c, 1)
+}
+
+fn put_zeros(out: &mut [u8], c: Places, n: usize) -> Places
+    requires { ⌜ (c .at < 2 ^ 61) × (n ≤ 4096) ⌝ }
+    ensures { λ r. ⌜ Stood n (Em.putBytes (M.zeros n) (stateOf c (now (out .entry)))) (stateOf r (now (out .exit))) c r ⌝ }
+{
+    store_zeros(out, c.at, n);
+    forward(c, n)
+}
+
+// ---- what leads to no object
+// Whether a part of the sheet is lawful; if so, where the message goes on behind it, and where the sheet does.
+pub struct Emitted {
+    pub whole: bool,
+    pub places: Places,
+    pub next: usize,
+}
+
+fn stored(c: Places, next: usize) -> Emitted
+    ensures { λ r. ⌜ (r .whole ≡ true) × (r .places ≡ c) × (r .next ≡ next) ⌝ }
+{
+    Emitted {
+        whole: true,
+        places: c,
+        next,
+    }
+}
+
+fn not_lawful(c: Places, pos: usize) -> Emitted
+    ensures { λ r. ⌜ (r .whole ≡ false) × (r .places ≡ c) × (r .next ≡ pos) ⌝ }
+{
+    Emitted {
+        whole: false,
+        places: c,
+        next: pos,
+    }
+}
+
+// A number of w bytes.
+fn emit_number(s: &[u8], out: &mut [u8], w: usize, c: Places, pos: usize) -> Emitted
+    requires { ⌜ w ≤ 8 ⌝ }
+    requires { ⌜ Room (now s) pos c ⌝ }
+    ensures { λ r. ⌜ EmittedAt (now (s .entry)) (Es.emitNumber (8 * w) (Es.putNumber w) (stateOf c (now (out .entry))) (drop pos (bits (now (s .entry))))) pos c 0 (r .whole) (r .places) (now (out .exit)) (r .next) ⌝ }
+{
+    let x = bitio::take_number(s, pos, 8 * w);
+    if !x.whole {
+        return not_lawful(c, pos);
+    }
+    let next = x.next;
+    let p = put_number(out, c, w, x.value);
+    stored(p, next)
+}
+
+// A bool into the next free bit.
+fn emit_bit(s: &[u8], out: &mut [u8], c: Places, pos: usize) -> Emitted
+    requires { ⌜ Room (now s) pos c ⌝ }
+    ensures { λ r. ⌜ EmittedAt (now (s .entry)) (Es.emitNumber 1 Em.putBit (stateOf c (now (out .entry))) (drop pos (bits (now (s .entry))))) pos c 0 (r .whole) (r .places) (now (out .exit)) (r .next) ⌝ }
+{
+    let x = bitio::take_number(s, pos, 1);
+    if !x.whole {
+        return not_lawful(c, pos);
+    }
+    let next = x.next;
+    let p = put_bit(out, c, x.value as usize);
+    stored(p, next)
+}
+
+// A struct's bool: a byte.
+fn emit_bool(s: &[u8], out: &mut [u8], c: Places, pos: usize) -> Emitted
+    requires { ⌜ Room (now s) pos c ⌝ }
+    ensures { λ r. ⌜ EmittedAt (now (s .entry)) (Es.emitNumber 1 Es.putByte (stateOf c (now (out .entry))) (drop pos (bits (now (s .entry))))) pos c 0 (r .whole) (r .places) (now (out .exit)) (r .next) ⌝ }
+{
+    let x = bitio::take_number(s, pos, 1);
+    if !x.whole {
+        return not_lawful(c, pos);
+    }
+    let next = x.next;
+    let p = put_byte(out, c, x.value as u8);
+    stored(p, next)
+}
+
+// An enum's number below its count.
+fn emit_enum(s: &[u8], out: &mut [u8], n: u8, c: Places, pos: usize) -> Emitted
+    requires { ⌜ Room (now s) pos c ⌝ }
+    ensures { λ r. ⌜ EmittedAt (now (s .entry)) (Es.emitIf 8 (Sv.belowCount n) Es.putByte (stateOf c (now (out .entry))) (drop pos (bits (now (s .entry))))) pos c 0 (r .whole) (r .places) (now (out .exit)) (r .next) ⌝ }
+{
+    let x = bitio::take_number(s, pos, 8);
+    if !x.whole {
+        return not_lawful(c, pos);
+    }
+    let v = x.value;
+    if v < wire::wide(n) {
+        let next = x.next;
+        let p = put_byte(out, c, v as u8);
+        return stored(p, next);
+    }
+    not_lawful(c, pos)
+}
+
+// An enum's unknown number, passed over.
+fn pass_enum(s: &[u8], out: &mut [u8], n: u8, c: Places, pos: usize) -> Emitted
+    requires { ⌜ Room (now s) pos c ⌝ }
+    ensures { λ r. ⌜ EmittedAt (now (s .entry)) (Es.emitIf 8 (Sh.unknownEnum n) Es.putNothing (stateOf c (now (out .entry))) (drop pos (bits (now (s .entry))))) pos c 0 (r .whole) (r .places) (now (out .exit)) (r .next) ⌝ }
+{
+    let x = bitio::take_number(s, pos, 8);
+    if !x.whole {
+        return not_lawful(c, pos);
+    }
+    let v = x.value;
+    if survey::unknown_enum(n, v) {
+        return stored(c, x.next);
+    }
+    not_lawful(c, pos)
+}
+
+// A struct's enum, with its mark.
+fn emit_marked_enum(s: &[u8], out: &mut [u8], n: u8, c: Places, pos: usize) -> Emitted
+    requires { ⌜ Room (now s) pos c ⌝ }
+    ensures { λ r. ⌜ EmittedAt (now (s .entry)) (Eg.emitMarkedEnum n (stateOf c (now (out .entry))) (drop pos (bits (now (s .entry))))) pos c 0 (r .whole) (r .places) (now (out .exit)) (r .next) ⌝ }
+{
+    let x = bitio::take_number(s, pos, 2);
+    if !x.whole {
+        return not_lawful(c, pos);
+    }
+    let mark = x.value;
+    let next = x.next;
+    if mark == 0 {
+        let p = put_byte(out, c, 255);
+        return stored(p, next);
+    }
+    if mark == 1 {
+        return emit_enum(s, out, n, c, next);
+    }
+    if mark == 2 {
+        let p = put_byte(out, c, 255);
+        return pass_enum(s, out, n, p, next);
+    }
+    not_lawful(c, pos)
+}
+
+// ---- structs, by recursion on the struct index, which falls at every inner struct
+fn emit_field(
+    b: &[u8],
+    dir: &[u16],
+    s: &[u8],
+    out: &mut [u8],
+    i: usize,
+    k: Flat,
+    c: Places,
+    pos: usize,
+) -> Emitted
+    requires { ⌜ (Accepted (now b) (now dir)) × (FlatSound i k) × (i < P.structCount (now b)) ⌝ }
+    requires { ⌜ Room (now s) pos c ⌝ }
+    ensures { λ r. ⌜ EmittedAt (now (s .entry)) (Es.emitField (Es.emitStruct (P.parse (now (b .entry)))) k (stateOf c (now (out .entry))) (drop pos (bits (now (s .entry))))) pos c 0 (r .whole) (r .places) (now (out .exit)) (r .next) ⌝ }
+{
+    match k {
+        Flat::Boolean => emit_bool(s, out, c, pos),
+        Flat::Integer(_, w) => emit_number(s, out, wire::index(w), c, pos),
+        Flat::Float(w) => emit_number(s, out, wire::index(w), c, pos),
+        Flat::Enumerated(n) => emit_marked_enum(s, out, n, c, pos),
+        Flat::Struct(a) => emit_struct(b, dir, s, out, wire::index(a), c, pos),
+    }
+}
+
+fn emit_struct(
+    b: &[u8],
+    dir: &[u16],
+    s: &[u8],
+    out: &mut [u8],
+    i: usize,
+    c: Places,
+    pos: usize,
+) -> Emitted
+    requires { ⌜ (Accepted (now b) (now dir)) × (i < P.structCount (now b)) ⌝ }
+    requires { ⌜ Room (now s) pos c ⌝ }
+    ensures { λ r. ⌜ EmittedAt (now (s .entry)) (Es.emitStruct (P.parse (now (b .entry))) i (stateOf c (now (out .entry))) (drop pos (bits (now (s .entry))))) pos c 0 (r .whole) (r .places) (now (out .exit)) (r .next) ⌝ }
+{
+    let n = schema::field_count(b, dir, i);
+    let mut p = c;
+    let mut at = pos;
+    let mut j: usize = 0;
+    while j < n {
+        let k = schema::field(b, dir, i, j);
+        let x = emit_field(b, dir, s, out, i, k, p, at);
+        if !x.whole {
+            return not_lawful(c, pos);
+        }
+        at = x.next;
+        p = x.places;
+        j += 1;
+    }
+    stored(p, at)
+}
+
+// What leads to no object, as a member or an element.
+fn emit_flat(
+    b: &[u8],
+    dir: &[u16],
+    s: &[u8],
+    out: &mut [u8],
+    k: Flat,
+    c: Places,
+    pos: usize,
+) -> Emitted
+    requires { ⌜ (Accepted (now b) (now dir)) × (FlatSound (length (P.parse (now b) .structs)) k) ⌝ }
+    requires { ⌜ Room (now s) pos c ⌝ }
+    ensures { λ r. ⌜ EmittedAt (now (s .entry)) (Es.emitFlat (P.parse (now (b .entry))) k (stateOf c (now (out .entry))) (drop pos (bits (now (s .entry))))) pos c 0 (r .whole) (r .places) (now (out .exit)) (r .next) ⌝ }
+{
+    match k {
+        Flat::Boolean => emit_bit(s, out, c, pos),
+        Flat::Integer(_, w) => emit_number(s, out, wire::index(w), c, pos),
+        Flat::Float(w) => emit_number(s, out, wire::index(w), c, pos),
+        Flat::Enumerated(n) => emit_enum(s, out, n, c, pos),
+        Flat::Struct(a) => emit_struct(b, dir, s, out, wire::index(a), c, pos),
+    }
+}
+
+// ---- no value
+// The bits of an absent float.
+fn no_float(w: u8) -> u64
+    ensures { λ r. ⌜ r ≡ B.noFloat w ⌝ }
+{
+    if w == 4 {
+        return 0x7FC0_0000;
+    }
+    0x7FF8_0000_0000_0000
+}
+
+fn lack_flat(b: &[u8], dir: &[u16], out: &mut [u8], k: Flat, c: Places) -> Places
+    requires { ⌜ (Accepted (now b) (now dir)) × (FlatSound (length (P.parse (now b) .structs)) k) × HeldOk c × (c .at < 2 ^ 61) ⌝ }
+    ensures { λ r. ⌜ Eg.Lacks (Es.lackFlat (P.parse (now (b .entry))) k (stateOf c (now (out .entry)))) (stateOf r (now (out .exit))) c r ⌝ }
+{
+    match k {
+        Flat::Boolean => put_bit(out, c, 0),
+        Flat::Integer(_, w) => put_number(out, c, wire::index(w), 0),
+        Flat::Float(w) => put_number(out, c, wire::index(w), no_float(w)),
+        Flat::Enumerated(_) => put_byte(out, c, 255),
+        Flat::Struct(a) => put_zeros(out, c, schema::stored_size(b, dir, wire::index(a))),
+    }
+}
+
+// What stands for no value.
+fn lack(b: &[u8], dir: &[u16], out: &mut [u8], k: Kind, c: Places) -> Places
+    requires { ⌜ (Accepted (now b) (now dir)) × (KindSound (P.parse (now b)) k) × HeldOk c × (c .at < 2 ^ 61) ⌝ }
+    ensures { λ r. ⌜ Eg.Lacks (Es.lack B.u48 (P.parse (now (b .entry))) k (stateOf c (now (out .entry)))) (stateOf r (now (out .exit))) c r ⌝ }
+{
+    match k {
+        Kind::OfFlat(f) => lack_flat(b, dir, out, f, c),
+        Kind::OfObject(_) => put_zeros(out, c, 6),
+        Kind::OfUnion(_) => put_zeros(out, c, 8),
+    }
+}
+
+// An unknown number, of an enum only, is passed over.
+fn pass_flat(s: &[u8], out: &mut [u8], k: Flat, c: Places, pos: usize) -> Emitted
+    requires { ⌜ Room (now s) pos c ⌝ }
+    ensures { λ r. ⌜ EmittedAt (now (s .entry)) (Es.passFlat k (stateOf c (now (out .entry))) (drop pos (bits (now (s .entry))))) pos c 0 (r .whole) (r .places) (now (out .exit)) (r .next) ⌝ }
+{
+    match k {
+        Flat::Boolean => not_lawful(c, pos),
+        Flat::Integer(_, _) => not_lawful(c, pos),
+        Flat::Float(_) => not_lawful(c, pos),
+        Flat::Enumerated(n) => pass_enum(s, out, n, c, pos),
+        Flat::Struct(_) => not_lawful(c, pos),
+    }
+}
+
+// A union's unknown choice.
+fn pass_choice(
+    b: &[u8],
+    dir: &[u16],
+    s: &[u8],
+    out: &mut [u8],
+    u: usize,
+    c: Places,
+    pos: usize,
+) -> Emitted
+    requires { ⌜ (Accepted (now b) (now dir)) × (u < P.unionCount (now b)) ⌝ }
+    requires { ⌜ Room (now s) pos c ⌝ }
+    ensures { λ r. ⌜ EmittedAt (now (s .entry)) (Es.emitIf 16 (Sv.aboveCount (length (Sc.casesOf (P.parse (now (b .entry))) u))) Es.putNothing (stateOf c (now (out .entry))) (drop pos (bits (now (s .entry))))) pos c 0 (r .whole) (r .places) (now (out .exit)) (r .next) ⌝ }
+{
+    let n = schema::case_count(b, dir, u);
+    let x = bitio::take_number(s, pos, 16);
+    if !x.whole {
+        return not_lawful(c, pos);
+    }
+    if (n as u64) < x.value {
+        return stored(c, x.next);
+    }
+    not_lawful(c, pos)
+}
+
+fn pass(b: &[u8], dir: &[u16], s: &[u8], out: &mut [u8], k: Kind, c: Places, pos: usize) -> Emitted
+    requires { ⌜ (Accepted (now b) (now dir)) × (KindSound (P.parse (now b)) k) ⌝ }
+    requires { ⌜ Room (now s) pos c ⌝ }
+    ensures { λ r. ⌜ EmittedAt (now (s .entry)) (Es.pass (P.parse (now (b .entry))) k (stateOf c (now (out .entry))) (drop pos (bits (now (s .entry))))) pos c 0 (r .whole) (r .places) (now (out .exit)) (r .next) ⌝ }
+{
+    match k {
+        Kind::OfFlat(f) => pass_flat(s, out, f, c, pos),
+        Kind::OfObject(_) => not_lawful(c, pos),
+        Kind::OfUnion(u) => pass_choice(b, dir, s, out, wire::index(u), c, pos),
+    }
+}
+
+// ---- what an object needs around its content
+// Bytes of the sheet, n of them.
+fn put_copy(s: &[u8], pos: usize, out: &mut [u8], c: Places, n: usize) -> Places
+    requires { ⌜ (length (now s) ≤ 16777215) × (pos + 8 * n ≤ 8 * length (now s)) × (c .at < 2 ^ 61) ⌝ }
+    ensures { λ r. ⌜ Stood n (Em.putBytes (pack n (drop pos (bits (now (s .entry))))) (stateOf c (now (out .entry)))) (stateOf r (now (out .exit))) c r ⌝ }
+{
+    store_copy(s, pos, out, c.at, n);
+    forward(c, n)
+}
+
+// Bytes: a length and the bytes.
+fn emit_bytes(s: &[u8], out: &mut [u8], c: Places, pos: usize) -> Emitted
+    requires { ⌜ Room (now s) pos c ⌝ }
+    ensures { λ r. ⌜ EmittedAt (now (s .entry)) (Es.emitBlob [] (stateOf c (now (out .entry))) (drop pos (bits (now (s .entry))))) pos c 0 (r .whole) (r .places) (now (out .exit)) (r .next) ⌝ }
+{
+    let x = bitio::take_number(s, pos, 32);
+    if !x.whole {
+        return not_lawful(c, pos);
+    }
+    let n = x.value as usize;
+    let at = x.next;
+    let y = bitio::skip_bytes(s, at, n);
+    if !y.whole {
+        return not_lawful(c, pos);
+    }
+    let next = y.next;
+    let p = put_copy(s, at, out, c, n);
+    stored(p, next)
+}
+
+// A text has a zero byte behind its own.
+fn emit_text(s: &[u8], out: &mut [u8], c: Places, pos: usize) -> Emitted
+    requires { ⌜ Room (now s) pos c ⌝ }
+    ensures { λ r. ⌜ EmittedAt (now (s .entry)) (Es.emitBlob (0 ∷ []) (stateOf c (now (out .entry))) (drop pos (bits (now (s .entry))))) pos c 0 (r .whole) (r .places) (now (out .exit)) (r .next) ⌝ }
+{
+    let x = emit_bytes(s, out, c, pos);
+    if !x.whole {
+        return not_lawful(c, pos);
+    }
+    let next = x.next;
+    let p = put_byte(out, x.places, 0);
+    stored(p, next)
+}
+
+// The flag of a member that has one.
+fn flag(out: &mut [u8], r: Member, x: usize, c: Places) -> Places
+    requires { ⌜ (x < 2) × HeldOk c × (c .at < 2 ^ 61) ⌝ }
+    ensures { λ q. ⌜ BitPut (Es.flagged r x (stateOf c (now (out .entry)))) (stateOf q (now (out .exit))) c q ⌝ }
+{
+    if layout::has_flag(r) {
+        return put_bit(out, c, x);
+    }
+    c
+}
+
+// The magic of an object.
+fn object_magic(b: &[u8], dir: &[u16], ob: Object) -> u64
+    requires { ⌜ (Accepted (now b) (now dir)) × ObjectSound (P.parse (now b)) ob ⌝ }
+    ensures { λ r. ⌜ r ≡ W.magic (P.parse (now (b .entry))) ob ⌝ }
+{
+    match ob {
+        Object::Text => TextObject::MAGIC,
+        Object::Bytes => BytesObject::MAGIC,
+        Object::List(_) => ListObject::MAGIC,
+        Object::Table(t) => schema::table_id(b, dir, wire::index(t)),
+    }
+}
+
+// What refers to an object: its offset, or its length in place.
+fn put_reference(out: &mut [u8], inplace: bool, e: Extent, c: Places) -> Places
+    requires { ⌜ c .at < 2 ^ 61 ⌝ }
+    ensures { λ r. ⌜ Stood 6 (Eg.referred inplace e (stateOf c (now (out .entry)))) (stateOf r (now (out .exit))) c r ⌝ }
+{
+    if inplace {
+        return put_number(out, c, 6, e.length as u64);
+    }
+    let x = c.next as u64;
+    put_number(out, c, 6, x)
+}
+
+// An object's header, at the next object's place; behind it the content goes on.
+fn open_object(b: &[u8], dir: &[u16], out: &mut [u8], ob: Object, e: Extent, c: Places) -> Places
+    requires { ⌜ (Accepted (now b) (now dir)) × (ObjectSound (P.parse (now b)) ob) × (Small e) × (c .next ≤ 16777216) ⌝ }
+    ensures { λ r. ⌜ Eg.Opens (Es.openObject B.u48 (P.parse (now (b .entry))) ob e (stateOf c (now (out .entry)))) (stateOf r (now (out .exit))) r ⌝ }
+{
+    let magic = object_magic(b, dir, ob);
+    let q = enter_object(c, 10 + e.width, e.chain);
+    let h = put_number(out, q, 4, magic);
+    put_number(out, h, 6, e.length as u64)
+}
+
+// Where the content is stored: c is behind what refers to it.
+fn open(
+    b: &[u8],
+    dir: &[u16],
+    out: &mut [u8],
+    ob: Object,
+    inplace: bool,
+    e: Extent,
+    c: Places,
+) -> Places
+    requires { ⌜ (Accepted (now b) (now dir)) × (ObjectSound (P.parse (now b)) ob) × (Small e) × (c .next ≤ 16777216) × (c .tail ≤ 16777216) ⌝ }
+    ensures { λ r. ⌜ Eg.Opens (Eg.opened (P.parse (now (b .entry))) ob inplace e (stateOf c (now (out .entry)))) (stateOf r (now (out .exit))) r ⌝ }
+{
+    if inplace {
+        return enter_content(c, e.width);
+    }
+    open_object(b, dir, out, ob, e, c)
+}
+
+// Back from the content: c is behind what refers to it.
+fn close(inplace: bool, c: Places, inner: Places) -> Places
+    ensures { λ r. ⌜ r ≡ Eg.closed inplace c inner ⌝ }
+{
+    if inplace {
+        return leave_content(c, inner);
+    }
+    leave_object(c, inner)
+}
+
+// ---- members, elements and objects
+// An object that is referred to, or stands in place, once its extent is known.
+fn emit_refer(
+    b: &[u8],
+    dir: &[u16],
+    s: &[u8],
+    out: &mut [u8],
+    d: usize,
+    ob: Object,
+    inplace: bool,
+    c: Places,
+    pos: usize,
+) -> Emitted
+    requires { ⌜ (Accepted (now b) (now dir)) × (ObjectSound (P.parse (now b)) ob) ⌝ }
+    requires { ⌜ Room (now s) pos c ⌝ }
+    ensures { λ r. ⌜ EmittedAt (now (s .entry)) (Es.emitRefer (Es.emit d B.u48 (P.parse (now (b .entry)))) (Sv.survey d B.u48 (P.parse (now (b .entry)))) B.u48 (P.parse (now (b .entry))) inplace ob (stateOf c (now (out .entry))) (drop pos (bits (now (s .entry))))) pos c 6 (r .whole) (r .places) (now (out .exit)) (r .next) ⌝ }
+{
+    let x = survey::object(b, dir, s, d, ob, pos);
+    if !x.whole {
+        return not_lawful(c, pos);
+    }
+    let e = x.extent;
+    let p = put_reference(out, inplace, e, c);
+    let q = open(b, dir, out, ob, inplace, e, p);
+    let y = emit_content(b, dir, s, out, d, ob, q, pos);
+    if !y.whole {
+        return not_lawful(c, pos);
+    }
+    let next = y.next;
+    stored(close(inplace, p, y.places), next)
+}
+
+// A union's known choice.
+fn emit_choice(
+    b: &[u8],
+    dir: &[u16],
+    s: &[u8],
+    out: &mut [u8],
+    d: usize,
+    u: usize,
+    inplace: bool,
+    c: Places,
+    pos: usize,
+) -> Emitted
+    requires { ⌜ (Accepted (now b) (now dir)) × (u < P.unionCount (now b)) ⌝ }
+    requires { ⌜ Room (now s) pos c ⌝ }
+    ensures { λ r. ⌜ EmittedAt (now (s .entry)) (Es.emitChoice (Es.emit d B.u48 (P.parse (now (b .entry)))) (Sv.survey d B.u48 (P.parse (now (b .entry)))) B.u48 (P.parse (now (b .entry))) inplace (Sc.casesOf (P.parse (now (b .entry))) u) (stateOf c (now (out .entry))) (drop pos (bits (now (s .entry))))) pos c 6 (r .whole) (r .places) (now (out .exit)) (r .next) ⌝ }
+{
+    let n = schema::case_count(b, dir, u);
+    let x = bitio::take_number(s, pos, 16);
+    if !x.whole {
+        return not_lawful(c, pos);
+    }
+    let k = x.value as usize;
+    if k == 0 {
+        return not_lawful(c, pos);
+    }
+    if n < k {
+        return not_lawful(c, pos);
+    }
+    let ob = schema::union_case(b, dir, u, k);
+    let next = x.next;
+    let p = put_number(out, c, 2, x.value);
+    emit_refer(b, dir, s, out, d, ob, inplace, p, next)
+}
+
+// What is there.
+fn emit_body(
+    b: &[u8],
+    dir: &[u16],
+    s: &[u8],
+    out: &mut [u8],
+    d: usize,
+    k: Kind,
+    inplace: bool,
+    c: Places,
+    pos: usize,
+) -> Emitted
+    requires { ⌜ (Accepted (now b) (now dir)) × (KindSound (P.parse (now b)) k) ⌝ }
+    requires { ⌜ Room (now s) pos c ⌝ }
+    ensures { λ r. ⌜ EmittedAt (now (s .entry)) (Es.emitBody (Es.emit d B.u48 (P.parse (now (b .entry)))) (Sv.survey d B.u48 (P.parse (now (b .entry)))) B.u48 (P.parse (now (b .entry))) k inplace (stateOf c (now (out .entry))) (drop pos (bits (now (s .entry))))) pos c (Eg.extra k) (r .whole) (r .places) (now (out .exit)) (r .next) ⌝ }
+{
+    match k {
+        Kind::OfFlat(f) => emit_flat(b, dir, s, out, f, c, pos),
+        Kind::OfObject(ob) => emit_refer(b, dir, s, out, d, ob, inplace, c, pos),
+        Kind::OfUnion(u) => emit_choice(b, dir, s, out, d, wire::index(u), inplace, c, pos),
+    }
+}
+
+// A member or an element with its mark.
+fn emit_part(
+    b: &[u8],
+    dir: &[u16],
+    s: &[u8],
+    out: &mut [u8],
+    d: usize,
+    r: Member,
+    c: Places,
+    pos: usize,
+) -> Emitted
+    requires { ⌜ (Accepted (now b) (now dir)) × (KindSound (P.parse (now b)) (r .kind)) ⌝ }
+    requires { ⌜ Room (now s) pos c ⌝ }
+    ensures { λ q. ⌜ EmittedAt (now (s .entry)) (Eg.emitMember (Es.emit d B.u48 (P.parse (now (b .entry)))) (Sv.survey d B.u48 (P.parse (now (b .entry)))) B.u48 (P.parse (now (b .entry))) r (stateOf c (now (out .entry))) (drop pos (bits (now (s .entry))))) pos c 0 (q .whole) (q .places) (now (out .exit)) (q .next) ⌝ }
+{
+    let x = bitio::take_number(s, pos, 2);
+    if !x.whole {
+        return not_lawful(c, pos);
+    }
+    let mark = x.value;
+    let next = x.next;
+    let k = r.kind;
+    if mark == 1 {
+        let p = flag(out, r, 1, c);
+        return emit_body(b, dir, s, out, d, k, r.inplace, p, next);
+    }
+    if mark == 3 {
+        return not_lawful(c, pos);
+    }
+    let p = flag(out, r, 0, c);
+    let q = lack(b, dir, out, k, p);
+    if mark == 0 {
+        return stored(q, next);
+    }
+    pass(b, dir, s, out, k, q, next)
+}
+
+fn emit_element(
+    b: &[u8],
+    dir: &[u16],
+    s: &[u8],
+    out: &mut [u8],
+    d: usize,
+    k: Kind,
+    c: Places,
+    pos: usize,
+) -> Emitted
+    requires { ⌜ (Accepted (now b) (now dir)) × (KindSound (P.parse (now b)) k) ⌝ }
+    requires { ⌜ Room (now s) pos c ⌝ }
+    ensures { λ r. ⌜ EmittedAt (now (s .entry)) (Es.emitElement (Es.emit d B.u48 (P.parse (now (b .entry)))) (Sv.survey d B.u48 (P.parse (now (b .entry)))) B.u48 (P.parse (now (b .entry))) k (stateOf c (now (out .entry))) (drop pos (bits (now (s .entry))))) pos c 0 (r .whole) (r .places) (now (out .exit)) (r .next) ⌝ }
+{
+    if survey::bare(k) {
+        return emit_body(b, dir, s, out, d, k, false, c, pos);
+    }
+    let r = Member {
+        kind: k,
+        optional: false,
+        inplace: false,
+    };
+    emit_part(b, dir, s, out, d, r, c, pos)
+}
+
+// A table's content.
+fn emit_table(
+    b: &[u8],
+    dir: &[u16],
+    s: &[u8],
+    out: &mut [u8],
+    d: usize,
+    t: usize,
+    c: Places,
+    pos: usize,
+) -> Emitted
+    requires { ⌜ (Accepted (now b) (now dir)) × (t < P.tableCount (now b)) ⌝ }
+    requires { ⌜ Room (now s) pos c ⌝ }
+    ensures { λ r. ⌜ EmittedAt (now (s .entry)) (Es.emitContent (Es.emit d B.u48 (P.parse (now (b .entry)))) (Sv.survey d B.u48 (P.parse (now (b .entry)))) B.u48 (P.parse (now (b .entry))) (Object.Table t) (stateOf c (now (out .entry))) (drop pos (bits (now (s .entry))))) pos c 0 (r .whole) (r .places) (now (out .exit)) (r .next) ⌝ }
+{
+    let n = schema::member_count(b, dir, t);
+    let mut p = c;
+    let mut at = pos;
+    let mut j: usize = 0;
+    while j < n {
+        let r = schema::member(b, dir, t, j);
+        let x = emit_part(b, dir, s, out, d, r, p, at);
+        if !x.whole {
+            return not_lawful(c, pos);
+        }
+        at = x.next;
+        p = x.places;
+        j += 1;
+    }
+    stored(p, at)
+}
+
+// A list's content.
+fn emit_list(
+    b: &[u8],
+    dir: &[u16],
+    s: &[u8],
+    out: &mut [u8],
+    d: usize,
+    i: usize,
+    c: Places,
+    pos: usize,
+) -> Emitted
+    requires { ⌜ (Accepted (now b) (now dir)) × (i < P.listCount (now b)) ⌝ }
+    requires { ⌜ Room (now s) pos c ⌝ }
+    ensures { λ r. ⌜ EmittedAt (now (s .entry)) (Es.emitContent (Es.emit d B.u48 (P.parse (now (b .entry)))) (Sv.survey d B.u48 (P.parse (now (b .entry)))) B.u48 (P.parse (now (b .entry))) (Object.List i) (stateOf c (now (out .entry))) (drop pos (bits (now (s .entry))))) pos c 0 (r .whole) (r .places) (now (out .exit)) (r .next) ⌝ }
+{
+    let y = bitio::take_number(s, pos, 32);
+    if !y.whole {
+        return not_lawful(c, pos);
+    }
+    let n = y.value as usize;
+    let k = schema::element(b, dir, i);
+    let mut p = c;
+    let mut at = y.next;
+    let mut j: usize = 0;
+    while j < n {
+        let x = emit_element(b, dir, s, out, d, k, p, at);
+        if !x.whole {
+            return not_lawful(c, pos);
+        }
+        at = x.next;
+        p = x.places;
+        j += 1;
+    }
+    stored(p, at)
+}
+
+// An object's content, d objects deep.
+fn emit_content(
+    b: &[u8],
+    dir: &[u16],
+    s: &[u8],
+    out: &mut [u8],
+    d: usize,
+    ob: Object,
+    c: Places,
+    pos: usize,
+) -> Emitted
+    requires { ⌜ (Accepted (now b) (now dir)) × (ObjectSound (P.parse (now b)) ob) ⌝ }
+    requires { ⌜ Room (now s) pos c ⌝ }
+    ensures { λ r. ⌜ EmittedAt (now (s .entry)) (Es.emit d B.u48 (P.parse (now (b .entry))) ob (stateOf c (now (out .entry))) (drop pos (bits (now (s .entry))))) pos c 0 (r .whole) (r .places) (now (out .exit)) (r .next) ⌝ }
+{
+    if d == 0 {
+        return not_lawful(c, pos);
+    }
+    match ob {
+        Object::Text => emit_text(s, out, c, pos),
+        Object::Bytes => emit_bytes(s, out, c, pos),
+        Object::List(i) => emit_list(b, dir, s, out, d - 1, wire::index(i), c, pos),
+        Object::Table(t) => emit_table(b, dir, s, out, d - 1, wire::index(t), c, pos),
+    }
+}
+
+// ---- the whole message
+// The message's start and the root table, into a buffer of the message's length.
+fn emit_message(b: &[u8], dir: &[u16], s: &[u8], out: &mut [u8]) -> Emitted
+    requires { ⌜ (Accepted (now b) (now dir)) × (length (now s) ≤ 16777215) ⌝ }
+    ensures { λ r. ⌜ Eg.MessageAt (now (s .entry)) (Es.emitMessage B.u48 (P.parse (now (b .entry))) (now (out .entry)) (bits (now (s .entry)))) (r .whole) (r .places) (now (out .exit)) (r .next) ⌝ }
+{
+    let start = Places {
+        at: 0,
+        last: 0,
+        free: 0,
+        held: 0,
+        tail: 10,
+        next: 10,
+    };
+    let ob = judge::root_object(b, dir);
+    let p = put_number(out, start, 4, 0xB5C0_C4B3);
+    emit_refer(b, dir, s, out, 32, ob, false, p, 0)
+}
+
+// ---- the answers
+fn refused(number: u8) -> WriteAnswer
+    ensures { λ r. ⌜ (r .number ≡ number) × (r .length ≡ 0) ⌝ }
+{
+    WriteAnswer { number, length: 0 }
+}
+
+// Whether less than a byte of the sheet is left, and zero bits only.
+fn closed(s: &[u8], pos: usize) -> bool
+    requires { ⌜ (length (now s) ≤ 16777215) × (pos ≤ 8 * length (now s)) ⌝ }
+    ensures { λ r. ⌜ r ≡ Eg.onlyEnd (drop pos (bits (now (s .entry)))) ⌝ }
+{
+    let left = 8 * s.len() - pos;
+    if 8 <= left {
+        return false;
+    }
+    bitio::get(s, pos, left) == 0
+}
+
+// The length of the message whose root table takes e.
+fn message_size(e: Extent) -> usize
+    requires { ⌜ Small e ⌝ }
+    ensures { λ r. ⌜ r ≡ Eg.messageSize e ⌝ }
+{
+    let content = e.width + e.chain;
+    20 + content + e.below
+}
+
+// A sheet that is lawful, whose root table takes e.
+fn write_lawful(b: &[u8], dir: &[u16], s: &[u8], e: Extent, out: &mut [u8]) -> WriteAnswer
+    requires { ⌜ (Accepted (now b) (now dir)) × Eg.LawfulSheet (now b) (now s) e ⌝ }
+    ensures { λ r. ⌜ r ≡ M.writeAnswer B.u48 (now (b .entry)) (now (s .entry)) (now (out .entry)) ⌝ }
+    ensures { λ _. ⌜ now (out .exit) ≡ M.writeOut B.u48 (now (b .entry)) (now (s .entry)) (now (out .entry)) ⌝ }
+{
+    if !e.writable {
+        return refused(12);
+    }
+    let n = message_size(e);
+    if 16777215 < n {
+        return refused(13);
+    }
+    if out.len() < n {
+        return refused(14);
+    }
+    emit_message(b, dir, s, &mut out[..n]);
+    WriteAnswer {
+        number: 0,
+        length: n,
+    }
+}
+
+// By a schema that was judged before.
+fn write_judged(b: &[u8], dir: &[u16], s: &[u8], out: &mut [u8]) -> WriteAnswer
+    requires { ⌜ Accepted (now b) (now dir) ⌝ }
+    ensures { λ r. ⌜ r ≡ M.writeAnswer B.u48 (now (b .entry)) (now (s .entry)) (now (out .entry)) ⌝ }
+    ensures { λ _. ⌜ now (out .exit) ≡ M.writeOut B.u48 (now (b .entry)) (now (s .entry)) (now (out .entry)) ⌝ }
+{
+    if 16777215 < s.len() {
+        return refused(11);
+    }
+    let ob = judge::root_object(b, dir);
+    let x = survey::object(b, dir, s, 32, ob, 0);
+    if !x.whole {
+        return refused(11);
+    }
+    if !closed(s, x.next) {
+        return refused(11);
+    }
+    write_lawful(b, dir, s, x.extent, out)
+}
+
+// Writes a sheet as a message: 1, 11, 12, 13 or 14, each over the whole sheet; else the message's length, and the message in
+// the output, whose bytes after it keep what they held.
+pub fn write(b: &[u8], s: &[u8], out: &mut [u8]) -> WriteAnswer
+    ensures { λ r. ⌜ r ≡ M.writeAnswer B.u48 (now (b .entry)) (now (s .entry)) (now (out .entry)) ⌝ }
+    ensures { λ _. ⌜ now (out .exit) ≡ M.writeOut B.u48 (now (b .entry)) (now (s .entry)) (now (out .entry)) ⌝ }
+{
+    let mut dir: [u16; 384] = [0; 384];
+    if schema::judge_schema(b, &mut dir) {
+        return write_judged(b, &dir, s, out);
+    }
+    refused(1)
 }

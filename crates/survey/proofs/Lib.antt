@@ -1,0 +1,4 @@
+pub mod FlatCases
+pub mod ExtentCases
+pub mod PartCases
+pub mod ObjectCases

@@ -1,0 +1,79 @@
+use Prim.Native.Nat.{ℕ, _+_, _-_, _*_, _<_, _≤_}
+use mathlib.Core.Path.{_≡_}
+use native.Mathlib.Omega.{arith}
+use lib.ListN.{length, drop}
+use Rattle.coding.specs.Bytes.{u48}
+use Rattle.coding.specs.Packed as P
+use Rattle.coding.specs.Schema as Sc
+use Rattle.coding.specs.Layout as L
+use Rattle.layout.specs.Bounds.{Laid}
+use borrow.Author.Needs.{needs}
+use Rattle.survey.proofs.ExtentCases.{member-sound-of, fixed-start, fixed-done, fixed-turn, laid-next}
+use Rattle.survey.proofs.fixed_size.Statement.{statement}
+use Rattle.survey.proofs.fixed_size.Tie as tie
+use Rattle.survey.proofs.fixed_size.Reads as reads
+use Rattle.survey.proofs.fixed_size.Lts as lts
+use Rattle.layout.proofs.begin.Reads as begin-reads
+use Rattle.layout.proofs.place_member.Reads as place-member-reads
+use Rattle.schema.proofs.member.Reads as member-reads
+use Rattle.schema.proofs.member_count.Reads as member-count-reads
+
+abbrev Inv-loop : tie.InvT-loop
+Inv-loop b dir t count c₀ j₀ c j =
+    (j ≤ count) × Laid (4097 * j) c
+    × (L.afterMembers u48 (P.parse b) (Sc.tableOf (P.parse b) t .members) L.begin ≡ L.afterMembers u48 (P.parse b) (drop j (Sc.tableOf (P.parse b) t .members)) c)
+
+abbrev μ-loop : tie.MeasureT-loop
+μ-loop b dir t count c₀ j₀ c j = count - j
+
+-- src/lib.rt:393:9
+member-count-requires : tie.Need-member-count-requires Inv-loop μ-loop
+member-count-requires c κs = search needs
+
+-- src/lib.rt:394:9
+begin-requires : tie.Need-begin-requires Inv-loop μ-loop
+begin-requires c κs = search needs
+
+-- src/lib.rt:396:5
+loop-holds : tie.Need-loop-holds Inv-loop μ-loop
+loop-holds c = (search needs, search needs, search fixed-start)
+
+-- src/lib.rt:397:13
+member-requires : tie.Need-member-requires Inv-loop μ-loop
+member-requires c κs = search needs
+
+-- src/lib.rt:398:13
+place-member-requires : tie.Need-place-member-requires Inv-loop μ-loop
+place-member-requires c κs = search (member-sound-of, needs)
+
+-- src/lib.rt:400:9
+add-j : tie.Need-add-j Inv-loop μ-loop
+add-j c = search needs
+
+-- src/lib.rt:396:5
+loop-less : tie.Need-loop-less Inv-loop μ-loop
+loop-less c = search needs
+
+-- src/lib.rt:396:5
+loop-again : tie.Need-loop-again Inv-loop μ-loop
+loop-again c = (search needs, search laid-next, search fixed-turn)
+
+-- src/lib.rt:389:1
+returns : tie.Need-returns Inv-loop μ-loop
+returns c = (search fixed-done, search needs)
+
+pub fixed-size-spec : {M : Type 1} → statement M
+fixed-size-spec =
+    tie.close
+    (tie.spec
+    Inv-loop
+    μ-loop
+    member-count-requires
+    begin-requires
+    loop-holds
+    member-requires
+    place-member-requires
+    add-j
+    loop-less
+    loop-again
+    returns)

@@ -1,0 +1,666 @@
+// The survey of a value sheet, which the writer makes before it stores anything: whether the sheet is lawful, whether it can be
+// written, and what each object takes.
+use coding::Flat;
+use coding::Kind;
+use coding::Object;
+ghost use mathlib.Core.Path.{_≡_};
+ghost use mathlib.Core.Bool.{Bool, true, false, _&&_};
+ghost use Prim.Native.Nat.{ℕ, _+_, _-_, _*_, _%_, _<_, _≤_, _^_};
+ghost use lib.ListN.{length, take, drop, set, replicate};
+ghost use lib.Seq.{sets};
+ghost use Rattle.coding.specs.Bytes as B;
+ghost use Rattle.coding.specs.Bits.{bits, value, pack};
+ghost use Rattle.coding.specs.Packed as P;
+ghost use Rattle.coding.specs.Sheet as Sh;
+ghost use Rattle.coding.specs.Layout as L;
+ghost use Rattle.coding.specs.Lists.{pick};
+ghost use Rattle.coding.specs.Schema as Sc;
+ghost use Rattle.coding.specs.Step as T;
+ghost use lib.Dec.{ltb};
+ghost use Rattle.laws.specs.Sound.{FlatSound, ObjectSound, KindSound};
+ghost use Rattle.schema.specs.Directory.{Accepted};
+ghost use Rattle.survey.specs.Survey as Sv;
+ghost use Rattle.survey.specs.Surveyed.{TestedAt, Small, Fits, SurveyedAt};
+
+// What an object of the sheet takes: whether it can be written; the length that its header gives; the bytes of its content,
+// of the contents in place behind it, and of the objects that these refer to. The last two count to one past the size.
+pub struct Extent {
+    pub writable: bool,
+    pub length: usize,
+    pub width: usize,
+    pub chain: usize,
+    pub below: usize,
+}
+
+// ---- what leads to no object
+// Whether it is lawful; if so, whether it can be written, and where the sheet goes on, in bits.
+pub struct Tested {
+    pub whole: bool,
+    pub fine: bool,
+    pub next: usize,
+}
+
+fn not_lawful(pos: usize) -> Tested
+    ensures { λ r. ⌜ (r .whole ≡ false) × (r .next ≡ pos) ⌝ }
+{
+    Tested {
+        whole: false,
+        fine: false,
+        next: pos,
+    }
+}
+
+// The answer of a number that must pass a test.
+fn tested_if(whole: bool, ok: bool, answer: bool, next: usize) -> Tested
+    ensures { λ r. ⌜ (r .whole ≡ (whole && ok)) × (r .fine ≡ answer) × (r .next ≡ next) ⌝ }
+{
+    if whole {
+        return Tested {
+            whole: ok,
+            fine: answer,
+            next: next,
+        };
+    }
+    Tested {
+        whole: false,
+        fine: answer,
+        next: next,
+    }
+}
+
+fn is_nan(w: u8, x: u64) -> bool
+    ensures { λ r. ⌜ r ≡ B.isNaN w x ⌝ }
+{
+    if w == 4 {
+        return 0x7F80_0000 < x % 0x8000_0000;
+    }
+    0x7FF0_0000_0000_0000 < x % 0x8000_0000_0000_0000
+}
+
+fn float_fine(optional: bool, w: u8, x: u64) -> bool
+    ensures { λ r. ⌜ r ≡ Sv.floatFine optional w x ⌝ }
+{
+    if optional {
+        return !is_nan(w, x);
+    }
+    true
+}
+
+pub fn unknown_enum(n: u8, x: u64) -> bool
+    ensures { λ r. ⌜ r ≡ Sh.unknownEnum n x ⌝ }
+{
+    if wire::wide(n) <= x {
+        return x != 255;
+    }
+    false
+}
+
+// Any number of w bits.
+fn any_number(s: &[u8], pos: usize, w: usize) -> Tested
+    requires { ⌜ (length (now s) ≤ 16777215) × (pos ≤ 8 * length (now s)) × (w ≤ 64) ⌝ }
+    ensures { λ r. ⌜ TestedAt (now (s .entry)) (Sv.testNumber w Sv.anyNumber (drop pos (bits (now (s .entry))))) (r .whole) (r .fine) (r .next) ⌝ }
+{
+    let x = bitio::take_number(s, pos, w);
+    Tested {
+        whole: x.whole,
+        fine: true,
+        next: x.next,
+    }
+}
+
+fn float_number(s: &[u8], pos: usize, optional: bool, w: u8) -> Tested
+    requires { ⌜ (length (now s) ≤ 16777215) × (pos ≤ 8 * length (now s)) × (w ≤ 8) ⌝ }
+    ensures { λ r. ⌜ TestedAt (now (s .entry)) (Sv.testNumber (8 * w) (Sv.floatFine optional w) (drop pos (bits (now (s .entry))))) (r .whole) (r .fine) (r .next) ⌝ }
+{
+    let x = bitio::take_number(s, pos, 8 * wire::index(w));
+    let v = x.value;
+    Tested {
+        whole: x.whole,
+        fine: float_fine(optional, w, v),
+        next: x.next,
+    }
+}
+
+// An enum's number below its count.
+fn enum_known(s: &[u8], pos: usize, n: u8) -> Tested
+    requires { ⌜ (length (now s) ≤ 16777215) × (pos ≤ 8 * length (now s)) ⌝ }
+    ensures { λ r. ⌜ TestedAt (now (s .entry)) (Sv.testIf 8 (Sv.belowCount n) true (drop pos (bits (now (s .entry))))) (r .whole) (r .fine) (r .next) ⌝ }
+{
+    let x = bitio::take_number(s, pos, 8);
+    let ok = x.value < wire::wide(n);
+    tested_if(x.whole, ok, true, x.next)
+}
+
+// An enum's unknown number.
+fn enum_lost(s: &[u8], pos: usize, n: u8) -> Tested
+    requires { ⌜ (length (now s) ≤ 16777215) × (pos ≤ 8 * length (now s)) ⌝ }
+    ensures { λ r. ⌜ TestedAt (now (s .entry)) (Sv.testIf 8 (Sh.unknownEnum n) false (drop pos (bits (now (s .entry))))) (r .whole) (r .fine) (r .next) ⌝ }
+{
+    let x = bitio::take_number(s, pos, 8);
+    let v = x.value;
+    let ok = unknown_enum(n, v);
+    tested_if(x.whole, ok, false, x.next)
+}
+
+// A struct's enum, with its mark.
+fn enum_field(s: &[u8], pos: usize, n: u8) -> Tested
+    requires { ⌜ (length (now s) ≤ 16777215) × (pos ≤ 8 * length (now s)) ⌝ }
+    ensures { λ r. ⌜ TestedAt (now (s .entry)) (Sv.enumField n (drop pos (bits (now (s .entry))))) (r .whole) (r .fine) (r .next) ⌝ }
+{
+    let x = bitio::take_number(s, pos, 2);
+    if !x.whole {
+        return not_lawful(pos);
+    }
+    let mark = x.value;
+    let next = x.next;
+    if mark == 0 {
+        return Tested {
+            whole: true,
+            fine: true,
+            next: next,
+        };
+    }
+    if mark == 1 {
+        return enum_known(s, next, n);
+    }
+    if mark == 2 {
+        return enum_lost(s, next, n);
+    }
+    not_lawful(pos)
+}
+
+// ---- structs, by recursion on the struct index, which falls at every inner struct
+fn field_test(b: &[u8], dir: &[u16], s: &[u8], i: usize, k: Flat, pos: usize) -> Tested
+    requires { ⌜ (Accepted (now b) (now dir)) × (FlatSound i k) × (i < P.structCount (now b)) × (length (now s) ≤ 16777215) × (pos ≤ 8 * length (now s)) ⌝ }
+    ensures { λ r. ⌜ TestedAt (now (s .entry)) (Sv.surveyField (Sv.surveyStruct (P.parse (now (b .entry)))) k (drop pos (bits (now (s .entry))))) (r .whole) (r .fine) (r .next) ⌝ }
+{
+    match k {
+        Flat::Boolean => any_number(s, pos, 1),
+        Flat::Integer(_, w) => any_number(s, pos, 8 * wire::index(w)),
+        Flat::Float(w) => float_number(s, pos, false, w),
+        Flat::Enumerated(n) => enum_field(s, pos, n),
+        Flat::Struct(a) => struct_test(b, dir, s, wire::index(a), pos),
+    }
+}
+
+// Whether a struct has no unknown enum.
+fn struct_test(b: &[u8], dir: &[u16], s: &[u8], i: usize, at: usize) -> Tested
+    requires { ⌜ (Accepted (now b) (now dir)) × (i < P.structCount (now b)) × (length (now s) ≤ 16777215) × (at ≤ 8 * length (now s)) ⌝ }
+    ensures { λ r. ⌜ TestedAt (now (s .entry)) (Sv.surveyStruct (P.parse (now (b .entry))) i (drop at (bits (now (s .entry))))) (r .whole) (r .fine) (r .next) ⌝ }
+{
+    let n = schema::field_count(b, dir, i);
+    let mut pos = at;
+    let mut fine = true;
+    let mut j: usize = 0;
+    while j < n {
+        let k = schema::field(b, dir, i, j);
+        let t = field_test(b, dir, s, i, k, pos);
+        if !t.whole {
+            return not_lawful(at);
+        }
+        fine = both(fine, t.fine);
+        pos = t.next;
+        j += 1;
+    }
+    Tested {
+        whole: true,
+        fine: fine,
+        next: pos,
+    }
+}
+
+fn both(a: bool, b: bool) -> bool
+    ensures { λ r. ⌜ r ≡ (a && b) ⌝ }
+{
+    if a { b } else { false }
+}
+
+// What leads to no object, as a member or an element.
+fn flat_test(b: &[u8], dir: &[u16], s: &[u8], pos: usize, optional: bool, k: Flat) -> Tested
+    requires { ⌜ (Accepted (now b) (now dir)) × (FlatSound (length (P.parse (now b) .structs)) k) × (length (now s) ≤ 16777215) × (pos ≤ 8 * length (now s)) ⌝ }
+    ensures { λ r. ⌜ TestedAt (now (s .entry)) (Sv.surveyFlat (Sv.surveyStruct (P.parse (now (b .entry)))) optional k (drop pos (bits (now (s .entry))))) (r .whole) (r .fine) (r .next) ⌝ }
+{
+    match k {
+        Flat::Boolean => any_number(s, pos, 1),
+        Flat::Integer(_, w) => any_number(s, pos, 8 * wire::index(w)),
+        Flat::Float(w) => float_number(s, pos, optional, w),
+        Flat::Enumerated(n) => enum_known(s, pos, n),
+        Flat::Struct(a) => struct_test(b, dir, s, wire::index(a), pos),
+    }
+}
+
+// Its unknown number, of an enum only.
+fn flat_lost(s: &[u8], pos: usize, k: Flat) -> Tested
+    requires { ⌜ (length (now s) ≤ 16777215) × (pos ≤ 8 * length (now s)) ⌝ }
+    ensures { λ r. ⌜ TestedAt (now (s .entry)) (Sv.surveyLostFlat k (drop pos (bits (now (s .entry))))) (r .whole) (r .fine) (r .next) ⌝ }
+{
+    match k {
+        Flat::Boolean => not_lawful(pos),
+        Flat::Integer(_, _) => not_lawful(pos),
+        Flat::Float(_) => not_lawful(pos),
+        Flat::Enumerated(n) => enum_lost(s, pos, n),
+        Flat::Struct(_) => not_lawful(pos),
+    }
+}
+
+// A union's unknown choice.
+fn choice_lost(b: &[u8], dir: &[u16], s: &[u8], pos: usize, u: usize) -> Tested
+    requires { ⌜ (Accepted (now b) (now dir)) × (u < P.unionCount (now b)) × (length (now s) ≤ 16777215) × (pos ≤ 8 * length (now s)) ⌝ }
+    ensures { λ r. ⌜ TestedAt (now (s .entry)) (Sv.testIf 16 (Sv.aboveCount (length (Sc.casesOf (P.parse (now (b .entry))) u))) false (drop pos (bits (now (s .entry))))) (r .whole) (r .fine) (r .next) ⌝ }
+{
+    let n = schema::case_count(b, dir, u);
+    let x = bitio::take_number(s, pos, 16);
+    let ok = (n as u64) < x.value;
+    tested_if(x.whole, ok, false, x.next)
+}
+
+// ---- extents
+// Whether a part of the sheet is lawful; if so, what it takes, and where the sheet goes on, in bits.
+pub struct Surveyed {
+    pub whole: bool,
+    pub extent: Extent,
+    pub next: usize,
+}
+
+fn plain(fine: bool) -> Extent
+    ensures { λ r. ⌜ Fits (Sv.plain fine) r ⌝ }
+{
+    Extent {
+        writable: fine,
+        length: 0,
+        width: 0,
+        chain: 0,
+        below: 0,
+    }
+}
+
+fn opened(n: usize, w: usize) -> Extent
+    requires { ⌜ (n < 2 ^ 40) × (w < 2 ^ 48) ⌝ }
+    ensures { λ r. ⌜ Fits (Sv.opened n w) r ⌝ }
+{
+    Extent {
+        writable: true,
+        length: n,
+        width: w,
+        chain: 0,
+        below: 0,
+    }
+}
+
+fn unlawful(pos: usize) -> Surveyed
+    ensures { λ r. ⌜ (r .whole ≡ false) × (r .next ≡ pos) × Small (r .extent) ⌝ }
+{
+    Surveyed {
+        whole: false,
+        extent: plain(false),
+        next: pos,
+    }
+}
+
+fn plain_of(t: Tested) -> Surveyed
+    ensures { λ r. ⌜ (r .whole ≡ t .whole) × (r .next ≡ t .next) × Fits (Sv.plain (t .fine)) (r .extent) ⌝ }
+{
+    let whole = t.whole;
+    let next = t.next;
+    Surveyed {
+        whole: whole,
+        extent: plain(t.fine),
+        next: next,
+    }
+}
+
+// A count of bytes, to one past the size.
+pub fn capped(n: usize) -> usize
+    ensures { λ r. ⌜ (r ≡ Sv.capped n) × (r ≤ 16777216) ⌝ }
+{
+    if n <= 16777215 { n } else { 16777216 }
+}
+
+fn joined(a: Extent, e: Extent) -> Extent
+    requires { ⌜ Small a × Small e ⌝ }
+    ensures { λ r. ⌜ Fits (Sv.joined a e) r ⌝ }
+{
+    let length = a.length;
+    let width = a.width;
+    let chain = a.chain + e.chain;
+    let below = a.below + e.below;
+    Extent {
+        writable: both(a.writable, e.writable),
+        length: length,
+        width: width,
+        chain: capped(chain),
+        below: capped(below),
+    }
+}
+
+// In place: of some length, unless it may be of length 0.
+fn in_place_fine(may: bool, n: usize, fine: bool) -> bool
+    ensures { λ r. ⌜ r ≡ (pick may true (ltb 0 n) && fine) ⌝ }
+{
+    if may {
+        return fine;
+    }
+    if 0 < n { fine } else { false }
+}
+
+fn referred(inplace: bool, may: bool, e: Extent) -> Extent
+    requires { ⌜ Small e ⌝ }
+    ensures { λ r. ⌜ Fits (Sv.referred B.u48 inplace may e) r ⌝ }
+{
+    let fine = e.writable;
+    let below = e.below;
+    let size = e.width + e.chain;
+    if inplace {
+        return Extent {
+            writable: in_place_fine(may, e.length, fine),
+            length: 0,
+            width: 0,
+            chain: capped(size),
+            below: below,
+        };
+    }
+    Extent {
+        writable: fine,
+        length: 0,
+        width: 0,
+        chain: 0,
+        below: capped(10 + size + below),
+    }
+}
+
+// ---- sizes
+// The bytes of n elements of width w.
+fn times(w: usize, n: usize) -> usize
+    requires { ⌜ (w ≤ 4096) × (n < 2 ^ 32) ⌝ }
+    ensures { λ r. ⌜ (r ≡ w * n) × (r ≤ 4096 * 2 ^ 32) ⌝ }
+{
+    w * n
+}
+
+fn elements_size(b: &[u8], dir: &[u16], k: Kind, n: usize) -> usize
+    requires { ⌜ (Accepted (now b) (now dir)) × (KindSound (P.parse (now b)) k) × (n < 2 ^ 32) ⌝ }
+    ensures { λ r. ⌜ (r ≡ T.elementsSize B.u48 (P.parse (now (b .entry))) k n) × (r < 2 ^ 48) ⌝ }
+{
+    if layout::is_bool(k) {
+        return (n + 7) / 8;
+    }
+    times(layout::width(b, dir, k), n)
+}
+
+// A table's full fixed part.
+fn fixed_size(b: &[u8], dir: &[u16], t: usize) -> usize
+    requires { ⌜ (Accepted (now b) (now dir)) × (t < P.tableCount (now b)) ⌝ }
+    ensures { λ r. ⌜ (r ≡ L.fixedSize B.u48 (P.parse (now (b .entry))) (Sc.tableOf (P.parse (now (b .entry))) t .members)) × (r < 2 ^ 40) ⌝ }
+{
+    let count = schema::member_count(b, dir, t);
+    let mut c = layout::begin();
+    let mut j: usize = 0;
+    while j < count {
+        let r = schema::member(b, dir, t, j);
+        let q = layout::place_member(b, dir, r, c);
+        c = q.next;
+        j += 1;
+    }
+    c.end
+}
+
+// ---- members, elements and objects
+// Whether there may be no value.
+fn may_lack(optional: bool, k: Kind) -> bool
+    ensures { λ r. ⌜ r ≡ Sv.mayLack optional k ⌝ }
+{
+    match k {
+        Kind::OfFlat(f) => match f {
+            Flat::Boolean => optional,
+            Flat::Integer(_, _) => optional,
+            Flat::Float(_) => optional,
+            Flat::Enumerated(_) => true,
+            Flat::Struct(_) => optional,
+        },
+        Kind::OfObject(_) => true,
+        Kind::OfUnion(_) => true,
+    }
+}
+
+// Elements without a mark.
+pub fn bare(k: Kind) -> bool
+    ensures { λ r. ⌜ r ≡ Sh.bare k ⌝ }
+{
+    match k {
+        Kind::OfFlat(f) => match f {
+            Flat::Boolean => true,
+            Flat::Integer(_, _) => true,
+            Flat::Float(_) => false,
+            Flat::Enumerated(_) => false,
+            Flat::Struct(_) => false,
+        },
+        Kind::OfObject(_) => false,
+        Kind::OfUnion(_) => false,
+    }
+}
+
+// A text or bytes; a text has a byte more behind its own.
+fn blob(s: &[u8], pos: usize, more: usize) -> Surveyed
+    requires { ⌜ (length (now s) ≤ 16777215) × (pos ≤ 8 * length (now s)) × (more ≤ 1) ⌝ }
+    ensures { λ r. ⌜ SurveyedAt (now (s .entry)) (Sv.surveyBlob more (drop pos (bits (now (s .entry))))) (r .whole) (r .extent) (r .next) ⌝ }
+{
+    let x = bitio::take_number(s, pos, 32);
+    if !x.whole {
+        return unlawful(pos);
+    }
+    let n = x.value as usize;
+    let y = bitio::skip_bytes(s, x.next, n);
+    let whole = y.whole;
+    let next = y.next;
+    Surveyed {
+        whole: whole,
+        extent: opened(n, n + more),
+        next: next,
+    }
+}
+
+// No known value.
+fn lost(b: &[u8], dir: &[u16], s: &[u8], pos: usize, k: Kind) -> Surveyed
+    requires { ⌜ (Accepted (now b) (now dir)) × (KindSound (P.parse (now b)) k) × (length (now s) ≤ 16777215) × (pos ≤ 8 * length (now s)) ⌝ }
+    ensures { λ r. ⌜ SurveyedAt (now (s .entry)) (Sv.surveyLost (P.parse (now (b .entry))) k (drop pos (bits (now (s .entry))))) (r .whole) (r .extent) (r .next) ⌝ }
+{
+    match k {
+        Kind::OfFlat(f) => plain_of(flat_lost(s, pos, f)),
+        Kind::OfObject(_) => unlawful(pos),
+        Kind::OfUnion(u) => plain_of(choice_lost(b, dir, s, pos, wire::index(u))),
+    }
+}
+
+// An object that is referred to, or stands in place.
+fn refer(
+    b: &[u8],
+    dir: &[u16],
+    s: &[u8],
+    d: usize,
+    ob: Object,
+    inplace: bool,
+    may: bool,
+    pos: usize,
+) -> Surveyed
+    requires { ⌜ (Accepted (now b) (now dir)) × (ObjectSound (P.parse (now b)) ob) × (length (now s) ≤ 16777215) × (pos ≤ 8 * length (now s)) ⌝ }
+    ensures { λ r. ⌜ SurveyedAt (now (s .entry)) (Sv.surveyObject (Sv.survey d B.u48 (P.parse (now (b .entry)))) B.u48 inplace may ob (drop pos (bits (now (s .entry))))) (r .whole) (r .extent) (r .next) ⌝ }
+{
+    let x = object(b, dir, s, d, ob, pos);
+    let whole = x.whole;
+    let next = x.next;
+    Surveyed {
+        whole: whole,
+        extent: referred(inplace, may, x.extent),
+        next: next,
+    }
+}
+
+// A union's known choice.
+fn choice(
+    b: &[u8],
+    dir: &[u16],
+    s: &[u8],
+    d: usize,
+    u: usize,
+    inplace: bool,
+    pos: usize,
+) -> Surveyed
+    requires { ⌜ (Accepted (now b) (now dir)) × (u < P.unionCount (now b)) × (length (now s) ≤ 16777215) × (pos ≤ 8 * length (now s)) ⌝ }
+    ensures { λ r. ⌜ SurveyedAt (now (s .entry)) (Sv.surveyChoice (Sv.survey d B.u48 (P.parse (now (b .entry)))) B.u48 inplace (Sc.casesOf (P.parse (now (b .entry))) u) (drop pos (bits (now (s .entry))))) (r .whole) (r .extent) (r .next) ⌝ }
+{
+    let n = schema::case_count(b, dir, u);
+    let x = bitio::take_number(s, pos, 16);
+    if !x.whole {
+        return unlawful(pos);
+    }
+    let c = x.value as usize;
+    if c == 0 {
+        return unlawful(pos);
+    }
+    if n < c {
+        return unlawful(pos);
+    }
+    let ob = schema::union_case(b, dir, u, c);
+    refer(b, dir, s, d, ob, inplace, true, x.next)
+}
+
+// What is there.
+fn body(
+    b: &[u8],
+    dir: &[u16],
+    s: &[u8],
+    d: usize,
+    k: Kind,
+    optional: bool,
+    inplace: bool,
+    pos: usize,
+) -> Surveyed
+    requires { ⌜ (Accepted (now b) (now dir)) × (KindSound (P.parse (now b)) k) × (length (now s) ≤ 16777215) × (pos ≤ 8 * length (now s)) ⌝ }
+    ensures { λ r. ⌜ SurveyedAt (now (s .entry)) (Sv.surveyBody (Sv.survey d B.u48 (P.parse (now (b .entry)))) B.u48 (P.parse (now (b .entry))) k optional inplace (drop pos (bits (now (s .entry))))) (r .whole) (r .extent) (r .next) ⌝ }
+{
+    match k {
+        Kind::OfFlat(f) => plain_of(flat_test(b, dir, s, pos, optional, f)),
+        Kind::OfObject(ob) => refer(b, dir, s, d, ob, inplace, false, pos),
+        Kind::OfUnion(u) => choice(b, dir, s, d, wire::index(u), inplace, pos),
+    }
+}
+
+// A member or an element with its mark.
+fn part(
+    b: &[u8],
+    dir: &[u16],
+    s: &[u8],
+    d: usize,
+    k: Kind,
+    optional: bool,
+    inplace: bool,
+    pos: usize,
+) -> Surveyed
+    requires { ⌜ (Accepted (now b) (now dir)) × (KindSound (P.parse (now b)) k) × (length (now s) ≤ 16777215) × (pos ≤ 8 * length (now s)) ⌝ }
+    ensures { λ r. ⌜ SurveyedAt (now (s .entry)) (Sv.surveyPart (Sv.survey d B.u48 (P.parse (now (b .entry)))) B.u48 (P.parse (now (b .entry))) k optional inplace (drop pos (bits (now (s .entry))))) (r .whole) (r .extent) (r .next) ⌝ }
+{
+    let x = bitio::take_number(s, pos, 2);
+    if !x.whole {
+        return unlawful(pos);
+    }
+    let mark = x.value;
+    let next = x.next;
+    if mark == 0 {
+        return Surveyed {
+            whole: true,
+            extent: plain(may_lack(optional, k)),
+            next: next,
+        };
+    }
+    if mark == 1 {
+        return body(b, dir, s, d, k, optional, inplace, next);
+    }
+    if mark == 2 {
+        return lost(b, dir, s, next, k);
+    }
+    unlawful(pos)
+}
+
+fn element(b: &[u8], dir: &[u16], s: &[u8], d: usize, k: Kind, pos: usize) -> Surveyed
+    requires { ⌜ (Accepted (now b) (now dir)) × (KindSound (P.parse (now b)) k) × (length (now s) ≤ 16777215) × (pos ≤ 8 * length (now s)) ⌝ }
+    ensures { λ r. ⌜ SurveyedAt (now (s .entry)) (Sv.surveyElement (Sv.survey d B.u48 (P.parse (now (b .entry)))) B.u48 (P.parse (now (b .entry))) k (drop pos (bits (now (s .entry))))) (r .whole) (r .extent) (r .next) ⌝ }
+{
+    if bare(k) {
+        return body(b, dir, s, d, k, true, false, pos);
+    }
+    part(b, dir, s, d, k, true, false, pos)
+}
+
+// A table's content.
+fn table(b: &[u8], dir: &[u16], s: &[u8], d: usize, t: usize, at: usize) -> Surveyed
+    requires { ⌜ (Accepted (now b) (now dir)) × (t < P.tableCount (now b)) × (length (now s) ≤ 16777215) × (at ≤ 8 * length (now s)) ⌝ }
+    ensures { λ r. ⌜ SurveyedAt (now (s .entry)) (Sv.surveyContent (Sv.survey d B.u48 (P.parse (now (b .entry)))) B.u48 (P.parse (now (b .entry))) (Object.Table t) (drop at (bits (now (s .entry))))) (r .whole) (r .extent) (r .next) ⌝ }
+{
+    let count = schema::member_count(b, dir, t);
+    let size = fixed_size(b, dir, t);
+    let mut a = opened(size, size);
+    let mut pos = at;
+    let mut j: usize = 0;
+    while j < count {
+        let r = schema::member(b, dir, t, j);
+        let k = r.kind;
+        let x = part(b, dir, s, d, k, r.optional, r.inplace, pos);
+        if !x.whole {
+            return unlawful(at);
+        }
+        pos = x.next;
+        a = joined(a, x.extent);
+        j += 1;
+    }
+    Surveyed {
+        whole: true,
+        extent: a,
+        next: pos,
+    }
+}
+
+// A list's content.
+fn list(b: &[u8], dir: &[u16], s: &[u8], d: usize, i: usize, at: usize) -> Surveyed
+    requires { ⌜ (Accepted (now b) (now dir)) × (i < P.listCount (now b)) × (length (now s) ≤ 16777215) × (at ≤ 8 * length (now s)) ⌝ }
+    ensures { λ r. ⌜ SurveyedAt (now (s .entry)) (Sv.surveyContent (Sv.survey d B.u48 (P.parse (now (b .entry)))) B.u48 (P.parse (now (b .entry))) (Object.List i) (drop at (bits (now (s .entry))))) (r .whole) (r .extent) (r .next) ⌝ }
+{
+    let y = bitio::take_number(s, at, 32);
+    if !y.whole {
+        return unlawful(at);
+    }
+    let n = y.value as usize;
+    let k = schema::element(b, dir, i);
+    let mut a = opened(n, elements_size(b, dir, k, n));
+    let mut pos = y.next;
+    let mut j: usize = 0;
+    while j < n {
+        let x = element(b, dir, s, d, k, pos);
+        if !x.whole {
+            return unlawful(at);
+        }
+        pos = x.next;
+        a = joined(a, x.extent);
+        j += 1;
+    }
+    Surveyed {
+        whole: true,
+        extent: a,
+        next: pos,
+    }
+}
+
+// An object, d objects deep.
+pub fn object(b: &[u8], dir: &[u16], s: &[u8], d: usize, ob: Object, pos: usize) -> Surveyed
+    requires { ⌜ (Accepted (now b) (now dir)) × (ObjectSound (P.parse (now b)) ob) × (length (now s) ≤ 16777215) × (pos ≤ 8 * length (now s)) ⌝ }
+    ensures { λ r. ⌜ SurveyedAt (now (s .entry)) (Sv.survey d B.u48 (P.parse (now (b .entry))) ob (drop pos (bits (now (s .entry))))) (r .whole) (r .extent) (r .next) ⌝ }
+{
+    if d == 0 {
+        return unlawful(pos);
+    }
+    match ob {
+        Object::Text => blob(s, pos, 1),
+        Object::Bytes => blob(s, pos, 0),
+        Object::List(i) => list(b, dir, s, d - 1, wire::index(i), pos),
+        Object::Table(t) => table(b, dir, s, d - 1, wire::index(t), pos),
+    }
+}
