@@ -34,6 +34,9 @@ enum {
     SCALGO_CUT = 8,            /* a member cut by its table's end, or a flag without its value */
     SCALGO_UNION_OFFSET = 9,   /* a known union choice, not in place, with offset 0 */
     SCALGO_BYTE = 10,          /* a struct's boolean not 0 or 1, or a text's end byte not 0 */
+    SCALGO_SHEET = 11,         /* the sheet is not lawful, over 16,777,215 bytes, or deeper than 32 objects */
+    SCALGO_WRITABLE = 12,      /* the sheet is lawful but not writable */
+    SCALGO_WRITTEN_SIZE = 13,  /* the message would be over 16,777,215 bytes */
     SCALGO_ROOM = 14,          /* no room in the output, or a sheet over 16,777,215 bytes */
     SCALGO_PATH = 15           /* a path's step has no such part, or a path over 96 numbers */
 };
@@ -116,6 +119,16 @@ uint32_t scalgo_read(const uint8_t *schema, size_t schema_len,
                      const uint8_t *message, size_t message_len,
                      uint32_t budget, uint8_t *sheet, size_t room,
                      uint64_t *place, uint32_t *visits, uint64_t *length);
+
+/* Writes a value sheet as a message and answers 0, 1, 11, 12, 13 or 14.
+ *
+ * message, room: where the message goes. With a refusal it is unchanged; else its first *length
+ *         bytes are the message, and the bytes after them keep what they held.
+ * *length: the bytes of the message; 0 with a refusal.
+ */
+uint32_t scalgo_write(const uint8_t *schema, size_t schema_len,
+                      const uint8_t *sheet, size_t sheet_len,
+                      uint8_t *message, size_t room, uint64_t *length);
 
 #ifdef __cplusplus
 }

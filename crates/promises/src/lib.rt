@@ -7,15 +7,19 @@ use coding::Object;
 use coding::ReadAnswer;
 use coding::Span;
 use coding::Verdict;
+use coding::WriteAnswer;
 ghost use mathlib.Core.Path.{_≡_};
 ghost use mathlib.Core.List.{List, [], _∷_, _++_};
 ghost use mathlib.Core.Logic.{_↔_};
 ghost use mathlib.Core.Option.{some};
+ghost use mathlib.Core.Bool.{true};
 ghost use Prim.Native.Nat.{ℕ, _+_, _*_, _/_, _<_, _≤_};
 ghost use lib.ListN.{length, take, drop};
 ghost use Rattle.coding.specs.Append as Ap;
 ghost use Rattle.coding.specs.Bytes as B;
 ghost use Rattle.coding.specs.Field as F;
+ghost use Rattle.coding.specs.Lawful.{lawful};
+ghost use Rattle.coding.specs.Message as M;
 ghost use Rattle.coding.specs.Packed as P;
 ghost use Rattle.coding.specs.Read as Rd;
 ghost use Rattle.coding.specs.Sheet as S;
@@ -23,6 +27,7 @@ ghost use Rattle.coding.specs.Value.{Value};
 ghost use Rattle.demands.specs.Arrivals.{LawfulMessage, messageArrivals};
 ghost use Rattle.demands.specs.FieldEntries.{shown, textAt};
 ghost use Rattle.demands.specs.Fields.{sheetEntry};
+ghost use Rattle.demands.specs.RoundTrip.{enough};
 
 // "a message is accepted exactly when every object reached by its schema is lawful, within depth and budget"; and its visits are
 // then the arrivals, shared objects each time.
@@ -158,4 +163,80 @@ pub fn steps(schema: &[u8], message: &[u8], path: &[u32], from: usize, out: &mut
     ensures { λ r. ⌜ ((i at start n left : ℕ) → F.readerStart B.u48 (now (schema .entry)) (now (message .entry)) (now (path .entry)) ≡ Found.Object (Object.List i) at start n left → (r ≡ n) × ((k : ℕ) → k < length (now (out .entry)) / 4 → take 4 (drop (4 * k) (now (out .exit))) ≡ F.caseNumbers (F.answerCase (F.field B.u48 (now (schema .entry)) (now (message .entry)) (now (path .entry) ++ (from + k) ∷ []))))) ⌝ }
 {
     field::read_list(schema, message, path, from, out)
+}
+
+// "every writable sheet becomes the one message of the stated layout", within the size and given room.
+pub fn written(schema: &[u8], sheet: &[u8], out: &mut [u8]) -> WriteAnswer
+    ensures { λ r. ⌜ ((v : Value) → lawful (now (schema .entry)) ≡ true → S.sheetTree (P.parse (now (schema .entry))) (now (sheet .entry)) ≡ some v → M.writable B.deepest B.u48 (P.parse (now (schema .entry))) (Object.Table (P.parse (now (schema .entry)) .root)) v ≡ true → length (M.messageOf B.u48 (P.parse (now (schema .entry))) v) ≤ B.largest → length (M.messageOf B.u48 (P.parse (now (schema .entry))) v) ≤ length (now (out .entry)) → (r ≡ record { number = 0; length = length (M.messageOf B.u48 (P.parse (now (schema .entry))) v) }) × (now (out .exit) ≡ M.messageOf B.u48 (P.parse (now (schema .entry))) v ++ drop (length (M.messageOf B.u48 (P.parse (now (schema .entry))) v)) (now (out .entry)))) ⌝ }
+{
+    writer::write(schema, sheet, out)
+}
+
+// A message that was written, and what reading it gives.
+pub struct Trip {
+    pub written: WriteAnswer,
+    pub read: ReadAnswer,
+}
+
+// "reading that message with enough budget gives the same sheet"; with less the answer is 4, and the whole budget is spent.
+pub fn write_then_read(
+    schema: &[u8],
+    sheet: &[u8],
+    room: &mut [u8],
+    budget: Budget,
+    out: &mut [u8],
+) -> Trip
+    ensures same { λ r. ⌜ (r .written .number ≡ 0 → enough (now (schema .entry)) (now (sheet .entry)) ≤ budget .visits → length (now (sheet .entry)) ≤ length (now (out .entry)) → (r .read ≡ record { verdict = record { number = 0; place = 0; visits = enough (now (schema .entry)) (now (sheet .entry)) }; length = length (now (sheet .entry)) }) × (now (out .exit) ≡ now (sheet .entry) ++ drop (length (now (sheet .entry))) (now (out .entry)))) ⌝ }
+    ensures less { λ r. ⌜ (r .written .number ≡ 0 → budget .visits < enough (now (schema .entry)) (now (sheet .entry)) → (at : ℕ) × (r .read ≡ record { verdict = record { number = 4; place = at; visits = budget .visits }; length = 0 }) × (now (out .exit) ≡ now (out .entry))) ⌝ }
+{
+    let written = writer::write(schema, sheet, room);
+    let n = written.length;
+    let read = sheet::read(schema, &room[..n], budget, out);
+    Trip { written, read }
+}
+
+// "the newer's sheet is the older's with the added members, as bytes", given room, of a message that was written under the older.
+pub fn write_then_read_newer(
+    older: &[u8],
+    newer: &[u8],
+    sheet: &[u8],
+    room: &mut [u8],
+    budget: Budget,
+    out: &mut [u8],
+) -> Trip
+    ensures { λ r. ⌜ (Ap.Appends (now (older .entry)) (now (newer .entry)) → r .written .number ≡ 0 → enough (now (older .entry)) (now (sheet .entry)) ≤ budget .visits → (r .read .verdict .number ≡ 14 → ⊥) → (r .read .verdict .number ≡ 0) × (r .read .verdict .visits ≡ enough (now (older .entry)) (now (sheet .entry))) × (take (r .read .length) (now (out .exit)) ≡ Ap.sheetWith B.u48 (now (older .entry)) (now (newer .entry)) (now (sheet .entry)))) ⌝ }
+{
+    let written = writer::write(older, sheet, room);
+    let n = written.length;
+    let read = sheet::read(newer, &room[..n], budget, out);
+    Trip { written, read }
+}
+
+// A message that was written, and its verdicts by two schemas.
+pub struct Judgements {
+    pub written: WriteAnswer,
+    pub older: Verdict,
+    pub newer: Verdict,
+}
+
+// "whatever message the writer made under the older schema, the newer accepts with every budget with which the older does (and
+// gives the same visits)": the whole verdict is the same.
+pub fn write_then_judge(
+    older: &[u8],
+    newer: &[u8],
+    sheet: &[u8],
+    room: &mut [u8],
+    budget: Budget,
+) -> Judgements
+    ensures { λ r. ⌜ (Ap.Appends (now (older .entry)) (now (newer .entry)) → r .written .number ≡ 0 → r .newer ≡ r .older) ⌝ }
+{
+    let written = writer::write(older, sheet, room);
+    let n = written.length;
+    let by_older = judge::judge(older, &room[..n], budget);
+    let by_newer = judge::judge(newer, &room[..n], budget);
+    Judgements {
+        written,
+        older: by_older,
+        newer: by_newer,
+    }
 }

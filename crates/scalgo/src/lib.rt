@@ -111,3 +111,20 @@ pub extern "C" fn scalgo_read(
     *length = answer.length as u64;
     verdict.number as u32
 }
+
+// Writes a value sheet as a message: answers the number, and stores the message's length.
+#[no_mangle]
+pub extern "C" fn scalgo_write(
+    schema: &[u8],
+    sheet: &[u8],
+    message: &mut [u8],
+    length: &mut u64,
+) -> u32
+    ensures { λ r. ⌜ r ≡ M.writeAnswer B.u48 (now (schema .entry)) (now (sheet .entry)) (now (message .entry)) .number ⌝ }
+    ensures { λ _. ⌜ now (length .exit) ≡ M.writeAnswer B.u48 (now (schema .entry)) (now (sheet .entry)) (now (message .entry)) .length ⌝ }
+    ensures { λ _. ⌜ now (message .exit) ≡ M.writeOut B.u48 (now (schema .entry)) (now (sheet .entry)) (now (message .entry)) ⌝ }
+{
+    let answer = writer::write(schema, sheet, message);
+    *length = answer.length as u64;
+    answer.number as u32
+}

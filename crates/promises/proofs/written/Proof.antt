@@ -1,0 +1,16 @@
+use Rattle.promises.proofs.Trips.{lays-out}
+use borrow.Author.Needs.{needs}
+use Rattle.promises.proofs.written.Statement.{statement}
+use Rattle.promises.proofs.written.Tie as tie
+
+write-requires : tie.Need-write-requires
+write-requires c κs = search needs
+
+same-length : tie.Need-same-length
+same-length c = search needs
+
+returns : tie.Need-returns
+returns c = lays-out _ _ _ _ (c .before .before .write .ensures .0) _ (c .before .before .write .ensures .1)
+
+pub written-spec : {M : Type 1} → statement M
+written-spec = tie.close (tie.spec write-requires same-length returns)
