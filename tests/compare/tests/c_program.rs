@@ -14,15 +14,6 @@ fn archive() -> String {
     archive.display().to_string()
 }
 
-/// What the program must print.
-fn expected() -> String {
-    let all = include_str!("../c/every_call.txt").to_string();
-    if cfg!(feature = "write") {
-        return all + include_str!("../c/every_call_writes.txt");
-    }
-    all
-}
-
 /// "The archive has no data of its own and calls only `memset`."
 #[test]
 fn what_the_archive_needs() {
@@ -52,9 +43,6 @@ fn every_call_from_c() {
     let program = concat!(env!("CARGO_TARGET_TMPDIR"), "/every_call");
     let mut compiler = Command::new("cc");
     compiler.args(["-std=c99", "-Wall", "-Wextra", "-Werror", "-pedantic"]);
-    if cfg!(feature = "write") {
-        compiler.arg("-DWITH_WRITE");
-    }
     let archive = archive();
     let compiled = compiler.args([include, source, &archive, "-o", program]);
     let compiled = compiled.output().expect("cc runs");
@@ -63,5 +51,5 @@ fn every_call_from_c() {
     let run = Command::new(program).output().expect("the program runs");
     assert!(run.status.success() && run.stderr.is_empty());
     let printed = String::from_utf8(run.stdout).expect("plain letters");
-    assert_eq!(printed, expected());
+    assert_eq!(printed, include_str!("../c/every_call.txt"));
 }
