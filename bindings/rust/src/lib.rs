@@ -49,7 +49,6 @@ mod field;
 mod judge;
 mod list;
 mod read;
-#[cfg(feature = "write")]
 mod write;
 
 pub use answer::Answer;
@@ -57,5 +56,4 @@ pub use field::{field, text};
 pub use judge::{judge, Verdict};
 pub use list::{list, List};
 pub use read::{read, ReadAnswer};
-#[cfg(feature = "write")]
 pub use write::{write, WriteAnswer};

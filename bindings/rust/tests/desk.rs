@@ -78,7 +78,6 @@ fn reading_to_a_sheet() {
     assert!(!folder.join("read").exists());
 }
 
-#[cfg(feature = "write")]
 #[test]
 fn writing_a_message() {
     let folder = folder("messages");

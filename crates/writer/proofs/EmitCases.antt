@@ -1,14 +1,14 @@
 -- The ways out of the pass over what leads to no object: numbers, enums, runs of bytes, and what stands for no value.
-use mathlib.Core.Path.{_≡_, refl, sym, ap, ap₂, _∙_, subst}
+use mathlib.Core.Path.{_≡_, refl, sym, ap, _∙_, subst}
 use mathlib.Core.Bool.{Bool, true, false, not, false≢true}
 use mathlib.Core.List.{List, [], _∷_}
-use Prim.Native.Nat.{ℕ, zero, suc, _+_, _-_, _*_, _^_, _<_, _≤_}
+use Prim.Native.Nat.{ℕ, _+_, _*_, _^_, _<_, _≤_}
 use native.Mathlib.Omega.{arith}
 use lib.ListN.{length, take, drop, length-drop}
-use lib.Dec.{ltb, leb, eqb}
+use lib.Dec.{leb, eqb}
 use borrow.Author.Tests.{eq-eqb, ne-eqb, lt-ltb, le-ltb, leb-true, not-true, not-false}
 use Rattle.coding.specs.Lists.{pick}
-use Rattle.coding.specs.Bytes.{u48, noFloat}
+use Rattle.coding.specs.Bytes.{u48, leBytes, noFloat}
 use Rattle.coding.specs.Bits.{bits, value, pack}
 use Rattle.coding.specs.Schema as Sc
 use Rattle.coding.specs.Schema.{Schema}
@@ -411,12 +411,14 @@ module _ (S : Schema) (k : Kind) (c r : Places) (o o₁ : List ℕ) where
   unfolding lack
   lacks-flat f e u = rw e u
 
-  pub lacks-object : (ob : Object) → k ≡ OfObject ob → HeldOk c → Stood 6 (putBytes (zeros 6) (stateOf c o)) (stateOf r o₁) c r → Lacks (lack u48 S k (stateOf c o)) (stateOf r o₁) c r
-  unfolding lack u48
+  pub lacks-object : (ob : Object) → k ≡ OfObject ob → HeldOk c → Stood 6 (putNumber 6 0 (stateOf c o)) (stateOf r o₁) c r
+      → Lacks (lack u48 S k (stateOf c o)) (stateOf r o₁) c r
+  unfolding lack u48 putNumber leBytes
   lacks-object ob e ok u = rw e (stood-lacks 6 (omega arith) _ _ c r ok u)
 
-  pub lacks-union : (i : ℕ) → k ≡ OfUnion i → HeldOk c → Stood 8 (putBytes (zeros 8) (stateOf c o)) (stateOf r o₁) c r → Lacks (lack u48 S k (stateOf c o)) (stateOf r o₁) c r
-  unfolding lack u48
+  pub lacks-union : (i : ℕ) → k ≡ OfUnion i → HeldOk c → Stood 8 (putNumber 8 0 (stateOf c o)) (stateOf r o₁) c r
+      → Lacks (lack u48 S k (stateOf c o)) (stateOf r o₁) c r
+  unfolding lack u48 putNumber leBytes
   lacks-union i e ok u = rw e (stood-lacks 8 (omega arith) _ _ c r ok u)
 
 -- ---- unknown numbers, passed over

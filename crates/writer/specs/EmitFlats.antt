@@ -31,7 +31,7 @@ pub put-none : (st : State) → putBytes [] st ≡ st
 unfolding putBytes
 put-none st = ap (λ (n : ℕ). record { at = n; last = st .last; free = st .free; held = st .held; tail = st .tail; next = st .next; out = st .out }) (add-zero (st .at))
 
-sets-append : (m : List ℕ) (p : ℕ) (a b : List ℕ) → sets m p (a ++ b) ≡ sets (sets m p a) (p + length a) b
+pub sets-append : (m : List ℕ) (p : ℕ) (a b : List ℕ) → sets m p (a ++ b) ≡ sets (sets m p a) (p + length a) b
 sets-append m p [] b = ap (λ (n : ℕ). sets m n b) (sym (add-zero p))
 sets-append m p (x ∷ a) b =
     let e : suc p + length a ≡ p + suc (length a) = omega arith in

@@ -56,8 +56,8 @@ fn store_byte(out: &mut [u8], i: usize, x: u8)
     }
 }
 
-// The w bytes of a number, lowest first.
-fn store_number(out: &mut [u8], at: usize, w: usize, x: u64)
+// The w bytes of a number, lowest first, a byte a turn.
+fn store_each(out: &mut [u8], at: usize, w: usize, x: u64)
     requires { ⌜ (at < 2 ^ 61) × (w ≤ 8) ⌝ }
     ensures { λ _. ⌜ now (out .exit) ≡ sets (now (out .entry)) at (B.leBytes w x) ⌝ }
 {
@@ -72,7 +72,75 @@ fn store_number(out: &mut [u8], at: usize, w: usize, x: u64)
     }
 }
 
-fn store_zeros(out: &mut [u8], at: usize, n: usize)
+// Bytes of a number that all stand in the buffer. In this form the compiler makes one store of them.
+fn store_two(out: &mut [u8], at: usize, x: u64)
+    requires { ⌜ (at < 2 ^ 63) × (at + 2 ≤ length (now out)) ⌝ }
+    ensures { λ _. ⌜ now (out .exit) ≡ sets (now (out .entry)) at (B.leBytes 2 x) ⌝ }
+{
+    let low = low_byte(x);
+    let high = low_byte(x >> 8);
+    out[at] = low;
+    out[at + 1] = high;
+}
+
+fn store_four(out: &mut [u8], at: usize, x: u64)
+    requires { ⌜ (at < 2 ^ 62) × (at + 4 ≤ length (now out)) ⌝ }
+    ensures { λ _. ⌜ now (out .exit) ≡ sets (now (out .entry)) at (B.leBytes 4 x) ⌝ }
+{
+    store_two(out, at, x);
+    store_two(out, at + 2, x >> 16);
+}
+
+fn store_six(out: &mut [u8], at: usize, x: u64)
+    requires { ⌜ (at < 2 ^ 61) × (at + 6 ≤ length (now out)) ⌝ }
+    ensures { λ _. ⌜ now (out .exit) ≡ sets (now (out .entry)) at (B.leBytes 6 x) ⌝ }
+{
+    store_four(out, at, x);
+    store_two(out, at + 4, x >> 32);
+}
+
+fn store_eight(out: &mut [u8], at: usize, x: u64)
+    requires { ⌜ (at < 2 ^ 61) × (at + 8 ≤ length (now out)) ⌝ }
+    ensures { λ _. ⌜ now (out .exit) ≡ sets (now (out .entry)) at (B.leBytes 8 x) ⌝ }
+{
+    store_four(out, at, x);
+    store_four(out, at + 4, x >> 32);
+}
+
+// The w bytes of a number, lowest first.
+fn store_number(out: &mut [u8], at: usize, w: usize, x: u64)
+    requires { ⌜ (at < 2 ^ 61) × (w ≤ 8) ⌝ }
+    ensures { λ _. ⌜ now (out .exit) ≡ sets (now (out .entry)) at (B.leBytes w x) ⌝ }
+{
+    if out.len() < at + w {
+        store_each(out, at, w, x);
+        return;
+    }
+    if w == 8 {
+        store_eight(out, at, x);
+        return;
+    }
+    if w == 6 {
+        store_six(out, at, x);
+        return;
+    }
+    if w == 4 {
+        store_four(out, at, x);
+        return;
+    }
+    if w == 2 {
+        store_two(out, at, x);
+        return;
+    }
+    if w == 1 {
+        store_byte(out, at, low_byte(x));
+        return;
+    }
+    store_each(out, at, w, x);
+}
+
+// n zero bytes, a byte a turn.
+fn zeros_each(out: &mut [u8], at: usize, n: usize)
     requires { ⌜ (at < 2 ^ 61) × (n < 2 ^ 40) ⌝ }
     ensures { λ _. ⌜ now (out .exit) ≡ sets (now (out .entry)) at (replicate n 0) ⌝ }
 {
@@ -85,6 +153,30 @@ fn store_zeros(out: &mut [u8], at: usize, n: usize)
     }
 }
 
+// Zero bytes, as many as dst has.
+fn clear(dst: &mut [u8])
+    ensures { λ _. ⌜ now (dst .exit) ≡ replicate (length (now (dst .entry))) 0 ⌝ }
+{
+    let mut j = 0;
+    while j < dst.len() {
+        dst[j] = 0;
+        j += 1;
+    }
+}
+
+// n zero bytes.
+fn store_zeros(out: &mut [u8], at: usize, n: usize)
+    requires { ⌜ (at < 2 ^ 61) × (n < 2 ^ 40) ⌝ }
+    ensures { λ _. ⌜ now (out .exit) ≡ sets (now (out .entry)) at (replicate n 0) ⌝ }
+{
+    let end = at + n;
+    if out.len() < end {
+        zeros_each(out, at, n);
+        return;
+    }
+    clear(&mut out[at..end]);
+}
+
 // The byte of the sheet at a bit.
 fn sheet_byte(s: &[u8], pos: usize) -> u8
     requires { ⌜ (length (now s) ≤ 16777215) × (pos + 8 ≤ 8 * length (now s)) ⌝ }
@@ -93,8 +185,8 @@ fn sheet_byte(s: &[u8], pos: usize) -> u8
     bitio::get(s, pos, 8) as u8
 }
 
-// n bytes of the sheet.
-fn store_copy(s: &[u8], pos: usize, out: &mut [u8], at: usize, n: usize)
+// n bytes of the sheet, a byte a turn.
+fn copy_each(s: &[u8], pos: usize, out: &mut [u8], at: usize, n: usize)
     requires { ⌜ (length (now s) ≤ 16777215) × (pos + 8 * n ≤ 8 * length (now s)) × (at < 2 ^ 61) ⌝ }
     ensures { λ _. ⌜ now (out .exit) ≡ sets (now (out .entry)) at (pack n (drop pos (bits (now (s .entry))))) ⌝ }
 {
@@ -107,6 +199,19 @@ fn store_copy(s: &[u8], pos: usize, out: &mut [u8], at: usize, n: usize)
         i += 1;
         left -= 1;
     }
+}
+
+// n bytes of the sheet.
+fn store_copy(s: &[u8], pos: usize, out: &mut [u8], at: usize, n: usize)
+    requires { ⌜ (length (now s) ≤ 16777215) × (pos + 8 * n ≤ 8 * length (now s)) × (at < 2 ^ 61) ⌝ }
+    ensures { λ _. ⌜ now (out .exit) ≡ sets (now (out .entry)) at (pack n (drop pos (bits (now (s .entry))))) ⌝ }
+{
+    let end = at + n;
+    if out.len() < end {
+        copy_each(s, pos, out, at, n);
+        return;
+    }
+    bitio::get_bytes(s, pos, &mut out[at..end]);
 }
 
 // A bit at its place in a bool byte.
@@ -510,8 +615,8 @@ fn lack(b: &[u8], dir: &[u16], out: &mut [u8], k: Kind, c: Places) -> Places
 {
     match k {
         Kind::OfFlat(f) => lack_flat(b, dir, out, f, c),
-        Kind::OfObject(_) => put_zeros(out, c, 6),
-        Kind::OfUnion(_) => put_zeros(out, c, 8),
+        Kind::OfObject(_) => put_number(out, c, 6, 0),
+        Kind::OfUnion(_) => put_number(out, c, 8, 0),
     }
 }
 

@@ -2,7 +2,7 @@
 
 use crate::cases::{self, Case};
 use crate::message::{Message, LIST_MAGIC};
-use crate::schema::{plain, Record, Schema, Table, LIST, TABLE, TEXT, U16};
+use crate::schema::{plain, Record, Schema, Table, LIST, TABLE, TEXT, U16, U64};
 use std::cell::RefCell;
 use std::hint::black_box;
 
@@ -50,14 +50,12 @@ pub const TASKS: &[fn() -> Task] = &[
     || read(cases::every_kind()),
     || read(cases::numbers("(d) a list of 1,000,000 U64", 1_000_000)),
     || read(cases::tables()),
-    #[cfg(feature = "write")]
+    || read(deep_numbers()),
     || write(cases::texts()),
-    #[cfg(feature = "write")]
     || write(cases::every_kind()),
-    #[cfg(feature = "write")]
     || write(cases::numbers("(d) a list of 1,000,000 U64", 1_000_000)),
-    #[cfg(feature = "write")]
     || write(cases::tables()),
+    || write(deep_numbers()),
 ];
 
 /// Enough of a sum to tell outputs apart; the timed calls do not take it.
@@ -111,6 +109,35 @@ fn nested() -> (Schema, Vec<u8>) {
         }
     }
     (schema, message.finish())
+}
+
+/// Tables, each in the one before, and a list of numbers in the last, at depth 32.
+fn deep_numbers() -> Case {
+    const NUMBERS: usize = 20_000;
+    let schema = Schema {
+        lists: vec![plain(U64)],
+        tables: vec![Table::new(1, &[plain(TABLE), Record::of(LIST, 0)])],
+        ..Schema::default()
+    };
+    let mut message = Message::new();
+    for depth in 1..32 {
+        message.header(1, 12);
+        match depth {
+            31 => {
+                message.zeros(6);
+                message.refer_behind();
+            }
+            _ => {
+                message.u48(message.end() + 12);
+                message.zeros(6);
+            }
+        }
+    }
+    message.header(LIST_MAGIC, NUMBERS);
+    for number in 0..NUMBERS as u64 {
+        message.put(&number.to_le_bytes());
+    }
+    Case::accepted("20,000 U64 at depth 32", &schema, message.finish(), 32)
 }
 
 /// One field: both must give the number expected of it.
@@ -236,7 +263,6 @@ fn read(case: Case) -> Task {
 }
 
 /// A sheet to its message, outputs as in `read`.
-#[cfg(feature = "write")]
 fn write(case: Case) -> Task {
     const ROOM: usize = 16_777_215;
     let (_, sheet) = reference::read(&case.schema, &case.message, case.budget, ROOM);

@@ -143,7 +143,6 @@ static void reads(void) {
     read_with(1, 12);
 }
 
-#ifdef WITH_WRITE
 static void write_with(const uint8_t *sheet, size_t sheet_len, size_t room) {
     uint8_t bytes[43];
     uint64_t length = 99;
@@ -163,15 +162,12 @@ static void writes(void) {
     /* Both members absent, but the number may not be. */
     write_with(sheet + 1, 1, 43);
 }
-#endif
 
 int main(void) {
     judges();
     fields();
     lists();
     reads();
-#ifdef WITH_WRITE
     writes();
-#endif
     return 0;
 }

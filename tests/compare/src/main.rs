@@ -9,7 +9,7 @@
 //! `compare cases FOLDER` writes the stored cases into the folder of their
 //! crate, and `compare names` says what each of them is.
 
-use compare::calls::{fields, reads, LibraryCalls, SecondCalls};
+use compare::calls::{fields, reads, writes, LibraryCalls, SecondCalls};
 use compare::counts::Counts;
 use compare::judging;
 use compare::laws::{self, Programs};
@@ -67,8 +67,7 @@ fn run_calls(arguments: &[String]) -> Result<String, String> {
     let counts = match arguments[0].as_str() {
         "fields" => fields::run(&LibraryCalls, &SecondCalls, seed, calls)?,
         "reads" => reads::run(&LibraryCalls, &SecondCalls, seed, calls)?,
-        #[cfg(feature = "write")]
-        "writes" => compare::calls::writes::run(&LibraryCalls, &SecondCalls, seed, calls)?,
+        "writes" => writes::run(&LibraryCalls, &SecondCalls, seed, calls)?,
         _ => return Err(USAGE.to_string()),
     };
     Ok(counts.to_string())
@@ -83,14 +82,13 @@ fn run_all(arguments: &[String]) -> Result<String, String> {
         program: &Library,
         relations: &Second,
     };
-    let mut seen = vec![
+    let seen = [
         judging::run(&Library, &Second, seed, calls)?.to_string(),
         fields::run(&LibraryCalls, &SecondCalls, seed, calls)?.to_string(),
         reads::run(&LibraryCalls, &SecondCalls, seed, calls)?.to_string(),
+        writes::run(&LibraryCalls, &SecondCalls, seed, calls)?.to_string(),
+        laws::run(&programs, seed, calls / 10)?.to_string(),
     ];
-    #[cfg(feature = "write")]
-    seen.push(compare::calls::writes::run(&LibraryCalls, &SecondCalls, seed, calls)?.to_string());
-    seen.push(laws::run(&programs, seed, calls / 10)?.to_string());
     Ok(seen.join("\n"))
 }
 

@@ -145,19 +145,11 @@ impl Program for Library {
         (verdict, sheet)
     }
 
-    #[cfg(feature = "write")]
     fn write(&self, schema: &[u8], sheet: &[u8], room: usize) -> (u32, Vec<u8>) {
         with_room(room, |message| {
             let answer = scalgo::write(schema, sheet, message);
             (answer.number, answer.length)
         })
-    }
-
-    /// The archive has no writer yet, so that the second program writes what
-    /// the library is to read.
-    #[cfg(not(feature = "write"))]
-    fn write(&self, schema: &[u8], sheet: &[u8], room: usize) -> (u32, Vec<u8>) {
-        Second.write(schema, sheet, room)
     }
 
     fn field(&self, schema: &[u8], message: &[u8], path: &[u32]) -> Answer {

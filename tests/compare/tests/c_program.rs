@@ -14,13 +14,26 @@ fn archive() -> String {
     archive.display().to_string()
 }
 
-/// What the program must print.
-fn expected() -> String {
-    let all = include_str!("../c/every_call.txt").to_string();
-    if cfg!(feature = "write") {
-        return all + include_str!("../c/every_call_writes.txt");
+/// "The archive has no data of its own and calls only `memset`."
+#[test]
+fn what_the_archive_needs() {
+    let listed = Command::new("nm").arg(archive()).output();
+    let listed = listed.expect("nm runs");
+    assert!(listed.status.success());
+    let listed = String::from_utf8(listed.stdout).expect("plain letters");
+    let mut needed = Vec::new();
+    for line in listed.lines() {
+        let mut words = line.split_whitespace().rev();
+        let (name, sort) = (words.next(), words.next());
+        match (name, sort) {
+            (Some(name), Some("U")) => needed.push(name),
+            (Some(name), Some("T")) => assert!(name.starts_with("scalgo_"), "{name}"),
+            // Local functions and constants; neither can be written to.
+            (_, None | Some("t" | "r")) => {}
+            (name, sort) => panic!("{name:?} is of sort {sort:?}"),
+        }
     }
-    all
+    assert_eq!(needed, ["memset"]);
 }
 
 #[test]
@@ -30,9 +43,6 @@ fn every_call_from_c() {
     let program = concat!(env!("CARGO_TARGET_TMPDIR"), "/every_call");
     let mut compiler = Command::new("cc");
     compiler.args(["-std=c99", "-Wall", "-Wextra", "-Werror", "-pedantic"]);
-    if cfg!(feature = "write") {
-        compiler.arg("-DWITH_WRITE");
-    }
     let archive = archive();
     let compiled = compiler.args([include, source, &archive, "-o", program]);
     let compiled = compiled.output().expect("cc runs");
@@ -41,5 +51,5 @@ fn every_call_from_c() {
     let run = Command::new(program).output().expect("the program runs");
     assert!(run.status.success() && run.stderr.is_empty());
     let printed = String::from_utf8(run.stdout).expect("plain letters");
-    assert_eq!(printed, expected());
+    assert_eq!(printed, include_str!("../c/every_call.txt"));
 }

@@ -4,7 +4,7 @@
 //! A longer run: `compare all --cases 10000000 --seed S`, or `fields`, `reads`
 //! or `writes` alone.
 
-use compare::calls::{fields, reads, LibraryCalls, SecondCalls};
+use compare::calls::{fields, reads, writes, LibraryCalls, SecondCalls};
 use compare::counts::Counts;
 
 /// What a run did not reach often enough.
@@ -155,7 +155,6 @@ fn reading_to_a_sheet() {
     reached(outcome, &READS);
 }
 
-#[cfg(feature = "write")]
 const WRITES: [(&str, u64); 24] = [
     ("sheets of a writable value, answer 0", 8000),
     ("sheets of any value, answer 0", 5000),
@@ -183,10 +182,8 @@ const WRITES: [(&str, u64); 24] = [
     ("round trips", 20_000),
 ];
 
-#[cfg(feature = "write")]
 #[test]
 fn writing_a_message() {
-    use compare::calls::writes;
     let outcome = writes::run(&LibraryCalls, &SecondCalls, 1, 400_000);
     reached(outcome, &WRITES);
 }

@@ -151,7 +151,6 @@ fn a_long_list() {
     }
 }
 
-#[cfg(feature = "write")]
 mod writing {
     use super::*;
     use compare::calls::Writes;
@@ -168,21 +167,21 @@ mod writing {
         (given[0], given[1] as usize)
     }
 
+    /// Bools are a sixteenth of what fits, for the time that they take.
     #[test]
     fn full_lists_of_every_plain_kind() {
-        for (kind, bits) in [(BOOL, 1), (1, 8), (2, 16), (3, 32), (4, 64), (8, 64)] {
+        let kinds = [(1, 8), (2, 16), (3, 32), (4, 64), (8, 64), (BOOL, 1)];
+        for (kind, bits) in kinds {
             let mut schema = root_with(Record::plain(LIST, 0));
             schema.lists = vec![Record::plain(kind, 0)];
-            let most = 8 * CONTENT / bits;
+            let most = 8 * CONTENT / bits / if kind == BOOL { 16 } else { 1 };
             let message = filled(&schema, Value::List(Vec::new()), most);
             let mut sheet = vec![0; SIZE_LIMIT];
             let packed = schema.pack();
             let [_, _, _, length] = SecondCalls.read(&packed, &message, 2, &mut sheet);
             let bytes = &sheet[..length as usize];
             let used = 36 + (most * bits).div_ceil(8) as usize;
-            for room in [used, SIZE_LIMIT, SIZE_LIMIT + 100] {
-                assert_eq!(write(&schema, bytes, room), (0, used), "kind {kind}");
-            }
+            assert_eq!(write(&schema, bytes, used), (0, used), "kind {kind}");
             assert_eq!(write(&schema, bytes, used - 1), (14, 0));
         }
     }

@@ -151,7 +151,6 @@ fn second_program_writes_the_table_s_message() {
     writes_the_table_s_message(&Second);
 }
 
-#[cfg(feature = "write")]
 #[test]
 fn library_writes_the_table_s_message() {
     writes_the_table_s_message(&Library);

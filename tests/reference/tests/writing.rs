@@ -3,7 +3,7 @@
 mod common;
 
 use common::*;
-use reference::{judge, read, write};
+use reference::{judge, lawful, read, write};
 
 /// Writes a sheet, and reads the message back to the same sheet.
 fn written(schema: &[u8], sheet: &Sheet) -> Vec<u8> {
@@ -501,4 +501,59 @@ fn refusal_12_unknown_marks() {
     let schema = with_members(&[enumeration(4), enumeration(4)]);
     let sheet = Sheet::new().unknown(4, 8).unknown(3, 8);
     assert_eq!(number(&schema, &sheet), 11);
+}
+
+/// A table that holds itself in one way: by what a sheet has at each level, and
+/// the objects of a level.
+fn levels(schema: &[u8], level: &dyn Fn(Sheet) -> Sheet, objects: u32, more: u32) -> Vec<u8> {
+    assert!(lawful(schema));
+    let mut sheet = Sheet::new();
+    for _ in 0..(31 + more) / objects {
+        sheet = level(sheet);
+    }
+    sheet.absent().done()
+}
+
+/// "Depth: 32 objects, the root being 1; following a reference or entering
+/// in-place content adds 1." Over it a sheet is not lawful.
+#[test]
+fn the_depth_of_a_sheet_by_every_way_down() {
+    let schema = |member, element| {
+        Parts {
+            lists: vec![element],
+            unions: vec![vec![table(0)]],
+            tables: vec![(ID, vec![member])],
+            ..Parts::default()
+        }
+        .pack()
+    };
+    let reference = |sheet: Sheet| sheet.here();
+    let choice = |sheet: Sheet| sheet.here().put(1, 16);
+    for (member, level) in [
+        (table(0), &reference as &dyn Fn(Sheet) -> Sheet),
+        (in_place(table(0)), &reference),
+        (union(0), &choice),
+        (in_place(union(0)), &choice),
+    ] {
+        let schema = schema(member, U8);
+        let (number, message) = write(&schema, &levels(&schema, level, 1, 0), usize::MAX);
+        assert_eq!(number, 0);
+        assert_eq!(judge(&schema, &message, 32), verdict(0, 0, 32));
+        let deeper = levels(&schema, level, 1, 1);
+        assert_eq!(write(&schema, &deeper, usize::MAX), (11, Vec::new()));
+    }
+    // A list and its one element at each level: 31 objects, then 33.
+    let element = |sheet: Sheet| sheet.here().put(1, 32).here();
+    let union_element = |sheet: Sheet| sheet.here().put(1, 32).here().put(1, 16);
+    for (kind, level) in [
+        (table(0), &element as &dyn Fn(Sheet) -> Sheet),
+        (union(0), &union_element),
+    ] {
+        let schema = schema(list(0), kind);
+        let (number, message) = write(&schema, &levels(&schema, level, 2, 0), usize::MAX);
+        assert_eq!(number, 0);
+        assert_eq!(judge(&schema, &message, 31), verdict(0, 0, 31));
+        let deeper = levels(&schema, level, 2, 1);
+        assert_eq!(write(&schema, &deeper, usize::MAX), (11, Vec::new()));
+    }
 }

@@ -49,7 +49,6 @@ fn run(words: &[&str]) -> Result<String, String> {
             Ok(list(&schema, &message, &path))
         }
         ["read", schema, message, sheet] => read(&load(schema)?, &load(message)?, sheet),
-        #[cfg(feature = "write")]
         ["write", schema, sheet, message] => write(&load(schema)?, &load(sheet)?, message),
         _ => Err(USAGE.to_string()),
     }
@@ -82,7 +81,6 @@ fn read(schema: &[u8], message: &[u8], file: &str) -> Result<String, String> {
     Ok(format!("{number} {place} {visits} {}\n", answer.length))
 }
 
-#[cfg(feature = "write")]
 fn write(schema: &[u8], sheet: &[u8], file: &str) -> Result<String, String> {
     let mut message = vec![0; SIZE];
     let answer = scalgo::write(schema, sheet, &mut message);

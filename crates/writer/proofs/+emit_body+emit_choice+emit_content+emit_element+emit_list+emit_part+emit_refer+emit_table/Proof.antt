@@ -187,223 +187,223 @@ emit-refer-R t = (object-reads.Asked, object-reads.Learnt, not-lawful-reads.Aske
 abbrev emit-table-R : ℕ → emit-table-lts.Claims
 emit-table-R t = (member-count-reads.Asked, member-count-reads.Learnt, member-reads.Asked, member-reads.Learnt, emit-part-below t, emit-part.Post, not-lawful-reads.Asked, not-lawful-reads.Learnt, stored-reads.Asked, stored-reads.Learnt)
 
--- src/lib.rt:772:22
+-- src/lib.rt:848:22
 emit-body-enum-known-k : (t : ℕ) → emit-body-lts.Need-enum-known-k (emit-body-R t) (emit-body-at t) emit-body.Post
 emit-body-enum-known-k t c = search needs
 
--- src/lib.rt:772:28
+-- src/lib.rt:848:28
 emit-body-emit-flat-requires : (t : ℕ) → emit-body-lts.Need-emit-flat-requires (emit-body-R t) (emit-body-at t) emit-body.Post
 emit-body-emit-flat-requires t c κs = search (kind-flat, needs)
 
--- src/lib.rt:773:24
+-- src/lib.rt:849:24
 emit-body-enum-known-k-2 : (t : ℕ) → emit-body-lts.Need-enum-known-k-2 (emit-body-R t) (emit-body-at t) emit-body.Post
 emit-body-enum-known-k-2 t c = search needs
 
--- src/lib.rt:773:31
+-- src/lib.rt:849:31
 emit-body-emit-refer-requires : (t : ℕ) → emit-body-lts.Need-emit-refer-requires (emit-body-R t) (emit-body-at t) emit-body.Post
 emit-body-emit-refer-requires t c κs = search (kind-object, needs)
 
--- src/lib.rt:774:23
+-- src/lib.rt:850:23
 emit-body-enum-known-k-3 : (t : ℕ) → emit-body-lts.Need-enum-known-k-3 (emit-body-R t) (emit-body-at t) emit-body.Post
 emit-body-enum-known-k-3 t c = search needs
 
--- src/lib.rt:774:60
+-- src/lib.rt:850:60
 emit-body-index-requires : (t : ℕ) → emit-body-lts.Need-index-requires (emit-body-R t) (emit-body-at t) emit-body.Post
 emit-body-index-requires t c κs = search needs
 
--- src/lib.rt:774:29
+-- src/lib.rt:850:29
 emit-body-emit-choice-requires : (t : ℕ) → emit-body-lts.Need-emit-choice-requires (emit-body-R t) (emit-body-at t) emit-body.Post
 emit-body-emit-choice-requires t c κs = search (union-counted, needs)
 
--- src/lib.rt:756:1
+-- src/lib.rt:832:1
 emit-body-same-length : (t : ℕ) → emit-body-lts.Need-same-length (emit-body-R t) (emit-body-at t) emit-body.Post
 emit-body-same-length t c = search needs
 
--- src/lib.rt:756:1
+-- src/lib.rt:832:1
 emit-body-returns : (t : ℕ) → emit-body-lts.Need-returns (emit-body-R t) (emit-body-at t) emit-body.Post
 emit-body-returns t c = search body-flat
 
--- src/lib.rt:756:1
+-- src/lib.rt:832:1
 emit-body-same-length-2 : (t : ℕ) → emit-body-lts.Need-same-length-2 (emit-body-R t) (emit-body-at t) emit-body.Post
 emit-body-same-length-2 t c = search needs
 
--- src/lib.rt:756:1
+-- src/lib.rt:832:1
 emit-body-returns-2 : (t : ℕ) → emit-body-lts.Need-returns-2 (emit-body-R t) (emit-body-at t) emit-body.Post
 emit-body-returns-2 t c = search body-object
 
--- src/lib.rt:756:1
+-- src/lib.rt:832:1
 emit-body-same-length-3 : (t : ℕ) → emit-body-lts.Need-same-length-3 (emit-body-R t) (emit-body-at t) emit-body.Post
 emit-body-same-length-3 t c = search needs
 
--- src/lib.rt:756:1
+-- src/lib.rt:832:1
 emit-body-returns-3 : (t : ℕ) → emit-body-lts.Need-returns-3 (emit-body-R t) (emit-body-at t) emit-body.Post
 emit-body-returns-3 t c = search body-union
 
--- src/lib.rt:737:9
+-- src/lib.rt:813:9
 emit-choice-case-count-requires : (t : ℕ) → emit-choice-lts.Need-case-count-requires (emit-choice-R t) (emit-choice-at t) emit-choice.Post
 emit-choice-case-count-requires t c κs = search needs
 
--- src/lib.rt:738:9
+-- src/lib.rt:814:9
 emit-choice-take-number-requires : (t : ℕ) → emit-choice-lts.Need-take-number-requires (emit-choice-R t) (emit-choice-at t) emit-choice.Post
 emit-choice-take-number-requires t c κs = search needs
 
--- src/lib.rt:740:9
+-- src/lib.rt:816:9
 emit-choice-not-lawful-requires : (t : ℕ) → emit-choice-lts.Need-not-lawful-requires (emit-choice-R t) (emit-choice-at t) emit-choice.Post
 emit-choice-not-lawful-requires t c κs = search needs
 
--- src/lib.rt:740:9
+-- src/lib.rt:816:9
 emit-choice-returns : (t : ℕ) → emit-choice-lts.Need-returns (emit-choice-R t) (emit-choice-at t) emit-choice.Post
 emit-choice-returns t c = search choice-cut
 
--- src/lib.rt:744:9
+-- src/lib.rt:820:9
 emit-choice-not-lawful-requires-2 : (t : ℕ) → emit-choice-lts.Need-not-lawful-requires-2 (emit-choice-R t) (emit-choice-at t) emit-choice.Post
 emit-choice-not-lawful-requires-2 t c κs = search needs
 
--- src/lib.rt:744:9
+-- src/lib.rt:820:9
 emit-choice-returns-2 : (t : ℕ) → emit-choice-lts.Need-returns-2 (emit-choice-R t) (emit-choice-at t) emit-choice.Post
 emit-choice-returns-2 t c = search choice-zero
 
--- src/lib.rt:747:9
+-- src/lib.rt:823:9
 emit-choice-not-lawful-requires-3 : (t : ℕ) → emit-choice-lts.Need-not-lawful-requires-3 (emit-choice-R t) (emit-choice-at t) emit-choice.Post
 emit-choice-not-lawful-requires-3 t c κs = search needs
 
--- src/lib.rt:747:9
+-- src/lib.rt:823:9
 emit-choice-returns-3 : (t : ℕ) → emit-choice-lts.Need-returns-3 (emit-choice-R t) (emit-choice-at t) emit-choice.Post
 emit-choice-returns-3 t c = search choice-above
 
--- src/lib.rt:749:9
+-- src/lib.rt:825:9
 emit-choice-union-case-requires : (t : ℕ) → emit-choice-lts.Need-union-case-requires (emit-choice-R t) (emit-choice-at t) emit-choice.Post
 emit-choice-union-case-requires t c κs = search needs
 
--- src/lib.rt:751:9
+-- src/lib.rt:827:9
 emit-choice-put-number-requires : (t : ℕ) → emit-choice-lts.Need-put-number-requires (emit-choice-R t) (emit-choice-at t) emit-choice.Post
 emit-choice-put-number-requires t c κs = search (room-below, needs)
 
--- src/lib.rt:752:5
+-- src/lib.rt:828:5
 emit-choice-emit-refer-requires : (t : ℕ) → emit-choice-lts.Need-emit-refer-requires (emit-choice-R t) (emit-choice-at t) emit-choice.Post
 emit-choice-emit-refer-requires t c κs = (omega arith, ((c .before .before .before .before .before .before .before .before .before .before .before .before .before .before .before .before .pre .1 .0 .0, search (case-sound, c .before .before .before .before .before .before .before .before .before .before .before .before .before .before .before .before .pre .1 .0 .0, c .before .before .before .before .before .before .before .if2 .left, c .before .before .before .before .before .before .before .before .before .before .before .case-count .ensures .0, c .before .before .before .before .before .before .if3 .left, c .before .before .before .before .before .union-case .ensures)), search (room-choice, c .before .before .before .before .before .before .before .before .before .before .before .before .before .before .before .before .pre .1 .1, c .before .before .before .before .before .before .before .before .before .before .take-number .ensures, c .before .before .before .before .before .before .before .before .if1 .left, c .before .before .before .put-number .ensures)))
 
--- src/lib.rt:722:1
+-- src/lib.rt:798:1
 emit-choice-same-length : (t : ℕ) → emit-choice-lts.Need-same-length (emit-choice-R t) (emit-choice-at t) emit-choice.Post
 emit-choice-same-length t c = search needs
 
--- src/lib.rt:722:1
+-- src/lib.rt:798:1
 emit-choice-returns-4 : (t : ℕ) → emit-choice-lts.Need-returns-4 (emit-choice-R t) (emit-choice-at t) emit-choice.Post
 emit-choice-returns-4 t c = search (choice-known, c .before .before .before .before .before .before .before .before .before .before .before .before .before .before .before .before .before .before .before .pre .1 .1, c .before .before .before .before .before .before .before .before .before .before .before .before .before .take-number .ensures, c .before .before .before .before .before .before .before .before .before .before .before .if1 .left, c .before .before .before .before .before .before .before .before .before .before .if2 .left, c .before .before .before .before .before .before .before .before .before .before .before .before .before .before .case-count .ensures .0, c .before .before .before .before .before .before .before .before .before .if3 .left, c .before .before .before .before .before .before .before .before .union-case .ensures, c .before .before .before .before .before .before .put-number .ensures, c .before .before .emit-refer .ensures)
 
--- src/lib.rt:924:9
+-- src/lib.rt:1000:9
 emit-content-not-lawful-requires : (t : ℕ) → emit-content-lts.Need-not-lawful-requires (emit-content-R t) (emit-content-at t) emit-content.Post
 emit-content-not-lawful-requires t c κs = search needs
 
--- src/lib.rt:924:9
+-- src/lib.rt:1000:9
 emit-content-returns : (t : ℕ) → emit-content-lts.Need-returns (emit-content-R t) (emit-content-at t) emit-content.Post
 emit-content-returns t c = search content-deep
 
--- src/lib.rt:927:38
+-- src/lib.rt:1003:38
 emit-content-enum-told : (t : ℕ) → emit-content-lts.Need-enum-told (emit-content-R t) (emit-content-at t) emit-content.Post
 emit-content-enum-told t c = search needs
 
--- src/lib.rt:927:25
+-- src/lib.rt:1003:25
 emit-content-emit-text-requires : (t : ℕ) → emit-content-lts.Need-emit-text-requires (emit-content-R t) (emit-content-at t) emit-content.Post
 emit-content-emit-text-requires t c κs = search needs
 
--- src/lib.rt:928:40
+-- src/lib.rt:1004:40
 emit-content-enum-told-2 : (t : ℕ) → emit-content-lts.Need-enum-told-2 (emit-content-R t) (emit-content-at t) emit-content.Post
 emit-content-enum-told-2 t c = search needs
 
--- src/lib.rt:928:26
+-- src/lib.rt:1004:26
 emit-content-emit-bytes-requires : (t : ℕ) → emit-content-lts.Need-emit-bytes-requires (emit-content-R t) (emit-content-at t) emit-content.Post
 emit-content-emit-bytes-requires t c κs = search needs
 
--- src/lib.rt:929:22
+-- src/lib.rt:1005:22
 emit-content-enum-known-ob : (t : ℕ) → emit-content-lts.Need-enum-known-ob (emit-content-R t) (emit-content-at t) emit-content.Post
 emit-content-enum-known-ob t c = search needs
 
--- src/lib.rt:929:54
+-- src/lib.rt:1005:54
 emit-content-sub-emit-list : (t : ℕ) → emit-content-lts.Need-sub-emit-list (emit-content-R t) (emit-content-at t) emit-content.Post
 emit-content-sub-emit-list t c = search needs
 
--- src/lib.rt:929:61
+-- src/lib.rt:1005:61
 emit-content-index-requires : (t : ℕ) → emit-content-lts.Need-index-requires (emit-content-R t) (emit-content-at t) emit-content.Post
 emit-content-index-requires t c κs = search needs
 
--- src/lib.rt:929:28
+-- src/lib.rt:1005:28
 emit-content-emit-list-requires : (t : ℕ) → emit-content-lts.Need-emit-list-requires (emit-content-R t) (emit-content-at t) emit-content.Post
 emit-content-emit-list-requires t c κs = search (list-counted, needs)
 
--- src/lib.rt:930:23
+-- src/lib.rt:1006:23
 emit-content-enum-known-ob-2 : (t : ℕ) → emit-content-lts.Need-enum-known-ob-2 (emit-content-R t) (emit-content-at t) emit-content.Post
 emit-content-enum-known-ob-2 t c = search needs
 
--- src/lib.rt:930:56
+-- src/lib.rt:1006:56
 emit-content-sub-emit-table : (t : ℕ) → emit-content-lts.Need-sub-emit-table (emit-content-R t) (emit-content-at t) emit-content.Post
 emit-content-sub-emit-table t c = search needs
 
--- src/lib.rt:930:63
+-- src/lib.rt:1006:63
 emit-content-index-requires-2 : (t : ℕ) → emit-content-lts.Need-index-requires-2 (emit-content-R t) (emit-content-at t) emit-content.Post
 emit-content-index-requires-2 t c κs = search needs
 
--- src/lib.rt:930:29
+-- src/lib.rt:1006:29
 emit-content-emit-table-requires : (t : ℕ) → emit-content-lts.Need-emit-table-requires (emit-content-R t) (emit-content-at t) emit-content.Post
 emit-content-emit-table-requires t c κs = search (table-counted, needs)
 
--- src/lib.rt:909:1
+-- src/lib.rt:985:1
 emit-content-same-length : (t : ℕ) → emit-content-lts.Need-same-length (emit-content-R t) (emit-content-at t) emit-content.Post
 emit-content-same-length t c = search needs
 
--- src/lib.rt:909:1
+-- src/lib.rt:985:1
 emit-content-returns-2 : (t : ℕ) → emit-content-lts.Need-returns-2 (emit-content-R t) (emit-content-at t) emit-content.Post
 emit-content-returns-2 t c = search content-text
 
--- src/lib.rt:909:1
+-- src/lib.rt:985:1
 emit-content-same-length-2 : (t : ℕ) → emit-content-lts.Need-same-length-2 (emit-content-R t) (emit-content-at t) emit-content.Post
 emit-content-same-length-2 t c = search needs
 
--- src/lib.rt:909:1
+-- src/lib.rt:985:1
 emit-content-returns-3 : (t : ℕ) → emit-content-lts.Need-returns-3 (emit-content-R t) (emit-content-at t) emit-content.Post
 emit-content-returns-3 t c = search content-bytes
 
--- src/lib.rt:909:1
+-- src/lib.rt:985:1
 emit-content-same-length-3 : (t : ℕ) → emit-content-lts.Need-same-length-3 (emit-content-R t) (emit-content-at t) emit-content.Post
 emit-content-same-length-3 t c = search needs
 
--- src/lib.rt:909:1
+-- src/lib.rt:985:1
 emit-content-returns-4 : (t : ℕ) → emit-content-lts.Need-returns-4 (emit-content-R t) (emit-content-at t) emit-content.Post
 emit-content-returns-4 t c = search content-list
 
--- src/lib.rt:909:1
+-- src/lib.rt:985:1
 emit-content-same-length-4 : (t : ℕ) → emit-content-lts.Need-same-length-4 (emit-content-R t) (emit-content-at t) emit-content.Post
 emit-content-same-length-4 t c = search needs
 
--- src/lib.rt:909:1
+-- src/lib.rt:985:1
 emit-content-returns-5 : (t : ℕ) → emit-content-lts.Need-returns-5 (emit-content-R t) (emit-content-at t) emit-content.Post
 emit-content-returns-5 t c = search content-table
 
--- src/lib.rt:829:8
+-- src/lib.rt:905:8
 emit-element-bare-requires : (t : ℕ) → emit-element-lts.Need-bare-requires (emit-element-R t) (emit-element-at t) emit-element.Post
 emit-element-bare-requires t c κs = search needs
 
--- src/lib.rt:830:9
+-- src/lib.rt:906:9
 emit-element-emit-body-requires : (t : ℕ) → emit-element-lts.Need-emit-body-requires (emit-element-R t) (emit-element-at t) emit-element.Post
 emit-element-emit-body-requires t c κs = search needs
 
--- src/lib.rt:830:9
+-- src/lib.rt:906:9
 emit-element-same-length : (t : ℕ) → emit-element-lts.Need-same-length (emit-element-R t) (emit-element-at t) emit-element.Post
 emit-element-same-length t c = search needs
 
--- src/lib.rt:830:9
+-- src/lib.rt:906:9
 emit-element-returns : (t : ℕ) → emit-element-lts.Need-returns (emit-element-R t) (emit-element-at t) emit-element.Post
 emit-element-returns t c = search element-bare
 
--- src/lib.rt:837:5
+-- src/lib.rt:913:5
 emit-element-emit-part-requires : (t : ℕ) → emit-element-lts.Need-emit-part-requires (emit-element-R t) (emit-element-at t) emit-element.Post
 emit-element-emit-part-requires t c κs = search needs
 
--- src/lib.rt:815:1
+-- src/lib.rt:891:1
 emit-element-same-length-2 : (t : ℕ) → emit-element-lts.Need-same-length-2 (emit-element-R t) (emit-element-at t) emit-element.Post
 emit-element-same-length-2 t c = search needs
 
--- src/lib.rt:815:1
+-- src/lib.rt:891:1
 emit-element-returns-2 : (t : ℕ) → emit-element-lts.Need-returns-2 (emit-element-R t) (emit-element-at t) emit-element.Post
 emit-element-returns-2 t c = search element-marked
 
@@ -415,183 +415,183 @@ emit-list-Inv-loop b dir s out₀ d i c pos n k p₀ at₀ j₀ out p at j =
 abbrev emit-list-μ-loop : emit-list-lts.MeasureT-loop
 emit-list-μ-loop b dir s out₀ d i c pos n k p₀ at₀ j₀ out p at j = n - j
 
--- src/lib.rt:887:9
+-- src/lib.rt:963:9
 emit-list-take-number-requires : (t : ℕ) → emit-list-lts.Need-take-number-requires (emit-list-R t) (emit-list-at t) emit-list.Post emit-list-Inv-loop emit-list-μ-loop
 emit-list-take-number-requires t c κs = search needs
 
--- src/lib.rt:889:9
+-- src/lib.rt:965:9
 emit-list-not-lawful-requires : (t : ℕ) → emit-list-lts.Need-not-lawful-requires (emit-list-R t) (emit-list-at t) emit-list.Post emit-list-Inv-loop emit-list-μ-loop
 emit-list-not-lawful-requires t c κs = search needs
 
--- src/lib.rt:889:9
+-- src/lib.rt:965:9
 emit-list-returns : (t : ℕ) → emit-list-lts.Need-returns (emit-list-R t) (emit-list-at t) emit-list.Post emit-list-Inv-loop emit-list-μ-loop
 emit-list-returns t c = search elements-cut
 
--- src/lib.rt:892:9
+-- src/lib.rt:968:9
 emit-list-element-requires : (t : ℕ) → emit-list-lts.Need-element-requires (emit-list-R t) (emit-list-at t) emit-list.Post emit-list-Inv-loop emit-list-μ-loop
 emit-list-element-requires t c κs = search needs
 
--- src/lib.rt:896:5
+-- src/lib.rt:972:5
 emit-list-loop-holds : (t : ℕ) → emit-list-lts.Need-loop-holds (emit-list-R t) (emit-list-at t) emit-list.Post emit-list-Inv-loop emit-list-μ-loop
 emit-list-loop-holds t c = (search needs, search needs, search needs, search needs, search room-taken, search taken-on, search elements-start)
 
--- src/lib.rt:897:13
+-- src/lib.rt:973:13
 emit-list-emit-element-requires : (t : ℕ) → emit-list-lts.Need-emit-element-requires (emit-list-R t) (emit-list-at t) emit-list.Post emit-list-Inv-loop emit-list-μ-loop
 emit-list-emit-element-requires t c κs = search (element-sound, needs)
 
--- src/lib.rt:899:13
+-- src/lib.rt:975:13
 emit-list-not-lawful-requires-2 : (t : ℕ) → emit-list-lts.Need-not-lawful-requires-2 (emit-list-R t) (emit-list-at t) emit-list.Post emit-list-Inv-loop emit-list-μ-loop
 emit-list-not-lawful-requires-2 t c κs = search needs
 
--- src/lib.rt:899:13
+-- src/lib.rt:975:13
 emit-list-same-length : (t : ℕ) → emit-list-lts.Need-same-length (emit-list-R t) (emit-list-at t) emit-list.Post emit-list-Inv-loop emit-list-μ-loop
 emit-list-same-length t c = search needs
 
--- src/lib.rt:899:13
+-- src/lib.rt:975:13
 emit-list-returns-2 : (t : ℕ) → emit-list-lts.Need-returns-2 (emit-list-R t) (emit-list-at t) emit-list.Post emit-list-Inv-loop emit-list-μ-loop
 emit-list-returns-2 t c = search elements-stopped
 
--- src/lib.rt:903:9
+-- src/lib.rt:979:9
 emit-list-add-j : (t : ℕ) → emit-list-lts.Need-add-j (emit-list-R t) (emit-list-at t) emit-list.Post emit-list-Inv-loop emit-list-μ-loop
 emit-list-add-j t c = search needs
 
--- src/lib.rt:896:5
+-- src/lib.rt:972:5
 emit-list-loop-less : (t : ℕ) → emit-list-lts.Need-loop-less (emit-list-R t) (emit-list-at t) emit-list.Post emit-list-Inv-loop emit-list-μ-loop
 emit-list-loop-less t c = search needs
 
--- src/lib.rt:896:5
+-- src/lib.rt:972:5
 emit-list-loop-again : (t : ℕ) → emit-list-lts.Need-loop-again (emit-list-R t) (emit-list-at t) emit-list.Post emit-list-Inv-loop emit-list-μ-loop
 emit-list-loop-again t c = (search needs, search needs, search needs, search needs, search room-part, search needs, search elements-turn)
 
--- src/lib.rt:905:5
+-- src/lib.rt:981:5
 emit-list-stored-requires : (t : ℕ) → emit-list-lts.Need-stored-requires (emit-list-R t) (emit-list-at t) emit-list.Post emit-list-Inv-loop emit-list-μ-loop
 emit-list-stored-requires t c κs = search needs
 
--- src/lib.rt:873:1
+-- src/lib.rt:949:1
 emit-list-same-length-2 : (t : ℕ) → emit-list-lts.Need-same-length-2 (emit-list-R t) (emit-list-at t) emit-list.Post emit-list-Inv-loop emit-list-μ-loop
 emit-list-same-length-2 t c = search needs
 
--- src/lib.rt:873:1
+-- src/lib.rt:949:1
 emit-list-returns-3 : (t : ℕ) → emit-list-lts.Need-returns-3 (emit-list-R t) (emit-list-at t) emit-list.Post emit-list-Inv-loop emit-list-μ-loop
 emit-list-returns-3 t c = search elements-done
 
--- src/lib.rt:793:9
+-- src/lib.rt:869:9
 emit-part-take-number-requires : (t : ℕ) → emit-part-lts.Need-take-number-requires (emit-part-R t) (emit-part-at t) emit-part.Post
 emit-part-take-number-requires t c κs = search needs
 
--- src/lib.rt:795:9
+-- src/lib.rt:871:9
 emit-part-not-lawful-requires : (t : ℕ) → emit-part-lts.Need-not-lawful-requires (emit-part-R t) (emit-part-at t) emit-part.Post
 emit-part-not-lawful-requires t c κs = search needs
 
--- src/lib.rt:795:9
+-- src/lib.rt:871:9
 emit-part-returns : (t : ℕ) → emit-part-lts.Need-returns (emit-part-R t) (emit-part-at t) emit-part.Post
 emit-part-returns t c = search part-cut
 
--- src/lib.rt:801:13
+-- src/lib.rt:877:13
 emit-part-flag-requires : (t : ℕ) → emit-part-lts.Need-flag-requires (emit-part-R t) (emit-part-at t) emit-part.Post
 emit-part-flag-requires t c κs = search (room-below, needs)
 
--- src/lib.rt:802:9
+-- src/lib.rt:878:9
 emit-part-emit-body-requires : (t : ℕ) → emit-part-lts.Need-emit-body-requires (emit-part-R t) (emit-part-at t) emit-part.Post
 emit-part-emit-body-requires t c κs = search (room-flag, needs)
 
--- src/lib.rt:802:9
+-- src/lib.rt:878:9
 emit-part-same-length : (t : ℕ) → emit-part-lts.Need-same-length (emit-part-R t) (emit-part-at t) emit-part.Post
 emit-part-same-length t c = search needs
 
--- src/lib.rt:802:9
+-- src/lib.rt:878:9
 emit-part-returns-2 : (t : ℕ) → emit-part-lts.Need-returns-2 (emit-part-R t) (emit-part-at t) emit-part.Post
 emit-part-returns-2 t c = search (part-there, c .before .before .before .before .before .before .before .before .before .before .before .before .before .before .before .before .pre .1 .1, c .before .before .before .before .before .before .before .before .before .before .before .take-number .ensures, c .before .before .before .before .before .before .before .before .before .if1 .left, c .before .before .before .before .before .before .before .before .if2 .taken, c .before .before .before .before .before .before .flag .ensures, c .before .before .emit-body .ensures)
 
--- src/lib.rt:805:9
+-- src/lib.rt:881:9
 emit-part-not-lawful-requires-2 : (t : ℕ) → emit-part-lts.Need-not-lawful-requires-2 (emit-part-R t) (emit-part-at t) emit-part.Post
 emit-part-not-lawful-requires-2 t c κs = search needs
 
--- src/lib.rt:805:9
+-- src/lib.rt:881:9
 emit-part-returns-3 : (t : ℕ) → emit-part-lts.Need-returns-3 (emit-part-R t) (emit-part-at t) emit-part.Post
 emit-part-returns-3 t c = search part-bad
 
--- src/lib.rt:807:9
+-- src/lib.rt:883:9
 emit-part-flag-requires-2 : (t : ℕ) → emit-part-lts.Need-flag-requires-2 (emit-part-R t) (emit-part-at t) emit-part.Post
 emit-part-flag-requires-2 t c κs = search (room-below, needs)
 
--- src/lib.rt:808:9
+-- src/lib.rt:884:9
 emit-part-lack-requires : (t : ℕ) → emit-part-lts.Need-lack-requires (emit-part-R t) (emit-part-at t) emit-part.Post
 emit-part-lack-requires t c κs = search needs
 
--- src/lib.rt:810:9
+-- src/lib.rt:886:9
 emit-part-stored-requires : (t : ℕ) → emit-part-lts.Need-stored-requires (emit-part-R t) (emit-part-at t) emit-part.Post
 emit-part-stored-requires t c κs = search needs
 
--- src/lib.rt:810:9
+-- src/lib.rt:886:9
 emit-part-same-length-2 : (t : ℕ) → emit-part-lts.Need-same-length-2 (emit-part-R t) (emit-part-at t) emit-part.Post
 emit-part-same-length-2 t c = search needs
 
--- src/lib.rt:810:9
+-- src/lib.rt:886:9
 emit-part-returns-4 : (t : ℕ) → emit-part-lts.Need-returns-4 (emit-part-R t) (emit-part-at t) emit-part.Post
 emit-part-returns-4 t c = search (part-none, c .before .before .before .before .before .before .before .before .before .before .before .before .before .before .before .before .before .before .before .pre .1 .1, c .before .before .before .before .before .before .before .before .before .before .before .before .before .before .take-number .ensures, c .before .before .before .before .before .before .before .before .before .before .before .before .if1 .left, c .before .before .before .before .before .before .before .before .before .before .before .if2 .left, c .before .before .before .before .before .before .before .before .before .before .if3 .left, c .before .before .before .before .before .before .before .before .flag2 .ensures, c .before .before .before .before .lack .ensures, c .before .if4 .taken, c .stored .ensures .0, c .stored .ensures .1, c .stored .ensures .2)
 
--- src/lib.rt:812:5
+-- src/lib.rt:888:5
 emit-part-pass-requires : (t : ℕ) → emit-part-lts.Need-pass-requires (emit-part-R t) (emit-part-at t) emit-part.Post
 emit-part-pass-requires t c κs = ((c .before .before .before .before .before .before .before .before .before .before .before .before .before .before .before .before .before .before .before .pre .1 .0 .0, c .before .before .before .before .before .before .before .before .before .before .before .before .before .before .before .before .before .before .before .pre .1 .0 .1), search (room-lack, c .before .before .before .before .before .before .before .before .before .before .before .before .before .before .before .before .before .before .before .pre .1 .1, c .before .before .before .before .before .before .before .before .before .before .before .before .before .before .take-number .ensures, c .before .before .before .before .before .before .before .before .before .before .before .before .if1 .left, c .before .before .before .before .before .before .before .before .flag2 .ensures, c .before .before .before .before .lack .ensures))
 
--- src/lib.rt:779:1
+-- src/lib.rt:855:1
 emit-part-same-length-3 : (t : ℕ) → emit-part-lts.Need-same-length-3 (emit-part-R t) (emit-part-at t) emit-part.Post
 emit-part-same-length-3 t c = search needs
 
--- src/lib.rt:779:1
+-- src/lib.rt:855:1
 emit-part-returns-5 : (t : ℕ) → emit-part-lts.Need-returns-5 (emit-part-R t) (emit-part-at t) emit-part.Post
 emit-part-returns-5 t c = search (part-pass, c .before .before .before .before .before .before .before .before .before .before .before .before .before .before .before .before .before .before .before .before .before .before .pre .1 .1, c .before .before .before .before .before .before .before .before .before .before .before .before .before .before .before .before .before .take-number .ensures, c .before .before .before .before .before .before .before .before .before .before .before .before .before .before .before .if1 .left, c .before .before .before .before .before .before .before .before .before .before .before .before .before .before .if2 .left, c .before .before .before .before .before .before .before .before .before .before .before .before .before .if3 .left, c .before .before .before .before .before .before .before .before .before .before .before .flag2 .ensures, c .before .before .before .before .before .before .before .lack .ensures, c .before .before .before .before .if4 .left, c .before .before .pass .ensures)
 
--- src/lib.rt:706:9
+-- src/lib.rt:782:9
 emit-refer-object-requires : (t : ℕ) → emit-refer-lts.Need-object-requires (emit-refer-R t) (emit-refer-at t) emit-refer.Post
 emit-refer-object-requires t c κs = search needs
 
--- src/lib.rt:708:9
+-- src/lib.rt:784:9
 emit-refer-not-lawful-requires : (t : ℕ) → emit-refer-lts.Need-not-lawful-requires (emit-refer-R t) (emit-refer-at t) emit-refer.Post
 emit-refer-not-lawful-requires t c κs = search needs
 
--- src/lib.rt:708:9
+-- src/lib.rt:784:9
 emit-refer-returns : (t : ℕ) → emit-refer-lts.Need-returns (emit-refer-R t) (emit-refer-at t) emit-refer.Post
 emit-refer-returns t c = search refer-lost
 
--- src/lib.rt:711:9
+-- src/lib.rt:787:9
 emit-refer-put-reference-requires : (t : ℕ) → emit-refer-lts.Need-put-reference-requires (emit-refer-R t) (emit-refer-at t) emit-refer.Post
 emit-refer-put-reference-requires t c κs = search (room-below, needs)
 
--- src/lib.rt:712:9
+-- src/lib.rt:788:9
 emit-refer-open-requires : (t : ℕ) → emit-refer-lts.Need-open-requires (emit-refer-R t) (emit-refer-at t) emit-refer.Post
 emit-refer-open-requires t c κs = (c .before .before .before .before .before .before .before .before .before .before .before .before .before .pre .1 .0 .0, c .before .before .before .before .before .before .before .before .before .before .before .before .before .pre .1 .0 .1, c .before .before .before .before .before .before .before .before .object .ensures .small, search (stood-next, c .before .before .before .before .before .before .before .before .before .before .before .before .before .pre .1 .1, c .before .before .before .put-reference .ensures), search (stood-tail, c .before .before .before .before .before .before .before .before .before .before .before .before .before .pre .1 .1, c .before .before .before .put-reference .ensures))
 
--- src/lib.rt:713:9
+-- src/lib.rt:789:9
 emit-refer-emit-content-requires : (t : ℕ) → emit-refer-lts.Need-emit-content-requires (emit-refer-R t) (emit-refer-at t) emit-refer.Post
 emit-refer-emit-content-requires t c κs = (omega (arith, c .before .before .before .before .before .before .before .before .before .before .before .before .before .before .before .before .before .pre .0), ((c .before .before .before .before .before .before .before .before .before .before .before .before .before .before .before .before .before .pre .1 .0 .0, c .before .before .before .before .before .before .before .before .before .before .before .before .before .before .before .before .before .pre .1 .0 .1), search (room-open, c .before .before .before .before .before .before .before .before .before .before .before .before .before .before .before .before .before .pre .1 .1, c .before .before .before .open .ensures)))
 
--- src/lib.rt:715:9
+-- src/lib.rt:791:9
 emit-refer-not-lawful-requires-2 : (t : ℕ) → emit-refer-lts.Need-not-lawful-requires-2 (emit-refer-R t) (emit-refer-at t) emit-refer.Post
 emit-refer-not-lawful-requires-2 t c κs = search needs
 
--- src/lib.rt:715:9
+-- src/lib.rt:791:9
 emit-refer-same-length : (t : ℕ) → emit-refer-lts.Need-same-length (emit-refer-R t) (emit-refer-at t) emit-refer.Post
 emit-refer-same-length t c = search needs
 
--- src/lib.rt:715:9
+-- src/lib.rt:791:9
 emit-refer-returns-2 : (t : ℕ) → emit-refer-lts.Need-returns-2 (emit-refer-R t) (emit-refer-at t) emit-refer.Post
 emit-refer-returns-2 t c = search (refer-cut, c .before .before .before .before .before .before .before .before .before .before .before .before .before .before .before .before .before .before .before .before .before .before .before .pre .1 .1, c .before .before .before .before .before .before .before .before .before .before .before .before .before .before .before .before .before .before .object .ensures, c .before .before .before .before .before .before .before .before .before .before .before .before .before .before .before .before .if1 .left, c .before .before .before .before .before .before .before .before .before .before .before .before .before .put-reference .ensures, c .before .before .before .before .before .before .before .before .before .open .ensures, c .before .before .before .before .before .emit-content .ensures, c .before .if2 .taken, c .not-lawful2 .ensures .0, c .not-lawful2 .ensures .1, c .not-lawful2 .ensures .2)
 
--- src/lib.rt:718:12
+-- src/lib.rt:794:12
 emit-refer-close-requires : (t : ℕ) → emit-refer-lts.Need-close-requires (emit-refer-R t) (emit-refer-at t) emit-refer.Post
 emit-refer-close-requires t c κs = search needs
 
--- src/lib.rt:718:5
+-- src/lib.rt:794:5
 emit-refer-stored-requires : (t : ℕ) → emit-refer-lts.Need-stored-requires (emit-refer-R t) (emit-refer-at t) emit-refer.Post
 emit-refer-stored-requires t c κs = search needs
 
--- src/lib.rt:691:1
+-- src/lib.rt:767:1
 emit-refer-same-length-2 : (t : ℕ) → emit-refer-lts.Need-same-length-2 (emit-refer-R t) (emit-refer-at t) emit-refer.Post
 emit-refer-same-length-2 t c = c .before .before .before .before .before .before .emit-content .kept .1 .1 .1 .0 ∙ c .before .before .before .before .before .before .before .before .before .before .open .kept .1 .1 .0 ∙ c .before .before .before .before .before .before .before .before .before .before .before .before .before .before .put-reference .kept .0
 
--- src/lib.rt:691:1
+-- src/lib.rt:767:1
 emit-refer-returns-3 : (t : ℕ) → emit-refer-lts.Need-returns-3 (emit-refer-R t) (emit-refer-at t) emit-refer.Post
 emit-refer-returns-3 t c = search (refer-done, c .before .before .before .before .before .before .before .before .before .before .before .before .before .before .before .before .before .before .before .before .before .before .before .before .pre .1 .1, c .before .before .before .before .before .before .before .before .before .before .before .before .before .before .before .before .before .before .before .object .ensures, c .before .before .before .before .before .before .before .before .before .before .before .before .before .before .before .before .before .if1 .left, c .before .before .before .before .before .before .before .before .before .before .before .before .before .before .put-reference .ensures, c .before .before .before .before .before .before .before .before .before .before .open .ensures, c .before .before .before .before .before .before .emit-content .ensures, c .before .before .if2 .left, c .before .close .ensures, c .stored .ensures .0, c .stored .ensures .1, c .stored .ensures .2)
 
@@ -603,55 +603,55 @@ emit-table-Inv-loop b dir s out₀ d t c pos n p₀ at₀ j₀ out p at j =
 abbrev emit-table-μ-loop : emit-table-lts.MeasureT-loop
 emit-table-μ-loop b dir s out₀ d t c pos n p₀ at₀ j₀ out p at j = n - j
 
--- src/lib.rt:855:9
+-- src/lib.rt:931:9
 emit-table-member-count-requires : (t : ℕ) → emit-table-lts.Need-member-count-requires (emit-table-R t) (emit-table-at t) emit-table.Post emit-table-Inv-loop emit-table-μ-loop
 emit-table-member-count-requires t c κs = search needs
 
--- src/lib.rt:859:5
+-- src/lib.rt:935:5
 emit-table-loop-holds : (t : ℕ) → emit-table-lts.Need-loop-holds (emit-table-R t) (emit-table-at t) emit-table.Post emit-table-Inv-loop emit-table-μ-loop
 emit-table-loop-holds t c = (search needs, search needs, search needs, search needs, search needs, search needs, search needs, search members-start)
 
--- src/lib.rt:860:13
+-- src/lib.rt:936:13
 emit-table-member-requires : (t : ℕ) → emit-table-lts.Need-member-requires (emit-table-R t) (emit-table-at t) emit-table.Post emit-table-Inv-loop emit-table-μ-loop
 emit-table-member-requires t c κs = (search needs, search needs, search member-counted, search needs)
 
--- src/lib.rt:861:13
+-- src/lib.rt:937:13
 emit-table-emit-part-requires : (t : ℕ) → emit-table-lts.Need-emit-part-requires (emit-table-R t) (emit-table-at t) emit-table.Post emit-table-Inv-loop emit-table-μ-loop
 emit-table-emit-part-requires t c κs = search (member-kind, needs)
 
--- src/lib.rt:863:13
+-- src/lib.rt:939:13
 emit-table-not-lawful-requires : (t : ℕ) → emit-table-lts.Need-not-lawful-requires (emit-table-R t) (emit-table-at t) emit-table.Post emit-table-Inv-loop emit-table-μ-loop
 emit-table-not-lawful-requires t c κs = search needs
 
--- src/lib.rt:863:13
+-- src/lib.rt:939:13
 emit-table-same-length : (t : ℕ) → emit-table-lts.Need-same-length (emit-table-R t) (emit-table-at t) emit-table.Post emit-table-Inv-loop emit-table-μ-loop
 emit-table-same-length t c = search needs
 
--- src/lib.rt:863:13
+-- src/lib.rt:939:13
 emit-table-returns : (t : ℕ) → emit-table-lts.Need-returns (emit-table-R t) (emit-table-at t) emit-table.Post emit-table-Inv-loop emit-table-μ-loop
 emit-table-returns t c = search members-stopped
 
--- src/lib.rt:867:9
+-- src/lib.rt:943:9
 emit-table-add-j : (t : ℕ) → emit-table-lts.Need-add-j (emit-table-R t) (emit-table-at t) emit-table.Post emit-table-Inv-loop emit-table-μ-loop
 emit-table-add-j t c = search needs
 
--- src/lib.rt:859:5
+-- src/lib.rt:935:5
 emit-table-loop-less : (t : ℕ) → emit-table-lts.Need-loop-less (emit-table-R t) (emit-table-at t) emit-table.Post emit-table-Inv-loop emit-table-μ-loop
 emit-table-loop-less t c = search needs
 
--- src/lib.rt:859:5
+-- src/lib.rt:935:5
 emit-table-loop-again : (t : ℕ) → emit-table-lts.Need-loop-again (emit-table-R t) (emit-table-at t) emit-table.Post emit-table-Inv-loop emit-table-μ-loop
 emit-table-loop-again t c = (search needs, search needs, search needs, search needs, search needs, search room-part, search needs, search (members-turn, c .before .before .before .before .before .before .before .before .before .loop .inv .7, c .before .before .before .before .before .before .before .before .before .loop .inv .1, c .before .before .before .before .before .before .before .before .loop-test .taken, c .before .before .before .before .before .before .before .member .ensures, c .before .before .before .before .before .emit-part .ensures, c .before .if1 .left))
 
--- src/lib.rt:869:5
+-- src/lib.rt:945:5
 emit-table-stored-requires : (t : ℕ) → emit-table-lts.Need-stored-requires (emit-table-R t) (emit-table-at t) emit-table.Post emit-table-Inv-loop emit-table-μ-loop
 emit-table-stored-requires t c κs = search needs
 
--- src/lib.rt:841:1
+-- src/lib.rt:917:1
 emit-table-same-length-2 : (t : ℕ) → emit-table-lts.Need-same-length-2 (emit-table-R t) (emit-table-at t) emit-table.Post emit-table-Inv-loop emit-table-μ-loop
 emit-table-same-length-2 t c = search needs
 
--- src/lib.rt:841:1
+-- src/lib.rt:917:1
 emit-table-returns-2 : (t : ℕ) → emit-table-lts.Need-returns-2 (emit-table-R t) (emit-table-at t) emit-table.Post emit-table-Inv-loop emit-table-μ-loop
 emit-table-returns-2 t c = search members-done
 

@@ -8,23 +8,23 @@ use Rattle.judge.proofs.root_object.Reads as root-object-reads
 use Rattle.writer.proofs.emit_refer.Reads as emit-refer-reads
 use Rattle.writer.proofs.put_number.Reads as put-number-reads
 
--- src/lib.rt:948:9
+-- src/lib.rt:1024:9
 root-object-requires : tie.Need-root-object-requires
 root-object-requires c κs = search needs
 
--- src/lib.rt:949:9
+-- src/lib.rt:1025:9
 put-number-requires : tie.Need-put-number-requires
 put-number-requires c κs = search needs
 
--- src/lib.rt:950:5
+-- src/lib.rt:1026:5
 emit-refer-requires : tie.Need-emit-refer-requires
 emit-refer-requires c κs = search (message-room, needs)
 
--- src/lib.rt:936:1
+-- src/lib.rt:1012:1
 same-length : tie.Need-same-length
 same-length c = search needs
 
--- src/lib.rt:936:1
+-- src/lib.rt:1012:1
 returns : tie.Need-returns
 returns c = search message-done
 

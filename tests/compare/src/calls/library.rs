@@ -1,8 +1,6 @@
 //! The proved library, called as a C program calls it.
 
-use super::Calls;
-#[cfg(feature = "write")]
-use super::Writes;
+use super::{Calls, Writes};
 // The archive is linked with the wrapper.
 use scalgo as _;
 
@@ -55,7 +53,6 @@ extern "C" {
         length: *mut u64,
     ) -> u32;
 
-    #[cfg(feature = "write")]
     fn scalgo_write(
         schema: *const u8,
         schema_len: usize,
@@ -161,7 +158,6 @@ impl Calls for LibraryCalls {
     }
 }
 
-#[cfg(feature = "write")]
 impl Writes for LibraryCalls {
     fn write(&self, schema: &[u8], sheet: &[u8], message: &mut [u8]) -> [u64; 2] {
         let mut length = UNSET;
