@@ -1,7 +1,8 @@
 /* The C interface of libscalgo.a, a proved library for scalgoproto messages, for x86-64 Linux.
  *
  * What holds of every function here:
- * - A pointer to bytes comes with their number. It must not be NULL; with length 0 it is not read.
+ * - A pointer to bytes comes with their number. It must not be NULL, even with length 0; then
+ *   nothing is read or written through it.
  * - So does a pointer to 32-bit or 64-bit numbers; it must be aligned for them.
  * - A pointer to one number must not be NULL, must be aligned for that number, and must point to
  *   nothing else that the call is given. The number is written on every return.
@@ -21,7 +22,8 @@
 extern "C" {
 #endif
 
-/* Why a message is refused, as scalgo_judge and scalgo_read answer it, and a refusal of scalgo_field. */
+/* What scalgo_judge, scalgo_read and scalgo_write answer, and the number of a refused case of
+ * scalgo_field and scalgo_list. */
 enum {
     SCALGO_ACCEPTED = 0,
     SCALGO_SCHEMA = 1,         /* the schema is not lawful */
@@ -41,12 +43,15 @@ enum {
     SCALGO_PATH = 15           /* a path's step has no such part, or a path over 96 numbers */
 };
 
-/* What scalgo_field answers. */
+/* What scalgo_field answers, and the first of the four numbers of a step of scalgo_list. An enum is
+ * an unsigned number of 8 bits; a union with a known choice is its object. */
 enum {
     SCALGO_CASE_BOOLEAN = 0,   /* a: the value */
     SCALGO_CASE_NUMBER = 1,    /* a: its bits, zero above the width; b: its width in bits; c: 1 if it is signed */
     SCALGO_CASE_FLOAT = 2,     /* a: its bits; b: its width in bits */
-    SCALGO_CASE_OBJECT = 3,    /* a: 13 text, 14 bytes, 15 list, 16 table; b: its place; c: its length */
+    SCALGO_CASE_OBJECT = 3,    /* a: 13 text, 14 bytes, 15 list, 16 table; b: its place; c: its length: a
+                                  text's or bytes' bytes (a text's end byte is not counted), a list's
+                                  elements, the bytes of a table's fixed part */
     SCALGO_CASE_STRUCT = 4,    /* a: its place */
     SCALGO_CASE_ABSENT = 5,
     SCALGO_CASE_UNKNOWN = 6,   /* an enum or a union's choice that the schema does not know; a: the number */
@@ -57,7 +62,9 @@ enum {
  *
  * budget: how many objects may be visited, each arrival at a shared object counted.
  * *place: where the object of a refusal from 4 to 10 stands, counted from the message's first
- *         byte; 0 with the other numbers.
+ *         byte: its offset as stored, or where its content starts if it is in place. With 8 it is
+ *         the table, with 9 the object that holds the union. It is what the message says and may
+ *         lie past the message's end. 0 with the other numbers.
  * *visits: the objects visited; an arrival refused for the budget is not counted.
  */
 uint32_t scalgo_judge(const uint8_t *schema, size_t schema_len,
@@ -68,7 +75,8 @@ uint32_t scalgo_judge(const uint8_t *schema, size_t schema_len,
  *
  * path: a number for each table member, list element or struct member on the way from the root
  *       table, counted from 0; a union is passed through without one. An empty path leads to the
- *       root table. Only what is on the path is judged, without a budget.
+ *       root table. Only what is on the path is judged, without a budget. Where something on the
+ *       way is absent or unknown, that is the answer, whatever numbers are left.
  * *a, *b, *c: what the case has; 0 where it has no such number.
  *
  * A refusal is 1, 2 or 3, 5 to 10 or 15. With 5 to 10 its place is as of scalgo_judge; with 15 it
@@ -80,8 +88,8 @@ uint32_t scalgo_field(const uint8_t *schema, size_t schema_len,
                       uint64_t *a, uint64_t *b, uint64_t *c);
 
 /* Says where a text or bytes stand: answers 1 where the path leads to such, and the part is
- * message[*start .. *start + *length], all of it within the message; a text's end byte is not in
- * it. Otherwise, a refusal among it, answers 0 with *start 0 and *length 0.
+ * the *length bytes from message + *start on, all within the message; a text's end byte is not
+ * among them. Otherwise, a refusal among it, answers 0 with *start 0 and *length 0.
  *
  * path: as of scalgo_field.
  */

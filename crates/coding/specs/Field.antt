@@ -103,7 +103,8 @@ unfoldable pub found : ℕ → Schema → List ℕ → List ℕ → Found
 found o S m path = along o S m (arrived deepest o S m (O.Table (S .root)) (rootPlace o m)) path
 
 -- ---- "Otherwise the answer is one of: a boolean, a number with its width and sign, float bits, an object's kind, place and
--- length, a struct's place, absent, unknown with its number, or a refusal". An enum is a number of width 8 without sign.
+-- length, a struct's place, absent, unknown with its number, or a refusal". The paper names no answer for an enum: here it is
+-- a number of width 8 without sign.
 unfoldable pub flatAnswer : Flat → ℕ → Answer
 flatAnswer F.Boolean x = A.Boolean (eqb x 1)
 flatAnswer (F.Integer s w) x = A.Number x (8 * w) s
@@ -132,7 +133,8 @@ answerOf (Fd.Value k x holder) = valueAnswer k x
 answerOf (Fd.Struct i at holder) = A.Struct at
 answerOf (Fd.Object ob at start n d) = A.Object (recordKind ob) at n
 
--- number and place of an answer, "without budget and with visits 0": 0 at 0 for every answer that is not a refusal
+-- "Where an answer is an enum, a definition gives this paper's number and values for each of its cases": number and place,
+-- "without budget and with visits 0": 0 at 0 for every answer that is not a refusal
 unfoldable pub answerVerdict : Answer → Verdict
 answerVerdict (A.Boolean x) = early 0
 answerVerdict (A.Number x w s) = early 0
@@ -158,10 +160,10 @@ fieldFound o b m path =
 unfoldable pub field : ℕ → List ℕ → List ℕ → List ℕ → Answer
 field o b m path = answerOf (fieldFound o b m path)
 
--- ---- an answer as numbers: "Where an answer is an enum, a definition gives this paper's number and values for each of its
--- cases." 0 a boolean, 1 a number (its bits, its width in bits, 1 where it has a sign), 2 a float (its bits, its width), 3 an
--- object (its record kind, place and length), 4 a struct (its place), 5 absent, 6 unknown (its number), 7 refused (number,
--- place)
+-- ---- the values of each case, as four numbers for those who cannot be given an enum. The first is the library's own number
+-- of the case: 0 a boolean, 1 a number (its bits, its width in bits, 1 where it has a sign), 2 a float (its bits, its width),
+-- 3 an object (its record kind, place and length), 4 a struct (its place), 5 absent, 6 unknown (its number), 7 refused
+-- (number, place)
 unfoldable pub answerCase : Answer → Case
 answerCase (A.Boolean x) = record { case = 0; a = pick x 1 0; b = 0; c = 0 }
 answerCase (A.Number x w s) = record { case = 1; a = x; b = w; c = pick s 1 0 }
