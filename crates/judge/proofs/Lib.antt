@@ -6,4 +6,5 @@ pub mod OpenCases
 pub mod PlainCases
 pub mod WalkCases
 pub mod ListCases
+pub mod NumberCases
 pub mod VerdictCases

@@ -1,6 +1,6 @@
 -- A header: offset and header fit, magic, and the length that it gives; content that fits; where a member leads.
 use mathlib.Core.Path.{_≡_}
-use Prim.Native.Nat.{ℕ, _+_, _*_, _%_, _^_, _<_, _≤_}
+use Prim.Native.Nat.{ℕ, _+_, _-_, _*_, _%_, _^_, _<_, _≤_}
 use mathlib.Core.Bool.{Bool, true, false, _&&_}
 use mathlib.Core.List.{List}
 use lib.ListN.{length}
@@ -20,6 +20,9 @@ use Rattle.coding.specs.declared.Opened.{Opened}
 use Rattle.coding.specs.declared.Opened.the-variants as Op
 use Rattle.layout.specs.Bounds.{Laid}
 use Rattle.step.specs.Lead.{leadOf, StepSmall}
+use Rattle.coding.specs.declared.Walked.{Walked}
+use Rattle.coding.specs.declared.Walked.the-variants.{Going, Refused}
+use Rattle.judge.specs.declared.Outcome.{Outcome}
 use Rattle.judge.specs.declared.Header.{Header}
 use Rattle.judge.specs.declared.Header.the-variants as Hd
 
@@ -60,3 +63,7 @@ pub record Led (S : Schema) (m : List ℕ) (t j start n : ℕ) (c : Cursor) (s :
   pub next-is : next ≡ afterMember u48 S (memberOf S t j) c
   pub laid : Laid (4097 * (j + 1)) next
   pub small : StepSmall S s
+
+-- a walker's answer: 0 to go on, or a refusal's number and 1
+unfoldable pub walkedOf : Outcome → Walked
+walkedOf w = pick (eqb (w .code) 0) (Going (w .spent)) (Refused (record { number = w .code - 1; place = w .place }) (w .spent))

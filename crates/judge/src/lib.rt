@@ -5,7 +5,6 @@ use coding::Kind;
 use coding::Object;
 use coding::Opened;
 use coding::Place;
-use coding::Refusal;
 use coding::Spent;
 use coding::Step;
 use coding::Verdict;
@@ -247,14 +246,31 @@ pub fn placed(p: Place) -> usize
     }
 }
 
-fn refuse(n: u8, at: usize, s: Spent) -> Walked
-    ensures { λ r. ⌜ r ≡ W.refuse n at s ⌝ }
+// What a walker answers, in whole words: 0 to go on, or a refusal's number and 1; its place; what is spent.
+pub struct Outcome {
+    pub code: usize,
+    pub place: usize,
+    pub spent: Spent,
+}
+
+fn going(s: Spent) -> Outcome
+    ensures { λ r. ⌜ Hs.walkedOf r ≡ Walked.Going s ⌝ }
 {
-    let why = Refusal {
-        number: n,
+    Outcome {
+        code: 0,
+        place: 0,
+        spent: s,
+    }
+}
+
+fn refuse(n: u8, at: usize, s: Spent) -> Outcome
+    ensures { λ r. ⌜ Hs.walkedOf r ≡ W.refuse n at s ⌝ }
+{
+    Outcome {
+        code: wire::index(n) + 1,
         place: at,
-    };
-    Walked::Refused(why, s)
+        spent: s,
+    }
 }
 
 // ---- texts, which no walker needs
@@ -281,9 +297,9 @@ fn open_text(b: &[u8], m: &[u8], x: usize) -> Opened
 }
 
 // An arrival at the text at an offset.
-fn visit_text(b: &[u8], m: &[u8], budget: Budget, d: usize, x: usize, s: Spent) -> Walked
+fn visit_text(b: &[u8], m: &[u8], budget: Budget, d: usize, x: usize, s: Spent) -> Outcome
     requires { ⌜ x < 2 ^ 48 ⌝ }
-    ensures { λ r. ⌜ r ≡ W.visit d B.u48 (P.parse (now (b .entry))) (now (m .entry)) budget Object.Text (Place.ByOffset x) s ⌝ }
+    ensures { λ r. ⌜ Hs.walkedOf r ≡ W.visit d B.u48 (P.parse (now (b .entry))) (now (m .entry)) budget Object.Text (Place.ByOffset x) s ⌝ }
 {
     let spent = s.visits;
     if budget.visits <= spent {
@@ -295,7 +311,7 @@ fn visit_text(b: &[u8], m: &[u8], budget: Budget, d: usize, x: usize, s: Spent) 
     }
     match open_text(b, m, x) {
         Opened::Refused(e) => refuse(e, x, t),
-        Opened::Content(_, _) => Walked::Going(t),
+        Opened::Content(_, _) => going(t),
     }
 }
 
@@ -308,12 +324,12 @@ fn refer_text(
     holder: usize,
     x: usize,
     s: Spent,
-) -> Walked
+) -> Outcome
     requires { ⌜ x < 2 ^ 48 ⌝ }
-    ensures { λ r. ⌜ r ≡ W.follow (W.visit d B.u48 (P.parse (now (b .entry))) (now (m .entry)) budget) holder (T.objectStep Object.Text false 0 x) s ⌝ }
+    ensures { λ r. ⌜ Hs.walkedOf r ≡ W.follow (W.visit d B.u48 (P.parse (now (b .entry))) (now (m .entry)) budget) holder (T.objectStep Object.Text false 0 x) s ⌝ }
 {
     if x == 0 {
-        return Walked::Going(s);
+        return going(s);
     }
     visit_text(b, m, budget, d, x, s)
 }
@@ -328,27 +344,24 @@ fn texts(
     start: usize,
     n: usize,
     s: Spent,
-) -> Walked
+) -> Outcome
     requires { ⌜ (length (now m) ≤ 16777215) × (start + 6 * n ≤ length (now m)) ⌝ }
-    ensures { λ r. ⌜ r ≡ W.elements (W.visit d B.u48 (P.parse (now (b .entry))) (now (m .entry)) budget) B.u48 (P.parse (now (b .entry))) (now (m .entry)) holder start (Kind.OfObject Object.Text) n 0 s ⌝ }
+    ensures { λ r. ⌜ Hs.walkedOf r ≡ W.elements (W.visit d B.u48 (P.parse (now (b .entry))) (now (m .entry)) budget) B.u48 (P.parse (now (b .entry))) (now (m .entry)) holder start (Kind.OfObject Object.Text) n 0 s ⌝ }
 {
     let mut v = s;
     let mut at = start;
     let mut j: usize = 0;
     while j < n {
         let x = wire::u48_in(m, at) as usize;
-        match refer_text(b, m, budget, d, holder, x, v) {
-            Walked::Going(u) => {
-                v = u;
-            }
-            Walked::Refused(y, u) => {
-                return Walked::Refused(y, u);
-            }
+        let g = refer_text(b, m, budget, d, holder, x, v);
+        if g.code != 0 {
+            return g;
         }
+        v = g.spent;
         at += 6;
         j += 1;
     }
-    Walked::Going(v)
+    going(v)
 }
 
 // ---- the walkers
@@ -452,9 +465,9 @@ fn visit(
     ob: Object,
     p: Place,
     s: Spent,
-) -> Walked
+) -> Outcome
     requires { ⌜ (Accepted (now b) (now dir)) × (length (now m) ≤ 16777215) × (ObjectSound (P.parse (now b)) ob) × D.PlaceSmall p ⌝ }
-    ensures { λ r. ⌜ r ≡ W.visit d B.u48 (P.parse (now (b .entry))) (now (m .entry)) budget ob p s ⌝ }
+    ensures { λ r. ⌜ Hs.walkedOf r ≡ W.visit d B.u48 (P.parse (now (b .entry))) (now (m .entry)) budget ob p s ⌝ }
 {
     let at = placed(p);
     let spent = s.visits;
@@ -483,14 +496,14 @@ fn content(
     start: usize,
     n: usize,
     s: Spent,
-) -> Walked
+) -> Outcome
     requires { ⌜ (Accepted (now b) (now dir)) × (length (now m) ≤ 16777215) × (ObjectSound (P.parse (now b)) ob) ⌝ }
     requires { ⌜ start + W.contentSize B.u48 (P.parse (now b)) ob n ≤ length (now m) ⌝ }
-    ensures { λ r. ⌜ r ≡ W.content (W.visit d B.u48 (P.parse (now (b .entry))) (now (m .entry)) budget) B.u48 (P.parse (now (b .entry))) (now (m .entry)) ob holder start n s ⌝ }
+    ensures { λ r. ⌜ Hs.walkedOf r ≡ W.content (W.visit d B.u48 (P.parse (now (b .entry))) (now (m .entry)) budget) B.u48 (P.parse (now (b .entry))) (now (m .entry)) ob holder start n s ⌝ }
 {
     match ob {
-        Object::Text => Walked::Going(s),
-        Object::Bytes => Walked::Going(s),
+        Object::Text => going(s),
+        Object::Bytes => going(s),
         Object::List(i) => list(b, dir, m, budget, d, wire::index(i), holder, start, n, s),
         Object::Table(t) => table(b, dir, m, budget, d, wire::index(t), holder, start, n, s),
     }
@@ -508,9 +521,9 @@ fn table(
     start: usize,
     n: usize,
     s: Spent,
-) -> Walked
+) -> Outcome
     requires { ⌜ (Accepted (now b) (now dir)) × (length (now m) ≤ 16777215) × (t < P.tableCount (now b)) × (start + n ≤ length (now m)) ⌝ }
-    ensures { λ r. ⌜ r ≡ W.members (W.visit d B.u48 (P.parse (now (b .entry))) (now (m .entry)) budget) B.u48 (P.parse (now (b .entry))) (now (m .entry)) holder start n L.begin (Sc.tableOf (P.parse (now (b .entry))) t .members) s ⌝ }
+    ensures { λ r. ⌜ Hs.walkedOf r ≡ W.members (W.visit d B.u48 (P.parse (now (b .entry))) (now (m .entry)) budget) B.u48 (P.parse (now (b .entry))) (now (m .entry)) holder start n L.begin (Sc.tableOf (P.parse (now (b .entry))) t .members) s ⌝ }
 {
     let count = schema::member_count(b, dir, t);
     let mut c = layout::begin();
@@ -518,22 +531,19 @@ fn table(
     let mut j: usize = 0;
     while j < count {
         if n <= layout::bit_byte(c) {
-            return Walked::Going(v);
+            return going(v);
         }
         let q = lead_member(b, dir, m, t, j, start, n, c);
         let step = q.step;
-        match follow(b, dir, m, budget, d, holder, step, v) {
-            Walked::Going(u) => {
-                v = u;
-            }
-            Walked::Refused(x, u) => {
-                return Walked::Refused(x, u);
-            }
+        let g = follow(b, dir, m, budget, d, holder, step, v);
+        if g.code != 0 {
+            return g;
         }
+        v = g.spent;
         c = q.next;
         j += 1;
     }
-    Walked::Going(v)
+    going(v)
 }
 
 // The n elements of list i, which start at `start`.
@@ -548,15 +558,15 @@ fn list(
     start: usize,
     n: usize,
     s: Spent,
-) -> Walked
+) -> Outcome
     requires { ⌜ (Accepted (now b) (now dir)) × (length (now m) ≤ 16777215) × (i < P.listCount (now b)) ⌝ }
     requires { ⌜ start + T.elementsSize B.u48 (P.parse (now b)) (Sc.elementOf (P.parse (now b)) i) n ≤ length (now m) ⌝ }
-    ensures { λ r. ⌜ r ≡ W.elements (W.visit d B.u48 (P.parse (now (b .entry))) (now (m .entry)) budget) B.u48 (P.parse (now (b .entry))) (now (m .entry)) holder start (Sc.elementOf (P.parse (now (b .entry))) i) n 0 s ⌝ }
+    ensures { λ r. ⌜ Hs.walkedOf r ≡ W.elements (W.visit d B.u48 (P.parse (now (b .entry))) (now (m .entry)) budget) B.u48 (P.parse (now (b .entry))) (now (m .entry)) holder start (Sc.elementOf (P.parse (now (b .entry))) i) n 0 s ⌝ }
 {
     let at = schema::list_place(b, dir, i);
     let k = schema::kind_at(b, at);
     if k < 13 {
-        return Walked::Going(s);
+        return going(s);
     }
     if k < 17 {
         let ob = schema::object_at(b, at);
@@ -578,9 +588,9 @@ fn references(
     start: usize,
     n: usize,
     s: Spent,
-) -> Walked
+) -> Outcome
     requires { ⌜ (Accepted (now b) (now dir)) × (length (now m) ≤ 16777215) × (ObjectSound (P.parse (now b)) ob) × (start + 6 * n ≤ length (now m)) ⌝ }
-    ensures { λ r. ⌜ r ≡ W.elements (W.visit d B.u48 (P.parse (now (b .entry))) (now (m .entry)) budget) B.u48 (P.parse (now (b .entry))) (now (m .entry)) holder start (Kind.OfObject ob) n 0 s ⌝ }
+    ensures { λ r. ⌜ Hs.walkedOf r ≡ W.elements (W.visit d B.u48 (P.parse (now (b .entry))) (now (m .entry)) budget) B.u48 (P.parse (now (b .entry))) (now (m .entry)) holder start (Kind.OfObject ob) n 0 s ⌝ }
 {
     if is_text(ob) {
         return texts(b, m, budget, d, holder, start, n, s);
@@ -590,18 +600,15 @@ fn references(
     let mut j: usize = 0;
     while j < n {
         let x = wire::u48_in(m, at) as usize;
-        match refer(b, dir, m, budget, d, ob, holder, x, v) {
-            Walked::Going(u) => {
-                v = u;
-            }
-            Walked::Refused(y, u) => {
-                return Walked::Refused(y, u);
-            }
+        let g = refer(b, dir, m, budget, d, ob, holder, x, v);
+        if g.code != 0 {
+            return g;
         }
+        v = g.spent;
         at += 6;
         j += 1;
     }
-    Walked::Going(v)
+    going(v)
 }
 
 // What an offset in a list leads to.
@@ -615,12 +622,12 @@ fn refer(
     holder: usize,
     x: usize,
     s: Spent,
-) -> Walked
+) -> Outcome
     requires { ⌜ (Accepted (now b) (now dir)) × (length (now m) ≤ 16777215) × (ObjectSound (P.parse (now b)) ob) × (x < 2 ^ 48) ⌝ }
-    ensures { λ r. ⌜ r ≡ W.follow (W.visit d B.u48 (P.parse (now (b .entry))) (now (m .entry)) budget) holder (T.objectStep ob false 0 x) s ⌝ }
+    ensures { λ r. ⌜ Hs.walkedOf r ≡ W.follow (W.visit d B.u48 (P.parse (now (b .entry))) (now (m .entry)) budget) holder (T.objectStep ob false 0 x) s ⌝ }
 {
     if x == 0 {
-        return Walked::Going(s);
+        return going(s);
     }
     visit(b, dir, m, budget, d, ob, Place::ByOffset(x), s)
 }
@@ -637,26 +644,23 @@ fn choices(
     start: usize,
     n: usize,
     s: Spent,
-) -> Walked
+) -> Outcome
     requires { ⌜ (Accepted (now b) (now dir)) × (length (now m) ≤ 16777215) × (i < P.unionCount (now b)) × (start + 8 * n ≤ length (now m)) ⌝ }
-    ensures { λ r. ⌜ r ≡ W.elements (W.visit d B.u48 (P.parse (now (b .entry))) (now (m .entry)) budget) B.u48 (P.parse (now (b .entry))) (now (m .entry)) holder start (Kind.OfUnion i) n 0 s ⌝ }
+    ensures { λ r. ⌜ Hs.walkedOf r ≡ W.elements (W.visit d B.u48 (P.parse (now (b .entry))) (now (m .entry)) budget) B.u48 (P.parse (now (b .entry))) (now (m .entry)) holder start (Kind.OfUnion i) n 0 s ⌝ }
 {
     let mut v = s;
     let mut at = start;
     let mut j: usize = 0;
     while j < n {
-        match choice(b, dir, m, budget, d, i, holder, at, v) {
-            Walked::Going(u) => {
-                v = u;
-            }
-            Walked::Refused(y, u) => {
-                return Walked::Refused(y, u);
-            }
+        let g = choice(b, dir, m, budget, d, i, holder, at, v);
+        if g.code != 0 {
+            return g;
         }
+        v = g.spent;
         at += 8;
         j += 1;
     }
-    Walked::Going(v)
+    going(v)
 }
 
 // What a choice of union i in a list leads to.
@@ -670,16 +674,16 @@ fn choice(
     holder: usize,
     at: usize,
     s: Spent,
-) -> Walked
+) -> Outcome
     requires { ⌜ (Accepted (now b) (now dir)) × (length (now m) ≤ 16777215) × (i < P.unionCount (now b)) × (at + 8 ≤ length (now m)) ⌝ }
-    ensures { λ r. ⌜ r ≡ W.follow (W.visit d B.u48 (P.parse (now (b .entry))) (now (m .entry)) budget) holder (T.unionStep (Sc.casesOf (P.parse (now (b .entry))) i) false 0 (B.le (now (m .entry)) at 2) (B.le (now (m .entry)) (at + 2) 6)) s ⌝ }
+    ensures { λ r. ⌜ Hs.walkedOf r ≡ W.follow (W.visit d B.u48 (P.parse (now (b .entry))) (now (m .entry)) budget) holder (T.unionStep (Sc.casesOf (P.parse (now (b .entry))) i) false 0 (B.le (now (m .entry)) at 2) (B.le (now (m .entry)) (at + 2) 6)) s ⌝ }
 {
     let c = wire::u16_in(m, at) as usize;
     if c == 0 {
-        return Walked::Going(s);
+        return going(s);
     }
     if schema::case_count(b, dir, i) < c {
-        return Walked::Going(s);
+        return going(s);
     }
     let ob = schema::union_case(b, dir, i, c);
     let x = wire::u48_in(m, at + 2) as usize;
@@ -696,16 +700,16 @@ fn follow(
     holder: usize,
     step: Step,
     s: Spent,
-) -> Walked
+) -> Outcome
     requires { ⌜ (Accepted (now b) (now dir)) × (length (now m) ≤ 16777215) × D.StepSmall (P.parse (now b)) step ⌝ }
-    ensures { λ r. ⌜ r ≡ W.follow (W.visit d B.u48 (P.parse (now (b .entry))) (now (m .entry)) budget) holder step s ⌝ }
+    ensures { λ r. ⌜ Hs.walkedOf r ≡ W.follow (W.visit d B.u48 (P.parse (now (b .entry))) (now (m .entry)) budget) holder step s ⌝ }
 {
     match step {
         Step::Refused(e) => refuse(e, holder, s),
-        Step::Absent => Walked::Going(s),
-        Step::Value(_) => Walked::Going(s),
-        Step::Unknown(_) => Walked::Going(s),
-        Step::Struct(_, _) => Walked::Going(s),
+        Step::Absent => going(s),
+        Step::Value(_) => going(s),
+        Step::Unknown(_) => going(s),
+        Step::Struct(_, _) => going(s),
         Step::Object(ob, p) => arrive(b, dir, m, budget, d, ob, p, s),
         Step::Choice(_, ob, p) => union(b, dir, m, budget, d, holder, ob, p, s),
     }
@@ -721,9 +725,9 @@ fn arrive(
     ob: Object,
     p: Place,
     s: Spent,
-) -> Walked
+) -> Outcome
     requires { ⌜ (Accepted (now b) (now dir)) × (length (now m) ≤ 16777215) × (ObjectSound (P.parse (now b)) ob) × D.PlaceSmall p ⌝ }
-    ensures { λ r. ⌜ r ≡ W.visit d B.u48 (P.parse (now (b .entry))) (now (m .entry)) budget ob p s ⌝ }
+    ensures { λ r. ⌜ Hs.walkedOf r ≡ W.visit d B.u48 (P.parse (now (b .entry))) (now (m .entry)) budget ob p s ⌝ }
 {
     match p {
         Place::ByOffset(x) => {
@@ -747,9 +751,9 @@ fn union(
     ob: Object,
     p: Place,
     s: Spent,
-) -> Walked
+) -> Outcome
     requires { ⌜ (Accepted (now b) (now dir)) × (length (now m) ≤ 16777215) × (ObjectSound (P.parse (now b)) ob) × D.PlaceSmall p ⌝ }
-    ensures { λ r. ⌜ r ≡ W.followChoice (W.visit d B.u48 (P.parse (now (b .entry))) (now (m .entry)) budget) holder ob p s ⌝ }
+    ensures { λ r. ⌜ Hs.walkedOf r ≡ W.followChoice (W.visit d B.u48 (P.parse (now (b .entry))) (now (m .entry)) budget) holder ob p s ⌝ }
 {
     match p {
         Place::ByOffset(x) => {
@@ -763,20 +767,22 @@ fn union(
 }
 
 // ---- the verdict
-fn verdict_of(w: Walked) -> Verdict
-    ensures { λ r. ⌜ r ≡ W.verdictOf w ⌝ }
+fn verdict_of(w: Outcome) -> Verdict
+    requires { ⌜ w .code ≤ 256 ⌝ }
+    ensures { λ r. ⌜ r ≡ W.verdictOf (Hs.walkedOf w) ⌝ }
 {
-    match w {
-        Walked::Going(s) => Verdict {
+    let s = w.spent;
+    if w.code == 0 {
+        return Verdict {
             number: 0,
             place: 0,
             visits: s.visits,
-        },
-        Walked::Refused(x, s) => Verdict {
-            number: x.number,
-            place: x.place,
-            visits: s.visits,
-        },
+        };
+    }
+    Verdict {
+        number: (w.code - 1) as u8,
+        place: w.place,
+        visits: s.visits,
     }
 }
 
@@ -825,9 +831,9 @@ pub fn root_place(m: &[u8]) -> Place
     Place::ByOffset(wire::u48_in(m, 4) as usize)
 }
 
-fn walk(b: &[u8], dir: &[u16], m: &[u8], budget: Budget) -> Walked
+fn walk(b: &[u8], dir: &[u16], m: &[u8], budget: Budget) -> Outcome
     requires { ⌜ (Accepted (now b) (now dir)) × (length (now m) ≤ 16777215) × (10 ≤ length (now m)) ⌝ }
-    ensures { λ r. ⌜ r ≡ W.walk B.u48 (P.parse (now (b .entry))) (now (m .entry)) budget ⌝ }
+    ensures { λ r. ⌜ Hs.walkedOf r ≡ W.walk B.u48 (P.parse (now (b .entry))) (now (m .entry)) budget ⌝ }
 {
     let ob = root_object(b, dir);
     let p = root_place(m);
