@@ -6,5 +6,6 @@ pub mod OpenCases
 pub mod PlainCases
 pub mod WalkCases
 pub mod ListCases
+pub mod LeafCases
 pub mod NumberCases
 pub mod VerdictCases

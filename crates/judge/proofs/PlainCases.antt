@@ -175,7 +175,7 @@ module _ (b : List ℕ) (t j p : ℕ) (l : t < P.tableCount b) (h : j < length (
   pub record-inside : p + 4 + 1 + 2 * P.records b 4 p ≤ length b → (at : ℕ) → at ≡ p + 4 + 1 + 2 * j → at < length b
   record-inside i at e = let a = among in omega arith
 
-  plain-led : (at : ℕ) → at ≡ P.recordPlace 4 p j → P.memberAt b at ≡ Sc.memberOf (P.parse b) t j
+  pub plain-led : (at : ℕ) → at ≡ P.recordPlace 4 p j → P.memberAt b at ≡ Sc.memberOf (P.parse b) t j
   plain-led at e =
       ap (P.memberAt b) (e ∙ ap (λ (q : ℕ). P.recordPlace 4 q j) ep)
       ∙ sym (member-at b t j l (subst (λ (q : ℕ). j < P.records b 4 q) ep among))

@@ -93,26 +93,32 @@ module _ (d : ℕ) (S : Schema) (m : List ℕ) (b : Budget) (ob : Object) (p : P
           by zero l′ q = absurd (l′ refl)
           by (suc k) l′ q = simp (lt-ltb _ _ h, ← eg, eq, ← e, ← et) (rw sub-one at q)
 
--- ---- a text by its offset
-module _ (d : ℕ) (S : Schema) (m : List ℕ) (b : Budget) (x : ℕ) (s : Spent) where
-  module _ (r : Walked) where
-    pub text-spent : b .visits ≤ s .visits → r ≡ W.refuse 4 x s → r ≡ W.visit d u48 S m b O.Text (ByOffset x) s
-    unfolding W.placed
-    text-spent h f = visit-spent d S m b O.Text (ByOffset x) s x refl r h f
+-- ---- an arrival by its offset
+module _ (d : ℕ) (S : Schema) (m : List ℕ) (b : Budget) (ob : Object) (x : ℕ) (s : Spent) (r : Walked) where
+  pub offset-spent : b .visits ≤ s .visits → r ≡ W.refuse 4 x s → r ≡ W.visit d u48 S m b ob (ByOffset x) s
+  unfolding W.placed
+  offset-spent h f = visit-spent d S m b ob (ByOffset x) s x refl r h f
 
-    pub text-deep : s .visits < b .visits → (t : Spent) → t ≡ one-more s → d ≡ 0 → r ≡ W.refuse 5 x t → r ≡ W.visit d u48 S m b O.Text (ByOffset x) s
-    unfolding W.placed
-    text-deep h t et z f = visit-deep d S m b O.Text (ByOffset x) s x refl r h t et z f
+  pub offset-deep : s .visits < b .visits → (t : Spent) → t ≡ one-more s → d ≡ 0 → r ≡ W.refuse 5 x t → r ≡ W.visit d u48 S m b ob (ByOffset x) s
+  unfolding W.placed
+  offset-deep h t et z f = visit-deep d S m b ob (ByOffset x) s x refl r h t et z f
 
-    pub text-refused : s .visits < b .visits → (t : Spent) → t ≡ one-more s → (d ≡ 0 → ⊥) → (g : Opened) → g ≡ W.openObject u48 S m O.Text (ByOffset x)
-        → (n : ℕ) → g ≡ Op.Refused n → r ≡ W.refuse n x t → r ≡ W.visit d u48 S m b O.Text (ByOffset x) s
-    unfolding W.placed
-    text-refused h t et l g eg n eq f = visit-refused d S m b O.Text (ByOffset x) s x refl r h t et l g eg n eq f
+  pub offset-refused : s .visits < b .visits → (t : Spent) → t ≡ one-more s → (d ≡ 0 → ⊥) → (g : Opened) → g ≡ W.openObject u48 S m ob (ByOffset x)
+      → (n : ℕ) → g ≡ Op.Refused n → r ≡ W.refuse n x t → r ≡ W.visit d u48 S m b ob (ByOffset x) s
+  unfolding W.placed
+  offset-refused h t et l g eg n eq f = visit-refused d S m b ob (ByOffset x) s x refl r h t et l g eg n eq f
 
+module _ (d : ℕ) (S : Schema) (m : List ℕ) (b : Budget) (x : ℕ) (s : Spent) (r : Walked) where
   pub text-judged : s .visits < b .visits → (t : Spent) → t ≡ one-more s → (d ≡ 0 → ⊥) → (g : Opened) → g ≡ W.openObject u48 S m O.Text (ByOffset x)
-      → (start n : ℕ) → g ≡ Op.Content start n → (r : Walked) → r ≡ Going t → r ≡ W.visit d u48 S m b O.Text (ByOffset x) s
+      → (start n : ℕ) → g ≡ Op.Content start n → r ≡ Going t → r ≡ W.visit d u48 S m b O.Text (ByOffset x) s
   unfolding W.placed W.content
-  text-judged h t et l g eg start n eq r f = visit-content d S m b O.Text (ByOffset x) s x refl r h t et l g eg start n eq f
+  text-judged h t et l g eg start n eq f = visit-content d S m b O.Text (ByOffset x) s x refl r h t et l g eg start n eq f
+
+  pub table-judged : (i : ℕ) → s .visits < b .visits → (t : Spent) → t ≡ one-more s → (d ≡ 0 → ⊥) → (g : Opened) → g ≡ W.openObject u48 S m (O.Table i) (ByOffset x)
+      → (start n : ℕ) → g ≡ Op.Content start n
+      → r ≡ W.members (W.visit (d - 1) u48 S m b) u48 S m x start n L.begin (Sc.tableOf S i .members) t → r ≡ W.visit d u48 S m b (O.Table i) (ByOffset x) s
+  unfolding W.placed W.content
+  table-judged i h t et l g eg start n eq f = visit-content d S m b (O.Table i) (ByOffset x) s x refl r h t et l g eg start n eq f
 
 -- ---- an arrival by its place
 module _ (d : ℕ) (S : Schema) (m : List ℕ) (b : Budget) (ob : Object) (p : Place) (s : Spent) (r : Walked) where

@@ -364,7 +364,7 @@ fn texts(
     going(v)
 }
 
-// ---- the walkers
+// ---- records by their first byte
 // Whether a record's first byte says a number, a float or an enum, neither optional nor in place.
 fn is_plain(h: usize) -> bool
     ensures { λ r. ⌜ (r ≡ true → Hs.Plain h) ⌝ }
@@ -392,6 +392,266 @@ fn plain_width(k: usize) -> usize
     wire::index(schema::width_of(k))
 }
 
+// ---- leaf tables: numbers, floats, enums and texts, none optional or in place, which no walker needs
+// Whether a record's first byte says such a member.
+fn is_leaf(h: usize) -> bool
+    ensures { λ r. ⌜ (r ≡ true → Hs.Leaf h) ⌝ }
+{
+    if h == 104 {
+        return true;
+    }
+    is_plain(h)
+}
+
+// Its bytes.
+fn leaf_width(h: usize) -> usize
+    requires { ⌜ Hs.Leaf h ⌝ }
+    ensures { λ r. ⌜ (r ≡ Hs.leafWidth h) × (r < 256) ⌝ }
+{
+    if h == 104 {
+        return 6;
+    }
+    plain_width(wire::eighth(h))
+}
+
+// Whether all of `count` records are such, of the table that stands at `first`.
+fn all_leaves(b: &[u8], first: usize, count: usize) -> bool
+    requires { ⌜ (first < 65536) × (count < 256) × (first + 4 + 1 + 2 * count ≤ length (now b)) ⌝ }
+    ensures { λ r. ⌜ (r ≡ true → Hs.Leaves (now (b .entry)) first count) ⌝ }
+{
+    let mut j: usize = 0;
+    while j < count {
+        let at = schema::record_place(4, first, j);
+        if is_leaf(wire::index(wire::byte_in(b, at))) {
+            j += 1;
+        } else {
+            return false;
+        }
+    }
+    true
+}
+
+// The member of the record at `at`, of a fixed part that ends behind its first byte: it may be cut, and a text is arrived at.
+fn leaf_member(
+    b: &[u8],
+    m: &[u8],
+    budget: Budget,
+    d: usize,
+    at: usize,
+    holder: usize,
+    start: usize,
+    n: usize,
+    end: usize,
+    s: Spent,
+) -> Outcome
+    requires { ⌜ (at < length (now b)) × (Hs.Leaf (getD (now b) at 0)) ⌝ }
+    requires { ⌜ (length (now m) ≤ 16777215) × (start + n ≤ length (now m)) × (end < n) ⌝ }
+    ensures { λ r. ⌜ Hs.walkedOf r ≡ W.follow (W.visit d B.u48 (P.parse (now (b .entry))) (now (m .entry)) budget) holder (T.memberStep B.u48 (P.parse (now (b .entry))) (now (m .entry)) start n (Hs.noBool end) (P.memberAt (now (b .entry)) at)) s ⌝ }
+{
+    let h = wire::index(wire::byte_in(b, at));
+    if n < end + leaf_width(h) {
+        return refuse(8, holder, s);
+    }
+    if h == 104 {
+        let x = wire::u48_in(m, start + end) as usize;
+        return refer_text(b, m, budget, d, holder, x, s);
+    }
+    going(s)
+}
+
+// The members of leaf table t.
+fn leaf_members(
+    b: &[u8],
+    m: &[u8],
+    budget: Budget,
+    d: usize,
+    t: u8,
+    first: usize,
+    count: usize,
+    holder: usize,
+    start: usize,
+    n: usize,
+    s: Spent,
+) -> Outcome
+    requires { ⌜ (Hs.LeafTable (now b) t first count) × (length (now m) ≤ 16777215) × (start + n ≤ length (now m)) ⌝ }
+    ensures { λ r. ⌜ Hs.walkedOf r ≡ W.members (W.visit d B.u48 (P.parse (now (b .entry))) (now (m .entry)) budget) B.u48 (P.parse (now (b .entry))) (now (m .entry)) holder start n L.begin (Sc.tableOf (P.parse (now (b .entry))) t .members) s ⌝ }
+{
+    let mut end: usize = 0;
+    let mut v = s;
+    let mut j: usize = 0;
+    while j < count {
+        if n <= end {
+            return going(v);
+        }
+        let at = schema::record_place(4, first, j);
+        let g = leaf_member(b, m, budget, d, at, holder, start, n, end, v);
+        if g.code != 0 {
+            return g;
+        }
+        v = g.spent;
+        end += leaf_width(wire::index(wire::byte_in(b, at)));
+        j += 1;
+    }
+    going(v)
+}
+
+// Table t with its id, at an offset.
+fn open_table(b: &[u8], m: &[u8], t: u8, id: u64, x: usize) -> Opened
+    requires { ⌜ (x < 2 ^ 48) × (id ≡ Sc.tableOf (P.parse (now b)) t .id) ⌝ }
+    ensures { λ r. ⌜ r ≡ W.openObject B.u48 (P.parse (now (b .entry))) (now (m .entry)) (Object.Table t) (Place.ByOffset x) ⌝ }
+{
+    match TableObject::header(m, x, id) {
+        Header::Refused(e) => Opened::Refused(e),
+        Header::Length(n) => table_content(b, m, t, x + 10, n),
+    }
+}
+
+// An arrival at leaf table t at an offset.
+fn visit_leaf(
+    b: &[u8],
+    m: &[u8],
+    budget: Budget,
+    d: usize,
+    t: u8,
+    id: u64,
+    first: usize,
+    count: usize,
+    x: usize,
+    s: Spent,
+) -> Outcome
+    requires { ⌜ (Hs.LeafTable (now b) t first count) × (length (now m) ≤ 16777215) × (x < 2 ^ 48) × (id ≡ Sc.tableOf (P.parse (now b)) t .id) ⌝ }
+    ensures { λ r. ⌜ Hs.walkedOf r ≡ W.visit d B.u48 (P.parse (now (b .entry))) (now (m .entry)) budget (Object.Table t) (Place.ByOffset x) s ⌝ }
+{
+    let spent = s.visits;
+    if budget.visits <= spent {
+        return refuse(4, x, s);
+    }
+    let v = Spent { visits: spent + 1 };
+    if d == 0 {
+        return refuse(5, x, v);
+    }
+    match open_table(b, m, t, id, x) {
+        Opened::Refused(e) => refuse(e, x, v),
+        Opened::Content(start, n) => leaf_members(
+            b,
+            m,
+            budget,
+            d - 1,
+            t,
+            first,
+            count,
+            x,
+            start,
+            n,
+            v,
+        ),
+    }
+}
+
+// What an offset in a list of leaf table t leads to.
+fn refer_leaf(
+    b: &[u8],
+    m: &[u8],
+    budget: Budget,
+    d: usize,
+    t: u8,
+    id: u64,
+    first: usize,
+    count: usize,
+    holder: usize,
+    x: usize,
+    s: Spent,
+) -> Outcome
+    requires { ⌜ (Hs.LeafTable (now b) t first count) × (length (now m) ≤ 16777215) × (x < 2 ^ 48) × (id ≡ Sc.tableOf (P.parse (now b)) t .id) ⌝ }
+    ensures { λ r. ⌜ Hs.walkedOf r ≡ W.follow (W.visit d B.u48 (P.parse (now (b .entry))) (now (m .entry)) budget) holder (T.objectStep (Object.Table t) false 0 x) s ⌝ }
+{
+    if x == 0 {
+        return going(s);
+    }
+    visit_leaf(b, m, budget, d, t, id, first, count, x, s)
+}
+
+// The n tables of a list of leaf table t, whose offsets start at `start`.
+fn leaf_tables(
+    b: &[u8],
+    m: &[u8],
+    budget: Budget,
+    d: usize,
+    t: u8,
+    id: u64,
+    first: usize,
+    count: usize,
+    holder: usize,
+    start: usize,
+    n: usize,
+    s: Spent,
+) -> Outcome
+    requires { ⌜ (Hs.LeafTable (now b) t first count) × (id ≡ Sc.tableOf (P.parse (now b)) t .id) × (length (now m) ≤ 16777215) × (start + 6 * n ≤ length (now m)) ⌝ }
+    ensures { λ r. ⌜ Hs.walkedOf r ≡ W.elements (W.visit d B.u48 (P.parse (now (b .entry))) (now (m .entry)) budget) B.u48 (P.parse (now (b .entry))) (now (m .entry)) holder start (Kind.OfObject (Object.Table t)) n 0 s ⌝ }
+{
+    let mut v = s;
+    let mut at = start;
+    let mut j: usize = 0;
+    while j < n {
+        let x = wire::u48_in(m, at) as usize;
+        let g = refer_leaf(b, m, budget, d, t, id, first, count, holder, x, v);
+        if g.code != 0 {
+            return g;
+        }
+        v = g.spent;
+        at += 6;
+        j += 1;
+    }
+    going(v)
+}
+
+// Whether the object is a leaf table.
+fn is_leaf_table(b: &[u8], dir: &[u16], ob: Object) -> bool
+    requires { ⌜ (Accepted (now b) (now dir)) × (ObjectSound (P.parse (now b)) ob) ⌝ }
+    ensures { λ r. ⌜ (r ≡ true → Hs.LeafObject (now (b .entry)) ob) ⌝ }
+{
+    match ob {
+        Object::Text => false,
+        Object::Bytes => false,
+        Object::List(_) => false,
+        Object::Table(t) => {
+            let first = schema::table_place(b, dir, wire::index(t));
+            all_leaves(b, first, schema::records(b, 4, first))
+        }
+    }
+}
+
+// The n objects of a list of a leaf table.
+fn leaf_references(
+    b: &[u8],
+    dir: &[u16],
+    m: &[u8],
+    budget: Budget,
+    d: usize,
+    ob: Object,
+    holder: usize,
+    start: usize,
+    n: usize,
+    s: Spent,
+) -> Outcome
+    requires { ⌜ (Accepted (now b) (now dir)) × (length (now m) ≤ 16777215) × (ObjectSound (P.parse (now b)) ob) × (start + 6 * n ≤ length (now m)) × (Hs.LeafObject (now b) ob) ⌝ }
+    ensures { λ r. ⌜ Hs.walkedOf r ≡ W.elements (W.visit d B.u48 (P.parse (now (b .entry))) (now (m .entry)) budget) B.u48 (P.parse (now (b .entry))) (now (m .entry)) holder start (Kind.OfObject ob) n 0 s ⌝ }
+{
+    match ob {
+        Object::Text => going(s),
+        Object::Bytes => going(s),
+        Object::List(_) => going(s),
+        Object::Table(t) => {
+            let i = wire::index(t);
+            let first = schema::table_place(b, dir, i);
+            let count = schema::records(b, 4, first);
+            let id = schema::table_id(b, dir, i);
+            leaf_tables(b, m, budget, d, t, id, first, count, holder, start, n, s)
+        }
+    }
+}
+
+// ---- the walkers
 // Such a member of the record at `at`: it leads nowhere, but may be cut.
 fn lead_number(
     b: &[u8],
@@ -594,6 +854,9 @@ fn references(
 {
     if is_text(ob) {
         return texts(b, m, budget, d, holder, start, n, s);
+    }
+    if is_leaf_table(b, dir, ob) {
+        return leaf_references(b, dir, m, budget, d, ob, holder, start, n, s);
     }
     let mut v = s;
     let mut at = start;

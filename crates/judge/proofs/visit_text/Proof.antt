@@ -1,4 +1,4 @@
-use Rattle.judge.proofs.WalkCases.{text-spent, text-deep, text-refused, text-judged}
+use Rattle.judge.proofs.WalkCases.{offset-spent, offset-deep, offset-refused, text-judged}
 use borrow.Author.Needs.{needs}
 use Rattle.judge.proofs.visit_text.Statement.{statement}
 use Rattle.judge.proofs.visit_text.Tie as tie
@@ -14,7 +14,7 @@ refuse-requires c κs = search needs
 
 -- src/lib.rt:306:9
 returns : tie.Need-returns
-returns c = search text-spent
+returns c = search offset-spent
 
 -- src/lib.rt:308:29
 add-t11 : tie.Need-add-t11
@@ -26,7 +26,7 @@ refuse-requires-2 c κs = search needs
 
 -- src/lib.rt:310:9
 returns-2 : tie.Need-returns-2
-returns-2 c = search text-deep
+returns-2 c = search offset-deep
 
 -- src/lib.rt:312:11
 open-text-requires : tie.Need-open-text-requires
@@ -50,7 +50,7 @@ going-requires c κs = search needs
 
 -- src/lib.rt:300:1
 returns-3 : tie.Need-returns-3
-returns-3 c = search text-refused
+returns-3 c = search offset-refused
 
 -- src/lib.rt:300:1
 returns-4 : tie.Need-returns-4
