@@ -7,5 +7,6 @@ pub mod PlainCases
 pub mod WalkCases
 pub mod ListCases
 pub mod LeafCases
+pub mod ReferenceCases
 pub mod NumberCases
 pub mod VerdictCases

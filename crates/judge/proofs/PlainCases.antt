@@ -169,7 +169,7 @@ module _ (b m : List ℕ) (at start n : ℕ) (c : Cursor) (h : ℕ) (eh : h ≡ 
 
 -- ---- the record of member j
 module _ (b : List ℕ) (t j p : ℕ) (l : t < P.tableCount b) (h : j < length (Sc.tableOf (P.parse b) t .members)) (ep : p ≡ P.tablePlace b t) where
-  among : j < P.records b 4 p
+  pub among : j < P.records b 4 p
   among = subst (λ (q : ℕ). j < P.records b 4 q) (sym ep) (subst (λ (q : ℕ). j < q) (members-length b t l) h)
 
   pub record-inside : p + 4 + 1 + 2 * P.records b 4 p ≤ length b → (at : ℕ) → at ≡ p + 4 + 1 + 2 * j → at < length b

@@ -87,6 +87,12 @@ LeafObject b O.Bytes = ⊥
 LeafObject b (O.List i) = ⊥
 LeafObject b (O.Table t) = Leaves b (tablePlace b t) (records b 4 (tablePlace b t))
 
+-- the first byte of a record whose kind is an object, neither optional nor in place
+pub record Refers (h : ℕ) : Type 0 where
+  pub low : 104 ≤ h
+  pub high : h ≤ 135
+  pub flags : h % 8 ≡ 0
+
 -- a cursor with no bool before it
 abbrev pub noBool : ℕ → Cursor
 noBool e = record { end = e; byte = 0; bit = 8 }

@@ -651,6 +651,38 @@ fn leaf_references(
     }
 }
 
+// ---- objects by their offset, neither optional nor in place
+// Whether the record at `at` says such a member.
+fn refers(b: &[u8], at: usize) -> bool
+    requires { ⌜ at < length (now b) ⌝ }
+    ensures { λ r. ⌜ (r ≡ true → Hs.Refers (getD (now (b .entry)) at 0)) ⌝ }
+{
+    let h = wire::index(wire::byte_in(b, at));
+    if h < 104 {
+        return false;
+    }
+    if 135 < h {
+        return false;
+    }
+    if wire::low_three(h) == 0 {
+        return true;
+    }
+    false
+}
+
+// Behind it.
+fn behind_reference(c: Cursor) -> Cursor
+    requires { ⌜ (c .byte ≤ c .end) × (c .bit ≤ 8) × (c .end < 2 ^ 58) ⌝ }
+    ensures { λ r. ⌜ (r ≡ L.afterBytes 6 c) × Laid (c .end + 6) r ⌝ }
+{
+    let end = c.end;
+    Cursor {
+        end: end + 6,
+        byte: c.byte,
+        bit: c.bit,
+    }
+}
+
 // ---- the walkers
 // Such a member of the record at `at`: it leads nowhere, but may be cut.
 fn lead_number(
@@ -786,12 +818,24 @@ fn table(
     ensures { λ r. ⌜ Hs.walkedOf r ≡ W.members (W.visit d B.u48 (P.parse (now (b .entry))) (now (m .entry)) budget) B.u48 (P.parse (now (b .entry))) (now (m .entry)) holder start n L.begin (Sc.tableOf (P.parse (now (b .entry))) t .members) s ⌝ }
 {
     let count = schema::member_count(b, dir, t);
+    let first = schema::table_place(b, dir, t);
     let mut c = layout::begin();
     let mut v = s;
     let mut j: usize = 0;
     while j < count {
         if n <= layout::bit_byte(c) {
             return going(v);
+        }
+        let at = schema::record_place(4, first, j);
+        if refers(b, at) {
+            let g = reference(b, dir, m, budget, d, at, holder, start, n, c, v);
+            if g.code != 0 {
+                return g;
+            }
+            v = g.spent;
+            c = behind_reference(c);
+            j += 1;
+            continue;
         }
         let q = lead_member(b, dir, m, t, j, start, n, c);
         let step = q.step;
@@ -804,6 +848,39 @@ fn table(
         j += 1;
     }
     going(v)
+}
+
+// The object by its offset of the member of the record at `at`, where the cursor stands.
+fn reference(
+    b: &[u8],
+    dir: &[u16],
+    m: &[u8],
+    budget: Budget,
+    d: usize,
+    at: usize,
+    holder: usize,
+    start: usize,
+    n: usize,
+    c: Cursor,
+    s: Spent,
+) -> Outcome
+    requires { ⌜ (Accepted (now b) (now dir)) × (length (now m) ≤ 16777215) × (at + 1 < length (now b)) × (Hs.Refers (getD (now b) at 0)) ⌝ }
+    requires { ⌜ (ObjectSound (P.parse (now b)) (P.objectAt (now b) at)) × (start + n ≤ length (now m)) × (c .end < 2 ^ 58) ⌝ }
+    ensures { λ r. ⌜ Hs.walkedOf r ≡ W.follow (W.visit d B.u48 (P.parse (now (b .entry))) (now (m .entry)) budget) holder (T.memberStep B.u48 (P.parse (now (b .entry))) (now (m .entry)) start n c (P.memberAt (now (b .entry)) at)) s ⌝ }
+{
+    let end = c.end;
+    if n <= end {
+        return going(s);
+    }
+    if n < end + 6 {
+        return refuse(8, holder, s);
+    }
+    let x = wire::u48_in(m, start + end) as usize;
+    let ob = schema::object_at(b, at);
+    if is_text(ob) {
+        return refer_text(b, m, budget, d, holder, x, s);
+    }
+    refer(b, dir, m, budget, d, ob, holder, x, s)
 }
 
 // The n elements of list i, which start at `start`.
