@@ -6,4 +6,7 @@ pub mod OpenCases
 pub mod PlainCases
 pub mod WalkCases
 pub mod ListCases
+pub mod LeafCases
+pub mod ReferenceCases
+pub mod NumberCases
 pub mod VerdictCases

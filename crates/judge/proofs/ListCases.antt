@@ -32,9 +32,11 @@ use Rattle.laws.specs.Sound.{NoStruct, ObjectSound, KindSound}
 use Rattle.laws.specs.SoundAt.{union-index, case-sound-at}
 use Rattle.schema.specs.Directory.{Accepted, accepted-sound}
 use Rattle.wire.specs.Numbers.{Number}
-use Rattle.judge.specs.Headers.{isText}
+use Rattle.judge.specs.declared.Outcome.{Outcome}
+use Rattle.judge.specs.Headers.{isText, walkedOf}
 use Rattle.judge.proofs.SizeCases.{element-flat, element-object, element-union, list-kind}
 use Rattle.judge.proofs.TextCases.{text-only}
+use Rattle.judge.proofs.WalkCases.{goes, stops}
 
 -- ---- elements that lead nowhere
 flat-follows : (child : W.Child) (holder : ℕ) (S : Schema) (m : List ℕ) (k : Flat) (at bit : ℕ) (v : Spent) → NoStruct (OfFlat k)
@@ -71,9 +73,9 @@ scalars-go child S m holder start k f (suc n) i s e h =
 
 -- ---- a list by the number of its element's kind
 pub list-flat : (b dir : List ℕ) → Accepted b dir → (child : W.Child) (m : List ℕ) (holder start i n : ℕ) (s : Spent) → i < P.listCount b → (at : ℕ) → at ≡ P.listPlace b i
-    → (k : ℕ) → k ≡ P.kindAt b at → k < 13 → Going s ≡ W.elements child u48 (P.parse b) m holder start (Sc.elementOf (P.parse b) i) n 0 s
-list-flat b dir a child m holder start i n s l at ea k ek h =
-    scalars-go child (P.parse b) m holder start (Sc.elementOf (P.parse b) i) (P.flatOf k (P.argumentAt b at)) n 0 s
+    → (k : ℕ) → k ≡ P.kindAt b at → k < 13 → (r : Walked) → r ≡ Going s → r ≡ W.elements child u48 (P.parse b) m holder start (Sc.elementOf (P.parse b) i) n 0 s
+list-flat b dir a child m holder start i n s l at ea k ek h r f =
+    f ∙ scalars-go child (P.parse b) m holder start (Sc.elementOf (P.parse b) i) (P.flatOf k (P.argumentAt b at)) n 0 s
     (sym (list-kind b i at l ea) ∙ element-flat b at k ek h) (accepted-sound b dir a .lists i .scalar)
 
 module _ (b : List ℕ) (i : ℕ) (l : i < P.listCount b) (at : ℕ) (ea : at ≡ P.listPlace b i) (k : ℕ) (ek : k ≡ P.kindAt b at) where
@@ -117,29 +119,27 @@ module _ (child : W.Child) (S : Schema) (m : List ℕ) (holder start : ℕ) (k :
       ap (λ (l : ℕ). W.elements child u48 S m holder start k l 0 s) z
 
   module _ (j : ℕ) (v : Spent) (inv : W.elements child u48 S m holder start k n 0 s ≡ W.elements child u48 S m holder start k (n - j) j v) where
-    pub elements-done : n ≤ j → Going v ≡ W.elements child u48 S m holder start k n 0 s
+    pub elements-done : n ≤ j → (r : Walked) → r ≡ Going v → r ≡ W.elements child u48 S m holder start k n 0 s
     unfolding W.elements
-    elements-done h =
+    elements-done h r f =
         let z : n - j ≡ 0 = omega arith in
-        sym (inv ∙ ap (λ (l : ℕ). W.elements child u48 S m holder start k l j v) z)
+        f ∙ sym (inv ∙ ap (λ (l : ℕ). W.elements child u48 S m holder start k l j v) z)
 
-    module _ (h : j < n) (g : Walked) (eg : g ≡ W.follow child holder (T.elementStep u48 S m k start j) v) where
+    module _ (h : j < n) (g : Outcome) (eg : walkedOf g ≡ W.follow child holder (T.elementStep u48 S m k start j) v) where
       abbrev rest : Spent → Walked
       rest = W.elements child u48 S m holder start k (n - (j + 1)) (j + 1)
 
-      turned : W.elements child u48 S m holder start k n 0 s ≡ W.andThen g rest
+      turned : W.elements child u48 S m holder start k n 0 s ≡ W.andThen (walkedOf g) rest
       unfolding W.elements
       turned =
           let z : n - j ≡ suc (n - (j + 1)) = omega arith in
           inv ∙ ap (λ (l : ℕ). W.elements child u48 S m holder start k l j v) z ∙ ap (λ (w : Walked). W.andThen w rest) (sym eg)
 
-      stopped : (x : Refusal) (y : Spent) → g ≡ Refused x y → Refused x y ≡ W.elements child u48 S m holder start k n 0 s
-      unfolding W.andThen
-      stopped x y f = sym (turned ∙ ap (λ (w : Walked). W.andThen w rest) f)
+      stopped : (g .code ≡ 0 → ⊥) → walkedOf g ≡ W.elements child u48 S m holder start k n 0 s
+      stopped f = sym (turned ∙ stops g rest f)
 
-      turn : (u : Spent) → g ≡ Going u → W.elements child u48 S m holder start k n 0 s ≡ W.elements child u48 S m holder start k (n - (j + 1)) (j + 1) u
-      unfolding W.andThen
-      turn u f = turned ∙ ap (λ (w : Walked). W.andThen w rest) f
+      turn : g .code ≡ 0 → W.elements child u48 S m holder start k n 0 s ≡ W.elements child u48 S m holder start k (n - (j + 1)) (j + 1) (g .spent)
+      turn f = turned ∙ goes g rest f
 
 -- ---- the offsets of a list
 offset-step : (S : Schema) (m : List ℕ) (ob : Object) (start j at x : ℕ) → at ≡ start + 6 * j → Number m at 6 x
@@ -149,21 +149,21 @@ offset-step S m ob start j at x ea nx = ap (T.objectStep ob false 0) (nx .is ∙
 
 module _ (child : W.Child) (S : Schema) (m : List ℕ) (holder start : ℕ) (ob : Object) (n : ℕ) (s : Spent) (j : ℕ) (v : Spent)
     (inv : W.elements child u48 S m holder start (OfObject ob) n 0 s ≡ W.elements child u48 S m holder start (OfObject ob) (n - j) j v) (h : j < n) (at : ℕ)
-    (ea : at ≡ start + 6 * j) (x : ℕ) (nx : Number m at 6 x) (g : Walked) (eg : g ≡ W.follow child holder (T.objectStep ob false 0 x) v) where
-  by-step : g ≡ W.follow child holder (T.elementStep u48 S m (OfObject ob) start j) v
+    (ea : at ≡ start + 6 * j) (x : ℕ) (nx : Number m at 6 x) (g : Outcome) (eg : walkedOf g ≡ W.follow child holder (T.objectStep ob false 0 x) v) where
+  by-step : walkedOf g ≡ W.follow child holder (T.elementStep u48 S m (OfObject ob) start j) v
   by-step = eg ∙ ap (λ (q : Step). W.follow child holder q v) (offset-step S m ob start j at x ea nx)
 
-  pub references-stopped : (y : Refusal) (u : Spent) → g ≡ Refused y u → Refused y u ≡ W.elements child u48 S m holder start (OfObject ob) n 0 s
-  references-stopped y u f = stopped child S m holder start (OfObject ob) n s j v inv h g by-step y u f
+  pub references-stopped : (g .code ≡ 0 → ⊥) → walkedOf g ≡ W.elements child u48 S m holder start (OfObject ob) n 0 s
+  references-stopped f = stopped child S m holder start (OfObject ob) n s j v inv h g by-step f
 
-  pub references-turn : (u : Spent) → g ≡ Going u
-      → W.elements child u48 S m holder start (OfObject ob) n 0 s ≡ W.elements child u48 S m holder start (OfObject ob) (n - (j + 1)) (j + 1) u
-  references-turn u f = turn child S m holder start (OfObject ob) n s j v inv h g by-step u f
+  pub references-turn : g .code ≡ 0
+      → W.elements child u48 S m holder start (OfObject ob) n 0 s ≡ W.elements child u48 S m holder start (OfObject ob) (n - (j + 1)) (j + 1) (g .spent)
+  references-turn f = turn child S m holder start (OfObject ob) n s j v inv h g by-step f
 
 module _ (child : W.Child) (holder : ℕ) (ob : Object) (x : ℕ) (s : Spent) where
-  pub refer-none : x ≡ 0 → Going s ≡ W.follow child holder (T.objectStep ob false 0 x) s
+  pub refer-none : x ≡ 0 → (r : Walked) → r ≡ Going s → r ≡ W.follow child holder (T.objectStep ob false 0 x) s
   unfolding T.objectStep W.follow
-  refer-none h = simp (eq-eqb _ _ h)
+  refer-none h r f = simp (eq-eqb _ _ h) f
 
   pub refer-object : (x ≡ 0 → ⊥) → (r : Walked) → r ≡ child ob (ByOffset x) s → r ≡ W.follow child holder (T.objectStep ob false 0 x) s
   unfolding T.objectStep T.placeOf W.follow
@@ -177,26 +177,26 @@ choice-step S m i start j at ea = ap (λ (q : ℕ). T.unionStep (Sc.casesOf S i)
 
 module _ (child : W.Child) (S : Schema) (m : List ℕ) (holder start i n : ℕ) (s : Spent) (j : ℕ) (v : Spent)
     (inv : W.elements child u48 S m holder start (OfUnion i) n 0 s ≡ W.elements child u48 S m holder start (OfUnion i) (n - j) j v) (h : j < n) (at : ℕ)
-    (ea : at ≡ start + 8 * j) (g : Walked) (eg : g ≡ W.follow child holder (T.unionStep (Sc.casesOf S i) false 0 (le m at 2) (le m (at + 2) 6)) v) where
-  by-choice : g ≡ W.follow child holder (T.elementStep u48 S m (OfUnion i) start j) v
+    (ea : at ≡ start + 8 * j) (g : Outcome) (eg : walkedOf g ≡ W.follow child holder (T.unionStep (Sc.casesOf S i) false 0 (le m at 2) (le m (at + 2) 6)) v) where
+  by-choice : walkedOf g ≡ W.follow child holder (T.elementStep u48 S m (OfUnion i) start j) v
   by-choice = eg ∙ ap (λ (q : Step). W.follow child holder q v) (choice-step S m i start j at ea)
 
-  pub choices-stopped : (y : Refusal) (u : Spent) → g ≡ Refused y u → Refused y u ≡ W.elements child u48 S m holder start (OfUnion i) n 0 s
-  choices-stopped y u f = stopped child S m holder start (OfUnion i) n s j v inv h g by-choice y u f
+  pub choices-stopped : (g .code ≡ 0 → ⊥) → walkedOf g ≡ W.elements child u48 S m holder start (OfUnion i) n 0 s
+  choices-stopped f = stopped child S m holder start (OfUnion i) n s j v inv h g by-choice f
 
-  pub choices-turn : (u : Spent) → g ≡ Going u
-      → W.elements child u48 S m holder start (OfUnion i) n 0 s ≡ W.elements child u48 S m holder start (OfUnion i) (n - (j + 1)) (j + 1) u
-  choices-turn u f = turn child S m holder start (OfUnion i) n s j v inv h g by-choice u f
+  pub choices-turn : g .code ≡ 0
+      → W.elements child u48 S m holder start (OfUnion i) n 0 s ≡ W.elements child u48 S m holder start (OfUnion i) (n - (j + 1)) (j + 1) (g .spent)
+  choices-turn f = turn child S m holder start (OfUnion i) n s j v inv h g by-choice f
 
 module _ (child : W.Child) (m : List ℕ) (holder : ℕ) (cases : List Object) (at : ℕ) (s : Spent) (c : ℕ) (nc : Number m at 2 c) where
-  pub choice-none : c ≡ 0 → Going s ≡ W.follow child holder (T.unionStep cases false 0 (le m at 2) (le m (at + 2) 6)) s
+  pub choice-none : c ≡ 0 → (r : Walked) → r ≡ Going s → r ≡ W.follow child holder (T.unionStep cases false 0 (le m at 2) (le m (at + 2) 6)) s
   unfolding T.unionStep W.follow
-  choice-none h = simp (← (nc .is), eq-eqb _ _ h)
+  choice-none h r f = simp (← (nc .is), eq-eqb _ _ h) f
 
   module _ (h : c ≡ 0 → ⊥) (n : ℕ) (en : n ≡ length cases) where
-    pub choice-unknown : n < c → Going s ≡ W.follow child holder (T.unionStep cases false 0 (le m at 2) (le m (at + 2) 6)) s
+    pub choice-unknown : n < c → (r : Walked) → r ≡ Going s → r ≡ W.follow child holder (T.unionStep cases false 0 (le m at 2) (le m (at + 2) 6)) s
     unfolding T.unionStep W.follow
-    choice-unknown l = simp (← (nc .is), ne-eqb _ _ h, ← en, lt-leb _ _ l)
+    choice-unknown l r f = simp (← (nc .is), ne-eqb _ _ h, ← en, lt-leb _ _ l) f
 
     pub choice-known : c ≤ n → (ob : Object) → ob ≡ Sc.caseOf cases c → (x : ℕ) → Number m (at + 2) 6 x → (r : Walked)
         → r ≡ W.followChoice child holder ob (ByOffset x) s → r ≡ W.follow child holder (T.unionStep cases false 0 (le m at 2) (le m (at + 2) 6)) s

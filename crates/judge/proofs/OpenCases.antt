@@ -97,6 +97,15 @@ module _ (S : Schema) (m : List ℕ) (x : ℕ) (g : Header) (eg : g ≡ headerOf
   pub text-header-length : (n : ℕ) (r : Opened) → g ≡ Hd.Length n → r ≡ W.openContent u48 S m O.Text (x + 10) n → r ≡ W.openObject u48 S m O.Text (ByOffset x)
   text-header-length n r f q = open-offset S m O.Text (ByOffset x) x refl g (header-text S m O.Text x g refl eg) n r f q
 
+-- a table by its offset
+module _ (S : Schema) (m : List ℕ) (t id x : ℕ) (ei : id ≡ Sc.tableOf S t .id) (g : Header) (eg : g ≡ headerOf u48 m id x) where
+  pub table-header-refused : (n : ℕ) → g ≡ Hd.Refused n → Op.Refused n ≡ W.openObject u48 S m (O.Table t) (ByOffset x)
+  table-header-refused n f = open-refused S m (O.Table t) (ByOffset x) x refl g (header-table S m (O.Table t) x g t t id refl refl ei eg) n f
+
+  pub table-header-length : (n : ℕ) (r : Opened) → g ≡ Hd.Length n → r ≡ W.openContent u48 S m (O.Table t) (x + 10) n
+      → r ≡ W.openObject u48 S m (O.Table t) (ByOffset x)
+  table-header-length n r f q = open-offset S m (O.Table t) (ByOffset x) x refl g (header-table S m (O.Table t) x g t t id refl refl ei eg) n r f q
+
 -- ---- content of each object
 module _ (S : Schema) (m : List ℕ) (start n : ℕ) where
   pub text-short : length m < start + (n + 1) → Op.Refused 6 ≡ W.openContent u48 S m O.Text start n
@@ -163,6 +172,10 @@ object-fits S m ob (InPlace a k) start n e = content-fits S m ob a k start n e .
 pub opened-fits : (S : Schema) (m : List ℕ) (ob : Object) (p : Place) (g : Opened) (start n : ℕ) → g ≡ W.openObject u48 S m ob p → g ≡ Op.Content start n
     → start + W.contentSize u48 S ob n ≤ length m
 opened-fits S m ob p g start n eg e = object-fits S m ob p start n (sym eg ∙ e)
+
+pub table-opened : (S : Schema) (m : List ℕ) (t x : ℕ) (g : Opened) (start n : ℕ) → g ≡ W.openObject u48 S m (O.Table t) (ByOffset x) → g ≡ Op.Content start n → start + n ≤ length m
+unfolding W.contentSize
+table-opened S m t x g start n eg e = opened-fits S m (O.Table t) (ByOffset x) g start n eg e
 
 -- ---- content that fits, or not
 module _ (m : List ℕ) (start size n : ℕ) where

@@ -169,13 +169,13 @@ module _ (b m : List ℕ) (at start n : ℕ) (c : Cursor) (h : ℕ) (eh : h ≡ 
 
 -- ---- the record of member j
 module _ (b : List ℕ) (t j p : ℕ) (l : t < P.tableCount b) (h : j < length (Sc.tableOf (P.parse b) t .members)) (ep : p ≡ P.tablePlace b t) where
-  among : j < P.records b 4 p
+  pub among : j < P.records b 4 p
   among = subst (λ (q : ℕ). j < P.records b 4 q) (sym ep) (subst (λ (q : ℕ). j < q) (members-length b t l) h)
 
   pub record-inside : p + 4 + 1 + 2 * P.records b 4 p ≤ length b → (at : ℕ) → at ≡ p + 4 + 1 + 2 * j → at < length b
   record-inside i at e = let a = among in omega arith
 
-  plain-led : (at : ℕ) → at ≡ P.recordPlace 4 p j → P.memberAt b at ≡ Sc.memberOf (P.parse b) t j
+  pub plain-led : (at : ℕ) → at ≡ P.recordPlace 4 p j → P.memberAt b at ≡ Sc.memberOf (P.parse b) t j
   plain-led at e =
       ap (P.memberAt b) (e ∙ ap (λ (q : ℕ). P.recordPlace 4 q j) ep)
       ∙ sym (member-at b t j l (subst (λ (q : ℕ). j < P.records b 4 q) ep among))

@@ -2,12 +2,14 @@
 use mathlib.Core.Path.{_≡_, refl, sym, ap, _∙_, subst}
 use mathlib.Core.Bool.{Bool, true, false, _&&_}
 use mathlib.Core.List.{List}
-use Prim.Native.Nat.{ℕ, _+_, _^_, _<_, _≤_}
+use Prim.Native.Nat.{ℕ, _+_, _-_, _^_, _<_, _≤_}
 use native.Mathlib.Omega.{arith}
 use lib.ListN.{length}
 use lib.Dec.{eqb, leb}
-use borrow.Author.Tests.{le-leb, lt-leb}
+use borrow.Author.Tests.{le-leb, lt-leb, eq-eqb, ne-eqb, eqb-true}
+use Rattle.coding.specs.Lists.{pick}
 use Rattle.coding.specs.Bytes.{le, u48, largest, deepest}
+use Rattle.coding.specs.Schema.{Schema}
 use Rattle.coding.specs.Packed as P
 use Rattle.coding.specs.Lawful.{lawful}
 use Rattle.coding.specs.Walk as W
@@ -24,6 +26,9 @@ use Rattle.coding.specs.declared.Spent.{Spent}
 use Rattle.laws.specs.Sound.{ObjectSound}
 use Rattle.schema.specs.Directory.{Accepted, Judged, accepted-sound}
 use Rattle.wire.specs.Numbers.{Number}
+use Rattle.judge.specs.declared.Outcome.{Outcome}
+use Rattle.judge.specs.Headers.{walkedOf}
+use Rattle.judge.proofs.NumberCases.{NumberSmall, walk-small}
 
 module _ (m : List ℕ) where
   pub size-short : length m < 10 → false ≡ W.sizeOk u48 m
@@ -78,10 +83,22 @@ pub verdict-unlawful : (b dir m : List ℕ) (budget : Budget) (t : Bool) → Jud
 unfolding W.verdict
 verdict-unlawful b dir m budget t j f r e = simp (← (j .is), f) e
 
-pub verdict-going : (w : Walked) (s : Spent) → w ≡ Going s → record { number = 0; place = 0; visits = s .visits } ≡ W.verdictOf w
-unfolding W.verdictOf
-verdict-going w s e = rw e
+module _ (w : Outcome) where
+  pub verdict-going : w .code ≡ 0 → record { number = 0; place = 0; visits = w .spent .visits } ≡ W.verdictOf (walkedOf w)
+  unfolding W.verdictOf walkedOf
+  verdict-going e = simp (eq-eqb _ _ e)
 
-pub verdict-refused : (w : Walked) (x : Refusal) (s : Spent) → w ≡ Refused x s → record { number = x .number; place = x .place; visits = s .visits } ≡ W.verdictOf w
-unfolding W.verdictOf
-verdict-refused w x s e = rw e
+  pub verdict-refused : (w .code ≡ 0 → ⊥) → record { number = w .code - 1; place = w .place; visits = w .spent .visits } ≡ W.verdictOf (walkedOf w)
+  unfolding W.verdictOf walkedOf
+  verdict-refused f = simp (ne-eqb _ _ f)
+
+  pub code-small : (S : Schema) (m : List ℕ) (b : Budget) → walkedOf w ≡ W.walk u48 S m b → w .code ≤ 256
+  unfolding walkedOf
+  code-small S m b e = by (eqb (w .code) 0) refl
+    where
+      by : (t : Bool) → eqb (w .code) 0 ≡ t → w .code ≤ 256
+      by true q = let z = eqb-true (w .code) 0 q in omega arith
+      by false q =
+          let y : NumberSmall (pick (eqb (w .code) 0) (Going (w .spent)) (Refused (record { number = w .code - 1; place = w .place }) (w .spent))) = subst NumberSmall (sym e) (walk-small S m b) in
+          let z : w .code - 1 < 256 = rw q at y in
+          omega arith

@@ -35,9 +35,27 @@ use Rattle.laws.specs.SoundAt.{member-sound-at}
 use Rattle.schema.specs.Directory.{Accepted, accepted-sound}
 use Rattle.layout.specs.Bounds.{Laid}
 use Rattle.step.specs.Lead.{leadOf, PlaceSmall, StepSmall, Stepped}
-use Rattle.judge.specs.Headers.{isText, Led}
+use Rattle.judge.specs.declared.Outcome.{Outcome}
+use Rattle.judge.specs.Headers.{isText, Led, walkedOf}
 use Rattle.judge.proofs.EndCases.{Ended, members-past}
 use Rattle.judge.proofs.TextCases.{text-only}
+
+-- ---- a walker's answer
+pub answer-refuses : (k n at : ℕ) (s : Spent) → k ≡ n → walkedOf (record { code = k + 1; place = at; spent = s }) ≡ W.refuse n at s
+unfolding walkedOf W.refuse
+answer-refuses k n at s e =
+    let z : (k + 1 ≡ 0 → ⊥) = λ q. absurd (omega arith) in
+    let y : k + 1 - 1 ≡ n = omega arith in
+    simp (ne-eqb (k + 1) 0 z) (ap (λ (x : ℕ). Refused (record { number = x; place = at }) s) y)
+
+-- going on, and being stopped
+pub goes : (w : Outcome) (next : Spent → Walked) → w .code ≡ 0 → W.andThen (walkedOf w) next ≡ next (w .spent)
+unfolding W.andThen walkedOf
+goes w next e = simp (eq-eqb _ _ e)
+
+pub stops : (w : Outcome) (next : Spent → Walked) → (w .code ≡ 0 → ⊥) → W.andThen (walkedOf w) next ≡ walkedOf w
+unfolding W.andThen walkedOf
+stops w next f = simp (ne-eqb _ _ f)
 
 -- ---- an arrival
 abbrev pub one-more : Spent → Spent
@@ -75,26 +93,32 @@ module _ (d : ℕ) (S : Schema) (m : List ℕ) (b : Budget) (ob : Object) (p : P
           by zero l′ q = absurd (l′ refl)
           by (suc k) l′ q = simp (lt-ltb _ _ h, ← eg, eq, ← e, ← et) (rw sub-one at q)
 
--- ---- a text by its offset
-module _ (d : ℕ) (S : Schema) (m : List ℕ) (b : Budget) (x : ℕ) (s : Spent) where
-  module _ (r : Walked) where
-    pub text-spent : b .visits ≤ s .visits → r ≡ W.refuse 4 x s → r ≡ W.visit d u48 S m b O.Text (ByOffset x) s
-    unfolding W.placed
-    text-spent h f = visit-spent d S m b O.Text (ByOffset x) s x refl r h f
+-- ---- an arrival by its offset
+module _ (d : ℕ) (S : Schema) (m : List ℕ) (b : Budget) (ob : Object) (x : ℕ) (s : Spent) (r : Walked) where
+  pub offset-spent : b .visits ≤ s .visits → r ≡ W.refuse 4 x s → r ≡ W.visit d u48 S m b ob (ByOffset x) s
+  unfolding W.placed
+  offset-spent h f = visit-spent d S m b ob (ByOffset x) s x refl r h f
 
-    pub text-deep : s .visits < b .visits → (t : Spent) → t ≡ one-more s → d ≡ 0 → r ≡ W.refuse 5 x t → r ≡ W.visit d u48 S m b O.Text (ByOffset x) s
-    unfolding W.placed
-    text-deep h t et z f = visit-deep d S m b O.Text (ByOffset x) s x refl r h t et z f
+  pub offset-deep : s .visits < b .visits → (t : Spent) → t ≡ one-more s → d ≡ 0 → r ≡ W.refuse 5 x t → r ≡ W.visit d u48 S m b ob (ByOffset x) s
+  unfolding W.placed
+  offset-deep h t et z f = visit-deep d S m b ob (ByOffset x) s x refl r h t et z f
 
-    pub text-refused : s .visits < b .visits → (t : Spent) → t ≡ one-more s → (d ≡ 0 → ⊥) → (g : Opened) → g ≡ W.openObject u48 S m O.Text (ByOffset x)
-        → (n : ℕ) → g ≡ Op.Refused n → r ≡ W.refuse n x t → r ≡ W.visit d u48 S m b O.Text (ByOffset x) s
-    unfolding W.placed
-    text-refused h t et l g eg n eq f = visit-refused d S m b O.Text (ByOffset x) s x refl r h t et l g eg n eq f
+  pub offset-refused : s .visits < b .visits → (t : Spent) → t ≡ one-more s → (d ≡ 0 → ⊥) → (g : Opened) → g ≡ W.openObject u48 S m ob (ByOffset x)
+      → (n : ℕ) → g ≡ Op.Refused n → r ≡ W.refuse n x t → r ≡ W.visit d u48 S m b ob (ByOffset x) s
+  unfolding W.placed
+  offset-refused h t et l g eg n eq f = visit-refused d S m b ob (ByOffset x) s x refl r h t et l g eg n eq f
 
+module _ (d : ℕ) (S : Schema) (m : List ℕ) (b : Budget) (x : ℕ) (s : Spent) (r : Walked) where
   pub text-judged : s .visits < b .visits → (t : Spent) → t ≡ one-more s → (d ≡ 0 → ⊥) → (g : Opened) → g ≡ W.openObject u48 S m O.Text (ByOffset x)
-      → (start n : ℕ) → g ≡ Op.Content start n → Going t ≡ W.visit d u48 S m b O.Text (ByOffset x) s
+      → (start n : ℕ) → g ≡ Op.Content start n → r ≡ Going t → r ≡ W.visit d u48 S m b O.Text (ByOffset x) s
   unfolding W.placed W.content
-  text-judged h t et l g eg start n eq = visit-content d S m b O.Text (ByOffset x) s x refl (Going t) h t et l g eg start n eq refl
+  text-judged h t et l g eg start n eq f = visit-content d S m b O.Text (ByOffset x) s x refl r h t et l g eg start n eq f
+
+  pub table-judged : (i : ℕ) → s .visits < b .visits → (t : Spent) → t ≡ one-more s → (d ≡ 0 → ⊥) → (g : Opened) → g ≡ W.openObject u48 S m (O.Table i) (ByOffset x)
+      → (start n : ℕ) → g ≡ Op.Content start n
+      → r ≡ W.members (W.visit (d - 1) u48 S m b) u48 S m x start n L.begin (Sc.tableOf S i .members) t → r ≡ W.visit d u48 S m b (O.Table i) (ByOffset x) s
+  unfolding W.placed W.content
+  table-judged i h t et l g eg start n eq f = visit-content d S m b (O.Table i) (ByOffset x) s x refl r h t et l g eg start n eq f
 
 -- ---- an arrival by its place
 module _ (d : ℕ) (S : Schema) (m : List ℕ) (b : Budget) (ob : Object) (p : Place) (s : Spent) (r : Walked) where
@@ -110,13 +134,13 @@ module _ (d : ℕ) (S : Schema) (m : List ℕ) (b : Budget) (ob : Object) (p : P
 
 -- ---- content by the object
 module _ (child : W.Child) (S : Schema) (m : List ℕ) (ob : Object) (holder start n : ℕ) (s : Spent) where
-  pub content-text : ob ≡ O.Text → Going s ≡ W.content child u48 S m ob holder start n s
+  pub content-text : ob ≡ O.Text → (r : Walked) → r ≡ Going s → r ≡ W.content child u48 S m ob holder start n s
   unfolding W.content
-  content-text e = rw e
+  content-text e r f = rw e f
 
-  pub content-bytes : ob ≡ O.Bytes → Going s ≡ W.content child u48 S m ob holder start n s
+  pub content-bytes : ob ≡ O.Bytes → (r : Walked) → r ≡ Going s → r ≡ W.content child u48 S m ob holder start n s
   unfolding W.content
-  content-bytes e = rw e
+  content-bytes e r f = rw e f
 
   module _ (r : Walked) (i j : ℕ) (ej : j ≡ i) where
     pub content-list : ob ≡ O.List i → r ≡ W.elements child u48 S m holder start (Sc.elementOf S j) n 0 s → r ≡ W.content child u48 S m ob holder start n s
@@ -141,23 +165,23 @@ table-fits S ob start n c i e h = subst (λ (o : Object). start + W.contentSize 
 
 -- ---- what a step leads to
 module _ (child : W.Child) (holder : ℕ) (step : Step) (s : Spent) where
-  pub follow-absent : step ≡ St.Absent → Going s ≡ W.follow child holder step s
-  unfolding W.follow
-  follow-absent e = rw e
-
-  pub follow-value : (x : ℕ) → step ≡ St.Value x → Going s ≡ W.follow child holder step s
-  unfolding W.follow
-  follow-value x e = rw e
-
-  pub follow-unknown : (x : ℕ) → step ≡ St.Unknown x → Going s ≡ W.follow child holder step s
-  unfolding W.follow
-  follow-unknown x e = rw e
-
-  pub follow-struct : (i at : ℕ) → step ≡ St.Struct i at → Going s ≡ W.follow child holder step s
-  unfolding W.follow
-  follow-struct i at e = rw e
-
   module _ (r : Walked) where
+    pub follow-absent : step ≡ St.Absent → r ≡ Going s → r ≡ W.follow child holder step s
+    unfolding W.follow
+    follow-absent e f = rw e f
+
+    pub follow-value : (x : ℕ) → step ≡ St.Value x → r ≡ Going s → r ≡ W.follow child holder step s
+    unfolding W.follow
+    follow-value x e f = rw e f
+
+    pub follow-unknown : (x : ℕ) → step ≡ St.Unknown x → r ≡ Going s → r ≡ W.follow child holder step s
+    unfolding W.follow
+    follow-unknown x e f = rw e f
+
+    pub follow-struct : (i at : ℕ) → step ≡ St.Struct i at → r ≡ Going s → r ≡ W.follow child holder step s
+    unfolding W.follow
+    follow-struct i at e f = rw e f
+
     pub follow-refused : (n : ℕ) → step ≡ St.Refused n → r ≡ W.refuse n holder s → r ≡ W.follow child holder step s
     unfolding W.follow
     follow-refused n e f = rw e f
@@ -224,26 +248,27 @@ module _ (child : W.Child) (S : Schema) (m : List ℕ) (holder start n t : ℕ) 
   module _ (c : Cursor) (j : ℕ) (v : Spent)
       (inv : W.members child u48 S m holder start n L.begin (Sc.tableOf S t .members) s ≡ W.members child u48 S m holder start n c (drop j (Sc.tableOf S t .members)) v)
     where
-      pub members-ended : (x : ℕ) → x ≡ L.bitByte c → x ≤ c .end → n ≤ x → Going v ≡ W.members child u48 S m holder start n L.begin (Sc.tableOf S t .members) s
-      members-ended x ex l h =
+      pub members-ended : (x : ℕ) → x ≡ L.bitByte c → x ≤ c .end → n ≤ x → (r : Walked) → r ≡ Going v
+          → r ≡ W.members child u48 S m holder start n L.begin (Sc.tableOf S t .members) s
+      members-ended x ex l h r f =
           let ended : Ended n c = record { end = omega arith; byte = omega arith } in
-          sym (inv ∙ members-past child S m holder start n c (drop j (Sc.tableOf S t .members)) v ended)
+          f ∙ sym (inv ∙ members-past child S m holder start n c (drop j (Sc.tableOf S t .members)) v ended)
 
   module _ (c : Cursor) (j : ℕ) (v : Spent)
       (inv : W.members child u48 S m holder start n L.begin (Sc.tableOf S t .members) s ≡ W.members child u48 S m holder start n c (drop j (Sc.tableOf S t .members)) v)
       (count : ℕ) (ec : count ≡ length (Sc.tableOf S t .members)) where
-    pub members-done : count ≤ j → Going v ≡ W.members child u48 S m holder start n L.begin (Sc.tableOf S t .members) s
+    pub members-done : count ≤ j → (r : Walked) → r ≡ Going v → r ≡ W.members child u48 S m holder start n L.begin (Sc.tableOf S t .members) s
     unfolding W.members
-    members-done h =
+    members-done h r f =
         let l : length (Sc.tableOf S t .members) ≤ j = omega arith in
-        sym (inv ∙ ap (λ (ms : List Member). W.members child u48 S m holder start n c ms v) (drop-of-length-le (Sc.tableOf S t .members) l))
+        f ∙ sym (inv ∙ ap (λ (ms : List Member). W.members child u48 S m holder start n c ms v) (drop-of-length-le (Sc.tableOf S t .members) l))
 
-    module _ (h : j < count) (step : Step) (es : step ≡ leadOf (T.memberStep u48 S m start n c (Sc.memberOf S t j))) (g : Walked)
-        (eg : g ≡ W.follow child holder step v) where
+    module _ (h : j < count) (step : Step) (es : step ≡ leadOf (T.memberStep u48 S m start n c (Sc.memberOf S t j))) (g : Outcome)
+        (eg : walkedOf g ≡ W.follow child holder step v) where
       abbrev behind : Spent → Walked
       behind = W.members child u48 S m holder start n (L.afterMember u48 S (Sc.memberOf S t j) c) (drop (suc j) (Sc.tableOf S t .members))
 
-      split : all-members ≡ W.andThen g behind
+      split : all-members ≡ W.andThen (walkedOf g) behind
       unfolding W.members Sc.memberOf
       split =
           let l : j < length (Sc.tableOf S t .members) = omega arith in
@@ -251,18 +276,16 @@ module _ (child : W.Child) (S : Schema) (m : List ℕ) (holder start n t : ℕ) 
           ∙ ap (λ (w : Walked). W.andThen w behind)
           (sym (lead-follows child holder (T.memberStep u48 S m start n c (Sc.memberOf S t j)) v) ∙ ap (λ (q : Step). W.follow child holder q v) (sym es) ∙ sym eg)
 
-      pub members-stopped : (x : Refusal) (y : Spent) → g ≡ Refused x y → Refused x y ≡ W.members child u48 S m holder start n L.begin (Sc.tableOf S t .members) s
-      unfolding W.andThen
-      members-stopped x y f = sym (split ∙ ap (λ (w : Walked). W.andThen w behind) f)
+      pub members-stopped : (g .code ≡ 0 → ⊥) → walkedOf g ≡ W.members child u48 S m holder start n L.begin (Sc.tableOf S t .members) s
+      members-stopped f = sym (split ∙ stops g behind f)
 
-      pub members-turn : (u : Spent) → g ≡ Going u → (next : Cursor) → next ≡ L.afterMember u48 S (Sc.memberOf S t j) c
+      pub members-turn : g .code ≡ 0 → (next : Cursor) → next ≡ L.afterMember u48 S (Sc.memberOf S t j) c
           → W.members child u48 S m holder start n L.begin (Sc.tableOf S t .members) s
-          ≡ W.members child u48 S m holder start n next (drop (j + 1) (Sc.tableOf S t .members)) u
-      unfolding W.andThen
-      members-turn u f next en =
-          split ∙ ap (λ (w : Walked). W.andThen w behind) f
-          ∙ ap (λ (q : Cursor). W.members child u48 S m holder start n q (drop (suc j) (Sc.tableOf S t .members)) u) (sym en)
-          ∙ ap (λ (k : ℕ). W.members child u48 S m holder start n next (drop k (Sc.tableOf S t .members)) u) (sym (add-one j))
+          ≡ W.members child u48 S m holder start n next (drop (j + 1) (Sc.tableOf S t .members)) (g .spent)
+      members-turn f next en =
+          split ∙ goes g behind f
+          ∙ ap (λ (q : Cursor). W.members child u48 S m holder start n q (drop (suc j) (Sc.tableOf S t .members)) (g .spent)) (sym en)
+          ∙ ap (λ (k : ℕ). W.members child u48 S m holder start n next (drop k (Sc.tableOf S t .members)) (g .spent)) (sym (add-one j))
 
 -- ---- one member
 pub member-sound-of : (b dir : List ℕ) → Accepted b dir → (t j : ℕ) (r : Member) → r ≡ Sc.memberOf (P.parse b) t j

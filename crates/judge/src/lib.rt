@@ -5,7 +5,6 @@ use coding::Kind;
 use coding::Object;
 use coding::Opened;
 use coding::Place;
-use coding::Refusal;
 use coding::Spent;
 use coding::Step;
 use coding::Verdict;
@@ -247,14 +246,31 @@ pub fn placed(p: Place) -> usize
     }
 }
 
-fn refuse(n: u8, at: usize, s: Spent) -> Walked
-    ensures { λ r. ⌜ r ≡ W.refuse n at s ⌝ }
+// What a walker answers, in whole words: 0 to go on, or a refusal's number and 1; its place; what is spent.
+pub struct Outcome {
+    pub code: usize,
+    pub place: usize,
+    pub spent: Spent,
+}
+
+fn going(s: Spent) -> Outcome
+    ensures { λ r. ⌜ Hs.walkedOf r ≡ Walked.Going s ⌝ }
 {
-    let why = Refusal {
-        number: n,
+    Outcome {
+        code: 0,
+        place: 0,
+        spent: s,
+    }
+}
+
+fn refuse(n: u8, at: usize, s: Spent) -> Outcome
+    ensures { λ r. ⌜ Hs.walkedOf r ≡ W.refuse n at s ⌝ }
+{
+    Outcome {
+        code: wire::index(n) + 1,
         place: at,
-    };
-    Walked::Refused(why, s)
+        spent: s,
+    }
 }
 
 // ---- texts, which no walker needs
@@ -281,9 +297,9 @@ fn open_text(b: &[u8], m: &[u8], x: usize) -> Opened
 }
 
 // An arrival at the text at an offset.
-fn visit_text(b: &[u8], m: &[u8], budget: Budget, d: usize, x: usize, s: Spent) -> Walked
+fn visit_text(b: &[u8], m: &[u8], budget: Budget, d: usize, x: usize, s: Spent) -> Outcome
     requires { ⌜ x < 2 ^ 48 ⌝ }
-    ensures { λ r. ⌜ r ≡ W.visit d B.u48 (P.parse (now (b .entry))) (now (m .entry)) budget Object.Text (Place.ByOffset x) s ⌝ }
+    ensures { λ r. ⌜ Hs.walkedOf r ≡ W.visit d B.u48 (P.parse (now (b .entry))) (now (m .entry)) budget Object.Text (Place.ByOffset x) s ⌝ }
 {
     let spent = s.visits;
     if budget.visits <= spent {
@@ -295,7 +311,7 @@ fn visit_text(b: &[u8], m: &[u8], budget: Budget, d: usize, x: usize, s: Spent) 
     }
     match open_text(b, m, x) {
         Opened::Refused(e) => refuse(e, x, t),
-        Opened::Content(_, _) => Walked::Going(t),
+        Opened::Content(_, _) => going(t),
     }
 }
 
@@ -308,12 +324,12 @@ fn refer_text(
     holder: usize,
     x: usize,
     s: Spent,
-) -> Walked
+) -> Outcome
     requires { ⌜ x < 2 ^ 48 ⌝ }
-    ensures { λ r. ⌜ r ≡ W.follow (W.visit d B.u48 (P.parse (now (b .entry))) (now (m .entry)) budget) holder (T.objectStep Object.Text false 0 x) s ⌝ }
+    ensures { λ r. ⌜ Hs.walkedOf r ≡ W.follow (W.visit d B.u48 (P.parse (now (b .entry))) (now (m .entry)) budget) holder (T.objectStep Object.Text false 0 x) s ⌝ }
 {
     if x == 0 {
-        return Walked::Going(s);
+        return going(s);
     }
     visit_text(b, m, budget, d, x, s)
 }
@@ -328,30 +344,27 @@ fn texts(
     start: usize,
     n: usize,
     s: Spent,
-) -> Walked
+) -> Outcome
     requires { ⌜ (length (now m) ≤ 16777215) × (start + 6 * n ≤ length (now m)) ⌝ }
-    ensures { λ r. ⌜ r ≡ W.elements (W.visit d B.u48 (P.parse (now (b .entry))) (now (m .entry)) budget) B.u48 (P.parse (now (b .entry))) (now (m .entry)) holder start (Kind.OfObject Object.Text) n 0 s ⌝ }
+    ensures { λ r. ⌜ Hs.walkedOf r ≡ W.elements (W.visit d B.u48 (P.parse (now (b .entry))) (now (m .entry)) budget) B.u48 (P.parse (now (b .entry))) (now (m .entry)) holder start (Kind.OfObject Object.Text) n 0 s ⌝ }
 {
     let mut v = s;
     let mut at = start;
     let mut j: usize = 0;
     while j < n {
         let x = wire::u48_in(m, at) as usize;
-        match refer_text(b, m, budget, d, holder, x, v) {
-            Walked::Going(u) => {
-                v = u;
-            }
-            Walked::Refused(y, u) => {
-                return Walked::Refused(y, u);
-            }
+        let g = refer_text(b, m, budget, d, holder, x, v);
+        if g.code != 0 {
+            return g;
         }
+        v = g.spent;
         at += 6;
         j += 1;
     }
-    Walked::Going(v)
+    going(v)
 }
 
-// ---- the walkers
+// ---- records by their first byte
 // Whether a record's first byte says a number, a float or an enum, neither optional nor in place.
 fn is_plain(h: usize) -> bool
     ensures { λ r. ⌜ (r ≡ true → Hs.Plain h) ⌝ }
@@ -379,6 +392,298 @@ fn plain_width(k: usize) -> usize
     wire::index(schema::width_of(k))
 }
 
+// ---- leaf tables: numbers, floats, enums and texts, none optional or in place, which no walker needs
+// Whether a record's first byte says such a member.
+fn is_leaf(h: usize) -> bool
+    ensures { λ r. ⌜ (r ≡ true → Hs.Leaf h) ⌝ }
+{
+    if h == 104 {
+        return true;
+    }
+    is_plain(h)
+}
+
+// Its bytes.
+fn leaf_width(h: usize) -> usize
+    requires { ⌜ Hs.Leaf h ⌝ }
+    ensures { λ r. ⌜ (r ≡ Hs.leafWidth h) × (r < 256) ⌝ }
+{
+    if h == 104 {
+        return 6;
+    }
+    plain_width(wire::eighth(h))
+}
+
+// Whether all of `count` records are such, of the table that stands at `first`.
+fn all_leaves(b: &[u8], first: usize, count: usize) -> bool
+    requires { ⌜ (first < 65536) × (count < 256) × (first + 4 + 1 + 2 * count ≤ length (now b)) ⌝ }
+    ensures { λ r. ⌜ (r ≡ true → Hs.Leaves (now (b .entry)) first count) ⌝ }
+{
+    let mut j: usize = 0;
+    while j < count {
+        let at = schema::record_place(4, first, j);
+        if is_leaf(wire::index(wire::byte_in(b, at))) {
+            j += 1;
+        } else {
+            return false;
+        }
+    }
+    true
+}
+
+// The member of the record at `at`, of a fixed part that ends behind its first byte: it may be cut, and a text is arrived at.
+fn leaf_member(
+    b: &[u8],
+    m: &[u8],
+    budget: Budget,
+    d: usize,
+    at: usize,
+    holder: usize,
+    start: usize,
+    n: usize,
+    end: usize,
+    s: Spent,
+) -> Outcome
+    requires { ⌜ (at < length (now b)) × (Hs.Leaf (getD (now b) at 0)) ⌝ }
+    requires { ⌜ (length (now m) ≤ 16777215) × (start + n ≤ length (now m)) × (end < n) ⌝ }
+    ensures { λ r. ⌜ Hs.walkedOf r ≡ W.follow (W.visit d B.u48 (P.parse (now (b .entry))) (now (m .entry)) budget) holder (T.memberStep B.u48 (P.parse (now (b .entry))) (now (m .entry)) start n (Hs.noBool end) (P.memberAt (now (b .entry)) at)) s ⌝ }
+{
+    let h = wire::index(wire::byte_in(b, at));
+    if n < end + leaf_width(h) {
+        return refuse(8, holder, s);
+    }
+    if h == 104 {
+        let x = wire::u48_in(m, start + end) as usize;
+        return refer_text(b, m, budget, d, holder, x, s);
+    }
+    going(s)
+}
+
+// The members of leaf table t.
+fn leaf_members(
+    b: &[u8],
+    m: &[u8],
+    budget: Budget,
+    d: usize,
+    t: u8,
+    first: usize,
+    count: usize,
+    holder: usize,
+    start: usize,
+    n: usize,
+    s: Spent,
+) -> Outcome
+    requires { ⌜ (Hs.LeafTable (now b) t first count) × (length (now m) ≤ 16777215) × (start + n ≤ length (now m)) ⌝ }
+    ensures { λ r. ⌜ Hs.walkedOf r ≡ W.members (W.visit d B.u48 (P.parse (now (b .entry))) (now (m .entry)) budget) B.u48 (P.parse (now (b .entry))) (now (m .entry)) holder start n L.begin (Sc.tableOf (P.parse (now (b .entry))) t .members) s ⌝ }
+{
+    let mut end: usize = 0;
+    let mut v = s;
+    let mut j: usize = 0;
+    while j < count {
+        if n <= end {
+            return going(v);
+        }
+        let at = schema::record_place(4, first, j);
+        let g = leaf_member(b, m, budget, d, at, holder, start, n, end, v);
+        if g.code != 0 {
+            return g;
+        }
+        v = g.spent;
+        end += leaf_width(wire::index(wire::byte_in(b, at)));
+        j += 1;
+    }
+    going(v)
+}
+
+// Table t with its id, at an offset.
+fn open_table(b: &[u8], m: &[u8], t: u8, id: u64, x: usize) -> Opened
+    requires { ⌜ (x < 2 ^ 48) × (id ≡ Sc.tableOf (P.parse (now b)) t .id) ⌝ }
+    ensures { λ r. ⌜ r ≡ W.openObject B.u48 (P.parse (now (b .entry))) (now (m .entry)) (Object.Table t) (Place.ByOffset x) ⌝ }
+{
+    match TableObject::header(m, x, id) {
+        Header::Refused(e) => Opened::Refused(e),
+        Header::Length(n) => table_content(b, m, t, x + 10, n),
+    }
+}
+
+// An arrival at leaf table t at an offset.
+fn visit_leaf(
+    b: &[u8],
+    m: &[u8],
+    budget: Budget,
+    d: usize,
+    t: u8,
+    id: u64,
+    first: usize,
+    count: usize,
+    x: usize,
+    s: Spent,
+) -> Outcome
+    requires { ⌜ (Hs.LeafTable (now b) t first count) × (length (now m) ≤ 16777215) × (x < 2 ^ 48) × (id ≡ Sc.tableOf (P.parse (now b)) t .id) ⌝ }
+    ensures { λ r. ⌜ Hs.walkedOf r ≡ W.visit d B.u48 (P.parse (now (b .entry))) (now (m .entry)) budget (Object.Table t) (Place.ByOffset x) s ⌝ }
+{
+    let spent = s.visits;
+    if budget.visits <= spent {
+        return refuse(4, x, s);
+    }
+    let v = Spent { visits: spent + 1 };
+    if d == 0 {
+        return refuse(5, x, v);
+    }
+    match open_table(b, m, t, id, x) {
+        Opened::Refused(e) => refuse(e, x, v),
+        Opened::Content(start, n) => leaf_members(
+            b,
+            m,
+            budget,
+            d - 1,
+            t,
+            first,
+            count,
+            x,
+            start,
+            n,
+            v,
+        ),
+    }
+}
+
+// What an offset in a list of leaf table t leads to.
+fn refer_leaf(
+    b: &[u8],
+    m: &[u8],
+    budget: Budget,
+    d: usize,
+    t: u8,
+    id: u64,
+    first: usize,
+    count: usize,
+    holder: usize,
+    x: usize,
+    s: Spent,
+) -> Outcome
+    requires { ⌜ (Hs.LeafTable (now b) t first count) × (length (now m) ≤ 16777215) × (x < 2 ^ 48) × (id ≡ Sc.tableOf (P.parse (now b)) t .id) ⌝ }
+    ensures { λ r. ⌜ Hs.walkedOf r ≡ W.follow (W.visit d B.u48 (P.parse (now (b .entry))) (now (m .entry)) budget) holder (T.objectStep (Object.Table t) false 0 x) s ⌝ }
+{
+    if x == 0 {
+        return going(s);
+    }
+    visit_leaf(b, m, budget, d, t, id, first, count, x, s)
+}
+
+// The n tables of a list of leaf table t, whose offsets start at `start`.
+fn leaf_tables(
+    b: &[u8],
+    m: &[u8],
+    budget: Budget,
+    d: usize,
+    t: u8,
+    id: u64,
+    first: usize,
+    count: usize,
+    holder: usize,
+    start: usize,
+    n: usize,
+    s: Spent,
+) -> Outcome
+    requires { ⌜ (Hs.LeafTable (now b) t first count) × (id ≡ Sc.tableOf (P.parse (now b)) t .id) × (length (now m) ≤ 16777215) × (start + 6 * n ≤ length (now m)) ⌝ }
+    ensures { λ r. ⌜ Hs.walkedOf r ≡ W.elements (W.visit d B.u48 (P.parse (now (b .entry))) (now (m .entry)) budget) B.u48 (P.parse (now (b .entry))) (now (m .entry)) holder start (Kind.OfObject (Object.Table t)) n 0 s ⌝ }
+{
+    let mut v = s;
+    let mut at = start;
+    let mut j: usize = 0;
+    while j < n {
+        let x = wire::u48_in(m, at) as usize;
+        let g = refer_leaf(b, m, budget, d, t, id, first, count, holder, x, v);
+        if g.code != 0 {
+            return g;
+        }
+        v = g.spent;
+        at += 6;
+        j += 1;
+    }
+    going(v)
+}
+
+// Whether the object is a leaf table.
+fn is_leaf_table(b: &[u8], dir: &[u16], ob: Object) -> bool
+    requires { ⌜ (Accepted (now b) (now dir)) × (ObjectSound (P.parse (now b)) ob) ⌝ }
+    ensures { λ r. ⌜ (r ≡ true → Hs.LeafObject (now (b .entry)) ob) ⌝ }
+{
+    match ob {
+        Object::Text => false,
+        Object::Bytes => false,
+        Object::List(_) => false,
+        Object::Table(t) => {
+            let first = schema::table_place(b, dir, wire::index(t));
+            all_leaves(b, first, schema::records(b, 4, first))
+        }
+    }
+}
+
+// The n objects of a list of a leaf table.
+fn leaf_references(
+    b: &[u8],
+    dir: &[u16],
+    m: &[u8],
+    budget: Budget,
+    d: usize,
+    ob: Object,
+    holder: usize,
+    start: usize,
+    n: usize,
+    s: Spent,
+) -> Outcome
+    requires { ⌜ (Accepted (now b) (now dir)) × (length (now m) ≤ 16777215) × (ObjectSound (P.parse (now b)) ob) × (start + 6 * n ≤ length (now m)) × (Hs.LeafObject (now b) ob) ⌝ }
+    ensures { λ r. ⌜ Hs.walkedOf r ≡ W.elements (W.visit d B.u48 (P.parse (now (b .entry))) (now (m .entry)) budget) B.u48 (P.parse (now (b .entry))) (now (m .entry)) holder start (Kind.OfObject ob) n 0 s ⌝ }
+{
+    match ob {
+        Object::Text => going(s),
+        Object::Bytes => going(s),
+        Object::List(_) => going(s),
+        Object::Table(t) => {
+            let i = wire::index(t);
+            let first = schema::table_place(b, dir, i);
+            let count = schema::records(b, 4, first);
+            let id = schema::table_id(b, dir, i);
+            leaf_tables(b, m, budget, d, t, id, first, count, holder, start, n, s)
+        }
+    }
+}
+
+// ---- objects by their offset, neither optional nor in place
+// Whether the record at `at` says such a member.
+fn refers(b: &[u8], at: usize) -> bool
+    requires { ⌜ at < length (now b) ⌝ }
+    ensures { λ r. ⌜ (r ≡ true → Hs.Refers (getD (now (b .entry)) at 0)) ⌝ }
+{
+    let h = wire::index(wire::byte_in(b, at));
+    if h < 104 {
+        return false;
+    }
+    if 135 < h {
+        return false;
+    }
+    if wire::low_three(h) == 0 {
+        return true;
+    }
+    false
+}
+
+// Behind it.
+fn behind_reference(c: Cursor) -> Cursor
+    requires { ⌜ (c .byte ≤ c .end) × (c .bit ≤ 8) × (c .end < 2 ^ 58) ⌝ }
+    ensures { λ r. ⌜ (r ≡ L.afterBytes 6 c) × Laid (c .end + 6) r ⌝ }
+{
+    let end = c.end;
+    Cursor {
+        end: end + 6,
+        byte: c.byte,
+        bit: c.bit,
+    }
+}
+
+// ---- the walkers
 // Such a member of the record at `at`: it leads nowhere, but may be cut.
 fn lead_number(
     b: &[u8],
@@ -452,9 +757,9 @@ fn visit(
     ob: Object,
     p: Place,
     s: Spent,
-) -> Walked
+) -> Outcome
     requires { ⌜ (Accepted (now b) (now dir)) × (length (now m) ≤ 16777215) × (ObjectSound (P.parse (now b)) ob) × D.PlaceSmall p ⌝ }
-    ensures { λ r. ⌜ r ≡ W.visit d B.u48 (P.parse (now (b .entry))) (now (m .entry)) budget ob p s ⌝ }
+    ensures { λ r. ⌜ Hs.walkedOf r ≡ W.visit d B.u48 (P.parse (now (b .entry))) (now (m .entry)) budget ob p s ⌝ }
 {
     let at = placed(p);
     let spent = s.visits;
@@ -483,14 +788,14 @@ fn content(
     start: usize,
     n: usize,
     s: Spent,
-) -> Walked
+) -> Outcome
     requires { ⌜ (Accepted (now b) (now dir)) × (length (now m) ≤ 16777215) × (ObjectSound (P.parse (now b)) ob) ⌝ }
     requires { ⌜ start + W.contentSize B.u48 (P.parse (now b)) ob n ≤ length (now m) ⌝ }
-    ensures { λ r. ⌜ r ≡ W.content (W.visit d B.u48 (P.parse (now (b .entry))) (now (m .entry)) budget) B.u48 (P.parse (now (b .entry))) (now (m .entry)) ob holder start n s ⌝ }
+    ensures { λ r. ⌜ Hs.walkedOf r ≡ W.content (W.visit d B.u48 (P.parse (now (b .entry))) (now (m .entry)) budget) B.u48 (P.parse (now (b .entry))) (now (m .entry)) ob holder start n s ⌝ }
 {
     match ob {
-        Object::Text => Walked::Going(s),
-        Object::Bytes => Walked::Going(s),
+        Object::Text => going(s),
+        Object::Bytes => going(s),
         Object::List(i) => list(b, dir, m, budget, d, wire::index(i), holder, start, n, s),
         Object::Table(t) => table(b, dir, m, budget, d, wire::index(t), holder, start, n, s),
     }
@@ -508,32 +813,74 @@ fn table(
     start: usize,
     n: usize,
     s: Spent,
-) -> Walked
+) -> Outcome
     requires { ⌜ (Accepted (now b) (now dir)) × (length (now m) ≤ 16777215) × (t < P.tableCount (now b)) × (start + n ≤ length (now m)) ⌝ }
-    ensures { λ r. ⌜ r ≡ W.members (W.visit d B.u48 (P.parse (now (b .entry))) (now (m .entry)) budget) B.u48 (P.parse (now (b .entry))) (now (m .entry)) holder start n L.begin (Sc.tableOf (P.parse (now (b .entry))) t .members) s ⌝ }
+    ensures { λ r. ⌜ Hs.walkedOf r ≡ W.members (W.visit d B.u48 (P.parse (now (b .entry))) (now (m .entry)) budget) B.u48 (P.parse (now (b .entry))) (now (m .entry)) holder start n L.begin (Sc.tableOf (P.parse (now (b .entry))) t .members) s ⌝ }
 {
     let count = schema::member_count(b, dir, t);
+    let first = schema::table_place(b, dir, t);
     let mut c = layout::begin();
     let mut v = s;
     let mut j: usize = 0;
     while j < count {
         if n <= layout::bit_byte(c) {
-            return Walked::Going(v);
+            return going(v);
+        }
+        let at = schema::record_place(4, first, j);
+        if refers(b, at) {
+            let g = reference(b, dir, m, budget, d, at, holder, start, n, c, v);
+            if g.code != 0 {
+                return g;
+            }
+            v = g.spent;
+            c = behind_reference(c);
+            j += 1;
+            continue;
         }
         let q = lead_member(b, dir, m, t, j, start, n, c);
         let step = q.step;
-        match follow(b, dir, m, budget, d, holder, step, v) {
-            Walked::Going(u) => {
-                v = u;
-            }
-            Walked::Refused(x, u) => {
-                return Walked::Refused(x, u);
-            }
+        let g = follow(b, dir, m, budget, d, holder, step, v);
+        if g.code != 0 {
+            return g;
         }
+        v = g.spent;
         c = q.next;
         j += 1;
     }
-    Walked::Going(v)
+    going(v)
+}
+
+// The object by its offset of the member of the record at `at`, where the cursor stands.
+fn reference(
+    b: &[u8],
+    dir: &[u16],
+    m: &[u8],
+    budget: Budget,
+    d: usize,
+    at: usize,
+    holder: usize,
+    start: usize,
+    n: usize,
+    c: Cursor,
+    s: Spent,
+) -> Outcome
+    requires { ⌜ (Accepted (now b) (now dir)) × (length (now m) ≤ 16777215) × (at + 1 < length (now b)) × (Hs.Refers (getD (now b) at 0)) ⌝ }
+    requires { ⌜ (ObjectSound (P.parse (now b)) (P.objectAt (now b) at)) × (start + n ≤ length (now m)) × (c .end < 2 ^ 58) ⌝ }
+    ensures { λ r. ⌜ Hs.walkedOf r ≡ W.follow (W.visit d B.u48 (P.parse (now (b .entry))) (now (m .entry)) budget) holder (T.memberStep B.u48 (P.parse (now (b .entry))) (now (m .entry)) start n c (P.memberAt (now (b .entry)) at)) s ⌝ }
+{
+    let end = c.end;
+    if n <= end {
+        return going(s);
+    }
+    if n < end + 6 {
+        return refuse(8, holder, s);
+    }
+    let x = wire::u48_in(m, start + end) as usize;
+    let ob = schema::object_at(b, at);
+    if is_text(ob) {
+        return refer_text(b, m, budget, d, holder, x, s);
+    }
+    refer(b, dir, m, budget, d, ob, holder, x, s)
 }
 
 // The n elements of list i, which start at `start`.
@@ -548,15 +895,15 @@ fn list(
     start: usize,
     n: usize,
     s: Spent,
-) -> Walked
+) -> Outcome
     requires { ⌜ (Accepted (now b) (now dir)) × (length (now m) ≤ 16777215) × (i < P.listCount (now b)) ⌝ }
     requires { ⌜ start + T.elementsSize B.u48 (P.parse (now b)) (Sc.elementOf (P.parse (now b)) i) n ≤ length (now m) ⌝ }
-    ensures { λ r. ⌜ r ≡ W.elements (W.visit d B.u48 (P.parse (now (b .entry))) (now (m .entry)) budget) B.u48 (P.parse (now (b .entry))) (now (m .entry)) holder start (Sc.elementOf (P.parse (now (b .entry))) i) n 0 s ⌝ }
+    ensures { λ r. ⌜ Hs.walkedOf r ≡ W.elements (W.visit d B.u48 (P.parse (now (b .entry))) (now (m .entry)) budget) B.u48 (P.parse (now (b .entry))) (now (m .entry)) holder start (Sc.elementOf (P.parse (now (b .entry))) i) n 0 s ⌝ }
 {
     let at = schema::list_place(b, dir, i);
     let k = schema::kind_at(b, at);
     if k < 13 {
-        return Walked::Going(s);
+        return going(s);
     }
     if k < 17 {
         let ob = schema::object_at(b, at);
@@ -578,30 +925,30 @@ fn references(
     start: usize,
     n: usize,
     s: Spent,
-) -> Walked
+) -> Outcome
     requires { ⌜ (Accepted (now b) (now dir)) × (length (now m) ≤ 16777215) × (ObjectSound (P.parse (now b)) ob) × (start + 6 * n ≤ length (now m)) ⌝ }
-    ensures { λ r. ⌜ r ≡ W.elements (W.visit d B.u48 (P.parse (now (b .entry))) (now (m .entry)) budget) B.u48 (P.parse (now (b .entry))) (now (m .entry)) holder start (Kind.OfObject ob) n 0 s ⌝ }
+    ensures { λ r. ⌜ Hs.walkedOf r ≡ W.elements (W.visit d B.u48 (P.parse (now (b .entry))) (now (m .entry)) budget) B.u48 (P.parse (now (b .entry))) (now (m .entry)) holder start (Kind.OfObject ob) n 0 s ⌝ }
 {
     if is_text(ob) {
         return texts(b, m, budget, d, holder, start, n, s);
+    }
+    if is_leaf_table(b, dir, ob) {
+        return leaf_references(b, dir, m, budget, d, ob, holder, start, n, s);
     }
     let mut v = s;
     let mut at = start;
     let mut j: usize = 0;
     while j < n {
         let x = wire::u48_in(m, at) as usize;
-        match refer(b, dir, m, budget, d, ob, holder, x, v) {
-            Walked::Going(u) => {
-                v = u;
-            }
-            Walked::Refused(y, u) => {
-                return Walked::Refused(y, u);
-            }
+        let g = refer(b, dir, m, budget, d, ob, holder, x, v);
+        if g.code != 0 {
+            return g;
         }
+        v = g.spent;
         at += 6;
         j += 1;
     }
-    Walked::Going(v)
+    going(v)
 }
 
 // What an offset in a list leads to.
@@ -615,12 +962,12 @@ fn refer(
     holder: usize,
     x: usize,
     s: Spent,
-) -> Walked
+) -> Outcome
     requires { ⌜ (Accepted (now b) (now dir)) × (length (now m) ≤ 16777215) × (ObjectSound (P.parse (now b)) ob) × (x < 2 ^ 48) ⌝ }
-    ensures { λ r. ⌜ r ≡ W.follow (W.visit d B.u48 (P.parse (now (b .entry))) (now (m .entry)) budget) holder (T.objectStep ob false 0 x) s ⌝ }
+    ensures { λ r. ⌜ Hs.walkedOf r ≡ W.follow (W.visit d B.u48 (P.parse (now (b .entry))) (now (m .entry)) budget) holder (T.objectStep ob false 0 x) s ⌝ }
 {
     if x == 0 {
-        return Walked::Going(s);
+        return going(s);
     }
     visit(b, dir, m, budget, d, ob, Place::ByOffset(x), s)
 }
@@ -637,26 +984,23 @@ fn choices(
     start: usize,
     n: usize,
     s: Spent,
-) -> Walked
+) -> Outcome
     requires { ⌜ (Accepted (now b) (now dir)) × (length (now m) ≤ 16777215) × (i < P.unionCount (now b)) × (start + 8 * n ≤ length (now m)) ⌝ }
-    ensures { λ r. ⌜ r ≡ W.elements (W.visit d B.u48 (P.parse (now (b .entry))) (now (m .entry)) budget) B.u48 (P.parse (now (b .entry))) (now (m .entry)) holder start (Kind.OfUnion i) n 0 s ⌝ }
+    ensures { λ r. ⌜ Hs.walkedOf r ≡ W.elements (W.visit d B.u48 (P.parse (now (b .entry))) (now (m .entry)) budget) B.u48 (P.parse (now (b .entry))) (now (m .entry)) holder start (Kind.OfUnion i) n 0 s ⌝ }
 {
     let mut v = s;
     let mut at = start;
     let mut j: usize = 0;
     while j < n {
-        match choice(b, dir, m, budget, d, i, holder, at, v) {
-            Walked::Going(u) => {
-                v = u;
-            }
-            Walked::Refused(y, u) => {
-                return Walked::Refused(y, u);
-            }
+        let g = choice(b, dir, m, budget, d, i, holder, at, v);
+        if g.code != 0 {
+            return g;
         }
+        v = g.spent;
         at += 8;
         j += 1;
     }
-    Walked::Going(v)
+    going(v)
 }
 
 // What a choice of union i in a list leads to.
@@ -670,16 +1014,16 @@ fn choice(
     holder: usize,
     at: usize,
     s: Spent,
-) -> Walked
+) -> Outcome
     requires { ⌜ (Accepted (now b) (now dir)) × (length (now m) ≤ 16777215) × (i < P.unionCount (now b)) × (at + 8 ≤ length (now m)) ⌝ }
-    ensures { λ r. ⌜ r ≡ W.follow (W.visit d B.u48 (P.parse (now (b .entry))) (now (m .entry)) budget) holder (T.unionStep (Sc.casesOf (P.parse (now (b .entry))) i) false 0 (B.le (now (m .entry)) at 2) (B.le (now (m .entry)) (at + 2) 6)) s ⌝ }
+    ensures { λ r. ⌜ Hs.walkedOf r ≡ W.follow (W.visit d B.u48 (P.parse (now (b .entry))) (now (m .entry)) budget) holder (T.unionStep (Sc.casesOf (P.parse (now (b .entry))) i) false 0 (B.le (now (m .entry)) at 2) (B.le (now (m .entry)) (at + 2) 6)) s ⌝ }
 {
     let c = wire::u16_in(m, at) as usize;
     if c == 0 {
-        return Walked::Going(s);
+        return going(s);
     }
     if schema::case_count(b, dir, i) < c {
-        return Walked::Going(s);
+        return going(s);
     }
     let ob = schema::union_case(b, dir, i, c);
     let x = wire::u48_in(m, at + 2) as usize;
@@ -696,16 +1040,16 @@ fn follow(
     holder: usize,
     step: Step,
     s: Spent,
-) -> Walked
+) -> Outcome
     requires { ⌜ (Accepted (now b) (now dir)) × (length (now m) ≤ 16777215) × D.StepSmall (P.parse (now b)) step ⌝ }
-    ensures { λ r. ⌜ r ≡ W.follow (W.visit d B.u48 (P.parse (now (b .entry))) (now (m .entry)) budget) holder step s ⌝ }
+    ensures { λ r. ⌜ Hs.walkedOf r ≡ W.follow (W.visit d B.u48 (P.parse (now (b .entry))) (now (m .entry)) budget) holder step s ⌝ }
 {
     match step {
         Step::Refused(e) => refuse(e, holder, s),
-        Step::Absent => Walked::Going(s),
-        Step::Value(_) => Walked::Going(s),
-        Step::Unknown(_) => Walked::Going(s),
-        Step::Struct(_, _) => Walked::Going(s),
+        Step::Absent => going(s),
+        Step::Value(_) => going(s),
+        Step::Unknown(_) => going(s),
+        Step::Struct(_, _) => going(s),
         Step::Object(ob, p) => arrive(b, dir, m, budget, d, ob, p, s),
         Step::Choice(_, ob, p) => union(b, dir, m, budget, d, holder, ob, p, s),
     }
@@ -721,9 +1065,9 @@ fn arrive(
     ob: Object,
     p: Place,
     s: Spent,
-) -> Walked
+) -> Outcome
     requires { ⌜ (Accepted (now b) (now dir)) × (length (now m) ≤ 16777215) × (ObjectSound (P.parse (now b)) ob) × D.PlaceSmall p ⌝ }
-    ensures { λ r. ⌜ r ≡ W.visit d B.u48 (P.parse (now (b .entry))) (now (m .entry)) budget ob p s ⌝ }
+    ensures { λ r. ⌜ Hs.walkedOf r ≡ W.visit d B.u48 (P.parse (now (b .entry))) (now (m .entry)) budget ob p s ⌝ }
 {
     match p {
         Place::ByOffset(x) => {
@@ -747,9 +1091,9 @@ fn union(
     ob: Object,
     p: Place,
     s: Spent,
-) -> Walked
+) -> Outcome
     requires { ⌜ (Accepted (now b) (now dir)) × (length (now m) ≤ 16777215) × (ObjectSound (P.parse (now b)) ob) × D.PlaceSmall p ⌝ }
-    ensures { λ r. ⌜ r ≡ W.followChoice (W.visit d B.u48 (P.parse (now (b .entry))) (now (m .entry)) budget) holder ob p s ⌝ }
+    ensures { λ r. ⌜ Hs.walkedOf r ≡ W.followChoice (W.visit d B.u48 (P.parse (now (b .entry))) (now (m .entry)) budget) holder ob p s ⌝ }
 {
     match p {
         Place::ByOffset(x) => {
@@ -763,20 +1107,22 @@ fn union(
 }
 
 // ---- the verdict
-fn verdict_of(w: Walked) -> Verdict
-    ensures { λ r. ⌜ r ≡ W.verdictOf w ⌝ }
+fn verdict_of(w: Outcome) -> Verdict
+    requires { ⌜ w .code ≤ 256 ⌝ }
+    ensures { λ r. ⌜ r ≡ W.verdictOf (Hs.walkedOf w) ⌝ }
 {
-    match w {
-        Walked::Going(s) => Verdict {
+    let s = w.spent;
+    if w.code == 0 {
+        return Verdict {
             number: 0,
             place: 0,
             visits: s.visits,
-        },
-        Walked::Refused(x, s) => Verdict {
-            number: x.number,
-            place: x.place,
-            visits: s.visits,
-        },
+        };
+    }
+    Verdict {
+        number: (w.code - 1) as u8,
+        place: w.place,
+        visits: s.visits,
     }
 }
 
@@ -825,9 +1171,9 @@ pub fn root_place(m: &[u8]) -> Place
     Place::ByOffset(wire::u48_in(m, 4) as usize)
 }
 
-fn walk(b: &[u8], dir: &[u16], m: &[u8], budget: Budget) -> Walked
+fn walk(b: &[u8], dir: &[u16], m: &[u8], budget: Budget) -> Outcome
     requires { ⌜ (Accepted (now b) (now dir)) × (length (now m) ≤ 16777215) × (10 ≤ length (now m)) ⌝ }
-    ensures { λ r. ⌜ r ≡ W.walk B.u48 (P.parse (now (b .entry))) (now (m .entry)) budget ⌝ }
+    ensures { λ r. ⌜ Hs.walkedOf r ≡ W.walk B.u48 (P.parse (now (b .entry))) (now (m .entry)) budget ⌝ }
 {
     let ob = root_object(b, dir);
     let p = root_place(m);

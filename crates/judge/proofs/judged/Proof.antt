@@ -1,4 +1,4 @@
-use Rattle.judge.proofs.VerdictCases.{verdict-short, verdict-long, verdict-walk, verdict-other}
+use Rattle.judge.proofs.VerdictCases.{verdict-short, verdict-long, verdict-walk, verdict-other, code-small}
 use borrow.Author.Needs.{needs}
 use Rattle.judge.proofs.judged.Statement.{statement}
 use Rattle.judge.proofs.judged.Tie as tie
@@ -35,7 +35,7 @@ walk-requires c κs = search needs
 
 -- src/lib.rt:544:9
 verdict-of-requires : tie.Need-verdict-of-requires
-verdict-of-requires c κs = search needs
+verdict-of-requires c κs = code-small _ _ _ _ (c .walk .ensures)
 
 -- src/lib.rt:544:9
 returns-3 : tie.Need-returns-3

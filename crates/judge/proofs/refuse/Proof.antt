@@ -1,14 +1,22 @@
-use Rattle.coding.specs.Walk as W
+use Rattle.judge.proofs.WalkCases.{answer-refuses}
 use borrow.Author.Needs.{needs}
 use Rattle.judge.proofs.refuse.Statement.{statement}
 use Rattle.judge.proofs.refuse.Tie as tie
 use Rattle.judge.proofs.refuse.Reads as reads
 use Rattle.judge.proofs.refuse.Lts as lts
+use Rattle.wire.proofs.index.Reads as index-reads
 
--- src/lib.rt:229:1
+-- src/lib.rt:270:15
+index-requires : tie.Need-index-requires
+index-requires c κs = search needs
+
+-- src/lib.rt:270:15
+add-t5 : tie.Need-add-t5
+add-t5 c = search needs
+
+-- src/lib.rt:266:1
 returns : tie.Need-returns
-unfolding W.refuse
-returns c = search needs
+returns c = search answer-refuses
 
 pub refuse-spec : {M : Type 1} → statement M
-refuse-spec = tie.close (tie.spec returns)
+refuse-spec = tie.close (tie.spec index-requires add-t5 returns)

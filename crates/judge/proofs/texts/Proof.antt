@@ -12,6 +12,7 @@ use Rattle.judge.proofs.texts.Statement.{statement}
 use Rattle.judge.proofs.texts.Tie as tie
 use Rattle.judge.proofs.texts.Reads as reads
 use Rattle.judge.proofs.texts.Lts as lts
+use Rattle.judge.proofs.going.Reads as going-reads
 use Rattle.judge.proofs.refer_text.Reads as refer-text-reads
 use Rattle.wire.proofs.u48_in.Reads as u48-in-reads
 
@@ -23,47 +24,43 @@ Inv-loop b m budget d holder start n v₀ at₀ j₀ v at j =
 abbrev μ-loop : tie.MeasureT-loop
 μ-loop b m budget d holder start n v₀ at₀ j₀ v at j = n - j
 
--- src/lib.rt:328:5
+-- src/lib.rt:354:5
 loop-holds : tie.Need-loop-holds Inv-loop μ-loop
 loop-holds c = (omega arith, omega arith, search elements-start)
 
--- src/lib.rt:329:17
+-- src/lib.rt:355:17
 u48-in-requires : tie.Need-u48-in-requires Inv-loop μ-loop
 u48-in-requires c κs = search needs
 
--- src/lib.rt:330:15
+-- src/lib.rt:356:13
 refer-text-requires : tie.Need-refer-text-requires Inv-loop μ-loop
 refer-text-requires c κs = omega (arith, c .u48-in .ensures .small)
 
--- src/lib.rt:331:27
-enum-known-u : tie.Need-enum-known-u Inv-loop μ-loop
-enum-known-u c = search needs
-
--- src/lib.rt:334:29
-enum-known-y : tie.Need-enum-known-y Inv-loop μ-loop
-enum-known-y c = search needs
-
--- src/lib.rt:335:17
+-- src/lib.rt:358:13
 returns : tie.Need-returns Inv-loop μ-loop
 returns c = search references-stopped
 
--- src/lib.rt:338:9
+-- src/lib.rt:361:9
 add-at : tie.Need-add-at Inv-loop μ-loop
 add-at c = search needs
 
--- src/lib.rt:339:9
+-- src/lib.rt:362:9
 add-j : tie.Need-add-j Inv-loop μ-loop
 add-j c = search needs
 
--- src/lib.rt:328:5
+-- src/lib.rt:354:5
 loop-less : tie.Need-loop-less Inv-loop μ-loop
 loop-less c = search needs
 
--- src/lib.rt:328:5
+-- src/lib.rt:354:5
 loop-again : tie.Need-loop-again Inv-loop μ-loop
 loop-again c = (omega arith, omega arith, search references-turn)
 
--- src/lib.rt:312:1
+-- src/lib.rt:364:5
+going-requires : tie.Need-going-requires Inv-loop μ-loop
+going-requires c κs = search needs
+
+-- src/lib.rt:338:1
 returns-2 : tie.Need-returns-2 Inv-loop μ-loop
 returns-2 c = search elements-done
 
@@ -76,11 +73,10 @@ texts-spec =
     loop-holds
     u48-in-requires
     refer-text-requires
-    enum-known-u
-    enum-known-y
     returns
     add-at
     add-j
     loop-less
     loop-again
+    going-requires
     returns-2)

@@ -5,21 +5,21 @@ use Rattle.judge.proofs.verdict_of.Tie as tie
 use Rattle.judge.proofs.verdict_of.Reads as reads
 use Rattle.judge.proofs.verdict_of.Lts as lts
 
--- src/lib.rt:465:23
-enum-known-w : tie.Need-enum-known-w
-enum-known-w c = search needs
-
--- src/lib.rt:470:25
-enum-known-w-2 : tie.Need-enum-known-w-2
-enum-known-w-2 c = search needs
-
--- src/lib.rt:461:1
+-- src/lib.rt:776:9
 returns : tie.Need-returns
 returns c = search verdict-going
 
--- src/lib.rt:461:1
+-- src/lib.rt:783:18
+sub-t4 : tie.Need-sub-t4
+sub-t4 c = search needs
+
+-- src/lib.rt:783:17
+cast-t5 : tie.Need-cast-t5
+cast-t5 c = search needs
+
+-- src/lib.rt:770:1
 returns-2 : tie.Need-returns-2
 returns-2 c = search verdict-refused
 
 pub verdict-of-spec : {M : Type 1} → statement M
-verdict-of-spec = tie.close (tie.spec enum-known-w enum-known-w-2 returns returns-2)
+verdict-of-spec = tie.close (tie.spec returns sub-t4 cast-t5 returns-2)

@@ -1,0 +1,221 @@
+-- A refusal's number is one byte.
+use mathlib.Core.Path.{_≡_, refl}
+use mathlib.Core.Bool.{Bool, true, false, _&&_}
+use mathlib.Core.List.{List, [], _∷_}
+use Prim.Native.Nat.{ℕ, zero, suc, _+_, _%_, _<_}
+use native.Mathlib.Omega.{arith}
+use lib.ListN.{length, getD}
+use lib.Dec.{leb, eqb, ltb}
+use Rattle.coding.specs.Lists.{pick}
+use Rattle.coding.specs.Bytes.{u48, le, bitAt, isNaN, deepest}
+use Rattle.coding.specs.Schema as Sc
+use Rattle.coding.specs.Schema.{Schema}
+use Rattle.coding.specs.Layout as L
+use Rattle.coding.specs.Structs.{structOk}
+use Rattle.coding.specs.Step as T
+use Rattle.coding.specs.Walk as W
+use Rattle.coding.specs.declared.Flat.{Flat}
+use Rattle.coding.specs.declared.Flat.the-variants as F
+use Rattle.coding.specs.declared.Object.{Object}
+use Rattle.coding.specs.declared.Object.the-variants as O
+use Rattle.coding.specs.declared.Kind.{Kind}
+use Rattle.coding.specs.declared.Kind.the-variants.{OfFlat, OfObject, OfUnion}
+use Rattle.coding.specs.declared.Member.{Member}
+use Rattle.coding.specs.declared.Cursor.{Cursor}
+use Rattle.coding.specs.declared.Slot.{Slot}
+use Rattle.coding.specs.declared.Place.{Place}
+use Rattle.coding.specs.declared.Place.the-variants.{ByOffset, InPlace}
+use Rattle.coding.specs.declared.Step.{Step}
+use Rattle.coding.specs.declared.Step.the-variants as St
+use Rattle.coding.specs.declared.Opened.{Opened}
+use Rattle.coding.specs.declared.Opened.the-variants as Op
+use Rattle.coding.specs.declared.Budget.{Budget}
+use Rattle.coding.specs.declared.Spent.{Spent}
+use Rattle.coding.specs.declared.Walked.{Walked}
+use Rattle.coding.specs.declared.Walked.the-variants.{Going, Refused}
+use Rattle.laws.specs.Lists.{pick-holds}
+
+abbrev pub NumberSmall : Walked → Type 0
+NumberSmall (Going s) = Unit {0}
+NumberSmall (Refused x s) = x .number < 256
+
+abbrev StepNumber : Step → Type 0
+StepNumber (St.Refused n) = n < 256
+StepNumber St.Absent = Unit {0}
+StepNumber (St.Value x) = Unit {0}
+StepNumber (St.Unknown x) = Unit {0}
+StepNumber (St.Struct i at) = Unit {0}
+StepNumber (St.Object ob p) = Unit {0}
+StepNumber (St.Choice c ob p) = Unit {0}
+
+abbrev OpenNumber : Opened → Type 0
+OpenNumber (Op.Refused n) = n < 256
+OpenNumber (Op.Content start n) = Unit {0}
+
+-- ---- opening
+module _ (S : Schema) (m : List ℕ) (ob : Object) where
+  content-number : (start n : ℕ) → OpenNumber (W.openContent u48 S m ob start n)
+  unfolding W.openContent
+  content-number start n = by (leb (start + W.contentSize u48 S ob n) (length m)) (W.endOk m ob start n)
+    where
+      by : (t u : Bool) → OpenNumber (pick t (pick u (Op.Content start n) (Op.Refused 10)) (Op.Refused 6))
+      by true true = tt
+      by true false = omega arith
+      by false u = omega arith
+
+  open-number : (p : Place) → OpenNumber (W.openObject u48 S m ob p)
+  unfolding W.openObject
+  open-number (ByOffset x) =
+      by (leb (W.headerSize u48) x && leb (x + W.headerSize u48) (length m)) (eqb (le m x 4) (W.magic S ob))
+      (W.openContent u48 S m ob (x + W.headerSize u48) (le m (x + 4) u48)) (content-number (x + W.headerSize u48) (le m (x + 4) u48))
+    where
+      by : (t u : Bool) (g : Opened) → OpenNumber g → OpenNumber (pick t (pick u g (Op.Refused 7)) (Op.Refused 6))
+      by true true g h = h
+      by true false g h = omega arith
+      by false u g h = omega arith
+  open-number (InPlace a n) = content-number a n
+
+-- ---- steps
+flat-number : (S : Schema) (m : List ℕ) (k : Flat) (none : Bool) (at bit : ℕ) → StepNumber (T.flatStep S m k none at bit)
+unfolding T.flatStep T.floatStep T.enumStep T.structStep
+flat-number S m F.Boolean none at bit = tt
+flat-number S m (F.Integer s w) none at bit = tt
+flat-number S m (F.Float w) none at bit = by (none && isNaN w (le m at w))
+  where
+    by : (t : Bool) → StepNumber (pick t St.Absent (St.Value (le m at w)))
+    by true = tt
+    by false = tt
+flat-number S m (F.Enumerated n) none at bit = by (eqb (getD m at 0) 255) (ltb (getD m at 0) n)
+  where
+    by : (t u : Bool) → StepNumber (pick t St.Absent (pick u (St.Value (getD m at 0)) (St.Unknown (getD m at 0))))
+    by true u = tt
+    by false true = tt
+    by false false = tt
+flat-number S m (F.Struct i) none at bit = by (structOk S m i at)
+  where
+    by : (t : Bool) → StepNumber (pick t (St.Struct i at) (St.Refused 10))
+    by true = tt
+    by false = omega arith
+
+value-number : (S : Schema) (m : List ℕ) (k : Kind) (none inplace : Bool) (tail at bit : ℕ) → StepNumber (T.valueStep u48 S m k none inplace tail at bit)
+unfolding T.valueStep T.objectStep T.unionStep
+value-number S m (OfFlat k) none inplace tail at bit = flat-number S m k none at bit
+value-number S m (OfObject ob) none inplace tail at bit = by (eqb (le m at u48) 0) (T.placeOf inplace tail (le m at u48))
+  where
+    by : (t : Bool) (p : Place) → StepNumber (pick t St.Absent (St.Object ob p))
+    by true p = tt
+    by false p = tt
+value-number S m (OfUnion i) none inplace tail at bit =
+    by (eqb (le m at 2) 0) (leb (le m at 2) (length (Sc.casesOf S i))) (le m at 2) (Sc.caseOf (Sc.casesOf S i) (le m at 2)) (T.placeOf inplace tail (le m (at + 2) u48))
+  where
+    by : (t u : Bool) (c : ℕ) (ob : Object) (p : Place) → StepNumber (pick t St.Absent (pick u (St.Choice c ob p) (St.Unknown c)))
+    by true u c ob p = tt
+    by false true c ob p = tt
+    by false false c ob p = tt
+
+inside-number : (n : ℕ) (slot : Slot) (past here : Step) → StepNumber past → StepNumber here → StepNumber (T.inside n slot past here)
+unfolding T.inside
+inside-number n slot past here p h = by (leb n (slot .at)) (leb (slot .at + slot .size) n)
+  where
+    by : (t u : Bool) → StepNumber (pick t past (pick u here (St.Refused 8)))
+    by true u = p
+    by false true = h
+    by false false = omega arith
+
+among : (t u : Bool) (x y : Step) → StepNumber x → StepNumber y → StepNumber (pick t St.Absent (pick u x y))
+among true u x y f g = tt
+among false true x y f g = f
+among false false x y f g = g
+
+member-number : (S : Schema) (m : List ℕ) (start n : ℕ) (c : Cursor) (r : Member) → StepNumber (T.memberStep u48 S m start n c r)
+unfolding T.memberStep T.flagged
+member-number S m start n c r =
+    by (L.hasFlag r) (L.memberSlot u48 S r c) _
+    (value-number S m (r .kind) (r .optional) (r .inplace) (start + n) (start + L.memberSlot u48 S r c .at) (L.memberSlot u48 S r c .bit))
+  where
+    by : (f : Bool) (slot : Slot) (here : Step) → StepNumber here → StepNumber (pick f (T.flagged m start n c slot here) (T.inside n slot St.Absent here))
+    by true slot here h =
+        among (leb n (L.bitByte c)) (eqb (bitAt m (start + L.bitByte c) (L.bitIndex c)) 1) (T.inside n slot (St.Refused 8) here) (T.inside n slot St.Absent St.Absent)
+        (inside-number n slot (St.Refused 8) here (omega arith) h) (inside-number n slot St.Absent St.Absent tt tt)
+    by false slot here h = inside-number n slot St.Absent here tt h
+
+element-number : (S : Schema) (m : List ℕ) (k : Kind) (start i : ℕ) → StepNumber (T.elementStep u48 S m k start i)
+unfolding T.elementStep
+element-number S m k start i = value-number S m k true false 0 (T.elementPlace u48 S k start i) (i % 8)
+
+-- ---- the walk
+refuse-small : (n at : ℕ) (s : Spent) → n < 256 → NumberSmall (W.refuse n at s)
+unfolding W.refuse
+refuse-small n at s h = h
+
+then-small : (w : Walked) (next : Spent → Walked) → NumberSmall w → ((s : Spent) → NumberSmall (next s)) → NumberSmall (W.andThen w next)
+unfolding W.andThen
+then-small (Going s) next h f = f s
+then-small (Refused x s) next h f = h
+
+module _ (child : W.Child) (small : (ob : Object) (p : Place) (s : Spent) → NumberSmall (child ob p s)) where
+  choice-small : (holder : ℕ) (ob : Object) (p : Place) (s : Spent) → NumberSmall (W.followChoice child holder ob p s)
+  unfolding W.followChoice
+  choice-small holder ob (ByOffset x) s =
+      pick-holds NumberSmall (eqb x 0) (W.refuse 9 holder s) (child ob (ByOffset x) s) (λ _. refuse-small 9 holder s (omega arith)) (λ _. small ob (ByOffset x) s)
+  choice-small holder ob (InPlace a n) s = small ob (InPlace a n) s
+
+  follow-small : (holder : ℕ) (step : Step) (s : Spent) → StepNumber step → NumberSmall (W.follow child holder step s)
+  unfolding W.follow
+  follow-small holder (St.Refused n) s h = refuse-small n holder s h
+  follow-small holder St.Absent s h = tt
+  follow-small holder (St.Value x) s h = tt
+  follow-small holder (St.Unknown x) s h = tt
+  follow-small holder (St.Struct i at) s h = tt
+  follow-small holder (St.Object ob p) s h = small ob p s
+  follow-small holder (St.Choice c ob p) s h = choice-small holder ob p s
+
+  members-small : (S : Schema) (m : List ℕ) (holder start n : ℕ) (c : Cursor) (rs : List Member) (s : Spent)
+      → NumberSmall (W.members child u48 S m holder start n c rs s)
+  unfolding W.members
+  members-small S m holder start n c [] s = tt
+  members-small S m holder start n c (r ∷ rs) s =
+      then-small (W.follow child holder (T.memberStep u48 S m start n c r) s) (W.members child u48 S m holder start n (L.afterMember u48 S r c) rs)
+      (follow-small holder (T.memberStep u48 S m start n c r) s (member-number S m start n c r)) (λ v. members-small S m holder start n (L.afterMember u48 S r c) rs v)
+
+  elements-small : (S : Schema) (m : List ℕ) (holder start : ℕ) (k : Kind) (n i : ℕ) (s : Spent) → NumberSmall (W.elements child u48 S m holder start k n i s)
+  unfolding W.elements
+  elements-small S m holder start k zero i s = tt
+  elements-small S m holder start k (suc n) i s =
+      then-small (W.follow child holder (T.elementStep u48 S m k start i) s) (W.elements child u48 S m holder start k n (i + 1))
+      (follow-small holder (T.elementStep u48 S m k start i) s (element-number S m k start i)) (λ v. elements-small S m holder start k n (i + 1) v)
+
+  content-small : (S : Schema) (m : List ℕ) (ob : Object) (holder start n : ℕ) (s : Spent) → NumberSmall (W.content child u48 S m ob holder start n s)
+  unfolding W.content
+  content-small S m O.Text holder start n s = tt
+  content-small S m O.Bytes holder start n s = tt
+  content-small S m (O.List i) holder start n s = elements-small S m holder start (Sc.elementOf S i) n 0 s
+  content-small S m (O.Table i) holder start n s = members-small S m holder start n L.begin (Sc.tableOf S i .members) s
+
+  enter-small : (S : Schema) (m : List ℕ) (ob : Object) (holder : ℕ) (g : Opened) (s : Spent) → OpenNumber g → NumberSmall (W.enter child u48 S m ob holder g s)
+  unfolding W.enter
+  enter-small S m ob holder (Op.Refused n) s h = refuse-small n holder s h
+  enter-small S m ob holder (Op.Content start n) s h = content-small S m ob holder start n s
+
+  arrive-small : (S : Schema) (m : List ℕ) (ob : Object) (p : Place) (s : Spent) → NumberSmall (W.arrive child u48 S m ob p s)
+  unfolding W.arrive
+  arrive-small S m ob p s = enter-small S m ob (W.placed p) (W.openObject u48 S m ob p) s (open-number S m ob p)
+
+  counted-small : (b : Budget) (ob : Object) (p : Place) (s : Spent) → NumberSmall (W.counted child b ob p s)
+  unfolding W.counted
+  counted-small b ob p s =
+      pick-holds NumberSmall (ltb (s .visits) (b .visits)) (child ob p (record { visits = s .visits + 1 })) (W.refuse 4 (W.placed p) s)
+      (λ _. small ob p (record { visits = s .visits + 1 })) (λ _. refuse-small 4 (W.placed p) s (omega arith))
+
+deep-small : (ob : Object) (p : Place) (s : Spent) → NumberSmall (W.tooDeep ob p s)
+unfolding W.tooDeep
+deep-small ob p s = refuse-small 5 (W.placed p) s (omega arith)
+
+visit-small : (d : ℕ) (S : Schema) (m : List ℕ) (b : Budget) (ob : Object) (p : Place) (s : Spent) → NumberSmall (W.visit d u48 S m b ob p s)
+unfolding W.visit
+visit-small zero S m b ob p s = counted-small W.tooDeep deep-small b ob p s
+visit-small (suc d) S m b ob p s = counted-small (W.arrive (W.visit d u48 S m b) u48 S m) (arrive-small (W.visit d u48 S m b) (visit-small d S m b) S m) b ob p s
+
+pub walk-small : (S : Schema) (m : List ℕ) (b : Budget) → NumberSmall (W.walk u48 S m b)
+unfolding W.walk
+walk-small S m b = visit-small deepest S m b (O.Table (S .root)) (W.rootPlace u48 m) (record { visits = 0 })
