@@ -16,7 +16,7 @@ use Rattle.coding.specs.Schema.{Schema}
 use Rattle.coding.specs.Packed as P
 use Rattle.coding.specs.Layout as L
 use Rattle.coding.specs.Step as T
-use Rattle.coding.specs.Sheet.{Parsed, fail, got, bind}
+use Rattle.coding.specs.Sheet.{Parsed, fail, got, bind, bare}
 use Rattle.coding.specs.declared.Object.{Object}
 use Rattle.coding.specs.declared.Object.the-variants as O
 use Rattle.coding.specs.declared.Kind.{Kind}
@@ -26,6 +26,7 @@ use Rattle.laws.specs.SoundAt.{member-sound-at, list-index, table-index}
 use Rattle.schema.specs.Directory.{Accepted, accepted-sound}
 use Rattle.bitio.specs.Taken.{TakenNumber}
 use Rattle.survey.specs.Survey.{opened, joined, Surveyor, surveyPart, surveyElement, surveyMembers, surveyElements, surveyBlob, surveyContent, survey}
+use Rattle.survey.specs.BareElements.{bareBits, passed, bare-elements}
 use Rattle.survey.specs.Surveyed.{Small, Fits, SurveyedAt}
 use Rattle.survey.specs.declared.Extent.{Extent}
 
@@ -108,6 +109,23 @@ module _ (child : Surveyor) (S : Schema) (s : List ℕ) (i at : ℕ) where
         ∙ ap (λ (y : ℕ). surveyElements child u48 S k n (opened n y) (drop first (bits s))) (sym ez)
         ∙ ap (λ (y : Extent). surveyElements child u48 S k n y (drop first (bits s))) (sym (f .is))
         ∙ ap (λ (y : ℕ). surveyElements child u48 S k y a (drop first (bits s))) e)
+
+    -- without marks
+    pub elements-bare : not whole ≡ false → (k : Kind) → k ≡ Sc.elementOf S i → (z : ℕ) → z ≡ T.elementsSize u48 S k n → (a : Extent) → Fits (opened n z) a
+        → (t : Bool) → t ≡ bare k → t ≡ true → (u : ℕ) → u ≡ bareBits k → (w : Bool) (e : Extent) (m : ℕ)
+        → SurveyedAt s (passed (n * u) a (drop first (bits s))) w e m → SurveyedAt s (surveyContent child u48 S (O.List i) (drop at (bits s))) w e m
+    unfolding surveyContent bind
+    elements-bare h k ek z ez a f t et ht u eu w e m q =
+        record {
+          is = rw (taken .number, not-false whole h)
+              (ap (λ (y : Kind). surveyElements child u48 S y n (opened n (T.elementsSize u48 S y n)) (drop first (bits s))) (sym ek)
+              ∙ bare-elements child u48 S k (sym et ∙ ht) n n (T.elementsSize u48 S k n) (drop first (bits s))
+              ∙ ap (λ (y : ℕ). passed (n * y) (opened n (T.elementsSize u48 S k n)) (drop first (bits s))) (sym eu)
+              ∙ ap (λ (y : ℕ). passed (n * u) (opened n y) (drop first (bits s))) (sym ez)
+              ∙ ap (λ (y : Extent). passed (n * u) y (drop first (bits s))) (sym (f .is)) ∙ q .is);
+          inside = q .inside;
+          small = q .small;
+        }
 
   module _ (k : Kind) (n : ℕ) (a : Extent) (pos j : ℕ)
       (inv : surveyContent child u48 S (O.List i) (drop at (bits s)) ≡ surveyElements child u48 S k (n - j) a (drop pos (bits s))) where

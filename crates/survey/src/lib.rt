@@ -20,6 +20,7 @@ ghost use lib.Dec.{ltb};
 ghost use Rattle.laws.specs.Sound.{FlatSound, ObjectSound, KindSound};
 ghost use Rattle.schema.specs.Directory.{Accepted};
 ghost use Rattle.survey.specs.Survey as Sv;
+ghost use Rattle.survey.specs.BareElements as Ba;
 ghost use Rattle.survey.specs.Surveyed.{TestedAt, Small, Fits, SurveyedAt};
 
 // What an object of the sheet takes: whether it can be written; the length that its header gives; the bytes of its content,
@@ -439,6 +440,39 @@ pub fn bare(k: Kind) -> bool
     }
 }
 
+// The bits of an element without a mark.
+fn bare_bits(k: Kind) -> usize
+    ensures { λ r. ⌜ (r ≡ Ba.bareBits k) × (r ≤ 2040) ⌝ }
+{
+    match k {
+        Kind::OfFlat(f) => match f {
+            Flat::Boolean => 1,
+            Flat::Integer(_, w) => 8 * wire::index(w),
+            Flat::Float(_) => 0,
+            Flat::Enumerated(_) => 0,
+            Flat::Struct(_) => 0,
+        },
+        Kind::OfObject(_) => 0,
+        Kind::OfUnion(_) => 0,
+    }
+}
+
+// n elements of w bits, passed over: any number will do.
+fn pass(s: &[u8], pos: usize, w: usize, n: usize, a: Extent) -> Surveyed
+    requires { ⌜ (length (now s) ≤ 16777215) × (pos ≤ 8 * length (now s)) × (w ≤ 2040) × (n < 2 ^ 32) × Small a ⌝ }
+    ensures { λ r. ⌜ SurveyedAt (now (s .entry)) (Ba.passed (n * w) a (drop pos (bits (now (s .entry))))) (r .whole) (r .extent) (r .next) ⌝ }
+{
+    let size = times(w, n);
+    if size <= 8 * s.len() - pos {
+        return Surveyed {
+            whole: true,
+            extent: a,
+            next: pos + size,
+        };
+    }
+    unlawful(pos)
+}
+
 // A text or bytes; a text has a byte more behind its own.
 fn blob(s: &[u8], pos: usize, more: usize) -> Surveyed
     requires { ⌜ (length (now s) ≤ 16777215) × (pos ≤ 8 * length (now s)) × (more ≤ 1) ⌝ }
@@ -630,7 +664,11 @@ fn list(b: &[u8], dir: &[u16], s: &[u8], d: usize, i: usize, at: usize) -> Surve
     }
     let n = y.value as usize;
     let k = schema::element(b, dir, i);
-    let mut a = opened(n, elements_size(b, dir, k, n));
+    let first = opened(n, elements_size(b, dir, k, n));
+    if bare(k) {
+        return pass(s, y.next, bare_bits(k), n, first);
+    }
+    let mut a = first;
     let mut pos = y.next;
     let mut j: usize = 0;
     while j < n {

@@ -12,7 +12,7 @@ use Rattle.survey.specs.Surveyed.{Small}
 use borrow.Fn.Kinds.{In}
 use borrow.Fn.PlainCycle.{Measures, is, falls, and}
 use Rattle.survey.proofs.PartCases.{kind-flat, kind-object, union-counted, case-sound, body-flat, body-object, body-union, choice-cut, choice-zero, choice-above, choice-known, element-bare, element-marked, part-cut, part-none, part-there, part-lost, part-bad, refer-surveyed}
-use Rattle.survey.proofs.ObjectCases.{list-counted, table-counted, element-sound, member-kind, member-counted, members-start, members-done, members-stopped, members-turn, elements-cut, elements-start, elements-done, elements-stopped, elements-turn, object-deep, object-text, object-bytes, object-list, object-table}
+use Rattle.survey.proofs.ObjectCases.{list-counted, table-counted, element-sound, member-kind, member-counted, members-start, members-done, members-stopped, members-turn, elements-cut, elements-start, elements-bare, elements-done, elements-stopped, elements-turn, object-deep, object-text, object-bytes, object-list, object-table}
 use Rattle.survey.proofs.body.Reads as body
 use Rattle.survey.proofs.body.Kinds as body-kinds
 use Rattle.survey.proofs.+body+choice+element+list+object+part+refer+table.Lts-body as body-lts
@@ -45,6 +45,7 @@ use Rattle.schema.proofs.member_count.Reads as member-count-reads
 use Rattle.schema.proofs.union_case.Reads as union-case-reads
 use Rattle.wire.proofs.index.Reads as index-reads
 use Rattle.survey.proofs.bare.Reads as bare-reads
+use Rattle.survey.proofs.bare_bits.Reads as bare-bits-reads
 use Rattle.survey.proofs.blob.Reads as blob-reads
 use Rattle.survey.proofs.elements_size.Reads as elements-size-reads
 use Rattle.survey.proofs.fixed_size.Reads as fixed-size-reads
@@ -53,6 +54,7 @@ use Rattle.survey.proofs.joined.Reads as joined-reads
 use Rattle.survey.proofs.lost.Reads as lost-reads
 use Rattle.survey.proofs.may_lack.Reads as may-lack-reads
 use Rattle.survey.proofs.opened.Reads as opened-reads
+use Rattle.survey.proofs.pass.Reads as pass-reads
 use Rattle.survey.proofs.plain.Reads as plain-reads
 use Rattle.survey.proofs.plain_of.Reads as plain-of-reads
 use Rattle.survey.proofs.referred.Reads as referred-reads
@@ -142,7 +144,7 @@ abbrev element-R : ℕ → element-lts.Claims
 element-R t = (bare-reads.Asked, bare-reads.Learnt, body-below t, body.Post, part-below t, part.Post)
 
 abbrev list-R : ℕ → list-lts.Claims
-list-R t = (take-number-reads.Asked, take-number-reads.Learnt, unlawful-reads.Asked, unlawful-reads.Learnt, element-reads.Asked, element-reads.Learnt, elements-size-reads.Asked, elements-size-reads.Learnt, opened-reads.Asked, opened-reads.Learnt, element-below t, element.Post, joined-reads.Asked, joined-reads.Learnt)
+list-R t = (take-number-reads.Asked, take-number-reads.Learnt, unlawful-reads.Asked, unlawful-reads.Learnt, element-reads.Asked, element-reads.Learnt, elements-size-reads.Asked, elements-size-reads.Learnt, opened-reads.Asked, opened-reads.Learnt, bare-reads.Asked, bare-reads.Learnt, bare-bits-reads.Asked, bare-bits-reads.Learnt, pass-reads.Asked, pass-reads.Learnt, element-below t, element.Post, joined-reads.Asked, joined-reads.Learnt)
 
 abbrev object-R : ℕ → object-lts.Claims
 object-R t = (unlawful-reads.Asked, unlawful-reads.Learnt, blob-reads.Asked, blob-reads.Learnt, index-reads.Asked, index-reads.Learnt, list-below t, list.Post, table-below t, table.Post)
@@ -296,6 +298,18 @@ list-elements-size-requires t c κs = search (element-sound, needs)
 list-opened-requires : (t : ℕ) → list-lts.Need-opened-requires (list-R t) (list-at t) list.Post list-Inv-loop list-μ-loop
 list-opened-requires t c κs = search needs
 
+list-bare-requires : (t : ℕ) → list-lts.Need-bare-requires (list-R t) (list-at t) list.Post list-Inv-loop list-μ-loop
+list-bare-requires t c κs = search needs
+
+list-bare-bits-requires : (t : ℕ) → list-lts.Need-bare-bits-requires (list-R t) (list-at t) list.Post list-Inv-loop list-μ-loop
+list-bare-bits-requires t c κs = search needs
+
+list-pass-requires : (t : ℕ) → list-lts.Need-pass-requires (list-R t) (list-at t) list.Post list-Inv-loop list-μ-loop
+list-pass-requires t c κs = search needs
+
+list-returns-2 : (t : ℕ) → list-lts.Need-returns-2 (list-R t) (list-at t) list.Post list-Inv-loop list-μ-loop
+list-returns-2 t c = search elements-bare
+
 -- src/lib.rt:599:5
 list-loop-holds : (t : ℕ) → list-lts.Need-loop-holds (list-R t) (list-at t) list.Post list-Inv-loop list-μ-loop
 list-loop-holds t c = (search needs, search needs, search needs, search needs, search needs, search elements-start)
@@ -309,8 +323,8 @@ list-unlawful-requires-2 : (t : ℕ) → list-lts.Need-unlawful-requires-2 (list
 list-unlawful-requires-2 t c κs = search needs
 
 -- src/lib.rt:602:13
-list-returns-2 : (t : ℕ) → list-lts.Need-returns-2 (list-R t) (list-at t) list.Post list-Inv-loop list-μ-loop
-list-returns-2 t c = search elements-stopped
+list-returns-3 : (t : ℕ) → list-lts.Need-returns-3 (list-R t) (list-at t) list.Post list-Inv-loop list-μ-loop
+list-returns-3 t c = search elements-stopped
 
 -- src/lib.rt:605:9
 list-joined-requires : (t : ℕ) → list-lts.Need-joined-requires (list-R t) (list-at t) list.Post list-Inv-loop list-μ-loop
@@ -329,8 +343,8 @@ list-loop-again : (t : ℕ) → list-lts.Need-loop-again (list-R t) (list-at t) 
 list-loop-again t c = (search needs, search needs, search needs, search needs, search needs, search elements-turn)
 
 -- src/lib.rt:586:1
-list-returns-3 : (t : ℕ) → list-lts.Need-returns-3 (list-R t) (list-at t) list.Post list-Inv-loop list-μ-loop
-list-returns-3 t c = search elements-done
+list-returns-4 : (t : ℕ) → list-lts.Need-returns-4 (list-R t) (list-at t) list.Post list-Inv-loop list-μ-loop
+list-returns-4 t c = search elements-done
 
 -- src/lib.rt:621:9
 object-unlawful-requires : (t : ℕ) → object-lts.Need-unlawful-requires (object-R t) (object-at t) object.Post
@@ -573,15 +587,19 @@ pub +body+choice+element+list+object+part+refer+table-spec : {M : Type 1} → st
     (list-element-requires t)
     (list-elements-size-requires t)
     (list-opened-requires t)
+    (list-bare-requires t)
+    (list-bare-bits-requires t)
+    (list-pass-requires t)
+    (list-returns-2 t)
     (list-loop-holds t)
     (list-element-requires-2 t)
     (list-unlawful-requires-2 t)
-    (list-returns-2 t)
+    (list-returns-3 t)
     (list-joined-requires t)
     (list-add-j t)
     (list-loop-less t)
     (list-loop-again t)
-    (list-returns-3 t))
+    (list-returns-4 t))
     (λ t. object-lts.spec (object-R t)
     (object-at t)
     object.Post
