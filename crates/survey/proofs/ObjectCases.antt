@@ -92,6 +92,9 @@ module _ (child : Surveyor) (S : Schema) (s : List ℕ) (t at : ℕ) where
           ∙ ap (λ (m : ℕ). surveyMembers child u48 S (drop m (Sc.tableOf S t .members)) g (drop next (bits s))) (sym (add-one j))
 
 -- ---- the elements of a list, from element j on
+pub marked : (k : Kind) (t : Bool) → t ≡ bare k → t ≡ false → bare k ≡ false
+marked k t e h = sym e ∙ h
+
 module _ (child : Surveyor) (S : Schema) (s : List ℕ) (i at : ℕ) where
   module _ (whole : Bool) (n first : ℕ) (taken : TakenNumber s at 32 whole n first) where
     pub elements-cut : at ≤ 8 * length s → not whole ≡ true → (w : Bool) (e : Extent) (m : ℕ) → w ≡ false → m ≡ at → Small e
@@ -135,7 +138,12 @@ module _ (child : Surveyor) (S : Schema) (s : List ℕ) (i at : ℕ) where
         let z : n - j ≡ 0 = omega arith in
         record { is = inv ∙ ap (λ (m : ℕ). surveyElements child u48 S k m a (drop pos (bits s))) z; inside = l; small = sm }
 
-    module _ (h : j < n) (whole : Bool) (x : Extent) (next : ℕ) (q : SurveyedAt s (surveyElement child u48 S k (drop pos (bits s))) whole x next) where
+    module _ (h : j < n) (marks : bare k ≡ false) (whole : Bool) (x : Extent) (next : ℕ)
+        (q : SurveyedAt s (surveyPart child u48 S k true false (drop pos (bits s))) whole x next) where
+      element-is : surveyElement child u48 S k (drop pos (bits s)) ≡ surveyPart child u48 S k true false (drop pos (bits s))
+      unfolding surveyElement
+      element-is = rw marks
+
       abbrev left : Parsed Extent → Parsed Extent
       left p = bind p (λ e ys. surveyElements child u48 S k (n - (j + 1)) (joined a e) ys)
 
@@ -143,7 +151,7 @@ module _ (child : Surveyor) (S : Schema) (s : List ℕ) (i at : ℕ) where
       unfolding surveyElements
       opens =
           let z : n - j ≡ suc (n - (j + 1)) = omega arith in
-          inv ∙ ap (λ (m : ℕ). surveyElements child u48 S k m a (drop pos (bits s))) z ∙ ap left (q .is)
+          inv ∙ ap (λ (m : ℕ). surveyElements child u48 S k m a (drop pos (bits s))) z ∙ ap left (element-is ∙ q .is)
 
       pub elements-stopped : at ≤ 8 * length s → not whole ≡ true → (w : Bool) (e : Extent) (m : ℕ) → w ≡ false → m ≡ at → Small e
           → SurveyedAt s (surveyContent child u48 S (O.List i) (drop at (bits s))) w e m

@@ -285,17 +285,7 @@ module _ (child : Surveyor) (S : Schema) (s : List ℕ) (k : Kind) (optional inp
         part-bad l h2 ew en sm =
             failed s _ pos (rw (taken .number, not-false whole h) (simp (ne-eqb x 0 h0, ne-eqb x 1 h1, ne-eqb x 2 h2))) l w e n ew en sm
 
--- ---- elements
-module _ (child : Surveyor) (S : Schema) (s : List ℕ) (k : Kind) (pos : ℕ) (w : Bool) (e : Extent) (n : ℕ) (t : Bool) (et : t ≡ bare k) where
-  pub element-bare : t ≡ true → SurveyedAt s (surveyBody child u48 S k true false (drop pos (bits s))) w e n → SurveyedAt s (surveyElement child u48 S k (drop pos (bits s))) w e n
-  unfolding surveyElement
-  element-bare h q = rw (← et, h) q
-
-  pub element-marked : t ≡ false → SurveyedAt s (surveyPart child u48 S k true false (drop pos (bits s))) w e n → SurveyedAt s (surveyElement child u48 S k (drop pos (bits s))) w e n
-  unfolding surveyElement
-  element-marked h q = rw (← et, h) q
-
--- without marks: bits passed over
+-- ---- elements without marks: bits passed over
 pub bits-integer : (k : Kind) (f : Flat) (g : Bool) (w j : ℕ) → k ≡ OfFlat f → f ≡ Integer g w → j ≡ w → 8 * j ≡ bareBits k
 unfolding bareBits flatBareBits
 bits-integer k f g w j ek ef ej = rw (ek, ef, ej)
