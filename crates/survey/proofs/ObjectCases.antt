@@ -16,7 +16,7 @@ use Rattle.coding.specs.Schema.{Schema}
 use Rattle.coding.specs.Packed as P
 use Rattle.coding.specs.Layout as L
 use Rattle.coding.specs.Step as T
-use Rattle.coding.specs.Sheet.{Parsed, fail, got, bind}
+use Rattle.coding.specs.Sheet.{Parsed, fail, got, bind, bare}
 use Rattle.coding.specs.declared.Object.{Object}
 use Rattle.coding.specs.declared.Object.the-variants as O
 use Rattle.coding.specs.declared.Kind.{Kind}
@@ -26,6 +26,7 @@ use Rattle.laws.specs.SoundAt.{member-sound-at, list-index, table-index}
 use Rattle.schema.specs.Directory.{Accepted, accepted-sound}
 use Rattle.bitio.specs.Taken.{TakenNumber}
 use Rattle.survey.specs.Survey.{opened, joined, Surveyor, surveyPart, surveyElement, surveyMembers, surveyElements, surveyBlob, surveyContent, survey}
+use Rattle.survey.specs.BareElements.{bareBits, passed, bare-elements}
 use Rattle.survey.specs.Surveyed.{Small, Fits, SurveyedAt}
 use Rattle.survey.specs.declared.Extent.{Extent}
 
@@ -91,6 +92,9 @@ module _ (child : Surveyor) (S : Schema) (s : List ℕ) (t at : ℕ) where
           ∙ ap (λ (m : ℕ). surveyMembers child u48 S (drop m (Sc.tableOf S t .members)) g (drop next (bits s))) (sym (add-one j))
 
 -- ---- the elements of a list, from element j on
+pub marked : (k : Kind) (t : Bool) → t ≡ bare k → t ≡ false → bare k ≡ false
+marked k t e h = sym e ∙ h
+
 module _ (child : Surveyor) (S : Schema) (s : List ℕ) (i at : ℕ) where
   module _ (whole : Bool) (n first : ℕ) (taken : TakenNumber s at 32 whole n first) where
     pub elements-cut : at ≤ 8 * length s → not whole ≡ true → (w : Bool) (e : Extent) (m : ℕ) → w ≡ false → m ≡ at → Small e
@@ -109,6 +113,23 @@ module _ (child : Surveyor) (S : Schema) (s : List ℕ) (i at : ℕ) where
         ∙ ap (λ (y : Extent). surveyElements child u48 S k n y (drop first (bits s))) (sym (f .is))
         ∙ ap (λ (y : ℕ). surveyElements child u48 S k y a (drop first (bits s))) e)
 
+    -- without marks
+    pub elements-bare : not whole ≡ false → (k : Kind) → k ≡ Sc.elementOf S i → (z : ℕ) → z ≡ T.elementsSize u48 S k n → (a : Extent) → Fits (opened n z) a
+        → (t : Bool) → t ≡ bare k → t ≡ true → (u : ℕ) → u ≡ bareBits k → (w : Bool) (e : Extent) (m : ℕ)
+        → SurveyedAt s (passed (n * u) a (drop first (bits s))) w e m → SurveyedAt s (surveyContent child u48 S (O.List i) (drop at (bits s))) w e m
+    unfolding surveyContent bind
+    elements-bare h k ek z ez a f t et ht u eu w e m q =
+        record {
+          is = rw (taken .number, not-false whole h)
+              (ap (λ (y : Kind). surveyElements child u48 S y n (opened n (T.elementsSize u48 S y n)) (drop first (bits s))) (sym ek)
+              ∙ bare-elements child u48 S k (sym et ∙ ht) n n (T.elementsSize u48 S k n) (drop first (bits s))
+              ∙ ap (λ (y : ℕ). passed (n * y) (opened n (T.elementsSize u48 S k n)) (drop first (bits s))) (sym eu)
+              ∙ ap (λ (y : ℕ). passed (n * u) (opened n y) (drop first (bits s))) (sym ez)
+              ∙ ap (λ (y : Extent). passed (n * u) y (drop first (bits s))) (sym (f .is)) ∙ q .is);
+          inside = q .inside;
+          small = q .small;
+        }
+
   module _ (k : Kind) (n : ℕ) (a : Extent) (pos j : ℕ)
       (inv : surveyContent child u48 S (O.List i) (drop at (bits s)) ≡ surveyElements child u48 S k (n - j) a (drop pos (bits s))) where
     pub elements-done : n ≤ j → pos ≤ 8 * length s → Small a → SurveyedAt s (surveyContent child u48 S (O.List i) (drop at (bits s))) true a pos
@@ -117,7 +138,12 @@ module _ (child : Surveyor) (S : Schema) (s : List ℕ) (i at : ℕ) where
         let z : n - j ≡ 0 = omega arith in
         record { is = inv ∙ ap (λ (m : ℕ). surveyElements child u48 S k m a (drop pos (bits s))) z; inside = l; small = sm }
 
-    module _ (h : j < n) (whole : Bool) (x : Extent) (next : ℕ) (q : SurveyedAt s (surveyElement child u48 S k (drop pos (bits s))) whole x next) where
+    module _ (h : j < n) (marks : bare k ≡ false) (whole : Bool) (x : Extent) (next : ℕ)
+        (q : SurveyedAt s (surveyPart child u48 S k true false (drop pos (bits s))) whole x next) where
+      element-is : surveyElement child u48 S k (drop pos (bits s)) ≡ surveyPart child u48 S k true false (drop pos (bits s))
+      unfolding surveyElement
+      element-is = rw marks
+
       abbrev left : Parsed Extent → Parsed Extent
       left p = bind p (λ e ys. surveyElements child u48 S k (n - (j + 1)) (joined a e) ys)
 
@@ -125,7 +151,7 @@ module _ (child : Surveyor) (S : Schema) (s : List ℕ) (i at : ℕ) where
       unfolding surveyElements
       opens =
           let z : n - j ≡ suc (n - (j + 1)) = omega arith in
-          inv ∙ ap (λ (m : ℕ). surveyElements child u48 S k m a (drop pos (bits s))) z ∙ ap left (q .is)
+          inv ∙ ap (λ (m : ℕ). surveyElements child u48 S k m a (drop pos (bits s))) z ∙ ap left (element-is ∙ q .is)
 
       pub elements-stopped : at ≤ 8 * length s → not whole ≡ true → (w : Bool) (e : Extent) (m : ℕ) → w ≡ false → m ≡ at → Small e
           → SurveyedAt s (surveyContent child u48 S (O.List i) (drop at (bits s))) w e m

@@ -4,7 +4,9 @@ use mathlib.Core.Bool.{Bool, true, false, _&&_, not}
 use mathlib.Core.List.{List, [], _∷_}
 use Prim.Native.Nat.{ℕ, zero, suc, _+_, _-_, _*_, _^_, _<_, _≤_}
 use native.Mathlib.Omega.{arith}
-use lib.ListN.{length, drop}
+use native.Mathlib.Nat.{mul-comm}
+use lib.ListN.{length, drop, length-drop}
+use lib.Seq.{drop-drop}
 use lib.Dec.{ltb, leb, eqb}
 use borrow.Author.Tests.{eq-eqb, ne-eqb, le-leb, lt-leb, not-true, not-false}
 use Rattle.coding.specs.Lists.{pick}
@@ -24,6 +26,8 @@ use Rattle.laws.specs.SoundAt.{case-sound-at, struct-index, union-index}
 use Rattle.schema.specs.Directory.{Accepted, accepted-sound}
 use Rattle.bitio.specs.Taken.{TakenNumber, TakenBytes}
 use Rattle.survey.specs.Survey.{testNumber, testIf, anyNumber, floatFine, belowCount, aboveCount, surveyMark, surveyFlat, surveyStruct, surveyLostFlat, plain, opened, referred, Surveyor, plainOf, surveyObject, surveyChoice, surveyBody, surveyLost, mayLack, surveyPart, surveyElement, surveyBlob}
+use Rattle.laws.specs.Bits.{bits-length}
+use Rattle.survey.specs.BareElements.{bareBits, flatBareBits, passed}
 use Rattle.survey.specs.Surveyed.{TestedAt, Small, Fits, SurveyedAt}
 use Rattle.survey.specs.declared.Extent.{Extent}
 
@@ -281,12 +285,29 @@ module _ (child : Surveyor) (S : Schema) (s : List ℕ) (k : Kind) (optional inp
         part-bad l h2 ew en sm =
             failed s _ pos (rw (taken .number, not-false whole h) (simp (ne-eqb x 0 h0, ne-eqb x 1 h1, ne-eqb x 2 h2))) l w e n ew en sm
 
--- ---- elements
-module _ (child : Surveyor) (S : Schema) (s : List ℕ) (k : Kind) (pos : ℕ) (w : Bool) (e : Extent) (n : ℕ) (t : Bool) (et : t ≡ bare k) where
-  pub element-bare : t ≡ true → SurveyedAt s (surveyBody child u48 S k true false (drop pos (bits s))) w e n → SurveyedAt s (surveyElement child u48 S k (drop pos (bits s))) w e n
-  unfolding surveyElement
-  element-bare h q = rw (← et, h) q
+-- ---- elements without marks: bits passed over
+pub bits-integer : (k : Kind) (f : Flat) (g : Bool) (w j : ℕ) → k ≡ OfFlat f → f ≡ Integer g w → j ≡ w → 8 * j ≡ bareBits k
+unfolding bareBits flatBareBits
+bits-integer k f g w j ek ef ej = rw (ek, ef, ej)
 
-  pub element-marked : t ≡ false → SurveyedAt s (surveyPart child u48 S k true false (drop pos (bits s))) w e n → SurveyedAt s (surveyElement child u48 S k (drop pos (bits s))) w e n
-  unfolding surveyElement
-  element-marked h q = rw (← et, h) q
+module _ (s : List ℕ) (pos w n : ℕ) (a : Extent) (l : pos ≤ 8 * length s) (x : ℕ) (ex : x ≡ w * n) where
+  passes : (t : Bool) → leb x (length (drop pos (bits s))) ≡ t → passed (n * w) a (drop pos (bits s)) ≡ pick t (got a (drop (pos + x) (bits s))) fail
+  unfolding passed
+  passes t e =
+      ap (λ (m : ℕ). pick (leb m (length (drop pos (bits s)))) (got a (drop m (drop pos (bits s)))) fail) (mul-comm n w ∙ sym ex)
+      ∙ ap (λ (u : Bool). pick u (got a (drop x (drop pos (bits s)))) fail) e
+      ∙ ap (λ (ys : List ℕ). pick t (got a ys) fail) (drop-drop x pos (bits s))
+
+  rest-length : length (drop pos (bits s)) ≡ 8 * length s - pos
+  rest-length = length-drop pos (bits s) ∙ ap (λ (k : ℕ). k - pos) (bits-length s)
+
+  pub passed-all : x ≤ 8 * length s - pos → Small a → SurveyedAt s (passed (n * w) a (drop pos (bits s))) true a (pos + x)
+  passed-all h sm =
+      let r = rest-length in
+      record { is = passes true (le-leb x (length (drop pos (bits s))) (omega arith)); inside = omega arith; small = sm }
+
+  pub passed-cut : 8 * length s - pos < x → (w′ : Bool) (e : Extent) (m : ℕ) → w′ ≡ false → m ≡ pos → Small e
+      → SurveyedAt s (passed (n * w) a (drop pos (bits s))) w′ e m
+  passed-cut h w′ e m ew em sm =
+      let r = rest-length in
+      failed s _ pos (passes false (lt-leb x (length (drop pos (bits s))) (omega arith))) l w′ e m ew em sm

@@ -8,3 +8,4 @@ pub mod SurveyParts
 pub mod Widths
 pub mod SurveyObjects
 pub mod Surveyed
+pub mod BareElements

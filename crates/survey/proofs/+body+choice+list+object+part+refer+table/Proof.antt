@@ -1,42 +1,41 @@
 use Prim.Native.Nat.{ℕ, _+_, _-_, _*_, _^_, _<_, _≤_}
 use mathlib.Core.Path.{_≡_}
+use mathlib.Core.Bool.{false}
 use borrow.Author.Needs.{needs}
 use lib.ListN.{length, drop}
 use Rattle.coding.specs.Bytes.{u48}
 use Rattle.coding.specs.Bits.{bits}
 use Rattle.coding.specs.Packed as P
 use Rattle.coding.specs.Schema as Sc
+use Rattle.coding.specs.Sheet.{bare}
 use Rattle.coding.specs.declared.Object.the-variants as O
 use Rattle.survey.specs.Survey.{surveyMembers, surveyElements, surveyContent, survey}
 use Rattle.survey.specs.Surveyed.{Small}
 use borrow.Fn.Kinds.{In}
 use borrow.Fn.PlainCycle.{Measures, is, falls, and}
-use Rattle.survey.proofs.PartCases.{kind-flat, kind-object, union-counted, case-sound, body-flat, body-object, body-union, choice-cut, choice-zero, choice-above, choice-known, element-bare, element-marked, part-cut, part-none, part-there, part-lost, part-bad, refer-surveyed}
-use Rattle.survey.proofs.ObjectCases.{list-counted, table-counted, element-sound, member-kind, member-counted, members-start, members-done, members-stopped, members-turn, elements-cut, elements-start, elements-done, elements-stopped, elements-turn, object-deep, object-text, object-bytes, object-list, object-table}
+use Rattle.survey.proofs.PartCases.{kind-flat, kind-object, union-counted, case-sound, body-flat, body-object, body-union, choice-cut, choice-zero, choice-above, choice-known, part-cut, part-none, part-there, part-lost, part-bad, refer-surveyed}
+use Rattle.survey.proofs.ObjectCases.{list-counted, table-counted, element-sound, member-kind, member-counted, members-start, members-done, members-stopped, members-turn, elements-cut, elements-start, elements-bare, marked, elements-done, elements-stopped, elements-turn, object-deep, object-text, object-bytes, object-list, object-table}
 use Rattle.survey.proofs.body.Reads as body
 use Rattle.survey.proofs.body.Kinds as body-kinds
-use Rattle.survey.proofs.+body+choice+element+list+object+part+refer+table.Lts-body as body-lts
+use Rattle.survey.proofs.+body+choice+list+object+part+refer+table.Lts-body as body-lts
 use Rattle.survey.proofs.choice.Reads as choice
 use Rattle.survey.proofs.choice.Kinds as choice-kinds
-use Rattle.survey.proofs.+body+choice+element+list+object+part+refer+table.Lts-choice as choice-lts
-use Rattle.survey.proofs.element.Reads as element
-use Rattle.survey.proofs.element.Kinds as element-kinds
-use Rattle.survey.proofs.+body+choice+element+list+object+part+refer+table.Lts-element as element-lts
+use Rattle.survey.proofs.+body+choice+list+object+part+refer+table.Lts-choice as choice-lts
 use Rattle.survey.proofs.list.Reads as list
 use Rattle.survey.proofs.list.Kinds as list-kinds
-use Rattle.survey.proofs.+body+choice+element+list+object+part+refer+table.Lts-list as list-lts
+use Rattle.survey.proofs.+body+choice+list+object+part+refer+table.Lts-list as list-lts
 use Rattle.survey.proofs.object.Reads as object
 use Rattle.survey.proofs.object.Kinds as object-kinds
-use Rattle.survey.proofs.+body+choice+element+list+object+part+refer+table.Lts-object as object-lts
+use Rattle.survey.proofs.+body+choice+list+object+part+refer+table.Lts-object as object-lts
 use Rattle.survey.proofs.part.Reads as part
 use Rattle.survey.proofs.part.Kinds as part-kinds
-use Rattle.survey.proofs.+body+choice+element+list+object+part+refer+table.Lts-part as part-lts
+use Rattle.survey.proofs.+body+choice+list+object+part+refer+table.Lts-part as part-lts
 use Rattle.survey.proofs.refer.Reads as refer
 use Rattle.survey.proofs.refer.Kinds as refer-kinds
-use Rattle.survey.proofs.+body+choice+element+list+object+part+refer+table.Lts-refer as refer-lts
+use Rattle.survey.proofs.+body+choice+list+object+part+refer+table.Lts-refer as refer-lts
 use Rattle.survey.proofs.table.Reads as table
 use Rattle.survey.proofs.table.Kinds as table-kinds
-use Rattle.survey.proofs.+body+choice+element+list+object+part+refer+table.Lts-table as table-lts
+use Rattle.survey.proofs.+body+choice+list+object+part+refer+table.Lts-table as table-lts
 use Rattle.bitio.proofs.take_number.Reads as take-number-reads
 use Rattle.schema.proofs.case_count.Reads as case-count-reads
 use Rattle.schema.proofs.element.Reads as element-reads
@@ -45,6 +44,7 @@ use Rattle.schema.proofs.member_count.Reads as member-count-reads
 use Rattle.schema.proofs.union_case.Reads as union-case-reads
 use Rattle.wire.proofs.index.Reads as index-reads
 use Rattle.survey.proofs.bare.Reads as bare-reads
+use Rattle.survey.proofs.bare_bits.Reads as bare-bits-reads
 use Rattle.survey.proofs.blob.Reads as blob-reads
 use Rattle.survey.proofs.elements_size.Reads as elements-size-reads
 use Rattle.survey.proofs.fixed_size.Reads as fixed-size-reads
@@ -53,21 +53,19 @@ use Rattle.survey.proofs.joined.Reads as joined-reads
 use Rattle.survey.proofs.lost.Reads as lost-reads
 use Rattle.survey.proofs.may_lack.Reads as may-lack-reads
 use Rattle.survey.proofs.opened.Reads as opened-reads
+use Rattle.survey.proofs.pass.Reads as pass-reads
 use Rattle.survey.proofs.plain.Reads as plain-reads
 use Rattle.survey.proofs.plain_of.Reads as plain-of-reads
 use Rattle.survey.proofs.referred.Reads as referred-reads
 use Rattle.survey.proofs.unlawful.Reads as unlawful-reads
-use Rattle.survey.proofs.+body+choice+element+list+object+part+refer+table.{statement}
-use Rattle.survey.proofs.+body+choice+element+list+object+part+refer+table.Tie.{close}
+use Rattle.survey.proofs.+body+choice+list+object+part+refer+table.{statement}
+use Rattle.survey.proofs.+body+choice+list+object+part+refer+table.Tie.{close}
 
 abbrev μ-body : Measures 3 body-kinds.ps ℕ
 μ-body κs a = 8 * a .1 .1 .1 .0 + 3
 
 abbrev μ-choice : Measures 3 choice-kinds.ps ℕ
 μ-choice κs a = 8 * a .1 .1 .1 .0 + 2
-
-abbrev μ-element : Measures 3 element-kinds.ps ℕ
-μ-element κs a = 8 * a .1 .1 .1 .0 + 5
 
 abbrev μ-list : Measures 3 list-kinds.ps ℕ
 μ-list κs a = 8 * a .1 .1 .1 .0 + 6
@@ -95,12 +93,6 @@ choice-at t = and 3 choice-kinds.ps (is 3 choice-kinds.ps μ-choice t) choice.Pr
 
 abbrev choice-below : ℕ → In 3 choice-kinds.ps
 choice-below t = and 3 choice-kinds.ps (falls 3 choice-kinds.ps _<_ μ-choice t) choice.Pre
-
-abbrev element-at : ℕ → In 3 element-kinds.ps
-element-at t = and 3 element-kinds.ps (is 3 element-kinds.ps μ-element t) element.Pre
-
-abbrev element-below : ℕ → In 3 element-kinds.ps
-element-below t = and 3 element-kinds.ps (falls 3 element-kinds.ps _<_ μ-element t) element.Pre
 
 abbrev list-at : ℕ → In 3 list-kinds.ps
 list-at t = and 3 list-kinds.ps (is 3 list-kinds.ps μ-list t) list.Pre
@@ -138,11 +130,8 @@ body-R t = (flat-test-reads.Asked, flat-test-reads.Learnt, plain-of-reads.Asked,
 abbrev choice-R : ℕ → choice-lts.Claims
 choice-R t = (case-count-reads.Asked, case-count-reads.Learnt, take-number-reads.Asked, take-number-reads.Learnt, unlawful-reads.Asked, unlawful-reads.Learnt, union-case-reads.Asked, union-case-reads.Learnt, refer-below t, refer.Post)
 
-abbrev element-R : ℕ → element-lts.Claims
-element-R t = (bare-reads.Asked, bare-reads.Learnt, body-below t, body.Post, part-below t, part.Post)
-
 abbrev list-R : ℕ → list-lts.Claims
-list-R t = (take-number-reads.Asked, take-number-reads.Learnt, unlawful-reads.Asked, unlawful-reads.Learnt, element-reads.Asked, element-reads.Learnt, elements-size-reads.Asked, elements-size-reads.Learnt, opened-reads.Asked, opened-reads.Learnt, element-below t, element.Post, joined-reads.Asked, joined-reads.Learnt)
+list-R t = (take-number-reads.Asked, take-number-reads.Learnt, unlawful-reads.Asked, unlawful-reads.Learnt, element-reads.Asked, element-reads.Learnt, elements-size-reads.Asked, elements-size-reads.Learnt, opened-reads.Asked, opened-reads.Learnt, bare-reads.Asked, bare-reads.Learnt, bare-bits-reads.Asked, bare-bits-reads.Learnt, pass-reads.Asked, pass-reads.Learnt, part-below t, part.Post, joined-reads.Asked, joined-reads.Learnt)
 
 abbrev object-R : ℕ → object-lts.Claims
 object-R t = (unlawful-reads.Asked, unlawful-reads.Learnt, blob-reads.Asked, blob-reads.Learnt, index-reads.Asked, index-reads.Learnt, list-below t, list.Post, table-below t, table.Post)
@@ -244,29 +233,9 @@ choice-refer-requires t c κs = search (case-sound, needs)
 choice-returns-4 : (t : ℕ) → choice-lts.Need-returns-4 (choice-R t) (choice-at t) choice.Post
 choice-returns-4 t c = search choice-known
 
--- src/lib.rt:551:8
-element-bare-requires : (t : ℕ) → element-lts.Need-bare-requires (element-R t) (element-at t) element.Post
-element-bare-requires t c κs = search needs
-
--- src/lib.rt:552:9
-element-body-requires : (t : ℕ) → element-lts.Need-body-requires (element-R t) (element-at t) element.Post
-element-body-requires t c κs = search needs
-
--- src/lib.rt:552:9
-element-returns : (t : ℕ) → element-lts.Need-returns (element-R t) (element-at t) element.Post
-element-returns t c = search element-bare
-
--- src/lib.rt:554:5
-element-part-requires : (t : ℕ) → element-lts.Need-part-requires (element-R t) (element-at t) element.Post
-element-part-requires t c κs = search needs
-
--- src/lib.rt:547:1
-element-returns-2 : (t : ℕ) → element-lts.Need-returns-2 (element-R t) (element-at t) element.Post
-element-returns-2 t c = search element-marked
-
 abbrev list-Inv-loop : list-lts.InvT-loop
 list-Inv-loop b dir s d i at n k a₀ pos₀ j₀ a pos j =
-    (j ≤ n) × (n < 2 ^ 32) × (at ≤ 8 * length s) × (pos ≤ 8 * length s) × Small a
+    (j ≤ n) × (n < 2 ^ 32) × (at ≤ 8 * length s) × (pos ≤ 8 * length s) × Small a × (bare k ≡ false)
     × (surveyContent (survey d u48 (P.parse b)) u48 (P.parse b) (O.List i) (drop at (bits s)) ≡ surveyElements (survey d u48 (P.parse b)) u48 (P.parse b) k (n - j) a (drop pos (bits s)))
 
 abbrev list-μ-loop : list-lts.MeasureT-loop
@@ -296,21 +265,33 @@ list-elements-size-requires t c κs = search (element-sound, needs)
 list-opened-requires : (t : ℕ) → list-lts.Need-opened-requires (list-R t) (list-at t) list.Post list-Inv-loop list-μ-loop
 list-opened-requires t c κs = search needs
 
+list-bare-requires : (t : ℕ) → list-lts.Need-bare-requires (list-R t) (list-at t) list.Post list-Inv-loop list-μ-loop
+list-bare-requires t c κs = search needs
+
+list-bare-bits-requires : (t : ℕ) → list-lts.Need-bare-bits-requires (list-R t) (list-at t) list.Post list-Inv-loop list-μ-loop
+list-bare-bits-requires t c κs = search needs
+
+list-pass-requires : (t : ℕ) → list-lts.Need-pass-requires (list-R t) (list-at t) list.Post list-Inv-loop list-μ-loop
+list-pass-requires t c κs = search needs
+
+list-returns-2 : (t : ℕ) → list-lts.Need-returns-2 (list-R t) (list-at t) list.Post list-Inv-loop list-μ-loop
+list-returns-2 t c = search elements-bare
+
 -- src/lib.rt:599:5
 list-loop-holds : (t : ℕ) → list-lts.Need-loop-holds (list-R t) (list-at t) list.Post list-Inv-loop list-μ-loop
-list-loop-holds t c = (search needs, search needs, search needs, search needs, search needs, search elements-start)
+list-loop-holds t c = (search needs, search needs, search needs, search needs, search needs, search marked, search elements-start)
 
 -- src/lib.rt:600:13
-list-element-requires-2 : (t : ℕ) → list-lts.Need-element-requires-2 (list-R t) (list-at t) list.Post list-Inv-loop list-μ-loop
-list-element-requires-2 t c κs = search (element-sound, needs)
+list-part-requires : (t : ℕ) → list-lts.Need-part-requires (list-R t) (list-at t) list.Post list-Inv-loop list-μ-loop
+list-part-requires t c κs = search (element-sound, needs)
 
 -- src/lib.rt:602:13
 list-unlawful-requires-2 : (t : ℕ) → list-lts.Need-unlawful-requires-2 (list-R t) (list-at t) list.Post list-Inv-loop list-μ-loop
 list-unlawful-requires-2 t c κs = search needs
 
 -- src/lib.rt:602:13
-list-returns-2 : (t : ℕ) → list-lts.Need-returns-2 (list-R t) (list-at t) list.Post list-Inv-loop list-μ-loop
-list-returns-2 t c = search elements-stopped
+list-returns-3 : (t : ℕ) → list-lts.Need-returns-3 (list-R t) (list-at t) list.Post list-Inv-loop list-μ-loop
+list-returns-3 t c = search elements-stopped
 
 -- src/lib.rt:605:9
 list-joined-requires : (t : ℕ) → list-lts.Need-joined-requires (list-R t) (list-at t) list.Post list-Inv-loop list-μ-loop
@@ -326,11 +307,11 @@ list-loop-less t c = search needs
 
 -- src/lib.rt:599:5
 list-loop-again : (t : ℕ) → list-lts.Need-loop-again (list-R t) (list-at t) list.Post list-Inv-loop list-μ-loop
-list-loop-again t c = (search needs, search needs, search needs, search needs, search needs, search elements-turn)
+list-loop-again t c = (search needs, search needs, search needs, search needs, search needs, search needs, search elements-turn)
 
 -- src/lib.rt:586:1
-list-returns-3 : (t : ℕ) → list-lts.Need-returns-3 (list-R t) (list-at t) list.Post list-Inv-loop list-μ-loop
-list-returns-3 t c = search elements-done
+list-returns-4 : (t : ℕ) → list-lts.Need-returns-4 (list-R t) (list-at t) list.Post list-Inv-loop list-μ-loop
+list-returns-4 t c = search elements-done
 
 -- src/lib.rt:621:9
 object-unlawful-requires : (t : ℕ) → object-lts.Need-unlawful-requires (object-R t) (object-at t) object.Post
@@ -524,9 +505,9 @@ table-loop-again t c = (search needs, search needs, search needs, search needs, 
 table-returns-2 : (t : ℕ) → table-lts.Need-returns-2 (table-R t) (table-at t) table.Post table-Inv-loop table-μ-loop
 table-returns-2 t c = search members-done
 
-pub +body+choice+element+list+object+part+refer+table-spec : {M : Type 1} → statement M
-+body+choice+element+list+object+part+refer+table-spec =
-    close μ-body μ-choice μ-element μ-list μ-object μ-part μ-refer μ-table (λ t. body-lts.spec (body-R t)
+pub +body+choice+list+object+part+refer+table-spec : {M : Type 1} → statement M
++body+choice+list+object+part+refer+table-spec =
+    close μ-body μ-choice μ-list μ-object μ-part μ-refer μ-table (λ t. body-lts.spec (body-R t)
     (body-at t)
     body.Post
     (body-enum-known-k t)
@@ -554,14 +535,6 @@ pub +body+choice+element+list+object+part+refer+table-spec : {M : Type 1} → st
     (choice-union-case-requires t)
     (choice-refer-requires t)
     (choice-returns-4 t))
-    (λ t. element-lts.spec (element-R t)
-    (element-at t)
-    element.Post
-    (element-bare-requires t)
-    (element-body-requires t)
-    (element-returns t)
-    (element-part-requires t)
-    (element-returns-2 t))
     (λ t. list-lts.spec (list-R t)
     (list-at t)
     list.Post
@@ -573,15 +546,19 @@ pub +body+choice+element+list+object+part+refer+table-spec : {M : Type 1} → st
     (list-element-requires t)
     (list-elements-size-requires t)
     (list-opened-requires t)
-    (list-loop-holds t)
-    (list-element-requires-2 t)
-    (list-unlawful-requires-2 t)
+    (list-bare-requires t)
+    (list-bare-bits-requires t)
+    (list-pass-requires t)
     (list-returns-2 t)
+    (list-loop-holds t)
+    (list-part-requires t)
+    (list-unlawful-requires-2 t)
+    (list-returns-3 t)
     (list-joined-requires t)
     (list-add-j t)
     (list-loop-less t)
     (list-loop-again t)
-    (list-returns-3 t))
+    (list-returns-4 t))
     (λ t. object-lts.spec (object-R t)
     (object-at t)
     object.Post
