@@ -276,7 +276,7 @@ fn plain(fine: bool) -> Extent
     }
 }
 
-fn opened(n: usize, w: usize) -> Extent
+pub fn opened(n: usize, w: usize) -> Extent
     requires { ⌜ (n < 2 ^ 40) × (w < 2 ^ 48) ⌝ }
     ensures { λ r. ⌜ Fits (Sv.opened n w) r ⌝ }
 {
@@ -379,7 +379,7 @@ fn times(w: usize, n: usize) -> usize
     w * n
 }
 
-fn elements_size(b: &[u8], dir: &[u16], k: Kind, n: usize) -> usize
+pub fn elements_size(b: &[u8], dir: &[u16], k: Kind, n: usize) -> usize
     requires { ⌜ (Accepted (now b) (now dir)) × (KindSound (P.parse (now b)) k) × (n < 2 ^ 32) ⌝ }
     ensures { λ r. ⌜ (r ≡ T.elementsSize B.u48 (P.parse (now (b .entry))) k n) × (r < 2 ^ 48) ⌝ }
 {
@@ -390,7 +390,7 @@ fn elements_size(b: &[u8], dir: &[u16], k: Kind, n: usize) -> usize
 }
 
 // A table's full fixed part.
-fn fixed_size(b: &[u8], dir: &[u16], t: usize) -> usize
+pub fn fixed_size(b: &[u8], dir: &[u16], t: usize) -> usize
     requires { ⌜ (Accepted (now b) (now dir)) × (t < P.tableCount (now b)) ⌝ }
     ensures { λ r. ⌜ (r ≡ L.fixedSize B.u48 (P.parse (now (b .entry))) (Sc.tableOf (P.parse (now (b .entry))) t .members)) × (r < 2 ^ 40) ⌝ }
 {

@@ -11,6 +11,7 @@ use borrow.Author.Tests.{not-true, not-false}
 use Rattle.coding.specs.Lists.{pick}
 use Rattle.coding.specs.Bytes.{u48}
 use Rattle.coding.specs.Bits.{bits}
+use Rattle.coding.specs.Packed.{parse}
 use Rattle.coding.specs.Schema as Sc
 use Rattle.coding.specs.Schema.{Schema}
 use Rattle.coding.specs.Sheet.{Parsed, fail, got, bind}
@@ -18,29 +19,39 @@ use Rattle.coding.specs.declared.Object.{Object}
 use Rattle.coding.specs.declared.Object.the-variants as O
 use Rattle.coding.specs.declared.Kind.{Kind}
 use Rattle.coding.specs.declared.Member.{Member}
+use Rattle.schema.specs.Directory.{Accepted, accepted-sound}
 use Rattle.bitio.specs.Taken.{TakenNumber}
 use Rattle.survey.specs.Survey.{Surveyor, survey}
-use Rattle.survey.specs.Surveyed.{SurveyedAt}
 use Rattle.survey.specs.declared.Extent.{Extent}
 use Rattle.writer.specs.Emit.{State}
 use Rattle.writer.specs.EmitSheet.{Emitter, emitRefer, emitElement, emitMembers, emitElements, emitBlob, emitContent, emit}
+use Rattle.writer.specs.WriteLaws.{emit-lost}
+use Rattle.writer.specs.Measure.{Measured}
 use Rattle.writer.specs.Emitting.{stateOf, closed, referred, opened, emitMember, Room, EmittedAt, Stood, Opens}
 use Rattle.writer.specs.declared.Places.{Places}
 use Rattle.writer.proofs.EmitRoom.{refused}
 use Rattle.writer.proofs.EmitRest.{emitted-on}
-use Rattle.writer.proofs.EmitPartCases.{refer-closed}
+use Rattle.writer.proofs.EmitPartCases.{refer-unlawful, refer-closed}
 
 -- ---- an object that is referred to: its content goes forward in the sheet
-module _ (d : ℕ) (S : Schema) (s : List ℕ) (inplace : Bool) (ob : Object) (c : Places) (o : List ℕ) (pos : ℕ) (room : Room s pos c)
-    (whole : Bool) (x : Extent) (end : ℕ) (sv : SurveyedAt s (survey d u48 S ob (drop pos (bits s))) whole x end)
-    (h : not whole ≡ false) (p : Places) (o₁ : List ℕ) (st : Stood 6 (referred inplace x (stateOf c o)) (stateOf p o₁) c p)
-    (q : Places) (o₂ : List ℕ) (op : Opens (opened S ob inplace x (stateOf p o₁)) (stateOf q o₂) q)
-    (yw : Bool) (y : Places) (o₃ : List ℕ) (yn : ℕ) (em : EmittedAt s (emit d u48 S ob (stateOf q o₂) (drop pos (bits s))) pos q 0 yw y o₃ yn) where
+module _ (d : ℕ) (b dir : List ℕ) (a : Accepted b dir) (s : List ℕ) (inplace : Bool) (ob : Object) (c : Places) (o : List ℕ) (pos : ℕ) (room : Room s pos c)
+    (x : Extent) (m : Measured inplace (survey d u48 (parse b) ob (drop pos (bits s))) x)
+    (p : Places) (o₁ : List ℕ) (st : Stood 6 (referred inplace x (stateOf c o)) (stateOf p o₁) c p)
+    (q : Places) (o₂ : List ℕ) (op : Opens (opened (parse b) ob inplace x (stateOf p o₁)) (stateOf q o₂) q)
+    (yw : Bool) (y : Places) (o₃ : List ℕ) (yn : ℕ) (em : EmittedAt s (emit d u48 (parse b) ob (stateOf q o₂) (drop pos (bits s))) pos q 0 yw y o₃ yn) where
+  lost : (u : State) → survey d u48 (parse b) ob (drop pos (bits s)) ≡ fail → emit d u48 (parse b) ob u (drop pos (bits s)) ≡ fail
+  lost u e = emit-lost u48 (parse b) (accepted-sound b dir a) d ob u (drop pos (bits s)) e
+
+  pub refer-cut : not yw ≡ true → (w : Bool) (r : Places) (n : ℕ) → w ≡ false → r ≡ c → n ≡ pos
+      → EmittedAt s (emitRefer (emit d u48 (parse b)) (survey d u48 (parse b)) u48 (parse b) inplace ob (stateOf c o) (drop pos (bits s))) pos c 6 w r o₃ n
+  refer-cut f w r n ew er en =
+      refer-unlawful (emit d u48 (parse b)) (survey d u48 (parse b)) (parse b) s inplace ob c o pos room x m lost p o₁ st q o₂ op yw y o₃ yn em f w r n ew er en
+
   pub refer-done : not yw ≡ false → (k : Places) → k ≡ closed inplace p y → (w : Bool) (r : Places) (n : ℕ) → w ≡ true → r ≡ k → n ≡ yn
-      → EmittedAt s (emitRefer (emit d u48 S) (survey d u48 S) u48 S inplace ob (stateOf c o) (drop pos (bits s))) pos c 6 w r o₃ n
+      → EmittedAt s (emitRefer (emit d u48 (parse b)) (survey d u48 (parse b)) u48 (parse b) inplace ob (stateOf c o) (drop pos (bits s))) pos c 6 w r o₃ n
   refer-done f k ek w r n ew er en =
-      refer-closed (emit d u48 S) (survey d u48 S) S s inplace ob c o pos room whole x end sv h p o₁ st q o₂ op yw y o₃ yn em
-      (emitted-on d u48 S s ob (stateOf q o₂) pos q 0 yw y o₃ yn em (room .here) f) f k ek w r n ew er en
+      refer-closed (emit d u48 (parse b)) (survey d u48 (parse b)) (parse b) s inplace ob c o pos room x m lost p o₁ st q o₂ op yw y o₃ yn em
+      (emitted-on d u48 (parse b) s ob (stateOf q o₂) pos q 0 yw y o₃ yn em (room .here) f) f k ek w r n ew er en
 
 -- ---- the members of a table, from member j on
 module _ (child : Emitter) (measure : Surveyor) (S : Schema) (s : List ℕ) (t : ℕ) (c : Places) (o : List ℕ) (pos : ℕ) where

@@ -1,5 +1,5 @@
 -- The ways out of the pass over members and elements, one lemma for each.
-use mathlib.Core.Path.{_≡_, refl, sym, ap, _∙_, subst}
+use mathlib.Core.Path.{_≡_, refl, sym, ap, ap₂, _∙_, subst}
 use mathlib.Core.Bool.{Bool, true, false, not, false≢true}
 use mathlib.Core.List.{List}
 use Prim.Native.Nat.{ℕ, zero, suc, _+_, _*_, _^_, _<_, _≤_}
@@ -13,6 +13,7 @@ use Rattle.coding.specs.Bits.{bits}
 use Rattle.coding.specs.Schema as Sc
 use Rattle.coding.specs.Schema.{Schema}
 use Rattle.coding.specs.Layout.{hasFlag}
+use Rattle.coding.specs.Walk.{headerSize, magic}
 use Rattle.coding.specs.Sheet.{Parsed, fail, got, bind, bare}
 use Rattle.coding.specs.declared.Flat.{Flat}
 use Rattle.coding.specs.declared.Object.{Object}
@@ -21,46 +22,79 @@ use Rattle.coding.specs.declared.Kind.the-variants.{OfFlat, OfObject, OfUnion}
 use Rattle.coding.specs.declared.Member.{Member}
 use Rattle.bitio.specs.Taken.{TakenNumber}
 use Rattle.survey.specs.Survey.{Surveyor, surveyMark}
-use Rattle.survey.specs.Surveyed.{SurveyedAt}
+use Rattle.survey.specs.Mapped.{Has}
 use Rattle.survey.specs.declared.Extent.{Extent}
-use Rattle.writer.specs.Emit.{State, leaveObject, leaveContent}
-use Rattle.writer.specs.EmitSheet.{Emitter, putNumber, emitFlat, lack, pass, emitObject, emitContentAt, emitRefer, emitChoice, emitBody, emitPart, emitElement, flagged}
+use Rattle.writer.specs.Emit.{State, enterObject, leaveObject, enterContent, leaveContent}
+use Rattle.writer.specs.EmitSheet.{Emitter, putNumber, emitFlat, lack, pass, openObject, emitObject, emitContentAt, emitRefer, emitChoice, emitBody, emitPart, emitElement, flagged}
+use Rattle.writer.specs.Measure.{Sizes, Measured}
 use Rattle.writer.specs.Emitting.{stateOf, HeldOk, leftObject, leftContent, closed, referred, opened, emitMember, Room, EmittedAt, Stood, BitPut, Lacks, Opens, extra}
 use Rattle.writer.specs.declared.Places.{Places}
 use Rattle.writer.proofs.EmitRoom.{taken-at, refused, extra-most, held-same}
 
 -- ---- an object: what refers to it, its content, and back; by offset or in place
-refer-is : (child : Emitter) (measure : Surveyor) (S : Schema) (inplace : Bool) (ob : Object) (x : Extent) (st : State) (xs ys : List ℕ) → measure ob xs ≡ got x ys
-    → emitRefer child measure u48 S inplace ob st xs
-    ≡ bind (child ob (opened S ob inplace x (referred inplace x st)) xs) (λ inner zs. got (pick inplace (leaveContent (referred inplace x st) inner) (leaveObject (referred inplace x st) inner)) zs)
-unfolding emitRefer emitObject emitContentAt opened referred bind
-refer-is child measure S true ob x st xs ys e = rw e
-refer-is child measure S false ob x st xs ys e = rw e
+module _ (child : Emitter) (S : Schema) (inplace : Bool) (ob : Object) (st : State) (xs : List ℕ) where
+  -- the content's pass from u on, back behind z
+  within : State → State → Parsed State
+  within z u = bind (child ob u xs) (λ inner zs. got (pick inplace (leaveContent z inner) (leaveObject z inner)) zs)
+
+  surveyed : (measure : Surveyor) (x : Extent) (ys : List ℕ) → measure ob xs ≡ got x ys
+      → emitRefer child measure u48 S inplace ob st xs ≡ within (referred inplace x st) (opened S ob inplace x (referred inplace x st))
+  unfolding within
+  surveyed measure x ys e = by inplace
+    where
+      by : (i : Bool) → emitRefer child measure u48 S i ob st xs
+          ≡ bind (child ob (opened S ob i x (referred i x st)) xs) (λ inner zs. got (pick i (leaveContent (referred i x st) inner) (leaveObject (referred i x st) inner)) zs)
+      by true = unfold emitRefer emitObject emitContentAt opened referred bind in rw e
+      by false = unfold emitRefer emitObject emitContentAt opened referred bind in rw e
+
+  module _ (r x : Extent) where
+    same-referred : (i : Bool) → Sizes i r x → referred i x st ≡ referred i r st
+    unfolding referred
+    same-referred true s = ap (λ (n : ℕ). putNumber u48 n st) (sym (s .length))
+    same-referred false s = refl
+
+    same-opened : (i : Bool) → Sizes i r x → (z : State) → opened S ob i x z ≡ opened S ob i r z
+    unfolding opened openObject
+    same-opened true s z = ap (λ (n : ℕ). enterContent n z) (sym (s .width))
+    same-opened false s z =
+        ap (λ (n : ℕ). putNumber u48 n (putNumber 4 (magic S ob) (enterObject (headerSize u48 + x .width) (x .chain) z))) (sym (s .length))
+        ∙ ap₂ (λ (w k : ℕ). putNumber u48 (r .length) (putNumber 4 (magic S ob) (enterObject (headerSize u48 + w) k z))) (sym (s .width)) (sym (s .chain refl))
+
+  -- by sizes that are right where the survey gives something; where it does not, the content's pass fails
+  refer-is : (measure : Surveyor) (r : Extent) → Has (Sizes inplace r) (measure ob xs) → ((u : State) → measure ob xs ≡ fail → child ob u xs ≡ fail)
+      → emitRefer child measure u48 S inplace ob st xs ≡ within (referred inplace r st) (opened S ob inplace r (referred inplace r st))
+  unfolding within bind
+  refer-is measure r m lost = by (measure ob xs) refl m
+    where
+      by : (p : Parsed Extent) → measure ob xs ≡ p → Has (Sizes inplace r) p
+          → emitRefer child measure u48 S inplace ob st xs ≡ within (referred inplace r st) (opened S ob inplace r (referred inplace r st))
+      by fail e h =
+          let g : emitRefer child measure u48 S inplace ob st xs ≡ fail = unfold emitRefer in rw e in
+          g ∙ sym (ap (λ (p : Parsed State). bind p (λ inner zs. got (pick inplace (leaveContent (referred inplace r st) inner) (leaveObject (referred inplace r st) inner)) zs))
+          (lost (opened S ob inplace r (referred inplace r st)) e))
+      by (got x ys) e h =
+          surveyed measure x ys e ∙ ap (within (referred inplace x st)) (same-opened r x inplace h (referred inplace x st))
+          ∙ ap (λ (z : State). within z (opened S ob inplace r z)) (same-referred r x inplace h)
 
 module _ (child : Emitter) (measure : Surveyor) (S : Schema) (s : List ℕ) (inplace : Bool) (ob : Object) (c : Places) (o : List ℕ) (pos : ℕ) (room : Room s pos c)
-    (whole : Bool) (x : Extent) (end : ℕ) (sv : SurveyedAt s (measure ob (drop pos (bits s))) whole x end) where
-  pub refer-lost : not whole ≡ true → (w : Bool) (q : Places) (n : ℕ) → w ≡ false → q ≡ c → n ≡ pos
-      → EmittedAt s (emitRefer child measure u48 S inplace ob (stateOf c o) (drop pos (bits s))) pos c 6 w q o n
-  unfolding emitRefer bind
-  refer-lost h w q n ew eq en = refused s _ pos c 6 (rw (sv .is, not-true whole h)) room w q o n ew eq en
-
-  module _ (h : not whole ≡ false) (p : Places) (o₁ : List ℕ) (st : Stood 6 (referred inplace x (stateOf c o)) (stateOf p o₁) c p)
+    (x : Extent) (m : Measured inplace (measure ob (drop pos (bits s))) x) (lost : (u : State) → measure ob (drop pos (bits s)) ≡ fail → child ob u (drop pos (bits s)) ≡ fail) where
+  module _ (p : Places) (o₁ : List ℕ) (st : Stood 6 (referred inplace x (stateOf c o)) (stateOf p o₁) c p)
       (q : Places) (o₂ : List ℕ) (op : Opens (opened S ob inplace x (stateOf p o₁)) (stateOf q o₂) q)
       (yw : Bool) (y : Places) (o₃ : List ℕ) (yn : ℕ) (em : EmittedAt s (child ob (stateOf q o₂) (drop pos (bits s))) pos q 0 yw y o₃ yn) where
     abbrev back : Parsed State → Parsed State
     back r = bind r (λ inner zs. got (pick inplace (leaveContent (stateOf p o₁) inner) (leaveObject (stateOf p o₁) inner)) zs)
 
     referred-is : emitRefer child measure u48 S inplace ob (stateOf c o) (drop pos (bits s)) ≡ back (pick yw (got (stateOf y o₃) (drop yn (bits s))) fail)
+    unfolding within
     referred-is =
-        refer-is child measure S inplace ob x (stateOf c o) (drop pos (bits s)) (drop end (bits s))
-        (sv .is ∙ ap (λ (u : Bool). pick u (got x (drop end (bits s))) fail) (not-false whole h))
+        refer-is child S inplace ob (stateOf c o) (drop pos (bits s)) measure x (m .is) lost
         ∙ ap (λ (z : State). bind (child ob (opened S ob inplace x z) (drop pos (bits s))) (λ inner zs. got (pick inplace (leaveContent z inner) (leaveObject z inner)) zs)) (sym (st .is))
         ∙ ap (λ (z : State). back (child ob z (drop pos (bits s)))) (sym (op .is)) ∙ ap back (em .is)
 
-    pub refer-cut : not yw ≡ true → (w : Bool) (r : Places) (n : ℕ) → w ≡ false → r ≡ c → n ≡ pos
+    pub refer-unlawful : not yw ≡ true → (w : Bool) (r : Places) (n : ℕ) → w ≡ false → r ≡ c → n ≡ pos
         → EmittedAt s (emitRefer child measure u48 S inplace ob (stateOf c o) (drop pos (bits s))) pos c 6 w r o₃ n
     unfolding bind
-    refer-cut f w r n ew er en =
+    refer-unlawful f w r n ew er en =
         refused s _ pos c 6 (referred-is ∙ ap (λ (u : Bool). back (pick u (got (stateOf y o₃) (drop yn (bits s))) fail)) (not-true yw f)) room w r o₃ n ew er en
 
     shut : (i : Bool)

@@ -6,6 +6,7 @@ pub mod PutCases
 pub mod EmitCases
 pub mod StructCases
 pub mod EmitRest
+pub mod MeasureCases
 pub mod EmitPartCases
 pub mod EmitObjectCases
 pub mod EmitMessageCases

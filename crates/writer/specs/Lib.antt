@@ -7,5 +7,6 @@ pub mod EmitSheet
 pub mod EmitFlats
 pub mod EmitParts
 pub mod WriteLaws
+pub mod Measure
 pub mod Emitting
 pub mod EmitStructs

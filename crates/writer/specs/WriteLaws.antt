@@ -67,6 +67,12 @@ module _ (o : ℕ) (S : Schema) (sound : Sound S) where
       content-emitted o S sound (emit d o S) (survey d o S) (decode d S) (plan d o S) (writable d o S)
       (λ ob′ ys. object-surveyed o S sound d ob′ ys) (λ ob′ st′ ys. emit-is d ob′ st′ ys) ob st xs
 
+  -- where the survey finds what is not lawful, so does the pass
+  pub emit-lost : (d : ℕ) (ob : Object) (st : State) (xs : List ℕ) → survey d o S ob xs ≡ fail → emit d o S ob st xs ≡ fail
+  emit-lost d ob st xs h =
+      emit-is d ob st xs
+      ∙ ap (mapped (λ v. emitSlots o st (plan d o S ob v))) (mapped-fail-is (extentOf o S sound d ob) (decode d S ob xs) (sym (survey-is o S sound d ob xs) ∙ h))
+
   -- the slots of a message: its start, and the root table
   abbrev pub messageSlots : Value → Slots
   messageSlots v = bytes (leBytes 4 0xB5C0_C4B3) (reference (objectSlots (plan deepest o S) o S (O.Table (S .root)) v) end)

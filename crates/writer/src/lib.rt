@@ -10,7 +10,7 @@ use judge::TextObject;
 use survey::Extent;
 ghost use mathlib.Core.Path.{_≡_};
 ghost use mathlib.Core.List.{[], _∷_};
-ghost use mathlib.Core.Bool.{Bool, true, false, _&&_};
+ghost use mathlib.Core.Bool.{Bool, true, false, _&&_, not};
 ghost use Prim.Native.Nat.{ℕ, _+_, _-_, _*_, _%_, _<_, _≤_, _^_};
 ghost use lib.ListN.{length, take, drop, set, replicate};
 ghost use lib.Seq.{sets};
@@ -27,6 +27,7 @@ ghost use Rattle.survey.specs.Survey as Sv;
 ghost use Rattle.survey.specs.Surveyed.{Small};
 ghost use Rattle.writer.specs.Emit as Em;
 ghost use Rattle.writer.specs.EmitSheet as Es;
+ghost use Rattle.writer.specs.Measure.{Measured, MeasuredContent, anyInPlace};
 ghost use Rattle.writer.specs.Emitting as Eg;
 ghost use Rattle.writer.specs.Emitting.{stateOf, HeldOk, BitPut, Room, EmittedAt, Stood};
 
@@ -791,6 +792,98 @@ fn close(inplace: bool, c: Places, inner: Places) -> Places
     leave_object(c, inner)
 }
 
+// ---- what an object takes, without a survey of what stands in it where none is needed
+// Whether a table has an in-place member.
+fn any_in_place(b: &[u8], dir: &[u16], t: usize) -> bool
+    requires { ⌜ (Accepted (now b) (now dir)) × (t < P.tableCount (now b)) ⌝ }
+    ensures { λ r. ⌜ r ≡ anyInPlace (Sc.tableOf (P.parse (now (b .entry))) t .members) ⌝ }
+{
+    let n = schema::member_count(b, dir, t);
+    let mut j: usize = 0;
+    while j < n {
+        let r = schema::member(b, dir, t, j);
+        if r.inplace {
+            return true;
+        }
+        j += 1;
+    }
+    false
+}
+
+// Whether bytes may stand in place behind a table that is referred to.
+fn chained(b: &[u8], dir: &[u16], t: usize, inplace: bool) -> bool
+    requires { ⌜ (Accepted (now b) (now dir)) × (t < P.tableCount (now b)) ⌝ }
+    ensures { λ r. ⌜ r ≡ (not inplace && anyInPlace (Sc.tableOf (P.parse (now (b .entry))) t .members)) ⌝ }
+{
+    if inplace {
+        return false;
+    }
+    any_in_place(b, dir, t)
+}
+
+// A text or bytes; a text has a byte more behind its own.
+fn measure_blob(s: &[u8], pos: usize, more: usize) -> Extent
+    requires { ⌜ (length (now s) ≤ 16777215) × (pos ≤ 8 * length (now s)) × (more ≤ 1) ⌝ }
+    ensures { λ r. ⌜ Measured false (Sv.surveyBlob more (drop pos (bits (now (s .entry))))) r ⌝ }
+{
+    let x = bitio::take_number(s, pos, 32);
+    let n = x.value as usize;
+    survey::opened(n, n + more)
+}
+
+fn measure_list(b: &[u8], dir: &[u16], s: &[u8], i: usize, pos: usize) -> Extent
+    requires { ⌜ (Accepted (now b) (now dir)) × (i < P.listCount (now b)) × (length (now s) ≤ 16777215) × (pos ≤ 8 * length (now s)) ⌝ }
+    ensures { λ r. ⌜ MeasuredContent (P.parse (now (b .entry))) (Object.List i) (drop pos (bits (now (s .entry)))) r ⌝ }
+{
+    let x = bitio::take_number(s, pos, 32);
+    let n = x.value as usize;
+    let k = schema::element(b, dir, i);
+    survey::opened(n, survey::elements_size(b, dir, k, n))
+}
+
+fn measure_table(
+    b: &[u8],
+    dir: &[u16],
+    s: &[u8],
+    d: usize,
+    t: u8,
+    inplace: bool,
+    pos: usize,
+) -> Extent
+    requires { ⌜ (Accepted (now b) (now dir)) × (ObjectSound (P.parse (now b)) (Object.Table t)) × (length (now s) ≤ 16777215) × (pos ≤ 8 * length (now s)) ⌝ }
+    ensures { λ r. ⌜ Measured inplace (Sv.survey d B.u48 (P.parse (now (b .entry))) (Object.Table t) (drop pos (bits (now (s .entry))))) r ⌝ }
+{
+    let i = wire::index(t);
+    if chained(b, dir, i, inplace) {
+        let x = survey::object(b, dir, s, d, Object::Table(t), pos);
+        return x.extent;
+    }
+    let n = survey::fixed_size(b, dir, i);
+    survey::opened(n, n)
+}
+
+// The length and the width of an object, and what stands in place behind it unless it stands in place itself. They are right
+// where the sheet is lawful; the pass finds out where it is not.
+fn measure(
+    b: &[u8],
+    dir: &[u16],
+    s: &[u8],
+    d: usize,
+    ob: Object,
+    inplace: bool,
+    pos: usize,
+) -> Extent
+    requires { ⌜ (Accepted (now b) (now dir)) × (ObjectSound (P.parse (now b)) ob) × (length (now s) ≤ 16777215) × (pos ≤ 8 * length (now s)) ⌝ }
+    ensures { λ r. ⌜ Measured inplace (Sv.survey d B.u48 (P.parse (now (b .entry))) ob (drop pos (bits (now (s .entry))))) r ⌝ }
+{
+    match ob {
+        Object::Text => measure_blob(s, pos, 1),
+        Object::Bytes => measure_blob(s, pos, 0),
+        Object::List(i) => measure_list(b, dir, s, wire::index(i), pos),
+        Object::Table(t) => measure_table(b, dir, s, d, t, inplace, pos),
+    }
+}
+
 // ---- members, elements and objects
 // An object that is referred to, or stands in place, once its extent is known.
 fn emit_refer(
@@ -808,11 +901,7 @@ fn emit_refer(
     requires { ⌜ Room (now s) pos c ⌝ }
     ensures { λ r. ⌜ EmittedAt (now (s .entry)) (Es.emitRefer (Es.emit d B.u48 (P.parse (now (b .entry)))) (Sv.survey d B.u48 (P.parse (now (b .entry)))) B.u48 (P.parse (now (b .entry))) inplace ob (stateOf c (now (out .entry))) (drop pos (bits (now (s .entry))))) pos c 6 (r .whole) (r .places) (now (out .exit)) (r .next) ⌝ }
 {
-    let x = survey::object(b, dir, s, d, ob, pos);
-    if !x.whole {
-        return not_lawful(c, pos);
-    }
-    let e = x.extent;
+    let e = measure(b, dir, s, d, ob, inplace, pos);
     let p = put_reference(out, inplace, e, c);
     let q = open(b, dir, out, ob, inplace, e, p);
     let y = emit_content(b, dir, s, out, d, ob, q, pos);

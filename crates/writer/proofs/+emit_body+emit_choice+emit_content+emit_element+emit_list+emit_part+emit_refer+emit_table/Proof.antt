@@ -14,8 +14,8 @@ use Rattle.writer.specs.Emitting.{stateOf, Room}
 use Rattle.survey.proofs.PartCases.{kind-flat, kind-object, union-counted, case-sound}
 use Rattle.survey.proofs.ObjectCases.{list-counted, table-counted, element-sound, member-kind, member-counted}
 use Rattle.writer.proofs.EmitRoom.{room-taken, taken-on, room-choice, room-flag, room-lack, room-open, room-part, room-below, stood-next, stood-tail}
-use Rattle.writer.proofs.EmitPartCases.{refer-lost, refer-cut, choice-cut, choice-zero, choice-above, choice-known, body-flat, body-object, body-union, part-cut, part-there, part-bad, part-none, part-pass, element-bare, element-marked}
-use Rattle.writer.proofs.EmitObjectCases.{refer-done, members-start, members-done, members-stopped, members-turn, elements-cut, elements-start, elements-done, elements-stopped, elements-turn, content-deep, content-text, content-bytes, content-list, content-table}
+use Rattle.writer.proofs.EmitPartCases.{choice-cut, choice-zero, choice-above, choice-known, body-flat, body-object, body-union, part-cut, part-there, part-bad, part-none, part-pass, element-bare, element-marked}
+use Rattle.writer.proofs.EmitObjectCases.{refer-cut, refer-done, members-start, members-done, members-stopped, members-turn, elements-cut, elements-start, elements-done, elements-stopped, elements-turn, content-deep, content-text, content-bytes, content-list, content-table}
 use borrow.Fn.Kinds.{In}
 use borrow.Fn.PlainCycle.{Measures, is, falls, and}
 use Rattle.writer.proofs.emit_body.Reads as emit-body
@@ -49,7 +49,6 @@ use Rattle.schema.proofs.member.Reads as member-reads
 use Rattle.schema.proofs.member_count.Reads as member-count-reads
 use Rattle.schema.proofs.union_case.Reads as union-case-reads
 use Rattle.survey.proofs.bare.Reads as bare-reads
-use Rattle.survey.proofs.object.Reads as object-reads
 use Rattle.wire.proofs.index.Reads as index-reads
 use Rattle.writer.proofs.close.Reads as close-reads
 use Rattle.writer.proofs.emit_bytes.Reads as emit-bytes-reads
@@ -57,6 +56,7 @@ use Rattle.writer.proofs.emit_flat.Reads as emit-flat-reads
 use Rattle.writer.proofs.emit_text.Reads as emit-text-reads
 use Rattle.writer.proofs.flag.Reads as flag-reads
 use Rattle.writer.proofs.lack.Reads as lack-reads
+use Rattle.writer.proofs.measure.Reads as measure-reads
 use Rattle.writer.proofs.not_lawful.Reads as not-lawful-reads
 use Rattle.writer.proofs.open.Reads as open-reads
 use Rattle.writer.proofs.pass.Reads as pass-reads
@@ -182,7 +182,7 @@ abbrev emit-part-R : ℕ → emit-part-lts.Claims
 emit-part-R t = (take-number-reads.Asked, take-number-reads.Learnt, not-lawful-reads.Asked, not-lawful-reads.Learnt, flag-reads.Asked, flag-reads.Learnt, emit-body-below t, emit-body.Post, lack-reads.Asked, lack-reads.Learnt, stored-reads.Asked, stored-reads.Learnt, pass-reads.Asked, pass-reads.Learnt)
 
 abbrev emit-refer-R : ℕ → emit-refer-lts.Claims
-emit-refer-R t = (object-reads.Asked, object-reads.Learnt, not-lawful-reads.Asked, not-lawful-reads.Learnt, put-reference-reads.Asked, put-reference-reads.Learnt, open-reads.Asked, open-reads.Learnt, emit-content-below t, emit-content.Post, close-reads.Asked, close-reads.Learnt, stored-reads.Asked, stored-reads.Learnt)
+emit-refer-R t = (measure-reads.Asked, measure-reads.Learnt, put-reference-reads.Asked, put-reference-reads.Learnt, open-reads.Asked, open-reads.Learnt, emit-content-below t, emit-content.Post, not-lawful-reads.Asked, not-lawful-reads.Learnt, close-reads.Asked, close-reads.Learnt, stored-reads.Asked, stored-reads.Learnt)
 
 abbrev emit-table-R : ℕ → emit-table-lts.Claims
 emit-table-R t = (member-count-reads.Asked, member-count-reads.Learnt, member-reads.Asked, member-reads.Learnt, emit-part-below t, emit-part.Post, not-lawful-reads.Asked, not-lawful-reads.Learnt, stored-reads.Asked, stored-reads.Learnt)
@@ -543,57 +543,38 @@ emit-part-same-length-3 t c = search needs
 emit-part-returns-5 : (t : ℕ) → emit-part-lts.Need-returns-5 (emit-part-R t) (emit-part-at t) emit-part.Post
 emit-part-returns-5 t c = search (part-pass, c .before .before .before .before .before .before .before .before .before .before .before .before .before .before .before .before .before .before .before .before .before .before .pre .1 .1, c .before .before .before .before .before .before .before .before .before .before .before .before .before .before .before .before .before .take-number .ensures, c .before .before .before .before .before .before .before .before .before .before .before .before .before .before .before .if1 .left, c .before .before .before .before .before .before .before .before .before .before .before .before .before .before .if2 .left, c .before .before .before .before .before .before .before .before .before .before .before .before .before .if3 .left, c .before .before .before .before .before .before .before .before .before .before .before .flag2 .ensures, c .before .before .before .before .before .before .before .lack .ensures, c .before .before .before .before .if4 .left, c .before .before .pass .ensures)
 
--- src/lib.rt:782:9
-emit-refer-object-requires : (t : ℕ) → emit-refer-lts.Need-object-requires (emit-refer-R t) (emit-refer-at t) emit-refer.Post
-emit-refer-object-requires t c κs = search needs
+emit-refer-measure-requires : (t : ℕ) → emit-refer-lts.Need-measure-requires (emit-refer-R t) (emit-refer-at t) emit-refer.Post
+emit-refer-measure-requires t c κs = search needs
 
--- src/lib.rt:784:9
-emit-refer-not-lawful-requires : (t : ℕ) → emit-refer-lts.Need-not-lawful-requires (emit-refer-R t) (emit-refer-at t) emit-refer.Post
-emit-refer-not-lawful-requires t c κs = search needs
-
--- src/lib.rt:784:9
-emit-refer-returns : (t : ℕ) → emit-refer-lts.Need-returns (emit-refer-R t) (emit-refer-at t) emit-refer.Post
-emit-refer-returns t c = search refer-lost
-
--- src/lib.rt:787:9
 emit-refer-put-reference-requires : (t : ℕ) → emit-refer-lts.Need-put-reference-requires (emit-refer-R t) (emit-refer-at t) emit-refer.Post
 emit-refer-put-reference-requires t c κs = search (room-below, needs)
 
--- src/lib.rt:788:9
 emit-refer-open-requires : (t : ℕ) → emit-refer-lts.Need-open-requires (emit-refer-R t) (emit-refer-at t) emit-refer.Post
-emit-refer-open-requires t c κs = (c .before .before .before .before .before .before .before .before .before .before .before .before .before .pre .1 .0 .0, c .before .before .before .before .before .before .before .before .before .before .before .before .before .pre .1 .0 .1, c .before .before .before .before .before .before .before .before .object .ensures .small, search (stood-next, c .before .before .before .before .before .before .before .before .before .before .before .before .before .pre .1 .1, c .before .before .before .put-reference .ensures), search (stood-tail, c .before .before .before .before .before .before .before .before .before .before .before .before .before .pre .1 .1, c .before .before .before .put-reference .ensures))
+emit-refer-open-requires t c κs = (c .before .before .before .before .before .before .before .before .before .before .pre .1 .0 .0, c .before .before .before .before .before .before .before .before .before .before .pre .1 .0 .1, c .before .before .before .before .before .measure .ensures .small, search (stood-next, c .before .before .before .before .before .before .before .before .before .before .pre .1 .1, c .before .before .before .put-reference .ensures), search (stood-tail, c .before .before .before .before .before .before .before .before .before .before .pre .1 .1, c .before .before .before .put-reference .ensures))
 
--- src/lib.rt:789:9
 emit-refer-emit-content-requires : (t : ℕ) → emit-refer-lts.Need-emit-content-requires (emit-refer-R t) (emit-refer-at t) emit-refer.Post
-emit-refer-emit-content-requires t c κs = (omega (arith, c .before .before .before .before .before .before .before .before .before .before .before .before .before .before .before .before .before .pre .0), ((c .before .before .before .before .before .before .before .before .before .before .before .before .before .before .before .before .before .pre .1 .0 .0, c .before .before .before .before .before .before .before .before .before .before .before .before .before .before .before .before .before .pre .1 .0 .1), search (room-open, c .before .before .before .before .before .before .before .before .before .before .before .before .before .before .before .before .before .pre .1 .1, c .before .before .before .open .ensures)))
+emit-refer-emit-content-requires t c κs = (omega (arith, c .before .before .before .before .before .before .before .before .before .before .before .before .before .before .pre .0), ((c .before .before .before .before .before .before .before .before .before .before .before .before .before .before .pre .1 .0 .0, c .before .before .before .before .before .before .before .before .before .before .before .before .before .before .pre .1 .0 .1), search (room-open, c .before .before .before .before .before .before .before .before .before .before .before .before .before .before .pre .1 .1, c .before .before .before .open .ensures)))
 
--- src/lib.rt:791:9
-emit-refer-not-lawful-requires-2 : (t : ℕ) → emit-refer-lts.Need-not-lawful-requires-2 (emit-refer-R t) (emit-refer-at t) emit-refer.Post
-emit-refer-not-lawful-requires-2 t c κs = search needs
+emit-refer-not-lawful-requires : (t : ℕ) → emit-refer-lts.Need-not-lawful-requires (emit-refer-R t) (emit-refer-at t) emit-refer.Post
+emit-refer-not-lawful-requires t c κs = search needs
 
--- src/lib.rt:791:9
 emit-refer-same-length : (t : ℕ) → emit-refer-lts.Need-same-length (emit-refer-R t) (emit-refer-at t) emit-refer.Post
 emit-refer-same-length t c = search needs
 
--- src/lib.rt:791:9
-emit-refer-returns-2 : (t : ℕ) → emit-refer-lts.Need-returns-2 (emit-refer-R t) (emit-refer-at t) emit-refer.Post
-emit-refer-returns-2 t c = search (refer-cut, c .before .before .before .before .before .before .before .before .before .before .before .before .before .before .before .before .before .before .before .before .before .before .before .pre .1 .1, c .before .before .before .before .before .before .before .before .before .before .before .before .before .before .before .before .before .before .object .ensures, c .before .before .before .before .before .before .before .before .before .before .before .before .before .before .before .before .if1 .left, c .before .before .before .before .before .before .before .before .before .before .before .before .before .put-reference .ensures, c .before .before .before .before .before .before .before .before .before .open .ensures, c .before .before .before .before .before .emit-content .ensures, c .before .if2 .taken, c .not-lawful2 .ensures .0, c .not-lawful2 .ensures .1, c .not-lawful2 .ensures .2)
+emit-refer-returns : (t : ℕ) → emit-refer-lts.Need-returns (emit-refer-R t) (emit-refer-at t) emit-refer.Post
+emit-refer-returns t c = search (refer-cut, c .before .before .before .before .before .before .before .before .before .before .before .before .before .before .before .before .before .before .before .before .pre .1 .0 .0, c .before .before .before .before .before .before .before .before .before .before .before .before .before .before .before .before .before .before .before .before .pre .1 .1, c .before .before .before .before .before .before .before .before .before .before .before .before .before .before .before .measure .ensures, c .before .before .before .before .before .before .before .before .before .before .before .before .before .put-reference .ensures, c .before .before .before .before .before .before .before .before .before .open .ensures, c .before .before .before .before .before .emit-content .ensures, c .before .if1 .taken, c .not-lawful .ensures .0, c .not-lawful .ensures .1, c .not-lawful .ensures .2)
 
--- src/lib.rt:794:12
 emit-refer-close-requires : (t : ℕ) → emit-refer-lts.Need-close-requires (emit-refer-R t) (emit-refer-at t) emit-refer.Post
 emit-refer-close-requires t c κs = search needs
 
--- src/lib.rt:794:5
 emit-refer-stored-requires : (t : ℕ) → emit-refer-lts.Need-stored-requires (emit-refer-R t) (emit-refer-at t) emit-refer.Post
 emit-refer-stored-requires t c κs = search needs
 
--- src/lib.rt:767:1
 emit-refer-same-length-2 : (t : ℕ) → emit-refer-lts.Need-same-length-2 (emit-refer-R t) (emit-refer-at t) emit-refer.Post
 emit-refer-same-length-2 t c = c .before .before .before .before .before .before .emit-content .kept .1 .1 .1 .0 ∙ c .before .before .before .before .before .before .before .before .before .before .open .kept .1 .1 .0 ∙ c .before .before .before .before .before .before .before .before .before .before .before .before .before .before .put-reference .kept .0
 
--- src/lib.rt:767:1
-emit-refer-returns-3 : (t : ℕ) → emit-refer-lts.Need-returns-3 (emit-refer-R t) (emit-refer-at t) emit-refer.Post
-emit-refer-returns-3 t c = search (refer-done, c .before .before .before .before .before .before .before .before .before .before .before .before .before .before .before .before .before .before .before .before .before .before .before .before .pre .1 .1, c .before .before .before .before .before .before .before .before .before .before .before .before .before .before .before .before .before .before .before .object .ensures, c .before .before .before .before .before .before .before .before .before .before .before .before .before .before .before .before .before .if1 .left, c .before .before .before .before .before .before .before .before .before .before .before .before .before .before .put-reference .ensures, c .before .before .before .before .before .before .before .before .before .before .open .ensures, c .before .before .before .before .before .before .emit-content .ensures, c .before .before .if2 .left, c .before .close .ensures, c .stored .ensures .0, c .stored .ensures .1, c .stored .ensures .2)
+emit-refer-returns-2 : (t : ℕ) → emit-refer-lts.Need-returns-2 (emit-refer-R t) (emit-refer-at t) emit-refer.Post
+emit-refer-returns-2 t c = search (refer-done, c .before .before .before .before .before .before .before .before .before .before .before .before .before .before .before .before .before .before .before .before .before .pre .1 .0 .0, c .before .before .before .before .before .before .before .before .before .before .before .before .before .before .before .before .before .before .before .before .before .pre .1 .1, c .before .before .before .before .before .before .before .before .before .before .before .before .before .before .before .before .measure .ensures, c .before .before .before .before .before .before .before .before .before .before .before .before .before .before .put-reference .ensures, c .before .before .before .before .before .before .before .before .before .before .open .ensures, c .before .before .before .before .before .before .emit-content .ensures, c .before .before .if1 .left, c .before .close .ensures, c .stored .ensures .0, c .stored .ensures .1, c .stored .ensures .2)
 
 abbrev emit-table-Inv-loop : emit-table-lts.InvT-loop
 emit-table-Inv-loop b dir s out₀ d t c pos n p₀ at₀ j₀ out p at j =
@@ -777,19 +758,17 @@ pub +emit-body+emit-choice+emit-content+emit-element+emit-list+emit-part+emit-re
     (λ t. emit-refer-lts.spec (emit-refer-R t)
     (emit-refer-at t)
     emit-refer.Post
-    (emit-refer-object-requires t)
-    (emit-refer-not-lawful-requires t)
-    (emit-refer-returns t)
+    (emit-refer-measure-requires t)
     (emit-refer-put-reference-requires t)
     (emit-refer-open-requires t)
     (emit-refer-emit-content-requires t)
-    (emit-refer-not-lawful-requires-2 t)
+    (emit-refer-not-lawful-requires t)
     (emit-refer-same-length t)
-    (emit-refer-returns-2 t)
+    (emit-refer-returns t)
     (emit-refer-close-requires t)
     (emit-refer-stored-requires t)
     (emit-refer-same-length-2 t)
-    (emit-refer-returns-3 t))
+    (emit-refer-returns-2 t))
     λ t. emit-table-lts.spec (emit-table-R t)
     (emit-table-at t)
     emit-table.Post
