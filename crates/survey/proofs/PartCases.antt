@@ -19,6 +19,7 @@ use Rattle.coding.specs.Sheet.{Parsed, fail, got, bind, takeNumber, takeBytes, 
 use Rattle.coding.specs.declared.Flat.{Flat}
 use Rattle.coding.specs.declared.Flat.the-variants.{Boolean, Integer, Float, Enumerated, Struct}
 use Rattle.coding.specs.declared.Object.{Object}
+use Rattle.coding.specs.declared.Object.the-variants as O
 use Rattle.coding.specs.declared.Kind.{Kind}
 use Rattle.coding.specs.declared.Kind.the-variants.{OfFlat, OfObject, OfUnion}
 use Rattle.laws.specs.Sound.{FlatSound, ObjectSound, KindSound}
@@ -285,7 +286,36 @@ module _ (child : Surveyor) (S : Schema) (s : List ℕ) (k : Kind) (optional inp
         part-bad l h2 ew en sm =
             failed s _ pos (rw (taken .number, not-false whole h) (simp (ne-eqb x 0 h0, ne-eqb x 1 h1, ne-eqb x 2 h2))) l w e n ew en sm
 
+-- ---- an object with its mark
+module _ (child : Surveyor) (S : Schema) (s : List ℕ) (ob : Object) (optional inplace : Bool) (pos : ℕ) (whole : Bool) (x next : ℕ)
+    (taken : TakenNumber s pos 2 whole x next) (h : not whole ≡ false) where
+  pub object-none : x ≡ 0 → (e : Extent) → Fits (plain true) e → SurveyedAt s (surveyPart child u48 S (OfObject ob) optional inplace (drop pos (bits s))) true e next
+  object-none z e f = part-none child S s (OfObject ob) optional inplace pos whole x next taken h z true (unfold mayLack in refl) e f
+
+  module _ (h0 : x ≡ 0 → ⊥) (w : Bool) (e : Extent) (n : ℕ) where
+    pub object-there : x ≡ 1 → SurveyedAt s (surveyObject child u48 inplace false ob (drop next (bits s))) w e n
+        → SurveyedAt s (surveyPart child u48 S (OfObject ob) optional inplace (drop pos (bits s))) w e n
+    object-there z t =
+        part-there child S s (OfObject ob) optional inplace pos whole x next taken h h0 w e n z
+        (body-object child S s (OfObject ob) optional inplace next w e n ob refl t)
+
+    pub object-bad : (x ≡ 1 → ⊥) → pos ≤ 8 * length s → w ≡ false → n ≡ pos → Small e
+        → SurveyedAt s (surveyPart child u48 S (OfObject ob) optional inplace (drop pos (bits s))) w e n
+    unfolding surveyPart surveyMark bind surveyLost
+    object-bad h1 l ew en sm =
+        failed s _ pos (rw (taken .number, not-false whole h) (simp (ne-eqb x 0 h0, ne-eqb x 1 h1) (by (eqb x 2)))) l w e n ew en sm
+      where
+        by : (t : Bool) → _≡_ {A = Parsed Extent} (pick t fail fail) fail
+        by true = refl
+        by false = refl
+
 -- ---- elements without marks: bits passed over
+pub not-less : {A : Type 0} → 256 < 256 → A
+not-less h = absurd (omega arith)
+
+pub table-index-in : (k : Kind) (ob : Object) (t j : ℕ) → k ≡ OfObject ob → ob ≡ O.Table t → j ≡ t → k ≡ OfObject (O.Table j)
+table-index-in k ob t j ek eo ej = rw (ek, eo, ej)
+
 pub bits-integer : (k : Kind) (f : Flat) (g : Bool) (w j : ℕ) → k ≡ OfFlat f → f ≡ Integer g w → j ≡ w → 8 * j ≡ bareBits k
 unfolding bareBits flatBareBits
 bits-integer k f g w j ek ef ej = rw (ek, ef, ej)
