@@ -26,9 +26,10 @@ use Rattle.laws.specs.Sound.{FlatSound, ObjectSound, KindSound}
 use Rattle.laws.specs.SoundAt.{case-sound-at, struct-index, union-index}
 use Rattle.schema.specs.Directory.{Accepted, accepted-sound}
 use Rattle.bitio.specs.Taken.{TakenNumber, TakenBytes}
-use Rattle.survey.specs.Survey.{testNumber, testIf, anyNumber, floatFine, belowCount, aboveCount, surveyMark, surveyFlat, surveyStruct, surveyLostFlat, plain, opened, referred, Surveyor, plainOf, surveyObject, surveyChoice, surveyBody, surveyLost, mayLack, surveyPart, surveyElement, surveyBlob}
+use Rattle.survey.specs.Survey.{testNumber, testIf, anyNumber, floatFine, belowCount, aboveCount, surveyMark, surveyFlat, surveyStruct, surveyLostFlat, plain, opened, referred, Surveyor, plainOf, surveyObject, surveyChoice, surveyBody, surveyLost, mayLack, surveyPart, surveyBlob, survey}
 use Rattle.laws.specs.Bits.{bits-length}
 use Rattle.survey.specs.BareElements.{bareBits, flatBareBits, passed}
+use Rattle.survey.specs.BlobReferred.{BlobEnd, blobReferred, blob-is}
 use Rattle.survey.specs.Surveyed.{TestedAt, Small, Fits, SurveyedAt}
 use Rattle.survey.specs.declared.Extent.{Extent}
 
@@ -177,6 +178,37 @@ refer-surveyed child s inplace may ob pos whole x next t e f =
         ≡ pick u (got (referred u48 inplace may x) (drop next (bits s))) fail
     by true = refl
     by false = refl
+
+-- a text or bytes
+pub end-text : (ob : Object) → ob ≡ O.Text → BlobEnd ob 1
+end-text ob e = record { bytes = λ h. absurd (let z : ⊥ = omega arith in z); text = λ h. e }
+
+pub end-bytes : (ob : Object) → ob ≡ O.Bytes → BlobEnd ob 0
+end-bytes ob e = record { bytes = λ h. e; text = λ h. absurd (let z : ⊥ = omega arith in z) }
+
+pub end-other : (ob : Object) → BlobEnd ob 2
+end-other ob = record { bytes = λ h. absurd (let z : ⊥ = omega arith in z); text = λ h. absurd (let z : ⊥ = omega arith in z) }
+
+module _ (s : List ℕ) (d more : ℕ) (inplace may : Bool) (pos : ℕ) where
+  pub blob-deep : d ≡ 0 → pos ≤ 8 * length s → (w : Bool) (e : Extent) (n : ℕ) → w ≡ false → n ≡ pos → Small e
+      → SurveyedAt s (blobReferred d u48 inplace may more (drop pos (bits s))) w e n
+  unfolding blobReferred
+  blob-deep z l w e n ew en sm = rw z (failed s fail pos refl l w e n ew en sm)
+
+  pub blob-referred : (d ≡ 0 → ⊥) → (whole : Bool) (x : Extent) (next : ℕ) → SurveyedAt s (surveyBlob more (drop pos (bits s))) whole x next → (e : Extent)
+      → Fits (referred u48 inplace may x) e → SurveyedAt s (blobReferred d u48 inplace may more (drop pos (bits s))) whole e next
+  unfolding blobReferred surveyObject
+  blob-referred h whole x next t e f = by d h
+    where
+      by : (k : ℕ) → (k ≡ 0 → ⊥) → SurveyedAt s (blobReferred k u48 inplace may more (drop pos (bits s))) whole e next
+      by zero g = absurd (g refl)
+      by (suc k) g = refer-surveyed (λ ob xs. surveyBlob more xs) s inplace may O.Text pos whole x next t e f
+
+pub refer-blob : (d : ℕ) (S : Schema) (s : List ℕ) (inplace may : Bool) (ob : Object) (pos more : ℕ) → BlobEnd ob more → more < 2 → (w : Bool) (e : Extent) (n : ℕ)
+    → SurveyedAt s (blobReferred d u48 inplace may more (drop pos (bits s))) w e n
+    → SurveyedAt s (surveyObject (survey d u48 S) u48 inplace may ob (drop pos (bits s))) w e n
+refer-blob d S s inplace may ob pos more b h w e n q =
+    record { is = blob-is u48 S inplace may (drop pos (bits s)) d ob more b h ∙ q .is; inside = q .inside; small = q .small }
 
 module _ (child : Surveyor) (S : Schema) (s : List ℕ) (inplace : Bool) (u pos : ℕ) (whole : Bool) (x next : ℕ) (taken : TakenNumber s pos 16 whole x next)
     (w : Bool) (e : Extent) (n : ℕ) where

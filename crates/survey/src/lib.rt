@@ -21,6 +21,7 @@ ghost use Rattle.laws.specs.Sound.{FlatSound, ObjectSound, KindSound};
 ghost use Rattle.schema.specs.Directory.{Accepted};
 ghost use Rattle.survey.specs.Survey as Sv;
 ghost use Rattle.survey.specs.BareElements as Ba;
+ghost use Rattle.survey.specs.BlobReferred.{BlobEnd, blobReferred};
 ghost use Rattle.survey.specs.Surveyed.{TestedAt, Small, Fits, SurveyedAt};
 
 // What an object of the sheet takes: whether it can be written; the length that its header gives; the bytes of its content
@@ -511,6 +512,36 @@ fn blob(s: &[u8], pos: usize, more: usize) -> Surveyed
     }
 }
 
+// The bytes behind its own: 1 of a text, 0 of bytes; 2 of what is neither.
+fn blob_end(ob: Object) -> usize
+    ensures { λ r. ⌜ BlobEnd ob r × (r ≤ 2) ⌝ }
+{
+    match ob {
+        Object::Text => 1,
+        Object::Bytes => 0,
+        Object::List(_) => 2,
+        Object::Table(_) => 2,
+    }
+}
+
+// A text or bytes that is referred to, or stands in place.
+fn refer_blob(s: &[u8], d: usize, more: usize, inplace: bool, may: bool, pos: usize) -> Surveyed
+    requires { ⌜ (length (now s) ≤ 16777215) × (pos ≤ 8 * length (now s)) × (more ≤ 1) ⌝ }
+    ensures { λ r. ⌜ SurveyedAt (now (s .entry)) (blobReferred d B.u48 inplace may more (drop pos (bits (now (s .entry))))) (r .whole) (r .extent) (r .next) ⌝ }
+{
+    if d == 0 {
+        return unlawful(pos);
+    }
+    let x = blob(s, pos, more);
+    let whole = x.whole;
+    let next = x.next;
+    Surveyed {
+        whole: whole,
+        extent: referred(inplace, may, x.extent),
+        next: next,
+    }
+}
+
 // No known value.
 fn lost(b: &[u8], dir: &[u16], s: &[u8], pos: usize, k: Kind) -> Surveyed
     requires { ⌜ (Accepted (now b) (now dir)) × (KindSound (P.parse (now b)) k) × (length (now s) ≤ 16777215) × (pos ≤ 8 * length (now s)) ⌝ }
@@ -537,6 +568,10 @@ fn refer(
     requires { ⌜ (Accepted (now b) (now dir)) × (ObjectSound (P.parse (now b)) ob) × (length (now s) ≤ 16777215) × (pos ≤ 8 * length (now s)) ⌝ }
     ensures { λ r. ⌜ SurveyedAt (now (s .entry)) (Sv.surveyObject (Sv.survey d B.u48 (P.parse (now (b .entry)))) B.u48 inplace may ob (drop pos (bits (now (s .entry))))) (r .whole) (r .extent) (r .next) ⌝ }
 {
+    let more = blob_end(ob);
+    if more < 2 {
+        return refer_blob(s, d, more, inplace, may, pos);
+    }
     let x = object(b, dir, s, d, ob, pos);
     let whole = x.whole;
     let next = x.next;

@@ -15,7 +15,7 @@ use Rattle.survey.specs.Survey.{opened, surveyMembers, surveyElements, s
 use Rattle.survey.specs.Surveyed.{Small}
 use borrow.Fn.Kinds.{In}
 use borrow.Fn.PlainCycle.{Measures, is, falls, and}
-use Rattle.survey.proofs.PartCases.{kind-flat, kind-object, union-counted, case-sound, body-flat, body-object, body-union, choice-cut, choice-zero, choice-above, choice-known, part-cut, part-none, part-there, part-lost, part-bad, refer-surveyed, object-none, object-there, object-bad}
+use Rattle.survey.proofs.PartCases.{kind-flat, kind-object, union-counted, case-sound, body-flat, body-object, body-union, choice-cut, choice-zero, choice-above, choice-known, part-cut, part-none, part-there, part-lost, part-bad, refer-surveyed, refer-blob, object-none, object-there, object-bad}
 use Rattle.survey.proofs.ObjectCases.{list-counted, table-counted, element-sound, member-kind, member-counted, members-start, members-done, members-stopped, members-turn, elements-cut, elements-start, elements-bare, elements-rows, row-counted, row-deep, row-there, rows-start, object-marked, marked, elements-done, elements-stopped, elements-turn, object-deep, object-text, object-bytes, object-list, object-table}
 use Rattle.survey.proofs.body.Reads as body
 use Rattle.survey.proofs.body.Kinds as body-kinds
@@ -60,6 +60,7 @@ use Rattle.wire.proofs.index.Reads as index-reads
 use Rattle.survey.proofs.bare.Reads as bare-reads
 use Rattle.survey.proofs.bare_bits.Reads as bare-bits-reads
 use Rattle.survey.proofs.blob.Reads as blob-reads
+use Rattle.survey.proofs.blob_end.Reads as blob-end-reads
 use Rattle.survey.proofs.elements_size.Reads as elements-size-reads
 use Rattle.survey.proofs.fixed_size.Reads as fixed-size-reads
 use Rattle.survey.proofs.flat_test.Reads as flat-test-reads
@@ -70,6 +71,7 @@ use Rattle.survey.proofs.opened.Reads as opened-reads
 use Rattle.survey.proofs.pass.Reads as pass-reads
 use Rattle.survey.proofs.plain.Reads as plain-reads
 use Rattle.survey.proofs.plain_of.Reads as plain-of-reads
+use Rattle.survey.proofs.refer_blob.Reads as refer-blob-reads
 use Rattle.survey.proofs.referred.Reads as referred-reads
 use Rattle.survey.proofs.table_in.Reads as table-in-reads
 use Rattle.survey.proofs.unlawful.Reads as unlawful-reads
@@ -203,7 +205,7 @@ abbrev part-R : ℕ → part-lts.Claims
 part-R t = (take-number-reads.Asked, take-number-reads.Learnt, unlawful-reads.Asked, unlawful-reads.Learnt, may-lack-reads.Asked, may-lack-reads.Learnt, plain-reads.Asked, plain-reads.Learnt, body-below t, body.Post, lost-reads.Asked, lost-reads.Learnt)
 
 abbrev refer-R : ℕ → refer-lts.Claims
-refer-R t = (object-below t, object.Post, referred-reads.Asked, referred-reads.Learnt)
+refer-R t = (blob-end-reads.Asked, blob-end-reads.Learnt, refer-blob-reads.Asked, refer-blob-reads.Learnt, object-below t, object.Post, referred-reads.Asked, referred-reads.Learnt)
 
 abbrev table-R : ℕ → table-lts.Claims
 table-R t = (member-count-reads.Asked, member-count-reads.Learnt, opened-reads.Asked, opened-reads.Learnt, member-reads.Asked, member-reads.Learnt, part-below t, part.Post, unlawful-reads.Asked, unlawful-reads.Learnt, joined-reads.Asked, joined-reads.Learnt)
@@ -506,6 +508,15 @@ part-returns-5 : (t : ℕ) → part-lts.Need-returns-5 (part-R t) (part-at t) pa
 part-returns-5 t c = search part-bad
 
 -- src/lib.rt:477:9
+refer-blob-end-requires : (t : ℕ) → refer-lts.Need-blob-end-requires (refer-R t) (refer-at t) refer.Post
+refer-blob-end-requires t c κs = search needs
+
+refer-refer-blob-requires : (t : ℕ) → refer-lts.Need-refer-blob-requires (refer-R t) (refer-at t) refer.Post
+refer-refer-blob-requires t c κs = search needs
+
+refer-returns : (t : ℕ) → refer-lts.Need-returns (refer-R t) (refer-at t) refer.Post
+refer-returns t c = search refer-blob
+
 refer-object-requires : (t : ℕ) → refer-lts.Need-object-requires (refer-R t) (refer-at t) refer.Post
 refer-object-requires t c κs = search needs
 
@@ -514,8 +525,8 @@ refer-referred-requires : (t : ℕ) → refer-lts.Need-referred-requires (refer-
 refer-referred-requires t c κs = search needs
 
 -- src/lib.rt:473:1
-refer-returns : (t : ℕ) → refer-lts.Need-returns (refer-R t) (refer-at t) refer.Post
-refer-returns t c = search refer-surveyed
+refer-returns-2 : (t : ℕ) → refer-lts.Need-returns-2 (refer-R t) (refer-at t) refer.Post
+refer-returns-2 t c = search refer-surveyed
 
 abbrev table-Inv-loop : table-lts.InvT-loop
 table-Inv-loop b dir s d t size at count a₀ pos₀ j₀ a pos j =
@@ -778,9 +789,12 @@ pub +body+choice+list+marked-row+object+part+refer+row+rows+table+table-found-sp
     (λ t. refer-lts.spec (refer-R t)
     (refer-at t)
     refer.Post
+    (refer-blob-end-requires t)
+    (refer-refer-blob-requires t)
+    (refer-returns t)
     (refer-object-requires t)
     (refer-referred-requires t)
-    (refer-returns t))
+    (refer-returns-2 t))
     (λ t. row-lts.spec (row-R t)
     (row-at t)
     row.Post
