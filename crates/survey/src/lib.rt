@@ -99,17 +99,19 @@ pub fn unknown_enum(n: u8, x: u64) -> bool
     false
 }
 
-// Any number of w bits.
+// Any number of w bits, passed over.
 fn any_number(s: &[u8], pos: usize, w: usize) -> Tested
     requires { ⌜ (length (now s) ≤ 16777215) × (pos ≤ 8 * length (now s)) × (w ≤ 64) ⌝ }
     ensures { λ r. ⌜ TestedAt (now (s .entry)) (Sv.testNumber w Sv.anyNumber (drop pos (bits (now (s .entry))))) (r .whole) (r .fine) (r .next) ⌝ }
 {
-    let x = bitio::take_number(s, pos, w);
-    Tested {
-        whole: x.whole,
-        fine: true,
-        next: x.next,
+    if w <= 8 * s.len() - pos {
+        return Tested {
+            whole: true,
+            fine: true,
+            next: pos + w,
+        };
     }
+    not_lawful(pos)
 }
 
 fn float_number(s: &[u8], pos: usize, optional: bool, w: u8) -> Tested
