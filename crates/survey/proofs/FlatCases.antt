@@ -5,13 +5,13 @@ use mathlib.Core.List.{List, [], _∷_}
 use Prim.Native.Nat.{ℕ, zero, suc, _+_, _-_, _*_, _%_, _^_, _<_, _≤_}
 use native.Mathlib.Omega.{arith}
 use native.Mathlib.Numerals.{add-one}
-use lib.ListN.{length, drop, drop-of-length-le}
-use lib.Seq.{drop-cons}
+use lib.ListN.{length, take, drop, length-drop, drop-of-length-le}
+use lib.Seq.{drop-cons, drop-drop}
 use lib.Dec.{ltb, leb, eqb}
 use borrow.Author.Tests.{eq-eqb, ne-eqb, le-leb, lt-leb, not-true, not-false}
 use Rattle.coding.specs.Lists.{pick}
 use Rattle.coding.specs.Bytes.{isNaN}
-use Rattle.coding.specs.Bits.{bits}
+use Rattle.coding.specs.Bits.{bits, value}
 use Rattle.coding.specs.Schema as Sc
 use Rattle.coding.specs.Schema.{Schema}
 use Rattle.coding.specs.Packed as P
@@ -21,6 +21,7 @@ use Rattle.coding.specs.declared.Flat.the-variants.{Boolean, Integer, Float, En
 use Rattle.laws.specs.Sound.{All, FlatSound, Sound}
 use Rattle.laws.specs.Lists.{all-at}
 use Rattle.laws.specs.Parsed.{structs-length}
+use Rattle.laws.specs.Bits.{bits-length}
 use Rattle.schema.specs.Directory.{Accepted, accepted-sound}
 use Rattle.bitio.specs.Taken.{TakenNumber}
 use Rattle.survey.specs.Survey.{testNumber, testIf, surveyMark, anyNumber, floatFine, belowCount, surveyFlat, enumField, surveyField, surveyFields, surveyStruct}
@@ -52,16 +53,34 @@ pub unknown-is : (n x k : ℕ) → k ≡ n → k ≤ x → (r : Bool) → r ≡ 
 unfolding unknownEnum
 unknown-is n x k e h r f = rw (← e) (simp (le-leb _ _ h) f)
 
--- ---- a number taken
-module _ (s : List ℕ) (pos w : ℕ) (whole : Bool) (x next : ℕ) (taken : TakenNumber s pos w whole x next) where
-  pub any-tested : TestedAt s (testNumber w anyNumber (drop pos (bits s))) whole true next
-  unfolding testNumber bind
-  any-tested = record { is = ap (λ p. bind p (λ y ys. got true ys)) (taken .number) ∙ by whole; inside = taken .inside }
+-- ---- any number, passed over
+module _ (s : List ℕ) (pos w : ℕ) (l : pos ≤ 8 * length s) where
+  any-opened : (t : Bool) → leb w (length (drop pos (bits s))) ≡ t
+      → testNumber w anyNumber (drop pos (bits s)) ≡ pick t (got true (drop (pos + w) (bits s))) fail
+  unfolding testNumber takeNumber bind
+  any-opened t e =
+      ap (λ (u : Bool). bind (pick u (got (value (take w (drop pos (bits s)))) (drop w (drop pos (bits s)))) fail) (λ y ys. got true ys)) e ∙ by t
     where
-      by : (t : Bool) → bind (pick t (got x (drop next (bits s))) fail) (λ y ys. got true ys) ≡ pick t (got true (drop next (bits s))) fail
-      by true = refl
+      by : (t : Bool) → bind (pick t (got (value (take w (drop pos (bits s)))) (drop w (drop pos (bits s)))) fail) (λ y ys. got true ys)
+          ≡ pick t (got true (drop (pos + w) (bits s))) fail
+      by true = ap (λ (ys : List ℕ). got true ys) (drop-drop w pos (bits s))
       by false = refl
 
+  rest-length : length (drop pos (bits s)) ≡ 8 * length s - pos
+  rest-length = length-drop pos (bits s) ∙ ap (λ (k : ℕ). k - pos) (bits-length s)
+
+  pub any-whole : w ≤ 8 * length s - pos → TestedAt s (testNumber w anyNumber (drop pos (bits s))) true true (pos + w)
+  any-whole h =
+      let r = rest-length in
+      record { is = any-opened true (le-leb w (length (drop pos (bits s))) (omega arith)); inside = omega arith }
+
+  pub any-cut : 8 * length s - pos < w → (w′ f′ : Bool) (n′ : ℕ) → w′ ≡ false → n′ ≡ pos → TestedAt s (testNumber w anyNumber (drop pos (bits s))) w′ f′ n′
+  any-cut h w′ f′ n′ e1 e2 =
+      let r = rest-length in
+      record { is = any-opened false (lt-leb w (length (drop pos (bits s))) (omega arith)) ∙ sym (rw e1); inside = rw e2 l }
+
+-- ---- a number taken
+module _ (s : List ℕ) (pos w : ℕ) (whole : Bool) (x next : ℕ) (taken : TakenNumber s pos w whole x next) where
   number-tested : (test : ℕ → Bool) (t : Bool) → t ≡ test x → TestedAt s (testNumber w test (drop pos (bits s))) whole t next
   unfolding testNumber bind
   number-tested test t e = record { is = ap (λ p. bind p (λ y ys. got (test y) ys)) (taken .number) ∙ by whole; inside = taken .inside }

@@ -20,15 +20,17 @@ use Rattle.coding.specs.Sheet.{Parsed, fail, got, bind, bare}
 use Rattle.coding.specs.declared.Object.{Object}
 use Rattle.coding.specs.declared.Object.the-variants as O
 use Rattle.coding.specs.declared.Kind.{Kind}
+use Rattle.coding.specs.declared.Kind.the-variants.{OfObject}
 use Rattle.coding.specs.declared.Member.{Member}
 use Rattle.laws.specs.Sound.{ObjectSound, KindSound, MemberSound}
 use Rattle.laws.specs.SoundAt.{member-sound-at, list-index, table-index}
 use Rattle.schema.specs.Directory.{Accepted, accepted-sound}
 use Rattle.bitio.specs.Taken.{TakenNumber}
-use Rattle.survey.specs.Survey.{opened, joined, Surveyor, surveyPart, surveyElement, surveyMembers, surveyElements, surveyBlob, surveyContent, survey}
+use Rattle.survey.specs.Survey.{opened, joined, referred, Surveyor, surveyObject, surveyPart, surveyElement, surveyMembers, surveyElements, surveyBlob, surveyContent, survey}
 use Rattle.survey.specs.BareElements.{bareBits, passed, bare-elements}
 use Rattle.survey.specs.Surveyed.{Small, Fits, SurveyedAt}
 use Rattle.survey.specs.declared.Extent.{Extent}
+use Rattle.survey.proofs.PartCases.{refer-surveyed}
 
 -- ---- indices and kinds in range
 pub list-counted : (b : List ℕ) (ob : Object) (i j : ℕ) → ObjectSound (P.parse b) ob → ob ≡ O.List i → j ≡ i → j < P.listCount b
@@ -130,9 +132,40 @@ module _ (child : Surveyor) (S : Schema) (s : List ℕ) (i at : ℕ) where
           small = q .small;
         }
 
-  module _ (k : Kind) (n : ℕ) (a : Extent) (pos j : ℕ)
-      (inv : surveyContent child u48 S (O.List i) (drop at (bits s)) ≡ surveyElements child u48 S k (n - j) a (drop pos (bits s))) where
-    pub elements-done : n ≤ j → pos ≤ 8 * length s → Small a → SurveyedAt s (surveyContent child u48 S (O.List i) (drop at (bits s))) true a pos
+    -- tables
+    pub elements-rows : not whole ≡ false → (k : Kind) → k ≡ Sc.elementOf S i → (z : ℕ) → z ≡ T.elementsSize u48 S k n
+        → (t : ℕ) → (t < 256 → k ≡ OfObject (O.Table t)) → t < 256 → (w : Bool) (e : Extent) (m : ℕ)
+        → SurveyedAt s (surveyElements child u48 S (OfObject (O.Table t)) n (opened n z) (drop first (bits s))) w e m
+        → SurveyedAt s (surveyContent child u48 S (O.List i) (drop at (bits s))) w e m
+    unfolding surveyContent bind
+    elements-rows h k ek z ez t et ht w e m q =
+        record {
+          is = rw (taken .number, not-false whole h)
+              (ap (λ (y : Kind). surveyElements child u48 S y n (opened n (T.elementsSize u48 S y n)) (drop first (bits s))) (sym ek)
+              ∙ ap (λ (y : ℕ). surveyElements child u48 S k n (opened n y) (drop first (bits s))) (sym ez)
+              ∙ ap (λ (y : Kind). surveyElements child u48 S y n (opened n z) (drop first (bits s))) (et ht) ∙ q .is);
+          inside = q .inside;
+          small = q .small;
+        }
+
+pub row-counted : (b dir : List ℕ) → Accepted b dir → (i : ℕ) (k : Kind) → k ≡ Sc.elementOf (P.parse b) i → (t : ℕ) → (t < 256 → k ≡ OfObject (O.Table t)) → t < 256
+    → t < P.tableCount b
+row-counted b dir a i k e t et h = table-index b t (subst (KindSound (P.parse b)) (et h) (element-sound b dir a i k e))
+
+pub object-marked : (ob : Object) → bare (OfObject ob) ≡ false
+unfolding bare
+object-marked ob = refl
+
+pub rows-start : (child : Surveyor) (S : Schema) (s : List ℕ) (k : Kind) (n total at : ℕ) (a : Extent) → Fits (opened n total) a
+    → surveyElements child u48 S k n (opened n total) (drop at (bits s)) ≡ surveyElements child u48 S k (n - 0) a (drop at (bits s))
+rows-start child S s k n total at a f =
+    let e : n ≡ n - 0 = omega arith in
+    ap (λ (y : Extent). surveyElements child u48 S k n y (drop at (bits s))) (sym (f .is)) ∙ ap (λ (y : ℕ). surveyElements child u48 S k y a (drop at (bits s))) e
+
+-- `p`: all of them
+module _ (child : Surveyor) (S : Schema) (s : List ℕ) (at : ℕ) (p : Parsed Extent) where
+  module _ (k : Kind) (n : ℕ) (a : Extent) (pos j : ℕ) (inv : p ≡ surveyElements child u48 S k (n - j) a (drop pos (bits s))) where
+    pub elements-done : n ≤ j → pos ≤ 8 * length s → Small a → SurveyedAt s p true a pos
     unfolding surveyElements
     elements-done h l sm =
         let z : n - j ≡ 0 = omega arith in
@@ -145,22 +178,22 @@ module _ (child : Surveyor) (S : Schema) (s : List ℕ) (i at : ℕ) where
       element-is = rw marks
 
       abbrev left : Parsed Extent → Parsed Extent
-      left p = bind p (λ e ys. surveyElements child u48 S k (n - (j + 1)) (joined a e) ys)
+      left q = bind q (λ e ys. surveyElements child u48 S k (n - (j + 1)) (joined a e) ys)
 
-      opens : surveyContent child u48 S (O.List i) (drop at (bits s)) ≡ left (pick whole (got x (drop next (bits s))) fail)
+      opens : p ≡ left (pick whole (got x (drop next (bits s))) fail)
       unfolding surveyElements
       opens =
           let z : n - j ≡ suc (n - (j + 1)) = omega arith in
           inv ∙ ap (λ (m : ℕ). surveyElements child u48 S k m a (drop pos (bits s))) z ∙ ap left (element-is ∙ q .is)
 
       pub elements-stopped : at ≤ 8 * length s → not whole ≡ true → (w : Bool) (e : Extent) (m : ℕ) → w ≡ false → m ≡ at → Small e
-          → SurveyedAt s (surveyContent child u48 S (O.List i) (drop at (bits s))) w e m
+          → SurveyedAt s p w e m
       unfolding bind
       elements-stopped l f w e m ew em sm =
           record { is = opens ∙ ap (λ (u : Bool). left (pick u (got x (drop next (bits s))) fail)) (not-true whole f) ∙ sym (rw ew); inside = rw em l; small = sm }
 
       pub elements-turn : not whole ≡ false → (g : Extent) → Fits (joined a x) g
-          → surveyContent child u48 S (O.List i) (drop at (bits s)) ≡ surveyElements child u48 S k (n - (j + 1)) g (drop next (bits s))
+          → p ≡ surveyElements child u48 S k (n - (j + 1)) g (drop next (bits s))
       unfolding bind
       elements-turn f g fit =
           opens ∙ ap (λ (u : Bool). left (pick u (got x (drop next (bits s))) fail)) (not-false whole f)
@@ -199,3 +232,15 @@ module _ (d : ℕ) (S : Schema) (s : List ℕ) (ob : Object) (pos : ℕ) (w : Bo
         → SurveyedAt s (survey d u48 S ob (drop pos (bits s))) w e n
     object-table i j eo ej q =
         content (rw eo (subst (λ (a : ℕ). SurveyedAt s (surveyContent (survey (d - 1) u48 S) u48 S (O.Table a) (drop pos (bits s))) w e n) ej q))
+
+-- ---- a table of a list of tables
+module _ (d : ℕ) (S : Schema) (s : List ℕ) (t pos : ℕ) where
+  pub row-deep : d ≡ 0 → pos ≤ 8 * length s → (w : Bool) (e : Extent) (n : ℕ) → w ≡ false → n ≡ pos → Small e
+      → SurveyedAt s (surveyObject (survey d u48 S) u48 false false (O.Table t) (drop pos (bits s))) w e n
+  unfolding surveyObject survey bind
+  row-deep z l w e n ew en sm = rw z (record { is = sym (rw ew); inside = rw en l; small = sm })
+
+  pub row-there : (d ≡ 0 → ⊥) → (whole : Bool) (x : Extent) (next : ℕ) → SurveyedAt s (surveyContent (survey (d - 1) u48 S) u48 S (O.Table t) (drop pos (bits s))) whole x next
+      → (e : Extent) → Fits (referred u48 false false x) e → SurveyedAt s (surveyObject (survey d u48 S) u48 false false (O.Table t) (drop pos (bits s))) whole e next
+  row-there h whole x next q e f =
+      refer-surveyed (survey d u48 S) s false false (O.Table t) pos whole x next (object-table d S s (O.Table t) pos whole x next h t t refl refl q) e f

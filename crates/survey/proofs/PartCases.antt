@@ -19,15 +19,17 @@ use Rattle.coding.specs.Sheet.{Parsed, fail, got, bind, takeNumber, takeBytes, 
 use Rattle.coding.specs.declared.Flat.{Flat}
 use Rattle.coding.specs.declared.Flat.the-variants.{Boolean, Integer, Float, Enumerated, Struct}
 use Rattle.coding.specs.declared.Object.{Object}
+use Rattle.coding.specs.declared.Object.the-variants as O
 use Rattle.coding.specs.declared.Kind.{Kind}
 use Rattle.coding.specs.declared.Kind.the-variants.{OfFlat, OfObject, OfUnion}
 use Rattle.laws.specs.Sound.{FlatSound, ObjectSound, KindSound}
 use Rattle.laws.specs.SoundAt.{case-sound-at, struct-index, union-index}
 use Rattle.schema.specs.Directory.{Accepted, accepted-sound}
 use Rattle.bitio.specs.Taken.{TakenNumber, TakenBytes}
-use Rattle.survey.specs.Survey.{testNumber, testIf, anyNumber, floatFine, belowCount, aboveCount, surveyMark, surveyFlat, surveyStruct, surveyLostFlat, plain, opened, referred, Surveyor, plainOf, surveyObject, surveyChoice, surveyBody, surveyLost, mayLack, surveyPart, surveyElement, surveyBlob}
+use Rattle.survey.specs.Survey.{testNumber, testIf, anyNumber, floatFine, belowCount, aboveCount, surveyMark, surveyFlat, surveyStruct, surveyLostFlat, plain, opened, referred, Surveyor, plainOf, surveyObject, surveyChoice, surveyBody, surveyLost, mayLack, surveyPart, surveyBlob, survey}
 use Rattle.laws.specs.Bits.{bits-length}
 use Rattle.survey.specs.BareElements.{bareBits, flatBareBits, passed}
+use Rattle.survey.specs.BlobReferred.{BlobEnd, blobReferred, blob-is}
 use Rattle.survey.specs.Surveyed.{TestedAt, Small, Fits, SurveyedAt}
 use Rattle.survey.specs.declared.Extent.{Extent}
 
@@ -177,6 +179,37 @@ refer-surveyed child s inplace may ob pos whole x next t e f =
     by true = refl
     by false = refl
 
+-- a text or bytes
+pub end-text : (ob : Object) → ob ≡ O.Text → BlobEnd ob 1
+end-text ob e = record { bytes = λ h. absurd (let z : ⊥ = omega arith in z); text = λ h. e }
+
+pub end-bytes : (ob : Object) → ob ≡ O.Bytes → BlobEnd ob 0
+end-bytes ob e = record { bytes = λ h. e; text = λ h. absurd (let z : ⊥ = omega arith in z) }
+
+pub end-other : (ob : Object) → BlobEnd ob 2
+end-other ob = record { bytes = λ h. absurd (let z : ⊥ = omega arith in z); text = λ h. absurd (let z : ⊥ = omega arith in z) }
+
+module _ (s : List ℕ) (d more : ℕ) (inplace may : Bool) (pos : ℕ) where
+  pub blob-deep : d ≡ 0 → pos ≤ 8 * length s → (w : Bool) (e : Extent) (n : ℕ) → w ≡ false → n ≡ pos → Small e
+      → SurveyedAt s (blobReferred d u48 inplace may more (drop pos (bits s))) w e n
+  unfolding blobReferred
+  blob-deep z l w e n ew en sm = rw z (failed s fail pos refl l w e n ew en sm)
+
+  pub blob-referred : (d ≡ 0 → ⊥) → (whole : Bool) (x : Extent) (next : ℕ) → SurveyedAt s (surveyBlob more (drop pos (bits s))) whole x next → (e : Extent)
+      → Fits (referred u48 inplace may x) e → SurveyedAt s (blobReferred d u48 inplace may more (drop pos (bits s))) whole e next
+  unfolding blobReferred surveyObject
+  blob-referred h whole x next t e f = by d h
+    where
+      by : (k : ℕ) → (k ≡ 0 → ⊥) → SurveyedAt s (blobReferred k u48 inplace may more (drop pos (bits s))) whole e next
+      by zero g = absurd (g refl)
+      by (suc k) g = refer-surveyed (λ ob xs. surveyBlob more xs) s inplace may O.Text pos whole x next t e f
+
+pub refer-blob : (d : ℕ) (S : Schema) (s : List ℕ) (inplace may : Bool) (ob : Object) (pos more : ℕ) → BlobEnd ob more → more < 2 → (w : Bool) (e : Extent) (n : ℕ)
+    → SurveyedAt s (blobReferred d u48 inplace may more (drop pos (bits s))) w e n
+    → SurveyedAt s (surveyObject (survey d u48 S) u48 inplace may ob (drop pos (bits s))) w e n
+refer-blob d S s inplace may ob pos more b h w e n q =
+    record { is = blob-is u48 S inplace may (drop pos (bits s)) d ob more b h ∙ q .is; inside = q .inside; small = q .small }
+
 module _ (child : Surveyor) (S : Schema) (s : List ℕ) (inplace : Bool) (u pos : ℕ) (whole : Bool) (x next : ℕ) (taken : TakenNumber s pos 16 whole x next)
     (w : Bool) (e : Extent) (n : ℕ) where
   pub choice-cut : pos ≤ 8 * length s → not whole ≡ true → w ≡ false → n ≡ pos → Small e
@@ -285,7 +318,36 @@ module _ (child : Surveyor) (S : Schema) (s : List ℕ) (k : Kind) (optional inp
         part-bad l h2 ew en sm =
             failed s _ pos (rw (taken .number, not-false whole h) (simp (ne-eqb x 0 h0, ne-eqb x 1 h1, ne-eqb x 2 h2))) l w e n ew en sm
 
+-- ---- an object with its mark
+module _ (child : Surveyor) (S : Schema) (s : List ℕ) (ob : Object) (optional inplace : Bool) (pos : ℕ) (whole : Bool) (x next : ℕ)
+    (taken : TakenNumber s pos 2 whole x next) (h : not whole ≡ false) where
+  pub object-none : x ≡ 0 → (e : Extent) → Fits (plain true) e → SurveyedAt s (surveyPart child u48 S (OfObject ob) optional inplace (drop pos (bits s))) true e next
+  object-none z e f = part-none child S s (OfObject ob) optional inplace pos whole x next taken h z true (unfold mayLack in refl) e f
+
+  module _ (h0 : x ≡ 0 → ⊥) (w : Bool) (e : Extent) (n : ℕ) where
+    pub object-there : x ≡ 1 → SurveyedAt s (surveyObject child u48 inplace false ob (drop next (bits s))) w e n
+        → SurveyedAt s (surveyPart child u48 S (OfObject ob) optional inplace (drop pos (bits s))) w e n
+    object-there z t =
+        part-there child S s (OfObject ob) optional inplace pos whole x next taken h h0 w e n z
+        (body-object child S s (OfObject ob) optional inplace next w e n ob refl t)
+
+    pub object-bad : (x ≡ 1 → ⊥) → pos ≤ 8 * length s → w ≡ false → n ≡ pos → Small e
+        → SurveyedAt s (surveyPart child u48 S (OfObject ob) optional inplace (drop pos (bits s))) w e n
+    unfolding surveyPart surveyMark bind surveyLost
+    object-bad h1 l ew en sm =
+        failed s _ pos (rw (taken .number, not-false whole h) (simp (ne-eqb x 0 h0, ne-eqb x 1 h1) (by (eqb x 2)))) l w e n ew en sm
+      where
+        by : (t : Bool) → _≡_ {A = Parsed Extent} (pick t fail fail) fail
+        by true = refl
+        by false = refl
+
 -- ---- elements without marks: bits passed over
+pub not-less : {A : Type 0} → 256 < 256 → A
+not-less h = absurd (omega arith)
+
+pub table-index-in : (k : Kind) (ob : Object) (t j : ℕ) → k ≡ OfObject ob → ob ≡ O.Table t → j ≡ t → k ≡ OfObject (O.Table j)
+table-index-in k ob t j ek eo ej = rw (ek, eo, ej)
+
 pub bits-integer : (k : Kind) (f : Flat) (g : Bool) (w j : ℕ) → k ≡ OfFlat f → f ≡ Integer g w → j ≡ w → 8 * j ≡ bareBits k
 unfolding bareBits flatBareBits
 bits-integer k f g w j ek ef ej = rw (ek, ef, ej)

@@ -9,3 +9,4 @@ pub mod Widths
 pub mod SurveyObjects
 pub mod Surveyed
 pub mod BareElements
+pub mod BlobReferred

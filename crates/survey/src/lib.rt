@@ -21,11 +21,13 @@ ghost use Rattle.laws.specs.Sound.{FlatSound, ObjectSound, KindSound};
 ghost use Rattle.schema.specs.Directory.{Accepted};
 ghost use Rattle.survey.specs.Survey as Sv;
 ghost use Rattle.survey.specs.BareElements as Ba;
+ghost use Rattle.survey.specs.BlobReferred.{BlobEnd, blobReferred};
 ghost use Rattle.survey.specs.Surveyed.{TestedAt, Small, Fits, SurveyedAt};
 
 // What an object of the sheet takes: whether it can be written; the length that its header gives; the bytes of its content
 // (width), of the contents in place behind it (chain), and of the objects that these refer to (below). The last two count to
-// one past the size. The order of the fields is for speed: with the bool first a copy took twice as long.
+// one past the size. The order of the fields is for speed: behind a bool's padding, or as a pair just stored, they are copied
+// slowly.
 pub struct Extent {
     pub chain: usize,
     pub length: usize,
@@ -97,17 +99,19 @@ pub fn unknown_enum(n: u8, x: u64) -> bool
     false
 }
 
-// Any number of w bits.
+// Any number of w bits, passed over.
 fn any_number(s: &[u8], pos: usize, w: usize) -> Tested
     requires { ⌜ (length (now s) ≤ 16777215) × (pos ≤ 8 * length (now s)) × (w ≤ 64) ⌝ }
     ensures { λ r. ⌜ TestedAt (now (s .entry)) (Sv.testNumber w Sv.anyNumber (drop pos (bits (now (s .entry))))) (r .whole) (r .fine) (r .next) ⌝ }
 {
-    let x = bitio::take_number(s, pos, w);
-    Tested {
-        whole: x.whole,
-        fine: true,
-        next: x.next,
+    if w <= 8 * s.len() - pos {
+        return Tested {
+            whole: true,
+            fine: true,
+            next: pos + w,
+        };
     }
+    not_lawful(pos)
 }
 
 fn float_number(s: &[u8], pos: usize, optional: bool, w: u8) -> Tested
@@ -441,6 +445,22 @@ pub fn bare(k: Kind) -> bool
     }
 }
 
+// The table that is referred to, or 256.
+fn table_in(k: Kind) -> usize
+    ensures { λ r. ⌜ (r < 256 → k ≡ Kind.OfObject (Object.Table r)) ⌝ }
+{
+    match k {
+        Kind::OfFlat(_) => 256,
+        Kind::OfObject(ob) => match ob {
+            Object::Text => 256,
+            Object::Bytes => 256,
+            Object::List(_) => 256,
+            Object::Table(t) => wire::index(t),
+        },
+        Kind::OfUnion(_) => 256,
+    }
+}
+
 // The bits of an element without a mark.
 fn bare_bits(k: Kind) -> usize
     ensures { λ r. ⌜ (r ≡ Ba.bareBits k) × (r ≤ 2040) ⌝ }
@@ -494,6 +514,36 @@ fn blob(s: &[u8], pos: usize, more: usize) -> Surveyed
     }
 }
 
+// The bytes behind its own: 1 of a text, 0 of bytes; 2 of what is neither.
+fn blob_end(ob: Object) -> usize
+    ensures { λ r. ⌜ BlobEnd ob r × (r ≤ 2) ⌝ }
+{
+    match ob {
+        Object::Text => 1,
+        Object::Bytes => 0,
+        Object::List(_) => 2,
+        Object::Table(_) => 2,
+    }
+}
+
+// A text or bytes that is referred to, or stands in place.
+fn refer_blob(s: &[u8], d: usize, more: usize, inplace: bool, may: bool, pos: usize) -> Surveyed
+    requires { ⌜ (length (now s) ≤ 16777215) × (pos ≤ 8 * length (now s)) × (more ≤ 1) ⌝ }
+    ensures { λ r. ⌜ SurveyedAt (now (s .entry)) (blobReferred d B.u48 inplace may more (drop pos (bits (now (s .entry))))) (r .whole) (r .extent) (r .next) ⌝ }
+{
+    if d == 0 {
+        return unlawful(pos);
+    }
+    let x = blob(s, pos, more);
+    let whole = x.whole;
+    let next = x.next;
+    Surveyed {
+        whole: whole,
+        extent: referred(inplace, may, x.extent),
+        next: next,
+    }
+}
+
 // No known value.
 fn lost(b: &[u8], dir: &[u16], s: &[u8], pos: usize, k: Kind) -> Surveyed
     requires { ⌜ (Accepted (now b) (now dir)) × (KindSound (P.parse (now b)) k) × (length (now s) ≤ 16777215) × (pos ≤ 8 * length (now s)) ⌝ }
@@ -520,6 +570,10 @@ fn refer(
     requires { ⌜ (Accepted (now b) (now dir)) × (ObjectSound (P.parse (now b)) ob) × (length (now s) ≤ 16777215) × (pos ≤ 8 * length (now s)) ⌝ }
     ensures { λ r. ⌜ SurveyedAt (now (s .entry)) (Sv.surveyObject (Sv.survey d B.u48 (P.parse (now (b .entry)))) B.u48 inplace may ob (drop pos (bits (now (s .entry))))) (r .whole) (r .extent) (r .next) ⌝ }
 {
+    let more = blob_end(ob);
+    if more < 2 {
+        return refer_blob(s, d, more, inplace, may, pos);
+    }
     let x = object(b, dir, s, d, ob, pos);
     let whole = x.whole;
     let next = x.next;
@@ -616,13 +670,12 @@ fn part(
     unlawful(pos)
 }
 
-// A table's content.
-fn table(b: &[u8], dir: &[u16], s: &[u8], d: usize, t: usize, at: usize) -> Surveyed
-    requires { ⌜ (Accepted (now b) (now dir)) × (t < P.tableCount (now b)) × (length (now s) ≤ 16777215) × (at ≤ 8 * length (now s)) ⌝ }
+// A table's content; `size` is that of its full fixed part.
+fn table(b: &[u8], dir: &[u16], s: &[u8], d: usize, t: usize, size: usize, at: usize) -> Surveyed
+    requires { ⌜ (Accepted (now b) (now dir)) × (t < P.tableCount (now b)) × (length (now s) ≤ 16777215) × (at ≤ 8 * length (now s)) × (size ≡ L.fixedSize B.u48 (P.parse (now b)) (Sc.tableOf (P.parse (now b)) t .members)) × (size < 2 ^ 40) ⌝ }
     ensures { λ r. ⌜ SurveyedAt (now (s .entry)) (Sv.surveyContent (Sv.survey d B.u48 (P.parse (now (b .entry)))) B.u48 (P.parse (now (b .entry))) (Object.Table t) (drop at (bits (now (s .entry))))) (r .whole) (r .extent) (r .next) ⌝ }
 {
     let count = schema::member_count(b, dir, t);
-    let size = fixed_size(b, dir, t);
     let mut a = opened(size, size);
     let mut pos = at;
     let mut j: usize = 0;
@@ -630,6 +683,99 @@ fn table(b: &[u8], dir: &[u16], s: &[u8], d: usize, t: usize, at: usize) -> Surv
         let r = schema::member(b, dir, t, j);
         let k = r.kind;
         let x = part(b, dir, s, d, k, r.optional, r.inplace, pos);
+        if !x.whole {
+            return unlawful(at);
+        }
+        pos = x.next;
+        a = joined(a, x.extent);
+        j += 1;
+    }
+    Surveyed {
+        whole: true,
+        extent: a,
+        next: pos,
+    }
+}
+
+// A table's content, with the size of its fixed part looked up.
+fn table_found(b: &[u8], dir: &[u16], s: &[u8], d: usize, t: usize, at: usize) -> Surveyed
+    requires { ⌜ (Accepted (now b) (now dir)) × (t < P.tableCount (now b)) × (length (now s) ≤ 16777215) × (at ≤ 8 * length (now s)) ⌝ }
+    ensures { λ r. ⌜ SurveyedAt (now (s .entry)) (Sv.surveyContent (Sv.survey d B.u48 (P.parse (now (b .entry)))) B.u48 (P.parse (now (b .entry))) (Object.Table t) (drop at (bits (now (s .entry))))) (r .whole) (r .extent) (r .next) ⌝ }
+{
+    let size = fixed_size(b, dir, t);
+    table(b, dir, s, d, t, size, at)
+}
+
+// ---- a list of tables, whose fixed parts all have one size
+fn row(b: &[u8], dir: &[u16], s: &[u8], d: usize, t: usize, size: usize, pos: usize) -> Surveyed
+    requires { ⌜ (Accepted (now b) (now dir)) × (t < P.tableCount (now b)) × (length (now s) ≤ 16777215) × (pos ≤ 8 * length (now s)) × (size ≡ L.fixedSize B.u48 (P.parse (now b)) (Sc.tableOf (P.parse (now b)) t .members)) × (size < 2 ^ 40) ⌝ }
+    ensures { λ r. ⌜ SurveyedAt (now (s .entry)) (Sv.surveyObject (Sv.survey d B.u48 (P.parse (now (b .entry)))) B.u48 false false (Object.Table t) (drop pos (bits (now (s .entry))))) (r .whole) (r .extent) (r .next) ⌝ }
+{
+    if d == 0 {
+        return unlawful(pos);
+    }
+    let x = table(b, dir, s, d - 1, t, size, pos);
+    let whole = x.whole;
+    let next = x.next;
+    Surveyed {
+        whole: whole,
+        extent: referred(false, false, x.extent),
+        next: next,
+    }
+}
+
+// With its mark.
+fn marked_row(
+    b: &[u8],
+    dir: &[u16],
+    s: &[u8],
+    d: usize,
+    t: usize,
+    size: usize,
+    pos: usize,
+) -> Surveyed
+    requires { ⌜ (Accepted (now b) (now dir)) × (t < P.tableCount (now b)) × (length (now s) ≤ 16777215) × (pos ≤ 8 * length (now s)) × (size ≡ L.fixedSize B.u48 (P.parse (now b)) (Sc.tableOf (P.parse (now b)) t .members)) × (size < 2 ^ 40) ⌝ }
+    ensures { λ r. ⌜ SurveyedAt (now (s .entry)) (Sv.surveyPart (Sv.survey d B.u48 (P.parse (now (b .entry)))) B.u48 (P.parse (now (b .entry))) (Kind.OfObject (Object.Table t)) true false (drop pos (bits (now (s .entry))))) (r .whole) (r .extent) (r .next) ⌝ }
+{
+    let x = bitio::take_number(s, pos, 2);
+    if !x.whole {
+        return unlawful(pos);
+    }
+    let mark = x.value;
+    let next = x.next;
+    if mark == 0 {
+        return Surveyed {
+            whole: true,
+            extent: plain(true),
+            next: next,
+        };
+    }
+    if mark == 1 {
+        return row(b, dir, s, d, t, size, next);
+    }
+    unlawful(pos)
+}
+
+// n of them.
+fn rows(
+    b: &[u8],
+    dir: &[u16],
+    s: &[u8],
+    d: usize,
+    t: usize,
+    n: usize,
+    total: usize,
+    at: usize,
+) -> Surveyed
+    requires { ⌜ (Accepted (now b) (now dir)) × (t < P.tableCount (now b)) × (length (now s) ≤ 16777215) × (at ≤ 8 * length (now s)) × (n < 2 ^ 32) × (total < 2 ^ 48) ⌝ }
+    ensures { λ r. ⌜ SurveyedAt (now (s .entry)) (Sv.surveyElements (Sv.survey d B.u48 (P.parse (now (b .entry)))) B.u48 (P.parse (now (b .entry))) (Kind.OfObject (Object.Table t)) n (Sv.opened n total) (drop at (bits (now (s .entry))))) (r .whole) (r .extent) (r .next) ⌝ }
+{
+    let size = fixed_size(b, dir, t);
+    let mut a = opened(n, total);
+    let mut pos = at;
+    let mut j: usize = 0;
+    while j < n {
+        let x = marked_row(b, dir, s, d, t, size, pos);
         if !x.whole {
             return unlawful(at);
         }
@@ -655,7 +801,12 @@ fn list(b: &[u8], dir: &[u16], s: &[u8], d: usize, i: usize, at: usize) -> Surve
     }
     let n = y.value as usize;
     let k = schema::element(b, dir, i);
-    let first = opened(n, elements_size(b, dir, k, n));
+    let total = elements_size(b, dir, k, n);
+    let t = table_in(k);
+    if t < 256 {
+        return rows(b, dir, s, d, t, n, total, y.next);
+    }
+    let first = opened(n, total);
     if bare(k) {
         return pass(s, y.next, bare_bits(k), n, first);
     }
@@ -690,6 +841,6 @@ pub fn object(b: &[u8], dir: &[u16], s: &[u8], d: usize, ob: Object, pos: usize)
         Object::Text => blob(s, pos, 1),
         Object::Bytes => blob(s, pos, 0),
         Object::List(i) => list(b, dir, s, d - 1, wire::index(i), pos),
-        Object::Table(t) => table(b, dir, s, d - 1, wire::index(t), pos),
+        Object::Table(t) => table_found(b, dir, s, d - 1, wire::index(t), pos),
     }
 }

@@ -1,18 +1,28 @@
 use borrow.Author.Needs.{needs}
-use Rattle.survey.proofs.FlatCases.{any-tested}
+use Rattle.survey.proofs.FlatCases.{any-whole, any-cut}
 use Rattle.survey.proofs.any_number.Statement.{statement}
 use Rattle.survey.proofs.any_number.Tie as tie
 use Rattle.survey.proofs.any_number.Reads as reads
 use Rattle.survey.proofs.any_number.Lts as lts
-use Rattle.bitio.proofs.take_number.Reads as take-number-reads
+use Rattle.survey.proofs.not_lawful.Reads as not-lawful-reads
 
--- src/lib.rt:94:9
-take-number-requires : tie.Need-take-number-requires
-take-number-requires c κs = search needs
+mul-if1 : tie.Need-mul-if1
+mul-if1 c = search needs
 
--- src/lib.rt:90:1
+sub-if1 : tie.Need-sub-if1
+sub-if1 c = search needs
+
+add-t8 : tie.Need-add-t8
+add-t8 c = search needs
+
 returns : tie.Need-returns
-returns c = search any-tested
+returns c = search any-whole
+
+not-lawful-requires : tie.Need-not-lawful-requires
+not-lawful-requires c κs = search needs
+
+returns-2 : tie.Need-returns-2
+returns-2 c = search any-cut
 
 pub any-number-spec : {M : Type 1} → statement M
-any-number-spec = tie.close (tie.spec take-number-requires returns)
+any-number-spec = tie.close (tie.spec mul-if1 sub-if1 add-t8 returns not-lawful-requires returns-2)

@@ -7,35 +7,49 @@ use Rattle.coding.specs.Bytes.{u48}
 use Rattle.coding.specs.Bits.{bits}
 use Rattle.coding.specs.Packed as P
 use Rattle.coding.specs.Schema as Sc
+use Rattle.coding.specs.Layout as L
+use Rattle.coding.specs.declared.Kind.the-variants.{OfObject}
 use Rattle.coding.specs.Sheet.{bare}
 use Rattle.coding.specs.declared.Object.the-variants as O
-use Rattle.survey.specs.Survey.{surveyMembers, surveyElements, surveyContent, survey}
+use Rattle.survey.specs.Survey.{opened, surveyMembers, surveyElements, surveyContent, survey}
 use Rattle.survey.specs.Surveyed.{Small}
 use borrow.Fn.Kinds.{In}
 use borrow.Fn.PlainCycle.{Measures, is, falls, and}
-use Rattle.survey.proofs.PartCases.{kind-flat, kind-object, union-counted, case-sound, body-flat, body-object, body-union, choice-cut, choice-zero, choice-above, choice-known, part-cut, part-none, part-there, part-lost, part-bad, refer-surveyed}
-use Rattle.survey.proofs.ObjectCases.{list-counted, table-counted, element-sound, member-kind, member-counted, members-start, members-done, members-stopped, members-turn, elements-cut, elements-start, elements-bare, marked, elements-done, elements-stopped, elements-turn, object-deep, object-text, object-bytes, object-list, object-table}
+use Rattle.survey.proofs.PartCases.{kind-flat, kind-object, union-counted, case-sound, body-flat, body-object, body-union, choice-cut, choice-zero, choice-above, choice-known, part-cut, part-none, part-there, part-lost, part-bad, refer-surveyed, refer-blob, object-none, object-there, object-bad}
+use Rattle.survey.proofs.ObjectCases.{list-counted, table-counted, element-sound, member-kind, member-counted, members-start, members-done, members-stopped, members-turn, elements-cut, elements-start, elements-bare, elements-rows, row-counted, row-deep, row-there, rows-start, object-marked, marked, elements-done, elements-stopped, elements-turn, object-deep, object-text, object-bytes, object-list, object-table}
 use Rattle.survey.proofs.body.Reads as body
 use Rattle.survey.proofs.body.Kinds as body-kinds
-use Rattle.survey.proofs.+body+choice+list+object+part+refer+table.Lts-body as body-lts
+use Rattle.survey.proofs.+body+choice+list+marked_row+object+part+refer+row+rows+table+table_found.Lts-body as body-lts
 use Rattle.survey.proofs.choice.Reads as choice
 use Rattle.survey.proofs.choice.Kinds as choice-kinds
-use Rattle.survey.proofs.+body+choice+list+object+part+refer+table.Lts-choice as choice-lts
+use Rattle.survey.proofs.+body+choice+list+marked_row+object+part+refer+row+rows+table+table_found.Lts-choice as choice-lts
 use Rattle.survey.proofs.list.Reads as list
 use Rattle.survey.proofs.list.Kinds as list-kinds
-use Rattle.survey.proofs.+body+choice+list+object+part+refer+table.Lts-list as list-lts
+use Rattle.survey.proofs.+body+choice+list+marked_row+object+part+refer+row+rows+table+table_found.Lts-list as list-lts
+use Rattle.survey.proofs.marked_row.Reads as marked-row
+use Rattle.survey.proofs.marked_row.Kinds as marked-row-kinds
+use Rattle.survey.proofs.+body+choice+list+marked_row+object+part+refer+row+rows+table+table_found.Lts-marked_row as marked-row-lts
 use Rattle.survey.proofs.object.Reads as object
 use Rattle.survey.proofs.object.Kinds as object-kinds
-use Rattle.survey.proofs.+body+choice+list+object+part+refer+table.Lts-object as object-lts
+use Rattle.survey.proofs.+body+choice+list+marked_row+object+part+refer+row+rows+table+table_found.Lts-object as object-lts
 use Rattle.survey.proofs.part.Reads as part
 use Rattle.survey.proofs.part.Kinds as part-kinds
-use Rattle.survey.proofs.+body+choice+list+object+part+refer+table.Lts-part as part-lts
+use Rattle.survey.proofs.+body+choice+list+marked_row+object+part+refer+row+rows+table+table_found.Lts-part as part-lts
 use Rattle.survey.proofs.refer.Reads as refer
 use Rattle.survey.proofs.refer.Kinds as refer-kinds
-use Rattle.survey.proofs.+body+choice+list+object+part+refer+table.Lts-refer as refer-lts
+use Rattle.survey.proofs.+body+choice+list+marked_row+object+part+refer+row+rows+table+table_found.Lts-refer as refer-lts
+use Rattle.survey.proofs.row.Reads as row
+use Rattle.survey.proofs.row.Kinds as row-kinds
+use Rattle.survey.proofs.+body+choice+list+marked_row+object+part+refer+row+rows+table+table_found.Lts-row as row-lts
+use Rattle.survey.proofs.rows.Reads as rows
+use Rattle.survey.proofs.rows.Kinds as rows-kinds
+use Rattle.survey.proofs.+body+choice+list+marked_row+object+part+refer+row+rows+table+table_found.Lts-rows as rows-lts
 use Rattle.survey.proofs.table.Reads as table
 use Rattle.survey.proofs.table.Kinds as table-kinds
-use Rattle.survey.proofs.+body+choice+list+object+part+refer+table.Lts-table as table-lts
+use Rattle.survey.proofs.+body+choice+list+marked_row+object+part+refer+row+rows+table+table_found.Lts-table as table-lts
+use Rattle.survey.proofs.table_found.Reads as table-found
+use Rattle.survey.proofs.table_found.Kinds as table-found-kinds
+use Rattle.survey.proofs.+body+choice+list+marked_row+object+part+refer+row+rows+table+table_found.Lts-table_found as table-found-lts
 use Rattle.bitio.proofs.take_number.Reads as take-number-reads
 use Rattle.schema.proofs.case_count.Reads as case-count-reads
 use Rattle.schema.proofs.element.Reads as element-reads
@@ -46,6 +60,7 @@ use Rattle.wire.proofs.index.Reads as index-reads
 use Rattle.survey.proofs.bare.Reads as bare-reads
 use Rattle.survey.proofs.bare_bits.Reads as bare-bits-reads
 use Rattle.survey.proofs.blob.Reads as blob-reads
+use Rattle.survey.proofs.blob_end.Reads as blob-end-reads
 use Rattle.survey.proofs.elements_size.Reads as elements-size-reads
 use Rattle.survey.proofs.fixed_size.Reads as fixed-size-reads
 use Rattle.survey.proofs.flat_test.Reads as flat-test-reads
@@ -56,10 +71,12 @@ use Rattle.survey.proofs.opened.Reads as opened-reads
 use Rattle.survey.proofs.pass.Reads as pass-reads
 use Rattle.survey.proofs.plain.Reads as plain-reads
 use Rattle.survey.proofs.plain_of.Reads as plain-of-reads
+use Rattle.survey.proofs.refer_blob.Reads as refer-blob-reads
 use Rattle.survey.proofs.referred.Reads as referred-reads
+use Rattle.survey.proofs.table_in.Reads as table-in-reads
 use Rattle.survey.proofs.unlawful.Reads as unlawful-reads
-use Rattle.survey.proofs.+body+choice+list+object+part+refer+table.{statement}
-use Rattle.survey.proofs.+body+choice+list+object+part+refer+table.Tie.{close}
+use Rattle.survey.proofs.+body+choice+list+marked_row+object+part+refer+row+rows+table+table_found.{statement}
+use Rattle.survey.proofs.+body+choice+list+marked_row+object+part+refer+row+rows+table+table_found.Tie.{close}
 
 abbrev μ-body : Measures 3 body-kinds.ps ℕ
 μ-body κs a = 8 * a .1 .1 .1 .0 + 3
@@ -70,6 +87,9 @@ abbrev μ-choice : Measures 3 choice-kinds.ps ℕ
 abbrev μ-list : Measures 3 list-kinds.ps ℕ
 μ-list κs a = 8 * a .1 .1 .1 .0 + 6
 
+abbrev μ-marked-row : Measures 3 marked-row-kinds.ps ℕ
+μ-marked-row κs a = 8 * a .1 .1 .1 .0 + 2
+
 abbrev μ-object : Measures 3 object-kinds.ps ℕ
 μ-object κs a = 8 * a .1 .1 .1 .0 + 0
 
@@ -79,8 +99,41 @@ abbrev μ-part : Measures 3 part-kinds.ps ℕ
 abbrev μ-refer : Measures 3 refer-kinds.ps ℕ
 μ-refer κs a = 8 * a .1 .1 .1 .0 + 1
 
+abbrev μ-row : Measures 3 row-kinds.ps ℕ
+μ-row κs a = 8 * a .1 .1 .1 .0 + 1
+
+abbrev μ-rows : Measures 3 rows-kinds.ps ℕ
+μ-rows κs a = 8 * a .1 .1 .1 .0 + 3
+
+abbrev μ-table-found : Measures 3 table-found-kinds.ps ℕ
+μ-table-found κs a = 8 * a .1 .1 .1 .0 + 7
+
 abbrev μ-table : Measures 3 table-kinds.ps ℕ
 μ-table κs a = 8 * a .1 .1 .1 .0 + 6
+
+abbrev marked-row-at : ℕ → In 3 marked-row-kinds.ps
+marked-row-at t = and 3 marked-row-kinds.ps (is 3 marked-row-kinds.ps μ-marked-row t) marked-row.Pre
+
+abbrev marked-row-below : ℕ → In 3 marked-row-kinds.ps
+marked-row-below t = and 3 marked-row-kinds.ps (falls 3 marked-row-kinds.ps _<_ μ-marked-row t) marked-row.Pre
+
+abbrev row-at : ℕ → In 3 row-kinds.ps
+row-at t = and 3 row-kinds.ps (is 3 row-kinds.ps μ-row t) row.Pre
+
+abbrev row-below : ℕ → In 3 row-kinds.ps
+row-below t = and 3 row-kinds.ps (falls 3 row-kinds.ps _<_ μ-row t) row.Pre
+
+abbrev rows-at : ℕ → In 3 rows-kinds.ps
+rows-at t = and 3 rows-kinds.ps (is 3 rows-kinds.ps μ-rows t) rows.Pre
+
+abbrev rows-below : ℕ → In 3 rows-kinds.ps
+rows-below t = and 3 rows-kinds.ps (falls 3 rows-kinds.ps _<_ μ-rows t) rows.Pre
+
+abbrev table-found-at : ℕ → In 3 table-found-kinds.ps
+table-found-at t = and 3 table-found-kinds.ps (is 3 table-found-kinds.ps μ-table-found t) table-found.Pre
+
+abbrev table-found-below : ℕ → In 3 table-found-kinds.ps
+table-found-below t = and 3 table-found-kinds.ps (falls 3 table-found-kinds.ps _<_ μ-table-found t) table-found.Pre
 
 abbrev body-at : ℕ → In 3 body-kinds.ps
 body-at t = and 3 body-kinds.ps (is 3 body-kinds.ps μ-body t) body.Pre
@@ -124,6 +177,18 @@ table-at t = and 3 table-kinds.ps (is 3 table-kinds.ps μ-table t) table.Pre
 abbrev table-below : ℕ → In 3 table-kinds.ps
 table-below t = and 3 table-kinds.ps (falls 3 table-kinds.ps _<_ μ-table t) table.Pre
 
+abbrev marked-row-R : ℕ → marked-row-lts.Claims
+marked-row-R t = (take-number-reads.Asked, take-number-reads.Learnt, unlawful-reads.Asked, unlawful-reads.Learnt, plain-reads.Asked, plain-reads.Learnt, row-below t, row.Post)
+
+abbrev row-R : ℕ → row-lts.Claims
+row-R t = (unlawful-reads.Asked, unlawful-reads.Learnt, table-below t, table.Post, referred-reads.Asked, referred-reads.Learnt)
+
+abbrev rows-R : ℕ → rows-lts.Claims
+rows-R t = (fixed-size-reads.Asked, fixed-size-reads.Learnt, opened-reads.Asked, opened-reads.Learnt, marked-row-below t, marked-row.Post, unlawful-reads.Asked, unlawful-reads.Learnt, joined-reads.Asked, joined-reads.Learnt)
+
+abbrev table-found-R : ℕ → table-found-lts.Claims
+table-found-R t = (fixed-size-reads.Asked, fixed-size-reads.Learnt, table-below t, table.Post)
+
 abbrev body-R : ℕ → body-lts.Claims
 body-R t = (flat-test-reads.Asked, flat-test-reads.Learnt, plain-of-reads.Asked, plain-of-reads.Learnt, refer-below t, refer.Post, index-reads.Asked, index-reads.Learnt, choice-below t, choice.Post)
 
@@ -131,19 +196,19 @@ abbrev choice-R : ℕ → choice-lts.Claims
 choice-R t = (case-count-reads.Asked, case-count-reads.Learnt, take-number-reads.Asked, take-number-reads.Learnt, unlawful-reads.Asked, unlawful-reads.Learnt, union-case-reads.Asked, union-case-reads.Learnt, refer-below t, refer.Post)
 
 abbrev list-R : ℕ → list-lts.Claims
-list-R t = (take-number-reads.Asked, take-number-reads.Learnt, unlawful-reads.Asked, unlawful-reads.Learnt, element-reads.Asked, element-reads.Learnt, elements-size-reads.Asked, elements-size-reads.Learnt, opened-reads.Asked, opened-reads.Learnt, bare-reads.Asked, bare-reads.Learnt, bare-bits-reads.Asked, bare-bits-reads.Learnt, pass-reads.Asked, pass-reads.Learnt, part-below t, part.Post, joined-reads.Asked, joined-reads.Learnt)
+list-R t = (take-number-reads.Asked, take-number-reads.Learnt, unlawful-reads.Asked, unlawful-reads.Learnt, element-reads.Asked, element-reads.Learnt, elements-size-reads.Asked, elements-size-reads.Learnt, table-in-reads.Asked, table-in-reads.Learnt, rows-below t, rows.Post, opened-reads.Asked, opened-reads.Learnt, bare-reads.Asked, bare-reads.Learnt, bare-bits-reads.Asked, bare-bits-reads.Learnt, pass-reads.Asked, pass-reads.Learnt, part-below t, part.Post, joined-reads.Asked, joined-reads.Learnt)
 
 abbrev object-R : ℕ → object-lts.Claims
-object-R t = (unlawful-reads.Asked, unlawful-reads.Learnt, blob-reads.Asked, blob-reads.Learnt, index-reads.Asked, index-reads.Learnt, list-below t, list.Post, table-below t, table.Post)
+object-R t = (unlawful-reads.Asked, unlawful-reads.Learnt, blob-reads.Asked, blob-reads.Learnt, index-reads.Asked, index-reads.Learnt, list-below t, list.Post, table-found-below t, table-found.Post)
 
 abbrev part-R : ℕ → part-lts.Claims
 part-R t = (take-number-reads.Asked, take-number-reads.Learnt, unlawful-reads.Asked, unlawful-reads.Learnt, may-lack-reads.Asked, may-lack-reads.Learnt, plain-reads.Asked, plain-reads.Learnt, body-below t, body.Post, lost-reads.Asked, lost-reads.Learnt)
 
 abbrev refer-R : ℕ → refer-lts.Claims
-refer-R t = (object-below t, object.Post, referred-reads.Asked, referred-reads.Learnt)
+refer-R t = (blob-end-reads.Asked, blob-end-reads.Learnt, refer-blob-reads.Asked, refer-blob-reads.Learnt, object-below t, object.Post, referred-reads.Asked, referred-reads.Learnt)
 
 abbrev table-R : ℕ → table-lts.Claims
-table-R t = (member-count-reads.Asked, member-count-reads.Learnt, fixed-size-reads.Asked, fixed-size-reads.Learnt, opened-reads.Asked, opened-reads.Learnt, member-reads.Asked, member-reads.Learnt, part-below t, part.Post, unlawful-reads.Asked, unlawful-reads.Learnt, joined-reads.Asked, joined-reads.Learnt)
+table-R t = (member-count-reads.Asked, member-count-reads.Learnt, opened-reads.Asked, opened-reads.Learnt, member-reads.Asked, member-reads.Learnt, part-below t, part.Post, unlawful-reads.Asked, unlawful-reads.Learnt, joined-reads.Asked, joined-reads.Learnt)
 
 -- src/lib.rt:514:22
 body-enum-known-k : (t : ℕ) → body-lts.Need-enum-known-k (body-R t) (body-at t) body.Post
@@ -234,12 +299,12 @@ choice-returns-4 : (t : ℕ) → choice-lts.Need-returns-4 (choice-R t) (choice-
 choice-returns-4 t c = search choice-known
 
 abbrev list-Inv-loop : list-lts.InvT-loop
-list-Inv-loop b dir s d i at n k a₀ pos₀ j₀ a pos j =
+list-Inv-loop b dir s d i at n k total u a₀ pos₀ j₀ a pos j =
     (j ≤ n) × (n < 2 ^ 32) × (at ≤ 8 * length s) × (pos ≤ 8 * length s) × Small a × (bare k ≡ false)
     × (surveyContent (survey d u48 (P.parse b)) u48 (P.parse b) (O.List i) (drop at (bits s)) ≡ surveyElements (survey d u48 (P.parse b)) u48 (P.parse b) k (n - j) a (drop pos (bits s)))
 
 abbrev list-μ-loop : list-lts.MeasureT-loop
-list-μ-loop b dir s d i at n k a₀ pos₀ j₀ a pos j = n - j
+list-μ-loop b dir s d i at n k total u a₀ pos₀ j₀ a pos j = n - j
 
 -- src/lib.rt:590:9
 list-take-number-requires : (t : ℕ) → list-lts.Need-take-number-requires (list-R t) (list-at t) list.Post list-Inv-loop list-μ-loop
@@ -261,6 +326,15 @@ list-element-requires t c κs = search needs
 list-elements-size-requires : (t : ℕ) → list-lts.Need-elements-size-requires (list-R t) (list-at t) list.Post list-Inv-loop list-μ-loop
 list-elements-size-requires t c κs = search (element-sound, needs)
 
+list-table-in-requires : (t : ℕ) → list-lts.Need-table-in-requires (list-R t) (list-at t) list.Post list-Inv-loop list-μ-loop
+list-table-in-requires t c κs = search needs
+
+list-rows-requires : (t : ℕ) → list-lts.Need-rows-requires (list-R t) (list-at t) list.Post list-Inv-loop list-μ-loop
+list-rows-requires t c κs = search (row-counted, needs)
+
+list-returns-2 : (t : ℕ) → list-lts.Need-returns-2 (list-R t) (list-at t) list.Post list-Inv-loop list-μ-loop
+list-returns-2 t c = search elements-rows
+
 -- src/lib.rt:596:9
 list-opened-requires : (t : ℕ) → list-lts.Need-opened-requires (list-R t) (list-at t) list.Post list-Inv-loop list-μ-loop
 list-opened-requires t c κs = search needs
@@ -274,8 +348,8 @@ list-bare-bits-requires t c κs = search needs
 list-pass-requires : (t : ℕ) → list-lts.Need-pass-requires (list-R t) (list-at t) list.Post list-Inv-loop list-μ-loop
 list-pass-requires t c κs = search needs
 
-list-returns-2 : (t : ℕ) → list-lts.Need-returns-2 (list-R t) (list-at t) list.Post list-Inv-loop list-μ-loop
-list-returns-2 t c = search elements-bare
+list-returns-3 : (t : ℕ) → list-lts.Need-returns-3 (list-R t) (list-at t) list.Post list-Inv-loop list-μ-loop
+list-returns-3 t c = search elements-bare
 
 -- src/lib.rt:599:5
 list-loop-holds : (t : ℕ) → list-lts.Need-loop-holds (list-R t) (list-at t) list.Post list-Inv-loop list-μ-loop
@@ -290,8 +364,8 @@ list-unlawful-requires-2 : (t : ℕ) → list-lts.Need-unlawful-requires-2 (list
 list-unlawful-requires-2 t c κs = search needs
 
 -- src/lib.rt:602:13
-list-returns-3 : (t : ℕ) → list-lts.Need-returns-3 (list-R t) (list-at t) list.Post list-Inv-loop list-μ-loop
-list-returns-3 t c = search elements-stopped
+list-returns-4 : (t : ℕ) → list-lts.Need-returns-4 (list-R t) (list-at t) list.Post list-Inv-loop list-μ-loop
+list-returns-4 t c = search elements-stopped
 
 -- src/lib.rt:605:9
 list-joined-requires : (t : ℕ) → list-lts.Need-joined-requires (list-R t) (list-at t) list.Post list-Inv-loop list-μ-loop
@@ -310,8 +384,8 @@ list-loop-again : (t : ℕ) → list-lts.Need-loop-again (list-R t) (list-at t) 
 list-loop-again t c = (search needs, search needs, search needs, search needs, search needs, search needs, search elements-turn)
 
 -- src/lib.rt:586:1
-list-returns-4 : (t : ℕ) → list-lts.Need-returns-4 (list-R t) (list-at t) list.Post list-Inv-loop list-μ-loop
-list-returns-4 t c = search elements-done
+list-returns-5 : (t : ℕ) → list-lts.Need-returns-5 (list-R t) (list-at t) list.Post list-Inv-loop list-μ-loop
+list-returns-5 t c = search elements-done
 
 -- src/lib.rt:621:9
 object-unlawful-requires : (t : ℕ) → object-lts.Need-unlawful-requires (object-R t) (object-at t) object.Post
@@ -358,16 +432,16 @@ object-enum-known-ob-2 : (t : ℕ) → object-lts.Need-enum-known-ob-2 (object-R
 object-enum-known-ob-2 t c = search needs
 
 -- src/lib.rt:627:46
-object-sub-table : (t : ℕ) → object-lts.Need-sub-table (object-R t) (object-at t) object.Post
-object-sub-table t c = search needs
+object-sub-table-found : (t : ℕ) → object-lts.Need-sub-table-found (object-R t) (object-at t) object.Post
+object-sub-table-found t c = search needs
 
 -- src/lib.rt:627:53
 object-index-requires-2 : (t : ℕ) → object-lts.Need-index-requires-2 (object-R t) (object-at t) object.Post
 object-index-requires-2 t c κs = search needs
 
 -- src/lib.rt:627:29
-object-table-requires : (t : ℕ) → object-lts.Need-table-requires (object-R t) (object-at t) object.Post
-object-table-requires t c κs = search (table-counted, needs)
+object-table-found-requires : (t : ℕ) → object-lts.Need-table-found-requires (object-R t) (object-at t) object.Post
+object-table-found-requires t c κs = search (table-counted, needs)
 
 -- src/lib.rt:616:1
 object-returns-2 : (t : ℕ) → object-lts.Need-returns-2 (object-R t) (object-at t) object.Post
@@ -434,6 +508,15 @@ part-returns-5 : (t : ℕ) → part-lts.Need-returns-5 (part-R t) (part-at t) pa
 part-returns-5 t c = search part-bad
 
 -- src/lib.rt:477:9
+refer-blob-end-requires : (t : ℕ) → refer-lts.Need-blob-end-requires (refer-R t) (refer-at t) refer.Post
+refer-blob-end-requires t c κs = search needs
+
+refer-refer-blob-requires : (t : ℕ) → refer-lts.Need-refer-blob-requires (refer-R t) (refer-at t) refer.Post
+refer-refer-blob-requires t c κs = search needs
+
+refer-returns : (t : ℕ) → refer-lts.Need-returns (refer-R t) (refer-at t) refer.Post
+refer-returns t c = search refer-blob
+
 refer-object-requires : (t : ℕ) → refer-lts.Need-object-requires (refer-R t) (refer-at t) refer.Post
 refer-object-requires t c κs = search needs
 
@@ -442,24 +525,20 @@ refer-referred-requires : (t : ℕ) → refer-lts.Need-referred-requires (refer-
 refer-referred-requires t c κs = search needs
 
 -- src/lib.rt:473:1
-refer-returns : (t : ℕ) → refer-lts.Need-returns (refer-R t) (refer-at t) refer.Post
-refer-returns t c = search refer-surveyed
+refer-returns-2 : (t : ℕ) → refer-lts.Need-returns-2 (refer-R t) (refer-at t) refer.Post
+refer-returns-2 t c = search refer-surveyed
 
 abbrev table-Inv-loop : table-lts.InvT-loop
-table-Inv-loop b dir s d t at count size a₀ pos₀ j₀ a pos j =
+table-Inv-loop b dir s d t size at count a₀ pos₀ j₀ a pos j =
     (j ≤ count) × (count ≡ length (Sc.tableOf (P.parse b) t .members)) × (count < 256) × (at ≤ 8 * length s) × (pos ≤ 8 * length s) × Small a
     × (surveyContent (survey d u48 (P.parse b)) u48 (P.parse b) (O.Table t) (drop at (bits s)) ≡ surveyMembers (survey d u48 (P.parse b)) u48 (P.parse b) (drop j (Sc.tableOf (P.parse b) t .members)) a (drop pos (bits s)))
 
 abbrev table-μ-loop : table-lts.MeasureT-loop
-table-μ-loop b dir s d t at count size a₀ pos₀ j₀ a pos j = count - j
+table-μ-loop b dir s d t size at count a₀ pos₀ j₀ a pos j = count - j
 
 -- src/lib.rt:562:9
 table-member-count-requires : (t : ℕ) → table-lts.Need-member-count-requires (table-R t) (table-at t) table.Post table-Inv-loop table-μ-loop
 table-member-count-requires t c κs = search needs
-
--- src/lib.rt:563:9
-table-fixed-size-requires : (t : ℕ) → table-lts.Need-fixed-size-requires (table-R t) (table-at t) table.Post table-Inv-loop table-μ-loop
-table-fixed-size-requires t c κs = search needs
 
 -- src/lib.rt:564:9
 table-opened-requires : (t : ℕ) → table-lts.Need-opened-requires (table-R t) (table-at t) table.Post table-Inv-loop table-μ-loop
@@ -505,9 +584,106 @@ table-loop-again t c = (search needs, search needs, search needs, search needs, 
 table-returns-2 : (t : ℕ) → table-lts.Need-returns-2 (table-R t) (table-at t) table.Post table-Inv-loop table-μ-loop
 table-returns-2 t c = search members-done
 
-pub +body+choice+list+object+part+refer+table-spec : {M : Type 1} → statement M
-+body+choice+list+object+part+refer+table-spec =
-    close μ-body μ-choice μ-list μ-object μ-part μ-refer μ-table (λ t. body-lts.spec (body-R t)
+marked-row-take-number-requires : (t : ℕ) → marked-row-lts.Need-take-number-requires (marked-row-R t) (marked-row-at t) marked-row.Post
+marked-row-take-number-requires t c κs = search needs
+
+marked-row-unlawful-requires : (t : ℕ) → marked-row-lts.Need-unlawful-requires (marked-row-R t) (marked-row-at t) marked-row.Post
+marked-row-unlawful-requires t c κs = search needs
+
+marked-row-returns : (t : ℕ) → marked-row-lts.Need-returns (marked-row-R t) (marked-row-at t) marked-row.Post
+marked-row-returns t c = search part-cut
+
+marked-row-plain-requires : (t : ℕ) → marked-row-lts.Need-plain-requires (marked-row-R t) (marked-row-at t) marked-row.Post
+marked-row-plain-requires t c κs = search needs
+
+marked-row-returns-2 : (t : ℕ) → marked-row-lts.Need-returns-2 (marked-row-R t) (marked-row-at t) marked-row.Post
+marked-row-returns-2 t c = search object-none
+
+marked-row-row-requires : (t : ℕ) → marked-row-lts.Need-row-requires (marked-row-R t) (marked-row-at t) marked-row.Post
+marked-row-row-requires t c κs = search needs
+
+marked-row-returns-3 : (t : ℕ) → marked-row-lts.Need-returns-3 (marked-row-R t) (marked-row-at t) marked-row.Post
+marked-row-returns-3 t c = search object-there
+
+marked-row-unlawful-requires-2 : (t : ℕ) → marked-row-lts.Need-unlawful-requires-2 (marked-row-R t) (marked-row-at t) marked-row.Post
+marked-row-unlawful-requires-2 t c κs = search needs
+
+marked-row-returns-4 : (t : ℕ) → marked-row-lts.Need-returns-4 (marked-row-R t) (marked-row-at t) marked-row.Post
+marked-row-returns-4 t c = search object-bad
+
+row-unlawful-requires : (t : ℕ) → row-lts.Need-unlawful-requires (row-R t) (row-at t) row.Post
+row-unlawful-requires t c κs = search needs
+
+row-returns : (t : ℕ) → row-lts.Need-returns (row-R t) (row-at t) row.Post
+row-returns t c = search row-deep
+
+row-sub-table : (t : ℕ) → row-lts.Need-sub-table (row-R t) (row-at t) row.Post
+row-sub-table t c = search needs
+
+row-table-requires : (t : ℕ) → row-lts.Need-table-requires (row-R t) (row-at t) row.Post
+row-table-requires t c κs = search needs
+
+row-referred-requires : (t : ℕ) → row-lts.Need-referred-requires (row-R t) (row-at t) row.Post
+row-referred-requires t c κs = search needs
+
+row-returns-2 : (t : ℕ) → row-lts.Need-returns-2 (row-R t) (row-at t) row.Post
+row-returns-2 t c = search row-there
+
+abbrev rows-Inv-loop : rows-lts.InvT-loop
+rows-Inv-loop b dir s d t n total at size a₀ pos₀ j₀ a pos j =
+    (j ≤ n) × (n < 2 ^ 32) × (at ≤ 8 * length s) × (pos ≤ 8 * length s) × Small a × (bare (OfObject (O.Table t)) ≡ false)
+    × (size ≡ L.fixedSize u48 (P.parse b) (Sc.tableOf (P.parse b) t .members)) × (size < 2 ^ 40)
+    × (surveyElements (survey d u48 (P.parse b)) u48 (P.parse b) (OfObject (O.Table t)) n (opened n total) (drop at (bits s))
+    ≡ surveyElements (survey d u48 (P.parse b)) u48 (P.parse b) (OfObject (O.Table t)) (n - j) a (drop pos (bits s)))
+
+abbrev rows-μ-loop : rows-lts.MeasureT-loop
+rows-μ-loop b dir s d t n total at size a₀ pos₀ j₀ a pos j = n - j
+
+rows-fixed-size-requires : (t : ℕ) → rows-lts.Need-fixed-size-requires (rows-R t) (rows-at t) rows.Post rows-Inv-loop rows-μ-loop
+rows-fixed-size-requires t c κs = search needs
+
+rows-opened-requires : (t : ℕ) → rows-lts.Need-opened-requires (rows-R t) (rows-at t) rows.Post rows-Inv-loop rows-μ-loop
+rows-opened-requires t c κs = search needs
+
+rows-loop-holds : (t : ℕ) → rows-lts.Need-loop-holds (rows-R t) (rows-at t) rows.Post rows-Inv-loop rows-μ-loop
+rows-loop-holds t c = (search needs, search needs, search needs, search needs, search needs, search object-marked, search needs, search needs, search rows-start)
+
+rows-marked-row-requires : (t : ℕ) → rows-lts.Need-marked-row-requires (rows-R t) (rows-at t) rows.Post rows-Inv-loop rows-μ-loop
+rows-marked-row-requires t c κs = search needs
+
+rows-unlawful-requires : (t : ℕ) → rows-lts.Need-unlawful-requires (rows-R t) (rows-at t) rows.Post rows-Inv-loop rows-μ-loop
+rows-unlawful-requires t c κs = search needs
+
+rows-returns : (t : ℕ) → rows-lts.Need-returns (rows-R t) (rows-at t) rows.Post rows-Inv-loop rows-μ-loop
+rows-returns t c = search elements-stopped
+
+rows-joined-requires : (t : ℕ) → rows-lts.Need-joined-requires (rows-R t) (rows-at t) rows.Post rows-Inv-loop rows-μ-loop
+rows-joined-requires t c κs = search needs
+
+rows-add-j : (t : ℕ) → rows-lts.Need-add-j (rows-R t) (rows-at t) rows.Post rows-Inv-loop rows-μ-loop
+rows-add-j t c = search needs
+
+rows-loop-less : (t : ℕ) → rows-lts.Need-loop-less (rows-R t) (rows-at t) rows.Post rows-Inv-loop rows-μ-loop
+rows-loop-less t c = search needs
+
+rows-loop-again : (t : ℕ) → rows-lts.Need-loop-again (rows-R t) (rows-at t) rows.Post rows-Inv-loop rows-μ-loop
+rows-loop-again t c = (search needs, search needs, search needs, search needs, search needs, search needs, search needs, search needs, search elements-turn)
+
+rows-returns-2 : (t : ℕ) → rows-lts.Need-returns-2 (rows-R t) (rows-at t) rows.Post rows-Inv-loop rows-μ-loop
+rows-returns-2 t c = search elements-done
+
+table-found-fixed-size-requires : (t : ℕ) → table-found-lts.Need-fixed-size-requires (table-found-R t) (table-found-at t) table-found.Post
+table-found-fixed-size-requires t c κs = search needs
+
+table-found-table-requires : (t : ℕ) → table-found-lts.Need-table-requires (table-found-R t) (table-found-at t) table-found.Post
+table-found-table-requires t c κs = search needs
+
+table-found-returns : (t : ℕ) → table-found-lts.Need-returns (table-found-R t) (table-found-at t) table-found.Post
+table-found-returns t c = search needs
+
+pub +body+choice+list+marked-row+object+part+refer+row+rows+table+table-found-spec : {M : Type 1} → statement M
++body+choice+list+marked-row+object+part+refer+row+rows+table+table-found-spec =
+    close μ-body μ-choice μ-list μ-marked-row μ-object μ-part μ-refer μ-row μ-rows μ-table μ-table-found (λ t. body-lts.spec (body-R t)
     (body-at t)
     body.Post
     (body-enum-known-k t)
@@ -545,20 +721,35 @@ pub +body+choice+list+object+part+refer+table-spec : {M : Type 1} → statement 
     (list-returns t)
     (list-element-requires t)
     (list-elements-size-requires t)
+    (list-table-in-requires t)
+    (list-rows-requires t)
+    (list-returns-2 t)
     (list-opened-requires t)
     (list-bare-requires t)
     (list-bare-bits-requires t)
     (list-pass-requires t)
-    (list-returns-2 t)
+    (list-returns-3 t)
     (list-loop-holds t)
     (list-part-requires t)
     (list-unlawful-requires-2 t)
-    (list-returns-3 t)
+    (list-returns-4 t)
     (list-joined-requires t)
     (list-add-j t)
     (list-loop-less t)
     (list-loop-again t)
-    (list-returns-4 t))
+    (list-returns-5 t))
+    (λ t. marked-row-lts.spec (marked-row-R t)
+    (marked-row-at t)
+    marked-row.Post
+    (marked-row-take-number-requires t)
+    (marked-row-unlawful-requires t)
+    (marked-row-returns t)
+    (marked-row-plain-requires t)
+    (marked-row-returns-2 t)
+    (marked-row-row-requires t)
+    (marked-row-returns-3 t)
+    (marked-row-unlawful-requires-2 t)
+    (marked-row-returns-4 t))
     (λ t. object-lts.spec (object-R t)
     (object-at t)
     object.Post
@@ -573,9 +764,9 @@ pub +body+choice+list+object+part+refer+table-spec : {M : Type 1} → statement 
     (object-index-requires t)
     (object-list-requires t)
     (object-enum-known-ob-2 t)
-    (object-sub-table t)
+    (object-sub-table-found t)
     (object-index-requires-2 t)
-    (object-table-requires t)
+    (object-table-found-requires t)
     (object-returns-2 t)
     (object-returns-3 t)
     (object-returns-4 t)
@@ -598,16 +789,43 @@ pub +body+choice+list+object+part+refer+table-spec : {M : Type 1} → statement 
     (λ t. refer-lts.spec (refer-R t)
     (refer-at t)
     refer.Post
+    (refer-blob-end-requires t)
+    (refer-refer-blob-requires t)
+    (refer-returns t)
     (refer-object-requires t)
     (refer-referred-requires t)
-    (refer-returns t))
-    λ t. table-lts.spec (table-R t)
+    (refer-returns-2 t))
+    (λ t. row-lts.spec (row-R t)
+    (row-at t)
+    row.Post
+    (row-unlawful-requires t)
+    (row-returns t)
+    (row-sub-table t)
+    (row-table-requires t)
+    (row-referred-requires t)
+    (row-returns-2 t))
+    (λ t. rows-lts.spec (rows-R t)
+    (rows-at t)
+    rows.Post
+    rows-Inv-loop
+    rows-μ-loop
+    (rows-fixed-size-requires t)
+    (rows-opened-requires t)
+    (rows-loop-holds t)
+    (rows-marked-row-requires t)
+    (rows-unlawful-requires t)
+    (rows-returns t)
+    (rows-joined-requires t)
+    (rows-add-j t)
+    (rows-loop-less t)
+    (rows-loop-again t)
+    (rows-returns-2 t))
+    (λ t. table-lts.spec (table-R t)
     (table-at t)
     table.Post
     table-Inv-loop
     table-μ-loop
     (table-member-count-requires t)
-    (table-fixed-size-requires t)
     (table-opened-requires t)
     (table-loop-holds t)
     (table-member-requires t)
@@ -618,4 +836,10 @@ pub +body+choice+list+object+part+refer+table-spec : {M : Type 1} → statement 
     (table-add-j t)
     (table-loop-less t)
     (table-loop-again t)
-    (table-returns-2 t)
+    (table-returns-2 t))
+    λ t. table-found-lts.spec (table-found-R t)
+    (table-found-at t)
+    table-found.Post
+    (table-found-fixed-size-requires t)
+    (table-found-table-requires t)
+    (table-found-returns t)
