@@ -7,6 +7,7 @@ pub mod EmitCases
 pub mod StructCases
 pub mod EmitRest
 pub mod MeasureCases
+pub mod RunCases
 pub mod EmitPartCases
 pub mod EmitObjectCases
 pub mod EmitMessageCases

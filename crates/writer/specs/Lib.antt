@@ -8,5 +8,6 @@ pub mod EmitFlats
 pub mod EmitParts
 pub mod WriteLaws
 pub mod Measure
+pub mod EmitRun
 pub mod Emitting
 pub mod EmitStructs

@@ -28,6 +28,7 @@ ghost use Rattle.survey.specs.Surveyed.{Small};
 ghost use Rattle.writer.specs.Emit as Em;
 ghost use Rattle.writer.specs.EmitSheet as Es;
 ghost use Rattle.writer.specs.Measure.{Measured, MeasuredContent, anyInPlace};
+ghost use Rattle.writer.specs.EmitRun.{emitRun, flatIntegerWidth, integerWidth};
 ghost use Rattle.writer.specs.Emitting as Eg;
 ghost use Rattle.writer.specs.Emitting.{stateOf, HeldOk, BitPut, Room, EmittedAt, Stood};
 
@@ -672,6 +673,46 @@ fn pass(b: &[u8], dir: &[u16], s: &[u8], out: &mut [u8], k: Kind, c: Places, pos
     }
 }
 
+// ---- elements without a mark
+// The bytes of an integer; 0 for what is none.
+fn integer_width(k: Kind) -> usize
+    ensures { λ r. ⌜ r ≡ integerWidth k ⌝ }
+{
+    match k {
+        Kind::OfFlat(f) => match f {
+            Flat::Boolean => 0,
+            Flat::Integer(_, w) => wire::index(w),
+            Flat::Float(_) => 0,
+            Flat::Enumerated(_) => 0,
+            Flat::Struct(_) => 0,
+        },
+        Kind::OfObject(_) => 0,
+        Kind::OfUnion(_) => 0,
+    }
+}
+
+// n numbers of w bytes each.
+fn emit_run(s: &[u8], out: &mut [u8], w: usize, n: usize, c: Places, pos: usize) -> Emitted
+    requires { ⌜ w ≤ 8 ⌝ }
+    requires { ⌜ Room (now s) pos c ⌝ }
+    ensures { λ r. ⌜ EmittedAt (now (s .entry)) (emitRun (8 * w) (Es.putNumber w) n (stateOf c (now (out .entry))) (drop pos (bits (now (s .entry))))) pos c 0 (r .whole) (r .places) (now (out .exit)) (r .next) ⌝ }
+{
+    let mut done: usize = 0;
+    let mut at = pos;
+    let mut left = n;
+    while 0 < left {
+        let x = bitio::take_number(s, at, 8 * w);
+        if !x.whole {
+            return not_lawful(c, pos);
+        }
+        store_number(out, c.at + done, w, x.value);
+        at = x.next;
+        done += w;
+        left -= 1;
+    }
+    stored(forward(c, done), at)
+}
+
 // ---- what an object needs around its content
 // Bytes of the sheet, n of them.
 fn put_copy(s: &[u8], pos: usize, out: &mut [u8], c: Places, n: usize) -> Places
@@ -1084,6 +1125,10 @@ fn emit_list(
     }
     let n = y.value as usize;
     let k = schema::element(b, dir, i);
+    let w = integer_width(k);
+    if 0 < w {
+        return emit_run(s, out, w, n, c, y.next);
+    }
     let mut p = c;
     let mut at = y.next;
     let mut j: usize = 0;

@@ -16,6 +16,7 @@ use Rattle.survey.proofs.ObjectCases.{list-counted, table-counted, element-soun
 use Rattle.writer.proofs.EmitRoom.{room-taken, taken-on, room-choice, room-flag, room-lack, room-open, room-part, room-below, stood-next, stood-tail}
 use Rattle.writer.proofs.EmitPartCases.{choice-cut, choice-zero, choice-above, choice-known, body-flat, body-object, body-union, part-cut, part-there, part-bad, part-none, part-pass, element-bare, element-marked}
 use Rattle.writer.proofs.EmitObjectCases.{refer-cut, refer-done, members-start, members-done, members-stopped, members-turn, elements-cut, elements-start, elements-done, elements-stopped, elements-turn, content-deep, content-text, content-bytes, content-list, content-table}
+use Rattle.writer.proofs.RunCases.{integer-wide, list-run}
 use borrow.Fn.Kinds.{In}
 use borrow.Fn.PlainCycle.{Measures, is, falls, and}
 use Rattle.writer.proofs.emit_body.Reads as emit-body
@@ -53,8 +54,10 @@ use Rattle.wire.proofs.index.Reads as index-reads
 use Rattle.writer.proofs.close.Reads as close-reads
 use Rattle.writer.proofs.emit_bytes.Reads as emit-bytes-reads
 use Rattle.writer.proofs.emit_flat.Reads as emit-flat-reads
+use Rattle.writer.proofs.emit_run.Reads as emit-run-reads
 use Rattle.writer.proofs.emit_text.Reads as emit-text-reads
 use Rattle.writer.proofs.flag.Reads as flag-reads
+use Rattle.writer.proofs.integer_width.Reads as integer-width-reads
 use Rattle.writer.proofs.lack.Reads as lack-reads
 use Rattle.writer.proofs.measure.Reads as measure-reads
 use Rattle.writer.proofs.not_lawful.Reads as not-lawful-reads
@@ -176,7 +179,7 @@ abbrev emit-element-R : ℕ → emit-element-lts.Claims
 emit-element-R t = (bare-reads.Asked, bare-reads.Learnt, emit-body-below t, emit-body.Post, emit-part-below t, emit-part.Post)
 
 abbrev emit-list-R : ℕ → emit-list-lts.Claims
-emit-list-R t = (take-number-reads.Asked, take-number-reads.Learnt, not-lawful-reads.Asked, not-lawful-reads.Learnt, element-reads.Asked, element-reads.Learnt, emit-element-below t, emit-element.Post, stored-reads.Asked, stored-reads.Learnt)
+emit-list-R t = (take-number-reads.Asked, take-number-reads.Learnt, not-lawful-reads.Asked, not-lawful-reads.Learnt, element-reads.Asked, element-reads.Learnt, integer-width-reads.Asked, integer-width-reads.Learnt, emit-run-reads.Asked, emit-run-reads.Learnt, emit-element-below t, emit-element.Post, stored-reads.Asked, stored-reads.Learnt)
 
 abbrev emit-part-R : ℕ → emit-part-lts.Claims
 emit-part-R t = (take-number-reads.Asked, take-number-reads.Learnt, not-lawful-reads.Asked, not-lawful-reads.Learnt, flag-reads.Asked, flag-reads.Learnt, emit-body-below t, emit-body.Post, lack-reads.Asked, lack-reads.Learnt, stored-reads.Asked, stored-reads.Learnt, pass-reads.Asked, pass-reads.Learnt)
@@ -408,12 +411,12 @@ emit-element-returns-2 : (t : ℕ) → emit-element-lts.Need-returns-2 (emit-ele
 emit-element-returns-2 t c = search element-marked
 
 abbrev emit-list-Inv-loop : emit-list-lts.InvT-loop
-emit-list-Inv-loop b dir s out₀ d i c pos n k p₀ at₀ j₀ out p at j =
+emit-list-Inv-loop b dir s out₀ d i c pos n k w p₀ at₀ j₀ out p at j =
     (j ≤ n) × (n < 2 ^ 32) × (length out ≡ length out₀) × Room s pos c × Room s at p × (p .at + 8192 * pos ≤ c .at + 8192 * at)
     × (emitContent (emit d u48 (P.parse b)) (survey d u48 (P.parse b)) u48 (P.parse b) (O.List i) (stateOf c out₀) (drop pos (bits s)) ≡ emitElements (emit d u48 (P.parse b)) (survey d u48 (P.parse b)) u48 (P.parse b) k (n - j) (stateOf p out) (drop at (bits s)))
 
 abbrev emit-list-μ-loop : emit-list-lts.MeasureT-loop
-emit-list-μ-loop b dir s out₀ d i c pos n k p₀ at₀ j₀ out p at j = n - j
+emit-list-μ-loop b dir s out₀ d i c pos n k w p₀ at₀ j₀ out p at j = n - j
 
 -- src/lib.rt:963:9
 emit-list-take-number-requires : (t : ℕ) → emit-list-lts.Need-take-number-requires (emit-list-R t) (emit-list-at t) emit-list.Post emit-list-Inv-loop emit-list-μ-loop
@@ -431,6 +434,18 @@ emit-list-returns t c = search elements-cut
 emit-list-element-requires : (t : ℕ) → emit-list-lts.Need-element-requires (emit-list-R t) (emit-list-at t) emit-list.Post emit-list-Inv-loop emit-list-μ-loop
 emit-list-element-requires t c κs = search needs
 
+emit-list-integer-width-requires : (t : ℕ) → emit-list-lts.Need-integer-width-requires (emit-list-R t) (emit-list-at t) emit-list.Post emit-list-Inv-loop emit-list-μ-loop
+emit-list-integer-width-requires t c κs = search needs
+
+emit-list-emit-run-requires : (t : ℕ) → emit-list-lts.Need-emit-run-requires (emit-list-R t) (emit-list-at t) emit-list.Post emit-list-Inv-loop emit-list-μ-loop
+emit-list-emit-run-requires t c κs = (search integer-wide, search room-taken)
+
+emit-list-same-length : (t : ℕ) → emit-list-lts.Need-same-length (emit-list-R t) (emit-list-at t) emit-list.Post emit-list-Inv-loop emit-list-μ-loop
+emit-list-same-length t c = search needs
+
+emit-list-returns-2 : (t : ℕ) → emit-list-lts.Need-returns-2 (emit-list-R t) (emit-list-at t) emit-list.Post emit-list-Inv-loop emit-list-μ-loop
+emit-list-returns-2 t c = search list-run
+
 -- src/lib.rt:972:5
 emit-list-loop-holds : (t : ℕ) → emit-list-lts.Need-loop-holds (emit-list-R t) (emit-list-at t) emit-list.Post emit-list-Inv-loop emit-list-μ-loop
 emit-list-loop-holds t c = (search needs, search needs, search needs, search needs, search room-taken, search taken-on, search elements-start)
@@ -444,12 +459,12 @@ emit-list-not-lawful-requires-2 : (t : ℕ) → emit-list-lts.Need-not-lawful-re
 emit-list-not-lawful-requires-2 t c κs = search needs
 
 -- src/lib.rt:975:13
-emit-list-same-length : (t : ℕ) → emit-list-lts.Need-same-length (emit-list-R t) (emit-list-at t) emit-list.Post emit-list-Inv-loop emit-list-μ-loop
-emit-list-same-length t c = search needs
+emit-list-same-length-2 : (t : ℕ) → emit-list-lts.Need-same-length-2 (emit-list-R t) (emit-list-at t) emit-list.Post emit-list-Inv-loop emit-list-μ-loop
+emit-list-same-length-2 t c = search needs
 
 -- src/lib.rt:975:13
-emit-list-returns-2 : (t : ℕ) → emit-list-lts.Need-returns-2 (emit-list-R t) (emit-list-at t) emit-list.Post emit-list-Inv-loop emit-list-μ-loop
-emit-list-returns-2 t c = search elements-stopped
+emit-list-returns-3 : (t : ℕ) → emit-list-lts.Need-returns-3 (emit-list-R t) (emit-list-at t) emit-list.Post emit-list-Inv-loop emit-list-μ-loop
+emit-list-returns-3 t c = search elements-stopped
 
 -- src/lib.rt:979:9
 emit-list-add-j : (t : ℕ) → emit-list-lts.Need-add-j (emit-list-R t) (emit-list-at t) emit-list.Post emit-list-Inv-loop emit-list-μ-loop
@@ -468,12 +483,12 @@ emit-list-stored-requires : (t : ℕ) → emit-list-lts.Need-stored-requires (em
 emit-list-stored-requires t c κs = search needs
 
 -- src/lib.rt:949:1
-emit-list-same-length-2 : (t : ℕ) → emit-list-lts.Need-same-length-2 (emit-list-R t) (emit-list-at t) emit-list.Post emit-list-Inv-loop emit-list-μ-loop
-emit-list-same-length-2 t c = search needs
+emit-list-same-length-3 : (t : ℕ) → emit-list-lts.Need-same-length-3 (emit-list-R t) (emit-list-at t) emit-list.Post emit-list-Inv-loop emit-list-μ-loop
+emit-list-same-length-3 t c = search needs
 
 -- src/lib.rt:949:1
-emit-list-returns-3 : (t : ℕ) → emit-list-lts.Need-returns-3 (emit-list-R t) (emit-list-at t) emit-list.Post emit-list-Inv-loop emit-list-μ-loop
-emit-list-returns-3 t c = search elements-done
+emit-list-returns-4 : (t : ℕ) → emit-list-lts.Need-returns-4 (emit-list-R t) (emit-list-at t) emit-list.Post emit-list-Inv-loop emit-list-μ-loop
+emit-list-returns-4 t c = search elements-done
 
 -- src/lib.rt:869:9
 emit-part-take-number-requires : (t : ℕ) → emit-part-lts.Need-take-number-requires (emit-part-R t) (emit-part-at t) emit-part.Post
@@ -724,17 +739,21 @@ pub +emit-body+emit-choice+emit-content+emit-element+emit-list+emit-part+emit-re
     (emit-list-not-lawful-requires t)
     (emit-list-returns t)
     (emit-list-element-requires t)
+    (emit-list-integer-width-requires t)
+    (emit-list-emit-run-requires t)
+    (emit-list-same-length t)
+    (emit-list-returns-2 t)
     (emit-list-loop-holds t)
     (emit-list-emit-element-requires t)
     (emit-list-not-lawful-requires-2 t)
-    (emit-list-same-length t)
-    (emit-list-returns-2 t)
+    (emit-list-same-length-2 t)
+    (emit-list-returns-3 t)
     (emit-list-add-j t)
     (emit-list-loop-less t)
     (emit-list-loop-again t)
     (emit-list-stored-requires t)
-    (emit-list-same-length-2 t)
-    (emit-list-returns-3 t))
+    (emit-list-same-length-3 t)
+    (emit-list-returns-4 t))
     (λ t. emit-part-lts.spec (emit-part-R t)
     (emit-part-at t)
     emit-part.Post
