@@ -141,12 +141,27 @@ fn write_struct(
 }
 
 // ---- elements without a mark
-// The n numbers of w bytes from `at`.
+// The bits of n numbers of w bytes.
+fn numbers_size(w: usize, n: usize) -> usize
+    requires { ⌜ (w ≤ 8) × (n < 2 ^ 48) ⌝ }
+    ensures { λ r. ⌜ (r ≡ 8 * w * n) × (r ≤ 64 * 2 ^ 48) ⌝ }
+{
+    8 * w * n
+}
+
+// The n numbers of w bytes from `at`: counted at once where there is no room.
 fn write_numbers(m: &[u8], out: &mut [u8], pos: usize, w: usize, at: usize, n: usize) -> usize
     requires { ⌜ Room (now out) pos ⌝ }
     requires { ⌜ (w ≤ 8) × (at < 2 ^ 58) × (n < 2 ^ 48) ⌝ }
     ensures { λ r. ⌜ Puts (now (out .entry)) pos (Bt.numbersAt (now (m .entry)) w n at) (now (out .exit)) r ⌝ }
 {
+    let end = pos + numbers_size(w, n);
+    if 134217720 < end {
+        return 134217721;
+    }
+    if 8 * out.len() < end {
+        return end;
+    }
     let mut p = pos;
     let mut from = at;
     let mut left = n;
