@@ -76,9 +76,9 @@ bytes-done out m at j h = rw (drop-of-length-le m h) (splice-none (bits out) at)
 
 -- ---- whole bytes, from within a byte on: a bits of p stand before the bytes that are left
 -- the bits that stand there already
-pub across-start : (out m : List ℕ) (pos start a p : ℕ) → start ≡ pos / 8 → a ≡ pos % 8 → start < length out → p ≡ getD out start 0 / 2 ^ (8 - a)
-    → splice (bits out) (8 * start) (bitsOf a p ++ bits m) ≡ splice (bits out) pos (bits m)
-across-start out m pos start a p es ea h ep =
+pub own-start : (out ys : List ℕ) (pos start a p : ℕ) → start ≡ pos / 8 → a ≡ pos % 8 → start < length out → p ≡ getD out start 0 / 2 ^ (8 - a)
+    → splice (bits out) (8 * start) (bitsOf a p ++ ys) ≡ splice (bits out) pos ys
+own-start out ys pos start a p es ea h ep =
     let b : ℕ = getD out start 0 in
     let z : List ℕ = bits (drop (suc start) out) in
     let w : 8 ≡ a + (8 - a) = omega arith in
@@ -89,9 +89,13 @@ across-start out m pos start a p es ea h ep =
     ∙ append-assoc (bitsOf a p) (bitsOf (8 - a) b) z in
     let own : bitsOf a p ≡ take a (drop (8 * start) (bits out)) =
     sym (take-at (bitsOf a p) (bitsOf (8 - a) b ++ z) a (bitsOf-length a p)) ∙ ap (take a) (sym from) in
-    ap (λ (s : List ℕ). splice (bits out) (8 * start) (s ++ bits m)) own
-    ∙ splice-own (bits out) (8 * start) a (bits m) (omega (arith, bits-length out))
-    ∙ ap (λ (k : ℕ). splice (bits out) k (bits m)) (sym at)
+    ap (λ (s : List ℕ). splice (bits out) (8 * start) (s ++ ys)) own
+    ∙ splice-own (bits out) (8 * start) a ys (omega (arith, bits-length out))
+    ∙ ap (λ (k : ℕ). splice (bits out) k ys) (sym at)
+
+pub across-start : (out m : List ℕ) (pos start a p : ℕ) → start ≡ pos / 8 → a ≡ pos % 8 → start < length out → p ≡ getD out start 0 / 2 ^ (8 - a)
+    → splice (bits out) (8 * start) (bitsOf a p ++ bits m) ≡ splice (bits out) pos (bits m)
+across-start out m pos start a p es ea h ep = own-start out (bits m) pos start a p es ea h ep
 
 pub across-turn : (out m : List ℕ) (start a p x b j : ℕ) → j < length m → start + length m < length out → a < 8 → x ≡ getD m j 0 → x < 2 ^ 8
     → b ≡ (p * 2 ^ 8 + x) / 2 ^ a % 2 ^ 8

@@ -1,6 +1,7 @@
 // The sheet's bit cursor: numbers and whole bytes at any bit position of a list of bytes, most significant bit first. A
 // position counts bits from the highest bit of the first byte.
 ghost use mathlib.Core.Path.{_≡_};
+ghost use mathlib.Core.List.{_++_};
 ghost use Prim.Native.Nat.{_+_, _-_, _*_, _/_, _%_, _^_, _≤_, _<_};
 ghost use lib.ListN.{length, take, drop, getD, set};
 ghost use Rattle.coding.specs.Lists.{pick};
@@ -305,8 +306,80 @@ fn put_aligned(out: &mut [u8], start: usize, width: usize, v: u64)
     }
 }
 
-// The `width` low bits of v from pos on.
-pub fn put(out: &mut [u8], pos: usize, width: usize, v: u64)
+// A byte, and two, four and eight bytes of a number, the highest first. In this form the compiler makes one store of them.
+fn put_byte(out: &mut [u8], i: usize, v: u64)
+    requires { ⌜ i < length (now out) ⌝ }
+    ensures { λ _. ⌜ bits (now (out .exit)) ≡ splice (bits (now (out .entry))) (8 * i) (bitsOf 8 v) ⌝ }
+{
+    out[i] = last_byte(v);
+}
+
+fn put_pair(out: &mut [u8], i: usize, v: u64)
+    requires { ⌜ i + 2 ≤ length (now out) ⌝ }
+    ensures { λ _. ⌜ bits (now (out .exit)) ≡ splice (bits (now (out .entry))) (8 * i) (bitsOf 16 v) ⌝ }
+{
+    put_byte(out, i, v >> 8);
+    put_byte(out, i + 1, v);
+}
+
+fn put_quad(out: &mut [u8], i: usize, v: u64)
+    requires { ⌜ i + 4 ≤ length (now out) ⌝ }
+    ensures { λ _. ⌜ bits (now (out .exit)) ≡ splice (bits (now (out .entry))) (8 * i) (bitsOf 32 v) ⌝ }
+{
+    put_pair(out, i, v >> 16);
+    put_pair(out, i + 2, v);
+}
+
+fn put_word(out: &mut [u8], i: usize, v: u64)
+    requires { ⌜ i + 8 ≤ length (now out) ⌝ }
+    ensures { λ _. ⌜ bits (now (out .exit)) ≡ splice (bits (now (out .entry))) (8 * i) (bitsOf 64 v) ⌝ }
+{
+    put_quad(out, i, v >> 32);
+    put_quad(out, i + 4, v);
+}
+
+// The n low bits of x behind the a high bits of a byte b.
+fn joined(b: u64, a: usize, n: usize, x: u64) -> u64
+    requires { ⌜ (b < 2 ^ 8) × (a < 8) × (a + n ≤ 64) ⌝ }
+    ensures { λ r. ⌜ bitsOf (a + n) r ≡ bitsOf a (b / 2 ^ (8 - a)) ++ bitsOf n x ⌝ }
+{
+    if a == 0 {
+        return x;
+    }
+    b >> (8 - a) << n | low(x, n)
+}
+
+// The `width` low bits of v from pos on, where eight bytes at least end among them, or four: the first of these by one store.
+fn put_long(out: &mut [u8], pos: usize, width: usize, v: u64)
+    requires { ⌜ (width ≤ 64) × (64 ≤ pos % 8 + width) ⌝ }
+    requires { ⌜ pos + width ≤ 8 * length (now out) ⌝ }
+    requires { ⌜ 8 * length (now out) < 2 ^ 64 ⌝ }
+    ensures { λ _. ⌜ bits (now (out .exit)) ≡ splice (bits (now (out .entry))) pos (bitsOf width v) ⌝ }
+{
+    let a = offset(pos);
+    let i = pos >> 3;
+    let left = a + width - 64;
+    let w = joined(byte(out, i), a, 64 - a, v >> left);
+    put_word(out, i, w);
+    put_aligned(out, i + 8, left, v);
+}
+
+fn put_half(out: &mut [u8], pos: usize, width: usize, v: u64)
+    requires { ⌜ (32 ≤ pos % 8 + width) × (pos % 8 + width < 64) ⌝ }
+    requires { ⌜ pos + width ≤ 8 * length (now out) ⌝ }
+    requires { ⌜ 8 * length (now out) < 2 ^ 64 ⌝ }
+    ensures { λ _. ⌜ bits (now (out .exit)) ≡ splice (bits (now (out .entry))) pos (bitsOf width v) ⌝ }
+{
+    let a = offset(pos);
+    let i = pos >> 3;
+    let left = a + width - 32;
+    let w = joined(byte(out, i), a, 32 - a, v >> left);
+    put_quad(out, i, w);
+    put_aligned(out, i + 4, left, v);
+}
+
+// Fewer bits, by the byte.
+fn put_short(out: &mut [u8], pos: usize, width: usize, v: u64)
     requires { ⌜ width ≤ 64 ⌝ }
     requires { ⌜ pos + width ≤ 8 * length (now out) ⌝ }
     requires { ⌜ 8 * length (now out) < 2 ^ 64 ⌝ }
@@ -320,6 +393,25 @@ pub fn put(out: &mut [u8], pos: usize, width: usize, v: u64)
             put_aligned(out, (pos >> 3) + 1, left, v);
         }
     }
+}
+
+// The `width` low bits of v from pos on.
+pub fn put(out: &mut [u8], pos: usize, width: usize, v: u64)
+    requires { ⌜ width ≤ 64 ⌝ }
+    requires { ⌜ pos + width ≤ 8 * length (now out) ⌝ }
+    requires { ⌜ 8 * length (now out) < 2 ^ 64 ⌝ }
+    ensures { λ _. ⌜ bits (now (out .exit)) ≡ splice (bits (now (out .entry))) pos (bitsOf width v) ⌝ }
+{
+    let end = offset(pos) + width;
+    if end < 32 {
+        put_short(out, pos, width, v);
+        return;
+    }
+    if end < 64 {
+        put_half(out, pos, width, v);
+        return;
+    }
+    put_long(out, pos, width, v);
 }
 
 // ---- whole bytes put

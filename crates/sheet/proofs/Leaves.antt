@@ -3,10 +3,11 @@ use mathlib.Core.Path.{_≡_, refl, sym, ap, ap₂, _∙_, subst}
 use mathlib.Core.Bool.{Bool, true, false}
 use mathlib.Core.List.{List, _∷_, _++_}
 use mathlib.Core.Logic.{⊎-elim}
-use Prim.Native.Nat.{ℕ, suc, _+_, _-_, _*_, _<_, _≤_}
+use Prim.Native.Nat.{ℕ, zero, suc, _+_, _-_, _*_, _^_, _<_, _≤_}
 use native.Mathlib.Omega.{arith}
+use native.Mathlib.Nat.{mul-zero, mul-suc, mul-le-mul, le-of-lt}
 use native.Mathlib.Numerals.{add-one}
-use lib.ListN.{length, getD, drop, drop-of-length-le}
+use lib.ListN.{length, getD, drop, drop-of-length-le, length-append}
 use lib.Seq.{drop-cons}
 use lib.Dec.{eqb, ltb}
 use borrow.Author.Tests.{eq-eqb, ne-eqb, lt-ltb, le-ltb}
@@ -31,7 +32,8 @@ use Rattle.laws.specs.Sound.{FlatSound, KindSound}
 use Rattle.schema.specs.Directory.{Accepted, accepted-sound}
 use Rattle.wire.specs.Numbers.{Number}
 use Rattle.bitio.specs.Puts.{Room, Puts}
-use Rattle.bitio.specs.PutsLaws.{puts-then, puts-same}
+use Rattle.laws.specs.Bits.{bitsOf-length}
+use Rattle.bitio.specs.PutsLaws.{puts-then, puts-same, run-over, run-not}
 use Rattle.sheet.specs.MessageBits as A
 use Rattle.sheet.proofs.PartLaws.{struct-is}
 use Rattle.sheet.proofs.Remaining.{Remaining, remaining-all, remaining-turn, remaining-done}
@@ -228,6 +230,24 @@ fields-done S m i at from j n o₀ o p₀ p inv g en h =
     (ap (λ (ks : List Flat). A.fieldsAt S m ks from) (drop-of-length-le (Sc.structOf S i) l))
 
 -- ---- numbers
+pub numbers-most : (w n : ℕ) → w ≤ 8 → n < 2 ^ 48 → 8 * w * n ≤ 64 * 2 ^ 48
+numbers-most w n h l = mul-le-mul (let z : 8 * w ≤ 64 = omega arith in z) (le-of-lt l)
+
+numbers-length : (m : List ℕ) (w n at : ℕ) → length (A.numbersAt m w n at) ≡ 8 * w * n
+unfolding A.numbersAt
+numbers-length m w zero at = sym (mul-zero (8 * w))
+numbers-length m w (suc n) at =
+    let e = mul-suc (8 * w) n in
+    length-append (bitsOf (8 * w) (le m at w)) (A.numbersAt m w n (at + w))
+    ∙ omega (arith, e, bitsOf-length (8 * w) (le m at w), numbers-length m w n (at + w))
+
+module _ (o : List ℕ) (p : ℕ) (m : List ℕ) (w n at k : ℕ) (g : Room o p) (e : k ≡ 8 * w * n) where
+  pub numbers-over : 134217720 < p + k → Puts o p (A.numbersAt m w n at) o 134217721
+  numbers-over h = run-over o p k (A.numbersAt m w n at) g (numbers-length m w n at ∙ sym e) h
+
+  pub numbers-not : p + k ≤ 134217720 → 8 * length o < p + k → Puts o p (A.numbersAt m w n at) o (p + k)
+  numbers-not h l = run-not o p k (A.numbersAt m w n at) g (numbers-length m w n at ∙ sym e) h l
+
 numbers-cons : (m : List ℕ) (w n at : ℕ) → 0 < n → A.numbersAt m w n at ≡ bitsOf (8 * w) (le m at w) ++ A.numbersAt m w (n - 1) (at + w)
 unfolding A.numbersAt
 numbers-cons m w n at h = let e : n ≡ suc (n - 1) = omega arith in ap (λ (k : ℕ). A.numbersAt m w k at) e

@@ -7,3 +7,5 @@ pub mod Objects
 pub mod Parts
 pub mod Whole
 pub mod StructInside
+pub mod Flats
+pub mod Values

@@ -1,5 +1,6 @@
 -- The ways out of the writers of members, elements and objects.
 use mathlib.Core.Path.{_≡_, refl, sym, ap, ap₂, _∙_, subst}
+use mathlib.Core.Bool.{Bool, true, false}
 use mathlib.Core.List.{List, _++_}
 use Prim.Native.Nat.{ℕ, zero, suc, _+_, _-_, _*_, _<_, _≤_}
 use native.Mathlib.Omega.{arith}
@@ -22,6 +23,7 @@ use Rattle.coding.specs.declared.Object.the-variants as O
 use Rattle.coding.specs.declared.Kind.{Kind}
 use Rattle.coding.specs.declared.Member.{Member}
 use Rattle.coding.specs.declared.Cursor.{Cursor}
+use Rattle.coding.specs.declared.Slot.{Slot}
 use Rattle.coding.specs.declared.Place.{Place}
 use Rattle.coding.specs.declared.Place.the-variants.{ByOffset, InPlace}
 use Rattle.coding.specs.declared.Step.{Step}
@@ -29,14 +31,18 @@ use Rattle.coding.specs.declared.Step.the-variants as St
 use Rattle.laws.specs.Sound.{ObjectSound, KindSound, MemberSound}
 use Rattle.laws.specs.SoundAt.{member-sound-at, struct-index, list-index, table-index}
 use Rattle.schema.specs.Directory.{Accepted, accepted-sound}
-use Rattle.layout.specs.Bounds.{Laid}
-use Rattle.step.specs.Lead.{Stepped}
+use Rattle.layout.specs.Bounds.{Laid, Stands}
+use Rattle.step.specs.Lead.{reached, reachOf}
+use Rattle.step.specs.declared.Reach.{Reach}
+use Rattle.step.specs.declared.Reach.the-variants.{Cut, Past, Here}
+use Rattle.step.proofs.ReachCases.{step-reached}
+use Rattle.step.proofs.MemberCases.{value-inside}
 use Rattle.wire.specs.Numbers.{Number}
 use Rattle.bitio.specs.Puts.{Room, Puts}
 use Rattle.bitio.specs.PutsLaws.{puts-none, puts-then, puts-same}
 use Rattle.sheet.specs.MessageBits as A
 use Rattle.sheet.specs.Readable as D
-use Rattle.sheet.specs.Stepping.{MemberAt}
+use Rattle.sheet.specs.Stepping.{MemberAt, isHere}
 
 -- ---- places
 module _ (m : List ℕ) (p : Place) where
@@ -61,19 +67,48 @@ module _ (m : List ℕ) (p : Place) where
   header-inside x e h = subst (D.HeaderInside m) e h
 
 -- ---- one member
+here-true : (g : Reach) → isHere g ≡ true → g ≡ Here
+unfolding isHere
+here-true Cut e = let z : _≡_ {A = ℕ} 0 1 = cc in absurd (omega arith)
+here-true Past e = let z : _≡_ {A = ℕ} 0 1 = cc in absurd (omega arith)
+here-true Here e = refl
+
+module _ (g : Reach) where
+  pub here-cut : g ≡ Cut → false ≡ isHere g
+  unfolding isHere
+  here-cut e = rw e
+
+  pub here-past : g ≡ Past → false ≡ isHere g
+  unfolding isHere
+  here-past e = rw e
+
+  pub here-here : g ≡ Here → true ≡ isHere g
+  unfolding isHere
+  here-here e = rw e
+
 pub member-is : (b dir : List ℕ) → Accepted b dir → (m : List ℕ) (t j start n : ℕ) (c : Cursor) (r : Member) → r ≡ Sc.memberOf (P.parse b) t j
-    → j < length (Sc.tableOf (P.parse b) t .members) → Laid (4097 * j) c → (step : Step) (next : Cursor)
-    → Stepped (T.memberStep u48 (P.parse b) m start n c r) (L.afterMember u48 (P.parse b) r c) (c .end) step next
-    → MemberAt (P.parse b) m t j start n c (r .kind) step next
-member-is b dir a m t j start n c r e h laid step next g =
+    → j < length (Sc.tableOf (P.parse b) t .members) → j < 256 → start + n ≤ length m → length m ≤ 16777215 → Laid (4097 * j) c → (slot : Slot) (next : Cursor)
+    → Stands (L.memberSlot u48 (P.parse b) r c) (L.afterMember u48 (P.parse b) r c) (c .end + 1) slot next
+    → (flag : Bool) → flag ≡ L.hasFlag r → (g : Reach) → g ≡ reachOf m start n c slot flag → (here : Bool) → here ≡ isHere g
+    → MemberAt (P.parse b) m t j start n c (r .kind) (r .optional) (r .inplace) here (start + slot .at) (slot .bit) next
+member-is b dir a m t j start n c r e h few fits short laid slot next stands flag ef g eg here eh =
     let p = laid .end in
-    let q = g .laid in
+    let q = stands .laid in
     let l = q .end in
+    let z = stands .at in
     let s : MemberSound (P.parse b) (Sc.memberOf (P.parse b) t j) = member-sound-at (P.parse b) (accepted-sound b dir a) t j h in
     record {
+      reach = g;
+      here-is = eh;
       kind-is = ap (λ (k : Member). k .kind) e;
-      step-is = g .step-is ∙ ap (λ (k : Member). T.memberStep u48 (P.parse b) m start n c k) e;
-      next-is = g .next-is ∙ ap (λ (k : Member). L.afterMember u48 (P.parse b) k c) e;
+      step-is = ap (λ (k : Member). T.memberStep u48 (P.parse b) m start n c k) (sym e) ∙ step-reached u48 (P.parse b) m start n c r
+          ∙ ap₂ (λ (k : Reach) (i : Slot). reached k (T.valueStep u48 (P.parse b) m (r .kind) (r .optional) (r .inplace) (start + n) (start + i .at) (i .bit)))
+          (sym (eg ∙ ap (λ (i : Slot). reachOf m start n c i flag) (stands .slot-is) ∙ ap (reachOf m start n c (L.memberSlot u48 (P.parse b) r c)) ef))
+          (sym (stands .slot-is));
+      inside = λ v. value-inside (P.parse b) m start n c r slot next stands flag ef g eg (here-true g (sym eh ∙ v)) fits;
+      low = omega arith;
+      bit-low = stands .bit;
+      next-is = stands .next-is ∙ ap (λ (k : Member). L.afterMember u48 (P.parse b) k c) e;
       laid = record { end = omega arith; byte = q .byte; bit = q .bit };
       sound = subst (λ (k : Member). KindSound (P.parse b) (k .kind)) (sym e) (s .kind);
     }

@@ -28,12 +28,16 @@ use Rattle.coding.specs.declared.Cursor.{Cursor}
 use Rattle.coding.specs.declared.Step.{Step}
 use Rattle.laws.specs.Sound.{KindSound}
 use Rattle.schema.specs.Directory.{Accepted, accepted-sound}
+use Rattle.step.specs.Lead.{reached}
+use Rattle.step.specs.declared.Reach.{Reach}
+use Rattle.step.specs.declared.Reach.the-variants.{Cut, Past, Here}
 use Rattle.step.proofs.Inside.{index-small}
+use Rattle.step.proofs.StepCases.{element-value}
 use Rattle.bitio.specs.Puts.{Room, Puts}
 use Rattle.bitio.specs.PutsLaws.{puts-then, puts-same}
 use Rattle.sheet.specs.MessageBits as A
 use Rattle.sheet.specs.Readable as D
-use Rattle.sheet.specs.Stepping.{MemberAt}
+use Rattle.sheet.specs.Stepping.{MemberAt, isHere}
 use Rattle.sheet.proofs.PartLaws.{member-part, element-part}
 use Rattle.sheet.proofs.Remaining.{Remaining, remaining-all, remaining-turn, remaining-done}
 
@@ -62,30 +66,54 @@ unfolding A.membersAt E.membersBits R.membersRead Tree.first Tree.others
 members-cons d S m start n c r rs h =
     ap (λ (l : List ℕ). l ++ E.membersBits (E.encode d S) S rs (R.membersRead (R.read d u48 S m) u48 S m start n (L.afterMember u48 S r c) rs)) (member-part d S m start n c r h)
 
+-- a member that is cut has the bits of an absent one, and leads nowhere
+placed-bits : (d : ℕ) (S : Schema) (m : List ℕ) (k : Kind) (g : Reach) (v : Step) → A.stepAt d S m k (reached g v) ≡ A.stepAt d S m k (A.placed (isHere g) v)
+unfolding A.stepAt A.placed isHere reached
+placed-bits d S m k Cut v = refl
+placed-bits d S m k Past v = refl
+placed-bits d S m k Here v = refl
+
+placed-readable : (child : D.Child) (S : Schema) (m : List ℕ) (g : Reach) (v : Step) → D.StepReadable child S m (reached g v)
+    → D.StepReadable child S m (A.placed (isHere g) v)
+unfolding D.StepReadable A.placed isHere reached
+placed-readable child S m Cut v h = tt
+placed-readable child S m Past v h = tt
+placed-readable child S m Here v h = h
+
 module _ (d : ℕ) (S : Schema) (m : List ℕ) (start n t j count : ℕ) (c : Cursor) (ec : count ≡ length (Sc.tableOf S t .members)) (h : j < count)
-    (good : D.MembersReadable (D.ObjectReadable d S m) S m start n c (drop j (Sc.tableOf S t .members))) (k : Kind) (step : Step) (next : Cursor)
-    (is : MemberAt S m t j start n c k step next) where
+    (good : D.MembersReadable (D.ObjectReadable d S m) S m start n c (drop j (Sc.tableOf S t .members))) (k : Kind) (none inplace here : Bool) (at bit : ℕ)
+    (next : Cursor) (is : MemberAt S m t j start n c k none inplace here at bit next) where
+  abbrev value : Step
+  value = T.valueStep u48 S m k none inplace (start + n) at bit
+
   split-readable : D.StepReadable (D.ObjectReadable d S m) S m (T.memberStep u48 S m start n c (Sc.memberOf S t j))
       × D.MembersReadable (D.ObjectReadable d S m) S m start n (L.afterMember u48 S (Sc.memberOf S t j) c) (drop (j + 1) (Sc.tableOf S t .members))
   unfolding D.MembersReadable
   split-readable = subst (D.MembersReadable (D.ObjectReadable d S m) S m start n c) (members-opened S t j count ec h) good
 
-  pub member-readable : D.StepReadable (D.ObjectReadable d S m) S m step
-  member-readable = subst (D.StepReadable (D.ObjectReadable d S m) S m) (sym (is .step-is)) (split-readable .0)
+  pub member-readable : D.StepReadable (D.ObjectReadable d S m) S m (A.placed here (T.valueStep u48 S m k none inplace (start + n) at bit))
+  member-readable =
+      subst (λ (t : Bool). D.StepReadable (D.ObjectReadable d S m) S m (A.placed t value)) (sym (is .here-is))
+      (placed-readable (D.ObjectReadable d S m) S m (is .reach) value (subst (D.StepReadable (D.ObjectReadable d S m) S m) (is .step-is) (split-readable .0)))
 
   pub rest-readable : D.MembersReadable (D.ObjectReadable d S m) S m start n next (drop (j + 1) (Sc.tableOf S t .members))
   rest-readable =
       subst (λ (q : Cursor). D.MembersReadable (D.ObjectReadable d S m) S m start n q (drop (j + 1) (Sc.tableOf S t .members))) (sym (is .next-is)) (split-readable .1)
 
+  member-bits : A.stepAt d S m (Sc.memberOf S t j .kind) (T.memberStep u48 S m start n c (Sc.memberOf S t j)) ≡ A.stepAt d S m k (A.placed here value)
+  member-bits =
+      ap₂ (A.stepAt d S m) (sym (is .kind-is)) (is .step-is) ∙ placed-bits d S m k (is .reach) value
+      ∙ ap (λ (t : Bool). A.stepAt d S m k (A.placed t value)) (sym (is .here-is))
+
   pub members-turn : (whole o₀ o o₁ : List ℕ) (p₀ p p₁ : ℕ) → Remaining o₀ p₀ whole o p (A.membersAt d S m start n c (drop j (Sc.tableOf S t .members)))
-      → Room o p → Puts o p (A.stepAt d S m k step) o₁ p₁
+      → Room o p → Puts o p (A.stepAt d S m k (A.placed here (T.valueStep u48 S m k none inplace (start + n) at bit))) o₁ p₁
       → Remaining o₀ p₀ whole o₁ p₁ (A.membersAt d S m start n next (drop (j + 1) (Sc.tableOf S t .members)))
   members-turn whole o₀ o o₁ p₀ p p₁ inv g put =
-      remaining-turn o₀ o o₁ p₀ p p₁ whole (A.membersAt d S m start n c (drop j (Sc.tableOf S t .members))) (A.stepAt d S m k step)
+      remaining-turn o₀ o o₁ p₀ p p₁ whole (A.membersAt d S m start n c (drop j (Sc.tableOf S t .members))) (A.stepAt d S m k (A.placed here value))
       (A.membersAt d S m start n next (drop (j + 1) (Sc.tableOf S t .members))) inv (g .short)
       (ap (A.membersAt d S m start n c) (members-opened S t j count ec h)
       ∙ members-cons d S m start n c (Sc.memberOf S t j) (drop (j + 1) (Sc.tableOf S t .members)) (split-readable .0)
-      ∙ ap₂ _++_ (ap₂ (A.stepAt d S m) (sym (is .kind-is)) (sym (is .step-is)))
+      ∙ ap₂ _++_ member-bits
       (ap (λ (q : Cursor). A.membersAt d S m start n q (drop (j + 1) (Sc.tableOf S t .members))) (sym (is .next-is))))
       put
 
@@ -129,17 +157,23 @@ module _ (d : ℕ) (S : Schema) (m : List ℕ) (k : Kind) (start n j : ℕ) (h :
   pub elements-rest : D.ElementsReadable (D.ObjectReadable d S m) S m k start (n - (j + 1)) (j + 1)
   elements-rest = split-elements .1
 
-  module _ (step : Step) (es : step ≡ T.elementStep u48 S m k start j) where
-    pub element-readable : D.StepReadable (D.ObjectReadable d S m) S m step
-    element-readable = subst (D.StepReadable (D.ObjectReadable d S m) S m) (sym es) (split-elements .0)
+  module _ (at bit : ℕ) (ea : at ≡ T.elementPlace u48 S k start j) (eb : bit ≡ j % 8) where
+    element-is : A.placed true (T.valueStep u48 S m k true false 0 at bit) ≡ T.elementStep u48 S m k start j
+    unfolding A.placed
+    element-is = element-value S m k start j at ea bit eb (T.valueStep u48 S m k true false 0 at bit) refl
+
+    pub element-readable : D.StepReadable (D.ObjectReadable d S m) S m (A.placed true (T.valueStep u48 S m k true false 0 at bit))
+    element-readable = subst (D.StepReadable (D.ObjectReadable d S m) S m) (sym element-is) (split-elements .0)
 
     pub elements-turn : E.bare k ≡ false → (whole o₀ o o₁ : List ℕ) (p₀ p p₁ : ℕ) → Remaining o₀ p₀ whole o p (A.elementsAt d S m k start (n - j) j) → Room o p
-        → Puts o p (A.stepAt d S m k step) o₁ p₁ → Remaining o₀ p₀ whole o₁ p₁ (A.elementsAt d S m k start (n - (j + 1)) (j + 1))
+        → Puts o p (A.stepAt d S m k (A.placed true (T.valueStep u48 S m k true false 0 at bit))) o₁ p₁
+        → Remaining o₀ p₀ whole o₁ p₁ (A.elementsAt d S m k start (n - (j + 1)) (j + 1))
     elements-turn f whole o₀ o o₁ p₀ p p₁ inv g put =
         let z : n - j ≡ suc (n - (j + 1)) = omega arith in
-        remaining-turn o₀ o o₁ p₀ p p₁ whole (A.elementsAt d S m k start (n - j) j) (A.stepAt d S m k step) (A.elementsAt d S m k start (n - (j + 1)) (j + 1)) inv (g .short)
+        remaining-turn o₀ o o₁ p₀ p p₁ whole (A.elementsAt d S m k start (n - j) j) (A.stepAt d S m k (A.placed true (T.valueStep u48 S m k true false 0 at bit)))
+        (A.elementsAt d S m k start (n - (j + 1)) (j + 1)) inv (g .short)
         (ap (λ (x : ℕ). A.elementsAt d S m k start x j) z ∙ elements-cons d S m k start (n - (j + 1)) j f (split-elements .0)
-        ∙ ap (λ (s : Step). A.stepAt d S m k s ++ A.elementsAt d S m k start (n - (j + 1)) (j + 1)) (sym es))
+        ∙ ap (λ (s : Step). A.stepAt d S m k s ++ A.elementsAt d S m k start (n - (j + 1)) (j + 1)) (sym element-is))
         put
 
 pub elements-done : (d : ℕ) (S : Schema) (m : List ℕ) (k : Kind) (start n j : ℕ) (whole o₀ o : List ℕ) (p₀ p : ℕ)

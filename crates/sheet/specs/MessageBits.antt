@@ -1,14 +1,17 @@
 -- The sheet's bits of what stands in a message: encode of read, part by part, as the code goes over it.
 use Prim.Native.Nat.{ℕ, zero, suc, _+_, _*_, _/_, _%_}
+use mathlib.Core.Bool.{Bool, _&&_}
 use mathlib.Core.List.{List, [], _++_}
+use lib.ListN.{getD}
 use lib.Dec.{ltb, eqb}
 use Rattle.coding.specs.Lists.{pick}
-use Rattle.coding.specs.Bytes.{u48, le, bitAt}
-use Rattle.coding.specs.Schema.{Schema}
+use Rattle.coding.specs.Bytes.{u48, le, bitAt, isNaN}
+use Rattle.coding.specs.Schema.{Schema, casesOf}
+use Rattle.coding.specs.Structs.{structOk}
 use Rattle.coding.specs.Bits.{bitsOf}
 use Rattle.coding.specs.Read as R
 use Rattle.coding.specs.Sheet as E
-use Rattle.coding.specs.Step.{fieldStep}
+use Rattle.coding.specs.Step.{fieldStep, objectStep, unionStep}
 use Rattle.coding.specs.declared.Flat.{Flat}
 use Rattle.coding.specs.declared.Flat.the-variants as F
 use Rattle.coding.specs.declared.Object.{Object}
@@ -74,6 +77,33 @@ stepAt d S m k (St.Choice c ob p) = marked 1 16 c ++ objectAt d S m ob p
 -- an enum in a struct
 unfoldable pub enumAt : ℕ → ℕ → List ℕ
 enumAt n x = pick (eqb x 255) (bitsOf 2 0) (pick (ltb x n) (marked 1 8 x) (marked 2 8 x))
+
+-- ---- by the kind, as the code goes over a value
+unfoldable pub floatAt : Bool → ℕ → ℕ → List ℕ
+floatAt none w x = pick (none && isNaN w x) (bitsOf 2 0) (marked 1 (8 * w) x)
+
+-- a struct, if its booleans are 0 or 1
+unfoldable pub wholeAt : Schema → List ℕ → ℕ → ℕ → List ℕ
+wholeAt S m i at = pick (structOk S m i at) (bitsOf 2 1 ++ structAt S m i at) (bitsOf 2 0)
+
+unfoldable pub flatAt : Schema → List ℕ → Flat → Bool → ℕ → ℕ → List ℕ
+flatAt S m F.Boolean none at bit = marked 1 1 (bitAt m at bit)
+flatAt S m (F.Integer s w) none at bit = marked 1 (8 * w) (le m at w)
+flatAt S m (F.Float w) none at bit = floatAt none w (le m at w)
+flatAt S m (F.Enumerated n) none at bit = enumAt n (getD m at 0)
+flatAt S m (F.Struct i) none at bit = wholeAt S m i at
+
+-- a reference or, in place, a length x
+unfoldable pub referenceAt : ℕ → Schema → List ℕ → Object → Bool → ℕ → ℕ → List ℕ
+referenceAt d S m ob inplace tail x = stepAt d S m (OfObject ob) (objectStep ob inplace tail x)
+
+-- choice c of union u
+unfoldable pub choiceAt : ℕ → Schema → List ℕ → ℕ → Bool → ℕ → ℕ → ℕ → List ℕ
+choiceAt d S m u inplace tail c x = stepAt d S m (OfUnion u) (unionStep (casesOf S u) inplace tail c x)
+
+-- a value, if it is there; a member that is cut has the bits of an absent one
+unfoldable pub placed : Bool → Step → Step
+placed here v = pick here v St.Absent
 
 -- ---- elements without a mark
 -- n numbers of w bytes

@@ -1,21 +1,35 @@
 -- One member of a table, as the code goes over the members.
 use mathlib.Core.Path.{_≡_}
-use Prim.Native.Nat.{ℕ, _+_, _*_}
+use mathlib.Core.Bool.{Bool, true, false}
+use Prim.Native.Nat.{ℕ, _+_, _*_, _^_, _<_, _≤_}
 use mathlib.Core.List.{List}
+use lib.ListN.{length}
 use Rattle.coding.specs.Bytes.{u48}
 use Rattle.coding.specs.Schema.{Schema, memberOf}
-use Rattle.coding.specs.Layout.{afterMember}
-use Rattle.coding.specs.Step.{memberStep}
+use Rattle.coding.specs.Layout.{width, afterMember}
+use Rattle.coding.specs.Step.{memberStep, valueStep}
 use Rattle.coding.specs.declared.Kind.{Kind}
 use Rattle.coding.specs.declared.Cursor.{Cursor}
-use Rattle.coding.specs.declared.Step.{Step}
 use Rattle.laws.specs.Sound.{KindSound}
 use Rattle.layout.specs.Bounds.{Laid}
+use Rattle.step.specs.Lead.{reached}
+use Rattle.step.specs.declared.Reach.{Reach}
+use Rattle.step.specs.declared.Reach.the-variants.{Cut, Past, Here}
 
--- member j of table t, where the cursor stands: its kind, what it holds, and the cursor behind it
-pub record MemberAt (S : Schema) (m : List ℕ) (t j start n : ℕ) (c : Cursor) (k : Kind) (s : Step) (next : Cursor) : Type 0 where
+unfoldable pub isHere : Reach → Bool
+isHere Cut = false
+isHere Past = false
+isHere Here = true
+
+-- member j of table t, where the cursor stands: its kind, whether and where its value stands, and the cursor behind it
+pub record MemberAt (S : Schema) (m : List ℕ) (t j start n : ℕ) (c : Cursor) (k : Kind) (none inplace here : Bool) (at bit : ℕ) (next : Cursor) : Type 0 where
+  pub reach : Reach
+  pub here-is : here ≡ isHere reach
   pub kind-is : k ≡ memberOf S t j .kind
-  pub step-is : s ≡ memberStep u48 S m start n c (memberOf S t j)
+  pub step-is : memberStep u48 S m start n c (memberOf S t j) ≡ reached reach (valueStep u48 S m k none inplace (start + n) at bit)
+  pub inside : here ≡ true → at + width u48 S k ≤ length m
+  pub low : at < 2 ^ 60
+  pub bit-low : bit < 8
   pub next-is : next ≡ afterMember u48 S (memberOf S t j) c
   pub laid : Laid (4097 * (j + 1)) next
   pub sound : KindSound S k

@@ -6,7 +6,6 @@ use coding::Kind;
 use coding::Object;
 use coding::Place;
 use coding::ReadAnswer;
-use coding::Step;
 use coding::Verdict;
 ghost use mathlib.Core.Path.{_≡_};
 ghost use mathlib.Core.Bool.{Bool, true, false};
@@ -28,17 +27,11 @@ ghost use Rattle.schema.specs.Directory.{Accepted};
 ghost use Rattle.bitio.specs.Puts.{Room, Puts, saturated};
 ghost use Rattle.sheet.specs.MessageBits as Bt;
 ghost use Rattle.sheet.specs.Readable as D;
-ghost use Rattle.sheet.specs.Stepping.{MemberAt};
+ghost use Rattle.sheet.specs.Stepping.{MemberAt, isHere};
 ghost use Rattle.sheet.specs.Answers as An;
 
 // ---- numbers
 fn number64(x: usize) -> u64
-    ensures { λ r. ⌜ r ≡ x ⌝ }
-{
-    x as u64
-}
-
-fn wide16(x: u16) -> u64
     ensures { λ r. ⌜ r ≡ x ⌝ }
 {
     x as u64
@@ -53,40 +46,6 @@ fn write_marked(out: &mut [u8], pos: usize, mark: u64, w: usize, x: u64) -> usiz
 {
     let p = bitio::write(out, pos, 2, mark);
     bitio::write(out, p, w, x)
-}
-
-// The bits of a value of a kind, and of an unknown number of it.
-fn value_width(b: &[u8], k: Kind) -> usize
-    requires { ⌜ KindSound (P.parse (now b)) k ⌝ }
-    ensures { λ r. ⌜ (r ≡ Bt.valueWidth k) × (r ≤ 64) ⌝ }
-{
-    match k {
-        Kind::OfFlat(f) => match f {
-            Flat::Boolean => 1,
-            Flat::Integer(_, w) => 8 * wire::index(w),
-            Flat::Float(w) => 8 * wire::index(w),
-            Flat::Enumerated(_) => 8,
-            Flat::Struct(_) => 0,
-        },
-        Kind::OfObject(_) => 0,
-        Kind::OfUnion(_) => 0,
-    }
-}
-
-fn unknown_width(k: Kind) -> usize
-    ensures { λ r. ⌜ (r ≡ E.unknownWidth k) × (r ≤ 64) ⌝ }
-{
-    match k {
-        Kind::OfFlat(f) => match f {
-            Flat::Boolean => 0,
-            Flat::Integer(_, _) => 0,
-            Flat::Float(_) => 0,
-            Flat::Enumerated(_) => 8,
-            Flat::Struct(_) => 0,
-        },
-        Kind::OfObject(_) => 0,
-        Kind::OfUnion(_) => 16,
-    }
 }
 
 // The bytes of an integer kind, or 0.
@@ -182,12 +141,27 @@ fn write_struct(
 }
 
 // ---- elements without a mark
-// The n numbers of w bytes from `at`.
+// The bits of n numbers of w bytes.
+fn numbers_size(w: usize, n: usize) -> usize
+    requires { ⌜ (w ≤ 8) × (n < 2 ^ 48) ⌝ }
+    ensures { λ r. ⌜ (r ≡ 8 * w * n) × (r ≤ 64 * 2 ^ 48) ⌝ }
+{
+    8 * w * n
+}
+
+// The n numbers of w bytes from `at`: counted at once where there is no room.
 fn write_numbers(m: &[u8], out: &mut [u8], pos: usize, w: usize, at: usize, n: usize) -> usize
     requires { ⌜ Room (now out) pos ⌝ }
     requires { ⌜ (w ≤ 8) × (at < 2 ^ 58) × (n < 2 ^ 48) ⌝ }
     ensures { λ r. ⌜ Puts (now (out .entry)) pos (Bt.numbersAt (now (m .entry)) w n at) (now (out .exit)) r ⌝ }
 {
+    let end = pos + numbers_size(w, n);
+    if 134217720 < end {
+        return 134217721;
+    }
+    if 8 * out.len() < end {
+        return end;
+    }
     let mut p = pos;
     let mut from = at;
     let mut left = n;
@@ -273,10 +247,92 @@ fn length_of(m: &[u8], p: Place) -> usize
     }
 }
 
-// A member's kind, what it holds, and the cursor behind it.
+// A value that leads to no object: its mark, and what follows it.
+fn write_float(out: &mut [u8], pos: usize, none: bool, w: u8, x: u64) -> usize
+    requires { ⌜ Room (now out) pos ⌝ }
+    requires { ⌜ w ≤ 8 ⌝ }
+    ensures { λ r. ⌜ Puts (now (out .entry)) pos (Bt.floatAt none w x) (now (out .exit)) r ⌝ }
+{
+    if none {
+        if step::is_nan(w, x) {
+            return bitio::write(out, pos, 2, 0);
+        }
+        return write_marked(out, pos, 1, 8 * wire::index(w), x);
+    }
+    write_marked(out, pos, 1, 8 * wire::index(w), x)
+}
+
+fn write_whole(
+    b: &[u8],
+    dir: &[u16],
+    m: &[u8],
+    out: &mut [u8],
+    i: usize,
+    at: usize,
+    pos: usize,
+) -> usize
+    requires { ⌜ Room (now out) pos ⌝ }
+    requires { ⌜ (Accepted (now b) (now dir)) × (i < P.structCount (now b)) × (length (now m) ≤ 16777215) ⌝ }
+    requires { ⌜ at + S.structSize (P.parse (now b)) i ≤ length (now m) ⌝ }
+    ensures { λ r. ⌜ Puts (now (out .entry)) pos (Bt.wholeAt (P.parse (now (b .entry))) (now (m .entry)) i at) (now (out .exit)) r ⌝ }
+{
+    if layout::struct_ok(b, dir, m, i, at) {
+        let p = bitio::write(out, pos, 2, 1);
+        return write_struct(b, dir, m, out, i, at, p);
+    }
+    bitio::write(out, pos, 2, 0)
+}
+
+fn write_flat(
+    b: &[u8],
+    dir: &[u16],
+    m: &[u8],
+    out: &mut [u8],
+    k: Flat,
+    none: bool,
+    at: usize,
+    bit: usize,
+    pos: usize,
+) -> usize
+    requires { ⌜ Room (now out) pos ⌝ }
+    requires { ⌜ (Accepted (now b) (now dir)) × (FlatSound (length (P.parse (now b) .structs)) k) × (length (now m) ≤ 16777215) ⌝ }
+    requires { ⌜ (at + S.flatWidth (S.structSize (P.parse (now b))) k ≤ length (now m)) × (bit < 8) × (at < 2 ^ 60) ⌝ }
+    ensures { λ r. ⌜ Puts (now (out .entry)) pos (Bt.flatAt (P.parse (now (b .entry))) (now (m .entry)) k none at bit) (now (out .exit)) r ⌝ }
+{
+    match k {
+        Flat::Boolean => write_marked(out, pos, 1, 1, wire::bit_value(wire::byte_in(m, at), bit)),
+        Flat::Integer(_, w) => write_marked(
+            out,
+            pos,
+            1,
+            8 * wire::index(w),
+            wire::number(m, at, wire::index(w)),
+        ),
+        Flat::Float(w) => write_float(out, pos, none, w, wire::number(m, at, wire::index(w))),
+        Flat::Enumerated(n) => write_enum(out, pos, n, wire::byte_in(m, at)),
+        Flat::Struct(i) => write_whole(b, dir, m, out, wire::index(i), at, pos),
+    }
+}
+
+// Whether a member's value is there.
+fn is_here(r: step::Reach) -> bool
+    ensures { λ q. ⌜ q ≡ isHere r ⌝ }
+{
+    match r {
+        step::Reach::Cut => false,
+        step::Reach::Past => false,
+        step::Reach::Here => true,
+    }
+}
+
+// A member's kind, whether and where its value stands, and the cursor behind it.
 pub struct PlacedMember {
     pub kind: Kind,
-    pub step: Step,
+    pub none: bool,
+    pub inplace: bool,
+    pub here: bool,
+    pub at: usize,
+    pub bit: usize,
     pub next: Cursor,
 }
 
@@ -293,52 +349,118 @@ fn member_at(
 ) -> PlacedMember
     requires { ⌜ (Accepted (now b) (now dir)) × (t < P.tableCount (now b)) × (j < length (Sc.tableOf (P.parse (now b)) t .members)) × (j < 256) ⌝ }
     requires { ⌜ (start + n ≤ length (now m)) × (length (now m) ≤ 16777215) × (Laid (4097 * j) c) ⌝ }
-    ensures { λ q. ⌜ MemberAt (P.parse (now (b .entry))) (now (m .entry)) t j start n c (q .kind) (q .step) (q .next) ⌝ }
+    ensures { λ q. ⌜ MemberAt (P.parse (now (b .entry))) (now (m .entry)) t j start n c (q .kind) (q .none) (q .inplace) (q .here) (q .at) (q .bit) (q .next) ⌝ }
 {
     let r = schema::member(b, dir, t, j);
     let k = r.kind;
-    let q = step::member_step(b, dir, m, start, n, c, r);
-    let step = q.step;
-    let next = q.next;
+    let p = layout::place_member(b, dir, r, c);
+    let slot = p.slot;
+    let next = p.next;
+    let at = start + slot.at;
+    let here = is_here(step::reach_of(m, start, n, c, slot, layout::has_flag(r)));
     PlacedMember {
         kind: k,
-        step,
+        none: r.optional,
+        inplace: r.inplace,
+        here,
+        at,
+        bit: slot.bit,
         next,
     }
 }
 
-// What a member or an element of kind k holds: its mark, and what follows it.
-fn write_step(
+// What a reference x, or in place a length x, leads to.
+fn write_reference(
+    b: &[u8],
+    dir: &[u16],
+    m: &[u8],
+    out: &mut [u8],
+    d: usize,
+    ob: Object,
+    inplace: bool,
+    tail: usize,
+    x: usize,
+    pos: usize,
+) -> usize
+    requires { ⌜ Room (now out) pos ⌝ }
+    requires { ⌜ (Accepted (now b) (now dir)) × (length (now m) ≤ 16777215) ⌝ }
+    requires { ⌜ D.StepReadable (D.ObjectReadable d (P.parse (now b)) (now m)) (P.parse (now b)) (now m) (T.objectStep ob inplace tail x) ⌝ }
+    ensures { λ r. ⌜ Puts (now (out .entry)) pos (Bt.referenceAt d (P.parse (now (b .entry))) (now (m .entry)) ob inplace tail x) (now (out .exit)) r ⌝ }
+{
+    if x == 0 {
+        return bitio::write(out, pos, 2, 0);
+    }
+    let place = step::place_of(inplace, tail, x);
+    let p = bitio::write(out, pos, 2, 1);
+    write_object(b, dir, m, out, d, ob, place, p)
+}
+
+// What choice c of union u, with the reference or length x, leads to.
+fn write_union(
+    b: &[u8],
+    dir: &[u16],
+    m: &[u8],
+    out: &mut [u8],
+    d: usize,
+    u: usize,
+    inplace: bool,
+    tail: usize,
+    c: usize,
+    x: usize,
+    pos: usize,
+) -> usize
+    requires { ⌜ Room (now out) pos ⌝ }
+    requires { ⌜ (Accepted (now b) (now dir)) × (length (now m) ≤ 16777215) × (u < P.unionCount (now b)) ⌝ }
+    requires { ⌜ D.StepReadable (D.ObjectReadable d (P.parse (now b)) (now m)) (P.parse (now b)) (now m) (T.unionStep (Sc.casesOf (P.parse (now b)) u) inplace tail c x) ⌝ }
+    ensures { λ r. ⌜ Puts (now (out .entry)) pos (Bt.choiceAt d (P.parse (now (b .entry))) (now (m .entry)) u inplace tail c x) (now (out .exit)) r ⌝ }
+{
+    if c == 0 {
+        return bitio::write(out, pos, 2, 0);
+    }
+    if schema::case_count(b, dir, u) < c {
+        return write_marked(out, pos, 2, 16, number64(c));
+    }
+    let ob = schema::union_case(b, dir, u, c);
+    let place = step::place_of(inplace, tail, x);
+    let p = write_marked(out, pos, 1, 16, number64(c));
+    write_object(b, dir, m, out, d, ob, place, p)
+}
+
+// What a member or an element of kind k holds, where its value is there: its mark, and what follows it.
+fn write_value(
     b: &[u8],
     dir: &[u16],
     m: &[u8],
     out: &mut [u8],
     d: usize,
     k: Kind,
-    step: Step,
+    here: bool,
+    none: bool,
+    inplace: bool,
+    tail: usize,
+    at: usize,
+    bit: usize,
     pos: usize,
 ) -> usize
     requires { ⌜ Room (now out) pos ⌝ }
     requires { ⌜ (Accepted (now b) (now dir)) × (length (now m) ≤ 16777215) × (KindSound (P.parse (now b)) k) ⌝ }
-    requires { ⌜ D.StepReadable (D.ObjectReadable d (P.parse (now b)) (now m)) (P.parse (now b)) (now m) step ⌝ }
-    ensures { λ r. ⌜ Puts (now (out .entry)) pos (Bt.stepAt d (P.parse (now (b .entry))) (now (m .entry)) k step) (now (out .exit)) r ⌝ }
+    requires { ⌜ (here ≡ true → at + L.width B.u48 (P.parse (now b)) k ≤ length (now m)) × (bit < 8) × (at < 2 ^ 60) ⌝ }
+    requires { ⌜ D.StepReadable (D.ObjectReadable d (P.parse (now b)) (now m)) (P.parse (now b)) (now m) (Bt.placed here (T.valueStep B.u48 (P.parse (now b)) (now m) k none inplace tail at bit)) ⌝ }
+    ensures { λ r. ⌜ Puts (now (out .entry)) pos (Bt.stepAt d (P.parse (now (b .entry))) (now (m .entry)) k (Bt.placed here (T.valueStep B.u48 (P.parse (now (b .entry))) (now (m .entry)) k none inplace tail at bit))) (now (out .exit)) r ⌝ }
 {
-    match step {
-        Step::Refused(_) => bitio::write(out, pos, 2, 0),
-        Step::Absent => bitio::write(out, pos, 2, 0),
-        Step::Value(x) => write_marked(out, pos, 1, value_width(b, k), x),
-        Step::Unknown(x) => write_marked(out, pos, 2, unknown_width(k), wide16(x)),
-        Step::Struct(i, at) => {
-            let p = bitio::write(out, pos, 2, 1);
-            write_struct(b, dir, m, out, wire::index(i), at, p)
+    if !here {
+        return bitio::write(out, pos, 2, 0);
+    }
+    match k {
+        Kind::OfFlat(f) => write_flat(b, dir, m, out, f, none, at, bit, pos),
+        Kind::OfObject(ob) => {
+            let x = wire::u48_in(m, at) as usize;
+            write_reference(b, dir, m, out, d, ob, inplace, tail, x, pos)
         }
-        Step::Object(ob, place) => {
-            let p = bitio::write(out, pos, 2, 1);
-            write_object(b, dir, m, out, d, ob, place, p)
-        }
-        Step::Choice(c, ob, place) => {
-            let p = write_marked(out, pos, 1, 16, wide16(c));
-            write_object(b, dir, m, out, d, ob, place, p)
+        Kind::OfUnion(u) => {
+            let c = wire::u16_in(m, at) as usize;
+            let x = wire::u48_in(m, at + 2) as usize;
+            write_union(b, dir, m, out, d, wire::index(u), inplace, tail, c, x, pos)
         }
     }
 }
@@ -419,9 +541,22 @@ fn write_table(
         }
         let q = member_at(b, dir, m, t, j, start, n, c);
         let k = q.kind;
-        let step = q.step;
         c = q.next;
-        p = write_step(b, dir, m, out, d, k, step, p);
+        p = write_value(
+            b,
+            dir,
+            m,
+            out,
+            d,
+            k,
+            q.here,
+            q.none,
+            q.inplace,
+            start + n,
+            q.at,
+            q.bit,
+            p,
+        );
         j += 1;
     }
     p
@@ -481,8 +616,22 @@ fn write_elements(
         if 134217720 < p {
             return p;
         }
-        let step = step::element_step(b, dir, m, k, start, n, j);
-        p = write_step(b, dir, m, out, d, k, step, p);
+        let at = step::element_place(b, dir, k, start, j);
+        p = write_value(
+            b,
+            dir,
+            m,
+            out,
+            d,
+            k,
+            true,
+            true,
+            false,
+            0,
+            at,
+            wire::low_three(j),
+            p,
+        );
         j += 1;
     }
     p

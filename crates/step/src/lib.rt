@@ -59,7 +59,7 @@ fn reach_flagged(m: &[u8], start: usize, n: usize, c: Cursor, slot: Slot) -> Rea
 }
 
 // The member's slot against a fixed part of n bytes from `start`; `flag` says that a flag stands at the cursor.
-fn reach_of(m: &[u8], start: usize, n: usize, c: Cursor, slot: Slot, flag: bool) -> Reach
+pub fn reach_of(m: &[u8], start: usize, n: usize, c: Cursor, slot: Slot, flag: bool) -> Reach
     requires { ⌜ (start + n ≤ length (now m)) × (slot .at < 2 ^ 60) × (slot .size < 2 ^ 60) × (c .byte ≤ c .end) ⌝ }
     ensures { λ r. ⌜ r ≡ D.reachOf (now (m .entry)) start n c slot flag ⌝ }
 {
@@ -70,7 +70,7 @@ fn reach_of(m: &[u8], start: usize, n: usize, c: Cursor, slot: Slot, flag: bool)
 }
 
 // ---- references
-fn place_of(inplace: bool, tail: usize, x: usize) -> Place
+pub fn place_of(inplace: bool, tail: usize, x: usize) -> Place
     ensures { λ r. ⌜ r ≡ T.placeOf inplace tail x ⌝ }
 {
     if inplace {
@@ -119,7 +119,7 @@ pub fn enum_step(n: u8, x: u8) -> Step
     Step::Unknown(x as u16)
 }
 
-fn is_nan(w: u8, x: u64) -> bool
+pub fn is_nan(w: u8, x: u64) -> bool
     ensures { λ r. ⌜ r ≡ B.isNaN w x ⌝ }
 {
     if w == 4 {
@@ -387,7 +387,7 @@ fn times(w: usize, i: usize) -> usize
     w * i
 }
 
-fn element_place(b: &[u8], dir: &[u16], k: Kind, start: usize, i: usize) -> usize
+pub fn element_place(b: &[u8], dir: &[u16], k: Kind, start: usize, i: usize) -> usize
     requires { ⌜ (Accepted (now b) (now dir)) × (KindSound (P.parse (now b)) k) × (start < 2 ^ 59) × (i < 2 ^ 40) ⌝ }
     ensures { λ r. ⌜ r ≡ T.elementPlace B.u48 (P.parse (now (b .entry))) k start i ⌝ }
 {

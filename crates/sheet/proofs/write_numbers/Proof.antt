@@ -6,17 +6,32 @@ use Rattle.bitio.specs.Puts.{Room}
 use Rattle.bitio.specs.PutsLaws.{room-next}
 use Rattle.sheet.specs.MessageBits as A
 use Rattle.sheet.proofs.Remaining.{Remaining, remaining-over}
-use Rattle.sheet.proofs.Leaves.{numbers-start, numbers-turn, numbers-done}
+use Rattle.sheet.proofs.Leaves.{numbers-over, numbers-not, numbers-start, numbers-turn, numbers-done}
 use borrow.Author.Needs.{needs}
 use Rattle.sheet.proofs.write_numbers.Statement.{statement}
 use Rattle.sheet.proofs.write_numbers.Tie as tie
 
 abbrev Inv-loop : tie.InvT-loop
-Inv-loop m out₀ pos w at n p₀ from₀ left₀ out p from left =
+Inv-loop m out₀ pos w at n end p₀ from₀ left₀ out p from left =
     Room out p × (from + 8 * left ≤ at + 8 * n) × (left ≤ n) × (length out ≡ length out₀) × Remaining out₀ pos (A.numbersAt m w n at) out p (A.numbersAt m w left from)
 
 abbrev μ-loop : tie.MeasureT-loop
-μ-loop m out₀ pos w at n p₀ from₀ left₀ out p from left = left
+μ-loop m out₀ pos w at n end p₀ from₀ left₀ out p from left = left
+
+numbers-size-requires : tie.Need-numbers-size-requires Inv-loop μ-loop
+numbers-size-requires c κs = search needs
+
+add-end : tie.Need-add-end Inv-loop μ-loop
+add-end c = search needs
+
+returns : tie.Need-returns Inv-loop μ-loop
+returns c = search numbers-over
+
+mul-if2 : tie.Need-mul-if2 Inv-loop μ-loop
+mul-if2 c = search needs
+
+returns-2 : tie.Need-returns-2 Inv-loop μ-loop
+returns-2 c = search numbers-not
 
 loop-holds : tie.Need-loop-holds Inv-loop μ-loop
 loop-holds c = (search needs, omega arith, omega arith, refl, search numbers-start)
@@ -24,8 +39,8 @@ loop-holds c = (search needs, omega arith, omega arith, refl, search numbers-sta
 same-length : tie.Need-same-length Inv-loop μ-loop
 same-length c = search needs
 
-returns : tie.Need-returns Inv-loop μ-loop
-returns c = search remaining-over
+returns-3 : tie.Need-returns-3 Inv-loop μ-loop
+returns-3 c = search remaining-over
 
 write-number-requires : tie.Need-write-number-requires Inv-loop μ-loop
 write-number-requires c κs = search needs
@@ -45,8 +60,8 @@ loop-again c = (search room-next, omega arith, omega arith, omega arith, search 
 same-length-2 : tie.Need-same-length-2 Inv-loop μ-loop
 same-length-2 c = search needs
 
-returns-2 : tie.Need-returns-2 Inv-loop μ-loop
-returns-2 c = search numbers-done
+returns-4 : tie.Need-returns-4 Inv-loop μ-loop
+returns-4 c = search numbers-done
 
 pub write-numbers-spec : {M : Type 1} → statement M
-write-numbers-spec = tie.close (tie.spec Inv-loop μ-loop loop-holds same-length returns write-number-requires add-from sub-left loop-less loop-again same-length-2 returns-2)
+write-numbers-spec = tie.close (tie.spec Inv-loop μ-loop numbers-size-requires add-end returns mul-if2 returns-2 loop-holds same-length returns-3 write-number-requires add-from sub-left loop-less loop-again same-length-2 returns-4)

@@ -10,8 +10,8 @@ use mathlib.Core.Path.{sym, ap, _∙_}
 use native.Mathlib.Omega.{arith}
 use denote.Ref.{now}
 use borrow.Author.Needs.{needs}
-use Rattle.bitio.proofs.put.Statement.{statement}
-use Rattle.bitio.proofs.put.Tie as tie
+use Rattle.bitio.proofs.put_short.Statement.{statement}
+use Rattle.bitio.proofs.put_short.Tie as tie
 
 chunk-requires : tie.Need-chunk-requires
 chunk-requires c κs = search needs
@@ -69,8 +69,8 @@ returns-3 c =
     let a = c .before .before .args in
     sym (put-done (now (a .out)) (a .pos) (a .width) (a .v) (omega arith))
 
-pub put-spec : {M : Type 1} → statement M
-put-spec =
+pub put-short-spec : {M : Type 1} → statement M
+put-short-spec =
     tie.close
     (tie.spec
     chunk-requires
