@@ -1,7 +1,7 @@
 -- The demands, of what the called functions answer.
-use mathlib.Core.Path.{_≡_, sym, ap, _∙_, subst}
+use mathlib.Core.Path.{_≡_, refl, sym, ap, _∙_, subst}
 use mathlib.Core.List.{List, [], _∷_, _++_}
-use mathlib.Core.Logic.{_↔_}
+use mathlib.Core.Logic.{_↔_, _⊎_}
 use mathlib.Core.Option.{Option, some, Option·some-injective}
 use Prim.Native.Nat.{ℕ, _+_, _*_, _/_, _<_, _≤_}
 use lib.ListN.{length, take, drop}
@@ -23,13 +23,13 @@ use Rattle.coding.specs.declared.Span.{Span}
 use Rattle.coding.specs.declared.Verdict.{Verdict}
 use Rattle.coding.specs.declared.ReadAnswer.{ReadAnswer}
 use Rattle.demands.specs.Arrivals.{LawfulMessage, messageArrivals}
-use Rattle.demands.specs.Reached.{accepted-exactly, accepted-visits}
+use Rattle.demands.specs.Reached.{accepted-exactly, accepted-visits, lawful-verdict}
 use Rattle.demands.specs.Sheets.{verdict-sheet-tree, verdict-sheet-lawful}
 use Rattle.demands.specs.Appending.{AreBytes, older-accepts, older-sheet}
 use Rattle.demands.specs.FieldEntries.{shown, textAt}
 use Rattle.demands.specs.Fields.{sheetEntry, sheet-entry, field-text}
 use Rattle.demands.specs.ListReader.{gives-path, gives-end, counts, over-gives}
-use Rattle.promises.proofs.Reading.{Handed, handed, given-room, fits-read}
+use Rattle.promises.proofs.Reading.{Handed, handed, given-room, fits-read, read-fits, no-room}
 
 -- ---- judging
 module _ (b m : List ℕ) (budget : Budget) (r : Verdict) (e : r ≡ verdict u48 b m budget) where
@@ -45,9 +45,22 @@ module _ (older newer m : List ℕ) (budget : Budget) (older-bytes : AreBytes ol
   both-judge appends = rw (er, es) (older-accepts older newer older-bytes appends u48 m budget)
 
 -- ---- reading to a sheet
-pub reads-every : (b m : List ℕ) (budget : Budget) (out : List ℕ) (a : ReadAnswer) → a ≡ readAnswer u48 b m budget out
-    → LawfulMessage u48 b m budget → length (messageSheet u48 b m) ≤ largest → length (messageSheet u48 b m) ≤ length out → a .verdict .number ≡ 0
-reads-every b m budget out a ea h = fits-read b m budget out a ea (accepted-exactly u48 b m budget .1 h)
+module _ (b m : List ℕ) (budget : Budget) (out : List ℕ) (a : ReadAnswer) (ea : a ≡ readAnswer u48 b m budget out) where
+  pub reads-exactly : (a .verdict .number ≡ 0)
+      ↔ (LawfulMessage u48 b m budget × (length (messageSheet u48 b m) ≤ largest) × (length (messageSheet u48 b m) ≤ length out))
+  reads-exactly = (
+    λ h. let y = read-fits b m budget out a ea h in (accepted-exactly u48 b m budget .0 (y .0), y .1, y .2),
+    λ h. fits-read b m budget out a ea (accepted-exactly u48 b m budget .1 (h .0)) (h .1) (h .2),
+  )
+
+  pub reads-arrivals : a .verdict .number ≡ 0 → a .verdict .visits ≡ messageArrivals u48 (parse b) m
+  reads-arrivals h =
+      let y = handed b m budget out a _ ea refl h in y .visits ∙ accepted-visits u48 b m budget (y .accepted)
+
+  pub reads-room : LawfulMessage u48 b m budget
+      → (largest < length (messageSheet u48 b m)) ⊎ (length out < length (messageSheet u48 b m))
+      → a ≡ record { verdict = record { number = 14; place = 0; visits = messageArrivals u48 (parse b) m }; length = 0 }
+  reads-room h = no-room b m budget out _ a ea (lawful-verdict u48 b m budget h)
 
 module _ (b m : List ℕ) (schema-bytes : AreBytes b) (message-bytes : AreBytes m) (budget : Budget) (out : List ℕ) (a : ReadAnswer) (out′ : List ℕ)
     (ea : a ≡ readAnswer u48 b m budget out) (eo : out′ ≡ readOut u48 b m budget out) (h : a .verdict .number ≡ 0) where

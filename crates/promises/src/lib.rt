@@ -10,7 +10,7 @@ use coding::Verdict;
 use coding::WriteAnswer;
 ghost use mathlib.Core.Path.{_≡_};
 ghost use mathlib.Core.List.{List, [], _∷_, _++_};
-ghost use mathlib.Core.Logic.{_↔_};
+ghost use mathlib.Core.Logic.{_↔_, _⊎_};
 ghost use mathlib.Core.Option.{some};
 ghost use mathlib.Core.Bool.{true};
 ghost use Prim.Native.Nat.{ℕ, _+_, _*_, _/_, _<_, _≤_};
@@ -24,25 +24,36 @@ ghost use Rattle.coding.specs.Packed as P;
 ghost use Rattle.coding.specs.Read as Rd;
 ghost use Rattle.coding.specs.Sheet as S;
 ghost use Rattle.coding.specs.Value.{Value};
+ghost use Rattle.coding.specs.Walk as W;
 ghost use Rattle.demands.specs.Arrivals.{LawfulMessage, messageArrivals};
 ghost use Rattle.demands.specs.FieldEntries.{shown, textAt};
 ghost use Rattle.demands.specs.Fields.{sheetEntry};
 ghost use Rattle.demands.specs.RoundTrip.{enough};
 ghost use Rattle.demands.specs.WrittenSheet.{WrittenAs};
 
-// "a message is accepted exactly when every object reached by its schema is lawful, within depth and budget"; and its visits are
-// then the arrivals, shared objects each time.
+// Judging. `whole`: "Judging answers number, place and visits", as the walk gives them, of refusals too. `exactly`: "a message is
+// accepted exactly when every object reached by its schema is lawful, within depth and budget". `arrivals`: "visits in the verdict
+// equal the arrivals", "shared objects counted each time".
 pub fn judged(schema: &[u8], message: &[u8], budget: Budget) -> Verdict
+    ensures whole { λ r. ⌜ r ≡ W.verdict B.u48 (now (schema .entry)) (now (message .entry)) budget ⌝ }
     ensures exactly { λ r. ⌜ (r .number ≡ 0) ↔ LawfulMessage B.u48 (now (schema .entry)) (now (message .entry)) budget ⌝ }
     ensures arrivals { λ r. ⌜ (r .number ≡ 0 → r .visits ≡ messageArrivals B.u48 (P.parse (now (schema .entry))) (now (message .entry))) ⌝ }
 {
     judge::judge(schema, message, budget)
 }
 
-// "the sheet of an accepted message is lawful": what is handed out decodes to the values that the message holds. It is handed out
-// for every lawful message, given room.
+// Reading to a sheet. `whole` and `output`: the answer and the output are the definition's, of refusals too. `exactly`: number 0
+// comes exactly when the message is lawful within depth and budget, and its sheet is within the size and the room. `arrivals`: the
+// visits are then the arrivals. `room`: "then 14 with the full visits". `kept`: "on refusal the length is 0 and the output is
+// unchanged". `lawful`: "the sheet of an accepted message is lawful": what is handed out decodes to the values that the message
+// holds.
 pub fn read(schema: &[u8], message: &[u8], budget: Budget, out: &mut [u8]) -> ReadAnswer
-    ensures every { λ r. ⌜ (LawfulMessage B.u48 (now (schema .entry)) (now (message .entry)) budget → length (M.messageSheet B.u48 (now (schema .entry)) (now (message .entry))) ≤ B.largest → length (M.messageSheet B.u48 (now (schema .entry)) (now (message .entry))) ≤ length (now (out .entry)) → r .verdict .number ≡ 0) ⌝ }
+    ensures whole { λ r. ⌜ r ≡ M.readAnswer B.u48 (now (schema .entry)) (now (message .entry)) budget (now (out .entry)) ⌝ }
+    ensures output { λ _. ⌜ now (out .exit) ≡ M.readOut B.u48 (now (schema .entry)) (now (message .entry)) budget (now (out .entry)) ⌝ }
+    ensures exactly { λ r. ⌜ (r .verdict .number ≡ 0) ↔ ((LawfulMessage B.u48 (now (schema .entry)) (now (message .entry)) budget) × (length (M.messageSheet B.u48 (now (schema .entry)) (now (message .entry))) ≤ B.largest) × (length (M.messageSheet B.u48 (now (schema .entry)) (now (message .entry))) ≤ length (now (out .entry)))) ⌝ }
+    ensures arrivals { λ r. ⌜ (r .verdict .number ≡ 0 → r .verdict .visits ≡ messageArrivals B.u48 (P.parse (now (schema .entry))) (now (message .entry))) ⌝ }
+    ensures room { λ r. ⌜ (LawfulMessage B.u48 (now (schema .entry)) (now (message .entry)) budget → (B.largest < length (M.messageSheet B.u48 (now (schema .entry)) (now (message .entry)))) ⊎ (length (now (out .entry)) < length (M.messageSheet B.u48 (now (schema .entry)) (now (message .entry)))) → r ≡ record { verdict = record { number = 14; place = 0; visits = messageArrivals B.u48 (P.parse (now (schema .entry))) (now (message .entry)) }; length = 0 }) ⌝ }
+    ensures kept { λ r. ⌜ ((r .verdict .number ≡ 0 → ⊥) → (r .length ≡ 0) × (now (out .exit) ≡ now (out .entry))) ⌝ }
     ensures lawful { λ r. ⌜ (r .verdict .number ≡ 0 → S.sheetTree (P.parse (now (schema .entry))) (take (r .length) (now (out .exit))) ≡ some (Rd.messageRead B.u48 (P.parse (now (schema .entry))) (now (message .entry)))) ⌝ }
 {
     sheet::read(schema, message, budget, out)
@@ -168,10 +179,15 @@ pub fn steps(schema: &[u8], message: &[u8], path: &[u32], from: usize, out: &mut
     field::read_list(schema, message, path, from, out)
 }
 
-// "every writable sheet becomes the one message of the stated layout", within the size and given room; and nothing else is written.
+// Writing. `whole` and `output`: the answer and the output are the definition's, of refusals too. `every`: "every writable sheet
+// becomes the one message of the stated layout", within the size and given room. `only`: nothing else is written. `kept`: "on
+// refusal the length is 0 and the output is unchanged".
 pub fn written(schema: &[u8], sheet: &[u8], out: &mut [u8]) -> WriteAnswer
+    ensures whole { λ r. ⌜ r ≡ M.writeAnswer B.u48 (now (schema .entry)) (now (sheet .entry)) (now (out .entry)) ⌝ }
+    ensures output { λ _. ⌜ now (out .exit) ≡ M.writeOut B.u48 (now (schema .entry)) (now (sheet .entry)) (now (out .entry)) ⌝ }
     ensures every { λ r. ⌜ ((v : Value) → lawful (now (schema .entry)) ≡ true → S.sheetTree (P.parse (now (schema .entry))) (now (sheet .entry)) ≡ some v → M.writable B.deepest B.u48 (P.parse (now (schema .entry))) (Object.Table (P.parse (now (schema .entry)) .root)) v ≡ true → length (M.messageOf B.u48 (P.parse (now (schema .entry))) v) ≤ B.largest → length (M.messageOf B.u48 (P.parse (now (schema .entry))) v) ≤ length (now (out .entry)) → (r ≡ record { number = 0; length = length (M.messageOf B.u48 (P.parse (now (schema .entry))) v) }) × (now (out .exit) ≡ M.messageOf B.u48 (P.parse (now (schema .entry))) v ++ drop (length (M.messageOf B.u48 (P.parse (now (schema .entry))) v)) (now (out .entry)))) ⌝ }
     ensures only { λ r. ⌜ (r .number ≡ 0 → WrittenAs B.u48 (now (schema .entry)) (now (sheet .entry)) (take (r .length) (now (out .exit)))) ⌝ }
+    ensures kept { λ r. ⌜ ((r .number ≡ 0 → ⊥) → (r .length ≡ 0) × (now (out .exit) ≡ now (out .entry))) ⌝ }
 {
     writer::write(schema, sheet, out)
 }
