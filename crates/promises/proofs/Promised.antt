@@ -1,5 +1,6 @@
 -- The demands, of what the called functions answer.
 use mathlib.Core.Path.{_≡_, refl, sym, ap, _∙_, subst}
+use mathlib.Core.Bool.{true}
 use mathlib.Core.List.{List, [], _∷_, _++_}
 use mathlib.Core.Logic.{_↔_, _⊎_}
 use mathlib.Core.Option.{Option, some, Option·some-injective}
@@ -19,6 +20,7 @@ use Rattle.coding.specs.declared.Found.the-variants as Fd
 use Rattle.coding.specs.declared.Answer.{Answer}
 use Rattle.coding.specs.declared.Answer.the-variants as A
 use Rattle.coding.specs.declared.Budget.{Budget}
+use Rattle.coding.specs.declared.Refusal.{Refusal}
 use Rattle.coding.specs.declared.Span.{Span}
 use Rattle.coding.specs.declared.Verdict.{Verdict}
 use Rattle.coding.specs.declared.ReadAnswer.{ReadAnswer}
@@ -27,8 +29,8 @@ use Rattle.demands.specs.Reached.{accepted-exactly, accepted-visits, lawful-ver
 use Rattle.demands.specs.Sheets.{verdict-sheet-tree, verdict-sheet-lawful}
 use Rattle.demands.specs.Appending.{AreBytes, older-accepts, older-sheet}
 use Rattle.demands.specs.FieldEntries.{shown, textAt}
-use Rattle.demands.specs.Fields.{sheetEntry, sheet-entry, field-text}
-use Rattle.demands.specs.ListReader.{gives-path, gives-end, counts, over-gives}
+use Rattle.demands.specs.Fields.{sheetEntry, sheet-entry, field-text, field-refusal}
+use Rattle.demands.specs.Texts.{IsText, part-answers, text-part}
 use Rattle.promises.proofs.Reading.{Handed, handed, given-room, fits-read, read-fits, no-room}
 
 -- ---- judging
@@ -76,6 +78,9 @@ module _ (b m : List ℕ) (schema-bytes : AreBytes b) (message-bytes : AreBytes 
         ap shown eq ∙ sheet-entry b m schema-bytes message-bytes budget (got .accepted) path short
         ∙ ap (λ (s : List ℕ). sheetEntry (parse b) s path) (sym (got .sheet))
 
+    pub reads-refusal : (q : Answer) → q ≡ Field.field u48 b m path → (r : Refusal) → q ≡ A.Refused r → r .number ≡ 15
+    reads-refusal q eq r e = field-refusal u48 b schema-bytes m budget (got .accepted) path short r (sym eq ∙ e)
+
     pub reads-text : (p : Span) → p ≡ Field.fieldSpan u48 b m path → (v : Value) → treeOf (parse b) (take (a .length) out′) ≡ some v
         → Field.textOf m p ≡ textAt (parse b) (O.Table (parse b .root)) v path
     unfolding Field.fieldText
@@ -97,27 +102,15 @@ module _ (older newer m : List ℕ) (older-bytes : AreBytes older) (newer-bytes 
       let by-older = handed older m budget older-out a older-out′ ea eo zero-too in
       (zero-too, by-older .sheet ∙ agrees .sheet ∙ ap (sheetWithout older newer) (sym (by-newer .sheet)))
 
--- ---- the list reader
-module _ (b m path : List ℕ) (j : ℕ) (q : Answer) (eq : q ≡ Field.readerGives u48 b m path j) where
-  pub steps-same : (element : List ℕ) (r : Answer) → r ≡ Field.field u48 b m element → (i at start n left : ℕ)
-      → Field.readerStart u48 b m path ≡ Fd.Object (O.List i) at start n left → element ≡ path ++ j ∷ [] → q ≡ r
-  steps-same element r er i at start n left has e =
-      eq ∙ gives-path u48 b m path i at start n left has j ∙ ap (Field.field u48 b m) (sym e) ∙ sym er
-
-  pub steps-end : (i at start n left : ℕ) → Field.readerStart u48 b m path ≡ Fd.Object (O.List i) at start n left → n ≤ j
-      → q ≡ A.Refused (Field.refusal 15 at)
-  steps-end i at start n left has l = eq ∙ gives-end u48 b m path i at start n left has j l
-
-module _ (b m path : List ℕ) (from : ℕ) (out out′ : List ℕ) (r : ℕ) (er : r ≡ Field.readerCount u48 b m path)
-    (eo : out′ ≡ Field.readerOver u48 b m path from out) where
-  pub steps-all : (i at start n left : ℕ) → Field.readerStart u48 b m path ≡ Fd.Object (O.List i) at start n left
-      → (r ≡ n)
-      × ((k : ℕ) → k < length out / 4
-      → take 4 (drop (4 * k) out′) ≡ Field.caseNumbers (Field.answerCase (Field.field u48 b m (path ++ (from + k) ∷ []))))
-  steps-all i at start n left has = (
-    er ∙ counts u48 b m path i at start n left has,
-    λ k h.
-        ap (λ (l : List ℕ). take 4 (drop (4 * k) l)) eo
-        ∙ over-gives u48 b m path from out k h
-        ∙ ap (λ (q : Answer). Field.caseNumbers (Field.answerCase q)) (gives-path u48 b m path i at start n left has (from + k)),
+-- ---- a text or bytes
+module _ (b m path : List ℕ) (p : Span) (ep : p ≡ Field.fieldSpan u48 b m path) where
+  pub there-exactly : (p .there ≡ true) ↔ ((k at n : ℕ) × (Field.field u48 b m path ≡ A.Object k at n) × IsText k)
+  there-exactly = (
+    λ h.
+        let y = part-answers u48 b m path (ap (λ (x : Span). x .there) (sym ep) ∙ h) in
+        (y .0, y .1, Field.fieldSpan u48 b m path .length, y .2, y .3),
+    λ y. ap (λ (x : Span). x .there) ep ∙ text-part u48 b m path (y .0) (y .1) (y .2) (y .3) (y .4) .0,
   )
+
+  pub there-long : (k at n : ℕ) → Field.field u48 b m path ≡ A.Object k at n → IsText k → p .length ≡ n
+  there-long k at n e t = ap (λ (x : Span). x .length) ep ∙ text-part u48 b m path k at n e t .1

@@ -5,6 +5,7 @@ use coding::Budget;
 use coding::Found;
 use coding::Object;
 use coding::ReadAnswer;
+use coding::Refusal;
 use coding::Span;
 use coding::Verdict;
 use coding::WriteAnswer;
@@ -22,6 +23,7 @@ ghost use Rattle.coding.specs.Lawful.{lawful};
 ghost use Rattle.coding.specs.Message as M;
 ghost use Rattle.coding.specs.Packed as P;
 ghost use Rattle.coding.specs.Read as Rd;
+ghost use Rattle.coding.specs.Schema.{elementOf};
 ghost use Rattle.coding.specs.Sheet as S;
 ghost use Rattle.coding.specs.Value.{Value};
 ghost use Rattle.coding.specs.Walk as W;
@@ -29,6 +31,7 @@ ghost use Rattle.demands.specs.Arrivals.{LawfulMessage, messageArrivals};
 ghost use Rattle.demands.specs.FieldEntries.{shown, textAt};
 ghost use Rattle.demands.specs.Fields.{sheetEntry};
 ghost use Rattle.demands.specs.RoundTrip.{enough};
+ghost use Rattle.demands.specs.Texts.{IsText};
 ghost use Rattle.demands.specs.WrittenSheet.{WrittenAs};
 
 // Judging. `whole`: "Judging answers number, place and visits", as the walk gives them, of refusals too. `exactly`: "a message is
@@ -108,7 +111,8 @@ pub struct FieldAndSheet {
     pub sheet: ReadAnswer,
 }
 
-// "On an accepted message it equals the sheet's entry."
+// One field. `whole`: the answer is the definition's at every path. `entry`: "On an accepted message it equals the sheet's entry."
+// `refused`: no other refusal than 15 comes there.
 pub fn field_and_sheet(
     schema: &[u8],
     message: &[u8],
@@ -116,7 +120,9 @@ pub fn field_and_sheet(
     path: &[u32],
     out: &mut [u8],
 ) -> FieldAndSheet
-    ensures { λ r. ⌜ (r .sheet .verdict .number ≡ 0 → length (now (path .entry)) ≤ 96 → shown (r .field) ≡ sheetEntry (P.parse (now (schema .entry))) (take (r .sheet .length) (now (out .exit))) (now (path .entry))) ⌝ }
+    ensures whole { λ r. ⌜ r .field ≡ F.field B.u48 (now (schema .entry)) (now (message .entry)) (now (path .entry)) ⌝ }
+    ensures entry { λ r. ⌜ (r .sheet .verdict .number ≡ 0 → length (now (path .entry)) ≤ 96 → shown (r .field) ≡ sheetEntry (P.parse (now (schema .entry))) (take (r .sheet .length) (now (out .exit))) (now (path .entry))) ⌝ }
+    ensures refused { λ r. ⌜ (r .sheet .verdict .number ≡ 0 → length (now (path .entry)) ≤ 96 → (q : Refusal) → r .field ≡ Answer.Refused q → q .number ≡ 15) ⌝ }
 {
     let answer = field::field(schema, message, path);
     let read = sheet::read(schema, message, budget, out);
@@ -132,7 +138,9 @@ pub struct TextAndSheet {
     pub sheet: ReadAnswer,
 }
 
-// "texts and bytes can be had as a part of the message": on an accepted message it is the text of the sheet there.
+// A text or bytes. `whole`: the part is the definition's at every path. `within`: it lies in the message. `exactly` and `long`:
+// "texts and bytes can be had as a part of the message": there is a part exactly where the field's answer is a text or bytes, and
+// it has the answer's length. `text`: on an accepted message it is the text of the sheet there.
 pub fn text_and_sheet(
     schema: &[u8],
     message: &[u8],
@@ -140,7 +148,11 @@ pub fn text_and_sheet(
     path: &[u32],
     out: &mut [u8],
 ) -> TextAndSheet
-    ensures { λ r. ⌜ (r .sheet .verdict .number ≡ 0 → length (now (path .entry)) ≤ 96 → (v : Value) → S.treeOf (P.parse (now (schema .entry))) (take (r .sheet .length) (now (out .exit))) ≡ some v → F.textOf (now (message .entry)) (r .text) ≡ textAt (P.parse (now (schema .entry))) (Object.Table (P.parse (now (schema .entry)) .root)) v (now (path .entry))) ⌝ }
+    ensures whole { λ r. ⌜ r .text ≡ F.fieldSpan B.u48 (now (schema .entry)) (now (message .entry)) (now (path .entry)) ⌝ }
+    ensures within { λ r. ⌜ r .text .start + r .text .length ≤ length (now (message .entry)) ⌝ }
+    ensures exactly { λ r. ⌜ (r .text .there ≡ true) ↔ ((k at n : ℕ) × (F.field B.u48 (now (schema .entry)) (now (message .entry)) (now (path .entry)) ≡ Answer.Object k at n) × IsText k) ⌝ }
+    ensures long { λ r. ⌜ ((k at n : ℕ) → F.field B.u48 (now (schema .entry)) (now (message .entry)) (now (path .entry)) ≡ Answer.Object k at n → IsText k → r .text .length ≡ n) ⌝ }
+    ensures text { λ r. ⌜ (r .sheet .verdict .number ≡ 0 → length (now (path .entry)) ≤ 96 → (v : Value) → S.treeOf (P.parse (now (schema .entry))) (take (r .sheet .length) (now (out .exit))) ≡ some v → F.textOf (now (message .entry)) (r .text) ≡ textAt (P.parse (now (schema .entry))) (Object.Table (P.parse (now (schema .entry)) .root)) v (now (path .entry))) ⌝ }
 {
     let text = field::text_span(schema, message, path);
     let read = sheet::read(schema, message, budget, out);
@@ -153,7 +165,9 @@ pub struct StepAndField {
     pub field: Answer,
 }
 
-// "Each step answers as that element's path would"; "after the last it answers 15 at the list and stays".
+// The list reader. `whole` and `field`: the step and the field are the definition's. `same`: "It starts from a path to a list whose
+// elements are of kinds 13 to 17" and then "Each step answers as that element's path would". `end`: "after the last it answers 15
+// at the list and stays". `own`: "a refused path gives its own refusal". `other`: "any other answer is 15 at 0".
 pub fn step_and_field(
     schema: &[u8],
     message: &[u8],
@@ -161,8 +175,12 @@ pub fn step_and_field(
     element: usize,
     whole: &[u32],
 ) -> StepAndField
-    ensures same { λ r. ⌜ ((i at start n left : ℕ) → F.readerStart B.u48 (now (schema .entry)) (now (message .entry)) (now (path .entry)) ≡ Found.Object (Object.List i) at start n left → now (whole .entry) ≡ now (path .entry) ++ element ∷ [] → r .step ≡ r .field) ⌝ }
-    ensures end { λ r. ⌜ ((i at start n left : ℕ) → F.readerStart B.u48 (now (schema .entry)) (now (message .entry)) (now (path .entry)) ≡ Found.Object (Object.List i) at start n left → n ≤ element → r .step ≡ Answer.Refused (F.refusal 15 at)) ⌝ }
+    ensures whole { λ r. ⌜ r .step ≡ F.readerGives B.u48 (now (schema .entry)) (now (message .entry)) (now (path .entry)) element ⌝ }
+    ensures field { λ r. ⌜ r .field ≡ F.field B.u48 (now (schema .entry)) (now (message .entry)) (now (whole .entry)) ⌝ }
+    ensures same { λ r. ⌜ ((i at start n left : ℕ) → F.fieldFound B.u48 (now (schema .entry)) (now (message .entry)) (now (path .entry)) ≡ Found.Object (Object.List i) at start n left → F.leads (elementOf (P.parse (now (schema .entry))) i) ≡ true → now (whole .entry) ≡ now (path .entry) ++ element ∷ [] → r .step ≡ r .field) ⌝ }
+    ensures end { λ r. ⌜ ((i at start n left : ℕ) → F.fieldFound B.u48 (now (schema .entry)) (now (message .entry)) (now (path .entry)) ≡ Found.Object (Object.List i) at start n left → F.leads (elementOf (P.parse (now (schema .entry))) i) ≡ true → n ≤ element → r .step ≡ Answer.Refused (F.refusal 15 at)) ⌝ }
+    ensures own { λ r. ⌜ ((q : Refusal) → F.field B.u48 (now (schema .entry)) (now (message .entry)) (now (path .entry)) ≡ Answer.Refused q → r .step ≡ Answer.Refused q) ⌝ }
+    ensures other { λ r. ⌜ (((q : Refusal) → F.field B.u48 (now (schema .entry)) (now (message .entry)) (now (path .entry)) ≡ Answer.Refused q → ⊥) → ((i at start n left : ℕ) → F.fieldFound B.u48 (now (schema .entry)) (now (message .entry)) (now (path .entry)) ≡ Found.Object (Object.List i) at start n left → F.leads (elementOf (P.parse (now (schema .entry))) i) ≡ true → ⊥) → r .step ≡ Answer.Refused (F.refusal 15 0)) ⌝ }
 {
     let step = field::reader_answer(schema, message, path, element);
     let answer = field::field(schema, message, whole);
@@ -172,9 +190,15 @@ pub fn step_and_field(
     }
 }
 
-// Many steps of the list reader at once: each has the numbers of the answer at the element's path.
+// Many steps of the list reader at once. `whole` and `output`: the count and the output are the definition's. `each`: the count is
+// the list's, and each step has the numbers of the answer at the element's path. `own`: "a refused path gives its own refusal", at
+// every step, and the count is 0. `other`: "any other answer is 15 at 0", in the same way.
 pub fn steps(schema: &[u8], message: &[u8], path: &[u32], from: usize, out: &mut [u64]) -> usize
-    ensures { λ r. ⌜ ((i at start n left : ℕ) → F.readerStart B.u48 (now (schema .entry)) (now (message .entry)) (now (path .entry)) ≡ Found.Object (Object.List i) at start n left → (r ≡ n) × ((k : ℕ) → k < length (now (out .entry)) / 4 → take 4 (drop (4 * k) (now (out .exit))) ≡ F.caseNumbers (F.answerCase (F.field B.u48 (now (schema .entry)) (now (message .entry)) (now (path .entry) ++ (from + k) ∷ []))))) ⌝ }
+    ensures whole { λ r. ⌜ r ≡ F.readerCount B.u48 (now (schema .entry)) (now (message .entry)) (now (path .entry)) ⌝ }
+    ensures output { λ _. ⌜ now (out .exit) ≡ F.readerOver B.u48 (now (schema .entry)) (now (message .entry)) (now (path .entry)) from (now (out .entry)) ⌝ }
+    ensures each { λ r. ⌜ ((i at start n left : ℕ) → F.fieldFound B.u48 (now (schema .entry)) (now (message .entry)) (now (path .entry)) ≡ Found.Object (Object.List i) at start n left → F.leads (elementOf (P.parse (now (schema .entry))) i) ≡ true → (r ≡ n) × ((k : ℕ) → k < length (now (out .entry)) / 4 → take 4 (drop (4 * k) (now (out .exit))) ≡ F.caseNumbers (F.answerCase (F.field B.u48 (now (schema .entry)) (now (message .entry)) (now (path .entry) ++ (from + k) ∷ []))))) ⌝ }
+    ensures own { λ r. ⌜ ((q : Refusal) → F.field B.u48 (now (schema .entry)) (now (message .entry)) (now (path .entry)) ≡ Answer.Refused q → (r ≡ 0) × ((k : ℕ) → k < length (now (out .entry)) / 4 → take 4 (drop (4 * k) (now (out .exit))) ≡ F.caseNumbers (F.answerCase (Answer.Refused q)))) ⌝ }
+    ensures other { λ r. ⌜ (((q : Refusal) → F.field B.u48 (now (schema .entry)) (now (message .entry)) (now (path .entry)) ≡ Answer.Refused q → ⊥) → ((i at start n left : ℕ) → F.fieldFound B.u48 (now (schema .entry)) (now (message .entry)) (now (path .entry)) ≡ Found.Object (Object.List i) at start n left → F.leads (elementOf (P.parse (now (schema .entry))) i) ≡ true → ⊥) → (r ≡ 0) × ((k : ℕ) → k < length (now (out .entry)) / 4 → take 4 (drop (4 * k) (now (out .exit))) ≡ F.caseNumbers (F.answerCase (Answer.Refused (F.refusal 15 0))))) ⌝ }
 {
     field::read_list(schema, message, path, from, out)
 }
