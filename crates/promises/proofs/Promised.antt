@@ -1,11 +1,11 @@
 -- The demands, of what the called functions answer.
 use mathlib.Core.Path.{_≡_, refl, sym, ap, _∙_, subst}
 use mathlib.Core.Bool.{true}
-use mathlib.Core.List.{List, [], _∷_, _++_}
+use mathlib.Core.List.{List}
 use mathlib.Core.Logic.{_↔_, _⊎_}
 use mathlib.Core.Option.{Option, some, Option·some-injective}
-use Prim.Native.Nat.{ℕ, _+_, _*_, _/_, _<_, _≤_}
-use lib.ListN.{length, take, drop}
+use Prim.Native.Nat.{ℕ, _<_, _≤_}
+use lib.ListN.{length, take}
 use Rattle.coding.specs.Bytes.{u48, largest}
 use Rattle.coding.specs.Packed.{parse}
 use Rattle.coding.specs.Walk.{verdict}
@@ -16,7 +16,6 @@ use Rattle.coding.specs.Message.{messageSheet, readAnswer, readOut}
 use Rattle.coding.specs.Field as Field
 use Rattle.coding.specs.Append.{Appends, sheetWithout}
 use Rattle.coding.specs.declared.Object.the-variants as O
-use Rattle.coding.specs.declared.Found.the-variants as Fd
 use Rattle.coding.specs.declared.Answer.{Answer}
 use Rattle.coding.specs.declared.Answer.the-variants as A
 use Rattle.coding.specs.declared.Budget.{Budget}
