@@ -1,4 +1,5 @@
 pub mod Reading
 pub mod Writing
 pub mod Promised
+pub mod Stepping
 pub mod Trips

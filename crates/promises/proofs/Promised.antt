@@ -1,10 +1,11 @@
 -- The demands, of what the called functions answer.
-use mathlib.Core.Path.{_≡_, sym, ap, _∙_, subst}
-use mathlib.Core.List.{List, [], _∷_, _++_}
-use mathlib.Core.Logic.{_↔_}
+use mathlib.Core.Path.{_≡_, refl, sym, ap, _∙_, subst}
+use mathlib.Core.Bool.{true}
+use mathlib.Core.List.{List}
+use mathlib.Core.Logic.{_↔_, _⊎_}
 use mathlib.Core.Option.{Option, some, Option·some-injective}
-use Prim.Native.Nat.{ℕ, _+_, _*_, _/_, _<_, _≤_}
-use lib.ListN.{length, take, drop}
+use Prim.Native.Nat.{ℕ, _<_, _≤_}
+use lib.ListN.{length, take}
 use Rattle.coding.specs.Bytes.{u48, largest}
 use Rattle.coding.specs.Packed.{parse}
 use Rattle.coding.specs.Walk.{verdict}
@@ -15,21 +16,21 @@ use Rattle.coding.specs.Message.{messageSheet, readAnswer, readOut}
 use Rattle.coding.specs.Field as Field
 use Rattle.coding.specs.Append.{Appends, sheetWithout}
 use Rattle.coding.specs.declared.Object.the-variants as O
-use Rattle.coding.specs.declared.Found.the-variants as Fd
 use Rattle.coding.specs.declared.Answer.{Answer}
 use Rattle.coding.specs.declared.Answer.the-variants as A
 use Rattle.coding.specs.declared.Budget.{Budget}
+use Rattle.coding.specs.declared.Refusal.{Refusal}
 use Rattle.coding.specs.declared.Span.{Span}
 use Rattle.coding.specs.declared.Verdict.{Verdict}
 use Rattle.coding.specs.declared.ReadAnswer.{ReadAnswer}
 use Rattle.demands.specs.Arrivals.{LawfulMessage, messageArrivals}
-use Rattle.demands.specs.Reached.{accepted-exactly, accepted-visits}
+use Rattle.demands.specs.Reached.{accepted-exactly, accepted-visits, lawful-verdict}
 use Rattle.demands.specs.Sheets.{verdict-sheet-tree, verdict-sheet-lawful}
 use Rattle.demands.specs.Appending.{AreBytes, older-accepts, older-sheet}
 use Rattle.demands.specs.FieldEntries.{shown, textAt}
-use Rattle.demands.specs.Fields.{sheetEntry, sheet-entry, field-text}
-use Rattle.demands.specs.ListReader.{gives-path, gives-end, counts, over-gives}
-use Rattle.promises.proofs.Reading.{Handed, handed, given-room, fits-read}
+use Rattle.demands.specs.Fields.{sheetEntry, sheet-entry, field-text, field-refusal}
+use Rattle.demands.specs.Texts.{IsText, part-answers, text-part}
+use Rattle.promises.proofs.Reading.{Handed, handed, given-room, fits-read, read-fits, no-room}
 
 -- ---- judging
 module _ (b m : List ℕ) (budget : Budget) (r : Verdict) (e : r ≡ verdict u48 b m budget) where
@@ -45,9 +46,22 @@ module _ (older newer m : List ℕ) (budget : Budget) (older-bytes : AreBytes ol
   both-judge appends = rw (er, es) (older-accepts older newer older-bytes appends u48 m budget)
 
 -- ---- reading to a sheet
-pub reads-every : (b m : List ℕ) (budget : Budget) (out : List ℕ) (a : ReadAnswer) → a ≡ readAnswer u48 b m budget out
-    → LawfulMessage u48 b m budget → length (messageSheet u48 b m) ≤ largest → length (messageSheet u48 b m) ≤ length out → a .verdict .number ≡ 0
-reads-every b m budget out a ea h = fits-read b m budget out a ea (accepted-exactly u48 b m budget .1 h)
+module _ (b m : List ℕ) (budget : Budget) (out : List ℕ) (a : ReadAnswer) (ea : a ≡ readAnswer u48 b m budget out) where
+  pub reads-exactly : (a .verdict .number ≡ 0)
+      ↔ (LawfulMessage u48 b m budget × (length (messageSheet u48 b m) ≤ largest) × (length (messageSheet u48 b m) ≤ length out))
+  reads-exactly = (
+    λ h. let y = read-fits b m budget out a ea h in (accepted-exactly u48 b m budget .0 (y .0), y .1, y .2),
+    λ h. fits-read b m budget out a ea (accepted-exactly u48 b m budget .1 (h .0)) (h .1) (h .2),
+  )
+
+  pub reads-arrivals : a .verdict .number ≡ 0 → a .verdict .visits ≡ messageArrivals u48 (parse b) m
+  reads-arrivals h =
+      let y = handed b m budget out a _ ea refl h in y .visits ∙ accepted-visits u48 b m budget (y .accepted)
+
+  pub reads-room : LawfulMessage u48 b m budget
+      → (largest < length (messageSheet u48 b m)) ⊎ (length out < length (messageSheet u48 b m))
+      → a ≡ record { verdict = record { number = 14; place = 0; visits = messageArrivals u48 (parse b) m }; length = 0 }
+  reads-room h = no-room b m budget out _ a ea (lawful-verdict u48 b m budget h)
 
 module _ (b m : List ℕ) (schema-bytes : AreBytes b) (message-bytes : AreBytes m) (budget : Budget) (out : List ℕ) (a : ReadAnswer) (out′ : List ℕ)
     (ea : a ≡ readAnswer u48 b m budget out) (eo : out′ ≡ readOut u48 b m budget out) (h : a .verdict .number ≡ 0) where
@@ -62,6 +76,9 @@ module _ (b m : List ℕ) (schema-bytes : AreBytes b) (message-bytes : AreBytes 
     reads-field q eq =
         ap shown eq ∙ sheet-entry b m schema-bytes message-bytes budget (got .accepted) path short
         ∙ ap (λ (s : List ℕ). sheetEntry (parse b) s path) (sym (got .sheet))
+
+    pub reads-refusal : (q : Answer) → q ≡ Field.field u48 b m path → (r : Refusal) → q ≡ A.Refused r → r .number ≡ 15
+    reads-refusal q eq r e = field-refusal u48 b schema-bytes m budget (got .accepted) path short r (sym eq ∙ e)
 
     pub reads-text : (p : Span) → p ≡ Field.fieldSpan u48 b m path → (v : Value) → treeOf (parse b) (take (a .length) out′) ≡ some v
         → Field.textOf m p ≡ textAt (parse b) (O.Table (parse b .root)) v path
@@ -84,27 +101,15 @@ module _ (older newer m : List ℕ) (older-bytes : AreBytes older) (newer-bytes 
       let by-older = handed older m budget older-out a older-out′ ea eo zero-too in
       (zero-too, by-older .sheet ∙ agrees .sheet ∙ ap (sheetWithout older newer) (sym (by-newer .sheet)))
 
--- ---- the list reader
-module _ (b m path : List ℕ) (j : ℕ) (q : Answer) (eq : q ≡ Field.readerGives u48 b m path j) where
-  pub steps-same : (element : List ℕ) (r : Answer) → r ≡ Field.field u48 b m element → (i at start n left : ℕ)
-      → Field.readerStart u48 b m path ≡ Fd.Object (O.List i) at start n left → element ≡ path ++ j ∷ [] → q ≡ r
-  steps-same element r er i at start n left has e =
-      eq ∙ gives-path u48 b m path i at start n left has j ∙ ap (Field.field u48 b m) (sym e) ∙ sym er
-
-  pub steps-end : (i at start n left : ℕ) → Field.readerStart u48 b m path ≡ Fd.Object (O.List i) at start n left → n ≤ j
-      → q ≡ A.Refused (Field.refusal 15 at)
-  steps-end i at start n left has l = eq ∙ gives-end u48 b m path i at start n left has j l
-
-module _ (b m path : List ℕ) (from : ℕ) (out out′ : List ℕ) (r : ℕ) (er : r ≡ Field.readerCount u48 b m path)
-    (eo : out′ ≡ Field.readerOver u48 b m path from out) where
-  pub steps-all : (i at start n left : ℕ) → Field.readerStart u48 b m path ≡ Fd.Object (O.List i) at start n left
-      → (r ≡ n)
-      × ((k : ℕ) → k < length out / 4
-      → take 4 (drop (4 * k) out′) ≡ Field.caseNumbers (Field.answerCase (Field.field u48 b m (path ++ (from + k) ∷ []))))
-  steps-all i at start n left has = (
-    er ∙ counts u48 b m path i at start n left has,
-    λ k h.
-        ap (λ (l : List ℕ). take 4 (drop (4 * k) l)) eo
-        ∙ over-gives u48 b m path from out k h
-        ∙ ap (λ (q : Answer). Field.caseNumbers (Field.answerCase q)) (gives-path u48 b m path i at start n left has (from + k)),
+-- ---- a text or bytes
+module _ (b m path : List ℕ) (p : Span) (ep : p ≡ Field.fieldSpan u48 b m path) where
+  pub there-exactly : (p .there ≡ true) ↔ ((k at n : ℕ) × (Field.field u48 b m path ≡ A.Object k at n) × IsText k)
+  there-exactly = (
+    λ h.
+        let y = part-answers u48 b m path (ap (λ (x : Span). x .there) (sym ep) ∙ h) in
+        (y .0, y .1, Field.fieldSpan u48 b m path .length, y .2, y .3),
+    λ y. ap (λ (x : Span). x .there) ep ∙ text-part u48 b m path (y .0) (y .1) (y .2) (y .3) (y .4) .0,
   )
+
+  pub there-long : (k at n : ℕ) → Field.field u48 b m path ≡ A.Object k at n → IsText k → p .length ≡ n
+  there-long k at n e t = ap (λ (x : Span). x .length) ep ∙ text-part u48 b m path k at n e t .1

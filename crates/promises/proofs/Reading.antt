@@ -2,12 +2,13 @@
 use mathlib.Core.Path.{_≡_, refl, sym, ap, _∙_, subst}
 use mathlib.Core.Bool.{Bool, true, false, _&&_}
 use mathlib.Core.List.{List, _++_}
-use Prim.Native.Nat.{ℕ, _≤_}
+use mathlib.Core.Logic.{_⊎_, inl, inr}
+use Prim.Native.Nat.{ℕ, _<_, _≤_}
 use native.Mathlib.Omega.{arith}
 use lib.ListN.{length, take, drop}
 use lib.Seq.{take-append-seam}
 use lib.Dec.{leb, eqb}
-use borrow.Author.Tests.{eqb-false, eq-eqb, leb-true, le-leb}
+use borrow.Author.Tests.{eqb-true, eqb-false, eq-eqb, leb-true, le-leb, lt-leb}
 use Rattle.coding.specs.Lists.{pick}
 use Rattle.coding.specs.Bytes.{u48, largest}
 use Rattle.coding.specs.Walk.{verdict}
@@ -29,6 +30,19 @@ fits-size l t h = by (leb (length l) largest) refl h
     by : (s : Bool) → leb (length l) largest ≡ s → s && t ≡ true → length l ≤ largest
     by true e h = leb-true _ _ e
     by false e h = absurd (let z : _≡_ {A = ℕ} 0 1 = cc in omega arith)
+
+fits-out : (s : Bool) (l out : List ℕ) → s && leb (length l) (length out) ≡ true → length l ≤ length out
+fits-out true l out h = leb-true _ _ h
+fits-out false l out h = absurd (let z : _≡_ {A = ℕ} 0 1 = cc in omega arith)
+
+not-out : (s t : Bool) → t ≡ false → s && t ≡ false
+not-out true t e = e
+not-out false t e = refl
+
+not-fits : (l out : List ℕ) → (largest < length l) ⊎ (length out < length l) → fitsRoom l out ≡ false
+unfolding fitsRoom
+not-fits l out (inl h) = rw (lt-leb (length l) largest h)
+not-fits l out (inr h) = not-out (leb (length l) largest) (leb (length l) (length out)) (lt-leb (length l) (length out) h)
 
 module _ (b m : List ℕ) (budget : Budget) (out : List ℕ) where
   abbrev judged : Verdict
@@ -82,3 +96,35 @@ module _ (b m : List ℕ) (budget : Budget) (out : List ℕ) where
   fits-read a ea h l r =
       ap (λ (x : ReadAnswer). x .verdict .number) ea
       ∙ rw (eq-eqb (judged .number) 0 h, le-leb (length sheet) largest l, le-leb (length sheet) (length out) r) h
+
+  fits-by : (s t : Bool) → eqb (judged .number) 0 ≡ s → fitsRoom sheet out ≡ t → answerBy s t .verdict .number ≡ 0
+      → (judged .number ≡ 0) × (length sheet ≤ largest) × (length sheet ≤ length out)
+  unfolding fitsRoom
+  fits-by true true e f h = (h, fits-size sheet _ f, fits-out (leb (length sheet) largest) sheet out f)
+  fits-by true false e f h = absurd (omega arith)
+  fits-by false t e f h = absurd (eqb-false _ _ e h)
+
+  -- and only where it fits
+  pub read-fits : (a : ReadAnswer) → a ≡ readAnswer u48 b m budget out → a .verdict .number ≡ 0
+      → (judged .number ≡ 0) × (length sheet ≤ largest) × (length sheet ≤ length out)
+  unfolding readAnswer
+  read-fits a ea h = fits-by _ _ refl refl (ap (λ (x : ReadAnswer). x .verdict .number) (sym ea) ∙ h)
+
+  -- "then 14 with the full visits"
+  pub no-room : (n : ℕ) (a : ReadAnswer) → a ≡ readAnswer u48 b m budget out → judged ≡ record { number = 0; place = 0; visits = n }
+      → (largest < length sheet) ⊎ (length out < length sheet) → a ≡ record { verdict = record { number = 14; place = 0; visits = n }; length = 0 }
+  unfolding readAnswer
+  no-room n a ea h x = ea ∙ rw (h, not-fits sheet out x)
+
+  kept-by : (s t : Bool) → eqb (judged .number) 0 ≡ s → (answerBy s t .verdict .number ≡ 0 → ⊥)
+      → (answerBy s t .length ≡ 0) × (outBy s t ≡ out)
+  kept-by true true e h = absurd (h (eqb-true _ _ e))
+  kept-by true false e h = (refl, refl)
+  kept-by false t e h = (refl, refl)
+
+  -- "on refusal the length is 0 and the output is unchanged"
+  pub refused-kept : (a : ReadAnswer) (out′ : List ℕ) → a ≡ readAnswer u48 b m budget out → out′ ≡ readOut u48 b m budget out
+      → (a .verdict .number ≡ 0 → ⊥) → (a .length ≡ 0) × (out′ ≡ out)
+  unfolding readAnswer readOut
+  refused-kept a out′ ea eo h =
+      rw (ea, eo) (kept-by _ (fitsRoom sheet out) refl (λ z. h (ap (λ (x : ReadAnswer). x .verdict .number) ea ∙ z)))

@@ -69,6 +69,19 @@ room-made (message m) f out h = by (leb (length m) (length out)) h
     by true h = ap message (sym (take-append-seam m (drop (length m) out)))
     by false h = absurd (omega arith)
 
+-- ---- any other number
+room-kept : (w : Written) (out : List ℕ) → (writeRoom w (length out) .number ≡ 0 → ⊥)
+    → (writeRoom w (length out) .length ≡ 0) × (writeOver w out ≡ out)
+unfolding writeRoom writeOver
+room-kept (refused k) out h = (refl, refl)
+room-kept (message m) out h = by (leb (length m) (length out)) h
+  where
+    by : (t : Bool) → (pick {A = WriteAnswer} t (record { number = 0; length = length m }) (record { number = 14; length = 0 }) .number ≡ 0 → ⊥)
+        → (pick {A = WriteAnswer} t (record { number = 0; length = length m }) (record { number = 14; length = 0 }) .length ≡ 0)
+        × (pick t (m ++ drop (length m) out) out ≡ out)
+    by true h = absurd (h refl)
+    by false h = (refl, refl)
+
 module _ (b s out : List ℕ) (a : WriteAnswer) (ea : a ≡ writeAnswer u48 b s out) where
   pub within-room : (out′ : List ℕ) → out′ ≡ writeOut u48 b s out → a .length ≤ length out′
   unfolding writeAnswer writeOut
@@ -81,3 +94,8 @@ module _ (b s out : List ℕ) (a : WriteAnswer) (ea : a ≡ writeAnswer u48 b s 
   unfolding writeAnswer writeOut
   made out′ eo h =
       rw (ea, eo) (room-made (written u48 b s) (writes-or-refuses b s) out (ap (λ (x : WriteAnswer). x .number) (sym ea) ∙ h))
+
+  -- "on refusal the length is 0 and the output is unchanged"
+  pub kept : (out′ : List ℕ) → out′ ≡ writeOut u48 b s out → (a .number ≡ 0 → ⊥) → (a .length ≡ 0) × (out′ ≡ out)
+  unfolding writeAnswer writeOut
+  kept out′ eo h = rw (ea, eo) (room-kept (written u48 b s) out (λ z. h (ap (λ (x : WriteAnswer). x .number) ea ∙ z)))

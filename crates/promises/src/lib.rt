@@ -5,12 +5,13 @@ use coding::Budget;
 use coding::Found;
 use coding::Object;
 use coding::ReadAnswer;
+use coding::Refusal;
 use coding::Span;
 use coding::Verdict;
 use coding::WriteAnswer;
 ghost use mathlib.Core.Path.{_≡_};
 ghost use mathlib.Core.List.{List, [], _∷_, _++_};
-ghost use mathlib.Core.Logic.{_↔_};
+ghost use mathlib.Core.Logic.{_↔_, _⊎_};
 ghost use mathlib.Core.Option.{some};
 ghost use mathlib.Core.Bool.{true};
 ghost use Prim.Native.Nat.{ℕ, _+_, _*_, _/_, _<_, _≤_};
@@ -22,27 +23,44 @@ ghost use Rattle.coding.specs.Lawful.{lawful};
 ghost use Rattle.coding.specs.Message as M;
 ghost use Rattle.coding.specs.Packed as P;
 ghost use Rattle.coding.specs.Read as Rd;
+ghost use Rattle.coding.specs.Schema.{elementOf};
 ghost use Rattle.coding.specs.Sheet as S;
 ghost use Rattle.coding.specs.Value.{Value};
+ghost use Rattle.coding.specs.Walk as W;
 ghost use Rattle.demands.specs.Arrivals.{LawfulMessage, messageArrivals};
 ghost use Rattle.demands.specs.FieldEntries.{shown, textAt};
 ghost use Rattle.demands.specs.Fields.{sheetEntry};
 ghost use Rattle.demands.specs.RoundTrip.{enough};
+ghost use Rattle.demands.specs.Texts.{IsText};
 ghost use Rattle.demands.specs.WrittenSheet.{WrittenAs};
 
-// "a message is accepted exactly when every object reached by its schema is lawful, within depth and budget"; and its visits are
-// then the arrivals, shared objects each time.
+// Judging a message.
 pub fn judged(schema: &[u8], message: &[u8], budget: Budget) -> Verdict
+    // "Judging answers number, place and visits", as the walk gives them, of refusals too
+    ensures whole { λ r. ⌜ r ≡ W.verdict B.u48 (now (schema .entry)) (now (message .entry)) budget ⌝ }
+    // "a message is accepted exactly when every object reached by its schema is lawful, within depth and budget"
     ensures exactly { λ r. ⌜ (r .number ≡ 0) ↔ LawfulMessage B.u48 (now (schema .entry)) (now (message .entry)) budget ⌝ }
+    // "visits in the verdict equal the arrivals of the walk's definition, shared objects counted each time"
     ensures arrivals { λ r. ⌜ (r .number ≡ 0 → r .visits ≡ messageArrivals B.u48 (P.parse (now (schema .entry))) (now (message .entry))) ⌝ }
 {
     judge::judge(schema, message, budget)
 }
 
-// "the sheet of an accepted message is lawful": what is handed out decodes to the values that the message holds. It is handed out
-// for every lawful message, given room.
+// Reading a message to a sheet.
 pub fn read(schema: &[u8], message: &[u8], budget: Budget, out: &mut [u8]) -> ReadAnswer
-    ensures every { λ r. ⌜ (LawfulMessage B.u48 (now (schema .entry)) (now (message .entry)) budget → length (M.messageSheet B.u48 (now (schema .entry)) (now (message .entry))) ≤ B.largest → length (M.messageSheet B.u48 (now (schema .entry)) (now (message .entry))) ≤ length (now (out .entry)) → r .verdict .number ≡ 0) ⌝ }
+    // the answer and the output are the definition's, of refusals too
+    ensures whole { λ r. ⌜ r ≡ M.readAnswer B.u48 (now (schema .entry)) (now (message .entry)) budget (now (out .entry)) ⌝ }
+    ensures output { λ _. ⌜ now (out .exit) ≡ M.readOut B.u48 (now (schema .entry)) (now (message .entry)) budget (now (out .entry)) ⌝ }
+    // "a message is accepted exactly when every object reached by its schema is lawful, within depth and budget": number 0 comes
+    // exactly then, if the sheet is within the size and the room
+    ensures exactly { λ r. ⌜ (r .verdict .number ≡ 0) ↔ ((LawfulMessage B.u48 (now (schema .entry)) (now (message .entry)) budget) × (length (M.messageSheet B.u48 (now (schema .entry)) (now (message .entry))) ≤ B.largest) × (length (M.messageSheet B.u48 (now (schema .entry)) (now (message .entry))) ≤ length (now (out .entry)))) ⌝ }
+    // "visits in the verdict equal the arrivals of the walk's definition, shared objects counted each time"
+    ensures arrivals { λ r. ⌜ (r .verdict .number ≡ 0 → r .verdict .visits ≡ messageArrivals B.u48 (P.parse (now (schema .entry))) (now (message .entry))) ⌝ }
+    // "then 14 with the full visits"
+    ensures room { λ r. ⌜ (LawfulMessage B.u48 (now (schema .entry)) (now (message .entry)) budget → (B.largest < length (M.messageSheet B.u48 (now (schema .entry)) (now (message .entry)))) ⊎ (length (now (out .entry)) < length (M.messageSheet B.u48 (now (schema .entry)) (now (message .entry)))) → r ≡ record { verdict = record { number = 14; place = 0; visits = messageArrivals B.u48 (P.parse (now (schema .entry))) (now (message .entry)) }; length = 0 }) ⌝ }
+    // "on refusal the length is 0 and the output is unchanged"
+    ensures kept { λ r. ⌜ ((r .verdict .number ≡ 0 → ⊥) → (r .length ≡ 0) × (now (out .exit) ≡ now (out .entry))) ⌝ }
+    // "the sheet of an accepted message is lawful": what is handed out decodes to the values that the message holds
     ensures lawful { λ r. ⌜ (r .verdict .number ≡ 0 → S.sheetTree (P.parse (now (schema .entry))) (take (r .length) (now (out .exit))) ≡ some (Rd.messageRead B.u48 (P.parse (now (schema .entry))) (now (message .entry)))) ⌝ }
 {
     sheet::read(schema, message, budget, out)
@@ -97,7 +115,7 @@ pub struct FieldAndSheet {
     pub sheet: ReadAnswer,
 }
 
-// "On an accepted message it equals the sheet's entry."
+// One field.
 pub fn field_and_sheet(
     schema: &[u8],
     message: &[u8],
@@ -105,7 +123,12 @@ pub fn field_and_sheet(
     path: &[u32],
     out: &mut [u8],
 ) -> FieldAndSheet
-    ensures { λ r. ⌜ (r .sheet .verdict .number ≡ 0 → length (now (path .entry)) ≤ 96 → shown (r .field) ≡ sheetEntry (P.parse (now (schema .entry))) (take (r .sheet .length) (now (out .exit))) (now (path .entry))) ⌝ }
+    // the answer is the definition's at every path
+    ensures whole { λ r. ⌜ r .field ≡ F.field B.u48 (now (schema .entry)) (now (message .entry)) (now (path .entry)) ⌝ }
+    // "On an accepted message it equals the sheet's entry."
+    ensures entry { λ r. ⌜ (r .sheet .verdict .number ≡ 0 → length (now (path .entry)) ≤ 96 → shown (r .field) ≡ sheetEntry (P.parse (now (schema .entry))) (take (r .sheet .length) (now (out .exit))) (now (path .entry))) ⌝ }
+    // and no refusal but 15 comes there
+    ensures refused { λ r. ⌜ (r .sheet .verdict .number ≡ 0 → length (now (path .entry)) ≤ 96 → (q : Refusal) → r .field ≡ Answer.Refused q → q .number ≡ 15) ⌝ }
 {
     let answer = field::field(schema, message, path);
     let read = sheet::read(schema, message, budget, out);
@@ -121,7 +144,7 @@ pub struct TextAndSheet {
     pub sheet: ReadAnswer,
 }
 
-// "texts and bytes can be had as a part of the message": on an accepted message it is the text of the sheet there.
+// A text or bytes.
 pub fn text_and_sheet(
     schema: &[u8],
     message: &[u8],
@@ -129,7 +152,16 @@ pub fn text_and_sheet(
     path: &[u32],
     out: &mut [u8],
 ) -> TextAndSheet
-    ensures { λ r. ⌜ (r .sheet .verdict .number ≡ 0 → length (now (path .entry)) ≤ 96 → (v : Value) → S.treeOf (P.parse (now (schema .entry))) (take (r .sheet .length) (now (out .exit))) ≡ some v → F.textOf (now (message .entry)) (r .text) ≡ textAt (P.parse (now (schema .entry))) (Object.Table (P.parse (now (schema .entry)) .root)) v (now (path .entry))) ⌝ }
+    // the part is the definition's at every path
+    ensures whole { λ r. ⌜ r .text ≡ F.fieldSpan B.u48 (now (schema .entry)) (now (message .entry)) (now (path .entry)) ⌝ }
+    // it lies in the message
+    ensures within { λ r. ⌜ r .text .start + r .text .length ≤ length (now (message .entry)) ⌝ }
+    // "texts and bytes can be had as a part of the message": there is a part exactly where the field's answer is a text or bytes
+    ensures exactly { λ r. ⌜ (r .text .there ≡ true) ↔ ((k at n : ℕ) × (F.field B.u48 (now (schema .entry)) (now (message .entry)) (now (path .entry)) ≡ Answer.Object k at n) × IsText k) ⌝ }
+    // and it has the answer's length
+    ensures long { λ r. ⌜ ((k at n : ℕ) → F.field B.u48 (now (schema .entry)) (now (message .entry)) (now (path .entry)) ≡ Answer.Object k at n → IsText k → r .text .length ≡ n) ⌝ }
+    // on an accepted message it is the text of the sheet there
+    ensures text { λ r. ⌜ (r .sheet .verdict .number ≡ 0 → length (now (path .entry)) ≤ 96 → (v : Value) → S.treeOf (P.parse (now (schema .entry))) (take (r .sheet .length) (now (out .exit))) ≡ some v → F.textOf (now (message .entry)) (r .text) ≡ textAt (P.parse (now (schema .entry))) (Object.Table (P.parse (now (schema .entry)) .root)) v (now (path .entry))) ⌝ }
 {
     let text = field::text_span(schema, message, path);
     let read = sheet::read(schema, message, budget, out);
@@ -142,7 +174,7 @@ pub struct StepAndField {
     pub field: Answer,
 }
 
-// "Each step answers as that element's path would"; "after the last it answers 15 at the list and stays".
+// The list reader. "It starts from a path to a list whose elements are of kinds 13 to 17".
 pub fn step_and_field(
     schema: &[u8],
     message: &[u8],
@@ -150,8 +182,17 @@ pub fn step_and_field(
     element: usize,
     whole: &[u32],
 ) -> StepAndField
-    ensures same { λ r. ⌜ ((i at start n left : ℕ) → F.readerStart B.u48 (now (schema .entry)) (now (message .entry)) (now (path .entry)) ≡ Found.Object (Object.List i) at start n left → now (whole .entry) ≡ now (path .entry) ++ element ∷ [] → r .step ≡ r .field) ⌝ }
-    ensures end { λ r. ⌜ ((i at start n left : ℕ) → F.readerStart B.u48 (now (schema .entry)) (now (message .entry)) (now (path .entry)) ≡ Found.Object (Object.List i) at start n left → n ≤ element → r .step ≡ Answer.Refused (F.refusal 15 at)) ⌝ }
+    // the step and the field are the definition's
+    ensures step { λ r. ⌜ r .step ≡ F.readerGives B.u48 (now (schema .entry)) (now (message .entry)) (now (path .entry)) element ⌝ }
+    ensures field { λ r. ⌜ r .field ≡ F.field B.u48 (now (schema .entry)) (now (message .entry)) (now (whole .entry)) ⌝ }
+    // "Each step answers as that element's path would"
+    ensures same { λ r. ⌜ ((i at start n left : ℕ) → F.fieldFound B.u48 (now (schema .entry)) (now (message .entry)) (now (path .entry)) ≡ Found.Object (Object.List i) at start n left → F.leads (elementOf (P.parse (now (schema .entry))) i) ≡ true → now (whole .entry) ≡ now (path .entry) ++ element ∷ [] → r .step ≡ r .field) ⌝ }
+    // "after the last it answers 15 at the list and stays"
+    ensures end { λ r. ⌜ ((i at start n left : ℕ) → F.fieldFound B.u48 (now (schema .entry)) (now (message .entry)) (now (path .entry)) ≡ Found.Object (Object.List i) at start n left → F.leads (elementOf (P.parse (now (schema .entry))) i) ≡ true → n ≤ element → r .step ≡ Answer.Refused (F.refusal 15 at)) ⌝ }
+    // "a refused path gives its own refusal"
+    ensures own { λ r. ⌜ ((q : Refusal) → F.field B.u48 (now (schema .entry)) (now (message .entry)) (now (path .entry)) ≡ Answer.Refused q → r .step ≡ Answer.Refused q) ⌝ }
+    // "any other answer is 15 at 0"
+    ensures other { λ r. ⌜ (((q : Refusal) → F.field B.u48 (now (schema .entry)) (now (message .entry)) (now (path .entry)) ≡ Answer.Refused q → ⊥) → ((i at start n left : ℕ) → F.fieldFound B.u48 (now (schema .entry)) (now (message .entry)) (now (path .entry)) ≡ Found.Object (Object.List i) at start n left → F.leads (elementOf (P.parse (now (schema .entry))) i) ≡ true → ⊥) → r .step ≡ Answer.Refused (F.refusal 15 0)) ⌝ }
 {
     let step = field::reader_answer(schema, message, path, element);
     let answer = field::field(schema, message, whole);
@@ -161,17 +202,32 @@ pub fn step_and_field(
     }
 }
 
-// Many steps of the list reader at once: each has the numbers of the answer at the element's path.
+// Many steps of the list reader at once.
 pub fn steps(schema: &[u8], message: &[u8], path: &[u32], from: usize, out: &mut [u64]) -> usize
-    ensures { λ r. ⌜ ((i at start n left : ℕ) → F.readerStart B.u48 (now (schema .entry)) (now (message .entry)) (now (path .entry)) ≡ Found.Object (Object.List i) at start n left → (r ≡ n) × ((k : ℕ) → k < length (now (out .entry)) / 4 → take 4 (drop (4 * k) (now (out .exit))) ≡ F.caseNumbers (F.answerCase (F.field B.u48 (now (schema .entry)) (now (message .entry)) (now (path .entry) ++ (from + k) ∷ []))))) ⌝ }
+    // the count and the output are the definition's
+    ensures whole { λ r. ⌜ r ≡ F.readerCount B.u48 (now (schema .entry)) (now (message .entry)) (now (path .entry)) ⌝ }
+    ensures output { λ _. ⌜ now (out .exit) ≡ F.readerOver B.u48 (now (schema .entry)) (now (message .entry)) (now (path .entry)) from (now (out .entry)) ⌝ }
+    // the count is the list's, and each step has the numbers of the answer at the element's path
+    ensures each { λ r. ⌜ ((i at start n left : ℕ) → F.fieldFound B.u48 (now (schema .entry)) (now (message .entry)) (now (path .entry)) ≡ Found.Object (Object.List i) at start n left → F.leads (elementOf (P.parse (now (schema .entry))) i) ≡ true → (r ≡ n) × ((k : ℕ) → k < length (now (out .entry)) / 4 → take 4 (drop (4 * k) (now (out .exit))) ≡ F.caseNumbers (F.answerCase (F.field B.u48 (now (schema .entry)) (now (message .entry)) (now (path .entry) ++ (from + k) ∷ []))))) ⌝ }
+    // "a refused path gives its own refusal": each step has its numbers, and the count is 0
+    ensures own { λ r. ⌜ ((q : Refusal) → F.field B.u48 (now (schema .entry)) (now (message .entry)) (now (path .entry)) ≡ Answer.Refused q → (r ≡ 0) × ((k : ℕ) → k < length (now (out .entry)) / 4 → take 4 (drop (4 * k) (now (out .exit))) ≡ F.caseNumbers (F.answerCase (Answer.Refused q)))) ⌝ }
+    // "any other answer is 15 at 0": the same
+    ensures other { λ r. ⌜ (((q : Refusal) → F.field B.u48 (now (schema .entry)) (now (message .entry)) (now (path .entry)) ≡ Answer.Refused q → ⊥) → ((i at start n left : ℕ) → F.fieldFound B.u48 (now (schema .entry)) (now (message .entry)) (now (path .entry)) ≡ Found.Object (Object.List i) at start n left → F.leads (elementOf (P.parse (now (schema .entry))) i) ≡ true → ⊥) → (r ≡ 0) × ((k : ℕ) → k < length (now (out .entry)) / 4 → take 4 (drop (4 * k) (now (out .exit))) ≡ F.caseNumbers (F.answerCase (Answer.Refused (F.refusal 15 0))))) ⌝ }
 {
     field::read_list(schema, message, path, from, out)
 }
 
-// "every writable sheet becomes the one message of the stated layout", within the size and given room; and nothing else is written.
+// Writing a message of a sheet.
 pub fn written(schema: &[u8], sheet: &[u8], out: &mut [u8]) -> WriteAnswer
+    // the answer and the output are the definition's, of refusals too
+    ensures whole { λ r. ⌜ r ≡ M.writeAnswer B.u48 (now (schema .entry)) (now (sheet .entry)) (now (out .entry)) ⌝ }
+    ensures output { λ _. ⌜ now (out .exit) ≡ M.writeOut B.u48 (now (schema .entry)) (now (sheet .entry)) (now (out .entry)) ⌝ }
+    // "every writable sheet becomes the one message of the stated layout", within the size and given room
     ensures every { λ r. ⌜ ((v : Value) → lawful (now (schema .entry)) ≡ true → S.sheetTree (P.parse (now (schema .entry))) (now (sheet .entry)) ≡ some v → M.writable B.deepest B.u48 (P.parse (now (schema .entry))) (Object.Table (P.parse (now (schema .entry)) .root)) v ≡ true → length (M.messageOf B.u48 (P.parse (now (schema .entry))) v) ≤ B.largest → length (M.messageOf B.u48 (P.parse (now (schema .entry))) v) ≤ length (now (out .entry)) → (r ≡ record { number = 0; length = length (M.messageOf B.u48 (P.parse (now (schema .entry))) v) }) × (now (out .exit) ≡ M.messageOf B.u48 (P.parse (now (schema .entry))) v ++ drop (length (M.messageOf B.u48 (P.parse (now (schema .entry))) v)) (now (out .entry)))) ⌝ }
+    // and nothing else is written
     ensures only { λ r. ⌜ (r .number ≡ 0 → WrittenAs B.u48 (now (schema .entry)) (now (sheet .entry)) (take (r .length) (now (out .exit)))) ⌝ }
+    // "on refusal the length is 0 and the output is unchanged"
+    ensures kept { λ r. ⌜ ((r .number ≡ 0 → ⊥) → (r .length ≡ 0) × (now (out .exit) ≡ now (out .entry))) ⌝ }
 {
     writer::write(schema, sheet, out)
 }

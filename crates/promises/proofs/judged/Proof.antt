@@ -7,7 +7,10 @@ judge-requires : tie.Need-judge-requires
 judge-requires c κs = search needs
 
 returns : tie.Need-returns
-returns c = (judges-exactly _ _ _ _ (c .judge .ensures), judges-arrivals _ _ _ _ (c .judge .ensures))
+returns c = (
+  c .judge .ensures,
+  (judges-exactly _ _ _ _ (c .judge .ensures), judges-arrivals _ _ _ _ (c .judge .ensures)),
+)
 
 pub judged-spec : {M : Type 1} → statement M
 judged-spec = tie.close (tie.spec judge-requires returns)

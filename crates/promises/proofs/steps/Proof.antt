@@ -1,4 +1,4 @@
-use Rattle.promises.proofs.Promised.{steps-all}
+use Rattle.promises.proofs.Stepping.{all-each, all-own, all-other}
 use borrow.Author.Needs.{needs}
 use Rattle.promises.proofs.steps.Statement.{statement}
 use Rattle.promises.proofs.steps.Tie as tie
@@ -11,7 +11,9 @@ same-length c = search needs
 
 returns : tie.Need-returns
 returns c =
-    steps-all _ _ _ _ _ _ _ (c .before .before .read-list .ensures .0) (c .before .before .read-list .ensures .1)
+    let er = c .before .before .read-list .ensures .0 in
+    let eo = c .before .before .read-list .ensures .1 in
+    (er, (eo, (all-each _ _ _ _ _ _ _ er eo, (all-own _ _ _ _ _ _ _ er eo, all-other _ _ _ _ _ _ _ er eo))))
 
 pub steps-spec : {M : Type 1} → statement M
 steps-spec = tie.close (tie.spec read-list-requires same-length returns)

@@ -1,4 +1,4 @@
-use Rattle.promises.proofs.Promised.{reads-text}
+use Rattle.promises.proofs.Promised.{reads-text, there-exactly, there-long}
 use borrow.Author.Needs.{needs}
 use Rattle.promises.proofs.text_and_sheet.Statement.{statement}
 use Rattle.promises.proofs.text_and_sheet.Tie as tie
@@ -13,9 +13,23 @@ same-length : tie.Need-same-length
 same-length c = search needs
 
 returns : tie.Need-returns
-returns c = λ h short.
-    reads-text _ _ (λ i. c .before .before .before .before .before .before .before .before .shared-slice-known .given i .fits) (λ i. c .before .before .before .before .before .before .before .shared-slice-known2 .given i .fits) _ _ _ _
-    (c .before .before .read .ensures .0) (c .before .before .read .ensures .1) h _ short _ (c .before .before .before .before .text-span .ensures .0)
+returns c =
+    let ea = c .before .before .read .ensures .0 in
+    let eo = c .before .before .read .ensures .1 in
+    let ep = c .before .before .before .before .text-span .ensures .0 in
+    let within = c .before .before .before .before .text-span .ensures .1 in (
+      ep,
+      (
+        within,
+        (
+          there-exactly _ _ _ _ ep,
+          (
+            there-long _ _ _ _ ep,
+            λ h short. reads-text _ _ (λ i. c .before .before .before .before .before .before .before .before .shared-slice-known .given i .fits) (λ i. c .before .before .before .before .before .before .before .shared-slice-known2 .given i .fits) _ _ _ _ ea eo h _ short _ ep,
+          ),
+        ),
+      ),
+    )
 
 pub text-and-sheet-spec : {M : Type 1} → statement M
 text-and-sheet-spec = tie.close (tie.spec text-span-requires read-requires same-length returns)

@@ -1,4 +1,5 @@
 use Rattle.promises.proofs.Trips.{lays-out, lays-out-only}
+use Rattle.promises.proofs.Writing.{kept}
 use borrow.Author.Needs.{needs}
 use Rattle.promises.proofs.written.Statement.{statement}
 use Rattle.promises.proofs.written.Tie as tie
@@ -10,10 +11,10 @@ same-length : tie.Need-same-length
 same-length c = search needs
 
 returns : tie.Need-returns
-returns c = (
-  lays-out _ _ _ _ (c .before .before .write .ensures .0) _ (c .before .before .write .ensures .1),
-  lays-out-only _ _ _ _ (c .before .before .write .ensures .0) _ (c .before .before .write .ensures .1),
-)
+returns c =
+    let ea = c .before .before .write .ensures .0 in
+    let eo = c .before .before .write .ensures .1 in
+    (ea, (eo, (lays-out _ _ _ _ ea _ eo, (lays-out-only _ _ _ _ ea _ eo, kept _ _ _ _ ea _ eo))))
 
 pub written-spec : {M : Type 1} → statement M
 written-spec = tie.close (tie.spec write-requires same-length returns)
