@@ -28,7 +28,7 @@ ghost use Rattle.survey.specs.Surveyed.{Small};
 ghost use Rattle.writer.specs.Emit as Em;
 ghost use Rattle.writer.specs.EmitSheet as Es;
 ghost use Rattle.writer.specs.Measure.{Measured, MeasuredContent, anyInPlace};
-ghost use Rattle.writer.specs.EmitRun.{emitRun, flatIntegerWidth, integerWidth};
+ghost use Rattle.writer.specs.EmitRun.{emitRun, emitBare, integerWidth};
 ghost use Rattle.writer.specs.Emitting as Eg;
 ghost use Rattle.writer.specs.Emitting.{stateOf, HeldOk, BitPut, Room, EmittedAt, Stood};
 
@@ -713,6 +713,38 @@ fn emit_run(s: &[u8], out: &mut [u8], w: usize, n: usize, c: Places, pos: usize)
     stored(forward(c, done), at)
 }
 
+// n bools, each into the next free bit.
+fn emit_bits(s: &[u8], out: &mut [u8], n: usize, c: Places, pos: usize) -> Emitted
+    requires { ⌜ Room (now s) pos c ⌝ }
+    ensures { λ r. ⌜ EmittedAt (now (s .entry)) (emitRun 1 Em.putBit n (stateOf c (now (out .entry))) (drop pos (bits (now (s .entry))))) pos c 0 (r .whole) (r .places) (now (out .exit)) (r .next) ⌝ }
+{
+    let mut p = c;
+    let mut at = pos;
+    let mut left = n;
+    while 0 < left {
+        let x = bitio::take_number(s, at, 1);
+        if !x.whole {
+            return not_lawful(c, pos);
+        }
+        p = put_bit(out, p, x.value as usize);
+        at = x.next;
+        left -= 1;
+    }
+    stored(p, at)
+}
+
+// n integers of w bytes, or n bools where w is 0.
+fn emit_bare(s: &[u8], out: &mut [u8], w: usize, n: usize, c: Places, pos: usize) -> Emitted
+    requires { ⌜ w ≤ 8 ⌝ }
+    requires { ⌜ Room (now s) pos c ⌝ }
+    ensures { λ r. ⌜ EmittedAt (now (s .entry)) (emitBare w n (stateOf c (now (out .entry))) (drop pos (bits (now (s .entry))))) pos c 0 (r .whole) (r .places) (now (out .exit)) (r .next) ⌝ }
+{
+    if w == 0 {
+        return emit_bits(s, out, n, c, pos);
+    }
+    emit_run(s, out, w, n, c, pos)
+}
+
 // ---- what an object needs around its content
 // Bytes of the sheet, n of them.
 fn put_copy(s: &[u8], pos: usize, out: &mut [u8], c: Places, n: usize) -> Places
@@ -1125,9 +1157,8 @@ fn emit_list(
     }
     let n = y.value as usize;
     let k = schema::element(b, dir, i);
-    let w = integer_width(k);
-    if 0 < w {
-        return emit_run(s, out, w, n, c, y.next);
+    if survey::bare(k) {
+        return emit_bare(s, out, integer_width(k), n, c, y.next);
     }
     let mut p = c;
     let mut at = y.next;

@@ -54,7 +54,7 @@ use Rattle.wire.proofs.index.Reads as index-reads
 use Rattle.writer.proofs.close.Reads as close-reads
 use Rattle.writer.proofs.emit_bytes.Reads as emit-bytes-reads
 use Rattle.writer.proofs.emit_flat.Reads as emit-flat-reads
-use Rattle.writer.proofs.emit_run.Reads as emit-run-reads
+use Rattle.writer.proofs.emit_bare.Reads as emit-bare-reads
 use Rattle.writer.proofs.emit_text.Reads as emit-text-reads
 use Rattle.writer.proofs.flag.Reads as flag-reads
 use Rattle.writer.proofs.integer_width.Reads as integer-width-reads
@@ -179,7 +179,7 @@ abbrev emit-element-R : ℕ → emit-element-lts.Claims
 emit-element-R t = (bare-reads.Asked, bare-reads.Learnt, emit-body-below t, emit-body.Post, emit-part-below t, emit-part.Post)
 
 abbrev emit-list-R : ℕ → emit-list-lts.Claims
-emit-list-R t = (take-number-reads.Asked, take-number-reads.Learnt, not-lawful-reads.Asked, not-lawful-reads.Learnt, element-reads.Asked, element-reads.Learnt, integer-width-reads.Asked, integer-width-reads.Learnt, emit-run-reads.Asked, emit-run-reads.Learnt, emit-element-below t, emit-element.Post, stored-reads.Asked, stored-reads.Learnt)
+emit-list-R t = (take-number-reads.Asked, take-number-reads.Learnt, not-lawful-reads.Asked, not-lawful-reads.Learnt, element-reads.Asked, element-reads.Learnt, bare-reads.Asked, bare-reads.Learnt, integer-width-reads.Asked, integer-width-reads.Learnt, emit-bare-reads.Asked, emit-bare-reads.Learnt, emit-element-below t, emit-element.Post, stored-reads.Asked, stored-reads.Learnt)
 
 abbrev emit-part-R : ℕ → emit-part-lts.Claims
 emit-part-R t = (take-number-reads.Asked, take-number-reads.Learnt, not-lawful-reads.Asked, not-lawful-reads.Learnt, flag-reads.Asked, flag-reads.Learnt, emit-body-below t, emit-body.Post, lack-reads.Asked, lack-reads.Learnt, stored-reads.Asked, stored-reads.Learnt, pass-reads.Asked, pass-reads.Learnt)
@@ -411,12 +411,12 @@ emit-element-returns-2 : (t : ℕ) → emit-element-lts.Need-returns-2 (emit-ele
 emit-element-returns-2 t c = search element-marked
 
 abbrev emit-list-Inv-loop : emit-list-lts.InvT-loop
-emit-list-Inv-loop b dir s out₀ d i c pos n k w p₀ at₀ j₀ out p at j =
+emit-list-Inv-loop b dir s out₀ d i c pos n k p₀ at₀ j₀ out p at j =
     (j ≤ n) × (n < 2 ^ 32) × (length out ≡ length out₀) × Room s pos c × Room s at p × (p .at + 8192 * pos ≤ c .at + 8192 * at)
     × (emitContent (emit d u48 (P.parse b)) (survey d u48 (P.parse b)) u48 (P.parse b) (O.List i) (stateOf c out₀) (drop pos (bits s)) ≡ emitElements (emit d u48 (P.parse b)) (survey d u48 (P.parse b)) u48 (P.parse b) k (n - j) (stateOf p out) (drop at (bits s)))
 
 abbrev emit-list-μ-loop : emit-list-lts.MeasureT-loop
-emit-list-μ-loop b dir s out₀ d i c pos n k w p₀ at₀ j₀ out p at j = n - j
+emit-list-μ-loop b dir s out₀ d i c pos n k p₀ at₀ j₀ out p at j = n - j
 
 -- src/lib.rt:963:9
 emit-list-take-number-requires : (t : ℕ) → emit-list-lts.Need-take-number-requires (emit-list-R t) (emit-list-at t) emit-list.Post emit-list-Inv-loop emit-list-μ-loop
@@ -434,17 +434,20 @@ emit-list-returns t c = search elements-cut
 emit-list-element-requires : (t : ℕ) → emit-list-lts.Need-element-requires (emit-list-R t) (emit-list-at t) emit-list.Post emit-list-Inv-loop emit-list-μ-loop
 emit-list-element-requires t c κs = search needs
 
+emit-list-bare-requires : (t : ℕ) → emit-list-lts.Need-bare-requires (emit-list-R t) (emit-list-at t) emit-list.Post emit-list-Inv-loop emit-list-μ-loop
+emit-list-bare-requires t c κs = search needs
+
 emit-list-integer-width-requires : (t : ℕ) → emit-list-lts.Need-integer-width-requires (emit-list-R t) (emit-list-at t) emit-list.Post emit-list-Inv-loop emit-list-μ-loop
 emit-list-integer-width-requires t c κs = search needs
 
-emit-list-emit-run-requires : (t : ℕ) → emit-list-lts.Need-emit-run-requires (emit-list-R t) (emit-list-at t) emit-list.Post emit-list-Inv-loop emit-list-μ-loop
-emit-list-emit-run-requires t c κs = (search integer-wide, search room-taken)
+emit-list-emit-bare-requires : (t : ℕ) → emit-list-lts.Need-emit-bare-requires (emit-list-R t) (emit-list-at t) emit-list.Post emit-list-Inv-loop emit-list-μ-loop
+emit-list-emit-bare-requires t c κs = (search integer-wide, search room-taken)
 
 emit-list-same-length : (t : ℕ) → emit-list-lts.Need-same-length (emit-list-R t) (emit-list-at t) emit-list.Post emit-list-Inv-loop emit-list-μ-loop
 emit-list-same-length t c = search needs
 
 emit-list-returns-2 : (t : ℕ) → emit-list-lts.Need-returns-2 (emit-list-R t) (emit-list-at t) emit-list.Post emit-list-Inv-loop emit-list-μ-loop
-emit-list-returns-2 t c = search list-run
+emit-list-returns-2 t c = search (list-run, c .before .before .before .before .before .before .before .before .before .before .before .before .before .before .before .pre .1 .0 .0, c .before .before .before .before .before .before .before .before .before .before .before .before .before .before .before .pre .1 .1, c .before .before .before .before .before .before .before .before .before .before .take-number .ensures, c .before .before .before .before .before .before .before .before .if1 .left, c .before .before .before .before .before .before .before .element .ensures, c .before .before .before .before .before .before .bare .ensures, c .before .before .before .before .before .if2 .taken, c .before .before .before .integer-width .ensures, c .before .before .emit-bare .ensures)
 
 -- src/lib.rt:972:5
 emit-list-loop-holds : (t : ℕ) → emit-list-lts.Need-loop-holds (emit-list-R t) (emit-list-at t) emit-list.Post emit-list-Inv-loop emit-list-μ-loop
@@ -739,8 +742,9 @@ pub +emit-body+emit-choice+emit-content+emit-element+emit-list+emit-part+emit-re
     (emit-list-not-lawful-requires t)
     (emit-list-returns t)
     (emit-list-element-requires t)
+    (emit-list-bare-requires t)
     (emit-list-integer-width-requires t)
-    (emit-list-emit-run-requires t)
+    (emit-list-emit-bare-requires t)
     (emit-list-same-length t)
     (emit-list-returns-2 t)
     (emit-list-loop-holds t)
