@@ -2,7 +2,6 @@
 use mathlib.Core.Path.{_≡_, refl, sym, ap, ap₂, _∙_, subst}
 use mathlib.Core.Bool.{Bool, true, false}
 use mathlib.Core.List.{List, _∷_, _++_}
-use mathlib.Core.Logic.{⊎-elim}
 use Prim.Native.Nat.{ℕ, zero, suc, _+_, _-_, _*_, _^_, _<_, _≤_}
 use native.Mathlib.Omega.{arith}
 use native.Mathlib.Nat.{mul-zero, mul-suc, mul-le-mul, le-of-lt}
@@ -28,7 +27,6 @@ use Rattle.coding.specs.declared.Object.{Object}
 use Rattle.coding.specs.declared.Kind.{Kind}
 use Rattle.coding.specs.declared.Kind.the-variants.{OfFlat, OfObject, OfUnion}
 use Rattle.coding.specs.declared.Step.the-variants as St
-use Rattle.laws.specs.Sound.{FlatSound, KindSound}
 use Rattle.schema.specs.Directory.{Accepted, accepted-sound}
 use Rattle.wire.specs.Numbers.{Number}
 use Rattle.bitio.specs.Puts.{Room, Puts}
@@ -44,46 +42,6 @@ marked-puts o o₁ o₂ p q r mark w x g a b = puts-then o o₁ o₂ p q r (bits
 
 -- ---- widths
 module _ (k : Kind) (f : Flat) (e : k ≡ OfFlat f) where
-  pub width-boolean : f ≡ F.Boolean → 1 ≡ A.valueWidth k
-  unfolding A.valueWidth A.flatValue
-  width-boolean h = rw (e, h)
-
-  pub width-integer : (s : Bool) (w v : ℕ) → f ≡ F.Integer s w → v ≡ w → 8 * v ≡ A.valueWidth k
-  unfolding A.valueWidth A.flatValue
-  width-integer s w v h q = rw (e, h, q)
-
-  pub width-float : (w v : ℕ) → f ≡ F.Float w → v ≡ w → 8 * v ≡ A.valueWidth k
-  unfolding A.valueWidth A.flatValue
-  width-float w v h q = rw (e, h, q)
-
-  pub width-enum : (n : ℕ) → f ≡ F.Enumerated n → 8 ≡ A.valueWidth k
-  unfolding A.valueWidth A.flatValue
-  width-enum n h = rw (e, h)
-
-  pub width-struct : (i : ℕ) → f ≡ F.Struct i → 0 ≡ A.valueWidth k
-  unfolding A.valueWidth A.flatValue
-  width-struct i h = rw (e, h)
-
-  pub unknown-boolean : f ≡ F.Boolean → 0 ≡ E.unknownWidth k
-  unfolding E.unknownWidth E.flatUnknown
-  unknown-boolean h = rw (e, h)
-
-  pub unknown-integer : (s : Bool) (w : ℕ) → f ≡ F.Integer s w → 0 ≡ E.unknownWidth k
-  unfolding E.unknownWidth E.flatUnknown
-  unknown-integer s w h = rw (e, h)
-
-  pub unknown-float : (w : ℕ) → f ≡ F.Float w → 0 ≡ E.unknownWidth k
-  unfolding E.unknownWidth E.flatUnknown
-  unknown-float w h = rw (e, h)
-
-  pub unknown-enum : (n : ℕ) → f ≡ F.Enumerated n → 8 ≡ E.unknownWidth k
-  unfolding E.unknownWidth E.flatUnknown
-  unknown-enum n h = rw (e, h)
-
-  pub unknown-struct : (i : ℕ) → f ≡ F.Struct i → 0 ≡ E.unknownWidth k
-  unfolding E.unknownWidth E.flatUnknown
-  unknown-struct i h = rw (e, h)
-
   pub integer-boolean : f ≡ F.Boolean → 0 ≡ A.integerWidth k
   unfolding A.integerWidth A.flatInteger
   integer-boolean h = rw (e, h)
@@ -105,22 +63,6 @@ module _ (k : Kind) (f : Flat) (e : k ≡ OfFlat f) where
   integer-struct i h = rw (e, h)
 
 module _ (k : Kind) where
-  pub width-object : (ob : Object) → k ≡ OfObject ob → 0 ≡ A.valueWidth k
-  unfolding A.valueWidth
-  width-object ob e = rw e
-
-  pub width-union : (i : ℕ) → k ≡ OfUnion i → 0 ≡ A.valueWidth k
-  unfolding A.valueWidth
-  width-union i e = rw e
-
-  pub unknown-object : (ob : Object) → k ≡ OfObject ob → 0 ≡ E.unknownWidth k
-  unfolding E.unknownWidth
-  unknown-object ob e = rw e
-
-  pub unknown-union : (i : ℕ) → k ≡ OfUnion i → 16 ≡ E.unknownWidth k
-  unfolding E.unknownWidth
-  unknown-union i e = rw e
-
   pub integer-object : (ob : Object) → k ≡ OfObject ob → 0 ≡ A.integerWidth k
   unfolding A.integerWidth
   integer-object ob e = rw e
@@ -128,13 +70,6 @@ module _ (k : Kind) where
   pub integer-union : (i : ℕ) → k ≡ OfUnion i → 0 ≡ A.integerWidth k
   unfolding A.integerWidth
   integer-union i e = rw e
-
-module _ (S : Schema) (k : Kind) (f : Flat) (e : k ≡ OfFlat f) (sound : KindSound S k) (w v : ℕ) (q : v ≡ w) where
-  pub integer-few : (s : Bool) → f ≡ F.Integer s w → 8 * v ≤ 64
-  integer-few s h = let l = subst (FlatSound (length (S .structs))) h (subst (KindSound S) e sound) in omega arith
-
-  pub float-few : f ≡ F.Float w → 8 * v ≤ 64
-  float-few h = ⊎-elim (λ l. omega arith) (λ l. omega arith) (subst (FlatSound (length (S .structs))) h (subst (KindSound S) e sound))
 
 -- ---- an enum in a struct
 module _ (n x : ℕ) (o o₁ : List ℕ) (p q : ℕ) where

@@ -10,7 +10,6 @@ use Rattle.coding.specs.Bytes.{u48}
 use Rattle.coding.specs.Schema as Sc
 use Rattle.coding.specs.Schema.{Schema}
 use Rattle.coding.specs.Packed as P
-use Rattle.coding.specs.Structs.{structSize}
 use Rattle.coding.specs.Layout as L
 use Rattle.coding.specs.Step as T
 use Rattle.coding.specs.Walk as W
@@ -29,7 +28,7 @@ use Rattle.coding.specs.declared.Place.the-variants.{ByOffset, InPlace}
 use Rattle.coding.specs.declared.Step.{Step}
 use Rattle.coding.specs.declared.Step.the-variants as St
 use Rattle.laws.specs.Sound.{ObjectSound, KindSound, MemberSound}
-use Rattle.laws.specs.SoundAt.{member-sound-at, struct-index, list-index, table-index}
+use Rattle.laws.specs.SoundAt.{member-sound-at, list-index, table-index}
 use Rattle.schema.specs.Directory.{Accepted, accepted-sound}
 use Rattle.layout.specs.Bounds.{Laid, Stands}
 use Rattle.step.specs.Lead.{reached, reachOf}
@@ -119,17 +118,9 @@ member-sound-of b dir a t j r e h = rw e (member-sound-at (P.parse b) (accepted-
 
 -- ---- a step
 module _ (d : ℕ) (S : Schema) (m : List ℕ) (k : Kind) (o o₁ : List ℕ) (p q : ℕ) (step : Step) where
-  pub step-refused : (n : ℕ) → step ≡ St.Refused n → Puts o p (bitsOf 2 0) o₁ q → Puts o p (A.stepAt d S m k step) o₁ q
-  unfolding A.stepAt
-  step-refused n e h = rw e h
-
   pub step-absent : step ≡ St.Absent → Puts o p (bitsOf 2 0) o₁ q → Puts o p (A.stepAt d S m k step) o₁ q
   unfolding A.stepAt
   step-absent e h = rw e h
-
-  pub step-value : (x w : ℕ) → step ≡ St.Value x → w ≡ A.valueWidth k → Puts o p (A.marked 1 w x) o₁ q → Puts o p (A.stepAt d S m k step) o₁ q
-  unfolding A.stepAt
-  step-value x w e ew h = rw e (subst (λ (v : ℕ). Puts o p (A.marked 1 v x) o₁ q) ew h)
 
   pub step-unknown : (x y w : ℕ) → step ≡ St.Unknown x → w ≡ E.unknownWidth k → y ≡ x → Puts o p (A.marked 2 w y) o₁ q → Puts o p (A.stepAt d S m k step) o₁ q
   unfolding A.stepAt
@@ -137,13 +128,6 @@ module _ (d : ℕ) (S : Schema) (m : List ℕ) (k : Kind) (o o₁ : List ℕ) (p
       rw e (subst (λ (v : ℕ). Puts o p (A.marked 2 v x) o₁ q) ew (subst (λ (v : ℕ). Puts o p (A.marked 2 w v) o₁ q) ey h))
 
   module _ (g : Room o p) (o₂ : List ℕ) (r : ℕ) where
-    pub step-struct : (i j at : ℕ) → step ≡ St.Struct i at → j ≡ i → Puts o p (bitsOf 2 1) o₁ q → Puts o₁ q (A.structAt S m j at) o₂ r
-        → Puts o p (A.stepAt d S m k step) o₂ r
-    unfolding A.stepAt
-    step-struct i j at e ej h l =
-        rw e
-        (puts-then o o₁ o₂ p q r (bitsOf 2 1) (A.structAt S m i at) (g .short) h (subst (λ (v : ℕ). Puts o₁ q (A.structAt S m v at) o₂ r) ej l))
-
     pub step-object : (ob : Object) (place : Place) → step ≡ St.Object ob place → Puts o p (bitsOf 2 1) o₁ q → Puts o₁ q (A.objectAt d S m ob place) o₂ r
         → Puts o p (A.stepAt d S m k step) o₂ r
     unfolding A.stepAt
@@ -155,16 +139,6 @@ module _ (d : ℕ) (S : Schema) (m : List ℕ) (k : Kind) (o o₁ : List ℕ) (p
     step-choice c x ob place e ex h l =
         rw e
         (puts-then o o₁ o₂ p q r (A.marked 1 16 c) (A.objectAt d S m ob place) (g .short) (subst (λ (v : ℕ). Puts o p (A.marked 1 16 v) o₁ q) ex h) l)
-
--- what a step leads to is readable
-module _ (child : D.Child) (b m : List ℕ) (step : Step) (h : D.StepReadable child (P.parse b) m step) where
-  pub struct-counted : (i j at : ℕ) → step ≡ St.Struct i at → j ≡ i → j < P.structCount b
-  unfolding D.StepReadable
-  struct-counted i j at e ej = rw ej (struct-index b i (subst (D.StepReadable child (P.parse b) m) e h .0))
-
-  pub struct-there : (i j at : ℕ) → step ≡ St.Struct i at → j ≡ i → at + structSize (P.parse b) j ≤ length m
-  unfolding D.StepReadable
-  struct-there i j at e ej = rw ej (subst (D.StepReadable child (P.parse b) m) e h .1)
 
 module _ (d : ℕ) (S : Schema) (m : List ℕ) (step : Step) (h : D.StepReadable (D.ObjectReadable d S m) S m step) where
   pub object-readable : (ob : Object) (p : Place) → step ≡ St.Object ob p → D.ObjectReadable d S m ob p
