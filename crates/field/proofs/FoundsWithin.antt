@@ -77,18 +77,23 @@ module _ (S : Schema) (sound : Sound S) (m : List ℕ) (readable : Readable m) w
       stepped-within S m 0 holder (OfFlat (Sc.fieldOf S i j)) (field-sound S sound m readable i j l g) _ (field-within S sound m readable i at j l h g))
       (λ e. tt)
 
-  object-within : (ob : Object) (at start n d j : ℕ) → ObjectSound S ob → start + W.contentSize u48 S ob n ≤ length m
-      → FoundWithin S m (Field.objectPart u48 S m ob at start n d j)
-  unfolding Field.objectPart Field.noPart W.contentSize
-  object-within O.Text at start n d j s h = tt
-  object-within O.Bytes at start n d j s h = tt
-  object-within (O.List i) at start n d j s h =
+  list-within : (i at start n d j : ℕ) → start + T.elementsSize u48 S (Sc.elementOf S i) n ≤ length m
+      → FoundWithin S m (Field.objectPart u48 S m (O.List i) at start n d j)
+  unfolding Field.objectPart Field.noPart
+  list-within i at start n d j h =
       pick-holds (FoundWithin S m) (ltb j n)
       (Field.stepped d u48 S m at (Sc.elementOf S i) (T.elementStep u48 S m (Sc.elementOf S i) start j))
       (Fd.Refused (Field.refusal 15 at))
       (λ e. stepped-within S m d at (Sc.elementOf S i) (sound .lists i .kind) _
       (element-within S sound m readable (Sc.elementOf S i) (sound .lists i .kind) start n j h (ltb-true j n e)))
       (λ e. tt)
+
+  object-within : (ob : Object) (at start n d j : ℕ) → ObjectSound S ob → start + W.contentSize u48 S ob n ≤ length m
+      → FoundWithin S m (Field.objectPart u48 S m ob at start n d j)
+  unfolding Field.objectPart Field.noPart W.contentSize
+  object-within O.Text at start n d j s h = tt
+  object-within O.Bytes at start n d j s h = tt
+  object-within (O.List i) at start n d j s h = list-within i at start n d j h
   object-within (O.Table i) at start n d j s h =
       pick-holds (FoundWithin S m) (ltb j (length (Sc.tableOf S i .members)))
       (Field.stepped d u48 S m at (Sc.memberOf S i j .kind)
@@ -116,3 +121,8 @@ arrival-within b m d ob p f s e = rw e (arrived-within (P.parse b) m d ob p s)
 pub next-within : (b dir m : List ℕ) → Accepted b dir → Readable m → (f : Found) → FoundWithin (P.parse b) m f → (j : ℕ) (g : Found)
     → g ≡ Field.partOf u48 (P.parse b) m f j → FoundWithin (P.parse b) m g
 next-within b dir m a r f h j g e = rw e (part-within (P.parse b) (accepted-sound b dir a) m r f j h)
+
+pub element-found-within : (b dir m : List ℕ) → Accepted b dir → Readable m → (i at start n d j : ℕ)
+    → start + T.elementsSize u48 (P.parse b) (Sc.elementOf (P.parse b) i) n ≤ length m → (g : Found)
+    → g ≡ Field.objectPart u48 (P.parse b) m (O.List i) at start n d j → FoundWithin (P.parse b) m g
+element-found-within b dir m a r i at start n d j h g e = rw e (list-within (P.parse b) (accepted-sound b dir a) m r i at start n d j h)

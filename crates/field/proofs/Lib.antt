@@ -8,3 +8,4 @@ pub mod TextCases
 pub mod ListCases
 pub mod ReaderCases
 pub mod ElementSound
+pub mod GivesCases

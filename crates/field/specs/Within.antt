@@ -6,6 +6,8 @@ use Rattle.coding.specs.Bytes.{u48}
 use Rattle.coding.specs.Schema.{Schema}
 use Rattle.coding.specs.Structs.{structSize}
 use Rattle.coding.specs.Walk.{contentSize}
+use Rattle.coding.specs.declared.Object.{Object}
+use Rattle.coding.specs.declared.Object.the-variants as O
 use Rattle.coding.specs.declared.Step.{Step}
 use Rattle.coding.specs.declared.Step.the-variants as St
 use Rattle.coding.specs.declared.Found.{Found}
@@ -34,3 +36,18 @@ FoundWithin S m (Fd.Unknown x) = Unit {0}
 FoundWithin S m (Fd.Value k x holder) = KindSound S k
 FoundWithin S m (Fd.Struct i at holder) = (i < length (S .structs)) × (at + structSize S i ≤ length m)
 FoundWithin S m (Fd.Object ob at start n d) = ObjectSound S ob × (start + contentSize u48 S ob n ≤ length m)
+
+-- what a list reader starts from: a list, or a refusal
+abbrev pub Listed : Object → Type 0
+Listed O.Text = ⊥
+Listed O.Bytes = ⊥
+Listed (O.List i) = Unit {0}
+Listed (O.Table i) = ⊥
+
+abbrev pub Reads : Found → Type 0
+Reads (Fd.Refused r) = Unit {0}
+Reads Fd.Absent = ⊥
+Reads (Fd.Unknown x) = ⊥
+Reads (Fd.Value k x holder) = ⊥
+Reads (Fd.Struct i at holder) = ⊥
+Reads (Fd.Object ob at start n d) = Listed ob

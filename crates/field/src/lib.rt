@@ -32,7 +32,7 @@ ghost use Rattle.layout.specs.Bounds.{Laid};
 ghost use Rattle.schema.specs.Directory.{Accepted};
 ghost use Rattle.step.specs.Lead as D;
 ghost use Rattle.field.specs.Stepping as St;
-ghost use Rattle.field.specs.Within.{Readable, StepWithin, FoundWithin};
+ghost use Rattle.field.specs.Within.{Readable, StepWithin, FoundWithin, Listed, Reads};
 
 // ---- arrivals
 fn refuse(n: u8, at: usize) -> Found
@@ -596,13 +596,126 @@ pub fn reader_start(b: &[u8], m: &[u8], path: &[u32]) -> Found
     refuse(1, 0)
 }
 
+// The refusal of a step.
+fn refused(n: u8, at: usize) -> Answer
+    ensures { λ r. ⌜ r ≡ Answer.Refused (F.refusal n at) ⌝ }
+{
+    let why = Refusal {
+        number: n,
+        place: at,
+    };
+    Answer::Refused(why)
+}
+
+// The answer of an arrival at an object by its offset, with d objects of depth left, this one counted.
+fn arrive_answer(b: &[u8], dir: &[u16], m: &[u8], d: usize, ob: Object, x: usize) -> Answer
+    requires { ⌜ (Accepted (now b) (now dir)) × (ObjectSound (P.parse (now b)) ob) × (x < 2 ^ 48) ⌝ }
+    ensures { λ r. ⌜ r ≡ F.answerOf (F.arrived d B.u48 (P.parse (now (b .entry))) (now (m .entry)) ob (Place.ByOffset x)) ⌝ }
+{
+    if d == 0 {
+        return refused(5, x);
+    }
+    match judge::open_object(b, dir, m, ob, Place::ByOffset(x)) {
+        Opened::Refused(e) => refused(e, x),
+        Opened::Content(_, n) => Answer::Object(record_kind(ob), x, n),
+    }
+}
+
+// The answer of an element that is the offset at a place.
+fn offset_answer(b: &[u8], dir: &[u16], m: &[u8], d: usize, ob: Object, at: usize) -> Answer
+    requires { ⌜ (Accepted (now b) (now dir)) × (ObjectSound (P.parse (now b)) ob) × (Readable (now m)) × (at + 6 ≤ length (now m)) ⌝ }
+    ensures { λ r. ⌜ r ≡ St.offsetGives d B.u48 (P.parse (now (b .entry))) (now (m .entry)) ob (B.le (now (m .entry)) at B.u48) ⌝ }
+{
+    let x = wire::u48_in(m, at) as usize;
+    if x == 0 {
+        return Answer::Absent;
+    }
+    arrive_answer(b, dir, m, d, ob, x)
+}
+
+// The answer of an element of any kind.
+fn part_answer(
+    b: &[u8],
+    dir: &[u16],
+    m: &[u8],
+    i: usize,
+    at: usize,
+    start: usize,
+    n: usize,
+    d: usize,
+    j: usize,
+) -> Answer
+    requires { ⌜ (Accepted (now b) (now dir)) × (Readable (now m)) × (i < P.listCount (now b)) ⌝ }
+    requires { ⌜ start + T.elementsSize B.u48 (P.parse (now b)) (Sc.elementOf (P.parse (now b)) i) n ≤ length (now m) ⌝ }
+    ensures { λ r. ⌜ r ≡ F.answerOf (F.objectPart B.u48 (P.parse (now (b .entry))) (now (m .entry)) (Object.List i) at start n d j) ⌝ }
+{
+    let f = list_part(b, dir, m, i, at, start, n, d, j);
+    answer_of(b, m, f)
+}
+
+// The answer of element j of a list; an offset is followed at once.
+fn element_answer(
+    b: &[u8],
+    dir: &[u16],
+    m: &[u8],
+    i: usize,
+    at: usize,
+    start: usize,
+    n: usize,
+    d: usize,
+    j: usize,
+) -> Answer
+    requires { ⌜ (Accepted (now b) (now dir)) × (Readable (now m)) × (i < P.listCount (now b)) ⌝ }
+    requires { ⌜ start + T.elementsSize B.u48 (P.parse (now b)) (Sc.elementOf (P.parse (now b)) i) n ≤ length (now m) ⌝ }
+    ensures { λ r. ⌜ r ≡ F.answerOf (F.objectPart B.u48 (P.parse (now (b .entry))) (now (m .entry)) (Object.List i) at start n d j) ⌝ }
+{
+    if n <= j {
+        return refused(15, at);
+    }
+    match schema::element(b, dir, i) {
+        Kind::OfFlat(_) => part_answer(b, dir, m, i, at, start, n, d, j),
+        Kind::OfObject(ob) => offset_answer(b, dir, m, d, ob, start + 6 * j),
+        Kind::OfUnion(_) => part_answer(b, dir, m, i, at, start, n, d, j),
+    }
+}
+
+// The answer of the step at element j of an object that is a list.
+fn list_answer(
+    b: &[u8],
+    dir: &[u16],
+    m: &[u8],
+    ob: Object,
+    at: usize,
+    start: usize,
+    n: usize,
+    d: usize,
+    j: usize,
+) -> Answer
+    requires { ⌜ (Accepted (now b) (now dir)) × (Readable (now m)) × (ObjectSound (P.parse (now b)) ob) × (Listed ob) ⌝ }
+    requires { ⌜ start + W.contentSize B.u48 (P.parse (now b)) ob n ≤ length (now m) ⌝ }
+    ensures { λ r. ⌜ r ≡ F.answerOf (F.objectPart B.u48 (P.parse (now (b .entry))) (now (m .entry)) ob at start n d j) ⌝ }
+{
+    match ob {
+        Object::Text => Answer::Absent,
+        Object::Bytes => Answer::Absent,
+        Object::List(i) => element_answer(b, dir, m, wire::index(i), at, start, n, d, j),
+        Object::Table(_) => Answer::Absent,
+    }
+}
+
 // The answer of the step at element j of the list that was found.
 fn reader_step(b: &[u8], dir: &[u16], m: &[u8], list: Found, j: usize) -> Answer
-    requires { ⌜ (Accepted (now b) (now dir)) × (Readable (now m)) × (FoundWithin (P.parse (now b)) (now m) list) ⌝ }
+    requires { ⌜ (Accepted (now b) (now dir)) × (Readable (now m)) × (FoundWithin (P.parse (now b)) (now m) list) × (Reads list) ⌝ }
     ensures { λ r. ⌜ r ≡ F.listGives B.u48 (P.parse (now (b .entry))) (now (m .entry)) list j ⌝ }
 {
-    let f = part_of(b, dir, m, list, j);
-    answer_of(b, m, f)
+    match list {
+        Found::Refused(x) => Answer::Refused(x),
+        Found::Absent => Answer::Absent,
+        Found::Unknown(x) => Answer::Unknown(x),
+        Found::Value(_, _, _) => Answer::Absent,
+        Found::Struct(_, _, _) => Answer::Absent,
+        Found::Object(ob, at, start, n, d) => list_answer(b, dir, m, ob, at, start, n, d, j),
+    }
 }
 
 fn reader_at(b: &[u8], dir: &[u16], m: &[u8], path: &[u32], j: usize) -> Answer
@@ -680,7 +793,7 @@ fn put_same(out: &mut [u64], answer: Answer)
 
 // As many steps as the output has room for, from an element on, of the list that was found.
 fn put_steps(b: &[u8], dir: &[u16], m: &[u8], list: Found, from: usize, out: &mut [u64])
-    requires { ⌜ (Accepted (now b) (now dir)) × (Readable (now m)) × (FoundWithin (P.parse (now b)) (now m) list) ⌝ }
+    requires { ⌜ (Accepted (now b) (now dir)) × (Readable (now m)) × (FoundWithin (P.parse (now b)) (now m) list) × (Reads list) ⌝ }
     ensures { λ _. ⌜ now (out .exit) ≡ F.stepsOver (F.listGives B.u48 (P.parse (now (b .entry))) (now (m .entry)) list) (F.listCount list) from (now (out .entry)) ⌝ }
 {
     let n = list_count(list);

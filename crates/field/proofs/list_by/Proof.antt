@@ -1,4 +1,5 @@
 use Rattle.field.proofs.ReaderCases.{count-long}
+use Rattle.field.proofs.GivesCases.{reader-reads}
 use Rattle.field.proofs.ListCases.{over-long, count-found, over-found}
 use borrow.Author.Needs.{needs}
 use Rattle.field.proofs.list_by.Statement.{statement}
@@ -20,7 +21,7 @@ returns : tie.Need-returns
 returns c = (search count-long, search over-long)
 
 put-steps-requires : tie.Need-put-steps-requires
-put-steps-requires c κs = (c .before .before .before .before .before .before .before .before .pre, record { bytes = λ i. c .before .before .before .before .before .shared-slice-known3 .given i .fits; size = c .before .if1 .left }, c .before .before .reader-by .ensures .1)
+put-steps-requires c κs = (c .before .before .before .before .before .before .before .before .pre, record { bytes = λ i. c .before .before .before .before .before .shared-slice-known3 .given i .fits; size = c .before .if1 .left }, c .before .before .reader-by .ensures .1, search reader-reads)
 
 list-count-requires : tie.Need-list-count-requires
 list-count-requires c κs = search needs

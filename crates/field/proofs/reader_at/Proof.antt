@@ -1,4 +1,5 @@
 use Rattle.field.proofs.ReaderCases.{gives-long, gives-step}
+use Rattle.field.proofs.GivesCases.{reader-reads}
 use borrow.Author.Needs.{needs}
 use Rattle.field.proofs.reader_at.Statement.{statement}
 use Rattle.field.proofs.reader_at.Tie as tie
@@ -13,7 +14,7 @@ returns : tie.Need-returns
 returns c = search gives-long
 
 reader-step-requires : tie.Need-reader-step-requires
-reader-step-requires c κs = (c .before .before .before .before .before .before .pre, record { bytes = λ i. c .before .before .before .shared-slice-known3 .given i .fits; size = c .if1 .left }, c .before .reader-by .ensures .1)
+reader-step-requires c κs = (c .before .before .before .before .before .before .pre, record { bytes = λ i. c .before .before .before .shared-slice-known3 .given i .fits; size = c .if1 .left }, c .before .reader-by .ensures .1, search reader-reads)
 
 returns-2 : tie.Need-returns-2
 returns-2 c = search gives-step
