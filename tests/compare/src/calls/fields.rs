@@ -15,11 +15,7 @@ use crate::subjects::{self, Subject};
 const PATHS: usize = 4;
 
 /// Two programs, and what was seen of them.
-pub struct Run<'a> {
-    pub first: &'a dyn Calls,
-    pub second: &'a dyn Calls,
-    pub counts: Counts,
-}
+pub type Run<'a> = super::Run<'a, dyn Calls + 'a>;
 
 /// What is asked about: a message, and its schema where that is lawful.
 pub struct Place<'a> {
@@ -83,17 +79,9 @@ pub fn run(
     seed: u64,
     answers: u64,
 ) -> Result<Counts, String> {
-    let mut run = Run {
-        first,
-        second,
-        counts: Counts::default(),
-    };
-    let mut round = 0;
-    while run.counts.named("field answers") < answers {
-        on_round(&mut run, seed, round)?;
-        round += 1;
-    }
-    Ok(run.counts)
+    super::until(first, second, "field answers", answers, |run, round| {
+        on_round(run, seed, round)
+    })
 }
 
 /// One numbered round of a seeded run.

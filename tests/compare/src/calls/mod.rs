@@ -8,6 +8,8 @@ pub mod reads;
 pub mod second;
 pub mod writes;
 
+use crate::counts::Counts;
+
 pub use library::LibraryCalls;
 pub use second::SecondCalls;
 
@@ -37,6 +39,34 @@ pub trait Calls {
 pub trait Writes: Calls {
     /// A sheet to its message: number and length.
     fn write(&self, schema: &[u8], sheet: &[u8], message: &mut [u8]) -> [u64; 2];
+}
+
+/// Two programs, and what was seen of them.
+pub struct Run<'a, C: ?Sized> {
+    pub first: &'a C,
+    pub second: &'a C,
+    pub counts: Counts,
+}
+
+/// Runs numbered rounds of a seed with both until so many of a sort were counted.
+pub fn until<'a, C: ?Sized>(
+    first: &'a C,
+    second: &'a C,
+    sort: &str,
+    many: u64,
+    on_round: impl Fn(&mut Run<'a, C>, u64) -> Result<(), String>,
+) -> Result<Counts, String> {
+    let mut run = Run {
+        first,
+        second,
+        counts: Counts::default(),
+    };
+    let mut round = 0;
+    while run.counts.named(sort) < many {
+        on_round(&mut run, round)?;
+        round += 1;
+    }
+    Ok(run.counts)
 }
 
 /// The bytes on either side of an output that no call may touch.

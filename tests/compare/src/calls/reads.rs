@@ -12,25 +12,13 @@ use crate::subjects::{self, Subject};
 const AMPLE: u32 = 3000;
 
 /// Two programs, and what was seen of them.
-pub struct Run<'a> {
-    pub first: &'a dyn Calls,
-    pub second: &'a dyn Calls,
-    pub counts: Counts,
-}
+pub type Run<'a> = super::Run<'a, dyn Calls + 'a>;
 
 /// Reads messages with both until at least so many calls were compared.
 pub fn run(first: &dyn Calls, second: &dyn Calls, seed: u64, calls: u64) -> Result<Counts, String> {
-    let mut run = Run {
-        first,
-        second,
-        counts: Counts::default(),
-    };
-    let mut round = 0;
-    while run.counts.named("reads") < calls {
-        on_round(&mut run, seed, round)?;
-        round += 1;
-    }
-    Ok(run.counts)
+    super::until(first, second, "reads", calls, |run, round| {
+        on_round(run, seed, round)
+    })
 }
 
 /// One numbered round of a seeded run.

@@ -16,11 +16,7 @@ use crate::value::Value;
 use crate::value_gen::{self, Purpose};
 
 /// Two programs, and what was seen of them.
-pub struct Run<'a> {
-    pub first: &'a dyn Writes,
-    pub second: &'a dyn Writes,
-    pub counts: Counts,
-}
+pub type Run<'a> = super::Run<'a, dyn Writes + 'a>;
 
 /// Any bytes as a sheet, and the schema they are written by.
 struct Subject {
@@ -36,17 +32,9 @@ pub fn run(
     seed: u64,
     calls: u64,
 ) -> Result<Counts, String> {
-    let mut run = Run {
-        first,
-        second,
-        counts: Counts::default(),
-    };
-    let mut round = 0;
-    while run.counts.named("writes") < calls {
-        on_round(&mut run, seed, round)?;
-        round += 1;
-    }
-    Ok(run.counts)
+    super::until(first, second, "writes", calls, |run, round| {
+        on_round(run, seed, round)
+    })
 }
 
 /// One numbered round of a seeded run.
