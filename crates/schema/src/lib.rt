@@ -57,13 +57,14 @@ pub fn argument_at(b: &[u8], at: usize) -> u8
     wire::byte_in(b, at + 1)
 }
 
-const WIDTHS: [u8; 11] = [1, 1, 2, 4, 8, 1, 2, 4, 8, 4, 8];
+// The bytes of kind k in four bits each, from the lowest on.
+const WIDTHS: u64 = 0x848_4218_4211;
 
 pub fn width_of(k: usize) -> u8
     requires { ⌜ k < 11 ⌝ }
     ensures { λ r. ⌜ r ≡ P.widthOf k ⌝ }
 {
-    WIDTHS[k]
+    (WIDTHS >> (4 * k) & 15) as u8
 }
 
 fn flat_of(k: usize, a: u8) -> Flat
