@@ -1,4 +1,5 @@
--- Where the members of a table stand in its fixed part. A member's slot depends on the members before it alone.
+-- Where the members of a table stand in its fixed part. A member's slot depends on it and the members before it, and on
+-- none after it.
 -- `o` is the width of an offset in bytes.
 use Prim.Native.Nat.{ℕ, _+_}
 use mathlib.Core.List.{List, [], _∷_}

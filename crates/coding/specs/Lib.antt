@@ -1,4 +1,4 @@
--- The definitions that everything is judged by, in the order in which they are best read. Each carries the sentence of
+-- The definitions that everything is judged by, in the order in which they are best read. Each rule carries the sentence of
 -- paper 01 (Requirements and rules for the build) or 000 (Binary coding) that it renders.
 pub mod Lists
 pub mod Bytes

@@ -1,5 +1,5 @@
--- The values of a message, by the same steps as the walk. It is total: what no accepted message has reads as something,
--- which nobody is shown. `o` is the width of an offset in bytes.
+-- The values of a message, by the same steps as the walk: "From the root, members and elements in order". It is total: what
+-- no accepted message has reads as something, which nobody is shown. `o` is the width of an offset in bytes.
 use Prim.Native.Nat.{ℕ, zero, suc, _+_}
 use mathlib.Core.List.{List, [], _∷_}
 use lib.ListN.{take, drop}
@@ -64,6 +64,7 @@ elementsRead child o S m start k zero i = none
 elementsRead child o S m start k (suc n) i =
     stepRead (structRead S m) child (elementStep o S m k start i) then elementsRead child o S m start k n (i + 1)
 
+-- an object's content; a text's value is "the bytes" without the zero byte behind them
 unfoldable pub contentRead : Child → ℕ → Schema → List ℕ → Object → ℕ → ℕ → Value
 contentRead child o S m O.Text start n = blob (take n (drop start m))
 contentRead child o S m O.Bytes start n = blob (take n (drop start m))

@@ -1,5 +1,5 @@
--- What a schema is, once it is read. A union's case is an object and a struct's member leads nowhere, so what cannot be
--- lawful there cannot be written.
+-- What a schema is, once it is read. A union's case is an object and a struct's member leads nowhere: kinds that are not
+-- lawful there cannot be written. All else that makes a schema lawful is in Lawful.
 use Prim.Native.Nat.{ℕ}
 use mathlib.Core.List.{List, []}
 use mathlib.Core.Bool.{false}

@@ -59,7 +59,8 @@ flatStep S m (F.Float w) none at bit = floatStep none w (le m at w)
 flatStep S m (F.Enumerated n) none at bit = enumStep n (getD m at 0)
 flatStep S m (F.Struct i) none at bit = structStep S m i at
 
--- what stands at a struct's member, in a struct that was judged as a whole: a bool is a byte, and a NaN is a value
+-- what stands at a struct's member, in a struct that was judged as a whole: "a bool as a byte 0 or 1"; a NaN means no value in
+-- a list and in an optional member only, so that it is a value here
 unfoldable pub fieldStep : List ℕ → Flat → ℕ → Step
 fieldStep m F.Boolean at = St.Value (getD m at 0)
 fieldStep m (F.Integer s w) at = St.Value (le m at w)

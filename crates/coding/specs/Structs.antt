@@ -55,5 +55,6 @@ okBy S m inner i at = flatsOk inner S m (structOf S i) at
 abbrev pub always : ℕ → Bool
 always at = true
 
+-- refusal 10: "struct boolean not 0 or 1", in the struct or in one inside it
 unfoldable pub structOk : Schema → List ℕ → ℕ → ℕ → Bool
 structOk S m i = byIndex always (okBy S m) i

@@ -1,4 +1,4 @@
--- What a message says: the tree of values that a value sheet packs.
+-- What a message says: the tree of values that a value sheet packs ("0 absent, 1 present, 2 unknown").
 use Prim.Native.Nat.{ℕ, suc}
 use mathlib.Core.List.{List, []}
 use mathlib.Core.Bool.{Bool, true, false}

@@ -98,7 +98,8 @@ unfoldable pub followChoice : Child → ℕ → Object → Place → Spent → W
 followChoice child holder ob (ByOffset x) s = pick (eqb x 0) (refuse 9 holder s) (child ob (ByOffset x) s)
 followChoice child holder ob (InPlace a n) s = child ob (InPlace a n) s
 
--- what a step leads to, for a holder at a place
+-- what a step leads to, for a holder at a place. Refusal 8, "member cut, or flag without value", is at the "table"; refusal 10,
+-- "struct boolean not 0 or 1", at the "object" that holds the struct. An unknown enum or choice: "Neither is refused."
 unfoldable pub follow : Child → ℕ → Step → Spent → Walked
 follow child holder (St.Refused n) s = refuse n holder s
 follow child holder St.Absent s = Going s

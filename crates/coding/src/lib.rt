@@ -103,9 +103,9 @@ pub enum Walked {
     Refused(Refusal, Spent),
 }
 
-// What a path has come to, with the place of the last object judged: a refusal; no value; an unknown enum or choice; a
-// value of a kind; a struct with its index and place; an object with its place, where its content starts, its length, and
-// how many objects of depth are left below it.
+// What a path has come to: a refusal; no value; an unknown enum or choice; a value of a kind; a struct with its index and
+// place; an object with its place, where its content starts, its length, and how many objects of depth are left below it.
+// Value and Struct end with the place of the last object judged.
 pub enum Found {
     Refused(Refusal),
     Absent,
