@@ -29,7 +29,7 @@ use Rattle.coding.specs.declared.Found.the-variants as Fd
 use Rattle.laws.specs.Sound.{Sound, ObjectSound, KindSound}
 use Rattle.laws.specs.SoundAt.{member-sound-at}
 use Rattle.laws.specs.Lists.{pick-holds}
-use Rattle.judge.proofs.OpenCases.{opened-fits}
+use Rattle.object.proofs.OpenCases.{opened-fits}
 use Rattle.schema.specs.Directory.{Accepted, accepted-sound}
 use Rattle.field.specs.Within.{Readable, StepWithin, FoundWithin}
 use Rattle.field.proofs.StepsWithin.{member-within, element-within, field-within, field-sound}

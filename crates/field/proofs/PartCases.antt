@@ -40,7 +40,7 @@ use Rattle.schema.specs.Directory.{Accepted, accepted-sound}
 use Rattle.step.specs.Lead.{Stepped}
 use Rattle.wire.specs.Numbers.{Number}
 use Rattle.field.specs.Within.{Readable, StepWithin, FoundWithin}
-use Rattle.judge.proofs.WalkCases.{member-sound-of}
+use Rattle.object.proofs.OpenCases.{member-sound-of}
 use Rattle.field.proofs.StepsWithin.{total-append, member-within, element-within, field-within}
 
 -- ---- a struct's member

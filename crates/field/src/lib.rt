@@ -50,11 +50,11 @@ fn arrive(b: &[u8], dir: &[u16], m: &[u8], d: usize, ob: Object, p: Place) -> Fo
     requires { ⌜ (Accepted (now b) (now dir)) × (ObjectSound (P.parse (now b)) ob) × D.PlaceSmall p ⌝ }
     ensures { λ r. ⌜ r ≡ F.arrived d B.u48 (P.parse (now (b .entry))) (now (m .entry)) ob p ⌝ }
 {
-    let at = judge::placed(p);
+    let at = object::placed(p);
     if d == 0 {
         return refuse(5, at);
     }
-    match judge::open_object(b, dir, m, ob, p) {
+    match object::open_object(b, dir, m, ob, p) {
         Opened::Refused(e) => refuse(e, at),
         Opened::Content(start, n) => Found::Object(ob, at, start, n, d - 1),
     }
@@ -305,8 +305,8 @@ fn from_root(b: &[u8], dir: &[u16], m: &[u8], path: &[u32]) -> Found
     requires { ⌜ (Accepted (now b) (now dir)) × (Readable (now m)) × (10 ≤ length (now m)) ⌝ }
     ensures { λ r. ⌜ (r ≡ F.found B.u48 (P.parse (now (b .entry))) (now (m .entry)) (now (path .entry))) × FoundWithin (P.parse (now (b .entry))) (now (m .entry)) r ⌝ }
 {
-    let ob = judge::root_object(b, dir);
-    let p = judge::root_place(m);
+    let ob = object::root_object(b, dir);
+    let p = object::root_place(m);
     let f = arrive(b, dir, m, 32, ob, p);
     along(b, dir, m, f, path)
 }
@@ -325,7 +325,7 @@ fn found_by(b: &[u8], dir: &[u16], m: &[u8], path: &[u32]) -> Found
     if 16777215 < m.len() {
         return refuse(2, 0);
     }
-    if judge::start_ok(m) {
+    if object::start_ok(m) {
         return from_root(b, dir, m, path);
     }
     refuse(3, 0)
@@ -615,7 +615,7 @@ fn arrive_answer(b: &[u8], dir: &[u16], m: &[u8], d: usize, ob: Object, x: usize
     if d == 0 {
         return refused(5, x);
     }
-    match judge::open_object(b, dir, m, ob, Place::ByOffset(x)) {
+    match object::open_object(b, dir, m, ob, Place::ByOffset(x)) {
         Opened::Refused(e) => refused(e, x),
         Opened::Content(_, n) => Answer::Object(record_kind(ob), x, n),
     }

@@ -1,12 +1,2 @@
-pub mod HeaderCases
-pub mod TextCases
-pub mod EndCases
-pub mod SizeCases
-pub mod OpenCases
-pub mod PlainCases
-pub mod WalkCases
-pub mod ListCases
-pub mod LeafCases
-pub mod ReferenceCases
 pub mod NumberCases
 pub mod VerdictCases

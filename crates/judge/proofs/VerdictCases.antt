@@ -1,54 +1,28 @@
 -- The ways out of the verdict.
 use mathlib.Core.Path.{_≡_, refl, sym, ap, _∙_, subst}
-use mathlib.Core.Bool.{Bool, true, false, _&&_}
+use mathlib.Core.Bool.{Bool, true, false}
 use mathlib.Core.List.{List}
-use Prim.Native.Nat.{ℕ, _+_, _-_, _^_, _<_, _≤_}
+use Prim.Native.Nat.{ℕ, _-_, _<_, _≤_}
 use native.Mathlib.Omega.{arith}
 use lib.ListN.{length}
-use lib.Dec.{eqb, leb}
+use lib.Dec.{eqb}
 use borrow.Author.Tests.{le-leb, lt-leb, eq-eqb, ne-eqb, eqb-true}
 use Rattle.coding.specs.Lists.{pick}
-use Rattle.coding.specs.Bytes.{le, u48, largest, deepest}
+use Rattle.coding.specs.Bytes.{u48, largest, deepest}
 use Rattle.coding.specs.Schema.{Schema}
 use Rattle.coding.specs.Packed as P
-use Rattle.coding.specs.Lawful.{lawful}
 use Rattle.coding.specs.Walk as W
 use Rattle.coding.specs.declared.Object.{Object}
 use Rattle.coding.specs.declared.Object.the-variants as O
 use Rattle.coding.specs.declared.Place.{Place}
-use Rattle.coding.specs.declared.Place.the-variants.{ByOffset}
 use Rattle.coding.specs.declared.Budget.{Budget}
 use Rattle.coding.specs.declared.Verdict.{Verdict}
 use Rattle.coding.specs.declared.Walked.{Walked}
 use Rattle.coding.specs.declared.Walked.the-variants.{Going, Refused}
-use Rattle.coding.specs.declared.Refusal.{Refusal}
-use Rattle.coding.specs.declared.Spent.{Spent}
-use Rattle.laws.specs.Sound.{ObjectSound}
-use Rattle.schema.specs.Directory.{Accepted, Judged, accepted-sound}
-use Rattle.wire.specs.Numbers.{Number}
-use Rattle.judge.specs.declared.Outcome.{Outcome}
-use Rattle.judge.specs.Headers.{walkedOf}
+use Rattle.schema.specs.Directory.{Accepted, Judged}
+use Rattle.arrival.specs.declared.Outcome.{Outcome}
+use Rattle.arrival.specs.Answers.{walkedOf}
 use Rattle.judge.proofs.NumberCases.{NumberSmall, walk-small}
-
-module _ (m : List ℕ) where
-  pub size-short : length m < 10 → false ≡ W.sizeOk u48 m
-  unfolding W.sizeOk W.headerSize u48 largest
-  size-short h = simp (lt-leb _ _ h)
-
-  pub size-long : 10 ≤ length m → (r : Bool) → r ≡ leb (length m) 16777215 → r ≡ W.sizeOk u48 m
-  unfolding W.sizeOk W.headerSize u48 largest
-  size-long h r e = simp (le-leb _ _ h) e
-
-  pub start-is : (x : ℕ) → Number m 0 4 x → (r : Bool) → r ≡ eqb x 0xB5C0_C4B3 → r ≡ W.startOk m
-  unfolding W.startOk
-  start-is x n r e = simp (← (n .is)) e
-
-  pub root-at : (x : ℕ) → Number m 4 6 x → ByOffset x ≡ W.rootPlace u48 m
-  unfolding W.rootPlace u48
-  root-at x n = ap ByOffset (n .is)
-
-pub root-sound : (b dir : List ℕ) → Accepted b dir → (x : ℕ) → x ≡ P.parse b .root → ObjectSound (P.parse b) (O.Table x)
-root-sound b dir a x e = rw e (accepted-sound b dir a .root)
 
 pub walk-is : (b m : List ℕ) (budget : Budget) (ob : Object) (p : Place) → ob ≡ O.Table (P.parse b .root) → p ≡ W.rootPlace u48 m → (r : Walked)
     → r ≡ W.visit 32 u48 (P.parse b) m budget ob p (record { visits = 0 }) → r ≡ W.walk u48 (P.parse b) m budget
@@ -75,9 +49,6 @@ module _ (b dir m : List ℕ) (a : Accepted b dir) (budget : Budget) (r : Verdic
       pub verdict-other : t ≡ false → r ≡ W.early 3 → r ≡ W.verdict u48 b m budget
       unfolding W.verdict W.sizeOk W.headerSize u48 largest
       verdict-other f e = simp (a .lawful, le-leb _ _ h, le-leb _ _ l, ← et, f) e
-
-pub schema-accepted : (b dir : List ℕ) (t : Bool) → Judged b dir t → t ≡ true → Accepted b dir
-schema-accepted b dir t j e = j .right e
 
 pub verdict-unlawful : (b dir m : List ℕ) (budget : Budget) (t : Bool) → Judged b dir t → t ≡ false → (r : Verdict) → r ≡ W.early 1 → r ≡ W.verdict u48 b m budget
 unfolding W.verdict

@@ -644,8 +644,8 @@ fn write_root(b: &[u8], dir: &[u16], m: &[u8], out: &mut [u8]) -> usize
     requires { ⌜ (Accepted (now b) (now dir)) × (D.MessageReadable (P.parse (now b)) (now m)) ⌝ }
     ensures { λ r. ⌜ Puts (now (out .entry)) 0 (Bt.rootAt (P.parse (now (b .entry))) (now (m .entry))) (now (out .exit)) r ⌝ }
 {
-    let ob = judge::root_object(b, dir);
-    let p = judge::root_place(m);
+    let ob = object::root_object(b, dir);
+    let p = object::root_place(m);
     write_object(b, dir, m, out, 32, ob, p, 0)
 }
 

@@ -4,9 +4,9 @@ use coding::Kind;
 use coding::Member;
 use coding::Object;
 use coding::WriteAnswer;
-use judge::BytesObject;
-use judge::ListObject;
-use judge::TextObject;
+use header::BytesObject;
+use header::ListObject;
+use header::TextObject;
 use survey::Extent;
 ghost use mathlib.Core.Path.{_≡_};
 ghost use mathlib.Core.List.{[], _∷_};
@@ -1215,7 +1215,7 @@ fn emit_message(b: &[u8], dir: &[u16], s: &[u8], out: &mut [u8]) -> Emitted
         tail: 10,
         next: 10,
     };
-    let ob = judge::root_object(b, dir);
+    let ob = object::root_object(b, dir);
     let p = put_number(out, start, 4, 0xB5C0_C4B3);
     emit_refer(b, dir, s, out, 32, ob, false, p, 0)
 }
@@ -1280,7 +1280,7 @@ fn write_judged(b: &[u8], dir: &[u16], s: &[u8], out: &mut [u8]) -> WriteAnswer
     if 16777215 < s.len() {
         return refused(11);
     }
-    let ob = judge::root_object(b, dir);
+    let ob = object::root_object(b, dir);
     let x = survey::object(b, dir, s, 32, ob, 0);
     if !x.whole {
         return refused(11);

@@ -1,4 +1,4 @@
-use Rattle.judge.proofs.WalkCases.{member-sound-of}
+use Rattle.object.proofs.OpenCases.{member-sound-of}
 use Rattle.field.proofs.PartCases.{after-is, after-laid}
 use borrow.Author.Needs.{needs}
 use Rattle.field.proofs.after_member.Statement.{statement}

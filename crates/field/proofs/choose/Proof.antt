@@ -1,5 +1,5 @@
 use Rattle.field.proofs.FollowCases.{choose-none, choose-offset, choose-inplace}
-use Rattle.judge.proofs.OpenCases.{offset-small, inplace-first, inplace-length}
+use Rattle.object.proofs.OpenCases.{offset-small, inplace-first, inplace-length}
 use borrow.Author.Needs.{needs}
 use Rattle.field.proofs.choose.Statement.{statement}
 use Rattle.field.proofs.choose.Tie as tie

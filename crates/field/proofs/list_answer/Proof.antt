@@ -1,6 +1,6 @@
 use Rattle.field.proofs.GivesCases.{no-text, no-bytes, no-table, the-list}
-use Rattle.judge.proofs.OpenCases.{list-counted-of}
-use Rattle.judge.proofs.WalkCases.{list-fits}
+use Rattle.object.proofs.OpenCases.{list-counted-of}
+use Rattle.object.proofs.OpenCases.{list-fits}
 use borrow.Author.Needs.{needs}
 use Rattle.field.proofs.list_answer.Statement.{statement}
 use Rattle.field.proofs.list_answer.Tie as tie

@@ -1,5 +1,5 @@
 use Rattle.field.proofs.ReaderCases.{list-text, list-bytes, list-table, list-flat, list-leads}
-use Rattle.judge.proofs.OpenCases.{list-counted-of}
+use Rattle.object.proofs.OpenCases.{list-counted-of}
 use borrow.Author.Needs.{needs}
 use Rattle.field.proofs.list_of.Statement.{statement}
 use Rattle.field.proofs.list_of.Tie as tie

@@ -1,4 +1,4 @@
-use Rattle.judge.proofs.WalkCases.{member-sound-of}
+use Rattle.object.proofs.OpenCases.{member-sound-of}
 use Rattle.field.proofs.PartCases.{cursor-low, member-at-is, member-at-within}
 use borrow.Author.Needs.{needs}
 use Rattle.field.proofs.member_at.Statement.{statement}

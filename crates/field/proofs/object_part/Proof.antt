@@ -1,6 +1,6 @@
 use Rattle.field.proofs.PartCases.{part-text, part-bytes, part-list, part-table}
-use Rattle.judge.proofs.OpenCases.{list-counted-of, table-counted-of}
-use Rattle.judge.proofs.WalkCases.{list-fits, table-fits}
+use Rattle.object.proofs.OpenCases.{list-counted-of, table-counted-of}
+use Rattle.object.proofs.OpenCases.{list-fits, table-fits}
 use borrow.Author.Needs.{needs}
 use Rattle.field.proofs.object_part.Statement.{statement}
 use Rattle.field.proofs.object_part.Tie as tie

@@ -1,4 +1,4 @@
-use Rattle.judge.proofs.VerdictCases.{schema-accepted}
+use Rattle.object.proofs.OpenCases.{schema-accepted}
 use Rattle.field.proofs.ReaderCases.{gives-unlawful}
 use borrow.Author.Needs.{needs}
 use Rattle.field.proofs.reader_answer.Statement.{statement}

@@ -1,4 +1,4 @@
-use Rattle.judge.proofs.VerdictCases.{schema-accepted}
+use Rattle.object.proofs.OpenCases.{schema-accepted}
 use Rattle.field.proofs.PathCases.{refused-within}
 use Rattle.field.proofs.ReaderCases.{reader-unlawful}
 use borrow.Author.Needs.{needs}

@@ -1,4 +1,5 @@
-use Rattle.judge.proofs.VerdictCases.{schema-accepted, verdict-unlawful}
+use Rattle.object.proofs.OpenCases.{schema-accepted}
+use Rattle.judge.proofs.VerdictCases.{verdict-unlawful}
 use borrow.Author.Needs.{needs}
 use Rattle.judge.proofs.judge.Statement.{statement}
 use Rattle.judge.proofs.judge.Tie as tie

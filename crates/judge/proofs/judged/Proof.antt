@@ -5,9 +5,9 @@ use Rattle.judge.proofs.judged.Tie as tie
 use Rattle.judge.proofs.judged.Reads as reads
 use Rattle.judge.proofs.judged.Lts as lts
 use Rattle.judge.proofs.early.Reads as early-reads
-use Rattle.judge.proofs.start_ok.Reads as start-ok-reads
+use Rattle.object.proofs.start_ok.Reads as start-ok-reads
 use Rattle.judge.proofs.verdict_of.Reads as verdict-of-reads
-use Rattle.judge.proofs.walk.Reads as walk-reads
+use Rattle.judge.proofs.walk_from_root.Reads as walk-from-root-reads
 
 -- src/lib.rt:538:9
 early-requires : tie.Need-early-requires
@@ -30,12 +30,12 @@ start-ok-requires : tie.Need-start-ok-requires
 start-ok-requires c κs = search needs
 
 -- src/lib.rt:544:27
-walk-requires : tie.Need-walk-requires
-walk-requires c κs = search needs
+walk-from-root-requires : tie.Need-walk-from-root-requires
+walk-from-root-requires c κs = search needs
 
 -- src/lib.rt:544:9
 verdict-of-requires : tie.Need-verdict-of-requires
-verdict-of-requires c κs = code-small _ _ _ _ (c .walk .ensures)
+verdict-of-requires c κs = code-small _ _ _ _ (c .walk-from-root .ensures)
 
 -- src/lib.rt:544:9
 returns-3 : tie.Need-returns-3
@@ -58,7 +58,7 @@ judged-spec =
     early-requires-2
     returns-2
     start-ok-requires
-    walk-requires
+    walk-from-root-requires
     verdict-of-requires
     returns-3
     early-requires-3

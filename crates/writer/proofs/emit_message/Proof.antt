@@ -4,7 +4,7 @@ use Rattle.writer.proofs.emit_message.Statement.{statement}
 use Rattle.writer.proofs.emit_message.Tie as tie
 use Rattle.writer.proofs.emit_message.Reads as reads
 use Rattle.writer.proofs.emit_message.Lts as lts
-use Rattle.judge.proofs.root_object.Reads as root-object-reads
+use Rattle.object.proofs.root_object.Reads as root-object-reads
 use Rattle.writer.proofs.emit_refer.Reads as emit-refer-reads
 use Rattle.writer.proofs.put_number.Reads as put-number-reads
 

@@ -1,5 +1,5 @@
 use borrow.Author.Needs.{needs}
-use Rattle.judge.proofs.OpenCases.{table-counted-of}
+use Rattle.object.proofs.OpenCases.{table-counted-of}
 use Rattle.writer.proofs.PutCases.{magic-text, magic-bytes, magic-list, magic-table}
 use Rattle.writer.proofs.object_magic.Statement.{statement}
 use Rattle.writer.proofs.object_magic.Tie as tie

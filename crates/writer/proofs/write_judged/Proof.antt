@@ -4,7 +4,7 @@ use Rattle.writer.proofs.write_judged.Statement.{statement}
 use Rattle.writer.proofs.write_judged.Tie as tie
 use Rattle.writer.proofs.write_judged.Reads as reads
 use Rattle.writer.proofs.write_judged.Lts as lts
-use Rattle.judge.proofs.root_object.Reads as root-object-reads
+use Rattle.object.proofs.root_object.Reads as root-object-reads
 use Rattle.survey.proofs.object.Reads as object-reads
 use Rattle.writer.proofs.closed.Reads as closed-reads
 use Rattle.writer.proofs.refused.Reads as refused-reads

@@ -1,0 +1,3 @@
+pub mod TextCases
+pub mod VisitCases
+pub mod ElementCases

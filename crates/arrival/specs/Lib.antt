@@ -1,0 +1,2 @@
+-- What the code of arrivals answers.
+pub mod Answers

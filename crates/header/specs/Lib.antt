@@ -1,0 +1,2 @@
+-- What the code of headers answers.
+pub mod Headers

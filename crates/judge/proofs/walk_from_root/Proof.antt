@@ -1,0 +1,28 @@
+use Rattle.judge.proofs.VerdictCases.{walk-is}
+use borrow.Author.Needs.{needs}
+use Rattle.judge.proofs.walk_from_root.Statement.{statement}
+use Rattle.judge.proofs.walk_from_root.Tie as tie
+use Rattle.judge.proofs.walk_from_root.Reads as reads
+use Rattle.judge.proofs.walk_from_root.Lts as lts
+use Rattle.object.proofs.root_object.Reads as root-object-reads
+use Rattle.object.proofs.root_place.Reads as root-place-reads
+use Rattle.walk.proofs.visit.Reads as visit-reads
+
+-- src/lib.rt:527:9
+root-object-requires : tie.Need-root-object-requires
+root-object-requires c κs = search needs
+
+-- src/lib.rt:528:9
+root-place-requires : tie.Need-root-place-requires
+root-place-requires c κs = search needs
+
+-- src/lib.rt:529:5
+visit-requires : tie.Need-visit-requires
+visit-requires c κs = search needs
+
+-- src/lib.rt:523:1
+returns : tie.Need-returns
+returns c = search walk-is
+
+pub walk-from-root-spec : {M : Type 1} → statement M
+walk-from-root-spec = tie.close (tie.spec root-object-requires root-place-requires visit-requires returns)

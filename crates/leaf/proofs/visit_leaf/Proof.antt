@@ -1,0 +1,81 @@
+use Rattle.arrival.proofs.VisitCases.{offset-spent, offset-deep, offset-refused, table-judged}
+use Rattle.object.proofs.OpenCases.{table-opened}
+use native.Mathlib.Omega.{arith}
+use borrow.Author.Needs.{needs}
+use Rattle.leaf.proofs.visit_leaf.Statement.{statement}
+use Rattle.leaf.proofs.visit_leaf.Tie as tie
+use Rattle.leaf.proofs.visit_leaf.Reads as reads
+use Rattle.leaf.proofs.visit_leaf.Lts as lts
+use Rattle.leaf.proofs.leaf_members.Reads as leaf-members-reads
+use Rattle.object.proofs.open_table.Reads as open-table-reads
+use Rattle.arrival.proofs.refuse.Reads as refuse-reads
+
+-- src/lib.rt:527:9
+refuse-requires : tie.Need-refuse-requires
+refuse-requires c κs = search needs
+
+-- src/lib.rt:527:9
+returns : tie.Need-returns
+returns c = search offset-spent
+
+-- src/lib.rt:529:29
+add-t17 : tie.Need-add-t17
+add-t17 c = search needs
+
+-- src/lib.rt:531:9
+refuse-requires-2 : tie.Need-refuse-requires-2
+refuse-requires-2 c κs = search needs
+
+-- src/lib.rt:531:9
+returns-2 : tie.Need-returns-2
+returns-2 c = search offset-deep
+
+-- src/lib.rt:533:11
+open-table-requires : tie.Need-open-table-requires
+open-table-requires c κs = search needs
+
+-- src/lib.rt:534:25
+enum-known-e : tie.Need-enum-known-e
+enum-known-e c = search needs
+
+-- src/lib.rt:534:31
+refuse-requires-3 : tie.Need-refuse-requires-3
+refuse-requires-3 c κs = search needs
+
+-- src/lib.rt:535:25
+enum-known-start : tie.Need-enum-known-start
+enum-known-start c = search needs
+
+-- src/lib.rt:535:65
+sub-leaf-members : tie.Need-sub-leaf-members
+sub-leaf-members c = search needs
+
+-- src/lib.rt:535:38
+leaf-members-requires : tie.Need-leaf-members-requires
+leaf-members-requires c κs = search (table-opened, needs)
+
+-- src/lib.rt:510:1
+returns-3 : tie.Need-returns-3
+returns-3 c = search offset-refused
+
+-- src/lib.rt:510:1
+returns-4 : tie.Need-returns-4
+returns-4 c = search table-judged
+
+pub visit-leaf-spec : {M : Type 1} → statement M
+visit-leaf-spec =
+    tie.close
+    (tie.spec
+    refuse-requires
+    returns
+    add-t17
+    refuse-requires-2
+    returns-2
+    open-table-requires
+    enum-known-e
+    refuse-requires-3
+    enum-known-start
+    sub-leaf-members
+    leaf-members-requires
+    returns-3
+    returns-4)

@@ -1,0 +1,2 @@
+-- What the code of members answers.
+pub mod Records

@@ -1,0 +1,2 @@
+pub mod OpenCases
+pub mod StartCases

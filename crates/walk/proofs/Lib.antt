@@ -1,0 +1,3 @@
+pub mod WalkCases
+pub mod ListCases
+pub mod ReferenceCases
