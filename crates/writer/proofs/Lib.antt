@@ -1,13 +1,1 @@
-pub mod StoreCases
-pub mod BitCases
 pub mod WriteCases
-pub mod EmitRoom
-pub mod PutCases
-pub mod EmitCases
-pub mod StructCases
-pub mod EmitRest
-pub mod MeasureCases
-pub mod RunCases
-pub mod EmitPartCases
-pub mod EmitObjectCases
-pub mod EmitMessageCases

@@ -1,5 +1,5 @@
 -- The ways out of the writer, one lemma for each: what it answers, and what the output holds.
-use mathlib.Core.Path.{_≡_, refl, sym, ap, ap₂, _∙_, subst}
+use mathlib.Core.Path.{_≡_, refl, sym, ap, ap₂, _∙_}
 use mathlib.Core.Bool.{Bool, true, false, _&&_, not}
 use mathlib.Core.List.{List, [], _∷_, _++_}
 use Prim.Native.Nat.{ℕ, zero, suc, _+_, _-_, _*_, _^_, _<_, _≤_}
@@ -7,7 +7,7 @@ use native.Mathlib.Omega.{arith}
 use lib.Pow.{pow-pos}
 use lib.ListN.{length, take, drop, length-drop}
 use lib.Seq.{length-take-le, take-all}
-use lib.Dec.{ltb, leb, eqb}
+use lib.Dec.{ltb, eqb}
 use borrow.Author.Tests.{le-leb, lt-leb, lt-ltb, le-ltb, eq-eqb, ne-eqb, eqb-true, not-true, not-false}
 use Rattle.coding.specs.Lists.{pick}
 use Rattle.coding.specs.Bytes.{u48, largest, deepest}
@@ -15,12 +15,11 @@ use Rattle.coding.specs.Bits.{bits, value, allZero}
 use Rattle.coding.specs.Packed.{parse}
 use Rattle.coding.specs.Walk.{headerSize}
 use Rattle.coding.specs.Lawful.{lawful}
-use Rattle.coding.specs.Sheet.{Parsed, fail, got}
+use Rattle.coding.specs.Sheet.{fail, got}
 use Rattle.coding.specs.Message as M
 use Rattle.coding.specs.declared.Object.{Object}
 use Rattle.coding.specs.declared.Object.the-variants as O
 use Rattle.coding.specs.declared.WriteAnswer.{WriteAnswer}
-use Rattle.laws.specs.Sound.{Sound}
 use Rattle.laws.specs.Lists.{never}
 use Rattle.laws.specs.Bits.{bits-length}
 use Rattle.schema.specs.Directory.{Accepted, Judged, accepted-sound}
@@ -28,11 +27,14 @@ use Rattle.bitio.specs.Taken.{Run}
 use Rattle.survey.specs.Survey.{survey}
 use Rattle.survey.specs.Surveyed.{SurveyedAt}
 use Rattle.survey.specs.declared.Extent.{Extent}
-use Rattle.writer.specs.Emit.{State}
-use Rattle.writer.specs.EmitSheet.{emitMessage}
-use Rattle.writer.specs.Emitting.{stateOf, MessageAt, LawfulSheet, onlyEnd, messageSize}
+use Rattle.store.specs.State.{State}
+use Rattle.emit.specs.EmitSheet.{emitMessage}
+use Rattle.store.specs.Storing.{stateOf}
+use Rattle.emit.specs.Emitting.{MessageAt}
+use Rattle.writer.specs.Writing.{LawfulSheet, onlyEnd, messageSize}
+use Rattle.emit.specs.EmitObjects.{is-got}
 use Rattle.writer.specs.WriteLaws as Wl
-use Rattle.writer.specs.declared.Places.{Places}
+use Rattle.store.specs.declared.Places.{Places}
 
 -- ---- refusals
 module _ (b s o : List ℕ) (n : ℕ) (e : M.written u48 b s ≡ M.refused n) where
@@ -237,7 +239,7 @@ module _ (b dir s o : List ℕ) (a : Accepted b dir) (x : Extent) (k : LawfulShe
                   → emitMessage u48 (parse b) (take n o) (bits s) ≡ pick u (got (stateOf c o₁) (drop z (bits s))) fail → o₁ ≡ whole .0
               by true e g =
                   whole .3 (take n o) (stateOf c o₁) (drop z (bits s)) (length-take-le n o f ∙ en ∙ sym size-of) g
-              by false e g = never (sym (ap Wl.is-got e))
+              by false e g = never (sym (ap is-got e))
 
           pub done-out : (w : List ℕ) → w ≡ o₁ ++ drop n o → w ≡ M.writeOut u48 b s o
           unfolding M.writeOut M.writeOver

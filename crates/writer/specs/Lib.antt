@@ -1,13 +1,3 @@
--- The pass that stores a message, that what it leaves is the message of the definitions, and what its code promises.
-pub mod Emit
-pub mod Stores
-pub mod CellLengths
-pub mod EmitLayout
-pub mod EmitSheet
-pub mod EmitFlats
-pub mod EmitParts
+-- The answers of writing: what they say of a sheet as a whole, and that they are the definition's.
 pub mod WriteLaws
-pub mod Measure
-pub mod EmitRun
-pub mod Emitting
-pub mod EmitStructs
+pub mod Writing

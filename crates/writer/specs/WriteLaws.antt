@@ -1,15 +1,14 @@
 -- The writer's answers by the survey and the pass over the sheet.
 use mathlib.Core.Path.{_≡_, refl, sym, ap, ap₂, _∙_, subst}
-use mathlib.Core.List.{List, [], _∷_}
+use mathlib.Core.List.{List, []}
 use mathlib.Core.Bool.{Bool, true, false, _&&_}
 use mathlib.Core.Option.{Option}
 use mathlib.Core.Option as Op
-use Prim.Native.Nat.{ℕ, zero, suc, _+_, _≤_, _<_}
+use Prim.Native.Nat.{ℕ, _+_, _≤_, _<_}
 use native.Mathlib.Omega.{arith}
 use lib.ListN.{length}
 use lib.Dec.{ltb, leb}
 use borrow.Author.Tests.{le-leb, lt-leb, leb-true, leb-false}
-use Rattle.coding.specs.Lists.{pick}
 use Rattle.coding.specs.Bytes.{leBytes, largest, deepest}
 use Rattle.coding.specs.Bits.{bits, allZero}
 use Rattle.coding.specs.Schema.{Schema}
@@ -17,11 +16,10 @@ use Rattle.coding.specs.Packed.{parse}
 use Rattle.coding.specs.Lawful.{lawful}
 use Rattle.coding.specs.Walk.{headerSize, magic}
 use Rattle.coding.specs.Value.{Value}
-use Rattle.coding.specs.Cells.{width, chain, below, layout, Slots, packBits}
+use Rattle.coding.specs.Cells.{width, chain, below, Slots, packBits}
 use Rattle.coding.specs.Cells.Slots.{end, bytes, reference}
 use Rattle.coding.specs.Sheet.{Parsed, fail, got, decode, closed, treeOf, sheetTree}
-use Rattle.coding.specs.Message.{lengthOf, writable, objectSlots, referSlots, plan, messageOf, Written, refused, message, writtenTree, written}
-use Rattle.coding.specs.declared.Object.{Object}
+use Rattle.coding.specs.Message.{lengthOf, writable, objectSlots, referSlots, plan, messageOf, refused, message, writtenTree, written}
 use Rattle.coding.specs.declared.Object.the-variants as O
 use Rattle.laws.specs.Sound.{Sound}
 use Rattle.laws.specs.Lists.{never}
@@ -30,11 +28,13 @@ use Rattle.survey.specs.Mapped.{mapped}
 use Rattle.survey.specs.Summed.{capped-in, capped-over}
 use Rattle.survey.specs.SlotSizes.{length-leBytes}
 use Rattle.survey.specs.SurveyObjects.{extentOf, object-surveyed, survey-is}
-use Rattle.writer.specs.CellLengths.{length-layout}
-use Rattle.writer.specs.Emit.{State, putBytes, emitSlots}
-use Rattle.writer.specs.EmitLayout.{state, emit-layout}
-use Rattle.writer.specs.EmitSheet.{putNumber, emitRefer, emit, emitMessage}
-use Rattle.writer.specs.EmitParts.{refer-emitted, content-emitted}
+use Rattle.emit.specs.CellLengths.{length-layout}
+use Rattle.store.specs.State.{State, putNumber}
+use Rattle.emit.specs.Emit.{emitSlots}
+use Rattle.emit.specs.EmitLayout.{state, emit-layout}
+use Rattle.emit.specs.EmitSheet.{emit, emitMessage}
+use Rattle.emit.specs.EmitParts.{refer-emitted}
+use Rattle.emit.specs.EmitObjects.{is-got, mapped-fail-is, emit-is}
 use Rattle.survey.specs.declared.Extent.{Extent}
 
 -- ---- what was got, through a function
@@ -46,33 +46,12 @@ abbrev got-rest : {A : Type 0} → Parsed A → List ℕ
 got-rest fail = []
 got-rest (got a xs) = xs
 
-abbrev pub is-got : {A : Type 0} → Parsed A → Bool
-is-got fail = false
-is-got (got a xs) = true
-
 mapped-got-is : {A B : Type 0} (f : A → B) (p : Parsed A) (x : B) (ys : List ℕ) → mapped f p ≡ got x ys → (a : A) × (p ≡ got a ys) × (f a ≡ x)
 mapped-got-is f fail x ys e = never (ap is-got e)
 mapped-got-is f (got a xs) x ys e = (a, ap (got a) (ap got-rest e), ap (got-first x) e)
 
-mapped-fail-is : {A B : Type 0} (f : A → B) (p : Parsed A) → mapped f p ≡ fail → p ≡ fail
-mapped-fail-is f fail e = refl
-mapped-fail-is f (got a xs) e = never (sym (ap is-got e))
-
--- ---- the pass over an object, and over the whole sheet
+-- ---- the whole sheet
 module _ (o : ℕ) (S : Schema) (sound : Sound S) where
-  pub emit-is : (d : ℕ) (ob : Object) (st : State) (xs : List ℕ) → emit d o S ob st xs ≡ mapped (λ v. emitSlots o st (plan d o S ob v)) (decode d S ob xs)
-  unfolding emit decode plan
-  emit-is zero ob st xs = refl
-  emit-is (suc d) ob st xs =
-      content-emitted o S sound (emit d o S) (survey d o S) (decode d S) (plan d o S) (writable d o S)
-      (λ ob′ ys. object-surveyed o S sound d ob′ ys) (λ ob′ st′ ys. emit-is d ob′ st′ ys) ob st xs
-
-  -- where the survey finds what is not lawful, so does the pass
-  pub emit-lost : (d : ℕ) (ob : Object) (st : State) (xs : List ℕ) → survey d o S ob xs ≡ fail → emit d o S ob st xs ≡ fail
-  emit-lost d ob st xs h =
-      emit-is d ob st xs
-      ∙ ap (mapped (λ v. emitSlots o st (plan d o S ob v))) (mapped-fail-is (extentOf o S sound d ob) (decode d S ob xs) (sym (survey-is o S sound d ob xs) ∙ h))
-
   -- the slots of a message: its start, and the root table
   abbrev pub messageSlots : Value → Slots
   messageSlots v = bytes (leBytes 4 0xB5C0_C4B3) (reference (objectSlots (plan deepest o S) o S (O.Table (S .root)) v) end)
@@ -85,7 +64,7 @@ module _ (o : ℕ) (S : Schema) (sound : Sound S) where
   unfolding emitMessage messageState emitSlots putNumber referSlots
   message-is out xs =
       refer-emitted o S sound (emit deepest o S) (survey deepest o S) (decode deepest S) (plan deepest o S) (writable deepest o S)
-      (λ ob ys. object-surveyed o S sound deepest ob ys) (λ ob st ys. emit-is deepest ob st ys) false (O.Table (S .root))
+      (λ ob ys. object-surveyed o S sound deepest ob ys) (λ ob st ys. emit-is o S sound deepest ob st ys) false (O.Table (S .root))
       (putNumber 4 0xB5C0_C4B3 (messageState out)) xs
 
   -- ---- the message's length

@@ -4,7 +4,7 @@ use Rattle.writer.proofs.write_lawful.Statement.{statement}
 use Rattle.writer.proofs.write_lawful.Tie as tie
 use Rattle.writer.proofs.write_lawful.Reads as reads
 use Rattle.writer.proofs.write_lawful.Lts as lts
-use Rattle.writer.proofs.emit_message.Reads as emit-message-reads
+use Rattle.emit.proofs.emit_message.Reads as emit-message-reads
 use Rattle.writer.proofs.message_size.Reads as message-size-reads
 use Rattle.writer.proofs.refused.Reads as refused-reads
 

@@ -1,0 +1,813 @@
+use Prim.Native.Nat.{ℕ, _+_, _-_, _*_, _^_, _<_, _≤_}
+use mathlib.Core.Path.{_≡_, _∙_}
+use native.Mathlib.Omega.{arith}
+use borrow.Author.Needs.{needs}
+use lib.ListN.{length, drop}
+use Rattle.coding.specs.Bytes.{u48}
+use Rattle.coding.specs.Bits.{bits}
+use Rattle.coding.specs.Packed as P
+use Rattle.coding.specs.Schema as Sc
+use Rattle.coding.specs.declared.Object.the-variants as O
+use Rattle.survey.specs.Survey.{survey}
+use Rattle.emit.specs.EmitSheet.{emitMembers, emitElements, emitContent, emit}
+use Rattle.store.specs.Storing.{stateOf}
+use Rattle.emit.specs.Emitting.{Room}
+use Rattle.survey.proofs.PartCases.{kind-flat, kind-object, union-counted, case-sound}
+use Rattle.survey.proofs.ObjectCases.{list-counted, table-counted, element-sound, member-kind, member-counted}
+use Rattle.emit.proofs.EmitRoom.{room-taken, taken-on, room-choice, room-flag, room-lack, room-open, room-part, room-below, stood-next, stood-tail}
+use Rattle.emit.proofs.EmitPartCases.{choice-cut, choice-zero, choice-above, choice-known, body-flat, body-object, body-union, part-cut, part-there, part-bad, part-none, part-pass, element-bare, element-marked}
+use Rattle.emit.proofs.EmitObjectCases.{refer-cut, refer-done, members-start, members-done, members-stopped, members-turn, elements-cut, elements-start, elements-done, elements-stopped, elements-turn, content-deep, content-text, content-bytes, content-list, content-table}
+use Rattle.emit.proofs.RunCases.{integer-wide, list-run}
+use borrow.Fn.Kinds.{In}
+use borrow.Fn.PlainCycle.{Measures, is, falls, and}
+use Rattle.emit.proofs.emit_body.Reads as emit-body
+use Rattle.emit.proofs.emit_body.Kinds as emit-body-kinds
+use Rattle.emit.proofs.+emit_body+emit_choice+emit_content+emit_element+emit_list+emit_part+emit_refer+emit_table.Lts-emit_body as emit-body-lts
+use Rattle.emit.proofs.emit_choice.Reads as emit-choice
+use Rattle.emit.proofs.emit_choice.Kinds as emit-choice-kinds
+use Rattle.emit.proofs.+emit_body+emit_choice+emit_content+emit_element+emit_list+emit_part+emit_refer+emit_table.Lts-emit_choice as emit-choice-lts
+use Rattle.emit.proofs.emit_content.Reads as emit-content
+use Rattle.emit.proofs.emit_content.Kinds as emit-content-kinds
+use Rattle.emit.proofs.+emit_body+emit_choice+emit_content+emit_element+emit_list+emit_part+emit_refer+emit_table.Lts-emit_content as emit-content-lts
+use Rattle.emit.proofs.emit_element.Reads as emit-element
+use Rattle.emit.proofs.emit_element.Kinds as emit-element-kinds
+use Rattle.emit.proofs.+emit_body+emit_choice+emit_content+emit_element+emit_list+emit_part+emit_refer+emit_table.Lts-emit_element as emit-element-lts
+use Rattle.emit.proofs.emit_list.Reads as emit-list
+use Rattle.emit.proofs.emit_list.Kinds as emit-list-kinds
+use Rattle.emit.proofs.+emit_body+emit_choice+emit_content+emit_element+emit_list+emit_part+emit_refer+emit_table.Lts-emit_list as emit-list-lts
+use Rattle.emit.proofs.emit_part.Reads as emit-part
+use Rattle.emit.proofs.emit_part.Kinds as emit-part-kinds
+use Rattle.emit.proofs.+emit_body+emit_choice+emit_content+emit_element+emit_list+emit_part+emit_refer+emit_table.Lts-emit_part as emit-part-lts
+use Rattle.emit.proofs.emit_refer.Reads as emit-refer
+use Rattle.emit.proofs.emit_refer.Kinds as emit-refer-kinds
+use Rattle.emit.proofs.+emit_body+emit_choice+emit_content+emit_element+emit_list+emit_part+emit_refer+emit_table.Lts-emit_refer as emit-refer-lts
+use Rattle.emit.proofs.emit_table.Reads as emit-table
+use Rattle.emit.proofs.emit_table.Kinds as emit-table-kinds
+use Rattle.emit.proofs.+emit_body+emit_choice+emit_content+emit_element+emit_list+emit_part+emit_refer+emit_table.Lts-emit_table as emit-table-lts
+use Rattle.bitio.proofs.take_number.Reads as take-number-reads
+use Rattle.schema.proofs.case_count.Reads as case-count-reads
+use Rattle.schema.proofs.element.Reads as element-reads
+use Rattle.schema.proofs.member.Reads as member-reads
+use Rattle.schema.proofs.member_count.Reads as member-count-reads
+use Rattle.schema.proofs.union_case.Reads as union-case-reads
+use Rattle.survey.proofs.bare.Reads as bare-reads
+use Rattle.wire.proofs.index.Reads as index-reads
+use Rattle.emit.proofs.close.Reads as close-reads
+use Rattle.emit.proofs.emit_bytes.Reads as emit-bytes-reads
+use Rattle.emit.proofs.emit_flat.Reads as emit-flat-reads
+use Rattle.emit.proofs.emit_bare.Reads as emit-bare-reads
+use Rattle.emit.proofs.emit_text.Reads as emit-text-reads
+use Rattle.emit.proofs.flag.Reads as flag-reads
+use Rattle.emit.proofs.integer_width.Reads as integer-width-reads
+use Rattle.emit.proofs.lack.Reads as lack-reads
+use Rattle.emit.proofs.measure.Reads as measure-reads
+use Rattle.emit.proofs.not_lawful.Reads as not-lawful-reads
+use Rattle.emit.proofs.open.Reads as open-reads
+use Rattle.emit.proofs.pass.Reads as pass-reads
+use Rattle.store.proofs.put_number.Reads as put-number-reads
+use Rattle.emit.proofs.put_reference.Reads as put-reference-reads
+use Rattle.emit.proofs.stored.Reads as stored-reads
+use Rattle.emit.proofs.+emit_body+emit_choice+emit_content+emit_element+emit_list+emit_part+emit_refer+emit_table.{
+  statement,
+}
+use Rattle.emit.proofs.+emit_body+emit_choice+emit_content+emit_element+emit_list+emit_part+emit_refer+emit_table.Tie.{
+  close,
+}
+
+abbrev μ-emit-body : Measures 4 emit-body-kinds.ps ℕ
+μ-emit-body κs a = 8 * a .1 .1 .1 .1 .0 + 3
+
+abbrev μ-emit-choice : Measures 4 emit-choice-kinds.ps ℕ
+μ-emit-choice κs a = 8 * a .1 .1 .1 .1 .0 + 2
+
+abbrev μ-emit-content : Measures 4 emit-content-kinds.ps ℕ
+μ-emit-content κs a = 8 * a .1 .1 .1 .1 .0 + 0
+
+abbrev μ-emit-element : Measures 4 emit-element-kinds.ps ℕ
+μ-emit-element κs a = 8 * a .1 .1 .1 .1 .0 + 5
+
+abbrev μ-emit-list : Measures 4 emit-list-kinds.ps ℕ
+μ-emit-list κs a = 8 * a .1 .1 .1 .1 .0 + 6
+
+abbrev μ-emit-part : Measures 4 emit-part-kinds.ps ℕ
+μ-emit-part κs a = 8 * a .1 .1 .1 .1 .0 + 4
+
+abbrev μ-emit-refer : Measures 4 emit-refer-kinds.ps ℕ
+μ-emit-refer κs a = 8 * a .1 .1 .1 .1 .0 + 1
+
+abbrev μ-emit-table : Measures 4 emit-table-kinds.ps ℕ
+μ-emit-table κs a = 8 * a .1 .1 .1 .1 .0 + 6
+
+abbrev emit-body-at : ℕ → In 4 emit-body-kinds.ps
+emit-body-at t = and 4 emit-body-kinds.ps (is 4 emit-body-kinds.ps μ-emit-body t) emit-body.Pre
+
+abbrev emit-body-below : ℕ → In 4 emit-body-kinds.ps
+emit-body-below t =
+    and 4 emit-body-kinds.ps (falls 4 emit-body-kinds.ps _<_ μ-emit-body t) emit-body.Pre
+
+abbrev emit-choice-at : ℕ → In 4 emit-choice-kinds.ps
+emit-choice-at t =
+    and 4 emit-choice-kinds.ps (is 4 emit-choice-kinds.ps μ-emit-choice t) emit-choice.Pre
+
+abbrev emit-choice-below : ℕ → In 4 emit-choice-kinds.ps
+emit-choice-below t =
+    and 4 emit-choice-kinds.ps (falls 4 emit-choice-kinds.ps _<_ μ-emit-choice t) emit-choice.Pre
+
+abbrev emit-content-at : ℕ → In 4 emit-content-kinds.ps
+emit-content-at t =
+    and 4 emit-content-kinds.ps (is 4 emit-content-kinds.ps μ-emit-content t) emit-content.Pre
+
+abbrev emit-content-below : ℕ → In 4 emit-content-kinds.ps
+emit-content-below t =
+    and
+    4
+    emit-content-kinds.ps
+    (falls 4 emit-content-kinds.ps _<_ μ-emit-content t)
+    emit-content.Pre
+
+abbrev emit-element-at : ℕ → In 4 emit-element-kinds.ps
+emit-element-at t =
+    and 4 emit-element-kinds.ps (is 4 emit-element-kinds.ps μ-emit-element t) emit-element.Pre
+
+abbrev emit-element-below : ℕ → In 4 emit-element-kinds.ps
+emit-element-below t =
+    and
+    4
+    emit-element-kinds.ps
+    (falls 4 emit-element-kinds.ps _<_ μ-emit-element t)
+    emit-element.Pre
+
+abbrev emit-list-at : ℕ → In 4 emit-list-kinds.ps
+emit-list-at t = and 4 emit-list-kinds.ps (is 4 emit-list-kinds.ps μ-emit-list t) emit-list.Pre
+
+abbrev emit-list-below : ℕ → In 4 emit-list-kinds.ps
+emit-list-below t =
+    and 4 emit-list-kinds.ps (falls 4 emit-list-kinds.ps _<_ μ-emit-list t) emit-list.Pre
+
+abbrev emit-part-at : ℕ → In 4 emit-part-kinds.ps
+emit-part-at t = and 4 emit-part-kinds.ps (is 4 emit-part-kinds.ps μ-emit-part t) emit-part.Pre
+
+abbrev emit-part-below : ℕ → In 4 emit-part-kinds.ps
+emit-part-below t =
+    and 4 emit-part-kinds.ps (falls 4 emit-part-kinds.ps _<_ μ-emit-part t) emit-part.Pre
+
+abbrev emit-refer-at : ℕ → In 4 emit-refer-kinds.ps
+emit-refer-at t =
+    and 4 emit-refer-kinds.ps (is 4 emit-refer-kinds.ps μ-emit-refer t) emit-refer.Pre
+
+abbrev emit-refer-below : ℕ → In 4 emit-refer-kinds.ps
+emit-refer-below t =
+    and 4 emit-refer-kinds.ps (falls 4 emit-refer-kinds.ps _<_ μ-emit-refer t) emit-refer.Pre
+
+abbrev emit-table-at : ℕ → In 4 emit-table-kinds.ps
+emit-table-at t =
+    and 4 emit-table-kinds.ps (is 4 emit-table-kinds.ps μ-emit-table t) emit-table.Pre
+
+abbrev emit-table-below : ℕ → In 4 emit-table-kinds.ps
+emit-table-below t =
+    and 4 emit-table-kinds.ps (falls 4 emit-table-kinds.ps _<_ μ-emit-table t) emit-table.Pre
+
+abbrev emit-body-R : ℕ → emit-body-lts.Claims
+emit-body-R t = (emit-flat-reads.Asked, emit-flat-reads.Learnt, emit-refer-below t, emit-refer.Post, index-reads.Asked, index-reads.Learnt, emit-choice-below t, emit-choice.Post)
+
+abbrev emit-choice-R : ℕ → emit-choice-lts.Claims
+emit-choice-R t = (case-count-reads.Asked, case-count-reads.Learnt, take-number-reads.Asked, take-number-reads.Learnt, not-lawful-reads.Asked, not-lawful-reads.Learnt, union-case-reads.Asked, union-case-reads.Learnt, put-number-reads.Asked, put-number-reads.Learnt, emit-refer-below t, emit-refer.Post)
+
+abbrev emit-content-R : ℕ → emit-content-lts.Claims
+emit-content-R t = (not-lawful-reads.Asked, not-lawful-reads.Learnt, emit-text-reads.Asked, emit-text-reads.Learnt, emit-bytes-reads.Asked, emit-bytes-reads.Learnt, index-reads.Asked, index-reads.Learnt, emit-list-below t, emit-list.Post, emit-table-below t, emit-table.Post)
+
+abbrev emit-element-R : ℕ → emit-element-lts.Claims
+emit-element-R t = (bare-reads.Asked, bare-reads.Learnt, emit-body-below t, emit-body.Post, emit-part-below t, emit-part.Post)
+
+abbrev emit-list-R : ℕ → emit-list-lts.Claims
+emit-list-R t = (take-number-reads.Asked, take-number-reads.Learnt, not-lawful-reads.Asked, not-lawful-reads.Learnt, element-reads.Asked, element-reads.Learnt, bare-reads.Asked, bare-reads.Learnt, integer-width-reads.Asked, integer-width-reads.Learnt, emit-bare-reads.Asked, emit-bare-reads.Learnt, emit-element-below t, emit-element.Post, stored-reads.Asked, stored-reads.Learnt)
+
+abbrev emit-part-R : ℕ → emit-part-lts.Claims
+emit-part-R t = (take-number-reads.Asked, take-number-reads.Learnt, not-lawful-reads.Asked, not-lawful-reads.Learnt, flag-reads.Asked, flag-reads.Learnt, emit-body-below t, emit-body.Post, lack-reads.Asked, lack-reads.Learnt, stored-reads.Asked, stored-reads.Learnt, pass-reads.Asked, pass-reads.Learnt)
+
+abbrev emit-refer-R : ℕ → emit-refer-lts.Claims
+emit-refer-R t = (measure-reads.Asked, measure-reads.Learnt, put-reference-reads.Asked, put-reference-reads.Learnt, open-reads.Asked, open-reads.Learnt, emit-content-below t, emit-content.Post, not-lawful-reads.Asked, not-lawful-reads.Learnt, close-reads.Asked, close-reads.Learnt, stored-reads.Asked, stored-reads.Learnt)
+
+abbrev emit-table-R : ℕ → emit-table-lts.Claims
+emit-table-R t = (member-count-reads.Asked, member-count-reads.Learnt, member-reads.Asked, member-reads.Learnt, emit-part-below t, emit-part.Post, not-lawful-reads.Asked, not-lawful-reads.Learnt, stored-reads.Asked, stored-reads.Learnt)
+
+-- src/lib.rt:848:22
+emit-body-enum-known-k : (t : ℕ) → emit-body-lts.Need-enum-known-k (emit-body-R t) (emit-body-at t) emit-body.Post
+emit-body-enum-known-k t c = search needs
+
+-- src/lib.rt:848:28
+emit-body-emit-flat-requires : (t : ℕ) → emit-body-lts.Need-emit-flat-requires (emit-body-R t) (emit-body-at t) emit-body.Post
+emit-body-emit-flat-requires t c κs = search (kind-flat, needs)
+
+-- src/lib.rt:849:24
+emit-body-enum-known-k-2 : (t : ℕ) → emit-body-lts.Need-enum-known-k-2 (emit-body-R t) (emit-body-at t) emit-body.Post
+emit-body-enum-known-k-2 t c = search needs
+
+-- src/lib.rt:849:31
+emit-body-emit-refer-requires : (t : ℕ) → emit-body-lts.Need-emit-refer-requires (emit-body-R t) (emit-body-at t) emit-body.Post
+emit-body-emit-refer-requires t c κs = search (kind-object, needs)
+
+-- src/lib.rt:850:23
+emit-body-enum-known-k-3 : (t : ℕ) → emit-body-lts.Need-enum-known-k-3 (emit-body-R t) (emit-body-at t) emit-body.Post
+emit-body-enum-known-k-3 t c = search needs
+
+-- src/lib.rt:850:60
+emit-body-index-requires : (t : ℕ) → emit-body-lts.Need-index-requires (emit-body-R t) (emit-body-at t) emit-body.Post
+emit-body-index-requires t c κs = search needs
+
+-- src/lib.rt:850:29
+emit-body-emit-choice-requires : (t : ℕ) → emit-body-lts.Need-emit-choice-requires (emit-body-R t) (emit-body-at t) emit-body.Post
+emit-body-emit-choice-requires t c κs = search (union-counted, needs)
+
+-- src/lib.rt:832:1
+emit-body-same-length : (t : ℕ) → emit-body-lts.Need-same-length (emit-body-R t) (emit-body-at t) emit-body.Post
+emit-body-same-length t c = search needs
+
+-- src/lib.rt:832:1
+emit-body-returns : (t : ℕ) → emit-body-lts.Need-returns (emit-body-R t) (emit-body-at t) emit-body.Post
+emit-body-returns t c = search body-flat
+
+-- src/lib.rt:832:1
+emit-body-same-length-2 : (t : ℕ) → emit-body-lts.Need-same-length-2 (emit-body-R t) (emit-body-at t) emit-body.Post
+emit-body-same-length-2 t c = search needs
+
+-- src/lib.rt:832:1
+emit-body-returns-2 : (t : ℕ) → emit-body-lts.Need-returns-2 (emit-body-R t) (emit-body-at t) emit-body.Post
+emit-body-returns-2 t c = search body-object
+
+-- src/lib.rt:832:1
+emit-body-same-length-3 : (t : ℕ) → emit-body-lts.Need-same-length-3 (emit-body-R t) (emit-body-at t) emit-body.Post
+emit-body-same-length-3 t c = search needs
+
+-- src/lib.rt:832:1
+emit-body-returns-3 : (t : ℕ) → emit-body-lts.Need-returns-3 (emit-body-R t) (emit-body-at t) emit-body.Post
+emit-body-returns-3 t c = search body-union
+
+-- src/lib.rt:813:9
+emit-choice-case-count-requires : (t : ℕ) → emit-choice-lts.Need-case-count-requires (emit-choice-R t) (emit-choice-at t) emit-choice.Post
+emit-choice-case-count-requires t c κs = search needs
+
+-- src/lib.rt:814:9
+emit-choice-take-number-requires : (t : ℕ) → emit-choice-lts.Need-take-number-requires (emit-choice-R t) (emit-choice-at t) emit-choice.Post
+emit-choice-take-number-requires t c κs = search needs
+
+-- src/lib.rt:816:9
+emit-choice-not-lawful-requires : (t : ℕ) → emit-choice-lts.Need-not-lawful-requires (emit-choice-R t) (emit-choice-at t) emit-choice.Post
+emit-choice-not-lawful-requires t c κs = search needs
+
+-- src/lib.rt:816:9
+emit-choice-returns : (t : ℕ) → emit-choice-lts.Need-returns (emit-choice-R t) (emit-choice-at t) emit-choice.Post
+emit-choice-returns t c = search choice-cut
+
+-- src/lib.rt:820:9
+emit-choice-not-lawful-requires-2 : (t : ℕ) → emit-choice-lts.Need-not-lawful-requires-2 (emit-choice-R t) (emit-choice-at t) emit-choice.Post
+emit-choice-not-lawful-requires-2 t c κs = search needs
+
+-- src/lib.rt:820:9
+emit-choice-returns-2 : (t : ℕ) → emit-choice-lts.Need-returns-2 (emit-choice-R t) (emit-choice-at t) emit-choice.Post
+emit-choice-returns-2 t c = search choice-zero
+
+-- src/lib.rt:823:9
+emit-choice-not-lawful-requires-3 : (t : ℕ) → emit-choice-lts.Need-not-lawful-requires-3 (emit-choice-R t) (emit-choice-at t) emit-choice.Post
+emit-choice-not-lawful-requires-3 t c κs = search needs
+
+-- src/lib.rt:823:9
+emit-choice-returns-3 : (t : ℕ) → emit-choice-lts.Need-returns-3 (emit-choice-R t) (emit-choice-at t) emit-choice.Post
+emit-choice-returns-3 t c = search choice-above
+
+-- src/lib.rt:825:9
+emit-choice-union-case-requires : (t : ℕ) → emit-choice-lts.Need-union-case-requires (emit-choice-R t) (emit-choice-at t) emit-choice.Post
+emit-choice-union-case-requires t c κs = search needs
+
+-- src/lib.rt:827:9
+emit-choice-put-number-requires : (t : ℕ) → emit-choice-lts.Need-put-number-requires (emit-choice-R t) (emit-choice-at t) emit-choice.Post
+emit-choice-put-number-requires t c κs = search (room-below, needs)
+
+-- src/lib.rt:828:5
+emit-choice-emit-refer-requires : (t : ℕ) → emit-choice-lts.Need-emit-refer-requires (emit-choice-R t) (emit-choice-at t) emit-choice.Post
+emit-choice-emit-refer-requires t c κs = (omega arith, ((c .before .before .before .before .before .before .before .before .before .before .before .before .before .before .before .before .pre .1 .0 .0, search (case-sound, c .before .before .before .before .before .before .before .before .before .before .before .before .before .before .before .before .pre .1 .0 .0, c .before .before .before .before .before .before .before .if2 .left, c .before .before .before .before .before .before .before .before .before .before .before .case-count .ensures .0, c .before .before .before .before .before .before .if3 .left, c .before .before .before .before .before .union-case .ensures)), search (room-choice, c .before .before .before .before .before .before .before .before .before .before .before .before .before .before .before .before .pre .1 .1, c .before .before .before .before .before .before .before .before .before .before .take-number .ensures, c .before .before .before .before .before .before .before .before .if1 .left, c .before .before .before .put-number .ensures)))
+
+-- src/lib.rt:798:1
+emit-choice-same-length : (t : ℕ) → emit-choice-lts.Need-same-length (emit-choice-R t) (emit-choice-at t) emit-choice.Post
+emit-choice-same-length t c = search needs
+
+-- src/lib.rt:798:1
+emit-choice-returns-4 : (t : ℕ) → emit-choice-lts.Need-returns-4 (emit-choice-R t) (emit-choice-at t) emit-choice.Post
+emit-choice-returns-4 t c = search (choice-known, c .before .before .before .before .before .before .before .before .before .before .before .before .before .before .before .before .before .before .before .pre .1 .1, c .before .before .before .before .before .before .before .before .before .before .before .before .before .take-number .ensures, c .before .before .before .before .before .before .before .before .before .before .before .if1 .left, c .before .before .before .before .before .before .before .before .before .before .if2 .left, c .before .before .before .before .before .before .before .before .before .before .before .before .before .before .case-count .ensures .0, c .before .before .before .before .before .before .before .before .before .if3 .left, c .before .before .before .before .before .before .before .before .union-case .ensures, c .before .before .before .before .before .before .put-number .ensures, c .before .before .emit-refer .ensures)
+
+-- src/lib.rt:1000:9
+emit-content-not-lawful-requires : (t : ℕ) → emit-content-lts.Need-not-lawful-requires (emit-content-R t) (emit-content-at t) emit-content.Post
+emit-content-not-lawful-requires t c κs = search needs
+
+-- src/lib.rt:1000:9
+emit-content-returns : (t : ℕ) → emit-content-lts.Need-returns (emit-content-R t) (emit-content-at t) emit-content.Post
+emit-content-returns t c = search content-deep
+
+-- src/lib.rt:1003:38
+emit-content-enum-told : (t : ℕ) → emit-content-lts.Need-enum-told (emit-content-R t) (emit-content-at t) emit-content.Post
+emit-content-enum-told t c = search needs
+
+-- src/lib.rt:1003:25
+emit-content-emit-text-requires : (t : ℕ) → emit-content-lts.Need-emit-text-requires (emit-content-R t) (emit-content-at t) emit-content.Post
+emit-content-emit-text-requires t c κs = search needs
+
+-- src/lib.rt:1004:40
+emit-content-enum-told-2 : (t : ℕ) → emit-content-lts.Need-enum-told-2 (emit-content-R t) (emit-content-at t) emit-content.Post
+emit-content-enum-told-2 t c = search needs
+
+-- src/lib.rt:1004:26
+emit-content-emit-bytes-requires : (t : ℕ) → emit-content-lts.Need-emit-bytes-requires (emit-content-R t) (emit-content-at t) emit-content.Post
+emit-content-emit-bytes-requires t c κs = search needs
+
+-- src/lib.rt:1005:22
+emit-content-enum-known-ob : (t : ℕ) → emit-content-lts.Need-enum-known-ob (emit-content-R t) (emit-content-at t) emit-content.Post
+emit-content-enum-known-ob t c = search needs
+
+-- src/lib.rt:1005:54
+emit-content-sub-emit-list : (t : ℕ) → emit-content-lts.Need-sub-emit-list (emit-content-R t) (emit-content-at t) emit-content.Post
+emit-content-sub-emit-list t c = search needs
+
+-- src/lib.rt:1005:61
+emit-content-index-requires : (t : ℕ) → emit-content-lts.Need-index-requires (emit-content-R t) (emit-content-at t) emit-content.Post
+emit-content-index-requires t c κs = search needs
+
+-- src/lib.rt:1005:28
+emit-content-emit-list-requires : (t : ℕ) → emit-content-lts.Need-emit-list-requires (emit-content-R t) (emit-content-at t) emit-content.Post
+emit-content-emit-list-requires t c κs = search (list-counted, needs)
+
+-- src/lib.rt:1006:23
+emit-content-enum-known-ob-2 : (t : ℕ) → emit-content-lts.Need-enum-known-ob-2 (emit-content-R t) (emit-content-at t) emit-content.Post
+emit-content-enum-known-ob-2 t c = search needs
+
+-- src/lib.rt:1006:56
+emit-content-sub-emit-table : (t : ℕ) → emit-content-lts.Need-sub-emit-table (emit-content-R t) (emit-content-at t) emit-content.Post
+emit-content-sub-emit-table t c = search needs
+
+-- src/lib.rt:1006:63
+emit-content-index-requires-2 : (t : ℕ) → emit-content-lts.Need-index-requires-2 (emit-content-R t) (emit-content-at t) emit-content.Post
+emit-content-index-requires-2 t c κs = search needs
+
+-- src/lib.rt:1006:29
+emit-content-emit-table-requires : (t : ℕ) → emit-content-lts.Need-emit-table-requires (emit-content-R t) (emit-content-at t) emit-content.Post
+emit-content-emit-table-requires t c κs = search (table-counted, needs)
+
+-- src/lib.rt:985:1
+emit-content-same-length : (t : ℕ) → emit-content-lts.Need-same-length (emit-content-R t) (emit-content-at t) emit-content.Post
+emit-content-same-length t c = search needs
+
+-- src/lib.rt:985:1
+emit-content-returns-2 : (t : ℕ) → emit-content-lts.Need-returns-2 (emit-content-R t) (emit-content-at t) emit-content.Post
+emit-content-returns-2 t c = search content-text
+
+-- src/lib.rt:985:1
+emit-content-same-length-2 : (t : ℕ) → emit-content-lts.Need-same-length-2 (emit-content-R t) (emit-content-at t) emit-content.Post
+emit-content-same-length-2 t c = search needs
+
+-- src/lib.rt:985:1
+emit-content-returns-3 : (t : ℕ) → emit-content-lts.Need-returns-3 (emit-content-R t) (emit-content-at t) emit-content.Post
+emit-content-returns-3 t c = search content-bytes
+
+-- src/lib.rt:985:1
+emit-content-same-length-3 : (t : ℕ) → emit-content-lts.Need-same-length-3 (emit-content-R t) (emit-content-at t) emit-content.Post
+emit-content-same-length-3 t c = search needs
+
+-- src/lib.rt:985:1
+emit-content-returns-4 : (t : ℕ) → emit-content-lts.Need-returns-4 (emit-content-R t) (emit-content-at t) emit-content.Post
+emit-content-returns-4 t c = search content-list
+
+-- src/lib.rt:985:1
+emit-content-same-length-4 : (t : ℕ) → emit-content-lts.Need-same-length-4 (emit-content-R t) (emit-content-at t) emit-content.Post
+emit-content-same-length-4 t c = search needs
+
+-- src/lib.rt:985:1
+emit-content-returns-5 : (t : ℕ) → emit-content-lts.Need-returns-5 (emit-content-R t) (emit-content-at t) emit-content.Post
+emit-content-returns-5 t c = search content-table
+
+-- src/lib.rt:905:8
+emit-element-bare-requires : (t : ℕ) → emit-element-lts.Need-bare-requires (emit-element-R t) (emit-element-at t) emit-element.Post
+emit-element-bare-requires t c κs = search needs
+
+-- src/lib.rt:906:9
+emit-element-emit-body-requires : (t : ℕ) → emit-element-lts.Need-emit-body-requires (emit-element-R t) (emit-element-at t) emit-element.Post
+emit-element-emit-body-requires t c κs = search needs
+
+-- src/lib.rt:906:9
+emit-element-same-length : (t : ℕ) → emit-element-lts.Need-same-length (emit-element-R t) (emit-element-at t) emit-element.Post
+emit-element-same-length t c = search needs
+
+-- src/lib.rt:906:9
+emit-element-returns : (t : ℕ) → emit-element-lts.Need-returns (emit-element-R t) (emit-element-at t) emit-element.Post
+emit-element-returns t c = search element-bare
+
+-- src/lib.rt:913:5
+emit-element-emit-part-requires : (t : ℕ) → emit-element-lts.Need-emit-part-requires (emit-element-R t) (emit-element-at t) emit-element.Post
+emit-element-emit-part-requires t c κs = search needs
+
+-- src/lib.rt:891:1
+emit-element-same-length-2 : (t : ℕ) → emit-element-lts.Need-same-length-2 (emit-element-R t) (emit-element-at t) emit-element.Post
+emit-element-same-length-2 t c = search needs
+
+-- src/lib.rt:891:1
+emit-element-returns-2 : (t : ℕ) → emit-element-lts.Need-returns-2 (emit-element-R t) (emit-element-at t) emit-element.Post
+emit-element-returns-2 t c = search element-marked
+
+abbrev emit-list-Inv-loop : emit-list-lts.InvT-loop
+emit-list-Inv-loop b dir s out₀ d i c pos n k p₀ at₀ j₀ out p at j =
+    (j ≤ n) × (n < 2 ^ 32) × (length out ≡ length out₀) × Room s pos c × Room s at p × (p .at + 8192 * pos ≤ c .at + 8192 * at)
+    × (emitContent (emit d u48 (P.parse b)) (survey d u48 (P.parse b)) u48 (P.parse b) (O.List i) (stateOf c out₀) (drop pos (bits s)) ≡ emitElements (emit d u48 (P.parse b)) (survey d u48 (P.parse b)) u48 (P.parse b) k (n - j) (stateOf p out) (drop at (bits s)))
+
+abbrev emit-list-μ-loop : emit-list-lts.MeasureT-loop
+emit-list-μ-loop b dir s out₀ d i c pos n k p₀ at₀ j₀ out p at j = n - j
+
+-- src/lib.rt:963:9
+emit-list-take-number-requires : (t : ℕ) → emit-list-lts.Need-take-number-requires (emit-list-R t) (emit-list-at t) emit-list.Post emit-list-Inv-loop emit-list-μ-loop
+emit-list-take-number-requires t c κs = search needs
+
+-- src/lib.rt:965:9
+emit-list-not-lawful-requires : (t : ℕ) → emit-list-lts.Need-not-lawful-requires (emit-list-R t) (emit-list-at t) emit-list.Post emit-list-Inv-loop emit-list-μ-loop
+emit-list-not-lawful-requires t c κs = search needs
+
+-- src/lib.rt:965:9
+emit-list-returns : (t : ℕ) → emit-list-lts.Need-returns (emit-list-R t) (emit-list-at t) emit-list.Post emit-list-Inv-loop emit-list-μ-loop
+emit-list-returns t c = search elements-cut
+
+-- src/lib.rt:968:9
+emit-list-element-requires : (t : ℕ) → emit-list-lts.Need-element-requires (emit-list-R t) (emit-list-at t) emit-list.Post emit-list-Inv-loop emit-list-μ-loop
+emit-list-element-requires t c κs = search needs
+
+emit-list-bare-requires : (t : ℕ) → emit-list-lts.Need-bare-requires (emit-list-R t) (emit-list-at t) emit-list.Post emit-list-Inv-loop emit-list-μ-loop
+emit-list-bare-requires t c κs = search needs
+
+emit-list-integer-width-requires : (t : ℕ) → emit-list-lts.Need-integer-width-requires (emit-list-R t) (emit-list-at t) emit-list.Post emit-list-Inv-loop emit-list-μ-loop
+emit-list-integer-width-requires t c κs = search needs
+
+emit-list-emit-bare-requires : (t : ℕ) → emit-list-lts.Need-emit-bare-requires (emit-list-R t) (emit-list-at t) emit-list.Post emit-list-Inv-loop emit-list-μ-loop
+emit-list-emit-bare-requires t c κs = (search integer-wide, search room-taken)
+
+emit-list-same-length : (t : ℕ) → emit-list-lts.Need-same-length (emit-list-R t) (emit-list-at t) emit-list.Post emit-list-Inv-loop emit-list-μ-loop
+emit-list-same-length t c = search needs
+
+emit-list-returns-2 : (t : ℕ) → emit-list-lts.Need-returns-2 (emit-list-R t) (emit-list-at t) emit-list.Post emit-list-Inv-loop emit-list-μ-loop
+emit-list-returns-2 t c = search (list-run, c .before .before .before .before .before .before .before .before .before .before .before .before .before .before .before .pre .1 .0 .0, c .before .before .before .before .before .before .before .before .before .before .before .before .before .before .before .pre .1 .1, c .before .before .before .before .before .before .before .before .before .before .take-number .ensures, c .before .before .before .before .before .before .before .before .if1 .left, c .before .before .before .before .before .before .before .element .ensures, c .before .before .before .before .before .before .bare .ensures, c .before .before .before .before .before .if2 .taken, c .before .before .before .integer-width .ensures, c .before .before .emit-bare .ensures)
+
+-- src/lib.rt:972:5
+emit-list-loop-holds : (t : ℕ) → emit-list-lts.Need-loop-holds (emit-list-R t) (emit-list-at t) emit-list.Post emit-list-Inv-loop emit-list-μ-loop
+emit-list-loop-holds t c = (search needs, search needs, search needs, search needs, search room-taken, search taken-on, search elements-start)
+
+-- src/lib.rt:973:13
+emit-list-emit-element-requires : (t : ℕ) → emit-list-lts.Need-emit-element-requires (emit-list-R t) (emit-list-at t) emit-list.Post emit-list-Inv-loop emit-list-μ-loop
+emit-list-emit-element-requires t c κs = search (element-sound, needs)
+
+-- src/lib.rt:975:13
+emit-list-not-lawful-requires-2 : (t : ℕ) → emit-list-lts.Need-not-lawful-requires-2 (emit-list-R t) (emit-list-at t) emit-list.Post emit-list-Inv-loop emit-list-μ-loop
+emit-list-not-lawful-requires-2 t c κs = search needs
+
+-- src/lib.rt:975:13
+emit-list-same-length-2 : (t : ℕ) → emit-list-lts.Need-same-length-2 (emit-list-R t) (emit-list-at t) emit-list.Post emit-list-Inv-loop emit-list-μ-loop
+emit-list-same-length-2 t c = search needs
+
+-- src/lib.rt:975:13
+emit-list-returns-3 : (t : ℕ) → emit-list-lts.Need-returns-3 (emit-list-R t) (emit-list-at t) emit-list.Post emit-list-Inv-loop emit-list-μ-loop
+emit-list-returns-3 t c = search elements-stopped
+
+-- src/lib.rt:979:9
+emit-list-add-j : (t : ℕ) → emit-list-lts.Need-add-j (emit-list-R t) (emit-list-at t) emit-list.Post emit-list-Inv-loop emit-list-μ-loop
+emit-list-add-j t c = search needs
+
+-- src/lib.rt:972:5
+emit-list-loop-less : (t : ℕ) → emit-list-lts.Need-loop-less (emit-list-R t) (emit-list-at t) emit-list.Post emit-list-Inv-loop emit-list-μ-loop
+emit-list-loop-less t c = search needs
+
+-- src/lib.rt:972:5
+emit-list-loop-again : (t : ℕ) → emit-list-lts.Need-loop-again (emit-list-R t) (emit-list-at t) emit-list.Post emit-list-Inv-loop emit-list-μ-loop
+emit-list-loop-again t c = (search needs, search needs, search needs, search needs, search room-part, search needs, search elements-turn)
+
+-- src/lib.rt:981:5
+emit-list-stored-requires : (t : ℕ) → emit-list-lts.Need-stored-requires (emit-list-R t) (emit-list-at t) emit-list.Post emit-list-Inv-loop emit-list-μ-loop
+emit-list-stored-requires t c κs = search needs
+
+-- src/lib.rt:949:1
+emit-list-same-length-3 : (t : ℕ) → emit-list-lts.Need-same-length-3 (emit-list-R t) (emit-list-at t) emit-list.Post emit-list-Inv-loop emit-list-μ-loop
+emit-list-same-length-3 t c = search needs
+
+-- src/lib.rt:949:1
+emit-list-returns-4 : (t : ℕ) → emit-list-lts.Need-returns-4 (emit-list-R t) (emit-list-at t) emit-list.Post emit-list-Inv-loop emit-list-μ-loop
+emit-list-returns-4 t c = search elements-done
+
+-- src/lib.rt:869:9
+emit-part-take-number-requires : (t : ℕ) → emit-part-lts.Need-take-number-requires (emit-part-R t) (emit-part-at t) emit-part.Post
+emit-part-take-number-requires t c κs = search needs
+
+-- src/lib.rt:871:9
+emit-part-not-lawful-requires : (t : ℕ) → emit-part-lts.Need-not-lawful-requires (emit-part-R t) (emit-part-at t) emit-part.Post
+emit-part-not-lawful-requires t c κs = search needs
+
+-- src/lib.rt:871:9
+emit-part-returns : (t : ℕ) → emit-part-lts.Need-returns (emit-part-R t) (emit-part-at t) emit-part.Post
+emit-part-returns t c = search part-cut
+
+-- src/lib.rt:877:13
+emit-part-flag-requires : (t : ℕ) → emit-part-lts.Need-flag-requires (emit-part-R t) (emit-part-at t) emit-part.Post
+emit-part-flag-requires t c κs = search (room-below, needs)
+
+-- src/lib.rt:878:9
+emit-part-emit-body-requires : (t : ℕ) → emit-part-lts.Need-emit-body-requires (emit-part-R t) (emit-part-at t) emit-part.Post
+emit-part-emit-body-requires t c κs = search (room-flag, needs)
+
+-- src/lib.rt:878:9
+emit-part-same-length : (t : ℕ) → emit-part-lts.Need-same-length (emit-part-R t) (emit-part-at t) emit-part.Post
+emit-part-same-length t c = search needs
+
+-- src/lib.rt:878:9
+emit-part-returns-2 : (t : ℕ) → emit-part-lts.Need-returns-2 (emit-part-R t) (emit-part-at t) emit-part.Post
+emit-part-returns-2 t c = search (part-there, c .before .before .before .before .before .before .before .before .before .before .before .before .before .before .before .before .pre .1 .1, c .before .before .before .before .before .before .before .before .before .before .before .take-number .ensures, c .before .before .before .before .before .before .before .before .before .if1 .left, c .before .before .before .before .before .before .before .before .if2 .taken, c .before .before .before .before .before .before .flag .ensures, c .before .before .emit-body .ensures)
+
+-- src/lib.rt:881:9
+emit-part-not-lawful-requires-2 : (t : ℕ) → emit-part-lts.Need-not-lawful-requires-2 (emit-part-R t) (emit-part-at t) emit-part.Post
+emit-part-not-lawful-requires-2 t c κs = search needs
+
+-- src/lib.rt:881:9
+emit-part-returns-3 : (t : ℕ) → emit-part-lts.Need-returns-3 (emit-part-R t) (emit-part-at t) emit-part.Post
+emit-part-returns-3 t c = search part-bad
+
+-- src/lib.rt:883:9
+emit-part-flag-requires-2 : (t : ℕ) → emit-part-lts.Need-flag-requires-2 (emit-part-R t) (emit-part-at t) emit-part.Post
+emit-part-flag-requires-2 t c κs = search (room-below, needs)
+
+-- src/lib.rt:884:9
+emit-part-lack-requires : (t : ℕ) → emit-part-lts.Need-lack-requires (emit-part-R t) (emit-part-at t) emit-part.Post
+emit-part-lack-requires t c κs = search needs
+
+-- src/lib.rt:886:9
+emit-part-stored-requires : (t : ℕ) → emit-part-lts.Need-stored-requires (emit-part-R t) (emit-part-at t) emit-part.Post
+emit-part-stored-requires t c κs = search needs
+
+-- src/lib.rt:886:9
+emit-part-same-length-2 : (t : ℕ) → emit-part-lts.Need-same-length-2 (emit-part-R t) (emit-part-at t) emit-part.Post
+emit-part-same-length-2 t c = search needs
+
+-- src/lib.rt:886:9
+emit-part-returns-4 : (t : ℕ) → emit-part-lts.Need-returns-4 (emit-part-R t) (emit-part-at t) emit-part.Post
+emit-part-returns-4 t c = search (part-none, c .before .before .before .before .before .before .before .before .before .before .before .before .before .before .before .before .before .before .before .pre .1 .1, c .before .before .before .before .before .before .before .before .before .before .before .before .before .before .take-number .ensures, c .before .before .before .before .before .before .before .before .before .before .before .before .if1 .left, c .before .before .before .before .before .before .before .before .before .before .before .if2 .left, c .before .before .before .before .before .before .before .before .before .before .if3 .left, c .before .before .before .before .before .before .before .before .flag2 .ensures, c .before .before .before .before .lack .ensures, c .before .if4 .taken, c .stored .ensures .0, c .stored .ensures .1, c .stored .ensures .2)
+
+-- src/lib.rt:888:5
+emit-part-pass-requires : (t : ℕ) → emit-part-lts.Need-pass-requires (emit-part-R t) (emit-part-at t) emit-part.Post
+emit-part-pass-requires t c κs = ((c .before .before .before .before .before .before .before .before .before .before .before .before .before .before .before .before .before .before .before .pre .1 .0 .0, c .before .before .before .before .before .before .before .before .before .before .before .before .before .before .before .before .before .before .before .pre .1 .0 .1), search (room-lack, c .before .before .before .before .before .before .before .before .before .before .before .before .before .before .before .before .before .before .before .pre .1 .1, c .before .before .before .before .before .before .before .before .before .before .before .before .before .before .take-number .ensures, c .before .before .before .before .before .before .before .before .before .before .before .before .if1 .left, c .before .before .before .before .before .before .before .before .flag2 .ensures, c .before .before .before .before .lack .ensures))
+
+-- src/lib.rt:855:1
+emit-part-same-length-3 : (t : ℕ) → emit-part-lts.Need-same-length-3 (emit-part-R t) (emit-part-at t) emit-part.Post
+emit-part-same-length-3 t c = search needs
+
+-- src/lib.rt:855:1
+emit-part-returns-5 : (t : ℕ) → emit-part-lts.Need-returns-5 (emit-part-R t) (emit-part-at t) emit-part.Post
+emit-part-returns-5 t c = search (part-pass, c .before .before .before .before .before .before .before .before .before .before .before .before .before .before .before .before .before .before .before .before .before .before .pre .1 .1, c .before .before .before .before .before .before .before .before .before .before .before .before .before .before .before .before .before .take-number .ensures, c .before .before .before .before .before .before .before .before .before .before .before .before .before .before .before .if1 .left, c .before .before .before .before .before .before .before .before .before .before .before .before .before .before .if2 .left, c .before .before .before .before .before .before .before .before .before .before .before .before .before .if3 .left, c .before .before .before .before .before .before .before .before .before .before .before .flag2 .ensures, c .before .before .before .before .before .before .before .lack .ensures, c .before .before .before .before .if4 .left, c .before .before .pass .ensures)
+
+emit-refer-measure-requires : (t : ℕ) → emit-refer-lts.Need-measure-requires (emit-refer-R t) (emit-refer-at t) emit-refer.Post
+emit-refer-measure-requires t c κs = search needs
+
+emit-refer-put-reference-requires : (t : ℕ) → emit-refer-lts.Need-put-reference-requires (emit-refer-R t) (emit-refer-at t) emit-refer.Post
+emit-refer-put-reference-requires t c κs = search (room-below, needs)
+
+emit-refer-open-requires : (t : ℕ) → emit-refer-lts.Need-open-requires (emit-refer-R t) (emit-refer-at t) emit-refer.Post
+emit-refer-open-requires t c κs = (c .before .before .before .before .before .before .before .before .before .before .pre .1 .0 .0, c .before .before .before .before .before .before .before .before .before .before .pre .1 .0 .1, c .before .before .before .before .before .measure .ensures .small, search (stood-next, c .before .before .before .before .before .before .before .before .before .before .pre .1 .1, c .before .before .before .put-reference .ensures), search (stood-tail, c .before .before .before .before .before .before .before .before .before .before .pre .1 .1, c .before .before .before .put-reference .ensures))
+
+emit-refer-emit-content-requires : (t : ℕ) → emit-refer-lts.Need-emit-content-requires (emit-refer-R t) (emit-refer-at t) emit-refer.Post
+emit-refer-emit-content-requires t c κs = (omega (arith, c .before .before .before .before .before .before .before .before .before .before .before .before .before .before .pre .0), ((c .before .before .before .before .before .before .before .before .before .before .before .before .before .before .pre .1 .0 .0, c .before .before .before .before .before .before .before .before .before .before .before .before .before .before .pre .1 .0 .1), search (room-open, c .before .before .before .before .before .before .before .before .before .before .before .before .before .before .pre .1 .1, c .before .before .before .open .ensures)))
+
+emit-refer-not-lawful-requires : (t : ℕ) → emit-refer-lts.Need-not-lawful-requires (emit-refer-R t) (emit-refer-at t) emit-refer.Post
+emit-refer-not-lawful-requires t c κs = search needs
+
+emit-refer-same-length : (t : ℕ) → emit-refer-lts.Need-same-length (emit-refer-R t) (emit-refer-at t) emit-refer.Post
+emit-refer-same-length t c = search needs
+
+emit-refer-returns : (t : ℕ) → emit-refer-lts.Need-returns (emit-refer-R t) (emit-refer-at t) emit-refer.Post
+emit-refer-returns t c = search (refer-cut, c .before .before .before .before .before .before .before .before .before .before .before .before .before .before .before .before .before .before .before .before .pre .1 .0 .0, c .before .before .before .before .before .before .before .before .before .before .before .before .before .before .before .before .before .before .before .before .pre .1 .1, c .before .before .before .before .before .before .before .before .before .before .before .before .before .before .before .measure .ensures, c .before .before .before .before .before .before .before .before .before .before .before .before .before .put-reference .ensures, c .before .before .before .before .before .before .before .before .before .open .ensures, c .before .before .before .before .before .emit-content .ensures, c .before .if1 .taken, c .not-lawful .ensures .0, c .not-lawful .ensures .1, c .not-lawful .ensures .2)
+
+emit-refer-close-requires : (t : ℕ) → emit-refer-lts.Need-close-requires (emit-refer-R t) (emit-refer-at t) emit-refer.Post
+emit-refer-close-requires t c κs = search needs
+
+emit-refer-stored-requires : (t : ℕ) → emit-refer-lts.Need-stored-requires (emit-refer-R t) (emit-refer-at t) emit-refer.Post
+emit-refer-stored-requires t c κs = search needs
+
+emit-refer-same-length-2 : (t : ℕ) → emit-refer-lts.Need-same-length-2 (emit-refer-R t) (emit-refer-at t) emit-refer.Post
+emit-refer-same-length-2 t c = c .before .before .before .before .before .before .emit-content .kept .1 .1 .1 .0 ∙ c .before .before .before .before .before .before .before .before .before .before .open .kept .1 .1 .0 ∙ c .before .before .before .before .before .before .before .before .before .before .before .before .before .before .put-reference .kept .0
+
+emit-refer-returns-2 : (t : ℕ) → emit-refer-lts.Need-returns-2 (emit-refer-R t) (emit-refer-at t) emit-refer.Post
+emit-refer-returns-2 t c = search (refer-done, c .before .before .before .before .before .before .before .before .before .before .before .before .before .before .before .before .before .before .before .before .before .pre .1 .0 .0, c .before .before .before .before .before .before .before .before .before .before .before .before .before .before .before .before .before .before .before .before .before .pre .1 .1, c .before .before .before .before .before .before .before .before .before .before .before .before .before .before .before .before .measure .ensures, c .before .before .before .before .before .before .before .before .before .before .before .before .before .before .put-reference .ensures, c .before .before .before .before .before .before .before .before .before .before .open .ensures, c .before .before .before .before .before .before .emit-content .ensures, c .before .before .if1 .left, c .before .close .ensures, c .stored .ensures .0, c .stored .ensures .1, c .stored .ensures .2)
+
+abbrev emit-table-Inv-loop : emit-table-lts.InvT-loop
+emit-table-Inv-loop b dir s out₀ d t c pos n p₀ at₀ j₀ out p at j =
+    (j ≤ n) × (n ≡ length (Sc.tableOf (P.parse b) t .members)) × (n < 256) × (length out ≡ length out₀) × Room s pos c × Room s at p × (p .at + 8192 * pos ≤ c .at + 8192 * at)
+    × (emitContent (emit d u48 (P.parse b)) (survey d u48 (P.parse b)) u48 (P.parse b) (O.Table t) (stateOf c out₀) (drop pos (bits s)) ≡ emitMembers (emit d u48 (P.parse b)) (survey d u48 (P.parse b)) u48 (P.parse b) (drop j (Sc.tableOf (P.parse b) t .members)) (stateOf p out) (drop at (bits s)))
+
+abbrev emit-table-μ-loop : emit-table-lts.MeasureT-loop
+emit-table-μ-loop b dir s out₀ d t c pos n p₀ at₀ j₀ out p at j = n - j
+
+-- src/lib.rt:931:9
+emit-table-member-count-requires : (t : ℕ) → emit-table-lts.Need-member-count-requires (emit-table-R t) (emit-table-at t) emit-table.Post emit-table-Inv-loop emit-table-μ-loop
+emit-table-member-count-requires t c κs = search needs
+
+-- src/lib.rt:935:5
+emit-table-loop-holds : (t : ℕ) → emit-table-lts.Need-loop-holds (emit-table-R t) (emit-table-at t) emit-table.Post emit-table-Inv-loop emit-table-μ-loop
+emit-table-loop-holds t c = (search needs, search needs, search needs, search needs, search needs, search needs, search needs, search members-start)
+
+-- src/lib.rt:936:13
+emit-table-member-requires : (t : ℕ) → emit-table-lts.Need-member-requires (emit-table-R t) (emit-table-at t) emit-table.Post emit-table-Inv-loop emit-table-μ-loop
+emit-table-member-requires t c κs = (search needs, search needs, search member-counted, search needs)
+
+-- src/lib.rt:937:13
+emit-table-emit-part-requires : (t : ℕ) → emit-table-lts.Need-emit-part-requires (emit-table-R t) (emit-table-at t) emit-table.Post emit-table-Inv-loop emit-table-μ-loop
+emit-table-emit-part-requires t c κs = search (member-kind, needs)
+
+-- src/lib.rt:939:13
+emit-table-not-lawful-requires : (t : ℕ) → emit-table-lts.Need-not-lawful-requires (emit-table-R t) (emit-table-at t) emit-table.Post emit-table-Inv-loop emit-table-μ-loop
+emit-table-not-lawful-requires t c κs = search needs
+
+-- src/lib.rt:939:13
+emit-table-same-length : (t : ℕ) → emit-table-lts.Need-same-length (emit-table-R t) (emit-table-at t) emit-table.Post emit-table-Inv-loop emit-table-μ-loop
+emit-table-same-length t c = search needs
+
+-- src/lib.rt:939:13
+emit-table-returns : (t : ℕ) → emit-table-lts.Need-returns (emit-table-R t) (emit-table-at t) emit-table.Post emit-table-Inv-loop emit-table-μ-loop
+emit-table-returns t c = search members-stopped
+
+-- src/lib.rt:943:9
+emit-table-add-j : (t : ℕ) → emit-table-lts.Need-add-j (emit-table-R t) (emit-table-at t) emit-table.Post emit-table-Inv-loop emit-table-μ-loop
+emit-table-add-j t c = search needs
+
+-- src/lib.rt:935:5
+emit-table-loop-less : (t : ℕ) → emit-table-lts.Need-loop-less (emit-table-R t) (emit-table-at t) emit-table.Post emit-table-Inv-loop emit-table-μ-loop
+emit-table-loop-less t c = search needs
+
+-- src/lib.rt:935:5
+emit-table-loop-again : (t : ℕ) → emit-table-lts.Need-loop-again (emit-table-R t) (emit-table-at t) emit-table.Post emit-table-Inv-loop emit-table-μ-loop
+emit-table-loop-again t c = (search needs, search needs, search needs, search needs, search needs, search room-part, search needs, search (members-turn, c .before .before .before .before .before .before .before .before .before .loop .inv .7, c .before .before .before .before .before .before .before .before .before .loop .inv .1, c .before .before .before .before .before .before .before .before .loop-test .taken, c .before .before .before .before .before .before .before .member .ensures, c .before .before .before .before .before .emit-part .ensures, c .before .if1 .left))
+
+-- src/lib.rt:945:5
+emit-table-stored-requires : (t : ℕ) → emit-table-lts.Need-stored-requires (emit-table-R t) (emit-table-at t) emit-table.Post emit-table-Inv-loop emit-table-μ-loop
+emit-table-stored-requires t c κs = search needs
+
+-- src/lib.rt:917:1
+emit-table-same-length-2 : (t : ℕ) → emit-table-lts.Need-same-length-2 (emit-table-R t) (emit-table-at t) emit-table.Post emit-table-Inv-loop emit-table-μ-loop
+emit-table-same-length-2 t c = search needs
+
+-- src/lib.rt:917:1
+emit-table-returns-2 : (t : ℕ) → emit-table-lts.Need-returns-2 (emit-table-R t) (emit-table-at t) emit-table.Post emit-table-Inv-loop emit-table-μ-loop
+emit-table-returns-2 t c = search members-done
+
+pub +emit-body+emit-choice+emit-content+emit-element+emit-list+emit-part+emit-refer+emit-table-spec :
+    {M : Type 1} → statement M
++emit-body+emit-choice+emit-content+emit-element+emit-list+emit-part+emit-refer+emit-table-spec =
+    close
+    μ-emit-body
+    μ-emit-choice
+    μ-emit-content
+    μ-emit-element
+    μ-emit-list
+    μ-emit-part
+    μ-emit-refer
+    μ-emit-table
+    (λ t. emit-body-lts.spec (emit-body-R t)
+    (emit-body-at t)
+    emit-body.Post
+    (emit-body-enum-known-k t)
+    (emit-body-emit-flat-requires t)
+    (emit-body-enum-known-k-2 t)
+    (emit-body-emit-refer-requires t)
+    (emit-body-enum-known-k-3 t)
+    (emit-body-index-requires t)
+    (emit-body-emit-choice-requires t)
+    (emit-body-same-length t)
+    (emit-body-returns t)
+    (emit-body-same-length-2 t)
+    (emit-body-returns-2 t)
+    (emit-body-same-length-3 t)
+    (emit-body-returns-3 t))
+    (λ t. emit-choice-lts.spec (emit-choice-R t)
+    (emit-choice-at t)
+    emit-choice.Post
+    (emit-choice-case-count-requires t)
+    (emit-choice-take-number-requires t)
+    (emit-choice-not-lawful-requires t)
+    (emit-choice-returns t)
+    (emit-choice-not-lawful-requires-2 t)
+    (emit-choice-returns-2 t)
+    (emit-choice-not-lawful-requires-3 t)
+    (emit-choice-returns-3 t)
+    (emit-choice-union-case-requires t)
+    (emit-choice-put-number-requires t)
+    (emit-choice-emit-refer-requires t)
+    (emit-choice-same-length t)
+    (emit-choice-returns-4 t))
+    (λ t. emit-content-lts.spec (emit-content-R t)
+    (emit-content-at t)
+    emit-content.Post
+    (emit-content-not-lawful-requires t)
+    (emit-content-returns t)
+    (emit-content-enum-told t)
+    (emit-content-emit-text-requires t)
+    (emit-content-enum-told-2 t)
+    (emit-content-emit-bytes-requires t)
+    (emit-content-enum-known-ob t)
+    (emit-content-sub-emit-list t)
+    (emit-content-index-requires t)
+    (emit-content-emit-list-requires t)
+    (emit-content-enum-known-ob-2 t)
+    (emit-content-sub-emit-table t)
+    (emit-content-index-requires-2 t)
+    (emit-content-emit-table-requires t)
+    (emit-content-same-length t)
+    (emit-content-returns-2 t)
+    (emit-content-same-length-2 t)
+    (emit-content-returns-3 t)
+    (emit-content-same-length-3 t)
+    (emit-content-returns-4 t)
+    (emit-content-same-length-4 t)
+    (emit-content-returns-5 t))
+    (λ t. emit-element-lts.spec (emit-element-R t)
+    (emit-element-at t)
+    emit-element.Post
+    (emit-element-bare-requires t)
+    (emit-element-emit-body-requires t)
+    (emit-element-same-length t)
+    (emit-element-returns t)
+    (emit-element-emit-part-requires t)
+    (emit-element-same-length-2 t)
+    (emit-element-returns-2 t))
+    (λ t. emit-list-lts.spec (emit-list-R t)
+    (emit-list-at t)
+    emit-list.Post
+    emit-list-Inv-loop
+    emit-list-μ-loop
+    (emit-list-take-number-requires t)
+    (emit-list-not-lawful-requires t)
+    (emit-list-returns t)
+    (emit-list-element-requires t)
+    (emit-list-bare-requires t)
+    (emit-list-integer-width-requires t)
+    (emit-list-emit-bare-requires t)
+    (emit-list-same-length t)
+    (emit-list-returns-2 t)
+    (emit-list-loop-holds t)
+    (emit-list-emit-element-requires t)
+    (emit-list-not-lawful-requires-2 t)
+    (emit-list-same-length-2 t)
+    (emit-list-returns-3 t)
+    (emit-list-add-j t)
+    (emit-list-loop-less t)
+    (emit-list-loop-again t)
+    (emit-list-stored-requires t)
+    (emit-list-same-length-3 t)
+    (emit-list-returns-4 t))
+    (λ t. emit-part-lts.spec (emit-part-R t)
+    (emit-part-at t)
+    emit-part.Post
+    (emit-part-take-number-requires t)
+    (emit-part-not-lawful-requires t)
+    (emit-part-returns t)
+    (emit-part-flag-requires t)
+    (emit-part-emit-body-requires t)
+    (emit-part-same-length t)
+    (emit-part-returns-2 t)
+    (emit-part-not-lawful-requires-2 t)
+    (emit-part-returns-3 t)
+    (emit-part-flag-requires-2 t)
+    (emit-part-lack-requires t)
+    (emit-part-stored-requires t)
+    (emit-part-same-length-2 t)
+    (emit-part-returns-4 t)
+    (emit-part-pass-requires t)
+    (emit-part-same-length-3 t)
+    (emit-part-returns-5 t))
+    (λ t. emit-refer-lts.spec (emit-refer-R t)
+    (emit-refer-at t)
+    emit-refer.Post
+    (emit-refer-measure-requires t)
+    (emit-refer-put-reference-requires t)
+    (emit-refer-open-requires t)
+    (emit-refer-emit-content-requires t)
+    (emit-refer-not-lawful-requires t)
+    (emit-refer-same-length t)
+    (emit-refer-returns t)
+    (emit-refer-close-requires t)
+    (emit-refer-stored-requires t)
+    (emit-refer-same-length-2 t)
+    (emit-refer-returns-2 t))
+    λ t. emit-table-lts.spec (emit-table-R t)
+    (emit-table-at t)
+    emit-table.Post
+    emit-table-Inv-loop
+    emit-table-μ-loop
+    (emit-table-member-count-requires t)
+    (emit-table-loop-holds t)
+    (emit-table-member-requires t)
+    (emit-table-emit-part-requires t)
+    (emit-table-not-lawful-requires t)
+    (emit-table-same-length t)
+    (emit-table-returns t)
+    (emit-table-add-j t)
+    (emit-table-loop-less t)
+    (emit-table-loop-again t)
+    (emit-table-stored-requires t)
+    (emit-table-same-length-2 t)
+    (emit-table-returns-2 t)

@@ -1,0 +1,201 @@
+-- The ways out of the pass over objects, one lemma for each.
+use mathlib.Core.Path.{_≡_, refl, sym, ap, _∙_, subst}
+use mathlib.Core.Bool.{Bool, true, false, not}
+use mathlib.Core.List.{List, [], _∷_}
+use Prim.Native.Nat.{ℕ, zero, suc, _+_, _-_, _*_, _<_, _≤_}
+use native.Mathlib.Omega.{arith}
+use native.Mathlib.Numerals.{add-one, sub-one}
+use lib.ListN.{length, drop, drop-of-length-le}
+use lib.Seq.{drop-cons}
+use borrow.Author.Tests.{not-true, not-false}
+use Rattle.coding.specs.Lists.{pick}
+use Rattle.coding.specs.Bytes.{u48}
+use Rattle.coding.specs.Bits.{bits}
+use Rattle.coding.specs.Packed.{parse}
+use Rattle.coding.specs.Schema as Sc
+use Rattle.coding.specs.Schema.{Schema}
+use Rattle.coding.specs.Sheet.{Parsed, fail, got, bind}
+use Rattle.coding.specs.declared.Object.{Object}
+use Rattle.coding.specs.declared.Object.the-variants as O
+use Rattle.coding.specs.declared.Kind.{Kind}
+use Rattle.coding.specs.declared.Member.{Member}
+use Rattle.schema.specs.Directory.{Accepted, accepted-sound}
+use Rattle.bitio.specs.Taken.{TakenNumber}
+use Rattle.survey.specs.Survey.{Surveyor, survey}
+use Rattle.survey.specs.declared.Extent.{Extent}
+use Rattle.store.specs.State.{State}
+use Rattle.emit.specs.EmitSheet.{Emitter, emitRefer, emitElement, emitMembers, emitElements, emitBlob, emitContent, emit}
+use Rattle.emit.specs.EmitObjects.{emit-lost}
+use Rattle.emit.specs.Measure.{Measured}
+use Rattle.store.specs.Storing.{stateOf, Stood}
+use Rattle.emit.specs.Emitting.{closed, referred, opened, emitMember, Room, EmittedAt, Opens}
+use Rattle.store.specs.declared.Places.{Places}
+use Rattle.emit.proofs.EmitRoom.{refused}
+use Rattle.emit.proofs.EmitRest.{emitted-on}
+use Rattle.emit.proofs.EmitPartCases.{refer-unlawful, refer-closed}
+
+-- ---- an object that is referred to: its content goes forward in the sheet
+module _ (d : ℕ) (b dir : List ℕ) (a : Accepted b dir) (s : List ℕ) (inplace : Bool) (ob : Object) (c : Places) (o : List ℕ) (pos : ℕ) (room : Room s pos c)
+    (x : Extent) (m : Measured inplace (survey d u48 (parse b) ob (drop pos (bits s))) x)
+    (p : Places) (o₁ : List ℕ) (st : Stood 6 (referred inplace x (stateOf c o)) (stateOf p o₁) c p)
+    (q : Places) (o₂ : List ℕ) (op : Opens (opened (parse b) ob inplace x (stateOf p o₁)) (stateOf q o₂) q)
+    (yw : Bool) (y : Places) (o₃ : List ℕ) (yn : ℕ) (em : EmittedAt s (emit d u48 (parse b) ob (stateOf q o₂) (drop pos (bits s))) pos q 0 yw y o₃ yn) where
+  lost : (u : State) → survey d u48 (parse b) ob (drop pos (bits s)) ≡ fail → emit d u48 (parse b) ob u (drop pos (bits s)) ≡ fail
+  lost u e = emit-lost u48 (parse b) (accepted-sound b dir a) d ob u (drop pos (bits s)) e
+
+  pub refer-cut : not yw ≡ true → (w : Bool) (r : Places) (n : ℕ) → w ≡ false → r ≡ c → n ≡ pos
+      → EmittedAt s (emitRefer (emit d u48 (parse b)) (survey d u48 (parse b)) u48 (parse b) inplace ob (stateOf c o) (drop pos (bits s))) pos c 6 w r o₃ n
+  refer-cut f w r n ew er en =
+      refer-unlawful (emit d u48 (parse b)) (survey d u48 (parse b)) (parse b) s inplace ob c o pos room x m lost p o₁ st q o₂ op yw y o₃ yn em f w r n ew er en
+
+  pub refer-done : not yw ≡ false → (k : Places) → k ≡ closed inplace p y → (w : Bool) (r : Places) (n : ℕ) → w ≡ true → r ≡ k → n ≡ yn
+      → EmittedAt s (emitRefer (emit d u48 (parse b)) (survey d u48 (parse b)) u48 (parse b) inplace ob (stateOf c o) (drop pos (bits s))) pos c 6 w r o₃ n
+  refer-done f k ek w r n ew er en =
+      refer-closed (emit d u48 (parse b)) (survey d u48 (parse b)) (parse b) s inplace ob c o pos room x m lost p o₁ st q o₂ op yw y o₃ yn em
+      (emitted-on d u48 (parse b) s ob (stateOf q o₂) pos q 0 yw y o₃ yn em (room .here) f) f k ek w r n ew er en
+
+-- ---- the members of a table, from member j on
+module _ (child : Emitter) (measure : Surveyor) (S : Schema) (s : List ℕ) (t : ℕ) (c : Places) (o : List ℕ) (pos : ℕ) where
+  pub members-start : emitContent child measure u48 S (O.Table t) (stateOf c o) (drop pos (bits s)) ≡ emitMembers child measure u48 S (drop 0 (Sc.tableOf S t .members)) (stateOf c o) (drop pos (bits s))
+  unfolding emitContent
+  members-start = refl
+
+  module _ (p : Places) (o₁ : List ℕ) (at j : ℕ)
+      (inv : emitContent child measure u48 S (O.Table t) (stateOf c o) (drop pos (bits s)) ≡ emitMembers child measure u48 S (drop j (Sc.tableOf S t .members)) (stateOf p o₁) (drop at (bits s)))
+      (count : ℕ) (ec : count ≡ length (Sc.tableOf S t .members)) where
+    pub members-done : count ≤ j → Room s at p → p .at + 8192 * pos ≤ c .at + 8192 * at → (w : Bool) (q : Places) (n : ℕ) → w ≡ true → q ≡ p → n ≡ at
+        → EmittedAt s (emitContent child measure u48 S (O.Table t) (stateOf c o) (drop pos (bits s))) pos c 0 w q o₁ n
+    unfolding emitMembers
+    members-done h room l w q n ew eq en =
+        let m : length (Sc.tableOf S t .members) ≤ j = omega arith in
+        let g : p .at + 8192 * pos ≤ c .at + 0 + 8192 * at = omega arith in
+        rw (ew, eq, en)
+        (record {
+          is = inv ∙ ap (λ (ms : List Member). emitMembers child measure u48 S ms (stateOf p o₁) (drop at (bits s))) (drop-of-length-le (Sc.tableOf S t .members) m);
+          here = room .here;
+          at = g;
+          bool = room .bool;
+          tail = room .tail;
+          next = room .next;
+        })
+
+    module _ (h : j < count) (r : Member) (er : r ≡ Sc.memberOf S t j) (whole : Bool) (y : Places) (o₂ : List ℕ) (next : ℕ)
+        (em : EmittedAt s (emitMember child measure u48 S r (stateOf p o₁) (drop at (bits s))) at p 0 whole y o₂ next) where
+      abbrev rest : Parsed State → Parsed State
+      rest z = bind z (λ st ys. emitMembers child measure u48 S (drop (suc j) (Sc.tableOf S t .members)) st ys)
+
+      turned : emitContent child measure u48 S (O.Table t) (stateOf c o) (drop pos (bits s)) ≡ rest (pick whole (got (stateOf y o₂) (drop next (bits s))) fail)
+      unfolding emitMembers emitMember Sc.memberOf
+      turned =
+          let l : j < length (Sc.tableOf S t .members) = omega arith in
+          inv ∙ ap (λ (ms : List Member). emitMembers child measure u48 S ms (stateOf p o₁) (drop at (bits s))) (drop-cons (Sc.tableOf S t .members) j Sc.plainBool l)
+          ∙ ap rest (ap (λ (m : Member). emitMember child measure u48 S m (stateOf p o₁) (drop at (bits s))) (sym er) ∙ em .is)
+
+      pub members-stopped : Room s pos c → not whole ≡ true → (w : Bool) (q : Places) (n : ℕ) → w ≡ false → q ≡ c → n ≡ pos
+          → EmittedAt s (emitContent child measure u48 S (O.Table t) (stateOf c o) (drop pos (bits s))) pos c 0 w q o₂ n
+      unfolding bind
+      members-stopped room f w q n ew eq en =
+          refused s _ pos c 0 (turned ∙ ap (λ (u : Bool). rest (pick u (got (stateOf y o₂) (drop next (bits s))) fail)) (not-true whole f)) room w q o₂ n ew eq en
+
+      pub members-turn : not whole ≡ false
+          → emitContent child measure u48 S (O.Table t) (stateOf c o) (drop pos (bits s)) ≡ emitMembers child measure u48 S (drop (j + 1) (Sc.tableOf S t .members)) (stateOf y o₂) (drop next (bits s))
+      unfolding bind
+      members-turn f =
+          turned ∙ ap (λ (u : Bool). rest (pick u (got (stateOf y o₂) (drop next (bits s))) fail)) (not-false whole f)
+          ∙ ap (λ (m : ℕ). emitMembers child measure u48 S (drop m (Sc.tableOf S t .members)) (stateOf y o₂) (drop next (bits s))) (sym (add-one j))
+
+-- ---- the elements of a list, from element j on
+module _ (child : Emitter) (measure : Surveyor) (S : Schema) (s : List ℕ) (i : ℕ) (c : Places) (o : List ℕ) (pos : ℕ) where
+  module _ (whole : Bool) (n first : ℕ) (taken : TakenNumber s pos 32 whole n first) where
+    pub elements-cut : Room s pos c → not whole ≡ true → (w : Bool) (q : Places) (m : ℕ) → w ≡ false → q ≡ c → m ≡ pos
+        → EmittedAt s (emitContent child measure u48 S (O.List i) (stateOf c o) (drop pos (bits s))) pos c 0 w q o m
+    unfolding emitContent bind
+    elements-cut room h w q m ew eq em = refused s _ pos c 0 (rw (taken .number, not-true whole h)) room w q o m ew eq em
+
+    pub elements-start : not whole ≡ false → (k : Kind) → k ≡ Sc.elementOf S i
+        → emitContent child measure u48 S (O.List i) (stateOf c o) (drop pos (bits s)) ≡ emitElements child measure u48 S k (n - 0) (stateOf c o) (drop first (bits s))
+    unfolding emitContent bind
+    elements-start h k ek =
+        let e : n ≡ n - 0 = omega arith in
+        rw (taken .number, not-false whole h)
+        (ap (λ (q : Kind). emitElements child measure u48 S q n (stateOf c o) (drop first (bits s))) (sym ek)
+        ∙ ap (λ (y : ℕ). emitElements child measure u48 S k y (stateOf c o) (drop first (bits s))) e)
+
+  module _ (k : Kind) (n : ℕ) (p : Places) (o₁ : List ℕ) (at j : ℕ)
+      (inv : emitContent child measure u48 S (O.List i) (stateOf c o) (drop pos (bits s)) ≡ emitElements child measure u48 S k (n - j) (stateOf p o₁) (drop at (bits s))) where
+    pub elements-done : n ≤ j → Room s at p → p .at + 8192 * pos ≤ c .at + 8192 * at → (w : Bool) (q : Places) (m : ℕ) → w ≡ true → q ≡ p → m ≡ at
+        → EmittedAt s (emitContent child measure u48 S (O.List i) (stateOf c o) (drop pos (bits s))) pos c 0 w q o₁ m
+    unfolding emitElements
+    elements-done h room l w q m ew eq em =
+        let z : n - j ≡ 0 = omega arith in
+        let g : p .at + 8192 * pos ≤ c .at + 0 + 8192 * at = omega arith in
+        rw (ew, eq, em)
+        (record {
+          is = inv ∙ ap (λ (y : ℕ). emitElements child measure u48 S k y (stateOf p o₁) (drop at (bits s))) z;
+          here = room .here;
+          at = g;
+          bool = room .bool;
+          tail = room .tail;
+          next = room .next;
+        })
+
+    module _ (h : j < n) (whole : Bool) (y : Places) (o₂ : List ℕ) (next : ℕ)
+        (em : EmittedAt s (emitElement child measure u48 S k (stateOf p o₁) (drop at (bits s))) at p 0 whole y o₂ next) where
+      abbrev left : Parsed State → Parsed State
+      left z = bind z (λ st ys. emitElements child measure u48 S k (n - (j + 1)) st ys)
+
+      opens : emitContent child measure u48 S (O.List i) (stateOf c o) (drop pos (bits s)) ≡ left (pick whole (got (stateOf y o₂) (drop next (bits s))) fail)
+      unfolding emitElements
+      opens =
+          let z : n - j ≡ suc (n - (j + 1)) = omega arith in
+          inv ∙ ap (λ (m : ℕ). emitElements child measure u48 S k m (stateOf p o₁) (drop at (bits s))) z ∙ ap left (em .is)
+
+      pub elements-stopped : Room s pos c → not whole ≡ true → (w : Bool) (q : Places) (m : ℕ) → w ≡ false → q ≡ c → m ≡ pos
+          → EmittedAt s (emitContent child measure u48 S (O.List i) (stateOf c o) (drop pos (bits s))) pos c 0 w q o₂ m
+      unfolding bind
+      elements-stopped room f w q m ew eq em′ =
+          refused s _ pos c 0 (opens ∙ ap (λ (u : Bool). left (pick u (got (stateOf y o₂) (drop next (bits s))) fail)) (not-true whole f)) room w q o₂ m ew eq em′
+
+      pub elements-turn : not whole ≡ false
+          → emitContent child measure u48 S (O.List i) (stateOf c o) (drop pos (bits s)) ≡ emitElements child measure u48 S k (n - (j + 1)) (stateOf y o₂) (drop next (bits s))
+      unfolding bind
+      elements-turn f = opens ∙ ap (λ (u : Bool). left (pick u (got (stateOf y o₂) (drop next (bits s))) fail)) (not-false whole f)
+
+-- ---- an object's content
+module _ (d : ℕ) (S : Schema) (s : List ℕ) (ob : Object) (c : Places) (o : List ℕ) (pos : ℕ) (w : Bool) (q : Places) (o₁ : List ℕ) (n : ℕ) where
+  pub content-deep : d ≡ 0 → Room s pos c → w ≡ false → q ≡ c → n ≡ pos → EmittedAt s (emit d u48 S ob (stateOf c o) (drop pos (bits s))) pos c 0 w q o₁ n
+  unfolding emit
+  content-deep z room ew eq en = refused s _ pos c 0 (rw z refl) room w q o₁ n ew eq en
+
+  module _ (h : d ≡ 0 → ⊥) where
+    content : EmittedAt s (emitContent (emit (d - 1) u48 S) (survey (d - 1) u48 S) u48 S ob (stateOf c o) (drop pos (bits s))) pos c 0 w q o₁ n
+        → EmittedAt s (emit d u48 S ob (stateOf c o) (drop pos (bits s))) pos c 0 w q o₁ n
+    unfolding emit
+    content t = by d h t
+      where
+        by : (k : ℕ) → (k ≡ 0 → ⊥) → EmittedAt s (emitContent (emit (k - 1) u48 S) (survey (k - 1) u48 S) u48 S ob (stateOf c o) (drop pos (bits s))) pos c 0 w q o₁ n
+            → EmittedAt s (emit k u48 S ob (stateOf c o) (drop pos (bits s))) pos c 0 w q o₁ n
+        by zero f p = absurd (f refl)
+        by (suc k) f p = rw sub-one at p
+
+    pub content-text : ob ≡ O.Text → EmittedAt s (emitBlob (0 ∷ []) (stateOf c o) (drop pos (bits s))) pos c 0 w q o₁ n
+        → EmittedAt s (emit d u48 S ob (stateOf c o) (drop pos (bits s))) pos c 0 w q o₁ n
+    unfolding emitContent
+    content-text eo t = content (rw eo t)
+
+    pub content-bytes : ob ≡ O.Bytes → EmittedAt s (emitBlob [] (stateOf c o) (drop pos (bits s))) pos c 0 w q o₁ n
+        → EmittedAt s (emit d u48 S ob (stateOf c o) (drop pos (bits s))) pos c 0 w q o₁ n
+    unfolding emitContent
+    content-bytes eo t = content (rw eo t)
+
+    pub content-list : (i j : ℕ) → ob ≡ O.List i → j ≡ i
+        → EmittedAt s (emitContent (emit (d - 1) u48 S) (survey (d - 1) u48 S) u48 S (O.List j) (stateOf c o) (drop pos (bits s))) pos c 0 w q o₁ n
+        → EmittedAt s (emit d u48 S ob (stateOf c o) (drop pos (bits s))) pos c 0 w q o₁ n
+    content-list i j eo ej t =
+        content (rw eo (subst (λ (a : ℕ). EmittedAt s (emitContent (emit (d - 1) u48 S) (survey (d - 1) u48 S) u48 S (O.List a) (stateOf c o) (drop pos (bits s))) pos c 0 w q o₁ n) ej t))
+
+    pub content-table : (i j : ℕ) → ob ≡ O.Table i → j ≡ i
+        → EmittedAt s (emitContent (emit (d - 1) u48 S) (survey (d - 1) u48 S) u48 S (O.Table j) (stateOf c o) (drop pos (bits s))) pos c 0 w q o₁ n
+        → EmittedAt s (emit d u48 S ob (stateOf c o) (drop pos (bits s))) pos c 0 w q o₁ n
+    content-table i j eo ej t =
+        content (rw eo (subst (λ (a : ℕ). EmittedAt s (emitContent (emit (d - 1) u48 S) (survey (d - 1) u48 S) u48 S (O.Table a) (stateOf c o) (drop pos (bits s))) pos c 0 w q o₁ n) ej t))

@@ -1,0 +1,10 @@
+pub mod EmitRoom
+pub mod OpenCases
+pub mod EmitCases
+pub mod StructCases
+pub mod EmitRest
+pub mod MeasureCases
+pub mod RunCases
+pub mod EmitPartCases
+pub mod EmitObjectCases
+pub mod EmitMessageCases

@@ -1,0 +1,3 @@
+pub mod StoreCases
+pub mod BitCases
+pub mod PutCases
