@@ -10,7 +10,7 @@ use native.Mathlib.Numerals.{add-one}
 use lib.ListN.{length, drop, drop-of-length-le}
 use lib.Seq.{drop-cons}
 use lib.Dec.{ltb, leb, eqb}
-use borrow.Author.Tests.{le-leb, lt-leb, lt-ltb, le-ltb}
+use borrow.Author.Tests.{le-leb, lt-leb, lt-ltb, le-ltb, leb-true, leb-false}
 use Rattle.coding.specs.Lists.{pick}
 use Rattle.coding.specs.Bytes.{u48, largest}
 use Rattle.coding.specs.Schema as Sc
@@ -65,6 +65,30 @@ joined-fits a e s t et c ec lc b eb lb =
     record {
       is = extent-same t (a .writable && e .writable) (a .length) (a .width) c (capped (a .chain + e .chain)) b (capped (a .below + e .below)) et ec eb;
       small = record { length = s .length; width = s .width; chain = lc; below = lb };
+    }
+
+capped-same : (n : ℕ) → n ≤ 16777216 → n ≡ capped n
+capped-same n h = by (leb n 16777215) refl
+  where
+    by : (t : Bool) → leb n 16777215 ≡ t → n ≡ capped n
+    by true e = capped-short n (leb-true n 16777215 e)
+    by false e =
+        let l = leb-false n 16777215 e in
+        let z : n ≡ 16777216 = omega arith in
+        z ∙ capped-past n l
+
+capped-more : (n : ℕ) → n ≤ 16777216 → n ≡ capped (n + 0)
+capped-more n h = let z : n ≡ n + 0 = omega arith in capped-same n h ∙ ap capped z
+
+-- with what leads to no object only whether it can be written changes
+pub plain-joined : (a : Extent) → Small a → (fine t : Bool) → t ≡ (a .writable && fine)
+    → Fits (joined a (plain fine)) (record { writable = t; length = a .length; width = a .width; chain = a .chain; below = a .below })
+unfolding joined plain
+plain-joined a s fine t et =
+    record {
+      is = extent-same t (a .writable && fine) (a .length) (a .width) (a .chain) (capped (a .chain + 0)) (a .below) (capped (a .below + 0)) et
+          (capped-more (a .chain) (s .chain)) (capped-more (a .below) (s .below));
+      small = record { length = s .length; width = s .width; chain = s .chain; below = s .below };
     }
 
 module _ (may : Bool) (n : ℕ) (fine : Bool) where

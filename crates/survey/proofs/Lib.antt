@@ -2,3 +2,4 @@ pub mod FlatCases
 pub mod ExtentCases
 pub mod PartCases
 pub mod ObjectCases
+pub mod LeafCases

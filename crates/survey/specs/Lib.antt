@@ -10,3 +10,4 @@ pub mod SurveyObjects
 pub mod Surveyed
 pub mod BareElements
 pub mod BlobReferred
+pub mod Leaves

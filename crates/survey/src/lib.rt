@@ -17,12 +17,13 @@ ghost use Rattle.coding.specs.Lists.{pick};
 ghost use Rattle.coding.specs.Schema as Sc;
 ghost use Rattle.coding.specs.Step as T;
 ghost use lib.Dec.{ltb};
-ghost use Rattle.laws.specs.Sound.{FlatSound, ObjectSound, KindSound};
+ghost use Rattle.laws.specs.Sound.{FlatSound, ObjectSound, KindSound, MemberSound};
 ghost use Rattle.schema.specs.Directory.{Accepted};
 ghost use Rattle.survey.specs.Survey as Sv;
 ghost use Rattle.survey.specs.BareElements as Ba;
 ghost use Rattle.survey.specs.BlobReferred.{BlobEnd, blobReferred};
 ghost use Rattle.survey.specs.Surveyed.{TestedAt, Small, Fits, SurveyedAt};
+ghost use Rattle.survey.specs.Leaves.{flatPart, joinedPart, LeftAt};
 
 // What an object of the sheet takes: whether it can be written; the length that its header gives; the bytes of its content
 // (width), of the contents in place behind it (chain), and of the objects that these refer to (below). The last two count to
@@ -249,6 +250,67 @@ fn flat_lost(s: &[u8], pos: usize, k: Flat) -> Tested
     }
 }
 
+// ---- by the record of a member
+// Whether there may be no value.
+fn may_lack_at(b: &[u8], at: usize) -> bool
+    requires { ⌜ at + 1 < length (now b) ⌝ }
+    ensures { λ r. ⌜ r ≡ Sv.flatMayLack (P.optionalAt (now (b .entry)) at) (P.flatAt (now (b .entry)) at) ⌝ }
+{
+    if schema::kind_at(b, at) == 11 {
+        return true;
+    }
+    schema::optional_at(b, at)
+}
+
+// What is there.
+fn flat_body(b: &[u8], dir: &[u16], s: &[u8], at: usize, pos: usize) -> Tested
+    requires { ⌜ (Accepted (now b) (now dir)) × (at + 1 < length (now b)) × (FlatSound (length (P.parse (now b) .structs)) (P.flatAt (now b) at)) × (length (now s) ≤ 16777215) × (pos ≤ 8 * length (now s)) ⌝ }
+    ensures { λ r. ⌜ TestedAt (now (s .entry)) (Sv.surveyFlat (Sv.surveyStruct (P.parse (now (b .entry)))) (P.optionalAt (now (b .entry)) at) (P.flatAt (now (b .entry)) at) (drop pos (bits (now (s .entry))))) (r .whole) (r .fine) (r .next) ⌝ }
+{
+    let k = schema::kind_at(b, at);
+    if k == 0 {
+        return any_number(s, pos, 1);
+    }
+    if k < 9 {
+        return any_number(s, pos, 8 * wire::index(schema::width_of(k)));
+    }
+    if k < 11 {
+        return float_number(s, pos, schema::optional_at(b, at), schema::width_of(k));
+    }
+    let n = schema::argument_at(b, at);
+    if k == 11 {
+        return enum_known(s, pos, n);
+    }
+    struct_test(b, dir, s, wire::index(n), pos)
+}
+
+// With its mark.
+fn flat_part(b: &[u8], dir: &[u16], s: &[u8], at: usize, pos: usize) -> Tested
+    requires { ⌜ (Accepted (now b) (now dir)) × (at + 1 < length (now b)) × (FlatSound (length (P.parse (now b) .structs)) (P.flatAt (now b) at)) × (length (now s) ≤ 16777215) × (pos ≤ 8 * length (now s)) ⌝ }
+    ensures { λ r. ⌜ TestedAt (now (s .entry)) (flatPart (Sv.surveyStruct (P.parse (now (b .entry)))) (P.optionalAt (now (b .entry)) at) (P.flatAt (now (b .entry)) at) (drop pos (bits (now (s .entry))))) (r .whole) (r .fine) (r .next) ⌝ }
+{
+    let x = bitio::take_number(s, pos, 2);
+    if !x.whole {
+        return not_lawful(pos);
+    }
+    let mark = x.value;
+    let next = x.next;
+    if mark == 0 {
+        return Tested {
+            whole: true,
+            fine: may_lack_at(b, at),
+            next: next,
+        };
+    }
+    if mark == 1 {
+        return flat_body(b, dir, s, at, next);
+    }
+    if mark == 2 {
+        return flat_lost(s, next, schema::flat_at(b, at));
+    }
+    not_lawful(pos)
+}
+
 // A union's unknown choice.
 fn choice_lost(b: &[u8], dir: &[u16], s: &[u8], pos: usize, u: usize) -> Tested
     requires { ⌜ (Accepted (now b) (now dir)) × (u < P.unionCount (now b)) × (length (now s) ≤ 16777215) × (pos ≤ 8 * length (now s)) ⌝ }
@@ -336,6 +398,24 @@ fn joined(a: Extent, e: Extent) -> Extent
         width: width,
         chain: capped(chain),
         below: capped(below),
+    }
+}
+
+// With what leads to no object.
+fn joined_plain(a: Extent, fine: bool) -> Extent
+    requires { ⌜ Small a ⌝ }
+    ensures { λ r. ⌜ Fits (Sv.joined a (Sv.plain fine)) r ⌝ }
+{
+    let length = a.length;
+    let width = a.width;
+    let chain = a.chain;
+    let below = a.below;
+    Extent {
+        writable: both(a.writable, fine),
+        length: length,
+        width: width,
+        chain: chain,
+        below: below,
     }
 }
 
@@ -544,6 +624,122 @@ fn refer_blob(s: &[u8], d: usize, more: usize, inplace: bool, may: bool, pos: us
     }
 }
 
+// ---- members that lead to no object but a text or bytes
+// The text or bytes of the record at `at`, with its mark.
+fn blob_part(b: &[u8], s: &[u8], d: usize, at: usize, pos: usize) -> Surveyed
+    requires { ⌜ (at + 1 < length (now b)) × (13 ≤ P.kindAt (now b) at) × (P.kindAt (now b) at < 15) × (length (now s) ≤ 16777215) × (pos ≤ 8 * length (now s)) ⌝ }
+    ensures { λ r. ⌜ SurveyedAt (now (s .entry)) (Sv.surveyPart (Sv.survey d B.u48 (P.parse (now (b .entry)))) B.u48 (P.parse (now (b .entry))) (Kind.OfObject (P.objectAt (now (b .entry)) at)) false (P.inplaceAt (now (b .entry)) at) (drop pos (bits (now (s .entry))))) (r .whole) (r .extent) (r .next) ⌝ }
+{
+    let x = bitio::take_number(s, pos, 2);
+    if !x.whole {
+        return unlawful(pos);
+    }
+    let mark = x.value;
+    let next = x.next;
+    if mark == 0 {
+        return Surveyed {
+            whole: true,
+            extent: plain(true),
+            next: next,
+        };
+    }
+    if mark == 1 {
+        let more = 14 - schema::kind_at(b, at);
+        return refer_blob(s, d, more, schema::inplace_at(b, at), false, next);
+    }
+    unlawful(pos)
+}
+
+// The member of the record at `at`, with what stands before it.
+fn leaf(b: &[u8], dir: &[u16], s: &[u8], d: usize, at: usize, a: Extent, pos: usize) -> Surveyed
+    requires { ⌜ (Accepted (now b) (now dir)) × (at + 1 < length (now b)) × (MemberSound (P.parse (now b)) (P.memberAt (now b) at)) × (P.kindAt (now b) at < 15) × (length (now s) ≤ 16777215) × (pos ≤ 8 * length (now s)) × Small a ⌝ }
+    ensures { λ r. ⌜ SurveyedAt (now (s .entry)) (joinedPart (Sv.survey d B.u48 (P.parse (now (b .entry)))) B.u48 (P.parse (now (b .entry))) (P.memberAt (now (b .entry)) at) a (drop pos (bits (now (s .entry))))) (r .whole) (r .extent) (r .next) ⌝ }
+{
+    if schema::kind_at(b, at) < 13 {
+        let x = flat_part(b, dir, s, at, pos);
+        let whole = x.whole;
+        let next = x.next;
+        return Surveyed {
+            whole: whole,
+            extent: joined_plain(a, x.fine),
+            next: next,
+        };
+    }
+    let x = blob_part(b, s, d, at, pos);
+    let whole = x.whole;
+    let next = x.next;
+    Surveyed {
+        whole: whole,
+        extent: joined(a, x.extent),
+        next: next,
+    }
+}
+
+// Where the record of member j of table t stands.
+fn record_of(b: &[u8], dir: &[u16], t: usize, j: usize) -> usize
+    requires { ⌜ (Accepted (now b) (now dir)) × (t < P.tableCount (now b)) × (j < length (Sc.tableOf (P.parse (now b)) t .members)) × (j < 256) ⌝ }
+    ensures { λ r. ⌜ (r + 1 < length (now (b .entry))) × (P.memberAt (now (b .entry)) r ≡ Sc.memberOf (P.parse (now (b .entry))) t j) × MemberSound (P.parse (now (b .entry))) (P.memberAt (now (b .entry)) r) ⌝ }
+{
+    schema::record_place(4, schema::table_place(b, dir, t), j)
+}
+
+// Members gone over up to `index`: whether they are lawful; if so, what is there, and where the sheet goes on, in bits.
+pub struct Left {
+    pub extent: Extent,
+    pub next: usize,
+    pub index: usize,
+    pub whole: bool,
+}
+
+// The members of table t from `from` on, up to one that is no leaf.
+fn leaves(
+    b: &[u8],
+    dir: &[u16],
+    s: &[u8],
+    d: usize,
+    t: usize,
+    from: usize,
+    e: Extent,
+    at: usize,
+) -> Left
+    requires { ⌜ (Accepted (now b) (now dir)) × (t < P.tableCount (now b)) × (from ≤ length (Sc.tableOf (P.parse (now b)) t .members)) × (length (now s) ≤ 16777215) × (at ≤ 8 * length (now s)) × Small e ⌝ }
+    ensures { λ r. ⌜ LeftAt (Sv.survey d B.u48 (P.parse (now (b .entry)))) (P.parse (now (b .entry))) (Sc.tableOf (P.parse (now (b .entry))) t .members) (now (s .entry)) from (Sv.surveyMembers (Sv.survey d B.u48 (P.parse (now (b .entry)))) B.u48 (P.parse (now (b .entry))) (drop from (Sc.tableOf (P.parse (now (b .entry))) t .members)) e (drop at (bits (now (s .entry))))) (r .whole) (r .index) (r .extent) (r .next) ⌝ }
+{
+    let count = schema::member_count(b, dir, t);
+    let mut a = e;
+    let mut pos = at;
+    let mut j = from;
+    while j < count {
+        let r = record_of(b, dir, t, j);
+        if 14 < schema::kind_at(b, r) {
+            return Left {
+                extent: a,
+                next: pos,
+                index: j,
+                whole: true,
+            };
+        }
+        let x = leaf(b, dir, s, d, r, a, pos);
+        if !x.whole {
+            return Left {
+                extent: e,
+                next: at,
+                index: from,
+                whole: false,
+            };
+        }
+        pos = x.next;
+        a = x.extent;
+        j += 1;
+    }
+    Left {
+        extent: a,
+        next: pos,
+        index: j,
+        whole: true,
+    }
+}
+
 // No known value.
 fn lost(b: &[u8], dir: &[u16], s: &[u8], pos: usize, k: Kind) -> Surveyed
     requires { ⌜ (Accepted (now b) (now dir)) × (KindSound (P.parse (now b)) k) × (length (now s) ≤ 16777215) × (pos ≤ 8 * length (now s)) ⌝ }
@@ -680,15 +876,29 @@ fn table(b: &[u8], dir: &[u16], s: &[u8], d: usize, t: usize, size: usize, at: u
     let mut pos = at;
     let mut j: usize = 0;
     while j < count {
-        let r = schema::member(b, dir, t, j);
+        let g = leaves(b, dir, s, d, t, j, a, pos);
+        if !g.whole {
+            return unlawful(at);
+        }
+        let i = g.index;
+        let e = g.extent;
+        if count <= i {
+            let next = g.next;
+            return Surveyed {
+                whole: true,
+                extent: e,
+                next: next,
+            };
+        }
+        let r = schema::member(b, dir, t, i);
         let k = r.kind;
-        let x = part(b, dir, s, d, k, r.optional, r.inplace, pos);
+        let x = part(b, dir, s, d, k, r.optional, r.inplace, g.next);
         if !x.whole {
             return unlawful(at);
         }
         pos = x.next;
-        a = joined(a, x.extent);
-        j += 1;
+        a = joined(e, x.extent);
+        j = i + 1;
     }
     Surveyed {
         whole: true,

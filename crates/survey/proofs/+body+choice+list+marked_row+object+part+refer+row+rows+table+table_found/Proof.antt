@@ -1,6 +1,7 @@
 use Prim.Native.Nat.{ℕ, _+_, _-_, _*_, _^_, _<_, _≤_}
 use mathlib.Core.Path.{_≡_}
 use mathlib.Core.Bool.{false}
+use native.Mathlib.Omega.{arith}
 use borrow.Author.Needs.{needs}
 use lib.ListN.{length, drop}
 use Rattle.coding.specs.Bytes.{u48}
@@ -16,7 +17,8 @@ use Rattle.survey.specs.Surveyed.{Small}
 use borrow.Fn.Kinds.{In}
 use borrow.Fn.PlainCycle.{Measures, is, falls, and}
 use Rattle.survey.proofs.PartCases.{kind-flat, kind-object, union-counted, case-sound, body-flat, body-object, body-union, choice-cut, choice-zero, choice-above, choice-known, part-cut, part-none, part-there, part-lost, part-bad, refer-surveyed, refer-blob, object-none, object-there, object-bad}
-use Rattle.survey.proofs.ObjectCases.{list-counted, table-counted, element-sound, member-kind, member-counted, members-start, members-done, members-stopped, members-turn, elements-cut, elements-start, elements-bare, elements-rows, row-counted, row-deep, row-there, rows-start, object-marked, marked, elements-done, elements-stopped, elements-turn, object-deep, object-text, object-bytes, object-list, object-table}
+use Rattle.survey.proofs.ObjectCases.{list-counted, table-counted, element-sound, member-kind, member-counted, members-start, members-done, elements-cut, elements-start, elements-bare, elements-rows, row-counted, row-deep, row-there, rows-start, object-marked, marked, elements-done, elements-stopped, elements-turn, object-deep, object-text, object-bytes, object-list, object-table}
+use Rattle.survey.proofs.LeafCases.{members-few, table-cut, table-ended, table-stopped, table-turn}
 use Rattle.survey.proofs.body.Reads as body
 use Rattle.survey.proofs.body.Kinds as body-kinds
 use Rattle.survey.proofs.+body+choice+list+marked_row+object+part+refer+row+rows+table+table_found.Lts-body as body-lts
@@ -65,6 +67,7 @@ use Rattle.survey.proofs.elements_size.Reads as elements-size-reads
 use Rattle.survey.proofs.fixed_size.Reads as fixed-size-reads
 use Rattle.survey.proofs.flat_test.Reads as flat-test-reads
 use Rattle.survey.proofs.joined.Reads as joined-reads
+use Rattle.survey.proofs.leaves.Reads as leaves-reads
 use Rattle.survey.proofs.lost.Reads as lost-reads
 use Rattle.survey.proofs.may_lack.Reads as may-lack-reads
 use Rattle.survey.proofs.opened.Reads as opened-reads
@@ -208,7 +211,7 @@ abbrev refer-R : ℕ → refer-lts.Claims
 refer-R t = (blob-end-reads.Asked, blob-end-reads.Learnt, refer-blob-reads.Asked, refer-blob-reads.Learnt, object-below t, object.Post, referred-reads.Asked, referred-reads.Learnt)
 
 abbrev table-R : ℕ → table-lts.Claims
-table-R t = (member-count-reads.Asked, member-count-reads.Learnt, opened-reads.Asked, opened-reads.Learnt, member-reads.Asked, member-reads.Learnt, part-below t, part.Post, unlawful-reads.Asked, unlawful-reads.Learnt, joined-reads.Asked, joined-reads.Learnt)
+table-R t = (member-count-reads.Asked, member-count-reads.Learnt, opened-reads.Asked, opened-reads.Learnt, leaves-reads.Asked, leaves-reads.Learnt, unlawful-reads.Asked, unlawful-reads.Learnt, member-reads.Asked, member-reads.Learnt, part-below t, part.Post, joined-reads.Asked, joined-reads.Learnt)
 
 -- src/lib.rt:514:22
 body-enum-known-k : (t : ℕ) → body-lts.Need-enum-known-k (body-R t) (body-at t) body.Post
@@ -548,41 +551,44 @@ table-opened-requires t c κs = search needs
 table-loop-holds : (t : ℕ) → table-lts.Need-loop-holds (table-R t) (table-at t) table.Post table-Inv-loop table-μ-loop
 table-loop-holds t c = (search needs, search needs, search needs, search needs, search needs, search needs, search members-start)
 
--- src/lib.rt:568:13
-table-member-requires : (t : ℕ) → table-lts.Need-member-requires (table-R t) (table-at t) table.Post table-Inv-loop table-μ-loop
-table-member-requires t c κs = (search needs, search needs, search member-counted, search needs)
+table-leaves-requires : (t : ℕ) → table-lts.Need-leaves-requires (table-R t) (table-at t) table.Post table-Inv-loop table-μ-loop
+table-leaves-requires t c κs = search (members-few, needs)
 
--- src/lib.rt:570:13
-table-part-requires : (t : ℕ) → table-lts.Need-part-requires (table-R t) (table-at t) table.Post table-Inv-loop table-μ-loop
-table-part-requires t c κs = search (member-kind, needs)
-
--- src/lib.rt:572:13
 table-unlawful-requires : (t : ℕ) → table-lts.Need-unlawful-requires (table-R t) (table-at t) table.Post table-Inv-loop table-μ-loop
 table-unlawful-requires t c κs = search needs
 
--- src/lib.rt:572:13
 table-returns : (t : ℕ) → table-lts.Need-returns (table-R t) (table-at t) table.Post table-Inv-loop table-μ-loop
-table-returns t c = search members-stopped
+table-returns t c = search table-cut
 
--- src/lib.rt:575:9
+table-returns-2 : (t : ℕ) → table-lts.Need-returns-2 (table-R t) (table-at t) table.Post table-Inv-loop table-μ-loop
+table-returns-2 t c = search table-ended
+
+table-member-requires : (t : ℕ) → table-lts.Need-member-requires (table-R t) (table-at t) table.Post table-Inv-loop table-μ-loop
+table-member-requires t c κs = (c .before .before .before .before .before .before .before .before .before .before .before .before .pre .1 .0 .directory, c .before .before .before .before .before .before .before .before .before .before .before .before .pre .1 .1, search member-counted, search needs)
+
+table-part-requires : (t : ℕ) → table-lts.Need-part-requires (table-R t) (table-at t) table.Post table-Inv-loop table-μ-loop
+table-part-requires t c κs = (omega (arith, c .before .before .before .before .before .before .before .before .before .before .before .before .before .pre .0), (c .before .before .before .before .before .before .before .before .before .before .before .before .before .pre .1 .0, member-kind _ _ (c .before .before .before .before .before .before .before .before .before .before .before .before .before .pre .1 .0) _ _ _ (c .member .ensures) _ (c .before .before .before .before .before .before .before .loop .inv .1) (c .before .if2 .left), c .before .before .before .before .before .before .before .before .before .before .before .before .before .pre .1 .2, c .before .before .before .before .before .leaves .ensures .inside))
+
+table-unlawful-requires-2 : (t : ℕ) → table-lts.Need-unlawful-requires-2 (table-R t) (table-at t) table.Post table-Inv-loop table-μ-loop
+table-unlawful-requires-2 t c κs = search needs
+
+table-returns-3 : (t : ℕ) → table-lts.Need-returns-3 (table-R t) (table-at t) table.Post table-Inv-loop table-μ-loop
+table-returns-3 t c = table-stopped _ _ _ _ _ (c .before .before .before .before .before .before .before .before .before .before .before .loop .a) (c .before .before .before .before .before .before .before .before .before .before .before .loop .pos) (c .before .before .before .before .before .before .before .before .before .before .before .loop .j) (c .before .before .before .before .before .before .before .before .before .before .before .loop .inv .6) (c .before .before .before .before .before .before .before .before .before .leaves .result .whole) (c .before .before .before .before .before .before .before .before .before .leaves .result .index) (c .before .before .before .before .before .before .before .before .before .leaves .result .extent) (c .before .before .before .before .before .before .before .before .before .leaves .result .next) (c .before .before .before .before .before .before .before .before .before .leaves .ensures) (c .before .before .before .before .before .before .before .if1 .left) _ (c .before .before .before .before .before .before .before .before .before .before .before .loop .inv .1) (c .before .before .before .before .before .if2 .left) _ (c .before .before .before .before .member .ensures) (c .before .before .before .part .result .whole) (c .before .before .before .part .result .extent) (c .before .before .before .part .result .next) (c .before .before .before .part .ensures) (c .before .before .before .before .before .before .before .before .before .before .before .loop .inv .3) (c .before .if3 .taken) _ _ _ (c .unlawful2 .ensures .0) (c .unlawful2 .ensures .1) (c .unlawful2 .ensures .2)
+
 table-joined-requires : (t : ℕ) → table-lts.Need-joined-requires (table-R t) (table-at t) table.Post table-Inv-loop table-μ-loop
 table-joined-requires t c κs = search needs
 
--- src/lib.rt:576:9
 table-add-j : (t : ℕ) → table-lts.Need-add-j (table-R t) (table-at t) table.Post table-Inv-loop table-μ-loop
-table-add-j t c = search needs
+table-add-j t c = record { fits = omega (arith, c .before .before .before .before .before .if2 .left, c .before .before .before .before .before .before .before .before .before .before .before .loop .inv .2) }
 
--- src/lib.rt:567:5
 table-loop-less : (t : ℕ) → table-lts.Need-loop-less (table-R t) (table-at t) table.Post table-Inv-loop table-μ-loop
-table-loop-less t c = search needs
+table-loop-less t c = omega (arith, c .before .before .before .before .before .if2 .left, c .before .before .before .before .before .before .before .before .before .before .loop-test .taken, c .before .before .before .before .before .before .before .before .before .leaves .ensures .on)
 
--- src/lib.rt:567:5
 table-loop-again : (t : ℕ) → table-lts.Need-loop-again (table-R t) (table-at t) table.Post table-Inv-loop table-μ-loop
-table-loop-again t c = (search needs, search needs, search needs, search needs, search needs, search needs, search (members-turn, c .before .before .before .before .before .before .loop .inv .6, c .before .before .before .before .before .before .loop .inv .1, c .before .before .before .before .before .loop-test .taken, c .before .before .before .before .member .ensures, c .before .before .before .part .ensures, c .before .if1 .left, c .joined .ensures))
+table-loop-again t c = (search needs, c .before .before .before .before .before .before .before .before .before .before .before .loop .inv .1, c .before .before .before .before .before .before .before .before .before .before .before .loop .inv .2, c .before .before .before .before .before .before .before .before .before .before .before .loop .inv .3, search needs, search needs, table-turn _ _ _ _ (c .before .before .before .before .before .before .before .before .before .before .before .before .before .before .before .before .before .args .at) (c .before .before .before .before .before .before .before .before .before .before .before .loop .a) (c .before .before .before .before .before .before .before .before .before .before .before .loop .pos) (c .before .before .before .before .before .before .before .before .before .before .before .loop .j) (c .before .before .before .before .before .before .before .before .before .before .before .loop .inv .6) (c .before .before .before .before .before .before .before .before .before .leaves .result .whole) (c .before .before .before .before .before .before .before .before .before .leaves .result .index) (c .before .before .before .before .before .before .before .before .before .leaves .result .extent) (c .before .before .before .before .before .before .before .before .before .leaves .result .next) (c .before .before .before .before .before .before .before .before .before .leaves .ensures) (c .before .before .before .before .before .before .before .if1 .left) _ (c .before .before .before .before .before .before .before .before .before .before .before .loop .inv .1) (c .before .before .before .before .before .if2 .left) _ (c .before .before .before .before .member .ensures) (c .before .before .before .part .result .whole) (c .before .before .before .part .result .extent) (c .before .before .before .part .result .next) (c .before .before .before .part .ensures) (c .before .if3 .left) _ (c .joined .ensures))
 
--- src/lib.rt:558:1
-table-returns-2 : (t : ℕ) → table-lts.Need-returns-2 (table-R t) (table-at t) table.Post table-Inv-loop table-μ-loop
-table-returns-2 t c = search members-done
+table-returns-4 : (t : ℕ) → table-lts.Need-returns-4 (table-R t) (table-at t) table.Post table-Inv-loop table-μ-loop
+table-returns-4 t c = search members-done
 
 marked-row-take-number-requires : (t : ℕ) → marked-row-lts.Need-take-number-requires (marked-row-R t) (marked-row-at t) marked-row.Post
 marked-row-take-number-requires t c κs = search needs
@@ -828,15 +834,19 @@ pub +body+choice+list+marked-row+object+part+refer+row+rows+table+table-found-sp
     (table-member-count-requires t)
     (table-opened-requires t)
     (table-loop-holds t)
-    (table-member-requires t)
-    (table-part-requires t)
+    (table-leaves-requires t)
     (table-unlawful-requires t)
     (table-returns t)
+    (table-returns-2 t)
+    (table-member-requires t)
+    (table-part-requires t)
+    (table-unlawful-requires-2 t)
+    (table-returns-3 t)
     (table-joined-requires t)
     (table-add-j t)
     (table-loop-less t)
     (table-loop-again t)
-    (table-returns-2 t))
+    (table-returns-4 t))
     λ t. table-found-lts.spec (table-found-R t)
     (table-found-at t)
     table-found.Post

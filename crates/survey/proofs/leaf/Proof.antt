@@ -1,0 +1,51 @@
+use borrow.Author.Needs.{needs}
+use Rattle.survey.proofs.LeafCases.{flat-sound, leaf-flat, leaf-blob}
+use Rattle.survey.proofs.leaf.Statement.{statement}
+use Rattle.survey.proofs.leaf.Tie as tie
+use Rattle.survey.proofs.leaf.Reads as reads
+use Rattle.survey.proofs.leaf.Lts as lts
+use Rattle.schema.proofs.kind_at.Reads as kind-at-reads
+use Rattle.survey.proofs.blob_part.Reads as blob-part-reads
+use Rattle.survey.proofs.flat_part.Reads as flat-part-reads
+use Rattle.survey.proofs.joined.Reads as joined-reads
+use Rattle.survey.proofs.joined_plain.Reads as joined-plain-reads
+
+-- src/lib.rt:641:8
+kind-at-requires : tie.Need-kind-at-requires
+kind-at-requires c κs = search needs
+
+-- src/lib.rt:642:13
+flat-part-requires : tie.Need-flat-part-requires
+flat-part-requires c κs = search (flat-sound, needs)
+
+-- src/lib.rt:647:21
+joined-plain-requires : tie.Need-joined-plain-requires
+joined-plain-requires c κs = search needs
+
+-- src/lib.rt:645:9
+returns : tie.Need-returns
+returns c = search leaf-flat
+
+-- src/lib.rt:651:9
+blob-part-requires : tie.Need-blob-part-requires
+blob-part-requires c κs = search needs
+
+-- src/lib.rt:656:17
+joined-requires : tie.Need-joined-requires
+joined-requires c κs = search needs
+
+-- src/lib.rt:629:1
+returns-2 : tie.Need-returns-2
+returns-2 c = search leaf-blob
+
+pub leaf-spec : {M : Type 1} → statement M
+leaf-spec =
+    tie.close
+    (tie.spec
+    kind-at-requires
+    flat-part-requires
+    joined-plain-requires
+    returns
+    blob-part-requires
+    joined-requires
+    returns-2)
