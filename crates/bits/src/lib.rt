@@ -18,6 +18,14 @@ pub fn low(v: u64, n: usize) -> u64
     v & ((1 << n) - 1)
 }
 
+// h, and behind it the n low bits of x.
+pub fn append(h: u64, n: usize, x: u64) -> u64
+    requires { ⌜ (h < 4) × (n ≤ 62) ⌝ }
+    ensures { λ r. ⌜ r ≡ h * 2 ^ n + x % 2 ^ n ⌝ }
+{
+    h << n | low(x, n)
+}
+
 // The eight low bits of v.
 pub fn last_byte(v: u64) -> u8
     ensures { λ r. ⌜ r ≡ v % 2 ^ 8 ⌝ }
