@@ -14,7 +14,7 @@ use Rattle.coding.specs.Bits.{bits, value, pack}
 use Rattle.laws.specs.Bits.{bits-cons, bits-length, value-front}
 use Rattle.laws.specs.BitLists.{bits-drop, pack-snoc, value-more, run-lt}
 use Rattle.bitio.specs.Taken.{Run}
-use Rattle.bitio.proofs.Fields.{or-more}
+use Rattle.bits.proofs.Masks.{or-more}
 
 -- no bits
 pub run-none : (l : List ℕ) (pos w : ℕ) → w ≡ 0 → Run l pos w 0

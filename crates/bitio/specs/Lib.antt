@@ -1,6 +1,5 @@
 -- What the contracts of this crate cite, and the laws that their callers compose them by.
 pub mod Splice
-pub mod Chunk
 pub mod Puts
 pub mod Taken
 pub mod SpliceLaws

@@ -8,62 +8,8 @@ ghost use Rattle.coding.specs.Lists.{pick};
 ghost use Rattle.coding.specs.Bits.{bitsOf, bits, value, pack};
 ghost use Rattle.coding.specs.Sheet.{blobBits};
 ghost use Rattle.bitio.specs.Splice.{splice};
-ghost use Rattle.bitio.specs.Chunk.{Chunk, merged};
 ghost use Rattle.bitio.specs.Puts.{Room, Puts};
 ghost use Rattle.bitio.specs.Taken.{Run, TakenNumber, TakenBytes};
-
-// ---- numbers by their bits
-
-// Where in its byte a bit stands.
-fn offset(pos: usize) -> usize
-    ensures { λ r. ⌜ r ≡ pos % 8 ⌝ }
-{
-    pos & 7
-}
-
-// The n low bits of v.
-fn low(v: u64, n: usize) -> u64
-    requires { ⌜ n < 64 ⌝ }
-    ensures { λ r. ⌜ r ≡ v % 2 ^ n ⌝ }
-{
-    v & ((1 << n) - 1)
-}
-
-// The eight low bits of v.
-fn last_byte(v: u64) -> u8
-    ensures { λ r. ⌜ r ≡ v % 2 ^ 8 ⌝ }
-{
-    (v & 255) as u8
-}
-
-// The byte that lies across p and x, a bits before the end of x. It is made in 16 bits: in 64 the loops over it were ten
-// times slower.
-fn across(p: u8, x: u8, a: usize) -> u8
-    requires { ⌜ a < 8 ⌝ }
-    ensures { λ r. ⌜ r ≡ (p * 2 ^ 8 + x) / 2 ^ a % 2 ^ 8 ⌝ }
-{
-    (((p as u16) << 8 | (x as u16)) >> a & 255) as u8
-}
-
-// b with its n bits above the k low ones replaced by x.
-fn merge(b: u64, n: usize, k: usize, x: u64) -> u64
-    requires { ⌜ n + k ≤ 8 ⌝ }
-    requires { ⌜ b < 2 ^ 8 ⌝ }
-    requires { ⌜ x < 2 ^ n ⌝ }
-    ensures { λ r. ⌜ (r ≡ merged b n k x) × (r < 2 ^ 8) ⌝ }
-{
-    let t = b >> k;
-    (t >> n << n | x) << k | b & ((1 << k) - 1)
-}
-
-// How many of `left` bits from `at` on lie in the byte of `at`.
-fn chunk(at: usize, left: usize) -> usize
-    requires { ⌜ 0 < left ⌝ }
-    ensures { λ r. ⌜ Chunk at left r ⌝ }
-{
-    let room = 8 - offset(at);
-    if room < left { room } else { left }
-}
 
 // ---- numbers got
 
@@ -98,8 +44,8 @@ fn get_in(s: &[u8], pos: usize, n: usize) -> u64
     requires { ⌜ 0 < n ⌝ }
     ensures { λ r. ⌜ Run (now (s .entry)) pos n r ⌝ }
 {
-    let k = 8 - offset(pos) - n;
-    low(byte(s, pos >> 3) >> k, n)
+    let k = 8 - bits::offset(pos) - n;
+    bits::low(byte(s, pos >> 3) >> k, n)
 }
 
 // The bits of the last bytes, a byte a turn.
@@ -113,7 +59,7 @@ fn get_end(s: &[u8], pos: usize, width: usize) -> u64
     let mut at = pos;
     let mut left = width;
     while 0 < left {
-        let n = chunk(at, left);
+        let n = bits::chunk(at, left);
         left -= n;
         v = v << n | get_in(s, at, n);
         at += n;
@@ -132,11 +78,11 @@ fn get_short(s: &[u8], pos: usize, width: usize) -> u64
     if s.len() < i + 8 {
         return get_end(s, pos, width);
     }
-    let k = 64 - offset(pos) - width;
+    let k = 64 - bits::offset(pos) - width;
     if k == 64 {
         return 0;
     }
-    low(word(s, i) >> k, width)
+    bits::low(word(s, i) >> k, width)
 }
 
 // The number of `width` bits from pos on.
@@ -203,11 +149,11 @@ fn get_across(s: &[u8], pos: usize, dst: &mut [u8])
     requires { ⌜ 0 < pos % 8 ⌝ }
     ensures { λ _. ⌜ now (dst .exit) ≡ pack (length (now (dst .entry))) (drop pos (bits (now (s .entry)))) ⌝ }
 {
-    let k = 8 - offset(pos);
+    let k = 8 - bits::offset(pos);
     let mut i = pos >> 3;
     let mut j = 0;
     while j < dst.len() {
-        dst[j] = across(s[i], s[i + 1], k);
+        dst[j] = bits::across(s[i], s[i + 1], k);
         i += 1;
         j += 1;
     }
@@ -218,7 +164,7 @@ pub fn get_bytes(s: &[u8], pos: usize, dst: &mut [u8])
     requires { ⌜ pos + 8 * length (now dst) ≤ 8 * length (now s) ⌝ }
     ensures { λ _. ⌜ now (dst .exit) ≡ pack (length (now (dst .entry))) (drop pos (bits (now (s .entry)))) ⌝ }
 {
-    if offset(pos) == 0 {
+    if bits::offset(pos) == 0 {
         get_aligned(s, pos >> 3, dst);
         return;
     }
@@ -283,8 +229,8 @@ fn put_in(out: &mut [u8], pos: usize, n: usize, x: u64)
     ensures { λ _. ⌜ bits (now (out .exit)) ≡ splice (bits (now (out .entry))) pos (bitsOf n x) ⌝ }
 {
     let i = pos >> 3;
-    let k = 8 - offset(pos) - n;
-    out[i] = merge(out[i] as u64, n, k, x) as u8;
+    let k = 8 - bits::offset(pos) - n;
+    out[i] = bits::merge(out[i] as u64, n, k, x) as u8;
 }
 
 // The `width` low bits of v from a byte on; a byte a turn, and what is left.
@@ -298,11 +244,11 @@ fn put_aligned(out: &mut [u8], start: usize, width: usize, v: u64)
     let mut left = width;
     while 8 <= left {
         left -= 8;
-        out[i] = last_byte(v >> left);
+        out[i] = bits::last_byte(v >> left);
         i += 1;
     }
     if 0 < left {
-        put_in(out, 8 * i, left, low(v, left));
+        put_in(out, 8 * i, left, bits::low(v, left));
     }
 }
 
@@ -311,7 +257,7 @@ fn put_byte(out: &mut [u8], i: usize, v: u64)
     requires { ⌜ i < length (now out) ⌝ }
     ensures { λ _. ⌜ bits (now (out .exit)) ≡ splice (bits (now (out .entry))) (8 * i) (bitsOf 8 v) ⌝ }
 {
-    out[i] = last_byte(v);
+    out[i] = bits::last_byte(v);
 }
 
 fn put_pair(out: &mut [u8], i: usize, v: u64)
@@ -346,17 +292,17 @@ fn joined(b: u64, a: usize, n: usize, x: u64) -> u64
     if a == 0 {
         return x;
     }
-    b >> (8 - a) << n | low(x, n)
+    b >> (8 - a) << n | bits::low(x, n)
 }
 
-// The `width` low bits of v from pos on, where eight bytes at least end among them, or four: the first of these by one store.
+// The `width` low bits of v from pos on, where eight bytes at least end among them: the first of these by one store.
 fn put_long(out: &mut [u8], pos: usize, width: usize, v: u64)
     requires { ⌜ (width ≤ 64) × (64 ≤ pos % 8 + width) ⌝ }
     requires { ⌜ pos + width ≤ 8 * length (now out) ⌝ }
     requires { ⌜ 8 * length (now out) < 2 ^ 64 ⌝ }
     ensures { λ _. ⌜ bits (now (out .exit)) ≡ splice (bits (now (out .entry))) pos (bitsOf width v) ⌝ }
 {
-    let a = offset(pos);
+    let a = bits::offset(pos);
     let i = pos >> 3;
     let left = a + width - 64;
     let w = joined(byte(out, i), a, 64 - a, v >> left);
@@ -364,21 +310,18 @@ fn put_long(out: &mut [u8], pos: usize, width: usize, v: u64)
     put_aligned(out, i + 8, left, v);
 }
 
-fn put_half(out: &mut [u8], pos: usize, width: usize, v: u64)
-    requires { ⌜ (32 ≤ pos % 8 + width) × (pos % 8 + width < 64) ⌝ }
-    requires { ⌜ pos + width ≤ 8 * length (now out) ⌝ }
-    requires { ⌜ 8 * length (now out) < 2 ^ 64 ⌝ }
+// Fewer bits, within the eight bytes from that of pos on: by one load and one store of these.
+fn put_within(out: &mut [u8], pos: usize, width: usize, v: u64)
+    requires { ⌜ (0 < width) × (pos % 8 + width < 64) × (pos / 8 + 8 ≤ length (now out)) ⌝ }
     ensures { λ _. ⌜ bits (now (out .exit)) ≡ splice (bits (now (out .entry))) pos (bitsOf width v) ⌝ }
 {
-    let a = offset(pos);
     let i = pos >> 3;
-    let left = a + width - 32;
-    let w = joined(byte(out, i), a, 32 - a, v >> left);
-    put_quad(out, i, w);
-    put_aligned(out, i + 4, left, v);
+    let k = 64 - bits::offset(pos) - width;
+    let w = bits::merge(word(out, i), width, k, bits::low(v, width));
+    put_word(out, i, w);
 }
 
-// Fewer bits, by the byte.
+// The same in the last bytes, by the byte.
 fn put_short(out: &mut [u8], pos: usize, width: usize, v: u64)
     requires { ⌜ width ≤ 64 ⌝ }
     requires { ⌜ pos + width ≤ 8 * length (now out) ⌝ }
@@ -386,9 +329,9 @@ fn put_short(out: &mut [u8], pos: usize, width: usize, v: u64)
     ensures { λ _. ⌜ bits (now (out .exit)) ≡ splice (bits (now (out .entry))) pos (bitsOf width v) ⌝ }
 {
     if 0 < width {
-        let n = chunk(pos, width);
+        let n = bits::chunk(pos, width);
         let left = width - n;
-        put_in(out, pos, n, low(v >> left, n));
+        put_in(out, pos, n, bits::low(v >> left, n));
         if 0 < left {
             put_aligned(out, (pos >> 3) + 1, left, v);
         }
@@ -402,16 +345,17 @@ pub fn put(out: &mut [u8], pos: usize, width: usize, v: u64)
     requires { ⌜ 8 * length (now out) < 2 ^ 64 ⌝ }
     ensures { λ _. ⌜ bits (now (out .exit)) ≡ splice (bits (now (out .entry))) pos (bitsOf width v) ⌝ }
 {
-    let end = offset(pos) + width;
-    if end < 32 {
+    if 64 <= bits::offset(pos) + width {
+        put_long(out, pos, width, v);
+        return;
+    }
+    if out.len() < (pos >> 3) + 8 {
         put_short(out, pos, width, v);
         return;
     }
-    if end < 64 {
-        put_half(out, pos, width, v);
-        return;
+    if 0 < width {
+        put_within(out, pos, width, v);
     }
-    put_long(out, pos, width, v);
 }
 
 // ---- whole bytes put
@@ -435,17 +379,17 @@ fn put_bytes_across(out: &mut [u8], pos: usize, m: &[u8])
     requires { ⌜ 8 * length (now out) < 2 ^ 64 ⌝ }
     ensures { λ _. ⌜ bits (now (out .exit)) ≡ splice (bits (now (out .entry))) pos (bits (now (m .entry))) ⌝ }
 {
-    let a = offset(pos);
+    let a = bits::offset(pos);
     let start = pos >> 3;
-    let mut before = last_byte(byte(out, start) >> (8 - a));
+    let mut before = bits::last_byte(byte(out, start) >> (8 - a));
     let mut j = 0;
     while j < m.len() {
         let x = m[j];
-        out[start + j] = across(before, x, a);
+        out[start + j] = bits::across(before, x, a);
         before = x;
         j += 1;
     }
-    put_in(out, 8 * (start + j), a, low(before as u64, a));
+    put_in(out, 8 * (start + j), a, bits::low(before as u64, a));
 }
 
 // The bytes m from pos on.
@@ -454,7 +398,7 @@ pub fn put_bytes(out: &mut [u8], pos: usize, m: &[u8])
     requires { ⌜ 8 * length (now out) < 2 ^ 64 ⌝ }
     ensures { λ _. ⌜ bits (now (out .exit)) ≡ splice (bits (now (out .entry))) pos (bits (now (m .entry))) ⌝ }
 {
-    if offset(pos) == 0 {
+    if bits::offset(pos) == 0 {
         put_bytes_aligned(out, pos >> 3, m);
         return;
     }

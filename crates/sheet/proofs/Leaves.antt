@@ -2,13 +2,14 @@
 use mathlib.Core.Path.{_≡_, refl, sym, ap, ap₂, _∙_, subst}
 use mathlib.Core.Bool.{Bool, true, false}
 use mathlib.Core.List.{List, _∷_, _++_}
-use Prim.Native.Nat.{ℕ, zero, suc, _+_, _-_, _*_, _^_, _<_, _≤_}
+use Prim.Native.Nat.{ℕ, zero, suc, _+_, _-_, _*_, _%_, _^_, _<_, _≤_}
 use native.Mathlib.Omega.{arith}
-use native.Mathlib.Nat.{mul-zero, mul-suc, mul-le-mul, le-of-lt}
+use native.Mathlib.Nat.{mul-zero, mul-suc, mul-le-mul, le-of-lt, mod-lt}
 use native.Mathlib.Numerals.{add-one}
 use lib.ListN.{length, getD, drop, drop-of-length-le, length-append}
 use lib.Seq.{drop-cons}
 use lib.Dec.{eqb, ltb}
+use lib.Pow.{pow-pos}
 use borrow.Author.Tests.{eq-eqb, ne-eqb, lt-ltb, le-ltb}
 use Rattle.coding.specs.Lists.{pick}
 use Rattle.coding.specs.Bytes.{le}
@@ -30,7 +31,7 @@ use Rattle.coding.specs.declared.Step.the-variants as St
 use Rattle.schema.specs.Directory.{Accepted, accepted-sound}
 use Rattle.wire.specs.Numbers.{Number}
 use Rattle.bitio.specs.Puts.{Room, Puts}
-use Rattle.laws.specs.Bits.{bitsOf-length}
+use Rattle.laws.specs.Bits.{bitsOf-length, bitsOf-mod, bitsOf-join}
 use Rattle.bitio.specs.PutsLaws.{puts-then, puts-same, run-over, run-not}
 use Rattle.sheet.specs.MessageBits as A
 use Rattle.sheet.proofs.PartLaws.{struct-is}
@@ -39,6 +40,13 @@ use Rattle.sheet.proofs.Remaining.{Remaining, remaining-all, remaining-
 pub marked-puts : (o o₁ o₂ : List ℕ) (p q r mark w x : ℕ) → Room o p → Puts o p (bitsOf 2 mark) o₁ q → Puts o₁ q (bitsOf w x) o₂ r → Puts o p (A.marked mark w x) o₂ r
 unfolding A.marked
 marked-puts o o₁ o₂ p q r mark w x g a b = puts-then o o₁ o₂ p q r (bitsOf 2 mark) (bitsOf w x) (g .short) a b
+
+-- the same by one number
+pub marked-one : (o o₁ : List ℕ) (p q mark w x v : ℕ) → v ≡ mark * 2 ^ w + x % 2 ^ w → Puts o p (bitsOf (2 + w) v) o₁ q → Puts o p (A.marked mark w x) o₁ q
+unfolding A.marked
+marked-one o o₁ p q mark w x v e h =
+    puts-same o o₁ p q (bitsOf (2 + w) v) (bitsOf 2 mark ++ bitsOf w x)
+    (ap (bitsOf (2 + w)) e ∙ bitsOf-join 2 w mark (x % 2 ^ w) (mod-lt x (pow-pos w)) ∙ ap (λ (s : List ℕ). bitsOf 2 mark ++ s) (bitsOf-mod w x)) h
 
 -- ---- widths
 module _ (k : Kind) (f : Flat) (e : k ≡ OfFlat f) where

@@ -9,3 +9,5 @@ pub mod Whole
 pub mod StructInside
 pub mod Flats
 pub mod Values
+pub mod LeafCases
+pub mod References

@@ -171,17 +171,21 @@ module _ (d : ℕ) (S : Schema) (m : List ℕ) (ob : Object) (place : Place) (h 
       by zero q f = absurd (f refl)
       by (suc k) q f = rw (sub-one, es, en) (q .1)
 
-pub object-content : (d : ℕ) (S : Schema) (m : List ℕ) (ob : Object) (place : Place) (o o₁ : List ℕ) (p q start n : ℕ) → (d ≡ 0 → ⊥) → start ≡ D.startOf place
-    → n ≡ D.lengthOf m place → Puts o p (A.contentAt (d - 1) S m ob start n) o₁ q → Puts o p (A.objectAt d S m ob place) o₁ q
+pub object-same : (d : ℕ) (S : Schema) (m : List ℕ) (ob : Object) (place : Place) (start n : ℕ) → (d ≡ 0 → ⊥) → start ≡ D.startOf place → n ≡ D.lengthOf m place
+    → A.contentAt (d - 1) S m ob start n ≡ A.objectAt d S m ob place
 unfolding A.contentAt A.objectAt E.encode R.read R.placeRead D.startOf D.lengthOf W.headerSize u48
-object-content zero S m ob place o o₁ p q start n f es en h = absurd (f refl)
-object-content (suc d) S m ob place o o₁ p q start n f es en h =
-    puts-same o o₁ p q (A.contentAt (suc d - 1) S m ob start n) (A.objectAt (suc d) S m ob place)
-    (ap (λ (k : ℕ). A.contentAt k S m ob start n) (sub-one (suc d)) ∙ ap₂ (λ (a c : ℕ). A.contentAt d S m ob a c) es en ∙ by place) h
+object-same zero S m ob place start n f es en = absurd (f refl)
+object-same (suc d) S m ob place start n f es en =
+    ap (λ (k : ℕ). A.contentAt k S m ob start n) (sub-one (suc d)) ∙ ap₂ (λ (a c : ℕ). A.contentAt d S m ob a c) es en ∙ by place
   where
     by : (pl : Place) → A.contentAt d S m ob (D.startOf pl) (D.lengthOf m pl) ≡ A.objectAt (suc d) S m ob pl
     by (ByOffset x) = refl
     by (InPlace a c) = refl
+
+pub object-content : (d : ℕ) (S : Schema) (m : List ℕ) (ob : Object) (place : Place) (o o₁ : List ℕ) (p q start n : ℕ) → (d ≡ 0 → ⊥) → start ≡ D.startOf place
+    → n ≡ D.lengthOf m place → Puts o p (A.contentAt (d - 1) S m ob start n) o₁ q → Puts o p (A.objectAt d S m ob place) o₁ q
+object-content d S m ob place o o₁ p q start n f es en h =
+    puts-same o o₁ p q (A.contentAt (d - 1) S m ob start n) (A.objectAt d S m ob place) (object-same d S m ob place start n f es en) h
 
 -- ---- content by the object
 elements-count : (child : R.Child) (S : Schema) (m : List ℕ) (start : ℕ) (k : Kind) (n i : ℕ) → Tree.count (R.elementsRead child u48 S m start k n i) ≡ n

@@ -2,7 +2,7 @@
 use Prim.Native.Nat.{ℕ, zero, suc, _+_, _*_, _/_, _%_}
 use mathlib.Core.Bool.{Bool, _&&_}
 use mathlib.Core.List.{List, [], _++_}
-use lib.ListN.{getD}
+use lib.ListN.{getD, take, drop}
 use lib.Dec.{ltb, eqb}
 use Rattle.coding.specs.Lists.{pick}
 use Rattle.coding.specs.Bytes.{u48, le, bitAt, isNaN}
@@ -104,6 +104,10 @@ choiceAt d S m u inplace tail c x = stepAt d S m (OfUnion u) (unionStep (casesOf
 -- a value, if it is there; a member that is cut has the bits of an absent one
 unfoldable pub placed : Bool → Step → Step
 placed here v = pick here v St.Absent
+
+-- a text or bytes with its mark
+unfoldable pub blobAt : List ℕ → ℕ → ℕ → List ℕ
+blobAt m at n = bitsOf 2 1 ++ E.blobBits (take n (drop at m))
 
 -- ---- elements without a mark
 -- n numbers of w bytes

@@ -9,6 +9,9 @@ use Rattle.coding.specs.Schema.{Schema, memberOf}
 use Rattle.coding.specs.Layout.{width, afterMember}
 use Rattle.coding.specs.Step.{memberStep, valueStep}
 use Rattle.coding.specs.declared.Kind.{Kind}
+use Rattle.coding.specs.declared.Kind.the-variants.{OfFlat, OfObject, OfUnion}
+use Rattle.coding.specs.declared.Object.{Object}
+use Rattle.coding.specs.declared.Object.the-variants as O
 use Rattle.coding.specs.declared.Cursor.{Cursor}
 use Rattle.laws.specs.Sound.{KindSound}
 use Rattle.layout.specs.Bounds.{Laid}
@@ -20,6 +23,18 @@ unfoldable pub isHere : Reach → Bool
 isHere Cut = false
 isHere Past = false
 isHere Here = true
+
+-- what needs no walker: a text or bytes, and a kind that leads to no other object
+unfoldable pub isBlob : Object → Bool
+isBlob O.Text = true
+isBlob O.Bytes = true
+isBlob (O.List i) = false
+isBlob (O.Table i) = false
+
+unfoldable pub isLeaf : Kind → Bool
+isLeaf (OfFlat f) = true
+isLeaf (OfObject ob) = isBlob ob
+isLeaf (OfUnion u) = false
 
 -- member j of table t, where the cursor stands: its kind, whether and where its value stands, and the cursor behind it
 pub record MemberAt (S : Schema) (m : List ℕ) (t j start n : ℕ) (c : Cursor) (k : Kind) (none inplace here : Bool) (at bit : ℕ) (next : Cursor) : Type 0 where

@@ -27,7 +27,7 @@ ghost use Rattle.schema.specs.Directory.{Accepted};
 ghost use Rattle.bitio.specs.Puts.{Room, Puts, saturated};
 ghost use Rattle.sheet.specs.MessageBits as Bt;
 ghost use Rattle.sheet.specs.Readable as D;
-ghost use Rattle.sheet.specs.Stepping.{MemberAt, isHere};
+ghost use Rattle.sheet.specs.Stepping.{MemberAt, isHere, isBlob, isLeaf};
 ghost use Rattle.sheet.specs.Answers as An;
 
 // ---- numbers
@@ -41,9 +41,12 @@ fn number64(x: usize) -> u64
 // A mark (0 absent, 1 present, 2 unknown) and the w low bits of x.
 fn write_marked(out: &mut [u8], pos: usize, mark: u64, w: usize, x: u64) -> usize
     requires { ⌜ Room (now out) pos ⌝ }
-    requires { ⌜ w ≤ 64 ⌝ }
+    requires { ⌜ (w ≤ 64) × (mark < 4) ⌝ }
     ensures { λ r. ⌜ Puts (now (out .entry)) pos (Bt.marked mark w x) (now (out .exit)) r ⌝ }
 {
+    if w <= 62 {
+        return bitio::write(out, pos, 2 + w, bits::append(mark, w, x));
+    }
     let p = bitio::write(out, pos, 2, mark);
     bitio::write(out, p, w, x)
 }
@@ -314,6 +317,93 @@ fn write_flat(
     }
 }
 
+// A text or bytes with its mark: the n bytes from `at`.
+fn write_blob(m: &[u8], out: &mut [u8], pos: usize, at: usize, n: usize) -> usize
+    requires { ⌜ Room (now out) pos ⌝ }
+    requires { ⌜ (at + n ≤ length (now m)) × (length (now m) ≤ 16777215) ⌝ }
+    ensures { λ r. ⌜ Puts (now (out .entry)) pos (Bt.blobAt (now (m .entry)) at n) (now (out .exit)) r ⌝ }
+{
+    let p = write_marked(out, pos, 1, 32, number64(n));
+    bitio::write_bytes(out, p, &m[at..at + n])
+}
+
+// What a reference x, or in place a length x, to a text or bytes leads to.
+fn refer_blob(
+    b: &[u8],
+    m: &[u8],
+    out: &mut [u8],
+    d: usize,
+    ob: Object,
+    inplace: bool,
+    tail: usize,
+    x: usize,
+    pos: usize,
+) -> usize
+    requires { ⌜ Room (now out) pos ⌝ }
+    requires { ⌜ (length (now m) ≤ 16777215) × (isBlob ob ≡ true) ⌝ }
+    requires { ⌜ D.StepReadable (D.ObjectReadable d (P.parse (now b)) (now m)) (P.parse (now b)) (now m) (T.objectStep ob inplace tail x) ⌝ }
+    ensures { λ r. ⌜ Puts (now (out .entry)) pos (Bt.referenceAt d (P.parse (now (b .entry))) (now (m .entry)) ob inplace tail x) (now (out .exit)) r ⌝ }
+{
+    if x == 0 {
+        return bitio::write(out, pos, 2, 0);
+    }
+    let place = step::place_of(inplace, tail, x);
+    let start = start_of(m, place);
+    let n = length_of(m, place);
+    write_blob(m, out, pos, start, n)
+}
+
+// Whether a value of the kind needs no walker: it leads to no object, or to a text or bytes.
+fn is_leaf(k: Kind) -> bool
+    ensures { λ r. ⌜ r ≡ isLeaf k ⌝ }
+{
+    match k {
+        Kind::OfFlat(_) => true,
+        Kind::OfObject(ob) => match ob {
+            Object::Text => true,
+            Object::Bytes => true,
+            Object::List(_) => false,
+            Object::Table(_) => false,
+        },
+        Kind::OfUnion(_) => false,
+    }
+}
+
+// What a member of such a kind holds, where its value is there: its mark, and what follows it.
+fn write_leaf(
+    b: &[u8],
+    dir: &[u16],
+    m: &[u8],
+    out: &mut [u8],
+    d: usize,
+    k: Kind,
+    here: bool,
+    none: bool,
+    inplace: bool,
+    tail: usize,
+    at: usize,
+    bit: usize,
+    pos: usize,
+) -> usize
+    requires { ⌜ Room (now out) pos ⌝ }
+    requires { ⌜ (Accepted (now b) (now dir)) × (length (now m) ≤ 16777215) × (KindSound (P.parse (now b)) k) × (isLeaf k ≡ true) ⌝ }
+    requires { ⌜ (here ≡ true → at + L.width B.u48 (P.parse (now b)) k ≤ length (now m)) × (bit < 8) × (at < 2 ^ 60) ⌝ }
+    requires { ⌜ D.StepReadable (D.ObjectReadable d (P.parse (now b)) (now m)) (P.parse (now b)) (now m) (Bt.placed here (T.valueStep B.u48 (P.parse (now b)) (now m) k none inplace tail at bit)) ⌝ }
+    ensures { λ r. ⌜ Puts (now (out .entry)) pos (Bt.stepAt d (P.parse (now (b .entry))) (now (m .entry)) k (Bt.placed here (T.valueStep B.u48 (P.parse (now (b .entry))) (now (m .entry)) k none inplace tail at bit))) (now (out .exit)) r ⌝ }
+{
+    if !here {
+        return bitio::write(out, pos, 2, 0);
+    }
+    match k {
+        Kind::OfFlat(f) => write_flat(b, dir, m, out, f, none, at, bit, pos),
+        Kind::OfObject(ob) => {
+            let x = wire::u48_in(m, at) as usize;
+            refer_blob(b, m, out, d, ob, inplace, tail, x, pos)
+        }
+        Kind::OfUnion(_) => pos,
+    }
+}
+
 // Whether a member's value is there.
 fn is_here(r: step::Reach) -> bool
     ensures { λ q. ⌜ q ≡ isHere r ⌝ }
@@ -542,6 +632,25 @@ fn write_table(
         let q = member_at(b, dir, m, t, j, start, n, c);
         let k = q.kind;
         c = q.next;
+        if is_leaf(k) {
+            p = write_leaf(
+                b,
+                dir,
+                m,
+                out,
+                d,
+                k,
+                q.here,
+                q.none,
+                q.inplace,
+                start + n,
+                q.at,
+                q.bit,
+                p,
+            );
+            j += 1;
+            continue;
+        }
         p = write_value(
             b,
             dir,
@@ -589,7 +698,43 @@ fn write_list(
     if 0 < w {
         return write_numbers(m, out, p, w, start, n);
     }
-    write_elements(b, dir, m, out, d, k, start, n, p)
+    match k {
+        Kind::OfFlat(_) => write_elements(b, dir, m, out, d, k, start, n, p),
+        Kind::OfObject(ob) => write_references(b, dir, m, out, d, ob, start, n, p),
+        Kind::OfUnion(_) => write_elements(b, dir, m, out, d, k, start, n, p),
+    }
+}
+
+// The n objects of a list, whose offsets start at `start`.
+fn write_references(
+    b: &[u8],
+    dir: &[u16],
+    m: &[u8],
+    out: &mut [u8],
+    d: usize,
+    ob: Object,
+    start: usize,
+    n: usize,
+    pos: usize,
+) -> usize
+    requires { ⌜ Room (now out) pos ⌝ }
+    requires { ⌜ (Accepted (now b) (now dir)) × (length (now m) ≤ 16777215) × (start + 6 * n ≤ length (now m)) ⌝ }
+    requires { ⌜ D.ElementsReadable (D.ObjectReadable d (P.parse (now b)) (now m)) (P.parse (now b)) (now m) (Kind.OfObject ob) start n 0 ⌝ }
+    ensures { λ r. ⌜ Puts (now (out .entry)) pos (Bt.elementsAt d (P.parse (now (b .entry))) (now (m .entry)) (Kind.OfObject ob) start n 0) (now (out .exit)) r ⌝ }
+{
+    let mut p = pos;
+    let mut at = start;
+    let mut j: usize = 0;
+    while j < n {
+        if 134217720 < p {
+            return p;
+        }
+        let x = wire::u48_in(m, at) as usize;
+        p = write_reference(b, dir, m, out, d, ob, false, 0, x, p);
+        at += 6;
+        j += 1;
+    }
+    p
 }
 
 // The n elements of kind k with their marks.

@@ -4,7 +4,7 @@ use Rattle.bitio.proofs.joined.Statement.{statement}
 use Rattle.bitio.proofs.joined.Tie as tie
 use Rattle.bitio.proofs.joined.Reads as reads
 use Rattle.bitio.proofs.joined.Lts as lts
-use Rattle.bitio.proofs.low.Reads as low-reads
+use Rattle.bits.proofs.low.Reads as low-reads
 
 -- src/lib.rt:347:9
 returns : tie.Need-returns

@@ -4,7 +4,7 @@ use Rattle.bitio.proofs.put_byte.Statement.{statement}
 use Rattle.bitio.proofs.put_byte.Tie as tie
 use Rattle.bitio.proofs.put_byte.Reads as reads
 use Rattle.bitio.proofs.put_byte.Lts as lts
-use Rattle.bitio.proofs.last_byte.Reads as last-byte-reads
+use Rattle.bits.proofs.last_byte.Reads as last-byte-reads
 
 -- src/lib.rt:314:14
 last-byte-requires : tie.Need-last-byte-requires

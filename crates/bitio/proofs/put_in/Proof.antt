@@ -1,6 +1,8 @@
 -- A store of the byte with the field replaced.
 use Rattle.bitio.proofs.Fields.{put-law}
-use Prim.Native.Nat.{_-_, _/_}
+use Rattle.bits.proofs.Masks.{merged-lt}
+use lib.ListN.{getD}
+use Prim.Native.Nat.{_-_, _/_, _%_}
 use native.Mathlib.Omega.{arith}
 use denote.Ref.{now}
 use borrow.Author.Needs.{needs}
@@ -25,10 +27,15 @@ cast-merge c = omega (arith, c .slice-known2 .given (c .before .before .before .
 merge-requires : tie.Need-merge-requires
 merge-requires c κs =
     let a = c .before .before .before .args in
-    (omega arith, (c .slice-known2 .given (a .pos / 8) .fits, c .before .before .before .pre .1 .1 .1))
+    ((omega arith, omega arith, omega arith), c .before .before .before .pre .1 .1 .1)
 
 cast-out : tie.Need-cast-out
-cast-out c = search needs
+cast-out c =
+    let o = c .before .before in
+    let st = o .before .before in
+    let a = st .args in
+    let k = 8 - o .offset .result - a .n in
+    record { fits = rw (c .merge .ensures) (merged-lt (getD (now (a .out)) (a .pos / 8) 0) (a .pos % 8) (a .n) k (a .x) 8 (omega arith) (c .before .slice-known2 .given (a .pos / 8) .fits) (st .pre .1 .1 .1)) }
 
 slice-write-out : tie.Need-slice-write-out
 slice-write-out c = search needs
@@ -42,7 +49,7 @@ returns c =
     let st = o .before .before in
     let a = st .args in
     put-law (now (a .out)) (a .pos) (a .n) (8 - o .offset .result - a .n) (omega arith) (omega arith) (a .x) (c .merge .result)
-    (c .before .slice-known2 .given (a .pos / 8) .fits) (st .pre .1 .1 .1) (c .merge .ensures .0)
+    (st .pre .1 .1 .1) (c .merge .ensures)
 
 pub put-in-spec : {M : Type 1} → statement M
 put-in-spec =

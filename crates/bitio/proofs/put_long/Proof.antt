@@ -11,7 +11,7 @@ use Rattle.bitio.proofs.put_long.Reads as reads
 use Rattle.bitio.proofs.put_long.Lts as lts
 use Rattle.bitio.proofs.byte.Reads as byte-reads
 use Rattle.bitio.proofs.joined.Reads as joined-reads
-use Rattle.bitio.proofs.offset.Reads as offset-reads
+use Rattle.bits.proofs.offset.Reads as offset-reads
 use Rattle.bitio.proofs.put_aligned.Reads as put-aligned-reads
 use Rattle.bitio.proofs.put_word.Reads as put-word-reads
 

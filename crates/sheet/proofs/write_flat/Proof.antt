@@ -53,7 +53,7 @@ number-requires c κs = (search integer-eight, omega arith)
 
 -- src/lib.rt:289:32
 write-marked-requires-2 : tie.Need-write-marked-requires-2
-write-marked-requires-2 c κs = (search needs, search integer-bits)
+write-marked-requires-2 c κs = (search needs, (search integer-bits, omega arith))
 
 -- src/lib.rt:296:21
 enum-known-k-2 : tie.Need-enum-known-k-2

@@ -1,7 +1,7 @@
 -- A mask of three bits is the rest by 8.
 use lib.Bits.{and-mask}
-use Rattle.bitio.proofs.offset.Statement.{statement}
-use Rattle.bitio.proofs.offset.Tie as tie
+use Rattle.bits.proofs.offset.Statement.{statement}
+use Rattle.bits.proofs.offset.Tie as tie
 
 returns : tie.Need-returns
 returns c = and-mask (c .args .pos) 3

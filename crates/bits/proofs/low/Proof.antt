@@ -1,9 +1,9 @@
 -- A mask of n bits is the rest by a power of 2.
-use Rattle.bitio.proofs.Fields.{low-mask, mask-some}
+use Rattle.bits.proofs.Masks.{low-mask, mask-some}
 use native.Mathlib.Omega.{arith}
 use borrow.Author.Needs.{needs}
-use Rattle.bitio.proofs.low.Statement.{statement}
-use Rattle.bitio.proofs.low.Tie as tie
+use Rattle.bits.proofs.low.Statement.{statement}
+use Rattle.bits.proofs.low.Tie as tie
 
 shl-result : tie.Need-shl-result
 shl-result c = search needs

@@ -5,8 +5,8 @@ use Prim.Native.Nat.{ℕ, _+_, _*_, _/_, _%_, _^_, _<_}
 use mathlib.Core.Path.{_≡_, ap, _∙_}
 use native.Mathlib.Omega.{arith}
 use borrow.Author.Needs.{needs}
-use Rattle.bitio.proofs.across.Statement.{statement}
-use Rattle.bitio.proofs.across.Tie as tie
+use Rattle.bits.proofs.across.Statement.{statement}
+use Rattle.bits.proofs.across.Tie as tie
 
 cast-result : tie.Need-cast-result
 cast-result c = search needs

@@ -1,11 +1,11 @@
 -- A field replaced by shifts, ors and a mask is the field replaced by sums.
-use Rattle.bitio.proofs.Fields.{mask-some, merged-ops, merged-lt}
+use Rattle.bits.proofs.Masks.{mask-some, merged-ops}
 use Prim.Native.Nat.{_+_, _-_}
 use mathlib.Core.Path.{_≡_}
 use native.Mathlib.Omega.{arith}
 use borrow.Author.Needs.{needs}
-use Rattle.bitio.proofs.merge.Statement.{statement}
-use Rattle.bitio.proofs.merge.Tie as tie
+use Rattle.bits.proofs.merge.Statement.{statement}
+use Rattle.bits.proofs.merge.Tie as tie
 
 shr-t : tie.Need-shr-t
 shr-t c = search needs
@@ -28,11 +28,8 @@ sub-result c = mask-some (c .args .k) (omega arith)
 returns : tie.Need-returns
 returns c =
     let a = c .args in
-    let t : 8 - a .n - a .k + a .n + a .k ≡ 8 = omega arith in
-    let hb = c .pre .1 .0 in
-    let hx = c .pre .1 .1 in
-    let e = merged-ops (a .b) (8 - a .n - a .k) (a .n) (a .k) (a .x) t hb hx in
-    (e, rw e (merged-lt (a .b) (8 - a .n - a .k) (a .n) (a .k) (a .x) t hb hx))
+    let t : 64 - a .n - a .k + a .n + a .k ≡ 64 = omega arith in
+    merged-ops (a .b) (64 - a .n - a .k) (a .n) (a .k) (a .x) 64 t (c .fits .b .fits) (c .pre .1) (omega arith) (omega arith)
 
 pub merge-spec : {M : Type 1} → statement M
 merge-spec =

@@ -1,7 +1,7 @@
 -- A mask of eight bits is the rest by 256.
 use lib.Bits.{and-mask, mask-lt}
-use Rattle.bitio.proofs.last_byte.Statement.{statement}
-use Rattle.bitio.proofs.last_byte.Tie as tie
+use Rattle.bits.proofs.last_byte.Statement.{statement}
+use Rattle.bits.proofs.last_byte.Tie as tie
 
 cast-result : tie.Need-cast-result
 cast-result c = record { fits = mask-lt (c .args .v) 8 }
