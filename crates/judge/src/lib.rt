@@ -1,8 +1,8 @@
 // The verdict of a message.
-use arrival::Outcome;
 use coding::Budget;
 use coding::Spent;
 use coding::Verdict;
+use text::Outcome;
 ghost use mathlib.Core.Path.{_≡_};
 ghost use Prim.Native.Nat.{_≤_};
 ghost use lib.ListN.{length};
@@ -10,7 +10,7 @@ ghost use Rattle.coding.specs.Bytes as B;
 ghost use Rattle.coding.specs.Packed as P;
 ghost use Rattle.coding.specs.Walk as W;
 ghost use Rattle.schema.specs.Directory.{Accepted};
-ghost use Rattle.arrival.specs.Answers as As;
+ghost use Rattle.text.specs.Answers as As;
 
 fn verdict_of(w: Outcome) -> Verdict
     requires { ⌜ w .code ≤ 256 ⌝ }

@@ -26,8 +26,8 @@ use Rattle.coding.specs.declared.Walked.the-variants.{Going}
 use Rattle.laws.specs.Parsed.{members-length}
 use Rattle.step.specs.Lead.{leadOf}
 use Rattle.wire.specs.Numbers.{Number}
-use Rattle.arrival.specs.declared.Outcome.{Outcome}
-use Rattle.arrival.specs.Answers.{walkedOf}
+use Rattle.text.specs.declared.Outcome.{Outcome}
+use Rattle.text.specs.Answers.{walkedOf}
 use Rattle.member.specs.Records.{Leaf, leafWidth, LeafTable, LeafObject, noBool}
 use Rattle.member.proofs.PlainCases.{number-past, number-here, number-cut, plain-led}
 use Rattle.member.proofs.LeafRecords.{plain-of-leaf, width-text, width-is}

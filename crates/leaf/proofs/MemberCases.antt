@@ -20,9 +20,9 @@ use Rattle.coding.specs.declared.Spent.{Spent}
 use Rattle.coding.specs.declared.Walked.{Walked}
 use Rattle.coding.specs.declared.Walked.the-variants.{Going}
 use Rattle.step.specs.Lead.{leadOf}
-use Rattle.arrival.specs.declared.Outcome.{Outcome}
-use Rattle.arrival.specs.Answers.{walkedOf}
-use Rattle.arrival.proofs.VisitCases.{goes, stops}
+use Rattle.text.specs.declared.Outcome.{Outcome}
+use Rattle.text.specs.Answers.{walkedOf}
+use Rattle.text.proofs.VisitCases.{goes, stops}
 use Rattle.leaf.proofs.EndCases.{Ended, members-past}
 
 -- what judging needs of a step leads to the same

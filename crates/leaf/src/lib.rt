@@ -1,11 +1,11 @@
 // Leaf tables, which have only numbers, floats, enums and texts, none optional or in place: no walker needs them.
-use arrival::Outcome;
 use coding::Budget;
 use coding::Kind;
 use coding::Object;
 use coding::Opened;
 use coding::Place;
 use coding::Spent;
+use text::Outcome;
 ghost use mathlib.Core.Path.{_≡_};
 ghost use mathlib.Core.Bool.{false};
 ghost use Prim.Native.Nat.{_+_, _*_, _<_, _≤_, _^_};
@@ -18,7 +18,7 @@ ghost use Rattle.coding.specs.Step as T;
 ghost use Rattle.coding.specs.Walk as W;
 ghost use Rattle.laws.specs.Sound.{ObjectSound};
 ghost use Rattle.schema.specs.Directory.{Accepted};
-ghost use Rattle.arrival.specs.Answers as As;
+ghost use Rattle.text.specs.Answers as As;
 ghost use Rattle.member.specs.Records as Rs;
 
 // The member of the record at `at`, of a fixed part that ends behind its first byte: it may be cut, and a text is arrived at.
@@ -40,13 +40,13 @@ fn leaf_member(
 {
     let h = wire::index(wire::byte_in(b, at));
     if n < end + member::leaf_width(h) {
-        return arrival::refuse(8, holder, s);
+        return text::refuse(8, holder, s);
     }
     if h == 104 {
         let x = wire::u48_in(m, start + end) as usize;
-        return arrival::refer_text(b, m, budget, d, holder, x, s);
+        return text::refer_text(b, m, budget, d, holder, x, s);
     }
-    arrival::going(s)
+    text::going(s)
 }
 
 // The members of leaf table t.
@@ -71,7 +71,7 @@ fn leaf_members(
     let mut j: usize = 0;
     while j < count {
         if n <= end {
-            return arrival::going(v);
+            return text::going(v);
         }
         let at = schema::record_place(4, first, j);
         let g = leaf_member(b, m, budget, d, at, holder, start, n, end, v);
@@ -82,7 +82,7 @@ fn leaf_members(
         end += member::leaf_width(wire::index(wire::byte_in(b, at)));
         j += 1;
     }
-    arrival::going(v)
+    text::going(v)
 }
 
 // An arrival at leaf table t at an offset.
@@ -103,14 +103,14 @@ fn visit_leaf(
 {
     let spent = s.visits;
     if budget.visits <= spent {
-        return arrival::refuse(4, x, s);
+        return text::refuse(4, x, s);
     }
     let v = Spent { visits: spent + 1 };
     if d == 0 {
-        return arrival::refuse(5, x, v);
+        return text::refuse(5, x, v);
     }
     match object::open_table(b, m, t, id, x) {
-        Opened::Refused(e) => arrival::refuse(e, x, v),
+        Opened::Refused(e) => text::refuse(e, x, v),
         Opened::Content(start, n) => leaf_members(
             b,
             m,
@@ -145,7 +145,7 @@ fn refer_leaf(
     ensures { λ r. ⌜ As.walkedOf r ≡ W.follow (W.visit d B.u48 (P.parse (now (b .entry))) (now (m .entry)) budget) holder (T.objectStep (Object.Table t) false 0 x) s ⌝ }
 {
     if x == 0 {
-        return arrival::going(s);
+        return text::going(s);
     }
     visit_leaf(b, m, budget, d, t, id, first, count, x, s)
 }
@@ -181,7 +181,7 @@ fn leaf_tables(
         at += 6;
         j += 1;
     }
-    arrival::going(v)
+    text::going(v)
 }
 
 // The n objects of a list of a leaf table.
@@ -201,9 +201,9 @@ pub fn leaf_references(
     ensures { λ r. ⌜ As.walkedOf r ≡ W.elements (W.visit d B.u48 (P.parse (now (b .entry))) (now (m .entry)) budget) B.u48 (P.parse (now (b .entry))) (now (m .entry)) holder start (Kind.OfObject ob) n 0 s ⌝ }
 {
     match ob {
-        Object::Text => arrival::going(s),
-        Object::Bytes => arrival::going(s),
-        Object::List(_) => arrival::going(s),
+        Object::Text => text::going(s),
+        Object::Bytes => text::going(s),
+        Object::List(_) => text::going(s),
         Object::Table(t) => {
             let i = wire::index(t);
             let first = schema::table_place(b, dir, i);

@@ -31,11 +31,11 @@ use Rattle.laws.specs.Sound.{NoStruct, ObjectSound, KindSound}
 use Rattle.laws.specs.SoundAt.{union-index, case-sound-at}
 use Rattle.schema.specs.Directory.{Accepted, accepted-sound}
 use Rattle.wire.specs.Numbers.{Number}
-use Rattle.arrival.specs.declared.Outcome.{Outcome}
-use Rattle.arrival.specs.Answers.{walkedOf, isText}
+use Rattle.text.specs.declared.Outcome.{Outcome}
+use Rattle.text.specs.Answers.{walkedOf, isText}
 use Rattle.header.proofs.SizeCases.{element-flat, element-object, element-union, list-kind}
-use Rattle.arrival.proofs.TextCases.{text-only}
-use Rattle.arrival.proofs.ElementCases.{elements-stopped, elements-turn}
+use Rattle.text.proofs.TextCases.{text-only}
+use Rattle.text.proofs.ElementCases.{elements-stopped, elements-turn}
 
 -- ---- elements that lead nowhere
 flat-follows : (child : W.Child) (holder : ℕ) (S : Schema) (m : List ℕ) (k : Flat) (at bit : ℕ) (v : Spent) → NoStruct (OfFlat k)

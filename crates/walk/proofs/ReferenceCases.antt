@@ -30,12 +30,12 @@ use Rattle.layout.specs.Bounds.{Laid}
 use Rattle.schema.specs.Directory.{Accepted, Block}
 use Rattle.step.specs.Lead.{leadOf}
 use Rattle.wire.specs.Numbers.{Number}
-use Rattle.arrival.specs.declared.Outcome.{Outcome}
-use Rattle.arrival.specs.Answers.{walkedOf, isText}
+use Rattle.text.specs.declared.Outcome.{Outcome}
+use Rattle.text.specs.Answers.{walkedOf, isText}
 use Rattle.member.specs.Records.{Refers}
 use Rattle.header.proofs.SizeCases.{element-object}
 use Rattle.object.proofs.OpenCases.{member-sound-of}
-use Rattle.arrival.proofs.TextCases.{text-only}
+use Rattle.text.proofs.TextCases.{text-only}
 use Rattle.member.proofs.PlainCases.{among, plain-led}
 use Rattle.leaf.proofs.MemberCases.{lead-follows, members-stopped, members-turn}
 

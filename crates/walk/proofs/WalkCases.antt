@@ -21,8 +21,8 @@ use Rattle.coding.specs.declared.Walked.{Walked}
 use Rattle.coding.specs.declared.Walked.the-variants.{Going}
 use Rattle.laws.specs.Sound.{ObjectSound}
 use Rattle.step.specs.Lead.{PlaceSmall, StepSmall}
-use Rattle.arrival.specs.Answers.{isText}
-use Rattle.arrival.proofs.TextCases.{text-only}
+use Rattle.text.specs.Answers.{isText}
+use Rattle.text.proofs.TextCases.{text-only}
 
 -- ---- an arrival by its place
 module _ (d : ℕ) (S : Schema) (m : List ℕ) (b : Budget) (ob : Object) (p : Place) (s : Spent) (r : Walked) where

@@ -1,5 +1,4 @@
 // The walkers of tables, lists and unions, which call each other in a cycle.
-use arrival::Outcome;
 use coding::Budget;
 use coding::Cursor;
 use coding::Kind;
@@ -8,6 +7,7 @@ use coding::Opened;
 use coding::Place;
 use coding::Spent;
 use coding::Step;
+use text::Outcome;
 ghost use mathlib.Core.Path.{_≡_};
 ghost use mathlib.Core.Bool.{false};
 ghost use Prim.Native.Nat.{_+_, _*_, _<_, _≤_, _^_};
@@ -21,7 +21,7 @@ ghost use Rattle.coding.specs.Walk as W;
 ghost use Rattle.laws.specs.Sound.{ObjectSound};
 ghost use Rattle.schema.specs.Directory.{Accepted};
 ghost use Rattle.step.specs.Lead as D;
-ghost use Rattle.arrival.specs.Answers as As;
+ghost use Rattle.text.specs.Answers as As;
 ghost use Rattle.member.specs.Records as Rs;
 
 // An arrival at an object with d objects of depth left, this one counted.
@@ -41,14 +41,14 @@ pub fn visit(
     let at = object::placed(p);
     let spent = s.visits;
     if budget.visits <= spent {
-        return arrival::refuse(4, at, s);
+        return text::refuse(4, at, s);
     }
     let t = Spent { visits: spent + 1 };
     if d == 0 {
-        return arrival::refuse(5, at, t);
+        return text::refuse(5, at, t);
     }
     match object::open_object(b, dir, m, ob, p) {
-        Opened::Refused(e) => arrival::refuse(e, at, t),
+        Opened::Refused(e) => text::refuse(e, at, t),
         Opened::Content(start, n) => content(b, dir, m, budget, d - 1, ob, at, start, n, t),
     }
 }
@@ -71,8 +71,8 @@ fn content(
     ensures { λ r. ⌜ As.walkedOf r ≡ W.content (W.visit d B.u48 (P.parse (now (b .entry))) (now (m .entry)) budget) B.u48 (P.parse (now (b .entry))) (now (m .entry)) ob holder start n s ⌝ }
 {
     match ob {
-        Object::Text => arrival::going(s),
-        Object::Bytes => arrival::going(s),
+        Object::Text => text::going(s),
+        Object::Bytes => text::going(s),
         Object::List(i) => list(b, dir, m, budget, d, wire::index(i), holder, start, n, s),
         Object::Table(t) => table(b, dir, m, budget, d, wire::index(t), holder, start, n, s),
     }
@@ -101,7 +101,7 @@ fn table(
     let mut j: usize = 0;
     while j < count {
         if n <= layout::bit_byte(c) {
-            return arrival::going(v);
+            return text::going(v);
         }
         let at = schema::record_place(4, first, j);
         if member::refers(b, at) {
@@ -124,7 +124,7 @@ fn table(
         c = q.next;
         j += 1;
     }
-    arrival::going(v)
+    text::going(v)
 }
 
 // The object by its offset of the member of the record at `at`, where the cursor stands.
@@ -147,15 +147,15 @@ fn reference(
 {
     let end = c.end;
     if n <= end {
-        return arrival::going(s);
+        return text::going(s);
     }
     if n < end + 6 {
-        return arrival::refuse(8, holder, s);
+        return text::refuse(8, holder, s);
     }
     let x = wire::u48_in(m, start + end) as usize;
     let ob = schema::object_at(b, at);
-    if arrival::is_text(ob) {
-        return arrival::refer_text(b, m, budget, d, holder, x, s);
+    if text::is_text(ob) {
+        return text::refer_text(b, m, budget, d, holder, x, s);
     }
     refer(b, dir, m, budget, d, ob, holder, x, s)
 }
@@ -180,7 +180,7 @@ fn list(
     let at = schema::list_place(b, dir, i);
     let k = schema::kind_at(b, at);
     if k < 13 {
-        return arrival::going(s);
+        return text::going(s);
     }
     if k < 17 {
         let ob = schema::object_at(b, at);
@@ -206,8 +206,8 @@ fn references(
     requires { ⌜ (Accepted (now b) (now dir)) × (length (now m) ≤ 16777215) × (ObjectSound (P.parse (now b)) ob) × (start + 6 * n ≤ length (now m)) ⌝ }
     ensures { λ r. ⌜ As.walkedOf r ≡ W.elements (W.visit d B.u48 (P.parse (now (b .entry))) (now (m .entry)) budget) B.u48 (P.parse (now (b .entry))) (now (m .entry)) holder start (Kind.OfObject ob) n 0 s ⌝ }
 {
-    if arrival::is_text(ob) {
-        return arrival::texts(b, m, budget, d, holder, start, n, s);
+    if text::is_text(ob) {
+        return text::texts(b, m, budget, d, holder, start, n, s);
     }
     if member::is_leaf_table(b, dir, ob) {
         return leaf::leaf_references(b, dir, m, budget, d, ob, holder, start, n, s);
@@ -225,7 +225,7 @@ fn references(
         at += 6;
         j += 1;
     }
-    arrival::going(v)
+    text::going(v)
 }
 
 // What an offset in a list leads to.
@@ -244,7 +244,7 @@ fn refer(
     ensures { λ r. ⌜ As.walkedOf r ≡ W.follow (W.visit d B.u48 (P.parse (now (b .entry))) (now (m .entry)) budget) holder (T.objectStep ob false 0 x) s ⌝ }
 {
     if x == 0 {
-        return arrival::going(s);
+        return text::going(s);
     }
     visit(b, dir, m, budget, d, ob, Place::ByOffset(x), s)
 }
@@ -277,7 +277,7 @@ fn choices(
         at += 8;
         j += 1;
     }
-    arrival::going(v)
+    text::going(v)
 }
 
 // What a choice of union i in a list leads to.
@@ -297,10 +297,10 @@ fn choice(
 {
     let c = wire::u16_in(m, at) as usize;
     if c == 0 {
-        return arrival::going(s);
+        return text::going(s);
     }
     if schema::case_count(b, dir, i) < c {
-        return arrival::going(s);
+        return text::going(s);
     }
     let ob = schema::union_case(b, dir, i, c);
     let x = wire::u48_in(m, at + 2) as usize;
@@ -322,11 +322,11 @@ fn follow(
     ensures { λ r. ⌜ As.walkedOf r ≡ W.follow (W.visit d B.u48 (P.parse (now (b .entry))) (now (m .entry)) budget) holder step s ⌝ }
 {
     match step {
-        Step::Refused(e) => arrival::refuse(e, holder, s),
-        Step::Absent => arrival::going(s),
-        Step::Value(_) => arrival::going(s),
-        Step::Unknown(_) => arrival::going(s),
-        Step::Struct(_, _) => arrival::going(s),
+        Step::Refused(e) => text::refuse(e, holder, s),
+        Step::Absent => text::going(s),
+        Step::Value(_) => text::going(s),
+        Step::Unknown(_) => text::going(s),
+        Step::Struct(_, _) => text::going(s),
         Step::Object(ob, p) => arrive(b, dir, m, budget, d, ob, p, s),
         Step::Choice(_, ob, p) => union(b, dir, m, budget, d, holder, ob, p, s),
     }
@@ -348,8 +348,8 @@ fn arrive(
 {
     match p {
         Place::ByOffset(x) => {
-            if arrival::is_text(ob) {
-                return arrival::visit_text(b, m, budget, d, x, s);
+            if text::is_text(ob) {
+                return text::visit_text(b, m, budget, d, x, s);
             }
             visit(b, dir, m, budget, d, ob, Place::ByOffset(x), s)
         }
@@ -375,7 +375,7 @@ fn union(
     match p {
         Place::ByOffset(x) => {
             if x == 0 {
-                return arrival::refuse(9, holder, s);
+                return text::refuse(9, holder, s);
             }
             visit(b, dir, m, budget, d, ob, Place::ByOffset(x), s)
         }

@@ -6,10 +6,10 @@ use Rattle.leaf.proofs.leaf_member.Statement.{statement}
 use Rattle.leaf.proofs.leaf_member.Tie as tie
 use Rattle.leaf.proofs.leaf_member.Reads as reads
 use Rattle.leaf.proofs.leaf_member.Lts as lts
-use Rattle.arrival.proofs.going.Reads as going-reads
+use Rattle.text.proofs.going.Reads as going-reads
 use Rattle.member.proofs.leaf_width.Reads as leaf-width-reads
-use Rattle.arrival.proofs.refer_text.Reads as refer-text-reads
-use Rattle.arrival.proofs.refuse.Reads as refuse-reads
+use Rattle.text.proofs.refer_text.Reads as refer-text-reads
+use Rattle.text.proofs.refuse.Reads as refuse-reads
 use Rattle.wire.proofs.byte_in.Reads as byte-in-reads
 use Rattle.wire.proofs.index.Reads as index-reads
 use Rattle.wire.proofs.u48_in.Reads as u48-in-reads

@@ -14,7 +14,7 @@ use Rattle.leaf.proofs.leaf_members.Statement.{statement}
 use Rattle.leaf.proofs.leaf_members.Tie as tie
 use Rattle.leaf.proofs.leaf_members.Reads as reads
 use Rattle.leaf.proofs.leaf_members.Lts as lts
-use Rattle.arrival.proofs.going.Reads as going-reads
+use Rattle.text.proofs.going.Reads as going-reads
 use Rattle.leaf.proofs.leaf_member.Reads as leaf-member-reads
 use Rattle.member.proofs.leaf_width.Reads as leaf-width-reads
 use Rattle.schema.proofs.record_place.Reads as record-place-reads

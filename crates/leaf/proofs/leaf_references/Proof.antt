@@ -7,7 +7,7 @@ use Rattle.leaf.proofs.leaf_references.Statement.{statement}
 use Rattle.leaf.proofs.leaf_references.Tie as tie
 use Rattle.leaf.proofs.leaf_references.Reads as reads
 use Rattle.leaf.proofs.leaf_references.Lts as lts
-use Rattle.arrival.proofs.going.Reads as going-reads
+use Rattle.text.proofs.going.Reads as going-reads
 use Rattle.leaf.proofs.leaf_tables.Reads as leaf-tables-reads
 use Rattle.schema.proofs.records.Reads as records-reads
 use Rattle.schema.proofs.table_id.Reads as table-id-reads

@@ -7,12 +7,12 @@ use Rattle.coding.specs.Packed as P
 use Rattle.coding.specs.Walk as W
 use Rattle.coding.specs.declared.Kind.the-variants.{OfObject}
 use Rattle.coding.specs.declared.Object.the-variants as O
-use Rattle.arrival.proofs.ElementCases.{elements-start, elements-done, references-stopped, references-turn}
+use Rattle.text.proofs.ElementCases.{elements-start, elements-done, references-stopped, references-turn}
 use Rattle.leaf.proofs.leaf_tables.Statement.{statement}
 use Rattle.leaf.proofs.leaf_tables.Tie as tie
 use Rattle.leaf.proofs.leaf_tables.Reads as reads
 use Rattle.leaf.proofs.leaf_tables.Lts as lts
-use Rattle.arrival.proofs.going.Reads as going-reads
+use Rattle.text.proofs.going.Reads as going-reads
 use Rattle.leaf.proofs.refer_leaf.Reads as refer-leaf-reads
 use Rattle.wire.proofs.u48_in.Reads as u48-in-reads
 

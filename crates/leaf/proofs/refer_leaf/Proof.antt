@@ -1,11 +1,11 @@
-use Rattle.arrival.proofs.ElementCases.{refer-none, refer-object}
+use Rattle.text.proofs.ElementCases.{refer-none, refer-object}
 use native.Mathlib.Omega.{arith}
 use borrow.Author.Needs.{needs}
 use Rattle.leaf.proofs.refer_leaf.Statement.{statement}
 use Rattle.leaf.proofs.refer_leaf.Tie as tie
 use Rattle.leaf.proofs.refer_leaf.Reads as reads
 use Rattle.leaf.proofs.refer_leaf.Lts as lts
-use Rattle.arrival.proofs.going.Reads as going-reads
+use Rattle.text.proofs.going.Reads as going-reads
 use Rattle.leaf.proofs.visit_leaf.Reads as visit-leaf-reads
 
 -- src/lib.rt:557:9

@@ -1,4 +1,4 @@
-use Rattle.arrival.proofs.VisitCases.{offset-spent, offset-deep, offset-refused, table-judged}
+use Rattle.text.proofs.VisitCases.{offset-spent, offset-deep, offset-refused, table-judged}
 use Rattle.object.proofs.OpenCases.{table-opened}
 use native.Mathlib.Omega.{arith}
 use borrow.Author.Needs.{needs}
@@ -8,7 +8,7 @@ use Rattle.leaf.proofs.visit_leaf.Reads as reads
 use Rattle.leaf.proofs.visit_leaf.Lts as lts
 use Rattle.leaf.proofs.leaf_members.Reads as leaf-members-reads
 use Rattle.object.proofs.open_table.Reads as open-table-reads
-use Rattle.arrival.proofs.refuse.Reads as refuse-reads
+use Rattle.text.proofs.refuse.Reads as refuse-reads
 
 -- src/lib.rt:527:9
 refuse-requires : tie.Need-refuse-requires

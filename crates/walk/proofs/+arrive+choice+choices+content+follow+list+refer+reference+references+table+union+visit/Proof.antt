@@ -10,12 +10,12 @@ use Rattle.coding.specs.Layout as L
 use Rattle.coding.specs.Walk as W
 use Rattle.layout.specs.Bounds.{Laid}
 use Rattle.object.proofs.OpenCases.{list-counted-of, table-counted-of, opened-fits, offset-small, inplace-first, inplace-length}
-use Rattle.arrival.proofs.VisitCases.{visit-spent, visit-deep, visit-refused, visit-content}
+use Rattle.text.proofs.VisitCases.{visit-spent, visit-deep, visit-refused, visit-content}
 use Rattle.walk.proofs.WalkCases.{arrive-text, arrive-offset, arrive-inplace, content-text, content-bytes, content-list, content-table, follow-absent, follow-value, follow-unknown, follow-struct, follow-refused, follow-object, follow-choice, object-small, object-place, choice-small, choice-place, union-none, union-offset, union-inplace}
 use Rattle.object.proofs.OpenCases.{list-fits, table-fits}
 use Rattle.leaf.proofs.MemberCases.{members-start, members-ended, members-done, members-stopped, members-turn}
 use Rattle.walk.proofs.ListCases.{list-flat, list-objects, list-unions, objects-sound, unions-counted, objects-there, unions-there, references-texts, choices-stopped, choices-turn, choice-none, choice-unknown, choice-known, choice-sound}
-use Rattle.arrival.proofs.ElementCases.{elements-start, elements-done, references-stopped, references-turn, refer-none, refer-object}
+use Rattle.text.proofs.ElementCases.{elements-start, elements-done, references-stopped, references-turn, refer-none, refer-object}
 use Rattle.coding.specs.declared.Kind.the-variants.{OfObject, OfUnion}
 use Prim.Native.Nat.{ℕ, _+_, _-_, _*_, _<_, _≤_}
 use borrow.Fn.Kinds.{In}
@@ -57,18 +57,18 @@ use Rattle.walk.proofs.visit.Reads as visit
 use Rattle.walk.proofs.visit.Kinds as visit-kinds
 use Rattle.walk.proofs.+arrive+choice+choices+content+follow+list+refer+reference+references+table+union+visit.Lts-visit as visit-lts
 use Rattle.member.proofs.behind_reference.Reads as behind-reference-reads
-use Rattle.arrival.proofs.going.Reads as going-reads
+use Rattle.text.proofs.going.Reads as going-reads
 use Rattle.member.proofs.is_leaf_table.Reads as is-leaf-table-reads
-use Rattle.arrival.proofs.is_text.Reads as is-text-reads
+use Rattle.text.proofs.is_text.Reads as is-text-reads
 use Rattle.member.proofs.lead_member.Reads as lead-member-reads
 use Rattle.leaf.proofs.leaf_references.Reads as leaf-references-reads
 use Rattle.object.proofs.open_object.Reads as open-object-reads
 use Rattle.object.proofs.placed.Reads as placed-reads
-use Rattle.arrival.proofs.refer_text.Reads as refer-text-reads
+use Rattle.text.proofs.refer_text.Reads as refer-text-reads
 use Rattle.member.proofs.refers.Reads as refers-reads
-use Rattle.arrival.proofs.refuse.Reads as refuse-reads
-use Rattle.arrival.proofs.texts.Reads as texts-reads
-use Rattle.arrival.proofs.visit_text.Reads as visit-text-reads
+use Rattle.text.proofs.refuse.Reads as refuse-reads
+use Rattle.text.proofs.texts.Reads as texts-reads
+use Rattle.text.proofs.visit_text.Reads as visit-text-reads
 use Rattle.layout.proofs.begin.Reads as begin-reads
 use Rattle.layout.proofs.bit_byte.Reads as bit-byte-reads
 use Rattle.schema.proofs.argument_at.Reads as argument-at-reads

@@ -14,7 +14,7 @@ ghost use Rattle.coding.specs.Bytes as B;
 ghost use Rattle.coding.specs.Packed as P;
 ghost use Rattle.coding.specs.Step as T;
 ghost use Rattle.coding.specs.Walk as W;
-ghost use Rattle.arrival.specs.Answers as As;
+ghost use Rattle.text.specs.Answers as As;
 
 // ---- a walker's answer
 // What a walker answers, in whole words: 0 to go on, or a refusal's number and 1; its place; what is spent.

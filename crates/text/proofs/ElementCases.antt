@@ -19,9 +19,9 @@ use Rattle.coding.specs.declared.Spent.{Spent}
 use Rattle.coding.specs.declared.Walked.{Walked}
 use Rattle.coding.specs.declared.Walked.the-variants.{Going}
 use Rattle.wire.specs.Numbers.{Number}
-use Rattle.arrival.specs.declared.Outcome.{Outcome}
-use Rattle.arrival.specs.Answers.{walkedOf}
-use Rattle.arrival.proofs.VisitCases.{goes, stops}
+use Rattle.text.specs.declared.Outcome.{Outcome}
+use Rattle.text.specs.Answers.{walkedOf}
+use Rattle.text.proofs.VisitCases.{goes, stops}
 
 -- ---- from element j on
 module _ (child : W.Child) (S : Schema) (m : List ℕ) (holder start : ℕ) (k : Kind) (n : ℕ) (s : Spent) where

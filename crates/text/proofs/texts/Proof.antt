@@ -7,13 +7,13 @@ use Rattle.coding.specs.Packed as P
 use Rattle.coding.specs.Walk as W
 use Rattle.coding.specs.declared.Kind.the-variants.{OfObject}
 use Rattle.coding.specs.declared.Object.the-variants as O
-use Rattle.arrival.proofs.ElementCases.{elements-start, elements-done, references-stopped, references-turn}
-use Rattle.arrival.proofs.texts.Statement.{statement}
-use Rattle.arrival.proofs.texts.Tie as tie
-use Rattle.arrival.proofs.texts.Reads as reads
-use Rattle.arrival.proofs.texts.Lts as lts
-use Rattle.arrival.proofs.going.Reads as going-reads
-use Rattle.arrival.proofs.refer_text.Reads as refer-text-reads
+use Rattle.text.proofs.ElementCases.{elements-start, elements-done, references-stopped, references-turn}
+use Rattle.text.proofs.texts.Statement.{statement}
+use Rattle.text.proofs.texts.Tie as tie
+use Rattle.text.proofs.texts.Reads as reads
+use Rattle.text.proofs.texts.Lts as lts
+use Rattle.text.proofs.going.Reads as going-reads
+use Rattle.text.proofs.refer_text.Reads as refer-text-reads
 use Rattle.wire.proofs.u48_in.Reads as u48-in-reads
 
 abbrev Inv-loop : tie.InvT-loop

@@ -1,12 +1,12 @@
-use Rattle.arrival.proofs.VisitCases.{offset-spent, offset-deep, offset-refused, text-judged}
+use Rattle.text.proofs.VisitCases.{offset-spent, offset-deep, offset-refused, text-judged}
 use borrow.Author.Needs.{needs}
-use Rattle.arrival.proofs.visit_text.Statement.{statement}
-use Rattle.arrival.proofs.visit_text.Tie as tie
-use Rattle.arrival.proofs.visit_text.Reads as reads
-use Rattle.arrival.proofs.visit_text.Lts as lts
-use Rattle.arrival.proofs.going.Reads as going-reads
+use Rattle.text.proofs.visit_text.Statement.{statement}
+use Rattle.text.proofs.visit_text.Tie as tie
+use Rattle.text.proofs.visit_text.Reads as reads
+use Rattle.text.proofs.visit_text.Lts as lts
+use Rattle.text.proofs.going.Reads as going-reads
 use Rattle.object.proofs.open_text.Reads as open-text-reads
-use Rattle.arrival.proofs.refuse.Reads as refuse-reads
+use Rattle.text.proofs.refuse.Reads as refuse-reads
 
 -- src/lib.rt:306:9
 refuse-requires : tie.Need-refuse-requires

@@ -1,11 +1,11 @@
-use Rattle.arrival.proofs.ElementCases.{refer-none, refer-object}
+use Rattle.text.proofs.ElementCases.{refer-none, refer-object}
 use borrow.Author.Needs.{needs}
-use Rattle.arrival.proofs.refer_text.Statement.{statement}
-use Rattle.arrival.proofs.refer_text.Tie as tie
-use Rattle.arrival.proofs.refer_text.Reads as reads
-use Rattle.arrival.proofs.refer_text.Lts as lts
-use Rattle.arrival.proofs.going.Reads as going-reads
-use Rattle.arrival.proofs.visit_text.Reads as visit-text-reads
+use Rattle.text.proofs.refer_text.Statement.{statement}
+use Rattle.text.proofs.refer_text.Tie as tie
+use Rattle.text.proofs.refer_text.Reads as reads
+use Rattle.text.proofs.refer_text.Lts as lts
+use Rattle.text.proofs.going.Reads as going-reads
+use Rattle.text.proofs.visit_text.Reads as visit-text-reads
 
 -- src/lib.rt:332:9
 going-requires : tie.Need-going-requires

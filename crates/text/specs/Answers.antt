@@ -7,7 +7,7 @@ use Rattle.coding.specs.declared.Object.{Object}
 use Rattle.coding.specs.declared.Object.the-variants as O
 use Rattle.coding.specs.declared.Walked.{Walked}
 use Rattle.coding.specs.declared.Walked.the-variants.{Going, Refused}
-use Rattle.arrival.specs.declared.Outcome.{Outcome}
+use Rattle.text.specs.declared.Outcome.{Outcome}
 
 -- a walker's answer: 0 to go on, or a refusal's number and 1
 unfoldable pub walkedOf : Outcome → Walked

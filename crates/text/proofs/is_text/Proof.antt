@@ -1,9 +1,9 @@
-use Rattle.arrival.specs.Answers as As
+use Rattle.text.specs.Answers as As
 use borrow.Author.Needs.{needs}
-use Rattle.arrival.proofs.is_text.Statement.{statement}
-use Rattle.arrival.proofs.is_text.Tie as tie
-use Rattle.arrival.proofs.is_text.Reads as reads
-use Rattle.arrival.proofs.is_text.Lts as lts
+use Rattle.text.proofs.is_text.Statement.{statement}
+use Rattle.text.proofs.is_text.Tie as tie
+use Rattle.text.proofs.is_text.Reads as reads
+use Rattle.text.proofs.is_text.Lts as lts
 
 -- src/lib.rt:255:25
 enum-told : tie.Need-enum-told

@@ -20,8 +20,8 @@ use Rattle.coding.specs.declared.Budget.{Budget}
 use Rattle.coding.specs.declared.Spent.{Spent}
 use Rattle.coding.specs.declared.Walked.{Walked}
 use Rattle.coding.specs.declared.Walked.the-variants.{Going, Refused}
-use Rattle.arrival.specs.declared.Outcome.{Outcome}
-use Rattle.arrival.specs.Answers.{walkedOf}
+use Rattle.text.specs.declared.Outcome.{Outcome}
+use Rattle.text.specs.Answers.{walkedOf}
 
 -- ---- a walker's answer
 pub answer-refuses : (k n at : ℕ) (s : Spent) → k ≡ n → walkedOf (record { code = k + 1; place = at; spent = s }) ≡ W.refuse n at s

@@ -1,9 +1,9 @@
-use Rattle.arrival.proofs.VisitCases.{answer-refuses}
+use Rattle.text.proofs.VisitCases.{answer-refuses}
 use borrow.Author.Needs.{needs}
-use Rattle.arrival.proofs.refuse.Statement.{statement}
-use Rattle.arrival.proofs.refuse.Tie as tie
-use Rattle.arrival.proofs.refuse.Reads as reads
-use Rattle.arrival.proofs.refuse.Lts as lts
+use Rattle.text.proofs.refuse.Statement.{statement}
+use Rattle.text.proofs.refuse.Tie as tie
+use Rattle.text.proofs.refuse.Reads as reads
+use Rattle.text.proofs.refuse.Lts as lts
 use Rattle.wire.proofs.index.Reads as index-reads
 
 -- src/lib.rt:270:15

@@ -1,2 +1,0 @@
--- What the code of arrivals answers.
-pub mod Answers

@@ -1,0 +1,2 @@
+-- What the code of texts answers.
+pub mod Answers
