@@ -77,7 +77,7 @@ pub fn reader_start(b: &[u8], m: &[u8], path: &[u32]) -> Found
     ensures { λ r. ⌜ (r ≡ F.readerStart B.u48 (now (b .entry)) (now (m .entry)) (now (path .entry))) × FoundWithin (P.parse (now (b .entry))) (now (m .entry)) r ⌝ }
 {
     let mut dir: [u16; 384] = [0; 384];
-    if schema::judge_schema(b, &mut dir) {
+    if lawful::judge_schema(b, &mut dir) {
         return reader_by(b, &dir, m, path);
     }
     arrival::refuse(1, 0)
@@ -222,7 +222,7 @@ pub fn reader_answer(b: &[u8], m: &[u8], path: &[u32], j: usize) -> Answer
     ensures { λ r. ⌜ r ≡ F.readerGives B.u48 (now (b .entry)) (now (m .entry)) (now (path .entry)) j ⌝ }
 {
     let mut dir: [u16; 384] = [0; 384];
-    if schema::judge_schema(b, &mut dir) {
+    if lawful::judge_schema(b, &mut dir) {
         return reader_at(b, &dir, m, path, j);
     }
     let why = Refusal {

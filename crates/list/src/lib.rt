@@ -100,7 +100,7 @@ pub fn read_list(b: &[u8], m: &[u8], path: &[u32], from: usize, out: &mut [u64])
     ensures { λ _. ⌜ now (out .exit) ≡ F.readerOver B.u48 (now (b .entry)) (now (m .entry)) (now (path .entry)) from (now (out .entry)) ⌝ }
 {
     let mut dir: [u16; 384] = [0; 384];
-    if schema::judge_schema(b, &mut dir) {
+    if lawful::judge_schema(b, &mut dir) {
         return list_by(b, &dir, m, path, from, out);
     }
     let why = Refusal {

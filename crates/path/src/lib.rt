@@ -59,7 +59,7 @@ pub fn field_found(b: &[u8], m: &[u8], path: &[u32]) -> Found
     ensures { λ r. ⌜ (r ≡ F.fieldFound B.u48 (now (b .entry)) (now (m .entry)) (now (path .entry))) × FoundWithin (P.parse (now (b .entry))) (now (m .entry)) r ⌝ }
 {
     let mut dir: [u16; 384] = [0; 384];
-    if schema::judge_schema(b, &mut dir) {
+    if lawful::judge_schema(b, &mut dir) {
         return found_by(b, &dir, m, path);
     }
     arrival::refuse(1, 0)
