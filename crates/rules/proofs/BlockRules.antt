@@ -1,4 +1,4 @@
--- The rules of a block's records.
+-- The rules of a block's records, and of lists, unions and tables.
 use mathlib.Core.Path.{_≡_, refl, sym}
 use mathlib.Core.Bool.{Bool, true, false, not}
 use mathlib.Core.List.{List}
