@@ -1,11 +1,13 @@
 -- The ways out of an answer.
-use mathlib.Core.Path.{_≡_, subst}
+use mathlib.Core.Path.{_≡_, ap, _∙_, subst}
 use mathlib.Core.Bool.{Bool, false}
 use mathlib.Core.Logic.{⊎-elim}
 use mathlib.Core.List.{List}
 use Prim.Native.Nat.{ℕ, _*_, _^_, _<_}
 use native.Mathlib.Omega.{arith}
 use lib.Dec.{eqb}
+use Rattle.coding.specs.Bytes.{u48}
+use Rattle.coding.specs.Schema.{Schema}
 use Rattle.coding.specs.Field as Field
 use Rattle.coding.specs.declared.Flat.{Flat}
 use Rattle.coding.specs.declared.Flat.the-variants as F
@@ -18,7 +20,8 @@ use Rattle.coding.specs.declared.Found.the-variants as Fd
 use Rattle.coding.specs.declared.Refusal.{Refusal}
 use Rattle.coding.specs.declared.Answer.{Answer}
 use Rattle.coding.specs.declared.Answer.the-variants as A
-use Rattle.laws.specs.Sound.{FlatSound}
+use Rattle.laws.specs.Sound.{FlatSound, KindSound}
+use Rattle.arrival.specs.Within.{FoundWithin}
 
 -- ---- values
 module _ (k : Flat) (x : ℕ) where
@@ -105,3 +108,11 @@ module _ (f : Found) where
   pub answer-object : (ob : Object) (at start n d : ℕ) → f ≡ Fd.Object ob at start n d → (k : ℕ) → k ≡ Field.recordKind ob → A.Object k at n ≡ Field.answerOf f
   unfolding Field.answerOf
   answer-object ob at start n d e k ek = rw (e, ek)
+
+-- the kind of a value that was found
+pub value-sound : (S : Schema) (m : List ℕ) (f : Found) → FoundWithin S m f → (k : Kind) (x holder : ℕ) → f ≡ Fd.Value k x holder → KindSound S k
+value-sound S m f within k x holder e = subst (FoundWithin S m) e within
+
+pub field-found : (b m path : List ℕ) (g : Found) → g ≡ Field.fieldFound u48 b m path → (r : Answer) → r ≡ Field.answerOf g → r ≡ Field.field u48 b m path
+unfolding Field.field
+field-found b m path g eg r e = e ∙ ap Field.answerOf eg

@@ -1,11 +1,2 @@
-pub mod StepsWithin
-pub mod FoundsWithin
-pub mod FollowCases
-pub mod PartCases
-pub mod PathCases
 pub mod AnswerCases
 pub mod TextCases
-pub mod ListCases
-pub mod ReaderCases
-pub mod ElementSound
-pub mod GivesCases

@@ -1,5 +1,5 @@
 -- The ways out of a text as a part of the message, and of an answer's case number.
-use mathlib.Core.Path.{_≡_, refl, sym, ap, _∙_, subst}
+use mathlib.Core.Path.{_≡_, sym, ap, _∙_, subst}
 use mathlib.Core.Bool.{Bool, true, false}
 use mathlib.Core.List.{List}
 use Prim.Native.Nat.{ℕ, _+_, _-_, _≤_}
@@ -18,9 +18,10 @@ use Rattle.coding.specs.declared.Found.the-variants as Fd
 use Rattle.coding.specs.declared.Refusal.{Refusal}
 use Rattle.coding.specs.declared.Answer.{Answer}
 use Rattle.coding.specs.declared.Answer.the-variants as A
+use Rattle.coding.specs.declared.Case.{Case}
 use Rattle.coding.specs.declared.Span.{Span}
 use Rattle.coding.specs.Field.{answerCase}
-use Rattle.field.specs.Within.{FoundWithin}
+use Rattle.arrival.specs.Within.{FoundWithin}
 
 -- ---- where a text stands
 module _ (ob : Object) (start n : ℕ) (r : Span) where
@@ -107,36 +108,36 @@ bit-set x e = rw e
 pub bit-clear : (x : Bool) → x ≡ false → _≡_ {A = ℕ} 0 (pick x 1 0)
 bit-clear x e = rw e
 
-module _ (q : Answer) where
-  pub case-boolean : (x : Bool) → q ≡ A.Boolean x → (v : ℕ) → v ≡ pick x 1 0 → record { case = 0; a = v; b = 0; c = 0 } ≡ answerCase q
+module _ (q : Answer) (r : Case) where
+  pub case-boolean : (x : Bool) → q ≡ A.Boolean x → (v : ℕ) → v ≡ pick x 1 0 → r ≡ record { case = 0; a = v; b = 0; c = 0 } → r ≡ answerCase q
   unfolding answerCase
-  case-boolean x e v ev = rw (e, ev)
+  case-boolean x e v ev f = rw (e, ← ev) f
 
   pub case-number : (x w : ℕ) (s : Bool) → q ≡ A.Number x w s → (u : ℕ) → u ≡ w → (v : ℕ) → v ≡ pick s 1 0
-      → record { case = 1; a = x; b = u; c = v } ≡ answerCase q
+      → r ≡ record { case = 1; a = x; b = u; c = v } → r ≡ answerCase q
   unfolding answerCase
-  case-number x w s e u eu v ev = rw (e, eu, ev)
+  case-number x w s e u eu v ev f = rw (e, ← eu, ← ev) f
 
-  pub case-float : (x w : ℕ) → q ≡ A.Float x w → (u : ℕ) → u ≡ w → record { case = 2; a = x; b = u; c = 0 } ≡ answerCase q
+  pub case-float : (x w : ℕ) → q ≡ A.Float x w → (u : ℕ) → u ≡ w → r ≡ record { case = 2; a = x; b = u; c = 0 } → r ≡ answerCase q
   unfolding answerCase
-  case-float x w e u eu = rw (e, eu)
+  case-float x w e u eu f = rw (e, ← eu) f
 
-  pub case-object : (k at n : ℕ) → q ≡ A.Object k at n → (u : ℕ) → u ≡ k → record { case = 3; a = u; b = at; c = n } ≡ answerCase q
+  pub case-object : (k at n : ℕ) → q ≡ A.Object k at n → (u : ℕ) → u ≡ k → r ≡ record { case = 3; a = u; b = at; c = n } → r ≡ answerCase q
   unfolding answerCase
-  case-object k at n e u eu = rw (e, eu)
+  case-object k at n e u eu f = rw (e, ← eu) f
 
-  pub case-struct : (at : ℕ) → q ≡ A.Struct at → record { case = 4; a = at; b = 0; c = 0 } ≡ answerCase q
+  pub case-struct : (at : ℕ) → q ≡ A.Struct at → r ≡ record { case = 4; a = at; b = 0; c = 0 } → r ≡ answerCase q
   unfolding answerCase
-  case-struct at e = rw e
+  case-struct at e f = rw e f
 
-  pub case-absent : q ≡ A.Absent → record { case = 5; a = 0; b = 0; c = 0 } ≡ answerCase q
+  pub case-absent : q ≡ A.Absent → r ≡ record { case = 5; a = 0; b = 0; c = 0 } → r ≡ answerCase q
   unfolding answerCase
-  case-absent e = rw e
+  case-absent e f = rw e f
 
-  pub case-unknown : (x : ℕ) → q ≡ A.Unknown x → record { case = 6; a = x; b = 0; c = 0 } ≡ answerCase q
+  pub case-unknown : (x : ℕ) → q ≡ A.Unknown x → r ≡ record { case = 6; a = x; b = 0; c = 0 } → r ≡ answerCase q
   unfolding answerCase
-  case-unknown x e = rw e
+  case-unknown x e f = rw e f
 
-  pub case-refused : (r : Refusal) → q ≡ A.Refused r → (u : ℕ) → u ≡ r .number → record { case = 7; a = u; b = r .place; c = 0 } ≡ answerCase q
+  pub case-refused : (w : Refusal) → q ≡ A.Refused w → (u : ℕ) → u ≡ w .number → r ≡ record { case = 7; a = u; b = w .place; c = 0 } → r ≡ answerCase q
   unfolding answerCase
-  case-refused r e u eu = rw (e, eu)
+  case-refused w e u eu f = rw (e, ← eu) f

@@ -74,7 +74,7 @@ pub fn judge(b: &[u8], m: &[u8], budget: Budget) -> Verdict
     ensures { λ r. ⌜ r ≡ W.verdict B.u48 (now (b .entry)) (now (m .entry)) budget ⌝ }
 {
     let mut dir: [u16; 384] = [0; 384];
-    if schema::judge_schema(b, &mut dir) {
+    if lawful::judge_schema(b, &mut dir) {
         return judged(b, &dir, m, budget);
     }
     early(1)

@@ -32,7 +32,7 @@ pub fn new<'a, 'b, 'c>(
 pub fn answer<'a, 'b, 'c>(r: ListReader<'a, 'b, 'c>) -> Answer
     ensures { λ q. ⌜ q ≡ F.readerGives B.u48 (now (r .entry .schema)) (now (r .entry .message)) (now (r .entry .path)) (r .entry .element) ⌝ }
 {
-    field::reader_answer(r.schema, r.message, r.path, r.element)
+    element::reader_answer(r.schema, r.message, r.path, r.element)
 }
 
 // The reader at another element.

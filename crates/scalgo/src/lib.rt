@@ -84,7 +84,7 @@ pub extern "C" fn scalgo_list(
     ensures { λ r. ⌜ r ≡ F.readerCount B.u48 (now (schema .entry)) (now (message .entry)) (now (path .entry)) ⌝ }
     ensures { λ _. ⌜ now (cases .exit) ≡ F.readerOver B.u48 (now (schema .entry)) (now (message .entry)) (now (path .entry)) from (now (cases .entry)) ⌝ }
 {
-    field::read_list(schema, message, path, from as usize, cases) as u64
+    list::read_list(schema, message, path, from as usize, cases) as u64
 }
 
 // Reads a message to its value sheet: answers the number, and stores place, visits and the sheet's length.

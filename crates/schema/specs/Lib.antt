@@ -1,4 +1,3 @@
--- What the schema's code promises: the directory's relation, the representatives of structs, and the rules part by part.
+-- What the schema's code promises: the directory's relation, and the representatives of structs.
 pub mod Representatives
 pub mod Directory
-pub mod Parts

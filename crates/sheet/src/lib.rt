@@ -873,7 +873,7 @@ pub fn read(b: &[u8], m: &[u8], budget: Budget, out: &mut [u8]) -> ReadAnswer
     ensures { λ _. ⌜ now (out .exit) ≡ M.readOut B.u48 (now (b .entry)) (now (m .entry)) budget (now (out .entry)) ⌝ }
 {
     let mut dir: [u16; 384] = [0; 384];
-    if schema::judge_schema(b, &mut dir) {
+    if lawful::judge_schema(b, &mut dir) {
         return read_judged(b, &dir, m, budget, out);
     }
     let refusal = Verdict {

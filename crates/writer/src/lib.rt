@@ -88,7 +88,7 @@ pub fn write(b: &[u8], s: &[u8], out: &mut [u8]) -> WriteAnswer
     ensures { λ _. ⌜ now (out .exit) ≡ M.writeOut B.u48 (now (b .entry)) (now (s .entry)) (now (out .entry)) ⌝ }
 {
     let mut dir: [u16; 384] = [0; 384];
-    if schema::judge_schema(b, &mut dir) {
+    if lawful::judge_schema(b, &mut dir) {
         return write_judged(b, &dir, s, out);
     }
     refused(1)

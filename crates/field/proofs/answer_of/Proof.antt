@@ -1,5 +1,4 @@
-use Rattle.field.proofs.AnswerCases.{answer-refused, answer-absent, answer-unknown, answer-value, answer-struct, answer-object}
-use Rattle.field.proofs.PartCases.{value-sound}
+use Rattle.field.proofs.AnswerCases.{answer-refused, answer-absent, answer-unknown, answer-value, answer-struct, answer-object, value-sound}
 use borrow.Author.Needs.{needs}
 use Rattle.field.proofs.answer_of.Statement.{statement}
 use Rattle.field.proofs.answer_of.Tie as tie

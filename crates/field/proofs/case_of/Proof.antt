@@ -9,6 +9,9 @@ enum-known-answer c = search needs
 bit-requires : tie.Need-bit-requires
 bit-requires c κs = search needs
 
+case-with-requires : tie.Need-case-with-requires
+case-with-requires c κs = search needs
+
 enum-known-answer-2 : tie.Need-enum-known-answer-2
 enum-known-answer-2 c = search needs
 
@@ -18,11 +21,17 @@ wide-requires c κs = search needs
 bit-requires-2 : tie.Need-bit-requires-2
 bit-requires-2 c κs = search needs
 
+case-with-requires-2 : tie.Need-case-with-requires-2
+case-with-requires-2 c κs = search needs
+
 enum-known-answer-3 : tie.Need-enum-known-answer-3
 enum-known-answer-3 c = search needs
 
 wide-requires-2 : tie.Need-wide-requires-2
 wide-requires-2 c κs = search needs
+
+case-with-requires-3 : tie.Need-case-with-requires-3
+case-with-requires-3 c κs = search needs
 
 enum-known-answer-4 : tie.Need-enum-known-answer-4
 enum-known-answer-4 c = search needs
@@ -30,23 +39,38 @@ enum-known-answer-4 c = search needs
 wide-requires-3 : tie.Need-wide-requires-3
 wide-requires-3 c κs = search needs
 
+case-with-requires-4 : tie.Need-case-with-requires-4
+case-with-requires-4 c κs = search needs
+
 enum-known-answer-5 : tie.Need-enum-known-answer-5
 enum-known-answer-5 c = search needs
+
+case-with-requires-5 : tie.Need-case-with-requires-5
+case-with-requires-5 c κs = search needs
 
 enum-told : tie.Need-enum-told
 enum-told c = search needs
 
+case-with-requires-6 : tie.Need-case-with-requires-6
+case-with-requires-6 c κs = search needs
+
 enum-known-answer-6 : tie.Need-enum-known-answer-6
 enum-known-answer-6 c = search needs
 
-cast-t23 : tie.Need-cast-t23
-cast-t23 c = search needs
+cast-case-with : tie.Need-cast-case-with
+cast-case-with c = search needs
+
+case-with-requires-7 : tie.Need-case-with-requires-7
+case-with-requires-7 c κs = search needs
 
 enum-known-answer-7 : tie.Need-enum-known-answer-7
 enum-known-answer-7 c = search needs
 
 wide-requires-4 : tie.Need-wide-requires-4
 wide-requires-4 c κs = search needs
+
+case-with-requires-8 : tie.Need-case-with-requires-8
+case-with-requires-8 c κs = search needs
 
 returns : tie.Need-returns
 returns c = search case-boolean
@@ -78,19 +102,27 @@ case-of-spec =
     (tie.spec
     enum-known-answer
     bit-requires
+    case-with-requires
     enum-known-answer-2
     wide-requires
     bit-requires-2
+    case-with-requires-2
     enum-known-answer-3
     wide-requires-2
+    case-with-requires-3
     enum-known-answer-4
     wide-requires-3
+    case-with-requires-4
     enum-known-answer-5
+    case-with-requires-5
     enum-told
+    case-with-requires-6
     enum-known-answer-6
-    cast-t23
+    cast-case-with
+    case-with-requires-7
     enum-known-answer-7
     wide-requires-4
+    case-with-requires-8
     returns
     returns-2
     returns-3

@@ -1,4 +1,4 @@
-use Rattle.field.proofs.PathCases.{field-found}
+use Rattle.field.proofs.AnswerCases.{field-found}
 use borrow.Author.Needs.{needs}
 use Rattle.field.proofs.field.Statement.{statement}
 use Rattle.field.proofs.field.Tie as tie

@@ -7,7 +7,7 @@ use Rattle.judge.proofs.judge.Reads as reads
 use Rattle.judge.proofs.judge.Lts as lts
 use Rattle.judge.proofs.early.Reads as early-reads
 use Rattle.judge.proofs.judged.Reads as judged-reads
-use Rattle.schema.proofs.judge_schema.Reads as judge-schema-reads
+use Rattle.lawful.proofs.judge_schema.Reads as judge-schema-reads
 
 -- src/lib.rt:554:32
 slice-aggregate-judge-schema : tie.Need-slice-aggregate-judge-schema

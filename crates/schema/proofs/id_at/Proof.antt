@@ -1,6 +1,6 @@
 -- `schema::id_at` meets its contract.
 use native.Mathlib.Omega.{arith}
-use Rattle.schema.proofs.BlockRules.{id-is}
+use Rattle.schema.proofs.RecordCases.{id-is}
 use borrow.Author.Needs.{needs}
 use Rattle.schema.proofs.id_at.Statement.{statement}
 use Rattle.schema.proofs.id_at.Tie as tie

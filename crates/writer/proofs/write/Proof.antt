@@ -4,7 +4,7 @@ use Rattle.writer.proofs.write.Statement.{statement}
 use Rattle.writer.proofs.write.Tie as tie
 use Rattle.writer.proofs.write.Reads as reads
 use Rattle.writer.proofs.write.Lts as lts
-use Rattle.schema.proofs.judge_schema.Reads as judge-schema-reads
+use Rattle.lawful.proofs.judge_schema.Reads as judge-schema-reads
 use Rattle.writer.proofs.refused.Reads as refused-reads
 use Rattle.writer.proofs.write_judged.Reads as write-judged-reads
 

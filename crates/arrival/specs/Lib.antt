@@ -1,0 +1,2 @@
+-- What is found lies within the message.
+pub mod Within

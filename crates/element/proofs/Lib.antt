@@ -1,0 +1,2 @@
+pub mod ReaderCases
+pub mod GivesCases

@@ -1,0 +1,2 @@
+-- The rules part by part.
+pub mod Parts

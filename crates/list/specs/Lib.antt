@@ -1,0 +1,2 @@
+-- What the loop over a list's steps has still to do.
+pub mod Stepping

@@ -1,0 +1,4 @@
+pub mod StepsWithin
+pub mod FoundsWithin
+pub mod PartCases
+pub mod ElementSound

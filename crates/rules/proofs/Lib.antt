@@ -1,0 +1,2 @@
+pub mod RecordRules
+pub mod BlockRules

@@ -1,0 +1,171 @@
+// The rules of a record, of a block of records, and of a list, a union and a table.
+use coding::Role;
+ghost use mathlib.Core.Path.{_≡_};
+ghost use mathlib.Core.Bool.{true};
+ghost use Prim.Native.Nat.{_+_, _*_, _<_, _≤_};
+ghost use lib.ListN.{length};
+ghost use Rattle.coding.specs.Packed as P;
+ghost use Rattle.coding.specs.Lawful as L;
+ghost use Rattle.coding.specs.Lists as Li;
+ghost use Rattle.schema.specs.Directory.{Directory};
+
+// ---- the rules of a record
+fn argument_ok(b: &[u8], k: usize, a: usize) -> bool
+    ensures { λ r. ⌜ r ≡ L.argumentOk (now (b .entry)) k a ⌝ }
+{
+    if k < 11 {
+        return a == 0;
+    }
+    if k == 11 {
+        return 0 < a;
+    }
+    if k == 12 {
+        return a < schema::count(b, 0);
+    }
+    if k < 15 {
+        return a == 0;
+    }
+    if k == 15 {
+        return a < schema::count(b, 1);
+    }
+    if k == 16 {
+        return a < schema::count(b, 3);
+    }
+    if k == 17 {
+        return a < schema::count(b, 2);
+    }
+    false
+}
+
+fn kind_ok(role: Role, k: usize, a: usize) -> bool
+    ensures { λ r. ⌜ r ≡ L.kindOk role k a ⌝ }
+{
+    match role {
+        Role::InStruct(i) => { if k == 12 { a < i } else { k < 12 } }
+        Role::InList => k != 12,
+        Role::InUnion => { if 13 <= k { k <= 16 } else { false } }
+        Role::InTable => true,
+    }
+}
+
+fn optional_ok(role: Role, k: usize) -> bool
+    ensures { λ r. ⌜ r ≡ L.optionalOk role k ⌝ }
+{
+    match role {
+        Role::InStruct(_) => false,
+        Role::InList => false,
+        Role::InUnion => false,
+        Role::InTable => { if k == 12 { true } else { k < 11 } }
+    }
+}
+
+fn inplace_ok(role: Role, k: usize) -> bool
+    ensures { λ r. ⌜ r ≡ L.inplaceOk role k ⌝ }
+{
+    match role {
+        Role::InStruct(_) => false,
+        Role::InList => false,
+        Role::InUnion => false,
+        Role::InTable => 12 < k,
+    }
+}
+
+fn flag_ok(set: bool, may: bool) -> bool
+    ensures { λ r. ⌜ r ≡ Li.pick set may true ⌝ }
+{
+    if set {
+        return may;
+    }
+    true
+}
+
+fn flags_ok(b: &[u8], role: Role, k: usize, at: usize) -> bool
+    requires { ⌜ (k ≡ P.kindAt (now b) at) × (at + 1 < length (now b)) ⌝ }
+    ensures { λ r. ⌜ r ≡ L.flagsOk (now (b .entry)) role at ⌝ }
+{
+    if !flag_ok(schema::optional_at(b, at), optional_ok(role, k)) {
+        return false;
+    }
+    flag_ok(schema::inplace_at(b, at), inplace_ok(role, k))
+}
+
+fn record_ok(b: &[u8], role: Role, at: usize) -> bool
+    requires { ⌜ at + 1 < length (now b) ⌝ }
+    ensures { λ r. ⌜ r ≡ L.recordOk (now (b .entry)) role at ⌝ }
+{
+    let k = schema::kind_at(b, at);
+    let a = wire::index(schema::argument_at(b, at));
+    if !schema::zero_at(b, at) {
+        return false;
+    }
+    if !argument_ok(b, k, a) {
+        return false;
+    }
+    if !kind_ok(role, k, a) {
+        return false;
+    }
+    flags_ok(b, role, k, at)
+}
+
+// ---- the rules of a block
+pub fn records_ok(b: &[u8], role: Role, head: usize, at: usize) -> bool
+    requires { ⌜ (head ≤ 4) × (at < 65536) × (at + head + 1 + 2 * P.records (now b) head at ≤ length (now b)) ⌝ }
+    ensures { λ r. ⌜ r ≡ L.recordsOk (now (b .entry)) role head at ⌝ }
+{
+    let n = schema::records(b, head, at);
+    let mut j: usize = 0;
+    while j < n {
+        if !record_ok(b, role, schema::record_place(head, at, j)) {
+            return false;
+        }
+        j += 1;
+    }
+    true
+}
+
+fn one_if(t: bool) -> usize
+    ensures { λ r. ⌜ (r ≡ Li.pick t 1 0) × (r ≤ 1) ⌝ }
+{
+    if t { 1 } else { 0 }
+}
+
+// How many records of the table at `at` are in place.
+fn inplaces(b: &[u8], at: usize) -> usize
+    requires { ⌜ (at < 65536) × (at + 4 + 1 + 2 * P.records (now b) 4 at ≤ length (now b)) ⌝ }
+    ensures { λ r. ⌜ r ≡ L.inplaces (now (b .entry)) at (P.records (now (b .entry)) 4 at) ⌝ }
+{
+    let n = schema::records(b, 4, at);
+    let mut sum: usize = 0;
+    let mut j: usize = 0;
+    while j < n {
+        sum += one_if(schema::inplace_at(b, schema::record_place(4, at, j)));
+        j += 1;
+    }
+    sum
+}
+
+// ---- the rules of lists, unions and tables
+pub fn list_ok(b: &[u8], dir: &[u16], i: usize) -> bool
+    requires { ⌜ (Directory (now b) (now dir)) × (i < P.listCount (now b)) ⌝ }
+    ensures { λ r. ⌜ r ≡ L.listLawful (now (b .entry)) i ⌝ }
+{
+    record_ok(b, Role::InList, schema::list_place(b, dir, i))
+}
+
+pub fn union_ok(b: &[u8], dir: &[u16], i: usize) -> bool
+    requires { ⌜ (Directory (now b) (now dir)) × (i < P.unionCount (now b)) ⌝ }
+    ensures { λ r. ⌜ r ≡ L.unionLawful (now (b .entry)) i ⌝ }
+{
+    records_ok(b, Role::InUnion, 0, schema::union_place(b, dir, i))
+}
+
+pub fn table_ok(b: &[u8], dir: &[u16], i: usize) -> bool
+    requires { ⌜ (Directory (now b) (now dir)) × (i < P.tableCount (now b)) ⌝ }
+    ensures { λ r. ⌜ r ≡ L.tableLawful (now (b .entry)) i ⌝ }
+{
+    let at = schema::table_place(b, dir, i);
+    if records_ok(b, Role::InTable, 4, at) {
+        return inplaces(b, at) <= 1;
+    }
+    false
+}

@@ -1,0 +1,3 @@
+pub mod FieldSizes
+pub mod StructRules
+pub mod Representing
