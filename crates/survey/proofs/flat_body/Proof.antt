@@ -48,11 +48,8 @@ enum-known-requires c κs = search needs
 returns-4 : tie.Need-returns-4
 returns-4 c = search body-enum
 
-index-requires-2 : tie.Need-index-requires-2
-index-requires-2 c κs = search needs
-
-struct-test-requires : tie.Need-struct-test-requires
-struct-test-requires c κs = search (struct-fits, needs)
+struct-at-requires : tie.Need-struct-at-requires
+struct-at-requires c κs = search (struct-fits, needs)
 
 returns-5 : tie.Need-returns-5
 returns-5 c = search body-struct
@@ -76,6 +73,5 @@ flat-body-spec =
     argument-at-requires
     enum-known-requires
     returns-4
-    index-requires-2
-    struct-test-requires
+    struct-at-requires
     returns-5)
