@@ -921,6 +921,23 @@ fn part(
     unlawful(pos)
 }
 
+// A member with its mark. It is apart for speed: a table's slices are stored for the call only where there is such a member.
+fn member_part(
+    b: &[u8],
+    dir: &[u16],
+    s: &[u8],
+    d: usize,
+    k: Kind,
+    optional: bool,
+    inplace: bool,
+    pos: usize,
+) -> Surveyed
+    requires { ⌜ (Accepted (now b) (now dir)) × (KindSound (P.parse (now b)) k) × (length (now s) ≤ 16777215) × (pos ≤ 8 * length (now s)) ⌝ }
+    ensures { λ r. ⌜ SurveyedAt (now (s .entry)) (Sv.surveyPart (Sv.survey d B.u48 (P.parse (now (b .entry)))) B.u48 (P.parse (now (b .entry))) k optional inplace (drop pos (bits (now (s .entry))))) (r .whole) (r .extent) (r .next) ⌝ }
+{
+    part(b, dir, s, d, k, optional, inplace, pos)
+}
+
 // A table's content; `size` is that of its full fixed part.
 fn table(b: &[u8], dir: &[u16], s: &[u8], d: usize, t: usize, size: usize, at: usize) -> Surveyed
     requires { ⌜ (Accepted (now b) (now dir)) × (t < P.tableCount (now b)) × (length (now s) ≤ 16777215) × (at ≤ 8 * length (now s)) × (size ≡ L.fixedSize B.u48 (P.parse (now b)) (Sc.tableOf (P.parse (now b)) t .members)) × (size < 2 ^ 40) ⌝ }
@@ -947,7 +964,7 @@ fn table(b: &[u8], dir: &[u16], s: &[u8], d: usize, t: usize, size: usize, at: u
         }
         let r = schema::member(b, dir, t, i);
         let k = r.kind;
-        let x = part(b, dir, s, d, k, r.optional, r.inplace, g.next);
+        let x = member_part(b, dir, s, d, k, r.optional, r.inplace, g.next);
         if !x.whole {
             return unlawful(at);
         }
