@@ -32,14 +32,14 @@ use Rattle.laws.specs.Sound.{FlatSound, MemberSound}
 use Rattle.laws.specs.SoundAt.{member-sound-at}
 use Rattle.schema.specs.Directory.{Accepted, Block, accepted-sound}
 use Rattle.schema.proofs.Access.{member-is}
-use Rattle.bitio.specs.Taken.{TakenNumber}
-use Rattle.survey.specs.Survey.{testNumber, testIf, anyNumber, floatFine, belowCount, surveyMark, surveyFlat, surveyStruct, surveyLostFlat, flatMayLack, mayLack, plain, opened, joined, Surveyor, plainOf, surveyBody, surveyPart, surveyMembers, surveyContent, survey}
+use Rattle.bitio.specs.Taken.{TakenNumber, TakenBytes}
+use Rattle.survey.specs.Survey.{testNumber, testIf, anyNumber, floatFine, belowCount, surveyMark, surveyFlat, surveyStruct, surveyLostFlat, flatMayLack, mayLack, plain, opened, joined, referred, Surveyor, plainOf, surveyBlob, surveyBody, surveyPart, surveyMembers, surveyContent, survey}
 use Rattle.survey.specs.Surveyed.{TestedAt, Small, Fits, SurveyedAt}
 use Rattle.survey.specs.BlobReferred.{BlobEnd, blobReferred}
 use Rattle.survey.specs.Leaves.{flatPart, joinedPart, LeftAt, WholeBytes, flat-part-is, members-joined}
 use Rattle.survey.specs.declared.Extent.{Extent}
 use Rattle.survey.proofs.FlatCases.{integer-short, float-short}
-use Rattle.survey.proofs.PartCases.{flat-boolean, flat-integer, flat-float, flat-enum, flat-struct, struct-counted, kind-flat, refer-blob, object-there}
+use Rattle.survey.proofs.PartCases.{flat-boolean, flat-integer, flat-float, flat-enum, flat-struct, struct-counted, kind-flat, refer-blob, object-there, blob-there, blob-referred}
 use Rattle.survey.proofs.ObjectCases.{members-done, members-stopped, members-turn}
 
 -- ---- what stands at a record, by its kind
@@ -95,10 +95,10 @@ module _ (b : List ℕ) (at k : ℕ) (ek : k ≡ P.kindAt b at) where
     body-boolean e t = flat-boolean (P.parse b) s (P.optionalAt b at) (P.flatAt b at) pos w′ f′ n′ (boolean-at e) t
 
     module _ (h : k ≡ 0 → ⊥) where
-      pub body-integer : k < 9 → (v j : ℕ) → v ≡ P.widthOf k → j ≡ v → TestedAt s (testNumber (8 * j) anyNumber (drop pos (bits s))) w′ f′ n′
+      pub body-integer : k < 9 → (j : ℕ) → j ≡ P.widthOf k → TestedAt s (testNumber (8 * j) anyNumber (drop pos (bits s))) w′ f′ n′
           → TestedAt s (surveyFlat (surveyStruct (P.parse b)) (P.optionalAt b at) (P.flatAt b at) (drop pos (bits s))) w′ f′ n′
-      body-integer l v j ev ej t =
-          flat-integer (P.parse b) s (P.optionalAt b at) (P.flatAt b at) pos w′ f′ n′ (not (ltb k 5)) (P.widthOf k) j (integer-at h l) (ej ∙ ev) t
+      body-integer l j ej t =
+          flat-integer (P.parse b) s (P.optionalAt b at) (P.flatAt b at) pos w′ f′ n′ (not (ltb k 5)) (P.widthOf k) j (integer-at h l) ej t
 
       pub body-float : 9 ≤ k → k < 11 → (v : ℕ) → v ≡ P.widthOf k → (o : Bool) → o ≡ P.optionalAt b at
           → TestedAt s (testNumber (8 * v) (floatFine o v) (drop pos (bits s))) w′ f′ n′
@@ -119,8 +119,8 @@ module _ (b : List ℕ) (at k : ℕ) (ek : k ≡ P.kindAt b at) where
 
   -- bounds
   module _ (sound : FlatSound (length (P.parse b .structs)) (P.flatAt b at)) (h : k ≡ 0 → ⊥) where
-    pub integer-fits : k < 9 → (v j : ℕ) → v ≡ P.widthOf k → j ≡ v → 8 * j ≤ 64
-    integer-fits l v j ev ej = integer-short (length (P.parse b .structs)) (P.flatAt b at) (not (ltb k 5)) (P.widthOf k) j (integer-at h l) (ej ∙ ev) sound
+    pub integer-fits : k < 9 → (j : ℕ) → j ≡ P.widthOf k → 8 * j ≤ 64
+    integer-fits l j ej = integer-short (length (P.parse b .structs)) (P.flatAt b at) (not (ltb k 5)) (P.widthOf k) j (integer-at h l) ej sound
 
     pub float-fits : 9 ≤ k → k < 11 → (v : ℕ) → v ≡ P.widthOf k → v ≤ 8
     float-fits g l v ev = float-short (length (P.parse b .structs)) (P.flatAt b at) v (float-at h g l ∙ ap Float (sym ev)) sound
@@ -159,18 +159,18 @@ module _ (b : List ℕ) (at k : ℕ) (ek : k ≡ P.kindAt b at) where
     no-flag true = refl
     no-flag false = refl
 
-    pub number-bytes : (k ≡ 0 → ⊥) → k < 9 → (o : Bool) → o ≡ P.optionalAt b at → o ≡ false → (v w : ℕ) → v ≡ P.widthOf k → w ≡ v → WholeBytes S (P.memberAt b at) w
+    pub number-bytes : (k ≡ 0 → ⊥) → k < 9 → (o : Bool) → o ≡ P.optionalAt b at → o ≡ false → (w : ℕ) → w ≡ P.widthOf k → WholeBytes S (P.memberAt b at) w
     unfolding L.isBool L.flatIsBool L.width flatWidth
-    number-bytes h l o eo f v w ev ew =
+    number-bytes h l o eo f w ew =
         let m : k < 13 = omega arith in
         member-bytes (OfFlat (Integer (not (ltb k 5)) (P.widthOf k))) (flat-kind m ∙ ap OfFlat (integer-at h l))
-        (ap (λ (u : Bool). u && L.takesFlag (OfFlat (Integer (not (ltb k 5)) (P.widthOf k)))) (sym eo ∙ f)) refl w (sym (ew ∙ ev))
+        (ap (λ (u : Bool). u && L.takesFlag (OfFlat (Integer (not (ltb k 5)) (P.widthOf k)))) (sym eo ∙ f)) refl w (sym ew)
 
-    pub float-bytes : (k ≡ 0 → ⊥) → 9 ≤ k → k < 11 → (v w : ℕ) → v ≡ P.widthOf k → w ≡ v → WholeBytes S (P.memberAt b at) w
+    pub float-bytes : (k ≡ 0 → ⊥) → 9 ≤ k → k < 11 → (w : ℕ) → w ≡ P.widthOf k → WholeBytes S (P.memberAt b at) w
     unfolding L.isBool L.flatIsBool L.width flatWidth L.takesFlag L.flatTakesFlag
-    float-bytes h g l v w ev ew =
+    float-bytes h g l w ew =
         let m : k < 13 = omega arith in
-        member-bytes (OfFlat (Float (P.widthOf k))) (flat-kind m ∙ ap OfFlat (float-at h g l)) (no-flag (P.optionalAt b at)) refl w (sym (ew ∙ ev))
+        member-bytes (OfFlat (Float (P.widthOf k))) (flat-kind m ∙ ap OfFlat (float-at h g l)) (no-flag (P.optionalAt b at)) refl w (sym ew)
 
     pub enum-bytes : k ≡ 11 → WholeBytes S (P.memberAt b at) 1
     unfolding L.isBool L.flatIsBool L.width flatWidth L.takesFlag L.flatTakesFlag
@@ -392,3 +392,41 @@ behind-laid j c w h l =
     let p = l .end in
     let q = l .byte in
     record { end = omega arith; byte = omega arith; bit = l .bit }
+
+-- ---- the bytes of an integer or a float
+pub width-is : (k j w : ℕ) → k ≡ j → w ≡ P.widthOf j → w ≡ P.widthOf k
+width-is k j w e h = rw e h
+
+more : (k n : ℕ) → n ≤ k → (k ≡ n → ⊥) → suc n ≤ k
+more k n l h = omega arith
+
+only : (k n : ℕ) → n ≤ k → k < suc n → k ≡ n
+only k n l h = omega arith
+
+pub width-last : (k : ℕ) → 0 < k → k < 11 → (k ≡ 1 → ⊥) → (k ≡ 2 → ⊥) → (k ≡ 3 → ⊥) → (k ≡ 4 → ⊥) → (k ≡ 5 → ⊥) → (k ≡ 6 → ⊥) → (k ≡ 7 → ⊥) → (k ≡ 8 → ⊥) → (k ≡ 9 → ⊥)
+    → 8 ≡ P.widthOf k
+width-last k g l a b c d e f h i j =
+    width-is k 10 8 (only k 10 (more k 9 (more k 8 (more k 7 (more k 6 (more k 5 (more k 4 (more k 3 (more k 2 (more k 1 g a) b) c) d) e) f) h) i) j) l) (unfold P.widthOf in refl)
+
+pub number-kind : (k : ℕ) → (k ≡ 0 → ⊥) → 0 < k
+number-kind zero h = absurd (h refl)
+number-kind (suc k) h = omega arith
+
+-- ---- a text or bytes that is there
+module _ (s : List ℕ) (d more : ℕ) (inplace may : Bool) (pos : ℕ) (h : d ≡ 0 → ⊥) (whole : Bool) (x next : ℕ) (taken : TakenNumber s pos 32 whole x next) where
+  blob-fails : not whole ≡ true → surveyBlob more (drop pos (bits s)) ≡ fail
+  unfolding surveyBlob bind
+  blob-fails f = rw (taken .number, not-true whole f)
+
+  pub there-cut : pos ≤ 8 * length s → not whole ≡ true → (w : Bool) (e : Extent) (n : ℕ) → w ≡ false → n ≡ pos → Small e
+      → SurveyedAt s (blobReferred d u48 inplace may more (drop pos (bits s))) w e n
+  unfolding blobReferred bind
+  there-cut l f w e n ew en sm = by d h
+    where
+      by : (k : ℕ) → (k ≡ 0 → ⊥) → SurveyedAt s (blobReferred k u48 inplace may more (drop pos (bits s))) w e n
+      by zero g = absurd (g refl)
+      by (suc k) g = record { is = ap (λ p. bind p (λ y ys. got (referred u48 inplace may y) ys)) (blob-fails f) ∙ sym (rw ew); inside = rw en l; small = sm }
+
+  pub there-whole : not whole ≡ false → (w : Bool) (n : ℕ) → TakenBytes s next x w n → (o : Extent) → Fits (opened x (x + more)) o
+      → (e : Extent) → Fits (referred u48 inplace may o) e → SurveyedAt s (blobReferred d u48 inplace may more (drop pos (bits s))) w e n
+  there-whole f w n t o fo e fe = blob-referred s d more inplace may pos h w o n (blob-there s pos more whole x next taken f w n t o fo) e fe

@@ -253,6 +253,38 @@ fn flat_lost(s: &[u8], pos: usize, k: Flat) -> Tested
 }
 
 // ---- by the record of a member
+// The bytes of an integer or a float by its kind.
+fn number_width(k: usize) -> usize
+    requires { ⌜ (0 < k) × (k < 11) ⌝ }
+    ensures { λ r. ⌜ (r ≡ P.widthOf k) × (r ≤ 8) ⌝ }
+{
+    if k == 1 {
+        return 1;
+    }
+    if k == 2 {
+        return 2;
+    }
+    if k == 3 {
+        return 4;
+    }
+    if k == 4 {
+        return 8;
+    }
+    if k == 5 {
+        return 1;
+    }
+    if k == 6 {
+        return 2;
+    }
+    if k == 7 {
+        return 4;
+    }
+    if k == 8 {
+        return 8;
+    }
+    if k == 9 { 4 } else { 8 }
+}
+
 // Whether there may be no value.
 fn may_lack_at(b: &[u8], at: usize) -> bool
     requires { ⌜ at + 1 < length (now b) ⌝ }
@@ -282,7 +314,7 @@ fn flat_body(b: &[u8], dir: &[u16], s: &[u8], at: usize, pos: usize) -> Tested
         return any_number(s, pos, 1);
     }
     if k < 9 {
-        return any_number(s, pos, 8 * wire::index(schema::width_of(k)));
+        return any_number(s, pos, 8 * number_width(k));
     }
     if k < 11 {
         return float_number(s, pos, schema::optional_at(b, at), schema::width_of(k));
@@ -504,10 +536,10 @@ fn whole_bytes(b: &[u8], at: usize) -> usize
         if schema::optional_at(b, at) {
             return 0;
         }
-        return wire::index(schema::width_of(k));
+        return number_width(k);
     }
     if k < 11 {
-        return wire::index(schema::width_of(k));
+        return number_width(k);
     }
     if k == 11 {
         return 1;
@@ -688,6 +720,30 @@ fn refer_blob(s: &[u8], d: usize, more: usize, inplace: bool, may: bool, pos: us
 }
 
 // ---- members that lead to no object but a text or bytes
+// A text or bytes that is there. It says what `refer_blob` says, and calls nothing but the cursor, for speed.
+fn blob_there(s: &[u8], d: usize, more: usize, inplace: bool, pos: usize) -> Surveyed
+    requires { ⌜ (length (now s) ≤ 16777215) × (pos ≤ 8 * length (now s)) × (more ≤ 1) ⌝ }
+    ensures { λ r. ⌜ SurveyedAt (now (s .entry)) (blobReferred d B.u48 inplace false more (drop pos (bits (now (s .entry))))) (r .whole) (r .extent) (r .next) ⌝ }
+{
+    if d == 0 {
+        return unlawful(pos);
+    }
+    let x = bitio::take_number(s, pos, 32);
+    if !x.whole {
+        return unlawful(pos);
+    }
+    let n = x.value as usize;
+    let y = bitio::skip_bytes(s, x.next, n);
+    let whole = y.whole;
+    let next = y.next;
+    let e = opened(n, n + more);
+    Surveyed {
+        whole: whole,
+        extent: referred(inplace, false, e),
+        next: next,
+    }
+}
+
 // The text or bytes of the record at `at`, with its mark.
 fn blob_part(b: &[u8], s: &[u8], d: usize, at: usize, pos: usize) -> Surveyed
     requires { ⌜ (at + 1 < length (now b)) × (13 ≤ P.kindAt (now b) at) × (P.kindAt (now b) at < 15) × (length (now s) ≤ 16777215) × (pos ≤ 8 * length (now s)) ⌝ }
@@ -708,7 +764,7 @@ fn blob_part(b: &[u8], s: &[u8], d: usize, at: usize, pos: usize) -> Surveyed
     }
     if mark == 1 {
         let more = 14 - schema::kind_at(b, at);
-        return refer_blob(s, d, more, schema::inplace_at(b, at), false, next);
+        return blob_there(s, d, more, schema::inplace_at(b, at), next);
     }
     unlawful(pos)
 }

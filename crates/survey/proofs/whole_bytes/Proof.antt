@@ -1,5 +1,5 @@
 use borrow.Author.Needs.{needs}
-use Rattle.survey.proofs.LeafCases.{no-bytes, number-bytes, float-bytes, enum-bytes, object-bytes, union-bytes}
+use Rattle.survey.proofs.LeafCases.{no-bytes, number-bytes, float-bytes, enum-bytes, object-bytes, union-bytes, number-kind}
 use Rattle.survey.proofs.whole_bytes.Statement.{statement}
 use Rattle.survey.proofs.whole_bytes.Tie as tie
 
@@ -15,20 +15,14 @@ optional-at-requires c κs = search needs
 returns-2 : tie.Need-returns-2
 returns-2 c = (search needs, no-bytes)
 
-width-of-requires : tie.Need-width-of-requires
-width-of-requires c κs = search needs
-
-index-requires : tie.Need-index-requires
-index-requires c κs = search needs
+number-width-requires : tie.Need-number-width-requires
+number-width-requires c κs = search (number-kind, needs)
 
 returns-3 : tie.Need-returns-3
 returns-3 c = (search needs, λ h. search number-bytes)
 
-width-of-requires-2 : tie.Need-width-of-requires-2
-width-of-requires-2 c κs = search needs
-
-index-requires-2 : tie.Need-index-requires-2
-index-requires-2 c κs = search needs
+number-width-requires-2 : tie.Need-number-width-requires-2
+number-width-requires-2 c κs = search (number-kind, needs)
 
 returns-4 : tie.Need-returns-4
 returns-4 c = (search needs, λ h. search float-bytes)
@@ -53,11 +47,9 @@ whole-bytes-spec =
     returns
     optional-at-requires
     returns-2
-    width-of-requires
-    index-requires
+    number-width-requires
     returns-3
-    width-of-requires-2
-    index-requires-2
+    number-width-requires-2
     returns-4
     returns-5
     returns-6
