@@ -151,15 +151,13 @@ module _ (S : Schema) (t : ℕ) where
         let l : length (Sc.tableOf S t .members) ≤ j = omega arith in
         sym (ap (λ (k : Cursor). k .end) (inv ∙ ap (λ (ms : List Member). L.afterMembers u48 S ms c) (drop-of-length-le (Sc.tableOf S t .members) l)))
 
-    pub fixed-turn : j < count → (r : Member) → r ≡ Sc.memberOf S t j → (e : ℕ) (slot : Slot) (next : Cursor)
-        → Stands (L.memberSlot u48 S r c) (L.afterMember u48 S r c) e slot next
+    pub fixed-turn : j < count → (next : Cursor) → next ≡ L.afterMember u48 S (Sc.memberOf S t j) c
         → L.afterMembers u48 S (Sc.tableOf S t .members) L.begin ≡ L.afterMembers u48 S (drop (j + 1) (Sc.tableOf S t .members)) next
     unfolding L.afterMembers Sc.memberOf
-    fixed-turn h r er e slot next st =
+    fixed-turn h next en =
         let l : j < length (Sc.tableOf S t .members) = omega arith in
         inv ∙ ap (λ (ms : List Member). L.afterMembers u48 S ms c) (drop-cons (Sc.tableOf S t .members) j Sc.plainBool l)
-        ∙ ap (λ (q : Member). L.afterMembers u48 S (drop (suc j) (Sc.tableOf S t .members)) (L.afterMember u48 S q c)) (sym er)
-        ∙ ap (L.afterMembers u48 S (drop (suc j) (Sc.tableOf S t .members))) (sym (st .next-is))
+        ∙ ap (L.afterMembers u48 S (drop (suc j) (Sc.tableOf S t .members))) (sym en)
         ∙ ap (λ (k : ℕ). L.afterMembers u48 S (drop k (Sc.tableOf S t .members)) next) (sym (add-one j))
 
 pub laid-next : (c next : Cursor) (j : ℕ) (x : Slot) (y : Cursor) (slot : Slot) → Laid (4097 * j) c → Stands x y (c .end + 1) slot next → Laid (4097 * (j + 1)) next

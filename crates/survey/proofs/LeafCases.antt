@@ -15,26 +15,31 @@ use Rattle.coding.specs.Bits.{bits}
 use Rattle.coding.specs.Schema as Sc
 use Rattle.coding.specs.Schema.{Schema}
 use Rattle.coding.specs.Packed as P
+use Rattle.coding.specs.Layout as L
+use Rattle.coding.specs.Structs.{flatWidth}
 use Rattle.coding.specs.Sheet.{Parsed, fail, got, bind}
+use Rattle.coding.specs.declared.Cursor.{Cursor}
+use Rattle.coding.specs.declared.Slot.{Slot}
+use Rattle.layout.specs.Bounds.{Laid, Stands}
 use Rattle.coding.specs.declared.Flat.{Flat}
 use Rattle.coding.specs.declared.Flat.the-variants.{Boolean, Integer, Float, Enumerated, Struct}
 use Rattle.coding.specs.declared.Object.{Object}
 use Rattle.coding.specs.declared.Object.the-variants as O
 use Rattle.coding.specs.declared.Kind.{Kind}
-use Rattle.coding.specs.declared.Kind.the-variants.{OfFlat, OfObject}
+use Rattle.coding.specs.declared.Kind.the-variants.{OfFlat, OfObject, OfUnion}
 use Rattle.coding.specs.declared.Member.{Member}
 use Rattle.laws.specs.Sound.{FlatSound, MemberSound}
 use Rattle.laws.specs.SoundAt.{member-sound-at}
 use Rattle.schema.specs.Directory.{Accepted, Block, accepted-sound}
 use Rattle.schema.proofs.Access.{member-is}
-use Rattle.bitio.specs.Taken.{TakenNumber}
-use Rattle.survey.specs.Survey.{testNumber, testIf, anyNumber, floatFine, belowCount, surveyMark, surveyFlat, surveyStruct, surveyLostFlat, flatMayLack, mayLack, plain, opened, joined, Surveyor, plainOf, surveyBody, surveyPart, surveyMembers, surveyContent, survey}
+use Rattle.bitio.specs.Taken.{TakenNumber, TakenBytes}
+use Rattle.survey.specs.Survey.{testNumber, testIf, anyNumber, floatFine, belowCount, surveyMark, surveyFlat, surveyStruct, surveyLostFlat, flatMayLack, mayLack, plain, opened, joined, referred, Surveyor, plainOf, surveyBlob, surveyBody, surveyPart, surveyMembers, surveyContent, survey}
 use Rattle.survey.specs.Surveyed.{TestedAt, Small, Fits, SurveyedAt}
 use Rattle.survey.specs.BlobReferred.{BlobEnd, blobReferred}
-use Rattle.survey.specs.Leaves.{flatPart, joinedPart, LeftAt, flat-part-is, members-joined}
+use Rattle.survey.specs.Leaves.{flatPart, joinedPart, LeftAt, WholeBytes, flat-part-is, members-joined}
 use Rattle.survey.specs.declared.Extent.{Extent}
 use Rattle.survey.proofs.FlatCases.{integer-short, float-short}
-use Rattle.survey.proofs.PartCases.{flat-boolean, flat-integer, flat-float, flat-enum, flat-struct, struct-counted, kind-flat, refer-blob, object-there}
+use Rattle.survey.proofs.PartCases.{flat-boolean, flat-integer, flat-float, flat-enum, flat-struct, struct-counted, kind-flat, refer-blob, object-there, blob-there, blob-referred}
 use Rattle.survey.proofs.ObjectCases.{members-done, members-stopped, members-turn}
 
 -- ---- what stands at a record, by its kind
@@ -90,10 +95,10 @@ module _ (b : List ℕ) (at k : ℕ) (ek : k ≡ P.kindAt b at) where
     body-boolean e t = flat-boolean (P.parse b) s (P.optionalAt b at) (P.flatAt b at) pos w′ f′ n′ (boolean-at e) t
 
     module _ (h : k ≡ 0 → ⊥) where
-      pub body-integer : k < 9 → (v j : ℕ) → v ≡ P.widthOf k → j ≡ v → TestedAt s (testNumber (8 * j) anyNumber (drop pos (bits s))) w′ f′ n′
+      pub body-integer : k < 9 → (j : ℕ) → j ≡ P.widthOf k → TestedAt s (testNumber (8 * j) anyNumber (drop pos (bits s))) w′ f′ n′
           → TestedAt s (surveyFlat (surveyStruct (P.parse b)) (P.optionalAt b at) (P.flatAt b at) (drop pos (bits s))) w′ f′ n′
-      body-integer l v j ev ej t =
-          flat-integer (P.parse b) s (P.optionalAt b at) (P.flatAt b at) pos w′ f′ n′ (not (ltb k 5)) (P.widthOf k) j (integer-at h l) (ej ∙ ev) t
+      body-integer l j ej t =
+          flat-integer (P.parse b) s (P.optionalAt b at) (P.flatAt b at) pos w′ f′ n′ (not (ltb k 5)) (P.widthOf k) j (integer-at h l) ej t
 
       pub body-float : 9 ≤ k → k < 11 → (v : ℕ) → v ≡ P.widthOf k → (o : Bool) → o ≡ P.optionalAt b at
           → TestedAt s (testNumber (8 * v) (floatFine o v) (drop pos (bits s))) w′ f′ n′
@@ -103,10 +108,10 @@ module _ (b : List ℕ) (at k : ℕ) (ek : k ≡ P.kindAt b at) where
           (subst (λ (q : Bool). TestedAt s (testNumber (8 * v) (floatFine q v) (drop pos (bits s))) w′ f′ n′) eo t)
 
       module _ (n : ℕ) (en : n ≡ P.argumentAt b at) where
-        pub body-struct : 11 ≤ k → (k ≡ 11 → ⊥) → (i : ℕ) → i ≡ n → TestedAt s (surveyStruct (P.parse b) i (drop pos (bits s))) w′ f′ n′
+        pub body-struct : 11 ≤ k → (k ≡ 11 → ⊥) → TestedAt s (surveyStruct (P.parse b) n (drop pos (bits s))) w′ f′ n′
             → TestedAt s (surveyFlat (surveyStruct (P.parse b)) (P.optionalAt b at) (P.flatAt b at) (drop pos (bits s))) w′ f′ n′
-        body-struct g l i ei t =
-            flat-struct (P.parse b) s (P.optionalAt b at) (P.flatAt b at) pos w′ f′ n′ (P.argumentAt b at) i (struct-at h g l) (ei ∙ en) t
+        body-struct g l t =
+            flat-struct (P.parse b) s (P.optionalAt b at) (P.flatAt b at) pos w′ f′ n′ (P.argumentAt b at) n (struct-at h g l) en t
 
     pub body-enum : k ≡ 11 → (n : ℕ) → n ≡ P.argumentAt b at → TestedAt s (testIf 8 (belowCount n) true (drop pos (bits s))) w′ f′ n′
         → TestedAt s (surveyFlat (surveyStruct (P.parse b)) (P.optionalAt b at) (P.flatAt b at) (drop pos (bits s))) w′ f′ n′
@@ -114,23 +119,72 @@ module _ (b : List ℕ) (at k : ℕ) (ek : k ≡ P.kindAt b at) where
 
   -- bounds
   module _ (sound : FlatSound (length (P.parse b .structs)) (P.flatAt b at)) (h : k ≡ 0 → ⊥) where
-    pub integer-fits : k < 9 → (v j : ℕ) → v ≡ P.widthOf k → j ≡ v → 8 * j ≤ 64
-    integer-fits l v j ev ej = integer-short (length (P.parse b .structs)) (P.flatAt b at) (not (ltb k 5)) (P.widthOf k) j (integer-at h l) (ej ∙ ev) sound
+    pub integer-fits : k < 9 → (j : ℕ) → j ≡ P.widthOf k → 8 * j ≤ 64
+    integer-fits l j ej = integer-short (length (P.parse b .structs)) (P.flatAt b at) (not (ltb k 5)) (P.widthOf k) j (integer-at h l) ej sound
 
     pub float-fits : 9 ≤ k → k < 11 → (v : ℕ) → v ≡ P.widthOf k → v ≤ 8
     float-fits g l v ev = float-short (length (P.parse b .structs)) (P.flatAt b at) v (float-at h g l ∙ ap Float (sym ev)) sound
 
-    pub struct-fits : 11 ≤ k → (k ≡ 11 → ⊥) → (n : ℕ) → n ≡ P.argumentAt b at → (i : ℕ) → i ≡ n → i < P.structCount b
-    struct-fits g l n en i ei = struct-counted b (P.flatAt b at) (P.argumentAt b at) i (struct-at h g l) (ei ∙ en) sound
+    pub struct-fits : 11 ≤ k → (k ≡ 11 → ⊥) → (n : ℕ) → n ≡ P.argumentAt b at → n < P.structCount b
+    struct-fits g l n en = struct-counted b (P.flatAt b at) (P.argumentAt b at) n (struct-at h g l) en sound
 
   -- the kinds
   flat-kind : k < 13 → P.elementAt b at ≡ OfFlat (P.flatAt b at)
   unfolding P.elementAt P.kindOf P.flatAt
   flat-kind l = simp (← ek, lt-ltb _ _ l)
 
-  object-kind : 13 ≤ k → k < 15 → P.elementAt b at ≡ OfObject (P.objectAt b at)
+  object-kind : 13 ≤ k → k < 17 → P.elementAt b at ≡ OfObject (P.objectAt b at)
   unfolding P.elementAt P.kindOf P.objectAt
-  object-kind g l = let m : k < 17 = omega arith in simp (← ek, le-ltb _ _ g, lt-ltb _ _ m)
+  object-kind g l = simp (← ek, le-ltb _ _ g, lt-ltb _ _ l)
+
+  union-kind : 17 ≤ k → P.elementAt b at ≡ OfUnion (P.argumentAt b at)
+  unfolding P.elementAt P.kindOf
+  union-kind g = let m : 13 ≤ k = omega arith in simp (← ek, le-ltb _ _ m, le-ltb _ _ g)
+
+  -- the bytes that a member takes
+  module _ (S : Schema) where
+    member-bytes : (q : Kind) → P.elementAt b at ≡ q → (P.optionalAt b at && L.takesFlag q) ≡ false → L.isBool q ≡ false → (w : ℕ) → L.width u48 S q ≡ w
+        → WholeBytes S (P.memberAt b at) w
+    unfolding P.memberAt L.afterMember L.afterValue L.afterFlag L.hasFlag
+    member-bytes q e f g w h =
+        record {
+          next = λ c.
+              ap (λ (y : Kind). pick (L.isBool y) (L.afterBit (pick (P.optionalAt b at && L.takesFlag y) (L.afterBit c) c)) (L.afterBytes (L.width u48 S y) (pick (P.optionalAt b at && L.takesFlag y) (L.afterBit c) c))) e
+              ∙ ap (λ (u : Bool). pick (L.isBool q) (L.afterBit (pick u (L.afterBit c) c)) (L.afterBytes (L.width u48 S q) (pick u (L.afterBit c) c))) f
+              ∙ ap (λ (u : Bool). pick u (L.afterBit c) (L.afterBytes (L.width u48 S q) c)) g
+              ∙ ap (λ (n : ℕ). L.afterBytes n c) h;
+        }
+
+    no-flag : (o : Bool) → (o && false) ≡ false
+    no-flag true = refl
+    no-flag false = refl
+
+    pub number-bytes : (k ≡ 0 → ⊥) → k < 9 → (o : Bool) → o ≡ P.optionalAt b at → o ≡ false → (w : ℕ) → w ≡ P.widthOf k → WholeBytes S (P.memberAt b at) w
+    unfolding L.isBool L.flatIsBool L.width flatWidth
+    number-bytes h l o eo f w ew =
+        let m : k < 13 = omega arith in
+        member-bytes (OfFlat (Integer (not (ltb k 5)) (P.widthOf k))) (flat-kind m ∙ ap OfFlat (integer-at h l))
+        (ap (λ (u : Bool). u && L.takesFlag (OfFlat (Integer (not (ltb k 5)) (P.widthOf k)))) (sym eo ∙ f)) refl w (sym ew)
+
+    pub float-bytes : (k ≡ 0 → ⊥) → 9 ≤ k → k < 11 → (w : ℕ) → w ≡ P.widthOf k → WholeBytes S (P.memberAt b at) w
+    unfolding L.isBool L.flatIsBool L.width flatWidth L.takesFlag L.flatTakesFlag
+    float-bytes h g l w ew =
+        let m : k < 13 = omega arith in
+        member-bytes (OfFlat (Float (P.widthOf k))) (flat-kind m ∙ ap OfFlat (float-at h g l)) (no-flag (P.optionalAt b at)) refl w (sym ew)
+
+    pub enum-bytes : k ≡ 11 → WholeBytes S (P.memberAt b at) 1
+    unfolding L.isBool L.flatIsBool L.width flatWidth L.takesFlag L.flatTakesFlag
+    enum-bytes e =
+        let m : k < 13 = omega arith in
+        member-bytes (OfFlat (Enumerated (P.argumentAt b at))) (flat-kind m ∙ ap OfFlat (enum-at e)) (no-flag (P.optionalAt b at)) refl 1 refl
+
+    pub object-bytes : 13 ≤ k → k < 17 → WholeBytes S (P.memberAt b at) 6
+    unfolding L.isBool L.width L.takesFlag u48
+    object-bytes g l = member-bytes (OfObject (P.objectAt b at)) (object-kind g l) (no-flag (P.optionalAt b at)) refl 6 refl
+
+    pub union-bytes : 17 ≤ k → WholeBytes S (P.memberAt b at) 8
+    unfolding L.isBool L.width L.takesFlag u48
+    union-bytes g = member-bytes (OfUnion (P.argumentAt b at)) (union-kind g) (no-flag (P.optionalAt b at)) refl 8 refl
 
   blob-kind : 13 ≤ k → k < 15 → BlobEnd (P.objectAt b at) (14 - k)
   unfolding P.objectAt P.objectOf
@@ -169,7 +223,7 @@ module _ (b : List ℕ) (at k : ℕ) (ek : k ≡ P.kindAt b at) where
         → (e : Extent) → Fits (joined a x) e → SurveyedAt s (joinedPart child u48 (P.parse b) (P.memberAt b at) a (drop pos (bits s))) w e n
     unfolding joinedPart P.memberAt bind
     leaf-blob g l w x n t e f =
-        let m : k < 15 = omega arith in
+        let m : k < 17 = omega arith in
         record {
           is = ap (λ (q : Kind). bind (surveyPart child u48 (P.parse b) q (P.optionalAt b at) (P.inplaceAt b at) (drop pos (bits s))) (λ x ys. got (joined a x) ys)) (object-kind g m)
               ∙ ap (λ p. bind p (λ x ys. got (joined a x) ys)) (same (P.optionalAt b at) ∙ t .is) ∙ by w
@@ -310,3 +364,69 @@ module _ (child : Surveyor) (S : Schema) (s : List ℕ) (t at : ℕ) (a : Extent
       pub table-turn : not u ≡ false → (g : Extent) → Fits (joined e x) g
           → surveyContent child u48 S (O.Table t) (drop at (bits s)) ≡ surveyMembers child u48 S (drop (i + 1) (Sc.tableOf S t .members)) g (drop after (bits s))
       table-turn = members-turn child S s t at e next i (gone true (not-false whole h)) count ec l r er u x after q
+
+-- ---- a struct by its number
+pub struct-index-same : (b : List ℕ) (n i : ℕ) → i ≡ n → n < P.structCount b → i < P.structCount b
+struct-index-same b n i e h = rw e h
+
+pub struct-same : (S : Schema) (s : List ℕ) (pos n i : ℕ) → i ≡ n → (w f : Bool) (m : ℕ) → TestedAt s (surveyStruct S i (drop pos (bits s))) w f m
+    → TestedAt s (surveyStruct S n (drop pos (bits s))) w f m
+struct-same S s pos n i e w f m t = subst (λ (a : ℕ). TestedAt s (surveyStruct S a (drop pos (bits s))) w f m) e t
+
+-- ---- the cursor behind a member
+pub no-bytes : {A : Type 0} → 0 < 0 → A
+no-bytes h = absurd (omega arith)
+
+module _ (S : Schema) (t j : ℕ) (c : Cursor) where
+  pub behind-bytes : (m : Member) → m ≡ Sc.memberOf S t j → (w : ℕ) → (0 < w → WholeBytes S m w) → 0 < w
+      → _≡_ {A = Cursor} (record { end = c .end + w; byte = c .byte; bit = c .bit }) (L.afterMember u48 S (Sc.memberOf S t j) c)
+  unfolding L.afterBytes
+  behind-bytes m em w f h = sym (f h .next c) ∙ ap (λ (r : Member). L.afterMember u48 S r c) em
+
+  pub behind-placed : (r : Member) → r ≡ Sc.memberOf S t j → (e : ℕ) (slot : Slot) (next : Cursor)
+      → Stands (L.memberSlot u48 S r c) (L.afterMember u48 S r c) e slot next → next ≡ L.afterMember u48 S (Sc.memberOf S t j) c
+  behind-placed r er e slot next st = st .next-is ∙ ap (λ (q : Member). L.afterMember u48 S q c) er
+
+pub behind-laid : (j : ℕ) (c : Cursor) (w : ℕ) → w < 256 → Laid (4097 * j) c → Laid (4097 * (j + 1)) (record { end = c .end + w; byte = c .byte; bit = c .bit })
+behind-laid j c w h l =
+    let p = l .end in
+    let q = l .byte in
+    record { end = omega arith; byte = omega arith; bit = l .bit }
+
+-- ---- the bytes of an integer or a float
+pub width-is : (k j w : ℕ) → k ≡ j → w ≡ P.widthOf j → w ≡ P.widthOf k
+width-is k j w e h = rw e h
+
+more : (k n : ℕ) → n ≤ k → (k ≡ n → ⊥) → suc n ≤ k
+more k n l h = omega arith
+
+only : (k n : ℕ) → n ≤ k → k < suc n → k ≡ n
+only k n l h = omega arith
+
+pub width-last : (k : ℕ) → 0 < k → k < 11 → (k ≡ 1 → ⊥) → (k ≡ 2 → ⊥) → (k ≡ 3 → ⊥) → (k ≡ 4 → ⊥) → (k ≡ 5 → ⊥) → (k ≡ 6 → ⊥) → (k ≡ 7 → ⊥) → (k ≡ 8 → ⊥) → (k ≡ 9 → ⊥)
+    → 8 ≡ P.widthOf k
+width-last k g l a b c d e f h i j =
+    width-is k 10 8 (only k 10 (more k 9 (more k 8 (more k 7 (more k 6 (more k 5 (more k 4 (more k 3 (more k 2 (more k 1 g a) b) c) d) e) f) h) i) j) l) (unfold P.widthOf in refl)
+
+pub number-kind : (k : ℕ) → (k ≡ 0 → ⊥) → 0 < k
+number-kind zero h = absurd (h refl)
+number-kind (suc k) h = omega arith
+
+-- ---- a text or bytes that is there
+module _ (s : List ℕ) (d more : ℕ) (inplace may : Bool) (pos : ℕ) (h : d ≡ 0 → ⊥) (whole : Bool) (x next : ℕ) (taken : TakenNumber s pos 32 whole x next) where
+  blob-fails : not whole ≡ true → surveyBlob more (drop pos (bits s)) ≡ fail
+  unfolding surveyBlob bind
+  blob-fails f = rw (taken .number, not-true whole f)
+
+  pub there-cut : pos ≤ 8 * length s → not whole ≡ true → (w : Bool) (e : Extent) (n : ℕ) → w ≡ false → n ≡ pos → Small e
+      → SurveyedAt s (blobReferred d u48 inplace may more (drop pos (bits s))) w e n
+  unfolding blobReferred bind
+  there-cut l f w e n ew en sm = by d h
+    where
+      by : (k : ℕ) → (k ≡ 0 → ⊥) → SurveyedAt s (blobReferred k u48 inplace may more (drop pos (bits s))) w e n
+      by zero g = absurd (g refl)
+      by (suc k) g = record { is = ap (λ p. bind p (λ y ys. got (referred u48 inplace may y) ys)) (blob-fails f) ∙ sym (rw ew); inside = rw en l; small = sm }
+
+  pub there-whole : not whole ≡ false → (w : Bool) (n : ℕ) → TakenBytes s next x w n → (o : Extent) → Fits (opened x (x + more)) o
+      → (e : Extent) → Fits (referred u48 inplace may o) e → SurveyedAt s (blobReferred d u48 inplace may more (drop pos (bits s))) w e n
+  there-whole f w n t o fo e fe = blob-referred s d more inplace may pos h w o n (blob-there s pos more whole x next taken f w n t o fo) e fe

@@ -9,7 +9,9 @@ use Rattle.coding.specs.Lists.{pick}
 use Rattle.coding.specs.Bytes.{u48}
 use Rattle.coding.specs.Bits.{bits}
 use Rattle.coding.specs.Schema.{Schema}
+use Rattle.coding.specs.Layout.{afterBytes, afterMember}
 use Rattle.coding.specs.Sheet.{Parsed, fail, got, bind, takeNumber}
+use Rattle.coding.specs.declared.Cursor.{Cursor}
 use Rattle.coding.specs.declared.Flat.{Flat}
 use Rattle.coding.specs.declared.Kind.{Kind}
 use Rattle.coding.specs.declared.Kind.the-variants.{OfFlat}
@@ -33,6 +35,10 @@ pub record LeftAt (child : Surveyor) (S : Schema) (ms : List Member) (s : List �
   pub few : j ≤ length ms
   pub inside : next ≤ 8 * length s
   pub small : Small e
+
+-- a member takes w bytes, and no bit
+pub record WholeBytes (S : Schema) (m : Member) (w : ℕ) : Type 0 where
+  pub next : (c : Cursor) → afterMember u48 S m c ≡ afterBytes w c
 
 module _ (child : Surveyor) (o : ℕ) (S : Schema) where
   pub flat-part-is : (k : Flat) (optional inplace : Bool) (xs : List ℕ)

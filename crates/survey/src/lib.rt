@@ -1,5 +1,6 @@
 // The survey of a value sheet, which the writer makes before it stores anything: whether the sheet is lawful, whether it can be
 // written, and what each object takes.
+use coding::Cursor;
 use coding::Flat;
 use coding::Kind;
 use coding::Object;
@@ -18,12 +19,13 @@ ghost use Rattle.coding.specs.Schema as Sc;
 ghost use Rattle.coding.specs.Step as T;
 ghost use lib.Dec.{ltb};
 ghost use Rattle.laws.specs.Sound.{FlatSound, ObjectSound, KindSound, MemberSound};
+ghost use Rattle.layout.specs.Bounds.{Laid};
 ghost use Rattle.schema.specs.Directory.{Accepted};
 ghost use Rattle.survey.specs.Survey as Sv;
 ghost use Rattle.survey.specs.BareElements as Ba;
 ghost use Rattle.survey.specs.BlobReferred.{BlobEnd, blobReferred};
 ghost use Rattle.survey.specs.Surveyed.{TestedAt, Small, Fits, SurveyedAt};
-ghost use Rattle.survey.specs.Leaves.{flatPart, joinedPart, LeftAt};
+ghost use Rattle.survey.specs.Leaves.{flatPart, joinedPart, LeftAt, WholeBytes};
 
 // What an object of the sheet takes: whether it can be written; the length that its header gives; the bytes of its content
 // (width), of the contents in place behind it (chain), and of the objects that these refer to (below). The last two count to
@@ -251,6 +253,38 @@ fn flat_lost(s: &[u8], pos: usize, k: Flat) -> Tested
 }
 
 // ---- by the record of a member
+// The bytes of an integer or a float by its kind.
+fn number_width(k: usize) -> usize
+    requires { ⌜ (0 < k) × (k < 11) ⌝ }
+    ensures { λ r. ⌜ (r ≡ P.widthOf k) × (r ≤ 8) ⌝ }
+{
+    if k == 1 {
+        return 1;
+    }
+    if k == 2 {
+        return 2;
+    }
+    if k == 3 {
+        return 4;
+    }
+    if k == 4 {
+        return 8;
+    }
+    if k == 5 {
+        return 1;
+    }
+    if k == 6 {
+        return 2;
+    }
+    if k == 7 {
+        return 4;
+    }
+    if k == 8 {
+        return 8;
+    }
+    if k == 9 { 4 } else { 8 }
+}
+
 // Whether there may be no value.
 fn may_lack_at(b: &[u8], at: usize) -> bool
     requires { ⌜ at + 1 < length (now b) ⌝ }
@@ -260,6 +294,14 @@ fn may_lack_at(b: &[u8], at: usize) -> bool
         return true;
     }
     schema::optional_at(b, at)
+}
+
+// A struct by its number. It is apart for speed: the slices are stored for the call only where there is a struct.
+fn struct_at(b: &[u8], dir: &[u16], s: &[u8], n: u8, pos: usize) -> Tested
+    requires { ⌜ (Accepted (now b) (now dir)) × (n < P.structCount (now b)) × (length (now s) ≤ 16777215) × (pos ≤ 8 * length (now s)) ⌝ }
+    ensures { λ r. ⌜ TestedAt (now (s .entry)) (Sv.surveyStruct (P.parse (now (b .entry))) n (drop pos (bits (now (s .entry))))) (r .whole) (r .fine) (r .next) ⌝ }
+{
+    struct_test(b, dir, s, wire::index(n), pos)
 }
 
 // What is there.
@@ -272,7 +314,7 @@ fn flat_body(b: &[u8], dir: &[u16], s: &[u8], at: usize, pos: usize) -> Tested
         return any_number(s, pos, 1);
     }
     if k < 9 {
-        return any_number(s, pos, 8 * wire::index(schema::width_of(k)));
+        return any_number(s, pos, 8 * number_width(k));
     }
     if k < 11 {
         return float_number(s, pos, schema::optional_at(b, at), schema::width_of(k));
@@ -281,7 +323,7 @@ fn flat_body(b: &[u8], dir: &[u16], s: &[u8], at: usize, pos: usize) -> Tested
     if k == 11 {
         return enum_known(s, pos, n);
     }
-    struct_test(b, dir, s, wire::index(n), pos)
+    struct_at(b, dir, s, n, pos)
 }
 
 // With its mark.
@@ -473,6 +515,61 @@ pub fn elements_size(b: &[u8], dir: &[u16], k: Kind, n: usize) -> usize
     times(layout::width(b, dir, k), n)
 }
 
+// Where the record of member j of table t stands.
+fn record_of(b: &[u8], dir: &[u16], t: usize, j: usize) -> usize
+    requires { ⌜ (Accepted (now b) (now dir)) × (t < P.tableCount (now b)) × (j < length (Sc.tableOf (P.parse (now b)) t .members)) × (j < 256) ⌝ }
+    ensures { λ r. ⌜ (r + 1 < length (now (b .entry))) × (P.memberAt (now (b .entry)) r ≡ Sc.memberOf (P.parse (now (b .entry))) t j) × MemberSound (P.parse (now (b .entry))) (P.memberAt (now (b .entry)) r) ⌝ }
+{
+    schema::record_place(4, schema::table_place(b, dir, t), j)
+}
+
+// The bytes of the member of the record at `at` where it takes no bit; 0 where it may take one, and of a struct.
+fn whole_bytes(b: &[u8], at: usize) -> usize
+    requires { ⌜ at + 1 < length (now b) ⌝ }
+    ensures { λ r. ⌜ (r < 256) × (0 < r → WholeBytes (P.parse (now (b .entry))) (P.memberAt (now (b .entry)) at) r) ⌝ }
+{
+    let k = schema::kind_at(b, at);
+    if k == 0 {
+        return 0;
+    }
+    if k < 9 {
+        if schema::optional_at(b, at) {
+            return 0;
+        }
+        return number_width(k);
+    }
+    if k < 11 {
+        return number_width(k);
+    }
+    if k == 11 {
+        return 1;
+    }
+    if k < 13 {
+        return 0;
+    }
+    if k < 17 { 6 } else { 8 }
+}
+
+// The cursor behind member j of table t.
+fn behind(b: &[u8], dir: &[u16], t: usize, j: usize, c: Cursor) -> Cursor
+    requires { ⌜ (Accepted (now b) (now dir)) × (t < P.tableCount (now b)) × (j < length (Sc.tableOf (P.parse (now b)) t .members)) × (j < 256) × Laid (4097 * j) c ⌝ }
+    ensures { λ r. ⌜ (r ≡ L.afterMember B.u48 (P.parse (now (b .entry))) (Sc.memberOf (P.parse (now (b .entry))) t j) c) × Laid (4097 * (j + 1)) r ⌝ }
+{
+    let w = whole_bytes(b, record_of(b, dir, t, j));
+    if 0 < w {
+        let end = c.end + w;
+        return Cursor {
+            end: end,
+            byte: c.byte,
+            bit: c.bit,
+        };
+    }
+    let r = schema::member(b, dir, t, j);
+    let q = layout::place_member(b, dir, r, c);
+    let next = q.next;
+    next
+}
+
 // A table's full fixed part.
 pub fn fixed_size(b: &[u8], dir: &[u16], t: usize) -> usize
     requires { ⌜ (Accepted (now b) (now dir)) × (t < P.tableCount (now b)) ⌝ }
@@ -482,9 +579,7 @@ pub fn fixed_size(b: &[u8], dir: &[u16], t: usize) -> usize
     let mut c = layout::begin();
     let mut j: usize = 0;
     while j < count {
-        let r = schema::member(b, dir, t, j);
-        let q = layout::place_member(b, dir, r, c);
-        c = q.next;
+        c = behind(b, dir, t, j, c);
         j += 1;
     }
     c.end
@@ -625,6 +720,30 @@ fn refer_blob(s: &[u8], d: usize, more: usize, inplace: bool, may: bool, pos: us
 }
 
 // ---- members that lead to no object but a text or bytes
+// A text or bytes that is there. It says what `refer_blob` says, and calls nothing but the cursor, for speed.
+fn blob_there(s: &[u8], d: usize, more: usize, inplace: bool, pos: usize) -> Surveyed
+    requires { ⌜ (length (now s) ≤ 16777215) × (pos ≤ 8 * length (now s)) × (more ≤ 1) ⌝ }
+    ensures { λ r. ⌜ SurveyedAt (now (s .entry)) (blobReferred d B.u48 inplace false more (drop pos (bits (now (s .entry))))) (r .whole) (r .extent) (r .next) ⌝ }
+{
+    if d == 0 {
+        return unlawful(pos);
+    }
+    let x = bitio::take_number(s, pos, 32);
+    if !x.whole {
+        return unlawful(pos);
+    }
+    let n = x.value as usize;
+    let y = bitio::skip_bytes(s, x.next, n);
+    let whole = y.whole;
+    let next = y.next;
+    let e = opened(n, n + more);
+    Surveyed {
+        whole: whole,
+        extent: referred(inplace, false, e),
+        next: next,
+    }
+}
+
 // The text or bytes of the record at `at`, with its mark.
 fn blob_part(b: &[u8], s: &[u8], d: usize, at: usize, pos: usize) -> Surveyed
     requires { ⌜ (at + 1 < length (now b)) × (13 ≤ P.kindAt (now b) at) × (P.kindAt (now b) at < 15) × (length (now s) ≤ 16777215) × (pos ≤ 8 * length (now s)) ⌝ }
@@ -645,7 +764,7 @@ fn blob_part(b: &[u8], s: &[u8], d: usize, at: usize, pos: usize) -> Surveyed
     }
     if mark == 1 {
         let more = 14 - schema::kind_at(b, at);
-        return refer_blob(s, d, more, schema::inplace_at(b, at), false, next);
+        return blob_there(s, d, more, schema::inplace_at(b, at), next);
     }
     unlawful(pos)
 }
@@ -673,14 +792,6 @@ fn leaf(b: &[u8], dir: &[u16], s: &[u8], d: usize, at: usize, a: Extent, pos: us
         extent: joined(a, x.extent),
         next: next,
     }
-}
-
-// Where the record of member j of table t stands.
-fn record_of(b: &[u8], dir: &[u16], t: usize, j: usize) -> usize
-    requires { ⌜ (Accepted (now b) (now dir)) × (t < P.tableCount (now b)) × (j < length (Sc.tableOf (P.parse (now b)) t .members)) × (j < 256) ⌝ }
-    ensures { λ r. ⌜ (r + 1 < length (now (b .entry))) × (P.memberAt (now (b .entry)) r ≡ Sc.memberOf (P.parse (now (b .entry))) t j) × MemberSound (P.parse (now (b .entry))) (P.memberAt (now (b .entry)) r) ⌝ }
-{
-    schema::record_place(4, schema::table_place(b, dir, t), j)
 }
 
 // Members gone over up to `index`: whether they are lawful; if so, what is there, and where the sheet goes on, in bits.
@@ -866,6 +977,23 @@ fn part(
     unlawful(pos)
 }
 
+// A member with its mark. It is apart for speed: a table's slices are stored for the call only where there is such a member.
+fn member_part(
+    b: &[u8],
+    dir: &[u16],
+    s: &[u8],
+    d: usize,
+    k: Kind,
+    optional: bool,
+    inplace: bool,
+    pos: usize,
+) -> Surveyed
+    requires { ⌜ (Accepted (now b) (now dir)) × (KindSound (P.parse (now b)) k) × (length (now s) ≤ 16777215) × (pos ≤ 8 * length (now s)) ⌝ }
+    ensures { λ r. ⌜ SurveyedAt (now (s .entry)) (Sv.surveyPart (Sv.survey d B.u48 (P.parse (now (b .entry)))) B.u48 (P.parse (now (b .entry))) k optional inplace (drop pos (bits (now (s .entry))))) (r .whole) (r .extent) (r .next) ⌝ }
+{
+    part(b, dir, s, d, k, optional, inplace, pos)
+}
+
 // A table's content; `size` is that of its full fixed part.
 fn table(b: &[u8], dir: &[u16], s: &[u8], d: usize, t: usize, size: usize, at: usize) -> Surveyed
     requires { ⌜ (Accepted (now b) (now dir)) × (t < P.tableCount (now b)) × (length (now s) ≤ 16777215) × (at ≤ 8 * length (now s)) × (size ≡ L.fixedSize B.u48 (P.parse (now b)) (Sc.tableOf (P.parse (now b)) t .members)) × (size < 2 ^ 40) ⌝ }
@@ -892,7 +1020,7 @@ fn table(b: &[u8], dir: &[u16], s: &[u8], d: usize, t: usize, size: usize, at: u
         }
         let r = schema::member(b, dir, t, i);
         let k = r.kind;
-        let x = part(b, dir, s, d, k, r.optional, r.inplace, g.next);
+        let x = member_part(b, dir, s, d, k, r.optional, r.inplace, g.next);
         if !x.whole {
             return unlawful(at);
         }

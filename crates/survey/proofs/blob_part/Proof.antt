@@ -9,7 +9,6 @@ use Rattle.bitio.proofs.take_number.Reads as take-number-reads
 use Rattle.schema.proofs.inplace_at.Reads as inplace-at-reads
 use Rattle.schema.proofs.kind_at.Reads as kind-at-reads
 use Rattle.survey.proofs.plain.Reads as plain-reads
-use Rattle.survey.proofs.refer_blob.Reads as refer-blob-reads
 use Rattle.survey.proofs.unlawful.Reads as unlawful-reads
 
 -- src/lib.rt:608:9
@@ -45,8 +44,8 @@ inplace-at-requires : tie.Need-inplace-at-requires
 inplace-at-requires c κs = search needs
 
 -- src/lib.rt:623:9
-refer-blob-requires : tie.Need-refer-blob-requires
-refer-blob-requires c κs = search needs
+blob-there-requires : tie.Need-blob-there-requires
+blob-there-requires c κs = search needs
 
 -- src/lib.rt:623:9
 returns-3 : tie.Need-returns-3
@@ -72,7 +71,7 @@ blob-part-spec =
     kind-at-requires
     sub-more
     inplace-at-requires
-    refer-blob-requires
+    blob-there-requires
     returns-3
     unlawful-requires-2
     returns-4)

@@ -8,14 +8,14 @@ use Rattle.coding.specs.Schema as Sc
 use Rattle.coding.specs.Layout as L
 use Rattle.layout.specs.Bounds.{Laid}
 use borrow.Author.Needs.{needs}
-use Rattle.survey.proofs.ExtentCases.{member-sound-of, fixed-start, fixed-done, fixed-turn, laid-next}
+use Rattle.survey.proofs.ExtentCases.{fixed-start, fixed-done, fixed-turn}
+use Rattle.survey.proofs.ObjectCases.{member-counted}
 use Rattle.survey.proofs.fixed_size.Statement.{statement}
 use Rattle.survey.proofs.fixed_size.Tie as tie
 use Rattle.survey.proofs.fixed_size.Reads as reads
 use Rattle.survey.proofs.fixed_size.Lts as lts
 use Rattle.layout.proofs.begin.Reads as begin-reads
-use Rattle.layout.proofs.place_member.Reads as place-member-reads
-use Rattle.schema.proofs.member.Reads as member-reads
+use Rattle.survey.proofs.behind.Reads as behind-reads
 use Rattle.schema.proofs.member_count.Reads as member-count-reads
 
 abbrev Inv-loop : tie.InvT-loop
@@ -38,13 +38,8 @@ begin-requires c κs = search needs
 loop-holds : tie.Need-loop-holds Inv-loop μ-loop
 loop-holds c = (search needs, search needs, search fixed-start)
 
--- src/lib.rt:397:13
-member-requires : tie.Need-member-requires Inv-loop μ-loop
-member-requires c κs = search needs
-
--- src/lib.rt:398:13
-place-member-requires : tie.Need-place-member-requires Inv-loop μ-loop
-place-member-requires c κs = search (member-sound-of, needs)
+behind-requires : tie.Need-behind-requires Inv-loop μ-loop
+behind-requires c κs = (search needs, search needs, search member-counted, search needs, search needs)
 
 -- src/lib.rt:400:9
 add-j : tie.Need-add-j Inv-loop μ-loop
@@ -56,7 +51,7 @@ loop-less c = search needs
 
 -- src/lib.rt:396:5
 loop-again : tie.Need-loop-again Inv-loop μ-loop
-loop-again c = (search needs, search laid-next, search fixed-turn)
+loop-again c = (search needs, search needs, search fixed-turn)
 
 -- src/lib.rt:389:1
 returns : tie.Need-returns Inv-loop μ-loop
@@ -71,8 +66,7 @@ fixed-size-spec =
     member-count-requires
     begin-requires
     loop-holds
-    member-requires
-    place-member-requires
+    behind-requires
     add-j
     loop-less
     loop-again

@@ -1,5 +1,5 @@
 use borrow.Author.Needs.{needs}
-use Rattle.survey.proofs.LeafCases.{body-boolean, body-integer, body-float, body-enum, body-struct, integer-fits, float-fits, struct-fits}
+use Rattle.survey.proofs.LeafCases.{body-boolean, body-integer, body-float, body-enum, body-struct, integer-fits, float-fits, struct-fits, number-kind}
 use Rattle.survey.proofs.flat_body.Statement.{statement}
 use Rattle.survey.proofs.flat_body.Tie as tie
 
@@ -12,11 +12,8 @@ any-number-requires c κs = search needs
 returns : tie.Need-returns
 returns c = search body-boolean
 
-width-of-requires : tie.Need-width-of-requires
-width-of-requires c κs = search needs
-
-index-requires : tie.Need-index-requires
-index-requires c κs = search needs
+number-width-requires : tie.Need-number-width-requires
+number-width-requires c κs = search (number-kind, needs)
 
 mul-any-number : tie.Need-mul-any-number
 mul-any-number c = search needs
@@ -30,8 +27,8 @@ returns-2 c = search body-integer
 optional-at-requires : tie.Need-optional-at-requires
 optional-at-requires c κs = search needs
 
-width-of-requires-2 : tie.Need-width-of-requires-2
-width-of-requires-2 c κs = search needs
+width-of-requires : tie.Need-width-of-requires
+width-of-requires c κs = search needs
 
 float-number-requires : tie.Need-float-number-requires
 float-number-requires c κs = search (float-fits, needs)
@@ -48,11 +45,8 @@ enum-known-requires c κs = search needs
 returns-4 : tie.Need-returns-4
 returns-4 c = search body-enum
 
-index-requires-2 : tie.Need-index-requires-2
-index-requires-2 c κs = search needs
-
-struct-test-requires : tie.Need-struct-test-requires
-struct-test-requires c κs = search (struct-fits, needs)
+struct-at-requires : tie.Need-struct-at-requires
+struct-at-requires c κs = search (struct-fits, needs)
 
 returns-5 : tie.Need-returns-5
 returns-5 c = search body-struct
@@ -64,18 +58,16 @@ flat-body-spec =
     kind-at-requires
     any-number-requires
     returns
-    width-of-requires
-    index-requires
+    number-width-requires
     mul-any-number
     any-number-requires-2
     returns-2
     optional-at-requires
-    width-of-requires-2
+    width-of-requires
     float-number-requires
     returns-3
     argument-at-requires
     enum-known-requires
     returns-4
-    index-requires-2
-    struct-test-requires
+    struct-at-requires
     returns-5)

@@ -21,37 +21,40 @@ use Rattle.survey.proofs.ObjectCases.{list-counted, table-counted, elem
 use Rattle.survey.proofs.LeafCases.{members-few, table-cut, table-ended, table-stopped, table-turn}
 use Rattle.survey.proofs.body.Reads as body
 use Rattle.survey.proofs.body.Kinds as body-kinds
-use Rattle.survey.proofs.+body+choice+list+marked_row+object+part+refer+row+rows+table+table_found.Lts-body as body-lts
+use Rattle.survey.proofs.+body+choice+list+marked_row+member_part+object+part+refer+row+rows+table+table_found.Lts-body as body-lts
 use Rattle.survey.proofs.choice.Reads as choice
 use Rattle.survey.proofs.choice.Kinds as choice-kinds
-use Rattle.survey.proofs.+body+choice+list+marked_row+object+part+refer+row+rows+table+table_found.Lts-choice as choice-lts
+use Rattle.survey.proofs.+body+choice+list+marked_row+member_part+object+part+refer+row+rows+table+table_found.Lts-choice as choice-lts
 use Rattle.survey.proofs.list.Reads as list
 use Rattle.survey.proofs.list.Kinds as list-kinds
-use Rattle.survey.proofs.+body+choice+list+marked_row+object+part+refer+row+rows+table+table_found.Lts-list as list-lts
+use Rattle.survey.proofs.+body+choice+list+marked_row+member_part+object+part+refer+row+rows+table+table_found.Lts-list as list-lts
 use Rattle.survey.proofs.marked_row.Reads as marked-row
 use Rattle.survey.proofs.marked_row.Kinds as marked-row-kinds
-use Rattle.survey.proofs.+body+choice+list+marked_row+object+part+refer+row+rows+table+table_found.Lts-marked_row as marked-row-lts
+use Rattle.survey.proofs.+body+choice+list+marked_row+member_part+object+part+refer+row+rows+table+table_found.Lts-marked_row as marked-row-lts
+use Rattle.survey.proofs.member_part.Reads as member-part
+use Rattle.survey.proofs.member_part.Kinds as member-part-kinds
+use Rattle.survey.proofs.+body+choice+list+marked_row+member_part+object+part+refer+row+rows+table+table_found.Lts-member_part as member-part-lts
 use Rattle.survey.proofs.object.Reads as object
 use Rattle.survey.proofs.object.Kinds as object-kinds
-use Rattle.survey.proofs.+body+choice+list+marked_row+object+part+refer+row+rows+table+table_found.Lts-object as object-lts
+use Rattle.survey.proofs.+body+choice+list+marked_row+member_part+object+part+refer+row+rows+table+table_found.Lts-object as object-lts
 use Rattle.survey.proofs.part.Reads as part
 use Rattle.survey.proofs.part.Kinds as part-kinds
-use Rattle.survey.proofs.+body+choice+list+marked_row+object+part+refer+row+rows+table+table_found.Lts-part as part-lts
+use Rattle.survey.proofs.+body+choice+list+marked_row+member_part+object+part+refer+row+rows+table+table_found.Lts-part as part-lts
 use Rattle.survey.proofs.refer.Reads as refer
 use Rattle.survey.proofs.refer.Kinds as refer-kinds
-use Rattle.survey.proofs.+body+choice+list+marked_row+object+part+refer+row+rows+table+table_found.Lts-refer as refer-lts
+use Rattle.survey.proofs.+body+choice+list+marked_row+member_part+object+part+refer+row+rows+table+table_found.Lts-refer as refer-lts
 use Rattle.survey.proofs.row.Reads as row
 use Rattle.survey.proofs.row.Kinds as row-kinds
-use Rattle.survey.proofs.+body+choice+list+marked_row+object+part+refer+row+rows+table+table_found.Lts-row as row-lts
+use Rattle.survey.proofs.+body+choice+list+marked_row+member_part+object+part+refer+row+rows+table+table_found.Lts-row as row-lts
 use Rattle.survey.proofs.rows.Reads as rows
 use Rattle.survey.proofs.rows.Kinds as rows-kinds
-use Rattle.survey.proofs.+body+choice+list+marked_row+object+part+refer+row+rows+table+table_found.Lts-rows as rows-lts
+use Rattle.survey.proofs.+body+choice+list+marked_row+member_part+object+part+refer+row+rows+table+table_found.Lts-rows as rows-lts
 use Rattle.survey.proofs.table.Reads as table
 use Rattle.survey.proofs.table.Kinds as table-kinds
-use Rattle.survey.proofs.+body+choice+list+marked_row+object+part+refer+row+rows+table+table_found.Lts-table as table-lts
+use Rattle.survey.proofs.+body+choice+list+marked_row+member_part+object+part+refer+row+rows+table+table_found.Lts-table as table-lts
 use Rattle.survey.proofs.table_found.Reads as table-found
 use Rattle.survey.proofs.table_found.Kinds as table-found-kinds
-use Rattle.survey.proofs.+body+choice+list+marked_row+object+part+refer+row+rows+table+table_found.Lts-table_found as table-found-lts
+use Rattle.survey.proofs.+body+choice+list+marked_row+member_part+object+part+refer+row+rows+table+table_found.Lts-table_found as table-found-lts
 use Rattle.bitio.proofs.take_number.Reads as take-number-reads
 use Rattle.schema.proofs.case_count.Reads as case-count-reads
 use Rattle.schema.proofs.element.Reads as element-reads
@@ -78,8 +81,8 @@ use Rattle.survey.proofs.refer_blob.Reads as refer-blob-reads
 use Rattle.survey.proofs.referred.Reads as referred-reads
 use Rattle.survey.proofs.table_in.Reads as table-in-reads
 use Rattle.survey.proofs.unlawful.Reads as unlawful-reads
-use Rattle.survey.proofs.+body+choice+list+marked_row+object+part+refer+row+rows+table+table_found.{statement}
-use Rattle.survey.proofs.+body+choice+list+marked_row+object+part+refer+row+rows+table+table_found.Tie.{close}
+use Rattle.survey.proofs.+body+choice+list+marked_row+member_part+object+part+refer+row+rows+table+table_found.{statement}
+use Rattle.survey.proofs.+body+choice+list+marked_row+member_part+object+part+refer+row+rows+table+table_found.Tie.{close}
 
 abbrev μ-body : Measures 3 body-kinds.ps ℕ
 μ-body κs a = 8 * a .1 .1 .1 .0 + 3
@@ -95,6 +98,9 @@ abbrev μ-marked-row : Measures 3 marked-row-kinds.ps ℕ
 
 abbrev μ-object : Measures 3 object-kinds.ps ℕ
 μ-object κs a = 8 * a .1 .1 .1 .0 + 0
+
+abbrev μ-member-part : Measures 3 member-part-kinds.ps ℕ
+μ-member-part κs a = 8 * a .1 .1 .1 .0 + 5
 
 abbrev μ-part : Measures 3 part-kinds.ps ℕ
 μ-part κs a = 8 * a .1 .1 .1 .0 + 4
@@ -162,6 +168,12 @@ object-at t = and 3 object-kinds.ps (is 3 object-kinds.ps μ-object t) object.Pr
 abbrev object-below : ℕ → In 3 object-kinds.ps
 object-below t = and 3 object-kinds.ps (falls 3 object-kinds.ps _<_ μ-object t) object.Pre
 
+abbrev member-part-at : ℕ → In 3 member-part-kinds.ps
+member-part-at t = and 3 member-part-kinds.ps (is 3 member-part-kinds.ps μ-member-part t) member-part.Pre
+
+abbrev member-part-below : ℕ → In 3 member-part-kinds.ps
+member-part-below t = and 3 member-part-kinds.ps (falls 3 member-part-kinds.ps _<_ μ-member-part t) member-part.Pre
+
 abbrev part-at : ℕ → In 3 part-kinds.ps
 part-at t = and 3 part-kinds.ps (is 3 part-kinds.ps μ-part t) part.Pre
 
@@ -204,6 +216,9 @@ list-R t = (take-number-reads.Asked, take-number-reads.Learnt, unlawful-reads.As
 abbrev object-R : ℕ → object-lts.Claims
 object-R t = (unlawful-reads.Asked, unlawful-reads.Learnt, blob-reads.Asked, blob-reads.Learnt, index-reads.Asked, index-reads.Learnt, list-below t, list.Post, table-found-below t, table-found.Post)
 
+abbrev member-part-R : ℕ → member-part-lts.Claims
+member-part-R t = (part-below t, part.Post)
+
 abbrev part-R : ℕ → part-lts.Claims
 part-R t = (take-number-reads.Asked, take-number-reads.Learnt, unlawful-reads.Asked, unlawful-reads.Learnt, may-lack-reads.Asked, may-lack-reads.Learnt, plain-reads.Asked, plain-reads.Learnt, body-below t, body.Post, lost-reads.Asked, lost-reads.Learnt)
 
@@ -211,7 +226,7 @@ abbrev refer-R : ℕ → refer-lts.Claims
 refer-R t = (blob-end-reads.Asked, blob-end-reads.Learnt, refer-blob-reads.Asked, refer-blob-reads.Learnt, object-below t, object.Post, referred-reads.Asked, referred-reads.Learnt)
 
 abbrev table-R : ℕ → table-lts.Claims
-table-R t = (member-count-reads.Asked, member-count-reads.Learnt, opened-reads.Asked, opened-reads.Learnt, leaves-reads.Asked, leaves-reads.Learnt, unlawful-reads.Asked, unlawful-reads.Learnt, member-reads.Asked, member-reads.Learnt, part-below t, part.Post, joined-reads.Asked, joined-reads.Learnt)
+table-R t = (member-count-reads.Asked, member-count-reads.Learnt, opened-reads.Asked, opened-reads.Learnt, leaves-reads.Asked, leaves-reads.Learnt, unlawful-reads.Asked, unlawful-reads.Learnt, member-reads.Asked, member-reads.Learnt, member-part-below t, member-part.Post, joined-reads.Asked, joined-reads.Learnt)
 
 -- src/lib.rt:514:22
 body-enum-known-k : (t : ℕ) → body-lts.Need-enum-known-k (body-R t) (body-at t) body.Post
@@ -566,14 +581,14 @@ table-returns-2 t c = search table-ended
 table-member-requires : (t : ℕ) → table-lts.Need-member-requires (table-R t) (table-at t) table.Post table-Inv-loop table-μ-loop
 table-member-requires t c κs = (c .before .before .before .before .before .before .before .before .before .before .before .before .pre .1 .0 .directory, c .before .before .before .before .before .before .before .before .before .before .before .before .pre .1 .1, search member-counted, search needs)
 
-table-part-requires : (t : ℕ) → table-lts.Need-part-requires (table-R t) (table-at t) table.Post table-Inv-loop table-μ-loop
-table-part-requires t c κs = (omega (arith, c .before .before .before .before .before .before .before .before .before .before .before .before .before .pre .0), (c .before .before .before .before .before .before .before .before .before .before .before .before .before .pre .1 .0, member-kind _ _ (c .before .before .before .before .before .before .before .before .before .before .before .before .before .pre .1 .0) _ _ _ (c .member .ensures) _ (c .before .before .before .before .before .before .before .loop .inv .1) (c .before .if2 .left), c .before .before .before .before .before .before .before .before .before .before .before .before .before .pre .1 .2, c .before .before .before .before .before .leaves .ensures .inside))
+table-member-part-requires : (t : ℕ) → table-lts.Need-member-part-requires (table-R t) (table-at t) table.Post table-Inv-loop table-μ-loop
+table-member-part-requires t c κs = (omega (arith, c .before .before .before .before .before .before .before .before .before .before .before .before .before .pre .0), (c .before .before .before .before .before .before .before .before .before .before .before .before .before .pre .1 .0, member-kind _ _ (c .before .before .before .before .before .before .before .before .before .before .before .before .before .pre .1 .0) _ _ _ (c .member .ensures) _ (c .before .before .before .before .before .before .before .loop .inv .1) (c .before .if2 .left), c .before .before .before .before .before .before .before .before .before .before .before .before .before .pre .1 .2, c .before .before .before .before .before .leaves .ensures .inside))
 
 table-unlawful-requires-2 : (t : ℕ) → table-lts.Need-unlawful-requires-2 (table-R t) (table-at t) table.Post table-Inv-loop table-μ-loop
 table-unlawful-requires-2 t c κs = search needs
 
 table-returns-3 : (t : ℕ) → table-lts.Need-returns-3 (table-R t) (table-at t) table.Post table-Inv-loop table-μ-loop
-table-returns-3 t c = table-stopped _ _ _ _ _ (c .before .before .before .before .before .before .before .before .before .before .before .loop .a) (c .before .before .before .before .before .before .before .before .before .before .before .loop .pos) (c .before .before .before .before .before .before .before .before .before .before .before .loop .j) (c .before .before .before .before .before .before .before .before .before .before .before .loop .inv .6) (c .before .before .before .before .before .before .before .before .before .leaves .result .whole) (c .before .before .before .before .before .before .before .before .before .leaves .result .index) (c .before .before .before .before .before .before .before .before .before .leaves .result .extent) (c .before .before .before .before .before .before .before .before .before .leaves .result .next) (c .before .before .before .before .before .before .before .before .before .leaves .ensures) (c .before .before .before .before .before .before .before .if1 .left) _ (c .before .before .before .before .before .before .before .before .before .before .before .loop .inv .1) (c .before .before .before .before .before .if2 .left) _ (c .before .before .before .before .member .ensures) (c .before .before .before .part .result .whole) (c .before .before .before .part .result .extent) (c .before .before .before .part .result .next) (c .before .before .before .part .ensures) (c .before .before .before .before .before .before .before .before .before .before .before .loop .inv .3) (c .before .if3 .taken) _ _ _ (c .unlawful2 .ensures .0) (c .unlawful2 .ensures .1) (c .unlawful2 .ensures .2)
+table-returns-3 t c = table-stopped _ _ _ _ _ (c .before .before .before .before .before .before .before .before .before .before .before .loop .a) (c .before .before .before .before .before .before .before .before .before .before .before .loop .pos) (c .before .before .before .before .before .before .before .before .before .before .before .loop .j) (c .before .before .before .before .before .before .before .before .before .before .before .loop .inv .6) (c .before .before .before .before .before .before .before .before .before .leaves .result .whole) (c .before .before .before .before .before .before .before .before .before .leaves .result .index) (c .before .before .before .before .before .before .before .before .before .leaves .result .extent) (c .before .before .before .before .before .before .before .before .before .leaves .result .next) (c .before .before .before .before .before .before .before .before .before .leaves .ensures) (c .before .before .before .before .before .before .before .if1 .left) _ (c .before .before .before .before .before .before .before .before .before .before .before .loop .inv .1) (c .before .before .before .before .before .if2 .left) _ (c .before .before .before .before .member .ensures) (c .before .before .before .member-part .result .whole) (c .before .before .before .member-part .result .extent) (c .before .before .before .member-part .result .next) (c .before .before .before .member-part .ensures) (c .before .before .before .before .before .before .before .before .before .before .before .loop .inv .3) (c .before .if3 .taken) _ _ _ (c .unlawful2 .ensures .0) (c .unlawful2 .ensures .1) (c .unlawful2 .ensures .2)
 
 table-joined-requires : (t : ℕ) → table-lts.Need-joined-requires (table-R t) (table-at t) table.Post table-Inv-loop table-μ-loop
 table-joined-requires t c κs = search needs
@@ -585,10 +600,16 @@ table-loop-less : (t : ℕ) → table-lts.Need-loop-less (table-R t) (table-at t
 table-loop-less t c = omega (arith, c .before .before .before .before .before .if2 .left, c .before .before .before .before .before .before .before .before .before .before .loop-test .taken, c .before .before .before .before .before .before .before .before .before .leaves .ensures .on)
 
 table-loop-again : (t : ℕ) → table-lts.Need-loop-again (table-R t) (table-at t) table.Post table-Inv-loop table-μ-loop
-table-loop-again t c = (search needs, c .before .before .before .before .before .before .before .before .before .before .before .loop .inv .1, c .before .before .before .before .before .before .before .before .before .before .before .loop .inv .2, c .before .before .before .before .before .before .before .before .before .before .before .loop .inv .3, search needs, search needs, table-turn _ _ _ _ (c .before .before .before .before .before .before .before .before .before .before .before .before .before .before .before .before .before .args .at) (c .before .before .before .before .before .before .before .before .before .before .before .loop .a) (c .before .before .before .before .before .before .before .before .before .before .before .loop .pos) (c .before .before .before .before .before .before .before .before .before .before .before .loop .j) (c .before .before .before .before .before .before .before .before .before .before .before .loop .inv .6) (c .before .before .before .before .before .before .before .before .before .leaves .result .whole) (c .before .before .before .before .before .before .before .before .before .leaves .result .index) (c .before .before .before .before .before .before .before .before .before .leaves .result .extent) (c .before .before .before .before .before .before .before .before .before .leaves .result .next) (c .before .before .before .before .before .before .before .before .before .leaves .ensures) (c .before .before .before .before .before .before .before .if1 .left) _ (c .before .before .before .before .before .before .before .before .before .before .before .loop .inv .1) (c .before .before .before .before .before .if2 .left) _ (c .before .before .before .before .member .ensures) (c .before .before .before .part .result .whole) (c .before .before .before .part .result .extent) (c .before .before .before .part .result .next) (c .before .before .before .part .ensures) (c .before .if3 .left) _ (c .joined .ensures))
+table-loop-again t c = (search needs, c .before .before .before .before .before .before .before .before .before .before .before .loop .inv .1, c .before .before .before .before .before .before .before .before .before .before .before .loop .inv .2, c .before .before .before .before .before .before .before .before .before .before .before .loop .inv .3, search needs, search needs, table-turn _ _ _ _ (c .before .before .before .before .before .before .before .before .before .before .before .before .before .before .before .before .before .args .at) (c .before .before .before .before .before .before .before .before .before .before .before .loop .a) (c .before .before .before .before .before .before .before .before .before .before .before .loop .pos) (c .before .before .before .before .before .before .before .before .before .before .before .loop .j) (c .before .before .before .before .before .before .before .before .before .before .before .loop .inv .6) (c .before .before .before .before .before .before .before .before .before .leaves .result .whole) (c .before .before .before .before .before .before .before .before .before .leaves .result .index) (c .before .before .before .before .before .before .before .before .before .leaves .result .extent) (c .before .before .before .before .before .before .before .before .before .leaves .result .next) (c .before .before .before .before .before .before .before .before .before .leaves .ensures) (c .before .before .before .before .before .before .before .if1 .left) _ (c .before .before .before .before .before .before .before .before .before .before .before .loop .inv .1) (c .before .before .before .before .before .if2 .left) _ (c .before .before .before .before .member .ensures) (c .before .before .before .member-part .result .whole) (c .before .before .before .member-part .result .extent) (c .before .before .before .member-part .result .next) (c .before .before .before .member-part .ensures) (c .before .if3 .left) _ (c .joined .ensures))
 
 table-returns-4 : (t : ℕ) → table-lts.Need-returns-4 (table-R t) (table-at t) table.Post table-Inv-loop table-μ-loop
 table-returns-4 t c = search members-done
+
+member-part-part-requires : (t : ℕ) → member-part-lts.Need-part-requires (member-part-R t) (member-part-at t) member-part.Post
+member-part-part-requires t c κs = search needs
+
+member-part-returns : (t : ℕ) → member-part-lts.Need-returns (member-part-R t) (member-part-at t) member-part.Post
+member-part-returns t c = search needs
 
 marked-row-take-number-requires : (t : ℕ) → marked-row-lts.Need-take-number-requires (marked-row-R t) (marked-row-at t) marked-row.Post
 marked-row-take-number-requires t c κs = search needs
@@ -687,9 +708,9 @@ table-found-table-requires t c κs = search needs
 table-found-returns : (t : ℕ) → table-found-lts.Need-returns (table-found-R t) (table-found-at t) table-found.Post
 table-found-returns t c = search needs
 
-pub +body+choice+list+marked-row+object+part+refer+row+rows+table+table-found-spec : {M : Type 1} → statement M
-+body+choice+list+marked-row+object+part+refer+row+rows+table+table-found-spec =
-    close μ-body μ-choice μ-list μ-marked-row μ-object μ-part μ-refer μ-row μ-rows μ-table μ-table-found (λ t. body-lts.spec (body-R t)
+pub +body+choice+list+marked-row+member-part+object+part+refer+row+rows+table+table-found-spec : {M : Type 1} → statement M
++body+choice+list+marked-row+member-part+object+part+refer+row+rows+table+table-found-spec =
+    close μ-body μ-choice μ-list μ-marked-row μ-member-part μ-object μ-part μ-refer μ-row μ-rows μ-table μ-table-found (λ t. body-lts.spec (body-R t)
     (body-at t)
     body.Post
     (body-enum-known-k t)
@@ -756,6 +777,11 @@ pub +body+choice+list+marked-row+object+part+refer+row+rows+table+table-found-sp
     (marked-row-returns-3 t)
     (marked-row-unlawful-requires-2 t)
     (marked-row-returns-4 t))
+    (λ t. member-part-lts.spec (member-part-R t)
+    (member-part-at t)
+    member-part.Post
+    (member-part-part-requires t)
+    (member-part-returns t))
     (λ t. object-lts.spec (object-R t)
     (object-at t)
     object.Post
@@ -839,7 +865,7 @@ pub +body+choice+list+marked-row+object+part+refer+row+rows+table+table-found-sp
     (table-returns t)
     (table-returns-2 t)
     (table-member-requires t)
-    (table-part-requires t)
+    (table-member-part-requires t)
     (table-unlawful-requires-2 t)
     (table-returns-3 t)
     (table-joined-requires t)
