@@ -11,3 +11,4 @@ pub mod Flats
 pub mod Values
 pub mod LeafCases
 pub mod References
+pub mod PlainNumbers

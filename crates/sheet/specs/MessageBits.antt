@@ -3,7 +3,7 @@ use Prim.Native.Nat.{ℕ, zero, suc, _+_, _*_, _/_, _%_}
 use mathlib.Core.Bool.{Bool, _&&_}
 use mathlib.Core.List.{List, [], _++_}
 use lib.ListN.{getD, take, drop}
-use lib.Dec.{ltb, eqb}
+use lib.Dec.{leb, ltb, eqb}
 use Rattle.coding.specs.Lists.{pick}
 use Rattle.coding.specs.Bytes.{u48, le, bitAt, isNaN}
 use Rattle.coding.specs.Schema.{Schema, casesOf}
@@ -104,6 +104,10 @@ choiceAt d S m u inplace tail c x = stepAt d S m (OfUnion u) (unionStep (casesOf
 -- a value, if it is there; a member that is cut has the bits of an absent one
 unfoldable pub placed : Bool → Step → Step
 placed here v = pick here v St.Absent
+
+-- a number of w bytes that is not optional, at byte `end` of a fixed part that has n bytes from `start`
+unfoldable pub plainAt : List ℕ → ℕ → ℕ → ℕ → ℕ → List ℕ
+plainAt m w start n end = pick (leb (end + w) n) (marked 1 (8 * w) (le m (start + end) w)) (bitsOf 2 0)
 
 -- a text or bytes with its mark
 unfoldable pub blobAt : List ℕ → ℕ → ℕ → List ℕ

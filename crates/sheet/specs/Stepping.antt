@@ -12,6 +12,9 @@ use Rattle.coding.specs.declared.Kind.{Kind}
 use Rattle.coding.specs.declared.Kind.the-variants.{OfFlat, OfObject, OfUnion}
 use Rattle.coding.specs.declared.Object.{Object}
 use Rattle.coding.specs.declared.Object.the-variants as O
+use Rattle.coding.specs.declared.Flat.{Flat}
+use Rattle.coding.specs.declared.Flat.the-variants as F
+use Rattle.coding.specs.declared.Member.{Member}
 use Rattle.coding.specs.declared.Cursor.{Cursor}
 use Rattle.laws.specs.Sound.{KindSound}
 use Rattle.layout.specs.Bounds.{Laid}
@@ -35,6 +38,20 @@ unfoldable pub isLeaf : Kind → Bool
 isLeaf (OfFlat f) = true
 isLeaf (OfObject ob) = isBlob ob
 isLeaf (OfUnion u) = false
+
+-- a member that is a number or a float of w bytes, and not optional
+unfoldable pub NumberOf : Flat → ℕ → Type 0
+NumberOf F.Boolean w = ⊥
+NumberOf (F.Integer s v) w = v ≡ w
+NumberOf (F.Float v) w = v ≡ w
+NumberOf (F.Enumerated n) w = ⊥
+NumberOf (F.Struct i) w = ⊥
+
+pub record PlainNumber (r : Member) (w : ℕ) : Type 0 where
+  pub flat : Flat
+  pub place : Bool
+  pub is : r ≡ record { kind = OfFlat flat; optional = false; inplace = place }
+  pub number : NumberOf flat w
 
 -- member j of table t, where the cursor stands: its kind, whether and where its value stands, and the cursor behind it
 pub record MemberAt (S : Schema) (m : List ℕ) (t j start n : ℕ) (c : Cursor) (k : Kind) (none inplace here : Bool) (at bit : ℕ) (next : Cursor) : Type 0 where

@@ -27,7 +27,7 @@ ghost use Rattle.schema.specs.Directory.{Accepted};
 ghost use Rattle.bitio.specs.Puts.{Room, Puts, saturated};
 ghost use Rattle.sheet.specs.MessageBits as Bt;
 ghost use Rattle.sheet.specs.Readable as D;
-ghost use Rattle.sheet.specs.Stepping.{MemberAt, isHere, isBlob, isLeaf};
+ghost use Rattle.sheet.specs.Stepping.{MemberAt, PlainNumber, isHere, isBlob, isLeaf};
 ghost use Rattle.sheet.specs.Answers as An;
 
 // ---- numbers
@@ -369,6 +369,17 @@ fn is_leaf(k: Kind) -> bool
     }
 }
 
+// A member's kind, whether and where its value stands, and the cursor behind it.
+pub struct PlacedMember {
+    pub kind: Kind,
+    pub none: bool,
+    pub inplace: bool,
+    pub here: bool,
+    pub at: usize,
+    pub bit: usize,
+    pub next: Cursor,
+}
+
 // What a member of such a kind holds, where its value is there: its mark, and what follows it.
 fn write_leaf(
     b: &[u8],
@@ -376,29 +387,25 @@ fn write_leaf(
     m: &[u8],
     out: &mut [u8],
     d: usize,
-    k: Kind,
-    here: bool,
-    none: bool,
-    inplace: bool,
+    q: PlacedMember,
     tail: usize,
-    at: usize,
-    bit: usize,
     pos: usize,
 ) -> usize
     requires { ⌜ Room (now out) pos ⌝ }
-    requires { ⌜ (Accepted (now b) (now dir)) × (length (now m) ≤ 16777215) × (KindSound (P.parse (now b)) k) × (isLeaf k ≡ true) ⌝ }
-    requires { ⌜ (here ≡ true → at + L.width B.u48 (P.parse (now b)) k ≤ length (now m)) × (bit < 8) × (at < 2 ^ 60) ⌝ }
-    requires { ⌜ D.StepReadable (D.ObjectReadable d (P.parse (now b)) (now m)) (P.parse (now b)) (now m) (Bt.placed here (T.valueStep B.u48 (P.parse (now b)) (now m) k none inplace tail at bit)) ⌝ }
-    ensures { λ r. ⌜ Puts (now (out .entry)) pos (Bt.stepAt d (P.parse (now (b .entry))) (now (m .entry)) k (Bt.placed here (T.valueStep B.u48 (P.parse (now (b .entry))) (now (m .entry)) k none inplace tail at bit))) (now (out .exit)) r ⌝ }
+    requires { ⌜ (Accepted (now b) (now dir)) × (length (now m) ≤ 16777215) × (KindSound (P.parse (now b)) (q .kind)) × (isLeaf (q .kind) ≡ true) ⌝ }
+    requires { ⌜ (q .here ≡ true → q .at + L.width B.u48 (P.parse (now b)) (q .kind) ≤ length (now m)) × (q .bit < 8) × (q .at < 2 ^ 60) ⌝ }
+    requires { ⌜ D.StepReadable (D.ObjectReadable d (P.parse (now b)) (now m)) (P.parse (now b)) (now m) (Bt.placed (q .here) (T.valueStep B.u48 (P.parse (now b)) (now m) (q .kind) (q .none) (q .inplace) tail (q .at) (q .bit))) ⌝ }
+    ensures { λ r. ⌜ Puts (now (out .entry)) pos (Bt.stepAt d (P.parse (now (b .entry))) (now (m .entry)) (q .kind) (Bt.placed (q .here) (T.valueStep B.u48 (P.parse (now (b .entry))) (now (m .entry)) (q .kind) (q .none) (q .inplace) tail (q .at) (q .bit)))) (now (out .exit)) r ⌝ }
 {
-    if !here {
+    if !q.here {
         return bitio::write(out, pos, 2, 0);
     }
+    let k = q.kind;
     match k {
-        Kind::OfFlat(f) => write_flat(b, dir, m, out, f, none, at, bit, pos),
+        Kind::OfFlat(f) => write_flat(b, dir, m, out, f, q.none, q.at, q.bit, pos),
         Kind::OfObject(ob) => {
-            let x = wire::u48_in(m, at) as usize;
-            refer_blob(b, m, out, d, ob, inplace, tail, x, pos)
+            let x = wire::u48_in(m, q.at) as usize;
+            refer_blob(b, m, out, d, ob, q.inplace, tail, x, pos)
         }
         Kind::OfUnion(_) => pos,
     }
@@ -413,17 +420,6 @@ fn is_here(r: step::Reach) -> bool
         step::Reach::Past => false,
         step::Reach::Here => true,
     }
-}
-
-// A member's kind, whether and where its value stands, and the cursor behind it.
-pub struct PlacedMember {
-    pub kind: Kind,
-    pub none: bool,
-    pub inplace: bool,
-    pub here: bool,
-    pub at: usize,
-    pub bit: usize,
-    pub next: Cursor,
 }
 
 // Member j of table t, where the cursor stands.
@@ -456,6 +452,64 @@ fn member_at(
         at,
         bit: slot.bit,
         next,
+    }
+}
+
+// ---- numbers that are not optional, by their records
+// The bytes of such a number or float; 0 for any other record.
+fn plain_width(b: &[u8], at: usize) -> usize
+    requires { ⌜ at + 1 < length (now b) ⌝ }
+    ensures { λ r. ⌜ (0 < r → PlainNumber (P.memberAt (now (b .entry)) at) r) × (r ≤ 8) ⌝ }
+{
+    let k = schema::kind_at(b, at);
+    if k == 0 {
+        return 0;
+    }
+    if 10 < k {
+        return 0;
+    }
+    if schema::optional_at(b, at) {
+        return 0;
+    }
+    plain_bytes(k)
+}
+
+fn plain_bytes(k: usize) -> usize
+    requires { ⌜ k < 11 ⌝ }
+    ensures { λ r. ⌜ (r ≡ P.widthOf k) × (r ≤ 8) ⌝ }
+{
+    wire::index(schema::width_of(k))
+}
+
+// Its mark and value, at byte `end` of a fixed part that has n bytes from `start`.
+fn write_plain(
+    m: &[u8],
+    out: &mut [u8],
+    w: usize,
+    start: usize,
+    n: usize,
+    end: usize,
+    pos: usize,
+) -> usize
+    requires { ⌜ Room (now out) pos ⌝ }
+    requires { ⌜ (w ≤ 8) × (start < 2 ^ 58) × (end < 2 ^ 58) ⌝ }
+    ensures { λ r. ⌜ Puts (now (out .entry)) pos (Bt.plainAt (now (m .entry)) w start n end) (now (out .exit)) r ⌝ }
+{
+    if n < end + w {
+        return bitio::write(out, pos, 2, 0);
+    }
+    write_marked(out, pos, 1, 8 * w, wire::number(m, start + end, w))
+}
+
+// The cursor behind it.
+fn behind_plain(c: Cursor, w: usize) -> Cursor
+    requires { ⌜ (c .end < 2 ^ 58) × (w ≤ 8) ⌝ }
+    ensures { λ r. ⌜ r ≡ L.afterBytes w c ⌝ }
+{
+    Cursor {
+        end: c.end + w,
+        byte: c.byte,
+        bit: c.bit,
     }
 }
 
@@ -516,41 +570,50 @@ fn write_union(
     write_object(b, dir, m, out, d, ob, place, p)
 }
 
-// What a member or an element of kind k holds, where its value is there: its mark, and what follows it.
+// What a member or an element holds, where its value is there: its mark, and what follows it.
 fn write_value(
     b: &[u8],
     dir: &[u16],
     m: &[u8],
     out: &mut [u8],
     d: usize,
-    k: Kind,
-    here: bool,
-    none: bool,
-    inplace: bool,
+    q: PlacedMember,
     tail: usize,
-    at: usize,
-    bit: usize,
     pos: usize,
 ) -> usize
     requires { ⌜ Room (now out) pos ⌝ }
-    requires { ⌜ (Accepted (now b) (now dir)) × (length (now m) ≤ 16777215) × (KindSound (P.parse (now b)) k) ⌝ }
-    requires { ⌜ (here ≡ true → at + L.width B.u48 (P.parse (now b)) k ≤ length (now m)) × (bit < 8) × (at < 2 ^ 60) ⌝ }
-    requires { ⌜ D.StepReadable (D.ObjectReadable d (P.parse (now b)) (now m)) (P.parse (now b)) (now m) (Bt.placed here (T.valueStep B.u48 (P.parse (now b)) (now m) k none inplace tail at bit)) ⌝ }
-    ensures { λ r. ⌜ Puts (now (out .entry)) pos (Bt.stepAt d (P.parse (now (b .entry))) (now (m .entry)) k (Bt.placed here (T.valueStep B.u48 (P.parse (now (b .entry))) (now (m .entry)) k none inplace tail at bit))) (now (out .exit)) r ⌝ }
+    requires { ⌜ (Accepted (now b) (now dir)) × (length (now m) ≤ 16777215) × (KindSound (P.parse (now b)) (q .kind)) ⌝ }
+    requires { ⌜ (q .here ≡ true → q .at + L.width B.u48 (P.parse (now b)) (q .kind) ≤ length (now m)) × (q .bit < 8) × (q .at < 2 ^ 60) ⌝ }
+    requires { ⌜ D.StepReadable (D.ObjectReadable d (P.parse (now b)) (now m)) (P.parse (now b)) (now m) (Bt.placed (q .here) (T.valueStep B.u48 (P.parse (now b)) (now m) (q .kind) (q .none) (q .inplace) tail (q .at) (q .bit))) ⌝ }
+    ensures { λ r. ⌜ Puts (now (out .entry)) pos (Bt.stepAt d (P.parse (now (b .entry))) (now (m .entry)) (q .kind) (Bt.placed (q .here) (T.valueStep B.u48 (P.parse (now (b .entry))) (now (m .entry)) (q .kind) (q .none) (q .inplace) tail (q .at) (q .bit)))) (now (out .exit)) r ⌝ }
 {
-    if !here {
+    if !q.here {
         return bitio::write(out, pos, 2, 0);
     }
+    let at = q.at;
+    let k = q.kind;
     match k {
-        Kind::OfFlat(f) => write_flat(b, dir, m, out, f, none, at, bit, pos),
+        Kind::OfFlat(f) => write_flat(b, dir, m, out, f, q.none, at, q.bit, pos),
         Kind::OfObject(ob) => {
             let x = wire::u48_in(m, at) as usize;
-            write_reference(b, dir, m, out, d, ob, inplace, tail, x, pos)
+            write_reference(b, dir, m, out, d, ob, q.inplace, tail, x, pos)
         }
         Kind::OfUnion(u) => {
             let c = wire::u16_in(m, at) as usize;
             let x = wire::u48_in(m, at + 2) as usize;
-            write_union(b, dir, m, out, d, wire::index(u), inplace, tail, c, x, pos)
+            write_union(
+                b,
+                dir,
+                m,
+                out,
+                d,
+                wire::index(u),
+                q.inplace,
+                tail,
+                c,
+                x,
+                pos,
+            )
         }
     }
 }
@@ -622,6 +685,7 @@ fn write_table(
     ensures { λ r. ⌜ Puts (now (out .entry)) pos (Bt.membersAt d (P.parse (now (b .entry))) (now (m .entry)) start n L.begin (Sc.tableOf (P.parse (now (b .entry))) t .members)) (now (out .exit)) r ⌝ }
 {
     let count = schema::member_count(b, dir, t);
+    let first = schema::table_place(b, dir, t);
     let mut c = layout::begin();
     let mut p = pos;
     let mut j: usize = 0;
@@ -629,43 +693,22 @@ fn write_table(
         if 134217720 < p {
             return p;
         }
+        let w = plain_width(b, schema::record_place(4, first, j));
+        if 0 < w {
+            p = write_plain(m, out, w, start, n, c.end, p);
+            c = behind_plain(c, w);
+            j += 1;
+            continue;
+        }
         let q = member_at(b, dir, m, t, j, start, n, c);
         let k = q.kind;
         c = q.next;
         if is_leaf(k) {
-            p = write_leaf(
-                b,
-                dir,
-                m,
-                out,
-                d,
-                k,
-                q.here,
-                q.none,
-                q.inplace,
-                start + n,
-                q.at,
-                q.bit,
-                p,
-            );
+            p = write_leaf(b, dir, m, out, d, q, start + n, p);
             j += 1;
             continue;
         }
-        p = write_value(
-            b,
-            dir,
-            m,
-            out,
-            d,
-            k,
-            q.here,
-            q.none,
-            q.inplace,
-            start + n,
-            q.at,
-            q.bit,
-            p,
-        );
+        p = write_value(b, dir, m, out, d, q, start + n, p);
         j += 1;
     }
     p
@@ -761,22 +804,16 @@ fn write_elements(
         if 134217720 < p {
             return p;
         }
-        let at = step::element_place(b, dir, k, start, j);
-        p = write_value(
-            b,
-            dir,
-            m,
-            out,
-            d,
-            k,
-            true,
-            true,
-            false,
-            0,
-            at,
-            wire::low_three(j),
-            p,
-        );
+        let q = PlacedMember {
+            kind: k,
+            none: true,
+            inplace: false,
+            here: true,
+            at: step::element_place(b, dir, k, start, j),
+            bit: wire::low_three(j),
+            next: layout::begin(),
+        };
+        p = write_value(b, dir, m, out, d, q, 0, p);
         j += 1;
     }
     p

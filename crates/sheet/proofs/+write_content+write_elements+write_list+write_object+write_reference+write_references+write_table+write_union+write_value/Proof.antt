@@ -16,9 +16,11 @@ use Rattle.sheet.proofs.Objects.{object-none, header-there, content-rea
 use Rattle.sheet.proofs.Values.{reference-none, reference-there, reference-readable, choice-none, choice-unknown, choice-known, case-readable, value-none, value-flat, value-object, value-union, object-given, union-given, is-true}
 use Rattle.step.proofs.Inside.{flat-sound, flat-there, object-there, choice-there, offset-there, union-counted, index-small}
 use Rattle.step.proofs.StepCases.{element-there, element-low}
-use Rattle.sheet.proofs.Parts.{members-start, readable-start, member-readable, rest-readable, members-turn, members-done, elements-start, elements-readable, element-readable, elements-rest, elements-turn, elements-done, integer-eight, element-sound, list-few, list-start, list-bools, list-numbers, list-elements, elements-marked, elements-inside, elements-given}
+use Rattle.sheet.proofs.Parts.{members-start, readable-start, member-readable, rest-readable, members-turn, members-done, plain-rest, plain-turn, elements-start, elements-readable, element-readable, elements-rest, elements-turn, elements-done, integer-eight, element-sound, list-few, list-start, list-bools, list-numbers, list-elements, elements-marked, elements-inside, elements-given}
 use Rattle.coding.specs.declared.Kind.the-variants.{OfObject}
 use Rattle.sheet.proofs.References.{offset-readable, offsets-turn, offsets-inside, offsets-given, list-offsets}
+use Rattle.judge.proofs.ReferenceCases.{reference-inside}
+use Rattle.sheet.proofs.PlainNumbers.{plain-laid, plain-member}
 use borrow.Fn.Kinds.{In}
 use borrow.Fn.PlainCycle.{Measures, is, falls, and}
 use Rattle.sheet.proofs.write_content.Reads as write-content
@@ -58,6 +60,11 @@ use Rattle.schema.proofs.member_count.Reads as member-count-reads
 use Rattle.schema.proofs.union_case.Reads as union-case-reads
 use Rattle.sheet.proofs.integer_width.Reads as integer-width-reads
 use Rattle.sheet.proofs.is_leaf.Reads as is-leaf-reads
+use Rattle.sheet.proofs.plain_width.Reads as plain-width-reads
+use Rattle.sheet.proofs.write_plain.Reads as write-plain-reads
+use Rattle.sheet.proofs.behind_plain.Reads as behind-plain-reads
+use Rattle.schema.proofs.table_place.Reads as table-place-reads
+use Rattle.schema.proofs.record_place.Reads as record-place-reads
 use Rattle.sheet.proofs.length_of.Reads as length-of-reads
 use Rattle.sheet.proofs.member_at.Reads as member-at-reads
 use Rattle.sheet.proofs.number64.Reads as number64-reads
@@ -215,7 +222,7 @@ abbrev write-content-R : ℕ → write-content-lts.Claims
 write-content-R t = (write-blob-reads.Asked, write-blob-reads.Learnt, index-reads.Asked, index-reads.Learnt, write-list-below t, write-list.Post, write-table-below t, write-table.Post)
 
 abbrev write-elements-R : ℕ → write-elements-lts.Claims
-write-elements-R t = (element-place-reads.Asked, element-place-reads.Learnt, low-three-reads.Asked, low-three-reads.Learnt, write-value-below t, write-value.Post)
+write-elements-R t = (element-place-reads.Asked, element-place-reads.Learnt, low-three-reads.Asked, low-three-reads.Learnt, begin-reads.Asked, begin-reads.Learnt, write-value-below t, write-value.Post)
 
 abbrev write-list-R : ℕ → write-list-lts.Claims
 write-list-R t = (element-reads.Asked, element-reads.Learnt, number64-reads.Asked, number64-reads.Learnt, write-reads.Asked, write-reads.Learnt, is-bool-reads.Asked, is-bool-reads.Learnt, write-bools-reads.Asked, write-bools-reads.Learnt, integer-width-reads.Asked, integer-width-reads.Learnt, write-numbers-reads.Asked, write-numbers-reads.Learnt, write-elements-below t, write-elements.Post, write-references-below t, write-references.Post)
@@ -230,7 +237,7 @@ abbrev write-references-R : ℕ → write-references-lts.Claims
 write-references-R t = (u48-in-reads.Asked, u48-in-reads.Learnt, write-reference-below t, write-reference.Post)
 
 abbrev write-table-R : ℕ → write-table-lts.Claims
-write-table-R t = (member-count-reads.Asked, member-count-reads.Learnt, begin-reads.Asked, begin-reads.Learnt, member-at-reads.Asked, member-at-reads.Learnt, is-leaf-reads.Asked, is-leaf-reads.Learnt, write-leaf-reads.Asked, write-leaf-reads.Learnt, write-value-below t, write-value.Post)
+write-table-R t = (member-count-reads.Asked, member-count-reads.Learnt, table-place-reads.Asked, table-place-reads.Learnt, begin-reads.Asked, begin-reads.Learnt, record-place-reads.Asked, record-place-reads.Learnt, plain-width-reads.Asked, plain-width-reads.Learnt, write-plain-reads.Asked, write-plain-reads.Learnt, behind-plain-reads.Asked, behind-plain-reads.Learnt, member-at-reads.Asked, member-at-reads.Learnt, is-leaf-reads.Asked, is-leaf-reads.Learnt, write-leaf-reads.Asked, write-leaf-reads.Learnt, write-value-below t, write-value.Post)
 
 abbrev write-union-R : ℕ → write-union-lts.Claims
 write-union-R t = (write-reads.Asked, write-reads.Learnt, case-count-reads.Asked, case-count-reads.Learnt, number64-reads.Asked, number64-reads.Learnt, write-marked-reads.Asked, write-marked-reads.Learnt, union-case-reads.Asked, union-case-reads.Learnt, place-of-reads.Asked, place-of-reads.Learnt, write-object-below t, write-object.Post)
@@ -344,14 +351,18 @@ write-elements-element-place-requires t c κs =
 write-elements-low-three-requires : (t : ℕ) → write-elements-lts.Need-low-three-requires (write-elements-R t) (write-elements-at t) write-elements.Post write-elements-Inv-loop write-elements-μ-loop
 write-elements-low-three-requires t c κs = search needs
 
--- src/lib.rt:765:9
+-- src/lib.rt
+write-elements-begin-requires : (t : ℕ) → write-elements-lts.Need-begin-requires (write-elements-R t) (write-elements-at t) write-elements.Post write-elements-Inv-loop write-elements-μ-loop
+write-elements-begin-requires t c κs = search needs
+
+-- src/lib.rt
 write-elements-write-value-requires : (t : ℕ) → write-elements-lts.Need-write-value-requires (write-elements-R t) (write-elements-at t) write-elements.Post write-elements-Inv-loop write-elements-μ-loop
 write-elements-write-value-requires t c κs =
-    let q = c .before .before .before .before .before .before .before .before .before .before .pre .1 in
-    let fall = c .before .before .before .before .before .before .before .before .before .before .pre .0 in
-    let there = c .before .before .element-place .ensures in
-    let less = c .before .before .before .before .loop-test .taken in
-    (omega (arith, fall), (c .before .before .before .before .before .loop .inv .0, ((q .1 .0 .0, q .1 .0 .1, q .1 .0 .2), ((λ _. search (element-there, there, q .1 .1 .0, less), omega (arith, c .low-three .ensures .1), search (element-low, there, q .1 .1 .0, less, q .1 .0 .1)), search (element-readable, less, c .before .before .before .before .before .loop .inv .3, there, c .low-three .ensures .0)))))
+    let q = c .before .before .before .before .before .before .before .before .before .before .before .pre .1 in
+    let there = c .before .before .before .element-place .ensures in
+    let less = c .before .before .before .before .before .loop-test .taken in
+    let inv = c .before .before .before .before .before .before .loop .inv in
+    (omega (arith, c .before .before .before .before .before .before .before .before .before .before .before .pre .0), (inv .0, ((q .1 .0 .0, q .1 .0 .1, q .1 .0 .2), ((λ _. search (element-there, there, q .1 .1 .0, less), omega (arith, c .before .before .low-three .ensures .1), search (element-low, there, q .1 .1 .0, less, q .1 .0 .1)), search (element-readable, less, inv .3, there, c .before .before .low-three .ensures .0)))))
 
 -- src/lib.rt:780:9
 write-elements-add-j : (t : ℕ) → write-elements-lts.Need-add-j (write-elements-R t) (write-elements-at t) write-elements.Post write-elements-Inv-loop write-elements-μ-loop
@@ -361,15 +372,18 @@ write-elements-add-j t c = search needs
 write-elements-loop-less : (t : ℕ) → write-elements-lts.Need-loop-less (write-elements-R t) (write-elements-at t) write-elements.Post write-elements-Inv-loop write-elements-μ-loop
 write-elements-loop-less t c = search needs
 
--- src/lib.rt:760:5
+-- src/lib.rt
 write-elements-loop-again : (t : ℕ) → write-elements-lts.Need-loop-again (write-elements-R t) (write-elements-at t) write-elements.Post write-elements-Inv-loop write-elements-μ-loop
 write-elements-loop-again t c =
-    let q = c .before .before .before .before .before .before .before .before .before .before .before .before .before .pre .1 in (
-      search (room-next, c .before .before .before .before .before .before .before .before .loop .inv .0, c .before .before .write-value .ensures),
-      omega (arith, c .before .before .before .before .before .before .before .loop-test .taken),
-      omega (arith, c .before .before .write-value .ensures .len, c .before .before .before .before .before .before .before .before .loop .inv .2),
-      search (elements-rest, c .before .before .before .before .before .before .before .loop-test .taken, c .before .before .before .before .before .before .before .before .loop .inv .3),
-      search (elements-turn, c .before .before .before .before .before .before .before .loop-test .taken, c .before .before .before .before .before .before .before .before .loop .inv .3, c .before .before .before .before .before .element-place .ensures, c .before .before .before .low-three .ensures .0, q .1 .0 .3, c .before .before .before .before .before .before .before .before .loop .inv .4, c .before .before .before .before .before .before .before .before .loop .inv .0, c .before .before .write-value .ensures),
+    let q = c .before .before .before .before .before .before .before .before .before .before .before .before .before .before .pre .1 in
+    let inv = c .before .before .before .before .before .before .before .before .before .loop .inv in
+    let less = c .before .before .before .before .before .before .before .before .loop-test .taken in
+    let put = c .before .before .write-value .ensures in (
+      search (room-next, inv .0, put),
+      omega (arith, less),
+      omega (arith, put .len, inv .2),
+      search (elements-rest, less, inv .3),
+      search (elements-turn, less, inv .3, c .before .before .before .before .before .before .element-place .ensures, c .before .before .before .before .before .low-three .ensures .0, q .1 .0 .3, inv .4, inv .0, put),
     )
 
 -- src/lib.rt:741:1
@@ -651,71 +665,124 @@ write-references-returns-2 : (t : ℕ) → write-references-lts.Need-returns-2 (
 write-references-returns-2 t c = search elements-done
 
 abbrev write-table-Inv-loop : write-table-lts.InvT-loop
-write-table-Inv-loop b dir m out₀ d t start n pos count c₀ p₀ j₀ out c p j =
+write-table-Inv-loop b dir m out₀ d t start n pos count first c₀ p₀ j₀ out c p j =
     Room out p × (j ≤ count) × (length out ≡ length out₀) × Laid (4097 * j) c
     × D.MembersReadable (D.ObjectReadable d (P.parse b) m) (P.parse b) m start n c (drop j (Sc.tableOf (P.parse b) t .members))
     × Remaining out₀ pos (A.membersAt d (P.parse b) m start n L.begin (Sc.tableOf (P.parse b) t .members)) out p
     (A.membersAt d (P.parse b) m start n c (drop j (Sc.tableOf (P.parse b) t .members)))
 
 abbrev write-table-μ-loop : write-table-lts.MeasureT-loop
-write-table-μ-loop b dir m out₀ d t start n pos count c₀ p₀ j₀ out c p j = count - j
+write-table-μ-loop b dir m out₀ d t start n pos count first c₀ p₀ j₀ out c p j = count - j
 
--- src/lib.rt:624:9
+-- src/lib.rt
 write-table-member-count-requires : (t : ℕ) → write-table-lts.Need-member-count-requires (write-table-R t) (write-table-at t) write-table.Post write-table-Inv-loop write-table-μ-loop
 write-table-member-count-requires t c κs = search needs
 
--- src/lib.rt:625:9
+-- src/lib.rt
+write-table-table-place-requires : (t : ℕ) → write-table-lts.Need-table-place-requires (write-table-R t) (write-table-at t) write-table.Post write-table-Inv-loop write-table-μ-loop
+write-table-table-place-requires t c κs = search needs
+
+-- src/lib.rt
 write-table-begin-requires : (t : ℕ) → write-table-lts.Need-begin-requires (write-table-R t) (write-table-at t) write-table.Post write-table-Inv-loop write-table-μ-loop
 write-table-begin-requires t c κs = search needs
 
--- src/lib.rt:628:5
+-- src/lib.rt
 write-table-loop-holds : (t : ℕ) → write-table-lts.Need-loop-holds (write-table-R t) (write-table-at t) write-table.Post write-table-Inv-loop write-table-μ-loop
 write-table-loop-holds t c = (search needs, omega arith, refl, search needs, search readable-start, search members-start)
 
--- src/lib.rt:630:13
+-- src/lib.rt
 write-table-same-length : (t : ℕ) → write-table-lts.Need-same-length (write-table-R t) (write-table-at t) write-table.Post write-table-Inv-loop write-table-μ-loop
 write-table-same-length t c = search needs
 
--- src/lib.rt:630:13
+-- src/lib.rt
 write-table-returns : (t : ℕ) → write-table-lts.Need-returns (write-table-R t) (write-table-at t) write-table.Post write-table-Inv-loop write-table-μ-loop
 write-table-returns t c = search remaining-over
 
--- src/lib.rt:632:13
-write-table-member-at-requires : (t : ℕ) → write-table-lts.Need-member-at-requires (write-table-R t) (write-table-at t) write-table.Post write-table-Inv-loop write-table-μ-loop
-write-table-member-at-requires t c κs =
-    let q = c .before .before .before .before .before .before .before .before .before .pre .1 in
-    ((q .1 .0 .0, q .1 .0 .2, omega (arith, c .before .before .before .before .member-count .ensures .0, c .before .loop-test .taken), omega (arith, c .before .before .before .before .member-count .ensures .1, c .before .loop-test .taken)), (q .1 .0 .3, q .1 .0 .1, c .before .before .loop .inv .3))
+-- src/lib.rt
+write-table-record-place-requires : (t : ℕ) → write-table-lts.Need-record-place-requires (write-table-R t) (write-table-at t) write-table.Post write-table-Inv-loop write-table-μ-loop
+write-table-record-place-requires t c κs = (omega arith, c .before .before .before .before .table-place .ensures .small, omega (arith, c .before .before .before .before .before .member-count .ensures .1, c .before .loop-test .taken))
 
--- src/lib.rt:635:12
-write-table-is-leaf-requires : (t : ℕ) → write-table-lts.Need-is-leaf-requires (write-table-R t) (write-table-at t) write-table.Post write-table-Inv-loop write-table-μ-loop
-write-table-is-leaf-requires t c κs = search needs
+-- src/lib.rt
+write-table-plain-width-requires : (t : ℕ) → write-table-lts.Need-plain-width-requires (write-table-R t) (write-table-at t) write-table.Post write-table-Inv-loop write-table-μ-loop
+write-table-plain-width-requires t c κs = omega (arith, reference-inside _ _ _ (c .before .before .before .before .before .before .before .before .before .before .before .pre .1 .1 .0 .2) _ (c .before .before .before .before .before .before .member-count .ensures .0) (c .before .before .loop-test .taken) _ (c .before .before .before .before .before .table-place .ensures) _ (c .record-place .ensures .1))
 
--- src/lib.rt:646:17
-write-table-add-write-leaf : (t : ℕ) → write-table-lts.Need-add-write-leaf (write-table-R t) (write-table-at t) write-table.Post write-table-Inv-loop write-table-μ-loop
-write-table-add-write-leaf t c = let q = c .before .before .before .before .before .before .before .before .before .before .before .before .before .before .pre .1 in omega (arith, q .1 .0 .3, q .1 .0 .1)
-
--- src/lib.rt:636:13
-write-table-write-leaf-requires : (t : ℕ) → write-table-lts.Need-write-leaf-requires (write-table-R t) (write-table-at t) write-table.Post write-table-Inv-loop write-table-μ-loop
-write-table-write-leaf-requires t c κs =
+-- src/lib.rt
+write-table-write-plain-requires : (t : ℕ) → write-table-lts.Need-write-plain-requires (write-table-R t) (write-table-at t) write-table.Post write-table-Inv-loop write-table-μ-loop
+write-table-write-plain-requires t c κs =
     let q = c .before .before .before .before .before .before .before .before .before .before .before .before .before .before .pre .1 in
-    let is = c .before .before .before .before .member-at .ensures in
-    (c .before .before .before .before .before .before .before .loop .inv .0, ((q .1 .0 .0, q .1 .0 .1, is .sound, sym (c .before .before .is-leaf .ensures) ∙ c .before .if2 .taken), ((is .inside, is .bit-low, is .low), search (member-readable, c .before .before .before .before .before .before .before .before .before .member-count .ensures .0, c .before .before .before .before .before .before .loop-test .taken, c .before .before .before .before .before .before .before .loop .inv .4, is))))
+    let inv = c .before .before .before .before .before .before .loop .inv in
+    (inv .0, (c .before .before .plain-width .ensures .1, omega (arith, q .1 .0 .3, q .1 .0 .1), omega (arith, inv .3 .end, c .before .before .before .before .before .before .before .before .before .member-count .ensures .1, c .before .before .before .before .before .loop-test .taken)))
 
--- src/lib.rt:651:13
+-- src/lib.rt
+write-table-behind-plain-requires : (t : ℕ) → write-table-lts.Need-behind-plain-requires (write-table-R t) (write-table-at t) write-table.Post write-table-Inv-loop write-table-μ-loop
+write-table-behind-plain-requires t c κs =
+    let inv = c .before .before .before .before .before .before .before .before .before .loop .inv in
+    (omega (arith, inv .3 .end, c .before .before .before .before .before .before .before .before .before .before .before .before .member-count .ensures .1, c .before .before .before .before .before .before .before .before .loop-test .taken), c .before .before .before .before .before .plain-width .ensures .1)
+
+-- src/lib.rt
 write-table-add-j : (t : ℕ) → write-table-lts.Need-add-j (write-table-R t) (write-table-at t) write-table.Post write-table-Inv-loop write-table-μ-loop
 write-table-add-j t c = search needs
 
--- src/lib.rt:628:5
+-- src/lib.rt
 write-table-loop-less : (t : ℕ) → write-table-lts.Need-loop-less (write-table-R t) (write-table-at t) write-table.Post write-table-Inv-loop write-table-μ-loop
 write-table-loop-less t c = search needs
 
--- src/lib.rt:628:5
+-- src/lib.rt
 write-table-loop-again : (t : ℕ) → write-table-lts.Need-loop-again (write-table-R t) (write-table-at t) write-table.Post write-table-Inv-loop write-table-μ-loop
 write-table-loop-again t c =
     let inv = c .before .before .before .before .before .before .before .before .before .before .loop .inv in
     let less = c .before .before .before .before .before .before .before .before .before .loop-test .taken in
+    let count = c .before .before .before .before .before .before .before .before .before .before .before .before .before .member-count .ensures .0 in
+    let wide = c .before .before .before .before .before .before .plain-width .ensures in
+    let some = c .before .before .before .before .before .if2 .taken in
+    let put = c .before .before .before .write-plain .ensures in
+    let next = c .behind-plain .ensures in
+    let is = plain-member _ _ _ (c .before .before .before .before .before .before .before .before .before .before .before .before .before .before .before .before .before .before .pre .1 .1 .0 .2) _ count less _ (c .before .before .before .before .before .before .before .before .before .before .before .before .table-place .ensures) _ (c .before .before .before .before .before .before .before .record-place .ensures .0) in (
+      search (room-next, inv .0, put),
+      omega (arith, less),
+      omega (arith, put .len, inv .2),
+      plain-laid _ _ _ _ (inv .3) (wide .1) next,
+      search (plain-rest, count, less, inv .4, is, wide .0 some, next),
+      search (plain-turn, count, less, inv .4, is, wide .0 some, next, some, inv .5, inv .0, put),
+    )
+
+-- src/lib.rt
+write-table-member-at-requires : (t : ℕ) → write-table-lts.Need-member-at-requires (write-table-R t) (write-table-at t) write-table.Post write-table-Inv-loop write-table-μ-loop
+write-table-member-at-requires t c κs =
+    let q = c .before .before .before .before .before .before .before .before .before .before .before .before .before .pre .1 in
+    ((q .1 .0 .0, q .1 .0 .2, omega (arith, c .before .before .before .before .before .before .before .before .member-count .ensures .0, c .before .before .before .before .loop-test .taken), omega (arith, c .before .before .before .before .before .before .before .before .member-count .ensures .1, c .before .before .before .before .loop-test .taken)), (q .1 .0 .3, q .1 .0 .1, c .before .before .before .before .before .loop .inv .3))
+
+-- src/lib.rt
+write-table-is-leaf-requires : (t : ℕ) → write-table-lts.Need-is-leaf-requires (write-table-R t) (write-table-at t) write-table.Post write-table-Inv-loop write-table-μ-loop
+write-table-is-leaf-requires t c κs = search needs
+
+-- src/lib.rt
+write-table-add-write-leaf : (t : ℕ) → write-table-lts.Need-add-write-leaf (write-table-R t) (write-table-at t) write-table.Post write-table-Inv-loop write-table-μ-loop
+write-table-add-write-leaf t c = let q = c .before .before .before .before .before .before .before .before .before .before .before .before .before .before .before .before .before .before .pre .1 in omega (arith, q .1 .0 .3, q .1 .0 .1)
+
+-- src/lib.rt
+write-table-write-leaf-requires : (t : ℕ) → write-table-lts.Need-write-leaf-requires (write-table-R t) (write-table-at t) write-table.Post write-table-Inv-loop write-table-μ-loop
+write-table-write-leaf-requires t c κs =
+    let q = c .before .before .before .before .before .before .before .before .before .before .before .before .before .before .before .before .before .before .pre .1 in
+    let is = c .before .before .before .before .member-at .ensures in
+    let inv = c .before .before .before .before .before .before .before .before .before .before .loop .inv in
+    (inv .0, ((q .1 .0 .0, q .1 .0 .1, is .sound, sym (c .before .before .is-leaf .ensures) ∙ c .before .if3 .taken), ((is .inside, is .bit-low, is .low), search (member-readable, c .before .before .before .before .before .before .before .before .before .before .before .before .before .member-count .ensures .0, c .before .before .before .before .before .before .before .before .before .loop-test .taken, inv .4, is))))
+
+-- src/lib.rt
+write-table-add-j-2 : (t : ℕ) → write-table-lts.Need-add-j-2 (write-table-R t) (write-table-at t) write-table.Post write-table-Inv-loop write-table-μ-loop
+write-table-add-j-2 t c = search needs
+
+-- src/lib.rt
+write-table-loop-less-2 : (t : ℕ) → write-table-lts.Need-loop-less-2 (write-table-R t) (write-table-at t) write-table.Post write-table-Inv-loop write-table-μ-loop
+write-table-loop-less-2 t c = search needs
+
+-- src/lib.rt
+write-table-loop-again-2 : (t : ℕ) → write-table-lts.Need-loop-again-2 (write-table-R t) (write-table-at t) write-table.Post write-table-Inv-loop write-table-μ-loop
+write-table-loop-again-2 t c =
+    let inv = c .before .before .before .before .before .before .before .before .before .before .before .before .before .loop .inv in
+    let less = c .before .before .before .before .before .before .before .before .before .before .before .before .loop-test .taken in
     let is = c .before .before .before .before .before .before .before .member-at .ensures in
-    let count = c .before .before .before .before .before .before .before .before .before .before .before .before .member-count .ensures .0 in
+    let count = c .before .before .before .before .before .before .before .before .before .before .before .before .before .before .before .before .member-count .ensures .0 in
     let put = c .before .before .write-leaf .ensures in (
       search (room-next, inv .0, put),
       omega (arith, less),
@@ -725,32 +792,33 @@ write-table-loop-again t c =
       search (members-turn, count, less, inv .4, is, inv .5, inv .0, put),
     )
 
--- src/lib.rt:664:13
+-- src/lib.rt
 write-table-add-write-value : (t : ℕ) → write-table-lts.Need-add-write-value (write-table-R t) (write-table-at t) write-table.Post write-table-Inv-loop write-table-μ-loop
-write-table-add-write-value t c = let q = c .before .before .before .before .before .before .before .before .before .before .before .before .before .before .pre .1 in omega (arith, q .1 .0 .3, q .1 .0 .1)
+write-table-add-write-value t c = let q = c .before .before .before .before .before .before .before .before .before .before .before .before .before .before .before .before .before .before .pre .1 in omega (arith, q .1 .0 .3, q .1 .0 .1)
 
--- src/lib.rt:654:9
+-- src/lib.rt
 write-table-write-value-requires : (t : ℕ) → write-table-lts.Need-write-value-requires (write-table-R t) (write-table-at t) write-table.Post write-table-Inv-loop write-table-μ-loop
 write-table-write-value-requires t c κs =
-    let q = c .before .before .before .before .before .before .before .before .before .before .before .before .before .before .pre .1 in
+    let q = c .before .before .before .before .before .before .before .before .before .before .before .before .before .before .before .before .before .before .pre .1 in
     let is = c .before .before .before .before .member-at .ensures in
-    (omega (arith, c .before .before .before .before .before .before .before .before .before .before .before .before .before .before .pre .0), (c .before .before .before .before .before .before .before .loop .inv .0, ((q .1 .0 .0, q .1 .0 .1, is .sound), ((is .inside, is .bit-low, is .low), search (member-readable, c .before .before .before .before .before .before .before .before .before .member-count .ensures .0, c .before .before .before .before .before .before .loop-test .taken, c .before .before .before .before .before .before .before .loop .inv .4, is)))))
-
--- src/lib.rt:669:9
-write-table-add-j-2 : (t : ℕ) → write-table-lts.Need-add-j-2 (write-table-R t) (write-table-at t) write-table.Post write-table-Inv-loop write-table-μ-loop
-write-table-add-j-2 t c = search needs
-
--- src/lib.rt:628:5
-write-table-loop-less-2 : (t : ℕ) → write-table-lts.Need-loop-less-2 (write-table-R t) (write-table-at t) write-table.Post write-table-Inv-loop write-table-μ-loop
-write-table-loop-less-2 t c = search needs
-
--- src/lib.rt:628:5
-write-table-loop-again-2 : (t : ℕ) → write-table-lts.Need-loop-again-2 (write-table-R t) (write-table-at t) write-table.Post write-table-Inv-loop write-table-μ-loop
-write-table-loop-again-2 t c =
     let inv = c .before .before .before .before .before .before .before .before .before .before .loop .inv in
-    let less = c .before .before .before .before .before .before .before .before .before .loop-test .taken in
+    (omega (arith, c .before .before .before .before .before .before .before .before .before .before .before .before .before .before .before .before .before .before .pre .0), (inv .0, ((q .1 .0 .0, q .1 .0 .1, is .sound), ((is .inside, is .bit-low, is .low), search (member-readable, c .before .before .before .before .before .before .before .before .before .before .before .before .before .member-count .ensures .0, c .before .before .before .before .before .before .before .before .before .loop-test .taken, inv .4, is)))))
+
+-- src/lib.rt
+write-table-add-j-3 : (t : ℕ) → write-table-lts.Need-add-j-3 (write-table-R t) (write-table-at t) write-table.Post write-table-Inv-loop write-table-μ-loop
+write-table-add-j-3 t c = search needs
+
+-- src/lib.rt
+write-table-loop-less-3 : (t : ℕ) → write-table-lts.Need-loop-less-3 (write-table-R t) (write-table-at t) write-table.Post write-table-Inv-loop write-table-μ-loop
+write-table-loop-less-3 t c = search needs
+
+-- src/lib.rt
+write-table-loop-again-3 : (t : ℕ) → write-table-lts.Need-loop-again-3 (write-table-R t) (write-table-at t) write-table.Post write-table-Inv-loop write-table-μ-loop
+write-table-loop-again-3 t c =
+    let inv = c .before .before .before .before .before .before .before .before .before .before .before .before .before .loop .inv in
+    let less = c .before .before .before .before .before .before .before .before .before .before .before .before .loop-test .taken in
     let is = c .before .before .before .before .before .before .before .member-at .ensures in
-    let count = c .before .before .before .before .before .before .before .before .before .before .before .before .member-count .ensures .0 in
+    let count = c .before .before .before .before .before .before .before .before .before .before .before .before .before .before .before .before .member-count .ensures .0 in
     let put = c .before .before .write-value .ensures in (
       search (room-next, inv .0, put),
       omega (arith, less),
@@ -760,11 +828,11 @@ write-table-loop-again-2 t c =
       search (members-turn, count, less, inv .4, is, inv .5, inv .0, put),
     )
 
--- src/lib.rt:608:1
+-- src/lib.rt
 write-table-same-length-2 : (t : ℕ) → write-table-lts.Need-same-length-2 (write-table-R t) (write-table-at t) write-table.Post write-table-Inv-loop write-table-μ-loop
 write-table-same-length-2 t c = search needs
 
--- src/lib.rt:608:1
+-- src/lib.rt
 write-table-returns-2 : (t : ℕ) → write-table-lts.Need-returns-2 (write-table-R t) (write-table-at t) write-table.Post write-table-Inv-loop write-table-μ-loop
 write-table-returns-2 t c = search members-done
 
@@ -850,7 +918,7 @@ write-value-enum-known-k t c = search needs
 -- src/lib.rt:545:28
 write-value-write-flat-requires : (t : ℕ) → write-value-lts.Need-write-flat-requires (write-value-R t) (write-value-at t) write-value.Post
 write-value-write-flat-requires t c κs =
-    let q = c .before .before .before .before .before .before .before .before .before .pre .1 in
+    let q = c .before .before .before .before .before .before .before .before .before .before .pre .1 in
     let fits = q .1 .1 .0 .0 (is-true _ (c .before .before .before .before .if1 .left)) in
     (q .0, ((q .1 .0 .0, search (flat-sound, q .1 .0 .2, c .before .before .k .given .1), q .1 .0 .1), (search (flat-there, fits, c .before .before .k .given .1), q .1 .1 .0 .1, q .1 .1 .0 .2)))
 
@@ -861,15 +929,15 @@ write-value-enum-known-k-2 t c = search needs
 -- src/lib.rt:547:21
 write-value-u48-in-requires : (t : ℕ) → write-value-lts.Need-u48-in-requires (write-value-R t) (write-value-at t) write-value.Post
 write-value-u48-in-requires t c κs =
-    let q = c .before .before .before .before .before .before .before .before .pre .1 in
+    let q = c .before .before .before .before .before .before .before .before .before .pre .1 in
     let fits = q .1 .1 .0 .0 (is-true _ (c .before .before .before .if1 .left)) in
     search (object-there, fits, c .before .k2 .given .1)
 
 -- src/lib.rt:548:13
 write-value-write-reference-requires : (t : ℕ) → write-value-lts.Need-write-reference-requires (write-value-R t) (write-value-at t) write-value.Post
 write-value-write-reference-requires t c κs =
-    let q = c .before .before .before .before .before .before .before .before .before .before .pre .1 in
-    let fall = c .before .before .before .before .before .before .before .before .before .before .pre .0 in
+    let q = c .before .before .before .before .before .before .before .before .before .before .before .pre .1 in
+    let fall = c .before .before .before .before .before .before .before .before .before .before .before .pre .0 in
     (omega (arith, fall), (q .0, ((q .1 .0 .0, q .1 .0 .1), search (object-given, q .1 .1 .1, c .before .before .before .before .before .if1 .left, c .before .before .before .k2 .given .1, c .before .u48-in .ensures))))
 
 -- src/lib.rt:550:23
@@ -879,7 +947,7 @@ write-value-enum-known-k-3 t c = search needs
 -- src/lib.rt:551:21
 write-value-u16-in-requires : (t : ℕ) → write-value-lts.Need-u16-in-requires (write-value-R t) (write-value-at t) write-value.Post
 write-value-u16-in-requires t c κs =
-    let q = c .before .before .before .before .before .before .before .before .pre .1 in
+    let q = c .before .before .before .before .before .before .before .before .before .pre .1 in
     let fits = q .1 .1 .0 .0 (is-true _ (c .before .before .before .if1 .left)) in
     search (choice-there, fits, c .before .k3 .given .1)
 
@@ -890,7 +958,7 @@ write-value-add-u48-in t c = search needs
 -- src/lib.rt:552:21
 write-value-u48-in-requires-2 : (t : ℕ) → write-value-lts.Need-u48-in-requires-2 (write-value-R t) (write-value-at t) write-value.Post
 write-value-u48-in-requires-2 t c κs =
-    let q = c .before .before .before .before .before .before .before .before .before .pre .1 in
+    let q = c .before .before .before .before .before .before .before .before .before .before .pre .1 in
     let fits = q .1 .1 .0 .0 (is-true _ (c .before .before .before .before .if1 .left)) in
     search (offset-there, fits, c .before .before .k3 .given .1)
 
@@ -901,8 +969,8 @@ write-value-index-requires t c κs = search needs
 -- src/lib.rt:553:13
 write-value-write-union-requires : (t : ℕ) → write-value-lts.Need-write-union-requires (write-value-R t) (write-value-at t) write-value.Post
 write-value-write-union-requires t c κs =
-    let q = c .before .before .before .before .before .before .before .before .before .before .before .before .pre .1 in
-    let fall = c .before .before .before .before .before .before .before .before .before .before .before .before .pre .0 in
+    let q = c .before .before .before .before .before .before .before .before .before .before .before .before .before .pre .1 in
+    let fall = c .before .before .before .before .before .before .before .before .before .before .before .before .before .pre .0 in
     (omega (arith, fall), (q .0, ((q .1 .0 .0, q .1 .0 .1, search (union-counted, q .1 .0 .2, c .before .before .before .before .before .k3 .given .1, c .index .ensures .0)), search (union-given, q .1 .1 .1, c .before .before .before .before .before .before .before .if1 .left, c .before .before .before .before .before .k3 .given .1, c .index .ensures .0, c .before .before .before .u16-in .ensures, c .before .before .u48-in2 .ensures))))
 
 -- src/lib.rt:520:1
@@ -973,6 +1041,7 @@ pub +write-content+write-elements+write-list+write-object+write-reference+write-
     (write-elements-returns t)
     (write-elements-element-place-requires t)
     (write-elements-low-three-requires t)
+    (write-elements-begin-requires t)
     (write-elements-write-value-requires t)
     (write-elements-add-j t)
     (write-elements-loop-less t)
@@ -1048,22 +1117,30 @@ pub +write-content+write-elements+write-list+write-object+write-reference+write-
     write-table-Inv-loop
     write-table-μ-loop
     (write-table-member-count-requires t)
+    (write-table-table-place-requires t)
     (write-table-begin-requires t)
     (write-table-loop-holds t)
     (write-table-same-length t)
     (write-table-returns t)
+    (write-table-record-place-requires t)
+    (write-table-plain-width-requires t)
+    (write-table-write-plain-requires t)
+    (write-table-behind-plain-requires t)
+    (write-table-add-j t)
+    (write-table-loop-less t)
+    (write-table-loop-again t)
     (write-table-member-at-requires t)
     (write-table-is-leaf-requires t)
     (write-table-add-write-leaf t)
     (write-table-write-leaf-requires t)
-    (write-table-add-j t)
-    (write-table-loop-less t)
-    (write-table-loop-again t)
-    (write-table-add-write-value t)
-    (write-table-write-value-requires t)
     (write-table-add-j-2 t)
     (write-table-loop-less-2 t)
     (write-table-loop-again-2 t)
+    (write-table-add-write-value t)
+    (write-table-write-value-requires t)
+    (write-table-add-j-3 t)
+    (write-table-loop-less-3 t)
+    (write-table-loop-again-3 t)
     (write-table-same-length-2 t)
     (write-table-returns-2 t))
     (λ t. write-union-lts.spec (write-union-R t)

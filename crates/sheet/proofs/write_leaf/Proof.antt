@@ -30,7 +30,7 @@ enum-known-k c = search needs
 -- src/lib.rt:398:28
 write-flat-requires : tie.Need-write-flat-requires
 write-flat-requires c κs =
-    let q = c .before .before .before .before .before .before .before .before .before .pre in
+    let q = c .before .before .before .before .before .before .before .before .before .before .pre in
     let fits = q .1 .1 .0 .0 (is-true _ (c .before .before .before .before .if1 .left)) in
     (q .0, ((q .1 .0 .0, search (flat-sound, q .1 .0 .2, c .before .before .k .given .1), q .1 .0 .1), (search (flat-there, fits, c .before .before .k .given .1), q .1 .1 .0 .1, q .1 .1 .0 .2)))
 
@@ -41,14 +41,14 @@ enum-known-k-2 c = search needs
 -- src/lib.rt:400:21
 u48-in-requires : tie.Need-u48-in-requires
 u48-in-requires c κs =
-    let q = c .before .before .before .before .before .before .before .before .pre in
+    let q = c .before .before .before .before .before .before .before .before .before .pre in
     let fits = q .1 .1 .0 .0 (is-true _ (c .before .before .before .if1 .left)) in
     search (object-there, fits, c .before .k2 .given .1)
 
 -- src/lib.rt:401:13
 refer-blob-requires : tie.Need-refer-blob-requires
 refer-blob-requires c κs =
-    let q = c .before .before .before .before .before .before .before .before .before .before .pre in
+    let q = c .before .before .before .before .before .before .before .before .before .before .before .pre in
     (q .0, ((q .1 .0 .1, leaf-blob _ _ (c .before .before .before .k2 .given .1) (q .1 .0 .3)), search (object-given, q .1 .1 .1, c .before .before .before .before .before .if1 .left, c .before .before .before .k2 .given .1, c .before .u48-in .ensures)))
 
 -- src/lib.rt:403:29
@@ -73,7 +73,7 @@ returns-3 c = search value-object
 
 -- src/lib.rt:373:1
 returns-4 : tie.Need-returns-4
-returns-4 c = absurd (search (leaf-other, c .before .before .before .before .before .before .before .pre .1 .0 .3))
+returns-4 c = absurd (search (leaf-other, c .before .before .before .before .before .before .before .before .pre .1 .0 .3))
 
 pub write-leaf-spec : {M : Type 1} → statement M
 write-leaf-spec =
