@@ -27,7 +27,7 @@ use Rattle.coding.specs.declared.Step.the-variants as St
 use Rattle.laws.specs.RecordSound.{width-range}
 use Rattle.schema.specs.Directory.{Block}
 use Rattle.layout.specs.Bounds.{Laid}
-use Rattle.judge.proofs.PlainCases.{plain-led}
+use Rattle.member.proofs.PlainCases.{plain-led}
 use Rattle.wire.specs.Numbers.{Number}
 use Rattle.bitio.specs.Puts.{Room, Puts}
 use Rattle.sheet.specs.MessageBits as A
