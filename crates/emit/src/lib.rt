@@ -32,11 +32,12 @@ ghost use Rattle.emit.specs.Emitting as Eg;
 ghost use Rattle.emit.specs.Emitting.{Room, EmittedAt};
 
 // ---- what leads to no object
-// Whether a part of the sheet is lawful; if so, where the message goes on behind it, and where the sheet does.
+// Whether a part of the sheet is lawful; if so, where the message goes on behind it, and where the sheet does. The bool stands
+// last for speed: behind its padding the places are copied slowly.
 pub struct Emitted {
-    pub whole: bool,
     pub places: Places,
     pub next: usize,
+    pub whole: bool,
 }
 
 fn stored(c: Places, next: usize) -> Emitted
@@ -601,7 +602,7 @@ fn measure(
 }
 
 // ---- members, elements and objects
-// An object that is referred to, or stands in place, once its extent is known.
+// An object that is referred to, or stands in place.
 fn emit_refer(
     b: &[u8],
     dir: &[u16],
@@ -618,6 +619,26 @@ fn emit_refer(
     ensures { λ r. ⌜ EmittedAt (now (s .entry)) (Es.emitRefer (Es.emit d B.u48 (P.parse (now (b .entry)))) (Sv.survey d B.u48 (P.parse (now (b .entry)))) B.u48 (P.parse (now (b .entry))) inplace ob (stateOf c (now (out .entry))) (drop pos (bits (now (s .entry))))) pos c 6 (r .whole) (r .places) (now (out .exit)) (r .next) ⌝ }
 {
     let e = measure(b, dir, s, d, ob, inplace, pos);
+    emit_measured(b, dir, s, out, d, ob, inplace, e, c, pos)
+}
+
+// The same, once its extent is known.
+fn emit_measured(
+    b: &[u8],
+    dir: &[u16],
+    s: &[u8],
+    out: &mut [u8],
+    d: usize,
+    ob: Object,
+    inplace: bool,
+    e: Extent,
+    c: Places,
+    pos: usize,
+) -> Emitted
+    requires { ⌜ (Accepted (now b) (now dir)) × (ObjectSound (P.parse (now b)) ob) × (Measured inplace (Sv.survey d B.u48 (P.parse (now b)) ob (drop pos (bits (now s)))) e) ⌝ }
+    requires { ⌜ Room (now s) pos c ⌝ }
+    ensures { λ r. ⌜ EmittedAt (now (s .entry)) (Es.emitRefer (Es.emit d B.u48 (P.parse (now (b .entry)))) (Sv.survey d B.u48 (P.parse (now (b .entry)))) B.u48 (P.parse (now (b .entry))) inplace ob (stateOf c (now (out .entry))) (drop pos (bits (now (s .entry))))) pos c 6 (r .whole) (r .places) (now (out .exit)) (r .next) ⌝ }
+{
     let p = put_reference(out, inplace, e, c);
     let q = open(b, dir, out, ob, inplace, e, p);
     let y = emit_content(b, dir, s, out, d, ob, q, pos);
@@ -845,9 +866,9 @@ fn emit_content(
 }
 
 // ---- the whole message
-// The message's start and the root table, into a buffer of the message's length.
-pub fn emit_message(b: &[u8], dir: &[u16], s: &[u8], out: &mut [u8]) -> Emitted
-    requires { ⌜ (Accepted (now b) (now dir)) × (length (now s) ≤ 16777215) ⌝ }
+// The message's start and the root table, which takes e, into a buffer of the message's length.
+pub fn emit_message(b: &[u8], dir: &[u16], s: &[u8], e: Extent, out: &mut [u8]) -> Emitted
+    requires { ⌜ (Accepted (now b) (now dir)) × (length (now s) ≤ 16777215) × (Measured false (Sv.survey B.deepest B.u48 (P.parse (now b)) (Object.Table (P.parse (now b) .root)) (bits (now s))) e) ⌝ }
     ensures { λ r. ⌜ Eg.MessageAt (now (s .entry)) (Es.emitMessage B.u48 (P.parse (now (b .entry))) (now (out .entry)) (bits (now (s .entry)))) (r .whole) (r .places) (now (out .exit)) (r .next) ⌝ }
 {
     let start = Places {
@@ -860,5 +881,5 @@ pub fn emit_message(b: &[u8], dir: &[u16], s: &[u8], out: &mut [u8]) -> Emitted
     };
     let ob = judge::root_object(b, dir);
     let p = store::put_number(out, start, 4, 0xB5C0_C4B3);
-    emit_refer(b, dir, s, out, 32, ob, false, p, 0)
+    emit_measured(b, dir, s, out, 32, ob, false, e, p, 0)
 }

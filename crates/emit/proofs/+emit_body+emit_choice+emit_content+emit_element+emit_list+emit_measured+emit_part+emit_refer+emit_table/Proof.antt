@@ -22,28 +22,31 @@ use borrow.Fn.Kinds.{In}
 use borrow.Fn.PlainCycle.{Measures, is, falls, and}
 use Rattle.emit.proofs.emit_body.Reads as emit-body
 use Rattle.emit.proofs.emit_body.Kinds as emit-body-kinds
-use Rattle.emit.proofs.+emit_body+emit_choice+emit_content+emit_element+emit_list+emit_part+emit_refer+emit_table.Lts-emit_body as emit-body-lts
+use Rattle.emit.proofs.+emit_body+emit_choice+emit_content+emit_element+emit_list+emit_measured+emit_part+emit_refer+emit_table.Lts-emit_body as emit-body-lts
 use Rattle.emit.proofs.emit_choice.Reads as emit-choice
 use Rattle.emit.proofs.emit_choice.Kinds as emit-choice-kinds
-use Rattle.emit.proofs.+emit_body+emit_choice+emit_content+emit_element+emit_list+emit_part+emit_refer+emit_table.Lts-emit_choice as emit-choice-lts
+use Rattle.emit.proofs.+emit_body+emit_choice+emit_content+emit_element+emit_list+emit_measured+emit_part+emit_refer+emit_table.Lts-emit_choice as emit-choice-lts
 use Rattle.emit.proofs.emit_content.Reads as emit-content
 use Rattle.emit.proofs.emit_content.Kinds as emit-content-kinds
-use Rattle.emit.proofs.+emit_body+emit_choice+emit_content+emit_element+emit_list+emit_part+emit_refer+emit_table.Lts-emit_content as emit-content-lts
+use Rattle.emit.proofs.+emit_body+emit_choice+emit_content+emit_element+emit_list+emit_measured+emit_part+emit_refer+emit_table.Lts-emit_content as emit-content-lts
 use Rattle.emit.proofs.emit_element.Reads as emit-element
 use Rattle.emit.proofs.emit_element.Kinds as emit-element-kinds
-use Rattle.emit.proofs.+emit_body+emit_choice+emit_content+emit_element+emit_list+emit_part+emit_refer+emit_table.Lts-emit_element as emit-element-lts
+use Rattle.emit.proofs.+emit_body+emit_choice+emit_content+emit_element+emit_list+emit_measured+emit_part+emit_refer+emit_table.Lts-emit_element as emit-element-lts
 use Rattle.emit.proofs.emit_list.Reads as emit-list
 use Rattle.emit.proofs.emit_list.Kinds as emit-list-kinds
-use Rattle.emit.proofs.+emit_body+emit_choice+emit_content+emit_element+emit_list+emit_part+emit_refer+emit_table.Lts-emit_list as emit-list-lts
+use Rattle.emit.proofs.+emit_body+emit_choice+emit_content+emit_element+emit_list+emit_measured+emit_part+emit_refer+emit_table.Lts-emit_list as emit-list-lts
+use Rattle.emit.proofs.emit_measured.Reads as emit-measured
+use Rattle.emit.proofs.emit_measured.Kinds as emit-measured-kinds
+use Rattle.emit.proofs.+emit_body+emit_choice+emit_content+emit_element+emit_list+emit_measured+emit_part+emit_refer+emit_table.Lts-emit_measured as emit-measured-lts
 use Rattle.emit.proofs.emit_part.Reads as emit-part
 use Rattle.emit.proofs.emit_part.Kinds as emit-part-kinds
-use Rattle.emit.proofs.+emit_body+emit_choice+emit_content+emit_element+emit_list+emit_part+emit_refer+emit_table.Lts-emit_part as emit-part-lts
+use Rattle.emit.proofs.+emit_body+emit_choice+emit_content+emit_element+emit_list+emit_measured+emit_part+emit_refer+emit_table.Lts-emit_part as emit-part-lts
 use Rattle.emit.proofs.emit_refer.Reads as emit-refer
 use Rattle.emit.proofs.emit_refer.Kinds as emit-refer-kinds
-use Rattle.emit.proofs.+emit_body+emit_choice+emit_content+emit_element+emit_list+emit_part+emit_refer+emit_table.Lts-emit_refer as emit-refer-lts
+use Rattle.emit.proofs.+emit_body+emit_choice+emit_content+emit_element+emit_list+emit_measured+emit_part+emit_refer+emit_table.Lts-emit_refer as emit-refer-lts
 use Rattle.emit.proofs.emit_table.Reads as emit-table
 use Rattle.emit.proofs.emit_table.Kinds as emit-table-kinds
-use Rattle.emit.proofs.+emit_body+emit_choice+emit_content+emit_element+emit_list+emit_part+emit_refer+emit_table.Lts-emit_table as emit-table-lts
+use Rattle.emit.proofs.+emit_body+emit_choice+emit_content+emit_element+emit_list+emit_measured+emit_part+emit_refer+emit_table.Lts-emit_table as emit-table-lts
 use Rattle.bitio.proofs.take_number.Reads as take-number-reads
 use Rattle.schema.proofs.case_count.Reads as case-count-reads
 use Rattle.schema.proofs.element.Reads as element-reads
@@ -67,36 +70,39 @@ use Rattle.emit.proofs.pass.Reads as pass-reads
 use Rattle.store.proofs.put_number.Reads as put-number-reads
 use Rattle.emit.proofs.put_reference.Reads as put-reference-reads
 use Rattle.emit.proofs.stored.Reads as stored-reads
-use Rattle.emit.proofs.+emit_body+emit_choice+emit_content+emit_element+emit_list+emit_part+emit_refer+emit_table.{
+use Rattle.emit.proofs.+emit_body+emit_choice+emit_content+emit_element+emit_list+emit_measured+emit_part+emit_refer+emit_table.{
   statement,
 }
-use Rattle.emit.proofs.+emit_body+emit_choice+emit_content+emit_element+emit_list+emit_part+emit_refer+emit_table.Tie.{
+use Rattle.emit.proofs.+emit_body+emit_choice+emit_content+emit_element+emit_list+emit_measured+emit_part+emit_refer+emit_table.Tie.{
   close,
 }
 
 abbrev μ-emit-body : Measures 4 emit-body-kinds.ps ℕ
-μ-emit-body κs a = 8 * a .1 .1 .1 .1 .0 + 3
+μ-emit-body κs a = 8 * a .1 .1 .1 .1 .0 + 4
 
 abbrev μ-emit-choice : Measures 4 emit-choice-kinds.ps ℕ
-μ-emit-choice κs a = 8 * a .1 .1 .1 .1 .0 + 2
+μ-emit-choice κs a = 8 * a .1 .1 .1 .1 .0 + 3
 
 abbrev μ-emit-content : Measures 4 emit-content-kinds.ps ℕ
 μ-emit-content κs a = 8 * a .1 .1 .1 .1 .0 + 0
 
 abbrev μ-emit-element : Measures 4 emit-element-kinds.ps ℕ
-μ-emit-element κs a = 8 * a .1 .1 .1 .1 .0 + 5
+μ-emit-element κs a = 8 * a .1 .1 .1 .1 .0 + 6
 
 abbrev μ-emit-list : Measures 4 emit-list-kinds.ps ℕ
-μ-emit-list κs a = 8 * a .1 .1 .1 .1 .0 + 6
+μ-emit-list κs a = 8 * a .1 .1 .1 .1 .0 + 7
+
+abbrev μ-emit-measured : Measures 4 emit-measured-kinds.ps ℕ
+μ-emit-measured κs a = 8 * a .1 .1 .1 .1 .0 + 1
 
 abbrev μ-emit-part : Measures 4 emit-part-kinds.ps ℕ
-μ-emit-part κs a = 8 * a .1 .1 .1 .1 .0 + 4
+μ-emit-part κs a = 8 * a .1 .1 .1 .1 .0 + 5
 
 abbrev μ-emit-refer : Measures 4 emit-refer-kinds.ps ℕ
-μ-emit-refer κs a = 8 * a .1 .1 .1 .1 .0 + 1
+μ-emit-refer κs a = 8 * a .1 .1 .1 .1 .0 + 2
 
 abbrev μ-emit-table : Measures 4 emit-table-kinds.ps ℕ
-μ-emit-table κs a = 8 * a .1 .1 .1 .1 .0 + 6
+μ-emit-table κs a = 8 * a .1 .1 .1 .1 .0 + 7
 
 abbrev emit-body-at : ℕ → In 4 emit-body-kinds.ps
 emit-body-at t = and 4 emit-body-kinds.ps (is 4 emit-body-kinds.ps μ-emit-body t) emit-body.Pre
@@ -144,6 +150,18 @@ abbrev emit-list-below : ℕ → In 4 emit-list-kinds.ps
 emit-list-below t =
     and 4 emit-list-kinds.ps (falls 4 emit-list-kinds.ps _<_ μ-emit-list t) emit-list.Pre
 
+abbrev emit-measured-at : ℕ → In 4 emit-measured-kinds.ps
+emit-measured-at t =
+    and 4 emit-measured-kinds.ps (is 4 emit-measured-kinds.ps μ-emit-measured t) emit-measured.Pre
+
+abbrev emit-measured-below : ℕ → In 4 emit-measured-kinds.ps
+emit-measured-below t =
+    and
+    4
+    emit-measured-kinds.ps
+    (falls 4 emit-measured-kinds.ps _<_ μ-emit-measured t)
+    emit-measured.Pre
+
 abbrev emit-part-at : ℕ → In 4 emit-part-kinds.ps
 emit-part-at t = and 4 emit-part-kinds.ps (is 4 emit-part-kinds.ps μ-emit-part t) emit-part.Pre
 
@@ -185,8 +203,11 @@ emit-list-R t = (take-number-reads.Asked, take-number-reads.Learnt, not-lawful-r
 abbrev emit-part-R : ℕ → emit-part-lts.Claims
 emit-part-R t = (take-number-reads.Asked, take-number-reads.Learnt, not-lawful-reads.Asked, not-lawful-reads.Learnt, flag-reads.Asked, flag-reads.Learnt, emit-body-below t, emit-body.Post, lack-reads.Asked, lack-reads.Learnt, stored-reads.Asked, stored-reads.Learnt, pass-reads.Asked, pass-reads.Learnt)
 
+abbrev emit-measured-R : ℕ → emit-measured-lts.Claims
+emit-measured-R t = (put-reference-reads.Asked, put-reference-reads.Learnt, open-reads.Asked, open-reads.Learnt, emit-content-below t, emit-content.Post, not-lawful-reads.Asked, not-lawful-reads.Learnt, close-reads.Asked, close-reads.Learnt, stored-reads.Asked, stored-reads.Learnt)
+
 abbrev emit-refer-R : ℕ → emit-refer-lts.Claims
-emit-refer-R t = (measure-reads.Asked, measure-reads.Learnt, put-reference-reads.Asked, put-reference-reads.Learnt, open-reads.Asked, open-reads.Learnt, emit-content-below t, emit-content.Post, not-lawful-reads.Asked, not-lawful-reads.Learnt, close-reads.Asked, close-reads.Learnt, stored-reads.Asked, stored-reads.Learnt)
+emit-refer-R t = (measure-reads.Asked, measure-reads.Learnt, emit-measured-below t, emit-measured.Post)
 
 abbrev emit-table-R : ℕ → emit-table-lts.Claims
 emit-table-R t = (member-count-reads.Asked, member-count-reads.Learnt, member-reads.Asked, member-reads.Learnt, emit-part-below t, emit-part.Post, not-lawful-reads.Asked, not-lawful-reads.Learnt, stored-reads.Asked, stored-reads.Learnt)
@@ -562,38 +583,47 @@ emit-part-same-length-3 t c = search needs
 emit-part-returns-5 : (t : ℕ) → emit-part-lts.Need-returns-5 (emit-part-R t) (emit-part-at t) emit-part.Post
 emit-part-returns-5 t c = search (part-pass, c .before .before .before .before .before .before .before .before .before .before .before .before .before .before .before .before .before .before .before .before .before .before .pre .1 .1, c .before .before .before .before .before .before .before .before .before .before .before .before .before .before .before .before .before .take-number .ensures, c .before .before .before .before .before .before .before .before .before .before .before .before .before .before .before .if1 .left, c .before .before .before .before .before .before .before .before .before .before .before .before .before .before .if2 .left, c .before .before .before .before .before .before .before .before .before .before .before .before .before .if3 .left, c .before .before .before .before .before .before .before .before .before .before .before .flag2 .ensures, c .before .before .before .before .before .before .before .lack .ensures, c .before .before .before .before .if4 .left, c .before .before .pass .ensures)
 
+emit-measured-put-reference-requires : (t : ℕ) → emit-measured-lts.Need-put-reference-requires (emit-measured-R t) (emit-measured-at t) emit-measured.Post
+emit-measured-put-reference-requires t c κs = search (room-below, needs)
+
+emit-measured-open-requires : (t : ℕ) → emit-measured-lts.Need-open-requires (emit-measured-R t) (emit-measured-at t) emit-measured.Post
+emit-measured-open-requires t c κs = (c .before .before .before .before .before .before .before .before .before .pre .1 .0 .0, c .before .before .before .before .before .before .before .before .before .pre .1 .0 .1, c .before .before .before .before .before .before .before .before .before .pre .1 .0 .2 .small, search (stood-next, c .before .before .before .before .before .before .before .before .before .pre .1 .1, c .before .before .before .put-reference .ensures), search (stood-tail, c .before .before .before .before .before .before .before .before .before .pre .1 .1, c .before .before .before .put-reference .ensures))
+
+emit-measured-emit-content-requires : (t : ℕ) → emit-measured-lts.Need-emit-content-requires (emit-measured-R t) (emit-measured-at t) emit-measured.Post
+emit-measured-emit-content-requires t c κs = (omega (arith, c .before .before .before .before .before .before .before .before .before .before .before .before .before .pre .0), ((c .before .before .before .before .before .before .before .before .before .before .before .before .before .pre .1 .0 .0, c .before .before .before .before .before .before .before .before .before .before .before .before .before .pre .1 .0 .1), search (room-open, c .before .before .before .before .before .before .before .before .before .before .before .before .before .pre .1 .1, c .before .before .before .open .ensures)))
+
+emit-measured-not-lawful-requires : (t : ℕ) → emit-measured-lts.Need-not-lawful-requires (emit-measured-R t) (emit-measured-at t) emit-measured.Post
+emit-measured-not-lawful-requires t c κs = search needs
+
+emit-measured-same-length : (t : ℕ) → emit-measured-lts.Need-same-length (emit-measured-R t) (emit-measured-at t) emit-measured.Post
+emit-measured-same-length t c = search needs
+
+emit-measured-returns : (t : ℕ) → emit-measured-lts.Need-returns (emit-measured-R t) (emit-measured-at t) emit-measured.Post
+emit-measured-returns t c = search (refer-cut, c .before .before .before .before .before .before .before .before .before .before .before .before .before .before .before .before .before .before .before .pre .1 .0 .0, c .before .before .before .before .before .before .before .before .before .before .before .before .before .before .before .before .before .before .before .pre .1 .1, c .before .before .before .before .before .before .before .before .before .before .before .before .before .before .before .before .before .before .before .pre .1 .0 .2, c .before .before .before .before .before .before .before .before .before .before .before .before .before .put-reference .ensures, c .before .before .before .before .before .before .before .before .before .open .ensures, c .before .before .before .before .before .emit-content .ensures, c .before .if1 .taken, c .not-lawful .ensures .0, c .not-lawful .ensures .1, c .not-lawful .ensures .2)
+
+emit-measured-close-requires : (t : ℕ) → emit-measured-lts.Need-close-requires (emit-measured-R t) (emit-measured-at t) emit-measured.Post
+emit-measured-close-requires t c κs = search needs
+
+emit-measured-stored-requires : (t : ℕ) → emit-measured-lts.Need-stored-requires (emit-measured-R t) (emit-measured-at t) emit-measured.Post
+emit-measured-stored-requires t c κs = search needs
+
+emit-measured-same-length-2 : (t : ℕ) → emit-measured-lts.Need-same-length-2 (emit-measured-R t) (emit-measured-at t) emit-measured.Post
+emit-measured-same-length-2 t c = c .before .before .before .before .before .before .emit-content .kept .1 .1 .1 .0 ∙ c .before .before .before .before .before .before .before .before .before .before .open .kept .1 .1 .0 ∙ c .before .before .before .before .before .before .before .before .before .before .before .before .before .before .put-reference .kept .0
+
+emit-measured-returns-2 : (t : ℕ) → emit-measured-lts.Need-returns-2 (emit-measured-R t) (emit-measured-at t) emit-measured.Post
+emit-measured-returns-2 t c = search (refer-done, c .before .before .before .before .before .before .before .before .before .before .before .before .before .before .before .before .before .before .before .before .pre .1 .0 .0, c .before .before .before .before .before .before .before .before .before .before .before .before .before .before .before .before .before .before .before .before .pre .1 .1, c .before .before .before .before .before .before .before .before .before .before .before .before .before .before .before .before .before .before .before .before .pre .1 .0 .2, c .before .before .before .before .before .before .before .before .before .before .before .before .before .before .put-reference .ensures, c .before .before .before .before .before .before .before .before .before .before .open .ensures, c .before .before .before .before .before .before .emit-content .ensures, c .before .before .if1 .left, c .before .close .ensures, c .stored .ensures .0, c .stored .ensures .1, c .stored .ensures .2)
+
 emit-refer-measure-requires : (t : ℕ) → emit-refer-lts.Need-measure-requires (emit-refer-R t) (emit-refer-at t) emit-refer.Post
 emit-refer-measure-requires t c κs = search needs
 
-emit-refer-put-reference-requires : (t : ℕ) → emit-refer-lts.Need-put-reference-requires (emit-refer-R t) (emit-refer-at t) emit-refer.Post
-emit-refer-put-reference-requires t c κs = search (room-below, needs)
-
-emit-refer-open-requires : (t : ℕ) → emit-refer-lts.Need-open-requires (emit-refer-R t) (emit-refer-at t) emit-refer.Post
-emit-refer-open-requires t c κs = (c .before .before .before .before .before .before .before .before .before .before .pre .1 .0 .0, c .before .before .before .before .before .before .before .before .before .before .pre .1 .0 .1, c .before .before .before .before .before .measure .ensures .small, search (stood-next, c .before .before .before .before .before .before .before .before .before .before .pre .1 .1, c .before .before .before .put-reference .ensures), search (stood-tail, c .before .before .before .before .before .before .before .before .before .before .pre .1 .1, c .before .before .before .put-reference .ensures))
-
-emit-refer-emit-content-requires : (t : ℕ) → emit-refer-lts.Need-emit-content-requires (emit-refer-R t) (emit-refer-at t) emit-refer.Post
-emit-refer-emit-content-requires t c κs = (omega (arith, c .before .before .before .before .before .before .before .before .before .before .before .before .before .before .pre .0), ((c .before .before .before .before .before .before .before .before .before .before .before .before .before .before .pre .1 .0 .0, c .before .before .before .before .before .before .before .before .before .before .before .before .before .before .pre .1 .0 .1), search (room-open, c .before .before .before .before .before .before .before .before .before .before .before .before .before .before .pre .1 .1, c .before .before .before .open .ensures)))
-
-emit-refer-not-lawful-requires : (t : ℕ) → emit-refer-lts.Need-not-lawful-requires (emit-refer-R t) (emit-refer-at t) emit-refer.Post
-emit-refer-not-lawful-requires t c κs = search needs
+emit-refer-emit-measured-requires : (t : ℕ) → emit-refer-lts.Need-emit-measured-requires (emit-refer-R t) (emit-refer-at t) emit-refer.Post
+emit-refer-emit-measured-requires t c κs = search needs
 
 emit-refer-same-length : (t : ℕ) → emit-refer-lts.Need-same-length (emit-refer-R t) (emit-refer-at t) emit-refer.Post
 emit-refer-same-length t c = search needs
 
 emit-refer-returns : (t : ℕ) → emit-refer-lts.Need-returns (emit-refer-R t) (emit-refer-at t) emit-refer.Post
-emit-refer-returns t c = search (refer-cut, c .before .before .before .before .before .before .before .before .before .before .before .before .before .before .before .before .before .before .before .before .pre .1 .0 .0, c .before .before .before .before .before .before .before .before .before .before .before .before .before .before .before .before .before .before .before .before .pre .1 .1, c .before .before .before .before .before .before .before .before .before .before .before .before .before .before .before .measure .ensures, c .before .before .before .before .before .before .before .before .before .before .before .before .before .put-reference .ensures, c .before .before .before .before .before .before .before .before .before .open .ensures, c .before .before .before .before .before .emit-content .ensures, c .before .if1 .taken, c .not-lawful .ensures .0, c .not-lawful .ensures .1, c .not-lawful .ensures .2)
-
-emit-refer-close-requires : (t : ℕ) → emit-refer-lts.Need-close-requires (emit-refer-R t) (emit-refer-at t) emit-refer.Post
-emit-refer-close-requires t c κs = search needs
-
-emit-refer-stored-requires : (t : ℕ) → emit-refer-lts.Need-stored-requires (emit-refer-R t) (emit-refer-at t) emit-refer.Post
-emit-refer-stored-requires t c κs = search needs
-
-emit-refer-same-length-2 : (t : ℕ) → emit-refer-lts.Need-same-length-2 (emit-refer-R t) (emit-refer-at t) emit-refer.Post
-emit-refer-same-length-2 t c = c .before .before .before .before .before .before .emit-content .kept .1 .1 .1 .0 ∙ c .before .before .before .before .before .before .before .before .before .before .open .kept .1 .1 .0 ∙ c .before .before .before .before .before .before .before .before .before .before .before .before .before .before .put-reference .kept .0
-
-emit-refer-returns-2 : (t : ℕ) → emit-refer-lts.Need-returns-2 (emit-refer-R t) (emit-refer-at t) emit-refer.Post
-emit-refer-returns-2 t c = search (refer-done, c .before .before .before .before .before .before .before .before .before .before .before .before .before .before .before .before .before .before .before .before .before .pre .1 .0 .0, c .before .before .before .before .before .before .before .before .before .before .before .before .before .before .before .before .before .before .before .before .before .pre .1 .1, c .before .before .before .before .before .before .before .before .before .before .before .before .before .before .before .before .measure .ensures, c .before .before .before .before .before .before .before .before .before .before .before .before .before .before .put-reference .ensures, c .before .before .before .before .before .before .before .before .before .before .open .ensures, c .before .before .before .before .before .before .emit-content .ensures, c .before .before .if1 .left, c .before .close .ensures, c .stored .ensures .0, c .stored .ensures .1, c .stored .ensures .2)
+emit-refer-returns t c = search needs
 
 abbrev emit-table-Inv-loop : emit-table-lts.InvT-loop
 emit-table-Inv-loop b dir s out₀ d t c pos n p₀ at₀ j₀ out p at j =
@@ -655,15 +685,16 @@ emit-table-same-length-2 t c = search needs
 emit-table-returns-2 : (t : ℕ) → emit-table-lts.Need-returns-2 (emit-table-R t) (emit-table-at t) emit-table.Post emit-table-Inv-loop emit-table-μ-loop
 emit-table-returns-2 t c = search members-done
 
-pub +emit-body+emit-choice+emit-content+emit-element+emit-list+emit-part+emit-refer+emit-table-spec :
+pub +emit-body+emit-choice+emit-content+emit-element+emit-list+emit-measured+emit-part+emit-refer+emit-table-spec :
     {M : Type 1} → statement M
-+emit-body+emit-choice+emit-content+emit-element+emit-list+emit-part+emit-refer+emit-table-spec =
++emit-body+emit-choice+emit-content+emit-element+emit-list+emit-measured+emit-part+emit-refer+emit-table-spec =
     close
     μ-emit-body
     μ-emit-choice
     μ-emit-content
     μ-emit-element
     μ-emit-list
+    μ-emit-measured
     μ-emit-part
     μ-emit-refer
     μ-emit-table
@@ -759,6 +790,19 @@ pub +emit-body+emit-choice+emit-content+emit-element+emit-list+emit-part+emit-re
     (emit-list-stored-requires t)
     (emit-list-same-length-3 t)
     (emit-list-returns-4 t))
+    (λ t. emit-measured-lts.spec (emit-measured-R t)
+    (emit-measured-at t)
+    emit-measured.Post
+    (emit-measured-put-reference-requires t)
+    (emit-measured-open-requires t)
+    (emit-measured-emit-content-requires t)
+    (emit-measured-not-lawful-requires t)
+    (emit-measured-same-length t)
+    (emit-measured-returns t)
+    (emit-measured-close-requires t)
+    (emit-measured-stored-requires t)
+    (emit-measured-same-length-2 t)
+    (emit-measured-returns-2 t))
     (λ t. emit-part-lts.spec (emit-part-R t)
     (emit-part-at t)
     emit-part.Post
@@ -783,16 +827,9 @@ pub +emit-body+emit-choice+emit-content+emit-element+emit-list+emit-part+emit-re
     (emit-refer-at t)
     emit-refer.Post
     (emit-refer-measure-requires t)
-    (emit-refer-put-reference-requires t)
-    (emit-refer-open-requires t)
-    (emit-refer-emit-content-requires t)
-    (emit-refer-not-lawful-requires t)
+    (emit-refer-emit-measured-requires t)
     (emit-refer-same-length t)
-    (emit-refer-returns t)
-    (emit-refer-close-requires t)
-    (emit-refer-stored-requires t)
-    (emit-refer-same-length-2 t)
-    (emit-refer-returns-2 t))
+    (emit-refer-returns t))
     λ t. emit-table-lts.spec (emit-table-R t)
     (emit-table-at t)
     emit-table.Post
