@@ -12,9 +12,11 @@ use Rattle.coding.specs.Walk.{headerSize}
 use Rattle.coding.specs.declared.Object.{Object}
 use Rattle.coding.specs.declared.Object.the-variants as O
 use Rattle.survey.specs.Survey.{survey}
+use Rattle.survey.specs.declared.Extent.{Extent}
 use Rattle.store.specs.State.{State, putNumber}
 use Rattle.emit.specs.EmitSheet.{emitRefer, emit, emitMessage}
 use Rattle.store.specs.Storing.{stateOf, Stood}
+use Rattle.emit.specs.Measure.{Measured}
 use Rattle.emit.specs.Emitting.{Room, EmittedAt, MessageAt}
 use Rattle.store.specs.declared.Places.{Places}
 
@@ -47,3 +49,9 @@ message-done S s ob eo o p o₁ st w q o₂ n t =
       is = ap (λ (z : State). emitRefer (emit 32 u48 S) (survey 32 u48 S) u48 S false (O.Table (S .root)) z (bits s)) (sym (st .is))
           ∙ ap (λ (b : Object). emitRefer (emit 32 u48 S) (survey 32 u48 S) u48 S false b (stateOf p o₁) (bits s)) (sym eo) ∙ t .is;
     }
+
+-- by the extent of the root table
+pub message-measured : (S : Schema) (s : List ℕ) (e : Extent) → Measured false (survey deepest u48 S (O.Table (S .root)) (bits s)) e → (ob : Object) → ob ≡ O.Table (S .root)
+    → Measured false (survey 32 u48 S ob (drop 0 (bits s))) e
+unfolding deepest
+message-measured S s e m ob eo = rw eo m

@@ -18,8 +18,11 @@ use Rattle.coding.specs.Sheet.{Parsed, fail, got, bind}
 use Rattle.coding.specs.declared.Object.{Object}
 use Rattle.coding.specs.declared.Object.the-variants as O
 use Rattle.coding.specs.declared.Kind.{Kind}
+use Rattle.coding.specs.declared.Kind.the-variants.{OfObject}
 use Rattle.coding.specs.declared.Member.{Member}
+use Rattle.laws.specs.Sound.{ObjectSound, KindSound}
 use Rattle.schema.specs.Directory.{Accepted, accepted-sound}
+use Rattle.survey.proofs.ObjectCases.{element-sound}
 use Rattle.bitio.specs.Taken.{TakenNumber}
 use Rattle.survey.specs.Survey.{Surveyor, survey}
 use Rattle.survey.specs.declared.Extent.{Extent}
@@ -30,7 +33,7 @@ use Rattle.emit.specs.Measure.{Measured}
 use Rattle.store.specs.Storing.{stateOf, Stood}
 use Rattle.emit.specs.Emitting.{closed, referred, opened, emitMember, Room, EmittedAt, Opens}
 use Rattle.store.specs.declared.Places.{Places}
-use Rattle.emit.proofs.EmitRoom.{refused}
+use Rattle.emit.proofs.EmitRoom.{taken-at, refused}
 use Rattle.emit.proofs.EmitRest.{emitted-on}
 use Rattle.emit.proofs.EmitPartCases.{refer-unlawful, refer-closed}
 
@@ -112,19 +115,41 @@ module _ (child : Emitter) (measure : Surveyor) (S : Schema) (s : List ℕ) (i :
     unfolding emitContent bind
     elements-cut room h w q m ew eq em = refused s _ pos c 0 (rw (taken .number, not-true whole h)) room w q o m ew eq em
 
-    pub elements-start : not whole ≡ false → (k : Kind) → k ≡ Sc.elementOf S i
-        → emitContent child measure u48 S (O.List i) (stateOf c o) (drop pos (bits s)) ≡ emitElements child measure u48 S k (n - 0) (stateOf c o) (drop first (bits s))
-    unfolding emitContent bind
-    elements-start h k ek =
-        let e : n ≡ n - 0 = omega arith in
-        rw (taken .number, not-false whole h)
-        (ap (λ (q : Kind). emitElements child measure u48 S q n (stateOf c o) (drop first (bits s))) (sym ek)
-        ∙ ap (λ (y : ℕ). emitElements child measure u48 S k y (stateOf c o) (drop first (bits s))) e)
+  -- they are those of a list
+  pub list-elements : (k : Kind) → k ≡ Sc.elementOf S i → Room s pos c → (whole : Bool) (n first : ℕ) → TakenNumber s pos 32 whole n first → not whole ≡ false
+      → (t : Bool) (q : Places) (o₁ : List ℕ) (m : ℕ) → EmittedAt s (emitElements child measure u48 S k n (stateOf c o) (drop first (bits s))) first c 0 t q o₁ m
+      → EmittedAt s (emitContent child measure u48 S (O.List i) (stateOf c o) (drop pos (bits s))) pos c 0 t q o₁ m
+  unfolding emitContent bind
+  list-elements k ek room whole n first taken h t q o₁ m em =
+      let e = taken-at s pos 32 whole n first taken (room .here) h in
+      let a = em .at in
+      record {
+        is = rw (taken .number, not-false whole h) (ap (λ (j : Kind). emitElements child measure u48 S j n (stateOf c o) (drop first (bits s))) (sym ek) ∙ em .is);
+        here = em .here;
+        at = omega arith;
+        bool = em .bool;
+        tail = em .tail;
+        next = em .next;
+      }
 
+  pub list-objects : (k : Kind) → k ≡ Sc.elementOf S i → (ob : Object) → k ≡ OfObject ob → Room s pos c → (whole : Bool) (n first : ℕ) → TakenNumber s pos 32 whole n first → not whole ≡ false
+      → (t : Bool) (q : Places) (o₁ : List ℕ) (m : ℕ) → EmittedAt s (emitElements child measure u48 S (OfObject ob) n (stateOf c o) (drop first (bits s))) first c 0 t q o₁ m
+      → EmittedAt s (emitContent child measure u48 S (O.List i) (stateOf c o) (drop pos (bits s))) pos c 0 t q o₁ m
+  list-objects k ek ob eo room whole n first taken h t q o₁ m em = list-elements (OfObject ob) (sym eo ∙ ek) room whole n first taken h t q o₁ m em
+
+pub element-object : (b dir : List ℕ) → Accepted b dir → (i : ℕ) (k : Kind) → k ≡ Sc.elementOf (parse b) i → (ob : Object) → k ≡ OfObject ob → ObjectSound (parse b) ob
+element-object b dir a i k e ob eo = subst (KindSound (parse b)) eo (element-sound b dir a i k e)
+
+pub elements-start : (child : Emitter) (measure : Surveyor) (S : Schema) (k : Kind) (n : ℕ) (st : State) (xs : List ℕ)
+    → emitElements child measure u48 S k n st xs ≡ emitElements child measure u48 S k (n - 0) st xs
+elements-start child measure S k n st xs = let e : n ≡ n - 0 = omega arith in ap (λ (y : ℕ). emitElements child measure u48 S k y st xs) e
+
+-- `D`: all of them
+module _ (child : Emitter) (measure : Surveyor) (S : Schema) (s : List ℕ) (c : Places) (pos : ℕ) (D : Parsed State) where
   module _ (k : Kind) (n : ℕ) (p : Places) (o₁ : List ℕ) (at j : ℕ)
-      (inv : emitContent child measure u48 S (O.List i) (stateOf c o) (drop pos (bits s)) ≡ emitElements child measure u48 S k (n - j) (stateOf p o₁) (drop at (bits s))) where
+      (inv : D ≡ emitElements child measure u48 S k (n - j) (stateOf p o₁) (drop at (bits s))) where
     pub elements-done : n ≤ j → Room s at p → p .at + 8192 * pos ≤ c .at + 8192 * at → (w : Bool) (q : Places) (m : ℕ) → w ≡ true → q ≡ p → m ≡ at
-        → EmittedAt s (emitContent child measure u48 S (O.List i) (stateOf c o) (drop pos (bits s))) pos c 0 w q o₁ m
+        → EmittedAt s D pos c 0 w q o₁ m
     unfolding emitElements
     elements-done h room l w q m ew eq em =
         let z : n - j ≡ 0 = omega arith in
@@ -144,20 +169,20 @@ module _ (child : Emitter) (measure : Surveyor) (S : Schema) (s : List ℕ) (i :
       abbrev left : Parsed State → Parsed State
       left z = bind z (λ st ys. emitElements child measure u48 S k (n - (j + 1)) st ys)
 
-      opens : emitContent child measure u48 S (O.List i) (stateOf c o) (drop pos (bits s)) ≡ left (pick whole (got (stateOf y o₂) (drop next (bits s))) fail)
+      opens : D ≡ left (pick whole (got (stateOf y o₂) (drop next (bits s))) fail)
       unfolding emitElements
       opens =
           let z : n - j ≡ suc (n - (j + 1)) = omega arith in
           inv ∙ ap (λ (m : ℕ). emitElements child measure u48 S k m (stateOf p o₁) (drop at (bits s))) z ∙ ap left (em .is)
 
       pub elements-stopped : Room s pos c → not whole ≡ true → (w : Bool) (q : Places) (m : ℕ) → w ≡ false → q ≡ c → m ≡ pos
-          → EmittedAt s (emitContent child measure u48 S (O.List i) (stateOf c o) (drop pos (bits s))) pos c 0 w q o₂ m
+          → EmittedAt s D pos c 0 w q o₂ m
       unfolding bind
       elements-stopped room f w q m ew eq em′ =
           refused s _ pos c 0 (opens ∙ ap (λ (u : Bool). left (pick u (got (stateOf y o₂) (drop next (bits s))) fail)) (not-true whole f)) room w q o₂ m ew eq em′
 
       pub elements-turn : not whole ≡ false
-          → emitContent child measure u48 S (O.List i) (stateOf c o) (drop pos (bits s)) ≡ emitElements child measure u48 S k (n - (j + 1)) (stateOf y o₂) (drop next (bits s))
+          → D ≡ emitElements child measure u48 S k (n - (j + 1)) (stateOf y o₂) (drop next (bits s))
       unfolding bind
       elements-turn f = opens ∙ ap (λ (u : Bool). left (pick u (got (stateOf y o₂) (drop next (bits s))) fail)) (not-false whole f)
 

@@ -30,6 +30,9 @@ use Rattle.emit.specs.Measure.{Sizes, Measured}
 use Rattle.store.specs.Storing.{stateOf, HeldOk, leftObject, leftContent, Stood, BitPut}
 use Rattle.emit.specs.Emitting.{closed, referred, opened, emitMember, Room, EmittedAt, Lacks, Opens, extra}
 use Rattle.store.specs.declared.Places.{Places}
+use Rattle.survey.proofs.ObjectCases.{object-marked}
+use Rattle.emit.proofs.OpenCases.{flag-none}
+use Rattle.emit.proofs.EmitCases.{lacks-object}
 use Rattle.emit.proofs.EmitRoom.{taken-at, refused, extra-most, held-same}
 
 -- ---- an object: what refers to it, its content, and back; by offset or in place
@@ -314,3 +317,44 @@ module _ (child : Emitter) (measure : Surveyor) (S : Schema) (s : List ℕ) (k :
       → EmittedAt s (emitElement child measure u48 S k (stateOf c o) (drop pos (bits s))) pos c 0 w q o₁ n
   unfolding emitElement emitMember flagged hasFlag
   element-marked h m = rw (← et, h) m
+
+-- ---- an element that refers to an object, with its mark
+module _ (child : Emitter) (measure : Surveyor) (S : Schema) (s : List ℕ) (ob : Object) (c : Places) (o : List ℕ) (pos : ℕ) (room : Room s pos c)
+    (whole : Bool) (x next : ℕ) (taken : TakenNumber s pos 2 whole x next) where
+  abbrev plainObject : Member
+  plainObject = record { kind = OfObject ob; optional = false; inplace = false }
+
+  unflagged : (y : ℕ) → BitPut (flagged plainObject y (stateOf c o)) (stateOf c o) c c
+  unfolding hasFlag
+  unflagged y = flag-none plainObject y c o false refl refl (room .bool)
+
+  as-element : (w : Bool) (q : Places) (o₁ : List ℕ) (n : ℕ) → EmittedAt s (emitMember child measure u48 S plainObject (stateOf c o) (drop pos (bits s))) pos c 0 w q o₁ n
+      → EmittedAt s (emitElement child measure u48 S (OfObject ob) (stateOf c o) (drop pos (bits s))) pos c 0 w q o₁ n
+  as-element w q o₁ n t = element-marked child measure S s (OfObject ob) c o pos w q o₁ n false (sym (object-marked ob)) refl t
+
+  pub marked-cut : not whole ≡ true → (w : Bool) (q : Places) (n : ℕ) → w ≡ false → q ≡ c → n ≡ pos
+      → EmittedAt s (emitElement child measure u48 S (OfObject ob) (stateOf c o) (drop pos (bits s))) pos c 0 w q o n
+  marked-cut h w q n ew eq en = as-element w q o n (part-cut child measure S s plainObject c o pos room whole x next taken h w q n ew eq en)
+
+  module _ (h : not whole ≡ false) where
+    pub marked-there : x ≡ 1 → (w : Bool) (q : Places) (o₂ : List ℕ) (n : ℕ) → EmittedAt s (emitRefer child measure u48 S false ob (stateOf c o) (drop next (bits s))) next c 6 w q o₂ n
+        → EmittedAt s (emitElement child measure u48 S (OfObject ob) (stateOf c o) (drop pos (bits s))) pos c 0 w q o₂ n
+    marked-there z w q o₂ n t =
+        as-element w q o₂ n (part-there child measure S s plainObject c o pos room whole x next taken h z c o (unflagged 1) w q o₂ n
+        (body-object child measure S s (OfObject ob) false c o next w q o₂ n ob refl t))
+
+    pub marked-none : x ≡ 0 → (p : Places) (o₁ : List ℕ) → Stood 6 (putNumber 6 0 (stateOf c o)) (stateOf p o₁) c p → (w : Bool) (y : Places) (n : ℕ) → w ≡ true → y ≡ p → n ≡ next
+        → EmittedAt s (emitElement child measure u48 S (OfObject ob) (stateOf c o) (drop pos (bits s))) pos c 0 w y o₁ n
+    marked-none z p o₁ u w y n ew ey en =
+        as-element w y o₁ n (part-none child measure S s plainObject c o pos room whole x next taken h (λ e. (let v : ⊥ = omega arith in v)) (λ e. (let v : ⊥ = omega arith in v)) c o (unflagged 0) p o₁
+        (lacks-object S (OfObject ob) c p o o₁ ob refl (room .bool) u) z w y n ew ey en)
+
+    pub marked-bad : (x ≡ 1 → ⊥) → (x ≡ 0 → ⊥) → (w : Bool) (q : Places) (n : ℕ) → w ≡ false → q ≡ c → n ≡ pos
+        → EmittedAt s (emitElement child measure u48 S (OfObject ob) (stateOf c o) (drop pos (bits s))) pos c 0 w q o n
+    unfolding emitElement emitPart surveyMark bind bare pass
+    marked-bad h1 h0 w q n ew eq en =
+        refused s _ pos c 0 (rw (taken .number, not-false whole h) (simp (ne-eqb x 0 h0, ne-eqb x 1 h1) (by (eqb x 2)))) room w q o n ew eq en
+      where
+        by : (t : Bool) → _≡_ {A = Parsed State} (pick t fail fail) fail
+        by true = refl
+        by false = refl

@@ -2,7 +2,7 @@
 use mathlib.Core.Path.{_≡_, refl, sym, ap, ap₂, _∙_, subst}
 use mathlib.Core.Bool.{Bool, true, false, not, _&&_}
 use mathlib.Core.List.{List, [], _∷_}
-use Prim.Native.Nat.{ℕ, suc, _+_, _<_, _≤_}
+use Prim.Native.Nat.{ℕ, suc, _+_, _^_, _<_, _≤_}
 use native.Mathlib.Omega.{arith}
 use native.Mathlib.Numerals.{add-one}
 use lib.ListN.{length, drop, drop-of-length-le}
@@ -27,7 +27,7 @@ use Rattle.survey.specs.Survey.{Surveyor, opened, surveyElements, surveyBlob, s
 use Rattle.survey.specs.Mapped.{Has, bind-has}
 use Rattle.survey.specs.Surveyed.{Small, Fits, SurveyedAt}
 use Rattle.survey.specs.declared.Extent.{Extent}
-use Rattle.emit.specs.Measure.{Sizes, Measured, MeasuredContent, anyInPlace, list-sizes, table-sizes, measured-deep, measured-content}
+use Rattle.emit.specs.Measure.{Sizes, Measured, MeasuredContent, KnownSize, anyInPlace, list-sizes, table-sizes, measured-deep, measured-content}
 
 -- ---- whether a table has an in-place member, from member j on
 module _ (S : Schema) (t : ℕ) where
@@ -127,3 +127,21 @@ table-sound S ob i h e = subst (ObjectSound S) e h
 
 pub table-known : (b : List ℕ) (i j : ℕ) → ObjectSound (P.parse b) (O.Table i) → j ≡ i → j < P.tableCount b
 table-known b i j h e = table-counted b (O.Table i) i j h refl e
+
+-- ---- known sizes
+pub known-none : (S : Schema) (ob : Object) → KnownSize S ob 0
+known-none S ob = record { is = λ h d xs. absurd (let y : ⊥ = omega arith in y); small = omega arith }
+
+pub known-fixed : (S : Schema) (t n : ℕ) → n ≡ fixedSize u48 S (Sc.tableOf S t .members) → n < 2 ^ 40 → (r : Bool) → r ≡ anyInPlace (Sc.tableOf S t .members) → r ≡ false
+    → KnownSize S (O.Table t) n
+known-fixed S t n en l r er h =
+    record { is = λ g d xs. rw en (measured-deep d S false (O.Table t) xs _ (λ child. table-sizes child S false t (λ e. sym er ∙ h) xs)); small = l }
+
+pub known-table : (S : Schema) (ob : Object) (i j n : ℕ) → ob ≡ O.Table i → j ≡ i → KnownSize S (O.Table j) n → KnownSize S ob n
+known-table S ob i j n e ej k = subst (λ (q : Object). KnownSize S q n) (ap O.Table ej ∙ sym e) k
+
+pub known-small : (S : Schema) (ob : Object) (n : ℕ) → KnownSize S ob n → (n < 2 ^ 40) × (n < 2 ^ 48)
+known-small S ob n k = let l = k .small in (l, omega arith)
+
+pub known-measured : (d : ℕ) (S : Schema) (ob : Object) (n : ℕ) (xs : List ℕ) → KnownSize S ob n → 0 < n → (r : Extent) → Fits (opened n n) r → Measured false (survey d u48 S ob xs) r
+known-measured d S ob n xs k h r f = record { is = subst (λ (x : Extent). Has (Sizes false x) (survey d u48 S ob xs)) (sym (f .is)) (k .is h d xs); small = f .small }

@@ -1,6 +1,6 @@
 -- What an object takes, known without a survey of what stands in it: its length and its width are those that it opens with, and
 -- nothing stands in place behind a text, bytes, a list, or a table without an in-place member.
-use Prim.Native.Nat.{ℕ, zero, suc, _+_}
+use Prim.Native.Nat.{ℕ, zero, suc, _+_, _^_, _<_}
 use mathlib.Core.Path.{_≡_, refl, sym, ap, ap₂, _∙_, subst}
 use mathlib.Core.List.{List, [], _∷_}
 use mathlib.Core.Bool.{Bool, true, false, _&&_}
@@ -40,6 +40,11 @@ pub record Measured (inplace : Bool) (p : Parsed Extent) (r : Extent) : Type 0 w
 pub record MeasuredContent (S : Schema) (ob : Object) (xs : List ℕ) (r : Extent) : Type 0 where
   pub is : (child : Surveyor) → Has (Sizes false r) (surveyContent child u48 S ob xs)
   pub small : Small r
+
+-- where it is not 0, n is the length and the width of the object, whatever its sheet is, and nothing stands in place behind it
+pub record KnownSize (S : Schema) (ob : Object) (n : ℕ) : Type 0 where
+  pub is : 0 < n → (d : ℕ) (xs : List ℕ) → Has (Sizes false (opened n n)) (survey d u48 S ob xs)
+  pub small : n < 2 ^ 40
 
 unfoldable pub anyInPlace : List Member → Bool
 anyInPlace [] = false

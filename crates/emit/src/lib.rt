@@ -26,17 +26,18 @@ ghost use Rattle.survey.specs.Surveyed.{Small};
 ghost use Rattle.store.specs.State as St;
 ghost use Rattle.store.specs.Storing.{stateOf, HeldOk, BitPut, Stood};
 ghost use Rattle.emit.specs.EmitSheet as Es;
-ghost use Rattle.emit.specs.Measure.{Measured, MeasuredContent, anyInPlace};
+ghost use Rattle.emit.specs.Measure.{Measured, MeasuredContent, anyInPlace, KnownSize};
 ghost use Rattle.emit.specs.EmitRun.{emitRun, emitBare, integerWidth};
 ghost use Rattle.emit.specs.Emitting as Eg;
 ghost use Rattle.emit.specs.Emitting.{Room, EmittedAt};
 
 // ---- what leads to no object
-// Whether a part of the sheet is lawful; if so, where the message goes on behind it, and where the sheet does.
+// Whether a part of the sheet is lawful; if so, where the message goes on behind it, and where the sheet does. The bool stands
+// last for speed: behind its padding the places are copied slowly.
 pub struct Emitted {
-    pub whole: bool,
     pub places: Places,
     pub next: usize,
+    pub whole: bool,
 }
 
 fn stored(c: Places, next: usize) -> Emitted
@@ -600,8 +601,43 @@ fn measure(
     }
 }
 
+// ---- the size of an object's content where it is known before its sheet, that of a table behind which nothing stands in place;
+// 0 where it is not
+fn known_table(b: &[u8], dir: &[u16], t: usize) -> usize
+    requires { ⌜ (Accepted (now b) (now dir)) × (t < P.tableCount (now b)) ⌝ }
+    ensures { λ r. ⌜ KnownSize (P.parse (now (b .entry))) (Object.Table t) r ⌝ }
+{
+    if any_in_place(b, dir, t) {
+        return 0;
+    }
+    survey::fixed_size(b, dir, t)
+}
+
+fn known_size(b: &[u8], dir: &[u16], ob: Object) -> usize
+    requires { ⌜ (Accepted (now b) (now dir)) × (ObjectSound (P.parse (now b)) ob) ⌝ }
+    ensures { λ r. ⌜ KnownSize (P.parse (now (b .entry))) ob r ⌝ }
+{
+    match ob {
+        Object::Text => 0,
+        Object::Bytes => 0,
+        Object::List(_) => 0,
+        Object::Table(t) => known_table(b, dir, wire::index(t)),
+    }
+}
+
+// By its known size n, or else measured.
+fn measure_by(b: &[u8], dir: &[u16], s: &[u8], d: usize, ob: Object, n: usize, pos: usize) -> Extent
+    requires { ⌜ (Accepted (now b) (now dir)) × (ObjectSound (P.parse (now b)) ob) × (KnownSize (P.parse (now b)) ob n) × (length (now s) ≤ 16777215) × (pos ≤ 8 * length (now s)) ⌝ }
+    ensures { λ r. ⌜ Measured false (Sv.survey d B.u48 (P.parse (now (b .entry))) ob (drop pos (bits (now (s .entry))))) r ⌝ }
+{
+    if 0 < n {
+        return survey::opened(n, n);
+    }
+    measure(b, dir, s, d, ob, false, pos)
+}
+
 // ---- members, elements and objects
-// An object that is referred to, or stands in place, once its extent is known.
+// An object that is referred to, or stands in place.
 fn emit_refer(
     b: &[u8],
     dir: &[u16],
@@ -618,6 +654,26 @@ fn emit_refer(
     ensures { λ r. ⌜ EmittedAt (now (s .entry)) (Es.emitRefer (Es.emit d B.u48 (P.parse (now (b .entry)))) (Sv.survey d B.u48 (P.parse (now (b .entry)))) B.u48 (P.parse (now (b .entry))) inplace ob (stateOf c (now (out .entry))) (drop pos (bits (now (s .entry))))) pos c 6 (r .whole) (r .places) (now (out .exit)) (r .next) ⌝ }
 {
     let e = measure(b, dir, s, d, ob, inplace, pos);
+    emit_measured(b, dir, s, out, d, ob, inplace, e, c, pos)
+}
+
+// The same, once its extent is known.
+fn emit_measured(
+    b: &[u8],
+    dir: &[u16],
+    s: &[u8],
+    out: &mut [u8],
+    d: usize,
+    ob: Object,
+    inplace: bool,
+    e: Extent,
+    c: Places,
+    pos: usize,
+) -> Emitted
+    requires { ⌜ (Accepted (now b) (now dir)) × (ObjectSound (P.parse (now b)) ob) × (Measured inplace (Sv.survey d B.u48 (P.parse (now b)) ob (drop pos (bits (now s)))) e) ⌝ }
+    requires { ⌜ Room (now s) pos c ⌝ }
+    ensures { λ r. ⌜ EmittedAt (now (s .entry)) (Es.emitRefer (Es.emit d B.u48 (P.parse (now (b .entry)))) (Sv.survey d B.u48 (P.parse (now (b .entry)))) B.u48 (P.parse (now (b .entry))) inplace ob (stateOf c (now (out .entry))) (drop pos (bits (now (s .entry))))) pos c 6 (r .whole) (r .places) (now (out .exit)) (r .next) ⌝ }
+{
     let p = put_reference(out, inplace, e, c);
     let q = open(b, dir, out, ob, inplace, e, p);
     let y = emit_content(b, dir, s, out, d, ob, q, pos);
@@ -779,6 +835,103 @@ fn emit_table(
     stored(p, at)
 }
 
+// ---- lists
+// An object that an element refers to, with its mark; n is its known size.
+fn emit_marked(
+    b: &[u8],
+    dir: &[u16],
+    s: &[u8],
+    out: &mut [u8],
+    d: usize,
+    ob: Object,
+    n: usize,
+    c: Places,
+    pos: usize,
+) -> Emitted
+    requires { ⌜ (Accepted (now b) (now dir)) × (ObjectSound (P.parse (now b)) ob) × (KnownSize (P.parse (now b)) ob n) ⌝ }
+    requires { ⌜ Room (now s) pos c ⌝ }
+    ensures { λ r. ⌜ EmittedAt (now (s .entry)) (Es.emitElement (Es.emit d B.u48 (P.parse (now (b .entry)))) (Sv.survey d B.u48 (P.parse (now (b .entry)))) B.u48 (P.parse (now (b .entry))) (Kind.OfObject ob) (stateOf c (now (out .entry))) (drop pos (bits (now (s .entry))))) pos c 0 (r .whole) (r .places) (now (out .exit)) (r .next) ⌝ }
+{
+    let x = bitio::take_number(s, pos, 2);
+    if !x.whole {
+        return not_lawful(c, pos);
+    }
+    let mark = x.value;
+    let next = x.next;
+    if mark == 1 {
+        let e = measure_by(b, dir, s, d, ob, n, next);
+        return emit_measured(b, dir, s, out, d, ob, false, e, c, next);
+    }
+    if mark == 0 {
+        let p = store::put_number(out, c, 6, 0);
+        return stored(p, next);
+    }
+    not_lawful(c, pos)
+}
+
+// n elements that refer to objects.
+fn emit_objects(
+    b: &[u8],
+    dir: &[u16],
+    s: &[u8],
+    out: &mut [u8],
+    d: usize,
+    ob: Object,
+    n: usize,
+    c: Places,
+    pos: usize,
+) -> Emitted
+    requires { ⌜ (Accepted (now b) (now dir)) × (ObjectSound (P.parse (now b)) ob) × (n < 2 ^ 32) ⌝ }
+    requires { ⌜ Room (now s) pos c ⌝ }
+    ensures { λ r. ⌜ EmittedAt (now (s .entry)) (Es.emitElements (Es.emit d B.u48 (P.parse (now (b .entry)))) (Sv.survey d B.u48 (P.parse (now (b .entry)))) B.u48 (P.parse (now (b .entry))) (Kind.OfObject ob) n (stateOf c (now (out .entry))) (drop pos (bits (now (s .entry))))) pos c 0 (r .whole) (r .places) (now (out .exit)) (r .next) ⌝ }
+{
+    let size = known_size(b, dir, ob);
+    let mut p = c;
+    let mut at = pos;
+    let mut j: usize = 0;
+    while j < n {
+        let x = emit_marked(b, dir, s, out, d, ob, size, p, at);
+        if !x.whole {
+            return not_lawful(c, pos);
+        }
+        at = x.next;
+        p = x.places;
+        j += 1;
+    }
+    stored(p, at)
+}
+
+// n elements.
+fn emit_elements(
+    b: &[u8],
+    dir: &[u16],
+    s: &[u8],
+    out: &mut [u8],
+    d: usize,
+    k: Kind,
+    n: usize,
+    c: Places,
+    pos: usize,
+) -> Emitted
+    requires { ⌜ (Accepted (now b) (now dir)) × (KindSound (P.parse (now b)) k) × (n < 2 ^ 32) ⌝ }
+    requires { ⌜ Room (now s) pos c ⌝ }
+    ensures { λ r. ⌜ EmittedAt (now (s .entry)) (Es.emitElements (Es.emit d B.u48 (P.parse (now (b .entry)))) (Sv.survey d B.u48 (P.parse (now (b .entry)))) B.u48 (P.parse (now (b .entry))) k n (stateOf c (now (out .entry))) (drop pos (bits (now (s .entry))))) pos c 0 (r .whole) (r .places) (now (out .exit)) (r .next) ⌝ }
+{
+    let mut p = c;
+    let mut at = pos;
+    let mut j: usize = 0;
+    while j < n {
+        let x = emit_element(b, dir, s, out, d, k, p, at);
+        if !x.whole {
+            return not_lawful(c, pos);
+        }
+        at = x.next;
+        p = x.places;
+        j += 1;
+    }
+    stored(p, at)
+}
+
 // A list's content.
 fn emit_list(
     b: &[u8],
@@ -803,19 +956,11 @@ fn emit_list(
     if survey::bare(k) {
         return emit_bare(s, out, integer_width(k), n, c, y.next);
     }
-    let mut p = c;
-    let mut at = y.next;
-    let mut j: usize = 0;
-    while j < n {
-        let x = emit_element(b, dir, s, out, d, k, p, at);
-        if !x.whole {
-            return not_lawful(c, pos);
-        }
-        at = x.next;
-        p = x.places;
-        j += 1;
+    match k {
+        Kind::OfFlat(_) => emit_elements(b, dir, s, out, d, k, n, c, y.next),
+        Kind::OfObject(ob) => emit_objects(b, dir, s, out, d, ob, n, c, y.next),
+        Kind::OfUnion(_) => emit_elements(b, dir, s, out, d, k, n, c, y.next),
     }
-    stored(p, at)
 }
 
 // An object's content, d objects deep.
@@ -845,9 +990,9 @@ fn emit_content(
 }
 
 // ---- the whole message
-// The message's start and the root table, into a buffer of the message's length.
-pub fn emit_message(b: &[u8], dir: &[u16], s: &[u8], out: &mut [u8]) -> Emitted
-    requires { ⌜ (Accepted (now b) (now dir)) × (length (now s) ≤ 16777215) ⌝ }
+// The message's start and the root table, which takes e, into a buffer of the message's length.
+pub fn emit_message(b: &[u8], dir: &[u16], s: &[u8], e: Extent, out: &mut [u8]) -> Emitted
+    requires { ⌜ (Accepted (now b) (now dir)) × (length (now s) ≤ 16777215) × (Measured false (Sv.survey B.deepest B.u48 (P.parse (now b)) (Object.Table (P.parse (now b) .root)) (bits (now s))) e) ⌝ }
     ensures { λ r. ⌜ Eg.MessageAt (now (s .entry)) (Es.emitMessage B.u48 (P.parse (now (b .entry))) (now (out .entry)) (bits (now (s .entry)))) (r .whole) (r .places) (now (out .exit)) (r .next) ⌝ }
 {
     let start = Places {
@@ -860,5 +1005,5 @@ pub fn emit_message(b: &[u8], dir: &[u16], s: &[u8], out: &mut [u8]) -> Emitted
     };
     let ob = object::root_object(b, dir);
     let p = store::put_number(out, start, 4, 0xB5C0_C4B3);
-    emit_refer(b, dir, s, out, 32, ob, false, p, 0)
+    emit_measured(b, dir, s, out, 32, ob, false, e, p, 0)
 }

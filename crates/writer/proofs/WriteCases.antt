@@ -30,6 +30,7 @@ use Rattle.survey.specs.declared.Extent.{Extent}
 use Rattle.store.specs.State.{State}
 use Rattle.emit.specs.EmitSheet.{emitMessage}
 use Rattle.store.specs.Storing.{stateOf}
+use Rattle.emit.specs.Measure.{Measured}
 use Rattle.emit.specs.Emitting.{MessageAt}
 use Rattle.writer.specs.Writing.{LawfulSheet, onlyEnd, messageSize}
 use Rattle.emit.specs.EmitObjects.{is-got}
@@ -114,6 +115,10 @@ size-is x = refl
 pub sheet-short : (b s : List ℕ) (x : Extent) → LawfulSheet b s x → length s ≤ 16777215
 unfolding largest
 sheet-short b s x k = k .short
+
+-- the sizes of the root table are those of the survey
+pub sheet-measured : (b s : List ℕ) (x : Extent) → LawfulSheet b s x → Measured false (survey deepest u48 (parse b) (O.Table (parse b .root)) (bits s)) x
+sheet-measured b s x k = record { is = rw (k .sheet) (record { length = refl; width = refl; chain = λ e. refl }); small = k .small }
 
 -- ---- the sheet is too long
 module _ (b dir s o : List ℕ) (a : Accepted b dir) (h : 16777215 < length s) where

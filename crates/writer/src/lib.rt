@@ -54,7 +54,7 @@ fn write_lawful(b: &[u8], dir: &[u16], s: &[u8], e: Extent, out: &mut [u8]) -> W
     if out.len() < n {
         return refused(14);
     }
-    emit::emit_message(b, dir, s, &mut out[..n]);
+    emit::emit_message(b, dir, s, e, &mut out[..n]);
     WriteAnswer {
         number: 0,
         length: n,

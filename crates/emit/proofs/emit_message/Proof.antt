@@ -1,11 +1,11 @@
 use borrow.Author.Needs.{needs}
-use Rattle.emit.proofs.EmitMessageCases.{message-room, message-done}
+use Rattle.emit.proofs.EmitMessageCases.{message-measured, message-room, message-done}
 use Rattle.emit.proofs.emit_message.Statement.{statement}
 use Rattle.emit.proofs.emit_message.Tie as tie
 use Rattle.emit.proofs.emit_message.Reads as reads
 use Rattle.emit.proofs.emit_message.Lts as lts
 use Rattle.object.proofs.root_object.Reads as root-object-reads
-use Rattle.emit.proofs.emit_refer.Reads as emit-refer-reads
+use Rattle.emit.proofs.emit_measured.Reads as emit-measured-reads
 use Rattle.store.proofs.put_number.Reads as put-number-reads
 
 -- src/lib.rt:1024:9
@@ -17,8 +17,8 @@ put-number-requires : tie.Need-put-number-requires
 put-number-requires c κs = search needs
 
 -- src/lib.rt:1026:5
-emit-refer-requires : tie.Need-emit-refer-requires
-emit-refer-requires c κs = search (message-room, needs)
+emit-measured-requires : tie.Need-emit-measured-requires
+emit-measured-requires c κs = search (message-room, message-measured, needs)
 
 -- src/lib.rt:1012:1
 same-length : tie.Need-same-length
@@ -31,4 +31,4 @@ returns c = search message-done
 pub emit-message-spec : {M : Type 1} → statement M
 emit-message-spec =
     tie.close
-    (tie.spec root-object-requires put-number-requires emit-refer-requires same-length returns)
+    (tie.spec root-object-requires put-number-requires emit-measured-requires same-length returns)

@@ -1,4 +1,4 @@
-use Rattle.writer.proofs.WriteCases.{sheet-short, not-answer, not-out, over-answer, over-out, full-answer, full-out, done-answer, done-out, taken}
+use Rattle.writer.proofs.WriteCases.{sheet-short, sheet-measured, not-answer, not-out, over-answer, over-out, full-answer, full-out, done-answer, done-out, taken}
 use borrow.Author.Needs.{needs}
 use Rattle.writer.proofs.write_lawful.Statement.{statement}
 use Rattle.writer.proofs.write_lawful.Tie as tie
@@ -46,7 +46,7 @@ slice-aggregate-emit-message c = search taken
 
 -- src/lib.rt:115:5
 emit-message-requires : tie.Need-emit-message-requires
-emit-message-requires c κs = (search needs, search sheet-short)
+emit-message-requires c κs = (search needs, search sheet-short, search sheet-measured)
 
 -- src/lib.rt:100:1
 same-length : tie.Need-same-length

@@ -8,6 +8,7 @@ use Rattle.coding.specs.Bits.{bits}
 use Rattle.coding.specs.Packed as P
 use Rattle.coding.specs.Schema as Sc
 use Rattle.coding.specs.declared.Object.the-variants as O
+use Rattle.coding.specs.declared.Kind.the-variants.{OfObject}
 use Rattle.survey.specs.Survey.{survey}
 use Rattle.emit.specs.EmitSheet.{emitMembers, emitElements, emitContent, emit}
 use Rattle.store.specs.Storing.{stateOf}
@@ -15,35 +16,47 @@ use Rattle.emit.specs.Emitting.{Room}
 use Rattle.survey.proofs.PartCases.{kind-flat, kind-object, union-counted, case-sound}
 use Rattle.survey.proofs.ObjectCases.{list-counted, table-counted, element-sound, member-kind, member-counted}
 use Rattle.emit.proofs.EmitRoom.{room-taken, taken-on, room-choice, room-flag, room-lack, room-open, room-part, room-below, stood-next, stood-tail}
-use Rattle.emit.proofs.EmitPartCases.{choice-cut, choice-zero, choice-above, choice-known, body-flat, body-object, body-union, part-cut, part-there, part-bad, part-none, part-pass, element-bare, element-marked}
-use Rattle.emit.proofs.EmitObjectCases.{refer-cut, refer-done, members-start, members-done, members-stopped, members-turn, elements-cut, elements-start, elements-done, elements-stopped, elements-turn, content-deep, content-text, content-bytes, content-list, content-table}
+use Rattle.emit.proofs.EmitPartCases.{choice-cut, choice-zero, choice-above, choice-known, body-flat, body-object, body-union, part-cut, part-there, part-bad, part-none, part-pass, element-bare, element-marked, marked-cut, marked-there, marked-none, marked-bad}
+use Rattle.emit.proofs.EmitObjectCases.{refer-cut, refer-done, members-start, members-done, members-stopped, members-turn, elements-cut, list-elements, list-objects, element-object, elements-start, elements-done, elements-stopped, elements-turn, content-deep, content-text, content-bytes, content-list, content-table}
 use Rattle.emit.proofs.RunCases.{integer-wide, list-run}
 use borrow.Fn.Kinds.{In}
 use borrow.Fn.PlainCycle.{Measures, is, falls, and}
 use Rattle.emit.proofs.emit_body.Reads as emit-body
 use Rattle.emit.proofs.emit_body.Kinds as emit-body-kinds
-use Rattle.emit.proofs.+emit_body+emit_choice+emit_content+emit_element+emit_list+emit_part+emit_refer+emit_table.Lts-emit_body as emit-body-lts
+use Rattle.emit.proofs.+emit_body+emit_choice+emit_content+emit_element+emit_elements+emit_list+emit_marked+emit_measured+emit_objects+emit_part+emit_refer+emit_table.Lts-emit_body as emit-body-lts
 use Rattle.emit.proofs.emit_choice.Reads as emit-choice
 use Rattle.emit.proofs.emit_choice.Kinds as emit-choice-kinds
-use Rattle.emit.proofs.+emit_body+emit_choice+emit_content+emit_element+emit_list+emit_part+emit_refer+emit_table.Lts-emit_choice as emit-choice-lts
+use Rattle.emit.proofs.+emit_body+emit_choice+emit_content+emit_element+emit_elements+emit_list+emit_marked+emit_measured+emit_objects+emit_part+emit_refer+emit_table.Lts-emit_choice as emit-choice-lts
 use Rattle.emit.proofs.emit_content.Reads as emit-content
 use Rattle.emit.proofs.emit_content.Kinds as emit-content-kinds
-use Rattle.emit.proofs.+emit_body+emit_choice+emit_content+emit_element+emit_list+emit_part+emit_refer+emit_table.Lts-emit_content as emit-content-lts
+use Rattle.emit.proofs.+emit_body+emit_choice+emit_content+emit_element+emit_elements+emit_list+emit_marked+emit_measured+emit_objects+emit_part+emit_refer+emit_table.Lts-emit_content as emit-content-lts
 use Rattle.emit.proofs.emit_element.Reads as emit-element
 use Rattle.emit.proofs.emit_element.Kinds as emit-element-kinds
-use Rattle.emit.proofs.+emit_body+emit_choice+emit_content+emit_element+emit_list+emit_part+emit_refer+emit_table.Lts-emit_element as emit-element-lts
+use Rattle.emit.proofs.+emit_body+emit_choice+emit_content+emit_element+emit_elements+emit_list+emit_marked+emit_measured+emit_objects+emit_part+emit_refer+emit_table.Lts-emit_element as emit-element-lts
+use Rattle.emit.proofs.emit_elements.Reads as emit-elements
+use Rattle.emit.proofs.emit_elements.Kinds as emit-elements-kinds
+use Rattle.emit.proofs.+emit_body+emit_choice+emit_content+emit_element+emit_elements+emit_list+emit_marked+emit_measured+emit_objects+emit_part+emit_refer+emit_table.Lts-emit_elements as emit-elements-lts
 use Rattle.emit.proofs.emit_list.Reads as emit-list
 use Rattle.emit.proofs.emit_list.Kinds as emit-list-kinds
-use Rattle.emit.proofs.+emit_body+emit_choice+emit_content+emit_element+emit_list+emit_part+emit_refer+emit_table.Lts-emit_list as emit-list-lts
+use Rattle.emit.proofs.+emit_body+emit_choice+emit_content+emit_element+emit_elements+emit_list+emit_marked+emit_measured+emit_objects+emit_part+emit_refer+emit_table.Lts-emit_list as emit-list-lts
+use Rattle.emit.proofs.emit_marked.Reads as emit-marked
+use Rattle.emit.proofs.emit_marked.Kinds as emit-marked-kinds
+use Rattle.emit.proofs.+emit_body+emit_choice+emit_content+emit_element+emit_elements+emit_list+emit_marked+emit_measured+emit_objects+emit_part+emit_refer+emit_table.Lts-emit_marked as emit-marked-lts
+use Rattle.emit.proofs.emit_measured.Reads as emit-measured
+use Rattle.emit.proofs.emit_measured.Kinds as emit-measured-kinds
+use Rattle.emit.proofs.+emit_body+emit_choice+emit_content+emit_element+emit_elements+emit_list+emit_marked+emit_measured+emit_objects+emit_part+emit_refer+emit_table.Lts-emit_measured as emit-measured-lts
+use Rattle.emit.proofs.emit_objects.Reads as emit-objects
+use Rattle.emit.proofs.emit_objects.Kinds as emit-objects-kinds
+use Rattle.emit.proofs.+emit_body+emit_choice+emit_content+emit_element+emit_elements+emit_list+emit_marked+emit_measured+emit_objects+emit_part+emit_refer+emit_table.Lts-emit_objects as emit-objects-lts
 use Rattle.emit.proofs.emit_part.Reads as emit-part
 use Rattle.emit.proofs.emit_part.Kinds as emit-part-kinds
-use Rattle.emit.proofs.+emit_body+emit_choice+emit_content+emit_element+emit_list+emit_part+emit_refer+emit_table.Lts-emit_part as emit-part-lts
+use Rattle.emit.proofs.+emit_body+emit_choice+emit_content+emit_element+emit_elements+emit_list+emit_marked+emit_measured+emit_objects+emit_part+emit_refer+emit_table.Lts-emit_part as emit-part-lts
 use Rattle.emit.proofs.emit_refer.Reads as emit-refer
 use Rattle.emit.proofs.emit_refer.Kinds as emit-refer-kinds
-use Rattle.emit.proofs.+emit_body+emit_choice+emit_content+emit_element+emit_list+emit_part+emit_refer+emit_table.Lts-emit_refer as emit-refer-lts
+use Rattle.emit.proofs.+emit_body+emit_choice+emit_content+emit_element+emit_elements+emit_list+emit_marked+emit_measured+emit_objects+emit_part+emit_refer+emit_table.Lts-emit_refer as emit-refer-lts
 use Rattle.emit.proofs.emit_table.Reads as emit-table
 use Rattle.emit.proofs.emit_table.Kinds as emit-table-kinds
-use Rattle.emit.proofs.+emit_body+emit_choice+emit_content+emit_element+emit_list+emit_part+emit_refer+emit_table.Lts-emit_table as emit-table-lts
+use Rattle.emit.proofs.+emit_body+emit_choice+emit_content+emit_element+emit_elements+emit_list+emit_marked+emit_measured+emit_objects+emit_part+emit_refer+emit_table.Lts-emit_table as emit-table-lts
 use Rattle.bitio.proofs.take_number.Reads as take-number-reads
 use Rattle.schema.proofs.case_count.Reads as case-count-reads
 use Rattle.schema.proofs.element.Reads as element-reads
@@ -59,44 +72,58 @@ use Rattle.emit.proofs.emit_bare.Reads as emit-bare-reads
 use Rattle.emit.proofs.emit_text.Reads as emit-text-reads
 use Rattle.emit.proofs.flag.Reads as flag-reads
 use Rattle.emit.proofs.integer_width.Reads as integer-width-reads
+use Rattle.emit.proofs.known_size.Reads as known-size-reads
 use Rattle.emit.proofs.lack.Reads as lack-reads
 use Rattle.emit.proofs.measure.Reads as measure-reads
+use Rattle.emit.proofs.measure_by.Reads as measure-by-reads
 use Rattle.emit.proofs.not_lawful.Reads as not-lawful-reads
 use Rattle.emit.proofs.open.Reads as open-reads
 use Rattle.emit.proofs.pass.Reads as pass-reads
 use Rattle.store.proofs.put_number.Reads as put-number-reads
 use Rattle.emit.proofs.put_reference.Reads as put-reference-reads
 use Rattle.emit.proofs.stored.Reads as stored-reads
-use Rattle.emit.proofs.+emit_body+emit_choice+emit_content+emit_element+emit_list+emit_part+emit_refer+emit_table.{
+use Rattle.emit.proofs.+emit_body+emit_choice+emit_content+emit_element+emit_elements+emit_list+emit_marked+emit_measured+emit_objects+emit_part+emit_refer+emit_table.{
   statement,
 }
-use Rattle.emit.proofs.+emit_body+emit_choice+emit_content+emit_element+emit_list+emit_part+emit_refer+emit_table.Tie.{
+use Rattle.emit.proofs.+emit_body+emit_choice+emit_content+emit_element+emit_elements+emit_list+emit_marked+emit_measured+emit_objects+emit_part+emit_refer+emit_table.Tie.{
   close,
 }
 
 abbrev μ-emit-body : Measures 4 emit-body-kinds.ps ℕ
-μ-emit-body κs a = 8 * a .1 .1 .1 .1 .0 + 3
+μ-emit-body κs a = 16 * a .1 .1 .1 .1 .0 + 4
 
 abbrev μ-emit-choice : Measures 4 emit-choice-kinds.ps ℕ
-μ-emit-choice κs a = 8 * a .1 .1 .1 .1 .0 + 2
+μ-emit-choice κs a = 16 * a .1 .1 .1 .1 .0 + 3
 
 abbrev μ-emit-content : Measures 4 emit-content-kinds.ps ℕ
-μ-emit-content κs a = 8 * a .1 .1 .1 .1 .0 + 0
+μ-emit-content κs a = 16 * a .1 .1 .1 .1 .0 + 0
 
 abbrev μ-emit-element : Measures 4 emit-element-kinds.ps ℕ
-μ-emit-element κs a = 8 * a .1 .1 .1 .1 .0 + 5
+μ-emit-element κs a = 16 * a .1 .1 .1 .1 .0 + 6
+
+abbrev μ-emit-elements : Measures 4 emit-elements-kinds.ps ℕ
+μ-emit-elements κs a = 16 * a .1 .1 .1 .1 .0 + 7
 
 abbrev μ-emit-list : Measures 4 emit-list-kinds.ps ℕ
-μ-emit-list κs a = 8 * a .1 .1 .1 .1 .0 + 6
+μ-emit-list κs a = 16 * a .1 .1 .1 .1 .0 + 8
+
+abbrev μ-emit-marked : Measures 4 emit-marked-kinds.ps ℕ
+μ-emit-marked κs a = 16 * a .1 .1 .1 .1 .0 + 2
+
+abbrev μ-emit-measured : Measures 4 emit-measured-kinds.ps ℕ
+μ-emit-measured κs a = 16 * a .1 .1 .1 .1 .0 + 1
+
+abbrev μ-emit-objects : Measures 4 emit-objects-kinds.ps ℕ
+μ-emit-objects κs a = 16 * a .1 .1 .1 .1 .0 + 3
 
 abbrev μ-emit-part : Measures 4 emit-part-kinds.ps ℕ
-μ-emit-part κs a = 8 * a .1 .1 .1 .1 .0 + 4
+μ-emit-part κs a = 16 * a .1 .1 .1 .1 .0 + 5
 
 abbrev μ-emit-refer : Measures 4 emit-refer-kinds.ps ℕ
-μ-emit-refer κs a = 8 * a .1 .1 .1 .1 .0 + 1
+μ-emit-refer κs a = 16 * a .1 .1 .1 .1 .0 + 2
 
 abbrev μ-emit-table : Measures 4 emit-table-kinds.ps ℕ
-μ-emit-table κs a = 8 * a .1 .1 .1 .1 .0 + 6
+μ-emit-table κs a = 16 * a .1 .1 .1 .1 .0 + 8
 
 abbrev emit-body-at : ℕ → In 4 emit-body-kinds.ps
 emit-body-at t = and 4 emit-body-kinds.ps (is 4 emit-body-kinds.ps μ-emit-body t) emit-body.Pre
@@ -137,12 +164,42 @@ emit-element-below t =
     (falls 4 emit-element-kinds.ps _<_ μ-emit-element t)
     emit-element.Pre
 
+abbrev emit-elements-at : ℕ → In 4 emit-elements-kinds.ps
+emit-elements-at t = and 4 emit-elements-kinds.ps (is 4 emit-elements-kinds.ps μ-emit-elements t) emit-elements.Pre
+
+abbrev emit-elements-below : ℕ → In 4 emit-elements-kinds.ps
+emit-elements-below t = and 4 emit-elements-kinds.ps (falls 4 emit-elements-kinds.ps _<_ μ-emit-elements t) emit-elements.Pre
+
 abbrev emit-list-at : ℕ → In 4 emit-list-kinds.ps
 emit-list-at t = and 4 emit-list-kinds.ps (is 4 emit-list-kinds.ps μ-emit-list t) emit-list.Pre
 
 abbrev emit-list-below : ℕ → In 4 emit-list-kinds.ps
 emit-list-below t =
     and 4 emit-list-kinds.ps (falls 4 emit-list-kinds.ps _<_ μ-emit-list t) emit-list.Pre
+
+abbrev emit-marked-at : ℕ → In 4 emit-marked-kinds.ps
+emit-marked-at t = and 4 emit-marked-kinds.ps (is 4 emit-marked-kinds.ps μ-emit-marked t) emit-marked.Pre
+
+abbrev emit-marked-below : ℕ → In 4 emit-marked-kinds.ps
+emit-marked-below t = and 4 emit-marked-kinds.ps (falls 4 emit-marked-kinds.ps _<_ μ-emit-marked t) emit-marked.Pre
+
+abbrev emit-measured-at : ℕ → In 4 emit-measured-kinds.ps
+emit-measured-at t =
+    and 4 emit-measured-kinds.ps (is 4 emit-measured-kinds.ps μ-emit-measured t) emit-measured.Pre
+
+abbrev emit-measured-below : ℕ → In 4 emit-measured-kinds.ps
+emit-measured-below t =
+    and
+    4
+    emit-measured-kinds.ps
+    (falls 4 emit-measured-kinds.ps _<_ μ-emit-measured t)
+    emit-measured.Pre
+
+abbrev emit-objects-at : ℕ → In 4 emit-objects-kinds.ps
+emit-objects-at t = and 4 emit-objects-kinds.ps (is 4 emit-objects-kinds.ps μ-emit-objects t) emit-objects.Pre
+
+abbrev emit-objects-below : ℕ → In 4 emit-objects-kinds.ps
+emit-objects-below t = and 4 emit-objects-kinds.ps (falls 4 emit-objects-kinds.ps _<_ μ-emit-objects t) emit-objects.Pre
 
 abbrev emit-part-at : ℕ → In 4 emit-part-kinds.ps
 emit-part-at t = and 4 emit-part-kinds.ps (is 4 emit-part-kinds.ps μ-emit-part t) emit-part.Pre
@@ -179,14 +236,26 @@ emit-content-R t = (not-lawful-reads.Asked, not-lawful-reads.Learnt, emit-text-r
 abbrev emit-element-R : ℕ → emit-element-lts.Claims
 emit-element-R t = (bare-reads.Asked, bare-reads.Learnt, emit-body-below t, emit-body.Post, emit-part-below t, emit-part.Post)
 
+abbrev emit-elements-R : ℕ → emit-elements-lts.Claims
+emit-elements-R t = (emit-element-below t, emit-element.Post, not-lawful-reads.Asked, not-lawful-reads.Learnt, stored-reads.Asked, stored-reads.Learnt)
+
 abbrev emit-list-R : ℕ → emit-list-lts.Claims
-emit-list-R t = (take-number-reads.Asked, take-number-reads.Learnt, not-lawful-reads.Asked, not-lawful-reads.Learnt, element-reads.Asked, element-reads.Learnt, bare-reads.Asked, bare-reads.Learnt, integer-width-reads.Asked, integer-width-reads.Learnt, emit-bare-reads.Asked, emit-bare-reads.Learnt, emit-element-below t, emit-element.Post, stored-reads.Asked, stored-reads.Learnt)
+emit-list-R t = (take-number-reads.Asked, take-number-reads.Learnt, not-lawful-reads.Asked, not-lawful-reads.Learnt, element-reads.Asked, element-reads.Learnt, bare-reads.Asked, bare-reads.Learnt, integer-width-reads.Asked, integer-width-reads.Learnt, emit-bare-reads.Asked, emit-bare-reads.Learnt, emit-elements-below t, emit-elements.Post, emit-objects-below t, emit-objects.Post)
+
+abbrev emit-marked-R : ℕ → emit-marked-lts.Claims
+emit-marked-R t = (take-number-reads.Asked, take-number-reads.Learnt, not-lawful-reads.Asked, not-lawful-reads.Learnt, measure-by-reads.Asked, measure-by-reads.Learnt, emit-measured-below t, emit-measured.Post, put-number-reads.Asked, put-number-reads.Learnt, stored-reads.Asked, stored-reads.Learnt)
+
+abbrev emit-objects-R : ℕ → emit-objects-lts.Claims
+emit-objects-R t = (known-size-reads.Asked, known-size-reads.Learnt, emit-marked-below t, emit-marked.Post, not-lawful-reads.Asked, not-lawful-reads.Learnt, stored-reads.Asked, stored-reads.Learnt)
 
 abbrev emit-part-R : ℕ → emit-part-lts.Claims
 emit-part-R t = (take-number-reads.Asked, take-number-reads.Learnt, not-lawful-reads.Asked, not-lawful-reads.Learnt, flag-reads.Asked, flag-reads.Learnt, emit-body-below t, emit-body.Post, lack-reads.Asked, lack-reads.Learnt, stored-reads.Asked, stored-reads.Learnt, pass-reads.Asked, pass-reads.Learnt)
 
+abbrev emit-measured-R : ℕ → emit-measured-lts.Claims
+emit-measured-R t = (put-reference-reads.Asked, put-reference-reads.Learnt, open-reads.Asked, open-reads.Learnt, emit-content-below t, emit-content.Post, not-lawful-reads.Asked, not-lawful-reads.Learnt, close-reads.Asked, close-reads.Learnt, stored-reads.Asked, stored-reads.Learnt)
+
 abbrev emit-refer-R : ℕ → emit-refer-lts.Claims
-emit-refer-R t = (measure-reads.Asked, measure-reads.Learnt, put-reference-reads.Asked, put-reference-reads.Learnt, open-reads.Asked, open-reads.Learnt, emit-content-below t, emit-content.Post, not-lawful-reads.Asked, not-lawful-reads.Learnt, close-reads.Asked, close-reads.Learnt, stored-reads.Asked, stored-reads.Learnt)
+emit-refer-R t = (measure-reads.Asked, measure-reads.Learnt, emit-measured-below t, emit-measured.Post)
 
 abbrev emit-table-R : ℕ → emit-table-lts.Claims
 emit-table-R t = (member-count-reads.Asked, member-count-reads.Learnt, member-reads.Asked, member-reads.Learnt, emit-part-below t, emit-part.Post, not-lawful-reads.Asked, not-lawful-reads.Learnt, stored-reads.Asked, stored-reads.Learnt)
@@ -411,88 +480,196 @@ emit-element-same-length-2 t c = search needs
 emit-element-returns-2 : (t : ℕ) → emit-element-lts.Need-returns-2 (emit-element-R t) (emit-element-at t) emit-element.Post
 emit-element-returns-2 t c = search element-marked
 
-abbrev emit-list-Inv-loop : emit-list-lts.InvT-loop
-emit-list-Inv-loop b dir s out₀ d i c pos n k p₀ at₀ j₀ out p at j =
+abbrev emit-elements-Inv-loop : emit-elements-lts.InvT-loop
+emit-elements-Inv-loop b dir s out₀ d k n c pos p₀ at₀ j₀ out p at j =
     (j ≤ n) × (n < 2 ^ 32) × (length out ≡ length out₀) × Room s pos c × Room s at p × (p .at + 8192 * pos ≤ c .at + 8192 * at)
-    × (emitContent (emit d u48 (P.parse b)) (survey d u48 (P.parse b)) u48 (P.parse b) (O.List i) (stateOf c out₀) (drop pos (bits s)) ≡ emitElements (emit d u48 (P.parse b)) (survey d u48 (P.parse b)) u48 (P.parse b) k (n - j) (stateOf p out) (drop at (bits s)))
+    × (emitElements (emit d u48 (P.parse b)) (survey d u48 (P.parse b)) u48 (P.parse b) k n (stateOf c out₀) (drop pos (bits s)) ≡ emitElements (emit d u48 (P.parse b)) (survey d u48 (P.parse b)) u48 (P.parse b) k (n - j) (stateOf p out) (drop at (bits s)))
 
-abbrev emit-list-μ-loop : emit-list-lts.MeasureT-loop
-emit-list-μ-loop b dir s out₀ d i c pos n k p₀ at₀ j₀ out p at j = n - j
+abbrev emit-elements-μ-loop : emit-elements-lts.MeasureT-loop
+emit-elements-μ-loop b dir s out₀ d k n c pos p₀ at₀ j₀ out p at j = n - j
+
+emit-elements-loop-holds : (t : ℕ) → emit-elements-lts.Need-loop-holds (emit-elements-R t) (emit-elements-at t) emit-elements.Post emit-elements-Inv-loop emit-elements-μ-loop
+emit-elements-loop-holds t c = (search needs, search needs, search needs, search needs, search needs, search needs, search elements-start)
+
+emit-elements-emit-element-requires : (t : ℕ) → emit-elements-lts.Need-emit-element-requires (emit-elements-R t) (emit-elements-at t) emit-elements.Post emit-elements-Inv-loop emit-elements-μ-loop
+emit-elements-emit-element-requires t c κs = search needs
+
+emit-elements-not-lawful-requires : (t : ℕ) → emit-elements-lts.Need-not-lawful-requires (emit-elements-R t) (emit-elements-at t) emit-elements.Post emit-elements-Inv-loop emit-elements-μ-loop
+emit-elements-not-lawful-requires t c κs = search needs
+
+emit-elements-same-length : (t : ℕ) → emit-elements-lts.Need-same-length (emit-elements-R t) (emit-elements-at t) emit-elements.Post emit-elements-Inv-loop emit-elements-μ-loop
+emit-elements-same-length t c = search needs
+
+emit-elements-returns : (t : ℕ) → emit-elements-lts.Need-returns (emit-elements-R t) (emit-elements-at t) emit-elements.Post emit-elements-Inv-loop emit-elements-μ-loop
+emit-elements-returns t c = search elements-stopped
+
+emit-elements-add-j : (t : ℕ) → emit-elements-lts.Need-add-j (emit-elements-R t) (emit-elements-at t) emit-elements.Post emit-elements-Inv-loop emit-elements-μ-loop
+emit-elements-add-j t c = search needs
+
+emit-elements-loop-less : (t : ℕ) → emit-elements-lts.Need-loop-less (emit-elements-R t) (emit-elements-at t) emit-elements.Post emit-elements-Inv-loop emit-elements-μ-loop
+emit-elements-loop-less t c = search needs
+
+emit-elements-loop-again : (t : ℕ) → emit-elements-lts.Need-loop-again (emit-elements-R t) (emit-elements-at t) emit-elements.Post emit-elements-Inv-loop emit-elements-μ-loop
+emit-elements-loop-again t c = (search needs, search needs, search needs, search needs, search room-part, search needs, search elements-turn)
+
+emit-elements-stored-requires : (t : ℕ) → emit-elements-lts.Need-stored-requires (emit-elements-R t) (emit-elements-at t) emit-elements.Post emit-elements-Inv-loop emit-elements-μ-loop
+emit-elements-stored-requires t c κs = search needs
+
+emit-elements-same-length-2 : (t : ℕ) → emit-elements-lts.Need-same-length-2 (emit-elements-R t) (emit-elements-at t) emit-elements.Post emit-elements-Inv-loop emit-elements-μ-loop
+emit-elements-same-length-2 t c = search needs
+
+emit-elements-returns-2 : (t : ℕ) → emit-elements-lts.Need-returns-2 (emit-elements-R t) (emit-elements-at t) emit-elements.Post emit-elements-Inv-loop emit-elements-μ-loop
+emit-elements-returns-2 t c = search elements-done
 
 -- src/lib.rt:963:9
-emit-list-take-number-requires : (t : ℕ) → emit-list-lts.Need-take-number-requires (emit-list-R t) (emit-list-at t) emit-list.Post emit-list-Inv-loop emit-list-μ-loop
+emit-list-take-number-requires : (t : ℕ) → emit-list-lts.Need-take-number-requires (emit-list-R t) (emit-list-at t) emit-list.Post
 emit-list-take-number-requires t c κs = search needs
 
 -- src/lib.rt:965:9
-emit-list-not-lawful-requires : (t : ℕ) → emit-list-lts.Need-not-lawful-requires (emit-list-R t) (emit-list-at t) emit-list.Post emit-list-Inv-loop emit-list-μ-loop
+emit-list-not-lawful-requires : (t : ℕ) → emit-list-lts.Need-not-lawful-requires (emit-list-R t) (emit-list-at t) emit-list.Post
 emit-list-not-lawful-requires t c κs = search needs
 
 -- src/lib.rt:965:9
-emit-list-returns : (t : ℕ) → emit-list-lts.Need-returns (emit-list-R t) (emit-list-at t) emit-list.Post emit-list-Inv-loop emit-list-μ-loop
+emit-list-returns : (t : ℕ) → emit-list-lts.Need-returns (emit-list-R t) (emit-list-at t) emit-list.Post
 emit-list-returns t c = search elements-cut
 
 -- src/lib.rt:968:9
-emit-list-element-requires : (t : ℕ) → emit-list-lts.Need-element-requires (emit-list-R t) (emit-list-at t) emit-list.Post emit-list-Inv-loop emit-list-μ-loop
+emit-list-element-requires : (t : ℕ) → emit-list-lts.Need-element-requires (emit-list-R t) (emit-list-at t) emit-list.Post
 emit-list-element-requires t c κs = search needs
 
-emit-list-bare-requires : (t : ℕ) → emit-list-lts.Need-bare-requires (emit-list-R t) (emit-list-at t) emit-list.Post emit-list-Inv-loop emit-list-μ-loop
+emit-list-bare-requires : (t : ℕ) → emit-list-lts.Need-bare-requires (emit-list-R t) (emit-list-at t) emit-list.Post
 emit-list-bare-requires t c κs = search needs
 
-emit-list-integer-width-requires : (t : ℕ) → emit-list-lts.Need-integer-width-requires (emit-list-R t) (emit-list-at t) emit-list.Post emit-list-Inv-loop emit-list-μ-loop
+emit-list-integer-width-requires : (t : ℕ) → emit-list-lts.Need-integer-width-requires (emit-list-R t) (emit-list-at t) emit-list.Post
 emit-list-integer-width-requires t c κs = search needs
 
-emit-list-emit-bare-requires : (t : ℕ) → emit-list-lts.Need-emit-bare-requires (emit-list-R t) (emit-list-at t) emit-list.Post emit-list-Inv-loop emit-list-μ-loop
+emit-list-emit-bare-requires : (t : ℕ) → emit-list-lts.Need-emit-bare-requires (emit-list-R t) (emit-list-at t) emit-list.Post
 emit-list-emit-bare-requires t c κs = (search integer-wide, search room-taken)
 
-emit-list-same-length : (t : ℕ) → emit-list-lts.Need-same-length (emit-list-R t) (emit-list-at t) emit-list.Post emit-list-Inv-loop emit-list-μ-loop
+emit-list-same-length : (t : ℕ) → emit-list-lts.Need-same-length (emit-list-R t) (emit-list-at t) emit-list.Post
 emit-list-same-length t c = search needs
 
-emit-list-returns-2 : (t : ℕ) → emit-list-lts.Need-returns-2 (emit-list-R t) (emit-list-at t) emit-list.Post emit-list-Inv-loop emit-list-μ-loop
+emit-list-returns-2 : (t : ℕ) → emit-list-lts.Need-returns-2 (emit-list-R t) (emit-list-at t) emit-list.Post
 emit-list-returns-2 t c = search (list-run, c .before .before .before .before .before .before .before .before .before .before .before .before .before .before .before .pre .1 .0 .0, c .before .before .before .before .before .before .before .before .before .before .before .before .before .before .before .pre .1 .1, c .before .before .before .before .before .before .before .before .before .before .take-number .ensures, c .before .before .before .before .before .before .before .before .if1 .left, c .before .before .before .before .before .before .before .element .ensures, c .before .before .before .before .before .before .bare .ensures, c .before .before .before .before .before .if2 .taken, c .before .before .before .integer-width .ensures, c .before .before .emit-bare .ensures)
 
--- src/lib.rt:972:5
-emit-list-loop-holds : (t : ℕ) → emit-list-lts.Need-loop-holds (emit-list-R t) (emit-list-at t) emit-list.Post emit-list-Inv-loop emit-list-μ-loop
-emit-list-loop-holds t c = (search needs, search needs, search needs, search needs, search room-taken, search taken-on, search elements-start)
+emit-list-enum-told : (t : ℕ) → emit-list-lts.Need-enum-told (emit-list-R t) (emit-list-at t) emit-list.Post
+emit-list-enum-told t c = search needs
 
--- src/lib.rt:973:13
-emit-list-emit-element-requires : (t : ℕ) → emit-list-lts.Need-emit-element-requires (emit-list-R t) (emit-list-at t) emit-list.Post emit-list-Inv-loop emit-list-μ-loop
-emit-list-emit-element-requires t c κs = search (element-sound, needs)
+emit-list-enum-told-2 : (t : ℕ) → emit-list-lts.Need-enum-told-2 (emit-list-R t) (emit-list-at t) emit-list.Post
+emit-list-enum-told-2 t c = search needs
 
--- src/lib.rt:975:13
-emit-list-not-lawful-requires-2 : (t : ℕ) → emit-list-lts.Need-not-lawful-requires-2 (emit-list-R t) (emit-list-at t) emit-list.Post emit-list-Inv-loop emit-list-μ-loop
-emit-list-not-lawful-requires-2 t c κs = search needs
+emit-list-enum-known-k : (t : ℕ) → emit-list-lts.Need-enum-known-k (emit-list-R t) (emit-list-at t) emit-list.Post
+emit-list-enum-known-k t c = search needs
 
--- src/lib.rt:975:13
-emit-list-same-length-2 : (t : ℕ) → emit-list-lts.Need-same-length-2 (emit-list-R t) (emit-list-at t) emit-list.Post emit-list-Inv-loop emit-list-μ-loop
+emit-list-emit-elements-requires : (t : ℕ) → emit-list-lts.Need-emit-elements-requires (emit-list-R t) (emit-list-at t) emit-list.Post
+emit-list-emit-elements-requires t c κs = search (element-sound, room-taken, needs)
+
+emit-list-emit-objects-requires : (t : ℕ) → emit-list-lts.Need-emit-objects-requires (emit-list-R t) (emit-list-at t) emit-list.Post
+emit-list-emit-objects-requires t c κs = search (element-object, room-taken, needs)
+
+emit-list-emit-elements-requires-2 : (t : ℕ) → emit-list-lts.Need-emit-elements-requires-2 (emit-list-R t) (emit-list-at t) emit-list.Post
+emit-list-emit-elements-requires-2 t c κs = search (element-sound, room-taken, needs)
+
+emit-list-same-length-2 : (t : ℕ) → emit-list-lts.Need-same-length-2 (emit-list-R t) (emit-list-at t) emit-list.Post
 emit-list-same-length-2 t c = search needs
 
--- src/lib.rt:975:13
-emit-list-returns-3 : (t : ℕ) → emit-list-lts.Need-returns-3 (emit-list-R t) (emit-list-at t) emit-list.Post emit-list-Inv-loop emit-list-μ-loop
-emit-list-returns-3 t c = search elements-stopped
+emit-list-returns-3 : (t : ℕ) → emit-list-lts.Need-returns-3 (emit-list-R t) (emit-list-at t) emit-list.Post
+emit-list-returns-3 t c = search (list-elements, c .before .before .before .before .before .before .before .before .before .before .before .before .before .before .before .before .pre .1 .1, c .before .before .before .before .before .before .before .before .before .before .before .take-number .ensures, c .before .before .before .before .before .before .before .before .before .if1 .left, c .before .before .before .before .before .before .before .before .element .ensures, c .before .before .emit-elements .ensures)
 
--- src/lib.rt:979:9
-emit-list-add-j : (t : ℕ) → emit-list-lts.Need-add-j (emit-list-R t) (emit-list-at t) emit-list.Post emit-list-Inv-loop emit-list-μ-loop
-emit-list-add-j t c = search needs
-
--- src/lib.rt:972:5
-emit-list-loop-less : (t : ℕ) → emit-list-lts.Need-loop-less (emit-list-R t) (emit-list-at t) emit-list.Post emit-list-Inv-loop emit-list-μ-loop
-emit-list-loop-less t c = search needs
-
--- src/lib.rt:972:5
-emit-list-loop-again : (t : ℕ) → emit-list-lts.Need-loop-again (emit-list-R t) (emit-list-at t) emit-list.Post emit-list-Inv-loop emit-list-μ-loop
-emit-list-loop-again t c = (search needs, search needs, search needs, search needs, search room-part, search needs, search elements-turn)
-
--- src/lib.rt:981:5
-emit-list-stored-requires : (t : ℕ) → emit-list-lts.Need-stored-requires (emit-list-R t) (emit-list-at t) emit-list.Post emit-list-Inv-loop emit-list-μ-loop
-emit-list-stored-requires t c κs = search needs
-
--- src/lib.rt:949:1
-emit-list-same-length-3 : (t : ℕ) → emit-list-lts.Need-same-length-3 (emit-list-R t) (emit-list-at t) emit-list.Post emit-list-Inv-loop emit-list-μ-loop
+emit-list-same-length-3 : (t : ℕ) → emit-list-lts.Need-same-length-3 (emit-list-R t) (emit-list-at t) emit-list.Post
 emit-list-same-length-3 t c = search needs
 
--- src/lib.rt:949:1
-emit-list-returns-4 : (t : ℕ) → emit-list-lts.Need-returns-4 (emit-list-R t) (emit-list-at t) emit-list.Post emit-list-Inv-loop emit-list-μ-loop
-emit-list-returns-4 t c = search elements-done
+emit-list-returns-4 : (t : ℕ) → emit-list-lts.Need-returns-4 (emit-list-R t) (emit-list-at t) emit-list.Post
+emit-list-returns-4 t c = search (list-objects, c .before .before .before .before .before .before .before .before .before .before .before .before .before .before .before .before .before .pre .1 .1, c .before .before .before .before .before .before .before .before .before .before .before .before .take-number .ensures, c .before .before .before .before .before .before .before .before .before .before .if1 .left, c .before .before .before .before .before .before .before .before .before .element .ensures, c .before .before .emit-objects .ensures)
+
+emit-list-same-length-4 : (t : ℕ) → emit-list-lts.Need-same-length-4 (emit-list-R t) (emit-list-at t) emit-list.Post
+emit-list-same-length-4 t c = search needs
+
+emit-list-returns-5 : (t : ℕ) → emit-list-lts.Need-returns-5 (emit-list-R t) (emit-list-at t) emit-list.Post
+emit-list-returns-5 t c = search (list-elements, c .before .before .before .before .before .before .before .before .before .before .before .before .before .before .before .before .pre .1 .1, c .before .before .before .before .before .before .before .before .before .before .before .take-number .ensures, c .before .before .before .before .before .before .before .before .before .if1 .left, c .before .before .before .before .before .before .before .before .element .ensures, c .before .before .emit-elements2 .ensures)
+
+emit-marked-take-number-requires : (t : ℕ) → emit-marked-lts.Need-take-number-requires (emit-marked-R t) (emit-marked-at t) emit-marked.Post
+emit-marked-take-number-requires t c κs = search needs
+
+emit-marked-not-lawful-requires : (t : ℕ) → emit-marked-lts.Need-not-lawful-requires (emit-marked-R t) (emit-marked-at t) emit-marked.Post
+emit-marked-not-lawful-requires t c κs = search needs
+
+emit-marked-returns : (t : ℕ) → emit-marked-lts.Need-returns (emit-marked-R t) (emit-marked-at t) emit-marked.Post
+emit-marked-returns t c = search marked-cut
+
+emit-marked-measure-by-requires : (t : ℕ) → emit-marked-lts.Need-measure-by-requires (emit-marked-R t) (emit-marked-at t) emit-marked.Post
+emit-marked-measure-by-requires t c κs = search needs
+
+emit-marked-emit-measured-requires : (t : ℕ) → emit-marked-lts.Need-emit-measured-requires (emit-marked-R t) (emit-marked-at t) emit-marked.Post
+emit-marked-emit-measured-requires t c κs = search (room-taken, needs)
+
+emit-marked-same-length : (t : ℕ) → emit-marked-lts.Need-same-length (emit-marked-R t) (emit-marked-at t) emit-marked.Post
+emit-marked-same-length t c = search needs
+
+emit-marked-returns-2 : (t : ℕ) → emit-marked-lts.Need-returns-2 (emit-marked-R t) (emit-marked-at t) emit-marked.Post
+emit-marked-returns-2 t c = search (marked-there, c .before .before .before .before .before .before .before .before .before .before .before .before .before .pre .1 .1, c .before .before .before .before .before .before .before .before .take-number .ensures, c .before .before .before .before .before .before .if1 .left, c .before .before .before .before .before .if2 .taken, c .before .before .emit-measured .ensures)
+
+emit-marked-put-number-requires : (t : ℕ) → emit-marked-lts.Need-put-number-requires (emit-marked-R t) (emit-marked-at t) emit-marked.Post
+emit-marked-put-number-requires t c κs = search (room-below, needs)
+
+emit-marked-stored-requires : (t : ℕ) → emit-marked-lts.Need-stored-requires (emit-marked-R t) (emit-marked-at t) emit-marked.Post
+emit-marked-stored-requires t c κs = search needs
+
+emit-marked-same-length-2 : (t : ℕ) → emit-marked-lts.Need-same-length-2 (emit-marked-R t) (emit-marked-at t) emit-marked.Post
+emit-marked-same-length-2 t c = search needs
+
+emit-marked-returns-3 : (t : ℕ) → emit-marked-lts.Need-returns-3 (emit-marked-R t) (emit-marked-at t) emit-marked.Post
+emit-marked-returns-3 t c = search (marked-none, c .before .before .before .before .before .before .before .before .before .before .before .before .before .before .pre .1 .1, c .before .before .before .before .before .before .before .before .before .take-number .ensures, c .before .before .before .before .before .before .before .if1 .left, c .before .before .before .before .before .if3 .taken, c .before .before .before .put-number .ensures, c .stored .ensures .0, c .stored .ensures .1, c .stored .ensures .2)
+
+emit-marked-not-lawful-requires-2 : (t : ℕ) → emit-marked-lts.Need-not-lawful-requires-2 (emit-marked-R t) (emit-marked-at t) emit-marked.Post
+emit-marked-not-lawful-requires-2 t c κs = search needs
+
+emit-marked-returns-4 : (t : ℕ) → emit-marked-lts.Need-returns-4 (emit-marked-R t) (emit-marked-at t) emit-marked.Post
+emit-marked-returns-4 t c = search marked-bad
+
+abbrev emit-objects-Inv-loop : emit-objects-lts.InvT-loop
+emit-objects-Inv-loop b dir s out₀ d ob n c pos size p₀ at₀ j₀ out p at j =
+    (j ≤ n) × (n < 2 ^ 32) × (length out ≡ length out₀) × Room s pos c × Room s at p × (p .at + 8192 * pos ≤ c .at + 8192 * at)
+    × (emitElements (emit d u48 (P.parse b)) (survey d u48 (P.parse b)) u48 (P.parse b) (OfObject ob) n (stateOf c out₀) (drop pos (bits s)) ≡ emitElements (emit d u48 (P.parse b)) (survey d u48 (P.parse b)) u48 (P.parse b) (OfObject ob) (n - j) (stateOf p out) (drop at (bits s)))
+
+abbrev emit-objects-μ-loop : emit-objects-lts.MeasureT-loop
+emit-objects-μ-loop b dir s out₀ d ob n c pos size p₀ at₀ j₀ out p at j = n - j
+
+emit-objects-known-size-requires : (t : ℕ) → emit-objects-lts.Need-known-size-requires (emit-objects-R t) (emit-objects-at t) emit-objects.Post emit-objects-Inv-loop emit-objects-μ-loop
+emit-objects-known-size-requires t c κs = search needs
+
+emit-objects-loop-holds : (t : ℕ) → emit-objects-lts.Need-loop-holds (emit-objects-R t) (emit-objects-at t) emit-objects.Post emit-objects-Inv-loop emit-objects-μ-loop
+emit-objects-loop-holds t c = (search needs, search needs, search needs, search needs, search needs, search needs, search elements-start)
+
+emit-objects-emit-marked-requires : (t : ℕ) → emit-objects-lts.Need-emit-marked-requires (emit-objects-R t) (emit-objects-at t) emit-objects.Post emit-objects-Inv-loop emit-objects-μ-loop
+emit-objects-emit-marked-requires t c κs = search needs
+
+emit-objects-not-lawful-requires : (t : ℕ) → emit-objects-lts.Need-not-lawful-requires (emit-objects-R t) (emit-objects-at t) emit-objects.Post emit-objects-Inv-loop emit-objects-μ-loop
+emit-objects-not-lawful-requires t c κs = search needs
+
+emit-objects-same-length : (t : ℕ) → emit-objects-lts.Need-same-length (emit-objects-R t) (emit-objects-at t) emit-objects.Post emit-objects-Inv-loop emit-objects-μ-loop
+emit-objects-same-length t c = search needs
+
+emit-objects-returns : (t : ℕ) → emit-objects-lts.Need-returns (emit-objects-R t) (emit-objects-at t) emit-objects.Post emit-objects-Inv-loop emit-objects-μ-loop
+emit-objects-returns t c = search elements-stopped
+
+emit-objects-add-j : (t : ℕ) → emit-objects-lts.Need-add-j (emit-objects-R t) (emit-objects-at t) emit-objects.Post emit-objects-Inv-loop emit-objects-μ-loop
+emit-objects-add-j t c = search needs
+
+emit-objects-loop-less : (t : ℕ) → emit-objects-lts.Need-loop-less (emit-objects-R t) (emit-objects-at t) emit-objects.Post emit-objects-Inv-loop emit-objects-μ-loop
+emit-objects-loop-less t c = search needs
+
+emit-objects-loop-again : (t : ℕ) → emit-objects-lts.Need-loop-again (emit-objects-R t) (emit-objects-at t) emit-objects.Post emit-objects-Inv-loop emit-objects-μ-loop
+emit-objects-loop-again t c = (search needs, search needs, search needs, search needs, search room-part, search needs, search elements-turn)
+
+emit-objects-stored-requires : (t : ℕ) → emit-objects-lts.Need-stored-requires (emit-objects-R t) (emit-objects-at t) emit-objects.Post emit-objects-Inv-loop emit-objects-μ-loop
+emit-objects-stored-requires t c κs = search needs
+
+emit-objects-same-length-2 : (t : ℕ) → emit-objects-lts.Need-same-length-2 (emit-objects-R t) (emit-objects-at t) emit-objects.Post emit-objects-Inv-loop emit-objects-μ-loop
+emit-objects-same-length-2 t c = search needs
+
+emit-objects-returns-2 : (t : ℕ) → emit-objects-lts.Need-returns-2 (emit-objects-R t) (emit-objects-at t) emit-objects.Post emit-objects-Inv-loop emit-objects-μ-loop
+emit-objects-returns-2 t c = search elements-done
 
 -- src/lib.rt:869:9
 emit-part-take-number-requires : (t : ℕ) → emit-part-lts.Need-take-number-requires (emit-part-R t) (emit-part-at t) emit-part.Post
@@ -562,38 +739,47 @@ emit-part-same-length-3 t c = search needs
 emit-part-returns-5 : (t : ℕ) → emit-part-lts.Need-returns-5 (emit-part-R t) (emit-part-at t) emit-part.Post
 emit-part-returns-5 t c = search (part-pass, c .before .before .before .before .before .before .before .before .before .before .before .before .before .before .before .before .before .before .before .before .before .before .pre .1 .1, c .before .before .before .before .before .before .before .before .before .before .before .before .before .before .before .before .before .take-number .ensures, c .before .before .before .before .before .before .before .before .before .before .before .before .before .before .before .if1 .left, c .before .before .before .before .before .before .before .before .before .before .before .before .before .before .if2 .left, c .before .before .before .before .before .before .before .before .before .before .before .before .before .if3 .left, c .before .before .before .before .before .before .before .before .before .before .before .flag2 .ensures, c .before .before .before .before .before .before .before .lack .ensures, c .before .before .before .before .if4 .left, c .before .before .pass .ensures)
 
+emit-measured-put-reference-requires : (t : ℕ) → emit-measured-lts.Need-put-reference-requires (emit-measured-R t) (emit-measured-at t) emit-measured.Post
+emit-measured-put-reference-requires t c κs = search (room-below, needs)
+
+emit-measured-open-requires : (t : ℕ) → emit-measured-lts.Need-open-requires (emit-measured-R t) (emit-measured-at t) emit-measured.Post
+emit-measured-open-requires t c κs = (c .before .before .before .before .before .before .before .before .before .pre .1 .0 .0, c .before .before .before .before .before .before .before .before .before .pre .1 .0 .1, c .before .before .before .before .before .before .before .before .before .pre .1 .0 .2 .small, search (stood-next, c .before .before .before .before .before .before .before .before .before .pre .1 .1, c .before .before .before .put-reference .ensures), search (stood-tail, c .before .before .before .before .before .before .before .before .before .pre .1 .1, c .before .before .before .put-reference .ensures))
+
+emit-measured-emit-content-requires : (t : ℕ) → emit-measured-lts.Need-emit-content-requires (emit-measured-R t) (emit-measured-at t) emit-measured.Post
+emit-measured-emit-content-requires t c κs = (omega (arith, c .before .before .before .before .before .before .before .before .before .before .before .before .before .pre .0), ((c .before .before .before .before .before .before .before .before .before .before .before .before .before .pre .1 .0 .0, c .before .before .before .before .before .before .before .before .before .before .before .before .before .pre .1 .0 .1), search (room-open, c .before .before .before .before .before .before .before .before .before .before .before .before .before .pre .1 .1, c .before .before .before .open .ensures)))
+
+emit-measured-not-lawful-requires : (t : ℕ) → emit-measured-lts.Need-not-lawful-requires (emit-measured-R t) (emit-measured-at t) emit-measured.Post
+emit-measured-not-lawful-requires t c κs = search needs
+
+emit-measured-same-length : (t : ℕ) → emit-measured-lts.Need-same-length (emit-measured-R t) (emit-measured-at t) emit-measured.Post
+emit-measured-same-length t c = search needs
+
+emit-measured-returns : (t : ℕ) → emit-measured-lts.Need-returns (emit-measured-R t) (emit-measured-at t) emit-measured.Post
+emit-measured-returns t c = search (refer-cut, c .before .before .before .before .before .before .before .before .before .before .before .before .before .before .before .before .before .before .before .pre .1 .0 .0, c .before .before .before .before .before .before .before .before .before .before .before .before .before .before .before .before .before .before .before .pre .1 .1, c .before .before .before .before .before .before .before .before .before .before .before .before .before .before .before .before .before .before .before .pre .1 .0 .2, c .before .before .before .before .before .before .before .before .before .before .before .before .before .put-reference .ensures, c .before .before .before .before .before .before .before .before .before .open .ensures, c .before .before .before .before .before .emit-content .ensures, c .before .if1 .taken, c .not-lawful .ensures .0, c .not-lawful .ensures .1, c .not-lawful .ensures .2)
+
+emit-measured-close-requires : (t : ℕ) → emit-measured-lts.Need-close-requires (emit-measured-R t) (emit-measured-at t) emit-measured.Post
+emit-measured-close-requires t c κs = search needs
+
+emit-measured-stored-requires : (t : ℕ) → emit-measured-lts.Need-stored-requires (emit-measured-R t) (emit-measured-at t) emit-measured.Post
+emit-measured-stored-requires t c κs = search needs
+
+emit-measured-same-length-2 : (t : ℕ) → emit-measured-lts.Need-same-length-2 (emit-measured-R t) (emit-measured-at t) emit-measured.Post
+emit-measured-same-length-2 t c = c .before .before .before .before .before .before .emit-content .kept .1 .1 .1 .0 ∙ c .before .before .before .before .before .before .before .before .before .before .open .kept .1 .1 .0 ∙ c .before .before .before .before .before .before .before .before .before .before .before .before .before .before .put-reference .kept .0
+
+emit-measured-returns-2 : (t : ℕ) → emit-measured-lts.Need-returns-2 (emit-measured-R t) (emit-measured-at t) emit-measured.Post
+emit-measured-returns-2 t c = search (refer-done, c .before .before .before .before .before .before .before .before .before .before .before .before .before .before .before .before .before .before .before .before .pre .1 .0 .0, c .before .before .before .before .before .before .before .before .before .before .before .before .before .before .before .before .before .before .before .before .pre .1 .1, c .before .before .before .before .before .before .before .before .before .before .before .before .before .before .before .before .before .before .before .before .pre .1 .0 .2, c .before .before .before .before .before .before .before .before .before .before .before .before .before .before .put-reference .ensures, c .before .before .before .before .before .before .before .before .before .before .open .ensures, c .before .before .before .before .before .before .emit-content .ensures, c .before .before .if1 .left, c .before .close .ensures, c .stored .ensures .0, c .stored .ensures .1, c .stored .ensures .2)
+
 emit-refer-measure-requires : (t : ℕ) → emit-refer-lts.Need-measure-requires (emit-refer-R t) (emit-refer-at t) emit-refer.Post
 emit-refer-measure-requires t c κs = search needs
 
-emit-refer-put-reference-requires : (t : ℕ) → emit-refer-lts.Need-put-reference-requires (emit-refer-R t) (emit-refer-at t) emit-refer.Post
-emit-refer-put-reference-requires t c κs = search (room-below, needs)
-
-emit-refer-open-requires : (t : ℕ) → emit-refer-lts.Need-open-requires (emit-refer-R t) (emit-refer-at t) emit-refer.Post
-emit-refer-open-requires t c κs = (c .before .before .before .before .before .before .before .before .before .before .pre .1 .0 .0, c .before .before .before .before .before .before .before .before .before .before .pre .1 .0 .1, c .before .before .before .before .before .measure .ensures .small, search (stood-next, c .before .before .before .before .before .before .before .before .before .before .pre .1 .1, c .before .before .before .put-reference .ensures), search (stood-tail, c .before .before .before .before .before .before .before .before .before .before .pre .1 .1, c .before .before .before .put-reference .ensures))
-
-emit-refer-emit-content-requires : (t : ℕ) → emit-refer-lts.Need-emit-content-requires (emit-refer-R t) (emit-refer-at t) emit-refer.Post
-emit-refer-emit-content-requires t c κs = (omega (arith, c .before .before .before .before .before .before .before .before .before .before .before .before .before .before .pre .0), ((c .before .before .before .before .before .before .before .before .before .before .before .before .before .before .pre .1 .0 .0, c .before .before .before .before .before .before .before .before .before .before .before .before .before .before .pre .1 .0 .1), search (room-open, c .before .before .before .before .before .before .before .before .before .before .before .before .before .before .pre .1 .1, c .before .before .before .open .ensures)))
-
-emit-refer-not-lawful-requires : (t : ℕ) → emit-refer-lts.Need-not-lawful-requires (emit-refer-R t) (emit-refer-at t) emit-refer.Post
-emit-refer-not-lawful-requires t c κs = search needs
+emit-refer-emit-measured-requires : (t : ℕ) → emit-refer-lts.Need-emit-measured-requires (emit-refer-R t) (emit-refer-at t) emit-refer.Post
+emit-refer-emit-measured-requires t c κs = search needs
 
 emit-refer-same-length : (t : ℕ) → emit-refer-lts.Need-same-length (emit-refer-R t) (emit-refer-at t) emit-refer.Post
 emit-refer-same-length t c = search needs
 
 emit-refer-returns : (t : ℕ) → emit-refer-lts.Need-returns (emit-refer-R t) (emit-refer-at t) emit-refer.Post
-emit-refer-returns t c = search (refer-cut, c .before .before .before .before .before .before .before .before .before .before .before .before .before .before .before .before .before .before .before .before .pre .1 .0 .0, c .before .before .before .before .before .before .before .before .before .before .before .before .before .before .before .before .before .before .before .before .pre .1 .1, c .before .before .before .before .before .before .before .before .before .before .before .before .before .before .before .measure .ensures, c .before .before .before .before .before .before .before .before .before .before .before .before .before .put-reference .ensures, c .before .before .before .before .before .before .before .before .before .open .ensures, c .before .before .before .before .before .emit-content .ensures, c .before .if1 .taken, c .not-lawful .ensures .0, c .not-lawful .ensures .1, c .not-lawful .ensures .2)
-
-emit-refer-close-requires : (t : ℕ) → emit-refer-lts.Need-close-requires (emit-refer-R t) (emit-refer-at t) emit-refer.Post
-emit-refer-close-requires t c κs = search needs
-
-emit-refer-stored-requires : (t : ℕ) → emit-refer-lts.Need-stored-requires (emit-refer-R t) (emit-refer-at t) emit-refer.Post
-emit-refer-stored-requires t c κs = search needs
-
-emit-refer-same-length-2 : (t : ℕ) → emit-refer-lts.Need-same-length-2 (emit-refer-R t) (emit-refer-at t) emit-refer.Post
-emit-refer-same-length-2 t c = c .before .before .before .before .before .before .emit-content .kept .1 .1 .1 .0 ∙ c .before .before .before .before .before .before .before .before .before .before .open .kept .1 .1 .0 ∙ c .before .before .before .before .before .before .before .before .before .before .before .before .before .before .put-reference .kept .0
-
-emit-refer-returns-2 : (t : ℕ) → emit-refer-lts.Need-returns-2 (emit-refer-R t) (emit-refer-at t) emit-refer.Post
-emit-refer-returns-2 t c = search (refer-done, c .before .before .before .before .before .before .before .before .before .before .before .before .before .before .before .before .before .before .before .before .before .pre .1 .0 .0, c .before .before .before .before .before .before .before .before .before .before .before .before .before .before .before .before .before .before .before .before .before .pre .1 .1, c .before .before .before .before .before .before .before .before .before .before .before .before .before .before .before .before .measure .ensures, c .before .before .before .before .before .before .before .before .before .before .before .before .before .before .put-reference .ensures, c .before .before .before .before .before .before .before .before .before .before .open .ensures, c .before .before .before .before .before .before .emit-content .ensures, c .before .before .if1 .left, c .before .close .ensures, c .stored .ensures .0, c .stored .ensures .1, c .stored .ensures .2)
+emit-refer-returns t c = search needs
 
 abbrev emit-table-Inv-loop : emit-table-lts.InvT-loop
 emit-table-Inv-loop b dir s out₀ d t c pos n p₀ at₀ j₀ out p at j =
@@ -655,15 +841,19 @@ emit-table-same-length-2 t c = search needs
 emit-table-returns-2 : (t : ℕ) → emit-table-lts.Need-returns-2 (emit-table-R t) (emit-table-at t) emit-table.Post emit-table-Inv-loop emit-table-μ-loop
 emit-table-returns-2 t c = search members-done
 
-pub +emit-body+emit-choice+emit-content+emit-element+emit-list+emit-part+emit-refer+emit-table-spec :
+pub +emit-body+emit-choice+emit-content+emit-element+emit-elements+emit-list+emit-marked+emit-measured+emit-objects+emit-part+emit-refer+emit-table-spec :
     {M : Type 1} → statement M
-+emit-body+emit-choice+emit-content+emit-element+emit-list+emit-part+emit-refer+emit-table-spec =
++emit-body+emit-choice+emit-content+emit-element+emit-elements+emit-list+emit-marked+emit-measured+emit-objects+emit-part+emit-refer+emit-table-spec =
     close
     μ-emit-body
     μ-emit-choice
     μ-emit-content
     μ-emit-element
+    μ-emit-elements
     μ-emit-list
+    μ-emit-marked
+    μ-emit-measured
+    μ-emit-objects
     μ-emit-part
     μ-emit-refer
     μ-emit-table
@@ -734,11 +924,25 @@ pub +emit-body+emit-choice+emit-content+emit-element+emit-list+emit-part+emit-re
     (emit-element-emit-part-requires t)
     (emit-element-same-length-2 t)
     (emit-element-returns-2 t))
+    (λ t. emit-elements-lts.spec (emit-elements-R t)
+    (emit-elements-at t)
+    emit-elements.Post
+    emit-elements-Inv-loop
+    emit-elements-μ-loop
+    (emit-elements-loop-holds t)
+    (emit-elements-emit-element-requires t)
+    (emit-elements-not-lawful-requires t)
+    (emit-elements-same-length t)
+    (emit-elements-returns t)
+    (emit-elements-add-j t)
+    (emit-elements-loop-less t)
+    (emit-elements-loop-again t)
+    (emit-elements-stored-requires t)
+    (emit-elements-same-length-2 t)
+    (emit-elements-returns-2 t))
     (λ t. emit-list-lts.spec (emit-list-R t)
     (emit-list-at t)
     emit-list.Post
-    emit-list-Inv-loop
-    emit-list-μ-loop
     (emit-list-take-number-requires t)
     (emit-list-not-lawful-requires t)
     (emit-list-returns t)
@@ -748,17 +952,64 @@ pub +emit-body+emit-choice+emit-content+emit-element+emit-list+emit-part+emit-re
     (emit-list-emit-bare-requires t)
     (emit-list-same-length t)
     (emit-list-returns-2 t)
-    (emit-list-loop-holds t)
-    (emit-list-emit-element-requires t)
-    (emit-list-not-lawful-requires-2 t)
+    (emit-list-enum-told t)
+    (emit-list-emit-elements-requires t)
+    (emit-list-enum-known-k t)
+    (emit-list-emit-objects-requires t)
+    (emit-list-enum-told-2 t)
+    (emit-list-emit-elements-requires-2 t)
     (emit-list-same-length-2 t)
     (emit-list-returns-3 t)
-    (emit-list-add-j t)
-    (emit-list-loop-less t)
-    (emit-list-loop-again t)
-    (emit-list-stored-requires t)
     (emit-list-same-length-3 t)
-    (emit-list-returns-4 t))
+    (emit-list-returns-4 t)
+    (emit-list-same-length-4 t)
+    (emit-list-returns-5 t))
+    (λ t. emit-marked-lts.spec (emit-marked-R t)
+    (emit-marked-at t)
+    emit-marked.Post
+    (emit-marked-take-number-requires t)
+    (emit-marked-not-lawful-requires t)
+    (emit-marked-returns t)
+    (emit-marked-measure-by-requires t)
+    (emit-marked-emit-measured-requires t)
+    (emit-marked-same-length t)
+    (emit-marked-returns-2 t)
+    (emit-marked-put-number-requires t)
+    (emit-marked-stored-requires t)
+    (emit-marked-same-length-2 t)
+    (emit-marked-returns-3 t)
+    (emit-marked-not-lawful-requires-2 t)
+    (emit-marked-returns-4 t))
+    (λ t. emit-measured-lts.spec (emit-measured-R t)
+    (emit-measured-at t)
+    emit-measured.Post
+    (emit-measured-put-reference-requires t)
+    (emit-measured-open-requires t)
+    (emit-measured-emit-content-requires t)
+    (emit-measured-not-lawful-requires t)
+    (emit-measured-same-length t)
+    (emit-measured-returns t)
+    (emit-measured-close-requires t)
+    (emit-measured-stored-requires t)
+    (emit-measured-same-length-2 t)
+    (emit-measured-returns-2 t))
+    (λ t. emit-objects-lts.spec (emit-objects-R t)
+    (emit-objects-at t)
+    emit-objects.Post
+    emit-objects-Inv-loop
+    emit-objects-μ-loop
+    (emit-objects-known-size-requires t)
+    (emit-objects-loop-holds t)
+    (emit-objects-emit-marked-requires t)
+    (emit-objects-not-lawful-requires t)
+    (emit-objects-same-length t)
+    (emit-objects-returns t)
+    (emit-objects-add-j t)
+    (emit-objects-loop-less t)
+    (emit-objects-loop-again t)
+    (emit-objects-stored-requires t)
+    (emit-objects-same-length-2 t)
+    (emit-objects-returns-2 t))
     (λ t. emit-part-lts.spec (emit-part-R t)
     (emit-part-at t)
     emit-part.Post
@@ -783,16 +1034,9 @@ pub +emit-body+emit-choice+emit-content+emit-element+emit-list+emit-part+emit-re
     (emit-refer-at t)
     emit-refer.Post
     (emit-refer-measure-requires t)
-    (emit-refer-put-reference-requires t)
-    (emit-refer-open-requires t)
-    (emit-refer-emit-content-requires t)
-    (emit-refer-not-lawful-requires t)
+    (emit-refer-emit-measured-requires t)
     (emit-refer-same-length t)
-    (emit-refer-returns t)
-    (emit-refer-close-requires t)
-    (emit-refer-stored-requires t)
-    (emit-refer-same-length-2 t)
-    (emit-refer-returns-2 t))
+    (emit-refer-returns t))
     λ t. emit-table-lts.spec (emit-table-R t)
     (emit-table-at t)
     emit-table.Post
