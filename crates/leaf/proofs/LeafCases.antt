@@ -29,7 +29,8 @@ use Rattle.wire.specs.Numbers.{Number}
 use Rattle.text.specs.declared.Outcome.{Outcome}
 use Rattle.text.specs.Answers.{walkedOf}
 use Rattle.member.specs.Records.{Leaf, leafWidth, LeafTable, LeafObject, noBool}
-use Rattle.member.proofs.PlainCases.{number-past, number-here, number-cut, plain-led}
+use Rattle.member.proofs.PlainCases.{number-past, number-here, number-cut}
+use Rattle.schema.specs.Records.{record-member}
 use Rattle.member.proofs.LeafRecords.{plain-of-leaf, width-text, width-is}
 use Rattle.leaf.proofs.MemberCases.{lead-follows, members-ended, members-done, members-stopped, members-turn}
 
@@ -153,7 +154,7 @@ module _ (child : W.Child) (b m : List ℕ) (holder start n t : ℕ) (s : Spent)
       is-member : P.memberAt b at ≡ Sc.memberOf (P.parse b) t j
       is-member =
           let l : j < length (Sc.tableOf (P.parse b) t .members) = subst (λ (k : ℕ). j < k) count-is h in
-          plain-led b t j first (lt .counted) l (lt .is) at ea
+          record-member b t j first (lt .counted) l (lt .is) at ea
 
       led : walkedOf g ≡ W.follow child holder (leadOf (T.memberStep u48 (P.parse b) m start n (noBool end) (Sc.memberOf (P.parse b) t j))) v
       led =

@@ -25,7 +25,7 @@ use Rattle.coding.specs.declared.Slot.{Slot}
 use Rattle.coding.specs.declared.Step.{Step}
 use Rattle.coding.specs.declared.Step.the-variants as St
 use Rattle.laws.specs.Sound.{FlatScalar}
-use Rattle.laws.specs.Parsed.{member-at, members-length}
+use Rattle.schema.specs.Records.{record-member}
 use Rattle.layout.specs.Bounds.{Laid}
 use Rattle.step.specs.Lead.{leadOf, StepSmall, Stepped}
 use Rattle.member.specs.Records.{Plain, plainWidth, Led}
@@ -181,18 +181,7 @@ led-is S m t j start n c r e laid step next h small =
     }
 
 module _ (b : List ℕ) (t j p : ℕ) (l : t < P.tableCount b) (h : j < length (Sc.tableOf (P.parse b) t .members)) (ep : p ≡ P.tablePlace b t) where
-  pub among : j < P.records b 4 p
-  among = subst (λ (q : ℕ). j < P.records b 4 q) (sym ep) (subst (λ (q : ℕ). j < q) (members-length b t l) h)
-
-  pub record-inside : p + 4 + 1 + 2 * P.records b 4 p ≤ length b → (at : ℕ) → at ≡ p + 4 + 1 + 2 * j → at < length b
-  record-inside i at e = let a = among in omega arith
-
-  pub plain-led : (at : ℕ) → at ≡ P.recordPlace 4 p j → P.memberAt b at ≡ Sc.memberOf (P.parse b) t j
-  plain-led at e =
-      ap (P.memberAt b) (e ∙ ap (λ (q : ℕ). P.recordPlace 4 q j) ep)
-      ∙ sym (member-at b t j l (subst (λ (q : ℕ). j < P.records b 4 q) ep among))
-
   pub number-led : (m : List ℕ) (start n : ℕ) (c : Cursor) → Laid (4097 * j) c → (at : ℕ) → at ≡ P.recordPlace 4 p j → (step : Step) (next : Cursor)
       → Stepped (leadOf (T.memberStep u48 (P.parse b) m start n c (P.memberAt b at))) (L.afterMember u48 (P.parse b) (P.memberAt b at) c) (c .end) step next
       → StepSmall (P.parse b) step → Led (P.parse b) m t j start n c step next
-  number-led m start n c laid at e step next h small = led-is (P.parse b) m t j start n c (P.memberAt b at) (plain-led at e) laid step next h small
+  number-led m start n c laid at e step next g small = led-is (P.parse b) m t j start n c (P.memberAt b at) (record-member b t j p l h ep at e) laid step next g small

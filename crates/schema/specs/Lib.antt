@@ -1,3 +1,4 @@
--- What the schema's code promises: the directory's relation, and the representatives of structs.
+-- What the schema's code promises: the directory's relation, the representatives of structs, and the records of members.
 pub mod Representatives
 pub mod Directory
+pub mod Records

@@ -36,7 +36,7 @@ use Rattle.member.specs.Records.{Refers}
 use Rattle.header.proofs.SizeCases.{element-object}
 use Rattle.object.proofs.OpenCases.{member-sound-of}
 use Rattle.text.proofs.TextCases.{text-only}
-use Rattle.member.proofs.PlainCases.{among, plain-led}
+use Rattle.schema.specs.Records.{record-member}
 use Rattle.leaf.proofs.MemberCases.{lead-follows, members-stopped, members-turn}
 
 abbrev reference-member : Object → Member
@@ -103,12 +103,9 @@ module _ (b : List ℕ) (t j : ℕ) (l : t < P.tableCount b) (count : ℕ) (ec :
   counted : j < length (Sc.tableOf (P.parse b) t .members)
   counted = subst (λ (k : ℕ). j < k) ec h
 
-  pub reference-inside : at ≡ first + 4 + 1 + 2 * j → at + 1 < length b
-  reference-inside e = let z = bl .inside in let y = among b t j first l counted (bl .is) in omega arith
-
   pub reference-sound : (dir : List ℕ) → Accepted b dir → at ≡ P.recordPlace 4 first j → Refers (getD b at 0) → ObjectSound (P.parse b) (P.objectAt b at)
   reference-sound dir a ea p =
-      let e = plain-led b t j first l counted (bl .is) at ea in
+      let e = record-member b t j first l counted (bl .is) at ea in
       subst (λ (r : Member). MemberSound (P.parse b) r) (reference-is b at p) (member-sound-of b dir a t j (P.memberAt b at) e counted) .kind
 
 -- ---- the members of a table, from such a member j on
@@ -118,7 +115,7 @@ module _ (child : W.Child) (b m : List ℕ) (holder start n t : ℕ) (s : Spent)
     (ec : count ≡ length (Sc.tableOf (P.parse b) t .members)) (h : j < count) (l : t < P.tableCount b) (first : ℕ) (bl : Block b 4 (P.tablePlace b t) first) (at : ℕ)
     (ea : at ≡ P.recordPlace 4 first j) (g : Outcome) (eg : walkedOf g ≡ W.follow child holder (T.memberStep u48 (P.parse b) m start n c (P.memberAt b at)) v) where
   is-member : P.memberAt b at ≡ Sc.memberOf (P.parse b) t j
-  is-member = plain-led b t j first l (subst (λ (k : ℕ). j < k) ec h) (bl .is) at ea
+  is-member = record-member b t j first l (subst (λ (k : ℕ). j < k) ec h) (bl .is) at ea
 
   led : walkedOf g ≡ W.follow child holder (leadOf (T.memberStep u48 (P.parse b) m start n c (Sc.memberOf (P.parse b) t j))) v
   led =

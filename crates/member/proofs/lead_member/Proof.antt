@@ -1,4 +1,5 @@
-use Rattle.member.proofs.PlainCases.{record-inside, number-led}
+use Rattle.member.proofs.PlainCases.{number-led}
+use Rattle.schema.specs.Records.{record-inside}
 use Rattle.object.proofs.OpenCases.{member-sound-of}
 use Rattle.member.proofs.PlainCases.{led-is}
 use borrow.Author.Needs.{needs}

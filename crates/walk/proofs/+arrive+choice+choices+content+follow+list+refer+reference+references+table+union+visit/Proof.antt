@@ -1,4 +1,5 @@
-use Rattle.walk.proofs.ReferenceCases.{reference-past, reference-cut, reference-here, reference-text, reference-inside, reference-sound, reference-stopped, reference-turn, reference-laid, same-sound}
+use Rattle.walk.proofs.ReferenceCases.{reference-past, reference-cut, reference-here, reference-text, reference-sound, reference-stopped, reference-turn, reference-laid, same-sound}
+use Rattle.schema.specs.Records.{record-whole}
 use mathlib.Core.Path.{_≡_}
 use native.Mathlib.Omega.{arith}
 use borrow.Author.Needs.{needs}
@@ -728,11 +729,11 @@ table-record-place-requires t c κs = (omega arith, c .before .before .before .b
 
 -- src/lib.rt:830:12
 table-refers-requires : (t : ℕ) → table-lts.Need-refers-requires (table-R t) (table-at t) table.Post table-Inv-loop table-μ-loop
-table-refers-requires t c κs = omega (arith, reference-inside _ _ _ (c .before .before .before .before .before .before .before .before .before .before .before .pre .1 .2) _ (c .before .before .before .before .before .before .before .member-count .ensures .0) (c .before .before .before .loop-test .taken) _ (c .before .before .before .before .before .before .table-place .ensures) _ (c .record-place .ensures .1))
+table-refers-requires t c κs = omega (arith, record-whole _ _ _ (c .before .before .before .before .before .before .before .before .before .before .before .pre .1 .2) _ (c .before .before .before .before .before .before .before .member-count .ensures .0) (c .before .before .before .loop-test .taken) _ (c .before .before .before .before .before .before .table-place .ensures) _ (c .record-place .ensures .1))
 
 -- src/lib.rt:831:17
 table-reference-requires : (t : ℕ) → table-lts.Need-reference-requires (table-R t) (table-at t) table.Post table-Inv-loop table-μ-loop
-table-reference-requires t c κs = (omega arith, ((c .before .before .before .before .before .before .before .before .before .before .before .before .before .pre .1 .0, c .before .before .before .before .before .before .before .before .before .before .before .before .before .pre .1 .1, reference-inside _ _ _ (c .before .before .before .before .before .before .before .before .before .before .before .before .before .pre .1 .2) _ (c .before .before .before .before .before .before .before .before .before .member-count .ensures .0) (c .before .before .before .before .before .loop-test .taken) _ (c .before .before .before .before .before .before .before .before .table-place .ensures) _ (c .before .before .record-place .ensures .1), c .before .refers .ensures (c .if2 .taken)), (reference-sound _ _ _ (c .before .before .before .before .before .before .before .before .before .before .before .before .before .pre .1 .2) _ (c .before .before .before .before .before .before .before .before .before .member-count .ensures .0) (c .before .before .before .before .before .loop-test .taken) _ (c .before .before .before .before .before .before .before .before .table-place .ensures) _ _ (c .before .before .before .before .before .before .before .before .before .before .before .before .before .pre .1 .0) (c .before .before .record-place .ensures .0) (c .before .refers .ensures (c .if2 .taken)), c .before .before .before .before .before .before .before .before .before .before .before .before .before .pre .1 .3, omega (arith, c .before .before .before .before .before .before .loop .inv .1 .end, c .before .before .before .before .before .before .before .before .before .member-count .ensures .1))))
+table-reference-requires t c κs = (omega arith, ((c .before .before .before .before .before .before .before .before .before .before .before .before .before .pre .1 .0, c .before .before .before .before .before .before .before .before .before .before .before .before .before .pre .1 .1, record-whole _ _ _ (c .before .before .before .before .before .before .before .before .before .before .before .before .before .pre .1 .2) _ (c .before .before .before .before .before .before .before .before .before .member-count .ensures .0) (c .before .before .before .before .before .loop-test .taken) _ (c .before .before .before .before .before .before .before .before .table-place .ensures) _ (c .before .before .record-place .ensures .1), c .before .refers .ensures (c .if2 .taken)), (reference-sound _ _ _ (c .before .before .before .before .before .before .before .before .before .before .before .before .before .pre .1 .2) _ (c .before .before .before .before .before .before .before .before .before .member-count .ensures .0) (c .before .before .before .before .before .loop-test .taken) _ (c .before .before .before .before .before .before .before .before .table-place .ensures) _ _ (c .before .before .before .before .before .before .before .before .before .before .before .before .before .pre .1 .0) (c .before .before .record-place .ensures .0) (c .before .refers .ensures (c .if2 .taken)), c .before .before .before .before .before .before .before .before .before .before .before .before .before .pre .1 .3, omega (arith, c .before .before .before .before .before .before .loop .inv .1 .end, c .before .before .before .before .before .before .before .before .before .member-count .ensures .1))))
 
 -- src/lib.rt:833:17
 table-returns-2 : (t : ℕ) → table-lts.Need-returns-2 (table-R t) (table-at t) table.Post table-Inv-loop table-μ-loop
