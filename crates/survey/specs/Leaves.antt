@@ -1,7 +1,7 @@
 -- Leaves: members that lead to no object but a text or bytes, so that no walk to others is needed for them.
-use mathlib.Core.Path.{_≡_, refl, ap, _∙_}
+use mathlib.Core.Path.{_≡_, refl}
 use mathlib.Core.Bool.{Bool, true, false}
-use mathlib.Core.List.{List, [], _∷_}
+use mathlib.Core.List.{List, _∷_}
 use Prim.Native.Nat.{ℕ, _*_, _≤_}
 use lib.ListN.{length, drop}
 use lib.Dec.{eqb}
@@ -13,7 +13,6 @@ use Rattle.coding.specs.Layout.{afterBytes, afterMember}
 use Rattle.coding.specs.Sheet.{Parsed, fail, got, bind, takeNumber}
 use Rattle.coding.specs.declared.Cursor.{Cursor}
 use Rattle.coding.specs.declared.Flat.{Flat}
-use Rattle.coding.specs.declared.Kind.{Kind}
 use Rattle.coding.specs.declared.Kind.the-variants.{OfFlat}
 use Rattle.coding.specs.declared.Member.{Member}
 use Rattle.survey.specs.Survey.{surveyMark, surveyFlat, surveyStruct, plain, joined, Surveyor, plainOf, surveyBody, surveyLostFlat, surveyLost, flatMayLack, mayLack, surveyPart, surveyMembers}

@@ -3,13 +3,6 @@ use Rattle.survey.proofs.PartCases.{part-cut, object-none, object-bad}
 use Rattle.survey.proofs.LeafCases.{marked-blob}
 use Rattle.survey.proofs.blob_part.Statement.{statement}
 use Rattle.survey.proofs.blob_part.Tie as tie
-use Rattle.survey.proofs.blob_part.Reads as reads
-use Rattle.survey.proofs.blob_part.Lts as lts
-use Rattle.bitio.proofs.take_number.Reads as take-number-reads
-use Rattle.schema.proofs.inplace_at.Reads as inplace-at-reads
-use Rattle.schema.proofs.kind_at.Reads as kind-at-reads
-use Rattle.survey.proofs.plain.Reads as plain-reads
-use Rattle.survey.proofs.unlawful.Reads as unlawful-reads
 
 -- src/lib.rt:608:9
 take-number-requires : tie.Need-take-number-requires

@@ -2,13 +2,6 @@ use borrow.Author.Needs.{needs}
 use Rattle.survey.proofs.LeafCases.{flat-sound, leaf-flat, leaf-blob}
 use Rattle.survey.proofs.leaf.Statement.{statement}
 use Rattle.survey.proofs.leaf.Tie as tie
-use Rattle.survey.proofs.leaf.Reads as reads
-use Rattle.survey.proofs.leaf.Lts as lts
-use Rattle.schema.proofs.kind_at.Reads as kind-at-reads
-use Rattle.survey.proofs.blob_part.Reads as blob-part-reads
-use Rattle.survey.proofs.flat_part.Reads as flat-part-reads
-use Rattle.survey.proofs.joined.Reads as joined-reads
-use Rattle.survey.proofs.joined_plain.Reads as joined-plain-reads
 
 -- src/lib.rt:641:8
 kind-at-requires : tie.Need-kind-at-requires

@@ -1,5 +1,5 @@
 use borrow.Author.Needs.{needs}
-use Prim.Native.Nat.{ℕ, _+_, _-_, _*_, _^_, _<_, _≤_}
+use Prim.Native.Nat.{_-_, _*_, _<_, _≤_}
 use mathlib.Core.Path.{_≡_, refl}
 use lib.ListN.{length, drop}
 use Rattle.coding.specs.Bytes.{u48}
@@ -12,12 +12,6 @@ use Rattle.survey.proofs.ObjectCases.{member-counted}
 use Rattle.survey.proofs.LeafCases.{leaf-counted, left-here, left-cut, left-turn}
 use Rattle.survey.proofs.leaves.Statement.{statement}
 use Rattle.survey.proofs.leaves.Tie as tie
-use Rattle.survey.proofs.leaves.Reads as reads
-use Rattle.survey.proofs.leaves.Lts as lts
-use Rattle.schema.proofs.kind_at.Reads as kind-at-reads
-use Rattle.schema.proofs.member_count.Reads as member-count-reads
-use Rattle.survey.proofs.leaf.Reads as leaf-reads
-use Rattle.survey.proofs.record_of.Reads as record-of-reads
 
 abbrev Inv-loop : tie.InvT-loop
 Inv-loop b dir s d t from e at count a₀ pos₀ j₀ a pos j =

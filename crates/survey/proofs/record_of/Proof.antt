@@ -3,10 +3,6 @@ use Rattle.schema.proofs.Access.{member-inside}
 use Rattle.survey.proofs.LeafCases.{record-is, record-stands}
 use Rattle.survey.proofs.record_of.Statement.{statement}
 use Rattle.survey.proofs.record_of.Tie as tie
-use Rattle.survey.proofs.record_of.Reads as reads
-use Rattle.survey.proofs.record_of.Lts as lts
-use Rattle.schema.proofs.record_place.Reads as record-place-reads
-use Rattle.schema.proofs.table_place.Reads as table-place-reads
 
 -- src/lib.rt:666:29
 table-place-requires : tie.Need-table-place-requires
