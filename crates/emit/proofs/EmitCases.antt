@@ -14,22 +14,23 @@ use Rattle.coding.specs.Schema as Sc
 use Rattle.coding.specs.Schema.{Schema}
 use Rattle.coding.specs.Structs.{structSize}
 use Rattle.coding.specs.Message.{zeros}
-use Rattle.coding.specs.Sheet.{Parsed, fail, got, bind, takeNumber, takeBytes, unknownEnum}
+use Rattle.coding.specs.Sheet.{Parsed, fail, got, bind, takeNumber, takeBytes, unknownEnum, flatBare}
 use Rattle.coding.specs.declared.Flat.{Flat}
 use Rattle.coding.specs.declared.Flat.the-variants.{Boolean, Integer, Float, Enumerated, Struct}
 use Rattle.coding.specs.declared.Object.{Object}
 use Rattle.coding.specs.declared.Kind.{Kind}
 use Rattle.coding.specs.declared.Kind.the-variants.{OfFlat, OfObject, OfUnion}
+use Rattle.laws.specs.Lists.{never}
 use Rattle.laws.specs.Bits.{bits-length, pack-length}
-use Rattle.laws.specs.Sound.{FlatSound}
+use Rattle.laws.specs.Sound.{FlatSound, FlatScalar}
 use Rattle.bitio.specs.Taken.{TakenNumber, TakenBytes}
 use Rattle.survey.proofs.FlatCases.{float-short}
 use Rattle.survey.specs.Survey.{belowCount, aboveCount, surveyMark}
 use Rattle.store.specs.State.{State, putBytes, putBit, putByte, putNumber}
 use Rattle.emit.specs.EmitFlats.{put-none}
-use Rattle.emit.specs.EmitSheet.{putNothing, emitNumber, emitIf, emitBlob, lackFlat, lack, passFlat, pass}
+use Rattle.emit.specs.EmitSheet.{putNothing, emitNumber, emitIf, emitBlob, lackFlat, lack, passFlat, pass, emitFlat}
 use Rattle.store.specs.Storing.{stateOf, HeldOk, Stood, BitPut}
-use Rattle.emit.specs.Emitting.{emitMarkedEnum, Room, EmittedAt, Lacks}
+use Rattle.emit.specs.Emitting.{emitMarkedEnum, Room, EmittedAt, Lacks, emitMarkedFloat, emitMarkedFlat}
 use Rattle.store.specs.declared.Places.{Places}
 use Rattle.emit.proofs.EmitRoom.{taken-at, held-same, room-taken, room-stood, room-bit, room-part, room-below, refused}
 
@@ -194,6 +195,64 @@ module _ (s : List ℕ) (pos k : ℕ) (c : Places) (room : Room s pos c) (whole 
 
         pub mark-bad : (x ≡ 2 → ⊥) → t ≡ false → p ≡ c → n ≡ pos → EmittedAt s (emitMarkedEnum k (stateOf c o) (drop pos (bits s))) pos c 0 t p out n
         mark-bad h2 et ep en = refused s _ pos c 0 (chosen ∙ simp (ne-eqb x 0 h0, ne-eqb x 1 h1, ne-eqb x 2 h2)) room t p out n et ep en
+
+-- ---- a float's mark
+module _ (s : List ℕ) (pos k : ℕ) (c : Places) (room : Room s pos c) (whole : Bool) (x next : ℕ) (taken : TakenNumber s pos 2 whole x next) (o : List ℕ) (t : Bool) (p : Places)
+    (out : List ℕ) (n : ℕ) where
+  pub float-cut : not whole ≡ true → t ≡ false → p ≡ c → n ≡ pos → EmittedAt s (emitMarkedFloat k (stateOf c o) (drop pos (bits s))) pos c 0 t p out n
+  unfolding emitMarkedFloat surveyMark bind
+  float-cut h et ep en = refused s _ pos c 0 (rw (taken .number, not-true whole h)) room t p out n et ep en
+
+  module _ (h : not whole ≡ false) where
+    float-is : emitMarkedFloat k (stateOf c o) (drop pos (bits s))
+        ≡ pick (eqb x 0) (got (putNumber k (noFloat k) (stateOf c o)) (drop next (bits s)))
+        (pick (eqb x 1) (emitNumber (8 * k) (putNumber k) (stateOf c o) (drop next (bits s))) (pick (eqb x 2) fail fail))
+    unfolding emitMarkedFloat surveyMark bind
+    float-is = rw (taken .number, not-false whole h)
+
+    pub float-none : x ≡ 0 → k ≤ 8 → (j v : ℕ) → j ≡ k → v ≡ noFloat k → (q : Places) → Stood j (putNumber j v (stateOf c o)) (stateOf q out) c q → t ≡ true → p ≡ q → n ≡ next
+        → EmittedAt s (emitMarkedFloat k (stateOf c o) (drop pos (bits s))) pos c 0 t p out n
+    float-none e l j v ej ev q u et ep en =
+        let a = u .at in
+        reached s pos 2 c room whole x next taken p out t n h q (room-stood s pos 2 c room whole x next taken h j (omega arith) _ _ q u) (omega arith) et ep en _
+        (float-is ∙ simp (eq-eqb x 0 e)
+        (ap (λ a. got a (drop next (bits s))) (sym (u .is ∙ ap (λ (i : ℕ). putNumber i v (stateOf c o)) ej ∙ ap (λ (z : ℕ). putNumber k z (stateOf c o)) ev))))
+
+    module _ (h0 : x ≡ 0 → ⊥) where
+      pub float-there : x ≡ 1 → (j : ℕ) → j ≡ k → EmittedAt s (emitNumber (8 * j) (putNumber j) (stateOf c o) (drop next (bits s))) next c 0 t p out n
+          → EmittedAt s (emitMarkedFloat k (stateOf c o) (drop pos (bits s))) pos c 0 t p out n
+      float-there e j ej u =
+          behind-mark s pos c room whole x next taken h _ c (omega arith) t p out n
+          (subst (λ d. EmittedAt s d next c 0 t p out n)
+          (sym (float-is ∙ simp (ne-eqb x 0 h0, eq-eqb x 1 e) (ap (λ (i : ℕ). emitNumber (8 * i) (putNumber i) (stateOf c o) (drop next (bits s))) (sym ej)))) u)
+
+      pub float-bad : (x ≡ 1 → ⊥) → t ≡ false → p ≡ c → n ≡ pos → EmittedAt s (emitMarkedFloat k (stateOf c o) (drop pos (bits s))) pos c 0 t p out n
+      float-bad h1 et ep en = refused s _ pos c 0 (float-is ∙ simp (ne-eqb x 0 h0, ne-eqb x 1 h1) (by (eqb x 2))) room t p out n et ep en
+        where
+          by : (u : Bool) → _≡_ {A = Parsed State} (pick u fail fail) fail
+          by true = refl
+          by false = refl
+
+-- ---- elements that lead to no object
+module _ (S : Schema) (s : List ℕ) (f : Flat) (c : Places) (st : State) (pos : ℕ) (t : Bool) (p : Places) (out : List ℕ) (n : ℕ) where
+  pub marked-float : (w : ℕ) → f ≡ Float w → EmittedAt s (emitMarkedFloat w st (drop pos (bits s))) pos c 0 t p out n → EmittedAt s (emitMarkedFlat S f st (drop pos (bits s))) pos c 0 t p out n
+  unfolding emitMarkedFloat emitMarkedFlat surveyMark lackFlat passFlat emitFlat
+  marked-float w e u = rw e u
+
+  pub marked-enum : (m : ℕ) → f ≡ Enumerated m → EmittedAt s (emitMarkedEnum m st (drop pos (bits s))) pos c 0 t p out n → EmittedAt s (emitMarkedFlat S f st (drop pos (bits s))) pos c 0 t p out n
+  unfolding emitMarkedEnum emitMarkedFlat surveyMark lackFlat passFlat emitFlat
+  marked-enum m e u = rw e u
+
+  pub marked-boolean : f ≡ Boolean → flatBare f ≡ false → EmittedAt s (emitMarkedFlat S f st (drop pos (bits s))) pos c 0 t p out n
+  unfolding flatBare
+  marked-boolean e h = never (sym (subst (λ (g : Flat). flatBare g ≡ false) e h))
+
+  pub marked-integer : (g : Bool) (w : ℕ) → f ≡ Integer g w → flatBare f ≡ false → EmittedAt s (emitMarkedFlat S f st (drop pos (bits s))) pos c 0 t p out n
+  unfolding flatBare
+  marked-integer g w e h = never (sym (subst (λ (q : Flat). flatBare q ≡ false) e h))
+
+  pub marked-struct : (i : ℕ) → f ≡ Struct i → FlatScalar f → EmittedAt s (emitMarkedFlat S f st (drop pos (bits s))) pos c 0 t p out n
+  marked-struct i e h = absurd (subst FlatScalar e h)
 
 -- ---- runs of bytes
 abbrev remains : Parsed (List ℕ) → List ℕ

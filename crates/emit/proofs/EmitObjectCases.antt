@@ -20,7 +20,7 @@ use Rattle.coding.specs.declared.Object.the-variants as O
 use Rattle.coding.specs.declared.Kind.{Kind}
 use Rattle.coding.specs.declared.Kind.the-variants.{OfObject}
 use Rattle.coding.specs.declared.Member.{Member}
-use Rattle.laws.specs.Sound.{ObjectSound, KindSound}
+use Rattle.laws.specs.Sound.{ObjectSound, KindSound, NoStruct}
 use Rattle.schema.specs.Directory.{Accepted, accepted-sound}
 use Rattle.survey.proofs.ObjectCases.{element-sound}
 use Rattle.bitio.specs.Taken.{TakenNumber}
@@ -31,11 +31,12 @@ use Rattle.emit.specs.EmitSheet.{Emitter, emitRefer, emitElement, emitMe
 use Rattle.emit.specs.EmitObjects.{emit-lost}
 use Rattle.emit.specs.Measure.{Measured}
 use Rattle.store.specs.Storing.{stateOf, Stood}
-use Rattle.emit.specs.Emitting.{closed, referred, opened, emitMember, Room, EmittedAt, Opens}
+use Rattle.emit.specs.Emitting.{closed, referred, opened, emitMember, Room, EmittedAt, Opens, emitUnflagged, isBlob, isLeaf}
 use Rattle.store.specs.declared.Places.{Places}
+use Rattle.emit.proofs.OpenCases.{not-list, not-table}
 use Rattle.emit.proofs.EmitRoom.{taken-at, refused}
 use Rattle.emit.proofs.EmitRest.{emitted-on}
-use Rattle.emit.proofs.EmitPartCases.{refer-unlawful, refer-closed}
+use Rattle.emit.proofs.EmitPartCases.{refer-unlawful, refer-closed, leaf-refers, unflagged-member}
 
 -- ---- an object that is referred to: its content goes forward in the sheet
 module _ (d : ℕ) (b dir : List ℕ) (a : Accepted b dir) (s : List ℕ) (inplace : Bool) (ob : Object) (c : Places) (o : List ℕ) (pos : ℕ) (room : Room s pos c)
@@ -107,6 +108,20 @@ module _ (child : Emitter) (measure : Surveyor) (S : Schema) (s : List ℕ) (t :
           turned ∙ ap (λ (u : Bool). rest (pick u (got (stateOf y o₂) (drop next (bits s))) fail)) (not-false whole f)
           ∙ ap (λ (m : ℕ). emitMembers child measure u48 S (drop m (Sc.tableOf S t .members)) (stateOf y o₂) (drop next (bits s))) (sym (add-one j))
 
+    -- a member that leads to an object
+    module _ (h : j < count) (r : Member) (er : r ≡ Sc.memberOf S t j) (far : Bool) (ef : far ≡ isLeaf (r .kind) (r .inplace)) (left : far ≡ false) (whole : Bool) (y : Places) (o₂ : List ℕ) (next : ℕ)
+        (em : EmittedAt s (emitUnflagged child measure u48 S (r .kind) (r .inplace) (stateOf p o₁) (drop at (bits s))) at p 0 whole y o₂ next) where
+      flagless : EmittedAt s (emitMember child measure u48 S r (stateOf p o₁) (drop at (bits s))) at p 0 whole y o₂ next
+      flagless = unflagged-member child measure S s r (leaf-refers (r .kind) (r .inplace) far ef left) (stateOf p o₁) (drop at (bits s)) at p whole y o₂ next em
+
+      pub refers-stopped : Room s pos c → not whole ≡ true → (w : Bool) (q : Places) (n : ℕ) → w ≡ false → q ≡ c → n ≡ pos
+          → EmittedAt s (emitContent child measure u48 S (O.Table t) (stateOf c o) (drop pos (bits s))) pos c 0 w q o₂ n
+      refers-stopped room f w q n ew eq en = members-stopped h r er whole y o₂ next flagless room f w q n ew eq en
+
+      pub refers-turn : not whole ≡ false
+          → emitContent child measure u48 S (O.Table t) (stateOf c o) (drop pos (bits s)) ≡ emitMembers child measure u48 S (drop (j + 1) (Sc.tableOf S t .members)) (stateOf y o₂) (drop next (bits s))
+      refers-turn f = members-turn h r er whole y o₂ next flagless f
+
 -- ---- the elements of a list, from element j on
 module _ (child : Emitter) (measure : Surveyor) (S : Schema) (s : List ℕ) (i : ℕ) (c : Places) (o : List ℕ) (pos : ℕ) where
   module _ (whole : Bool) (n first : ℕ) (taken : TakenNumber s pos 32 whole n first) where
@@ -136,6 +151,9 @@ module _ (child : Emitter) (measure : Surveyor) (S : Schema) (s : List ℕ) (i :
       → (t : Bool) (q : Places) (o₁ : List ℕ) (m : ℕ) → EmittedAt s (emitElements child measure u48 S (OfObject ob) n (stateOf c o) (drop first (bits s))) first c 0 t q o₁ m
       → EmittedAt s (emitContent child measure u48 S (O.List i) (stateOf c o) (drop pos (bits s))) pos c 0 t q o₁ m
   list-objects k ek ob eo room whole n first taken h t q o₁ m em = list-elements (OfObject ob) (sym eo ∙ ek) room whole n first taken h t q o₁ m em
+
+pub element-scalar : (b dir : List ℕ) → Accepted b dir → (i : ℕ) (k : Kind) → k ≡ Sc.elementOf (parse b) i → NoStruct k
+element-scalar b dir a i k e = rw e (accepted-sound b dir a .lists i .scalar)
 
 pub element-object : (b dir : List ℕ) → Accepted b dir → (i : ℕ) (k : Kind) → k ≡ Sc.elementOf (parse b) i → (ob : Object) → k ≡ OfObject ob → ObjectSound (parse b) ob
 element-object b dir a i k e ob eo = subst (KindSound (parse b)) eo (element-sound b dir a i k e)
@@ -224,3 +242,11 @@ module _ (d : ℕ) (S : Schema) (s : List ℕ) (ob : Object) (c : Places) (o : L
         → EmittedAt s (emit d u48 S ob (stateOf c o) (drop pos (bits s))) pos c 0 w q o₁ n
     content-table i j eo ej t =
         content (rw eo (subst (λ (a : ℕ). EmittedAt s (emitContent (emit (d - 1) u48 S) (survey (d - 1) u48 S) u48 S (O.Table a) (stateOf c o) (drop pos (bits s))) pos c 0 w q o₁ n) ej t))
+
+-- of a text or bytes
+module _ (d : ℕ) (S : Schema) (s : List ℕ) (ob : Object) (h : isBlob ob ≡ true) (st : State) (c : Places) (pos : ℕ) (w : Bool) (q : Places) (o₁ : List ℕ) (n : ℕ) where
+  pub content-no-list : (i : ℕ) → ob ≡ O.List i → EmittedAt s (emit d u48 S ob st (drop pos (bits s))) pos c 0 w q o₁ n
+  content-no-list i e = absurd (not-list ob h i e)
+
+  pub content-no-table : (i : ℕ) → ob ≡ O.Table i → EmittedAt s (emit d u48 S ob st (drop pos (bits s))) pos c 0 w q o₁ n
+  content-no-table i e = absurd (not-table ob h i e)

@@ -1,6 +1,6 @@
 -- The ways out of the pass over members and elements, one lemma for each.
 use mathlib.Core.Path.{_≡_, refl, sym, ap, ap₂, _∙_, subst}
-use mathlib.Core.Bool.{Bool, true, false, not, false≢true}
+use mathlib.Core.Bool.{Bool, true, false, not, false≢true, _&&_}
 use mathlib.Core.List.{List}
 use Prim.Native.Nat.{ℕ, zero, suc, _+_, _*_, _^_, _<_, _≤_}
 use native.Mathlib.Omega.{arith}
@@ -12,14 +12,16 @@ use Rattle.coding.specs.Bytes.{u48}
 use Rattle.coding.specs.Bits.{bits}
 use Rattle.coding.specs.Schema as Sc
 use Rattle.coding.specs.Schema.{Schema}
-use Rattle.coding.specs.Layout.{hasFlag}
+use Rattle.coding.specs.Layout.{hasFlag, takesFlag}
 use Rattle.coding.specs.Walk.{headerSize, magic}
-use Rattle.coding.specs.Sheet.{Parsed, fail, got, bind, bare}
+use Rattle.coding.specs.Sheet.{Parsed, fail, got, bind, bare, flatBare}
 use Rattle.coding.specs.declared.Flat.{Flat}
 use Rattle.coding.specs.declared.Object.{Object}
 use Rattle.coding.specs.declared.Kind.{Kind}
 use Rattle.coding.specs.declared.Kind.the-variants.{OfFlat, OfObject, OfUnion}
 use Rattle.coding.specs.declared.Member.{Member}
+use Rattle.laws.specs.Lists.{never}
+use Rattle.laws.specs.Sound.{FlatScalar, NoStruct}
 use Rattle.bitio.specs.Taken.{TakenNumber}
 use Rattle.survey.specs.Survey.{Surveyor, surveyMark}
 use Rattle.survey.specs.Mapped.{Has}
@@ -28,12 +30,12 @@ use Rattle.store.specs.State.{State, enterObject, leaveObject, enterContent, le
 use Rattle.emit.specs.EmitSheet.{Emitter, emitFlat, lack, pass, openObject, emitObject, emitContentAt, emitRefer, emitChoice, emitBody, emitPart, emitElement, flagged}
 use Rattle.emit.specs.Measure.{Sizes, Measured}
 use Rattle.store.specs.Storing.{stateOf, HeldOk, leftObject, leftContent, Stood, BitPut}
-use Rattle.emit.specs.Emitting.{closed, referred, opened, emitMember, Room, EmittedAt, Lacks, Opens, extra}
+use Rattle.emit.specs.Emitting.{closed, referred, opened, emitMember, Room, EmittedAt, Lacks, Opens, extra, emitMarkedFlat, emitUnflagged, refers, isBlob, isLeaf}
 use Rattle.store.specs.declared.Places.{Places}
 use Rattle.survey.proofs.ObjectCases.{object-marked}
 use Rattle.emit.proofs.OpenCases.{flag-none}
 use Rattle.emit.proofs.EmitCases.{lacks-object}
-use Rattle.emit.proofs.EmitRoom.{taken-at, refused, extra-most, held-same}
+use Rattle.emit.proofs.EmitRoom.{taken-at, refused, extra-most, held-same, room-lack}
 
 -- ---- an object: what refers to it, its content, and back; by offset or in place
 module _ (child : Emitter) (S : Schema) (inplace : Bool) (ob : Object) (st : State) (xs : List ℕ) where
@@ -300,19 +302,8 @@ module _ (child : Emitter) (measure : Surveyor) (S : Schema) (s : List ℕ) (r :
             by (suc (suc (suc (suc m)))) f0 f1 f3 i = absurd (omega arith)
 
 -- ---- elements
-bare-extra : (k : Kind) → bare k ≡ true → extra k ≡ 0
-unfolding bare extra
-bare-extra (OfFlat f) e = refl
-bare-extra (OfObject ob) e = absurd (false≢true e)
-bare-extra (OfUnion i) e = absurd (false≢true e)
-
 module _ (child : Emitter) (measure : Surveyor) (S : Schema) (s : List ℕ) (k : Kind) (c : Places) (o : List ℕ) (pos : ℕ) (w : Bool) (q : Places) (o₁ : List ℕ) (n : ℕ)
     (t : Bool) (et : t ≡ bare k) where
-  pub element-bare : t ≡ true → EmittedAt s (emitBody child measure u48 S k false (stateOf c o) (drop pos (bits s))) pos c (extra k) w q o₁ n
-      → EmittedAt s (emitElement child measure u48 S k (stateOf c o) (drop pos (bits s))) pos c 0 w q o₁ n
-  unfolding emitElement
-  element-bare h m = rw (← et, h) (subst (λ (e : ℕ). EmittedAt s (emitBody child measure u48 S k false (stateOf c o) (drop pos (bits s))) pos c e w q o₁ n) (bare-extra k (sym et ∙ h)) m)
-
   pub element-marked : t ≡ false → EmittedAt s (emitMember child measure u48 S (record { kind = k; optional = false; inplace = false }) (stateOf c o) (drop pos (bits s))) pos c 0 w q o₁ n
       → EmittedAt s (emitElement child measure u48 S k (stateOf c o) (drop pos (bits s))) pos c 0 w q o₁ n
   unfolding emitElement emitMember flagged hasFlag
@@ -358,3 +349,141 @@ module _ (child : Emitter) (measure : Surveyor) (S : Schema) (s : List ℕ) (ob 
         by : (t : Bool) → _≡_ {A = Parsed State} (pick t fail fail) fail
         by true = refl
         by false = refl
+
+-- ---- kinds
+pub leaf-told : (k : Kind) (inplace t : Bool) → t ≡ isLeaf k inplace → t ≡ true → isLeaf k inplace ≡ true
+leaf-told k inplace t e h = sym e ∙ h
+
+pub leaf-refers : (k : Kind) (inplace t : Bool) → t ≡ isLeaf k inplace → t ≡ false → refers k ≡ true
+unfolding isLeaf refers
+leaf-refers (OfFlat f) inplace t e h = never (sym h ∙ e)
+leaf-refers (OfObject ob) inplace t e h = refl
+leaf-refers (OfUnion i) inplace t e h = refl
+
+pub object-refers : (k : Kind) (ob : Object) → k ≡ OfObject ob → refers k ≡ true
+unfolding refers
+object-refers k ob e = rw e
+
+pub union-refers : (k : Kind) (i : ℕ) → k ≡ OfUnion i → refers k ≡ true
+unfolding refers
+union-refers k i e = rw e
+
+pub blob-by-offset : (ob : Object) (inplace r : Bool) → inplace ≡ false → r ≡ isBlob ob → r ≡ (not inplace && isBlob ob)
+blob-by-offset ob inplace r e er = rw e er
+
+pub leaf-offset : (k : Kind) (inplace : Bool) (ob : Object) → k ≡ OfObject ob → (r : Bool) → r ≡ (not inplace && isBlob ob) → r ≡ isLeaf k inplace
+unfolding isLeaf
+leaf-offset k inplace ob e r er = rw e er
+
+pub leaf-blob : (k : Kind) (inplace : Bool) (ob : Object) → k ≡ OfObject ob → isLeaf k inplace ≡ true → isBlob ob ≡ true
+unfolding isLeaf
+leaf-blob k inplace ob e h = by inplace (subst (λ (q : Kind). isLeaf q inplace ≡ true) e h)
+  where
+    by : (i : Bool) → (not i && isBlob ob) ≡ true → isBlob ob ≡ true
+    by true g = never g
+    by false g = g
+
+-- ---- what is there
+module _ (child : Emitter) (measure : Surveyor) (S : Schema) (s : List ℕ) (k : Kind) (inplace : Bool) (c : Places) (o : List ℕ) (pos : ℕ) (w : Bool) (q : Places) (o₁ : List ℕ) (n : ℕ) where
+  pub body-leaf : (ob : Object) → k ≡ OfObject ob → isLeaf k inplace ≡ true → EmittedAt s (emitRefer child measure u48 S false ob (stateOf c o) (drop pos (bits s))) pos c 6 w q o₁ n
+      → EmittedAt s (emitBody child measure u48 S k inplace (stateOf c o) (drop pos (bits s))) pos c (extra k) w q o₁ n
+  unfolding isLeaf
+  body-leaf ob e h t = by inplace (subst (λ (q : Kind). isLeaf q inplace ≡ true) e h)
+    where
+      by : (i : Bool) → (not i && isBlob ob) ≡ true → EmittedAt s (emitBody child measure u48 S k i (stateOf c o) (drop pos (bits s))) pos c (extra k) w q o₁ n
+      by true g = never g
+      by false g = body-object child measure S s k false c o pos w q o₁ n ob e t
+
+  pub body-no-leaf : (i : ℕ) → k ≡ OfUnion i → isLeaf k inplace ≡ true → EmittedAt s (emitBody child measure u48 S k inplace (stateOf c o) (drop pos (bits s))) pos c (extra k) w q o₁ n
+  unfolding isLeaf
+  body-no-leaf i e h = never (subst (λ (q : Kind). isLeaf q inplace ≡ true) e h)
+
+  pub body-no-flat : (f : Flat) → k ≡ OfFlat f → refers k ≡ true → EmittedAt s (emitBody child measure u48 S k inplace (stateOf c o) (drop pos (bits s))) pos c (extra k) w q o₁ n
+  unfolding refers
+  body-no-flat f e h = never (subst (λ (q : Kind). refers q ≡ true) e h)
+
+-- ---- with a mark and no flag
+module _ (child : Emitter) (measure : Surveyor) (S : Schema) (s : List ℕ) (k : Kind) (inplace : Bool) (c : Places) (o : List ℕ) (pos : ℕ) (room : Room s pos c)
+    (whole : Bool) (x next : ℕ) (taken : TakenNumber s pos 2 whole x next) where
+  abbrev plainPart : Member
+  plainPart = record { kind = k; optional = false; inplace = inplace }
+
+  no-bit : (y : ℕ) → BitPut (flagged plainPart y (stateOf c o)) (stateOf c o) c c
+  unfolding hasFlag
+  no-bit y = flag-none plainPart y c o false refl refl (room .bool)
+
+  as-unflagged : (w : Bool) (q : Places) (o₁ : List ℕ) (n : ℕ) → EmittedAt s (emitMember child measure u48 S plainPart (stateOf c o) (drop pos (bits s))) pos c 0 w q o₁ n
+      → EmittedAt s (emitUnflagged child measure u48 S k inplace (stateOf c o) (drop pos (bits s))) pos c 0 w q o₁ n
+  unfolding emitMember flagged hasFlag emitUnflagged
+  as-unflagged w q o₁ n t = t
+
+  pub unflagged-cut : not whole ≡ true → (w : Bool) (q : Places) (n : ℕ) → w ≡ false → q ≡ c → n ≡ pos
+      → EmittedAt s (emitUnflagged child measure u48 S k inplace (stateOf c o) (drop pos (bits s))) pos c 0 w q o n
+  unflagged-cut h w q n ew eq en = as-unflagged w q o n (part-cut child measure S s plainPart c o pos room whole x next taken h w q n ew eq en)
+
+  module _ (h : not whole ≡ false) where
+    pub unflagged-there : x ≡ 1 → (w : Bool) (q : Places) (o₂ : List ℕ) (n : ℕ) → EmittedAt s (emitBody child measure u48 S k inplace (stateOf c o) (drop next (bits s))) next c (extra k) w q o₂ n
+        → EmittedAt s (emitUnflagged child measure u48 S k inplace (stateOf c o) (drop pos (bits s))) pos c 0 w q o₂ n
+    unflagged-there z w q o₂ n t = as-unflagged w q o₂ n (part-there child measure S s plainPart c o pos room whole x next taken h z c o (no-bit 1) w q o₂ n t)
+
+    module _ (h1 : x ≡ 1 → ⊥) where
+      pub unflagged-bad : x ≡ 3 → (w : Bool) (q : Places) (n : ℕ) → w ≡ false → q ≡ c → n ≡ pos
+          → EmittedAt s (emitUnflagged child measure u48 S k inplace (stateOf c o) (drop pos (bits s))) pos c 0 w q o n
+      unflagged-bad z w q n ew eq en = as-unflagged w q o n (part-bad child measure S s plainPart c o pos room whole x next taken h h1 z w q n ew eq en)
+
+      module _ (h3 : x ≡ 3 → ⊥) (q : Places) (o₂ : List ℕ) (l : Lacks (lack u48 S k (stateOf c o)) (stateOf q o₂) c q) where
+        pub unflagged-none : x ≡ 0 → (w : Bool) (y : Places) (n : ℕ) → w ≡ true → y ≡ q → n ≡ next
+            → EmittedAt s (emitUnflagged child measure u48 S k inplace (stateOf c o) (drop pos (bits s))) pos c 0 w y o₂ n
+        unflagged-none z w y n ew ey en =
+            as-unflagged w y o₂ n (part-none child measure S s plainPart c o pos room whole x next taken h h1 h3 c o (no-bit 0) q o₂ l z w y n ew ey en)
+
+        pub unflagged-pass : (x ≡ 0 → ⊥) → (w : Bool) (y : Places) (o₃ : List ℕ) (n : ℕ) → EmittedAt s (pass S k (stateOf q o₂) (drop next (bits s))) next q 0 w y o₃ n
+            → EmittedAt s (emitUnflagged child measure u48 S k inplace (stateOf c o) (drop pos (bits s))) pos c 0 w y o₃ n
+        unflagged-pass h0 w y o₃ n t =
+            as-unflagged w y o₃ n (part-pass child measure S s plainPart c o pos room whole x next taken h h1 h3 c o (no-bit 0) q o₂ l h0 w y o₃ n t)
+
+-- behind what stands for no value
+pub room-lacked : (s : List ℕ) (pos : ℕ) (c : Places) → Room s pos c → (whole : Bool) (x next : ℕ) → TakenNumber s pos 2 whole x next → not whole ≡ false
+    → (put now : State) (q : Places) → Lacks put now c q → Room s next q
+room-lacked s pos c room whole x next taken h put now q k =
+    room-lack s pos c room whole x next taken h now now c (record { is = refl; bool = room .bool; at = omega arith; tail = refl; next = refl }) put now q k
+
+-- a member that leads to an object has no flag
+no-flag : (r : Member) → refers (r .kind) ≡ true → hasFlag r ≡ false
+unfolding hasFlag
+no-flag r h = by (r .kind) (r .optional) h
+  where
+    by : (k : Kind) (u : Bool) → refers k ≡ true → (u && takesFlag k) ≡ false
+    by (OfFlat f) u g = unfold refers in never g
+    by (OfObject ob) true g = unfold takesFlag in refl
+    by (OfObject ob) false g = refl
+    by (OfUnion i) true g = unfold takesFlag in refl
+    by (OfUnion i) false g = refl
+
+pub unflagged-member : (child : Emitter) (measure : Surveyor) (S : Schema) (s : List ℕ) (r : Member) → refers (r .kind) ≡ true → (st : State) (xs : List ℕ) (pos : ℕ) (c : Places)
+    (w : Bool) (q : Places) (o₁ : List ℕ) (n : ℕ) → EmittedAt s (emitUnflagged child measure u48 S (r .kind) (r .inplace) st xs) pos c 0 w q o₁ n
+    → EmittedAt s (emitMember child measure u48 S r st xs) pos c 0 w q o₁ n
+unfolding emitMember emitUnflagged flagged
+unflagged-member child measure S s r h st xs pos c w q o₁ n t = rw (no-flag r h) t
+
+-- ---- elements with a mark
+module _ (child : Emitter) (measure : Surveyor) (S : Schema) (s : List ℕ) (k : Kind) (h : bare k ≡ false) (c : Places) (o : List ℕ) (pos : ℕ) (w : Bool) (q : Places) (o₁ : List ℕ) (n : ℕ) where
+  pub element-flat : (f : Flat) → k ≡ OfFlat f → EmittedAt s (emitMarkedFlat S f (stateOf c o) (drop pos (bits s))) pos c 0 w q o₁ n
+      → EmittedAt s (emitElement child measure u48 S k (stateOf c o) (drop pos (bits s))) pos c 0 w q o₁ n
+  unfolding emitElement emitPart emitMarkedFlat surveyMark lack pass emitBody
+  element-flat f e t = rw (h, e) t
+
+  pub element-refers : EmittedAt s (emitUnflagged child measure u48 S k false (stateOf c o) (drop pos (bits s))) pos c 0 w q o₁ n
+      → EmittedAt s (emitElement child measure u48 S k (stateOf c o) (drop pos (bits s))) pos c 0 w q o₁ n
+  unfolding emitElement emitUnflagged
+  element-refers t = rw h t
+
+pub not-bare : (k : Kind) (t : Bool) → t ≡ bare k → t ≡ false → bare k ≡ false
+not-bare k t e h = sym e ∙ h
+
+pub flat-marked : (k : Kind) (f : Flat) → k ≡ OfFlat f → bare k ≡ false → flatBare f ≡ false
+unfolding bare
+flat-marked k f e h = subst (λ (q : Kind). bare q ≡ false) e h
+
+pub flat-scalar : (k : Kind) (f : Flat) → k ≡ OfFlat f → NoStruct k → FlatScalar f
+flat-scalar k f e h = subst NoStruct e h

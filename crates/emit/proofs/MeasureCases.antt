@@ -27,6 +27,8 @@ use Rattle.survey.specs.Survey.{Surveyor, opened, surveyElements, surveyBlob, s
 use Rattle.survey.specs.Mapped.{Has, bind-has}
 use Rattle.survey.specs.Surveyed.{Small, Fits, SurveyedAt}
 use Rattle.survey.specs.declared.Extent.{Extent}
+use Rattle.emit.proofs.OpenCases.{not-list, not-table}
+use Rattle.emit.specs.Emitting.{isBlob}
 use Rattle.emit.specs.Measure.{Sizes, Measured, MeasuredContent, KnownSize, anyInPlace, list-sizes, table-sizes, measured-deep, measured-content}
 
 -- ---- whether a table has an in-place member, from member j on
@@ -145,3 +147,11 @@ known-small S ob n k = let l = k .small in (l, omega arith)
 
 pub known-measured : (d : ℕ) (S : Schema) (ob : Object) (n : ℕ) (xs : List ℕ) → KnownSize S ob n → 0 < n → (r : Extent) → Fits (opened n n) r → Measured false (survey d u48 S ob xs) r
 known-measured d S ob n xs k h r f = record { is = subst (λ (x : Extent). Has (Sizes false x) (survey d u48 S ob xs)) (sym (f .is)) (k .is h d xs); small = f .small }
+
+-- ---- texts and bytes by their offset
+module _ (d : ℕ) (S : Schema) (ob : Object) (h : isBlob ob ≡ true) (xs : List ℕ) (r : Extent) where
+  pub measured-no-list : (i : ℕ) → ob ≡ O.List i → Measured false (survey d u48 S ob xs) r
+  measured-no-list i e = absurd (not-list ob h i e)
+
+  pub measured-no-table : (i : ℕ) → ob ≡ O.Table i → Measured false (survey d u48 S ob xs) r
+  measured-no-table i e = absurd (not-table ob h i e)

@@ -1,5 +1,5 @@
 -- Flags, magics, references, and the start of an object's content.
-use mathlib.Core.Path.{_≡_, refl, ap, ap₂, _∙_}
+use mathlib.Core.Path.{_≡_, refl, ap, ap₂, _∙_, subst}
 use mathlib.Core.Bool.{Bool, true, false}
 use mathlib.Core.List.{List}
 use Prim.Native.Nat.{ℕ, _+_, _^_, _<_, _≤_}
@@ -10,6 +10,7 @@ use Rattle.coding.specs.Schema.{Schema}
 use Rattle.coding.specs.Layout.{hasFlag}
 use Rattle.coding.specs.Walk.{headerSize, magic}
 use Rattle.coding.specs.declared.Object.{Object}
+use Rattle.laws.specs.Lists.{never}
 use Rattle.coding.specs.declared.Object.the-variants as O
 use Rattle.coding.specs.declared.Member.{Member}
 use Rattle.survey.specs.Summed.{capped-most}
@@ -17,7 +18,7 @@ use Rattle.survey.specs.declared.Extent.{Extent}
 use Rattle.store.specs.State.{State, putBit, enterObject, enterContent, putNumber}
 use Rattle.emit.specs.EmitSheet.{openObject, flagged}
 use Rattle.store.specs.Storing.{stateOf, enteredObject, enteredContent, leftObject, leftContent, HeldOk, Stood, BitPut}
-use Rattle.emit.specs.Emitting.{closed, referred, opened, Opens}
+use Rattle.emit.specs.Emitting.{closed, referred, opened, Opens, isBlob}
 use Rattle.store.specs.declared.Places.{Places}
 
 module _ (inplace : Bool) (c i r : Places) where
@@ -125,3 +126,24 @@ module _ (S : Schema) (ob : Object) (inplace : Bool) (x : Extent) (c r : Places)
       → Opens (opened S ob inplace x (stateOf c o)) (stateOf r o₁) r
   unfolding opened
   opened-object e o o₁ t = rw e t
+
+-- ---- texts and bytes by their offset
+module _ (ob : Object) (h : isBlob ob ≡ true) where
+  pub not-list : (i : ℕ) → ob ≡ O.List i → ⊥
+  unfolding isBlob
+  not-list i e = never (subst (λ (q : Object). isBlob q ≡ true) e h)
+
+  pub not-table : (i : ℕ) → ob ≡ O.Table i → ⊥
+  unfolding isBlob
+  not-table i e = never (subst (λ (q : Object). isBlob q ≡ true) e h)
+
+  pub magic-no-list : (S : Schema) (i : ℕ) → ob ≡ O.List i → 0 ≡ magic S ob
+  magic-no-list S i e = absurd (not-list i e)
+
+  pub magic-no-table : (S : Schema) (i : ℕ) → ob ≡ O.Table i → 0 ≡ magic S ob
+  magic-no-table S i e = absurd (not-table i e)
+
+pub leaf-opened : (S : Schema) (ob : Object) (x : Extent) (c q h r : Places) (o o₁ o₂ : List ℕ) (mg : ℕ) → mg ≡ magic S ob → c .next ≤ 16777216
+    → q ≡ enteredObject (10 + x .width) (x .chain) c → Stood 4 (putNumber 4 mg (stateOf q o)) (stateOf h o₁) q h
+    → Stood 6 (putNumber 6 (x .length) (stateOf h o₁)) (stateOf r o₂) h r → Opens (opened S ob false x (stateOf c o)) (stateOf r o₂) r
+leaf-opened S ob x c q h r o o₁ o₂ mg em l eq t u = opened-object S ob false x c r refl o o₂ (object-opened S ob x c q h r o o₁ o₂ mg em l eq t u)

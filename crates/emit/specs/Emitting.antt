@@ -3,21 +3,23 @@
 use Prim.Native.Nat.{ℕ, _+_, _*_, _-_, _^_, _≤_}
 use mathlib.Core.Path.{_≡_}
 use mathlib.Core.List.{List}
-use mathlib.Core.Bool.{Bool}
+use mathlib.Core.Bool.{Bool, true, false, _&&_, not}
 use lib.ListN.{length, drop}
 use Rattle.coding.specs.Lists.{pick}
-use Rattle.coding.specs.Bytes.{u48}
+use Rattle.coding.specs.Bytes.{u48, noFloat}
 use Rattle.coding.specs.Bits.{bits}
 use Rattle.coding.specs.Schema.{Schema}
 use Rattle.coding.specs.Sheet.{Parsed, fail, got, unknownEnum}
 use Rattle.coding.specs.declared.Object.{Object}
+use Rattle.coding.specs.declared.Flat.{Flat}
+use Rattle.coding.specs.declared.Object.the-variants as O
 use Rattle.coding.specs.declared.Kind.{Kind}
 use Rattle.coding.specs.declared.Kind.the-variants.{OfFlat, OfObject, OfUnion}
 use Rattle.coding.specs.declared.Member.{Member}
 use Rattle.survey.specs.Survey.{belowCount, surveyMark, Surveyor}
 use Rattle.survey.specs.declared.Extent.{Extent}
 use Rattle.store.specs.State.{State, enterContent, putByte, putNumber}
-use Rattle.emit.specs.EmitSheet.{Emitter, putNothing, emitIf, openObject, emitPart, flagged}
+use Rattle.emit.specs.EmitSheet.{Emitter, putNothing, emitIf, openObject, emitPart, flagged, emitNumber, lackFlat, passFlat, emitFlat}
 use Rattle.store.specs.Storing.{stateOf, leftObject, leftContent, HeldOk}
 use Rattle.store.specs.declared.Places.{Places}
 
@@ -31,6 +33,13 @@ unfoldable pub emitMarkedEnum : ℕ → State → List ℕ → Parsed State
 emitMarkedEnum n st xs =
     surveyMark (putByte 255 st) (emitIf 8 (unknownEnum n) putNothing (putByte 255 st)) (emitIf 8 (belowCount n) putByte st) xs
 
+-- a float with its mark, and whatever leads to no object
+unfoldable pub emitMarkedFloat : ℕ → State → List ℕ → Parsed State
+emitMarkedFloat w st xs = surveyMark (putNumber w (noFloat w) st) (λ ys. fail) (emitNumber (8 * w) (putNumber w) st) xs
+
+unfoldable pub emitMarkedFlat : Schema → Flat → State → List ℕ → Parsed State
+emitMarkedFlat S f st xs = surveyMark (lackFlat S f st) (passFlat f (lackFlat S f st)) (emitFlat S f st) xs
+
 -- what refers to an object, and where its content is written
 unfoldable pub referred : Bool → Extent → State → State
 referred inplace x st = pick inplace (putNumber u48 (x .length) st) (putNumber u48 (st .next) st)
@@ -41,6 +50,30 @@ opened S ob inplace x st = pick inplace (enterContent (x .width) st) (openObject
 unfoldable pub emitMember : Emitter → Surveyor → ℕ → Schema → Member → State → List ℕ → Parsed State
 emitMember child measure o S r st xs =
     emitPart child measure o S (r .kind) (r .inplace) (flagged r 0 st) (flagged r 1 st) xs
+
+-- without a flag
+unfoldable pub emitUnflagged : Emitter → Surveyor → ℕ → Schema → Kind → Bool → State → List ℕ → Parsed State
+emitUnflagged child measure o S k inplace st xs = emitPart child measure o S k inplace st st xs
+
+-- ---- kinds
+-- whether it leads to an object
+unfoldable pub refers : Kind → Bool
+refers (OfFlat k) = false
+refers (OfObject ob) = true
+refers (OfUnion i) = true
+
+-- a text or bytes
+unfoldable pub isBlob : Object → Bool
+isBlob O.Text = true
+isBlob O.Bytes = true
+isBlob (O.List i) = false
+isBlob (O.Table i) = false
+
+-- whether no objects stand below: what leads to no object, and a text or bytes by its offset
+unfoldable pub isLeaf : Kind → Bool → Bool
+isLeaf (OfFlat k) inplace = true
+isLeaf (OfObject ob) inplace = not inplace && isBlob ob
+isLeaf (OfUnion i) inplace = false
 
 -- ---- numbers that fit
 -- Every store takes bits of the sheet, at least one for 8192 bytes, but for a reference, which may take none.

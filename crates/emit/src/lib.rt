@@ -19,7 +19,7 @@ ghost use Rattle.coding.specs.Packed as P;
 ghost use Rattle.coding.specs.Schema as Sc;
 ghost use Rattle.coding.specs.Sheet as Sh;
 ghost use Rattle.coding.specs.Walk as W;
-ghost use Rattle.laws.specs.Sound.{FlatSound, ObjectSound, KindSound, MemberSound};
+ghost use Rattle.laws.specs.Sound.{FlatSound, ObjectSound, KindSound, FlatScalar, NoStruct};
 ghost use Rattle.schema.specs.Directory.{Accepted};
 ghost use Rattle.survey.specs.Survey as Sv;
 ghost use Rattle.survey.specs.Surveyed.{Small};
@@ -323,6 +323,44 @@ fn pass(b: &[u8], dir: &[u16], s: &[u8], out: &mut [u8], k: Kind, c: Places, pos
         Kind::OfFlat(f) => pass_flat(s, out, f, c, pos),
         Kind::OfObject(_) => not_lawful(c, pos),
         Kind::OfUnion(u) => pass_choice(b, dir, s, out, wire::index(u), c, pos),
+    }
+}
+
+// ---- elements with a mark that lead to no object
+// A float.
+fn emit_marked_float(s: &[u8], out: &mut [u8], w: u8, c: Places, pos: usize) -> Emitted
+    requires { ⌜ w ≤ 8 ⌝ }
+    requires { ⌜ Room (now s) pos c ⌝ }
+    ensures { λ r. ⌜ EmittedAt (now (s .entry)) (Eg.emitMarkedFloat w (stateOf c (now (out .entry))) (drop pos (bits (now (s .entry))))) pos c 0 (r .whole) (r .places) (now (out .exit)) (r .next) ⌝ }
+{
+    let x = bitio::take_number(s, pos, 2);
+    if !x.whole {
+        return not_lawful(c, pos);
+    }
+    let mark = x.value;
+    let next = x.next;
+    if mark == 0 {
+        let p = store::put_number(out, c, wire::index(w), no_float(w));
+        return stored(p, next);
+    }
+    if mark == 1 {
+        return emit_number(s, out, wire::index(w), c, next);
+    }
+    not_lawful(c, pos)
+}
+
+// A float or an enum: no other has a mark.
+fn emit_marked_flat(b: &[u8], s: &[u8], out: &mut [u8], k: Flat, c: Places, pos: usize) -> Emitted
+    requires { ⌜ (FlatSound (length (P.parse (now b) .structs)) k) × (FlatScalar k) × (Sh.flatBare k ≡ false) ⌝ }
+    requires { ⌜ Room (now s) pos c ⌝ }
+    ensures { λ r. ⌜ EmittedAt (now (s .entry)) (Eg.emitMarkedFlat (P.parse (now (b .entry))) k (stateOf c (now (out .entry))) (drop pos (bits (now (s .entry))))) pos c 0 (r .whole) (r .places) (now (out .exit)) (r .next) ⌝ }
+{
+    match k {
+        Flat::Boolean => not_lawful(c, pos),
+        Flat::Integer(_, _) => not_lawful(c, pos),
+        Flat::Float(w) => emit_marked_float(s, out, w, c, pos),
+        Flat::Enumerated(n) => emit_marked_enum(s, out, n, c, pos),
+        Flat::Struct(_) => not_lawful(c, pos),
     }
 }
 
@@ -636,6 +674,182 @@ fn measure_by(b: &[u8], dir: &[u16], s: &[u8], d: usize, ob: Object, n: usize, p
     measure(b, dir, s, d, ob, false, pos)
 }
 
+// ---- members without objects below: what leads to no object, and texts and bytes by their offset. They stand apart from the
+// cycle, so that the compiler keeps the places in registers.
+fn is_blob(ob: Object) -> bool
+    ensures { λ r. ⌜ r ≡ Eg.isBlob ob ⌝ }
+{
+    match ob {
+        Object::Text => true,
+        Object::Bytes => true,
+        Object::List(_) => false,
+        Object::Table(_) => false,
+    }
+}
+
+fn by_offset(ob: Object, inplace: bool) -> bool
+    ensures { λ r. ⌜ r ≡ (not inplace && Eg.isBlob ob) ⌝ }
+{
+    if inplace {
+        return false;
+    }
+    is_blob(ob)
+}
+
+fn is_leaf(k: Kind, inplace: bool) -> bool
+    ensures { λ r. ⌜ r ≡ Eg.isLeaf k inplace ⌝ }
+{
+    match k {
+        Kind::OfFlat(_) => true,
+        Kind::OfObject(ob) => by_offset(ob, inplace),
+        Kind::OfUnion(_) => false,
+    }
+}
+
+fn measure_leaf(b: &[u8], s: &[u8], d: usize, ob: Object, pos: usize) -> Extent
+    requires { ⌜ (Eg.isBlob ob ≡ true) × (length (now s) ≤ 16777215) × (pos ≤ 8 * length (now s)) ⌝ }
+    ensures { λ r. ⌜ Measured false (Sv.survey d B.u48 (P.parse (now (b .entry))) ob (drop pos (bits (now (s .entry))))) r ⌝ }
+{
+    match ob {
+        Object::Text => measure_blob(s, pos, 1),
+        Object::Bytes => measure_blob(s, pos, 0),
+        Object::List(_) => measure_blob(s, pos, 0),
+        Object::Table(_) => measure_blob(s, pos, 0),
+    }
+}
+
+fn leaf_magic(b: &[u8], ob: Object) -> u64
+    requires { ⌜ Eg.isBlob ob ≡ true ⌝ }
+    ensures { λ r. ⌜ r ≡ W.magic (P.parse (now (b .entry))) ob ⌝ }
+{
+    match ob {
+        Object::Text => TextObject::MAGIC,
+        Object::Bytes => BytesObject::MAGIC,
+        Object::List(_) => 0,
+        Object::Table(_) => 0,
+    }
+}
+
+fn open_leaf(b: &[u8], out: &mut [u8], ob: Object, e: Extent, c: Places) -> Places
+    requires { ⌜ (Eg.isBlob ob ≡ true) × (Small e) × (c .next ≤ 16777216) ⌝ }
+    ensures { λ r. ⌜ Eg.Opens (Eg.opened (P.parse (now (b .entry))) ob false e (stateOf c (now (out .entry)))) (stateOf r (now (out .exit))) r ⌝ }
+{
+    let magic = leaf_magic(b, ob);
+    let q = store::enter_object(c, 10 + e.width, e.chain);
+    let h = store::put_number(out, q, 4, magic);
+    store::put_number(out, h, 6, e.length as u64)
+}
+
+// Its content, d objects deep.
+fn leaf_content(
+    b: &[u8],
+    s: &[u8],
+    out: &mut [u8],
+    d: usize,
+    ob: Object,
+    c: Places,
+    pos: usize,
+) -> Emitted
+    requires { ⌜ Eg.isBlob ob ≡ true ⌝ }
+    requires { ⌜ Room (now s) pos c ⌝ }
+    ensures { λ r. ⌜ EmittedAt (now (s .entry)) (Es.emit d B.u48 (P.parse (now (b .entry))) ob (stateOf c (now (out .entry))) (drop pos (bits (now (s .entry))))) pos c 0 (r .whole) (r .places) (now (out .exit)) (r .next) ⌝ }
+{
+    if d == 0 {
+        return not_lawful(c, pos);
+    }
+    match ob {
+        Object::Text => emit_text(s, out, c, pos),
+        Object::Bytes => emit_bytes(s, out, c, pos),
+        Object::List(_) => not_lawful(c, pos),
+        Object::Table(_) => not_lawful(c, pos),
+    }
+}
+
+fn refer_leaf(
+    b: &[u8],
+    dir: &[u16],
+    s: &[u8],
+    out: &mut [u8],
+    d: usize,
+    ob: Object,
+    c: Places,
+    pos: usize,
+) -> Emitted
+    requires { ⌜ (Accepted (now b) (now dir)) × (Eg.isBlob ob ≡ true) ⌝ }
+    requires { ⌜ Room (now s) pos c ⌝ }
+    ensures { λ r. ⌜ EmittedAt (now (s .entry)) (Es.emitRefer (Es.emit d B.u48 (P.parse (now (b .entry)))) (Sv.survey d B.u48 (P.parse (now (b .entry)))) B.u48 (P.parse (now (b .entry))) false ob (stateOf c (now (out .entry))) (drop pos (bits (now (s .entry))))) pos c 6 (r .whole) (r .places) (now (out .exit)) (r .next) ⌝ }
+{
+    let e = measure_leaf(b, s, d, ob, pos);
+    let p = put_reference(out, false, e, c);
+    let q = open_leaf(b, out, ob, e, p);
+    let y = leaf_content(b, s, out, d, ob, q, pos);
+    if !y.whole {
+        return not_lawful(c, pos);
+    }
+    let next = y.next;
+    stored(close(false, p, y.places), next)
+}
+
+// What is there.
+fn leaf_body(
+    b: &[u8],
+    dir: &[u16],
+    s: &[u8],
+    out: &mut [u8],
+    d: usize,
+    k: Kind,
+    inplace: bool,
+    c: Places,
+    pos: usize,
+) -> Emitted
+    requires { ⌜ (Accepted (now b) (now dir)) × (KindSound (P.parse (now b)) k) × (Eg.isLeaf k inplace ≡ true) ⌝ }
+    requires { ⌜ Room (now s) pos c ⌝ }
+    ensures { λ r. ⌜ EmittedAt (now (s .entry)) (Es.emitBody (Es.emit d B.u48 (P.parse (now (b .entry)))) (Sv.survey d B.u48 (P.parse (now (b .entry)))) B.u48 (P.parse (now (b .entry))) k inplace (stateOf c (now (out .entry))) (drop pos (bits (now (s .entry))))) pos c (Eg.extra k) (r .whole) (r .places) (now (out .exit)) (r .next) ⌝ }
+{
+    match k {
+        Kind::OfFlat(f) => emit_flat(b, dir, s, out, f, c, pos),
+        Kind::OfObject(ob) => refer_leaf(b, dir, s, out, d, ob, c, pos),
+        Kind::OfUnion(_) => not_lawful(c, pos),
+    }
+}
+
+// With its mark.
+fn emit_leaf(
+    b: &[u8],
+    dir: &[u16],
+    s: &[u8],
+    out: &mut [u8],
+    d: usize,
+    r: Member,
+    c: Places,
+    pos: usize,
+) -> Emitted
+    requires { ⌜ (Accepted (now b) (now dir)) × (KindSound (P.parse (now b)) (r .kind)) × (Eg.isLeaf (r .kind) (r .inplace) ≡ true) ⌝ }
+    requires { ⌜ Room (now s) pos c ⌝ }
+    ensures { λ q. ⌜ EmittedAt (now (s .entry)) (Eg.emitMember (Es.emit d B.u48 (P.parse (now (b .entry)))) (Sv.survey d B.u48 (P.parse (now (b .entry)))) B.u48 (P.parse (now (b .entry))) r (stateOf c (now (out .entry))) (drop pos (bits (now (s .entry))))) pos c 0 (q .whole) (q .places) (now (out .exit)) (q .next) ⌝ }
+{
+    let x = bitio::take_number(s, pos, 2);
+    if !x.whole {
+        return not_lawful(c, pos);
+    }
+    let mark = x.value;
+    let next = x.next;
+    let k = r.kind;
+    if mark == 1 {
+        let p = flag(out, r, 1, c);
+        return leaf_body(b, dir, s, out, d, k, r.inplace, p, next);
+    }
+    if mark == 3 {
+        return not_lawful(c, pos);
+    }
+    let p = flag(out, r, 0, c);
+    let q = lack(b, dir, out, k, p);
+    if mark == 0 {
+        return stored(q, next);
+    }
+    pass(b, dir, s, out, k, q, next)
+}
+
 // ---- members, elements and objects
 // An object that is referred to, or stands in place.
 fn emit_refer(
@@ -718,7 +932,7 @@ fn emit_choice(
     emit_refer(b, dir, s, out, d, ob, inplace, p, next)
 }
 
-// What is there.
+// What is there, where it leads to an object.
 fn emit_body(
     b: &[u8],
     dir: &[u16],
@@ -730,31 +944,32 @@ fn emit_body(
     c: Places,
     pos: usize,
 ) -> Emitted
-    requires { ⌜ (Accepted (now b) (now dir)) × (KindSound (P.parse (now b)) k) ⌝ }
+    requires { ⌜ (Accepted (now b) (now dir)) × (KindSound (P.parse (now b)) k) × (Eg.refers k ≡ true) ⌝ }
     requires { ⌜ Room (now s) pos c ⌝ }
     ensures { λ r. ⌜ EmittedAt (now (s .entry)) (Es.emitBody (Es.emit d B.u48 (P.parse (now (b .entry)))) (Sv.survey d B.u48 (P.parse (now (b .entry)))) B.u48 (P.parse (now (b .entry))) k inplace (stateOf c (now (out .entry))) (drop pos (bits (now (s .entry))))) pos c (Eg.extra k) (r .whole) (r .places) (now (out .exit)) (r .next) ⌝ }
 {
     match k {
-        Kind::OfFlat(f) => emit_flat(b, dir, s, out, f, c, pos),
+        Kind::OfFlat(_) => not_lawful(c, pos),
         Kind::OfObject(ob) => emit_refer(b, dir, s, out, d, ob, inplace, c, pos),
         Kind::OfUnion(u) => emit_choice(b, dir, s, out, d, wire::index(u), inplace, c, pos),
     }
 }
 
-// A member or an element with its mark.
+// A member or an element that leads to an object, with its mark.
 fn emit_part(
     b: &[u8],
     dir: &[u16],
     s: &[u8],
     out: &mut [u8],
     d: usize,
-    r: Member,
+    k: Kind,
+    inplace: bool,
     c: Places,
     pos: usize,
 ) -> Emitted
-    requires { ⌜ (Accepted (now b) (now dir)) × (KindSound (P.parse (now b)) (r .kind)) ⌝ }
+    requires { ⌜ (Accepted (now b) (now dir)) × (KindSound (P.parse (now b)) k) × (Eg.refers k ≡ true) ⌝ }
     requires { ⌜ Room (now s) pos c ⌝ }
-    ensures { λ q. ⌜ EmittedAt (now (s .entry)) (Eg.emitMember (Es.emit d B.u48 (P.parse (now (b .entry)))) (Sv.survey d B.u48 (P.parse (now (b .entry)))) B.u48 (P.parse (now (b .entry))) r (stateOf c (now (out .entry))) (drop pos (bits (now (s .entry))))) pos c 0 (q .whole) (q .places) (now (out .exit)) (q .next) ⌝ }
+    ensures { λ r. ⌜ EmittedAt (now (s .entry)) (Eg.emitUnflagged (Es.emit d B.u48 (P.parse (now (b .entry)))) (Sv.survey d B.u48 (P.parse (now (b .entry)))) B.u48 (P.parse (now (b .entry))) k inplace (stateOf c (now (out .entry))) (drop pos (bits (now (s .entry))))) pos c 0 (r .whole) (r .places) (now (out .exit)) (r .next) ⌝ }
 {
     let x = bitio::take_number(s, pos, 2);
     if !x.whole {
@@ -762,22 +977,20 @@ fn emit_part(
     }
     let mark = x.value;
     let next = x.next;
-    let k = r.kind;
     if mark == 1 {
-        let p = flag(out, r, 1, c);
-        return emit_body(b, dir, s, out, d, k, r.inplace, p, next);
+        return emit_body(b, dir, s, out, d, k, inplace, c, next);
     }
     if mark == 3 {
         return not_lawful(c, pos);
     }
-    let p = flag(out, r, 0, c);
-    let q = lack(b, dir, out, k, p);
+    let q = lack(b, dir, out, k, c);
     if mark == 0 {
         return stored(q, next);
     }
     pass(b, dir, s, out, k, q, next)
 }
 
+// An element with its mark.
 fn emit_element(
     b: &[u8],
     dir: &[u16],
@@ -788,19 +1001,15 @@ fn emit_element(
     c: Places,
     pos: usize,
 ) -> Emitted
-    requires { ⌜ (Accepted (now b) (now dir)) × (KindSound (P.parse (now b)) k) ⌝ }
+    requires { ⌜ (Accepted (now b) (now dir)) × (KindSound (P.parse (now b)) k) × (NoStruct k) × (Sh.bare k ≡ false) ⌝ }
     requires { ⌜ Room (now s) pos c ⌝ }
     ensures { λ r. ⌜ EmittedAt (now (s .entry)) (Es.emitElement (Es.emit d B.u48 (P.parse (now (b .entry)))) (Sv.survey d B.u48 (P.parse (now (b .entry)))) B.u48 (P.parse (now (b .entry))) k (stateOf c (now (out .entry))) (drop pos (bits (now (s .entry))))) pos c 0 (r .whole) (r .places) (now (out .exit)) (r .next) ⌝ }
 {
-    if survey::bare(k) {
-        return emit_body(b, dir, s, out, d, k, false, c, pos);
+    match k {
+        Kind::OfFlat(f) => emit_marked_flat(b, s, out, f, c, pos),
+        Kind::OfObject(_) => emit_part(b, dir, s, out, d, k, false, c, pos),
+        Kind::OfUnion(_) => emit_part(b, dir, s, out, d, k, false, c, pos),
     }
-    let r = Member {
-        kind: k,
-        optional: false,
-        inplace: false,
-    };
-    emit_part(b, dir, s, out, d, r, c, pos)
 }
 
 // A table's content.
@@ -824,7 +1033,18 @@ fn emit_table(
     let mut j: usize = 0;
     while j < n {
         let r = schema::member(b, dir, t, j);
-        let x = emit_part(b, dir, s, out, d, r, p, at);
+        let k = r.kind;
+        if is_leaf(k, r.inplace) {
+            let y = emit_leaf(b, dir, s, out, d, r, p, at);
+            if !y.whole {
+                return not_lawful(c, pos);
+            }
+            at = y.next;
+            p = y.places;
+            j += 1;
+            continue;
+        }
+        let x = emit_part(b, dir, s, out, d, k, r.inplace, p, at);
         if !x.whole {
             return not_lawful(c, pos);
         }
@@ -901,7 +1121,7 @@ fn emit_objects(
     stored(p, at)
 }
 
-// n elements.
+// n elements with their marks.
 fn emit_elements(
     b: &[u8],
     dir: &[u16],
@@ -913,7 +1133,7 @@ fn emit_elements(
     c: Places,
     pos: usize,
 ) -> Emitted
-    requires { ⌜ (Accepted (now b) (now dir)) × (KindSound (P.parse (now b)) k) × (n < 2 ^ 32) ⌝ }
+    requires { ⌜ (Accepted (now b) (now dir)) × (KindSound (P.parse (now b)) k) × (NoStruct k) × (Sh.bare k ≡ false) × (n < 2 ^ 32) ⌝ }
     requires { ⌜ Room (now s) pos c ⌝ }
     ensures { λ r. ⌜ EmittedAt (now (s .entry)) (Es.emitElements (Es.emit d B.u48 (P.parse (now (b .entry)))) (Sv.survey d B.u48 (P.parse (now (b .entry)))) B.u48 (P.parse (now (b .entry))) k n (stateOf c (now (out .entry))) (drop pos (bits (now (s .entry))))) pos c 0 (r .whole) (r .places) (now (out .exit)) (r .next) ⌝ }
 {

@@ -16,8 +16,8 @@ use Rattle.emit.specs.Emitting.{Room}
 use Rattle.survey.proofs.PartCases.{kind-flat, kind-object, union-counted, case-sound}
 use Rattle.survey.proofs.ObjectCases.{list-counted, table-counted, element-sound, member-kind, member-counted}
 use Rattle.emit.proofs.EmitRoom.{room-taken, taken-on, room-choice, room-flag, room-lack, room-open, room-part, room-below, stood-next, stood-tail}
-use Rattle.emit.proofs.EmitPartCases.{choice-cut, choice-zero, choice-above, choice-known, body-flat, body-object, body-union, part-cut, part-there, part-bad, part-none, part-pass, element-bare, element-marked, marked-cut, marked-there, marked-none, marked-bad}
-use Rattle.emit.proofs.EmitObjectCases.{refer-cut, refer-done, members-start, members-done, members-stopped, members-turn, elements-cut, list-elements, list-objects, element-object, elements-start, elements-done, elements-stopped, elements-turn, content-deep, content-text, content-bytes, content-list, content-table}
+use Rattle.emit.proofs.EmitPartCases.{choice-cut, choice-zero, choice-above, choice-known, body-no-flat, body-object, body-union, unflagged-cut, unflagged-there, unflagged-bad, unflagged-none, unflagged-pass, room-lacked, leaf-told, leaf-refers, object-refers, union-refers, element-flat, element-refers, not-bare, flat-marked, flat-scalar, marked-cut, marked-there, marked-none, marked-bad}
+use Rattle.emit.proofs.EmitObjectCases.{refer-cut, refer-done, members-start, members-done, members-stopped, members-turn, refers-stopped, refers-turn, element-scalar, elements-cut, list-elements, list-objects, element-object, elements-start, elements-done, elements-stopped, elements-turn, content-deep, content-text, content-bytes, content-list, content-table}
 use Rattle.emit.proofs.RunCases.{integer-wide, list-run}
 use borrow.Fn.Kinds.{In}
 use borrow.Fn.PlainCycle.{Measures, is, falls, and}
@@ -67,10 +67,11 @@ use Rattle.survey.proofs.bare.Reads as bare-reads
 use Rattle.wire.proofs.index.Reads as index-reads
 use Rattle.emit.proofs.close.Reads as close-reads
 use Rattle.emit.proofs.emit_bytes.Reads as emit-bytes-reads
-use Rattle.emit.proofs.emit_flat.Reads as emit-flat-reads
+use Rattle.emit.proofs.emit_leaf.Reads as emit-leaf-reads
+use Rattle.emit.proofs.emit_marked_flat.Reads as emit-marked-flat-reads
+use Rattle.emit.proofs.is_leaf.Reads as is-leaf-reads
 use Rattle.emit.proofs.emit_bare.Reads as emit-bare-reads
 use Rattle.emit.proofs.emit_text.Reads as emit-text-reads
-use Rattle.emit.proofs.flag.Reads as flag-reads
 use Rattle.emit.proofs.integer_width.Reads as integer-width-reads
 use Rattle.emit.proofs.known_size.Reads as known-size-reads
 use Rattle.emit.proofs.lack.Reads as lack-reads
@@ -225,7 +226,7 @@ emit-table-below t =
     and 4 emit-table-kinds.ps (falls 4 emit-table-kinds.ps _<_ μ-emit-table t) emit-table.Pre
 
 abbrev emit-body-R : ℕ → emit-body-lts.Claims
-emit-body-R t = (emit-flat-reads.Asked, emit-flat-reads.Learnt, emit-refer-below t, emit-refer.Post, index-reads.Asked, index-reads.Learnt, emit-choice-below t, emit-choice.Post)
+emit-body-R t = (not-lawful-reads.Asked, not-lawful-reads.Learnt, emit-refer-below t, emit-refer.Post, index-reads.Asked, index-reads.Learnt, emit-choice-below t, emit-choice.Post)
 
 abbrev emit-choice-R : ℕ → emit-choice-lts.Claims
 emit-choice-R t = (case-count-reads.Asked, case-count-reads.Learnt, take-number-reads.Asked, take-number-reads.Learnt, not-lawful-reads.Asked, not-lawful-reads.Learnt, union-case-reads.Asked, union-case-reads.Learnt, put-number-reads.Asked, put-number-reads.Learnt, emit-refer-below t, emit-refer.Post)
@@ -234,7 +235,7 @@ abbrev emit-content-R : ℕ → emit-content-lts.Claims
 emit-content-R t = (not-lawful-reads.Asked, not-lawful-reads.Learnt, emit-text-reads.Asked, emit-text-reads.Learnt, emit-bytes-reads.Asked, emit-bytes-reads.Learnt, index-reads.Asked, index-reads.Learnt, emit-list-below t, emit-list.Post, emit-table-below t, emit-table.Post)
 
 abbrev emit-element-R : ℕ → emit-element-lts.Claims
-emit-element-R t = (bare-reads.Asked, bare-reads.Learnt, emit-body-below t, emit-body.Post, emit-part-below t, emit-part.Post)
+emit-element-R t = (emit-marked-flat-reads.Asked, emit-marked-flat-reads.Learnt, emit-part-below t, emit-part.Post)
 
 abbrev emit-elements-R : ℕ → emit-elements-lts.Claims
 emit-elements-R t = (emit-element-below t, emit-element.Post, not-lawful-reads.Asked, not-lawful-reads.Learnt, stored-reads.Asked, stored-reads.Learnt)
@@ -249,7 +250,7 @@ abbrev emit-objects-R : ℕ → emit-objects-lts.Claims
 emit-objects-R t = (known-size-reads.Asked, known-size-reads.Learnt, emit-marked-below t, emit-marked.Post, not-lawful-reads.Asked, not-lawful-reads.Learnt, stored-reads.Asked, stored-reads.Learnt)
 
 abbrev emit-part-R : ℕ → emit-part-lts.Claims
-emit-part-R t = (take-number-reads.Asked, take-number-reads.Learnt, not-lawful-reads.Asked, not-lawful-reads.Learnt, flag-reads.Asked, flag-reads.Learnt, emit-body-below t, emit-body.Post, lack-reads.Asked, lack-reads.Learnt, stored-reads.Asked, stored-reads.Learnt, pass-reads.Asked, pass-reads.Learnt)
+emit-part-R t = (take-number-reads.Asked, take-number-reads.Learnt, not-lawful-reads.Asked, not-lawful-reads.Learnt, emit-body-below t, emit-body.Post, lack-reads.Asked, lack-reads.Learnt, stored-reads.Asked, stored-reads.Learnt, pass-reads.Asked, pass-reads.Learnt)
 
 abbrev emit-measured-R : ℕ → emit-measured-lts.Claims
 emit-measured-R t = (put-reference-reads.Asked, put-reference-reads.Learnt, open-reads.Asked, open-reads.Learnt, emit-content-below t, emit-content.Post, not-lawful-reads.Asked, not-lawful-reads.Learnt, close-reads.Asked, close-reads.Learnt, stored-reads.Asked, stored-reads.Learnt)
@@ -258,27 +259,27 @@ abbrev emit-refer-R : ℕ → emit-refer-lts.Claims
 emit-refer-R t = (measure-reads.Asked, measure-reads.Learnt, emit-measured-below t, emit-measured.Post)
 
 abbrev emit-table-R : ℕ → emit-table-lts.Claims
-emit-table-R t = (member-count-reads.Asked, member-count-reads.Learnt, member-reads.Asked, member-reads.Learnt, emit-part-below t, emit-part.Post, not-lawful-reads.Asked, not-lawful-reads.Learnt, stored-reads.Asked, stored-reads.Learnt)
+emit-table-R t = (member-count-reads.Asked, member-count-reads.Learnt, member-reads.Asked, member-reads.Learnt, is-leaf-reads.Asked, is-leaf-reads.Learnt, emit-leaf-reads.Asked, emit-leaf-reads.Learnt, not-lawful-reads.Asked, not-lawful-reads.Learnt, emit-part-below t, emit-part.Post, stored-reads.Asked, stored-reads.Learnt)
 
 -- src/lib.rt:848:22
-emit-body-enum-known-k : (t : ℕ) → emit-body-lts.Need-enum-known-k (emit-body-R t) (emit-body-at t) emit-body.Post
-emit-body-enum-known-k t c = search needs
+emit-body-enum-told : (t : ℕ) → emit-body-lts.Need-enum-told (emit-body-R t) (emit-body-at t) emit-body.Post
+emit-body-enum-told t c = search needs
 
 -- src/lib.rt:848:28
-emit-body-emit-flat-requires : (t : ℕ) → emit-body-lts.Need-emit-flat-requires (emit-body-R t) (emit-body-at t) emit-body.Post
-emit-body-emit-flat-requires t c κs = search (kind-flat, needs)
+emit-body-not-lawful-requires : (t : ℕ) → emit-body-lts.Need-not-lawful-requires (emit-body-R t) (emit-body-at t) emit-body.Post
+emit-body-not-lawful-requires t c κs = search needs
 
 -- src/lib.rt:849:24
-emit-body-enum-known-k-2 : (t : ℕ) → emit-body-lts.Need-enum-known-k-2 (emit-body-R t) (emit-body-at t) emit-body.Post
-emit-body-enum-known-k-2 t c = search needs
+emit-body-enum-known-k : (t : ℕ) → emit-body-lts.Need-enum-known-k (emit-body-R t) (emit-body-at t) emit-body.Post
+emit-body-enum-known-k t c = search needs
 
 -- src/lib.rt:849:31
 emit-body-emit-refer-requires : (t : ℕ) → emit-body-lts.Need-emit-refer-requires (emit-body-R t) (emit-body-at t) emit-body.Post
 emit-body-emit-refer-requires t c κs = search (kind-object, needs)
 
 -- src/lib.rt:850:23
-emit-body-enum-known-k-3 : (t : ℕ) → emit-body-lts.Need-enum-known-k-3 (emit-body-R t) (emit-body-at t) emit-body.Post
-emit-body-enum-known-k-3 t c = search needs
+emit-body-enum-known-k-2 : (t : ℕ) → emit-body-lts.Need-enum-known-k-2 (emit-body-R t) (emit-body-at t) emit-body.Post
+emit-body-enum-known-k-2 t c = search needs
 
 -- src/lib.rt:850:60
 emit-body-index-requires : (t : ℕ) → emit-body-lts.Need-index-requires (emit-body-R t) (emit-body-at t) emit-body.Post
@@ -294,7 +295,7 @@ emit-body-same-length t c = search needs
 
 -- src/lib.rt:832:1
 emit-body-returns : (t : ℕ) → emit-body-lts.Need-returns (emit-body-R t) (emit-body-at t) emit-body.Post
-emit-body-returns t c = search body-flat
+emit-body-returns t c = search body-no-flat
 
 -- src/lib.rt:832:1
 emit-body-same-length-2 : (t : ℕ) → emit-body-lts.Need-same-length-2 (emit-body-R t) (emit-body-at t) emit-body.Post
@@ -303,10 +304,6 @@ emit-body-same-length-2 t c = search needs
 -- src/lib.rt:832:1
 emit-body-returns-2 : (t : ℕ) → emit-body-lts.Need-returns-2 (emit-body-R t) (emit-body-at t) emit-body.Post
 emit-body-returns-2 t c = search body-object
-
--- src/lib.rt:832:1
-emit-body-same-length-3 : (t : ℕ) → emit-body-lts.Need-same-length-3 (emit-body-R t) (emit-body-at t) emit-body.Post
-emit-body-same-length-3 t c = search needs
 
 -- src/lib.rt:832:1
 emit-body-returns-3 : (t : ℕ) → emit-body-lts.Need-returns-3 (emit-body-R t) (emit-body-at t) emit-body.Post
@@ -452,33 +449,41 @@ emit-content-same-length-4 t c = search needs
 emit-content-returns-5 : (t : ℕ) → emit-content-lts.Need-returns-5 (emit-content-R t) (emit-content-at t) emit-content.Post
 emit-content-returns-5 t c = search content-table
 
--- src/lib.rt:905:8
-emit-element-bare-requires : (t : ℕ) → emit-element-lts.Need-bare-requires (emit-element-R t) (emit-element-at t) emit-element.Post
-emit-element-bare-requires t c κs = search needs
+emit-element-enum-known-k : (t : ℕ) → emit-element-lts.Need-enum-known-k (emit-element-R t) (emit-element-at t) emit-element.Post
+emit-element-enum-known-k t c = search needs
 
--- src/lib.rt:906:9
-emit-element-emit-body-requires : (t : ℕ) → emit-element-lts.Need-emit-body-requires (emit-element-R t) (emit-element-at t) emit-element.Post
-emit-element-emit-body-requires t c κs = search needs
+emit-element-emit-marked-flat-requires : (t : ℕ) → emit-element-lts.Need-emit-marked-flat-requires (emit-element-R t) (emit-element-at t) emit-element.Post
+emit-element-emit-marked-flat-requires t c κs = search (kind-flat, flat-scalar, flat-marked, needs)
 
--- src/lib.rt:906:9
+emit-element-enum-told : (t : ℕ) → emit-element-lts.Need-enum-told (emit-element-R t) (emit-element-at t) emit-element.Post
+emit-element-enum-told t c = search needs
+
+emit-element-emit-part-requires : (t : ℕ) → emit-element-lts.Need-emit-part-requires (emit-element-R t) (emit-element-at t) emit-element.Post
+emit-element-emit-part-requires t c κs = search (object-refers, needs)
+
+emit-element-enum-told-2 : (t : ℕ) → emit-element-lts.Need-enum-told-2 (emit-element-R t) (emit-element-at t) emit-element.Post
+emit-element-enum-told-2 t c = search needs
+
+emit-element-emit-part-requires-2 : (t : ℕ) → emit-element-lts.Need-emit-part-requires-2 (emit-element-R t) (emit-element-at t) emit-element.Post
+emit-element-emit-part-requires-2 t c κs = search (union-refers, needs)
+
 emit-element-same-length : (t : ℕ) → emit-element-lts.Need-same-length (emit-element-R t) (emit-element-at t) emit-element.Post
 emit-element-same-length t c = search needs
 
--- src/lib.rt:906:9
 emit-element-returns : (t : ℕ) → emit-element-lts.Need-returns (emit-element-R t) (emit-element-at t) emit-element.Post
-emit-element-returns t c = search element-bare
+emit-element-returns t c = search element-flat
 
--- src/lib.rt:913:5
-emit-element-emit-part-requires : (t : ℕ) → emit-element-lts.Need-emit-part-requires (emit-element-R t) (emit-element-at t) emit-element.Post
-emit-element-emit-part-requires t c κs = search needs
-
--- src/lib.rt:891:1
 emit-element-same-length-2 : (t : ℕ) → emit-element-lts.Need-same-length-2 (emit-element-R t) (emit-element-at t) emit-element.Post
 emit-element-same-length-2 t c = search needs
 
--- src/lib.rt:891:1
 emit-element-returns-2 : (t : ℕ) → emit-element-lts.Need-returns-2 (emit-element-R t) (emit-element-at t) emit-element.Post
-emit-element-returns-2 t c = search element-marked
+emit-element-returns-2 t c = search element-refers
+
+emit-element-same-length-3 : (t : ℕ) → emit-element-lts.Need-same-length-3 (emit-element-R t) (emit-element-at t) emit-element.Post
+emit-element-same-length-3 t c = search needs
+
+emit-element-returns-3 : (t : ℕ) → emit-element-lts.Need-returns-3 (emit-element-R t) (emit-element-at t) emit-element.Post
+emit-element-returns-3 t c = search element-refers
 
 abbrev emit-elements-Inv-loop : emit-elements-lts.InvT-loop
 emit-elements-Inv-loop b dir s out₀ d k n c pos p₀ at₀ j₀ out p at j =
@@ -562,13 +567,13 @@ emit-list-enum-known-k : (t : ℕ) → emit-list-lts.Need-enum-known-k (emit-lis
 emit-list-enum-known-k t c = search needs
 
 emit-list-emit-elements-requires : (t : ℕ) → emit-list-lts.Need-emit-elements-requires (emit-list-R t) (emit-list-at t) emit-list.Post
-emit-list-emit-elements-requires t c κs = search (element-sound, room-taken, needs)
+emit-list-emit-elements-requires t c κs = search (element-sound, element-scalar, not-bare, room-taken, needs)
 
 emit-list-emit-objects-requires : (t : ℕ) → emit-list-lts.Need-emit-objects-requires (emit-list-R t) (emit-list-at t) emit-list.Post
 emit-list-emit-objects-requires t c κs = search (element-object, room-taken, needs)
 
 emit-list-emit-elements-requires-2 : (t : ℕ) → emit-list-lts.Need-emit-elements-requires-2 (emit-list-R t) (emit-list-at t) emit-list.Post
-emit-list-emit-elements-requires-2 t c κs = search (element-sound, room-taken, needs)
+emit-list-emit-elements-requires-2 t c κs = search (element-sound, element-scalar, not-bare, room-taken, needs)
 
 emit-list-same-length-2 : (t : ℕ) → emit-list-lts.Need-same-length-2 (emit-list-R t) (emit-list-at t) emit-list.Post
 emit-list-same-length-2 t c = search needs
@@ -671,73 +676,50 @@ emit-objects-same-length-2 t c = search needs
 emit-objects-returns-2 : (t : ℕ) → emit-objects-lts.Need-returns-2 (emit-objects-R t) (emit-objects-at t) emit-objects.Post emit-objects-Inv-loop emit-objects-μ-loop
 emit-objects-returns-2 t c = search elements-done
 
--- src/lib.rt:869:9
 emit-part-take-number-requires : (t : ℕ) → emit-part-lts.Need-take-number-requires (emit-part-R t) (emit-part-at t) emit-part.Post
 emit-part-take-number-requires t c κs = search needs
 
--- src/lib.rt:871:9
 emit-part-not-lawful-requires : (t : ℕ) → emit-part-lts.Need-not-lawful-requires (emit-part-R t) (emit-part-at t) emit-part.Post
 emit-part-not-lawful-requires t c κs = search needs
 
--- src/lib.rt:871:9
 emit-part-returns : (t : ℕ) → emit-part-lts.Need-returns (emit-part-R t) (emit-part-at t) emit-part.Post
-emit-part-returns t c = search part-cut
+emit-part-returns t c = search unflagged-cut
 
--- src/lib.rt:877:13
-emit-part-flag-requires : (t : ℕ) → emit-part-lts.Need-flag-requires (emit-part-R t) (emit-part-at t) emit-part.Post
-emit-part-flag-requires t c κs = search (room-below, needs)
-
--- src/lib.rt:878:9
 emit-part-emit-body-requires : (t : ℕ) → emit-part-lts.Need-emit-body-requires (emit-part-R t) (emit-part-at t) emit-part.Post
-emit-part-emit-body-requires t c κs = search (room-flag, needs)
+emit-part-emit-body-requires t c κs = search (room-taken, needs)
 
--- src/lib.rt:878:9
 emit-part-same-length : (t : ℕ) → emit-part-lts.Need-same-length (emit-part-R t) (emit-part-at t) emit-part.Post
 emit-part-same-length t c = search needs
 
--- src/lib.rt:878:9
 emit-part-returns-2 : (t : ℕ) → emit-part-lts.Need-returns-2 (emit-part-R t) (emit-part-at t) emit-part.Post
-emit-part-returns-2 t c = search (part-there, c .before .before .before .before .before .before .before .before .before .before .before .before .before .before .before .before .pre .1 .1, c .before .before .before .before .before .before .before .before .before .before .before .take-number .ensures, c .before .before .before .before .before .before .before .before .before .if1 .left, c .before .before .before .before .before .before .before .before .if2 .taken, c .before .before .before .before .before .before .flag .ensures, c .before .before .emit-body .ensures)
+emit-part-returns-2 t c = search (unflagged-there, c .before .before .before .before .before .before .before .before .before .before .before .before .pre .1 .1, c .before .before .before .before .before .before .before .take-number .ensures, c .before .before .before .before .before .if1 .left, c .before .before .before .before .if2 .taken, c .before .before .emit-body .ensures)
 
--- src/lib.rt:881:9
 emit-part-not-lawful-requires-2 : (t : ℕ) → emit-part-lts.Need-not-lawful-requires-2 (emit-part-R t) (emit-part-at t) emit-part.Post
 emit-part-not-lawful-requires-2 t c κs = search needs
 
--- src/lib.rt:881:9
 emit-part-returns-3 : (t : ℕ) → emit-part-lts.Need-returns-3 (emit-part-R t) (emit-part-at t) emit-part.Post
-emit-part-returns-3 t c = search part-bad
+emit-part-returns-3 t c = search unflagged-bad
 
--- src/lib.rt:883:9
-emit-part-flag-requires-2 : (t : ℕ) → emit-part-lts.Need-flag-requires-2 (emit-part-R t) (emit-part-at t) emit-part.Post
-emit-part-flag-requires-2 t c κs = search (room-below, needs)
-
--- src/lib.rt:884:9
 emit-part-lack-requires : (t : ℕ) → emit-part-lts.Need-lack-requires (emit-part-R t) (emit-part-at t) emit-part.Post
-emit-part-lack-requires t c κs = search needs
+emit-part-lack-requires t c κs = search (room-below, needs)
 
--- src/lib.rt:886:9
 emit-part-stored-requires : (t : ℕ) → emit-part-lts.Need-stored-requires (emit-part-R t) (emit-part-at t) emit-part.Post
 emit-part-stored-requires t c κs = search needs
 
--- src/lib.rt:886:9
 emit-part-same-length-2 : (t : ℕ) → emit-part-lts.Need-same-length-2 (emit-part-R t) (emit-part-at t) emit-part.Post
 emit-part-same-length-2 t c = search needs
 
--- src/lib.rt:886:9
 emit-part-returns-4 : (t : ℕ) → emit-part-lts.Need-returns-4 (emit-part-R t) (emit-part-at t) emit-part.Post
-emit-part-returns-4 t c = search (part-none, c .before .before .before .before .before .before .before .before .before .before .before .before .before .before .before .before .before .before .before .pre .1 .1, c .before .before .before .before .before .before .before .before .before .before .before .before .before .before .take-number .ensures, c .before .before .before .before .before .before .before .before .before .before .before .before .if1 .left, c .before .before .before .before .before .before .before .before .before .before .before .if2 .left, c .before .before .before .before .before .before .before .before .before .before .if3 .left, c .before .before .before .before .before .before .before .before .flag2 .ensures, c .before .before .before .before .lack .ensures, c .before .if4 .taken, c .stored .ensures .0, c .stored .ensures .1, c .stored .ensures .2)
+emit-part-returns-4 t c = search (unflagged-none, c .before .before .before .before .before .before .before .before .before .before .before .before .before .before .before .pre .1 .1, c .before .before .before .before .before .before .before .before .before .before .take-number .ensures, c .before .before .before .before .before .before .before .before .if1 .left, c .before .before .before .before .before .before .before .if2 .left, c .before .before .before .before .before .before .if3 .left, c .before .before .before .before .lack .ensures, c .before .if4 .taken, c .stored .ensures .0, c .stored .ensures .1, c .stored .ensures .2)
 
--- src/lib.rt:888:5
 emit-part-pass-requires : (t : ℕ) → emit-part-lts.Need-pass-requires (emit-part-R t) (emit-part-at t) emit-part.Post
-emit-part-pass-requires t c κs = ((c .before .before .before .before .before .before .before .before .before .before .before .before .before .before .before .before .before .before .before .pre .1 .0 .0, c .before .before .before .before .before .before .before .before .before .before .before .before .before .before .before .before .before .before .before .pre .1 .0 .1), search (room-lack, c .before .before .before .before .before .before .before .before .before .before .before .before .before .before .before .before .before .before .before .pre .1 .1, c .before .before .before .before .before .before .before .before .before .before .before .before .before .before .take-number .ensures, c .before .before .before .before .before .before .before .before .before .before .before .before .if1 .left, c .before .before .before .before .before .before .before .before .flag2 .ensures, c .before .before .before .before .lack .ensures))
+emit-part-pass-requires t c κs = search (room-lacked, needs)
 
--- src/lib.rt:855:1
 emit-part-same-length-3 : (t : ℕ) → emit-part-lts.Need-same-length-3 (emit-part-R t) (emit-part-at t) emit-part.Post
 emit-part-same-length-3 t c = search needs
 
--- src/lib.rt:855:1
 emit-part-returns-5 : (t : ℕ) → emit-part-lts.Need-returns-5 (emit-part-R t) (emit-part-at t) emit-part.Post
-emit-part-returns-5 t c = search (part-pass, c .before .before .before .before .before .before .before .before .before .before .before .before .before .before .before .before .before .before .before .before .before .before .pre .1 .1, c .before .before .before .before .before .before .before .before .before .before .before .before .before .before .before .before .before .take-number .ensures, c .before .before .before .before .before .before .before .before .before .before .before .before .before .before .before .if1 .left, c .before .before .before .before .before .before .before .before .before .before .before .before .before .before .if2 .left, c .before .before .before .before .before .before .before .before .before .before .before .before .before .if3 .left, c .before .before .before .before .before .before .before .before .before .before .before .flag2 .ensures, c .before .before .before .before .before .before .before .lack .ensures, c .before .before .before .before .if4 .left, c .before .before .pass .ensures)
+emit-part-returns-5 t c = search (unflagged-pass, c .before .before .before .before .before .before .before .before .before .before .before .before .before .before .before .before .before .before .pre .1 .1, c .before .before .before .before .before .before .before .before .before .before .before .before .before .take-number .ensures, c .before .before .before .before .before .before .before .before .before .before .before .if1 .left, c .before .before .before .before .before .before .before .before .before .before .if2 .left, c .before .before .before .before .before .before .before .before .before .if3 .left, c .before .before .before .before .before .before .before .lack .ensures, c .before .before .before .before .if4 .left, c .before .before .pass .ensures)
 
 emit-measured-put-reference-requires : (t : ℕ) → emit-measured-lts.Need-put-reference-requires (emit-measured-R t) (emit-measured-at t) emit-measured.Post
 emit-measured-put-reference-requires t c κs = search (room-below, needs)
@@ -801,45 +783,61 @@ emit-table-loop-holds t c = (search needs, search needs, search needs, search ne
 emit-table-member-requires : (t : ℕ) → emit-table-lts.Need-member-requires (emit-table-R t) (emit-table-at t) emit-table.Post emit-table-Inv-loop emit-table-μ-loop
 emit-table-member-requires t c κs = (search needs, search needs, search member-counted, search needs)
 
--- src/lib.rt:937:13
-emit-table-emit-part-requires : (t : ℕ) → emit-table-lts.Need-emit-part-requires (emit-table-R t) (emit-table-at t) emit-table.Post emit-table-Inv-loop emit-table-μ-loop
-emit-table-emit-part-requires t c κs = search (member-kind, needs)
+emit-table-is-leaf-requires : (t : ℕ) → emit-table-lts.Need-is-leaf-requires (emit-table-R t) (emit-table-at t) emit-table.Post emit-table-Inv-loop emit-table-μ-loop
+emit-table-is-leaf-requires t c κs = search needs
 
--- src/lib.rt:939:13
+emit-table-emit-leaf-requires : (t : ℕ) → emit-table-lts.Need-emit-leaf-requires (emit-table-R t) (emit-table-at t) emit-table.Post emit-table-Inv-loop emit-table-μ-loop
+emit-table-emit-leaf-requires t c κs = search (member-kind, leaf-told, needs)
+
 emit-table-not-lawful-requires : (t : ℕ) → emit-table-lts.Need-not-lawful-requires (emit-table-R t) (emit-table-at t) emit-table.Post emit-table-Inv-loop emit-table-μ-loop
 emit-table-not-lawful-requires t c κs = search needs
 
--- src/lib.rt:939:13
 emit-table-same-length : (t : ℕ) → emit-table-lts.Need-same-length (emit-table-R t) (emit-table-at t) emit-table.Post emit-table-Inv-loop emit-table-μ-loop
 emit-table-same-length t c = search needs
 
--- src/lib.rt:939:13
 emit-table-returns : (t : ℕ) → emit-table-lts.Need-returns (emit-table-R t) (emit-table-at t) emit-table.Post emit-table-Inv-loop emit-table-μ-loop
 emit-table-returns t c = search members-stopped
 
--- src/lib.rt:943:9
 emit-table-add-j : (t : ℕ) → emit-table-lts.Need-add-j (emit-table-R t) (emit-table-at t) emit-table.Post emit-table-Inv-loop emit-table-μ-loop
 emit-table-add-j t c = search needs
 
--- src/lib.rt:935:5
 emit-table-loop-less : (t : ℕ) → emit-table-lts.Need-loop-less (emit-table-R t) (emit-table-at t) emit-table.Post emit-table-Inv-loop emit-table-μ-loop
 emit-table-loop-less t c = search needs
 
--- src/lib.rt:935:5
 emit-table-loop-again : (t : ℕ) → emit-table-lts.Need-loop-again (emit-table-R t) (emit-table-at t) emit-table.Post emit-table-Inv-loop emit-table-μ-loop
-emit-table-loop-again t c = (search needs, search needs, search needs, search needs, search needs, search room-part, search needs, search (members-turn, c .before .before .before .before .before .before .before .before .before .loop .inv .7, c .before .before .before .before .before .before .before .before .before .loop .inv .1, c .before .before .before .before .before .before .before .before .loop-test .taken, c .before .before .before .before .before .before .before .member .ensures, c .before .before .before .before .before .emit-part .ensures, c .before .if1 .left))
+emit-table-loop-again t c = (search needs, search needs, search needs, search needs, search needs, search room-part, search needs, search (members-turn, c .before .before .before .before .before .before .before .before .before .before .before .loop .inv .7, c .before .before .before .before .before .before .before .before .before .before .before .loop .inv .1, c .before .before .before .before .before .before .before .before .before .before .loop-test .taken, c .before .before .before .before .before .before .before .before .before .member .ensures, c .before .before .before .before .before .emit-leaf .ensures, c .before .if2 .left))
+
+emit-table-emit-part-requires : (t : ℕ) → emit-table-lts.Need-emit-part-requires (emit-table-R t) (emit-table-at t) emit-table.Post emit-table-Inv-loop emit-table-μ-loop
+emit-table-emit-part-requires t c κs = search (member-kind, leaf-refers, needs)
+
+emit-table-not-lawful-requires-2 : (t : ℕ) → emit-table-lts.Need-not-lawful-requires-2 (emit-table-R t) (emit-table-at t) emit-table.Post emit-table-Inv-loop emit-table-μ-loop
+emit-table-not-lawful-requires-2 t c κs = search needs
+
+emit-table-same-length-2 : (t : ℕ) → emit-table-lts.Need-same-length-2 (emit-table-R t) (emit-table-at t) emit-table.Post emit-table-Inv-loop emit-table-μ-loop
+emit-table-same-length-2 t c = search needs
+
+emit-table-returns-2 : (t : ℕ) → emit-table-lts.Need-returns-2 (emit-table-R t) (emit-table-at t) emit-table.Post emit-table-Inv-loop emit-table-μ-loop
+emit-table-returns-2 t c = search refers-stopped
+
+emit-table-add-j-2 : (t : ℕ) → emit-table-lts.Need-add-j-2 (emit-table-R t) (emit-table-at t) emit-table.Post emit-table-Inv-loop emit-table-μ-loop
+emit-table-add-j-2 t c = search needs
+
+emit-table-loop-less-2 : (t : ℕ) → emit-table-lts.Need-loop-less-2 (emit-table-R t) (emit-table-at t) emit-table.Post emit-table-Inv-loop emit-table-μ-loop
+emit-table-loop-less-2 t c = search needs
+
+emit-table-loop-again-2 : (t : ℕ) → emit-table-lts.Need-loop-again-2 (emit-table-R t) (emit-table-at t) emit-table.Post emit-table-Inv-loop emit-table-μ-loop
+emit-table-loop-again-2 t c = (search needs, search needs, search needs, search needs, search needs, search room-part, search needs, search (refers-turn, c .before .before .before .before .before .before .before .before .before .before .before .loop .inv .7, c .before .before .before .before .before .before .before .before .before .before .before .loop .inv .1, c .before .before .before .before .before .before .before .before .before .before .loop-test .taken, c .before .before .before .before .before .before .before .before .before .member .ensures, c .before .before .before .before .before .before .before .before .is-leaf .ensures, c .before .before .before .before .before .before .before .if1 .left, c .before .before .before .before .before .emit-part .ensures, c .before .if3 .left))
 
 -- src/lib.rt:945:5
 emit-table-stored-requires : (t : ℕ) → emit-table-lts.Need-stored-requires (emit-table-R t) (emit-table-at t) emit-table.Post emit-table-Inv-loop emit-table-μ-loop
 emit-table-stored-requires t c κs = search needs
 
 -- src/lib.rt:917:1
-emit-table-same-length-2 : (t : ℕ) → emit-table-lts.Need-same-length-2 (emit-table-R t) (emit-table-at t) emit-table.Post emit-table-Inv-loop emit-table-μ-loop
-emit-table-same-length-2 t c = search needs
+emit-table-same-length-3 : (t : ℕ) → emit-table-lts.Need-same-length-3 (emit-table-R t) (emit-table-at t) emit-table.Post emit-table-Inv-loop emit-table-μ-loop
+emit-table-same-length-3 t c = search needs
 
--- src/lib.rt:917:1
-emit-table-returns-2 : (t : ℕ) → emit-table-lts.Need-returns-2 (emit-table-R t) (emit-table-at t) emit-table.Post emit-table-Inv-loop emit-table-μ-loop
-emit-table-returns-2 t c = search members-done
+emit-table-returns-3 : (t : ℕ) → emit-table-lts.Need-returns-3 (emit-table-R t) (emit-table-at t) emit-table.Post emit-table-Inv-loop emit-table-μ-loop
+emit-table-returns-3 t c = search members-done
 
 pub +emit-body+emit-choice+emit-content+emit-element+emit-elements+emit-list+emit-marked+emit-measured+emit-objects+emit-part+emit-refer+emit-table-spec :
     {M : Type 1} → statement M
@@ -860,18 +858,17 @@ pub +emit-body+emit-choice+emit-content+emit-element+emit-elements+emit-list+emi
     (λ t. emit-body-lts.spec (emit-body-R t)
     (emit-body-at t)
     emit-body.Post
+    (emit-body-enum-told t)
+    (emit-body-not-lawful-requires t)
     (emit-body-enum-known-k t)
-    (emit-body-emit-flat-requires t)
-    (emit-body-enum-known-k-2 t)
     (emit-body-emit-refer-requires t)
-    (emit-body-enum-known-k-3 t)
+    (emit-body-enum-known-k-2 t)
     (emit-body-index-requires t)
     (emit-body-emit-choice-requires t)
-    (emit-body-same-length t)
     (emit-body-returns t)
-    (emit-body-same-length-2 t)
+    (emit-body-same-length t)
     (emit-body-returns-2 t)
-    (emit-body-same-length-3 t)
+    (emit-body-same-length-2 t)
     (emit-body-returns-3 t))
     (λ t. emit-choice-lts.spec (emit-choice-R t)
     (emit-choice-at t)
@@ -917,13 +914,18 @@ pub +emit-body+emit-choice+emit-content+emit-element+emit-elements+emit-list+emi
     (λ t. emit-element-lts.spec (emit-element-R t)
     (emit-element-at t)
     emit-element.Post
-    (emit-element-bare-requires t)
-    (emit-element-emit-body-requires t)
+    (emit-element-enum-known-k t)
+    (emit-element-emit-marked-flat-requires t)
+    (emit-element-enum-told t)
+    (emit-element-emit-part-requires t)
+    (emit-element-enum-told-2 t)
+    (emit-element-emit-part-requires-2 t)
     (emit-element-same-length t)
     (emit-element-returns t)
-    (emit-element-emit-part-requires t)
     (emit-element-same-length-2 t)
-    (emit-element-returns-2 t))
+    (emit-element-returns-2 t)
+    (emit-element-same-length-3 t)
+    (emit-element-returns-3 t))
     (λ t. emit-elements-lts.spec (emit-elements-R t)
     (emit-elements-at t)
     emit-elements.Post
@@ -1016,13 +1018,11 @@ pub +emit-body+emit-choice+emit-content+emit-element+emit-elements+emit-list+emi
     (emit-part-take-number-requires t)
     (emit-part-not-lawful-requires t)
     (emit-part-returns t)
-    (emit-part-flag-requires t)
     (emit-part-emit-body-requires t)
     (emit-part-same-length t)
     (emit-part-returns-2 t)
     (emit-part-not-lawful-requires-2 t)
     (emit-part-returns-3 t)
-    (emit-part-flag-requires-2 t)
     (emit-part-lack-requires t)
     (emit-part-stored-requires t)
     (emit-part-same-length-2 t)
@@ -1045,13 +1045,21 @@ pub +emit-body+emit-choice+emit-content+emit-element+emit-elements+emit-list+emi
     (emit-table-member-count-requires t)
     (emit-table-loop-holds t)
     (emit-table-member-requires t)
-    (emit-table-emit-part-requires t)
+    (emit-table-is-leaf-requires t)
+    (emit-table-emit-leaf-requires t)
     (emit-table-not-lawful-requires t)
     (emit-table-same-length t)
     (emit-table-returns t)
     (emit-table-add-j t)
     (emit-table-loop-less t)
     (emit-table-loop-again t)
-    (emit-table-stored-requires t)
+    (emit-table-emit-part-requires t)
+    (emit-table-not-lawful-requires-2 t)
     (emit-table-same-length-2 t)
     (emit-table-returns-2 t)
+    (emit-table-add-j-2 t)
+    (emit-table-loop-less-2 t)
+    (emit-table-loop-again-2 t)
+    (emit-table-stored-requires t)
+    (emit-table-same-length-3 t)
+    (emit-table-returns-3 t)
