@@ -22,22 +22,8 @@ use Rattle.laws.specs.Sound.{FlatSound}
 use Rattle.wire.specs.Numbers.{Number}
 use Rattle.bitio.specs.Puts.{Room, Puts}
 use Rattle.bitio.specs.PutsLaws.{puts-then}
+use Rattle.marks.specs.Marks as K
 use Rattle.entries.specs.MessageBits as A
-
--- ---- floats
-module _ (none : Bool) (w x : ℕ) (o o₁ : List ℕ) (p q : ℕ) where
-  pub float-plain : none ≡ false → (v : ℕ) → v ≡ w → Puts o p (A.marked 1 (8 * v) x) o₁ q → Puts o p (A.floatAt none w x) o₁ q
-  unfolding A.floatAt
-  float-plain e v ev h = simp e (subst (λ (z : ℕ). Puts o p (A.marked 1 (8 * z) x) o₁ q) ev h)
-
-  module _ (e : none ≡ true) (t : Bool) (et : t ≡ isNaN w x) where
-    pub float-none : t ≡ true → Puts o p (bitsOf 2 0) o₁ q → Puts o p (A.floatAt none w x) o₁ q
-    unfolding A.floatAt
-    float-none f h = simp (e, ← et, f) h
-
-    pub float-value : t ≡ false → (v : ℕ) → v ≡ w → Puts o p (A.marked 1 (8 * v) x) o₁ q → Puts o p (A.floatAt none w x) o₁ q
-    unfolding A.floatAt
-    float-value f v ev h = simp (e, ← et, f) (subst (λ (z : ℕ). Puts o p (A.marked 1 (8 * z) x) o₁ q) ev h)
 
 -- ---- structs
 module _ (S : Schema) (m : List ℕ) (i at : ℕ) (t : Bool) (et : t ≡ structOk S m i at) (o o₁ : List ℕ) (p q : ℕ) where
@@ -51,24 +37,24 @@ module _ (S : Schema) (m : List ℕ) (i at : ℕ) (t : Bool) (et : t ≡ structO
 
 -- ---- by the kind
 module _ (S : Schema) (m : List ℕ) (k : Flat) (none : Bool) (at bit : ℕ) (o o₁ : List ℕ) (p q : ℕ) where
-  pub flat-boolean : k ≡ F.Boolean → (x y : ℕ) → y ≡ getD m at 0 → x ≡ y / 2 ^ bit % 2 → Puts o p (A.marked 1 1 x) o₁ q → Puts o p (A.flatAt S m k none at bit) o₁ q
+  pub flat-boolean : k ≡ F.Boolean → (x y : ℕ) → y ≡ getD m at 0 → x ≡ y / 2 ^ bit % 2 → Puts o p (K.marked 1 1 x) o₁ q → Puts o p (A.flatAt S m k none at bit) o₁ q
   unfolding A.flatAt bitAt
-  flat-boolean e x y ey ex h = rw e (subst (λ (z : ℕ). Puts o p (A.marked 1 1 z) o₁ q) (ex ∙ ap (λ (z : ℕ). z / 2 ^ bit % 2) ey) h)
+  flat-boolean e x y ey ex h = rw e (subst (λ (z : ℕ). Puts o p (K.marked 1 1 z) o₁ q) (ex ∙ ap (λ (z : ℕ). z / 2 ^ bit % 2) ey) h)
 
-  pub flat-integer : (s : Bool) (w : ℕ) → k ≡ F.Integer s w → (v u x : ℕ) → v ≡ w → u ≡ w → Number m at v x → Puts o p (A.marked 1 (8 * u) x) o₁ q
+  pub flat-integer : (s : Bool) (w : ℕ) → k ≡ F.Integer s w → (v u x : ℕ) → v ≡ w → u ≡ w → Number m at v x → Puts o p (K.marked 1 (8 * u) x) o₁ q
       → Puts o p (A.flatAt S m k none at bit) o₁ q
   unfolding A.flatAt
   flat-integer s w e v u x ev eu n h =
       rw e
-      (subst (λ (z : ℕ). Puts o p (A.marked 1 (8 * w) z) o₁ q) (n .is ∙ ap (le m at) ev) (subst (λ (z : ℕ). Puts o p (A.marked 1 (8 * z) x) o₁ q) eu h))
+      (subst (λ (z : ℕ). Puts o p (K.marked 1 (8 * w) z) o₁ q) (n .is ∙ ap (le m at) ev) (subst (λ (z : ℕ). Puts o p (K.marked 1 (8 * z) x) o₁ q) eu h))
 
-  pub flat-float : (w : ℕ) → k ≡ F.Float w → (v x : ℕ) → v ≡ w → Number m at v x → Puts o p (A.floatAt none w x) o₁ q → Puts o p (A.flatAt S m k none at bit) o₁ q
+  pub flat-float : (w : ℕ) → k ≡ F.Float w → (v x : ℕ) → v ≡ w → Number m at v x → Puts o p (K.floatAt none w x) o₁ q → Puts o p (A.flatAt S m k none at bit) o₁ q
   unfolding A.flatAt
-  flat-float w e v x ev n h = rw e (subst (λ (z : ℕ). Puts o p (A.floatAt none w z) o₁ q) (n .is ∙ ap (le m at) ev) h)
+  flat-float w e v x ev n h = rw e (subst (λ (z : ℕ). Puts o p (K.floatAt none w z) o₁ q) (n .is ∙ ap (le m at) ev) h)
 
-  pub flat-enum : (n x : ℕ) → k ≡ F.Enumerated n → x ≡ getD m at 0 → Puts o p (A.enumAt n x) o₁ q → Puts o p (A.flatAt S m k none at bit) o₁ q
+  pub flat-enum : (n x : ℕ) → k ≡ F.Enumerated n → x ≡ getD m at 0 → Puts o p (K.enumAt n x) o₁ q → Puts o p (A.flatAt S m k none at bit) o₁ q
   unfolding A.flatAt
-  flat-enum n x e ex h = rw e (subst (λ (z : ℕ). Puts o p (A.enumAt n z) o₁ q) ex h)
+  flat-enum n x e ex h = rw e (subst (λ (z : ℕ). Puts o p (K.enumAt n z) o₁ q) ex h)
 
   pub flat-struct : (i j : ℕ) → k ≡ F.Struct i → j ≡ i → Puts o p (A.wholeAt S m j at) o₁ q → Puts o p (A.flatAt S m k none at bit) o₁ q
   unfolding A.flatAt
@@ -85,17 +71,17 @@ module _ (c : ℕ) (k : Flat) (sound : FlatSound c k) (w : ℕ) where
 -- ---- the bits of a flat value's step
 pub flat-bits : (d : ℕ) (S : Schema) (m : List ℕ) (k : Flat) (none : Bool) (at bit : ℕ)
     → A.flatAt S m k none at bit ≡ A.stepAt d S m (OfFlat k) (T.flatStep S m k none at bit)
-unfolding A.flatAt A.floatAt A.wholeAt A.enumAt A.stepAt A.valueWidth A.flatValue E.unknownWidth E.flatUnknown T.flatStep T.floatStep T.enumStep T.structStep
+unfolding A.flatAt K.floatAt A.wholeAt K.enumAt A.stepAt A.valueWidth A.flatValue E.unknownWidth E.flatUnknown T.flatStep T.floatStep T.enumStep T.structStep
 flat-bits d S m F.Boolean none at bit = refl
 flat-bits d S m (F.Integer s w) none at bit = refl
 flat-bits d S m (F.Float w) none at bit = by (none && isNaN w (le m at w))
   where
-    by : (t : Bool) → pick t (bitsOf 2 0) (A.marked 1 (8 * w) (le m at w)) ≡ A.stepAt d S m (OfFlat (F.Float w)) (pick t St.Absent (St.Value (le m at w)))
+    by : (t : Bool) → pick t (bitsOf 2 0) (K.marked 1 (8 * w) (le m at w)) ≡ A.stepAt d S m (OfFlat (F.Float w)) (pick t St.Absent (St.Value (le m at w)))
     by true = refl
     by false = refl
 flat-bits d S m (F.Enumerated n) none at bit = by (eqb (getD m at 0) 255) (ltb (getD m at 0) n)
   where
-    by : (t u : Bool) → pick t (bitsOf 2 0) (pick u (A.marked 1 8 (getD m at 0)) (A.marked 2 8 (getD m at 0)))
+    by : (t u : Bool) → pick t (bitsOf 2 0) (pick u (K.marked 1 8 (getD m at 0)) (K.marked 2 8 (getD m at 0)))
         ≡ A.stepAt d S m (OfFlat (F.Enumerated n)) (pick t St.Absent (pick u (St.Value (getD m at 0)) (St.Unknown (getD m at 0))))
     by true u = refl
     by false true = refl

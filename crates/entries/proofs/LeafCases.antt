@@ -23,6 +23,7 @@ use Rattle.coding.specs.declared.Place.{Place}
 use Rattle.step.proofs.StepCases as C
 use Rattle.bitio.specs.Puts.{Room, Puts}
 use Rattle.bitio.specs.PutsLaws.{puts-then, puts-same}
+use Rattle.marks.specs.Marks as K
 use Rattle.entries.specs.MessageBits as A
 use Rattle.entries.specs.Readable as D
 use Rattle.entries.specs.Stepping.{isBlob, isLeaf}
@@ -64,18 +65,6 @@ pub leaf-other : (k : Kind) (u : ℕ) → k ≡ OfUnion u → isLeaf k ≡ true 
 leaf-other k u e h = let z : _≡_ {A = Bool} false true = leaf-union k u e ∙ h in let y : _≡_ {A = ℕ} 0 1 = cc in omega arith
 
 -- ---- a text or bytes
-pub blob-marked : (m o o₁ o₂ : List ℕ) (p q r at n y : ℕ) → Room o p → at + n ≤ length m → y ≡ n → Puts o p (A.marked 1 32 y) o₁ q
-    → Puts o₁ q (bits (take (at + n - at) (drop at m))) o₂ r → Puts o p (A.blobAt m at n) o₂ r
-unfolding A.blobAt A.marked E.blobBits
-blob-marked m o o₁ o₂ p q r at n y g fit ey a b =
-    let s : List ℕ = take n (drop at m) in
-    let z : at + n - at ≡ n = omega arith in
-    let l : length s ≡ n = length-take-le n (drop at m) (omega (arith, length-drop at m)) in
-    puts-same o o₂ p r (bitsOf 2 1 ++ bitsOf 32 y ++ bits (take (at + n - at) (drop at m))) (bitsOf 2 1 ++ (bitsOf 32 (length s) ++ bits s))
-    (append-assoc (bitsOf 2 1) (bitsOf 32 y) (bits (take (at + n - at) (drop at m)))
-    ∙ ap₂ (λ (i j : ℕ). bitsOf 2 1 ++ (bitsOf 32 i ++ bits (take j (drop at m)))) (ey ∙ sym l) z)
-    (puts-then o o₁ o₂ p q r (bitsOf 2 1 ++ bitsOf 32 y) (bits (take (at + n - at) (drop at m))) (g .short) a b)
-
 -- what stands there has some depth left
 some-left : (d : ℕ) (S : Schema) (m : List ℕ) (ob : Object) (place : Place) → D.ObjectReadable d S m ob place → d ≡ 0 → ⊥
 unfolding D.ObjectReadable
@@ -107,8 +96,8 @@ module _ (d : ℕ) (S : Schema) (m : List ℕ) (ob : Object) (inplace : Bool) (t
     pub blob-inside : start + n ≤ length m
     blob-inside = blob-size S ob start n (length m) blob (content-readable d S m ob place readable (some-left d S m ob place readable) start n es en .inside)
 
-    pub blob-referred : (o o₁ : List ℕ) (p q : ℕ) → Puts o p (A.blobAt m start n) o₁ q → Puts o p (A.referenceAt d S m ob inplace tail x) o₁ q
-    unfolding A.referenceAt A.blobAt A.stepAt
+    pub blob-referred : (o o₁ : List ℕ) (p q : ℕ) → Puts o p (K.blobAt m start n) o₁ q → Puts o p (A.referenceAt d S m ob inplace tail x) o₁ q
+    unfolding A.referenceAt K.blobAt A.stepAt
     blob-referred o o₁ p q l =
         puts-same o o₁ p q (bitsOf 2 1 ++ E.blobBits (take n (drop start m))) (A.referenceAt d S m ob inplace tail x)
         (ap (λ (s : List ℕ). bitsOf 2 1 ++ s)

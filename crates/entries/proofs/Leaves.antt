@@ -33,20 +33,10 @@ use Rattle.wire.specs.Numbers.{Number}
 use Rattle.bitio.specs.Puts.{Room, Puts}
 use Rattle.laws.specs.Bits.{bitsOf-length, bitsOf-mod, bitsOf-join}
 use Rattle.bitio.specs.PutsLaws.{puts-then, puts-same, run-over, run-not}
+use Rattle.marks.specs.Marks as K
 use Rattle.entries.specs.MessageBits as A
 use Rattle.entries.proofs.PartLaws.{struct-is}
-use Rattle.entries.proofs.Remaining.{Remaining, remaining-all, remaining-turn, remaining-done}
-
-pub marked-puts : (o o₁ o₂ : List ℕ) (p q r mark w x : ℕ) → Room o p → Puts o p (bitsOf 2 mark) o₁ q → Puts o₁ q (bitsOf w x) o₂ r → Puts o p (A.marked mark w x) o₂ r
-unfolding A.marked
-marked-puts o o₁ o₂ p q r mark w x g a b = puts-then o o₁ o₂ p q r (bitsOf 2 mark) (bitsOf w x) (g .short) a b
-
--- the same by one number
-pub marked-one : (o o₁ : List ℕ) (p q mark w x v : ℕ) → v ≡ mark * 2 ^ w + x % 2 ^ w → Puts o p (bitsOf (2 + w) v) o₁ q → Puts o p (A.marked mark w x) o₁ q
-unfolding A.marked
-marked-one o o₁ p q mark w x v e h =
-    puts-same o o₁ p q (bitsOf (2 + w) v) (bitsOf 2 mark ++ bitsOf w x)
-    (ap (bitsOf (2 + w)) e ∙ bitsOf-join 2 w mark (x % 2 ^ w) (mod-lt x (pow-pos w)) ∙ ap (λ (s : List ℕ). bitsOf 2 mark ++ s) (bitsOf-mod w x)) h
+use Rattle.marks.proofs.Remaining.{Remaining, remaining-all, remaining-turn, remaining-done}
 
 -- ---- widths
 module _ (k : Kind) (f : Flat) (e : k ≡ OfFlat f) where
@@ -79,29 +69,11 @@ module _ (k : Kind) where
   unfolding A.integerWidth
   integer-union i e = rw e
 
--- ---- an enum in a struct
-module _ (n x : ℕ) (o o₁ : List ℕ) (p q : ℕ) where
-  pub enum-none : x ≡ 255 → Puts o p (bitsOf 2 0) o₁ q → Puts o p (A.enumAt n x) o₁ q
-  unfolding A.enumAt
-  enum-none h a = simp (eq-eqb _ _ h) a
-
-  module _ (h : x ≡ 255 → ⊥) (y : ℕ) (e : y ≡ x) where
-    pub enum-known : x < n → Puts o p (A.marked 1 8 y) o₁ q → Puts o p (A.enumAt n x) o₁ q
-    unfolding A.enumAt
-    enum-known l a = simp (ne-eqb _ _ h, lt-ltb _ _ l) (subst (λ (z : ℕ). Puts o p (A.marked 1 8 z) o₁ q) e a)
-
-    pub enum-unknown : n ≤ x → Puts o p (A.marked 2 8 y) o₁ q → Puts o p (A.enumAt n x) o₁ q
-    unfolding A.enumAt
-    enum-unknown l a = simp (ne-eqb _ _ h, le-ltb _ _ l) (subst (λ (z : ℕ). Puts o p (A.marked 2 8 z) o₁ q) e a)
-
-pub number-puts : (m o o₁ : List ℕ) (p q w at x : ℕ) → Number m at w x → Puts o p (bitsOf (8 * w) x) o₁ q → Puts o p (bitsOf (8 * w) (le m at w)) o₁ q
-number-puts m o o₁ p q w at x n h = puts-same o o₁ p q (bitsOf (8 * w) x) (bitsOf (8 * w) (le m at w)) (ap (bitsOf (8 * w)) (n .is)) h
-
 -- ---- a struct's member
 enum-same : (inner : ℕ → Rattle.coding.specs.Value.Value → List ℕ) (read : ℕ → ℕ → Rattle.coding.specs.Value.Value) (n x : ℕ) (t u : Bool)
-    → pick t (bitsOf 2 0) (pick u (A.marked 1 8 x) (A.marked 2 8 x))
+    → pick t (bitsOf 2 0) (pick u (K.marked 1 8 x) (K.marked 2 8 x))
     ≡ E.markBits 8 (E.flatBits inner (F.Enumerated n)) (R.stepRead read R.noObject (pick t St.Absent (pick u (St.Value x) (St.Unknown x))))
-unfolding E.markBits E.flatBits R.stepRead A.marked asNumber
+unfolding E.markBits E.flatBits R.stepRead K.marked asNumber
 enum-same inner read n x true u = refl
 enum-same inner read n x false true = refl
 enum-same inner read n x false false = refl
@@ -119,13 +91,13 @@ module _ (S : Schema) (m : List ℕ) (k : Flat) (at : ℕ) (o o₁ : List ℕ) (
   unfolding A.fieldAt E.fieldBits E.flatBits R.stepRead T.fieldStep asNumber
   field-float w v e ev h = rw e (subst (λ (z : ℕ). Puts o p (bitsOf (8 * z) (le m at z)) o₁ q) ev h)
 
-  pub field-enum : (n x : ℕ) → k ≡ F.Enumerated n → x ≡ getD m at 0 → Puts o p (A.enumAt n x) o₁ q → Puts o p (A.fieldAt S m k at) o₁ q
-  unfolding A.fieldAt E.fieldBits T.fieldStep T.enumStep A.enumAt
+  pub field-enum : (n x : ℕ) → k ≡ F.Enumerated n → x ≡ getD m at 0 → Puts o p (K.enumAt n x) o₁ q → Puts o p (A.fieldAt S m k at) o₁ q
+  unfolding A.fieldAt E.fieldBits T.fieldStep T.enumStep K.enumAt
   field-enum n x e ex h =
       rw e
       (subst (λ (l : List ℕ). Puts o p l o₁ q)
       (enum-same (E.structBits S) (R.structRead S m) n (getD m at 0) (eqb (getD m at 0) 255) (ltb (getD m at 0) n))
-      (subst (λ (z : ℕ). Puts o p (pick (eqb z 255) (bitsOf 2 0) (pick (ltb z n) (A.marked 1 8 z) (A.marked 2 8 z))) o₁ q) ex h))
+      (subst (λ (z : ℕ). Puts o p (pick (eqb z 255) (bitsOf 2 0) (pick (ltb z n) (K.marked 1 8 z) (K.marked 2 8 z))) o₁ q) ex h))
 
   pub field-struct : (i j : ℕ) → k ≡ F.Struct i → j ≡ i → Puts o p (A.structAt S m j at) o₁ q → Puts o p (A.fieldAt S m k at) o₁ q
   unfolding A.fieldAt E.fieldBits E.flatBits R.stepRead T.fieldStep A.structAt
@@ -171,41 +143,3 @@ fields-done S m i at from j n o₀ o p₀ p inv g en h =
     let l : length (Sc.structOf S i) ≤ j = omega arith in
     remaining-done o₀ o p₀ p (A.structAt S m i at) (A.fieldsAt S m (drop j (Sc.structOf S i)) from) inv g
     (ap (λ (ks : List Flat). A.fieldsAt S m ks from) (drop-of-length-le (Sc.structOf S i) l))
-
--- ---- numbers
-pub numbers-most : (w n : ℕ) → w ≤ 8 → n < 2 ^ 48 → 8 * w * n ≤ 64 * 2 ^ 48
-numbers-most w n h l = mul-le-mul (let z : 8 * w ≤ 64 = omega arith in z) (le-of-lt l)
-
-numbers-length : (m : List ℕ) (w n at : ℕ) → length (A.numbersAt m w n at) ≡ 8 * w * n
-unfolding A.numbersAt
-numbers-length m w zero at = sym (mul-zero (8 * w))
-numbers-length m w (suc n) at =
-    let e = mul-suc (8 * w) n in
-    length-append (bitsOf (8 * w) (le m at w)) (A.numbersAt m w n (at + w))
-    ∙ omega (arith, e, bitsOf-length (8 * w) (le m at w), numbers-length m w n (at + w))
-
-module _ (o : List ℕ) (p : ℕ) (m : List ℕ) (w n at k : ℕ) (g : Room o p) (e : k ≡ 8 * w * n) where
-  pub numbers-over : 134217720 < p + k → Puts o p (A.numbersAt m w n at) o 134217721
-  numbers-over h = run-over o p k (A.numbersAt m w n at) g (numbers-length m w n at ∙ sym e) h
-
-  pub numbers-not : p + k ≤ 134217720 → 8 * length o < p + k → Puts o p (A.numbersAt m w n at) o (p + k)
-  numbers-not h l = run-not o p k (A.numbersAt m w n at) g (numbers-length m w n at ∙ sym e) h l
-
-numbers-cons : (m : List ℕ) (w n at : ℕ) → 0 < n → A.numbersAt m w n at ≡ bitsOf (8 * w) (le m at w) ++ A.numbersAt m w (n - 1) (at + w)
-unfolding A.numbersAt
-numbers-cons m w n at h = let e : n ≡ suc (n - 1) = omega arith in ap (λ (k : ℕ). A.numbersAt m w k at) e
-
-pub numbers-start : (o : List ℕ) (p : ℕ) (m : List ℕ) (w n at : ℕ) → Remaining o p (A.numbersAt m w n at) o p (A.numbersAt m w n at)
-numbers-start o p m w n at = remaining-all o p (A.numbersAt m w n at) (A.numbersAt m w n at) refl
-
-pub numbers-turn : (o₀ o o₁ : List ℕ) (p₀ p p₁ : ℕ) (whole m : List ℕ) (w n at : ℕ) → Remaining o₀ p₀ whole o p (A.numbersAt m w n at) → Room o p → 0 < n
-    → Puts o p (bitsOf (8 * w) (le m at w)) o₁ p₁ → Remaining o₀ p₀ whole o₁ p₁ (A.numbersAt m w (n - 1) (at + w))
-numbers-turn o₀ o o₁ p₀ p p₁ whole m w n at inv g h k =
-    remaining-turn o₀ o o₁ p₀ p p₁ whole (A.numbersAt m w n at) (bitsOf (8 * w) (le m at w)) (A.numbersAt m w (n - 1) (at + w)) inv (g .short)
-    (numbers-cons m w n at h) k
-
-pub numbers-done : (o₀ o : List ℕ) (p₀ p : ℕ) (whole m : List ℕ) (w n at : ℕ) → Remaining o₀ p₀ whole o p (A.numbersAt m w n at) → Room o p → n ≤ 0 → Puts o₀ p₀ whole o p
-unfolding A.numbersAt
-numbers-done o₀ o p₀ p whole m w n at inv g h =
-    let z : n ≡ 0 = omega arith in
-    remaining-done o₀ o p₀ p whole (A.numbersAt m w n at) inv g (ap (λ (k : ℕ). A.numbersAt m w k at) z)

@@ -1,7 +1,5 @@
 pub mod PartLaws
-pub mod Remaining
 pub mod Leaves
-pub mod Bools
 pub mod Objects
 pub mod Parts
 pub mod Root

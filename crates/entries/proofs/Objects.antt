@@ -39,6 +39,7 @@ use Rattle.step.proofs.MemberCases.{value-inside}
 use Rattle.wire.specs.Numbers.{Number}
 use Rattle.bitio.specs.Puts.{Room, Puts}
 use Rattle.bitio.specs.PutsLaws.{puts-none, puts-then, puts-same}
+use Rattle.marks.specs.Marks as K
 use Rattle.entries.specs.MessageBits as A
 use Rattle.entries.specs.Readable as D
 use Rattle.entries.specs.Stepping.{MemberAt, isHere}
@@ -122,10 +123,10 @@ module _ (d : ℕ) (S : Schema) (m : List ℕ) (k : Kind) (o o₁ : List ℕ) (p
   unfolding A.stepAt
   step-absent e h = rw e h
 
-  pub step-unknown : (x y w : ℕ) → step ≡ St.Unknown x → w ≡ E.unknownWidth k → y ≡ x → Puts o p (A.marked 2 w y) o₁ q → Puts o p (A.stepAt d S m k step) o₁ q
+  pub step-unknown : (x y w : ℕ) → step ≡ St.Unknown x → w ≡ E.unknownWidth k → y ≡ x → Puts o p (K.marked 2 w y) o₁ q → Puts o p (A.stepAt d S m k step) o₁ q
   unfolding A.stepAt
   step-unknown x y w e ew ey h =
-      rw e (subst (λ (v : ℕ). Puts o p (A.marked 2 v x) o₁ q) ew (subst (λ (v : ℕ). Puts o p (A.marked 2 w v) o₁ q) ey h))
+      rw e (subst (λ (v : ℕ). Puts o p (K.marked 2 v x) o₁ q) ew (subst (λ (v : ℕ). Puts o p (K.marked 2 w v) o₁ q) ey h))
 
   module _ (g : Room o p) (o₂ : List ℕ) (r : ℕ) where
     pub step-object : (ob : Object) (place : Place) → step ≡ St.Object ob place → Puts o p (bitsOf 2 1) o₁ q → Puts o₁ q (A.objectAt d S m ob place) o₂ r
@@ -133,12 +134,12 @@ module _ (d : ℕ) (S : Schema) (m : List ℕ) (k : Kind) (o o₁ : List ℕ) (p
     unfolding A.stepAt
     step-object ob place e h l = rw e (puts-then o o₁ o₂ p q r (bitsOf 2 1) (A.objectAt d S m ob place) (g .short) h l)
 
-    pub step-choice : (c x : ℕ) (ob : Object) (place : Place) → step ≡ St.Choice c ob place → x ≡ c → Puts o p (A.marked 1 16 x) o₁ q
+    pub step-choice : (c x : ℕ) (ob : Object) (place : Place) → step ≡ St.Choice c ob place → x ≡ c → Puts o p (K.marked 1 16 x) o₁ q
         → Puts o₁ q (A.objectAt d S m ob place) o₂ r → Puts o p (A.stepAt d S m k step) o₂ r
     unfolding A.stepAt
     step-choice c x ob place e ex h l =
         rw e
-        (puts-then o o₁ o₂ p q r (A.marked 1 16 c) (A.objectAt d S m ob place) (g .short) (subst (λ (v : ℕ). Puts o p (A.marked 1 16 v) o₁ q) ex h) l)
+        (puts-then o o₁ o₂ p q r (K.marked 1 16 c) (A.objectAt d S m ob place) (g .short) (subst (λ (v : ℕ). Puts o p (K.marked 1 16 v) o₁ q) ex h) l)
 
 module _ (d : ℕ) (S : Schema) (m : List ℕ) (step : Step) (h : D.StepReadable (D.ObjectReadable d S m) S m step) where
   pub object-readable : (ob : Object) (p : Place) → step ≡ St.Object ob p → D.ObjectReadable d S m ob p

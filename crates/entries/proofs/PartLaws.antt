@@ -34,7 +34,8 @@ use Rattle.step.specs.Lead.{reached, reachOf}
 use Rattle.step.specs.declared.Reach.{Reach}
 use Rattle.step.specs.declared.Reach.the-variants.{Cut, Past, Here}
 use Rattle.step.proofs.ReachCases.{step-reached}
-use Rattle.entries.specs.MessageBits.{structAt, fieldsAt, objectAt, flatValue, valueWidth, marked, stepAt}
+use Rattle.entries.specs.MessageBits.{structAt, fieldsAt, objectAt, flatValue, valueWidth, stepAt}
+use Rattle.marks.specs.Marks.{marked}
 use Rattle.entries.specs.Readable.{StepReadable, ObjectReadable}
 
 -- ---- structs

@@ -35,12 +35,13 @@ use Rattle.step.proofs.Inside.{index-small}
 use Rattle.step.proofs.StepCases.{element-value}
 use Rattle.bitio.specs.Puts.{Room, Puts}
 use Rattle.bitio.specs.PutsLaws.{puts-then, puts-same}
+use Rattle.marks.specs.Marks as K
 use Rattle.entries.specs.MessageBits as A
 use Rattle.entries.specs.Readable as D
 use Rattle.entries.specs.Stepping.{MemberAt, PlainNumber, isHere}
 use Rattle.entries.proofs.PlainNumbers.{plain-next, plain-bits}
 use Rattle.entries.proofs.PartLaws.{member-part, element-part}
-use Rattle.entries.proofs.Remaining.{Remaining, remaining-all, remaining-turn, remaining-done}
+use Rattle.marks.proofs.Remaining.{Remaining, remaining-all, remaining-turn, remaining-done}
 
 -- ---- members
 pub members-start : (d : ℕ) (S : Schema) (m : List ℕ) (start n t : ℕ) (c : Cursor) (o : List ℕ) (p : ℕ) → c ≡ L.begin
@@ -143,9 +144,9 @@ module _ (d : ℕ) (S : Schema) (m : List ℕ) (start n t j count : ℕ) (c : Cu
   plain-rest = subst (λ (q : Cursor). D.MembersReadable (D.ObjectReadable d S m) S m start n q (drop (j + 1) (Sc.tableOf S t .members))) plain-behind (plain-split .1)
 
   pub plain-turn : 0 < w → (whole o₀ o o₁ : List ℕ) (p₀ p p₁ : ℕ) → Remaining o₀ p₀ whole o p (A.membersAt d S m start n c (drop j (Sc.tableOf S t .members)))
-      → Room o p → Puts o p (A.plainAt m w start n (c .end)) o₁ p₁ → Remaining o₀ p₀ whole o₁ p₁ (A.membersAt d S m start n next (drop (j + 1) (Sc.tableOf S t .members)))
+      → Room o p → Puts o p (K.plainAt m w start n (c .end)) o₁ p₁ → Remaining o₀ p₀ whole o₁ p₁ (A.membersAt d S m start n next (drop (j + 1) (Sc.tableOf S t .members)))
   plain-turn some whole o₀ o o₁ p₀ p p₁ inv g put =
-      remaining-turn o₀ o o₁ p₀ p p₁ whole (A.membersAt d S m start n c (drop j (Sc.tableOf S t .members))) (A.plainAt m w start n (c .end))
+      remaining-turn o₀ o o₁ p₀ p p₁ whole (A.membersAt d S m start n c (drop j (Sc.tableOf S t .members))) (K.plainAt m w start n (c .end))
       (A.membersAt d S m start n next (drop (j + 1) (Sc.tableOf S t .members))) inv (g .short)
       (ap (A.membersAt d S m start n c) (members-opened S t j count ec h)
       ∙ members-cons d S m start n c (Sc.memberOf S t j) (drop (j + 1) (Sc.tableOf S t .members)) (plain-split .0)
@@ -212,19 +213,19 @@ elements-done d S m k start n j whole o₀ o p₀ p inv g h =
     remaining-done o₀ o p₀ p whole (A.elementsAt d S m k start (n - j) j) inv g (ap (λ (x : ℕ). A.elementsAt d S m k start x j) z)
 
 -- ---- elements without a mark
-bools-same : (d : ℕ) (S : Schema) (m : List ℕ) (start n i : ℕ) → A.boolsAt m start n i ≡ A.elementsAt d S m (OfFlat F.Boolean) start n i
-unfolding A.boolsAt A.boolAt A.elementsAt E.elementsBits R.elementsRead E.elementBits E.bare E.flatBare E.bodyBits E.flatBits R.stepRead T.elementStep T.valueStep T.flatStep T.elementPlace L.isBool L.flatIsBool Tree.asNumber
+bools-same : (d : ℕ) (S : Schema) (m : List ℕ) (start n i : ℕ) → K.boolsAt m start n i ≡ A.elementsAt d S m (OfFlat F.Boolean) start n i
+unfolding K.boolsAt K.boolAt A.elementsAt E.elementsBits R.elementsRead E.elementBits E.bare E.flatBare E.bodyBits E.flatBits R.stepRead T.elementStep T.valueStep T.flatStep T.elementPlace L.isBool L.flatIsBool Tree.asNumber
 bools-same d S m start zero i = refl
 bools-same d S m start (suc n) i = ap (λ (l : List ℕ). bitsOf 1 (bitAt m (start + i / 8) (i % 8)) ++ l) (bools-same d S m start n (i + 1))
 
 numbers-same : (d : ℕ) (S : Schema) (m : List ℕ) (s : Bool) (w start n i : ℕ)
-    → A.numbersAt m w n (start + w * i) ≡ A.elementsAt d S m (OfFlat (F.Integer s w)) start n i
-unfolding A.numbersAt A.elementsAt E.elementsBits R.elementsRead E.elementBits E.bare E.flatBare E.bodyBits E.flatBits R.stepRead T.elementStep T.valueStep T.flatStep T.elementPlace L.isBool L.flatIsBool Tree.asNumber L.width flatWidth
+    → K.numbersAt m w n (start + w * i) ≡ A.elementsAt d S m (OfFlat (F.Integer s w)) start n i
+unfolding K.numbersAt A.elementsAt E.elementsBits R.elementsRead E.elementBits E.bare E.flatBare E.bodyBits E.flatBits R.stepRead T.elementStep T.valueStep T.flatStep T.elementPlace L.isBool L.flatIsBool Tree.asNumber L.width flatWidth
 numbers-same d S m s w start zero i = refl
 numbers-same d S m s w start (suc n) i =
     let z : w * (i + 1) ≡ w * i + w = ap (λ (x : ℕ). w * x) (add-one i) ∙ mul-suc w i in
     let y : start + w * i + w ≡ start + w * (i + 1) = omega arith in
-    ap (λ (l : List ℕ). bitsOf (8 * w) (le m (start + w * i) w) ++ l) (ap (A.numbersAt m w n) y ∙ numbers-same d S m s w start n (i + 1))
+    ap (λ (l : List ℕ). bitsOf (8 * w) (le m (start + w * i) w) ++ l) (ap (K.numbersAt m w n) y ∙ numbers-same d S m s w start n (i + 1))
 
 bool-kind : (k : Kind) → L.isBool k ≡ true → k ≡ OfFlat F.Boolean
 unfolding L.isBool L.flatIsBool
@@ -237,12 +238,12 @@ bool-kind (OfObject ob) e = let z : _≡_ {A = ℕ} 0 1 = cc in absurd (omega ar
 bool-kind (OfUnion i) e = let z : _≡_ {A = ℕ} 0 1 = cc in absurd (omega arith)
 
 -- an integer kind is one by its width; a kind that is none has marks
-integer-kind : (d : ℕ) (S : Schema) (m : List ℕ) (k : Kind) (start n : ℕ) → 0 < A.integerWidth k → A.numbersAt m (A.integerWidth k) n start ≡ A.elementsAt d S m k start n 0
+integer-kind : (d : ℕ) (S : Schema) (m : List ℕ) (k : Kind) (start n : ℕ) → 0 < A.integerWidth k → K.numbersAt m (A.integerWidth k) n start ≡ A.elementsAt d S m k start n 0
 unfolding A.integerWidth A.flatInteger
 integer-kind d S m (OfFlat F.Boolean) start n h = absurd (omega arith)
 integer-kind d S m (OfFlat (F.Integer s w)) start n h =
     let z : start ≡ start + w * 0 = sym (ap (λ (x : ℕ). start + x) (mul-zero w) ∙ add-zero start) in
-    ap (A.numbersAt m w n) z ∙ numbers-same d S m s w start n 0
+    ap (K.numbersAt m w n) z ∙ numbers-same d S m s w start n 0
 integer-kind d S m (OfFlat (F.Float w)) start n h = absurd (omega arith)
 integer-kind d S m (OfFlat (F.Enumerated c)) start n h = absurd (omega arith)
 integer-kind d S m (OfFlat (F.Struct i)) start n h = absurd (omega arith)
@@ -290,15 +291,15 @@ module _ (d : ℕ) (S : Schema) (m : List ℕ) (i start n x : ℕ) (k : Kind) (e
       puts-then o o₁ o₂ p q r (bitsOf 32 n) (A.elementsAt d S m (Sc.elementOf S i) start n 0) (g .short)
       (subst (λ (v : ℕ). Puts o p (bitsOf 32 v) o₁ q) ex h) (subst (λ (v : Kind). Puts o₁ q (A.elementsAt d S m v start n 0) o₂ r) e l)
 
-  pub list-bools : (t : Bool) → t ≡ L.isBool k → t ≡ true → Puts o₁ q (A.boolsAt m start n 0) o₂ r → Puts o p (A.listAt d S m (Sc.elementOf S i) start n) o₂ r
+  pub list-bools : (t : Bool) → t ≡ L.isBool k → t ≡ true → Puts o₁ q (K.boolsAt m start n 0) o₂ r → Puts o p (A.listAt d S m (Sc.elementOf S i) start n) o₂ r
   list-bools t et f l =
-      joined (puts-same o₁ o₂ q r (A.boolsAt m start n 0) (A.elementsAt d S m k start n 0)
+      joined (puts-same o₁ o₂ q r (K.boolsAt m start n 0) (A.elementsAt d S m k start n 0)
       (bools-same d S m start n 0 ∙ ap (λ (v : Kind). A.elementsAt d S m v start n 0) (sym (bool-kind k (sym et ∙ f)))) l)
 
-  pub list-numbers : (w : ℕ) → w ≡ A.integerWidth k → 0 < w → Puts o₁ q (A.numbersAt m w n start) o₂ r → Puts o p (A.listAt d S m (Sc.elementOf S i) start n) o₂ r
+  pub list-numbers : (w : ℕ) → w ≡ A.integerWidth k → 0 < w → Puts o₁ q (K.numbersAt m w n start) o₂ r → Puts o p (A.listAt d S m (Sc.elementOf S i) start n) o₂ r
   list-numbers w ew f l =
-      joined (puts-same o₁ o₂ q r (A.numbersAt m w n start) (A.elementsAt d S m k start n 0)
-      (ap (λ (v : ℕ). A.numbersAt m v n start) ew ∙ integer-kind d S m k start n (subst (λ (v : ℕ). 0 < v) ew f)) l)
+      joined (puts-same o₁ o₂ q r (K.numbersAt m w n start) (A.elementsAt d S m k start n 0)
+      (ap (λ (v : ℕ). K.numbersAt m v n start) ew ∙ integer-kind d S m k start n (subst (λ (v : ℕ). 0 < v) ew f)) l)
 
   pub list-elements : Puts o₁ q (A.elementsAt d S m k start n 0) o₂ r → Puts o p (A.listAt d S m (Sc.elementOf S i) start n) o₂ r
   list-elements l = joined l

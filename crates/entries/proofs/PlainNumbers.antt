@@ -30,6 +30,7 @@ use Rattle.layout.specs.Bounds.{Laid}
 use Rattle.judge.proofs.PlainCases.{plain-led}
 use Rattle.wire.specs.Numbers.{Number}
 use Rattle.bitio.specs.Puts.{Room, Puts}
+use Rattle.marks.specs.Marks as K
 use Rattle.entries.specs.MessageBits as A
 use Rattle.entries.specs.Stepping.{PlainNumber, NumberOf}
 
@@ -92,42 +93,32 @@ plain-laid j w c next p h e =
 
 -- ---- its bits
 placed-bits : (d : ℕ) (S : Schema) (m : List ℕ) (k : Kind) (w n e x : ℕ) → 0 < w → 8 * w ≡ A.valueWidth k
-    → A.stepAt d S m k (pick (leb n e) St.Absent (pick (leb (e + w) n) (St.Value x) (St.Refused 8))) ≡ pick (leb (e + w) n) (A.marked 1 (8 * w) x) (bitsOf 2 0)
+    → A.stepAt d S m k (pick (leb n e) St.Absent (pick (leb (e + w) n) (St.Value x) (St.Refused 8))) ≡ pick (leb (e + w) n) (K.marked 1 (8 * w) x) (bitsOf 2 0)
 unfolding A.stepAt
 placed-bits d S m k w n e x some ew = by (leb n e) (leb (e + w) n) refl refl
   where
-    by : (t u : Bool) → leb n e ≡ t → leb (e + w) n ≡ u → A.stepAt d S m k (pick t St.Absent (pick u (St.Value x) (St.Refused 8))) ≡ pick u (A.marked 1 (8 * w) x) (bitsOf 2 0)
+    by : (t u : Bool) → leb n e ≡ t → leb (e + w) n ≡ u → A.stepAt d S m k (pick t St.Absent (pick u (St.Value x) (St.Refused 8))) ≡ pick u (K.marked 1 (8 * w) x) (bitsOf 2 0)
     by true true et eu = let a = leb-true n e et in let b = leb-true (e + w) n eu in absurd (let z : ⊥ = omega arith in z)
     by true false et eu = refl
-    by false true et eu = ap (λ (i : ℕ). A.marked 1 i x) (sym ew)
+    by false true et eu = ap (λ (i : ℕ). K.marked 1 i x) (sym ew)
     by false false et eu = refl
 
 pub plain-bits : (d : ℕ) (S : Schema) (m : List ℕ) (start n : ℕ) (c : Cursor) (r : Member) (w : ℕ) → PlainNumber r w → 0 < w
-    → A.stepAt d S m (r .kind) (T.memberStep u48 S m start n c r) ≡ A.plainAt m w start n (c .end)
-unfolding T.memberStep T.inside T.valueStep T.flatStep T.floatStep L.memberSlot L.slotOf L.afterFlag L.hasFlag L.isBool L.flatIsBool L.width flatWidth NumberOf A.plainAt A.valueWidth A.flatValue
+    → A.stepAt d S m (r .kind) (T.memberStep u48 S m start n c r) ≡ K.plainAt m w start n (c .end)
+unfolding T.memberStep T.inside T.valueStep T.flatStep T.floatStep L.memberSlot L.slotOf L.afterFlag L.hasFlag L.isBool L.flatIsBool L.width flatWidth NumberOf K.plainAt A.valueWidth A.flatValue
 plain-bits d S m start n c r w num some = ap (λ (q : Member). A.stepAt d S m (q .kind) (T.memberStep u48 S m start n c q)) (num .is) ∙ by (num .flat) (num .number)
   where
     by : (f : Flat) → NumberOf f w
-        → A.stepAt d S m (OfFlat f) (T.memberStep u48 S m start n c (record { kind = OfFlat f; optional = false; inplace = num .place })) ≡ A.plainAt m w start n (c .end)
+        → A.stepAt d S m (OfFlat f) (T.memberStep u48 S m start n c (record { kind = OfFlat f; optional = false; inplace = num .place })) ≡ K.plainAt m w start n (c .end)
     by F.Boolean e = absurd e
     by (F.Integer s v) e =
         placed-bits d S m (OfFlat (F.Integer s v)) v n (c .end) (le m (start + c .end) v) (subst (λ (x : ℕ). 0 < x) (sym e) some) refl
-        ∙ ap (λ (x : ℕ). A.plainAt m x start n (c .end)) e
+        ∙ ap (λ (x : ℕ). K.plainAt m x start n (c .end)) e
     by (F.Float v) e =
         placed-bits d S m (OfFlat (F.Float v)) v n (c .end) (le m (start + c .end) v) (subst (λ (x : ℕ). 0 < x) (sym e) some) refl
-        ∙ ap (λ (x : ℕ). A.plainAt m x start n (c .end)) e
+        ∙ ap (λ (x : ℕ). K.plainAt m x start n (c .end)) e
     by (F.Enumerated k) e = absurd e
     by (F.Struct i) e = absurd e
-
--- ---- the ways out
-module _ (m : List ℕ) (w start n end : ℕ) (o o₁ : List ℕ) (p q : ℕ) where
-  pub plain-none : n < end + w → Puts o p (bitsOf 2 0) o₁ q → Puts o p (A.plainAt m w start n end) o₁ q
-  unfolding A.plainAt
-  plain-none h l = simp (lt-leb _ _ h) l
-
-  pub plain-there : end + w ≤ n → (x : ℕ) → Number m (start + end) w x → Puts o p (A.marked 1 (8 * w) x) o₁ q → Puts o p (A.plainAt m w start n end) o₁ q
-  unfolding A.plainAt
-  plain-there h x nx l = simp (le-leb _ _ h) (subst (λ (y : ℕ). Puts o p (A.marked 1 (8 * w) y) o₁ q) (nx .is) l)
 
 -- ---- the record of member j
 pub plain-member : (b : List ℕ) (t j : ℕ) → t < P.tableCount b → (count : ℕ) → count ≡ length (Sc.tableOf (P.parse b) t .members) → j < count → (first : ℕ)

@@ -18,7 +18,7 @@ use Rattle.wire.specs.Numbers.{Number}
 use Rattle.bitio.specs.Puts.{Room, Puts}
 use Rattle.entries.specs.MessageBits as A
 use Rattle.entries.specs.Readable as D
-use Rattle.entries.proofs.Remaining.{Remaining}
+use Rattle.marks.proofs.Remaining.{Remaining}
 use Rattle.entries.proofs.Parts.{element-readable, elements-turn, list-elements}
 use Rattle.entries.proofs.Values.{value-object, object-given}
 

@@ -20,6 +20,7 @@ use Rattle.wire.specs.Numbers.{Number}
 use Rattle.step.proofs.StepCases as C
 use Rattle.bitio.specs.Puts.{Room, Puts}
 use Rattle.bitio.specs.PutsLaws.{puts-same}
+use Rattle.marks.specs.Marks as K
 use Rattle.entries.specs.MessageBits as A
 use Rattle.entries.specs.Readable as D
 use Rattle.entries.proofs.Flats.{flat-bits}
@@ -52,7 +53,7 @@ module _ (d : ℕ) (S : Schema) (m : List ℕ) (u : ℕ) (inplace : Bool) (tail 
     unfolding A.choiceAt
     choice-none e h = step-absent d S m (OfUnion u) o o₁ p q chosen (sym (C.union-none inplace tail x (Sc.casesOf S u) c e)) h
 
-    pub choice-unknown : (c ≡ 0 → ⊥) → (n y : ℕ) → n ≡ length (Sc.casesOf S u) → n < c → y ≡ c → Puts o p (A.marked 2 16 y) o₁ q
+    pub choice-unknown : (c ≡ 0 → ⊥) → (n y : ℕ) → n ≡ length (Sc.casesOf S u) → n < c → y ≡ c → Puts o p (K.marked 2 16 y) o₁ q
         → Puts o p (A.choiceAt d S m u inplace tail c x) o₁ q
     unfolding A.choiceAt E.unknownWidth
     choice-unknown e n y en l ey h =
@@ -60,7 +61,7 @@ module _ (d : ℕ) (S : Schema) (m : List ℕ) (u : ℕ) (inplace : Bool) (tail 
 
   module _ (e : c ≡ 0 → ⊥) (n : ℕ) (en : n ≡ length (Sc.casesOf S u)) (l : c ≤ n) (ob : Object) (eo : ob ≡ Sc.caseOf (Sc.casesOf S u) c) (place : Place)
       (ep : place ≡ T.placeOf inplace tail x) where
-    pub choice-known : (o o₁ : List ℕ) (p q y : ℕ) → Room o p → (o₂ : List ℕ) (r : ℕ) → y ≡ c → Puts o p (A.marked 1 16 y) o₁ q
+    pub choice-known : (o o₁ : List ℕ) (p q y : ℕ) → Room o p → (o₂ : List ℕ) (r : ℕ) → y ≡ c → Puts o p (K.marked 1 16 y) o₁ q
         → Puts o₁ q (A.objectAt d S m ob place) o₂ r → Puts o p (A.choiceAt d S m u inplace tail c x) o₂ r
     unfolding A.choiceAt
     choice-known o o₁ p q y g o₂ r ey a b =

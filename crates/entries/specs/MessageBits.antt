@@ -9,6 +9,7 @@ use Rattle.coding.specs.Bytes.{u48, le, bitAt, isNaN}
 use Rattle.coding.specs.Schema.{Schema, casesOf}
 use Rattle.coding.specs.Structs.{structOk}
 use Rattle.coding.specs.Bits.{bitsOf}
+use Rattle.marks.specs.Marks.{marked, enumAt, floatAt}
 use Rattle.coding.specs.Read as R
 use Rattle.coding.specs.Sheet as E
 use Rattle.coding.specs.Step.{fieldStep, objectStep, unionStep}
@@ -61,9 +62,6 @@ valueWidth (OfFlat k) = flatValue k
 valueWidth (OfObject ob) = 0
 valueWidth (OfUnion i) = 0
 
-unfoldable pub marked : ℕ → ℕ → ℕ → List ℕ
-marked mark w x = bitsOf 2 mark ++ bitsOf w x
-
 -- the bits of what a member or an element of a kind holds
 unfoldable pub stepAt : ℕ → Schema → List ℕ → Kind → Step → List ℕ
 stepAt d S m k (St.Refused n) = bitsOf 2 0
@@ -73,14 +71,6 @@ stepAt d S m k (St.Unknown x) = marked 2 (E.unknownWidth k) x
 stepAt d S m k (St.Struct i at) = bitsOf 2 1 ++ structAt S m i at
 stepAt d S m k (St.Object ob p) = bitsOf 2 1 ++ objectAt d S m ob p
 stepAt d S m k (St.Choice c ob p) = marked 1 16 c ++ objectAt d S m ob p
-
--- an enum in a struct
-unfoldable pub enumAt : ℕ → ℕ → List ℕ
-enumAt n x = pick (eqb x 255) (bitsOf 2 0) (pick (ltb x n) (marked 1 8 x) (marked 2 8 x))
-
--- ---- by the kind, as the code goes over a value
-unfoldable pub floatAt : Bool → ℕ → ℕ → List ℕ
-floatAt none w x = pick (none && isNaN w x) (bitsOf 2 0) (marked 1 (8 * w) x)
 
 -- a struct, if its booleans are 0 or 1
 unfoldable pub wholeAt : Schema → List ℕ → ℕ → ℕ → List ℕ
@@ -104,28 +94,6 @@ choiceAt d S m u inplace tail c x = stepAt d S m (OfUnion u) (unionStep (casesOf
 -- a value, if it is there; a member that is cut has the bits of an absent one
 unfoldable pub placed : Bool → Step → Step
 placed here v = pick here v St.Absent
-
--- a number of w bytes that is not optional, at byte `end` of a fixed part that has n bytes from `start`
-unfoldable pub plainAt : List ℕ → ℕ → ℕ → ℕ → ℕ → List ℕ
-plainAt m w start n end = pick (leb (end + w) n) (marked 1 (8 * w) (le m (start + end) w)) (bitsOf 2 0)
-
--- a text or bytes with its mark
-unfoldable pub blobAt : List ℕ → ℕ → ℕ → List ℕ
-blobAt m at n = bitsOf 2 1 ++ E.blobBits (take n (drop at m))
-
--- ---- elements without a mark
--- n numbers of w bytes
-unfoldable pub numbersAt : List ℕ → ℕ → ℕ → ℕ → List ℕ
-numbersAt m w zero at = []
-numbersAt m w (suc n) at = bitsOf (8 * w) (le m at w) ++ numbersAt m w n (at + w)
-
-unfoldable pub boolAt : List ℕ → ℕ → ℕ → ℕ
-boolAt m start i = bitAt m (start + i / 8) (i % 8)
-
--- n bools from bool i on
-unfoldable pub boolsAt : List ℕ → ℕ → ℕ → ℕ → List ℕ
-boolsAt m start zero i = []
-boolsAt m start (suc n) i = bitsOf 1 (boolAt m start i) ++ boolsAt m start n (i + 1)
 
 -- the width of an integer kind in bytes, or 0
 unfoldable pub flatInteger : Flat → ℕ

@@ -24,27 +24,6 @@ ghost use Rattle.entries.specs.MessageBits as Bt;
 ghost use Rattle.entries.specs.Readable as D;
 ghost use Rattle.entries.specs.Stepping.{MemberAt, PlainNumber, isHere, isBlob, isLeaf};
 
-// ---- numbers
-fn number64(x: usize) -> u64
-    ensures { λ r. ⌜ r ≡ x ⌝ }
-{
-    x as u64
-}
-
-// ---- what follows a mark
-// A mark (0 absent, 1 present, 2 unknown) and the w low bits of x.
-fn write_marked(out: &mut [u8], pos: usize, mark: u64, w: usize, x: u64) -> usize
-    requires { ⌜ Room (now out) pos ⌝ }
-    requires { ⌜ (w ≤ 64) × (mark < 4) ⌝ }
-    ensures { λ r. ⌜ Puts (now (out .entry)) pos (Bt.marked mark w x) (now (out .exit)) r ⌝ }
-{
-    if w <= 62 {
-        return bitio::write(out, pos, 2 + w, bits::append(mark, w, x));
-    }
-    let p = bitio::write(out, pos, 2, mark);
-    bitio::write(out, p, w, x)
-}
-
 // The bytes of an integer kind, or 0.
 fn integer_width(k: Kind) -> usize
     ensures { λ r. ⌜ r ≡ Bt.integerWidth k ⌝ }
@@ -63,28 +42,6 @@ fn integer_width(k: Kind) -> usize
 }
 
 // ---- structs, by recursion on the struct index, which falls at every inner struct
-fn write_enum(out: &mut [u8], pos: usize, n: u8, x: u8) -> usize
-    requires { ⌜ Room (now out) pos ⌝ }
-    ensures { λ r. ⌜ Puts (now (out .entry)) pos (Bt.enumAt n x) (now (out .exit)) r ⌝ }
-{
-    if x == 255 {
-        return bitio::write(out, pos, 2, 0);
-    }
-    if x < n {
-        return write_marked(out, pos, 1, 8, wire::wide(x));
-    }
-    write_marked(out, pos, 2, 8, wire::wide(x))
-}
-
-// A number of w bytes.
-fn write_number(m: &[u8], out: &mut [u8], pos: usize, w: usize, at: usize) -> usize
-    requires { ⌜ Room (now out) pos ⌝ }
-    requires { ⌜ (w ≤ 8) × (at < 2 ^ 60) ⌝ }
-    ensures { λ r. ⌜ Puts (now (out .entry)) pos (bitsOf (8 * w) (B.le (now (m .entry)) at w)) (now (out .exit)) r ⌝ }
-{
-    bitio::write(out, pos, 8 * w, wire::number(m, at, w))
-}
-
 fn write_field(
     b: &[u8],
     dir: &[u16],
@@ -102,9 +59,9 @@ fn write_field(
 {
     match k {
         Flat::Boolean => bitio::write(out, pos, 1, wire::wide(wire::byte(m, at))),
-        Flat::Integer(_, w) => write_number(m, out, pos, wire::index(w), at),
-        Flat::Float(w) => write_number(m, out, pos, wire::index(w), at),
-        Flat::Enumerated(n) => write_enum(out, pos, n, wire::byte(m, at)),
+        Flat::Integer(_, w) => marks::write_number(m, out, pos, wire::index(w), at),
+        Flat::Float(w) => marks::write_number(m, out, pos, wire::index(w), at),
+        Flat::Enumerated(n) => marks::write_enum(out, pos, n, wire::byte(m, at)),
         Flat::Struct(a) => write_struct(b, dir, m, out, wire::index(a), at, pos),
     }
 }
@@ -137,91 +94,6 @@ fn write_struct(
     p
 }
 
-// ---- elements without a mark
-// The bits of n numbers of w bytes.
-fn numbers_size(w: usize, n: usize) -> usize
-    requires { ⌜ (w ≤ 8) × (n < 2 ^ 48) ⌝ }
-    ensures { λ r. ⌜ (r ≡ 8 * w * n) × (r ≤ 64 * 2 ^ 48) ⌝ }
-{
-    8 * w * n
-}
-
-// The n numbers of w bytes from `at`: counted at once where there is no room.
-fn write_numbers(m: &[u8], out: &mut [u8], pos: usize, w: usize, at: usize, n: usize) -> usize
-    requires { ⌜ Room (now out) pos ⌝ }
-    requires { ⌜ (w ≤ 8) × (at < 2 ^ 58) × (n < 2 ^ 48) ⌝ }
-    ensures { λ r. ⌜ Puts (now (out .entry)) pos (Bt.numbersAt (now (m .entry)) w n at) (now (out .exit)) r ⌝ }
-{
-    let end = pos + numbers_size(w, n);
-    if 134217720 < end {
-        return 134217721;
-    }
-    if 8 * out.len() < end {
-        return end;
-    }
-    let mut p = pos;
-    let mut from = at;
-    let mut left = n;
-    while 0 < left {
-        if 134217720 < p {
-            return p;
-        }
-        p = write_number(m, out, p, w, from);
-        from += w;
-        left -= 1;
-    }
-    p
-}
-
-// Bool i of the bytes from `start`.
-fn bool_at(m: &[u8], start: usize, i: usize) -> u64
-    requires { ⌜ (start < 2 ^ 59) × (i < 2 ^ 59) ⌝ }
-    ensures { λ r. ⌜ (r ≡ Bt.boolAt (now (m .entry)) start i) × (r < 2) ⌝ }
-{
-    wire::bit_value(wire::byte(m, start + wire::eighth(i)), wire::low_three(i))
-}
-
-// The n bools from bool i on as a number, the first one highest.
-fn gather(m: &[u8], start: usize, i: usize, n: usize) -> u64
-    requires { ⌜ (n ≤ 32) × (start < 2 ^ 59) × (i < 2 ^ 58) ⌝ }
-    ensures { λ r. ⌜ bitsOf n r ≡ Bt.boolsAt (now (m .entry)) start n i ⌝ }
-{
-    let mut v: u64 = 0;
-    let mut j: usize = 0;
-    while j < n {
-        v = v << 1 | bool_at(m, start, i + j);
-        j += 1;
-    }
-    v
-}
-
-// How many of the bools that are left go into one number.
-fn gathered(left: usize) -> usize
-    requires { ⌜ 0 < left ⌝ }
-    ensures { λ r. ⌜ (0 < r) × (r ≤ left) × (r ≤ 32) ⌝ }
-{
-    if left < 32 { left } else { 32 }
-}
-
-// The n bools of the bytes from `start`.
-fn write_bools(m: &[u8], out: &mut [u8], pos: usize, start: usize, n: usize) -> usize
-    requires { ⌜ Room (now out) pos ⌝ }
-    requires { ⌜ (start < 2 ^ 59) × (n < 2 ^ 48) ⌝ }
-    ensures { λ r. ⌜ Puts (now (out .entry)) pos (Bt.boolsAt (now (m .entry)) start n 0) (now (out .exit)) r ⌝ }
-{
-    let mut p = pos;
-    let mut i: usize = 0;
-    while i < n {
-        if 134217720 < p {
-            return p;
-        }
-        let w = gathered(n - i);
-        p = bitio::write(out, p, w, gather(m, start, i, w));
-        i += w;
-    }
-    p
-}
-
 // ---- objects
 // Where an object's content starts, and the length that its header or its holder gives.
 fn start_of(m: &[u8], p: Place) -> usize
@@ -245,20 +117,6 @@ fn length_of(m: &[u8], p: Place) -> usize
 }
 
 // A value that leads to no object: its mark, and what follows it.
-fn write_float(out: &mut [u8], pos: usize, none: bool, w: u8, x: u64) -> usize
-    requires { ⌜ Room (now out) pos ⌝ }
-    requires { ⌜ w ≤ 8 ⌝ }
-    ensures { λ r. ⌜ Puts (now (out .entry)) pos (Bt.floatAt none w x) (now (out .exit)) r ⌝ }
-{
-    if none {
-        if step::is_nan(w, x) {
-            return bitio::write(out, pos, 2, 0);
-        }
-        return write_marked(out, pos, 1, 8 * wire::index(w), x);
-    }
-    write_marked(out, pos, 1, 8 * wire::index(w), x)
-}
-
 fn write_whole(
     b: &[u8],
     dir: &[u16],
@@ -297,28 +155,30 @@ fn write_flat(
     ensures { λ r. ⌜ Puts (now (out .entry)) pos (Bt.flatAt (P.parse (now (b .entry))) (now (m .entry)) k none at bit) (now (out .exit)) r ⌝ }
 {
     match k {
-        Flat::Boolean => write_marked(out, pos, 1, 1, wire::bit_value(wire::byte_in(m, at), bit)),
-        Flat::Integer(_, w) => write_marked(
+        Flat::Boolean => marks::write_marked(
+            out,
+            pos,
+            1,
+            1,
+            wire::bit_value(wire::byte_in(m, at), bit),
+        ),
+        Flat::Integer(_, w) => marks::write_marked(
             out,
             pos,
             1,
             8 * wire::index(w),
             wire::number(m, at, wire::index(w)),
         ),
-        Flat::Float(w) => write_float(out, pos, none, w, wire::number(m, at, wire::index(w))),
-        Flat::Enumerated(n) => write_enum(out, pos, n, wire::byte_in(m, at)),
+        Flat::Float(w) => marks::write_float(
+            out,
+            pos,
+            none,
+            w,
+            wire::number(m, at, wire::index(w)),
+        ),
+        Flat::Enumerated(n) => marks::write_enum(out, pos, n, wire::byte_in(m, at)),
         Flat::Struct(i) => write_whole(b, dir, m, out, wire::index(i), at, pos),
     }
-}
-
-// A text or bytes with its mark: the n bytes from `at`.
-fn write_blob(m: &[u8], out: &mut [u8], pos: usize, at: usize, n: usize) -> usize
-    requires { ⌜ Room (now out) pos ⌝ }
-    requires { ⌜ (at + n ≤ length (now m)) × (length (now m) ≤ 16777215) ⌝ }
-    ensures { λ r. ⌜ Puts (now (out .entry)) pos (Bt.blobAt (now (m .entry)) at n) (now (out .exit)) r ⌝ }
-{
-    let p = write_marked(out, pos, 1, 32, number64(n));
-    bitio::write_bytes(out, p, &m[at..at + n])
 }
 
 // What a reference x, or in place a length x, to a text or bytes leads to.
@@ -344,7 +204,7 @@ fn refer_blob(
     let place = step::place_of(inplace, tail, x);
     let start = start_of(m, place);
     let n = length_of(m, place);
-    write_blob(m, out, pos, start, n)
+    marks::write_blob(m, out, pos, start, n)
 }
 
 // Whether a value of the kind needs no walker: it leads to no object, or to a text or bytes.
@@ -475,26 +335,6 @@ fn plain_bytes(k: usize) -> usize
     wire::index(schema::width_of(k))
 }
 
-// Its mark and value, at byte `end` of a fixed part that has n bytes from `start`.
-fn write_plain(
-    m: &[u8],
-    out: &mut [u8],
-    w: usize,
-    start: usize,
-    n: usize,
-    end: usize,
-    pos: usize,
-) -> usize
-    requires { ⌜ Room (now out) pos ⌝ }
-    requires { ⌜ (w ≤ 8) × (start < 2 ^ 58) × (end < 2 ^ 58) ⌝ }
-    ensures { λ r. ⌜ Puts (now (out .entry)) pos (Bt.plainAt (now (m .entry)) w start n end) (now (out .exit)) r ⌝ }
-{
-    if n < end + w {
-        return bitio::write(out, pos, 2, 0);
-    }
-    write_marked(out, pos, 1, 8 * w, wire::number(m, start + end, w))
-}
-
 // The cursor behind it.
 fn behind_plain(c: Cursor, w: usize) -> Cursor
     requires { ⌜ (c .end < 2 ^ 58) × (w ≤ 8) ⌝ }
@@ -556,11 +396,11 @@ fn write_union(
         return bitio::write(out, pos, 2, 0);
     }
     if schema::case_count(b, dir, u) < c {
-        return write_marked(out, pos, 2, 16, number64(c));
+        return marks::write_marked(out, pos, 2, 16, marks::number64(c));
     }
     let ob = schema::union_case(b, dir, u, c);
     let place = step::place_of(inplace, tail, x);
-    let p = write_marked(out, pos, 1, 16, number64(c));
+    let p = marks::write_marked(out, pos, 1, 16, marks::number64(c));
     write_object(b, dir, m, out, d, ob, place, p)
 }
 
@@ -689,7 +529,7 @@ fn write_table(
         }
         let w = plain_width(b, schema::record_place(4, first, j));
         if 0 < w {
-            p = write_plain(m, out, w, start, n, c.end, p);
+            p = marks::write_plain(m, out, w, start, n, c.end, p);
             c = behind_plain(c, w);
             j += 1;
             continue;
@@ -727,13 +567,13 @@ fn write_list(
     ensures { λ r. ⌜ Puts (now (out .entry)) pos (Bt.listAt d (P.parse (now (b .entry))) (now (m .entry)) (Sc.elementOf (P.parse (now (b .entry))) i) start n) (now (out .exit)) r ⌝ }
 {
     let k = schema::element(b, dir, i);
-    let p = bitio::write(out, pos, 32, number64(n));
+    let p = bitio::write(out, pos, 32, marks::number64(n));
     if layout::is_bool(k) {
-        return write_bools(m, out, p, start, n);
+        return marks::write_bools(m, out, p, start, n);
     }
     let w = integer_width(k);
     if 0 < w {
-        return write_numbers(m, out, p, w, start, n);
+        return marks::write_numbers(m, out, p, w, start, n);
     }
     match k {
         Kind::OfFlat(_) => write_elements(b, dir, m, out, d, k, start, n, p),

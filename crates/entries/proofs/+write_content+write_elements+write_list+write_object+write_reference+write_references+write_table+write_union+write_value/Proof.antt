@@ -11,7 +11,7 @@ use Rattle.bitio.specs.Puts.{Room}
 use Rattle.bitio.specs.PutsLaws.{room-next}
 use Rattle.entries.specs.MessageBits as A
 use Rattle.entries.specs.Readable as D
-use Rattle.entries.proofs.Remaining.{Remaining, remaining-over}
+use Rattle.marks.proofs.Remaining.{Remaining, remaining-over}
 use Rattle.entries.proofs.Objects.{object-none, header-there, content-readable, object-content, content-text, content-bytes, content-list, content-table, table-counted, table-inside, table-readable, list-counted, list-inside, list-readable}
 use Rattle.entries.proofs.Values.{reference-none, reference-there, reference-readable, choice-none, choice-unknown, choice-known, case-readable, value-none, value-flat, value-object, value-union, object-given, union-given, is-true}
 use Rattle.step.proofs.Inside.{flat-sound, flat-there, object-there, choice-there, offset-there, union-counted, index-small}
@@ -61,19 +61,19 @@ use Rattle.schema.proofs.union_case.Reads as union-case-reads
 use Rattle.entries.proofs.integer_width.Reads as integer-width-reads
 use Rattle.entries.proofs.is_leaf.Reads as is-leaf-reads
 use Rattle.entries.proofs.plain_width.Reads as plain-width-reads
-use Rattle.entries.proofs.write_plain.Reads as write-plain-reads
+use Rattle.marks.proofs.write_plain.Reads as write-plain-reads
 use Rattle.entries.proofs.behind_plain.Reads as behind-plain-reads
 use Rattle.schema.proofs.table_place.Reads as table-place-reads
 use Rattle.schema.proofs.record_place.Reads as record-place-reads
 use Rattle.entries.proofs.length_of.Reads as length-of-reads
 use Rattle.entries.proofs.member_at.Reads as member-at-reads
-use Rattle.entries.proofs.number64.Reads as number64-reads
+use Rattle.marks.proofs.number64.Reads as number64-reads
 use Rattle.entries.proofs.start_of.Reads as start-of-reads
-use Rattle.entries.proofs.write_bools.Reads as write-bools-reads
+use Rattle.marks.proofs.write_bools.Reads as write-bools-reads
 use Rattle.entries.proofs.write_flat.Reads as write-flat-reads
 use Rattle.entries.proofs.write_leaf.Reads as write-leaf-reads
-use Rattle.entries.proofs.write_marked.Reads as write-marked-reads
-use Rattle.entries.proofs.write_numbers.Reads as write-numbers-reads
+use Rattle.marks.proofs.write_marked.Reads as write-marked-reads
+use Rattle.marks.proofs.write_numbers.Reads as write-numbers-reads
 use Rattle.step.proofs.element_place.Reads as element-place-reads
 use Rattle.step.proofs.place_of.Reads as place-of-reads
 use Rattle.wire.proofs.index.Reads as index-reads

@@ -12,7 +12,7 @@ use Rattle.step.proofs.Inside.{integer-eight, float-eight}
 use Rattle.bitio.specs.Puts.{Room}
 use Rattle.bitio.specs.PutsLaws.{room-next}
 use Rattle.entries.specs.MessageBits as A
-use Rattle.entries.proofs.Remaining.{Remaining}
+use Rattle.marks.proofs.Remaining.{Remaining}
 use Rattle.entries.proofs.Leaves.{field-boolean, field-integer, field-float, field-enum, field-struct, fields-start, fields-turn, fields-done}
 use borrow.Fn.Kinds.{In}
 use borrow.Fn.PlainCycle.{Measures, is, falls, and}
@@ -26,8 +26,8 @@ use Rattle.bitio.proofs.write.Reads as write-reads
 use Rattle.layout.proofs.flat_width.Reads as flat-width-reads
 use Rattle.schema.proofs.field.Reads as field-reads
 use Rattle.schema.proofs.field_count.Reads as field-count-reads
-use Rattle.entries.proofs.write_enum.Reads as write-enum-reads
-use Rattle.entries.proofs.write_number.Reads as write-number-reads
+use Rattle.marks.proofs.write_enum.Reads as write-enum-reads
+use Rattle.marks.proofs.write_number.Reads as write-number-reads
 use Rattle.wire.proofs.byte.Reads as byte-reads
 use Rattle.wire.proofs.index.Reads as index-reads
 use Rattle.wire.proofs.wide.Reads as wide-reads

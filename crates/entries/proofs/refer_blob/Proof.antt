@@ -8,7 +8,7 @@ use Rattle.entries.proofs.refer_blob.Lts as lts
 use Rattle.bitio.proofs.write.Reads as write-reads
 use Rattle.entries.proofs.length_of.Reads as length-of-reads
 use Rattle.entries.proofs.start_of.Reads as start-of-reads
-use Rattle.entries.proofs.write_blob.Reads as write-blob-reads
+use Rattle.marks.proofs.write_blob.Reads as write-blob-reads
 use Rattle.step.proofs.place_of.Reads as place-of-reads
 
 -- src/lib.rt:348:9

@@ -6,9 +6,9 @@ use Rattle.entries.proofs.write_flat.Statement.{statement}
 use Rattle.entries.proofs.write_flat.Tie as tie
 use Rattle.entries.proofs.write_flat.Reads as reads
 use Rattle.entries.proofs.write_flat.Lts as lts
-use Rattle.entries.proofs.write_enum.Reads as write-enum-reads
-use Rattle.entries.proofs.write_float.Reads as write-float-reads
-use Rattle.entries.proofs.write_marked.Reads as write-marked-reads
+use Rattle.marks.proofs.write_enum.Reads as write-enum-reads
+use Rattle.marks.proofs.write_float.Reads as write-float-reads
+use Rattle.marks.proofs.write_marked.Reads as write-marked-reads
 use Rattle.entries.proofs.write_whole.Reads as write-whole-reads
 use Rattle.wire.proofs.bit_value.Reads as bit-value-reads
 use Rattle.wire.proofs.byte_in.Reads as byte-in-reads

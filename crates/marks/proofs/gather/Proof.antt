@@ -2,11 +2,11 @@ use Prim.Native.Nat.{_-_, _^_, _<_, _≤_}
 use mathlib.Core.Path.{_≡_}
 use native.Mathlib.Omega.{arith}
 use Rattle.coding.specs.Bits.{bitsOf}
-use Rattle.entries.specs.MessageBits as A
-use Rattle.entries.proofs.Bools.{gather-none, gather-small, gather-turn, gather-done}
+use Rattle.marks.specs.Marks as A
+use Rattle.marks.proofs.Bools.{gather-none, gather-small, gather-turn, gather-done}
 use borrow.Author.Needs.{needs}
-use Rattle.entries.proofs.gather.Statement.{statement}
-use Rattle.entries.proofs.gather.Tie as tie
+use Rattle.marks.proofs.gather.Statement.{statement}
+use Rattle.marks.proofs.gather.Tie as tie
 
 abbrev Inv-loop : tie.InvT-loop
 Inv-loop m start i n v₀ j₀ v j = (j ≤ n) × (v < 2 ^ j) × (bitsOf j v ≡ A.boolsAt m start j i)

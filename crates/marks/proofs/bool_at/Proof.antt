@@ -1,7 +1,7 @@
-use Rattle.entries.proofs.Bools.{bool-is}
+use Rattle.marks.proofs.Bools.{bool-is}
 use borrow.Author.Needs.{needs}
-use Rattle.entries.proofs.bool_at.Statement.{statement}
-use Rattle.entries.proofs.bool_at.Tie as tie
+use Rattle.marks.proofs.bool_at.Statement.{statement}
+use Rattle.marks.proofs.bool_at.Tie as tie
 
 eighth-requires : tie.Need-eighth-requires
 eighth-requires c κs = search needs

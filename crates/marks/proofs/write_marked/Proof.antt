@@ -1,8 +1,8 @@
 -- A mark and its number by one number where they fit, else one after the other.
-use Rattle.entries.proofs.Leaves.{marked-puts, marked-one}
+use Rattle.marks.proofs.Cases.{marked-puts, marked-one}
 use borrow.Author.Needs.{needs}
-use Rattle.entries.proofs.write_marked.Statement.{statement}
-use Rattle.entries.proofs.write_marked.Tie as tie
+use Rattle.marks.proofs.write_marked.Statement.{statement}
+use Rattle.marks.proofs.write_marked.Tie as tie
 
 add-write : tie.Need-add-write
 add-write c = search needs

@@ -1,11 +1,11 @@
-use Rattle.entries.proofs.Flats.{float-none, float-value, float-plain}
+use Rattle.marks.proofs.Cases.{float-none, float-value, float-plain}
 use borrow.Author.Needs.{needs}
-use Rattle.entries.proofs.write_float.Statement.{statement}
-use Rattle.entries.proofs.write_float.Tie as tie
-use Rattle.entries.proofs.write_float.Reads as reads
-use Rattle.entries.proofs.write_float.Lts as lts
+use Rattle.marks.proofs.write_float.Statement.{statement}
+use Rattle.marks.proofs.write_float.Tie as tie
+use Rattle.marks.proofs.write_float.Reads as reads
+use Rattle.marks.proofs.write_float.Lts as lts
 use Rattle.bitio.proofs.write.Reads as write-reads
-use Rattle.entries.proofs.write_marked.Reads as write-marked-reads
+use Rattle.marks.proofs.write_marked.Reads as write-marked-reads
 use Rattle.step.proofs.is_nan.Reads as is-nan-reads
 use Rattle.wire.proofs.index.Reads as index-reads
 

@@ -1,7 +1,7 @@
-use Rattle.entries.proofs.Leaves.{enum-none, enum-known, enum-unknown}
+use Rattle.marks.proofs.Cases.{enum-none, enum-known, enum-unknown}
 use borrow.Author.Needs.{needs}
-use Rattle.entries.proofs.write_enum.Statement.{statement}
-use Rattle.entries.proofs.write_enum.Tie as tie
+use Rattle.marks.proofs.write_enum.Statement.{statement}
+use Rattle.marks.proofs.write_enum.Tie as tie
 
 write-requires : tie.Need-write-requires
 write-requires c κs = search needs

@@ -1,11 +1,11 @@
 use native.Mathlib.Omega.{arith}
 use mathlib.Core.Path.{refl}
-use Rattle.entries.proofs.Leaves.{numbers-most}
+use Rattle.marks.proofs.Cases.{numbers-most}
 use borrow.Author.Needs.{needs}
-use Rattle.entries.proofs.numbers_size.Statement.{statement}
-use Rattle.entries.proofs.numbers_size.Tie as tie
-use Rattle.entries.proofs.numbers_size.Reads as reads
-use Rattle.entries.proofs.numbers_size.Lts as lts
+use Rattle.marks.proofs.numbers_size.Statement.{statement}
+use Rattle.marks.proofs.numbers_size.Tie as tie
+use Rattle.marks.proofs.numbers_size.Reads as reads
+use Rattle.marks.proofs.numbers_size.Lts as lts
 
 -- src/lib.rt:149:5
 mul-result : tie.Need-mul-result

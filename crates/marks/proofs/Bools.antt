@@ -11,8 +11,8 @@ use Rattle.coding.specs.Bytes.{bitAt}
 use Rattle.coding.specs.Bits.{bitsOf}
 use Rattle.laws.specs.Bits.{bitsOf-join}
 use Rattle.bitio.specs.Puts.{Room, Puts}
-use Rattle.entries.specs.MessageBits as A
-use Rattle.entries.proofs.Remaining.{Remaining, remaining-all, remaining-turn, remaining-done}
+use Rattle.marks.specs.Marks as A
+use Rattle.marks.proofs.Remaining.{Remaining, remaining-all, remaining-turn, remaining-done}
 
 pub bool-is : (m : List ℕ) (start i j k x r : ℕ) → j ≡ i / 8 → k ≡ i % 8 → x ≡ getD m (start + j) 0 → r ≡ x / 2 ^ k % 2 → r ≡ A.boolAt m start i
 unfolding A.boolAt bitAt

@@ -4,12 +4,12 @@ use native.Mathlib.Omega.{arith}
 use lib.ListN.{length}
 use Rattle.bitio.specs.Puts.{Room}
 use Rattle.bitio.specs.PutsLaws.{room-next}
-use Rattle.entries.specs.MessageBits as A
-use Rattle.entries.proofs.Remaining.{Remaining, remaining-over}
-use Rattle.entries.proofs.Bools.{bools-start, bools-turn, bools-done}
+use Rattle.marks.specs.Marks as A
+use Rattle.marks.proofs.Remaining.{Remaining, remaining-over}
+use Rattle.marks.proofs.Bools.{bools-start, bools-turn, bools-done}
 use borrow.Author.Needs.{needs}
-use Rattle.entries.proofs.write_bools.Statement.{statement}
-use Rattle.entries.proofs.write_bools.Tie as tie
+use Rattle.marks.proofs.write_bools.Statement.{statement}
+use Rattle.marks.proofs.write_bools.Tie as tie
 
 abbrev Inv-loop : tie.InvT-loop
 Inv-loop m out₀ pos start n p₀ i₀ out p i =

@@ -1,12 +1,12 @@
-use Rattle.entries.proofs.LeafCases.{blob-marked}
+use Rattle.marks.proofs.Cases.{blob-marked}
 use borrow.Author.Needs.{needs}
-use Rattle.entries.proofs.write_blob.Statement.{statement}
-use Rattle.entries.proofs.write_blob.Tie as tie
-use Rattle.entries.proofs.write_blob.Reads as reads
-use Rattle.entries.proofs.write_blob.Lts as lts
+use Rattle.marks.proofs.write_blob.Statement.{statement}
+use Rattle.marks.proofs.write_blob.Tie as tie
+use Rattle.marks.proofs.write_blob.Reads as reads
+use Rattle.marks.proofs.write_blob.Lts as lts
 use Rattle.bitio.proofs.write_bytes.Reads as write-bytes-reads
-use Rattle.entries.proofs.number64.Reads as number64-reads
-use Rattle.entries.proofs.write_marked.Reads as write-marked-reads
+use Rattle.marks.proofs.number64.Reads as number64-reads
+use Rattle.marks.proofs.write_marked.Reads as write-marked-reads
 
 -- src/lib.rt:326:43
 number64-requires : tie.Need-number64-requires

@@ -1,7 +1,7 @@
-use Rattle.entries.proofs.Leaves.{number-puts}
+use Rattle.marks.proofs.Cases.{number-puts}
 use borrow.Author.Needs.{needs}
-use Rattle.entries.proofs.write_number.Statement.{statement}
-use Rattle.entries.proofs.write_number.Tie as tie
+use Rattle.marks.proofs.write_number.Statement.{statement}
+use Rattle.marks.proofs.write_number.Tie as tie
 
 -- src/lib.rt:128:28
 mul-write : tie.Need-mul-write

@@ -1,11 +1,11 @@
-use Rattle.entries.proofs.PlainNumbers.{plain-none, plain-there}
+use Rattle.marks.proofs.Cases.{plain-none, plain-there}
 use borrow.Author.Needs.{needs}
-use Rattle.entries.proofs.write_plain.Statement.{statement}
-use Rattle.entries.proofs.write_plain.Tie as tie
-use Rattle.entries.proofs.write_plain.Reads as reads
-use Rattle.entries.proofs.write_plain.Lts as lts
+use Rattle.marks.proofs.write_plain.Statement.{statement}
+use Rattle.marks.proofs.write_plain.Tie as tie
+use Rattle.marks.proofs.write_plain.Reads as reads
+use Rattle.marks.proofs.write_plain.Lts as lts
 use Rattle.bitio.proofs.write.Reads as write-reads
-use Rattle.entries.proofs.write_marked.Reads as write-marked-reads
+use Rattle.marks.proofs.write_marked.Reads as write-marked-reads
 use Rattle.wire.proofs.number.Reads as number-reads
 
 -- src/lib.rt:498:12
