@@ -1,14 +1,2 @@
-pub mod PartLaws
 pub mod Walked
-pub mod Remaining
-pub mod Leaves
-pub mod Bools
-pub mod Objects
-pub mod Parts
 pub mod Whole
-pub mod StructInside
-pub mod Flats
-pub mod Values
-pub mod LeafCases
-pub mod References
-pub mod PlainNumbers

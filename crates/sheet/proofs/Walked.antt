@@ -38,7 +38,7 @@ use Rattle.step.specs.Lead.{reached, reachOf}
 use Rattle.step.specs.declared.Reach.{Reach}
 use Rattle.step.specs.declared.Reach.the-variants.{Cut, Past, Here}
 use Rattle.step.proofs.ReachCases.{step-reached, here-inside, slot-size}
-use Rattle.sheet.specs.Readable as D
+use Rattle.entries.specs.Readable as D
 
 -- ---- what a step may lead to
 -- a refusal has a number, a struct lies within the message, an object's index stands for something

@@ -32,8 +32,8 @@ use Rattle.laws.specs.Bits.{Byte, packed-length}
 use Rattle.schema.specs.Directory.{Accepted, Judged, accepted-sound}
 use Rattle.bitio.specs.Puts.{Room, Puts, saturated}
 use Rattle.bitio.specs.Filled.{sheet-filled}
-use Rattle.sheet.specs.MessageBits as A
-use Rattle.sheet.specs.Readable as D
+use Rattle.entries.specs.MessageBits as A
+use Rattle.entries.specs.Readable as D
 use Rattle.sheet.specs.Answers.{noRoom, sheetAnswer, sheetOver}
 use Rattle.sheet.proofs.Walked.{Says, visit-says}
 
@@ -73,18 +73,6 @@ message-readable b dir m a budget v ev h =
     by true true e q = record { long = sized e .0; short = sized e .1; root = rooted b dir m a budget q }
     by true false e q = absurd (let z : 3 ≡ 0 = q in omega arith)
     by false u e q = absurd (let z : 2 ≡ 0 = q in omega arith)
-
-pub root-readable : (S : Schema) (m : List ℕ) → D.MessageReadable S m → (ob : Object) (p : Place) → ob ≡ O.Table (S .root) → p ≡ W.rootPlace u48 m → D.ObjectReadable 32 S m ob p
-unfolding deepest
-root-readable S m h ob p eo ep =
-    subst (λ (x : Object). D.ObjectReadable 32 S m x p) (sym eo) (subst (λ (x : Place). D.ObjectReadable 32 S m (O.Table (S .root)) x) (sym ep) (h .root))
-
-pub root-puts : (S : Schema) (m : List ℕ) (ob : Object) (p : Place) (o o₁ : List ℕ) (r : ℕ) → ob ≡ O.Table (S .root) → p ≡ W.rootPlace u48 m
-    → Puts o 0 (A.objectAt 32 S m ob p) o₁ r → Puts o 0 (A.rootAt S m) o₁ r
-unfolding A.rootAt A.objectAt E.sheetBits R.messageRead deepest
-root-puts S m ob p o o₁ r eo ep h =
-    subst (λ (x : Place). Puts o 0 (E.encode 32 S (O.Table (S .root)) (R.read 32 u48 S m (O.Table (S .root)) x)) o₁ r) ep
-    (subst (λ (x : Object). Puts o 0 (E.encode 32 S x (R.read 32 u48 S m x p)) o₁ r) eo h)
 
 -- ---- counting
 pub count-is : (xs o o₁ : List ℕ) (r : ℕ) → Puts o 0 xs o₁ r → r ≡ saturated (length xs)

@@ -1,0 +1,11 @@
+pub mod PartLaws
+pub mod Leaves
+pub mod Objects
+pub mod Parts
+pub mod Root
+pub mod StructInside
+pub mod Flats
+pub mod Values
+pub mod LeafCases
+pub mod References
+pub mod PlainNumbers

@@ -1,0 +1,4 @@
+-- What the contracts of this crate cite.
+pub mod MessageBits
+pub mod Readable
+pub mod Stepping

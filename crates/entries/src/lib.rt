@@ -1,0 +1,666 @@
+// A sheet's entries: one walk over an accepted message counts their bits and, where there is room, stores them.
+use coding::Cursor;
+use coding::Flat;
+use coding::Kind;
+use coding::Object;
+use coding::Place;
+ghost use mathlib.Core.Path.{_≡_};
+ghost use mathlib.Core.Bool.{Bool, true, false};
+ghost use Prim.Native.Nat.{ℕ, _+_, _-_, _*_, _<_, _≤_, _^_};
+ghost use lib.ListN.{length, getD};
+ghost use Rattle.coding.specs.Bytes as B;
+ghost use Rattle.coding.specs.Bits.{bitsOf};
+ghost use Rattle.coding.specs.Layout as L;
+ghost use Rattle.coding.specs.Packed as P;
+ghost use Rattle.coding.specs.Schema as Sc;
+ghost use Rattle.coding.specs.Sheet as E;
+ghost use Rattle.coding.specs.Step as T;
+ghost use Rattle.coding.specs.Structs as S;
+ghost use Rattle.laws.specs.Sound.{FlatSound, ObjectSound, KindSound};
+ghost use Rattle.layout.specs.Bounds.{Laid};
+ghost use Rattle.schema.specs.Directory.{Accepted};
+ghost use Rattle.bitio.specs.Puts.{Room, Puts};
+ghost use Rattle.entries.specs.MessageBits as Bt;
+ghost use Rattle.entries.specs.Readable as D;
+ghost use Rattle.entries.specs.Stepping.{MemberAt, PlainNumber, isHere, isBlob, isLeaf};
+
+// The bytes of an integer kind, or 0.
+fn integer_width(k: Kind) -> usize
+    ensures { λ r. ⌜ r ≡ Bt.integerWidth k ⌝ }
+{
+    match k {
+        Kind::OfFlat(f) => match f {
+            Flat::Boolean => 0,
+            Flat::Integer(_, w) => wire::index(w),
+            Flat::Float(_) => 0,
+            Flat::Enumerated(_) => 0,
+            Flat::Struct(_) => 0,
+        },
+        Kind::OfObject(_) => 0,
+        Kind::OfUnion(_) => 0,
+    }
+}
+
+// ---- structs, by recursion on the struct index, which falls at every inner struct
+fn write_field(
+    b: &[u8],
+    dir: &[u16],
+    m: &[u8],
+    out: &mut [u8],
+    i: usize,
+    k: Flat,
+    at: usize,
+    pos: usize,
+) -> usize
+    requires { ⌜ Room (now out) pos ⌝ }
+    requires { ⌜ (Accepted (now b) (now dir)) × (FlatSound i k) × (i < P.structCount (now b)) × (length (now m) ≤ 16777215) ⌝ }
+    requires { ⌜ at + S.flatWidth (S.structSize (P.parse (now b))) k ≤ length (now m) ⌝ }
+    ensures { λ r. ⌜ Puts (now (out .entry)) pos (Bt.fieldAt (P.parse (now (b .entry))) (now (m .entry)) k at) (now (out .exit)) r ⌝ }
+{
+    match k {
+        Flat::Boolean => bitio::write(out, pos, 1, wire::wide(wire::byte(m, at))),
+        Flat::Integer(_, w) => marks::write_number(m, out, pos, wire::index(w), at),
+        Flat::Float(w) => marks::write_number(m, out, pos, wire::index(w), at),
+        Flat::Enumerated(n) => marks::write_enum(out, pos, n, wire::byte(m, at)),
+        Flat::Struct(a) => write_struct(b, dir, m, out, wire::index(a), at, pos),
+    }
+}
+
+// The struct i at a place.
+fn write_struct(
+    b: &[u8],
+    dir: &[u16],
+    m: &[u8],
+    out: &mut [u8],
+    i: usize,
+    at: usize,
+    pos: usize,
+) -> usize
+    requires { ⌜ Room (now out) pos ⌝ }
+    requires { ⌜ (Accepted (now b) (now dir)) × (i < P.structCount (now b)) × (length (now m) ≤ 16777215) ⌝ }
+    requires { ⌜ at + S.structSize (P.parse (now b)) i ≤ length (now m) ⌝ }
+    ensures { λ r. ⌜ Puts (now (out .entry)) pos (Bt.structAt (P.parse (now (b .entry))) (now (m .entry)) i at) (now (out .exit)) r ⌝ }
+{
+    let n = schema::field_count(b, dir, i);
+    let mut p = pos;
+    let mut from = at;
+    let mut j: usize = 0;
+    while j < n {
+        let k = schema::field(b, dir, i, j);
+        p = write_field(b, dir, m, out, i, k, from, p);
+        from += layout::flat_width(b, dir, k);
+        j += 1;
+    }
+    p
+}
+
+// ---- objects
+// Where an object's content starts, and the length that its header or its holder gives.
+fn start_of(m: &[u8], p: Place) -> usize
+    requires { ⌜ (D.HeaderInside (now m) p) × (length (now m) ≤ 16777215) ⌝ }
+    ensures { λ r. ⌜ r ≡ D.startOf p ⌝ }
+{
+    match p {
+        Place::ByOffset(x) => x + 10,
+        Place::InPlace(a, _) => a,
+    }
+}
+
+fn length_of(m: &[u8], p: Place) -> usize
+    requires { ⌜ (D.HeaderInside (now m) p) × (length (now m) ≤ 16777215) ⌝ }
+    ensures { λ r. ⌜ r ≡ D.lengthOf (now (m .entry)) p ⌝ }
+{
+    match p {
+        Place::ByOffset(x) => wire::u48_in(m, x + 4) as usize,
+        Place::InPlace(_, n) => n,
+    }
+}
+
+// A value that leads to no object: its mark, and what follows it.
+fn write_whole(
+    b: &[u8],
+    dir: &[u16],
+    m: &[u8],
+    out: &mut [u8],
+    i: usize,
+    at: usize,
+    pos: usize,
+) -> usize
+    requires { ⌜ Room (now out) pos ⌝ }
+    requires { ⌜ (Accepted (now b) (now dir)) × (i < P.structCount (now b)) × (length (now m) ≤ 16777215) ⌝ }
+    requires { ⌜ at + S.structSize (P.parse (now b)) i ≤ length (now m) ⌝ }
+    ensures { λ r. ⌜ Puts (now (out .entry)) pos (Bt.wholeAt (P.parse (now (b .entry))) (now (m .entry)) i at) (now (out .exit)) r ⌝ }
+{
+    if layout::struct_ok(b, dir, m, i, at) {
+        let p = bitio::write(out, pos, 2, 1);
+        return write_struct(b, dir, m, out, i, at, p);
+    }
+    bitio::write(out, pos, 2, 0)
+}
+
+fn write_flat(
+    b: &[u8],
+    dir: &[u16],
+    m: &[u8],
+    out: &mut [u8],
+    k: Flat,
+    none: bool,
+    at: usize,
+    bit: usize,
+    pos: usize,
+) -> usize
+    requires { ⌜ Room (now out) pos ⌝ }
+    requires { ⌜ (Accepted (now b) (now dir)) × (FlatSound (length (P.parse (now b) .structs)) k) × (length (now m) ≤ 16777215) ⌝ }
+    requires { ⌜ (at + S.flatWidth (S.structSize (P.parse (now b))) k ≤ length (now m)) × (bit < 8) × (at < 2 ^ 60) ⌝ }
+    ensures { λ r. ⌜ Puts (now (out .entry)) pos (Bt.flatAt (P.parse (now (b .entry))) (now (m .entry)) k none at bit) (now (out .exit)) r ⌝ }
+{
+    match k {
+        Flat::Boolean => marks::write_marked(
+            out,
+            pos,
+            1,
+            1,
+            wire::bit_value(wire::byte_in(m, at), bit),
+        ),
+        Flat::Integer(_, w) => marks::write_marked(
+            out,
+            pos,
+            1,
+            8 * wire::index(w),
+            wire::number(m, at, wire::index(w)),
+        ),
+        Flat::Float(w) => marks::write_float(
+            out,
+            pos,
+            none,
+            w,
+            wire::number(m, at, wire::index(w)),
+        ),
+        Flat::Enumerated(n) => marks::write_enum(out, pos, n, wire::byte_in(m, at)),
+        Flat::Struct(i) => write_whole(b, dir, m, out, wire::index(i), at, pos),
+    }
+}
+
+// What a reference x, or in place a length x, to a text or bytes leads to.
+fn refer_blob(
+    b: &[u8],
+    m: &[u8],
+    out: &mut [u8],
+    d: usize,
+    ob: Object,
+    inplace: bool,
+    tail: usize,
+    x: usize,
+    pos: usize,
+) -> usize
+    requires { ⌜ Room (now out) pos ⌝ }
+    requires { ⌜ (length (now m) ≤ 16777215) × (isBlob ob ≡ true) ⌝ }
+    requires { ⌜ D.StepReadable (D.ObjectReadable d (P.parse (now b)) (now m)) (P.parse (now b)) (now m) (T.objectStep ob inplace tail x) ⌝ }
+    ensures { λ r. ⌜ Puts (now (out .entry)) pos (Bt.referenceAt d (P.parse (now (b .entry))) (now (m .entry)) ob inplace tail x) (now (out .exit)) r ⌝ }
+{
+    if x == 0 {
+        return bitio::write(out, pos, 2, 0);
+    }
+    let place = step::place_of(inplace, tail, x);
+    let start = start_of(m, place);
+    let n = length_of(m, place);
+    marks::write_blob(m, out, pos, start, n)
+}
+
+// Whether a value of the kind needs no walker: it leads to no object, or to a text or bytes.
+fn is_leaf(k: Kind) -> bool
+    ensures { λ r. ⌜ r ≡ isLeaf k ⌝ }
+{
+    match k {
+        Kind::OfFlat(_) => true,
+        Kind::OfObject(ob) => match ob {
+            Object::Text => true,
+            Object::Bytes => true,
+            Object::List(_) => false,
+            Object::Table(_) => false,
+        },
+        Kind::OfUnion(_) => false,
+    }
+}
+
+// A member's kind, whether and where its value stands, and the cursor behind it.
+pub struct PlacedMember {
+    pub kind: Kind,
+    pub none: bool,
+    pub inplace: bool,
+    pub here: bool,
+    pub at: usize,
+    pub bit: usize,
+    pub next: Cursor,
+}
+
+// What a member of such a kind holds, where its value is there: its mark, and what follows it.
+fn write_leaf(
+    b: &[u8],
+    dir: &[u16],
+    m: &[u8],
+    out: &mut [u8],
+    d: usize,
+    q: PlacedMember,
+    tail: usize,
+    pos: usize,
+) -> usize
+    requires { ⌜ Room (now out) pos ⌝ }
+    requires { ⌜ (Accepted (now b) (now dir)) × (length (now m) ≤ 16777215) × (KindSound (P.parse (now b)) (q .kind)) × (isLeaf (q .kind) ≡ true) ⌝ }
+    requires { ⌜ (q .here ≡ true → q .at + L.width B.u48 (P.parse (now b)) (q .kind) ≤ length (now m)) × (q .bit < 8) × (q .at < 2 ^ 60) ⌝ }
+    requires { ⌜ D.StepReadable (D.ObjectReadable d (P.parse (now b)) (now m)) (P.parse (now b)) (now m) (Bt.placed (q .here) (T.valueStep B.u48 (P.parse (now b)) (now m) (q .kind) (q .none) (q .inplace) tail (q .at) (q .bit))) ⌝ }
+    ensures { λ r. ⌜ Puts (now (out .entry)) pos (Bt.stepAt d (P.parse (now (b .entry))) (now (m .entry)) (q .kind) (Bt.placed (q .here) (T.valueStep B.u48 (P.parse (now (b .entry))) (now (m .entry)) (q .kind) (q .none) (q .inplace) tail (q .at) (q .bit)))) (now (out .exit)) r ⌝ }
+{
+    if !q.here {
+        return bitio::write(out, pos, 2, 0);
+    }
+    let k = q.kind;
+    match k {
+        Kind::OfFlat(f) => write_flat(b, dir, m, out, f, q.none, q.at, q.bit, pos),
+        Kind::OfObject(ob) => {
+            let x = wire::u48_in(m, q.at) as usize;
+            refer_blob(b, m, out, d, ob, q.inplace, tail, x, pos)
+        }
+        Kind::OfUnion(_) => pos,
+    }
+}
+
+// Whether a member's value is there.
+fn is_here(r: step::Reach) -> bool
+    ensures { λ q. ⌜ q ≡ isHere r ⌝ }
+{
+    match r {
+        step::Reach::Cut => false,
+        step::Reach::Past => false,
+        step::Reach::Here => true,
+    }
+}
+
+// Member j of table t, where the cursor stands.
+fn member_at(
+    b: &[u8],
+    dir: &[u16],
+    m: &[u8],
+    t: usize,
+    j: usize,
+    start: usize,
+    n: usize,
+    c: Cursor,
+) -> PlacedMember
+    requires { ⌜ (Accepted (now b) (now dir)) × (t < P.tableCount (now b)) × (j < length (Sc.tableOf (P.parse (now b)) t .members)) × (j < 256) ⌝ }
+    requires { ⌜ (start + n ≤ length (now m)) × (length (now m) ≤ 16777215) × (Laid (4097 * j) c) ⌝ }
+    ensures { λ q. ⌜ MemberAt (P.parse (now (b .entry))) (now (m .entry)) t j start n c (q .kind) (q .none) (q .inplace) (q .here) (q .at) (q .bit) (q .next) ⌝ }
+{
+    let r = schema::member(b, dir, t, j);
+    let k = r.kind;
+    let p = layout::place_member(b, dir, r, c);
+    let slot = p.slot;
+    let next = p.next;
+    let at = start + slot.at;
+    let here = is_here(step::reach_of(m, start, n, c, slot, layout::has_flag(r)));
+    PlacedMember {
+        kind: k,
+        none: r.optional,
+        inplace: r.inplace,
+        here,
+        at,
+        bit: slot.bit,
+        next,
+    }
+}
+
+// ---- numbers that are not optional, by their records
+// The bytes of such a number or float; 0 for any other record.
+fn plain_width(b: &[u8], at: usize) -> usize
+    requires { ⌜ at + 1 < length (now b) ⌝ }
+    ensures { λ r. ⌜ (0 < r → PlainNumber (P.memberAt (now (b .entry)) at) r) × (r ≤ 8) ⌝ }
+{
+    let k = schema::kind_at(b, at);
+    if k == 0 {
+        return 0;
+    }
+    if 10 < k {
+        return 0;
+    }
+    if schema::optional_at(b, at) {
+        return 0;
+    }
+    plain_bytes(k)
+}
+
+fn plain_bytes(k: usize) -> usize
+    requires { ⌜ k < 11 ⌝ }
+    ensures { λ r. ⌜ (r ≡ P.widthOf k) × (r ≤ 8) ⌝ }
+{
+    wire::index(schema::width_of(k))
+}
+
+// The cursor behind it.
+fn behind_plain(c: Cursor, w: usize) -> Cursor
+    requires { ⌜ (c .end < 2 ^ 58) × (w ≤ 8) ⌝ }
+    ensures { λ r. ⌜ r ≡ L.afterBytes w c ⌝ }
+{
+    Cursor {
+        end: c.end + w,
+        byte: c.byte,
+        bit: c.bit,
+    }
+}
+
+// What a reference x, or in place a length x, leads to.
+fn write_reference(
+    b: &[u8],
+    dir: &[u16],
+    m: &[u8],
+    out: &mut [u8],
+    d: usize,
+    ob: Object,
+    inplace: bool,
+    tail: usize,
+    x: usize,
+    pos: usize,
+) -> usize
+    requires { ⌜ Room (now out) pos ⌝ }
+    requires { ⌜ (Accepted (now b) (now dir)) × (length (now m) ≤ 16777215) ⌝ }
+    requires { ⌜ D.StepReadable (D.ObjectReadable d (P.parse (now b)) (now m)) (P.parse (now b)) (now m) (T.objectStep ob inplace tail x) ⌝ }
+    ensures { λ r. ⌜ Puts (now (out .entry)) pos (Bt.referenceAt d (P.parse (now (b .entry))) (now (m .entry)) ob inplace tail x) (now (out .exit)) r ⌝ }
+{
+    if x == 0 {
+        return bitio::write(out, pos, 2, 0);
+    }
+    let place = step::place_of(inplace, tail, x);
+    let p = bitio::write(out, pos, 2, 1);
+    write_object(b, dir, m, out, d, ob, place, p)
+}
+
+// What choice c of union u, with the reference or length x, leads to.
+fn write_union(
+    b: &[u8],
+    dir: &[u16],
+    m: &[u8],
+    out: &mut [u8],
+    d: usize,
+    u: usize,
+    inplace: bool,
+    tail: usize,
+    c: usize,
+    x: usize,
+    pos: usize,
+) -> usize
+    requires { ⌜ Room (now out) pos ⌝ }
+    requires { ⌜ (Accepted (now b) (now dir)) × (length (now m) ≤ 16777215) × (u < P.unionCount (now b)) ⌝ }
+    requires { ⌜ D.StepReadable (D.ObjectReadable d (P.parse (now b)) (now m)) (P.parse (now b)) (now m) (T.unionStep (Sc.casesOf (P.parse (now b)) u) inplace tail c x) ⌝ }
+    ensures { λ r. ⌜ Puts (now (out .entry)) pos (Bt.choiceAt d (P.parse (now (b .entry))) (now (m .entry)) u inplace tail c x) (now (out .exit)) r ⌝ }
+{
+    if c == 0 {
+        return bitio::write(out, pos, 2, 0);
+    }
+    if schema::case_count(b, dir, u) < c {
+        return marks::write_marked(out, pos, 2, 16, marks::number64(c));
+    }
+    let ob = schema::union_case(b, dir, u, c);
+    let place = step::place_of(inplace, tail, x);
+    let p = marks::write_marked(out, pos, 1, 16, marks::number64(c));
+    write_object(b, dir, m, out, d, ob, place, p)
+}
+
+// What a member or an element holds, where its value is there: its mark, and what follows it.
+fn write_value(
+    b: &[u8],
+    dir: &[u16],
+    m: &[u8],
+    out: &mut [u8],
+    d: usize,
+    q: PlacedMember,
+    tail: usize,
+    pos: usize,
+) -> usize
+    requires { ⌜ Room (now out) pos ⌝ }
+    requires { ⌜ (Accepted (now b) (now dir)) × (length (now m) ≤ 16777215) × (KindSound (P.parse (now b)) (q .kind)) ⌝ }
+    requires { ⌜ (q .here ≡ true → q .at + L.width B.u48 (P.parse (now b)) (q .kind) ≤ length (now m)) × (q .bit < 8) × (q .at < 2 ^ 60) ⌝ }
+    requires { ⌜ D.StepReadable (D.ObjectReadable d (P.parse (now b)) (now m)) (P.parse (now b)) (now m) (Bt.placed (q .here) (T.valueStep B.u48 (P.parse (now b)) (now m) (q .kind) (q .none) (q .inplace) tail (q .at) (q .bit))) ⌝ }
+    ensures { λ r. ⌜ Puts (now (out .entry)) pos (Bt.stepAt d (P.parse (now (b .entry))) (now (m .entry)) (q .kind) (Bt.placed (q .here) (T.valueStep B.u48 (P.parse (now (b .entry))) (now (m .entry)) (q .kind) (q .none) (q .inplace) tail (q .at) (q .bit)))) (now (out .exit)) r ⌝ }
+{
+    if !q.here {
+        return bitio::write(out, pos, 2, 0);
+    }
+    let at = q.at;
+    let k = q.kind;
+    match k {
+        Kind::OfFlat(f) => write_flat(b, dir, m, out, f, q.none, at, q.bit, pos),
+        Kind::OfObject(ob) => {
+            let x = wire::u48_in(m, at) as usize;
+            write_reference(b, dir, m, out, d, ob, q.inplace, tail, x, pos)
+        }
+        Kind::OfUnion(u) => {
+            let c = wire::u16_in(m, at) as usize;
+            let x = wire::u48_in(m, at + 2) as usize;
+            write_union(
+                b,
+                dir,
+                m,
+                out,
+                d,
+                wire::index(u),
+                q.inplace,
+                tail,
+                c,
+                x,
+                pos,
+            )
+        }
+    }
+}
+
+// An object with d objects of depth left, this one counted.
+fn write_object(
+    b: &[u8],
+    dir: &[u16],
+    m: &[u8],
+    out: &mut [u8],
+    d: usize,
+    ob: Object,
+    place: Place,
+    pos: usize,
+) -> usize
+    requires { ⌜ Room (now out) pos ⌝ }
+    requires { ⌜ (Accepted (now b) (now dir)) × (length (now m) ≤ 16777215) ⌝ }
+    requires { ⌜ D.ObjectReadable d (P.parse (now b)) (now m) ob place ⌝ }
+    ensures { λ r. ⌜ Puts (now (out .entry)) pos (Bt.objectAt d (P.parse (now (b .entry))) (now (m .entry)) ob place) (now (out .exit)) r ⌝ }
+{
+    if d == 0 {
+        return pos;
+    }
+    let start = start_of(m, place);
+    let n = length_of(m, place);
+    write_content(b, dir, m, out, d - 1, ob, start, n, pos)
+}
+
+// An object's content.
+fn write_content(
+    b: &[u8],
+    dir: &[u16],
+    m: &[u8],
+    out: &mut [u8],
+    d: usize,
+    ob: Object,
+    start: usize,
+    n: usize,
+    pos: usize,
+) -> usize
+    requires { ⌜ Room (now out) pos ⌝ }
+    requires { ⌜ (Accepted (now b) (now dir)) × (length (now m) ≤ 16777215) ⌝ }
+    requires { ⌜ D.Entered (D.ObjectReadable d (P.parse (now b)) (now m)) (P.parse (now b)) (now m) ob start n ⌝ }
+    ensures { λ r. ⌜ Puts (now (out .entry)) pos (Bt.contentAt d (P.parse (now (b .entry))) (now (m .entry)) ob start n) (now (out .exit)) r ⌝ }
+{
+    match ob {
+        Object::Text => bitio::write_blob(m, out, pos, start, n),
+        Object::Bytes => bitio::write_blob(m, out, pos, start, n),
+        Object::List(i) => write_list(b, dir, m, out, d, wire::index(i), start, n, pos),
+        Object::Table(t) => write_table(b, dir, m, out, d, wire::index(t), start, n, pos),
+    }
+}
+
+// The members of table t, whose fixed part has n bytes from `start`.
+fn write_table(
+    b: &[u8],
+    dir: &[u16],
+    m: &[u8],
+    out: &mut [u8],
+    d: usize,
+    t: usize,
+    start: usize,
+    n: usize,
+    pos: usize,
+) -> usize
+    requires { ⌜ Room (now out) pos ⌝ }
+    requires { ⌜ (Accepted (now b) (now dir)) × (length (now m) ≤ 16777215) × (t < P.tableCount (now b)) × (start + n ≤ length (now m)) ⌝ }
+    requires { ⌜ D.MembersReadable (D.ObjectReadable d (P.parse (now b)) (now m)) (P.parse (now b)) (now m) start n L.begin (Sc.tableOf (P.parse (now b)) t .members) ⌝ }
+    ensures { λ r. ⌜ Puts (now (out .entry)) pos (Bt.membersAt d (P.parse (now (b .entry))) (now (m .entry)) start n L.begin (Sc.tableOf (P.parse (now (b .entry))) t .members)) (now (out .exit)) r ⌝ }
+{
+    let count = schema::member_count(b, dir, t);
+    let first = schema::table_place(b, dir, t);
+    let mut c = layout::begin();
+    let mut p = pos;
+    let mut j: usize = 0;
+    while j < count {
+        if 134217720 < p {
+            return p;
+        }
+        let w = plain_width(b, schema::record_place(4, first, j));
+        if 0 < w {
+            p = marks::write_plain(m, out, w, start, n, c.end, p);
+            c = behind_plain(c, w);
+            j += 1;
+            continue;
+        }
+        let q = member_at(b, dir, m, t, j, start, n, c);
+        let k = q.kind;
+        c = q.next;
+        if is_leaf(k) {
+            p = write_leaf(b, dir, m, out, d, q, start + n, p);
+            j += 1;
+            continue;
+        }
+        p = write_value(b, dir, m, out, d, q, start + n, p);
+        j += 1;
+    }
+    p
+}
+
+// The n elements of list i, which start at `start`, behind their count.
+fn write_list(
+    b: &[u8],
+    dir: &[u16],
+    m: &[u8],
+    out: &mut [u8],
+    d: usize,
+    i: usize,
+    start: usize,
+    n: usize,
+    pos: usize,
+) -> usize
+    requires { ⌜ Room (now out) pos ⌝ }
+    requires { ⌜ (Accepted (now b) (now dir)) × (length (now m) ≤ 16777215) × (i < P.listCount (now b)) ⌝ }
+    requires { ⌜ start + T.elementsSize B.u48 (P.parse (now b)) (Sc.elementOf (P.parse (now b)) i) n ≤ length (now m) ⌝ }
+    requires { ⌜ D.ElementsReadable (D.ObjectReadable d (P.parse (now b)) (now m)) (P.parse (now b)) (now m) (Sc.elementOf (P.parse (now b)) i) start n 0 ⌝ }
+    ensures { λ r. ⌜ Puts (now (out .entry)) pos (Bt.listAt d (P.parse (now (b .entry))) (now (m .entry)) (Sc.elementOf (P.parse (now (b .entry))) i) start n) (now (out .exit)) r ⌝ }
+{
+    let k = schema::element(b, dir, i);
+    let p = bitio::write(out, pos, 32, marks::number64(n));
+    if layout::is_bool(k) {
+        return marks::write_bools(m, out, p, start, n);
+    }
+    let w = integer_width(k);
+    if 0 < w {
+        return marks::write_numbers(m, out, p, w, start, n);
+    }
+    match k {
+        Kind::OfFlat(_) => write_elements(b, dir, m, out, d, k, start, n, p),
+        Kind::OfObject(ob) => write_references(b, dir, m, out, d, ob, start, n, p),
+        Kind::OfUnion(_) => write_elements(b, dir, m, out, d, k, start, n, p),
+    }
+}
+
+// The n objects of a list, whose offsets start at `start`.
+fn write_references(
+    b: &[u8],
+    dir: &[u16],
+    m: &[u8],
+    out: &mut [u8],
+    d: usize,
+    ob: Object,
+    start: usize,
+    n: usize,
+    pos: usize,
+) -> usize
+    requires { ⌜ Room (now out) pos ⌝ }
+    requires { ⌜ (Accepted (now b) (now dir)) × (length (now m) ≤ 16777215) × (start + 6 * n ≤ length (now m)) ⌝ }
+    requires { ⌜ D.ElementsReadable (D.ObjectReadable d (P.parse (now b)) (now m)) (P.parse (now b)) (now m) (Kind.OfObject ob) start n 0 ⌝ }
+    ensures { λ r. ⌜ Puts (now (out .entry)) pos (Bt.elementsAt d (P.parse (now (b .entry))) (now (m .entry)) (Kind.OfObject ob) start n 0) (now (out .exit)) r ⌝ }
+{
+    let mut p = pos;
+    let mut at = start;
+    let mut j: usize = 0;
+    while j < n {
+        if 134217720 < p {
+            return p;
+        }
+        let x = wire::u48_in(m, at) as usize;
+        p = write_reference(b, dir, m, out, d, ob, false, 0, x, p);
+        at += 6;
+        j += 1;
+    }
+    p
+}
+
+// The n elements of kind k with their marks.
+fn write_elements(
+    b: &[u8],
+    dir: &[u16],
+    m: &[u8],
+    out: &mut [u8],
+    d: usize,
+    k: Kind,
+    start: usize,
+    n: usize,
+    pos: usize,
+) -> usize
+    requires { ⌜ Room (now out) pos ⌝ }
+    requires { ⌜ (Accepted (now b) (now dir)) × (length (now m) ≤ 16777215) × (KindSound (P.parse (now b)) k) × (E.bare k ≡ false) ⌝ }
+    requires { ⌜ start + T.elementsSize B.u48 (P.parse (now b)) k n ≤ length (now m) ⌝ }
+    requires { ⌜ D.ElementsReadable (D.ObjectReadable d (P.parse (now b)) (now m)) (P.parse (now b)) (now m) k start n 0 ⌝ }
+    ensures { λ r. ⌜ Puts (now (out .entry)) pos (Bt.elementsAt d (P.parse (now (b .entry))) (now (m .entry)) k start n 0) (now (out .exit)) r ⌝ }
+{
+    let mut p = pos;
+    let mut j: usize = 0;
+    while j < n {
+        if 134217720 < p {
+            return p;
+        }
+        let q = PlacedMember {
+            kind: k,
+            none: true,
+            inplace: false,
+            here: true,
+            at: step::element_place(b, dir, k, start, j),
+            bit: wire::low_three(j),
+            next: layout::begin(),
+        };
+        p = write_value(b, dir, m, out, d, q, 0, p);
+        j += 1;
+    }
+    p
+}
+
+// ---- the whole sheet
+// The root's bits, where there is room, and where they end.
+pub fn write_root(b: &[u8], dir: &[u16], m: &[u8], out: &mut [u8]) -> usize
+    requires { ⌜ Room (now out) 0 ⌝ }
+    requires { ⌜ (Accepted (now b) (now dir)) × (D.MessageReadable (P.parse (now b)) (now m)) ⌝ }
+    ensures { λ r. ⌜ Puts (now (out .entry)) 0 (Bt.rootAt (P.parse (now (b .entry))) (now (m .entry))) (now (out .exit)) r ⌝ }
+{
+    let ob = object::root_object(b, dir);
+    let p = object::root_place(m);
+    write_object(b, dir, m, out, 32, ob, p, 0)
+}

@@ -1,0 +1,128 @@
+-- The ways out of the writers.
+use mathlib.Core.Path.{_≡_, refl, sym, ap, ap₂, _∙_, subst}
+use mathlib.Core.Bool.{Bool, true, false}
+use mathlib.Core.List.{List, _++_, append-assoc}
+use Prim.Native.Nat.{ℕ, zero, suc, _+_, _-_, _*_, _%_, _^_, _<_, _≤_}
+use native.Mathlib.Omega.{arith}
+use native.Mathlib.Nat.{mul-zero, mul-suc, mul-le-mul, le-of-lt, mod-lt}
+use lib.ListN.{length, take, drop, length-append, length-drop}
+use lib.Seq.{length-take-le}
+use lib.Dec.{eqb, ltb}
+use lib.Pow.{pow-pos}
+use borrow.Author.Tests.{eq-eqb, ne-eqb, lt-ltb, le-ltb, le-leb, lt-leb}
+use Rattle.coding.specs.Lists.{pick}
+use Rattle.coding.specs.Bytes.{le, isNaN}
+use Rattle.coding.specs.Bits.{bitsOf, bits}
+use Rattle.coding.specs.Sheet as E
+use Rattle.laws.specs.Bits.{bitsOf-length, bitsOf-mod, bitsOf-join}
+use Rattle.wire.specs.Numbers.{Number}
+use Rattle.bitio.specs.Puts.{Room, Puts}
+use Rattle.bitio.specs.PutsLaws.{puts-then, puts-same, run-over, run-not}
+use Rattle.marks.specs.Marks as A
+use Rattle.marks.proofs.Remaining.{Remaining, remaining-all, remaining-turn, remaining-done}
+
+-- ---- a mark and a number
+pub marked-puts : (o o₁ o₂ : List ℕ) (p q r mark w x : ℕ) → Room o p → Puts o p (bitsOf 2 mark) o₁ q → Puts o₁ q (bitsOf w x) o₂ r → Puts o p (A.marked mark w x) o₂ r
+unfolding A.marked
+marked-puts o o₁ o₂ p q r mark w x g a b = puts-then o o₁ o₂ p q r (bitsOf 2 mark) (bitsOf w x) (g .short) a b
+
+-- the same by one number
+pub marked-one : (o o₁ : List ℕ) (p q mark w x v : ℕ) → v ≡ mark * 2 ^ w + x % 2 ^ w → Puts o p (bitsOf (2 + w) v) o₁ q → Puts o p (A.marked mark w x) o₁ q
+unfolding A.marked
+marked-one o o₁ p q mark w x v e h =
+    puts-same o o₁ p q (bitsOf (2 + w) v) (bitsOf 2 mark ++ bitsOf w x)
+    (ap (bitsOf (2 + w)) e ∙ bitsOf-join 2 w mark (x % 2 ^ w) (mod-lt x (pow-pos w)) ∙ ap (λ (s : List ℕ). bitsOf 2 mark ++ s) (bitsOf-mod w x)) h
+
+-- ---- an enum
+module _ (n x : ℕ) (o o₁ : List ℕ) (p q : ℕ) where
+  pub enum-none : x ≡ 255 → Puts o p (bitsOf 2 0) o₁ q → Puts o p (A.enumAt n x) o₁ q
+  unfolding A.enumAt
+  enum-none h a = simp (eq-eqb _ _ h) a
+
+  module _ (h : x ≡ 255 → ⊥) (y : ℕ) (e : y ≡ x) where
+    pub enum-known : x < n → Puts o p (A.marked 1 8 y) o₁ q → Puts o p (A.enumAt n x) o₁ q
+    unfolding A.enumAt
+    enum-known l a = simp (ne-eqb _ _ h, lt-ltb _ _ l) (subst (λ (z : ℕ). Puts o p (A.marked 1 8 z) o₁ q) e a)
+
+    pub enum-unknown : n ≤ x → Puts o p (A.marked 2 8 y) o₁ q → Puts o p (A.enumAt n x) o₁ q
+    unfolding A.enumAt
+    enum-unknown l a = simp (ne-eqb _ _ h, le-ltb _ _ l) (subst (λ (z : ℕ). Puts o p (A.marked 2 8 z) o₁ q) e a)
+
+pub number-puts : (m o o₁ : List ℕ) (p q w at x : ℕ) → Number m at w x → Puts o p (bitsOf (8 * w) x) o₁ q → Puts o p (bitsOf (8 * w) (le m at w)) o₁ q
+number-puts m o o₁ p q w at x n h = puts-same o o₁ p q (bitsOf (8 * w) x) (bitsOf (8 * w) (le m at w)) (ap (bitsOf (8 * w)) (n .is)) h
+
+-- ---- floats
+module _ (none : Bool) (w x : ℕ) (o o₁ : List ℕ) (p q : ℕ) where
+  pub float-plain : none ≡ false → (v : ℕ) → v ≡ w → Puts o p (A.marked 1 (8 * v) x) o₁ q → Puts o p (A.floatAt none w x) o₁ q
+  unfolding A.floatAt
+  float-plain e v ev h = simp e (subst (λ (z : ℕ). Puts o p (A.marked 1 (8 * z) x) o₁ q) ev h)
+
+  module _ (e : none ≡ true) (t : Bool) (et : t ≡ isNaN w x) where
+    pub float-none : t ≡ true → Puts o p (bitsOf 2 0) o₁ q → Puts o p (A.floatAt none w x) o₁ q
+    unfolding A.floatAt
+    float-none f h = simp (e, ← et, f) h
+
+    pub float-value : t ≡ false → (v : ℕ) → v ≡ w → Puts o p (A.marked 1 (8 * v) x) o₁ q → Puts o p (A.floatAt none w x) o₁ q
+    unfolding A.floatAt
+    float-value f v ev h = simp (e, ← et, f) (subst (λ (z : ℕ). Puts o p (A.marked 1 (8 * z) x) o₁ q) ev h)
+
+-- ---- a number that is not optional
+module _ (m : List ℕ) (w start n end : ℕ) (o o₁ : List ℕ) (p q : ℕ) where
+  pub plain-none : n < end + w → Puts o p (bitsOf 2 0) o₁ q → Puts o p (A.plainAt m w start n end) o₁ q
+  unfolding A.plainAt
+  plain-none h l = simp (lt-leb _ _ h) l
+
+  pub plain-there : end + w ≤ n → (x : ℕ) → Number m (start + end) w x → Puts o p (A.marked 1 (8 * w) x) o₁ q → Puts o p (A.plainAt m w start n end) o₁ q
+  unfolding A.plainAt
+  plain-there h x nx l = simp (le-leb _ _ h) (subst (λ (y : ℕ). Puts o p (A.marked 1 (8 * w) y) o₁ q) (nx .is) l)
+
+-- ---- a text or bytes with its mark
+pub blob-marked : (m o o₁ o₂ : List ℕ) (p q r at n y : ℕ) → Room o p → at + n ≤ length m → y ≡ n → Puts o p (A.marked 1 32 y) o₁ q
+    → Puts o₁ q (bits (take (at + n - at) (drop at m))) o₂ r → Puts o p (A.blobAt m at n) o₂ r
+unfolding A.blobAt A.marked E.blobBits
+blob-marked m o o₁ o₂ p q r at n y g fit ey a b =
+    let s : List ℕ = take n (drop at m) in
+    let z : at + n - at ≡ n = omega arith in
+    let l : length s ≡ n = length-take-le n (drop at m) (omega (arith, length-drop at m)) in
+    puts-same o o₂ p r (bitsOf 2 1 ++ bitsOf 32 y ++ bits (take (at + n - at) (drop at m))) (bitsOf 2 1 ++ (bitsOf 32 (length s) ++ bits s))
+    (append-assoc (bitsOf 2 1) (bitsOf 32 y) (bits (take (at + n - at) (drop at m)))
+    ∙ ap₂ (λ (i j : ℕ). bitsOf 2 1 ++ (bitsOf 32 i ++ bits (take j (drop at m)))) (ey ∙ sym l) z)
+    (puts-then o o₁ o₂ p q r (bitsOf 2 1 ++ bitsOf 32 y) (bits (take (at + n - at) (drop at m))) (g .short) a b)
+
+-- ---- numbers
+pub numbers-most : (w n : ℕ) → w ≤ 8 → n < 2 ^ 48 → 8 * w * n ≤ 64 * 2 ^ 48
+numbers-most w n h l = mul-le-mul (let z : 8 * w ≤ 64 = omega arith in z) (le-of-lt l)
+
+numbers-length : (m : List ℕ) (w n at : ℕ) → length (A.numbersAt m w n at) ≡ 8 * w * n
+unfolding A.numbersAt
+numbers-length m w zero at = sym (mul-zero (8 * w))
+numbers-length m w (suc n) at =
+    let e = mul-suc (8 * w) n in
+    length-append (bitsOf (8 * w) (le m at w)) (A.numbersAt m w n (at + w))
+    ∙ omega (arith, e, bitsOf-length (8 * w) (le m at w), numbers-length m w n (at + w))
+
+module _ (o : List ℕ) (p : ℕ) (m : List ℕ) (w n at k : ℕ) (g : Room o p) (e : k ≡ 8 * w * n) where
+  pub numbers-over : 134217720 < p + k → Puts o p (A.numbersAt m w n at) o 134217721
+  numbers-over h = run-over o p k (A.numbersAt m w n at) g (numbers-length m w n at ∙ sym e) h
+
+  pub numbers-not : p + k ≤ 134217720 → 8 * length o < p + k → Puts o p (A.numbersAt m w n at) o (p + k)
+  numbers-not h l = run-not o p k (A.numbersAt m w n at) g (numbers-length m w n at ∙ sym e) h l
+
+numbers-cons : (m : List ℕ) (w n at : ℕ) → 0 < n → A.numbersAt m w n at ≡ bitsOf (8 * w) (le m at w) ++ A.numbersAt m w (n - 1) (at + w)
+unfolding A.numbersAt
+numbers-cons m w n at h = let e : n ≡ suc (n - 1) = omega arith in ap (λ (k : ℕ). A.numbersAt m w k at) e
+
+pub numbers-start : (o : List ℕ) (p : ℕ) (m : List ℕ) (w n at : ℕ) → Remaining o p (A.numbersAt m w n at) o p (A.numbersAt m w n at)
+numbers-start o p m w n at = remaining-all o p (A.numbersAt m w n at) (A.numbersAt m w n at) refl
+
+pub numbers-turn : (o₀ o o₁ : List ℕ) (p₀ p p₁ : ℕ) (whole m : List ℕ) (w n at : ℕ) → Remaining o₀ p₀ whole o p (A.numbersAt m w n at) → Room o p → 0 < n
+    → Puts o p (bitsOf (8 * w) (le m at w)) o₁ p₁ → Remaining o₀ p₀ whole o₁ p₁ (A.numbersAt m w (n - 1) (at + w))
+numbers-turn o₀ o o₁ p₀ p p₁ whole m w n at inv g h k =
+    remaining-turn o₀ o o₁ p₀ p p₁ whole (A.numbersAt m w n at) (bitsOf (8 * w) (le m at w)) (A.numbersAt m w (n - 1) (at + w)) inv (g .short)
+    (numbers-cons m w n at h) k
+
+pub numbers-done : (o₀ o : List ℕ) (p₀ p : ℕ) (whole m : List ℕ) (w n at : ℕ) → Remaining o₀ p₀ whole o p (A.numbersAt m w n at) → Room o p → n ≤ 0 → Puts o₀ p₀ whole o p
+unfolding A.numbersAt
+numbers-done o₀ o p₀ p whole m w n at inv g h =
+    let z : n ≡ 0 = omega arith in
+    remaining-done o₀ o p₀ p whole (A.numbersAt m w n at) inv g (ap (λ (k : ℕ). A.numbersAt m w k at) z)

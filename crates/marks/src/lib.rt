@@ -1,0 +1,182 @@
+// What follows a mark, and elements without one: numbers, enums, floats, bools, texts and bytes, counted always and stored
+// where there is room.
+ghost use mathlib.Core.Path.{_≡_};
+ghost use mathlib.Core.Bool.{Bool};
+ghost use Prim.Native.Nat.{ℕ, _+_, _-_, _*_, _<_, _≤_, _^_};
+ghost use lib.ListN.{length, getD};
+ghost use Rattle.coding.specs.Bytes as B;
+ghost use Rattle.coding.specs.Bits.{bitsOf};
+ghost use Rattle.bitio.specs.Puts.{Room, Puts};
+ghost use Rattle.marks.specs.Marks as Bt;
+
+// A count as a number.
+pub fn number64(x: usize) -> u64
+    ensures { λ r. ⌜ r ≡ x ⌝ }
+{
+    x as u64
+}
+
+// A mark (0 absent, 1 present, 2 unknown) and the w low bits of x.
+pub fn write_marked(out: &mut [u8], pos: usize, mark: u64, w: usize, x: u64) -> usize
+    requires { ⌜ Room (now out) pos ⌝ }
+    requires { ⌜ (w ≤ 64) × (mark < 4) ⌝ }
+    ensures { λ r. ⌜ Puts (now (out .entry)) pos (Bt.marked mark w x) (now (out .exit)) r ⌝ }
+{
+    if w <= 62 {
+        return bitio::write(out, pos, 2 + w, bits::append(mark, w, x));
+    }
+    let p = bitio::write(out, pos, 2, mark);
+    bitio::write(out, p, w, x)
+}
+
+// An enum of n values with its mark.
+pub fn write_enum(out: &mut [u8], pos: usize, n: u8, x: u8) -> usize
+    requires { ⌜ Room (now out) pos ⌝ }
+    ensures { λ r. ⌜ Puts (now (out .entry)) pos (Bt.enumAt n x) (now (out .exit)) r ⌝ }
+{
+    if x == 255 {
+        return bitio::write(out, pos, 2, 0);
+    }
+    if x < n {
+        return write_marked(out, pos, 1, 8, wire::wide(x));
+    }
+    write_marked(out, pos, 2, 8, wire::wide(x))
+}
+
+// A number of w bytes.
+pub fn write_number(m: &[u8], out: &mut [u8], pos: usize, w: usize, at: usize) -> usize
+    requires { ⌜ Room (now out) pos ⌝ }
+    requires { ⌜ (w ≤ 8) × (at < 2 ^ 60) ⌝ }
+    ensures { λ r. ⌜ Puts (now (out .entry)) pos (bitsOf (8 * w) (B.le (now (m .entry)) at w)) (now (out .exit)) r ⌝ }
+{
+    bitio::write(out, pos, 8 * w, wire::number(m, at, w))
+}
+
+// The bits of n numbers of w bytes.
+fn numbers_size(w: usize, n: usize) -> usize
+    requires { ⌜ (w ≤ 8) × (n < 2 ^ 48) ⌝ }
+    ensures { λ r. ⌜ (r ≡ 8 * w * n) × (r ≤ 64 * 2 ^ 48) ⌝ }
+{
+    8 * w * n
+}
+
+// The n numbers of w bytes from `at`: counted at once where there is no room.
+pub fn write_numbers(m: &[u8], out: &mut [u8], pos: usize, w: usize, at: usize, n: usize) -> usize
+    requires { ⌜ Room (now out) pos ⌝ }
+    requires { ⌜ (w ≤ 8) × (at < 2 ^ 58) × (n < 2 ^ 48) ⌝ }
+    ensures { λ r. ⌜ Puts (now (out .entry)) pos (Bt.numbersAt (now (m .entry)) w n at) (now (out .exit)) r ⌝ }
+{
+    let end = pos + numbers_size(w, n);
+    if 134217720 < end {
+        return 134217721;
+    }
+    if 8 * out.len() < end {
+        return end;
+    }
+    let mut p = pos;
+    let mut from = at;
+    let mut left = n;
+    while 0 < left {
+        if 134217720 < p {
+            return p;
+        }
+        p = write_number(m, out, p, w, from);
+        from += w;
+        left -= 1;
+    }
+    p
+}
+
+// Bool i of the bytes from `start`.
+fn bool_at(m: &[u8], start: usize, i: usize) -> u64
+    requires { ⌜ (start < 2 ^ 59) × (i < 2 ^ 59) ⌝ }
+    ensures { λ r. ⌜ (r ≡ Bt.boolAt (now (m .entry)) start i) × (r < 2) ⌝ }
+{
+    wire::bit_value(wire::byte(m, start + wire::eighth(i)), wire::low_three(i))
+}
+
+// The n bools from bool i on as a number, the first one highest.
+fn gather(m: &[u8], start: usize, i: usize, n: usize) -> u64
+    requires { ⌜ (n ≤ 32) × (start < 2 ^ 59) × (i < 2 ^ 58) ⌝ }
+    ensures { λ r. ⌜ bitsOf n r ≡ Bt.boolsAt (now (m .entry)) start n i ⌝ }
+{
+    let mut v: u64 = 0;
+    let mut j: usize = 0;
+    while j < n {
+        v = v << 1 | bool_at(m, start, i + j);
+        j += 1;
+    }
+    v
+}
+
+// How many of the bools that are left go into one number.
+fn gathered(left: usize) -> usize
+    requires { ⌜ 0 < left ⌝ }
+    ensures { λ r. ⌜ (0 < r) × (r ≤ left) × (r ≤ 32) ⌝ }
+{
+    if left < 32 { left } else { 32 }
+}
+
+// The n bools of the bytes from `start`.
+pub fn write_bools(m: &[u8], out: &mut [u8], pos: usize, start: usize, n: usize) -> usize
+    requires { ⌜ Room (now out) pos ⌝ }
+    requires { ⌜ (start < 2 ^ 59) × (n < 2 ^ 48) ⌝ }
+    ensures { λ r. ⌜ Puts (now (out .entry)) pos (Bt.boolsAt (now (m .entry)) start n 0) (now (out .exit)) r ⌝ }
+{
+    let mut p = pos;
+    let mut i: usize = 0;
+    while i < n {
+        if 134217720 < p {
+            return p;
+        }
+        let w = gathered(n - i);
+        p = bitio::write(out, p, w, gather(m, start, i, w));
+        i += w;
+    }
+    p
+}
+
+// A float with its mark; with `none` a NaN is no value.
+pub fn write_float(out: &mut [u8], pos: usize, none: bool, w: u8, x: u64) -> usize
+    requires { ⌜ Room (now out) pos ⌝ }
+    requires { ⌜ w ≤ 8 ⌝ }
+    ensures { λ r. ⌜ Puts (now (out .entry)) pos (Bt.floatAt none w x) (now (out .exit)) r ⌝ }
+{
+    if none {
+        if step::is_nan(w, x) {
+            return bitio::write(out, pos, 2, 0);
+        }
+        return write_marked(out, pos, 1, 8 * wire::index(w), x);
+    }
+    write_marked(out, pos, 1, 8 * wire::index(w), x)
+}
+
+// A text or bytes with its mark: the n bytes from `at`.
+pub fn write_blob(m: &[u8], out: &mut [u8], pos: usize, at: usize, n: usize) -> usize
+    requires { ⌜ Room (now out) pos ⌝ }
+    requires { ⌜ (at + n ≤ length (now m)) × (length (now m) ≤ 16777215) ⌝ }
+    ensures { λ r. ⌜ Puts (now (out .entry)) pos (Bt.blobAt (now (m .entry)) at n) (now (out .exit)) r ⌝ }
+{
+    let p = write_marked(out, pos, 1, 32, number64(n));
+    bitio::write_bytes(out, p, &m[at..at + n])
+}
+
+// A number of w bytes with its mark, at byte `end` of a fixed part that has n bytes from `start`.
+pub fn write_plain(
+    m: &[u8],
+    out: &mut [u8],
+    w: usize,
+    start: usize,
+    n: usize,
+    end: usize,
+    pos: usize,
+) -> usize
+    requires { ⌜ Room (now out) pos ⌝ }
+    requires { ⌜ (w ≤ 8) × (start < 2 ^ 58) × (end < 2 ^ 58) ⌝ }
+    ensures { λ r. ⌜ Puts (now (out .entry)) pos (Bt.plainAt (now (m .entry)) w start n end) (now (out .exit)) r ⌝ }
+{
+    if n < end + w {
+        return bitio::write(out, pos, 2, 0);
+    }
+    write_marked(out, pos, 1, 8 * w, wire::number(m, start + end, w))
+}
