@@ -1,18 +1,17 @@
 -- Kinds that need no walker: the test for them, and texts and bytes with their marks.
-use mathlib.Core.Path.{_≡_, refl, sym, ap, ap₂, _∙_, subst}
+use mathlib.Core.Path.{_≡_, refl, ap, _∙_, subst}
 use mathlib.Core.Bool.{Bool, true, false}
-use mathlib.Core.List.{List, _++_, append-assoc}
-use Prim.Native.Nat.{ℕ, zero, suc, _+_, _-_, _≤_}
+use mathlib.Core.List.{List, _++_}
+use Prim.Native.Nat.{ℕ, _+_, _-_, _≤_}
 use native.Mathlib.Omega.{arith}
-use lib.ListN.{length, take, drop, length-drop}
-use lib.Seq.{length-take-le}
+use lib.ListN.{length, take, drop}
 use Rattle.coding.specs.Bytes.{u48}
 use Rattle.coding.specs.Schema.{Schema}
 use Rattle.coding.specs.Step as T
 use Rattle.coding.specs.Walk as W
 use Rattle.coding.specs.Value as Tree
 use Rattle.coding.specs.Read as R
-use Rattle.coding.specs.Bits.{bitsOf, bits}
+use Rattle.coding.specs.Bits.{bitsOf}
 use Rattle.coding.specs.Sheet as E
 use Rattle.coding.specs.declared.Flat.{Flat}
 use Rattle.coding.specs.declared.Object.{Object}
@@ -21,8 +20,8 @@ use Rattle.coding.specs.declared.Kind.{Kind}
 use Rattle.coding.specs.declared.Kind.the-variants.{OfFlat, OfObject, OfUnion}
 use Rattle.coding.specs.declared.Place.{Place}
 use Rattle.step.proofs.StepCases as C
-use Rattle.bitio.specs.Puts.{Room, Puts}
-use Rattle.bitio.specs.PutsLaws.{puts-then, puts-same}
+use Rattle.bitio.specs.Puts.{Puts}
+use Rattle.bitio.specs.PutsLaws.{puts-same}
 use Rattle.marks.specs.Marks as K
 use Rattle.entries.specs.MessageBits as A
 use Rattle.entries.specs.Readable as D

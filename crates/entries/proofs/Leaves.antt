@@ -2,15 +2,12 @@
 use mathlib.Core.Path.{_≡_, refl, sym, ap, ap₂, _∙_, subst}
 use mathlib.Core.Bool.{Bool, true, false}
 use mathlib.Core.List.{List, _∷_, _++_}
-use Prim.Native.Nat.{ℕ, zero, suc, _+_, _-_, _*_, _%_, _^_, _<_, _≤_}
+use Prim.Native.Nat.{ℕ, suc, _+_, _-_, _*_, _<_, _≤_}
 use native.Mathlib.Omega.{arith}
-use native.Mathlib.Nat.{mul-zero, mul-suc, mul-le-mul, le-of-lt, mod-lt}
 use native.Mathlib.Numerals.{add-one}
-use lib.ListN.{length, getD, drop, drop-of-length-le, length-append}
+use lib.ListN.{length, getD, drop, drop-of-length-le}
 use lib.Seq.{drop-cons}
 use lib.Dec.{eqb, ltb}
-use lib.Pow.{pow-pos}
-use borrow.Author.Tests.{eq-eqb, ne-eqb, lt-ltb, le-ltb}
 use Rattle.coding.specs.Lists.{pick}
 use Rattle.coding.specs.Bytes.{le}
 use Rattle.coding.specs.Schema as Sc
@@ -29,10 +26,8 @@ use Rattle.coding.specs.declared.Kind.{Kind}
 use Rattle.coding.specs.declared.Kind.the-variants.{OfFlat, OfObject, OfUnion}
 use Rattle.coding.specs.declared.Step.the-variants as St
 use Rattle.schema.specs.Directory.{Accepted, accepted-sound}
-use Rattle.wire.specs.Numbers.{Number}
 use Rattle.bitio.specs.Puts.{Room, Puts}
-use Rattle.laws.specs.Bits.{bitsOf-length, bitsOf-mod, bitsOf-join}
-use Rattle.bitio.specs.PutsLaws.{puts-then, puts-same, run-over, run-not}
+use Rattle.bitio.specs.PutsLaws.{puts-same}
 use Rattle.marks.specs.Marks as K
 use Rattle.entries.specs.MessageBits as A
 use Rattle.entries.proofs.PartLaws.{struct-is}

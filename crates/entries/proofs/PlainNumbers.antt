@@ -1,12 +1,12 @@
 -- Members that are numbers and not optional: by their records, their bits, and the cursor behind them.
 use mathlib.Core.Path.{_≡_, refl, sym, ap, ap₂, _∙_, subst}
-use mathlib.Core.Bool.{Bool, true, false, _&&_}
+use mathlib.Core.Bool.{Bool, true, false}
 use mathlib.Core.List.{List}
 use Prim.Native.Nat.{ℕ, _+_, _*_, _<_, _≤_}
 use native.Mathlib.Omega.{arith}
 use lib.ListN.{length}
-use lib.Dec.{leb, ltb, eqb}
-use borrow.Author.Tests.{le-leb, lt-leb, leb-true, lt-ltb, ne-eqb}
+use lib.Dec.{leb, ltb}
+use borrow.Author.Tests.{leb-true, lt-ltb, ne-eqb}
 use Rattle.coding.specs.Lists.{pick}
 use Rattle.coding.specs.Bytes.{u48, le}
 use Rattle.coding.specs.Schema as Sc
@@ -22,14 +22,11 @@ use Rattle.coding.specs.declared.Kind.{Kind}
 use Rattle.coding.specs.declared.Kind.the-variants.{OfFlat, OfObject, OfUnion}
 use Rattle.coding.specs.declared.Member.{Member}
 use Rattle.coding.specs.declared.Cursor.{Cursor}
-use Rattle.coding.specs.declared.Step.{Step}
 use Rattle.coding.specs.declared.Step.the-variants as St
 use Rattle.laws.specs.RecordSound.{width-range}
 use Rattle.schema.specs.Directory.{Block}
 use Rattle.layout.specs.Bounds.{Laid}
 use Rattle.schema.specs.Records.{record-member}
-use Rattle.wire.specs.Numbers.{Number}
-use Rattle.bitio.specs.Puts.{Room, Puts}
 use Rattle.marks.specs.Marks as K
 use Rattle.entries.specs.MessageBits as A
 use Rattle.entries.specs.Stepping.{PlainNumber, NumberOf}

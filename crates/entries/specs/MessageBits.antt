@@ -1,11 +1,10 @@
 -- The sheet's bits of what stands in a message: encode of read, part by part, as the code goes over it.
-use Prim.Native.Nat.{ℕ, zero, suc, _+_, _*_, _/_, _%_}
-use mathlib.Core.Bool.{Bool, _&&_}
-use mathlib.Core.List.{List, [], _++_}
-use lib.ListN.{getD, take, drop}
-use lib.Dec.{leb, ltb, eqb}
+use Prim.Native.Nat.{ℕ, _+_, _*_}
+use mathlib.Core.Bool.{Bool}
+use mathlib.Core.List.{List, _++_}
+use lib.ListN.{getD}
 use Rattle.coding.specs.Lists.{pick}
-use Rattle.coding.specs.Bytes.{u48, le, bitAt, isNaN}
+use Rattle.coding.specs.Bytes.{u48, le, bitAt}
 use Rattle.coding.specs.Schema.{Schema, casesOf}
 use Rattle.coding.specs.Structs.{structOk}
 use Rattle.coding.specs.Bits.{bitsOf}

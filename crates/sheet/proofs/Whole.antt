@@ -12,15 +12,11 @@ use borrow.Author.Tests.{le-leb, lt-leb, leb-true, leb-false, eq-eqb, ne-eqb}
 use Rattle.coding.specs.Lists.{pick}
 use Rattle.coding.specs.Bytes.{u48, deepest, largest}
 use Rattle.coding.specs.Packed as P
-use Rattle.coding.specs.Schema.{Schema}
 use Rattle.coding.specs.Walk as W
 use Rattle.coding.specs.Bits.{bits, packed, byteCount}
-use Rattle.coding.specs.Read as R
 use Rattle.coding.specs.Sheet as E
 use Rattle.coding.specs.Message as M
-use Rattle.coding.specs.declared.Object.{Object}
 use Rattle.coding.specs.declared.Object.the-variants as O
-use Rattle.coding.specs.declared.Place.{Place}
 use Rattle.coding.specs.declared.Budget.{Budget}
 use Rattle.coding.specs.declared.Walked.{Walked}
 use Rattle.coding.specs.declared.Walked.the-variants.{Going, Refused}

@@ -99,6 +99,9 @@ pub fn number(m: &[u8], at: usize, w: usize) -> u64
     if w == 2 {
         return u16_in(m, at);
     }
+    if w == 1 {
+        return u8_in(m, at);
+    }
     bytes_of(m, at, w)
 }
 

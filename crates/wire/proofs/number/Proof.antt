@@ -31,11 +31,17 @@ u16-in-requires c κs = search needs
 returns-4 : tie.Need-returns-4
 returns-4 c = search number-at
 
+u8-in-requires : tie.Need-u8-in-requires
+u8-in-requires c κs = search needs
+
+returns-5 : tie.Need-returns-5
+returns-5 c = search number-at
+
 bytes-of-requires-2 : tie.Need-bytes-of-requires-2
 bytes-of-requires-2 c κs = search needs
 
-returns-5 : tie.Need-returns-5
-returns-5 c = search needs
+returns-6 : tie.Need-returns-6
+returns-6 c = search needs
 
 pub number-spec : {M : Type 1} → statement M
 number-spec =
@@ -50,5 +56,7 @@ number-spec =
     returns-3
     u16-in-requires
     returns-4
+    u8-in-requires
+    returns-5
     bytes-of-requires-2
-    returns-5)
+    returns-6)
