@@ -101,12 +101,13 @@ module _ (child : Emitter) (measure : Surveyor) (S : Schema) (s : List ℕ) (t :
       members-stopped room f w q n ew eq en =
           refused s _ pos c 0 (turned ∙ ap (λ (u : Bool). rest (pick u (got (stateOf y o₂) (drop next (bits s))) fail)) (not-true whole f)) room w q o₂ n ew eq en
 
-      pub members-turn : not whole ≡ false
-          → emitContent child measure u48 S (O.Table t) (stateOf c o) (drop pos (bits s)) ≡ emitMembers child measure u48 S (drop (j + 1) (Sc.tableOf S t .members)) (stateOf y o₂) (drop next (bits s))
+      pub members-turn : not whole ≡ false → (z : Places) → z ≡ y
+          → emitContent child measure u48 S (O.Table t) (stateOf c o) (drop pos (bits s)) ≡ emitMembers child measure u48 S (drop (j + 1) (Sc.tableOf S t .members)) (stateOf z o₂) (drop next (bits s))
       unfolding bind
-      members-turn f =
+      members-turn f z ez =
           turned ∙ ap (λ (u : Bool). rest (pick u (got (stateOf y o₂) (drop next (bits s))) fail)) (not-false whole f)
-          ∙ ap (λ (m : ℕ). emitMembers child measure u48 S (drop m (Sc.tableOf S t .members)) (stateOf y o₂) (drop next (bits s))) (sym (add-one j))
+          ∙ ap (λ (q : Places). emitMembers child measure u48 S (drop (suc j) (Sc.tableOf S t .members)) (stateOf q o₂) (drop next (bits s))) (sym ez)
+          ∙ ap (λ (m : ℕ). emitMembers child measure u48 S (drop m (Sc.tableOf S t .members)) (stateOf z o₂) (drop next (bits s))) (sym (add-one j))
 
     -- a member that leads to an object
     module _ (h : j < count) (r : Member) (er : r ≡ Sc.memberOf S t j) (far : Bool) (ef : far ≡ isLeaf (r .kind) (r .inplace)) (left : far ≡ false) (whole : Bool) (y : Places) (o₂ : List ℕ) (next : ℕ)
@@ -118,9 +119,9 @@ module _ (child : Emitter) (measure : Surveyor) (S : Schema) (s : List ℕ) (t :
           → EmittedAt s (emitContent child measure u48 S (O.Table t) (stateOf c o) (drop pos (bits s))) pos c 0 w q o₂ n
       refers-stopped room f w q n ew eq en = members-stopped h r er whole y o₂ next flagless room f w q n ew eq en
 
-      pub refers-turn : not whole ≡ false
-          → emitContent child measure u48 S (O.Table t) (stateOf c o) (drop pos (bits s)) ≡ emitMembers child measure u48 S (drop (j + 1) (Sc.tableOf S t .members)) (stateOf y o₂) (drop next (bits s))
-      refers-turn f = members-turn h r er whole y o₂ next flagless f
+      pub refers-turn : not whole ≡ false → (z : Places) → z ≡ y
+          → emitContent child measure u48 S (O.Table t) (stateOf c o) (drop pos (bits s)) ≡ emitMembers child measure u48 S (drop (j + 1) (Sc.tableOf S t .members)) (stateOf z o₂) (drop next (bits s))
+      refers-turn f z ez = members-turn h r er whole y o₂ next flagless f z ez
 
 -- ---- the elements of a list, from element j on
 module _ (child : Emitter) (measure : Surveyor) (S : Schema) (s : List ℕ) (i : ℕ) (c : Places) (o : List ℕ) (pos : ℕ) where
@@ -199,10 +200,11 @@ module _ (child : Emitter) (measure : Surveyor) (S : Schema) (s : List ℕ) (c :
       elements-stopped room f w q m ew eq em′ =
           refused s _ pos c 0 (opens ∙ ap (λ (u : Bool). left (pick u (got (stateOf y o₂) (drop next (bits s))) fail)) (not-true whole f)) room w q o₂ m ew eq em′
 
-      pub elements-turn : not whole ≡ false
-          → D ≡ emitElements child measure u48 S k (n - (j + 1)) (stateOf y o₂) (drop next (bits s))
+      pub elements-turn : not whole ≡ false → (z : Places) → z ≡ y → D ≡ emitElements child measure u48 S k (n - (j + 1)) (stateOf z o₂) (drop next (bits s))
       unfolding bind
-      elements-turn f = opens ∙ ap (λ (u : Bool). left (pick u (got (stateOf y o₂) (drop next (bits s))) fail)) (not-false whole f)
+      elements-turn f z ez =
+          opens ∙ ap (λ (u : Bool). left (pick u (got (stateOf y o₂) (drop next (bits s))) fail)) (not-false whole f)
+          ∙ ap (λ (q : Places). emitElements child measure u48 S k (n - (j + 1)) (stateOf q o₂) (drop next (bits s))) (sym ez)
 
 -- ---- an object's content
 module _ (d : ℕ) (S : Schema) (s : List ℕ) (ob : Object) (c : Places) (o : List ℕ) (pos : ℕ) (w : Bool) (q : Places) (o₁ : List ℕ) (n : ℕ) where

@@ -125,6 +125,10 @@ room-part s pos c room p whole q out next t =
     let f = t .at in
     record { short = room .short; here = t .here; at = omega arith; bool = t .bool; tail = t .tail; next = t .next }
 
+pub room-copied : (s : List ℕ) (pos : ℕ) (c : Places) → Room s pos c → (p : Parsed State) (whole : Bool) (q : Places) (out : List ℕ) (next : ℕ)
+    → EmittedAt s p pos c 0 whole q out next → (z : Places) → z ≡ q → Room s next z
+room-copied s pos c room p whole q out next t z e = rw e (room-part s pos c room p whole q out next t)
+
 pub room-below : (s : List ℕ) (pos : ℕ) (c : Places) → Room s pos c → c .at < 2 ^ 61
 room-below s pos c room = let a = room .at in let b = room .here in let d = room .short in omega arith
 

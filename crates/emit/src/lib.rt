@@ -45,7 +45,7 @@ fn stored(c: Places, next: usize) -> Emitted
 {
     Emitted {
         whole: true,
-        places: c,
+        places: store::copied(c),
         next,
     }
 }
@@ -55,7 +55,7 @@ fn not_lawful(c: Places, pos: usize) -> Emitted
 {
     Emitted {
         whole: false,
-        places: c,
+        places: store::copied(c),
         next: pos,
     }
 }
@@ -1040,7 +1040,7 @@ fn emit_table(
                 return not_lawful(c, pos);
             }
             at = y.next;
-            p = y.places;
+            p = store::copied(y.places);
             j += 1;
             continue;
         }
@@ -1049,7 +1049,7 @@ fn emit_table(
             return not_lawful(c, pos);
         }
         at = x.next;
-        p = x.places;
+        p = store::copied(x.places);
         j += 1;
     }
     stored(p, at)
@@ -1115,7 +1115,7 @@ fn emit_objects(
             return not_lawful(c, pos);
         }
         at = x.next;
-        p = x.places;
+        p = store::copied(x.places);
         j += 1;
     }
     stored(p, at)
@@ -1146,7 +1146,7 @@ fn emit_elements(
             return not_lawful(c, pos);
         }
         at = x.next;
-        p = x.places;
+        p = store::copied(x.places);
         j += 1;
     }
     stored(p, at)

@@ -257,6 +257,26 @@ pub fn forward(c: Places, n: usize) -> Places
     }
 }
 
+// The same places, field by field: so the compiler keeps them in registers, where a copy as a whole goes through memory.
+pub fn copied(c: Places) -> Places
+    ensures { λ r. ⌜ (r ≡ c) × (r .at ≡ c .at) ⌝ }
+{
+    let at = c.at;
+    let last = c.last;
+    let free = c.free;
+    let held = c.held;
+    let tail = c.tail;
+    let next = c.next;
+    Places {
+        at,
+        last,
+        free,
+        held,
+        tail,
+        next,
+    }
+}
+
 // At the start of the next object: of w bytes, with `chain` bytes in place behind it.
 pub fn enter_object(c: Places, w: usize, chain: usize) -> Places
     requires { ⌜ (c .next ≤ 16777216) × (w < 2 ^ 49) × (chain ≤ 16777216) ⌝ }

@@ -15,7 +15,7 @@ use Rattle.store.specs.Storing.{stateOf}
 use Rattle.emit.specs.Emitting.{Room}
 use Rattle.survey.proofs.PartCases.{kind-flat, kind-object, union-counted, case-sound}
 use Rattle.survey.proofs.ObjectCases.{list-counted, table-counted, element-sound, member-kind, member-counted}
-use Rattle.emit.proofs.EmitRoom.{room-taken, taken-on, room-choice, room-flag, room-lack, room-open, room-part, room-below, stood-next, stood-tail}
+use Rattle.emit.proofs.EmitRoom.{room-taken, taken-on, room-choice, room-flag, room-lack, room-open, room-copied, room-below, stood-next, stood-tail}
 use Rattle.emit.proofs.EmitPartCases.{choice-cut, choice-zero, choice-above, choice-known, body-no-flat, body-object, body-union, unflagged-cut, unflagged-there, unflagged-bad, unflagged-none, unflagged-pass, room-lacked, leaf-told, leaf-refers, object-refers, union-refers, element-flat, element-refers, not-bare, flat-marked, flat-scalar, marked-cut, marked-there, marked-none, marked-bad}
 use Rattle.emit.proofs.EmitObjectCases.{refer-cut, refer-done, members-start, members-done, members-stopped, members-turn, refers-stopped, refers-turn, element-scalar, elements-cut, list-elements, list-objects, element-object, elements-start, elements-done, elements-stopped, elements-turn, content-deep, content-text, content-bytes, content-list, content-table}
 use Rattle.emit.proofs.RunCases.{integer-wide, list-run}
@@ -80,6 +80,7 @@ use Rattle.emit.proofs.measure_by.Reads as measure-by-reads
 use Rattle.emit.proofs.not_lawful.Reads as not-lawful-reads
 use Rattle.emit.proofs.open.Reads as open-reads
 use Rattle.emit.proofs.pass.Reads as pass-reads
+use Rattle.store.proofs.copied.Reads as copied-reads
 use Rattle.store.proofs.put_number.Reads as put-number-reads
 use Rattle.emit.proofs.put_reference.Reads as put-reference-reads
 use Rattle.emit.proofs.stored.Reads as stored-reads
@@ -238,7 +239,7 @@ abbrev emit-element-R : ℕ → emit-element-lts.Claims
 emit-element-R t = (emit-marked-flat-reads.Asked, emit-marked-flat-reads.Learnt, emit-part-below t, emit-part.Post)
 
 abbrev emit-elements-R : ℕ → emit-elements-lts.Claims
-emit-elements-R t = (emit-element-below t, emit-element.Post, not-lawful-reads.Asked, not-lawful-reads.Learnt, stored-reads.Asked, stored-reads.Learnt)
+emit-elements-R t = (emit-element-below t, emit-element.Post, not-lawful-reads.Asked, not-lawful-reads.Learnt, copied-reads.Asked, copied-reads.Learnt, stored-reads.Asked, stored-reads.Learnt)
 
 abbrev emit-list-R : ℕ → emit-list-lts.Claims
 emit-list-R t = (take-number-reads.Asked, take-number-reads.Learnt, not-lawful-reads.Asked, not-lawful-reads.Learnt, element-reads.Asked, element-reads.Learnt, bare-reads.Asked, bare-reads.Learnt, integer-width-reads.Asked, integer-width-reads.Learnt, emit-bare-reads.Asked, emit-bare-reads.Learnt, emit-elements-below t, emit-elements.Post, emit-objects-below t, emit-objects.Post)
@@ -247,7 +248,7 @@ abbrev emit-marked-R : ℕ → emit-marked-lts.Claims
 emit-marked-R t = (take-number-reads.Asked, take-number-reads.Learnt, not-lawful-reads.Asked, not-lawful-reads.Learnt, measure-by-reads.Asked, measure-by-reads.Learnt, emit-measured-below t, emit-measured.Post, put-number-reads.Asked, put-number-reads.Learnt, stored-reads.Asked, stored-reads.Learnt)
 
 abbrev emit-objects-R : ℕ → emit-objects-lts.Claims
-emit-objects-R t = (known-size-reads.Asked, known-size-reads.Learnt, emit-marked-below t, emit-marked.Post, not-lawful-reads.Asked, not-lawful-reads.Learnt, stored-reads.Asked, stored-reads.Learnt)
+emit-objects-R t = (known-size-reads.Asked, known-size-reads.Learnt, emit-marked-below t, emit-marked.Post, not-lawful-reads.Asked, not-lawful-reads.Learnt, copied-reads.Asked, copied-reads.Learnt, stored-reads.Asked, stored-reads.Learnt)
 
 abbrev emit-part-R : ℕ → emit-part-lts.Claims
 emit-part-R t = (take-number-reads.Asked, take-number-reads.Learnt, not-lawful-reads.Asked, not-lawful-reads.Learnt, emit-body-below t, emit-body.Post, lack-reads.Asked, lack-reads.Learnt, stored-reads.Asked, stored-reads.Learnt, pass-reads.Asked, pass-reads.Learnt)
@@ -259,7 +260,7 @@ abbrev emit-refer-R : ℕ → emit-refer-lts.Claims
 emit-refer-R t = (measure-reads.Asked, measure-reads.Learnt, emit-measured-below t, emit-measured.Post)
 
 abbrev emit-table-R : ℕ → emit-table-lts.Claims
-emit-table-R t = (member-count-reads.Asked, member-count-reads.Learnt, member-reads.Asked, member-reads.Learnt, is-leaf-reads.Asked, is-leaf-reads.Learnt, emit-leaf-reads.Asked, emit-leaf-reads.Learnt, not-lawful-reads.Asked, not-lawful-reads.Learnt, emit-part-below t, emit-part.Post, stored-reads.Asked, stored-reads.Learnt)
+emit-table-R t = (member-count-reads.Asked, member-count-reads.Learnt, member-reads.Asked, member-reads.Learnt, is-leaf-reads.Asked, is-leaf-reads.Learnt, emit-leaf-reads.Asked, emit-leaf-reads.Learnt, not-lawful-reads.Asked, not-lawful-reads.Learnt, copied-reads.Asked, copied-reads.Learnt, emit-part-below t, emit-part.Post, stored-reads.Asked, stored-reads.Learnt)
 
 -- src/lib.rt:848:22
 emit-body-enum-told : (t : ℕ) → emit-body-lts.Need-enum-told (emit-body-R t) (emit-body-at t) emit-body.Post
@@ -508,6 +509,9 @@ emit-elements-same-length t c = search needs
 emit-elements-returns : (t : ℕ) → emit-elements-lts.Need-returns (emit-elements-R t) (emit-elements-at t) emit-elements.Post emit-elements-Inv-loop emit-elements-μ-loop
 emit-elements-returns t c = search elements-stopped
 
+emit-elements-copied-requires : (t : ℕ) → emit-elements-lts.Need-copied-requires (emit-elements-R t) (emit-elements-at t) emit-elements.Post emit-elements-Inv-loop emit-elements-μ-loop
+emit-elements-copied-requires t c κs = search needs
+
 emit-elements-add-j : (t : ℕ) → emit-elements-lts.Need-add-j (emit-elements-R t) (emit-elements-at t) emit-elements.Post emit-elements-Inv-loop emit-elements-μ-loop
 emit-elements-add-j t c = search needs
 
@@ -515,7 +519,7 @@ emit-elements-loop-less : (t : ℕ) → emit-elements-lts.Need-loop-less (emit-e
 emit-elements-loop-less t c = search needs
 
 emit-elements-loop-again : (t : ℕ) → emit-elements-lts.Need-loop-again (emit-elements-R t) (emit-elements-at t) emit-elements.Post emit-elements-Inv-loop emit-elements-μ-loop
-emit-elements-loop-again t c = (search needs, search needs, search needs, search needs, search room-part, search needs, search elements-turn)
+emit-elements-loop-again t c = (search needs, search needs, search needs, search needs, search room-copied, search needs, search elements-turn)
 
 emit-elements-stored-requires : (t : ℕ) → emit-elements-lts.Need-stored-requires (emit-elements-R t) (emit-elements-at t) emit-elements.Post emit-elements-Inv-loop emit-elements-μ-loop
 emit-elements-stored-requires t c κs = search needs
@@ -658,6 +662,9 @@ emit-objects-same-length t c = search needs
 emit-objects-returns : (t : ℕ) → emit-objects-lts.Need-returns (emit-objects-R t) (emit-objects-at t) emit-objects.Post emit-objects-Inv-loop emit-objects-μ-loop
 emit-objects-returns t c = search elements-stopped
 
+emit-objects-copied-requires : (t : ℕ) → emit-objects-lts.Need-copied-requires (emit-objects-R t) (emit-objects-at t) emit-objects.Post emit-objects-Inv-loop emit-objects-μ-loop
+emit-objects-copied-requires t c κs = search needs
+
 emit-objects-add-j : (t : ℕ) → emit-objects-lts.Need-add-j (emit-objects-R t) (emit-objects-at t) emit-objects.Post emit-objects-Inv-loop emit-objects-μ-loop
 emit-objects-add-j t c = search needs
 
@@ -665,7 +672,7 @@ emit-objects-loop-less : (t : ℕ) → emit-objects-lts.Need-loop-less (emit-obj
 emit-objects-loop-less t c = search needs
 
 emit-objects-loop-again : (t : ℕ) → emit-objects-lts.Need-loop-again (emit-objects-R t) (emit-objects-at t) emit-objects.Post emit-objects-Inv-loop emit-objects-μ-loop
-emit-objects-loop-again t c = (search needs, search needs, search needs, search needs, search room-part, search needs, search elements-turn)
+emit-objects-loop-again t c = (search needs, search needs, search needs, search needs, search room-copied, search needs, search elements-turn)
 
 emit-objects-stored-requires : (t : ℕ) → emit-objects-lts.Need-stored-requires (emit-objects-R t) (emit-objects-at t) emit-objects.Post emit-objects-Inv-loop emit-objects-μ-loop
 emit-objects-stored-requires t c κs = search needs
@@ -798,6 +805,9 @@ emit-table-same-length t c = search needs
 emit-table-returns : (t : ℕ) → emit-table-lts.Need-returns (emit-table-R t) (emit-table-at t) emit-table.Post emit-table-Inv-loop emit-table-μ-loop
 emit-table-returns t c = search members-stopped
 
+emit-table-copied-requires : (t : ℕ) → emit-table-lts.Need-copied-requires (emit-table-R t) (emit-table-at t) emit-table.Post emit-table-Inv-loop emit-table-μ-loop
+emit-table-copied-requires t c κs = search needs
+
 emit-table-add-j : (t : ℕ) → emit-table-lts.Need-add-j (emit-table-R t) (emit-table-at t) emit-table.Post emit-table-Inv-loop emit-table-μ-loop
 emit-table-add-j t c = search needs
 
@@ -805,7 +815,7 @@ emit-table-loop-less : (t : ℕ) → emit-table-lts.Need-loop-less (emit-table-R
 emit-table-loop-less t c = search needs
 
 emit-table-loop-again : (t : ℕ) → emit-table-lts.Need-loop-again (emit-table-R t) (emit-table-at t) emit-table.Post emit-table-Inv-loop emit-table-μ-loop
-emit-table-loop-again t c = (search needs, search needs, search needs, search needs, search needs, search room-part, search needs, search (members-turn, c .before .before .before .before .before .before .before .before .before .before .before .loop .inv .7, c .before .before .before .before .before .before .before .before .before .before .before .loop .inv .1, c .before .before .before .before .before .before .before .before .before .before .loop-test .taken, c .before .before .before .before .before .before .before .before .before .member .ensures, c .before .before .before .before .before .emit-leaf .ensures, c .before .if2 .left))
+emit-table-loop-again t c = (search needs, search needs, search needs, search needs, search needs, search room-copied, search needs, search (members-turn, c .before .before .before .before .before .before .before .before .before .before .before .loop .inv .7, c .before .before .before .before .before .before .before .before .before .before .before .loop .inv .1, c .before .before .before .before .before .before .before .before .before .before .loop-test .taken, c .before .before .before .before .before .before .before .before .before .member .ensures, c .before .before .before .before .before .emit-leaf .ensures, c .before .if2 .left))
 
 emit-table-emit-part-requires : (t : ℕ) → emit-table-lts.Need-emit-part-requires (emit-table-R t) (emit-table-at t) emit-table.Post emit-table-Inv-loop emit-table-μ-loop
 emit-table-emit-part-requires t c κs = search (member-kind, leaf-refers, needs)
@@ -819,6 +829,9 @@ emit-table-same-length-2 t c = search needs
 emit-table-returns-2 : (t : ℕ) → emit-table-lts.Need-returns-2 (emit-table-R t) (emit-table-at t) emit-table.Post emit-table-Inv-loop emit-table-μ-loop
 emit-table-returns-2 t c = search refers-stopped
 
+emit-table-copied-requires-2 : (t : ℕ) → emit-table-lts.Need-copied-requires-2 (emit-table-R t) (emit-table-at t) emit-table.Post emit-table-Inv-loop emit-table-μ-loop
+emit-table-copied-requires-2 t c κs = search needs
+
 emit-table-add-j-2 : (t : ℕ) → emit-table-lts.Need-add-j-2 (emit-table-R t) (emit-table-at t) emit-table.Post emit-table-Inv-loop emit-table-μ-loop
 emit-table-add-j-2 t c = search needs
 
@@ -826,7 +839,7 @@ emit-table-loop-less-2 : (t : ℕ) → emit-table-lts.Need-loop-less-2 (emit-tab
 emit-table-loop-less-2 t c = search needs
 
 emit-table-loop-again-2 : (t : ℕ) → emit-table-lts.Need-loop-again-2 (emit-table-R t) (emit-table-at t) emit-table.Post emit-table-Inv-loop emit-table-μ-loop
-emit-table-loop-again-2 t c = (search needs, search needs, search needs, search needs, search needs, search room-part, search needs, search (refers-turn, c .before .before .before .before .before .before .before .before .before .before .before .loop .inv .7, c .before .before .before .before .before .before .before .before .before .before .before .loop .inv .1, c .before .before .before .before .before .before .before .before .before .before .loop-test .taken, c .before .before .before .before .before .before .before .before .before .member .ensures, c .before .before .before .before .before .before .before .before .is-leaf .ensures, c .before .before .before .before .before .before .before .if1 .left, c .before .before .before .before .before .emit-part .ensures, c .before .if3 .left))
+emit-table-loop-again-2 t c = (search needs, search needs, search needs, search needs, search needs, search room-copied, search needs, search (refers-turn, c .before .before .before .before .before .before .before .before .before .before .before .loop .inv .7, c .before .before .before .before .before .before .before .before .before .before .before .loop .inv .1, c .before .before .before .before .before .before .before .before .before .before .loop-test .taken, c .before .before .before .before .before .before .before .before .before .member .ensures, c .before .before .before .before .before .before .before .before .is-leaf .ensures, c .before .before .before .before .before .before .before .if1 .left, c .before .before .before .before .before .emit-part .ensures, c .before .if3 .left))
 
 -- src/lib.rt:945:5
 emit-table-stored-requires : (t : ℕ) → emit-table-lts.Need-stored-requires (emit-table-R t) (emit-table-at t) emit-table.Post emit-table-Inv-loop emit-table-μ-loop
@@ -936,6 +949,7 @@ pub +emit-body+emit-choice+emit-content+emit-element+emit-elements+emit-list+emi
     (emit-elements-not-lawful-requires t)
     (emit-elements-same-length t)
     (emit-elements-returns t)
+    (emit-elements-copied-requires t)
     (emit-elements-add-j t)
     (emit-elements-loop-less t)
     (emit-elements-loop-again t)
@@ -1006,6 +1020,7 @@ pub +emit-body+emit-choice+emit-content+emit-element+emit-elements+emit-list+emi
     (emit-objects-not-lawful-requires t)
     (emit-objects-same-length t)
     (emit-objects-returns t)
+    (emit-objects-copied-requires t)
     (emit-objects-add-j t)
     (emit-objects-loop-less t)
     (emit-objects-loop-again t)
@@ -1050,6 +1065,7 @@ pub +emit-body+emit-choice+emit-content+emit-element+emit-elements+emit-list+emi
     (emit-table-not-lawful-requires t)
     (emit-table-same-length t)
     (emit-table-returns t)
+    (emit-table-copied-requires t)
     (emit-table-add-j t)
     (emit-table-loop-less t)
     (emit-table-loop-again t)
@@ -1057,6 +1073,7 @@ pub +emit-body+emit-choice+emit-content+emit-element+emit-elements+emit-list+emi
     (emit-table-not-lawful-requires-2 t)
     (emit-table-same-length-2 t)
     (emit-table-returns-2 t)
+    (emit-table-copied-requires-2 t)
     (emit-table-add-j-2 t)
     (emit-table-loop-less-2 t)
     (emit-table-loop-again-2 t)
