@@ -5,6 +5,7 @@ use mathlib.Core.List.{List, [], _∷_}
 use Prim.Native.Nat.{ℕ, _+_, _*_, _^_, _<_, _≤_}
 use native.Mathlib.Omega.{arith}
 use lib.ListN.{length, take, drop, length-drop}
+use lib.Seq.{sets}
 use lib.Dec.{leb, eqb}
 use borrow.Author.Tests.{eq-eqb, ne-eqb, lt-ltb, le-ltb, leb-true, not-true, not-false}
 use Rattle.coding.specs.Lists.{pick}
@@ -29,9 +30,10 @@ use Rattle.survey.specs.Survey.{belowCount, aboveCount, surveyMark}
 use Rattle.store.specs.State.{State, putBytes, putBit, putByte, putNumber}
 use Rattle.emit.specs.EmitFlats.{put-none}
 use Rattle.emit.specs.EmitSheet.{putNothing, emitNumber, emitIf, emitBlob, lackFlat, lack, passFlat, pass, emitFlat}
-use Rattle.store.specs.Storing.{stateOf, HeldOk, Stood, BitPut}
-use Rattle.emit.specs.Emitting.{emitMarkedEnum, Room, EmittedAt, Lacks, emitMarkedFloat, emitMarkedFlat}
+use Rattle.store.specs.Storing.{stateOf, HeldOk, Stood, BitPut, forward}
+use Rattle.emit.specs.Emitting.{emitMarkedEnum, Room, EmittedAt, Lacks, emitMarkedFloat, emitMarkedFlat, CopiedAt}
 use Rattle.store.specs.declared.Places.{Places}
+use Rattle.store.proofs.PutCases.{copy-put}
 use Rattle.emit.proofs.EmitRoom.{taken-at, held-same, room-taken, room-stood, room-bit, room-part, room-below, refused}
 
 -- ---- numbers
@@ -326,6 +328,23 @@ blob-there s pos c room whole x mid taken h whole₁ next bs g o out q u t p n e
       next = rw (ep, u .next) (room .next);
     }
 
+-- stored, whatever places are there
+module _ (s : List ℕ) (pos to : ℕ) (whole : Bool) (x mid : ℕ) (taken : TakenNumber s pos 32 whole x mid) (o : List ℕ) where
+  pub copied-cut : not whole ≡ true → CopiedAt s o pos to false 0 pos o
+  copied-cut h = record { is = λ c room e. blob-cut s pos c room whole x mid taken [] o false c o pos h refl refl refl; small = omega arith }
+
+  module _ (h : not whole ≡ false) (whole₁ : Bool) (next : ℕ) (bs : TakenBytes s mid x whole₁ next) where
+    pub copied-short : not whole₁ ≡ true → CopiedAt s o pos to false 0 pos o
+    copied-short g = record { is = λ c room e. blob-short s pos c room whole x mid taken [] o false c o pos h whole₁ next bs g refl refl refl; small = omega arith }
+
+    pub copied-there : not whole₁ ≡ false → (out : List ℕ) → out ≡ sets o to (pack x (drop mid (bits s))) → CopiedAt s o pos to true x next out
+    copied-there g out f =
+        record {
+          is = λ c room e. blob-there s pos c room whole x mid taken h whole₁ next bs g o out (forward x c)
+              (copy-put c (forward x c) o out x (drop mid (bits s)) (f ∙ ap (λ (k : ℕ). sets o k (pack x (drop mid (bits s)))) (sym e)) refl) true (forward x c) next refl refl refl;
+          small = taken .small;
+        }
+
 -- a text is bytes and one more
 abbrev stands : Parsed State → State → State
 stands fail st = st
@@ -412,6 +431,35 @@ module _ (s : List ℕ) (pos : ℕ) (c : Places) (room : Room s pos c) (o o₁ :
         tail = rw (ep, u .tail) (e .tail);
         next = rw (ep, u .next) (e .next);
       }
+
+-- ---- by what was copied
+module _ (s : List ℕ) (pos : ℕ) (c : Places) (room : Room s pos c) (o : List ℕ) (whole : Bool) (n next : ℕ) (o₁ : List ℕ) (k : CopiedAt s o pos (c .at) whole n next o₁) where
+  pub copied-fits : c .at + n < 2 ^ 64
+  copied-fits = let l = k .small in let b = room-below s pos c room in omega arith
+
+  pub bytes-cut : not whole ≡ true → (t : Bool) (p : Places) (m : ℕ) → t ≡ false → p ≡ c → m ≡ pos
+      → EmittedAt s (emitBlob [] (stateOf c o) (drop pos (bits s))) pos c 0 t p o₁ m
+  bytes-cut h t p m et ep em =
+      refused s _ pos c 0 (k .is c room refl .is ∙ ap (λ (u : Bool). pick u (got (stateOf (pick whole (forward n c) c) o₁) (drop next (bits s))) fail) (not-true whole h)) room t p o₁ m et ep em
+
+  pub text-not : not whole ≡ true → (t : Bool) (p : Places) (m : ℕ) → t ≡ false → p ≡ c → m ≡ pos
+      → EmittedAt s (emitBlob (0 ∷ []) (stateOf c o) (drop pos (bits s))) pos c 0 t p o₁ m
+  text-not h t p m et ep em = text-cut s pos c room o o₁ whole (pick whole (forward n c) c) next (k .is c room refl) h t p o₁ m et ep em
+
+  module _ (h : not whole ≡ false) (q : Places) (eq : q ≡ forward n c) where
+    there : EmittedAt s (emitBlob [] (stateOf c o) (drop pos (bits s))) pos c 0 true (forward n c) o₁ next
+    there = subst (λ (u : Bool). EmittedAt s (emitBlob [] (stateOf c o) (drop pos (bits s))) pos c 0 u (pick u (forward n c) c) o₁ next) (not-false whole h) (k .is c room refl)
+
+    pub bytes-there : (t : Bool) (p : Places) (m : ℕ) → t ≡ true → p ≡ q → m ≡ next → EmittedAt s (emitBlob [] (stateOf c o) (drop pos (bits s))) pos c 0 t p o₁ m
+    bytes-there t p m et ep em = rw (et, ep, em, eq) there
+
+    pub text-at : q .at < 2 ^ 61
+    text-at = rw eq (text-low s pos c room o o₁ true (forward n c) next there)
+
+    pub text-done : (r : Places) (out : List ℕ) → Stood 1 (putByte 0 (stateOf q o₁)) (stateOf r out) q r → (t : Bool) (p : Places) (m : ℕ) → t ≡ true → p ≡ r → m ≡ next
+        → EmittedAt s (emitBlob (0 ∷ []) (stateOf c o) (drop pos (bits s))) pos c 0 t p out m
+    text-done r out u t p m et ep em =
+        text-there s pos c room o o₁ true (forward n c) next there refl r out (subst (λ (z : Places). Stood 1 (putByte 0 (stateOf z o₁)) (stateOf r out) z r) eq u) t p m et ep em
 
 -- ---- no value
 module _ (w : ℕ) where

@@ -1,8 +1,8 @@
 -- What the code of the pass answers, against the definitions: whether a part of the sheet is lawful, where the message goes
 -- on, and where the sheet does.
-use Prim.Native.Nat.{ℕ, _+_, _*_, _-_, _^_, _≤_}
+use Prim.Native.Nat.{ℕ, _+_, _*_, _^_, _≤_, _<_}
 use mathlib.Core.Path.{_≡_}
-use mathlib.Core.List.{List}
+use mathlib.Core.List.{List, []}
 use mathlib.Core.Bool.{Bool, true, false, _&&_, not}
 use lib.ListN.{length, drop}
 use Rattle.coding.specs.Lists.{pick}
@@ -19,8 +19,8 @@ use Rattle.coding.specs.declared.Member.{Member}
 use Rattle.survey.specs.Survey.{belowCount, surveyMark, Surveyor}
 use Rattle.survey.specs.declared.Extent.{Extent}
 use Rattle.store.specs.State.{State, enterContent, putByte, putNumber}
-use Rattle.emit.specs.EmitSheet.{Emitter, putNothing, emitIf, openObject, emitPart, flagged, emitNumber, lackFlat, passFlat, emitFlat}
-use Rattle.store.specs.Storing.{stateOf, leftObject, leftContent, HeldOk}
+use Rattle.emit.specs.EmitSheet.{Emitter, putNothing, emitIf, openObject, emitPart, flagged, emitNumber, lackFlat, passFlat, emitFlat, emitBlob}
+use Rattle.store.specs.Storing.{stateOf, leftObject, leftContent, HeldOk, forward}
 use Rattle.store.specs.declared.Places.{Places}
 
 -- ---- moves of the places
@@ -100,6 +100,12 @@ pub record EmittedAt (s : List ℕ) (p : Parsed State) (pos : ℕ) (from : Place
   pub bool : HeldOk c
   pub tail : c .tail ≤ 16777216
   pub next : c .next ≤ 16777216
+
+-- a text or bytes, of n bytes, was stored from `to` on, whatever places are there
+pub record CopiedAt (s o : List ℕ) (pos to : ℕ) (whole : Bool) (n next : ℕ) (out : List ℕ) : Type 0 where
+  pub is : (c : Places) → Room s pos c → c .at ≡ to
+      → EmittedAt s (emitBlob [] (stateOf c o) (drop pos (bits s))) pos c 0 whole (pick whole (forward n c) c) out next
+  pub small : n < 2 ^ 32
 
 -- the message as a whole
 pub record MessageAt (s : List ℕ) (p : Parsed State) (whole : Bool) (c : Places) (out : List ℕ) (end : ℕ) : Type 0 where

@@ -437,24 +437,56 @@ fn emit_bare(s: &[u8], out: &mut [u8], w: usize, n: usize, c: Places, pos: usize
 }
 
 // ---- what an object needs around its content
-// Bytes: a length and the bytes.
-fn emit_bytes(s: &[u8], out: &mut [u8], c: Places, pos: usize) -> Emitted
-    requires { ⌜ Room (now s) pos c ⌝ }
-    ensures { λ r. ⌜ EmittedAt (now (s .entry)) (Es.emitBlob [] (stateOf c (now (out .entry))) (drop pos (bits (now (s .entry))))) pos c 0 (r .whole) (r .places) (now (out .exit)) (r .next) ⌝ }
+// What was copied of a text or bytes: how many bytes, where the sheet goes on, and whether it is lawful.
+pub struct Copied {
+    pub length: usize,
+    pub next: usize,
+    pub whole: bool,
+}
+
+// A length and the bytes, which are stored from `to` on.
+fn copy_blob(s: &[u8], out: &mut [u8], to: usize, pos: usize) -> Copied
+    requires { ⌜ (length (now s) ≤ 16777215) × (pos ≤ 8 * length (now s)) × (to < 2 ^ 61) ⌝ }
+    ensures { λ r. ⌜ Eg.CopiedAt (now (s .entry)) (now (out .entry)) pos to (r .whole) (r .length) (r .next) (now (out .exit)) ⌝ }
 {
     let x = bitio::take_number(s, pos, 32);
     if !x.whole {
-        return not_lawful(c, pos);
+        return Copied {
+            length: 0,
+            next: pos,
+            whole: false,
+        };
     }
     let n = x.value as usize;
     let at = x.next;
     let y = bitio::skip_bytes(s, at, n);
     if !y.whole {
-        return not_lawful(c, pos);
+        return Copied {
+            length: 0,
+            next: pos,
+            whole: false,
+        };
     }
     let next = y.next;
-    let p = store::put_copy(s, at, out, c, n);
-    stored(p, next)
+    store::store_copy(s, at, out, to, n);
+    Copied {
+        length: n,
+        next,
+        whole: true,
+    }
+}
+
+// Bytes.
+fn emit_bytes(s: &[u8], out: &mut [u8], c: Places, pos: usize) -> Emitted
+    requires { ⌜ Room (now s) pos c ⌝ }
+    ensures { λ r. ⌜ EmittedAt (now (s .entry)) (Es.emitBlob [] (stateOf c (now (out .entry))) (drop pos (bits (now (s .entry))))) pos c 0 (r .whole) (r .places) (now (out .exit)) (r .next) ⌝ }
+{
+    let x = copy_blob(s, out, c.at, pos);
+    if !x.whole {
+        return not_lawful(c, pos);
+    }
+    let next = x.next;
+    stored(store::forward(c, x.length), next)
 }
 
 // A text has a zero byte behind its own.
@@ -462,13 +494,14 @@ fn emit_text(s: &[u8], out: &mut [u8], c: Places, pos: usize) -> Emitted
     requires { ⌜ Room (now s) pos c ⌝ }
     ensures { λ r. ⌜ EmittedAt (now (s .entry)) (Es.emitBlob (0 ∷ []) (stateOf c (now (out .entry))) (drop pos (bits (now (s .entry))))) pos c 0 (r .whole) (r .places) (now (out .exit)) (r .next) ⌝ }
 {
-    let x = emit_bytes(s, out, c, pos);
+    let x = copy_blob(s, out, c.at, pos);
     if !x.whole {
         return not_lawful(c, pos);
     }
     let next = x.next;
-    let p = store::put_byte(out, x.places, 0);
-    stored(p, next)
+    let p = store::forward(c, x.length);
+    let q = store::put_byte(out, p, 0);
+    stored(q, next)
 }
 
 // The flag of a member that has one.

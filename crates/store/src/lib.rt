@@ -182,7 +182,7 @@ fn copy_each(s: &[u8], pos: usize, out: &mut [u8], at: usize, n: usize)
 }
 
 // n bytes of the sheet.
-fn store_copy(s: &[u8], pos: usize, out: &mut [u8], at: usize, n: usize)
+pub fn store_copy(s: &[u8], pos: usize, out: &mut [u8], at: usize, n: usize)
     requires { ⌜ (length (now s) ≤ 16777215) × (pos + 8 * n ≤ 8 * length (now s)) × (at < 2 ^ 61) ⌝ }
     ensures { λ _. ⌜ now (out .exit) ≡ sets (now (out .entry)) at (pack n (drop pos (bits (now (s .entry))))) ⌝ }
 {
@@ -374,14 +374,5 @@ pub fn put_zeros(out: &mut [u8], c: Places, n: usize) -> Places
     ensures { λ r. ⌜ Stood n (St.putBytes (M.zeros n) (stateOf c (now (out .entry)))) (stateOf r (now (out .exit))) c r ⌝ }
 {
     store_zeros(out, c.at, n);
-    forward(c, n)
-}
-
-// Bytes of the sheet, n of them.
-pub fn put_copy(s: &[u8], pos: usize, out: &mut [u8], c: Places, n: usize) -> Places
-    requires { ⌜ (length (now s) ≤ 16777215) × (pos + 8 * n ≤ 8 * length (now s)) × (c .at < 2 ^ 61) ⌝ }
-    ensures { λ r. ⌜ Stood n (St.putBytes (pack n (drop pos (bits (now (s .entry))))) (stateOf c (now (out .entry)))) (stateOf r (now (out .exit))) c r ⌝ }
-{
-    store_copy(s, pos, out, c.at, n);
     forward(c, n)
 }

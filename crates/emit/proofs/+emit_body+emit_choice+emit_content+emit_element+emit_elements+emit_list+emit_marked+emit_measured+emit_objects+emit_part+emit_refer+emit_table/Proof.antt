@@ -15,7 +15,7 @@ use Rattle.store.specs.Storing.{stateOf}
 use Rattle.emit.specs.Emitting.{Room}
 use Rattle.survey.proofs.PartCases.{kind-flat, kind-object, union-counted, case-sound}
 use Rattle.survey.proofs.ObjectCases.{list-counted, table-counted, element-sound, member-kind, member-counted}
-use Rattle.emit.proofs.EmitRoom.{room-taken, taken-on, room-choice, room-flag, room-lack, room-open, room-copied, room-below, stood-next, stood-tail}
+use Rattle.emit.proofs.EmitRoom.{room-taken, room-choice, room-open, room-copied, room-below, stood-next, stood-tail}
 use Rattle.emit.proofs.EmitPartCases.{choice-cut, choice-zero, choice-above, choice-known, body-no-flat, body-object, body-union, unflagged-cut, unflagged-there, unflagged-bad, unflagged-none, unflagged-pass, room-lacked, leaf-told, leaf-refers, object-refers, union-refers, element-flat, element-refers, not-bare, flat-marked, flat-scalar, marked-cut, marked-there, marked-none, marked-bad}
 use Rattle.emit.proofs.EmitObjectCases.{refer-cut, refer-done, members-start, members-done, members-stopped, members-turn, refers-stopped, refers-turn, element-scalar, elements-cut, list-elements, list-objects, element-object, elements-start, elements-done, elements-stopped, elements-turn, content-deep, content-text, content-bytes, content-list, content-table}
 use Rattle.emit.proofs.RunCases.{integer-wide, list-run}

@@ -1,54 +1,52 @@
 use borrow.Author.Needs.{needs}
-use Rattle.emit.proofs.EmitCases.{text-cut, text-there}
+use Rattle.emit.proofs.EmitRoom.{room-below}
+use Rattle.emit.proofs.EmitCases.{copied-fits, text-not, text-at, text-done}
 use Rattle.emit.proofs.emit_text.Statement.{statement}
 use Rattle.emit.proofs.emit_text.Tie as tie
 use Rattle.emit.proofs.emit_text.Reads as reads
 use Rattle.emit.proofs.emit_text.Lts as lts
-use Rattle.emit.proofs.emit_bytes.Reads as emit-bytes-reads
+use Rattle.emit.proofs.copy_blob.Reads as copy-blob-reads
 use Rattle.emit.proofs.not_lawful.Reads as not-lawful-reads
+use Rattle.store.proofs.forward.Reads as forward-reads
 use Rattle.store.proofs.put_byte.Reads as put-byte-reads
 use Rattle.emit.proofs.stored.Reads as stored-reads
 
--- src/lib.rt:604:9
-emit-bytes-requires : tie.Need-emit-bytes-requires
-emit-bytes-requires c κs = search needs
+copy-blob-requires : tie.Need-copy-blob-requires
+copy-blob-requires c κs = search (room-below, needs)
 
--- src/lib.rt:606:9
 not-lawful-requires : tie.Need-not-lawful-requires
 not-lawful-requires c κs = search needs
 
--- src/lib.rt:606:9
 same-length : tie.Need-same-length
 same-length c = search needs
 
--- src/lib.rt:606:9
 returns : tie.Need-returns
-returns c = search text-cut
+returns c = search text-not
 
--- src/lib.rt:609:9
+forward-requires : tie.Need-forward-requires
+forward-requires c κs = search copied-fits
+
 put-byte-requires : tie.Need-put-byte-requires
-put-byte-requires c κs = search needs
+put-byte-requires c κs = search text-at
 
--- src/lib.rt:610:5
 stored-requires : tie.Need-stored-requires
 stored-requires c κs = search needs
 
--- src/lib.rt:600:1
 same-length-2 : tie.Need-same-length-2
 same-length-2 c = search needs
 
--- src/lib.rt:600:1
 returns-2 : tie.Need-returns-2
-returns-2 c = search text-there
+returns-2 c = search (text-done, c .before .before .before .before .before .before .before .before .before .before .before .before .before .before .pre, c .before .before .before .before .before .before .before .before .before .before .copy-blob .ensures, c .before .before .before .before .before .before .if1 .left, c .before .before .before .before .before .forward .ensures, c .before .before .before .put-byte .ensures, c .stored .ensures .0, c .stored .ensures .1, c .stored .ensures .2)
 
 pub emit-text-spec : {M : Type 1} → statement M
 emit-text-spec =
     tie.close
     (tie.spec
-    emit-bytes-requires
+    copy-blob-requires
     not-lawful-requires
     same-length
     returns
+    forward-requires
     put-byte-requires
     stored-requires
     same-length-2
