@@ -89,3 +89,12 @@ module _ (child : W.Child) (S : Schema) (m : List ℕ) (holder start n t : ℕ) 
           split ∙ goes g behind f
           ∙ ap (λ (q : Cursor). W.members child u48 S m holder start n q (drop (suc j) (Sc.tableOf S t .members)) (g .spent)) (sym en)
           ∙ ap (λ (k : ℕ). W.members child u48 S m holder start n next (drop k (Sc.tableOf S t .members)) (g .spent)) (sym (add-one j))
+
+    -- a member that leads nowhere
+    pub members-nowhere : j < count → (step : Step) → step ≡ leadOf (T.memberStep u48 S m start n c (Sc.memberOf S t j)) → step ≡ St.Absent
+        → (next : Cursor) → next ≡ L.afterMember u48 S (Sc.memberOf S t j) c
+        → W.members child u48 S m holder start n L.begin (Sc.tableOf S t .members) s
+        ≡ W.members child u48 S m holder start n next (drop (j + 1) (Sc.tableOf S t .members)) v
+    unfolding walkedOf W.follow
+    members-nowhere h step es e next en =
+        members-turn h step es (record { code = 0; place = 0; spent = v }) (sym (ap (λ (q : Step). W.follow child holder q v) e)) refl next en

@@ -9,7 +9,7 @@ use coding::Spent;
 use coding::Step;
 use text::Outcome;
 ghost use mathlib.Core.Path.{_≡_};
-ghost use mathlib.Core.Bool.{false};
+ghost use mathlib.Core.Bool.{true, false};
 ghost use Prim.Native.Nat.{_+_, _*_, _<_, _≤_, _^_};
 ghost use lib.ListN.{length, getD};
 ghost use Rattle.coding.specs.Bytes as B;
@@ -23,6 +23,21 @@ ghost use Rattle.schema.specs.Directory.{Accepted};
 ghost use Rattle.step.specs.Lead as D;
 ghost use Rattle.text.specs.Answers as As;
 ghost use Rattle.member.specs.Records as Rs;
+
+// Whether a step leads to no object and is no refusal.
+fn leads_nowhere(step: Step) -> bool
+    ensures { λ r. ⌜ (r ≡ true → step ≡ Step.Absent) ⌝ }
+{
+    match step {
+        Step::Refused(_) => false,
+        Step::Absent => true,
+        Step::Value(_) => false,
+        Step::Unknown(_) => false,
+        Step::Struct(_, _) => false,
+        Step::Object(_, _) => false,
+        Step::Choice(_, _, _) => false,
+    }
+}
 
 // An arrival at an object with d objects of depth left, this one counted.
 pub fn visit(
@@ -116,6 +131,11 @@ fn table(
         }
         let q = member::lead_member(b, dir, m, t, j, start, n, c);
         let step = q.step;
+        if leads_nowhere(step) {
+            c = q.next;
+            j += 1;
+            continue;
+        }
         let g = follow(b, dir, m, budget, d, holder, step, v);
         if g.code != 0 {
             return g;
