@@ -115,7 +115,7 @@ fn length_of(m: &[u8], p: Place) -> usize
     }
 }
 
-// A value that leads to no object: its mark, and what follows it.
+// A value that leads to no object: its mark, and what follows it. The struct i, which is lawful in an accepted message.
 fn write_whole(
     b: &[u8],
     dir: &[u16],
@@ -128,13 +128,11 @@ fn write_whole(
     requires { ⌜ Room (now out) pos ⌝ }
     requires { ⌜ (Accepted (now b) (now dir)) × (i < P.structCount (now b)) × (length (now m) ≤ 16777215) ⌝ }
     requires { ⌜ at + S.structSize (P.parse (now b)) i ≤ length (now m) ⌝ }
+    requires { ⌜ S.structOk (P.parse (now b)) (now m) i at ≡ true ⌝ }
     ensures { λ r. ⌜ Puts (now (out .entry)) pos (Bt.wholeAt (P.parse (now (b .entry))) (now (m .entry)) i at) (now (out .exit)) r ⌝ }
 {
-    if layout::struct_ok(b, dir, m, i, at) {
-        let p = bitio::write(out, pos, 2, 1);
-        return write_struct(b, dir, m, out, i, at, p);
-    }
-    bitio::write(out, pos, 2, 0)
+    let p = bitio::write(out, pos, 2, 1);
+    write_struct(b, dir, m, out, i, at, p)
 }
 
 fn write_flat(
@@ -151,6 +149,7 @@ fn write_flat(
     requires { ⌜ Room (now out) pos ⌝ }
     requires { ⌜ (Accepted (now b) (now dir)) × (FlatSound (length (P.parse (now b) .structs)) k) × (length (now m) ≤ 16777215) ⌝ }
     requires { ⌜ (at + S.flatWidth (S.structSize (P.parse (now b))) k ≤ length (now m)) × (bit < 8) × (at < 2 ^ 60) ⌝ }
+    requires { ⌜ D.FlatReadable (P.parse (now b)) (now m) k at ⌝ }
     ensures { λ r. ⌜ Puts (now (out .entry)) pos (Bt.flatAt (P.parse (now (b .entry))) (now (m .entry)) k none at bit) (now (out .exit)) r ⌝ }
 {
     match k {

@@ -13,7 +13,7 @@ use Rattle.entries.specs.MessageBits as A
 use Rattle.entries.specs.Readable as D
 use Rattle.marks.proofs.Remaining.{Remaining, remaining-over}
 use Rattle.entries.proofs.Objects.{object-none, header-there, content-readable, object-content, content-text, content-bytes, content-list, content-table, table-counted, table-inside, table-readable, list-counted, list-inside, list-readable}
-use Rattle.entries.proofs.Values.{reference-none, reference-there, reference-readable, choice-none, choice-unknown, choice-known, case-readable, value-none, value-flat, value-object, value-union, object-given, union-given, is-true}
+use Rattle.entries.proofs.Values.{reference-none, reference-there, reference-readable, choice-none, choice-unknown, choice-known, case-readable, value-none, value-flat, value-object, value-union, flat-given, object-given, union-given, is-true}
 use Rattle.step.proofs.Inside.{flat-sound, flat-there, object-there, choice-there, offset-there, union-counted, index-small}
 use Rattle.step.proofs.StepCases.{element-there, element-low}
 use Rattle.entries.proofs.Parts.{members-start, readable-start, member-readable, rest-readable, members-turn, members-done, plain-rest, plain-turn, elements-start, elements-readable, element-readable, elements-rest, elements-turn, elements-done, integer-eight, element-sound, list-few, list-start, list-bools, list-numbers, list-elements, elements-marked, elements-inside, elements-given}
@@ -920,7 +920,7 @@ write-value-write-flat-requires : (t : ℕ) → write-value-lts.Need-write-flat-
 write-value-write-flat-requires t c κs =
     let q = c .before .before .before .before .before .before .before .before .before .before .pre .1 in
     let fits = q .1 .1 .0 .0 (is-true _ (c .before .before .before .before .if1 .left)) in
-    (q .0, ((q .1 .0 .0, search (flat-sound, q .1 .0 .2, c .before .before .k .given .1), q .1 .0 .1), (search (flat-there, fits, c .before .before .k .given .1), q .1 .1 .0 .1, q .1 .1 .0 .2)))
+    (q .0, ((q .1 .0 .0, search (flat-sound, q .1 .0 .2, c .before .before .k .given .1), q .1 .0 .1), ((search (flat-there, fits, c .before .before .k .given .1), q .1 .1 .0 .1, q .1 .1 .0 .2), search (flat-given, q .1 .1 .1, c .before .before .before .before .if1 .left, c .before .before .k .given .1))))
 
 -- src/lib.rt:546:24
 write-value-enum-known-k-2 : (t : ℕ) → write-value-lts.Need-enum-known-k-2 (write-value-R t) (write-value-at t) write-value.Post
