@@ -1,5 +1,5 @@
 -- The ways out of the writers of values that lead to no object, and that their bits are those of the step.
-use mathlib.Core.Path.{_≡_, refl, ap, _∙_, subst}
+use mathlib.Core.Path.{_≡_, refl, sym, ap, _∙_, subst}
 use mathlib.Core.Bool.{Bool, true, false, _&&_}
 use mathlib.Core.List.{List, _++_}
 use mathlib.Core.Logic.{⊎-elim}
@@ -24,16 +24,32 @@ use Rattle.bitio.specs.Puts.{Room, Puts}
 use Rattle.bitio.specs.PutsLaws.{puts-then}
 use Rattle.marks.specs.Marks as K
 use Rattle.entries.specs.MessageBits as A
+use Rattle.entries.specs.Readable as D
 
 -- ---- structs
-module _ (S : Schema) (m : List ℕ) (i at : ℕ) (t : Bool) (et : t ≡ structOk S m i at) (o o₁ : List ℕ) (p q : ℕ) where
-  pub whole-good : t ≡ true → Room o p → (o₂ : List ℕ) (r : ℕ) → Puts o p (bitsOf 2 1) o₁ q → Puts o₁ q (A.structAt S m i at) o₂ r → Puts o p (A.wholeAt S m i at) o₂ r
-  unfolding A.wholeAt
-  whole-good f g o₂ r a b = simp (← et, f) (puts-then o o₁ o₂ p q r (bitsOf 2 1) (A.structAt S m i at) (g .short) a b)
+pub whole-there : (S : Schema) (m : List ℕ) (i at : ℕ) (o o₁ : List ℕ) (p q : ℕ) → structOk S m i at ≡ true → Room o p → (o₂ : List ℕ) (r : ℕ)
+    → Puts o p (bitsOf 2 1) o₁ q → Puts o₁ q (A.structAt S m i at) o₂ r → Puts o p (A.wholeAt S m i at) o₂ r
+unfolding A.wholeAt
+whole-there S m i at o o₁ p q e g o₂ r a b = simp e (puts-then o o₁ o₂ p q r (bitsOf 2 1) (A.structAt S m i at) (g .short) a b)
 
-  pub whole-bad : t ≡ false → Puts o p (bitsOf 2 0) o₁ q → Puts o p (A.wholeAt S m i at) o₁ q
-  unfolding A.wholeAt
-  whole-bad f h = simp (← et, f) h
+-- that the booleans of a struct that was accepted are 0 or 1
+pub flat-lawful : (child : D.Child) (S : Schema) (m : List ℕ) (k : Flat) (none : Bool) (at bit : ℕ) → D.StepReadable child S m (T.flatStep S m k none at bit)
+    → D.FlatReadable S m k at
+unfolding D.StepReadable D.FlatReadable T.flatStep T.structStep
+flat-lawful child S m F.Boolean none at bit h = tt
+flat-lawful child S m (F.Integer s w) none at bit h = tt
+flat-lawful child S m (F.Float w) none at bit h = tt
+flat-lawful child S m (F.Enumerated n) none at bit h = tt
+flat-lawful child S m (F.Struct i) none at bit h = by (structOk S m i at) refl h
+  where
+    by : (t : Bool) → structOk S m i at ≡ t → D.StepReadable child S m (pick t (St.Struct i at) (St.Refused 10)) → structOk S m i at ≡ true
+    by true e g = e
+    by false e g = absurd g
+
+pub struct-lawful : (S : Schema) (m : List ℕ) (k : Flat) (at : ℕ) → D.FlatReadable S m k at → (i j : ℕ) → k ≡ F.Struct i → j ≡ i → structOk S m j at ≡ true
+unfolding D.FlatReadable
+struct-lawful S m k at h i j e ej =
+    subst (λ (x : ℕ). structOk S m x at ≡ true) (sym ej) (subst (λ (f : Flat). D.FlatReadable S m f at) e h)
 
 -- ---- by the kind
 module _ (S : Schema) (m : List ℕ) (k : Flat) (none : Bool) (at bit : ℕ) (o o₁ : List ℕ) (p q : ℕ) where

@@ -8,4 +8,5 @@ pub mod Flats
 pub mod Values
 pub mod LeafCases
 pub mod References
-pub mod PlainNumbers
+pub mod CodedMembers
+pub mod CodedWays

@@ -38,8 +38,7 @@ use Rattle.bitio.specs.PutsLaws.{puts-then, puts-same}
 use Rattle.marks.specs.Marks as K
 use Rattle.entries.specs.MessageBits as A
 use Rattle.entries.specs.Readable as D
-use Rattle.entries.specs.Stepping.{MemberAt, PlainNumber, isHere}
-use Rattle.entries.proofs.PlainNumbers.{plain-next, plain-bits}
+use Rattle.entries.specs.Stepping.{MemberAt, Coded, behind, isHere}
 use Rattle.entries.proofs.PartLaws.{member-part, element-part}
 use Rattle.marks.proofs.Remaining.{Remaining, remaining-all, remaining-turn, remaining-done}
 
@@ -128,31 +127,31 @@ members-done d S m start n t j count c whole o₀ o p₀ p inv g ec h =
     remaining-done o₀ o p₀ p whole (A.membersAt d S m start n c (drop j (Sc.tableOf S t .members))) inv g
     (ap (λ (rs : List Member). A.membersAt d S m start n c rs) (drop-of-length-le (Sc.tableOf S t .members) l))
 
--- a member that is a number and not optional
+-- a member by its record
 module _ (d : ℕ) (S : Schema) (m : List ℕ) (start n t j count : ℕ) (c : Cursor) (ec : count ≡ length (Sc.tableOf S t .members)) (h : j < count)
     (good : D.MembersReadable (D.ObjectReadable d S m) S m start n c (drop j (Sc.tableOf S t .members))) (r : Member) (er : r ≡ Sc.memberOf S t j) (w : ℕ)
-    (num : PlainNumber r w) (next : Cursor) (en : next ≡ L.afterBytes w c) where
-  plain-split : D.StepReadable (D.ObjectReadable d S m) S m (T.memberStep u48 S m start n c (Sc.memberOf S t j))
+    (is : Coded r w) (next : Cursor) (en : next ≡ behind w c) where
+  coded-split : D.StepReadable (D.ObjectReadable d S m) S m (T.memberStep u48 S m start n c (Sc.memberOf S t j))
       × D.MembersReadable (D.ObjectReadable d S m) S m start n (L.afterMember u48 S (Sc.memberOf S t j) c) (drop (j + 1) (Sc.tableOf S t .members))
   unfolding D.MembersReadable
-  plain-split = subst (D.MembersReadable (D.ObjectReadable d S m) S m start n c) (members-opened S t j count ec h) good
+  coded-split = subst (D.MembersReadable (D.ObjectReadable d S m) S m start n c) (members-opened S t j count ec h) good
 
-  plain-behind : L.afterMember u48 S (Sc.memberOf S t j) c ≡ next
-  plain-behind = ap (λ (q : Member). L.afterMember u48 S q c) (sym er) ∙ plain-next S c r w num ∙ sym en
+  coded-behind : L.afterMember u48 S (Sc.memberOf S t j) c ≡ next
+  coded-behind = ap (λ (q : Member). L.afterMember u48 S q c) (sym er) ∙ is .next-is S c ∙ sym en
 
-  pub plain-rest : D.MembersReadable (D.ObjectReadable d S m) S m start n next (drop (j + 1) (Sc.tableOf S t .members))
-  plain-rest = subst (λ (q : Cursor). D.MembersReadable (D.ObjectReadable d S m) S m start n q (drop (j + 1) (Sc.tableOf S t .members))) plain-behind (plain-split .1)
+  pub coded-rest : D.MembersReadable (D.ObjectReadable d S m) S m start n next (drop (j + 1) (Sc.tableOf S t .members))
+  coded-rest = subst (λ (q : Cursor). D.MembersReadable (D.ObjectReadable d S m) S m start n q (drop (j + 1) (Sc.tableOf S t .members))) coded-behind (coded-split .1)
 
-  pub plain-turn : 0 < w → (whole o₀ o o₁ : List ℕ) (p₀ p p₁ : ℕ) → Remaining o₀ p₀ whole o p (A.membersAt d S m start n c (drop j (Sc.tableOf S t .members)))
-      → Room o p → Puts o p (K.plainAt m w start n (c .end)) o₁ p₁ → Remaining o₀ p₀ whole o₁ p₁ (A.membersAt d S m start n next (drop (j + 1) (Sc.tableOf S t .members)))
-  plain-turn some whole o₀ o o₁ p₀ p p₁ inv g put =
-      remaining-turn o₀ o o₁ p₀ p p₁ whole (A.membersAt d S m start n c (drop j (Sc.tableOf S t .members))) (K.plainAt m w start n (c .end))
+  pub coded-turn : (whole o₀ o o₁ : List ℕ) (p₀ p p₁ : ℕ) → Remaining o₀ p₀ whole o p (A.membersAt d S m start n c (drop j (Sc.tableOf S t .members)))
+      → Room o p → Puts o p (A.codedAt m w start n c) o₁ p₁ → Remaining o₀ p₀ whole o₁ p₁ (A.membersAt d S m start n next (drop (j + 1) (Sc.tableOf S t .members)))
+  coded-turn whole o₀ o o₁ p₀ p p₁ inv g put =
+      remaining-turn o₀ o o₁ p₀ p p₁ whole (A.membersAt d S m start n c (drop j (Sc.tableOf S t .members))) (A.codedAt m w start n c)
       (A.membersAt d S m start n next (drop (j + 1) (Sc.tableOf S t .members))) inv (g .short)
       (ap (A.membersAt d S m start n c) (members-opened S t j count ec h)
-      ∙ members-cons d S m start n c (Sc.memberOf S t j) (drop (j + 1) (Sc.tableOf S t .members)) (plain-split .0)
+      ∙ members-cons d S m start n c (Sc.memberOf S t j) (drop (j + 1) (Sc.tableOf S t .members)) (coded-split .0)
       ∙ ap₂ _++_
-      (ap (λ (q : Member). A.stepAt d S m (q .kind) (T.memberStep u48 S m start n c q)) (sym er) ∙ plain-bits d S m start n c r w num some)
-      (ap (λ (q : Cursor). A.membersAt d S m start n q (drop (j + 1) (Sc.tableOf S t .members))) plain-behind))
+      (ap (λ (q : Member). A.stepAt d S m (q .kind) (T.memberStep u48 S m start n c q)) (sym er) ∙ is .bits-are d S m start n c)
+      (ap (λ (q : Cursor). A.membersAt d S m start n q (drop (j + 1) (Sc.tableOf S t .members))) coded-behind))
       put
 
 -- ---- elements with their marks

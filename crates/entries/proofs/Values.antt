@@ -23,7 +23,7 @@ use Rattle.bitio.specs.PutsLaws.{puts-same}
 use Rattle.marks.specs.Marks as K
 use Rattle.entries.specs.MessageBits as A
 use Rattle.entries.specs.Readable as D
-use Rattle.entries.proofs.Flats.{flat-bits}
+use Rattle.entries.proofs.Flats.{flat-bits, flat-lawful}
 use Rattle.entries.proofs.Objects.{step-absent, step-object, step-unknown, step-choice, object-readable, choice-readable}
 
 -- ---- a reference
@@ -123,6 +123,12 @@ module _ (d : ℕ) (S : Schema) (m : List ℕ) (k : Kind) (here none inplace : B
         (C.value-union S m k none inplace tail at bit (T.unionStep (Sc.casesOf S i) inplace tail c x) u i e ei c x nc nx refl) refl h
 
   module _ (h : D.StepReadable (D.ObjectReadable d S m) S m (A.placed here (T.valueStep u48 S m k none inplace tail at bit))) (eh : not here ≡ false) where
+    pub flat-given : (f : Flat) → k ≡ OfFlat f → D.FlatReadable S m f at
+    flat-given f e =
+        flat-lawful (D.ObjectReadable d S m) S m f none at bit
+        (subst (D.StepReadable (D.ObjectReadable d S m) S m)
+        (sym (C.value-flat S m k none inplace tail at bit (T.flatStep S m f none at bit) f e refl ∙ there here value eh)) h)
+
     pub object-given : (ob : Object) → k ≡ OfObject ob → (x : ℕ) → Number m at 6 x → D.StepReadable (D.ObjectReadable d S m) S m (T.objectStep ob inplace tail x)
     object-given ob e x n =
         subst (D.StepReadable (D.ObjectReadable d S m) S m)

@@ -1,14 +1,16 @@
 -- The sheet's bits of what stands in a message: encode of read, part by part, as the code goes over it.
-use Prim.Native.Nat.{ℕ, _+_, _*_}
+use Prim.Native.Nat.{ℕ, _+_, _-_, _*_}
 use mathlib.Core.Bool.{Bool}
 use mathlib.Core.List.{List, _++_}
 use lib.ListN.{getD}
+use lib.Dec.{leb, eqb}
 use Rattle.coding.specs.Lists.{pick}
 use Rattle.coding.specs.Bytes.{u48, le, bitAt}
 use Rattle.coding.specs.Schema.{Schema, casesOf}
 use Rattle.coding.specs.Structs.{structOk}
 use Rattle.coding.specs.Bits.{bitsOf}
-use Rattle.marks.specs.Marks.{marked, enumAt, floatAt}
+use Rattle.coding.specs.Layout.{bitByte, bitIndex, afterBit}
+use Rattle.marks.specs.Marks.{marked, enumAt, floatAt, plainAt}
 use Rattle.coding.specs.Read as R
 use Rattle.coding.specs.Sheet as E
 use Rattle.coding.specs.Step.{fieldStep, objectStep, unionStep}
@@ -93,6 +95,21 @@ choiceAt d S m u inplace tail c x = stepAt d S m (OfUnion u) (unionStep (casesOf
 -- a value, if it is there; a member that is cut has the bits of an absent one
 unfoldable pub placed : Bool → Step → Step
 placed here v = pick here v St.Absent
+
+-- ---- members by their records, where the cursor stands in a fixed part that has n bytes from `start`
+-- an optional integer of w bytes behind its flag
+unfoldable pub optionalAt : List ℕ → ℕ → ℕ → ℕ → Cursor → List ℕ
+optionalAt m w start n c =
+    pick (leb n (bitByte c)) (bitsOf 2 0)
+    (pick (eqb (bitAt m (start + bitByte c) (bitIndex c)) 1) (plainAt m w start n (afterBit c .end)) (bitsOf 2 0))
+
+-- a bool that is not optional
+unfoldable pub boolAt : List ℕ → ℕ → ℕ → Cursor → List ℕ
+boolAt m start n c = pick (leb n (bitByte c)) (bitsOf 2 0) (marked 1 1 (bitAt m (start + bitByte c) (bitIndex c)))
+
+-- by the code q: a number of q bytes, an optional integer of q - 8 bytes, a bool
+unfoldable pub codedAt : List ℕ → ℕ → ℕ → ℕ → Cursor → List ℕ
+codedAt m q start n c = pick (leb q 8) (plainAt m q start n (c .end)) (pick (leb q 16) (optionalAt m (q - 8) start n c) (boolAt m start n c))
 
 -- the width of an integer kind in bytes, or 0
 unfoldable pub flatInteger : Flat → ℕ

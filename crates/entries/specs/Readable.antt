@@ -1,13 +1,18 @@
--- What an accepted message gives to those who read it: every place that is read lies within the message.
+-- What an accepted message gives to those who read it: every place that is read lies within the message, and a struct's
+-- booleans are 0 or 1.
+use mathlib.Core.Path.{_≡_}
+use mathlib.Core.Bool.{true}
 use Prim.Native.Nat.{ℕ, zero, suc, _+_, _<_, _≤_}
 use mathlib.Core.List.{List, [], _∷_}
 use lib.ListN.{length}
 use Rattle.coding.specs.Bytes.{u48, le, deepest}
 use Rattle.coding.specs.Schema.{Schema, elementOf, tableOf}
-use Rattle.coding.specs.Structs.{structSize}
+use Rattle.coding.specs.Structs.{structSize, structOk}
 use Rattle.coding.specs.Layout.{begin, afterMember}
 use Rattle.coding.specs.Step.{memberStep, elementStep}
 use Rattle.coding.specs.Walk.{contentSize, rootPlace}
+use Rattle.coding.specs.declared.Flat.{Flat}
+use Rattle.coding.specs.declared.Flat.the-variants as F
 use Rattle.coding.specs.declared.Object.{Object}
 use Rattle.coding.specs.declared.Object.the-variants as O
 use Rattle.coding.specs.declared.Kind.{Kind}
@@ -38,13 +43,21 @@ abbrev pub Child : Type 1
 Child = Object → Place → Type 0
 
 unfoldable pub StepReadable : Child → Schema → List ℕ → Step → Type 0
-StepReadable child S m (St.Refused n) = Unit {0}
+StepReadable child S m (St.Refused n) = ⊥
 StepReadable child S m St.Absent = Unit {0}
 StepReadable child S m (St.Value x) = Unit {0}
 StepReadable child S m (St.Unknown x) = Unit {0}
 StepReadable child S m (St.Struct i at) = (i < length (S .structs)) × (at + structSize S i ≤ length m)
 StepReadable child S m (St.Object ob p) = child ob p
 StepReadable child S m (St.Choice c ob p) = child ob p
+
+-- a value that leads to no object
+unfoldable pub FlatReadable : Schema → List ℕ → Flat → ℕ → Type 0
+FlatReadable S m F.Boolean at = Unit {0}
+FlatReadable S m (F.Integer s w) at = Unit {0}
+FlatReadable S m (F.Float w) at = Unit {0}
+FlatReadable S m (F.Enumerated n) at = Unit {0}
+FlatReadable S m (F.Struct i) at = structOk S m i at ≡ true
 
 unfoldable pub MembersReadable : Child → Schema → List ℕ → ℕ → ℕ → Cursor → List Member → Type 0
 MembersReadable child S m start n c [] = Unit {0}

@@ -1,19 +1,19 @@
 -- One member of a table, as the code goes over the members.
 use mathlib.Core.Path.{_≡_}
 use mathlib.Core.Bool.{Bool, true, false}
-use Prim.Native.Nat.{ℕ, _+_, _*_, _^_, _<_, _≤_}
+use Prim.Native.Nat.{ℕ, _+_, _-_, _*_, _^_, _<_, _≤_}
 use mathlib.Core.List.{List}
 use lib.ListN.{length}
+use lib.Dec.{leb}
+use Rattle.coding.specs.Lists.{pick}
 use Rattle.coding.specs.Bytes.{u48}
 use Rattle.coding.specs.Schema.{Schema, memberOf}
-use Rattle.coding.specs.Layout.{width, afterMember}
+use Rattle.coding.specs.Layout.{width, afterMember, afterBit, afterBytes}
 use Rattle.coding.specs.Step.{memberStep, valueStep}
 use Rattle.coding.specs.declared.Kind.{Kind}
 use Rattle.coding.specs.declared.Kind.the-variants.{OfFlat, OfObject, OfUnion}
 use Rattle.coding.specs.declared.Object.{Object}
 use Rattle.coding.specs.declared.Object.the-variants as O
-use Rattle.coding.specs.declared.Flat.{Flat}
-use Rattle.coding.specs.declared.Flat.the-variants as F
 use Rattle.coding.specs.declared.Member.{Member}
 use Rattle.coding.specs.declared.Cursor.{Cursor}
 use Rattle.laws.specs.Sound.{KindSound}
@@ -21,6 +21,7 @@ use Rattle.layout.specs.Bounds.{Laid}
 use Rattle.step.specs.Lead.{reached}
 use Rattle.step.specs.declared.Reach.{Reach}
 use Rattle.step.specs.declared.Reach.the-variants.{Cut, Past, Here}
+use Rattle.entries.specs.MessageBits.{stepAt, codedAt}
 
 unfoldable pub isHere : Reach → Bool
 isHere Cut = false
@@ -39,19 +40,13 @@ isLeaf (OfFlat f) = true
 isLeaf (OfObject ob) = isBlob ob
 isLeaf (OfUnion u) = false
 
--- a member that is a number or a float of w bytes, and not optional
-unfoldable pub NumberOf : Flat → ℕ → Type 0
-NumberOf F.Boolean w = ⊥
-NumberOf (F.Integer s v) w = v ≡ w
-NumberOf (F.Float v) w = v ≡ w
-NumberOf (F.Enumerated n) w = ⊥
-NumberOf (F.Struct i) w = ⊥
+-- a member that is written by its record alone, with the code q: how the cursor moves, and its bits
+unfoldable pub behind : ℕ → Cursor → Cursor
+behind q c = pick (leb q 8) (afterBytes q c) (pick (leb q 16) (afterBytes (q - 8) (afterBit c)) (afterBit c))
 
-pub record PlainNumber (r : Member) (w : ℕ) : Type 0 where
-  pub flat : Flat
-  pub place : Bool
-  pub is : r ≡ record { kind = OfFlat flat; optional = false; inplace = place }
-  pub number : NumberOf flat w
+pub record Coded (r : Member) (q : ℕ) : Type 0 where
+  pub next-is : (S : Schema) (c : Cursor) → afterMember u48 S r c ≡ behind q c
+  pub bits-are : (d : ℕ) (S : Schema) (m : List ℕ) (start n : ℕ) (c : Cursor) → stepAt d S m (r .kind) (memberStep u48 S m start n c r) ≡ codedAt m q start n c
 
 -- member j of table t, where the cursor stands: its kind, whether and where its value stands, and the cursor behind it
 pub record MemberAt (S : Schema) (m : List ℕ) (t j start n : ℕ) (c : Cursor) (k : Kind) (none inplace here : Bool) (at bit : ℕ) (next : Cursor) : Type 0 where

@@ -21,7 +21,7 @@ ghost use Rattle.schema.specs.Directory.{Accepted};
 ghost use Rattle.bitio.specs.Puts.{Room, Puts};
 ghost use Rattle.entries.specs.MessageBits as Bt;
 ghost use Rattle.entries.specs.Readable as D;
-ghost use Rattle.entries.specs.Stepping.{MemberAt, PlainNumber, isHere, isBlob, isLeaf};
+ghost use Rattle.entries.specs.Stepping.{MemberAt, Coded, behind, isHere, isBlob, isLeaf};
 
 // The bytes of an integer kind, or 0.
 fn integer_width(k: Kind) -> usize
@@ -115,7 +115,7 @@ fn length_of(m: &[u8], p: Place) -> usize
     }
 }
 
-// A value that leads to no object: its mark, and what follows it.
+// A value that leads to no object: its mark, and what follows it. The struct i, which is lawful in an accepted message.
 fn write_whole(
     b: &[u8],
     dir: &[u16],
@@ -128,13 +128,11 @@ fn write_whole(
     requires { ⌜ Room (now out) pos ⌝ }
     requires { ⌜ (Accepted (now b) (now dir)) × (i < P.structCount (now b)) × (length (now m) ≤ 16777215) ⌝ }
     requires { ⌜ at + S.structSize (P.parse (now b)) i ≤ length (now m) ⌝ }
+    requires { ⌜ S.structOk (P.parse (now b)) (now m) i at ≡ true ⌝ }
     ensures { λ r. ⌜ Puts (now (out .entry)) pos (Bt.wholeAt (P.parse (now (b .entry))) (now (m .entry)) i at) (now (out .exit)) r ⌝ }
 {
-    if layout::struct_ok(b, dir, m, i, at) {
-        let p = bitio::write(out, pos, 2, 1);
-        return write_struct(b, dir, m, out, i, at, p);
-    }
-    bitio::write(out, pos, 2, 0)
+    let p = bitio::write(out, pos, 2, 1);
+    write_struct(b, dir, m, out, i, at, p)
 }
 
 fn write_flat(
@@ -151,6 +149,7 @@ fn write_flat(
     requires { ⌜ Room (now out) pos ⌝ }
     requires { ⌜ (Accepted (now b) (now dir)) × (FlatSound (length (P.parse (now b) .structs)) k) × (length (now m) ≤ 16777215) ⌝ }
     requires { ⌜ (at + S.flatWidth (S.structSize (P.parse (now b))) k ≤ length (now m)) × (bit < 8) × (at < 2 ^ 60) ⌝ }
+    requires { ⌜ D.FlatReadable (P.parse (now b)) (now m) k at ⌝ }
     ensures { λ r. ⌜ Puts (now (out .entry)) pos (Bt.flatAt (P.parse (now (b .entry))) (now (m .entry)) k none at bit) (now (out .exit)) r ⌝ }
 {
     match k {
@@ -308,33 +307,102 @@ fn member_at(
     }
 }
 
-// ---- numbers that are not optional, by their records
-// The bytes of such a number or float; 0 for any other record.
-fn plain_width(b: &[u8], at: usize) -> usize
-    requires { ⌜ at + 1 < length (now b) ⌝ }
-    ensures { λ r. ⌜ (0 < r → PlainNumber (P.memberAt (now (b .entry)) at) r) × (r ≤ 8) ⌝ }
-{
-    let k = schema::kind_at(b, at);
-    if k == 0 {
-        return 0;
-    }
-    if 10 < k {
-        return 0;
-    }
-    if schema::optional_at(b, at) {
-        return 0;
-    }
-    plain_bytes(k)
-}
-
+// ---- members by their records
 fn plain_bytes(k: usize) -> usize
     requires { ⌜ k < 11 ⌝ }
-    ensures { λ r. ⌜ (r ≡ P.widthOf k) × (r ≤ 8) ⌝ }
+    ensures { λ r. ⌜ (r ≡ P.widthOf k) × (0 < r) × (r ≤ 8) ⌝ }
 {
     wire::index(schema::width_of(k))
 }
 
-// The cursor behind it.
+// How such a member is written: w for a number or float of w bytes that is not optional, 8 + w for an optional integer, 17
+// for a bool that is not optional; 0 for any other record.
+fn code_at(b: &[u8], at: usize) -> usize
+    requires { ⌜ at + 1 < length (now b) ⌝ }
+    ensures { λ r. ⌜ (0 < r → Coded (P.memberAt (now (b .entry)) at) r) × (r ≤ 17) ⌝ }
+{
+    let k = schema::kind_at(b, at);
+    if 10 < k {
+        return 0;
+    }
+    if schema::optional_at(b, at) {
+        if 8 < k {
+            return 0;
+        }
+        if k == 0 {
+            return 0;
+        }
+        return 8 + plain_bytes(k);
+    }
+    if k == 0 {
+        return 17;
+    }
+    plain_bytes(k)
+}
+
+// An optional integer of w bytes.
+fn write_optional(
+    m: &[u8],
+    out: &mut [u8],
+    w: usize,
+    start: usize,
+    n: usize,
+    c: Cursor,
+    pos: usize,
+) -> usize
+    requires { ⌜ Room (now out) pos ⌝ }
+    requires { ⌜ (w ≤ 8) × (start + n ≤ length (now m)) × (length (now m) ≤ 16777215) × (c .end < 2 ^ 57) × (c .byte ≤ c .end) × (c .bit ≤ 8) ⌝ }
+    ensures { λ r. ⌜ Puts (now (out .entry)) pos (Bt.optionalAt (now (m .entry)) w start n c) (now (out .exit)) r ⌝ }
+{
+    let at = layout::bit_byte(c);
+    if n <= at {
+        return bitio::write(out, pos, 2, 0);
+    }
+    if wire::bit_in(m, start + at, layout::bit_index(c)) {
+        let next = layout::after_bit(c);
+        return marks::write_plain(m, out, w, start, n, next.end, pos);
+    }
+    bitio::write(out, pos, 2, 0)
+}
+
+// A bool that is not optional.
+fn write_bool(m: &[u8], out: &mut [u8], start: usize, n: usize, c: Cursor, pos: usize) -> usize
+    requires { ⌜ Room (now out) pos ⌝ }
+    requires { ⌜ (start + n ≤ length (now m)) × (length (now m) ≤ 16777215) × (c .byte ≤ c .end) ⌝ }
+    ensures { λ r. ⌜ Puts (now (out .entry)) pos (Bt.boolAt (now (m .entry)) start n c) (now (out .exit)) r ⌝ }
+{
+    let at = layout::bit_byte(c);
+    if n <= at {
+        return bitio::write(out, pos, 2, 0);
+    }
+    let x = wire::byte_in(m, start + at);
+    marks::write_marked(out, pos, 1, 1, wire::bit_value(x, layout::bit_index(c)))
+}
+
+// The bits of such a member.
+fn write_coded(
+    m: &[u8],
+    out: &mut [u8],
+    q: usize,
+    start: usize,
+    n: usize,
+    c: Cursor,
+    pos: usize,
+) -> usize
+    requires { ⌜ Room (now out) pos ⌝ }
+    requires { ⌜ (start + n ≤ length (now m)) × (length (now m) ≤ 16777215) × (c .end < 2 ^ 57) × (c .byte ≤ c .end) × (c .bit ≤ 8) ⌝ }
+    ensures { λ r. ⌜ Puts (now (out .entry)) pos (Bt.codedAt (now (m .entry)) q start n c) (now (out .exit)) r ⌝ }
+{
+    if q <= 8 {
+        return marks::write_plain(m, out, q, start, n, c.end, pos);
+    }
+    if q <= 16 {
+        return write_optional(m, out, q - 8, start, n, c, pos);
+    }
+    write_bool(m, out, start, n, c, pos)
+}
+
+// The cursor w bytes further.
 fn behind_plain(c: Cursor, w: usize) -> Cursor
     requires { ⌜ (c .end < 2 ^ 58) × (w ≤ 8) ⌝ }
     ensures { λ r. ⌜ r ≡ L.afterBytes w c ⌝ }
@@ -344,6 +412,21 @@ fn behind_plain(c: Cursor, w: usize) -> Cursor
         byte: c.byte,
         bit: c.bit,
     }
+}
+
+// The cursor behind such a member.
+fn behind_coded(c: Cursor, q: usize) -> Cursor
+    requires { ⌜ (c .end < 2 ^ 57) × (c .byte ≤ c .end) × (c .bit ≤ 8) ⌝ }
+    ensures { λ r. ⌜ r ≡ behind q c ⌝ }
+{
+    if q <= 8 {
+        return behind_plain(c, q);
+    }
+    let next = layout::after_bit(c);
+    if q <= 16 {
+        return behind_plain(next, q - 8);
+    }
+    next
 }
 
 // What a reference x, or in place a length x, leads to.
@@ -526,10 +609,10 @@ fn write_table(
         if 134217720 < p {
             return p;
         }
-        let w = plain_width(b, schema::record_place(4, first, j));
+        let w = code_at(b, schema::record_place(4, first, j));
         if 0 < w {
-            p = marks::write_plain(m, out, w, start, n, c.end, p);
-            c = behind_plain(c, w);
+            p = write_coded(m, out, w, start, n, c, p);
+            c = behind_coded(c, w);
             j += 1;
             continue;
         }

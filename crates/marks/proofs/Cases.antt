@@ -14,8 +14,8 @@ use Rattle.coding.specs.Bits.{bitsOf, bits}
 use Rattle.coding.specs.Sheet as E
 use Rattle.laws.specs.Bits.{bitsOf-length, bitsOf-mod, bitsOf-join}
 use Rattle.wire.specs.Numbers.{Number}
-use Rattle.bitio.specs.Puts.{Room, Puts}
-use Rattle.bitio.specs.PutsLaws.{puts-then, puts-same, run-over, run-not}
+use Rattle.bitio.specs.Puts.{Room, Puts, saturated}
+use Rattle.bitio.specs.PutsLaws.{puts-then, puts-same, run-over, run-not, count-most}
 use Rattle.marks.specs.Marks as A
 use Rattle.marks.proofs.Remaining.{Remaining, remaining-all, remaining-turn, remaining-done}
 
@@ -30,6 +30,22 @@ unfolding A.marked
 marked-one o o₁ p q mark w x v e h =
     puts-same o o₁ p q (bitsOf (2 + w) v) (bitsOf 2 mark ++ bitsOf w x)
     (ap (bitsOf (2 + w)) e ∙ bitsOf-join 2 w mark (x % 2 ^ w) (mod-lt x (pow-pos w)) ∙ ap (λ (s : List ℕ). bitsOf 2 mark ++ s) (bitsOf-mod w x)) h
+
+-- ---- no room: bits of a known length are counted
+counted-puts : (o : List ℕ) (p n q : ℕ) (xs : List ℕ) → Room o p → length xs ≡ n → 8 * length o < p + n → q ≡ saturated (p + n) → Puts o p xs o q
+counted-puts o p n q xs g e l eq =
+    record {
+      len = refl;
+      most = subst (λ (k : ℕ). k ≤ 134217721) (sym eq) (count-most (p + n));
+      end = eq ∙ ap (λ (k : ℕ). saturated (p + k)) (sym e);
+      put = λ f. absurd (let z : ⊥ = omega arith in z);
+    }
+
+pub marked-counted : (o : List ℕ) (p q mark w x : ℕ) → Room o p → 8 * length o < p + (2 + w) → q ≡ saturated (p + (2 + w)) → Puts o p (A.marked mark w x) o q
+unfolding A.marked
+marked-counted o p q mark w x g l eq =
+    counted-puts o p (2 + w) q (bitsOf 2 mark ++ bitsOf w x) g
+    (length-append (bitsOf 2 mark) (bitsOf w x) ∙ ap₂ (λ (i j : ℕ). i + j) (bitsOf-length 2 mark) (bitsOf-length w x)) l eq
 
 -- ---- an enum
 module _ (n x : ℕ) (o o₁ : List ℕ) (p q : ℕ) where
@@ -65,6 +81,11 @@ module _ (none : Bool) (w x : ℕ) (o o₁ : List ℕ) (p q : ℕ) where
     float-value f v ev h = simp (e, ← et, f) (subst (λ (z : ℕ). Puts o p (A.marked 1 (8 * z) x) o₁ q) ev h)
 
 -- ---- a number that is not optional
+pub plain-counted : (m : List ℕ) (w start n end : ℕ) (o : List ℕ) (p q : ℕ) → end + w ≤ n → Room o p → 8 * length o < p + (2 + 8 * w)
+    → q ≡ saturated (p + (2 + 8 * w)) → Puts o p (A.plainAt m w start n end) o q
+unfolding A.plainAt
+plain-counted m w start n end o p q h g l eq = simp (le-leb _ _ h) (marked-counted o p q 1 (8 * w) (le m (start + end) w) g l eq)
+
 module _ (m : List ℕ) (w start n end : ℕ) (o o₁ : List ℕ) (p q : ℕ) where
   pub plain-none : n < end + w → Puts o p (bitsOf 2 0) o₁ q → Puts o p (A.plainAt m w start n end) o₁ q
   unfolding A.plainAt

@@ -6,7 +6,7 @@ ghost use Prim.Native.Nat.{_+_, _-_, _*_, _<_, _≤_, _^_};
 ghost use lib.ListN.{length};
 ghost use Rattle.coding.specs.Bytes as B;
 ghost use Rattle.coding.specs.Bits.{bitsOf};
-ghost use Rattle.bitio.specs.Puts.{Room, Puts};
+ghost use Rattle.bitio.specs.Puts.{Room, Puts, saturated};
 ghost use Rattle.marks.specs.Marks as Bt;
 
 // A count as a number.
@@ -16,12 +16,27 @@ pub fn number64(x: usize) -> u64
     x as u64
 }
 
+// Where k bits end for which there is no room.
+fn counted(pos: usize, k: usize) -> usize
+    requires { ⌜ (pos ≤ 134217721) × (k ≤ 66) ⌝ }
+    ensures { λ r. ⌜ r ≡ saturated (pos + k) ⌝ }
+{
+    let end = pos + k;
+    if 134217720 < end {
+        return 134217721;
+    }
+    end
+}
+
 // A mark (0 absent, 1 present, 2 unknown) and the w low bits of x.
 pub fn write_marked(out: &mut [u8], pos: usize, mark: u64, w: usize, x: u64) -> usize
     requires { ⌜ Room (now out) pos ⌝ }
     requires { ⌜ (w ≤ 64) × (mark < 4) ⌝ }
     ensures { λ r. ⌜ Puts (now (out .entry)) pos (Bt.marked mark w x) (now (out .exit)) r ⌝ }
 {
+    if 8 * out.len() < pos + (2 + w) {
+        return counted(pos, 2 + w);
+    }
     if w <= 62 {
         return bitio::write(out, pos, 2 + w, bits::append(mark, w, x));
     }
@@ -177,6 +192,9 @@ pub fn write_plain(
 {
     if n < end + w {
         return bitio::write(out, pos, 2, 0);
+    }
+    if 8 * out.len() < pos + (2 + 8 * w) {
+        return counted(pos, 2 + 8 * w);
     }
     write_marked(out, pos, 1, 8 * w, wire::number(m, start + end, w))
 }

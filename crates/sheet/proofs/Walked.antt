@@ -154,7 +154,7 @@ module _ (S : Schema) (sound : Sound S) (m : List ℕ) (child : W.Child) (good :
 
   follow-says : (holder : ℕ) (step : Step) (s : Spent) → Inside S m step → Says (D.StepReadable good S m step) (W.follow child holder step s)
   unfolding W.follow D.StepReadable
-  follow-says holder (St.Refused n) s h = refuse-says Unit n holder s h
+  follow-says holder (St.Refused n) s h = refuse-says ⊥ n holder s h
   follow-says holder St.Absent s h = tt
   follow-says holder (St.Value x) s h = tt
   follow-says holder (St.Unknown x) s h = tt

@@ -13,14 +13,14 @@ use Rattle.entries.specs.MessageBits as A
 use Rattle.entries.specs.Readable as D
 use Rattle.marks.proofs.Remaining.{Remaining, remaining-over}
 use Rattle.entries.proofs.Objects.{object-none, header-there, content-readable, object-content, content-text, content-bytes, content-list, content-table, table-counted, table-inside, table-readable, list-counted, list-inside, list-readable}
-use Rattle.entries.proofs.Values.{reference-none, reference-there, reference-readable, choice-none, choice-unknown, choice-known, case-readable, value-none, value-flat, value-object, value-union, object-given, union-given, is-true}
+use Rattle.entries.proofs.Values.{reference-none, reference-there, reference-readable, choice-none, choice-unknown, choice-known, case-readable, value-none, value-flat, value-object, value-union, flat-given, object-given, union-given, is-true}
 use Rattle.step.proofs.Inside.{flat-sound, flat-there, object-there, choice-there, offset-there, union-counted, index-small}
 use Rattle.step.proofs.StepCases.{element-there, element-low}
-use Rattle.entries.proofs.Parts.{members-start, readable-start, member-readable, rest-readable, members-turn, members-done, plain-rest, plain-turn, elements-start, elements-readable, element-readable, elements-rest, elements-turn, elements-done, integer-eight, element-sound, list-few, list-start, list-bools, list-numbers, list-elements, elements-marked, elements-inside, elements-given}
+use Rattle.entries.proofs.Parts.{members-start, readable-start, member-readable, rest-readable, members-turn, members-done, coded-rest, coded-turn, elements-start, elements-readable, element-readable, elements-rest, elements-turn, elements-done, integer-eight, element-sound, list-few, list-start, list-bools, list-numbers, list-elements, elements-marked, elements-inside, elements-given}
 use Rattle.coding.specs.declared.Kind.the-variants.{OfObject}
 use Rattle.entries.proofs.References.{offset-readable, offsets-turn, offsets-inside, offsets-given, list-offsets}
 use Rattle.schema.specs.Records.{record-whole}
-use Rattle.entries.proofs.PlainNumbers.{plain-laid, plain-member}
+use Rattle.entries.proofs.CodedMembers.{coded-laid, coded-member}
 use borrow.Fn.Kinds.{In}
 use borrow.Fn.PlainCycle.{Measures, is, falls, and}
 use Rattle.entries.proofs.write_content.Reads as write-content
@@ -60,9 +60,9 @@ use Rattle.schema.proofs.member_count.Reads as member-count-reads
 use Rattle.schema.proofs.union_case.Reads as union-case-reads
 use Rattle.entries.proofs.integer_width.Reads as integer-width-reads
 use Rattle.entries.proofs.is_leaf.Reads as is-leaf-reads
-use Rattle.entries.proofs.plain_width.Reads as plain-width-reads
-use Rattle.marks.proofs.write_plain.Reads as write-plain-reads
-use Rattle.entries.proofs.behind_plain.Reads as behind-plain-reads
+use Rattle.entries.proofs.code_at.Reads as code-at-reads
+use Rattle.entries.proofs.write_coded.Reads as write-coded-reads
+use Rattle.entries.proofs.behind_coded.Reads as behind-coded-reads
 use Rattle.schema.proofs.table_place.Reads as table-place-reads
 use Rattle.schema.proofs.record_place.Reads as record-place-reads
 use Rattle.entries.proofs.length_of.Reads as length-of-reads
@@ -237,7 +237,7 @@ abbrev write-references-R : ℕ → write-references-lts.Claims
 write-references-R t = (u48-in-reads.Asked, u48-in-reads.Learnt, write-reference-below t, write-reference.Post)
 
 abbrev write-table-R : ℕ → write-table-lts.Claims
-write-table-R t = (member-count-reads.Asked, member-count-reads.Learnt, table-place-reads.Asked, table-place-reads.Learnt, begin-reads.Asked, begin-reads.Learnt, record-place-reads.Asked, record-place-reads.Learnt, plain-width-reads.Asked, plain-width-reads.Learnt, write-plain-reads.Asked, write-plain-reads.Learnt, behind-plain-reads.Asked, behind-plain-reads.Learnt, member-at-reads.Asked, member-at-reads.Learnt, is-leaf-reads.Asked, is-leaf-reads.Learnt, write-leaf-reads.Asked, write-leaf-reads.Learnt, write-value-below t, write-value.Post)
+write-table-R t = (member-count-reads.Asked, member-count-reads.Learnt, table-place-reads.Asked, table-place-reads.Learnt, begin-reads.Asked, begin-reads.Learnt, record-place-reads.Asked, record-place-reads.Learnt, code-at-reads.Asked, code-at-reads.Learnt, write-coded-reads.Asked, write-coded-reads.Learnt, behind-coded-reads.Asked, behind-coded-reads.Learnt, member-at-reads.Asked, member-at-reads.Learnt, is-leaf-reads.Asked, is-leaf-reads.Learnt, write-leaf-reads.Asked, write-leaf-reads.Learnt, write-value-below t, write-value.Post)
 
 abbrev write-union-R : ℕ → write-union-lts.Claims
 write-union-R t = (write-reads.Asked, write-reads.Learnt, case-count-reads.Asked, case-count-reads.Learnt, number64-reads.Asked, number64-reads.Learnt, write-marked-reads.Asked, write-marked-reads.Learnt, union-case-reads.Asked, union-case-reads.Learnt, place-of-reads.Asked, place-of-reads.Learnt, write-object-below t, write-object.Post)
@@ -703,21 +703,21 @@ write-table-record-place-requires : (t : ℕ) → write-table-lts.Need-record-pl
 write-table-record-place-requires t c κs = (omega arith, c .before .before .before .before .table-place .ensures .small, omega (arith, c .before .before .before .before .before .member-count .ensures .1, c .before .loop-test .taken))
 
 -- src/lib.rt
-write-table-plain-width-requires : (t : ℕ) → write-table-lts.Need-plain-width-requires (write-table-R t) (write-table-at t) write-table.Post write-table-Inv-loop write-table-μ-loop
-write-table-plain-width-requires t c κs = omega (arith, record-whole _ _ _ (c .before .before .before .before .before .before .before .before .before .before .before .pre .1 .1 .0 .2) _ (c .before .before .before .before .before .before .member-count .ensures .0) (c .before .before .loop-test .taken) _ (c .before .before .before .before .before .table-place .ensures) _ (c .record-place .ensures .1))
+write-table-code-at-requires : (t : ℕ) → write-table-lts.Need-code-at-requires (write-table-R t) (write-table-at t) write-table.Post write-table-Inv-loop write-table-μ-loop
+write-table-code-at-requires t c κs = omega (arith, record-whole _ _ _ (c .before .before .before .before .before .before .before .before .before .before .before .pre .1 .1 .0 .2) _ (c .before .before .before .before .before .before .member-count .ensures .0) (c .before .before .loop-test .taken) _ (c .before .before .before .before .before .table-place .ensures) _ (c .record-place .ensures .1))
 
 -- src/lib.rt
-write-table-write-plain-requires : (t : ℕ) → write-table-lts.Need-write-plain-requires (write-table-R t) (write-table-at t) write-table.Post write-table-Inv-loop write-table-μ-loop
-write-table-write-plain-requires t c κs =
+write-table-write-coded-requires : (t : ℕ) → write-table-lts.Need-write-coded-requires (write-table-R t) (write-table-at t) write-table.Post write-table-Inv-loop write-table-μ-loop
+write-table-write-coded-requires t c κs =
     let q = c .before .before .before .before .before .before .before .before .before .before .before .before .before .before .pre .1 in
     let inv = c .before .before .before .before .before .before .loop .inv in
-    (inv .0, (c .before .before .plain-width .ensures .1, omega (arith, q .1 .0 .3, q .1 .0 .1), omega (arith, inv .3 .end, c .before .before .before .before .before .before .before .before .before .member-count .ensures .1, c .before .before .before .before .before .loop-test .taken)))
+    (inv .0, (q .1 .0 .3, q .1 .0 .1, omega (arith, inv .3 .end, c .before .before .before .before .before .before .before .before .before .member-count .ensures .1, c .before .before .before .before .before .loop-test .taken), inv .3 .byte, inv .3 .bit))
 
 -- src/lib.rt
-write-table-behind-plain-requires : (t : ℕ) → write-table-lts.Need-behind-plain-requires (write-table-R t) (write-table-at t) write-table.Post write-table-Inv-loop write-table-μ-loop
-write-table-behind-plain-requires t c κs =
+write-table-behind-coded-requires : (t : ℕ) → write-table-lts.Need-behind-coded-requires (write-table-R t) (write-table-at t) write-table.Post write-table-Inv-loop write-table-μ-loop
+write-table-behind-coded-requires t c κs =
     let inv = c .before .before .before .before .before .before .before .before .before .loop .inv in
-    (omega (arith, inv .3 .end, c .before .before .before .before .before .before .before .before .before .before .before .before .member-count .ensures .1, c .before .before .before .before .before .before .before .before .loop-test .taken), c .before .before .before .before .before .plain-width .ensures .1)
+    (omega (arith, inv .3 .end, c .before .before .before .before .before .before .before .before .before .before .before .before .member-count .ensures .1, c .before .before .before .before .before .before .before .before .loop-test .taken), inv .3 .byte, inv .3 .bit)
 
 -- src/lib.rt
 write-table-add-j : (t : ℕ) → write-table-lts.Need-add-j (write-table-R t) (write-table-at t) write-table.Post write-table-Inv-loop write-table-μ-loop
@@ -733,17 +733,17 @@ write-table-loop-again t c =
     let inv = c .before .before .before .before .before .before .before .before .before .before .loop .inv in
     let less = c .before .before .before .before .before .before .before .before .before .loop-test .taken in
     let count = c .before .before .before .before .before .before .before .before .before .before .before .before .before .member-count .ensures .0 in
-    let wide = c .before .before .before .before .before .before .plain-width .ensures in
+    let wide = c .before .before .before .before .before .before .code-at .ensures in
     let some = c .before .before .before .before .before .if2 .taken in
-    let put = c .before .before .before .write-plain .ensures in
-    let next = c .behind-plain .ensures in
-    let is = plain-member _ _ _ (c .before .before .before .before .before .before .before .before .before .before .before .before .before .before .before .before .before .before .pre .1 .1 .0 .2) _ count less _ (c .before .before .before .before .before .before .before .before .before .before .before .before .table-place .ensures) _ (c .before .before .before .before .before .before .before .record-place .ensures .0) in (
+    let put = c .before .before .before .write-coded .ensures in
+    let next = c .behind-coded .ensures in
+    let is = coded-member _ _ _ (c .before .before .before .before .before .before .before .before .before .before .before .before .before .before .before .before .before .before .pre .1 .1 .0 .2) _ count less _ (c .before .before .before .before .before .before .before .before .before .before .before .before .table-place .ensures) _ (c .before .before .before .before .before .before .before .record-place .ensures .0) in (
       search (room-next, inv .0, put),
       omega (arith, less),
       omega (arith, put .len, inv .2),
-      plain-laid _ _ _ _ (inv .3) (wide .1) next,
-      search (plain-rest, count, less, inv .4, is, wide .0 some, next),
-      search (plain-turn, count, less, inv .4, is, wide .0 some, next, some, inv .5, inv .0, put),
+      coded-laid _ _ _ _ (inv .3) next,
+      search (coded-rest, count, less, inv .4, is, wide .0 some, next),
+      search (coded-turn, count, less, inv .4, is, wide .0 some, next, inv .5, inv .0, put),
     )
 
 -- src/lib.rt
@@ -920,7 +920,7 @@ write-value-write-flat-requires : (t : ℕ) → write-value-lts.Need-write-flat-
 write-value-write-flat-requires t c κs =
     let q = c .before .before .before .before .before .before .before .before .before .before .pre .1 in
     let fits = q .1 .1 .0 .0 (is-true _ (c .before .before .before .before .if1 .left)) in
-    (q .0, ((q .1 .0 .0, search (flat-sound, q .1 .0 .2, c .before .before .k .given .1), q .1 .0 .1), (search (flat-there, fits, c .before .before .k .given .1), q .1 .1 .0 .1, q .1 .1 .0 .2)))
+    (q .0, ((q .1 .0 .0, search (flat-sound, q .1 .0 .2, c .before .before .k .given .1), q .1 .0 .1), ((search (flat-there, fits, c .before .before .k .given .1), q .1 .1 .0 .1, q .1 .1 .0 .2), search (flat-given, q .1 .1 .1, c .before .before .before .before .if1 .left, c .before .before .k .given .1))))
 
 -- src/lib.rt:546:24
 write-value-enum-known-k-2 : (t : ℕ) → write-value-lts.Need-enum-known-k-2 (write-value-R t) (write-value-at t) write-value.Post
@@ -1123,9 +1123,9 @@ pub +write-content+write-elements+write-list+write-object+write-reference+write-
     (write-table-same-length t)
     (write-table-returns t)
     (write-table-record-place-requires t)
-    (write-table-plain-width-requires t)
-    (write-table-write-plain-requires t)
-    (write-table-behind-plain-requires t)
+    (write-table-code-at-requires t)
+    (write-table-write-coded-requires t)
+    (write-table-behind-coded-requires t)
     (write-table-add-j t)
     (write-table-loop-less t)
     (write-table-loop-again t)

@@ -1,4 +1,4 @@
-use Rattle.entries.proofs.PlainNumbers.{bytes-is, bytes-eight}
+use Rattle.entries.proofs.CodedMembers.{bytes-is, bytes-some, bytes-eight}
 use borrow.Author.Needs.{needs}
 use Rattle.entries.proofs.plain_bytes.Statement.{statement}
 use Rattle.entries.proofs.plain_bytes.Tie as tie
@@ -7,17 +7,14 @@ use Rattle.entries.proofs.plain_bytes.Lts as lts
 use Rattle.schema.proofs.width_of.Reads as width-of-reads
 use Rattle.wire.proofs.index.Reads as index-reads
 
--- src/lib.rt:481:17
 width-of-requires : tie.Need-width-of-requires
 width-of-requires c κs = search needs
 
--- src/lib.rt:481:5
 index-requires : tie.Need-index-requires
 index-requires c κs = search needs
 
--- src/lib.rt:477:1
 returns : tie.Need-returns
-returns c = (search bytes-is, search bytes-eight)
+returns c = (search bytes-is, search bytes-some, search bytes-eight)
 
 pub plain-bytes-spec : {M : Type 1} → statement M
 plain-bytes-spec = tie.close (tie.spec width-of-requires index-requires returns)

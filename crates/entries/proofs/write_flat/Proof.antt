@@ -1,6 +1,6 @@
 use native.Mathlib.Omega.{arith}
 use Rattle.step.proofs.Inside.{boolean-there, enum-there, struct-there, integer-eight, float-eight, struct-counted}
-use Rattle.entries.proofs.Flats.{flat-boolean, flat-integer, flat-float, flat-enum, flat-struct, integer-bits, float-width}
+use Rattle.entries.proofs.Flats.{flat-boolean, flat-integer, flat-float, flat-enum, flat-struct, struct-lawful, integer-bits, float-width}
 use borrow.Author.Needs.{needs}
 use Rattle.entries.proofs.write_flat.Statement.{statement}
 use Rattle.entries.proofs.write_flat.Tie as tie
@@ -93,7 +93,7 @@ index-requires-4 c κs = search needs
 
 -- src/lib.rt:298:28
 write-whole-requires : tie.Need-write-whole-requires
-write-whole-requires c κs = (search needs, ((search needs, search struct-counted, search needs), search struct-there))
+write-whole-requires c κs = (search needs, ((search needs, search struct-counted, search needs), (search struct-there, search struct-lawful)))
 
 -- src/lib.rt:271:1
 same-length : tie.Need-same-length

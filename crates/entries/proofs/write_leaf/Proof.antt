@@ -1,4 +1,4 @@
-use Rattle.entries.proofs.Values.{value-none, value-flat, value-object, object-given, is-true}
+use Rattle.entries.proofs.Values.{value-none, value-flat, value-object, flat-given, object-given, is-true}
 use Rattle.entries.proofs.LeafCases.{leaf-blob, leaf-other}
 use Rattle.step.proofs.Inside.{flat-sound, flat-there, object-there}
 use borrow.Author.Needs.{needs}
@@ -32,7 +32,7 @@ write-flat-requires : tie.Need-write-flat-requires
 write-flat-requires c κs =
     let q = c .before .before .before .before .before .before .before .before .before .before .pre in
     let fits = q .1 .1 .0 .0 (is-true _ (c .before .before .before .before .if1 .left)) in
-    (q .0, ((q .1 .0 .0, search (flat-sound, q .1 .0 .2, c .before .before .k .given .1), q .1 .0 .1), (search (flat-there, fits, c .before .before .k .given .1), q .1 .1 .0 .1, q .1 .1 .0 .2)))
+    (q .0, ((q .1 .0 .0, search (flat-sound, q .1 .0 .2, c .before .before .k .given .1), q .1 .0 .1), ((search (flat-there, fits, c .before .before .k .given .1), q .1 .1 .0 .1, q .1 .1 .0 .2), search (flat-given, q .1 .1 .1, c .before .before .before .before .if1 .left, c .before .before .k .given .1))))
 
 -- src/lib.rt:399:24
 enum-known-k-2 : tie.Need-enum-known-k-2

@@ -1,37 +1,90 @@
 -- A mark and its number by one number where they fit, else one after the other.
-use Rattle.marks.proofs.Cases.{marked-puts, marked-one}
+use Rattle.marks.proofs.Cases.{marked-counted, marked-puts, marked-one}
 use borrow.Author.Needs.{needs}
 use Rattle.marks.proofs.write_marked.Statement.{statement}
 use Rattle.marks.proofs.write_marked.Tie as tie
+use Rattle.marks.proofs.write_marked.Reads as reads
+use Rattle.marks.proofs.write_marked.Lts as lts
+use Rattle.bitio.proofs.write.Reads as write-reads
+use Rattle.bits.proofs.append.Reads as append-reads
+use Rattle.marks.proofs.counted.Reads as counted-reads
 
+-- src/lib.rt:37:8
+mul-if1 : tie.Need-mul-if1
+mul-if1 c = search needs
+
+-- src/lib.rt:37:31
+add-if1 : tie.Need-add-if1
+add-if1 c = search needs
+
+-- src/lib.rt:37:24
+add-if1-2 : tie.Need-add-if1-2
+add-if1-2 c = search needs
+
+-- src/lib.rt:38:29
+add-counted : tie.Need-add-counted
+add-counted c = search needs
+
+-- src/lib.rt:38:9
+counted-requires : tie.Need-counted-requires
+counted-requires c κs = search needs
+
+-- src/lib.rt:38:9
+returns : tie.Need-returns
+returns c = search marked-counted
+
+-- src/lib.rt:41:39
 add-write : tie.Need-add-write
 add-write c = search needs
 
+-- src/lib.rt:41:46
 append-requires : tie.Need-append-requires
 append-requires c κs = search needs
 
+-- src/lib.rt:41:9
 write-requires : tie.Need-write-requires
 write-requires c κs = search needs
 
+-- src/lib.rt:41:9
 same-length : tie.Need-same-length
 same-length c = search needs
 
-returns : tie.Need-returns
-returns c = search marked-one
+-- src/lib.rt:41:9
+returns-2 : tie.Need-returns-2
+returns-2 c = search marked-one
 
+-- src/lib.rt:43:9
 write-requires-2 : tie.Need-write-requires-2
 write-requires-2 c κs = search needs
 
+-- src/lib.rt:44:5
 write-requires-3 : tie.Need-write-requires-3
 write-requires-3 c κs = search needs
 
+-- src/lib.rt:32:1
 same-length-2 : tie.Need-same-length-2
 same-length-2 c = search needs
 
-returns-2 : tie.Need-returns-2
-returns-2 c = search marked-puts
+-- src/lib.rt:32:1
+returns-3 : tie.Need-returns-3
+returns-3 c = search marked-puts
 
 pub write-marked-spec : {M : Type 1} → statement M
 write-marked-spec =
     tie.close
-    (tie.spec add-write append-requires write-requires same-length returns write-requires-2 write-requires-3 same-length-2 returns-2)
+    (tie.spec
+    mul-if1
+    add-if1
+    add-if1-2
+    add-counted
+    counted-requires
+    returns
+    add-write
+    append-requires
+    write-requires
+    same-length
+    returns-2
+    write-requires-2
+    write-requires-3
+    same-length-2
+    returns-3)

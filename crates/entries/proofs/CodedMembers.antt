@@ -1,0 +1,281 @@
+-- Members that are written by their records alone: by the record, their bits, and the cursor behind them.
+use mathlib.Core.Path.{_≡_, refl, sym, ap, ap₂, _∙_, subst}
+use mathlib.Core.Bool.{Bool, true, false}
+use mathlib.Core.List.{List}
+use Prim.Native.Nat.{ℕ, _+_, _-_, _*_, _<_, _≤_}
+use native.Mathlib.Omega.{arith}
+use lib.ListN.{length}
+use lib.Dec.{leb, ltb, eqb}
+use borrow.Author.Tests.{leb-true, leb-false, le-leb, lt-leb, ltb-true, lt-ltb, eq-eqb, ne-eqb}
+use Rattle.coding.specs.Lists.{pick}
+use Rattle.coding.specs.Bytes.{u48, le, bitAt}
+use Rattle.coding.specs.Schema as Sc
+use Rattle.coding.specs.Schema.{Schema}
+use Rattle.coding.specs.Packed as P
+use Rattle.coding.specs.Structs.{flatWidth}
+use Rattle.coding.specs.Layout as L
+use Rattle.coding.specs.Step as T
+use Rattle.coding.specs.Bits.{bitsOf}
+use Rattle.coding.specs.declared.Flat.{Flat}
+use Rattle.coding.specs.declared.Flat.the-variants as F
+use Rattle.coding.specs.declared.Kind.{Kind}
+use Rattle.coding.specs.declared.Kind.the-variants.{OfFlat, OfObject, OfUnion}
+use Rattle.coding.specs.declared.Member.{Member}
+use Rattle.coding.specs.declared.Cursor.{Cursor}
+use Rattle.coding.specs.declared.Step.{Step}
+use Rattle.coding.specs.declared.Step.the-variants as St
+use Rattle.laws.specs.RecordSound.{width-range}
+use Rattle.schema.specs.Directory.{Block}
+use Rattle.layout.specs.Bounds.{Laid}
+use Rattle.schema.specs.Records.{record-member}
+use Rattle.marks.specs.Marks as K
+use Rattle.entries.specs.MessageBits as A
+use Rattle.entries.specs.Stepping.{Coded, behind}
+
+-- ---- the record
+-- a number or a float of w bytes; an integer alone
+unfoldable NumberOf : Flat → ℕ → Type 0
+NumberOf F.Boolean w = ⊥
+NumberOf (F.Integer s v) w = v ≡ w
+NumberOf (F.Float v) w = v ≡ w
+NumberOf (F.Enumerated n) w = ⊥
+NumberOf (F.Struct i) w = ⊥
+
+unfoldable IntegerOf : Flat → ℕ → Type 0
+IntegerOf F.Boolean w = ⊥
+IntegerOf (F.Integer s v) w = v ≡ w
+IntegerOf (F.Float v) w = ⊥
+IntegerOf (F.Enumerated n) w = ⊥
+IntegerOf (F.Struct i) w = ⊥
+
+abbrev flatMember : Flat → Bool → Bool → Member
+flatMember f o place = record { kind = OfFlat f; optional = o; inplace = place }
+
+among : (v : ℕ) (t u : Bool) → NumberOf (pick t (F.Integer false v) (pick u (F.Integer true v) (F.Float v))) v
+unfolding NumberOf
+among v true u = refl
+among v false true = refl
+among v false false = refl
+
+number-flat : (k a : ℕ) → (k ≡ 0 → ⊥) → k ≤ 10 → NumberOf (P.flatOf k a) (P.widthOf k)
+unfolding P.flatOf
+number-flat k a h l = let g : k < 11 = omega arith in simp (ne-eqb k 0 h, lt-ltb _ _ g) (among (P.widthOf k) (ltb k 5) (ltb k 9))
+
+signed : (v : ℕ) (t : Bool) → IntegerOf (pick t (F.Integer false v) (F.Integer true v)) v
+unfolding IntegerOf
+signed v true = refl
+signed v false = refl
+
+integer-flat : (k a : ℕ) → (k ≡ 0 → ⊥) → k ≤ 8 → IntegerOf (P.flatOf k a) (P.widthOf k)
+unfolding P.flatOf
+integer-flat k a h l = let g : k < 9 = omega arith in simp (ne-eqb k 0 h, lt-ltb _ _ g) (signed (P.widthOf k) (ltb k 5))
+
+bool-flat : (k a : ℕ) → k ≡ 0 → P.flatOf k a ≡ F.Boolean
+unfolding P.flatOf
+bool-flat k a h = simp (eq-eqb _ _ h)
+
+member-at : (b : List ℕ) (at k : ℕ) → k ≡ P.kindAt b at → k ≤ 10 → (o v : Bool) → o ≡ P.optionalAt b at → o ≡ v
+    → P.memberAt b at ≡ record { kind = OfFlat (P.flatOf k (P.argumentAt b at)); optional = v; inplace = P.inplaceAt b at }
+unfolding P.memberAt P.elementAt P.kindOf
+member-at b at k ek l o v eo f =
+    let g : k < 13 = omega arith in
+    let q : P.elementAt b at ≡ OfFlat (P.flatOf k (P.argumentAt b at)) =
+    ap (λ (i : ℕ). P.kindOf i (P.argumentAt b at)) (sym ek)
+    ∙ ap (λ (t : Bool). pick t (OfFlat (P.flatOf k (P.argumentAt b at))) (pick (ltb k 17) (OfObject (P.objectOf k (P.argumentAt b at))) (OfUnion (P.argumentAt b at)))) (lt-ltb k 13 g) in
+    ap₂ (λ (x : Kind) (y : Bool). record { kind = x; optional = y; inplace = P.inplaceAt b at }) q (sym eo ∙ f)
+
+module _ (k : ℕ) (h : k < 11) (v : ℕ) (ev : v ≡ P.widthOf k) (w : ℕ) (ew : w ≡ v) where
+  pub bytes-some : 0 < w
+  bytes-some = let x = width-range k h .0 in omega arith
+
+  pub bytes-eight : w ≤ 8
+  bytes-eight = let x = width-range k h .1 in omega arith
+
+pub bytes-is : (k v w : ℕ) → v ≡ P.widthOf k → w ≡ v → w ≡ P.widthOf k
+bytes-is k v w ev ew = ew ∙ ev
+
+-- ---- by the code
+module _ (q : ℕ) (A : Type 0) (x y z : A) where
+  code-number : q ≤ 8 → pick (leb q 8) x (pick (leb q 16) y z) ≡ x
+  code-number h = simp (le-leb _ _ h)
+
+  code-optional : 8 < q → q ≤ 16 → pick (leb q 8) x (pick (leb q 16) y z) ≡ y
+  code-optional h l = simp (lt-leb _ _ h, le-leb _ _ l)
+
+-- ---- the bits of a member's step
+module _ (d : ℕ) (S : Schema) (m : List ℕ) (k : Kind) where
+  refused-bits : A.stepAt d S m k (St.Refused 8) ≡ bitsOf 2 0
+  unfolding A.stepAt
+  refused-bits = refl
+
+  no-bits : A.stepAt d S m k St.Absent ≡ bitsOf 2 0
+  unfolding A.stepAt
+  no-bits = refl
+
+  absent-bits : (t u : Bool) → A.stepAt d S m k (pick t St.Absent (pick u St.Absent (St.Refused 8))) ≡ bitsOf 2 0
+  unfolding A.stepAt
+  absent-bits true u = refl
+  absent-bits false true = refl
+  absent-bits false false = refl
+
+  placed-bits : (w n e x : ℕ) (past : Step) → A.stepAt d S m k past ≡ bitsOf 2 0 → 0 < w → 8 * w ≡ A.valueWidth k
+      → A.stepAt d S m k (pick (leb n e) past (pick (leb (e + w) n) (St.Value x) (St.Refused 8))) ≡ pick (leb (e + w) n) (K.marked 1 (8 * w) x) (bitsOf 2 0)
+  unfolding A.stepAt
+  placed-bits w n e x past ep some ew = by (leb n e) (leb (e + w) n) refl refl
+    where
+      by : (t u : Bool) → leb n e ≡ t → leb (e + w) n ≡ u → A.stepAt d S m k (pick t past (pick u (St.Value x) (St.Refused 8))) ≡ pick u (K.marked 1 (8 * w) x) (bitsOf 2 0)
+      by true true et eu = let a = leb-true n e et in let b = leb-true (e + w) n eu in absurd (let z : ⊥ = omega arith in z)
+      by true false et eu = ep
+      by false true et eu = ap (λ (i : ℕ). K.marked 1 i x) (sym ew)
+      by false false et eu = refl
+
+-- ---- a number that is not optional
+module _ (place : Bool) (w : ℕ) where
+  number-next : (S : Schema) (c : Cursor) (f : Flat) → NumberOf f w → L.afterMember u48 S (flatMember f false place) c ≡ L.afterBytes w c
+  unfolding L.afterMember L.afterValue L.afterFlag L.hasFlag L.isBool L.flatIsBool L.width flatWidth NumberOf
+  number-next S c F.Boolean e = absurd e
+  number-next S c (F.Integer s v) e = ap (λ (x : ℕ). L.afterBytes x c) e
+  number-next S c (F.Float v) e = ap (λ (x : ℕ). L.afterBytes x c) e
+  number-next S c (F.Enumerated n) e = absurd e
+  number-next S c (F.Struct i) e = absurd e
+
+  number-bits : (d : ℕ) (S : Schema) (m : List ℕ) (start n : ℕ) (c : Cursor) → 0 < w → (f : Flat) → NumberOf f w
+      → A.stepAt d S m (OfFlat f) (T.memberStep u48 S m start n c (flatMember f false place)) ≡ K.plainAt m w start n (c .end)
+  unfolding T.memberStep T.inside T.valueStep T.flatStep T.floatStep L.memberSlot L.slotOf L.afterFlag L.hasFlag L.isBool L.flatIsBool L.width flatWidth NumberOf K.plainAt A.valueWidth A.flatValue
+  number-bits d S m start n c some F.Boolean e = absurd e
+  number-bits d S m start n c some (F.Integer s v) e =
+      placed-bits d S m (OfFlat (F.Integer s v)) v n (c .end) (le m (start + c .end) v) St.Absent (no-bits d S m (OfFlat (F.Integer s v)))
+      (subst (λ (x : ℕ). 0 < x) (sym e) some) refl
+      ∙ ap (λ (x : ℕ). K.plainAt m x start n (c .end)) e
+  number-bits d S m start n c some (F.Float v) e =
+      placed-bits d S m (OfFlat (F.Float v)) v n (c .end) (le m (start + c .end) v) St.Absent (no-bits d S m (OfFlat (F.Float v)))
+      (subst (λ (x : ℕ). 0 < x) (sym e) some) refl
+      ∙ ap (λ (x : ℕ). K.plainAt m x start n (c .end)) e
+  number-bits d S m start n c some (F.Enumerated k) e = absurd e
+  number-bits d S m start n c some (F.Struct i) e = absurd e
+
+  number-coded : (f : Flat) → NumberOf f w → 0 < w → w ≤ 8 → Coded (flatMember f false place) w
+  unfolding behind A.codedAt
+  number-coded f e some few =
+      record {
+        next-is = λ S c.
+            number-next S c f e ∙ sym (code-number w Cursor (L.afterBytes w c) (L.afterBytes (w - 8) (L.afterBit c)) (L.afterBit c) few);
+        bits-are = λ d S m start n c.
+            number-bits d S m start n c some f e
+            ∙ sym (code-number w (List ℕ) (K.plainAt m w start n (c .end)) (A.optionalAt m (w - 8) start n c) (A.boolAt m start n c) few);
+      }
+
+  -- ---- an optional integer
+  optional-next : (S : Schema) (c : Cursor) (f : Flat) → IntegerOf f w → L.afterMember u48 S (flatMember f true place) c ≡ L.afterBytes w (L.afterBit c)
+  unfolding L.afterMember L.afterValue L.afterFlag L.hasFlag L.takesFlag L.flatTakesFlag L.isBool L.flatIsBool L.width flatWidth IntegerOf
+  optional-next S c F.Boolean e = absurd e
+  optional-next S c (F.Integer s v) e = ap (λ (x : ℕ). L.afterBytes x (L.afterBit c)) e
+  optional-next S c (F.Float v) e = absurd e
+  optional-next S c (F.Enumerated n) e = absurd e
+  optional-next S c (F.Struct i) e = absurd e
+
+  optional-bits : (d : ℕ) (S : Schema) (m : List ℕ) (start n : ℕ) (c : Cursor) → 0 < w → (f : Flat) → IntegerOf f w
+      → A.stepAt d S m (OfFlat f) (T.memberStep u48 S m start n c (flatMember f true place)) ≡ A.optionalAt m w start n c
+  unfolding T.memberStep T.flagged T.inside T.valueStep T.flatStep L.memberSlot L.slotOf L.afterFlag L.hasFlag L.takesFlag L.flatTakesFlag L.isBool L.flatIsBool L.width flatWidth IntegerOf K.plainAt A.optionalAt A.valueWidth A.flatValue
+  optional-bits d S m start n c some F.Boolean e = absurd e
+  optional-bits d S m start n c some (F.Integer s v) e =
+      by (L.afterBit c .end) (le m (start + L.afterBit c .end) v) (leb n (L.bitByte c)) (eqb (bitAt m (start + L.bitByte c) (L.bitIndex c)) 1)
+      ∙ ap (λ (x : ℕ). A.optionalAt m x start n c) e
+    where
+      by : (a x : ℕ) (t u : Bool)
+          → A.stepAt d S m (OfFlat (F.Integer s v))
+          (pick t St.Absent
+          (pick u (pick (leb n a) (St.Refused 8) (pick (leb (a + v) n) (St.Value x) (St.Refused 8)))
+          (pick (leb n a) St.Absent (pick (leb (a + v) n) St.Absent (St.Refused 8)))))
+          ≡ pick t (bitsOf 2 0) (pick u (pick (leb (a + v) n) (K.marked 1 (8 * v) x) (bitsOf 2 0)) (bitsOf 2 0))
+      by a x true u = no-bits d S m (OfFlat (F.Integer s v))
+      by a x false true =
+          placed-bits d S m (OfFlat (F.Integer s v)) v n a x (St.Refused 8) (refused-bits d S m (OfFlat (F.Integer s v)))
+          (subst (λ (i : ℕ). 0 < i) (sym e) some) refl
+      by a x false false = absent-bits d S m (OfFlat (F.Integer s v)) (leb n a) (leb (a + v) n)
+  optional-bits d S m start n c some (F.Float v) e = absurd e
+  optional-bits d S m start n c some (F.Enumerated k) e = absurd e
+  optional-bits d S m start n c some (F.Struct i) e = absurd e
+
+  optional-coded : (f : Flat) → IntegerOf f w → 0 < w → w ≤ 8 → Coded (flatMember f true place) (8 + w)
+  unfolding behind A.codedAt
+  optional-coded f e some few =
+      let h : 8 < 8 + w = omega arith in
+      let l : 8 + w ≤ 16 = omega arith in
+      let z : w ≡ 8 + w - 8 = omega arith in
+      record {
+        next-is = λ S c.
+            optional-next S c f e ∙ ap (λ (i : ℕ). L.afterBytes i (L.afterBit c)) z
+            ∙ sym (code-optional (8 + w) Cursor (L.afterBytes (8 + w) c) (L.afterBytes (8 + w - 8) (L.afterBit c)) (L.afterBit c) h l);
+        bits-are = λ d S m start n c.
+            optional-bits d S m start n c some f e ∙ ap (λ (i : ℕ). A.optionalAt m i start n c) z
+            ∙ sym (code-optional (8 + w) (List ℕ) (K.plainAt m (8 + w) start n (c .end)) (A.optionalAt m (8 + w - 8) start n c) (A.boolAt m start n c) h l);
+      }
+
+-- ---- a bool that is not optional
+bool-bits : (place : Bool) (d : ℕ) (S : Schema) (m : List ℕ) (start n : ℕ) (c : Cursor)
+    → A.stepAt d S m (OfFlat F.Boolean) (T.memberStep u48 S m start n c (flatMember F.Boolean false place)) ≡ A.boolAt m start n c
+unfolding T.memberStep T.inside T.valueStep T.flatStep L.memberSlot L.slotOf L.afterFlag L.hasFlag L.isBool L.flatIsBool A.boolAt A.stepAt A.valueWidth A.flatValue
+bool-bits place d S m start n c = by (L.bitByte c) (bitAt m (start + L.bitByte c) (L.bitIndex c)) (leb n (L.bitByte c)) (leb (L.bitByte c + 1) n) refl refl
+  where
+    by : (a x : ℕ) (t u : Bool) → leb n a ≡ t → leb (a + 1) n ≡ u
+        → A.stepAt d S m (OfFlat F.Boolean) (pick t St.Absent (pick u (St.Value x) (St.Refused 8))) ≡ pick t (bitsOf 2 0) (K.marked 1 1 x)
+    by a x true u et eu = refl
+    by a x false true et eu = refl
+    by a x false false et eu = let g = leb-false n a et in let l = leb-false (a + 1) n eu in absurd (let z : ⊥ = omega arith in z)
+
+bool-next : (place : Bool) (S : Schema) (c : Cursor) → L.afterMember u48 S (flatMember F.Boolean false place) c ≡ L.afterBit c
+unfolding L.afterMember L.afterValue L.afterFlag L.hasFlag L.isBool L.flatIsBool
+bool-next place S c = refl
+
+bool-coded : (place : Bool) → Coded (flatMember F.Boolean false place) 17
+unfolding behind A.codedAt
+bool-coded place = record { next-is = λ S c. bool-next place S c; bits-are = λ d S m start n c. bool-bits place d S m start n c }
+
+-- ---- the code of a record
+module _ (b : List ℕ) (at k : ℕ) (ek : k ≡ P.kindAt b at) (l : k ≤ 10) (o : Bool) (eo : o ≡ P.optionalAt b at) where
+  pub number-at : o ≡ false → (k ≡ 0 → ⊥) → (w : ℕ) → w ≡ P.widthOf k → 0 < w → w ≤ 8 → Coded (P.memberAt b at) w
+  number-at f h w ew some few =
+      subst (λ (r : Member). Coded r w) (sym (member-at b at k ek l o false eo f))
+      (number-coded (P.inplaceAt b at) w (P.flatOf k (P.argumentAt b at)) (subst (NumberOf (P.flatOf k (P.argumentAt b at))) (sym ew) (number-flat k (P.argumentAt b at) h l)) some few)
+
+  pub optional-at : o ≡ true → (k ≡ 0 → ⊥) → k ≤ 8 → (w : ℕ) → w ≡ P.widthOf k → 0 < w → w ≤ 8 → Coded (P.memberAt b at) (8 + w)
+  optional-at f h g w ew some few =
+      subst (λ (r : Member). Coded r (8 + w)) (sym (member-at b at k ek l o true eo f))
+      (optional-coded (P.inplaceAt b at) w (P.flatOf k (P.argumentAt b at)) (subst (IntegerOf (P.flatOf k (P.argumentAt b at))) (sym ew) (integer-flat k (P.argumentAt b at) h g)) some few)
+
+  pub bool-at : o ≡ false → k ≡ 0 → Coded (P.memberAt b at) 17
+  bool-at f h =
+      subst (λ (r : Member). Coded r 17)
+      (sym (member-at b at k ek l o false eo f ∙ ap (λ (x : Flat). flatMember x false (P.inplaceAt b at)) (bool-flat k (P.argumentAt b at) h)))
+      (bool-coded (P.inplaceAt b at))
+
+-- ---- the cursor behind it
+bit-laid : (e : ℕ) (c : Cursor) → Laid e c → Laid (e + 1) (L.afterBit c)
+unfolding L.afterBit
+bit-laid e c p = by (ltb (c .bit) 8) refl
+  where
+    by : (t : Bool) → ltb (c .bit) 8 ≡ t → Laid (e + 1) (pick t (record { end = c .end; byte = c .byte; bit = c .bit + 1 }) (record { end = c .end + 1; byte = c .end; bit = 1 }))
+    by true h = let x = p .end in let y = ltb-true (c .bit) 8 h in record { end = omega arith; byte = p .byte; bit = omega arith }
+    by false h = let x = p .end in record { end = omega arith; byte = omega arith; bit = omega arith }
+
+bytes-laid : (e f w : ℕ) (c : Cursor) → Laid e c → e + w ≤ f → Laid f (L.afterBytes w c)
+unfolding L.afterBytes
+bytes-laid e f w c p h = let x = p .end in let y = p .byte in record { end = omega arith; byte = omega arith; bit = p .bit }
+
+laid-more : (e f : ℕ) (c : Cursor) → Laid e c → e ≤ f → Laid f c
+laid-more e f c p h = let x = p .end in record { end = omega arith; byte = p .byte; bit = p .bit }
+
+pub coded-laid : (j q : ℕ) (c next : Cursor) → Laid (4097 * j) c → next ≡ behind q c → Laid (4097 * (j + 1)) next
+unfolding behind
+coded-laid j q c next p e = subst (Laid (4097 * (j + 1))) (sym e) (by (leb q 8) (leb q 16) refl refl)
+  where
+    by : (t u : Bool) → leb q 8 ≡ t → leb q 16 ≡ u → Laid (4097 * (j + 1)) (pick t (L.afterBytes q c) (pick u (L.afterBytes (q - 8) (L.afterBit c)) (L.afterBit c)))
+    by true u et eu = let h = leb-true q 8 et in bytes-laid (4097 * j) (4097 * (j + 1)) q c p (omega arith)
+    by false true et eu = let h = leb-true q 16 eu in bytes-laid (4097 * j + 1) (4097 * (j + 1)) (q - 8) (L.afterBit c) (bit-laid (4097 * j) c p) (omega arith)
+    by false false et eu = laid-more (4097 * j + 1) (4097 * (j + 1)) (L.afterBit c) (bit-laid (4097 * j) c p) (omega arith)
+
+-- ---- the record of member j
+pub coded-member : (b : List ℕ) (t j : ℕ) → t < P.tableCount b → (count : ℕ) → count ≡ length (Sc.tableOf (P.parse b) t .members) → j < count → (first : ℕ)
+    → Block b 4 (P.tablePlace b t) first → (at : ℕ) → at ≡ P.recordPlace 4 first j → P.memberAt b at ≡ Sc.memberOf (P.parse b) t j
+coded-member b t j l count ec h first bl at e = record-member b t j first l (subst (λ (k : ℕ). j < k) ec h) (bl .is) at e
