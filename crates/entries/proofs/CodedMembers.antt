@@ -155,14 +155,13 @@ module _ (place : Bool) (w : ℕ) where
   number-bits d S m start n c some (F.Struct i) e = absurd e
 
   number-coded : (f : Flat) → NumberOf f w → 0 < w → w ≤ 8 → Coded (flatMember f false place) w
-  unfolding behind A.codedAt
+  unfolding behind A.codedAt A.codedWidth A.codedEnd
   number-coded f e some few =
+      let l : w ≤ 16 = omega arith in
       record {
         next-is = λ S c.
             number-next S c f e ∙ sym (code-number w Cursor (L.afterBytes w c) (L.afterBytes (w - 8) (L.afterBit c)) (L.afterBit c) few);
-        bits-are = λ d S m start n c.
-            number-bits d S m start n c some f e
-            ∙ sym (code-number w (List ℕ) (K.plainAt m w start n (c .end)) (A.optionalAt m (w - 8) start n c) (A.boolAt m start n c) few);
+        bits-are = λ d S m start n c. number-bits d S m start n c some f e ∙ simp (le-leb _ _ few, le-leb _ _ l);
       }
 
   -- ---- an optional integer
@@ -175,30 +174,33 @@ module _ (place : Bool) (w : ℕ) where
   optional-next S c (F.Struct i) e = absurd e
 
   optional-bits : (d : ℕ) (S : Schema) (m : List ℕ) (start n : ℕ) (c : Cursor) → 0 < w → (f : Flat) → IntegerOf f w
-      → A.stepAt d S m (OfFlat f) (T.memberStep u48 S m start n c (flatMember f true place)) ≡ A.optionalAt m w start n c
-  unfolding T.memberStep T.flagged T.inside T.valueStep T.flatStep L.memberSlot L.slotOf L.afterFlag L.hasFlag L.takesFlag L.flatTakesFlag L.isBool L.flatIsBool L.width flatWidth IntegerOf K.plainAt A.optionalAt A.valueWidth A.flatValue
+      → A.stepAt d S m (OfFlat f) (T.memberStep u48 S m start n c (flatMember f true place)) ≡ K.plainAt m w start n (A.optionalEnd m start n c)
+  unfolding T.memberStep T.flagged T.inside T.valueStep T.flatStep L.memberSlot L.slotOf L.afterFlag L.hasFlag L.takesFlag L.flatTakesFlag L.isBool L.flatIsBool L.width flatWidth IntegerOf K.plainAt A.optionalEnd A.valueWidth A.flatValue
   optional-bits d S m start n c some F.Boolean e = absurd e
   optional-bits d S m start n c some (F.Integer s v) e =
-      by (L.afterBit c .end) (le m (start + L.afterBit c .end) v) (leb n (L.bitByte c)) (eqb (bitAt m (start + L.bitByte c) (L.bitIndex c)) 1)
-      ∙ ap (λ (x : ℕ). A.optionalAt m x start n c) e
+      by (L.afterBit c .end) (leb n (L.bitByte c)) (eqb (bitAt m (start + L.bitByte c) (L.bitIndex c)) 1)
+      ∙ ap (λ (x : ℕ). K.plainAt m x start n (A.optionalEnd m start n c)) e
     where
-      by : (a x : ℕ) (t u : Bool)
+      past : bitsOf 2 0 ≡ K.plainAt m v start n n
+      past = let h : n < n + v = let z = subst (λ (i : ℕ). 0 < i) (sym e) some in omega arith in simp (lt-leb _ _ h)
+
+      by : (a : ℕ) (t u : Bool)
           → A.stepAt d S m (OfFlat (F.Integer s v))
           (pick t St.Absent
-          (pick u (pick (leb n a) (St.Refused 8) (pick (leb (a + v) n) (St.Value x) (St.Refused 8)))
+          (pick u (pick (leb n a) (St.Refused 8) (pick (leb (a + v) n) (St.Value (le m (start + a) v)) (St.Refused 8)))
           (pick (leb n a) St.Absent (pick (leb (a + v) n) St.Absent (St.Refused 8)))))
-          ≡ pick t (bitsOf 2 0) (pick u (pick (leb (a + v) n) (K.marked 1 (8 * v) x) (bitsOf 2 0)) (bitsOf 2 0))
-      by a x true u = no-bits d S m (OfFlat (F.Integer s v))
-      by a x false true =
-          placed-bits d S m (OfFlat (F.Integer s v)) v n a x (St.Refused 8) (refused-bits d S m (OfFlat (F.Integer s v)))
+          ≡ K.plainAt m v start n (pick t n (pick u a n))
+      by a true u = no-bits d S m (OfFlat (F.Integer s v)) ∙ past
+      by a false true =
+          placed-bits d S m (OfFlat (F.Integer s v)) v n a (le m (start + a) v) (St.Refused 8) (refused-bits d S m (OfFlat (F.Integer s v)))
           (subst (λ (i : ℕ). 0 < i) (sym e) some) refl
-      by a x false false = absent-bits d S m (OfFlat (F.Integer s v)) (leb n a) (leb (a + v) n)
+      by a false false = absent-bits d S m (OfFlat (F.Integer s v)) (leb n a) (leb (a + v) n) ∙ past
   optional-bits d S m start n c some (F.Float v) e = absurd e
   optional-bits d S m start n c some (F.Enumerated k) e = absurd e
   optional-bits d S m start n c some (F.Struct i) e = absurd e
 
   optional-coded : (f : Flat) → IntegerOf f w → 0 < w → w ≤ 8 → Coded (flatMember f true place) (8 + w)
-  unfolding behind A.codedAt
+  unfolding behind A.codedAt A.codedWidth A.codedEnd
   optional-coded f e some few =
       let h : 8 < 8 + w = omega arith in
       let l : 8 + w ≤ 16 = omega arith in
@@ -208,8 +210,8 @@ module _ (place : Bool) (w : ℕ) where
             optional-next S c f e ∙ ap (λ (i : ℕ). L.afterBytes i (L.afterBit c)) z
             ∙ sym (code-optional (8 + w) Cursor (L.afterBytes (8 + w) c) (L.afterBytes (8 + w - 8) (L.afterBit c)) (L.afterBit c) h l);
         bits-are = λ d S m start n c.
-            optional-bits d S m start n c some f e ∙ ap (λ (i : ℕ). A.optionalAt m i start n c) z
-            ∙ sym (code-optional (8 + w) (List ℕ) (K.plainAt m (8 + w) start n (c .end)) (A.optionalAt m (8 + w - 8) start n c) (A.boolAt m start n c) h l);
+            optional-bits d S m start n c some f e ∙ ap (λ (i : ℕ). K.plainAt m i start n (A.optionalEnd m start n c)) z
+            ∙ simp (lt-leb _ _ h, le-leb _ _ l);
       }
 
 -- ---- a bool that is not optional

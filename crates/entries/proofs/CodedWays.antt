@@ -18,32 +18,49 @@ use Rattle.entries.specs.Stepping.{behind}
 
 -- ---- by the code
 module _ (m : List ℕ) (q start n : ℕ) (c : Cursor) (o o₁ : List ℕ) (p r : ℕ) where
-  pub coded-number : q ≤ 8 → Puts o p (K.plainAt m q start n (c .end)) o₁ r → Puts o p (A.codedAt m q start n c) o₁ r
+  pub coded-bool : 16 < q → Puts o p (A.boolAt m start n c) o₁ r → Puts o p (A.codedAt m q start n c) o₁ r
   unfolding A.codedAt
-  coded-number h l = simp (le-leb _ _ h) l
+  coded-bool h l = simp (lt-leb _ _ h) l
 
-  pub coded-optional : 8 < q → q ≤ 16 → Puts o p (A.optionalAt m (q - 8) start n c) o₁ r → Puts o p (A.codedAt m q start n c) o₁ r
+  pub coded-number : q ≤ 16 → (end w : ℕ) → end ≡ A.codedEnd m q start n c → w ≡ A.codedWidth q → Puts o p (K.plainAt m w start n end) o₁ r
+      → Puts o p (A.codedAt m q start n c) o₁ r
   unfolding A.codedAt
-  coded-optional h g l = simp (lt-leb _ _ h, le-leb _ _ g) l
+  coded-number h end w ee ew l =
+      simp (le-leb _ _ h)
+      (subst (λ (i : ℕ). Puts o p (K.plainAt m i start n (A.codedEnd m q start n c)) o₁ r) ew (subst (λ (i : ℕ). Puts o p (K.plainAt m w start n i) o₁ r) ee l))
 
-  pub coded-bool : 8 < q → 16 < q → Puts o p (A.boolAt m start n c) o₁ r → Puts o p (A.codedAt m q start n c) o₁ r
-  unfolding A.codedAt
-  coded-bool h g l = simp (lt-leb _ _ h, lt-leb _ _ g) l
+module _ (q : ℕ) where
+  pub width-plain : q ≤ 8 → q ≡ A.codedWidth q
+  unfolding A.codedWidth
+  width-plain h = simp (le-leb _ _ h)
+
+  pub width-optional : 8 < q → q - 8 ≡ A.codedWidth q
+  unfolding A.codedWidth
+  width-optional h = simp (lt-leb _ _ h)
+
+  module _ (m : List ℕ) (start n : ℕ) (c : Cursor) where
+    pub end-plain : q ≤ 8 → c .end ≡ A.codedEnd m q start n c
+    unfolding A.codedEnd
+    end-plain h = simp (le-leb _ _ h)
+
+    pub end-optional : 8 < q → (e : ℕ) → e ≡ A.optionalEnd m start n c → e ≡ A.codedEnd m q start n c
+    unfolding A.codedEnd
+    end-optional h e f = simp (lt-leb _ _ h) f
 
 -- ---- an optional integer
-module _ (m : List ℕ) (w start n : ℕ) (c : Cursor) (o o₁ : List ℕ) (p r at : ℕ) (e : at ≡ L.bitByte c) where
-  pub optional-past : n ≤ at → Puts o p (bitsOf 2 0) o₁ r → Puts o p (A.optionalAt m w start n c) o₁ r
-  unfolding A.optionalAt
-  optional-past h l = simp (← e, le-leb _ _ h) l
+module _ (m : List ℕ) (start n : ℕ) (c : Cursor) (at : ℕ) (e : at ≡ L.bitByte c) where
+  pub optional-past : n ≤ at → n ≡ A.optionalEnd m start n c
+  unfolding A.optionalEnd
+  optional-past h = simp (← e, le-leb _ _ h)
 
   module _ (h : at < n) (k : ℕ) (ek : k ≡ L.bitIndex c) (t : Bool) (et : t ≡ eqb (bitAt m (start + at) k) 1) where
-    pub optional-unset : t ≡ false → Puts o p (bitsOf 2 0) o₁ r → Puts o p (A.optionalAt m w start n c) o₁ r
-    unfolding A.optionalAt
-    optional-unset f l = simp (← e, lt-leb _ _ h, ← ek, ← et, f) l
+    pub optional-unset : t ≡ false → n ≡ A.optionalEnd m start n c
+    unfolding A.optionalEnd
+    optional-unset f = simp (← e, lt-leb _ _ h, ← ek, ← et, f)
 
-    pub optional-there : t ≡ true → (next : Cursor) → next ≡ L.afterBit c → Puts o p (K.plainAt m w start n (next .end)) o₁ r → Puts o p (A.optionalAt m w start n c) o₁ r
-    unfolding A.optionalAt
-    optional-there f next en l = simp (← e, lt-leb _ _ h, ← ek, ← et, f) (subst (λ (x : Cursor). Puts o p (K.plainAt m w start n (x .end)) o₁ r) en l)
+    pub optional-there : t ≡ true → (next : Cursor) → next ≡ L.afterBit c → next .end ≡ A.optionalEnd m start n c
+    unfolding A.optionalEnd
+    optional-there f next en = simp (← e, lt-leb _ _ h, ← ek, ← et, f) (ap (λ (x : Cursor). x .end) en)
 
 -- ---- a bool that is not optional
 module _ (m : List ℕ) (start n : ℕ) (c : Cursor) (o o₁ : List ℕ) (p r at : ℕ) (e : at ≡ L.bitByte c) where

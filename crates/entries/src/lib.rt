@@ -340,29 +340,41 @@ fn code_at(b: &[u8], at: usize) -> usize
     plain_bytes(k)
 }
 
-// An optional integer of w bytes.
-fn write_optional(
-    m: &[u8],
-    out: &mut [u8],
-    w: usize,
-    start: usize,
-    n: usize,
-    c: Cursor,
-    pos: usize,
-) -> usize
-    requires { ⌜ Room (now out) pos ⌝ }
-    requires { ⌜ (w ≤ 8) × (start + n ≤ length (now m)) × (length (now m) ≤ 16777215) × (c .end < 2 ^ 57) × (c .byte ≤ c .end) × (c .bit ≤ 8) ⌝ }
-    ensures { λ r. ⌜ Puts (now (out .entry)) pos (Bt.optionalAt (now (m .entry)) w start n c) (now (out .exit)) r ⌝ }
+// Where an optional integer stands in the fixed part; at its end, if the flag says that there is none.
+fn optional_end(m: &[u8], start: usize, n: usize, c: Cursor) -> usize
+    requires { ⌜ (start + n ≤ length (now m)) × (length (now m) ≤ 16777215) × (c .end < 2 ^ 57) × (c .byte ≤ c .end) × (c .bit ≤ 8) ⌝ }
+    ensures { λ r. ⌜ (r ≡ Bt.optionalEnd (now (m .entry)) start n c) × (r < 2 ^ 58) ⌝ }
 {
     let at = layout::bit_byte(c);
     if n <= at {
-        return bitio::write(out, pos, 2, 0);
+        return n;
     }
     if wire::bit_in(m, start + at, layout::bit_index(c)) {
         let next = layout::after_bit(c);
-        return marks::write_plain(m, out, w, start, n, next.end, pos);
+        return next.end;
     }
-    bitio::write(out, pos, 2, 0)
+    n
+}
+
+// Where a number stands that has the code q, and its bytes.
+fn coded_end(m: &[u8], q: usize, start: usize, n: usize, c: Cursor) -> usize
+    requires { ⌜ (start + n ≤ length (now m)) × (length (now m) ≤ 16777215) × (c .end < 2 ^ 57) × (c .byte ≤ c .end) × (c .bit ≤ 8) ⌝ }
+    ensures { λ r. ⌜ (r ≡ Bt.codedEnd (now (m .entry)) q start n c) × (r < 2 ^ 58) ⌝ }
+{
+    if q <= 8 {
+        return c.end;
+    }
+    optional_end(m, start, n, c)
+}
+
+fn coded_width(q: usize) -> usize
+    requires { ⌜ q ≤ 16 ⌝ }
+    ensures { λ r. ⌜ (r ≡ Bt.codedWidth q) × (r ≤ 8) ⌝ }
+{
+    if q <= 8 {
+        return q;
+    }
+    q - 8
 }
 
 // A bool that is not optional.
@@ -393,13 +405,11 @@ fn write_coded(
     requires { ⌜ (start + n ≤ length (now m)) × (length (now m) ≤ 16777215) × (c .end < 2 ^ 57) × (c .byte ≤ c .end) × (c .bit ≤ 8) ⌝ }
     ensures { λ r. ⌜ Puts (now (out .entry)) pos (Bt.codedAt (now (m .entry)) q start n c) (now (out .exit)) r ⌝ }
 {
-    if q <= 8 {
-        return marks::write_plain(m, out, q, start, n, c.end, pos);
+    if 16 < q {
+        return write_bool(m, out, start, n, c, pos);
     }
-    if q <= 16 {
-        return write_optional(m, out, q - 8, start, n, c, pos);
-    }
-    write_bool(m, out, start, n, c, pos)
+    let end = coded_end(m, q, start, n, c);
+    marks::write_plain(m, out, coded_width(q), start, n, end, pos)
 }
 
 // The cursor w bytes further.
