@@ -14,13 +14,27 @@ use Rattle.coding.specs.declared.Cursor.{Cursor}
 use Rattle.bitio.specs.Puts.{Puts}
 use Rattle.marks.specs.Marks as K
 use Rattle.entries.specs.MessageBits as A
-use Rattle.entries.specs.Stepping.{behind}
+use Rattle.entries.specs.Stepping.{behind, behindOther}
 
 -- ---- by the code
 module _ (m : List ℕ) (q start n : ℕ) (c : Cursor) (o o₁ : List ℕ) (p r : ℕ) where
-  pub coded-bool : 16 < q → Puts o p (A.boolAt m start n c) o₁ r → Puts o p (A.codedAt m q start n c) o₁ r
+  pub coded-other : 16 < q → Puts o p (A.otherAt m q start n c) o₁ r → Puts o p (A.codedAt m q start n c) o₁ r
   unfolding A.codedAt
-  coded-bool h l = simp (lt-leb _ _ h) l
+  coded-other h l = simp (lt-leb _ _ h) l
+
+  pub other-bool : q ≤ 17 → Puts o p (A.boolAt m start n c) o₁ r → Puts o p (A.otherAt m q start n c) o₁ r
+  unfolding A.otherAt
+  other-bool h l = simp (le-leb _ _ h) l
+
+  pub other-past : 17 < q → n ≤ c .end → Puts o p (bitsOf 2 0) o₁ r → Puts o p (A.otherAt m q start n c) o₁ r
+  unfolding A.otherAt A.enumeratedAt
+  other-past h g l = simp (lt-leb _ _ h, le-leb _ _ g) l
+
+  pub other-enum : 17 < q → c .end < n → (k x : ℕ) → k ≡ q - 32 → x ≡ getD m (start + c .end) 0 → Puts o p (K.enumAt k x) o₁ r → Puts o p (A.otherAt m q start n c) o₁ r
+  unfolding A.otherAt A.enumeratedAt
+  other-enum h g k x ek ex l =
+      simp (lt-leb _ _ h, lt-leb _ _ g)
+      (subst (λ (i : ℕ). Puts o p (K.enumAt i (getD m (start + c .end) 0)) o₁ r) ek (subst (λ (i : ℕ). Puts o p (K.enumAt k i) o₁ r) ex l))
 
   pub coded-number : q ≤ 16 → (end w : ℕ) → end ≡ A.codedEnd m q start n c → w ≡ A.codedWidth q → Puts o p (K.plainAt m w start n end) o₁ r
       → Puts o p (A.codedAt m q start n c) o₁ r
@@ -83,6 +97,10 @@ module _ (q : ℕ) (c r : Cursor) where
   unfolding behind
   behind-optional h g next en e = simp (lt-leb _ _ h, le-leb _ _ g) (e ∙ ap (L.afterBytes (q - 8)) en)
 
-  pub behind-bool : 8 < q → 16 < q → r ≡ L.afterBit c → r ≡ behind q c
-  unfolding behind
-  behind-bool h g e = simp (lt-leb _ _ h, lt-leb _ _ g) e
+  pub behind-bool : 8 < q → 16 < q → q ≤ 17 → r ≡ L.afterBit c → r ≡ behind q c
+  unfolding behind behindOther
+  behind-bool h g f e = simp (lt-leb _ _ h, lt-leb _ _ g, le-leb _ _ f) e
+
+  pub behind-enum : 8 < q → 16 < q → 17 < q → r ≡ L.afterBytes 1 c → r ≡ behind q c
+  unfolding behind behindOther
+  behind-enum h g f e = simp (lt-leb _ _ h, lt-leb _ _ g, lt-leb _ _ f) e
