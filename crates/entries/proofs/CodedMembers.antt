@@ -4,7 +4,7 @@ use mathlib.Core.Bool.{Bool, true, false}
 use mathlib.Core.List.{List}
 use Prim.Native.Nat.{ℕ, _+_, _-_, _*_, _<_, _≤_}
 use native.Mathlib.Omega.{arith}
-use lib.ListN.{length}
+use lib.ListN.{length, getD}
 use lib.Dec.{leb, ltb, eqb}
 use borrow.Author.Tests.{leb-true, leb-false, le-leb, lt-leb, ltb-true, lt-ltb, eq-eqb, ne-eqb}
 use Rattle.coding.specs.Lists.{pick}
@@ -16,6 +16,7 @@ use Rattle.coding.specs.Structs.{flatWidth}
 use Rattle.coding.specs.Layout as L
 use Rattle.coding.specs.Step as T
 use Rattle.coding.specs.Bits.{bitsOf}
+use Rattle.coding.specs.Sheet as E
 use Rattle.coding.specs.declared.Flat.{Flat}
 use Rattle.coding.specs.declared.Flat.the-variants as F
 use Rattle.coding.specs.declared.Kind.{Kind}
@@ -30,7 +31,7 @@ use Rattle.layout.specs.Bounds.{Laid}
 use Rattle.schema.specs.Records.{record-member}
 use Rattle.marks.specs.Marks as K
 use Rattle.entries.specs.MessageBits as A
-use Rattle.entries.specs.Stepping.{Coded, behind}
+use Rattle.entries.specs.Stepping.{Coded, behind, behindOther}
 
 -- ---- the record
 -- a number or a float of w bytes; an integer alone
@@ -74,7 +75,7 @@ bool-flat : (k a : ℕ) → k ≡ 0 → P.flatOf k a ≡ F.Boolean
 unfolding P.flatOf
 bool-flat k a h = simp (eq-eqb _ _ h)
 
-member-at : (b : List ℕ) (at k : ℕ) → k ≡ P.kindAt b at → k ≤ 10 → (o v : Bool) → o ≡ P.optionalAt b at → o ≡ v
+member-at : (b : List ℕ) (at k : ℕ) → k ≡ P.kindAt b at → k ≤ 11 → (o v : Bool) → o ≡ P.optionalAt b at → o ≡ v
     → P.memberAt b at ≡ record { kind = OfFlat (P.flatOf k (P.argumentAt b at)); optional = v; inplace = P.inplaceAt b at }
 unfolding P.memberAt P.elementAt P.kindOf
 member-at b at k ek l o v eo f =
@@ -155,14 +156,13 @@ module _ (place : Bool) (w : ℕ) where
   number-bits d S m start n c some (F.Struct i) e = absurd e
 
   number-coded : (f : Flat) → NumberOf f w → 0 < w → w ≤ 8 → Coded (flatMember f false place) w
-  unfolding behind A.codedAt
+  unfolding behind A.codedAt A.codedWidth A.codedEnd
   number-coded f e some few =
+      let l : w ≤ 16 = omega arith in
       record {
         next-is = λ S c.
-            number-next S c f e ∙ sym (code-number w Cursor (L.afterBytes w c) (L.afterBytes (w - 8) (L.afterBit c)) (L.afterBit c) few);
-        bits-are = λ d S m start n c.
-            number-bits d S m start n c some f e
-            ∙ sym (code-number w (List ℕ) (K.plainAt m w start n (c .end)) (A.optionalAt m (w - 8) start n c) (A.boolAt m start n c) few);
+            number-next S c f e ∙ sym (code-number w Cursor (L.afterBytes w c) (L.afterBytes (w - 8) (L.afterBit c)) (behindOther w c) few);
+        bits-are = λ d S m start n c. number-bits d S m start n c some f e ∙ simp (le-leb _ _ few, le-leb _ _ l);
       }
 
   -- ---- an optional integer
@@ -175,30 +175,33 @@ module _ (place : Bool) (w : ℕ) where
   optional-next S c (F.Struct i) e = absurd e
 
   optional-bits : (d : ℕ) (S : Schema) (m : List ℕ) (start n : ℕ) (c : Cursor) → 0 < w → (f : Flat) → IntegerOf f w
-      → A.stepAt d S m (OfFlat f) (T.memberStep u48 S m start n c (flatMember f true place)) ≡ A.optionalAt m w start n c
-  unfolding T.memberStep T.flagged T.inside T.valueStep T.flatStep L.memberSlot L.slotOf L.afterFlag L.hasFlag L.takesFlag L.flatTakesFlag L.isBool L.flatIsBool L.width flatWidth IntegerOf K.plainAt A.optionalAt A.valueWidth A.flatValue
+      → A.stepAt d S m (OfFlat f) (T.memberStep u48 S m start n c (flatMember f true place)) ≡ K.plainAt m w start n (A.optionalEnd m start n c)
+  unfolding T.memberStep T.flagged T.inside T.valueStep T.flatStep L.memberSlot L.slotOf L.afterFlag L.hasFlag L.takesFlag L.flatTakesFlag L.isBool L.flatIsBool L.width flatWidth IntegerOf K.plainAt A.optionalEnd A.valueWidth A.flatValue
   optional-bits d S m start n c some F.Boolean e = absurd e
   optional-bits d S m start n c some (F.Integer s v) e =
-      by (L.afterBit c .end) (le m (start + L.afterBit c .end) v) (leb n (L.bitByte c)) (eqb (bitAt m (start + L.bitByte c) (L.bitIndex c)) 1)
-      ∙ ap (λ (x : ℕ). A.optionalAt m x start n c) e
+      by (L.afterBit c .end) (leb n (L.bitByte c)) (eqb (bitAt m (start + L.bitByte c) (L.bitIndex c)) 1)
+      ∙ ap (λ (x : ℕ). K.plainAt m x start n (A.optionalEnd m start n c)) e
     where
-      by : (a x : ℕ) (t u : Bool)
+      past : bitsOf 2 0 ≡ K.plainAt m v start n n
+      past = let h : n < n + v = let z = subst (λ (i : ℕ). 0 < i) (sym e) some in omega arith in simp (lt-leb _ _ h)
+
+      by : (a : ℕ) (t u : Bool)
           → A.stepAt d S m (OfFlat (F.Integer s v))
           (pick t St.Absent
-          (pick u (pick (leb n a) (St.Refused 8) (pick (leb (a + v) n) (St.Value x) (St.Refused 8)))
+          (pick u (pick (leb n a) (St.Refused 8) (pick (leb (a + v) n) (St.Value (le m (start + a) v)) (St.Refused 8)))
           (pick (leb n a) St.Absent (pick (leb (a + v) n) St.Absent (St.Refused 8)))))
-          ≡ pick t (bitsOf 2 0) (pick u (pick (leb (a + v) n) (K.marked 1 (8 * v) x) (bitsOf 2 0)) (bitsOf 2 0))
-      by a x true u = no-bits d S m (OfFlat (F.Integer s v))
-      by a x false true =
-          placed-bits d S m (OfFlat (F.Integer s v)) v n a x (St.Refused 8) (refused-bits d S m (OfFlat (F.Integer s v)))
+          ≡ K.plainAt m v start n (pick t n (pick u a n))
+      by a true u = no-bits d S m (OfFlat (F.Integer s v)) ∙ past
+      by a false true =
+          placed-bits d S m (OfFlat (F.Integer s v)) v n a (le m (start + a) v) (St.Refused 8) (refused-bits d S m (OfFlat (F.Integer s v)))
           (subst (λ (i : ℕ). 0 < i) (sym e) some) refl
-      by a x false false = absent-bits d S m (OfFlat (F.Integer s v)) (leb n a) (leb (a + v) n)
+      by a false false = absent-bits d S m (OfFlat (F.Integer s v)) (leb n a) (leb (a + v) n) ∙ past
   optional-bits d S m start n c some (F.Float v) e = absurd e
   optional-bits d S m start n c some (F.Enumerated k) e = absurd e
   optional-bits d S m start n c some (F.Struct i) e = absurd e
 
   optional-coded : (f : Flat) → IntegerOf f w → 0 < w → w ≤ 8 → Coded (flatMember f true place) (8 + w)
-  unfolding behind A.codedAt
+  unfolding behind A.codedAt A.codedWidth A.codedEnd
   optional-coded f e some few =
       let h : 8 < 8 + w = omega arith in
       let l : 8 + w ≤ 16 = omega arith in
@@ -206,10 +209,10 @@ module _ (place : Bool) (w : ℕ) where
       record {
         next-is = λ S c.
             optional-next S c f e ∙ ap (λ (i : ℕ). L.afterBytes i (L.afterBit c)) z
-            ∙ sym (code-optional (8 + w) Cursor (L.afterBytes (8 + w) c) (L.afterBytes (8 + w - 8) (L.afterBit c)) (L.afterBit c) h l);
+            ∙ sym (code-optional (8 + w) Cursor (L.afterBytes (8 + w) c) (L.afterBytes (8 + w - 8) (L.afterBit c)) (behindOther (8 + w) c) h l);
         bits-are = λ d S m start n c.
-            optional-bits d S m start n c some f e ∙ ap (λ (i : ℕ). A.optionalAt m i start n c) z
-            ∙ sym (code-optional (8 + w) (List ℕ) (K.plainAt m (8 + w) start n (c .end)) (A.optionalAt m (8 + w - 8) start n c) (A.boolAt m start n c) h l);
+            optional-bits d S m start n c some f e ∙ ap (λ (i : ℕ). K.plainAt m i start n (A.optionalEnd m start n c)) z
+            ∙ simp (lt-leb _ _ h, le-leb _ _ l);
       }
 
 -- ---- a bool that is not optional
@@ -229,25 +232,77 @@ unfolding L.afterMember L.afterValue L.afterFlag L.hasFlag L.isBool L.flatIsBool
 bool-next place S c = refl
 
 bool-coded : (place : Bool) → Coded (flatMember F.Boolean false place) 17
-unfolding behind A.codedAt
+unfolding behind behindOther A.codedAt A.otherAt
 bool-coded place = record { next-is = λ S c. bool-next place S c; bits-are = λ d S m start n c. bool-bits place d S m start n c }
+
+-- ---- an enum
+enum-next : (place o : Bool) (k : ℕ) (S : Schema) (c : Cursor) → L.afterMember u48 S (flatMember (F.Enumerated k) o place) c ≡ L.afterBytes 1 c
+unfolding L.afterMember L.afterValue L.afterFlag L.hasFlag L.takesFlag L.flatTakesFlag L.isBool L.flatIsBool L.width flatWidth
+enum-next place true k S c = refl
+enum-next place false k S c = refl
+
+enum-step : (k d : ℕ) (S : Schema) (m : List ℕ) (n a x : ℕ)
+    → A.stepAt d S m (OfFlat (F.Enumerated k)) (pick (leb n a) St.Absent (pick (leb (a + 1) n) (T.enumStep k x) (St.Refused 8)))
+    ≡ pick (leb n a) (bitsOf 2 0) (K.enumAt k x)
+unfolding A.stepAt A.valueWidth A.flatValue E.unknownWidth E.flatUnknown T.enumStep K.enumAt
+enum-step k d S m n a x = by (leb n a) (leb (a + 1) n) (eqb x 255) (ltb x k) refl refl
+  where
+    by : (t u v w : Bool) → leb n a ≡ t → leb (a + 1) n ≡ u
+        → A.stepAt d S m (OfFlat (F.Enumerated k)) (pick t St.Absent (pick u (pick v St.Absent (pick w (St.Value x) (St.Unknown x))) (St.Refused 8)))
+        ≡ pick t (bitsOf 2 0) (pick v (bitsOf 2 0) (pick w (K.marked 1 8 x) (K.marked 2 8 x)))
+    by true u v w et eu = refl
+    by false true true w et eu = refl
+    by false true false true et eu = refl
+    by false true false false et eu = refl
+    by false false v w et eu = let g = leb-false n a et in let l = leb-false (a + 1) n eu in absurd (let z : ⊥ = omega arith in z)
+
+enum-bits : (place o : Bool) (k d : ℕ) (S : Schema) (m : List ℕ) (start n : ℕ) (c : Cursor)
+    → A.stepAt d S m (OfFlat (F.Enumerated k)) (T.memberStep u48 S m start n c (flatMember (F.Enumerated k) o place)) ≡ A.enumeratedAt m k start n c
+unfolding T.memberStep T.inside T.valueStep T.flatStep L.memberSlot L.slotOf L.afterFlag L.hasFlag L.takesFlag L.flatTakesFlag L.isBool L.flatIsBool L.width flatWidth A.enumeratedAt
+enum-bits place true k d S m start n c = enum-step k d S m n (c .end) (getD m (start + c .end) 0)
+enum-bits place false k d S m start n c = enum-step k d S m n (c .end) (getD m (start + c .end) 0)
+
+enum-coded : (place o : Bool) (k : ℕ) → Coded (flatMember (F.Enumerated k) o place) (32 + k)
+unfolding behind behindOther A.codedAt A.otherAt
+enum-coded place o k =
+    let g : 8 < 32 + k = omega arith in
+    let h : 16 < 32 + k = omega arith in
+    let l : 17 < 32 + k = omega arith in
+    let z : k ≡ 32 + k - 32 = omega arith in
+    record {
+      next-is = λ S c. enum-next place o k S c ∙ simp (lt-leb _ _ g, lt-leb _ _ h, lt-leb _ _ l);
+      bits-are = λ d S m start n c.
+          enum-bits place o k d S m start n c ∙ ap (λ (i : ℕ). A.enumeratedAt m i start n c) z ∙ simp (lt-leb _ _ h, lt-leb _ _ l);
+    }
+
+enum-flat : (k a : ℕ) → k ≡ 11 → P.flatOf k a ≡ F.Enumerated a
+unfolding P.flatOf
+enum-flat k a h = ap (λ (i : ℕ). P.flatOf i a) h
+
+pub enum-at : (b : List ℕ) (at k : ℕ) → k ≡ P.kindAt b at → k ≡ 11 → (a w : ℕ) → a ≡ P.argumentAt b at → w ≡ a → Coded (P.memberAt b at) (32 + w)
+enum-at b at k ek h a w ea ew =
+    let l : k ≤ 11 = omega arith in
+    subst (λ (r : Member). Coded r (32 + w))
+    (sym (member-at b at k ek l (P.optionalAt b at) (P.optionalAt b at) refl refl
+    ∙ ap (λ (x : Flat). flatMember x (P.optionalAt b at) (P.inplaceAt b at)) (enum-flat k (P.argumentAt b at) h ∙ ap F.Enumerated (sym (ew ∙ ea)))))
+    (enum-coded (P.inplaceAt b at) (P.optionalAt b at) w)
 
 -- ---- the code of a record
 module _ (b : List ℕ) (at k : ℕ) (ek : k ≡ P.kindAt b at) (l : k ≤ 10) (o : Bool) (eo : o ≡ P.optionalAt b at) where
   pub number-at : o ≡ false → (k ≡ 0 → ⊥) → (w : ℕ) → w ≡ P.widthOf k → 0 < w → w ≤ 8 → Coded (P.memberAt b at) w
   number-at f h w ew some few =
-      subst (λ (r : Member). Coded r w) (sym (member-at b at k ek l o false eo f))
+      subst (λ (r : Member). Coded r w) (sym (member-at b at k ek (let g : k ≤ 11 = omega arith in g) o false eo f))
       (number-coded (P.inplaceAt b at) w (P.flatOf k (P.argumentAt b at)) (subst (NumberOf (P.flatOf k (P.argumentAt b at))) (sym ew) (number-flat k (P.argumentAt b at) h l)) some few)
 
   pub optional-at : o ≡ true → (k ≡ 0 → ⊥) → k ≤ 8 → (w : ℕ) → w ≡ P.widthOf k → 0 < w → w ≤ 8 → Coded (P.memberAt b at) (8 + w)
   optional-at f h g w ew some few =
-      subst (λ (r : Member). Coded r (8 + w)) (sym (member-at b at k ek l o true eo f))
+      subst (λ (r : Member). Coded r (8 + w)) (sym (member-at b at k ek (let g : k ≤ 11 = omega arith in g) o true eo f))
       (optional-coded (P.inplaceAt b at) w (P.flatOf k (P.argumentAt b at)) (subst (IntegerOf (P.flatOf k (P.argumentAt b at))) (sym ew) (integer-flat k (P.argumentAt b at) h g)) some few)
 
   pub bool-at : o ≡ false → k ≡ 0 → Coded (P.memberAt b at) 17
   bool-at f h =
       subst (λ (r : Member). Coded r 17)
-      (sym (member-at b at k ek l o false eo f ∙ ap (λ (x : Flat). flatMember x false (P.inplaceAt b at)) (bool-flat k (P.argumentAt b at) h)))
+      (sym (member-at b at k ek (let g : k ≤ 11 = omega arith in g) o false eo f ∙ ap (λ (x : Flat). flatMember x false (P.inplaceAt b at)) (bool-flat k (P.argumentAt b at) h)))
       (bool-coded (P.inplaceAt b at))
 
 -- ---- the cursor behind it
@@ -267,13 +322,15 @@ laid-more : (e f : ℕ) (c : Cursor) → Laid e c → e ≤ f → Laid f c
 laid-more e f c p h = let x = p .end in record { end = omega arith; byte = p .byte; bit = p .bit }
 
 pub coded-laid : (j q : ℕ) (c next : Cursor) → Laid (4097 * j) c → next ≡ behind q c → Laid (4097 * (j + 1)) next
-unfolding behind
-coded-laid j q c next p e = subst (Laid (4097 * (j + 1))) (sym e) (by (leb q 8) (leb q 16) refl refl)
+unfolding behind behindOther
+coded-laid j q c next p e = subst (Laid (4097 * (j + 1))) (sym e) (by (leb q 8) (leb q 16) (leb q 17) refl refl)
   where
-    by : (t u : Bool) → leb q 8 ≡ t → leb q 16 ≡ u → Laid (4097 * (j + 1)) (pick t (L.afterBytes q c) (pick u (L.afterBytes (q - 8) (L.afterBit c)) (L.afterBit c)))
-    by true u et eu = let h = leb-true q 8 et in bytes-laid (4097 * j) (4097 * (j + 1)) q c p (omega arith)
-    by false true et eu = let h = leb-true q 16 eu in bytes-laid (4097 * j + 1) (4097 * (j + 1)) (q - 8) (L.afterBit c) (bit-laid (4097 * j) c p) (omega arith)
-    by false false et eu = laid-more (4097 * j + 1) (4097 * (j + 1)) (L.afterBit c) (bit-laid (4097 * j) c p) (omega arith)
+    by : (t u v : Bool) → leb q 8 ≡ t → leb q 16 ≡ u
+        → Laid (4097 * (j + 1)) (pick t (L.afterBytes q c) (pick u (L.afterBytes (q - 8) (L.afterBit c)) (pick v (L.afterBit c) (L.afterBytes 1 c))))
+    by true u v et eu = let h = leb-true q 8 et in bytes-laid (4097 * j) (4097 * (j + 1)) q c p (omega arith)
+    by false true v et eu = let h = leb-true q 16 eu in bytes-laid (4097 * j + 1) (4097 * (j + 1)) (q - 8) (L.afterBit c) (bit-laid (4097 * j) c p) (omega arith)
+    by false false true et eu = laid-more (4097 * j + 1) (4097 * (j + 1)) (L.afterBit c) (bit-laid (4097 * j) c p) (omega arith)
+    by false false false et eu = bytes-laid (4097 * j) (4097 * (j + 1)) 1 c p (omega arith)
 
 -- ---- the record of member j
 pub coded-member : (b : List ℕ) (t j : ℕ) → t < P.tableCount b → (count : ℕ) → count ≡ length (Sc.tableOf (P.parse b) t .members) → j < count → (first : ℕ)

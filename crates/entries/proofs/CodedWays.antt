@@ -3,9 +3,8 @@ use mathlib.Core.Path.{_≡_, ap, _∙_, subst}
 use mathlib.Core.Bool.{Bool, true, false}
 use mathlib.Core.List.{List}
 use Prim.Native.Nat.{ℕ, _+_, _-_, _/_, _%_, _^_, _<_, _≤_}
-use native.Mathlib.Omega.{arith}
 use lib.ListN.{getD}
-use lib.Dec.{leb, eqb}
+use lib.Dec.{eqb}
 use borrow.Author.Tests.{le-leb, lt-leb}
 use Rattle.coding.specs.Bytes.{bitAt}
 use Rattle.coding.specs.Layout as L
@@ -14,36 +13,67 @@ use Rattle.coding.specs.declared.Cursor.{Cursor}
 use Rattle.bitio.specs.Puts.{Puts}
 use Rattle.marks.specs.Marks as K
 use Rattle.entries.specs.MessageBits as A
-use Rattle.entries.specs.Stepping.{behind}
+use Rattle.entries.specs.Stepping.{behind, behindOther}
 
 -- ---- by the code
 module _ (m : List ℕ) (q start n : ℕ) (c : Cursor) (o o₁ : List ℕ) (p r : ℕ) where
-  pub coded-number : q ≤ 8 → Puts o p (K.plainAt m q start n (c .end)) o₁ r → Puts o p (A.codedAt m q start n c) o₁ r
+  pub coded-other : 16 < q → Puts o p (A.otherAt m q start n c) o₁ r → Puts o p (A.codedAt m q start n c) o₁ r
   unfolding A.codedAt
-  coded-number h l = simp (le-leb _ _ h) l
+  coded-other h l = simp (lt-leb _ _ h) l
 
-  pub coded-optional : 8 < q → q ≤ 16 → Puts o p (A.optionalAt m (q - 8) start n c) o₁ r → Puts o p (A.codedAt m q start n c) o₁ r
-  unfolding A.codedAt
-  coded-optional h g l = simp (lt-leb _ _ h, le-leb _ _ g) l
+  pub other-bool : q ≤ 17 → Puts o p (A.boolAt m start n c) o₁ r → Puts o p (A.otherAt m q start n c) o₁ r
+  unfolding A.otherAt
+  other-bool h l = simp (le-leb _ _ h) l
 
-  pub coded-bool : 8 < q → 16 < q → Puts o p (A.boolAt m start n c) o₁ r → Puts o p (A.codedAt m q start n c) o₁ r
+  pub other-past : 17 < q → n ≤ c .end → Puts o p (bitsOf 2 0) o₁ r → Puts o p (A.otherAt m q start n c) o₁ r
+  unfolding A.otherAt A.enumeratedAt
+  other-past h g l = simp (lt-leb _ _ h, le-leb _ _ g) l
+
+  pub other-enum : 17 < q → c .end < n → (k x : ℕ) → k ≡ q - 32 → x ≡ getD m (start + c .end) 0 → Puts o p (K.enumAt k x) o₁ r → Puts o p (A.otherAt m q start n c) o₁ r
+  unfolding A.otherAt A.enumeratedAt
+  other-enum h g k x ek ex l =
+      simp (lt-leb _ _ h, lt-leb _ _ g)
+      (subst (λ (i : ℕ). Puts o p (K.enumAt i (getD m (start + c .end) 0)) o₁ r) ek (subst (λ (i : ℕ). Puts o p (K.enumAt k i) o₁ r) ex l))
+
+  pub coded-number : q ≤ 16 → (end w : ℕ) → end ≡ A.codedEnd m q start n c → w ≡ A.codedWidth q → Puts o p (K.plainAt m w start n end) o₁ r
+      → Puts o p (A.codedAt m q start n c) o₁ r
   unfolding A.codedAt
-  coded-bool h g l = simp (lt-leb _ _ h, lt-leb _ _ g) l
+  coded-number h end w ee ew l =
+      simp (le-leb _ _ h)
+      (subst (λ (i : ℕ). Puts o p (K.plainAt m i start n (A.codedEnd m q start n c)) o₁ r) ew (subst (λ (i : ℕ). Puts o p (K.plainAt m w start n i) o₁ r) ee l))
+
+module _ (q : ℕ) where
+  pub width-plain : q ≤ 8 → q ≡ A.codedWidth q
+  unfolding A.codedWidth
+  width-plain h = simp (le-leb _ _ h)
+
+  pub width-optional : 8 < q → q - 8 ≡ A.codedWidth q
+  unfolding A.codedWidth
+  width-optional h = simp (lt-leb _ _ h)
+
+  module _ (m : List ℕ) (start n : ℕ) (c : Cursor) where
+    pub end-plain : q ≤ 8 → c .end ≡ A.codedEnd m q start n c
+    unfolding A.codedEnd
+    end-plain h = simp (le-leb _ _ h)
+
+    pub end-optional : 8 < q → (e : ℕ) → e ≡ A.optionalEnd m start n c → e ≡ A.codedEnd m q start n c
+    unfolding A.codedEnd
+    end-optional h e f = simp (lt-leb _ _ h) f
 
 -- ---- an optional integer
-module _ (m : List ℕ) (w start n : ℕ) (c : Cursor) (o o₁ : List ℕ) (p r at : ℕ) (e : at ≡ L.bitByte c) where
-  pub optional-past : n ≤ at → Puts o p (bitsOf 2 0) o₁ r → Puts o p (A.optionalAt m w start n c) o₁ r
-  unfolding A.optionalAt
-  optional-past h l = simp (← e, le-leb _ _ h) l
+module _ (m : List ℕ) (start n : ℕ) (c : Cursor) (at : ℕ) (e : at ≡ L.bitByte c) where
+  pub optional-past : n ≤ at → n ≡ A.optionalEnd m start n c
+  unfolding A.optionalEnd
+  optional-past h = simp (← e, le-leb _ _ h)
 
   module _ (h : at < n) (k : ℕ) (ek : k ≡ L.bitIndex c) (t : Bool) (et : t ≡ eqb (bitAt m (start + at) k) 1) where
-    pub optional-unset : t ≡ false → Puts o p (bitsOf 2 0) o₁ r → Puts o p (A.optionalAt m w start n c) o₁ r
-    unfolding A.optionalAt
-    optional-unset f l = simp (← e, lt-leb _ _ h, ← ek, ← et, f) l
+    pub optional-unset : t ≡ false → n ≡ A.optionalEnd m start n c
+    unfolding A.optionalEnd
+    optional-unset f = simp (← e, lt-leb _ _ h, ← ek, ← et, f)
 
-    pub optional-there : t ≡ true → (next : Cursor) → next ≡ L.afterBit c → Puts o p (K.plainAt m w start n (next .end)) o₁ r → Puts o p (A.optionalAt m w start n c) o₁ r
-    unfolding A.optionalAt
-    optional-there f next en l = simp (← e, lt-leb _ _ h, ← ek, ← et, f) (subst (λ (x : Cursor). Puts o p (K.plainAt m w start n (x .end)) o₁ r) en l)
+    pub optional-there : t ≡ true → (next : Cursor) → next ≡ L.afterBit c → next .end ≡ A.optionalEnd m start n c
+    unfolding A.optionalEnd
+    optional-there f next en = simp (← e, lt-leb _ _ h, ← ek, ← et, f) (ap (λ (x : Cursor). x .end) en)
 
 -- ---- a bool that is not optional
 module _ (m : List ℕ) (start n : ℕ) (c : Cursor) (o o₁ : List ℕ) (p r at : ℕ) (e : at ≡ L.bitByte c) where
@@ -66,6 +96,10 @@ module _ (q : ℕ) (c r : Cursor) where
   unfolding behind
   behind-optional h g next en e = simp (lt-leb _ _ h, le-leb _ _ g) (e ∙ ap (L.afterBytes (q - 8)) en)
 
-  pub behind-bool : 8 < q → 16 < q → r ≡ L.afterBit c → r ≡ behind q c
-  unfolding behind
-  behind-bool h g e = simp (lt-leb _ _ h, lt-leb _ _ g) e
+  pub behind-bool : 8 < q → 16 < q → q ≤ 17 → r ≡ L.afterBit c → r ≡ behind q c
+  unfolding behind behindOther
+  behind-bool h g f e = simp (lt-leb _ _ h, lt-leb _ _ g, le-leb _ _ f) e
+
+  pub behind-enum : 8 < q → 16 < q → 17 < q → r ≡ L.afterBytes 1 c → r ≡ behind q c
+  unfolding behind behindOther
+  behind-enum h g f e = simp (lt-leb _ _ h, lt-leb _ _ g, lt-leb _ _ f) e

@@ -97,19 +97,30 @@ unfoldable pub placed : Bool → Step → Step
 placed here v = pick here v St.Absent
 
 -- ---- members by their records, where the cursor stands in a fixed part that has n bytes from `start`
--- an optional integer of w bytes behind its flag
-unfoldable pub optionalAt : List ℕ → ℕ → ℕ → ℕ → Cursor → List ℕ
-optionalAt m w start n c =
-    pick (leb n (bitByte c)) (bitsOf 2 0)
-    (pick (eqb (bitAt m (start + bitByte c) (bitIndex c)) 1) (plainAt m w start n (afterBit c .end)) (bitsOf 2 0))
+-- where an optional integer stands behind its flag; at the fixed part's end, if the flag says that there is none
+unfoldable pub optionalEnd : List ℕ → ℕ → ℕ → Cursor → ℕ
+optionalEnd m start n c = pick (leb n (bitByte c)) n (pick (eqb (bitAt m (start + bitByte c) (bitIndex c)) 1) (afterBit c .end) n)
 
 -- a bool that is not optional
 unfoldable pub boolAt : List ℕ → ℕ → ℕ → Cursor → List ℕ
 boolAt m start n c = pick (leb n (bitByte c)) (bitsOf 2 0) (marked 1 1 (bitAt m (start + bitByte c) (bitIndex c)))
 
--- by the code q: a number of q bytes, an optional integer of q - 8 bytes, a bool
+-- an enum of k values
+unfoldable pub enumeratedAt : List ℕ → ℕ → ℕ → ℕ → Cursor → List ℕ
+enumeratedAt m k start n c = pick (leb n (c .end)) (bitsOf 2 0) (enumAt k (getD m (start + c .end) 0))
+
+-- by the code q: a number of q bytes, an optional integer of q - 8 bytes, a bool, an enum of q - 32 values
+unfoldable pub codedWidth : ℕ → ℕ
+codedWidth q = pick (leb q 8) q (q - 8)
+
+unfoldable pub codedEnd : List ℕ → ℕ → ℕ → ℕ → Cursor → ℕ
+codedEnd m q start n c = pick (leb q 8) (c .end) (optionalEnd m start n c)
+
+unfoldable pub otherAt : List ℕ → ℕ → ℕ → ℕ → Cursor → List ℕ
+otherAt m q start n c = pick (leb q 17) (boolAt m start n c) (enumeratedAt m (q - 32) start n c)
+
 unfoldable pub codedAt : List ℕ → ℕ → ℕ → ℕ → Cursor → List ℕ
-codedAt m q start n c = pick (leb q 8) (plainAt m q start n (c .end)) (pick (leb q 16) (optionalAt m (q - 8) start n c) (boolAt m start n c))
+codedAt m q start n c = pick (leb q 16) (plainAt m (codedWidth q) start n (codedEnd m q start n c)) (otherAt m q start n c)
 
 -- the width of an integer kind in bytes, or 0
 unfoldable pub flatInteger : Flat → ℕ

@@ -41,8 +41,11 @@ isLeaf (OfObject ob) = isBlob ob
 isLeaf (OfUnion u) = false
 
 -- a member that is written by its record alone, with the code q: how the cursor moves, and its bits
+unfoldable pub behindOther : ℕ → Cursor → Cursor
+behindOther q c = pick (leb q 17) (afterBit c) (afterBytes 1 c)
+
 unfoldable pub behind : ℕ → Cursor → Cursor
-behind q c = pick (leb q 8) (afterBytes q c) (pick (leb q 16) (afterBytes (q - 8) (afterBit c)) (afterBit c))
+behind q c = pick (leb q 8) (afterBytes q c) (pick (leb q 16) (afterBytes (q - 8) (afterBit c)) (behindOther q c))
 
 pub record Coded (r : Member) (q : ℕ) : Type 0 where
   pub next-is : (S : Schema) (c : Cursor) → afterMember u48 S r c ≡ behind q c

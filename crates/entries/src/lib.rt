@@ -316,12 +316,15 @@ fn plain_bytes(k: usize) -> usize
 }
 
 // How such a member is written: w for a number or float of w bytes that is not optional, 8 + w for an optional integer, 17
-// for a bool that is not optional; 0 for any other record.
+// for a bool that is not optional, 32 + n for an enum of n values; 0 for any other record.
 fn code_at(b: &[u8], at: usize) -> usize
     requires { ⌜ at + 1 < length (now b) ⌝ }
-    ensures { λ r. ⌜ (0 < r → Coded (P.memberAt (now (b .entry)) at) r) × (r ≤ 17) ⌝ }
+    ensures { λ r. ⌜ (0 < r → Coded (P.memberAt (now (b .entry)) at) r) × (r < 288) ⌝ }
 {
     let k = schema::kind_at(b, at);
+    if k == 11 {
+        return 32 + wire::index(schema::argument_at(b, at));
+    }
     if 10 < k {
         return 0;
     }
@@ -340,29 +343,41 @@ fn code_at(b: &[u8], at: usize) -> usize
     plain_bytes(k)
 }
 
-// An optional integer of w bytes.
-fn write_optional(
-    m: &[u8],
-    out: &mut [u8],
-    w: usize,
-    start: usize,
-    n: usize,
-    c: Cursor,
-    pos: usize,
-) -> usize
-    requires { ⌜ Room (now out) pos ⌝ }
-    requires { ⌜ (w ≤ 8) × (start + n ≤ length (now m)) × (length (now m) ≤ 16777215) × (c .end < 2 ^ 57) × (c .byte ≤ c .end) × (c .bit ≤ 8) ⌝ }
-    ensures { λ r. ⌜ Puts (now (out .entry)) pos (Bt.optionalAt (now (m .entry)) w start n c) (now (out .exit)) r ⌝ }
+// Where an optional integer stands in the fixed part; at its end, if the flag says that there is none.
+fn optional_end(m: &[u8], start: usize, n: usize, c: Cursor) -> usize
+    requires { ⌜ (start + n ≤ length (now m)) × (length (now m) ≤ 16777215) × (c .end < 2 ^ 57) × (c .byte ≤ c .end) × (c .bit ≤ 8) ⌝ }
+    ensures { λ r. ⌜ (r ≡ Bt.optionalEnd (now (m .entry)) start n c) × (r < 2 ^ 58) ⌝ }
 {
     let at = layout::bit_byte(c);
     if n <= at {
-        return bitio::write(out, pos, 2, 0);
+        return n;
     }
     if wire::bit_in(m, start + at, layout::bit_index(c)) {
         let next = layout::after_bit(c);
-        return marks::write_plain(m, out, w, start, n, next.end, pos);
+        return next.end;
     }
-    bitio::write(out, pos, 2, 0)
+    n
+}
+
+// Where a number stands that has the code q, and its bytes.
+fn coded_end(m: &[u8], q: usize, start: usize, n: usize, c: Cursor) -> usize
+    requires { ⌜ (start + n ≤ length (now m)) × (length (now m) ≤ 16777215) × (c .end < 2 ^ 57) × (c .byte ≤ c .end) × (c .bit ≤ 8) ⌝ }
+    ensures { λ r. ⌜ (r ≡ Bt.codedEnd (now (m .entry)) q start n c) × (r < 2 ^ 58) ⌝ }
+{
+    if q <= 8 {
+        return c.end;
+    }
+    optional_end(m, start, n, c)
+}
+
+fn coded_width(q: usize) -> usize
+    requires { ⌜ q ≤ 16 ⌝ }
+    ensures { λ r. ⌜ (r ≡ Bt.codedWidth q) × (r ≤ 8) ⌝ }
+{
+    if q <= 8 {
+        return q;
+    }
+    q - 8
 }
 
 // A bool that is not optional.
@@ -379,6 +394,40 @@ fn write_bool(m: &[u8], out: &mut [u8], start: usize, n: usize, c: Cursor, pos: 
     marks::write_marked(out, pos, 1, 1, wire::bit_value(x, layout::bit_index(c)))
 }
 
+// A bool or an enum.
+fn write_other(
+    m: &[u8],
+    out: &mut [u8],
+    q: usize,
+    start: usize,
+    n: usize,
+    c: Cursor,
+    pos: usize,
+) -> usize
+    requires { ⌜ Room (now out) pos ⌝ }
+    requires { ⌜ (start + n ≤ length (now m)) × (length (now m) ≤ 16777215) × (c .byte ≤ c .end) × (q < 288) ⌝ }
+    ensures { λ r. ⌜ Puts (now (out .entry)) pos (Bt.otherAt (now (m .entry)) q start n c) (now (out .exit)) r ⌝ }
+{
+    if q <= 17 {
+        return write_bool(m, out, start, n, c, pos);
+    }
+    if n <= c.end {
+        return bitio::write(out, pos, 2, 0);
+    }
+    marks::write_enum(out, pos, enum_count(q), wire::byte_in(m, start + c.end))
+}
+
+// The count of an enum by its code.
+fn enum_count(q: usize) -> u8
+    requires { ⌜ q < 288 ⌝ }
+    ensures { λ r. ⌜ r ≡ q - 32 ⌝ }
+{
+    if q < 32 {
+        return 0;
+    }
+    (q - 32) as u8
+}
+
 // The bits of such a member.
 fn write_coded(
     m: &[u8],
@@ -390,16 +439,14 @@ fn write_coded(
     pos: usize,
 ) -> usize
     requires { ⌜ Room (now out) pos ⌝ }
-    requires { ⌜ (start + n ≤ length (now m)) × (length (now m) ≤ 16777215) × (c .end < 2 ^ 57) × (c .byte ≤ c .end) × (c .bit ≤ 8) ⌝ }
+    requires { ⌜ (start + n ≤ length (now m)) × (length (now m) ≤ 16777215) × (c .end < 2 ^ 57) × (c .byte ≤ c .end) × (c .bit ≤ 8) × (q < 288) ⌝ }
     ensures { λ r. ⌜ Puts (now (out .entry)) pos (Bt.codedAt (now (m .entry)) q start n c) (now (out .exit)) r ⌝ }
 {
-    if q <= 8 {
-        return marks::write_plain(m, out, q, start, n, c.end, pos);
+    if 16 < q {
+        return write_other(m, out, q, start, n, c, pos);
     }
-    if q <= 16 {
-        return write_optional(m, out, q - 8, start, n, c, pos);
-    }
-    write_bool(m, out, start, n, c, pos)
+    let end = coded_end(m, q, start, n, c);
+    marks::write_plain(m, out, coded_width(q), start, n, end, pos)
 }
 
 // The cursor w bytes further.
@@ -426,7 +473,10 @@ fn behind_coded(c: Cursor, q: usize) -> Cursor
     if q <= 16 {
         return behind_plain(next, q - 8);
     }
-    next
+    if q <= 17 {
+        return next;
+    }
+    behind_plain(c, 1)
 }
 
 // What a reference x, or in place a length x, leads to.

@@ -711,7 +711,7 @@ write-table-write-coded-requires : (t : ℕ) → write-table-lts.Need-write-code
 write-table-write-coded-requires t c κs =
     let q = c .before .before .before .before .before .before .before .before .before .before .before .before .before .before .pre .1 in
     let inv = c .before .before .before .before .before .before .loop .inv in
-    (inv .0, (q .1 .0 .3, q .1 .0 .1, omega (arith, inv .3 .end, c .before .before .before .before .before .before .before .before .before .member-count .ensures .1, c .before .before .before .before .before .loop-test .taken), inv .3 .byte, inv .3 .bit))
+    (inv .0, (q .1 .0 .3, q .1 .0 .1, omega (arith, inv .3 .end, c .before .before .before .before .before .before .before .before .before .member-count .ensures .1, c .before .before .before .before .before .loop-test .taken), inv .3 .byte, inv .3 .bit, c .before .before .code-at .ensures .1))
 
 -- src/lib.rt
 write-table-behind-coded-requires : (t : ℕ) → write-table-lts.Need-behind-coded-requires (write-table-R t) (write-table-at t) write-table.Post write-table-Inv-loop write-table-μ-loop

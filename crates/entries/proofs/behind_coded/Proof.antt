@@ -1,4 +1,4 @@
-use Rattle.entries.proofs.CodedWays.{behind-number, behind-optional, behind-bool}
+use Rattle.entries.proofs.CodedWays.{behind-number, behind-optional, behind-bool, behind-enum}
 use borrow.Author.Needs.{needs}
 use Rattle.entries.proofs.behind_coded.Statement.{statement}
 use Rattle.entries.proofs.behind_coded.Tie as tie
@@ -7,33 +7,41 @@ use Rattle.entries.proofs.behind_coded.Lts as lts
 use Rattle.entries.proofs.behind_plain.Reads as behind-plain-reads
 use Rattle.layout.proofs.after_bit.Reads as after-bit-reads
 
--- src/lib.rt:423:9
+-- src/lib.rt:470:9
 behind-plain-requires : tie.Need-behind-plain-requires
 behind-plain-requires c κs = search needs
 
--- src/lib.rt:423:9
+-- src/lib.rt:470:9
 returns : tie.Need-returns
 returns c = search behind-number
 
--- src/lib.rt:425:9
+-- src/lib.rt:472:9
 after-bit-requires : tie.Need-after-bit-requires
 after-bit-requires c κs = search needs
 
--- src/lib.rt:427:35
+-- src/lib.rt:474:35
 sub-behind-plain : tie.Need-sub-behind-plain
 sub-behind-plain c = search needs
 
--- src/lib.rt:427:9
+-- src/lib.rt:474:9
 behind-plain-requires-2 : tie.Need-behind-plain-requires-2
 behind-plain-requires-2 c κs = search needs
 
--- src/lib.rt:427:9
+-- src/lib.rt:474:9
 returns-2 : tie.Need-returns-2
 returns-2 c = search behind-optional
 
--- src/lib.rt:418:1
+-- src/lib.rt:477:9
 returns-3 : tie.Need-returns-3
 returns-3 c = search behind-bool
+
+-- src/lib.rt:479:5
+behind-plain-requires-3 : tie.Need-behind-plain-requires-3
+behind-plain-requires-3 c κs = search needs
+
+-- src/lib.rt:465:1
+returns-4 : tie.Need-returns-4
+returns-4 c = search behind-enum
 
 pub behind-coded-spec : {M : Type 1} → statement M
 behind-coded-spec =
@@ -45,4 +53,6 @@ behind-coded-spec =
     sub-behind-plain
     behind-plain-requires-2
     returns-2
-    returns-3)
+    returns-3
+    behind-plain-requires-3
+    returns-4)
