@@ -310,6 +310,15 @@ fn put_long(out: &mut [u8], pos: usize, width: usize, v: u64)
     put_aligned(out, i + 8, left, v);
 }
 
+// All 64 bits of v from pos on.
+pub fn put_eight(out: &mut [u8], pos: usize, v: u64)
+    requires { ⌜ pos + 64 ≤ 8 * length (now out) ⌝ }
+    requires { ⌜ 8 * length (now out) < 2 ^ 64 ⌝ }
+    ensures { λ _. ⌜ bits (now (out .exit)) ≡ splice (bits (now (out .entry))) pos (bitsOf 64 v) ⌝ }
+{
+    put_long(out, pos, 64, v);
+}
+
 // Fewer bits, within the eight bytes from that of pos on: by one load and one store of these.
 fn put_within(out: &mut [u8], pos: usize, width: usize, v: u64)
     requires { ⌜ (0 < width) × (pos % 8 + width < 64) × (pos / 8 + 8 ≤ length (now out)) ⌝ }
@@ -419,6 +428,15 @@ pub fn clear_last(out: &mut [u8])
 
 // The w low bits of v; gives where the bits end.
 pub fn write(out: &mut [u8], pos: usize, w: usize, v: u64) -> usize
+    requires { ⌜ Room (now out) pos ⌝ }
+    requires { ⌜ w ≤ 64 ⌝ }
+    ensures { λ r. ⌜ Puts (now (out .entry)) pos (bitsOf w v) (now (out .exit)) r ⌝ }
+{
+    write_wide(out, pos, w, v)
+}
+
+// The same, wherever it stands.
+pub fn write_wide(out: &mut [u8], pos: usize, w: usize, v: u64) -> usize
     requires { ⌜ Room (now out) pos ⌝ }
     requires { ⌜ w ≤ 64 ⌝ }
     ensures { λ r. ⌜ Puts (now (out .entry)) pos (bitsOf w v) (now (out .exit)) r ⌝ }

@@ -1,8 +1,8 @@
 -- Each way out is a law of PutsLaws.
 use Rattle.bitio.specs.PutsLaws.{bits-over, bits-in, bits-not}
 use borrow.Author.Needs.{needs}
-use Rattle.bitio.proofs.write.Statement.{statement}
-use Rattle.bitio.proofs.write.Tie as tie
+use Rattle.bitio.proofs.write_wide.Statement.{statement}
+use Rattle.bitio.proofs.write_wide.Tie as tie
 
 add-end : tie.Need-add-end
 add-end c = search needs
@@ -25,6 +25,6 @@ returns-2 c = search bits-in
 returns-3 : tie.Need-returns-3
 returns-3 c = search bits-not
 
-pub write-spec : {M : Type 1} → statement M
-write-spec =
+pub write-wide-spec : {M : Type 1} → statement M
+write-wide-spec =
     tie.close (tie.spec add-end returns mul-if2 put-requires same-length returns-2 returns-3)
