@@ -1,34 +1,18 @@
 -- A buffer as long as a sheet, whose last byte was 0, after all of the sheet's bits are put into it: it is the sheet.
 use mathlib.Core.Path.{_≡_, refl, sym, ap, _∙_}
-use mathlib.Core.Bool.{Bool, true, false, _&&_}
+use mathlib.Core.Bool.{true}
 use mathlib.Core.List.{List, [], _∷_, _++_}
 use Prim.Native.Nat.{ℕ, zero, suc, _+_, _-_, _*_, _≤_, _<_}
 use native.Mathlib.Nat.{zero-add}
 use native.Mathlib.Omega.{arith}
-use lib.ListN.{length, getD, drop, length-drop, drop-of-length-le}
-use lib.Dec.{eqb}
+use lib.ListN.{length, getD, take, drop, length-drop, drop-of-length-le, take-append-drop}
 use lib.Seq.{drop-drop, drop-cons}
 use Rattle.coding.specs.Bits.{bitsOf, bits, packed, byteCount, allZero}
 use Rattle.laws.specs.Sound.{All}
 use Rattle.laws.specs.Bits.{Byte, bits-length, packed-from}
 use Rattle.laws.specs.BitLists.{bits-drop}
-use Rattle.bitio.specs.Splice.{splice}
-
--- at the start nothing is kept before the run
-pub splice-start : (l xs : List ℕ) → splice l 0 xs ≡ xs ++ drop (length xs) l
-unfolding splice
-splice-start l xs = ap (λ (k : ℕ). xs ++ drop k l) (zero-add (length xs))
-
-and-right : (a b : Bool) → a && b ≡ true → b ≡ true
-and-right true b e = e
-and-right false b e = let z : _≡_ {A = ℕ} 0 1 = cc in absurd (omega arith)
-
--- all but the front of zero bits are zero bits
-zeros-drop : (j : ℕ) (xs : List ℕ) → allZero xs ≡ true → allZero (drop j xs) ≡ true
-unfolding allZero
-zeros-drop zero xs e = e
-zeros-drop (suc j) [] e = refl
-zeros-drop (suc j) (x ∷ xs) e = zeros-drop j xs (and-right (eqb x 0) (allZero xs) e)
+use Rattle.bitio.specs.Puts.{Stored}
+use Rattle.bitio.specs.StoredLaws.{zeros-drop}
 
 last-zeros : (b : ℕ) → b ≡ 0 → allZero (bits (b ∷ [])) ≡ true
 unfolding allZero bits bitsOf
@@ -53,10 +37,12 @@ count-bounds : (xs : List ℕ) → (8 * byteCount xs < length xs + 8) × (length
 unfolding byteCount
 count-bounds xs = omega arith
 
-pub sheet-filled : (o o′ xs : List ℕ) → All Byte o′ → length o ≡ byteCount xs → getD o (byteCount xs - 1) 0 ≡ 0 → bits o′ ≡ splice (bits o) 0 xs → o′ ≡ packed xs
-sheet-filled o o′ xs h e z f =
+pub sheet-filled : (o o′ xs : List ℕ) → All Byte o′ → length o ≡ byteCount xs → length o′ ≡ length o → getD o (byteCount xs - 1) 0 ≡ 0 → Stored (bits o) 0 xs (bits o′) → o′ ≡ packed xs
+sheet-filled o o′ xs h e l z f =
     let c = count-bounds xs in
-    let rest : List ℕ = drop (length xs) (bits o) in
-    packed-from xs o′ rest h (f ∙ splice-start (bits o) xs)
-    (let l = length-drop (length xs) (bits o) in let m = bits-length o in let q : length rest < 8 = omega arith in q)
-    (rest-zeros o xs (byteCount xs) e (c .0) (c .1) z)
+    let n : 0 + length xs ≡ length xs = zero-add (length xs) in
+    let rest : List ℕ = drop (length xs) (bits o′) in
+    let front : take (length xs) (bits o′) ≡ xs = ap (λ (k : ℕ). take k (bits o′)) (sym n) ∙ f .front in
+    packed-from xs o′ rest h (sym (take-append-drop (length xs) (bits o′)) ∙ ap (λ (s : List ℕ). s ++ rest) front)
+    (let m = length-drop (length xs) (bits o′) in let k = bits-length o′ in let q : length rest < 8 = omega arith in q)
+    (f .zeros (length xs) (omega arith) (rest-zeros o xs (byteCount xs) e (c .0) (c .1) z))

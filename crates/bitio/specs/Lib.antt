@@ -3,5 +3,6 @@ pub mod Splice
 pub mod Puts
 pub mod Taken
 pub mod SpliceLaws
+pub mod StoredLaws
 pub mod PutsLaws
 pub mod Filled

@@ -2,7 +2,7 @@
 use mathlib.Core.Path.{_≡_, refl, sym, ap, ap₂, _∙_}
 use mathlib.Core.Bool.{Bool, true, false}
 use mathlib.Core.List.{List, [], _++_}
-use Prim.Native.Nat.{ℕ, _+_, _-_, _*_, _≤_, _<_}
+use Prim.Native.Nat.{ℕ, _+_, _-_, _*_, _/_, _%_, _≤_, _<_}
 use native.Mathlib.Nat.{add-zero, add-assoc}
 use native.Mathlib.Omega.{arith}
 use lib.ListN.{length, take, drop, length-append, length-drop, drop-of-length-le}
@@ -10,11 +10,11 @@ use lib.Seq.{length-take-le, take-all}
 use lib.Dec.{leb}
 use borrow.Author.Tests.{le-leb, lt-leb, leb-true, leb-false}
 use Rattle.coding.specs.Lists.{pick}
-use Rattle.coding.specs.Bits.{bits, bitsOf}
+use Rattle.coding.specs.Bits.{bits, bitsOf, allZero}
 use Rattle.coding.specs.Sheet.{blobBits}
 use Rattle.laws.specs.Bits.{bitsOf-length, bits-length}
 use Rattle.bitio.specs.Splice.{splice}
-use Rattle.bitio.specs.SpliceLaws.{put-then, splice-none}
+use Rattle.bitio.specs.StoredLaws.{zeros-of, stored-none, stored-then, stored-same, stored-in, stored-zeroed}
 use Rattle.bitio.specs.Puts.{saturated, Room, Puts}
 
 -- ---- the saturating count
@@ -50,7 +50,7 @@ count-again n k = ap (λ (x : ℕ). saturated (x + k)) (opened n) ∙ again n k 
 -- ---- writers
 -- nothing
 pub puts-none : (o : List ℕ) (p : ℕ) → p ≤ 134217721 → Puts o p [] o p
-puts-none o p h = record { len = refl; most = h; end = none p h (leb p 134217720) refl; put = λ _. sym (splice-none (bits o) p) }
+puts-none o p h = record { len = refl; most = h; end = none p h (leb p 134217720) refl; put = λ _. stored-none (bits o) p }
   where
     none : (p : ℕ) → p ≤ 134217721 → (b : Bool) → leb p 134217720 ≡ b → p ≡ saturated (p + 0)
     none p h true e = count-in p (leb-true p 134217720 e) ∙ ap saturated (sym (add-zero p))
@@ -79,11 +79,11 @@ puts-then o o₁ o₂ p q r xs ys g a b =
       put = λ f.
           let e : q ≡ p + length xs = a .end ∙ sym (count-in (p + length xs) (omega arith)) in
           let l₁ = a .len in
-          put-then (bits o) (bits o₁) (bits o₂) p q xs ys (a .put (omega arith)) (b .put (omega arith)) e (omega (arith, bits-length o));
+          stored-then (bits o) (bits o₁) (bits o₂) p q xs ys (a .put (omega arith)) (b .put (omega arith)) e;
     }
 
 pub puts-same : (o o′ : List ℕ) (p q : ℕ) (xs ys : List ℕ) → xs ≡ ys → Puts o p xs o′ q → Puts o p ys o′ q
-puts-same o o′ p q xs ys e h = record { len = h .len; most = h .most; end = h .end ∙ ap (λ (l : List ℕ). saturated (p + length l)) e; put = λ f. h .put (rw e f) ∙ ap (splice (bits o) p) e }
+puts-same o o′ p q xs ys e h = record { len = h .len; most = h .most; end = h .end ∙ ap (λ (l : List ℕ). saturated (p + length l)) e; put = λ f. stored-same (bits o) (bits o′) p xs ys e (h .put (rw e f)) }
 
 -- a position that a writer came to is one that the next may start from
 pub room-next : (o o′ : List ℕ) (p q : ℕ) (xs : List ℕ) → Room o p → Puts o p xs o′ q → Room o′ q
@@ -107,7 +107,12 @@ module _ (o : List ℕ) (p n : ℕ) (xs : List ℕ) (g : Room o p) (e : length x
     run-not l = record { len = refl; most = omega arith; end = ends; put = λ f. absurd (let z : ⊥ = omega arith in z) }
 
     pub run-in : (o′ : List ℕ) → length o′ ≡ length o → bits o′ ≡ splice (bits o) p xs → Puts o p xs o′ (p + n)
-    run-in o′ l f = record { len = l; most = omega arith; end = ends; put = λ _. f }
+    run-in o′ l f = record { len = l; most = omega arith; end = ends; put = λ h. stored-in (bits o) (bits o′) p xs (omega (arith, bits-length o)) f }
+
+    -- with zero bits behind it
+    pub run-zeroed : (o′ zs : List ℕ) → length o′ ≡ length o → p + n + length zs ≤ 8 * length o → allZero zs ≡ true → bits o′ ≡ splice (bits o) p (xs ++ zs) → Puts o p xs o′ (p + n)
+    run-zeroed o′ zs l k z f =
+        record { len = l; most = omega arith; end = ends; put = λ h. stored-zeroed (bits o) (bits o′) p xs zs (omega (arith, bits-length o)) f z }
 
 module _ (o : List ℕ) (p w v : ℕ) (g : Room o p) where
   pub bits-over : 134217720 < p + w → Puts o p (bitsOf w v) o 134217721
@@ -119,6 +124,13 @@ module _ (o : List ℕ) (p w v : ℕ) (g : Room o p) where
 
     pub bits-in : (o′ : List ℕ) → length o′ ≡ length o → bits o′ ≡ splice (bits o) p (bitsOf w v) → Puts o p (bitsOf w v) o′ (p + w)
     bits-in o′ l f = run-in o p w (bitsOf w v) g (bitsOf-length w v) h o′ l f
+
+-- a run within a word, by one store of it
+pub bits-zeroed : (o o′ : List ℕ) (p w v : ℕ) → Room o p → p / 8 + 8 ≤ length o → p % 8 + w < 64 → length o′ ≡ length o
+    → bits o′ ≡ splice (bits o) p (bitsOf w v ++ bitsOf (64 - p % 8 - w) 0) → Puts o p (bitsOf w v) o′ (p + w)
+bits-zeroed o o′ p w v g k h l f =
+    let a = g .short in
+    run-zeroed o p w (bitsOf w v) g (bitsOf-length w v) (omega arith) o′ (bitsOf (64 - p % 8 - w) 0) l (omega (arith, bitsOf-length (64 - p % 8 - w) 0)) (zeros-of (64 - p % 8 - w)) f
 
 module _ (o : List ℕ) (p : ℕ) (s : List ℕ) (g : Room o p) where
   pub bytes-long : 16777215 < length s → Puts o p (bits s) o 134217721

@@ -56,23 +56,6 @@ splice-own l p k xs h =
     ap₂ (λ (s : List ℕ) (i : ℕ). s ++ drop i l)
     (sym (append-assoc (take p l) (take k (drop p l)) xs) ∙ ap (λ (s : List ℕ). s ++ xs) (sym (take-add p k l))) e
 
-pub splice-length : (l : List ℕ) (p : ℕ) (xs : List ℕ) → p + length xs ≤ length l → length (splice l p xs) ≡ length l
-unfolding splice
-splice-length l p xs h =
-    length-append (take p l ++ xs) (drop (p + length xs) l)
-    ∙ omega (arith, length-append (take p l) xs, length-take-le p l (omega arith), length-drop (p + length xs) l)
-
--- what stands before a run, and after it, is as it was; what stands in it is the run
-pub take-splice : (l : List ℕ) (p : ℕ) (xs : List ℕ) → p ≤ length l → take p (splice l p xs) ≡ take p l
-unfolding splice
-take-splice l p xs h =
-    ap (take p) (append-assoc (take p l) xs (drop (p + length xs) l)) ∙ take-at (take p l) (xs ++ drop (p + length xs) l) p (length-take-le p l h)
-
-pub drop-splice : (l : List ℕ) (p : ℕ) (xs : List ℕ) → p ≤ length l → drop p (splice l p xs) ≡ xs ++ drop (p + length xs) l
-unfolding splice
-drop-splice l p xs h =
-    ap (drop p) (append-assoc (take p l) xs (drop (p + length xs) l)) ∙ drop-at (take p l) (xs ++ drop (p + length xs) l) p (length-take-le p l h)
-
 -- a byte stored is its bits put in
 pub bits-stored : (l : List ℕ) (i b : ℕ) → i < length l → bits (set l i b) ≡ splice (bits l) (8 * i) (bitsOf 8 b)
 bits-stored l i b h =

@@ -285,6 +285,14 @@ fn put_word(out: &mut [u8], i: usize, v: u64)
 }
 
 // The n low bits of x behind the a high bits of a byte b.
+fn behind(b: u64, a: usize, n: usize, x: u64) -> u64
+    requires { ⌜ (b < 2 ^ 8) × (a < 8) × (n < 64) × (a + n ≤ 64) ⌝ }
+    ensures { λ r. ⌜ bitsOf (a + n) r ≡ bitsOf a (b / 2 ^ (8 - a)) ++ bitsOf n x ⌝ }
+{
+    b >> (8 - a) << n | bits::low(x, n)
+}
+
+// The same for any number of bits.
 fn joined(b: u64, a: usize, n: usize, x: u64) -> u64
     requires { ⌜ (b < 2 ^ 8) × (a < 8) × (a + n ≤ 64) ⌝ }
     ensures { λ r. ⌜ bitsOf (a + n) r ≡ bitsOf a (b / 2 ^ (8 - a)) ++ bitsOf n x ⌝ }
@@ -292,7 +300,7 @@ fn joined(b: u64, a: usize, n: usize, x: u64) -> u64
     if a == 0 {
         return x;
     }
-    b >> (8 - a) << n | bits::low(x, n)
+    behind(b, a, n, x)
 }
 
 // The `width` low bits of v from pos on, where eight bytes at least end among them: the first of these by one store.
@@ -307,7 +315,9 @@ fn put_long(out: &mut [u8], pos: usize, width: usize, v: u64)
     let left = a + width - 64;
     let w = joined(byte(out, i), a, 64 - a, v >> left);
     put_word(out, i, w);
-    put_aligned(out, i + 8, left, v);
+    if 0 < left {
+        put_in(out, 8 * (i + 8), left, bits::low(v, left));
+    }
 }
 
 // All 64 bits of v from pos on.
@@ -319,18 +329,19 @@ pub fn put_eight(out: &mut [u8], pos: usize, v: u64)
     put_long(out, pos, 64, v);
 }
 
-// Fewer bits, within the eight bytes from that of pos on: by one load and one store of these.
-fn put_within(out: &mut [u8], pos: usize, width: usize, v: u64)
+// Fewer bits, by one store of the eight bytes from that of pos on; what stands behind them there is made 0. Of what was
+// stored before only one byte is loaded: a load of all eight would wait for the last store.
+fn put_zeroed(out: &mut [u8], pos: usize, width: usize, v: u64)
     requires { ⌜ (0 < width) × (pos % 8 + width < 64) × (pos / 8 + 8 ≤ length (now out)) ⌝ }
-    ensures { λ _. ⌜ bits (now (out .exit)) ≡ splice (bits (now (out .entry))) pos (bitsOf width v) ⌝ }
+    ensures { λ _. ⌜ bits (now (out .exit)) ≡ splice (bits (now (out .entry))) pos (bitsOf width v ++ bitsOf (64 - pos % 8 - width) 0) ⌝ }
 {
     let i = pos >> 3;
-    let k = 64 - bits::offset(pos) - width;
-    let w = bits::merge(word(out, i), width, k, bits::low(v, width));
-    put_word(out, i, w);
+    let a = bits::offset(pos);
+    let x = behind(byte(out, i), a, width, v);
+    put_word(out, i, x << (64 - a - width));
 }
 
-// The same in the last bytes, by the byte.
+// The same in the last bytes, by the byte; nothing else is changed.
 fn put_short(out: &mut [u8], pos: usize, width: usize, v: u64)
     requires { ⌜ width ≤ 64 ⌝ }
     requires { ⌜ pos + width ≤ 8 * length (now out) ⌝ }
@@ -348,7 +359,7 @@ fn put_short(out: &mut [u8], pos: usize, width: usize, v: u64)
 }
 
 // The `width` low bits of v from pos on.
-pub fn put(out: &mut [u8], pos: usize, width: usize, v: u64)
+fn put(out: &mut [u8], pos: usize, width: usize, v: u64)
     requires { ⌜ width ≤ 64 ⌝ }
     requires { ⌜ pos + width ≤ 8 * length (now out) ⌝ }
     requires { ⌜ 8 * length (now out) < 2 ^ 64 ⌝ }
@@ -358,13 +369,7 @@ pub fn put(out: &mut [u8], pos: usize, width: usize, v: u64)
         put_long(out, pos, width, v);
         return;
     }
-    if out.len() < (pos >> 3) + 8 {
-        put_short(out, pos, width, v);
-        return;
-    }
-    if 0 < width {
-        put_within(out, pos, width, v);
-    }
+    put_short(out, pos, width, v);
 }
 
 // ---- whole bytes put
@@ -432,10 +437,18 @@ pub fn write(out: &mut [u8], pos: usize, w: usize, v: u64) -> usize
     requires { ⌜ w ≤ 64 ⌝ }
     ensures { λ r. ⌜ Puts (now (out .entry)) pos (bitsOf w v) (now (out .exit)) r ⌝ }
 {
+    if (pos >> 3) + 8 <= out.len() {
+        if bits::offset(pos) + w < 64 {
+            if 0 < w {
+                put_zeroed(out, pos, w, v);
+                return pos + w;
+            }
+        }
+    }
     write_wide(out, pos, w, v)
 }
 
-// The same, wherever it stands.
+// The same, for what is as wide as a word or stands in the last bytes.
 pub fn write_wide(out: &mut [u8], pos: usize, w: usize, v: u64) -> usize
     requires { ⌜ Room (now out) pos ⌝ }
     requires { ⌜ w ≤ 64 ⌝ }

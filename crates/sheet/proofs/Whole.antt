@@ -108,7 +108,7 @@ fill-done xs o o₁ o₂ q e h f put k =
     let l : length o₁ ≡ length o = ap length f ∙ length-set o (length o - 1) 0 in
     let z : getD o₁ (byteCount xs - 1) 0 ≡ 0 = ap₂ (λ (s : List ℕ) (i : ℕ). getD s (i - 1) 0) f (sym e) ∙ last-zero o in
     let g : length o ≡ (length xs + 7) / 8 = e in
-    sheet-filled o₁ o₂ xs (all-index Byte 0 o₂ (λ i. k i)) (l ∙ e) z (put .put (omega arith))
+    sheet-filled o₁ o₂ xs (all-index Byte 0 o₂ (λ i. k i)) (l ∙ e) (put .len) z (put .put (omega arith))
 
 pub fill-room : (o o₁ : List ℕ) → length o ≤ 16777215 → o₁ ≡ set o (length o - 1) 0 → Room o₁ 0
 fill-room o o₁ h f = let l : length o₁ ≡ length o = ap length f ∙ length-set o (length o - 1) 0 in record { short = omega arith; most = omega arith }
