@@ -1,4 +1,6 @@
 -- `rules::is_number` meets its contract.
+use Prim.Native.Nat.{_<_}
+use native.Mathlib.Omega.{arith}
 use Rattle.laws.specs.Lists.{never}
 use Rattle.rules.proofs.RecordRules.{number-ok}
 use borrow.Author.Needs.{needs}
@@ -21,7 +23,7 @@ argument-at-requires : tie.Need-argument-at-requires
 argument-at-requires c κs = search needs
 
 returns-3 : tie.Need-returns-3
-returns-3 c = search number-ok
+returns-3 c = let low : c .before .before .before .index .result < 88 = omega arith in search number-ok
 
 pub is-number-spec : {M : Type 1} → statement M
 is-number-spec =
