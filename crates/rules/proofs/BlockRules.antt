@@ -34,6 +34,11 @@ module _ (b : List ℕ) (role : Role) (head at : ℕ) where
       unfolding L.firstOk
       records-more h e = every-more _ j e (simp (← ep, ← er) (not-false r h))
 
+  -- a record that a test finds lawful
+  pub records-skip : (j p : ℕ) → p ≡ P.recordPlace head at j → (r : Bool) → (r ≡ true → L.recordOk b role p ≡ true) → not r ≡ false → L.firstOk b role head at j ≡ true → L.firstOk b role head at (j + 1) ≡ true
+  unfolding L.firstOk
+  records-skip j p ep r f h e = every-more _ j e (simp (← ep) (f (not-false r h)))
+
 module _ (b : List ℕ) (at : ℕ) where
   pub inplaces-none : 0 ≡ L.inplaces b at 0
   unfolding L.inplaces

@@ -1,8 +1,10 @@
 -- The ways out of the rules of a record.
-use mathlib.Core.Path.{_≡_}
+use mathlib.Core.Path.{_≡_, refl, sym, _∙_}
 use mathlib.Core.Bool.{Bool, true, false, not}
 use mathlib.Core.List.{List}
-use Prim.Native.Nat.{ℕ, _<_, _≤_}
+use Prim.Native.Nat.{ℕ, _/_, _%_, _<_, _≤_}
+use native.Mathlib.Omega.{arith}
+use lib.Bits.{bitAnd, and-mask}
 use lib.ListN.{getD}
 use lib.Dec.{eqb, ltb, leb}
 use borrow.Author.Tests.{lt-ltb, le-ltb, le-leb, lt-leb, eq-eqb, ne-eqb, not-true, not-false}
@@ -147,3 +149,34 @@ flag-1 o p h = simp h
 
 pub flag-2 : (o p : Bool) → o ≡ false → true ≡ pick o p true
 flag-2 o p h = simp h
+
+-- ---- a number's record in a table, by its first byte
+pick-same : (t x : Bool) → pick t x x ≡ x
+pick-same true x = refl
+pick-same false x = refl
+
+module _ (b : List ℕ) (at x h : ℕ) (ex : x ≡ getD b at 0) (eh : h ≡ x) (low : h < 88) (flags : bitAnd h 3 ≡ 0) where
+  first-byte : getD b at 0 ≡ h
+  first-byte = sym (eh ∙ ex)
+
+  low-two : h % 4 ≡ 0
+  low-two = sym (and-mask h 2) ∙ flags
+
+  number-kind : P.kindAt b at < 11
+  unfolding P.kindAt
+  number-kind = rw first-byte (omega arith)
+
+  number-zero : P.zeroAt b at ≡ true
+  unfolding P.zeroAt
+  number-zero = let l = low-two in rw first-byte (eq-eqb (h % 2) 0 (omega arith))
+
+  number-inplace : P.inplaceAt b at ≡ false
+  unfolding P.inplaceAt
+  number-inplace = let l = low-two in rw first-byte (ne-eqb (h / 2 % 2) 1 (λ (z : h / 2 % 2 ≡ 1). absurd (omega arith)))
+
+  pub number-ok : (a : ℕ) → a ≡ P.argumentAt b at → eqb a 0 ≡ true → L.recordOk b InTable at ≡ true
+  unfolding L.recordOk L.argumentOk L.kindOk L.flagsOk L.optionalOk L.inplaceOk
+  number-ok a ea e =
+      let l = number-kind in
+      let z : (P.kindAt b at ≡ 12 → ⊥) = λ q. absurd (omega arith) in
+      simp (number-zero, lt-ltb _ _ l, ← ea, e, ne-eqb _ _ z, number-inplace, pick-same)

@@ -123,6 +123,41 @@ pub fn records_ok(b: &[u8], role: Role, head: usize, at: usize) -> bool
     true
 }
 
+// Whether the record at `at` is a bool, a number or a float, optional or not, with the argument 0 and no other flag: most
+// records of a table are, and no more is asked of them there.
+fn is_number(b: &[u8], at: usize) -> bool
+    requires { ⌜ at + 1 < length (now b) ⌝ }
+    ensures { λ r. ⌜ (r ≡ true → L.recordOk (now (b .entry)) Role.InTable at ≡ true) ⌝ }
+{
+    let h = wire::index(wire::byte_in(b, at));
+    if 88 <= h {
+        return false;
+    }
+    if h & 3 != 0 {
+        return false;
+    }
+    schema::argument_at(b, at) == 0
+}
+
+// The records of the table at `at`.
+fn members_ok(b: &[u8], at: usize) -> bool
+    requires { ⌜ (at < 65536) × (at + 4 + 1 + 2 * P.records (now b) 4 at ≤ length (now b)) ⌝ }
+    ensures { λ r. ⌜ r ≡ L.recordsOk (now (b .entry)) Role.InTable 4 at ⌝ }
+{
+    let n = schema::records(b, 4, at);
+    let mut j: usize = 0;
+    while j < n {
+        let p = schema::record_place(4, at, j);
+        if !is_number(b, p) {
+            if !record_ok(b, Role::InTable, p) {
+                return false;
+            }
+        }
+        j += 1;
+    }
+    true
+}
+
 fn one_if(t: bool) -> usize
     ensures { λ r. ⌜ (r ≡ Li.pick t 1 0) × (r ≤ 1) ⌝ }
 {
@@ -164,7 +199,7 @@ pub fn table_ok(b: &[u8], dir: &[u16], i: usize) -> bool
     ensures { λ r. ⌜ r ≡ L.tableLawful (now (b .entry)) i ⌝ }
 {
     let at = schema::table_place(b, dir, i);
-    if records_ok(b, Role::InTable, 4, at) {
+    if members_ok(b, at) {
         return inplaces(b, at) <= 1;
     }
     false

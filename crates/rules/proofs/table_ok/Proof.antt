@@ -7,8 +7,8 @@ use Rattle.rules.proofs.table_ok.Tie as tie
 table-place-requires : tie.Need-table-place-requires
 table-place-requires c κs = search needs
 
-records-ok-requires : tie.Need-records-ok-requires
-records-ok-requires c κs = search needs
+members-ok-requires : tie.Need-members-ok-requires
+members-ok-requires c κs = search needs
 
 inplaces-requires : tie.Need-inplaces-requires
 inplaces-requires c κs = search needs
@@ -22,4 +22,4 @@ returns-2 c = search table-2
 pub table-ok-spec : {M : Type 1} → statement M
 table-ok-spec =
     tie.close
-    (tie.spec table-place-requires records-ok-requires inplaces-requires returns returns-2)
+    (tie.spec table-place-requires members-ok-requires inplaces-requires returns returns-2)
