@@ -2,44 +2,55 @@
 use mathlib.Core.Path.{_≡_, refl, sym, ap, ap₂, _∙_, subst}
 use mathlib.Core.Bool.{Bool, true, false}
 use mathlib.Core.List.{List, _++_, append-assoc}
-use Prim.Native.Nat.{ℕ, zero, suc, _+_, _-_, _*_, _%_, _^_, _<_, _≤_}
+use Prim.Native.Nat.{ℕ, zero, suc, _+_, _-_, _*_, _/_, _%_, _^_, _<_, _≤_}
 use native.Mathlib.Omega.{arith}
 use native.Mathlib.Nat.{mul-zero, mul-suc, mul-le-mul, le-of-lt, mod-lt}
 use lib.ListN.{length, take, drop, length-append, length-drop}
 use lib.Seq.{length-take-le}
 use lib.Pow.{pow-pos}
-use borrow.Author.Tests.{eq-eqb, ne-eqb, lt-ltb, le-ltb, le-leb, lt-leb}
+use lib.Dec.{leb}
+use borrow.Author.Tests.{eq-eqb, ne-eqb, lt-ltb, le-ltb, le-leb, lt-leb, leb-true, leb-false}
 use Rattle.coding.specs.Bytes.{le, isNaN}
 use Rattle.coding.specs.Bits.{bitsOf, bits}
 use Rattle.coding.specs.Sheet as E
-use Rattle.laws.specs.Bits.{bitsOf-length, bitsOf-mod, bitsOf-join}
-use Rattle.wire.specs.Numbers.{Number}
+use Rattle.laws.specs.Bits.{bitsOf-length, bitsOf-split, bitsOf-low, bitsOf-mod, bitsOf-join}
+use Rattle.wire.specs.Numbers.{Number, le-join}
+use Rattle.bitio.specs.Splice.{splice}
 use Rattle.bitio.specs.Puts.{Room, Puts, saturated}
-use Rattle.bitio.specs.PutsLaws.{puts-then, puts-same, run-over, run-not, count-most}
+use Rattle.bitio.specs.PutsLaws.{count-in, count-over, puts-then, puts-same, run-over, run-not, bits-in}
 use Rattle.marks.specs.Marks as A
 use Rattle.marks.proofs.Remaining.{Remaining, remaining-all, remaining-turn, remaining-done}
 
 -- ---- a mark and a number
-pub marked-puts : (o o₁ o₂ : List ℕ) (p q r mark w x : ℕ) → Room o p → Puts o p (bitsOf 2 mark) o₁ q → Puts o₁ q (bitsOf w x) o₂ r → Puts o p (A.marked mark w x) o₂ r
-unfolding A.marked
-marked-puts o o₁ o₂ p q r mark w x g a b = puts-then o o₁ o₂ p q r (bitsOf 2 mark) (bitsOf w x) (g .short) a b
+-- as one number
+marked-bits : (mark w x v : ℕ) → v ≡ mark * 2 ^ w + x % 2 ^ w → bitsOf (2 + w) v ≡ bitsOf 2 mark ++ bitsOf w x
+marked-bits mark w x v e =
+    ap (bitsOf (2 + w)) e ∙ bitsOf-join 2 w mark (x % 2 ^ w) (mod-lt x (pow-pos w)) ∙ ap (λ (s : List ℕ). bitsOf 2 mark ++ s) (bitsOf-mod w x)
 
--- the same by one number
 pub marked-one : (o o₁ : List ℕ) (p q mark w x v : ℕ) → v ≡ mark * 2 ^ w + x % 2 ^ w → Puts o p (bitsOf (2 + w) v) o₁ q → Puts o p (A.marked mark w x) o₁ q
 unfolding A.marked
-marked-one o o₁ p q mark w x v e h =
-    puts-same o o₁ p q (bitsOf (2 + w) v) (bitsOf 2 mark ++ bitsOf w x)
-    (ap (bitsOf (2 + w)) e ∙ bitsOf-join 2 w mark (x % 2 ^ w) (mod-lt x (pow-pos w)) ∙ ap (λ (s : List ℕ). bitsOf 2 mark ++ s) (bitsOf-mod w x)) h
+marked-one o o₁ p q mark w x v e h = puts-same o o₁ p q (bitsOf (2 + w) v) (bitsOf 2 mark ++ bitsOf w x) (marked-bits mark w x v e) h
+
+-- as two: the mark with the high part, and the 32 low bits
+pub marked-two : (o o₁ o₂ : List ℕ) (p q r mark w x v : ℕ) → Room o p → 62 < w → v ≡ mark * 2 ^ (w - 32) + x / 2 ^ 32 % 2 ^ (w - 32)
+    → Puts o p (bitsOf (2 + (w - 32)) v) o₁ q → Puts o₁ q (bitsOf 32 x) o₂ r → Puts o p (A.marked mark w x) o₂ r
+unfolding A.marked
+marked-two o o₁ o₂ p q r mark w x v g l e a b =
+    let z : w - 32 + 32 ≡ w = omega arith in
+    let high : List ℕ = bitsOf (w - 32) (x / 2 ^ 32) in
+    puts-same o o₂ p r (bitsOf (2 + (w - 32)) v ++ bitsOf 32 x) (bitsOf 2 mark ++ bitsOf w x)
+    (ap (λ (s : List ℕ). s ++ bitsOf 32 x) (marked-bits mark (w - 32) (x / 2 ^ 32) v e)
+    ∙ append-assoc (bitsOf 2 mark) high (bitsOf 32 x)
+    ∙ ap (λ (s : List ℕ). bitsOf 2 mark ++ s) (sym (bitsOf-split (w - 32) 32 x) ∙ ap (λ (k : ℕ). bitsOf k x) z))
+    (puts-then o o₁ o₂ p q r (bitsOf (2 + (w - 32)) v) (bitsOf 32 x) (g .short) a b)
 
 -- ---- no room: bits of a known length are counted
 counted-puts : (o : List ℕ) (p n q : ℕ) (xs : List ℕ) → Room o p → length xs ≡ n → 8 * length o < p + n → q ≡ saturated (p + n) → Puts o p xs o q
-counted-puts o p n q xs g e l eq =
-    record {
-      len = refl;
-      most = subst (λ (k : ℕ). k ≤ 134217721) (sym eq) (count-most (p + n));
-      end = eq ∙ ap (λ (k : ℕ). saturated (p + k)) (sym e);
-      put = λ f. absurd (let z : ⊥ = omega arith in z);
-    }
+counted-puts o p n q xs g e l eq = subst (λ (k : ℕ). Puts o p xs o k) (sym eq) (ends (leb (p + n) 134217720) refl)
+  where
+    ends : (b : Bool) → leb (p + n) 134217720 ≡ b → Puts o p xs o (saturated (p + n))
+    ends true h = let f = leb-true (p + n) 134217720 h in subst (λ (k : ℕ). Puts o p xs o k) (count-in (p + n) f) (run-not o p n xs g e f l)
+    ends false h = let f = leb-false (p + n) 134217720 h in subst (λ (k : ℕ). Puts o p xs o k) (count-over (p + n) f) (run-over o p n xs g e f)
 
 pub marked-counted : (o : List ℕ) (p q mark w x : ℕ) → Room o p → 8 * length o < p + (2 + w) → q ≡ saturated (p + (2 + w)) → Puts o p (A.marked mark w x) o q
 unfolding A.marked
@@ -81,6 +92,12 @@ module _ (none : Bool) (w x : ℕ) (o o₁ : List ℕ) (p q : ℕ) where
     float-value f v ev h = simp (e, ← et, f) (subst (λ (z : ℕ). Puts o p (A.marked 1 (8 * z) x) o₁ q) ev h)
 
 -- ---- a number that is not optional
+-- the first w of eight bytes are the low bits of their number
+first-bits : (m : List ℕ) (at w : ℕ) → w < 8 → bitsOf (8 * w) (le m at 8) ≡ bitsOf (8 * w) (le m at w)
+first-bits m at w h =
+    let z : 8 ≡ w + (8 - w) = omega arith in
+    ap (λ (k : ℕ). bitsOf (8 * w) (le m at k)) z ∙ ap (bitsOf (8 * w)) (le-join m at w (8 - w)) ∙ bitsOf-low (8 * w) (le m (at + w) (8 - w)) (le m at w)
+
 pub plain-counted : (m : List ℕ) (w start n end : ℕ) (o : List ℕ) (p q : ℕ) → end + w ≤ n → Room o p → 8 * length o < p + (2 + 8 * w)
     → q ≡ saturated (p + (2 + 8 * w)) → Puts o p (A.plainAt m w start n end) o q
 unfolding A.plainAt
@@ -94,6 +111,15 @@ module _ (m : List ℕ) (w start n end : ℕ) (o o₁ : List ℕ) (p q : ℕ) wh
   pub plain-there : end + w ≤ n → (x : ℕ) → Number m (start + end) w x → Puts o p (A.marked 1 (8 * w) x) o₁ q → Puts o p (A.plainAt m w start n end) o₁ q
   unfolding A.plainAt
   plain-there h x nx l = simp (le-leb _ _ h) (subst (λ (y : ℕ). Puts o p (A.marked 1 (8 * w) y) o₁ q) (nx .is) l)
+
+  -- the number cut from the eight bytes at its place
+  pub plain-word : end + w ≤ n → w < 8 → (x v : ℕ) → Number m (start + end) 8 x → v ≡ 1 * 2 ^ (8 * w) + x % 2 ^ (8 * w) → Puts o p (bitsOf (2 + 8 * w) v) o₁ q
+      → Puts o p (A.plainAt m w start n end) o₁ q
+  unfolding A.plainAt A.marked
+  plain-word h few x v nx e l =
+      simp (le-leb _ _ h)
+      (puts-same o o₁ p q (bitsOf (2 + 8 * w) v) (bitsOf 2 1 ++ bitsOf (8 * w) (le m (start + end) w))
+      (marked-bits 1 (8 * w) x v e ∙ ap (λ (s : List ℕ). bitsOf 2 1 ++ s) (ap (bitsOf (8 * w)) (nx .is) ∙ first-bits m (start + end) w few)) l)
 
 -- ---- a text or bytes with its mark
 pub blob-marked : (m o o₁ o₂ : List ℕ) (p q r at n y : ℕ) → Room o p → at + n ≤ length m → y ≡ n → Puts o p (A.marked 1 32 y) o₁ q
@@ -145,3 +171,20 @@ unfolding A.numbersAt
 numbers-done o₀ o p₀ p whole m w n at inv g h =
     let z : n ≡ 0 = omega arith in
     remaining-done o₀ o p₀ p whole (A.numbersAt m w n at) inv g (ap (λ (k : ℕ). A.numbersAt m w k at) z)
+
+-- eight bytes that are put where there is room
+pub words-turn : (o₀ o o₁ : List ℕ) (p₀ p : ℕ) (whole m : List ℕ) (n at x : ℕ) → Remaining o₀ p₀ whole o p (A.numbersAt m 8 n at) → Room o p → p + 64 * n ≤ 8 * length o → 0 < n
+    → Number m at 8 x → length o₁ ≡ length o → bits o₁ ≡ splice (bits o) p (bitsOf 64 x) → Remaining o₀ p₀ whole o₁ (p + 64) (A.numbersAt m 8 (n - 1) (at + 8))
+words-turn o₀ o o₁ p₀ p whole m n at x inv g fit h nx l k =
+    let s = g .short in
+    numbers-turn o₀ o o₁ p₀ p (p + 64) whole m 8 n at inv g h (number-puts m o o₁ p (p + 64) 8 at x nx (bits-in o p 64 x g (omega arith) o₁ l k))
+
+pub words-room : (o o₁ : List ℕ) (p n : ℕ) → Room o p → p + 64 * n ≤ 8 * length o → 0 < n → length o₁ ≡ length o → Room o₁ (p + 64)
+words-room o o₁ p n g fit h l = let s = g .short in record { short = omega arith; most = omega arith }
+
+module _ (w n : ℕ) (e : w ≡ 8) where
+  pub words-fit : (p k l : ℕ) → k ≡ 8 * w * n → p + k ≤ l → p + 64 * n ≤ l
+  words-fit p k l z h = let y : k ≡ 64 * n = z ∙ ap (λ (i : ℕ). 8 * i * n) e in omega arith
+
+  pub words-puts : (o o₁ : List ℕ) (p q : ℕ) (m : List ℕ) (at : ℕ) → Puts o p (A.numbersAt m 8 n at) o₁ q → Puts o p (A.numbersAt m w n at) o₁ q
+  words-puts o o₁ p q m at h = puts-same o o₁ p q (A.numbersAt m 8 n at) (A.numbersAt m w n at) (ap (λ (i : ℕ). A.numbersAt m i n at) (sym e)) h

@@ -40,8 +40,8 @@ pub fn write_marked(out: &mut [u8], pos: usize, mark: u64, w: usize, x: u64) -> 
     if w <= 62 {
         return bitio::write(out, pos, 2 + w, bits::append(mark, w, x));
     }
-    let p = bitio::write(out, pos, 2, mark);
-    bitio::write(out, p, w, x)
+    let p = bitio::write(out, pos, 2 + (w - 32), bits::append(mark, w - 32, x >> 32));
+    bitio::write(out, p, 32, x)
 }
 
 // An enum of n values with its mark.
@@ -64,7 +64,10 @@ pub fn write_number(m: &[u8], out: &mut [u8], pos: usize, w: usize, at: usize) -
     requires { ⌜ (w ≤ 8) × (at < 2 ^ 60) ⌝ }
     ensures { λ r. ⌜ Puts (now (out .entry)) pos (bitsOf (8 * w) (B.le (now (m .entry)) at w)) (now (out .exit)) r ⌝ }
 {
-    bitio::write(out, pos, 8 * w, wire::number(m, at, w))
+    if w < 8 {
+        return bitio::write(out, pos, 8 * w, wire::number(m, at, w));
+    }
+    bitio::write_wide(out, pos, 8 * w, wire::number(m, at, w))
 }
 
 // The bits of n numbers of w bytes.
@@ -73,6 +76,24 @@ fn numbers_size(w: usize, n: usize) -> usize
     ensures { λ r. ⌜ (r ≡ 8 * w * n) × (r ≤ 64 * 2 ^ 48) ⌝ }
 {
     8 * w * n
+}
+
+// The n numbers of eight bytes from `at`, for which there is room.
+fn put_words(m: &[u8], out: &mut [u8], pos: usize, at: usize, n: usize) -> usize
+    requires { ⌜ (Room (now out) pos) × (pos + 64 * n ≤ 8 * length (now out)) ⌝ }
+    requires { ⌜ (at < 2 ^ 58) × (n < 2 ^ 48) ⌝ }
+    ensures { λ r. ⌜ Puts (now (out .entry)) pos (Bt.numbersAt (now (m .entry)) 8 n at) (now (out .exit)) r ⌝ }
+{
+    let mut p = pos;
+    let mut from = at;
+    let mut left = n;
+    while 0 < left {
+        bitio::put_eight(out, p, wire::number(m, from, 8));
+        p += 64;
+        from += 8;
+        left -= 1;
+    }
+    p
 }
 
 // The n numbers of w bytes from `at`: counted at once where there is no room.
@@ -87,6 +108,9 @@ pub fn write_numbers(m: &[u8], out: &mut [u8], pos: usize, w: usize, at: usize, 
     }
     if 8 * out.len() < end {
         return end;
+    }
+    if w == 8 {
+        return put_words(m, out, pos, at, n);
     }
     let mut p = pos;
     let mut from = at;
@@ -196,5 +220,12 @@ pub fn write_plain(
     if 8 * out.len() < pos + (2 + 8 * w) {
         return counted(pos, 2 + 8 * w);
     }
-    write_marked(out, pos, 1, 8 * w, wire::number(m, start + end, w))
+    let at = start + end;
+    if w < 8 {
+        if at + 8 <= m.len() {
+            let x = wire::u64_in(m, at);
+            return bitio::write(out, pos, 2 + 8 * w, bits::append(1, 8 * w, x));
+        }
+    }
+    write_marked(out, pos, 1, 8 * w, wire::number(m, at, w))
 }

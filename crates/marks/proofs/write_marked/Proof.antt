@@ -1,13 +1,8 @@
--- A mark and its number by one number where they fit, else one after the other.
-use Rattle.marks.proofs.Cases.{marked-counted, marked-puts, marked-one}
+-- A mark and its number by one number where they fit, else by two.
+use Rattle.marks.proofs.Cases.{marked-counted, marked-one, marked-two}
 use borrow.Author.Needs.{needs}
 use Rattle.marks.proofs.write_marked.Statement.{statement}
 use Rattle.marks.proofs.write_marked.Tie as tie
-use Rattle.marks.proofs.write_marked.Reads as reads
-use Rattle.marks.proofs.write_marked.Lts as lts
-use Rattle.bitio.proofs.write.Reads as write-reads
-use Rattle.bits.proofs.append.Reads as append-reads
-use Rattle.marks.proofs.counted.Reads as counted-reads
 
 -- src/lib.rt:37:8
 mul-if1 : tie.Need-mul-if1
@@ -53,6 +48,22 @@ same-length c = search needs
 returns-2 : tie.Need-returns-2
 returns-2 c = search marked-one
 
+-- src/lib.rt:43:41
+sub-write : tie.Need-sub-write
+sub-write c = search needs
+
+-- src/lib.rt:43:36
+add-write-2 : tie.Need-add-write-2
+add-write-2 c = search needs
+
+-- src/lib.rt:43:69
+sub-append : tie.Need-sub-append
+sub-append c = search needs
+
+-- src/lib.rt:43:50
+append-requires-2 : tie.Need-append-requires-2
+append-requires-2 c κs = search needs
+
 -- src/lib.rt:43:9
 write-requires-2 : tie.Need-write-requires-2
 write-requires-2 c κs = search needs
@@ -67,7 +78,7 @@ same-length-2 c = search needs
 
 -- src/lib.rt:32:1
 returns-3 : tie.Need-returns-3
-returns-3 c = search marked-puts
+returns-3 c = search marked-two
 
 pub write-marked-spec : {M : Type 1} → statement M
 write-marked-spec =
@@ -84,6 +95,10 @@ write-marked-spec =
     write-requires
     same-length
     returns-2
+    sub-write
+    add-write-2
+    sub-append
+    append-requires-2
     write-requires-2
     write-requires-3
     same-length-2
