@@ -6,9 +6,9 @@ use Prim.Native.Nat.{ℕ, _+_, _-_, _*_, _<_, _≤_}
 use native.Mathlib.Omega.{arith}
 use lib.ListN.{length, getD}
 use lib.Dec.{leb, ltb, eqb}
-use borrow.Author.Tests.{leb-true, leb-false, le-leb, lt-leb, ltb-true, lt-ltb, eq-eqb, ne-eqb}
+use borrow.Author.Tests.{leb-true, leb-false, lt-leb, ltb-true, ltb-false, lt-ltb, le-ltb, eq-eqb, eqb-false, ne-eqb}
 use Rattle.coding.specs.Lists.{pick}
-use Rattle.coding.specs.Bytes.{u48, le, bitAt}
+use Rattle.coding.specs.Bytes.{u48, le, bitAt, isNaN}
 use Rattle.coding.specs.Schema as Sc
 use Rattle.coding.specs.Schema.{Schema}
 use Rattle.coding.specs.Packed as P
@@ -75,6 +75,13 @@ bool-flat : (k a : ℕ) → k ≡ 0 → P.flatOf k a ≡ F.Boolean
 unfolding P.flatOf
 bool-flat k a h = simp (eq-eqb _ _ h)
 
+float-flat : (k a : ℕ) → 9 ≤ k → k ≤ 10 → P.flatOf k a ≡ F.Float (P.widthOf k)
+unfolding P.flatOf
+float-flat k a h l =
+    let g : k < 11 = omega arith in
+    let i : 5 ≤ k = omega arith in
+    simp (ne-eqb k 0 (λ e. omega (arith, e, h)), le-ltb _ _ i, le-ltb _ _ h, lt-ltb _ _ g)
+
 member-at : (b : List ℕ) (at k : ℕ) → k ≡ P.kindAt b at → k ≤ 11 → (o v : Bool) → o ≡ P.optionalAt b at → o ≡ v
     → P.memberAt b at ≡ record { kind = OfFlat (P.flatOf k (P.argumentAt b at)); optional = v; inplace = P.inplaceAt b at }
 unfolding P.memberAt P.elementAt P.kindOf
@@ -97,11 +104,11 @@ bytes-is k v w ev ew = ew ∙ ev
 
 -- ---- by the code
 module _ (q : ℕ) (A : Type 0) (x y z : A) where
-  code-number : q ≤ 8 → pick (leb q 8) x (pick (leb q 16) y z) ≡ x
-  code-number h = simp (le-leb _ _ h)
+  code-number : q < 16 → pick (ltb q 16) x (pick (ltb q 32) y z) ≡ x
+  code-number h = simp (lt-ltb _ _ h)
 
-  code-optional : 8 < q → q ≤ 16 → pick (leb q 8) x (pick (leb q 16) y z) ≡ y
-  code-optional h l = simp (lt-leb _ _ h, le-leb _ _ l)
+  code-optional : 16 ≤ q → q < 32 → pick (ltb q 16) x (pick (ltb q 32) y z) ≡ y
+  code-optional h l = simp (le-ltb _ _ h, lt-ltb _ _ l)
 
 -- ---- the bits of a member's step
 module _ (d : ℕ) (S : Schema) (m : List ℕ) (k : Kind) where
@@ -158,11 +165,12 @@ module _ (place : Bool) (w : ℕ) where
   number-coded : (f : Flat) → NumberOf f w → 0 < w → w ≤ 8 → Coded (flatMember f false place) w
   unfolding behind A.codedAt A.codedWidth A.codedEnd
   number-coded f e some few =
-      let l : w ≤ 16 = omega arith in
+      let h : w < 16 = omega arith in
+      let l : w < 32 = omega arith in
       record {
         next-is = λ S c.
-            number-next S c f e ∙ sym (code-number w Cursor (L.afterBytes w c) (L.afterBytes (w - 8) (L.afterBit c)) (behindOther w c) few);
-        bits-are = λ d S m start n c. number-bits d S m start n c some f e ∙ simp (le-leb _ _ few, le-leb _ _ l);
+            number-next S c f e ∙ sym (code-number w Cursor (L.afterBytes w c) (L.afterBytes (w - 16) (L.afterBit c)) (behindOther w c) h);
+        bits-are = λ d S m start n c. number-bits d S m start n c some f e ∙ simp (lt-ltb _ _ h, lt-ltb _ _ l);
       }
 
   -- ---- an optional integer
@@ -200,19 +208,54 @@ module _ (place : Bool) (w : ℕ) where
   optional-bits d S m start n c some (F.Enumerated k) e = absurd e
   optional-bits d S m start n c some (F.Struct i) e = absurd e
 
-  optional-coded : (f : Flat) → IntegerOf f w → 0 < w → w ≤ 8 → Coded (flatMember f true place) (8 + w)
+  optional-coded : (f : Flat) → IntegerOf f w → 0 < w → w ≤ 8 → Coded (flatMember f true place) (16 + w)
   unfolding behind A.codedAt A.codedWidth A.codedEnd
   optional-coded f e some few =
-      let h : 8 < 8 + w = omega arith in
-      let l : 8 + w ≤ 16 = omega arith in
-      let z : w ≡ 8 + w - 8 = omega arith in
+      let h : 16 ≤ 16 + w = omega arith in
+      let l : 16 + w < 32 = omega arith in
+      let z : w ≡ 16 + w - 16 = omega arith in
       record {
         next-is = λ S c.
             optional-next S c f e ∙ ap (λ (i : ℕ). L.afterBytes i (L.afterBit c)) z
-            ∙ sym (code-optional (8 + w) Cursor (L.afterBytes (8 + w) c) (L.afterBytes (8 + w - 8) (L.afterBit c)) (behindOther (8 + w) c) h l);
+            ∙ sym (code-optional (16 + w) Cursor (L.afterBytes (16 + w) c) (L.afterBytes (16 + w - 16) (L.afterBit c)) (behindOther (16 + w) c) h l);
         bits-are = λ d S m start n c.
             optional-bits d S m start n c some f e ∙ ap (λ (i : ℕ). K.plainAt m i start n (A.optionalEnd m start n c)) z
-            ∙ simp (lt-leb _ _ h, le-leb _ _ l);
+            ∙ simp (le-ltb _ _ h, lt-ltb _ _ l);
+      }
+
+  -- ---- an optional float, which has no flag
+  float-next : (S : Schema) (c : Cursor) → L.afterMember u48 S (flatMember (F.Float w) true place) c ≡ L.afterBytes w c
+  unfolding L.afterMember L.afterValue L.afterFlag L.hasFlag L.takesFlag L.flatTakesFlag L.isBool L.flatIsBool L.width flatWidth
+  float-next S c = refl
+
+  float-bits : (d : ℕ) (S : Schema) (m : List ℕ) (start n : ℕ) (c : Cursor) → 0 < w
+      → A.stepAt d S m (OfFlat (F.Float w)) (T.memberStep u48 S m start n c (flatMember (F.Float w) true place)) ≡ A.optionalFloatAt m w start n c
+  unfolding T.memberStep T.inside T.valueStep T.flatStep T.floatStep L.memberSlot L.slotOf L.afterFlag L.hasFlag L.takesFlag L.flatTakesFlag L.isBool L.flatIsBool L.width flatWidth K.floatAt A.optionalFloatAt A.stepAt A.valueWidth A.flatValue
+  float-bits d S m start n c some = by (le m (start + c .end) w) (leb n (c .end)) (leb (c .end + w) n) (isNaN w (le m (start + c .end) w)) refl refl
+    where
+      by : (x : ℕ) (t u v : Bool) → leb n (c .end) ≡ t → leb (c .end + w) n ≡ u
+          → A.stepAt d S m (OfFlat (F.Float w)) (pick t St.Absent (pick u (pick v St.Absent (St.Value x)) (St.Refused 8)))
+          ≡ pick u (pick v (bitsOf 2 0) (K.marked 1 (8 * w) x)) (bitsOf 2 0)
+      by x true true v et eu = let a = leb-true n (c .end) et in let b = leb-true (c .end + w) n eu in absurd (let z : ⊥ = omega arith in z)
+      by x true false v et eu = refl
+      by x false true true et eu = refl
+      by x false true false et eu = refl
+      by x false false v et eu = refl
+
+  float-coded : 0 < w → w ≤ 8 → Coded (flatMember (F.Float w) true place) (48 + w)
+  unfolding behind behindOther A.codedAt A.otherAt
+  float-coded some few =
+      let g : 16 ≤ 48 + w = omega arith in
+      let h : 32 ≤ 48 + w = omega arith in
+      let i : 32 < 48 + w = omega arith in
+      let l : 48 + w < 64 = omega arith in
+      let z : w ≡ 48 + w - 48 = omega arith in
+      record {
+        next-is = λ S c.
+            float-next S c ∙ ap (λ (i : ℕ). L.afterBytes i c) z ∙ simp (le-ltb _ _ g, le-ltb _ _ h, lt-leb _ _ i, lt-ltb _ _ l);
+        bits-are = λ d S m start n c.
+            float-bits d S m start n c some ∙ ap (λ (i : ℕ). A.optionalFloatAt m i start n c) z
+            ∙ simp (le-ltb _ _ h, lt-leb _ _ i, lt-ltb _ _ l);
       }
 
 -- ---- a bool that is not optional
@@ -231,7 +274,7 @@ bool-next : (place : Bool) (S : Schema) (c : Cursor) → L.afterMember u48 S (fl
 unfolding L.afterMember L.afterValue L.afterFlag L.hasFlag L.isBool L.flatIsBool
 bool-next place S c = refl
 
-bool-coded : (place : Bool) → Coded (flatMember F.Boolean false place) 17
+bool-coded : (place : Bool) → Coded (flatMember F.Boolean false place) 32
 unfolding behind behindOther A.codedAt A.otherAt
 bool-coded place = record { next-is = λ S c. bool-next place S c; bits-are = λ d S m start n c. bool-bits place d S m start n c }
 
@@ -262,27 +305,29 @@ unfolding T.memberStep T.inside T.valueStep T.flatStep L.memberSlot L.slotOf L.a
 enum-bits place true k d S m start n c = enum-step k d S m n (c .end) (getD m (start + c .end) 0)
 enum-bits place false k d S m start n c = enum-step k d S m n (c .end) (getD m (start + c .end) 0)
 
-enum-coded : (place o : Bool) (k : ℕ) → Coded (flatMember (F.Enumerated k) o place) (32 + k)
+enum-coded : (place o : Bool) (k : ℕ) → Coded (flatMember (F.Enumerated k) o place) (64 + k)
 unfolding behind behindOther A.codedAt A.otherAt
 enum-coded place o k =
-    let g : 8 < 32 + k = omega arith in
-    let h : 16 < 32 + k = omega arith in
-    let l : 17 < 32 + k = omega arith in
-    let z : k ≡ 32 + k - 32 = omega arith in
+    let g : 16 ≤ 64 + k = omega arith in
+    let h : 32 ≤ 64 + k = omega arith in
+    let i : 32 < 64 + k = omega arith in
+    let l : 64 ≤ 64 + k = omega arith in
+    let z : k ≡ 64 + k - 64 = omega arith in
     record {
-      next-is = λ S c. enum-next place o k S c ∙ simp (lt-leb _ _ g, lt-leb _ _ h, lt-leb _ _ l);
+      next-is = λ S c. enum-next place o k S c ∙ simp (le-ltb _ _ g, le-ltb _ _ h, lt-leb _ _ i, le-ltb _ _ l);
       bits-are = λ d S m start n c.
-          enum-bits place o k d S m start n c ∙ ap (λ (i : ℕ). A.enumeratedAt m i start n c) z ∙ simp (lt-leb _ _ h, lt-leb _ _ l);
+          enum-bits place o k d S m start n c ∙ ap (λ (i : ℕ). A.enumeratedAt m i start n c) z
+          ∙ simp (le-ltb _ _ h, lt-leb _ _ i, le-ltb _ _ l);
     }
 
 enum-flat : (k a : ℕ) → k ≡ 11 → P.flatOf k a ≡ F.Enumerated a
 unfolding P.flatOf
 enum-flat k a h = ap (λ (i : ℕ). P.flatOf i a) h
 
-pub enum-at : (b : List ℕ) (at k : ℕ) → k ≡ P.kindAt b at → k ≡ 11 → (a w : ℕ) → a ≡ P.argumentAt b at → w ≡ a → Coded (P.memberAt b at) (32 + w)
+pub enum-at : (b : List ℕ) (at k : ℕ) → k ≡ P.kindAt b at → k ≡ 11 → (a w : ℕ) → a ≡ P.argumentAt b at → w ≡ a → Coded (P.memberAt b at) (64 + w)
 enum-at b at k ek h a w ea ew =
     let l : k ≤ 11 = omega arith in
-    subst (λ (r : Member). Coded r (32 + w))
+    subst (λ (r : Member). Coded r (64 + w))
     (sym (member-at b at k ek l (P.optionalAt b at) (P.optionalAt b at) refl refl
     ∙ ap (λ (x : Flat). flatMember x (P.optionalAt b at) (P.inplaceAt b at)) (enum-flat k (P.argumentAt b at) h ∙ ap F.Enumerated (sym (ew ∙ ea)))))
     (enum-coded (P.inplaceAt b at) (P.optionalAt b at) w)
@@ -294,14 +339,33 @@ module _ (b : List ℕ) (at k : ℕ) (ek : k ≡ P.kindAt b at) (l : k ≤ 10) (
       subst (λ (r : Member). Coded r w) (sym (member-at b at k ek (let g : k ≤ 11 = omega arith in g) o false eo f))
       (number-coded (P.inplaceAt b at) w (P.flatOf k (P.argumentAt b at)) (subst (NumberOf (P.flatOf k (P.argumentAt b at))) (sym ew) (number-flat k (P.argumentAt b at) h l)) some few)
 
-  pub optional-at : o ≡ true → (k ≡ 0 → ⊥) → k ≤ 8 → (w : ℕ) → w ≡ P.widthOf k → 0 < w → w ≤ 8 → Coded (P.memberAt b at) (8 + w)
-  optional-at f h g w ew some few =
-      subst (λ (r : Member). Coded r (8 + w)) (sym (member-at b at k ek (let g : k ≤ 11 = omega arith in g) o true eo f))
-      (optional-coded (P.inplaceAt b at) w (P.flatOf k (P.argumentAt b at)) (subst (IntegerOf (P.flatOf k (P.argumentAt b at))) (sym ew) (integer-flat k (P.argumentAt b at) h g)) some few)
+  optional-by : o ≡ true → (t u : Bool) → eqb k 0 ≡ t → ltb k 9 ≡ u → 0 < pick t 0 (pick u (16 + P.widthOf k) (48 + P.widthOf k))
+      → Coded (P.memberAt b at) (pick t 0 (pick u (16 + P.widthOf k) (48 + P.widthOf k)))
+  optional-by f true u et eu some = absurd (let z : ⊥ = omega arith in z)
+  optional-by f false true et eu some =
+      let h = ltb-true k 9 eu in
+      let i : k ≤ 8 = omega arith in
+      let g : k < 11 = omega arith in
+      let x : k ≤ 11 = omega arith in
+      subst (λ (r : Member). Coded r (16 + P.widthOf k)) (sym (member-at b at k ek x o true eo f))
+      (optional-coded (P.inplaceAt b at) (P.widthOf k) (P.flatOf k (P.argumentAt b at)) (integer-flat k (P.argumentAt b at) (eqb-false k 0 et) i)
+      (width-range k g .0) (width-range k g .1))
+  optional-by f false false et eu some =
+      let g : k < 11 = omega arith in
+      let x : k ≤ 11 = omega arith in
+      subst (λ (r : Member). Coded r (48 + P.widthOf k))
+      (sym (member-at b at k ek x o true eo f
+      ∙ ap (λ (y : Flat). flatMember y true (P.inplaceAt b at)) (float-flat k (P.argumentAt b at) (ltb-false k 9 eu) l)))
+      (float-coded (P.inplaceAt b at) (P.widthOf k) (width-range k g .0) (width-range k g .1))
 
-  pub bool-at : o ≡ false → k ≡ 0 → Coded (P.memberAt b at) 17
+  pub optional-at : o ≡ true → (q : ℕ) → q ≡ A.optionalCode k → 0 < q → Coded (P.memberAt b at) q
+  unfolding A.optionalCode
+  optional-at f q e some =
+      subst (Coded (P.memberAt b at)) (sym e) (optional-by f (eqb k 0) (ltb k 9) refl refl (subst (λ (i : ℕ). 0 < i) e some))
+
+  pub bool-at : o ≡ false → k ≡ 0 → Coded (P.memberAt b at) 32
   bool-at f h =
-      subst (λ (r : Member). Coded r 17)
+      subst (λ (r : Member). Coded r 32)
       (sym (member-at b at k ek (let g : k ≤ 11 = omega arith in g) o false eo f ∙ ap (λ (x : Flat). flatMember x false (P.inplaceAt b at)) (bool-flat k (P.argumentAt b at) h)))
       (bool-coded (P.inplaceAt b at))
 
@@ -323,14 +387,17 @@ laid-more e f c p h = let x = p .end in record { end = omega arith; byte = p .by
 
 pub coded-laid : (j q : ℕ) (c next : Cursor) → Laid (4097 * j) c → next ≡ behind q c → Laid (4097 * (j + 1)) next
 unfolding behind behindOther
-coded-laid j q c next p e = subst (Laid (4097 * (j + 1))) (sym e) (by (leb q 8) (leb q 16) (leb q 17) refl refl)
+coded-laid j q c next p e = subst (Laid (4097 * (j + 1))) (sym e) (by (ltb q 16) (ltb q 32) (leb q 32) (ltb q 64) refl refl refl)
   where
-    by : (t u v : Bool) → leb q 8 ≡ t → leb q 16 ≡ u
-        → Laid (4097 * (j + 1)) (pick t (L.afterBytes q c) (pick u (L.afterBytes (q - 8) (L.afterBit c)) (pick v (L.afterBit c) (L.afterBytes 1 c))))
-    by true u v et eu = let h = leb-true q 8 et in bytes-laid (4097 * j) (4097 * (j + 1)) q c p (omega arith)
-    by false true v et eu = let h = leb-true q 16 eu in bytes-laid (4097 * j + 1) (4097 * (j + 1)) (q - 8) (L.afterBit c) (bit-laid (4097 * j) c p) (omega arith)
-    by false false true et eu = laid-more (4097 * j + 1) (4097 * (j + 1)) (L.afterBit c) (bit-laid (4097 * j) c p) (omega arith)
-    by false false false et eu = bytes-laid (4097 * j) (4097 * (j + 1)) 1 c p (omega arith)
+    by : (t u v w : Bool) → ltb q 16 ≡ t → ltb q 32 ≡ u → ltb q 64 ≡ w
+        → Laid (4097 * (j + 1))
+        (pick t (L.afterBytes q c) (pick u (L.afterBytes (q - 16) (L.afterBit c)) (pick v (L.afterBit c) (pick w (L.afterBytes (q - 48) c) (L.afterBytes 1 c)))))
+    by true u v w et eu ew = let h = ltb-true q 16 et in bytes-laid (4097 * j) (4097 * (j + 1)) q c p (omega arith)
+    by false true v w et eu ew =
+        let h = ltb-true q 32 eu in bytes-laid (4097 * j + 1) (4097 * (j + 1)) (q - 16) (L.afterBit c) (bit-laid (4097 * j) c p) (omega arith)
+    by false false true w et eu ew = laid-more (4097 * j + 1) (4097 * (j + 1)) (L.afterBit c) (bit-laid (4097 * j) c p) (omega arith)
+    by false false false true et eu ew = let h = ltb-true q 64 ew in bytes-laid (4097 * j) (4097 * (j + 1)) (q - 48) c p (omega arith)
+    by false false false false et eu ew = bytes-laid (4097 * j) (4097 * (j + 1)) 1 c p (omega arith)
 
 -- ---- the record of member j
 pub coded-member : (b : List ℕ) (t j : ℕ) → t < P.tableCount b → (count : ℕ) → count ≡ length (Sc.tableOf (P.parse b) t .members) → j < count → (first : ℕ)

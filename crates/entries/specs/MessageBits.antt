@@ -1,12 +1,13 @@
 -- The sheet's bits of what stands in a message: encode of read, part by part, as the code goes over it.
 use Prim.Native.Nat.{ℕ, _+_, _-_, _*_}
-use mathlib.Core.Bool.{Bool}
+use mathlib.Core.Bool.{Bool, true}
 use mathlib.Core.List.{List, _++_}
 use lib.ListN.{getD}
-use lib.Dec.{leb, eqb}
+use lib.Dec.{leb, ltb, eqb}
 use Rattle.coding.specs.Lists.{pick}
 use Rattle.coding.specs.Bytes.{u48, le, bitAt}
 use Rattle.coding.specs.Schema.{Schema, casesOf}
+use Rattle.coding.specs.Packed.{widthOf}
 use Rattle.coding.specs.Structs.{structOk}
 use Rattle.coding.specs.Bits.{bitsOf}
 use Rattle.coding.specs.Layout.{bitByte, bitIndex, afterBit}
@@ -109,18 +110,29 @@ boolAt m start n c = pick (leb n (bitByte c)) (bitsOf 2 0) (marked 1 1 (bitAt m 
 unfoldable pub enumeratedAt : List ℕ → ℕ → ℕ → ℕ → Cursor → List ℕ
 enumeratedAt m k start n c = pick (leb n (c .end)) (bitsOf 2 0) (enumAt k (getD m (start + c .end) 0))
 
--- by the code q: a number of q bytes, an optional integer of q - 8 bytes, a bool, an enum of q - 32 values
+-- an optional float of w bytes
+unfoldable pub optionalFloatAt : List ℕ → ℕ → ℕ → ℕ → Cursor → List ℕ
+optionalFloatAt m w start n c = pick (leb (c .end + w) n) (floatAt true w (le m (start + c .end) w)) (bitsOf 2 0)
+
+-- the code of an optional bool, integer or float of kind k
+unfoldable pub optionalCode : ℕ → ℕ
+optionalCode k = pick (eqb k 0) 0 (pick (ltb k 9) (16 + widthOf k) (48 + widthOf k))
+
+-- by the code q: a number of q bytes, an optional integer of q - 16 bytes, a bool, an optional float of q - 48 bytes, an enum
+-- of q - 64 values
 unfoldable pub codedWidth : ℕ → ℕ
-codedWidth q = pick (leb q 8) q (q - 8)
+codedWidth q = pick (ltb q 16) q (q - 16)
 
 unfoldable pub codedEnd : List ℕ → ℕ → ℕ → ℕ → Cursor → ℕ
-codedEnd m q start n c = pick (leb q 8) (c .end) (optionalEnd m start n c)
+codedEnd m q start n c = pick (ltb q 16) (c .end) (optionalEnd m start n c)
 
 unfoldable pub otherAt : List ℕ → ℕ → ℕ → ℕ → Cursor → List ℕ
-otherAt m q start n c = pick (leb q 17) (boolAt m start n c) (enumeratedAt m (q - 32) start n c)
+otherAt m q start n c =
+    pick (leb q 32) (boolAt m start n c)
+    (pick (ltb q 64) (optionalFloatAt m (q - 48) start n c) (enumeratedAt m (q - 64) start n c))
 
 unfoldable pub codedAt : List ℕ → ℕ → ℕ → ℕ → Cursor → List ℕ
-codedAt m q start n c = pick (leb q 16) (plainAt m (codedWidth q) start n (codedEnd m q start n c)) (otherAt m q start n c)
+codedAt m q start n c = pick (ltb q 32) (plainAt m (codedWidth q) start n (codedEnd m q start n c)) (otherAt m q start n c)
 
 -- the width of an integer kind in bytes, or 0
 unfoldable pub flatInteger : Flat → ℕ

@@ -4,7 +4,7 @@ use mathlib.Core.Bool.{Bool, true, false}
 use Prim.Native.Nat.{ℕ, _+_, _-_, _*_, _^_, _<_, _≤_}
 use mathlib.Core.List.{List}
 use lib.ListN.{length}
-use lib.Dec.{leb}
+use lib.Dec.{leb, ltb}
 use Rattle.coding.specs.Lists.{pick}
 use Rattle.coding.specs.Bytes.{u48}
 use Rattle.coding.specs.Schema.{Schema, memberOf}
@@ -42,14 +42,22 @@ isLeaf (OfUnion u) = false
 
 -- a member that is written by its record alone, with the code q: how the cursor moves, and its bits
 unfoldable pub behindOther : ℕ → Cursor → Cursor
-behindOther q c = pick (leb q 17) (afterBit c) (afterBytes 1 c)
+behindOther q c = pick (leb q 32) (afterBit c) (pick (ltb q 64) (afterBytes (q - 48) c) (afterBytes 1 c))
 
 unfoldable pub behind : ℕ → Cursor → Cursor
-behind q c = pick (leb q 8) (afterBytes q c) (pick (leb q 16) (afterBytes (q - 8) (afterBit c)) (behindOther q c))
+behind q c = pick (ltb q 16) (afterBytes q c) (pick (ltb q 32) (afterBytes (q - 16) (afterBit c)) (behindOther q c))
 
 pub record Coded (r : Member) (q : ℕ) : Type 0 where
   pub next-is : (S : Schema) (c : Cursor) → afterMember u48 S r c ≡ behind q c
   pub bits-are : (d : ℕ) (S : Schema) (m : List ℕ) (start n : ℕ) (c : Cursor) → stepAt d S m (r .kind) (memberStep u48 S m start n c r) ≡ codedAt m q start n c
+
+-- what a code keeps to: a number of at most 8 bytes, an enum of at most 255 values
+pub record Small (q : ℕ) : Type 0 where
+  pub number : q < 16 → q ≤ 8
+  pub optional : q < 32 → q ≤ 24
+  pub float : q < 64 → q ≤ 56
+  pub gap : 32 < q → 48 ≤ q
+  pub low : q < 320
 
 -- member j of table t, where the cursor stands: its kind, whether and where its value stands, and the cursor behind it
 pub record MemberAt (S : Schema) (m : List ℕ) (t j start n : ℕ) (c : Cursor) (k : Kind) (none inplace here : Bool) (at bit : ℕ) (next : Cursor) : Type 0 where

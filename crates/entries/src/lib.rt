@@ -21,7 +21,7 @@ ghost use Rattle.schema.specs.Directory.{Accepted};
 ghost use Rattle.bitio.specs.Puts.{Room, Puts};
 ghost use Rattle.entries.specs.MessageBits as Bt;
 ghost use Rattle.entries.specs.Readable as D;
-ghost use Rattle.entries.specs.Stepping.{MemberAt, Coded, behind, isHere, isBlob, isLeaf};
+ghost use Rattle.entries.specs.Stepping.{MemberAt, Coded, Small, behind, isHere, isBlob, isLeaf};
 
 // The bytes of an integer kind, or 0.
 fn integer_width(k: Kind) -> usize
@@ -315,32 +315,41 @@ fn plain_bytes(k: usize) -> usize
     wire::index(schema::width_of(k))
 }
 
-// How such a member is written: w for a number or float of w bytes that is not optional, 8 + w for an optional integer, 17
-// for a bool that is not optional, 32 + n for an enum of n values; 0 for any other record.
+// How a member is written by its record alone, where that is enough: w for a number or float of w bytes that is not
+// optional, 16 + w for an optional integer, 32 for a bool that is not optional, 48 + w for an optional float, 64 + n for an
+// enum of n values; 0 for any other record.
 fn code_at(b: &[u8], at: usize) -> usize
     requires { ⌜ at + 1 < length (now b) ⌝ }
-    ensures { λ r. ⌜ (0 < r → Coded (P.memberAt (now (b .entry)) at) r) × (r < 288) ⌝ }
+    ensures { λ r. ⌜ (0 < r → Coded (P.memberAt (now (b .entry)) at) r) × (Small r) ⌝ }
 {
     let k = schema::kind_at(b, at);
     if k == 11 {
-        return 32 + wire::index(schema::argument_at(b, at));
+        return 64 + wire::index(schema::argument_at(b, at));
     }
     if 10 < k {
         return 0;
     }
     if schema::optional_at(b, at) {
-        if 8 < k {
-            return 0;
-        }
-        if k == 0 {
-            return 0;
-        }
-        return 8 + plain_bytes(k);
+        return optional_code(k);
     }
     if k == 0 {
-        return 17;
+        return 32;
     }
     plain_bytes(k)
+}
+
+// The same for an optional bool, integer or float of kind k.
+fn optional_code(k: usize) -> usize
+    requires { ⌜ k < 11 ⌝ }
+    ensures { λ r. ⌜ r ≡ Bt.optionalCode k ⌝ }
+{
+    if k == 0 {
+        return 0;
+    }
+    if k < 9 {
+        return 16 + plain_bytes(k);
+    }
+    48 + plain_bytes(k)
 }
 
 // Where an optional integer stands in the fixed part; at its end, if the flag says that there is none.
@@ -364,20 +373,20 @@ fn coded_end(m: &[u8], q: usize, start: usize, n: usize, c: Cursor) -> usize
     requires { ⌜ (start + n ≤ length (now m)) × (length (now m) ≤ 16777215) × (c .end < 2 ^ 57) × (c .byte ≤ c .end) × (c .bit ≤ 8) ⌝ }
     ensures { λ r. ⌜ (r ≡ Bt.codedEnd (now (m .entry)) q start n c) × (r < 2 ^ 58) ⌝ }
 {
-    if q <= 8 {
+    if q < 16 {
         return c.end;
     }
     optional_end(m, start, n, c)
 }
 
 fn coded_width(q: usize) -> usize
-    requires { ⌜ q ≤ 16 ⌝ }
-    ensures { λ r. ⌜ (r ≡ Bt.codedWidth q) × (r ≤ 8) ⌝ }
+    requires { ⌜ q < 32 ⌝ }
+    ensures { λ r. ⌜ r ≡ Bt.codedWidth q ⌝ }
 {
-    if q <= 8 {
+    if q < 16 {
         return q;
     }
-    q - 8
+    q - 16
 }
 
 // A bool that is not optional.
@@ -394,7 +403,27 @@ fn write_bool(m: &[u8], out: &mut [u8], start: usize, n: usize, c: Cursor, pos: 
     marks::write_marked(out, pos, 1, 1, wire::bit_value(x, layout::bit_index(c)))
 }
 
-// A bool or an enum.
+// An optional float of w bytes.
+fn write_optional_float(
+    m: &[u8],
+    out: &mut [u8],
+    w: usize,
+    start: usize,
+    n: usize,
+    c: Cursor,
+    pos: usize,
+) -> usize
+    requires { ⌜ Room (now out) pos ⌝ }
+    requires { ⌜ (start + n ≤ length (now m)) × (length (now m) ≤ 16777215) × (c .end < 2 ^ 57) × (w ≤ 8) ⌝ }
+    ensures { λ r. ⌜ Puts (now (out .entry)) pos (Bt.optionalFloatAt (now (m .entry)) w start n c) (now (out .exit)) r ⌝ }
+{
+    if n < c.end + w {
+        return bitio::write(out, pos, 2, 0);
+    }
+    marks::write_float(out, pos, true, w as u8, wire::number(m, start + c.end, w))
+}
+
+// A bool, an optional float or an enum.
 fn write_other(
     m: &[u8],
     out: &mut [u8],
@@ -405,27 +434,19 @@ fn write_other(
     pos: usize,
 ) -> usize
     requires { ⌜ Room (now out) pos ⌝ }
-    requires { ⌜ (start + n ≤ length (now m)) × (length (now m) ≤ 16777215) × (c .byte ≤ c .end) × (q < 288) ⌝ }
+    requires { ⌜ (start + n ≤ length (now m)) × (length (now m) ≤ 16777215) × (c .end < 2 ^ 57) × (c .byte ≤ c .end) × (Small q) ⌝ }
     ensures { λ r. ⌜ Puts (now (out .entry)) pos (Bt.otherAt (now (m .entry)) q start n c) (now (out .exit)) r ⌝ }
 {
-    if q <= 17 {
+    if q <= 32 {
         return write_bool(m, out, start, n, c, pos);
+    }
+    if q < 64 {
+        return write_optional_float(m, out, q - 48, start, n, c, pos);
     }
     if n <= c.end {
         return bitio::write(out, pos, 2, 0);
     }
-    marks::write_enum(out, pos, enum_count(q), wire::byte_in(m, start + c.end))
-}
-
-// The count of an enum by its code.
-fn enum_count(q: usize) -> u8
-    requires { ⌜ q < 288 ⌝ }
-    ensures { λ r. ⌜ r ≡ q - 32 ⌝ }
-{
-    if q < 32 {
-        return 0;
-    }
-    (q - 32) as u8
+    marks::write_enum(out, pos, (q - 64) as u8, wire::byte_in(m, start + c.end))
 }
 
 // The bits of such a member.
@@ -439,10 +460,10 @@ fn write_coded(
     pos: usize,
 ) -> usize
     requires { ⌜ Room (now out) pos ⌝ }
-    requires { ⌜ (start + n ≤ length (now m)) × (length (now m) ≤ 16777215) × (c .end < 2 ^ 57) × (c .byte ≤ c .end) × (c .bit ≤ 8) × (q < 288) ⌝ }
+    requires { ⌜ (start + n ≤ length (now m)) × (length (now m) ≤ 16777215) × (c .end < 2 ^ 57) × (c .byte ≤ c .end) × (c .bit ≤ 8) × (Small q) ⌝ }
     ensures { λ r. ⌜ Puts (now (out .entry)) pos (Bt.codedAt (now (m .entry)) q start n c) (now (out .exit)) r ⌝ }
 {
-    if 16 < q {
+    if 32 <= q {
         return write_other(m, out, q, start, n, c, pos);
     }
     let end = coded_end(m, q, start, n, c);
@@ -463,18 +484,20 @@ fn behind_plain(c: Cursor, w: usize) -> Cursor
 
 // The cursor behind such a member.
 fn behind_coded(c: Cursor, q: usize) -> Cursor
-    requires { ⌜ (c .end < 2 ^ 57) × (c .byte ≤ c .end) × (c .bit ≤ 8) ⌝ }
+    requires { ⌜ (c .end < 2 ^ 57) × (c .byte ≤ c .end) × (c .bit ≤ 8) × (Small q) ⌝ }
     ensures { λ r. ⌜ r ≡ behind q c ⌝ }
 {
-    if q <= 8 {
+    if q < 16 {
         return behind_plain(c, q);
     }
-    let next = layout::after_bit(c);
-    if q <= 16 {
-        return behind_plain(next, q - 8);
+    if q < 32 {
+        return behind_plain(layout::after_bit(c), q - 16);
     }
-    if q <= 17 {
-        return next;
+    if q <= 32 {
+        return layout::after_bit(c);
+    }
+    if q < 64 {
+        return behind_plain(c, q - 48);
     }
     behind_plain(c, 1)
 }

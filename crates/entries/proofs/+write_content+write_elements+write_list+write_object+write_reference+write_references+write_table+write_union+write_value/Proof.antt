@@ -717,7 +717,7 @@ write-table-write-coded-requires t c κs =
 write-table-behind-coded-requires : (t : ℕ) → write-table-lts.Need-behind-coded-requires (write-table-R t) (write-table-at t) write-table.Post write-table-Inv-loop write-table-μ-loop
 write-table-behind-coded-requires t c κs =
     let inv = c .before .before .before .before .before .before .before .before .before .loop .inv in
-    (omega (arith, inv .3 .end, c .before .before .before .before .before .before .before .before .before .before .before .before .member-count .ensures .1, c .before .before .before .before .before .before .before .before .loop-test .taken), inv .3 .byte, inv .3 .bit)
+    (omega (arith, inv .3 .end, c .before .before .before .before .before .before .before .before .before .before .before .before .member-count .ensures .1, c .before .before .before .before .before .before .before .before .loop-test .taken), inv .3 .byte, inv .3 .bit, c .before .before .before .before .before .code-at .ensures .1)
 
 -- src/lib.rt
 write-table-add-j : (t : ℕ) → write-table-lts.Need-add-j (write-table-R t) (write-table-at t) write-table.Post write-table-Inv-loop write-table-μ-loop

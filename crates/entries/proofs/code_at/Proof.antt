@@ -1,75 +1,65 @@
 use native.Mathlib.Omega.{arith}
 use Rattle.entries.proofs.CodedMembers.{number-at, optional-at, bool-at, enum-at}
+use Rattle.entries.proofs.CodedWays.{small-none, small-number, small-code, small-bool, small-enum}
 use borrow.Author.Needs.{needs}
 use Rattle.entries.proofs.code_at.Statement.{statement}
 use Rattle.entries.proofs.code_at.Tie as tie
 use Rattle.entries.proofs.code_at.Reads as reads
 use Rattle.entries.proofs.code_at.Lts as lts
+use Rattle.entries.proofs.optional_code.Reads as optional-code-reads
 use Rattle.entries.proofs.plain_bytes.Reads as plain-bytes-reads
 use Rattle.schema.proofs.argument_at.Reads as argument-at-reads
 use Rattle.schema.proofs.kind_at.Reads as kind-at-reads
 use Rattle.schema.proofs.optional_at.Reads as optional-at-reads
 use Rattle.wire.proofs.index.Reads as index-reads
 
--- src/lib.rt:324:9
+-- src/lib.rt:325:9
 kind-at-requires : tie.Need-kind-at-requires
 kind-at-requires c κs = search needs
 
--- src/lib.rt:326:33
+-- src/lib.rt:327:33
 argument-at-requires : tie.Need-argument-at-requires
 argument-at-requires c κs = search needs
 
--- src/lib.rt:326:21
+-- src/lib.rt:327:21
 index-requires : tie.Need-index-requires
 index-requires c κs = search needs
 
--- src/lib.rt:326:16
+-- src/lib.rt:327:16
 add-result : tie.Need-add-result
 add-result c = search needs
 
--- src/lib.rt:326:9
+-- src/lib.rt:327:9
 returns : tie.Need-returns
-returns c = (λ _. search enum-at, search needs)
+returns c = (λ _. search enum-at, search small-enum)
 
--- src/lib.rt:329:9
+-- src/lib.rt:330:9
 returns-2 : tie.Need-returns-2
-returns-2 c = (λ e. absurd (omega (arith, e)), omega arith)
+returns-2 c = (λ e. absurd (omega (arith, e)), small-none)
 
--- src/lib.rt:331:8
+-- src/lib.rt:332:8
 optional-at-requires : tie.Need-optional-at-requires
 optional-at-requires c κs = search needs
 
--- src/lib.rt:333:13
+-- src/lib.rt:333:9
+optional-code-requires : tie.Need-optional-code-requires
+optional-code-requires c κs = search needs
+
+-- src/lib.rt:333:9
 returns-3 : tie.Need-returns-3
-returns-3 c = (λ e. absurd (omega (arith, e)), omega arith)
+returns-3 c = (λ e. search (optional-at, e), search small-code)
 
--- src/lib.rt:336:13
+-- src/lib.rt:336:9
 returns-4 : tie.Need-returns-4
-returns-4 c = (λ e. absurd (omega (arith, e)), omega arith)
+returns-4 c = (λ _. search bool-at, small-bool)
 
--- src/lib.rt:338:20
+-- src/lib.rt:338:5
 plain-bytes-requires : tie.Need-plain-bytes-requires
 plain-bytes-requires c κs = search needs
 
--- src/lib.rt:338:16
-add-result-2 : tie.Need-add-result-2
-add-result-2 c = search needs
-
--- src/lib.rt:338:9
+-- src/lib.rt:321:1
 returns-5 : tie.Need-returns-5
-returns-5 c = (λ _. search optional-at, search needs)
-
--- src/lib.rt:341:9
-returns-6 : tie.Need-returns-6
-returns-6 c = (λ _. search bool-at, omega arith)
-
--- src/lib.rt:343:5
-plain-bytes-requires-2 : tie.Need-plain-bytes-requires-2
-plain-bytes-requires-2 c κs = search needs
-
--- src/lib.rt:320:1
-returns-7 : tie.Need-returns-7
-returns-7 c = (λ _. search number-at, search needs)
+returns-5 c = (λ _. search number-at, search small-number)
 
 pub code-at-spec : {M : Type 1} → statement M
 code-at-spec =
@@ -82,11 +72,8 @@ code-at-spec =
     returns
     returns-2
     optional-at-requires
+    optional-code-requires
     returns-3
     returns-4
     plain-bytes-requires
-    add-result-2
-    returns-5
-    returns-6
-    plain-bytes-requires-2
-    returns-7)
+    returns-5)

@@ -1,6 +1,4 @@
-use native.Mathlib.Omega.{arith}
 use Rattle.entries.proofs.CodedWays.{width-plain, width-optional}
-use borrow.Author.Needs.{needs}
 use Rattle.entries.proofs.coded_width.Statement.{statement}
 use Rattle.entries.proofs.coded_width.Tie as tie
 use Rattle.entries.proofs.coded_width.Reads as reads
@@ -8,15 +6,11 @@ use Rattle.entries.proofs.coded_width.Lts as lts
 
 -- src/lib.rt:375:9
 returns : tie.Need-returns
-returns c = (search width-plain, omega arith)
-
--- src/lib.rt:377:5
-sub-result : tie.Need-sub-result
-sub-result c = search needs
+returns c = search width-plain
 
 -- src/lib.rt:370:1
 returns-2 : tie.Need-returns-2
-returns-2 c = (search width-optional, omega arith)
+returns-2 c = search width-optional
 
 pub coded-width-spec : {M : Type 1} → statement M
-coded-width-spec = tie.close (tie.spec returns sub-result returns-2)
+coded-width-spec = tie.close (tie.spec returns returns-2)

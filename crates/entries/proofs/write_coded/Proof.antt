@@ -1,4 +1,4 @@
-use Rattle.entries.proofs.CodedWays.{coded-other, coded-number}
+use Rattle.entries.proofs.CodedWays.{width-eight, coded-other, coded-number}
 use borrow.Author.Needs.{needs}
 use Rattle.entries.proofs.write_coded.Statement.{statement}
 use Rattle.entries.proofs.write_coded.Tie as tie
@@ -31,7 +31,7 @@ coded-width-requires c κs = search needs
 
 -- src/lib.rt:449:5
 write-plain-requires : tie.Need-write-plain-requires
-write-plain-requires c κs = search needs
+write-plain-requires c κs = (search needs, (search width-eight, search needs, search needs))
 
 -- src/lib.rt:432:1
 same-length-2 : tie.Need-same-length-2
