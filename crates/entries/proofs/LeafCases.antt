@@ -1,4 +1,4 @@
--- Kinds that need no walker: the test for them, and texts and bytes with their marks.
+-- What needs no walker: the tests for it, and texts and bytes with their marks.
 use mathlib.Core.Path.{_≡_, refl, ap, _∙_, subst}
 use mathlib.Core.Bool.{Bool, true, false}
 use mathlib.Core.List.{List, _++_}
@@ -13,11 +13,10 @@ use Rattle.coding.specs.Value as Tree
 use Rattle.coding.specs.Read as R
 use Rattle.coding.specs.Bits.{bitsOf}
 use Rattle.coding.specs.Sheet as E
-use Rattle.coding.specs.declared.Flat.{Flat}
 use Rattle.coding.specs.declared.Object.{Object}
 use Rattle.coding.specs.declared.Object.the-variants as O
 use Rattle.coding.specs.declared.Kind.{Kind}
-use Rattle.coding.specs.declared.Kind.the-variants.{OfFlat, OfObject, OfUnion}
+use Rattle.coding.specs.declared.Kind.the-variants.{OfObject, OfUnion}
 use Rattle.coding.specs.declared.Place.{Place}
 use Rattle.step.proofs.StepCases as C
 use Rattle.bitio.specs.Puts.{Puts}
@@ -25,43 +24,36 @@ use Rattle.bitio.specs.PutsLaws.{puts-same}
 use Rattle.marks.specs.Marks as K
 use Rattle.entries.specs.MessageBits as A
 use Rattle.entries.specs.Readable as D
-use Rattle.entries.specs.Stepping.{isBlob, isLeaf}
+use Rattle.entries.specs.Stepping.{isBlob, isFlat}
 use Rattle.entries.proofs.Objects.{header-there, content-readable, object-same}
 use Rattle.entries.proofs.Values.{reference-readable}
 
--- ---- the test
-module _ (k : Kind) where
-  pub leaf-flat : (f : Flat) → k ≡ OfFlat f → true ≡ isLeaf k
-  unfolding isLeaf
-  leaf-flat f e = rw e
+-- ---- the tests
+module _ (ob : Object) where
+  pub blob-text : ob ≡ O.Text → true ≡ isBlob ob
+  unfolding isBlob
+  blob-text e = rw e
 
-  pub leaf-union : (u : ℕ) → k ≡ OfUnion u → false ≡ isLeaf k
-  unfolding isLeaf
-  leaf-union u e = rw e
+  pub blob-bytes : ob ≡ O.Bytes → true ≡ isBlob ob
+  unfolding isBlob
+  blob-bytes e = rw e
 
-  module _ (ob : Object) (e : k ≡ OfObject ob) where
-    pub leaf-text : ob ≡ O.Text → true ≡ isLeaf k
-    unfolding isLeaf isBlob
-    leaf-text f = rw (e, f)
+  pub blob-list : (i : ℕ) → ob ≡ O.List i → false ≡ isBlob ob
+  unfolding isBlob
+  blob-list i e = rw e
 
-    pub leaf-bytes : ob ≡ O.Bytes → true ≡ isLeaf k
-    unfolding isLeaf isBlob
-    leaf-bytes f = rw (e, f)
+  pub blob-table : (i : ℕ) → ob ≡ O.Table i → false ≡ isBlob ob
+  unfolding isBlob
+  blob-table i e = rw e
 
-    pub leaf-list : (i : ℕ) → ob ≡ O.List i → false ≡ isLeaf k
-    unfolding isLeaf isBlob
-    leaf-list i f = rw (e, f)
+module _ (k : Kind) (h : isFlat k ≡ true) where
+  pub flat-no-object : (ob : Object) → k ≡ OfObject ob → ⊥
+  unfolding isFlat
+  flat-no-object ob e = let z : _≡_ {A = Bool} false true = subst (λ (q : Kind). isFlat q ≡ true) e h in let y : _≡_ {A = ℕ} 0 1 = cc in omega arith
 
-    pub leaf-table : (i : ℕ) → ob ≡ O.Table i → false ≡ isLeaf k
-    unfolding isLeaf isBlob
-    leaf-table i f = rw (e, f)
-
-    pub leaf-blob : isLeaf k ≡ true → isBlob ob ≡ true
-    unfolding isLeaf
-    leaf-blob h = subst (λ (q : Kind). isLeaf q ≡ true) e h
-
-pub leaf-other : (k : Kind) (u : ℕ) → k ≡ OfUnion u → isLeaf k ≡ true → ⊥
-leaf-other k u e h = let z : _≡_ {A = Bool} false true = leaf-union k u e ∙ h in let y : _≡_ {A = ℕ} 0 1 = cc in omega arith
+  pub flat-no-union : (u : ℕ) → k ≡ OfUnion u → ⊥
+  unfolding isFlat
+  flat-no-union u e = let z : _≡_ {A = Bool} false true = subst (λ (q : Kind). isFlat q ≡ true) e h in let y : _≡_ {A = ℕ} 0 1 = cc in omega arith
 
 -- ---- a text or bytes
 -- what stands there has some depth left

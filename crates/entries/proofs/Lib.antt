@@ -10,3 +10,4 @@ pub mod LeafCases
 pub mod References
 pub mod CodedMembers
 pub mod CodedWays
+pub mod Leads

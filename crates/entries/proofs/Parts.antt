@@ -53,14 +53,14 @@ pub readable-start : (child : D.Child) (S : Schema) (m : List ℕ) (start n t : 
     → D.MembersReadable child S m start n L.begin (Sc.tableOf S t .members) → D.MembersReadable child S m start n c (drop 0 (Sc.tableOf S t .members))
 readable-start child S m start n t c e h = subst (λ (q : Cursor). D.MembersReadable child S m start n q (Sc.tableOf S t .members)) (sym e) h
 
-members-opened : (S : Schema) (t j count : ℕ) → count ≡ length (Sc.tableOf S t .members) → j < count
+pub members-opened : (S : Schema) (t j count : ℕ) → count ≡ length (Sc.tableOf S t .members) → j < count
     → drop j (Sc.tableOf S t .members) ≡ Sc.memberOf S t j ∷ drop (j + 1) (Sc.tableOf S t .members)
 unfolding Sc.memberOf
 members-opened S t j count ec h =
     drop-cons (Sc.tableOf S t .members) j Sc.plainBool (omega arith)
     ∙ ap (λ (x : ℕ). getD (Sc.tableOf S t .members) j Sc.plainBool ∷ drop x (Sc.tableOf S t .members)) (sym (add-one j))
 
-members-cons : (d : ℕ) (S : Schema) (m : List ℕ) (start n : ℕ) (c : Cursor) (r : Member) (rs : List Member)
+pub members-cons : (d : ℕ) (S : Schema) (m : List ℕ) (start n : ℕ) (c : Cursor) (r : Member) (rs : List Member)
     → D.StepReadable (D.ObjectReadable d S m) S m (T.memberStep u48 S m start n c r)
     → A.membersAt d S m start n c (r ∷ rs) ≡ A.stepAt d S m (r .kind) (T.memberStep u48 S m start n c r) ++ A.membersAt d S m start n (L.afterMember u48 S r c) rs
 unfolding A.membersAt E.membersBits R.membersRead Tree.first Tree.others

@@ -134,6 +134,10 @@ otherAt m q start n c =
 unfoldable pub codedAt : List ℕ → ℕ → ℕ → ℕ → Cursor → List ℕ
 codedAt m q start n c = pick (ltb q 32) (plainAt m (codedWidth q) start n (codedEnd m q start n c)) (otherAt m q start n c)
 
+-- the bytes of a member that leads to an object, by its kind: a union has a choice before the reference
+unfoldable pub leadWidth : ℕ → ℕ
+leadWidth k = pick (eqb k 17) 8 6
+
 -- the width of an integer kind in bytes, or 0
 unfoldable pub flatInteger : Flat → ℕ
 flatInteger F.Boolean = 0

@@ -28,17 +28,18 @@ isHere Cut = false
 isHere Past = false
 isHere Here = true
 
--- what needs no walker: a text or bytes, and a kind that leads to no other object
+-- an object that needs no walker
 unfoldable pub isBlob : Object → Bool
 isBlob O.Text = true
 isBlob O.Bytes = true
 isBlob (O.List i) = false
 isBlob (O.Table i) = false
 
-unfoldable pub isLeaf : Kind → Bool
-isLeaf (OfFlat f) = true
-isLeaf (OfObject ob) = isBlob ob
-isLeaf (OfUnion u) = false
+-- a kind that leads to no object
+unfoldable pub isFlat : Kind → Bool
+isFlat (OfFlat f) = true
+isFlat (OfObject ob) = false
+isFlat (OfUnion u) = false
 
 -- a member that is written by its record alone, with the code q: how the cursor moves, and its bits
 unfoldable pub behindOther : ℕ → Cursor → Cursor

@@ -21,7 +21,7 @@ ghost use Rattle.schema.specs.Directory.{Accepted};
 ghost use Rattle.bitio.specs.Puts.{Room, Puts};
 ghost use Rattle.entries.specs.MessageBits as Bt;
 ghost use Rattle.entries.specs.Readable as D;
-ghost use Rattle.entries.specs.Stepping.{MemberAt, Coded, Small, behind, isHere, isBlob, isLeaf};
+ghost use Rattle.entries.specs.Stepping.{MemberAt, Coded, Small, behind, isHere, isBlob, isFlat};
 
 // The bytes of an integer kind, or 0.
 fn integer_width(k: Kind) -> usize
@@ -205,19 +205,15 @@ fn refer_blob(
     marks::write_blob(m, out, pos, start, n)
 }
 
-// Whether a value of the kind needs no walker: it leads to no object, or to a text or bytes.
-fn is_leaf(k: Kind) -> bool
-    ensures { λ r. ⌜ r ≡ isLeaf k ⌝ }
+// Whether the object needs no walker.
+fn is_blob(ob: Object) -> bool
+    ensures { λ r. ⌜ r ≡ isBlob ob ⌝ }
 {
-    match k {
-        Kind::OfFlat(_) => true,
-        Kind::OfObject(ob) => match ob {
-            Object::Text => true,
-            Object::Bytes => true,
-            Object::List(_) => false,
-            Object::Table(_) => false,
-        },
-        Kind::OfUnion(_) => false,
+    match ob {
+        Object::Text => true,
+        Object::Bytes => true,
+        Object::List(_) => false,
+        Object::Table(_) => false,
     }
 }
 
@@ -232,7 +228,7 @@ pub struct PlacedMember {
     pub next: Cursor,
 }
 
-// What a member of such a kind holds, where its value is there: its mark, and what follows it.
+// What a member that leads to no object holds, where its value is there: its mark, and what follows it.
 fn write_leaf(
     b: &[u8],
     dir: &[u16],
@@ -244,7 +240,7 @@ fn write_leaf(
     pos: usize,
 ) -> usize
     requires { ⌜ Room (now out) pos ⌝ }
-    requires { ⌜ (Accepted (now b) (now dir)) × (length (now m) ≤ 16777215) × (KindSound (P.parse (now b)) (q .kind)) × (isLeaf (q .kind) ≡ true) ⌝ }
+    requires { ⌜ (Accepted (now b) (now dir)) × (length (now m) ≤ 16777215) × (KindSound (P.parse (now b)) (q .kind)) × (isFlat (q .kind) ≡ true) ⌝ }
     requires { ⌜ (q .here ≡ true → q .at + L.width B.u48 (P.parse (now b)) (q .kind) ≤ length (now m)) × (q .bit < 8) × (q .at < 2 ^ 60) ⌝ }
     requires { ⌜ D.StepReadable (D.ObjectReadable d (P.parse (now b)) (now m)) (P.parse (now b)) (now m) (Bt.placed (q .here) (T.valueStep B.u48 (P.parse (now b)) (now m) (q .kind) (q .none) (q .inplace) tail (q .at) (q .bit))) ⌝ }
     ensures { λ r. ⌜ Puts (now (out .entry)) pos (Bt.stepAt d (P.parse (now (b .entry))) (now (m .entry)) (q .kind) (Bt.placed (q .here) (T.valueStep B.u48 (P.parse (now (b .entry))) (now (m .entry)) (q .kind) (q .none) (q .inplace) tail (q .at) (q .bit)))) (now (out .exit)) r ⌝ }
@@ -255,10 +251,7 @@ fn write_leaf(
     let k = q.kind;
     match k {
         Kind::OfFlat(f) => write_flat(b, dir, m, out, f, q.none, q.at, q.bit, pos),
-        Kind::OfObject(ob) => {
-            let x = wire::u48_in(m, q.at) as usize;
-            refer_blob(b, m, out, d, ob, q.inplace, tail, x, pos)
-        }
+        Kind::OfObject(_) => pos,
         Kind::OfUnion(_) => pos,
     }
 }
@@ -502,6 +495,53 @@ fn behind_coded(c: Cursor, q: usize) -> Cursor
     behind_plain(c, 1)
 }
 
+// The bytes of a member that leads to an object, by its kind.
+fn lead_width(k: usize) -> usize
+    ensures { λ r. ⌜ (r ≡ Bt.leadWidth k) × (r ≤ 8) ⌝ }
+{
+    if k == 17 { 8 } else { 6 }
+}
+
+// The object or the choice of the member of the record at `at`, where the cursor stands.
+fn write_lead(
+    b: &[u8],
+    dir: &[u16],
+    m: &[u8],
+    out: &mut [u8],
+    d: usize,
+    at: usize,
+    start: usize,
+    n: usize,
+    c: Cursor,
+    pos: usize,
+) -> usize
+    requires { ⌜ Room (now out) pos ⌝ }
+    requires { ⌜ (Accepted (now b) (now dir)) × (length (now m) ≤ 16777215) × (at + 1 < length (now b)) × (KindSound (P.parse (now b)) (P.memberAt (now b) at .kind)) ⌝ }
+    requires { ⌜ (start + n ≤ length (now m)) × (12 < P.kindAt (now b) at) × (P.kindAt (now b) at < 18) × (c .end < 2 ^ 58) ⌝ }
+    requires { ⌜ D.StepReadable (D.ObjectReadable d (P.parse (now b)) (now m)) (P.parse (now b)) (now m) (T.memberStep B.u48 (P.parse (now b)) (now m) start n c (P.memberAt (now b) at)) ⌝ }
+    ensures { λ r. ⌜ Puts (now (out .entry)) pos (Bt.stepAt d (P.parse (now (b .entry))) (now (m .entry)) (P.memberAt (now (b .entry)) at .kind) (T.memberStep B.u48 (P.parse (now (b .entry))) (now (m .entry)) start n c (P.memberAt (now (b .entry)) at))) (now (out .exit)) r ⌝ }
+{
+    let end = c.end;
+    let k = schema::kind_at(b, at);
+    if n < end + lead_width(k) {
+        return bitio::write(out, pos, 2, 0);
+    }
+    let inplace = schema::inplace_at(b, at);
+    let from = start + end;
+    if k == 17 {
+        let u = wire::index(schema::argument_at(b, at));
+        let i = wire::u16_in(m, from) as usize;
+        let x = wire::u48_in(m, from + 2) as usize;
+        return write_union(b, dir, m, out, d, u, inplace, start + n, i, x, pos);
+    }
+    let x = wire::u48_in(m, from) as usize;
+    let ob = schema::object_at(b, at);
+    if is_blob(ob) {
+        return refer_blob(b, m, out, d, ob, inplace, start + n, x, pos);
+    }
+    write_reference(b, dir, m, out, d, ob, inplace, start + n, x, pos)
+}
+
 // What a reference x, or in place a length x, leads to.
 fn write_reference(
     b: &[u8],
@@ -559,7 +599,7 @@ fn write_union(
     write_object(b, dir, m, out, d, ob, place, p)
 }
 
-// What a member or an element holds, where its value is there: its mark, and what follows it.
+// What an element holds, where its value is there: its mark, and what follows it.
 fn write_value(
     b: &[u8],
     dir: &[u16],
@@ -682,22 +722,24 @@ fn write_table(
         if 134217720 < p {
             return p;
         }
-        let w = code_at(b, schema::record_place(4, first, j));
-        if 0 < w {
-            p = write_coded(m, out, w, start, n, c, p);
-            c = behind_coded(c, w);
+        let at = schema::record_place(4, first, j);
+        let q = code_at(b, at);
+        if 0 < q {
+            p = write_coded(m, out, q, start, n, c, p);
+            c = behind_coded(c, q);
             j += 1;
             continue;
         }
-        let q = member_at(b, dir, m, t, j, start, n, c);
-        let k = q.kind;
-        c = q.next;
-        if is_leaf(k) {
-            p = write_leaf(b, dir, m, out, d, q, start + n, p);
+        let k = schema::kind_at(b, at);
+        if 12 < k {
+            p = write_lead(b, dir, m, out, d, at, start, n, c, p);
+            c = behind_plain(c, lead_width(k));
             j += 1;
             continue;
         }
-        p = write_value(b, dir, m, out, d, q, start + n, p);
+        let r = member_at(b, dir, m, t, j, start, n, c);
+        c = r.next;
+        p = write_leaf(b, dir, m, out, d, r, start + n, p);
         j += 1;
     }
     p

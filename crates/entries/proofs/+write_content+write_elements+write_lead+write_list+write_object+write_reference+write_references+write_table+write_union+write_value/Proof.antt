@@ -12,7 +12,7 @@ use Rattle.bitio.specs.PutsLaws.{room-next}
 use Rattle.entries.specs.MessageBits as A
 use Rattle.entries.specs.Readable as D
 use Rattle.marks.proofs.Remaining.{Remaining, remaining-over}
-use Rattle.entries.proofs.Objects.{object-none, header-there, content-readable, object-content, content-text, content-bytes, content-list, content-table, table-counted, table-inside, table-readable, list-counted, list-inside, list-readable}
+use Rattle.entries.proofs.Objects.{member-sound-of, object-none, header-there, content-readable, object-content, content-text, content-bytes, content-list, content-table, table-counted, table-inside, table-readable, list-counted, list-inside, list-readable}
 use Rattle.entries.proofs.Values.{reference-none, reference-there, reference-readable, choice-none, choice-unknown, choice-known, case-readable, value-none, value-flat, value-object, value-union, flat-given, object-given, union-given, is-true}
 use Rattle.step.proofs.Inside.{flat-sound, flat-there, object-there, choice-there, offset-there, union-counted, index-small}
 use Rattle.step.proofs.StepCases.{element-there, element-low}
@@ -21,69 +21,80 @@ use Rattle.coding.specs.declared.Kind.the-variants.{OfObject}
 use Rattle.entries.proofs.References.{offset-readable, offsets-turn, offsets-inside, offsets-given, list-offsets}
 use Rattle.schema.specs.Records.{record-whole}
 use Rattle.entries.proofs.CodedMembers.{coded-laid, coded-member}
+use Rattle.entries.proofs.Leads.{lead-known, flat-member, lead-next, lead-past, chosen-given, lead-chosen, referred-given, lead-referred, lead-counted, width-union, width-object, lead-laid, lead-readable, lead-rest, lead-turn}
 use borrow.Fn.Kinds.{In}
 use borrow.Fn.PlainCycle.{Measures, is, falls, and}
 use Rattle.entries.proofs.write_content.Reads as write-content
 use Rattle.entries.proofs.write_content.Kinds as write-content-kinds
-use Rattle.entries.proofs.+write_content+write_elements+write_list+write_object+write_reference+write_references+write_table+write_union+write_value.Lts-write_content as write-content-lts
+use Rattle.entries.proofs.+write_content+write_elements+write_lead+write_list+write_object+write_reference+write_references+write_table+write_union+write_value.Lts-write_content as write-content-lts
 use Rattle.entries.proofs.write_elements.Reads as write-elements
 use Rattle.entries.proofs.write_elements.Kinds as write-elements-kinds
-use Rattle.entries.proofs.+write_content+write_elements+write_list+write_object+write_reference+write_references+write_table+write_union+write_value.Lts-write_elements as write-elements-lts
+use Rattle.entries.proofs.+write_content+write_elements+write_lead+write_list+write_object+write_reference+write_references+write_table+write_union+write_value.Lts-write_elements as write-elements-lts
+use Rattle.entries.proofs.write_lead.Reads as write-lead
+use Rattle.entries.proofs.write_lead.Kinds as write-lead-kinds
+use Rattle.entries.proofs.+write_content+write_elements+write_lead+write_list+write_object+write_reference+write_references+write_table+write_union+write_value.Lts-write_lead as write-lead-lts
 use Rattle.entries.proofs.write_list.Reads as write-list
 use Rattle.entries.proofs.write_list.Kinds as write-list-kinds
-use Rattle.entries.proofs.+write_content+write_elements+write_list+write_object+write_reference+write_references+write_table+write_union+write_value.Lts-write_list as write-list-lts
+use Rattle.entries.proofs.+write_content+write_elements+write_lead+write_list+write_object+write_reference+write_references+write_table+write_union+write_value.Lts-write_list as write-list-lts
 use Rattle.entries.proofs.write_object.Reads as write-object
 use Rattle.entries.proofs.write_object.Kinds as write-object-kinds
-use Rattle.entries.proofs.+write_content+write_elements+write_list+write_object+write_reference+write_references+write_table+write_union+write_value.Lts-write_object as write-object-lts
+use Rattle.entries.proofs.+write_content+write_elements+write_lead+write_list+write_object+write_reference+write_references+write_table+write_union+write_value.Lts-write_object as write-object-lts
 use Rattle.entries.proofs.write_reference.Reads as write-reference
 use Rattle.entries.proofs.write_reference.Kinds as write-reference-kinds
-use Rattle.entries.proofs.+write_content+write_elements+write_list+write_object+write_reference+write_references+write_table+write_union+write_value.Lts-write_reference as write-reference-lts
+use Rattle.entries.proofs.+write_content+write_elements+write_lead+write_list+write_object+write_reference+write_references+write_table+write_union+write_value.Lts-write_reference as write-reference-lts
 use Rattle.entries.proofs.write_references.Reads as write-references
 use Rattle.entries.proofs.write_references.Kinds as write-references-kinds
-use Rattle.entries.proofs.+write_content+write_elements+write_list+write_object+write_reference+write_references+write_table+write_union+write_value.Lts-write_references as write-references-lts
+use Rattle.entries.proofs.+write_content+write_elements+write_lead+write_list+write_object+write_reference+write_references+write_table+write_union+write_value.Lts-write_references as write-references-lts
 use Rattle.entries.proofs.write_table.Reads as write-table
 use Rattle.entries.proofs.write_table.Kinds as write-table-kinds
-use Rattle.entries.proofs.+write_content+write_elements+write_list+write_object+write_reference+write_references+write_table+write_union+write_value.Lts-write_table as write-table-lts
+use Rattle.entries.proofs.+write_content+write_elements+write_lead+write_list+write_object+write_reference+write_references+write_table+write_union+write_value.Lts-write_table as write-table-lts
 use Rattle.entries.proofs.write_union.Reads as write-union
 use Rattle.entries.proofs.write_union.Kinds as write-union-kinds
-use Rattle.entries.proofs.+write_content+write_elements+write_list+write_object+write_reference+write_references+write_table+write_union+write_value.Lts-write_union as write-union-lts
+use Rattle.entries.proofs.+write_content+write_elements+write_lead+write_list+write_object+write_reference+write_references+write_table+write_union+write_value.Lts-write_union as write-union-lts
 use Rattle.entries.proofs.write_value.Reads as write-value
 use Rattle.entries.proofs.write_value.Kinds as write-value-kinds
-use Rattle.entries.proofs.+write_content+write_elements+write_list+write_object+write_reference+write_references+write_table+write_union+write_value.Lts-write_value as write-value-lts
+use Rattle.entries.proofs.+write_content+write_elements+write_lead+write_list+write_object+write_reference+write_references+write_table+write_union+write_value.Lts-write_value as write-value-lts
 use Rattle.bitio.proofs.write.Reads as write-reads
 use Rattle.bitio.proofs.write_blob.Reads as write-blob-reads
-use Rattle.layout.proofs.begin.Reads as begin-reads
-use Rattle.layout.proofs.is_bool.Reads as is-bool-reads
-use Rattle.schema.proofs.case_count.Reads as case-count-reads
-use Rattle.schema.proofs.element.Reads as element-reads
-use Rattle.schema.proofs.member_count.Reads as member-count-reads
-use Rattle.schema.proofs.union_case.Reads as union-case-reads
-use Rattle.entries.proofs.integer_width.Reads as integer-width-reads
-use Rattle.entries.proofs.is_leaf.Reads as is-leaf-reads
-use Rattle.entries.proofs.code_at.Reads as code-at-reads
-use Rattle.entries.proofs.write_coded.Reads as write-coded-reads
 use Rattle.entries.proofs.behind_coded.Reads as behind-coded-reads
-use Rattle.schema.proofs.table_place.Reads as table-place-reads
-use Rattle.schema.proofs.record_place.Reads as record-place-reads
+use Rattle.entries.proofs.behind_plain.Reads as behind-plain-reads
+use Rattle.entries.proofs.code_at.Reads as code-at-reads
+use Rattle.entries.proofs.integer_width.Reads as integer-width-reads
+use Rattle.entries.proofs.is_blob.Reads as is-blob-reads
+use Rattle.entries.proofs.lead_width.Reads as lead-width-reads
 use Rattle.entries.proofs.length_of.Reads as length-of-reads
 use Rattle.entries.proofs.member_at.Reads as member-at-reads
-use Rattle.marks.proofs.number64.Reads as number64-reads
+use Rattle.entries.proofs.refer_blob.Reads as refer-blob-reads
 use Rattle.entries.proofs.start_of.Reads as start-of-reads
-use Rattle.marks.proofs.write_bools.Reads as write-bools-reads
+use Rattle.entries.proofs.write_coded.Reads as write-coded-reads
 use Rattle.entries.proofs.write_flat.Reads as write-flat-reads
 use Rattle.entries.proofs.write_leaf.Reads as write-leaf-reads
+use Rattle.layout.proofs.begin.Reads as begin-reads
+use Rattle.layout.proofs.is_bool.Reads as is-bool-reads
+use Rattle.marks.proofs.number64.Reads as number64-reads
+use Rattle.marks.proofs.write_bools.Reads as write-bools-reads
 use Rattle.marks.proofs.write_marked.Reads as write-marked-reads
 use Rattle.marks.proofs.write_numbers.Reads as write-numbers-reads
+use Rattle.schema.proofs.argument_at.Reads as argument-at-reads
+use Rattle.schema.proofs.case_count.Reads as case-count-reads
+use Rattle.schema.proofs.element.Reads as element-reads
+use Rattle.schema.proofs.inplace_at.Reads as inplace-at-reads
+use Rattle.schema.proofs.kind_at.Reads as kind-at-reads
+use Rattle.schema.proofs.member_count.Reads as member-count-reads
+use Rattle.schema.proofs.object_at.Reads as object-at-reads
+use Rattle.schema.proofs.record_place.Reads as record-place-reads
+use Rattle.schema.proofs.table_place.Reads as table-place-reads
+use Rattle.schema.proofs.union_case.Reads as union-case-reads
 use Rattle.step.proofs.element_place.Reads as element-place-reads
 use Rattle.step.proofs.place_of.Reads as place-of-reads
 use Rattle.wire.proofs.index.Reads as index-reads
 use Rattle.wire.proofs.low_three.Reads as low-three-reads
 use Rattle.wire.proofs.u16_in.Reads as u16-in-reads
 use Rattle.wire.proofs.u48_in.Reads as u48-in-reads
-use Rattle.entries.proofs.+write_content+write_elements+write_list+write_object+write_reference+write_references+write_table+write_union+write_value.{
+use Rattle.entries.proofs.+write_content+write_elements+write_lead+write_list+write_object+write_reference+write_references+write_table+write_union+write_value.{
   statement,
 }
-use Rattle.entries.proofs.+write_content+write_elements+write_list+write_object+write_reference+write_references+write_table+write_union+write_value.Tie.{
+use Rattle.entries.proofs.+write_content+write_elements+write_lead+write_list+write_object+write_reference+write_references+write_table+write_union+write_value.Tie.{
   close,
 }
 
@@ -92,6 +103,9 @@ abbrev μ-write-content : Measures 4 write-content-kinds.ps ℕ
 
 abbrev μ-write-elements : Measures 4 write-elements-kinds.ps ℕ
 μ-write-elements κs a = 8 * a .1 .1 .1 .1 .0 + 4
+
+abbrev μ-write-lead : Measures 4 write-lead-kinds.ps ℕ
+μ-write-lead κs a = 8 * a .1 .1 .1 .1 .0 + 3
 
 abbrev μ-write-list : Measures 4 write-list-kinds.ps ℕ
 μ-write-list κs a = 8 * a .1 .1 .1 .1 .0 + 5
@@ -141,6 +155,14 @@ write-elements-below t =
     write-elements-kinds.ps
     (falls 4 write-elements-kinds.ps _<_ μ-write-elements t)
     write-elements.Pre
+
+abbrev write-lead-at : ℕ → In 4 write-lead-kinds.ps
+write-lead-at t =
+    and 4 write-lead-kinds.ps (is 4 write-lead-kinds.ps μ-write-lead t) write-lead.Pre
+
+abbrev write-lead-below : ℕ → In 4 write-lead-kinds.ps
+write-lead-below t =
+    and 4 write-lead-kinds.ps (falls 4 write-lead-kinds.ps _<_ μ-write-lead t) write-lead.Pre
 
 abbrev write-list-at : ℕ → In 4 write-list-kinds.ps
 write-list-at t =
@@ -224,6 +246,9 @@ write-content-R t = (write-blob-reads.Asked, write-blob-reads.Learnt, index-read
 abbrev write-elements-R : ℕ → write-elements-lts.Claims
 write-elements-R t = (element-place-reads.Asked, element-place-reads.Learnt, low-three-reads.Asked, low-three-reads.Learnt, begin-reads.Asked, begin-reads.Learnt, write-value-below t, write-value.Post)
 
+abbrev write-lead-R : ℕ → write-lead-lts.Claims
+write-lead-R t = (kind-at-reads.Asked, kind-at-reads.Learnt, lead-width-reads.Asked, lead-width-reads.Learnt, write-reads.Asked, write-reads.Learnt, inplace-at-reads.Asked, inplace-at-reads.Learnt, argument-at-reads.Asked, argument-at-reads.Learnt, index-reads.Asked, index-reads.Learnt, u16-in-reads.Asked, u16-in-reads.Learnt, u48-in-reads.Asked, u48-in-reads.Learnt, write-union-below t, write-union.Post, object-at-reads.Asked, object-at-reads.Learnt, is-blob-reads.Asked, is-blob-reads.Learnt, refer-blob-reads.Asked, refer-blob-reads.Learnt, write-reference-below t, write-reference.Post)
+
 abbrev write-list-R : ℕ → write-list-lts.Claims
 write-list-R t = (element-reads.Asked, element-reads.Learnt, number64-reads.Asked, number64-reads.Learnt, write-reads.Asked, write-reads.Learnt, is-bool-reads.Asked, is-bool-reads.Learnt, write-bools-reads.Asked, write-bools-reads.Learnt, integer-width-reads.Asked, integer-width-reads.Learnt, write-numbers-reads.Asked, write-numbers-reads.Learnt, write-elements-below t, write-elements.Post, write-references-below t, write-references.Post)
 
@@ -237,7 +262,7 @@ abbrev write-references-R : ℕ → write-references-lts.Claims
 write-references-R t = (u48-in-reads.Asked, u48-in-reads.Learnt, write-reference-below t, write-reference.Post)
 
 abbrev write-table-R : ℕ → write-table-lts.Claims
-write-table-R t = (member-count-reads.Asked, member-count-reads.Learnt, table-place-reads.Asked, table-place-reads.Learnt, begin-reads.Asked, begin-reads.Learnt, record-place-reads.Asked, record-place-reads.Learnt, code-at-reads.Asked, code-at-reads.Learnt, write-coded-reads.Asked, write-coded-reads.Learnt, behind-coded-reads.Asked, behind-coded-reads.Learnt, member-at-reads.Asked, member-at-reads.Learnt, is-leaf-reads.Asked, is-leaf-reads.Learnt, write-leaf-reads.Asked, write-leaf-reads.Learnt, write-value-below t, write-value.Post)
+write-table-R t = (member-count-reads.Asked, member-count-reads.Learnt, table-place-reads.Asked, table-place-reads.Learnt, begin-reads.Asked, begin-reads.Learnt, record-place-reads.Asked, record-place-reads.Learnt, code-at-reads.Asked, code-at-reads.Learnt, write-coded-reads.Asked, write-coded-reads.Learnt, behind-coded-reads.Asked, behind-coded-reads.Learnt, kind-at-reads.Asked, kind-at-reads.Learnt, write-lead-below t, write-lead.Post, lead-width-reads.Asked, lead-width-reads.Learnt, behind-plain-reads.Asked, behind-plain-reads.Learnt, member-at-reads.Asked, member-at-reads.Learnt, write-leaf-reads.Asked, write-leaf-reads.Learnt)
 
 abbrev write-union-R : ℕ → write-union-lts.Claims
 write-union-R t = (write-reads.Asked, write-reads.Learnt, case-count-reads.Asked, case-count-reads.Learnt, number64-reads.Asked, number64-reads.Learnt, write-marked-reads.Asked, write-marked-reads.Learnt, union-case-reads.Asked, union-case-reads.Learnt, place-of-reads.Asked, place-of-reads.Learnt, write-object-below t, write-object.Post)
@@ -245,79 +270,79 @@ write-union-R t = (write-reads.Asked, write-reads.Learnt, case-count-reads.Asked
 abbrev write-value-R : ℕ → write-value-lts.Claims
 write-value-R t = (write-reads.Asked, write-reads.Learnt, write-flat-reads.Asked, write-flat-reads.Learnt, u48-in-reads.Asked, u48-in-reads.Learnt, write-reference-below t, write-reference.Post, u16-in-reads.Asked, u16-in-reads.Learnt, index-reads.Asked, index-reads.Learnt, write-union-below t, write-union.Post)
 
--- src/lib.rt:600:46
+-- src/lib.rt:669:46
 write-content-enum-told : (t : ℕ) → write-content-lts.Need-enum-told (write-content-R t) (write-content-at t) write-content.Post
 write-content-enum-told t c = search needs
 
--- src/lib.rt:600:25
+-- src/lib.rt:669:25
 write-content-write-blob-requires : (t : ℕ) → write-content-lts.Need-write-blob-requires (write-content-R t) (write-content-at t) write-content.Post
 write-content-write-blob-requires t c κs = search needs
 
--- src/lib.rt:601:47
+-- src/lib.rt:670:47
 write-content-enum-told-2 : (t : ℕ) → write-content-lts.Need-enum-told-2 (write-content-R t) (write-content-at t) write-content.Post
 write-content-enum-told-2 t c = search needs
 
--- src/lib.rt:601:26
+-- src/lib.rt:670:26
 write-content-write-blob-requires-2 : (t : ℕ) → write-content-lts.Need-write-blob-requires-2 (write-content-R t) (write-content-at t) write-content.Post
 write-content-write-blob-requires-2 t c κs = search needs
 
--- src/lib.rt:602:22
+-- src/lib.rt:671:22
 write-content-enum-known-ob : (t : ℕ) → write-content-lts.Need-enum-known-ob (write-content-R t) (write-content-at t) write-content.Post
 write-content-enum-known-ob t c = search needs
 
--- src/lib.rt:602:58
+-- src/lib.rt:671:58
 write-content-index-requires : (t : ℕ) → write-content-lts.Need-index-requires (write-content-R t) (write-content-at t) write-content.Post
 write-content-index-requires t c κs = search needs
 
--- src/lib.rt:602:28
+-- src/lib.rt:671:28
 write-content-write-list-requires : (t : ℕ) → write-content-lts.Need-write-list-requires (write-content-R t) (write-content-at t) write-content.Post
 write-content-write-list-requires t c κs =
     let q = c .before .before .before .before .before .before .before .before .before .pre .1 in
     (omega (arith, c .before .before .before .before .before .before .before .before .before .pre .0), (q .0, ((q .1 .0 .0, q .1 .0 .1, search (list-counted, q .1 .1, c .before .before .before .ob .given .1, c .index .ensures .0)), (search (list-inside, q .1 .1, c .before .before .before .ob .given .1, c .index .ensures .0), search (list-readable, q .1 .1, c .before .before .before .ob .given .1, c .index .ensures .0)))))
 
--- src/lib.rt:603:23
+-- src/lib.rt:672:23
 write-content-enum-known-ob-2 : (t : ℕ) → write-content-lts.Need-enum-known-ob-2 (write-content-R t) (write-content-at t) write-content.Post
 write-content-enum-known-ob-2 t c = search needs
 
--- src/lib.rt:603:60
+-- src/lib.rt:672:60
 write-content-index-requires-2 : (t : ℕ) → write-content-lts.Need-index-requires-2 (write-content-R t) (write-content-at t) write-content.Post
 write-content-index-requires-2 t c κs = search needs
 
--- src/lib.rt:603:29
+-- src/lib.rt:672:29
 write-content-write-table-requires : (t : ℕ) → write-content-lts.Need-write-table-requires (write-content-R t) (write-content-at t) write-content.Post
 write-content-write-table-requires t c κs =
     let q = c .before .before .before .before .before .before .before .before .before .pre .1 in
     (omega (arith, c .before .before .before .before .before .before .before .before .before .pre .0), (q .0, ((q .1 .0 .0, q .1 .0 .1, search (table-counted, q .1 .1, c .before .before .before .ob2 .given .1, c .index2 .ensures .0), search (table-inside, q .1 .1, c .before .before .before .ob2 .given .1, c .index2 .ensures .0)), search (table-readable, q .1 .1, c .before .before .before .ob2 .given .1, c .index2 .ensures .0))))
 
--- src/lib.rt:583:1
+-- src/lib.rt:652:1
 write-content-same-length : (t : ℕ) → write-content-lts.Need-same-length (write-content-R t) (write-content-at t) write-content.Post
 write-content-same-length t c = search needs
 
--- src/lib.rt:583:1
+-- src/lib.rt:652:1
 write-content-returns : (t : ℕ) → write-content-lts.Need-returns (write-content-R t) (write-content-at t) write-content.Post
 write-content-returns t c = search content-text
 
--- src/lib.rt:583:1
+-- src/lib.rt:652:1
 write-content-same-length-2 : (t : ℕ) → write-content-lts.Need-same-length-2 (write-content-R t) (write-content-at t) write-content.Post
 write-content-same-length-2 t c = search needs
 
--- src/lib.rt:583:1
+-- src/lib.rt:652:1
 write-content-returns-2 : (t : ℕ) → write-content-lts.Need-returns-2 (write-content-R t) (write-content-at t) write-content.Post
 write-content-returns-2 t c = search content-bytes
 
--- src/lib.rt:583:1
+-- src/lib.rt:652:1
 write-content-same-length-3 : (t : ℕ) → write-content-lts.Need-same-length-3 (write-content-R t) (write-content-at t) write-content.Post
 write-content-same-length-3 t c = search needs
 
--- src/lib.rt:583:1
+-- src/lib.rt:652:1
 write-content-returns-3 : (t : ℕ) → write-content-lts.Need-returns-3 (write-content-R t) (write-content-at t) write-content.Post
 write-content-returns-3 t c = search content-list
 
--- src/lib.rt:583:1
+-- src/lib.rt:652:1
 write-content-same-length-4 : (t : ℕ) → write-content-lts.Need-same-length-4 (write-content-R t) (write-content-at t) write-content.Post
 write-content-same-length-4 t c = search needs
 
--- src/lib.rt:583:1
+-- src/lib.rt:652:1
 write-content-returns-4 : (t : ℕ) → write-content-lts.Need-returns-4 (write-content-R t) (write-content-at t) write-content.Post
 write-content-returns-4 t c = search content-table
 
@@ -329,33 +354,33 @@ write-elements-Inv-loop b dir m out₀ d k start n pos p₀ j₀ out p j =
 abbrev write-elements-μ-loop : write-elements-lts.MeasureT-loop
 write-elements-μ-loop b dir m out₀ d k start n pos p₀ j₀ out p j = n - j
 
--- src/lib.rt:760:5
+-- src/lib.rt:811:5
 write-elements-loop-holds : (t : ℕ) → write-elements-lts.Need-loop-holds (write-elements-R t) (write-elements-at t) write-elements.Post write-elements-Inv-loop write-elements-μ-loop
 write-elements-loop-holds t c = (search needs, omega arith, refl, search elements-readable, search elements-start)
 
--- src/lib.rt:762:13
+-- src/lib.rt:813:13
 write-elements-same-length : (t : ℕ) → write-elements-lts.Need-same-length (write-elements-R t) (write-elements-at t) write-elements.Post write-elements-Inv-loop write-elements-μ-loop
 write-elements-same-length t c = search needs
 
--- src/lib.rt:762:13
+-- src/lib.rt:813:13
 write-elements-returns : (t : ℕ) → write-elements-lts.Need-returns (write-elements-R t) (write-elements-at t) write-elements.Post write-elements-Inv-loop write-elements-μ-loop
 write-elements-returns t c = search remaining-over
 
--- src/lib.rt:764:13
+-- src/lib.rt:820:17
 write-elements-element-place-requires : (t : ℕ) → write-elements-lts.Need-element-place-requires (write-elements-R t) (write-elements-at t) write-elements.Post write-elements-Inv-loop write-elements-μ-loop
 write-elements-element-place-requires t c κs =
     let q = c .before .before .before .before .before .before .before .pre .1 in
     (q .1 .0 .0, q .1 .0 .2, omega (arith, q .1 .1 .0, q .1 .0 .1), search (index-small, q .1 .0 .0, q .1 .0 .2, q .1 .1 .0, q .1 .0 .1, c .before .loop-test .taken))
 
--- src/lib.rt:777:13
+-- src/lib.rt:821:18
 write-elements-low-three-requires : (t : ℕ) → write-elements-lts.Need-low-three-requires (write-elements-R t) (write-elements-at t) write-elements.Post write-elements-Inv-loop write-elements-μ-loop
 write-elements-low-three-requires t c κs = search needs
 
--- src/lib.rt
+-- src/lib.rt:822:19
 write-elements-begin-requires : (t : ℕ) → write-elements-lts.Need-begin-requires (write-elements-R t) (write-elements-at t) write-elements.Post write-elements-Inv-loop write-elements-μ-loop
 write-elements-begin-requires t c κs = search needs
 
--- src/lib.rt
+-- src/lib.rt:824:9
 write-elements-write-value-requires : (t : ℕ) → write-elements-lts.Need-write-value-requires (write-elements-R t) (write-elements-at t) write-elements.Post write-elements-Inv-loop write-elements-μ-loop
 write-elements-write-value-requires t c κs =
     let q = c .before .before .before .before .before .before .before .before .before .before .before .pre .1 in
@@ -364,15 +389,15 @@ write-elements-write-value-requires t c κs =
     let inv = c .before .before .before .before .before .before .loop .inv in
     (omega (arith, c .before .before .before .before .before .before .before .before .before .before .before .pre .0), (inv .0, ((q .1 .0 .0, q .1 .0 .1, q .1 .0 .2), ((λ _. search (element-there, there, q .1 .1 .0, less), omega (arith, c .before .before .low-three .ensures .1), search (element-low, there, q .1 .1 .0, less, q .1 .0 .1)), search (element-readable, less, inv .3, there, c .before .before .low-three .ensures .0)))))
 
--- src/lib.rt:780:9
+-- src/lib.rt:825:9
 write-elements-add-j : (t : ℕ) → write-elements-lts.Need-add-j (write-elements-R t) (write-elements-at t) write-elements.Post write-elements-Inv-loop write-elements-μ-loop
 write-elements-add-j t c = search needs
 
--- src/lib.rt:760:5
+-- src/lib.rt:811:5
 write-elements-loop-less : (t : ℕ) → write-elements-lts.Need-loop-less (write-elements-R t) (write-elements-at t) write-elements.Post write-elements-Inv-loop write-elements-μ-loop
 write-elements-loop-less t c = search needs
 
--- src/lib.rt
+-- src/lib.rt:811:5
 write-elements-loop-again : (t : ℕ) → write-elements-lts.Need-loop-again (write-elements-R t) (write-elements-at t) write-elements.Post write-elements-Inv-loop write-elements-μ-loop
 write-elements-loop-again t c =
     let q = c .before .before .before .before .before .before .before .before .before .before .before .before .before .before .pre .1 in
@@ -386,68 +411,192 @@ write-elements-loop-again t c =
       search (elements-turn, less, inv .3, c .before .before .before .before .before .before .element-place .ensures, c .before .before .before .before .before .low-three .ensures .0, q .1 .0 .3, inv .4, inv .0, put),
     )
 
--- src/lib.rt:741:1
+-- src/lib.rt:792:1
 write-elements-same-length-2 : (t : ℕ) → write-elements-lts.Need-same-length-2 (write-elements-R t) (write-elements-at t) write-elements.Post write-elements-Inv-loop write-elements-μ-loop
 write-elements-same-length-2 t c = search needs
 
--- src/lib.rt:741:1
+-- src/lib.rt:792:1
 write-elements-returns-2 : (t : ℕ) → write-elements-lts.Need-returns-2 (write-elements-R t) (write-elements-at t) write-elements.Post write-elements-Inv-loop write-elements-μ-loop
 write-elements-returns-2 t c = search elements-done
 
--- src/lib.rt:692:9
+-- src/lib.rt:502:9
+write-lead-kind-at-requires : (t : ℕ) → write-lead-lts.Need-kind-at-requires (write-lead-R t) (write-lead-at t) write-lead.Post
+write-lead-kind-at-requires t c κs = search needs
+
+-- src/lib.rt:503:18
+write-lead-lead-width-requires : (t : ℕ) → write-lead-lts.Need-lead-width-requires (write-lead-R t) (write-lead-at t) write-lead.Post
+write-lead-lead-width-requires t c κs = search needs
+
+-- src/lib.rt:503:12
+write-lead-add-if1 : (t : ℕ) → write-lead-lts.Need-add-if1 (write-lead-R t) (write-lead-at t) write-lead.Post
+write-lead-add-if1 t c = omega (arith, c .before .before .before .before .before .before .pre .1 .1 .1 .0 .3, c .lead-width .ensures .1)
+
+-- src/lib.rt:504:9
+write-lead-write-requires : (t : ℕ) → write-lead-lts.Need-write-requires (write-lead-R t) (write-lead-at t) write-lead.Post
+write-lead-write-requires t c κs = search needs
+
+-- src/lib.rt:504:9
+write-lead-same-length : (t : ℕ) → write-lead-lts.Need-same-length (write-lead-R t) (write-lead-at t) write-lead.Post
+write-lead-same-length t c = search needs
+
+-- src/lib.rt:504:9
+write-lead-returns : (t : ℕ) → write-lead-lts.Need-returns (write-lead-R t) (write-lead-at t) write-lead.Post
+write-lead-returns t c = search lead-past
+
+-- src/lib.rt:506:9
+write-lead-inplace-at-requires : (t : ℕ) → write-lead-lts.Need-inplace-at-requires (write-lead-R t) (write-lead-at t) write-lead.Post
+write-lead-inplace-at-requires t c κs = search needs
+
+-- src/lib.rt:507:16
+write-lead-add-from : (t : ℕ) → write-lead-lts.Need-add-from (write-lead-R t) (write-lead-at t) write-lead.Post
+write-lead-add-from t c = search needs
+
+-- src/lib.rt:509:29
+write-lead-argument-at-requires : (t : ℕ) → write-lead-lts.Need-argument-at-requires (write-lead-R t) (write-lead-at t) write-lead.Post
+write-lead-argument-at-requires t c κs = search needs
+
+-- src/lib.rt:509:13
+write-lead-index-requires : (t : ℕ) → write-lead-lts.Need-index-requires (write-lead-R t) (write-lead-at t) write-lead.Post
+write-lead-index-requires t c κs = search needs
+
+-- src/lib.rt:510:17
+write-lead-u16-in-requires : (t : ℕ) → write-lead-lts.Need-u16-in-requires (write-lead-R t) (write-lead-at t) write-lead.Post
+write-lead-u16-in-requires t c κs = omega (arith, c .before .before .before .before .before .before .before .before .before .before .before .pre .1 .1 .1 .0 .0, c .before .before .before .before .if1 .left, c .before .before .before .before .before .lead-width .ensures .0, width-union _ (c .before .before .if2 .taken))
+
+-- src/lib.rt:511:33
+write-lead-add-u48-in : (t : ℕ) → write-lead-lts.Need-add-u48-in (write-lead-R t) (write-lead-at t) write-lead.Post
+write-lead-add-u48-in t c = search needs
+
+-- src/lib.rt:511:17
+write-lead-u48-in-requires : (t : ℕ) → write-lead-lts.Need-u48-in-requires (write-lead-R t) (write-lead-at t) write-lead.Post
+write-lead-u48-in-requires t c κs = omega (arith, c .before .before .before .before .before .before .before .before .before .before .before .before .pre .1 .1 .1 .0 .0, c .before .before .before .before .before .if1 .left, c .before .before .before .before .before .before .lead-width .ensures .0, width-union _ (c .before .before .before .if2 .taken))
+
+-- src/lib.rt:512:59
+write-lead-add-write-union : (t : ℕ) → write-lead-lts.Need-add-write-union (write-lead-R t) (write-lead-at t) write-lead.Post
+write-lead-add-write-union t c = search needs
+
+-- src/lib.rt:512:9
+write-lead-write-union-requires : (t : ℕ) → write-lead-lts.Need-write-union-requires (write-lead-R t) (write-lead-at t) write-lead.Post
+write-lead-write-union-requires t c κs =
+    let q = c .before .before .before .before .before .before .before .before .before .before .before .before .before .before .pre .1 in
+    let kind = c .before .before .before .before .before .before .before .before .before .kind-at .ensures .0 in
+    let chosen = c .before .before .before .before .before .if2 .taken in
+    let argument = c .before .before .before .before .argument-at .ensures in
+    let index = c .before .before .before .index .ensures .0 in
+    (omega (arith, c .before .before .before .before .before .before .before .before .before .before .before .before .before .before .pre .0), (q .0, ((q .1 .0 .0, q .1 .0 .1, search (lead-counted, kind, q .1 .1 .0 .1, q .1 .1 .0 .2, chosen, q .1 .0 .3, argument, index)), search (chosen-given, kind, q .1 .1 .0 .1, q .1 .1 .0 .2, c .before .before .before .before .before .before .before .before .lead-width .ensures .0, c .before .before .before .before .before .before .before .if1 .left, c .before .before .before .before .before .before .inplace-at .ensures, chosen, argument, index, c .before .before .u16-in .ensures, c .before .u48-in .ensures, q .1 .1 .1))))
+
+-- src/lib.rt:512:9
+write-lead-same-length-2 : (t : ℕ) → write-lead-lts.Need-same-length-2 (write-lead-R t) (write-lead-at t) write-lead.Post
+write-lead-same-length-2 t c = search needs
+
+-- src/lib.rt:512:9
+write-lead-returns-2 : (t : ℕ) → write-lead-lts.Need-returns-2 (write-lead-R t) (write-lead-at t) write-lead.Post
+write-lead-returns-2 t c =
+    let q = c .before .before .before .before .before .before .before .before .before .before .before .before .before .before .before .before .before .pre .1 .1 .1 in
+    search (lead-chosen, c .before .before .before .before .before .before .before .before .before .before .before .before .kind-at .ensures .0, q .0 .1, q .0 .2, c .before .before .before .before .before .before .before .before .before .before .before .lead-width .ensures .0, c .before .before .before .before .before .before .before .before .before .before .if1 .left, c .before .before .before .before .before .before .before .before .before .inplace-at .ensures, c .before .before .before .before .before .before .before .before .if2 .taken, c .before .before .before .before .before .before .before .argument-at .ensures, c .before .before .before .before .before .before .index .ensures .0, c .before .before .before .before .before .u16-in .ensures, c .before .before .before .before .u48-in .ensures, c .before .before .write-union .ensures)
+
+-- src/lib.rt:514:13
+write-lead-u48-in-requires-2 : (t : ℕ) → write-lead-lts.Need-u48-in-requires-2 (write-lead-R t) (write-lead-at t) write-lead.Post
+write-lead-u48-in-requires-2 t c κs = omega (arith, c .before .before .before .before .before .before .before .before .before .pre .1 .1 .1 .0 .0, c .before .before .if1 .left, c .before .before .before .lead-width .ensures .0, width-object _ (c .if2 .left))
+
+-- src/lib.rt:515:9
+write-lead-object-at-requires : (t : ℕ) → write-lead-lts.Need-object-at-requires (write-lead-R t) (write-lead-at t) write-lead.Post
+write-lead-object-at-requires t c κs = search needs
+
+-- src/lib.rt:516:8
+write-lead-is-blob-requires : (t : ℕ) → write-lead-lts.Need-is-blob-requires (write-lead-R t) (write-lead-at t) write-lead.Post
+write-lead-is-blob-requires t c κs = search needs
+
+-- src/lib.rt:517:54
+write-lead-add-refer-blob : (t : ℕ) → write-lead-lts.Need-add-refer-blob (write-lead-R t) (write-lead-at t) write-lead.Post
+write-lead-add-refer-blob t c = search needs
+
+-- src/lib.rt:517:9
+write-lead-refer-blob-requires : (t : ℕ) → write-lead-lts.Need-refer-blob-requires (write-lead-R t) (write-lead-at t) write-lead.Post
+write-lead-refer-blob-requires t c κs =
+    let q = c .before .before .before .before .before .before .before .before .before .before .before .before .before .before .pre .1 in
+    (q .0, ((q .1 .0 .1, sym (c .before .before .is-blob .ensures) ∙ c .before .if3 .taken), search (referred-given, c .before .before .before .before .before .before .before .before .before .kind-at .ensures .0, q .1 .1 .0 .1, q .1 .1 .0 .2, c .before .before .before .before .before .before .before .before .lead-width .ensures .0, c .before .before .before .before .before .before .before .if1 .left, c .before .before .before .before .before .before .inplace-at .ensures, c .before .before .before .before .before .if2 .left, c .before .before .before .object-at .ensures, c .before .before .before .before .u48-in2 .ensures, q .1 .1 .1)))
+
+-- src/lib.rt:517:9
+write-lead-same-length-3 : (t : ℕ) → write-lead-lts.Need-same-length-3 (write-lead-R t) (write-lead-at t) write-lead.Post
+write-lead-same-length-3 t c = search needs
+
+-- src/lib.rt:517:9
+write-lead-returns-3 : (t : ℕ) → write-lead-lts.Need-returns-3 (write-lead-R t) (write-lead-at t) write-lead.Post
+write-lead-returns-3 t c = search lead-referred
+
+-- src/lib.rt:519:53
+write-lead-add-write-reference : (t : ℕ) → write-lead-lts.Need-add-write-reference (write-lead-R t) (write-lead-at t) write-lead.Post
+write-lead-add-write-reference t c = search needs
+
+-- src/lib.rt:519:5
+write-lead-write-reference-requires : (t : ℕ) → write-lead-lts.Need-write-reference-requires (write-lead-R t) (write-lead-at t) write-lead.Post
+write-lead-write-reference-requires t c κs =
+    let q = c .before .before .before .before .before .before .before .before .before .before .before .before .before .before .pre .1 in
+    (omega (arith, c .before .before .before .before .before .before .before .before .before .before .before .before .before .before .pre .0), (q .0, ((q .1 .0 .0, q .1 .0 .1), search (referred-given, c .before .before .before .before .before .before .before .before .before .kind-at .ensures .0, q .1 .1 .0 .1, q .1 .1 .0 .2, c .before .before .before .before .before .before .before .before .lead-width .ensures .0, c .before .before .before .before .before .before .before .if1 .left, c .before .before .before .before .before .before .inplace-at .ensures, c .before .before .before .before .before .if2 .left, c .before .before .before .object-at .ensures, c .before .before .before .before .u48-in2 .ensures, q .1 .1 .1))))
+
+-- src/lib.rt:483:1
+write-lead-same-length-4 : (t : ℕ) → write-lead-lts.Need-same-length-4 (write-lead-R t) (write-lead-at t) write-lead.Post
+write-lead-same-length-4 t c = search needs
+
+-- src/lib.rt:483:1
+write-lead-returns-4 : (t : ℕ) → write-lead-lts.Need-returns-4 (write-lead-R t) (write-lead-at t) write-lead.Post
+write-lead-returns-4 t c = search lead-referred
+
+-- src/lib.rt:743:9
 write-list-element-requires : (t : ℕ) → write-list-lts.Need-element-requires (write-list-R t) (write-list-at t) write-list.Post
 write-list-element-requires t c κs = search needs
 
--- src/lib.rt:693:40
+-- src/lib.rt:744:40
 write-list-number64-requires : (t : ℕ) → write-list-lts.Need-number64-requires (write-list-R t) (write-list-at t) write-list.Post
 write-list-number64-requires t c κs = search needs
 
--- src/lib.rt:693:9
+-- src/lib.rt:744:9
 write-list-write-requires : (t : ℕ) → write-list-lts.Need-write-requires (write-list-R t) (write-list-at t) write-list.Post
 write-list-write-requires t c κs = search needs
 
--- src/lib.rt:694:8
+-- src/lib.rt:745:8
 write-list-is-bool-requires : (t : ℕ) → write-list-lts.Need-is-bool-requires (write-list-R t) (write-list-at t) write-list.Post
 write-list-is-bool-requires t c κs = search needs
 
--- src/lib.rt:695:9
+-- src/lib.rt:746:9
 write-list-write-bools-requires : (t : ℕ) → write-list-lts.Need-write-bools-requires (write-list-R t) (write-list-at t) write-list.Post
 write-list-write-bools-requires t c κs =
     let q = c .before .before .before .before .before .before .before .before .before .before .before .before .before .pre .1 in
     (search (room-next, q .0, c .before .before .before .before .before .write .ensures), (omega (arith, list-start _ _ _ (q .1 .1 .0) (q .1 .0 .1)), search (list-few, q .1 .0 .0, q .1 .1 .0, q .1 .0 .1)))
 
--- src/lib.rt:695:9
+-- src/lib.rt:746:9
 write-list-same-length : (t : ℕ) → write-list-lts.Need-same-length (write-list-R t) (write-list-at t) write-list.Post
 write-list-same-length t c = search needs
 
--- src/lib.rt:695:9
+-- src/lib.rt:746:9
 write-list-returns : (t : ℕ) → write-list-lts.Need-returns (write-list-R t) (write-list-at t) write-list.Post
 write-list-returns t c = search list-bools
 
--- src/lib.rt:697:9
+-- src/lib.rt:748:9
 write-list-integer-width-requires : (t : ℕ) → write-list-lts.Need-integer-width-requires (write-list-R t) (write-list-at t) write-list.Post
 write-list-integer-width-requires t c κs = search needs
 
--- src/lib.rt:699:9
+-- src/lib.rt:750:9
 write-list-write-numbers-requires : (t : ℕ) → write-list-lts.Need-write-numbers-requires (write-list-R t) (write-list-at t) write-list.Post
 write-list-write-numbers-requires t c κs =
     let q = c .before .before .before .before .before .before .before .before .before .before .before .before .before .before .before .pre .1 in
     let sound = element-sound _ _ (q .1 .0 .0) _ _ (c .before .before .before .before .before .before .before .before .before .before .element .ensures) in
     (search (room-next, q .0, c .before .before .before .before .before .before .before .write .ensures), (integer-eight _ _ _ sound (c .before .before .integer-width .ensures), list-start _ _ _ (q .1 .1 .0) (q .1 .0 .1), search (list-few, q .1 .0 .0, q .1 .1 .0, q .1 .0 .1)))
 
--- src/lib.rt:699:9
+-- src/lib.rt:750:9
 write-list-same-length-2 : (t : ℕ) → write-list-lts.Need-same-length-2 (write-list-R t) (write-list-at t) write-list.Post
 write-list-same-length-2 t c = search needs
 
--- src/lib.rt:699:9
+-- src/lib.rt:750:9
 write-list-returns-2 : (t : ℕ) → write-list-lts.Need-returns-2 (write-list-R t) (write-list-at t) write-list.Post
 write-list-returns-2 t c = search list-numbers
 
--- src/lib.rt:702:54
+-- src/lib.rt:753:54
 write-list-enum-told : (t : ℕ) → write-list-lts.Need-enum-told (write-list-R t) (write-list-at t) write-list.Post
 write-list-enum-told t c = search needs
 
--- src/lib.rt:702:28
+-- src/lib.rt:753:28
 write-list-write-elements-requires : (t : ℕ) → write-list-lts.Need-write-elements-requires (write-list-R t) (write-list-at t) write-list.Post
 write-list-write-elements-requires t c κs =
     let q = c .before .before .before .before .before .before .before .before .before .before .before .before .before .before .before .before .before .pre .1 in
@@ -463,11 +612,11 @@ write-list-write-elements-requires t c κs =
       ),
     )
 
--- src/lib.rt:703:24
+-- src/lib.rt:754:24
 write-list-enum-known-k : (t : ℕ) → write-list-lts.Need-enum-known-k (write-list-R t) (write-list-at t) write-list.Post
 write-list-enum-known-k t c = search needs
 
--- src/lib.rt:703:31
+-- src/lib.rt:754:31
 write-list-write-references-requires : (t : ℕ) → write-list-lts.Need-write-references-requires (write-list-R t) (write-list-at t) write-list.Post
 write-list-write-references-requires t c κs =
     let q = c .before .before .before .before .before .before .before .before .before .before .before .before .before .before .before .before .before .before .pre .1 in
@@ -480,11 +629,11 @@ write-list-write-references-requires t c κs =
       ),
     )
 
--- src/lib.rt:704:55
+-- src/lib.rt:755:55
 write-list-enum-told-2 : (t : ℕ) → write-list-lts.Need-enum-told-2 (write-list-R t) (write-list-at t) write-list.Post
 write-list-enum-told-2 t c = search needs
 
--- src/lib.rt:704:29
+-- src/lib.rt:755:29
 write-list-write-elements-requires-2 : (t : ℕ) → write-list-lts.Need-write-elements-requires-2 (write-list-R t) (write-list-at t) write-list.Post
 write-list-write-elements-requires-2 t c κs =
     let q = c .before .before .before .before .before .before .before .before .before .before .before .before .before .before .before .before .before .pre .1 in
@@ -500,92 +649,92 @@ write-list-write-elements-requires-2 t c κs =
       ),
     )
 
--- src/lib.rt:675:1
+-- src/lib.rt:726:1
 write-list-same-length-3 : (t : ℕ) → write-list-lts.Need-same-length-3 (write-list-R t) (write-list-at t) write-list.Post
 write-list-same-length-3 t c = search needs
 
--- src/lib.rt:675:1
+-- src/lib.rt:726:1
 write-list-returns-3 : (t : ℕ) → write-list-lts.Need-returns-3 (write-list-R t) (write-list-at t) write-list.Post
 write-list-returns-3 t c = search list-elements
 
--- src/lib.rt:675:1
+-- src/lib.rt:726:1
 write-list-same-length-4 : (t : ℕ) → write-list-lts.Need-same-length-4 (write-list-R t) (write-list-at t) write-list.Post
 write-list-same-length-4 t c = search needs
 
--- src/lib.rt:675:1
+-- src/lib.rt:726:1
 write-list-returns-4 : (t : ℕ) → write-list-lts.Need-returns-4 (write-list-R t) (write-list-at t) write-list.Post
 write-list-returns-4 t c = search list-offsets
 
--- src/lib.rt:675:1
+-- src/lib.rt:726:1
 write-list-same-length-5 : (t : ℕ) → write-list-lts.Need-same-length-5 (write-list-R t) (write-list-at t) write-list.Post
 write-list-same-length-5 t c = search needs
 
--- src/lib.rt:675:1
+-- src/lib.rt:726:1
 write-list-returns-5 : (t : ℕ) → write-list-lts.Need-returns-5 (write-list-R t) (write-list-at t) write-list.Post
 write-list-returns-5 t c = search list-elements
 
--- src/lib.rt:575:9
+-- src/lib.rt:644:9
 write-object-returns : (t : ℕ) → write-object-lts.Need-returns (write-object-R t) (write-object-at t) write-object.Post
 write-object-returns t c = search object-none
 
--- src/lib.rt:577:9
+-- src/lib.rt:646:9
 write-object-start-of-requires : (t : ℕ) → write-object-lts.Need-start-of-requires (write-object-R t) (write-object-at t) write-object.Post
 write-object-start-of-requires t c κs = (search header-there, search needs)
 
--- src/lib.rt:578:9
+-- src/lib.rt:647:9
 write-object-length-of-requires : (t : ℕ) → write-object-lts.Need-length-of-requires (write-object-R t) (write-object-at t) write-object.Post
 write-object-length-of-requires t c κs = (search header-there, search needs)
 
--- src/lib.rt:579:35
+-- src/lib.rt:648:35
 write-object-sub-write-content : (t : ℕ) → write-object-lts.Need-sub-write-content (write-object-R t) (write-object-at t) write-object.Post
 write-object-sub-write-content t c = search needs
 
--- src/lib.rt:579:5
+-- src/lib.rt:648:5
 write-object-write-content-requires : (t : ℕ) → write-object-lts.Need-write-content-requires (write-object-R t) (write-object-at t) write-object.Post
 write-object-write-content-requires t c κs =
     let q = c .before .before .before .before .before .before .before .before .pre .1 in
     (omega (arith, c .before .before .before .before .before .before .before .before .pre .0, c .before .before .before .if1 .left), (q .0, ((q .1 .0 .0, q .1 .0 .1), search (content-readable, q .1 .1, c .before .before .before .if1 .left, c .before .before .start-of .ensures, c .before .length-of .ensures))))
 
--- src/lib.rt:559:1
+-- src/lib.rt:628:1
 write-object-same-length : (t : ℕ) → write-object-lts.Need-same-length (write-object-R t) (write-object-at t) write-object.Post
 write-object-same-length t c = search needs
 
--- src/lib.rt:559:1
+-- src/lib.rt:628:1
 write-object-returns-2 : (t : ℕ) → write-object-lts.Need-returns-2 (write-object-R t) (write-object-at t) write-object.Post
 write-object-returns-2 t c = search object-content
 
--- src/lib.rt:481:9
+-- src/lib.rt:541:9
 write-reference-write-requires : (t : ℕ) → write-reference-lts.Need-write-requires (write-reference-R t) (write-reference-at t) write-reference.Post
 write-reference-write-requires t c κs = search needs
 
--- src/lib.rt:481:9
+-- src/lib.rt:541:9
 write-reference-same-length : (t : ℕ) → write-reference-lts.Need-same-length (write-reference-R t) (write-reference-at t) write-reference.Post
 write-reference-same-length t c = search needs
 
--- src/lib.rt:481:9
+-- src/lib.rt:541:9
 write-reference-returns : (t : ℕ) → write-reference-lts.Need-returns (write-reference-R t) (write-reference-at t) write-reference.Post
 write-reference-returns t c = search reference-none
 
--- src/lib.rt:483:9
+-- src/lib.rt:543:9
 write-reference-place-of-requires : (t : ℕ) → write-reference-lts.Need-place-of-requires (write-reference-R t) (write-reference-at t) write-reference.Post
 write-reference-place-of-requires t c κs = search needs
 
--- src/lib.rt:484:9
+-- src/lib.rt:544:9
 write-reference-write-requires-2 : (t : ℕ) → write-reference-lts.Need-write-requires-2 (write-reference-R t) (write-reference-at t) write-reference.Post
 write-reference-write-requires-2 t c κs = search needs
 
--- src/lib.rt:485:5
+-- src/lib.rt:545:5
 write-reference-write-object-requires : (t : ℕ) → write-reference-lts.Need-write-object-requires (write-reference-R t) (write-reference-at t) write-reference.Post
 write-reference-write-object-requires t c κs =
     let q = c .before .before .before .before .before .before .before .before .before .before .before .pre .1 in
     let fall = c .before .before .before .before .before .before .before .before .before .before .before .pre .0 in
     (omega (arith, fall), (search (room-next, q .0, c .before .before .before .write2 .ensures), ((q .1 .0 .0, q .1 .0 .1), search (reference-readable, q .1 .1, c .before .before .before .before .before .before .if1 .left, c .before .before .before .before .before .place-of .ensures))))
 
--- src/lib.rt:463:1
+-- src/lib.rt:523:1
 write-reference-same-length-2 : (t : ℕ) → write-reference-lts.Need-same-length-2 (write-reference-R t) (write-reference-at t) write-reference.Post
 write-reference-same-length-2 t c = search needs
 
--- src/lib.rt:463:1
+-- src/lib.rt:523:1
 write-reference-returns-2 : (t : ℕ) → write-reference-lts.Need-returns-2 (write-reference-R t) (write-reference-at t) write-reference.Post
 write-reference-returns-2 t c = search reference-there
 
@@ -597,23 +746,23 @@ write-references-Inv-loop b dir m out₀ d ob start n pos p₀ at₀ j₀ out p 
 abbrev write-references-μ-loop : write-references-lts.MeasureT-loop
 write-references-μ-loop b dir m out₀ d ob start n pos p₀ at₀ j₀ out p at j = n - j
 
--- src/lib.rt:728:5
+-- src/lib.rt:779:5
 write-references-loop-holds : (t : ℕ) → write-references-lts.Need-loop-holds (write-references-R t) (write-references-at t) write-references.Post write-references-Inv-loop write-references-μ-loop
 write-references-loop-holds t c = (search needs, omega arith, refl, omega arith, search elements-readable, search elements-start)
 
--- src/lib.rt:730:13
+-- src/lib.rt:781:13
 write-references-same-length : (t : ℕ) → write-references-lts.Need-same-length (write-references-R t) (write-references-at t) write-references.Post write-references-Inv-loop write-references-μ-loop
 write-references-same-length t c = search needs
 
--- src/lib.rt:730:13
+-- src/lib.rt:781:13
 write-references-returns : (t : ℕ) → write-references-lts.Need-returns (write-references-R t) (write-references-at t) write-references.Post write-references-Inv-loop write-references-μ-loop
 write-references-returns t c = search remaining-over
 
--- src/lib.rt:732:17
+-- src/lib.rt:783:17
 write-references-u48-in-requires : (t : ℕ) → write-references-lts.Need-u48-in-requires (write-references-R t) (write-references-at t) write-references.Post write-references-Inv-loop write-references-μ-loop
 write-references-u48-in-requires t c κs = search needs
 
--- src/lib.rt:733:9
+-- src/lib.rt:784:9
 write-references-write-reference-requires :
     (t : ℕ) → write-references-lts.Need-write-reference-requires (
       u48-in-reads.Asked,
@@ -630,19 +779,19 @@ write-references-write-reference-requires t c κs =
     let inv = c .before .before .before .before .loop .inv in
     (omega (arith, c .before .before .before .before .before .before .before .before .before .pre .0), (inv .0, ((q .1 .0 .0, q .1 .0 .1), offset-readable _ _ _ _ _ _ _ (c .before .before .before .loop-test .taken) (inv .4) _ _ (inv .3) (c .before .u48-in .ensures))))
 
--- src/lib.rt:734:9
+-- src/lib.rt:785:9
 write-references-add-at : (t : ℕ) → write-references-lts.Need-add-at (write-references-R t) (write-references-at t) write-references.Post write-references-Inv-loop write-references-μ-loop
 write-references-add-at t c = search needs
 
--- src/lib.rt:735:9
+-- src/lib.rt:786:9
 write-references-add-j : (t : ℕ) → write-references-lts.Need-add-j (write-references-R t) (write-references-at t) write-references.Post write-references-Inv-loop write-references-μ-loop
 write-references-add-j t c = search needs
 
--- src/lib.rt:728:5
+-- src/lib.rt:779:5
 write-references-loop-less : (t : ℕ) → write-references-lts.Need-loop-less (write-references-R t) (write-references-at t) write-references.Post write-references-Inv-loop write-references-μ-loop
 write-references-loop-less t c = search needs
 
--- src/lib.rt:728:5
+-- src/lib.rt:779:5
 write-references-loop-again : (t : ℕ) → write-references-lts.Need-loop-again (write-references-R t) (write-references-at t) write-references.Post write-references-Inv-loop write-references-μ-loop
 write-references-loop-again t c =
     let inv = c .before .before .before .before .before .before .before .loop .inv in
@@ -656,11 +805,11 @@ write-references-loop-again t c =
       search (offsets-turn, less, inv .4, inv .3, c .before .before .before .before .u48-in .ensures, inv .5, inv .0, put),
     )
 
--- src/lib.rt:709:1
+-- src/lib.rt:760:1
 write-references-same-length-2 : (t : ℕ) → write-references-lts.Need-same-length-2 (write-references-R t) (write-references-at t) write-references.Post write-references-Inv-loop write-references-μ-loop
 write-references-same-length-2 t c = search needs
 
--- src/lib.rt:709:1
+-- src/lib.rt:760:1
 write-references-returns-2 : (t : ℕ) → write-references-lts.Need-returns-2 (write-references-R t) (write-references-at t) write-references.Post write-references-Inv-loop write-references-μ-loop
 write-references-returns-2 t c = search elements-done
 
@@ -674,60 +823,60 @@ write-table-Inv-loop b dir m out₀ d t start n pos count first c₀ p₀ j₀ o
 abbrev write-table-μ-loop : write-table-lts.MeasureT-loop
 write-table-μ-loop b dir m out₀ d t start n pos count first c₀ p₀ j₀ out c p j = count - j
 
--- src/lib.rt
+-- src/lib.rt:693:9
 write-table-member-count-requires : (t : ℕ) → write-table-lts.Need-member-count-requires (write-table-R t) (write-table-at t) write-table.Post write-table-Inv-loop write-table-μ-loop
 write-table-member-count-requires t c κs = search needs
 
--- src/lib.rt
+-- src/lib.rt:694:9
 write-table-table-place-requires : (t : ℕ) → write-table-lts.Need-table-place-requires (write-table-R t) (write-table-at t) write-table.Post write-table-Inv-loop write-table-μ-loop
 write-table-table-place-requires t c κs = search needs
 
--- src/lib.rt
+-- src/lib.rt:695:9
 write-table-begin-requires : (t : ℕ) → write-table-lts.Need-begin-requires (write-table-R t) (write-table-at t) write-table.Post write-table-Inv-loop write-table-μ-loop
 write-table-begin-requires t c κs = search needs
 
--- src/lib.rt
+-- src/lib.rt:698:5
 write-table-loop-holds : (t : ℕ) → write-table-lts.Need-loop-holds (write-table-R t) (write-table-at t) write-table.Post write-table-Inv-loop write-table-μ-loop
 write-table-loop-holds t c = (search needs, omega arith, refl, search needs, search readable-start, search members-start)
 
--- src/lib.rt
+-- src/lib.rt:700:13
 write-table-same-length : (t : ℕ) → write-table-lts.Need-same-length (write-table-R t) (write-table-at t) write-table.Post write-table-Inv-loop write-table-μ-loop
 write-table-same-length t c = search needs
 
--- src/lib.rt
+-- src/lib.rt:700:13
 write-table-returns : (t : ℕ) → write-table-lts.Need-returns (write-table-R t) (write-table-at t) write-table.Post write-table-Inv-loop write-table-μ-loop
 write-table-returns t c = search remaining-over
 
--- src/lib.rt
+-- src/lib.rt:702:13
 write-table-record-place-requires : (t : ℕ) → write-table-lts.Need-record-place-requires (write-table-R t) (write-table-at t) write-table.Post write-table-Inv-loop write-table-μ-loop
 write-table-record-place-requires t c κs = (omega arith, c .before .before .before .before .table-place .ensures .small, omega (arith, c .before .before .before .before .before .member-count .ensures .1, c .before .loop-test .taken))
 
--- src/lib.rt
+-- src/lib.rt:703:13
 write-table-code-at-requires : (t : ℕ) → write-table-lts.Need-code-at-requires (write-table-R t) (write-table-at t) write-table.Post write-table-Inv-loop write-table-μ-loop
 write-table-code-at-requires t c κs = omega (arith, record-whole _ _ _ (c .before .before .before .before .before .before .before .before .before .before .before .pre .1 .1 .0 .2) _ (c .before .before .before .before .before .before .member-count .ensures .0) (c .before .before .loop-test .taken) _ (c .before .before .before .before .before .table-place .ensures) _ (c .record-place .ensures .1))
 
--- src/lib.rt
+-- src/lib.rt:705:13
 write-table-write-coded-requires : (t : ℕ) → write-table-lts.Need-write-coded-requires (write-table-R t) (write-table-at t) write-table.Post write-table-Inv-loop write-table-μ-loop
 write-table-write-coded-requires t c κs =
     let q = c .before .before .before .before .before .before .before .before .before .before .before .before .before .before .pre .1 in
     let inv = c .before .before .before .before .before .before .loop .inv in
     (inv .0, (q .1 .0 .3, q .1 .0 .1, omega (arith, inv .3 .end, c .before .before .before .before .before .before .before .before .before .member-count .ensures .1, c .before .before .before .before .before .loop-test .taken), inv .3 .byte, inv .3 .bit, c .before .before .code-at .ensures .1))
 
--- src/lib.rt
+-- src/lib.rt:706:13
 write-table-behind-coded-requires : (t : ℕ) → write-table-lts.Need-behind-coded-requires (write-table-R t) (write-table-at t) write-table.Post write-table-Inv-loop write-table-μ-loop
 write-table-behind-coded-requires t c κs =
     let inv = c .before .before .before .before .before .before .before .before .before .loop .inv in
     (omega (arith, inv .3 .end, c .before .before .before .before .before .before .before .before .before .before .before .before .member-count .ensures .1, c .before .before .before .before .before .before .before .before .loop-test .taken), inv .3 .byte, inv .3 .bit, c .before .before .before .before .before .code-at .ensures .1)
 
--- src/lib.rt
+-- src/lib.rt:707:13
 write-table-add-j : (t : ℕ) → write-table-lts.Need-add-j (write-table-R t) (write-table-at t) write-table.Post write-table-Inv-loop write-table-μ-loop
 write-table-add-j t c = search needs
 
--- src/lib.rt
+-- src/lib.rt:698:5
 write-table-loop-less : (t : ℕ) → write-table-lts.Need-loop-less (write-table-R t) (write-table-at t) write-table.Post write-table-Inv-loop write-table-μ-loop
 write-table-loop-less t c = search needs
 
--- src/lib.rt
+-- src/lib.rt:698:5
 write-table-loop-again : (t : ℕ) → write-table-lts.Need-loop-again (write-table-R t) (write-table-at t) write-table.Post write-table-Inv-loop write-table-μ-loop
 write-table-loop-again t c =
     let inv = c .before .before .before .before .before .before .before .before .before .before .loop .inv in
@@ -746,42 +895,96 @@ write-table-loop-again t c =
       search (coded-turn, count, less, inv .4, is, wide .0 some, next, inv .5, inv .0, put),
     )
 
--- src/lib.rt
-write-table-member-at-requires : (t : ℕ) → write-table-lts.Need-member-at-requires (write-table-R t) (write-table-at t) write-table.Post write-table-Inv-loop write-table-μ-loop
-write-table-member-at-requires t c κs =
-    let q = c .before .before .before .before .before .before .before .before .before .before .before .before .before .pre .1 in
-    ((q .1 .0 .0, q .1 .0 .2, omega (arith, c .before .before .before .before .before .before .before .before .member-count .ensures .0, c .before .before .before .before .loop-test .taken), omega (arith, c .before .before .before .before .before .before .before .before .member-count .ensures .1, c .before .before .before .before .loop-test .taken)), (q .1 .0 .3, q .1 .0 .1, c .before .before .before .before .before .loop .inv .3))
+-- src/lib.rt:710:13
+write-table-kind-at-requires : (t : ℕ) → write-table-lts.Need-kind-at-requires (write-table-R t) (write-table-at t) write-table.Post write-table-Inv-loop write-table-μ-loop
+write-table-kind-at-requires t c κs = omega (arith, record-whole _ _ _ (c .before .before .before .before .before .before .before .before .before .before .before .before .before .pre .1 .1 .0 .2) _ (c .before .before .before .before .before .before .before .before .member-count .ensures .0) (c .before .before .before .before .loop-test .taken) _ (c .before .before .before .before .before .before .before .table-place .ensures) _ (c .before .before .record-place .ensures .1))
 
--- src/lib.rt
-write-table-is-leaf-requires : (t : ℕ) → write-table-lts.Need-is-leaf-requires (write-table-R t) (write-table-at t) write-table.Post write-table-Inv-loop write-table-μ-loop
-write-table-is-leaf-requires t c κs = search needs
+-- src/lib.rt:712:13
+write-table-write-lead-requires : (t : ℕ) → write-table-lts.Need-write-lead-requires (write-table-R t) (write-table-at t) write-table.Post write-table-Inv-loop write-table-μ-loop
+write-table-write-lead-requires t c κs =
+    let q = c .before .before .before .before .before .before .before .before .before .before .before .before .before .before .before .before .pre .1 in
+    let inv = c .before .before .before .before .before .before .before .before .loop .inv in
+    let less = c .before .before .before .before .before .before .before .loop-test .taken in
+    let count = c .before .before .before .before .before .before .before .before .before .before .before .member-count .ensures in
+    let block = c .before .before .before .before .before .before .before .before .before .before .table-place .ensures in
+    let place = c .before .before .before .before .before .record-place .ensures in
+    let is = coded-member _ _ _ (q .1 .0 .2) _ (count .0) less _ block _ (place .0) in
+    (omega (arith, c .before .before .before .before .before .before .before .before .before .before .before .before .before .before .before .before .pre .0), (inv .0, ((q .1 .0 .0, q .1 .0 .1, record-whole _ _ _ (q .1 .0 .2) _ (count .0) less _ block _ (place .1), member-sound-of _ _ (q .1 .0 .0) _ _ _ is (omega (arith, count .0, less)) .kind), ((q .1 .0 .3, omega (arith, c .before .before .kind-at .ensures .0, c .before .if3 .taken), lead-known _ _ (q .1 .0 .0) _ _ (q .1 .0 .2) _ (count .0) less _ block _ (place .0), omega (arith, inv .3 .end, count .1, less)), search (lead-readable, count .0, less, inv .4, is)))))
 
--- src/lib.rt
-write-table-add-write-leaf : (t : ℕ) → write-table-lts.Need-add-write-leaf (write-table-R t) (write-table-at t) write-table.Post write-table-Inv-loop write-table-μ-loop
-write-table-add-write-leaf t c = let q = c .before .before .before .before .before .before .before .before .before .before .before .before .before .before .before .before .before .before .pre .1 in omega (arith, q .1 .0 .3, q .1 .0 .1)
+-- src/lib.rt:713:33
+write-table-lead-width-requires : (t : ℕ) → write-table-lts.Need-lead-width-requires (write-table-R t) (write-table-at t) write-table.Post write-table-Inv-loop write-table-μ-loop
+write-table-lead-width-requires t c κs = search needs
 
--- src/lib.rt
-write-table-write-leaf-requires : (t : ℕ) → write-table-lts.Need-write-leaf-requires (write-table-R t) (write-table-at t) write-table.Post write-table-Inv-loop write-table-μ-loop
-write-table-write-leaf-requires t c κs =
-    let q = c .before .before .before .before .before .before .before .before .before .before .before .before .before .before .before .before .before .before .pre .1 in
-    let is = c .before .before .before .before .member-at .ensures in
-    let inv = c .before .before .before .before .before .before .before .before .before .before .loop .inv in
-    (inv .0, ((q .1 .0 .0, q .1 .0 .1, is .sound, sym (c .before .before .is-leaf .ensures) ∙ c .before .if3 .taken), ((is .inside, is .bit-low, is .low), search (member-readable, c .before .before .before .before .before .before .before .before .before .before .before .before .before .member-count .ensures .0, c .before .before .before .before .before .before .before .before .before .loop-test .taken, inv .4, is))))
+-- src/lib.rt:713:13
+write-table-behind-plain-requires : (t : ℕ) → write-table-lts.Need-behind-plain-requires (write-table-R t) (write-table-at t) write-table.Post write-table-Inv-loop write-table-μ-loop
+write-table-behind-plain-requires t c κs = let inv = c .before .before .before .before .before .before .before .before .before .before .before .before .loop .inv in (omega (arith, inv .3 .end, c .before .before .before .before .before .before .before .before .before .before .before .before .before .before .before .member-count .ensures .1, c .before .before .before .before .before .before .before .before .before .before .before .loop-test .taken), c .lead-width .ensures .1)
 
--- src/lib.rt
+-- src/lib.rt:714:13
 write-table-add-j-2 : (t : ℕ) → write-table-lts.Need-add-j-2 (write-table-R t) (write-table-at t) write-table.Post write-table-Inv-loop write-table-μ-loop
 write-table-add-j-2 t c = search needs
 
--- src/lib.rt
+-- src/lib.rt:698:5
 write-table-loop-less-2 : (t : ℕ) → write-table-lts.Need-loop-less-2 (write-table-R t) (write-table-at t) write-table.Post write-table-Inv-loop write-table-μ-loop
 write-table-loop-less-2 t c = search needs
 
--- src/lib.rt
+-- src/lib.rt:698:5
 write-table-loop-again-2 : (t : ℕ) → write-table-lts.Need-loop-again-2 (write-table-R t) (write-table-at t) write-table.Post write-table-Inv-loop write-table-μ-loop
 write-table-loop-again-2 t c =
+    let q = c .before .before .before .before .before .before .before .before .before .before .before .before .before .before .before .before .before .before .before .before .before .pre .1 in
     let inv = c .before .before .before .before .before .before .before .before .before .before .before .before .before .loop .inv in
     let less = c .before .before .before .before .before .before .before .before .before .before .before .before .loop-test .taken in
-    let is = c .before .before .before .before .before .before .before .member-at .ensures in
+    let count = c .before .before .before .before .before .before .before .before .before .before .before .before .before .before .before .before .member-count .ensures .0 in
+    let block = c .before .before .before .before .before .before .before .before .before .before .before .before .before .before .before .table-place .ensures in
+    let place = c .before .before .before .before .before .before .before .before .before .before .record-place .ensures .0 in
+    let kind = c .before .before .before .before .before .before .before .kind-at .ensures .0 in
+    let width = c .before .lead-width .ensures in
+    let put = c .before .before .before .before .write-lead .ensures in
+    let is = coded-member _ _ _ (q .1 .0 .2) _ count less _ block _ place in
+    let known = lead-known _ _ (q .1 .0 .0) _ _ (q .1 .0 .2) _ count less _ block _ place in
+    let next = lead-next _ _ _ kind (omega (arith, kind, c .before .before .before .before .before .before .if3 .taken)) known _ (width .0) _ _ (c .behind-plain .ensures) in (
+      search (room-next, inv .0, put),
+      omega (arith, less),
+      omega (arith, put .len, inv .2),
+      lead-laid _ _ _ _ (inv .3) (width .1) (c .behind-plain .ensures),
+      search (lead-rest, count, less, inv .4, is, next),
+      search (lead-turn, count, less, inv .4, is, next, inv .5, inv .0, put),
+    )
+
+-- src/lib.rt:717:13
+write-table-member-at-requires : (t : ℕ) → write-table-lts.Need-member-at-requires (write-table-R t) (write-table-at t) write-table.Post write-table-Inv-loop write-table-μ-loop
+write-table-member-at-requires t c κs =
+    let q = c .before .before .before .before .before .before .before .before .before .before .before .before .before .before .before .pre .1 in
+    ((q .1 .0 .0, q .1 .0 .2, omega (arith, c .before .before .before .before .before .before .before .before .before .before .member-count .ensures .0, c .before .before .before .before .before .before .loop-test .taken), omega (arith, c .before .before .before .before .before .before .before .before .before .before .member-count .ensures .1, c .before .before .before .before .before .before .loop-test .taken)), (q .1 .0 .3, q .1 .0 .1, c .before .before .before .before .before .before .before .loop .inv .3))
+
+-- src/lib.rt:719:46
+write-table-add-write-leaf : (t : ℕ) → write-table-lts.Need-add-write-leaf (write-table-R t) (write-table-at t) write-table.Post write-table-Inv-loop write-table-μ-loop
+write-table-add-write-leaf t c = let q = c .before .before .before .before .before .before .before .before .before .before .before .before .before .before .before .before .before .before .pre .1 in omega (arith, q .1 .0 .3, q .1 .0 .1)
+
+-- src/lib.rt:719:9
+write-table-write-leaf-requires : (t : ℕ) → write-table-lts.Need-write-leaf-requires (write-table-R t) (write-table-at t) write-table.Post write-table-Inv-loop write-table-μ-loop
+write-table-write-leaf-requires t c κs =
+    let q = c .before .before .before .before .before .before .before .before .before .before .before .before .before .before .before .before .before .before .pre .1 in
+    let is = c .before .before .member-at .ensures in
+    let inv = c .before .before .before .before .before .before .before .before .before .before .loop .inv in
+    let less = c .before .before .before .before .before .before .before .before .before .loop-test .taken in
+    let count = c .before .before .before .before .before .before .before .before .before .before .before .before .before .member-count .ensures .0 in
+    let same = coded-member _ _ _ (q .1 .0 .2) _ count less _ (c .before .before .before .before .before .before .before .before .before .before .before .before .table-place .ensures) _ (c .before .before .before .before .before .before .before .record-place .ensures .0) in
+    (inv .0, ((q .1 .0 .0, q .1 .0 .1, is .sound, flat-member _ _ _ (c .before .before .before .before .kind-at .ensures .0) (c .before .before .before .if3 .left) _ same _ (is .kind-is)), ((is .inside, is .bit-low, is .low), search (member-readable, count, less, inv .4, is))))
+
+-- src/lib.rt:720:9
+write-table-add-j-3 : (t : ℕ) → write-table-lts.Need-add-j-3 (write-table-R t) (write-table-at t) write-table.Post write-table-Inv-loop write-table-μ-loop
+write-table-add-j-3 t c = search needs
+
+-- src/lib.rt:698:5
+write-table-loop-less-3 : (t : ℕ) → write-table-lts.Need-loop-less-3 (write-table-R t) (write-table-at t) write-table.Post write-table-Inv-loop write-table-μ-loop
+write-table-loop-less-3 t c = search needs
+
+-- src/lib.rt:698:5
+write-table-loop-again-3 : (t : ℕ) → write-table-lts.Need-loop-again-3 (write-table-R t) (write-table-at t) write-table.Post write-table-Inv-loop write-table-μ-loop
+write-table-loop-again-3 t c =
+    let inv = c .before .before .before .before .before .before .before .before .before .before .before .before .before .loop .inv in
+    let less = c .before .before .before .before .before .before .before .before .before .before .before .before .loop-test .taken in
+    let is = c .before .before .before .before .before .member-at .ensures in
     let count = c .before .before .before .before .before .before .before .before .before .before .before .before .before .before .before .before .member-count .ensures .0 in
     let put = c .before .before .write-leaf .ensures in (
       search (room-next, inv .0, put),
@@ -792,217 +995,182 @@ write-table-loop-again-2 t c =
       search (members-turn, count, less, inv .4, is, inv .5, inv .0, put),
     )
 
--- src/lib.rt
-write-table-add-write-value : (t : ℕ) → write-table-lts.Need-add-write-value (write-table-R t) (write-table-at t) write-table.Post write-table-Inv-loop write-table-μ-loop
-write-table-add-write-value t c = let q = c .before .before .before .before .before .before .before .before .before .before .before .before .before .before .before .before .before .before .pre .1 in omega (arith, q .1 .0 .3, q .1 .0 .1)
-
--- src/lib.rt
-write-table-write-value-requires : (t : ℕ) → write-table-lts.Need-write-value-requires (write-table-R t) (write-table-at t) write-table.Post write-table-Inv-loop write-table-μ-loop
-write-table-write-value-requires t c κs =
-    let q = c .before .before .before .before .before .before .before .before .before .before .before .before .before .before .before .before .before .before .pre .1 in
-    let is = c .before .before .before .before .member-at .ensures in
-    let inv = c .before .before .before .before .before .before .before .before .before .before .loop .inv in
-    (omega (arith, c .before .before .before .before .before .before .before .before .before .before .before .before .before .before .before .before .before .before .pre .0), (inv .0, ((q .1 .0 .0, q .1 .0 .1, is .sound), ((is .inside, is .bit-low, is .low), search (member-readable, c .before .before .before .before .before .before .before .before .before .before .before .before .before .member-count .ensures .0, c .before .before .before .before .before .before .before .before .before .loop-test .taken, inv .4, is)))))
-
--- src/lib.rt
-write-table-add-j-3 : (t : ℕ) → write-table-lts.Need-add-j-3 (write-table-R t) (write-table-at t) write-table.Post write-table-Inv-loop write-table-μ-loop
-write-table-add-j-3 t c = search needs
-
--- src/lib.rt
-write-table-loop-less-3 : (t : ℕ) → write-table-lts.Need-loop-less-3 (write-table-R t) (write-table-at t) write-table.Post write-table-Inv-loop write-table-μ-loop
-write-table-loop-less-3 t c = search needs
-
--- src/lib.rt
-write-table-loop-again-3 : (t : ℕ) → write-table-lts.Need-loop-again-3 (write-table-R t) (write-table-at t) write-table.Post write-table-Inv-loop write-table-μ-loop
-write-table-loop-again-3 t c =
-    let inv = c .before .before .before .before .before .before .before .before .before .before .before .before .before .loop .inv in
-    let less = c .before .before .before .before .before .before .before .before .before .before .before .before .loop-test .taken in
-    let is = c .before .before .before .before .before .before .before .member-at .ensures in
-    let count = c .before .before .before .before .before .before .before .before .before .before .before .before .before .before .before .before .member-count .ensures .0 in
-    let put = c .before .before .write-value .ensures in (
-      search (room-next, inv .0, put),
-      omega (arith, less),
-      omega (arith, put .len, inv .2),
-      is .laid,
-      search (rest-readable, count, less, inv .4, is),
-      search (members-turn, count, less, inv .4, is, inv .5, inv .0, put),
-    )
-
--- src/lib.rt
+-- src/lib.rt:677:1
 write-table-same-length-2 : (t : ℕ) → write-table-lts.Need-same-length-2 (write-table-R t) (write-table-at t) write-table.Post write-table-Inv-loop write-table-μ-loop
 write-table-same-length-2 t c = search needs
 
--- src/lib.rt
+-- src/lib.rt:677:1
 write-table-returns-2 : (t : ℕ) → write-table-lts.Need-returns-2 (write-table-R t) (write-table-at t) write-table.Post write-table-Inv-loop write-table-μ-loop
 write-table-returns-2 t c = search members-done
 
--- src/lib.rt:508:9
+-- src/lib.rt:568:9
 write-union-write-requires : (t : ℕ) → write-union-lts.Need-write-requires (write-union-R t) (write-union-at t) write-union.Post
 write-union-write-requires t c κs = search needs
 
--- src/lib.rt:508:9
+-- src/lib.rt:568:9
 write-union-same-length : (t : ℕ) → write-union-lts.Need-same-length (write-union-R t) (write-union-at t) write-union.Post
 write-union-same-length t c = search needs
 
--- src/lib.rt:508:9
+-- src/lib.rt:568:9
 write-union-returns : (t : ℕ) → write-union-lts.Need-returns (write-union-R t) (write-union-at t) write-union.Post
 write-union-returns t c = search choice-none
 
--- src/lib.rt:510:8
+-- src/lib.rt:570:8
 write-union-case-count-requires : (t : ℕ) → write-union-lts.Need-case-count-requires (write-union-R t) (write-union-at t) write-union.Post
 write-union-case-count-requires t c κs = search needs
 
--- src/lib.rt:511:46
+-- src/lib.rt:571:53
 write-union-number64-requires : (t : ℕ) → write-union-lts.Need-number64-requires (write-union-R t) (write-union-at t) write-union.Post
 write-union-number64-requires t c κs = search needs
 
--- src/lib.rt:511:9
+-- src/lib.rt:571:9
 write-union-write-marked-requires : (t : ℕ) → write-union-lts.Need-write-marked-requires (write-union-R t) (write-union-at t) write-union.Post
 write-union-write-marked-requires t c κs = search needs
 
--- src/lib.rt:511:9
+-- src/lib.rt:571:9
 write-union-same-length-2 : (t : ℕ) → write-union-lts.Need-same-length-2 (write-union-R t) (write-union-at t) write-union.Post
 write-union-same-length-2 t c = search needs
 
--- src/lib.rt:511:9
+-- src/lib.rt:571:9
 write-union-returns-2 : (t : ℕ) → write-union-lts.Need-returns-2 (write-union-R t) (write-union-at t) write-union.Post
 write-union-returns-2 t c = search choice-unknown
 
--- src/lib.rt:513:9
+-- src/lib.rt:573:9
 write-union-union-case-requires : (t : ℕ) → write-union-lts.Need-union-case-requires (write-union-R t) (write-union-at t) write-union.Post
 write-union-union-case-requires t c κs = search needs
 
--- src/lib.rt:514:9
+-- src/lib.rt:574:9
 write-union-place-of-requires : (t : ℕ) → write-union-lts.Need-place-of-requires (write-union-R t) (write-union-at t) write-union.Post
 write-union-place-of-requires t c κs = search needs
 
--- src/lib.rt:515:43
+-- src/lib.rt:575:50
 write-union-number64-requires-2 : (t : ℕ) → write-union-lts.Need-number64-requires-2 (write-union-R t) (write-union-at t) write-union.Post
 write-union-number64-requires-2 t c κs = search needs
 
--- src/lib.rt:515:9
+-- src/lib.rt:575:9
 write-union-write-marked-requires-2 : (t : ℕ) → write-union-lts.Need-write-marked-requires-2 (write-union-R t) (write-union-at t) write-union.Post
 write-union-write-marked-requires-2 t c κs = search needs
 
--- src/lib.rt:516:5
+-- src/lib.rt:576:5
 write-union-write-object-requires : (t : ℕ) → write-union-lts.Need-write-object-requires (write-union-R t) (write-union-at t) write-union.Post
 write-union-write-object-requires t c κs =
     let q = c .before .before .before .before .before .before .before .before .before .before .before .before .before .before .before .pre .1 in
     let fall = c .before .before .before .before .before .before .before .before .before .before .before .before .before .before .before .pre .0 in
     (omega (arith, fall), (search (room-next, q .0, c .before .before .before .write-marked2 .ensures), ((q .1 .0 .0, q .1 .0 .1), search (case-readable, q .1 .1, c .before .before .before .before .before .before .before .before .before .before .if1 .left, c .before .before .before .before .before .before .before .before .before .case-count .ensures .0, c .before .before .before .before .before .before .before .before .if2 .left, c .before .before .before .before .before .before .before .union-case .ensures, c .before .before .before .before .before .before .place-of .ensures))))
 
--- src/lib.rt:489:1
+-- src/lib.rt:549:1
 write-union-same-length-3 : (t : ℕ) → write-union-lts.Need-same-length-3 (write-union-R t) (write-union-at t) write-union.Post
 write-union-same-length-3 t c = search needs
 
--- src/lib.rt:489:1
+-- src/lib.rt:549:1
 write-union-returns-3 : (t : ℕ) → write-union-lts.Need-returns-3 (write-union-R t) (write-union-at t) write-union.Post
 write-union-returns-3 t c = search choice-known
 
--- src/lib.rt:542:9
+-- src/lib.rt:597:9
 write-value-write-requires : (t : ℕ) → write-value-lts.Need-write-requires (write-value-R t) (write-value-at t) write-value.Post
 write-value-write-requires t c κs = search needs
 
--- src/lib.rt:542:9
+-- src/lib.rt:597:9
 write-value-same-length : (t : ℕ) → write-value-lts.Need-same-length (write-value-R t) (write-value-at t) write-value.Post
 write-value-same-length t c = search needs
 
--- src/lib.rt:542:9
+-- src/lib.rt:597:9
 write-value-returns : (t : ℕ) → write-value-lts.Need-returns (write-value-R t) (write-value-at t) write-value.Post
 write-value-returns t c = search value-none
 
--- src/lib.rt:545:22
+-- src/lib.rt:602:22
 write-value-enum-known-k : (t : ℕ) → write-value-lts.Need-enum-known-k (write-value-R t) (write-value-at t) write-value.Post
 write-value-enum-known-k t c = search needs
 
--- src/lib.rt:545:28
+-- src/lib.rt:602:28
 write-value-write-flat-requires : (t : ℕ) → write-value-lts.Need-write-flat-requires (write-value-R t) (write-value-at t) write-value.Post
 write-value-write-flat-requires t c κs =
     let q = c .before .before .before .before .before .before .before .before .before .before .pre .1 in
     let fits = q .1 .1 .0 .0 (is-true _ (c .before .before .before .before .if1 .left)) in
     (q .0, ((q .1 .0 .0, search (flat-sound, q .1 .0 .2, c .before .before .k .given .1), q .1 .0 .1), ((search (flat-there, fits, c .before .before .k .given .1), q .1 .1 .0 .1, q .1 .1 .0 .2), search (flat-given, q .1 .1 .1, c .before .before .before .before .if1 .left, c .before .before .k .given .1))))
 
--- src/lib.rt:546:24
+-- src/lib.rt:603:24
 write-value-enum-known-k-2 : (t : ℕ) → write-value-lts.Need-enum-known-k-2 (write-value-R t) (write-value-at t) write-value.Post
 write-value-enum-known-k-2 t c = search needs
 
--- src/lib.rt:547:21
+-- src/lib.rt:604:21
 write-value-u48-in-requires : (t : ℕ) → write-value-lts.Need-u48-in-requires (write-value-R t) (write-value-at t) write-value.Post
 write-value-u48-in-requires t c κs =
     let q = c .before .before .before .before .before .before .before .before .before .pre .1 in
     let fits = q .1 .1 .0 .0 (is-true _ (c .before .before .before .if1 .left)) in
     search (object-there, fits, c .before .k2 .given .1)
 
--- src/lib.rt:548:13
+-- src/lib.rt:605:13
 write-value-write-reference-requires : (t : ℕ) → write-value-lts.Need-write-reference-requires (write-value-R t) (write-value-at t) write-value.Post
 write-value-write-reference-requires t c κs =
     let q = c .before .before .before .before .before .before .before .before .before .before .before .pre .1 in
     let fall = c .before .before .before .before .before .before .before .before .before .before .before .pre .0 in
     (omega (arith, fall), (q .0, ((q .1 .0 .0, q .1 .0 .1), search (object-given, q .1 .1 .1, c .before .before .before .before .before .if1 .left, c .before .before .before .k2 .given .1, c .before .u48-in .ensures))))
 
--- src/lib.rt:550:23
+-- src/lib.rt:607:23
 write-value-enum-known-k-3 : (t : ℕ) → write-value-lts.Need-enum-known-k-3 (write-value-R t) (write-value-at t) write-value.Post
 write-value-enum-known-k-3 t c = search needs
 
--- src/lib.rt:551:21
+-- src/lib.rt:608:21
 write-value-u16-in-requires : (t : ℕ) → write-value-lts.Need-u16-in-requires (write-value-R t) (write-value-at t) write-value.Post
 write-value-u16-in-requires t c κs =
     let q = c .before .before .before .before .before .before .before .before .before .pre .1 in
     let fits = q .1 .1 .0 .0 (is-true _ (c .before .before .before .if1 .left)) in
     search (choice-there, fits, c .before .k3 .given .1)
 
--- src/lib.rt:552:37
+-- src/lib.rt:609:37
 write-value-add-u48-in : (t : ℕ) → write-value-lts.Need-add-u48-in (write-value-R t) (write-value-at t) write-value.Post
 write-value-add-u48-in t c = search needs
 
--- src/lib.rt:552:21
+-- src/lib.rt:609:21
 write-value-u48-in-requires-2 : (t : ℕ) → write-value-lts.Need-u48-in-requires-2 (write-value-R t) (write-value-at t) write-value.Post
 write-value-u48-in-requires-2 t c κs =
     let q = c .before .before .before .before .before .before .before .before .before .before .pre .1 in
     let fits = q .1 .1 .0 .0 (is-true _ (c .before .before .before .before .if1 .left)) in
     search (offset-there, fits, c .before .before .k3 .given .1)
 
--- src/lib.rt:553:44
+-- src/lib.rt:616:17
 write-value-index-requires : (t : ℕ) → write-value-lts.Need-index-requires (write-value-R t) (write-value-at t) write-value.Post
 write-value-index-requires t c κs = search needs
 
--- src/lib.rt:553:13
+-- src/lib.rt:610:13
 write-value-write-union-requires : (t : ℕ) → write-value-lts.Need-write-union-requires (write-value-R t) (write-value-at t) write-value.Post
 write-value-write-union-requires t c κs =
     let q = c .before .before .before .before .before .before .before .before .before .before .before .before .before .pre .1 in
     let fall = c .before .before .before .before .before .before .before .before .before .before .before .before .before .pre .0 in
     (omega (arith, fall), (q .0, ((q .1 .0 .0, q .1 .0 .1, search (union-counted, q .1 .0 .2, c .before .before .before .before .before .k3 .given .1, c .index .ensures .0)), search (union-given, q .1 .1 .1, c .before .before .before .before .before .before .before .if1 .left, c .before .before .before .before .before .k3 .given .1, c .index .ensures .0, c .before .before .before .u16-in .ensures, c .before .before .u48-in2 .ensures))))
 
--- src/lib.rt:520:1
+-- src/lib.rt:580:1
 write-value-same-length-2 : (t : ℕ) → write-value-lts.Need-same-length-2 (write-value-R t) (write-value-at t) write-value.Post
 write-value-same-length-2 t c = search needs
 
--- src/lib.rt:520:1
+-- src/lib.rt:580:1
 write-value-returns-2 : (t : ℕ) → write-value-lts.Need-returns-2 (write-value-R t) (write-value-at t) write-value.Post
 write-value-returns-2 t c = search value-flat
 
--- src/lib.rt:520:1
+-- src/lib.rt:580:1
 write-value-same-length-3 : (t : ℕ) → write-value-lts.Need-same-length-3 (write-value-R t) (write-value-at t) write-value.Post
 write-value-same-length-3 t c = search needs
 
--- src/lib.rt:520:1
+-- src/lib.rt:580:1
 write-value-returns-3 : (t : ℕ) → write-value-lts.Need-returns-3 (write-value-R t) (write-value-at t) write-value.Post
 write-value-returns-3 t c = search value-object
 
--- src/lib.rt:520:1
+-- src/lib.rt:580:1
 write-value-same-length-4 : (t : ℕ) → write-value-lts.Need-same-length-4 (write-value-R t) (write-value-at t) write-value.Post
 write-value-same-length-4 t c = search needs
 
--- src/lib.rt:520:1
+-- src/lib.rt:580:1
 write-value-returns-4 : (t : ℕ) → write-value-lts.Need-returns-4 (write-value-R t) (write-value-at t) write-value.Post
 write-value-returns-4 t c = search value-union
 
-pub +write-content+write-elements+write-list+write-object+write-reference+write-references+write-table+write-union+write-value-spec :
+pub +write-content+write-elements+write-lead+write-list+write-object+write-reference+write-references+write-table+write-union+write-value-spec :
     {M : Type 1} → statement M
-+write-content+write-elements+write-list+write-object+write-reference+write-references+write-table+write-union+write-value-spec =
++write-content+write-elements+write-lead+write-list+write-object+write-reference+write-references+write-table+write-union+write-value-spec =
     close
     μ-write-content
     μ-write-elements
+    μ-write-lead
     μ-write-list
     μ-write-object
     μ-write-reference
@@ -1048,6 +1216,37 @@ pub +write-content+write-elements+write-list+write-object+write-reference+write-
     (write-elements-loop-again t)
     (write-elements-same-length-2 t)
     (write-elements-returns-2 t))
+    (λ t. write-lead-lts.spec (write-lead-R t)
+    (write-lead-at t)
+    write-lead.Post
+    (write-lead-kind-at-requires t)
+    (write-lead-lead-width-requires t)
+    (write-lead-add-if1 t)
+    (write-lead-write-requires t)
+    (write-lead-same-length t)
+    (write-lead-returns t)
+    (write-lead-inplace-at-requires t)
+    (write-lead-add-from t)
+    (write-lead-argument-at-requires t)
+    (write-lead-index-requires t)
+    (write-lead-u16-in-requires t)
+    (write-lead-add-u48-in t)
+    (write-lead-u48-in-requires t)
+    (write-lead-add-write-union t)
+    (write-lead-write-union-requires t)
+    (write-lead-same-length-2 t)
+    (write-lead-returns-2 t)
+    (write-lead-u48-in-requires-2 t)
+    (write-lead-object-at-requires t)
+    (write-lead-is-blob-requires t)
+    (write-lead-add-refer-blob t)
+    (write-lead-refer-blob-requires t)
+    (write-lead-same-length-3 t)
+    (write-lead-returns-3 t)
+    (write-lead-add-write-reference t)
+    (write-lead-write-reference-requires t)
+    (write-lead-same-length-4 t)
+    (write-lead-returns-4 t))
     (λ t. write-list-lts.spec (write-list-R t)
     (write-list-at t)
     write-list.Post
@@ -1129,15 +1328,16 @@ pub +write-content+write-elements+write-list+write-object+write-reference+write-
     (write-table-add-j t)
     (write-table-loop-less t)
     (write-table-loop-again t)
-    (write-table-member-at-requires t)
-    (write-table-is-leaf-requires t)
-    (write-table-add-write-leaf t)
-    (write-table-write-leaf-requires t)
+    (write-table-kind-at-requires t)
+    (write-table-write-lead-requires t)
+    (write-table-lead-width-requires t)
+    (write-table-behind-plain-requires t)
     (write-table-add-j-2 t)
     (write-table-loop-less-2 t)
     (write-table-loop-again-2 t)
-    (write-table-add-write-value t)
-    (write-table-write-value-requires t)
+    (write-table-member-at-requires t)
+    (write-table-add-write-leaf t)
+    (write-table-write-leaf-requires t)
     (write-table-add-j-3 t)
     (write-table-loop-less-3 t)
     (write-table-loop-again-3 t)
