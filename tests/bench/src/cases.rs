@@ -287,6 +287,25 @@ pub fn numbers(name: &'static str, count: usize) -> Case {
     Case::accepted(name, &schema, message.finish(), 2)
 }
 
+/// A list of 1,000,000 elements of a kind, each `width` bytes or, where that is 0, a bit. Of the
+/// bytes one in seven is 255.
+pub fn elements(name: &'static str, element: Record, width: usize) -> Case {
+    const COUNT: usize = 1_000_000;
+    let schema = Schema {
+        lists: vec![element],
+        tables: vec![root(0)],
+        ..Schema::default()
+    };
+    let mut message = Message::new();
+    let size = if width == 0 { COUNT / 8 } else { COUNT * width };
+    put_list(&mut message, COUNT, 0);
+    let bytes: Vec<u8> = (0..size)
+        .map(|at| if at % 7 == 0 { 255 } else { (at % 11) as u8 })
+        .collect();
+    message.put(&bytes);
+    Case::accepted(name, &schema, message.finish(), 2)
+}
+
 pub fn texts() -> Case {
     const TEXTS: usize = 10_000;
     let schema = Schema {

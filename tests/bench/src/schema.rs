@@ -1,8 +1,11 @@
 //! A packed schema, built.
 
 pub const BOOL: u8 = 0;
+pub const U8: u8 = 1;
 pub const U16: u8 = 2;
+pub const U32: u8 = 3;
 pub const U64: u8 = 4;
+pub const F32: u8 = 9;
 pub const F64: u8 = 10;
 pub const ENUM: u8 = 11;
 pub const STRUCT: u8 = 12;

@@ -2,7 +2,9 @@
 
 use crate::cases::{self, Case};
 use crate::message::{Message, LIST_MAGIC};
-use crate::schema::{plain, Record, Schema, Table, LIST, TABLE, TEXT, U16, U64};
+use crate::schema::{
+    plain, Record, Schema, Table, BOOL, ENUM, F32, F64, LIST, TABLE, TEXT, U16, U32, U64, U8,
+};
 use std::cell::RefCell;
 use std::hint::black_box;
 
@@ -56,7 +58,29 @@ pub const TASKS: &[fn() -> Task] = &[
     || write(cases::numbers("(d) a list of 1,000,000 U64", 1_000_000)),
     || write(cases::tables()),
     || write(deep_numbers()),
+    || read(bools()),
+    || read(cases::elements("1,000,000 U8", plain(U8), 1)),
+    || read(cases::elements("1,000,000 U16", plain(U16), 2)),
+    || read(cases::elements("1,000,000 U32", plain(U32), 4)),
+    || read(cases::elements("1,000,000 F32", plain(F32), 4)),
+    || read(cases::elements("1,000,000 F64", plain(F64), 8)),
+    || read(enums()),
+    || write(bools()),
+    || write(cases::elements("1,000,000 U8", plain(U8), 1)),
+    || write(cases::elements("1,000,000 U16", plain(U16), 2)),
+    || write(cases::elements("1,000,000 U32", plain(U32), 4)),
+    || write(cases::elements("1,000,000 F32", plain(F32), 4)),
+    || write(cases::elements("1,000,000 F64", plain(F64), 8)),
+    || write(enums()),
 ];
+
+fn bools() -> Case {
+    cases::elements("1,000,000 bools", plain(BOOL), 0)
+}
+
+fn enums() -> Case {
+    cases::elements("1,000,000 enums of 9 values", Record::of(ENUM, 9), 1)
+}
 
 /// Enough of a sum to tell outputs apart; the timed calls do not take it.
 fn sum(bytes: &[u8]) -> u64 {
