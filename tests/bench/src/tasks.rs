@@ -79,7 +79,7 @@ fn bools() -> Case {
 }
 
 fn enums() -> Case {
-    cases::elements("1,000,000 enums of 9 values", Record::of(ENUM, 9), 1)
+    cases::elements("1,000,000 enums of 11 values", Record::of(ENUM, 11), 1)
 }
 
 /// Enough of a sum to tell outputs apart; the timed calls do not take it.
