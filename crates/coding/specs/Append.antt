@@ -27,12 +27,12 @@ use Rattle.coding.specs.declared.Member.{Member}
 use Rattle.coding.specs.declared.Cursor.{Cursor}
 
 -- ---- appending
--- the second list has an R for each of the first's, and maybe more
+-- the second list has an R for each of the first's, and perhaps more: "may have cases after the old ones"
 pub data Extends {A : Type 0} (R : A → A → Type 0) : List A → List A → Type 0 where
   rest : {ys : List A} → Extends R [] ys
   more : {x y : A} {xs ys : List A} → R x y → Extends R xs ys → Extends R (x ∷ xs) (y ∷ ys)
 
--- and no more
+-- the second list has an R for each of the first's, and no more: "structs none"
 pub data Alike {A : Type 0} (R : A → A → Type 0) : List A → List A → Type 0 where
   done : Alike R [] []
   also : {x y : A} {xs ys : List A} → R x y → Alike R xs ys → Alike R (x ∷ xs) (y ∷ ys)
@@ -45,26 +45,30 @@ pub data SameFlat : Flat → Flat → Type 0 where
   enumerated : {n n′ : ℕ} → n ≤ n′ → SameFlat (Enumerated n) (Enumerated n′)
   struct : {i : ℕ} → SameFlat (Struct i) (Struct i)
 
+-- the same of any kind: "no other old bit differs", an index neither
 pub data SameKind : Kind → Kind → Type 0 where
   flat : {k k′ : Flat} → SameFlat k k′ → SameKind (OfFlat k) (OfFlat k′)
   object : {ob : Object} → SameKind (OfObject ob) (OfObject ob)
   union : {i : ℕ} → SameKind (OfUnion i) (OfUnion i)
 
+-- the same of a table's member, with its flags: "no other old bit differs"
 pub record SameMember (r r′ : Member) : Type 0 where
   pub kind : SameKind (r .kind) (r′ .kind)
   pub optional : r .optional ≡ r′ .optional
   pub inplace : r .inplace ≡ r′ .inplace
 
+-- the same of a union's case, which is no enum: "no other old bit differs"
 pub data SameObject : Object → Object → Type 0 where
   same : {ob : Object} → SameObject ob ob
 
--- "tables [may have] members after the old ones"
+-- "tables members after the old ones"; the table has "the same index and id in the newer"
 pub record SameTable (t t′ : Table) : Type 0 where
   pub id : t .id ≡ t′ .id
   pub members : Extends SameMember (t .members) (t′ .members)
 
 -- "Same root index. Every struct, list, union and table of the older has the same index and id in the newer; unions may
--- have cases after the old ones, tables members after the old ones, structs none"
+-- have cases after the old ones, tables members after the old ones, structs none". There may be more of each: "the counts
+-- of what was added aside".
 pub record SchemaAppends (older newer : Schema) : Type 0 where
   pub root : older .root ≡ newer .root
   pub structs : Extends (Alike SameFlat) (older .structs) (newer .structs)
@@ -72,14 +76,14 @@ pub record SchemaAppends (older newer : Schema) : Type 0 where
   pub unions : Extends (Extends SameObject) (older .unions) (newer .unions)
   pub tables : Extends SameTable (older .tables) (newer .tables)
 
--- "Both are lawful."
+-- the older and the newer schema as bytes: "Both are lawful."
 pub record Appends (older newer : List ℕ) : Type 0 where
   pub older-lawful : lawful older ≡ true
   pub newer-lawful : lawful newer ≡ true
   pub schemas : SchemaAppends (parse older) (parse newer)
 
 -- ---- a newer value without the appended members, by the older schema `S`
--- "a present enum at or above its old count .. becomes unknown with its number"
+-- "a present enum at or above its old count ... becomes unknown with its number"
 unfoldable pub withoutEnum : ℕ → Value → Value
 withoutEnum n absent = absent
 withoutEnum n (unknown x) = unknown x
@@ -97,6 +101,7 @@ inRow f (blob l) = blob l
 inRow f (row vs) = row (f vs)
 inRow f (chosen c v) = chosen c v
 
+-- the same of a value that is no object, which stays if it is no enum: "All else stays."
 unfoldable pub withoutFlat : (ℕ → Value → Value) → Flat → Value → Value
 withoutFlat inner Boolean v = v
 withoutFlat inner (Integer s w) v = v
@@ -104,19 +109,24 @@ withoutFlat inner (Float w) v = v
 withoutFlat inner (Enumerated n) v = withoutEnum n v
 withoutFlat inner (Struct i) v = inner i v
 
+-- a struct's members in order: "structs none" were added, and enums change as above
 unfoldable pub withoutFields : (ℕ → Value → Value) → List Flat → Values → Values
 withoutFields inner [] vs = none
 withoutFields inner (k ∷ ks) vs = withoutFlat inner k (first vs) then withoutFields inner ks (others vs)
 
+-- struct i, given the inner structs: "any enum a larger count", in an inner struct too
 unfoldable pub withoutBy : Schema → (ℕ → Value → Value) → ℕ → Value → Value
 withoutBy S inner i v = inRow (withoutFields inner (structOf S i)) v
 
+-- what byIndex gives for an index that is not lower, which "an inner struct having a lower index" excludes
 abbrev pub same-value : Value → Value
 same-value v = v
 
+-- struct i and the structs inside it: "any enum a larger count"
 unfoldable pub withoutStruct : Schema → ℕ → Value → Value
 withoutStruct S i = byIndex same-value (withoutBy S) i
 
+-- what becomes of an object's value, in a sheet "without the appended members" or "with the added members"
 abbrev pub Change : Type 0
 Change = Object → Value → Value
 
@@ -130,6 +140,7 @@ withoutChoice child cases (row vs) = row vs
 withoutChoice child cases (chosen c v) =
     pick (leb c (length cases)) (chosen c (child (caseOf cases c) v)) (unknown c)
 
+-- a member or element: an enum, an object or a union "without the appended members"; "All else stays."
 unfoldable pub withoutPart : Change → Schema → Kind → Value → Value
 withoutPart child S (OfFlat k) v = withoutFlat (withoutStruct S) k v
 withoutPart child S (OfObject ob) v = child ob v
@@ -140,31 +151,37 @@ unfoldable pub withoutMembers : Change → Schema → List Member → Values →
 withoutMembers child S [] vs = none
 withoutMembers child S (r ∷ rs) vs = withoutPart child S (r .kind) (first vs) then withoutMembers child S rs (others vs)
 
+-- the elements of a list, each changed; a list loses none: "All else stays."
 unfoldable pub withoutElements : Change → Schema → Kind → Values → Values
 withoutElements child S k none = none
 withoutElements child S k (v then vs) = withoutPart child S k v then withoutElements child S k vs
 
+-- an object's content; "All else stays."
 unfoldable pub withoutContent : Change → Schema → Change
 withoutContent child S O.Text v = v
 withoutContent child S O.Bytes v = v
 withoutContent child S (O.List i) v = inRow (withoutElements child S (elementOf S i)) v
 withoutContent child S (O.Table i) v = inRow (withoutMembers child S (tableOf S i .members)) v
 
+-- an object, with d objects of depth left, this one counted: "every table in it loses the entries after its old ones",
+-- however deep it stands. No lawful sheet goes deeper.
 unfoldable pub without : ℕ → Schema → Change
 without zero S ob v = v
 without (suc d) S ob v = withoutContent (without d S) S ob v
 
--- ---- an older value with the added members, by the older schema `S` and the newer `T`. It is what the newer schema reads of
--- a message that the writer made under the older, where every fixed part is full and no number is unknown.
+-- ---- an older value with the added members, by the older schema `S` and the newer `T`. It is what the newer schema reads
+-- of a message that the writer made under the older, where every fixed part is full and no number is unknown.
 -- "absent, but a plain bool whose bit falls in the older's full fixed part (a byte already written) is present and false":
 -- an added member where the cursor stands, n bytes being the older's fixed part
 unfoldable pub addedValue : ℕ → Cursor → Member → Value
 addedValue n c r = pick (isBool (r .kind) && (not (r .optional) && ltb (bitByte c) n)) (number 0) absent
 
+-- "every table gets their entries": the added members in order, from the cursor on
 unfoldable pub addedValues : ℕ → Schema → ℕ → Cursor → List Member → Values
 addedValues o T n c [] = none
 addedValues o T n c (r ∷ rs) = addedValue n c r then addedValues o T n (afterMember o T r c) rs
 
+-- a union's object is changed; "All else stays."
 unfoldable pub withChoice : Change → List Object → Value → Value
 withChoice child cases absent = absent
 withChoice child cases (unknown x) = unknown x
@@ -173,6 +190,7 @@ withChoice child cases (blob l) = blob l
 withChoice child cases (row vs) = row vs
 withChoice child cases (chosen c v) = chosen c (child (caseOf cases c) v)
 
+-- a member or element: an object or a union's object "with the added members"; "All else stays."
 unfoldable pub withPart : Change → Schema → Kind → Value → Value
 withPart child S (OfFlat k) v = v
 withPart child S (OfObject ob) v = child ob v
@@ -184,13 +202,16 @@ withMembers child o S T [] c added vs = addedValues o T (c .end) c added
 withMembers child o S T (r ∷ rs) c added vs =
     withPart child S (r .kind) (first vs) then withMembers child o S T rs (afterMember o S r c) added (others vs)
 
+-- the elements of a list, each changed; a list gets none: "All else stays."
 unfoldable pub withElements : Change → Schema → Kind → Values → Values
 withElements child S k none = none
 withElements child S k (v then vs) = withPart child S k v then withElements child S k vs
 
+-- the members of table i that the newer has "after the old ones"
 unfoldable pub addedMembers : Schema → Schema → ℕ → List Member
 addedMembers S T i = drop (length (tableOf S i .members)) (tableOf T i .members)
 
+-- an object's content; "All else stays."
 unfoldable pub withContent : Change → ℕ → Schema → Schema → Change
 withContent child o S T O.Text v = v
 withContent child o S T O.Bytes v = v
@@ -198,20 +219,24 @@ withContent child o S T (O.List i) v = inRow (withElements child S (elementOf S 
 withContent child o S T (O.Table i) v =
     inRow (withMembers child o S T (tableOf S i .members) begin (addedMembers S T i)) v
 
+-- an object, with d objects of depth left, this one counted: "every table gets their entries", however deep it stands. No
+-- lawful sheet goes deeper.
 unfoldable pub withAdded : ℕ → ℕ → Schema → Schema → Change
 withAdded zero o S T ob v = v
 withAdded (suc d) o S T ob v = withContent (withAdded d o S T) o S T ob v
 
--- ---- the same of sheets: "found from that sheet and the two schemas alone, never from the message". A sheet that is not
--- lawful gives nothing.
+-- ---- the same of sheets: "found from that sheet and the two schemas alone, never from the message"
+-- the sheet of the changed tree; a sheet that has no tree is not lawful, and gives no bytes
 unfoldable pub resheet : Schema → (Value → Value) → Option Value → List ℕ
 resheet S change Op.none = []
 resheet S change (Op.some v) = sheetOf S (change v)
 
+-- "The newer sheet without the appended members"
 unfoldable pub sheetWithout : List ℕ → List ℕ → List ℕ → List ℕ
 sheetWithout older newer s =
     resheet (parse older) (without deepest (parse older) (O.Table (parse older .root))) (treeOf (parse newer) s)
 
+-- "The older sheet with the added members"
 unfoldable pub sheetWith : ℕ → List ℕ → List ℕ → List ℕ → List ℕ
 sheetWith o older newer s =
     resheet (parse newer) (withAdded deepest o (parse older) (parse newer) (O.Table (parse older .root))) (treeOf (parse older) s)

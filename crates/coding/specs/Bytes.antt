@@ -6,27 +6,29 @@ use lib.ListN.{getD}
 use lib.Dec.{ltb, eqb}
 use Rattle.coding.specs.Lists.{pick}
 
--- "Numbers are little-endian": the number of w bytes from a place. "signed ones two's complement": a signed number is
--- handed on by its bits.
+-- "Numbers are little-endian; signed ones two's complement.": the number of w bytes from a place. A signed number is handed
+-- on by its bits.
 unfoldable pub le : List ℕ → ℕ → ℕ → ℕ
 le m at zero = 0
 le m at (suc w) = getD m at 0 + 256 * le m (at + 1) w
 
--- the w bytes of a number, lowest first
+-- "Numbers are little-endian" when they are written: the w bytes of a number, lowest first
 unfoldable pub leBytes : ℕ → ℕ → List ℕ
 leBytes zero x = []
 leBytes (suc w) x = x % 256 ∷ leBytes w (x / 256)
 
--- bit k of the byte at a place, the lowest being 0
+-- bit k of the byte at a place, the lowest being 0: "(byte[i>>3] >> (i & 7)) & 1" with the byte at a place and the bit
+-- given apart
 unfoldable pub bitAt : List ℕ → ℕ → ℕ → ℕ
 bitAt m at k = getD m at 0 / 2 ^ k % 2
 
--- IEEE 754: whether the bits of a float of w bytes (4 or 8) are a NaN: the exponent is all ones, the fraction not 0
+-- "The floating point types F32 and F64 are encoded using IEEE 754 in little endian without padding" (000): whether the
+-- bits of a float of w bytes (4 or 8) are a NaN: the exponent is all ones, the fraction not 0
 unfoldable pub isNaN : ℕ → ℕ → Bool
 isNaN w x =
     pick (eqb w 4) (ltb 0x7F80_0000 (x % 0x8000_0000)) (ltb 0x7FF0_0000_0000_0000 (x % 0x8000_0000_0000_0000))
 
--- "absent floats, which are 0x7FC00000 or 0x7FF8000000000000"
+-- "absent floats, which are 0x7FC00000 or 0x7FF8000000000000", of w bytes (4 or 8)
 unfoldable pub noFloat : ℕ → ℕ
 noFloat w = pick (eqb w 4) 0x7FC0_0000 0x7FF8_0000_0000_0000
 
@@ -38,6 +40,6 @@ largest = 16777215
 unfoldable pub deepest : ℕ
 deepest = 32
 
--- "U48 is six bytes": the offset width of this coding. The definitions take it as a parameter.
+-- "U48 is six bytes.": the offset width of this coding. The definitions take it as a parameter.
 unfoldable pub u48 : ℕ
 u48 = 6

@@ -35,6 +35,7 @@ use Rattle.coding.specs.declared.Answer.the-variants as A
 use Rattle.coding.specs.declared.Case.{Case}
 use Rattle.coding.specs.declared.Span.{Span}
 
+-- a refusal with "No." and "Place" of the paper's table
 abbrev pub refusal : ℕ → ℕ → Refusal
 refusal n at = record { number = n; place = at }
 
@@ -43,22 +44,24 @@ refusal n at = record { number = n; place = at }
 unfoldable pub noPart : ℕ → Found
 noPart at = Fd.Refused (refusal 15 at)
 
--- "Only objects and members on the path are judged (a struct as a whole), without budget": an arrival with d objects of
--- depth left, this one counted
+-- what an arrival finds: its refusal at the "object", or the object with its content, and d objects of depth left below it
 unfoldable pub opened : Object → ℕ → ℕ → Opened → Found
 opened ob at d (Op.Refused n) = Fd.Refused (refusal n at)
 opened ob at d (Op.Content start n) = Fd.Object ob at start n d
 
+-- "Only objects and members on the path are judged (a struct as a whole), without budget": an arrival with d objects of
+-- depth left, this one counted; refusal 5: "deeper than 32"
 unfoldable pub arrived : ℕ → ℕ → Schema → List ℕ → Object → Place → Found
 arrived zero o S m ob p = Fd.Refused (refusal 5 (placed p))
 arrived (suc d) o S m ob p = opened ob (placed p) d (openObject o S m ob p)
 
--- "unions are passed through without [a number]"; refusal 9 as in the walk
+-- "unions are passed through without one", a number of the path; refusal 9: "known union choice, not in place, offset 0"
 unfoldable pub chosen : ℕ → ℕ → Schema → List ℕ → ℕ → Object → Place → Found
 chosen d o S m holder ob (ByOffset x) = pick (eqb x 0) (Fd.Refused (refusal 9 holder)) (arrived d o S m ob (ByOffset x))
 chosen d o S m holder ob (InPlace a n) = arrived d o S m ob (InPlace a n)
 
--- what a step of a holder finds, with d objects of depth left below the holder
+-- what a step of a holder finds, with d objects of depth left below the holder: "Only objects and members on the path are
+-- judged"
 unfoldable pub stepped : ℕ → ℕ → Schema → List ℕ → ℕ → Kind → Step → Found
 stepped d o S m holder k (St.Refused n) = Fd.Refused (refusal n holder)
 stepped d o S m holder k St.Absent = Fd.Absent
@@ -68,13 +71,14 @@ stepped d o S m holder k (St.Struct i at) = Fd.Struct i at holder
 stepped d o S m holder k (St.Object ob p) = arrived d o S m ob p
 stepped d o S m holder k (St.Choice c ob p) = chosen d o S m holder ob p
 
--- "A path names a member, element or struct member per number"; "A holder is judged before 15 is given at it."
+-- "A path names a member, element or struct member per number": member j of struct i at a place, in the object at `holder`
 unfoldable pub structPart : ℕ → Schema → List ℕ → ℕ → ℕ → ℕ → ℕ → Found
 structPart o S m i at holder j =
     pick (ltb j (length (structOf S i)))
     (stepped 0 o S m holder (OfFlat (fieldOf S i j)) (fieldStep m (fieldOf S i j) (at + total (structSize S) (take j (structOf S i)))))
     (noPart holder)
 
+-- member or element j of an object at a place. "A holder is judged before 15 is given at it."
 unfoldable pub objectPart : ℕ → Schema → List ℕ → Object → ℕ → ℕ → ℕ → ℕ → ℕ → Found
 objectPart o S m O.Text at start n d j = noPart at
 objectPart o S m O.Bytes at start n d j = noPart at
@@ -86,7 +90,8 @@ objectPart o S m (O.Table i) at start n d j =
     (memberStep o S m start n (afterMembers o S (take j (tableOf S i .members)) begin) (memberOf S i j)))
     (noPart at)
 
--- one number more. "An absent or unknown place ends it, whatever steps remain.", and so does a refusal
+-- one number more. "An absent or unknown place ends it, whatever steps remain.", and so does a refusal. A value has no
+-- part: refusal 15.
 unfoldable pub partOf : ℕ → Schema → List ℕ → Found → ℕ → Found
 partOf o S m (Fd.Refused r) j = Fd.Refused r
 partOf o S m Fd.Absent j = Fd.Absent
@@ -95,16 +100,19 @@ partOf o S m (Fd.Value k x holder) j = noPart holder
 partOf o S m (Fd.Struct i at holder) j = structPart o S m i at holder j
 partOf o S m (Fd.Object ob at start n d) j = objectPart o S m ob at start n d j
 
+-- "A path names a member, element or struct member per number": all its numbers, one after the other
 unfoldable pub along : ℕ → Schema → List ℕ → Found → List ℕ → Found
 along o S m f [] = f
 along o S m f (j ∷ js) = along o S m (partOf o S m f j) js
 
+-- what a path comes to from the root: "Depth: 32 objects, the root being 1"
 unfoldable pub found : ℕ → Schema → List ℕ → List ℕ → Found
 found o S m path = along o S m (arrived deepest o S m (O.Table (S .root)) (rootPlace o m)) path
 
--- ---- "Otherwise the answer is one of: a boolean, a number with its width and sign, float bits, an object's kind, place and
--- length, a struct's place, absent, unknown with its number, or a refusal". The paper names no answer for an enum: here it is
--- a number of width 8 without sign.
+-- ---- "Otherwise the answer is one of: a boolean, a number with its width and sign, float bits, an object's kind, place
+-- and length, a struct's place, absent, unknown with its number, or a refusal"
+-- a value's answer. The paper names no answer for an enum: here it is a number of width 8 without sign. A struct is not
+-- answered here.
 unfoldable pub flatAnswer : Flat → ℕ → Answer
 flatAnswer F.Boolean x = A.Boolean (eqb x 1)
 flatAnswer (F.Integer s w) x = A.Number x (8 * w) s
@@ -112,19 +120,21 @@ flatAnswer (F.Float w) x = A.Float x (8 * w)
 flatAnswer (F.Enumerated n) x = A.Number x 8 false
 flatAnswer (F.Struct i) x = A.Absent
 
--- a value's kind is flat, and no struct
+-- the same of any kind; "an object's kind, place and length" is not answered here
 unfoldable pub valueAnswer : Kind → ℕ → Answer
 valueAnswer (OfFlat k) x = flatAnswer k x
 valueAnswer (OfObject ob) x = A.Absent
 valueAnswer (OfUnion i) x = A.Absent
 
--- "13 text, 14 bytes, 15 list, 16 table"
+-- the kind in "an object's kind, place and length": "13 text, 14 bytes, 15 list, 16 table"
 unfoldable pub recordKind : Object → ℕ
 recordKind O.Text = 13
 recordKind O.Bytes = 14
 recordKind (O.List i) = 15
 recordKind (O.Table i) = 16
 
+-- the answer for what a path has come to, in the sentence's words: "an object's kind, place and length, a struct's place,
+-- absent, unknown with its number, or a refusal"
 unfoldable pub answerOf : Found → Answer
 answerOf (Fd.Refused r) = A.Refused r
 answerOf Fd.Absent = A.Absent
@@ -133,7 +143,7 @@ answerOf (Fd.Value k x holder) = valueAnswer k x
 answerOf (Fd.Struct i at holder) = A.Struct at
 answerOf (Fd.Object ob at start n d) = A.Object (recordKind ob) at n
 
--- "Where an answer is an enum, a definition gives this paper's number and values for each of its cases": number and place,
+-- "Where an answer is an enum, a definition gives this paper's number and values for each of its cases.": number and place,
 -- "without budget and with visits 0": 0 at 0 for every answer that is not a refusal
 unfoldable pub answerVerdict : Answer → Verdict
 answerVerdict (A.Boolean x) = early 0
@@ -145,10 +155,11 @@ answerVerdict A.Absent = early 0
 answerVerdict (A.Unknown x) = early 0
 answerVerdict (A.Refused r) = record { number = r .number; place = r .place; visits = 0 }
 
--- "1, 15 for length, 2 and 3 come first"; "path over 96 numbers", at "0 for length"
+-- a refusal at place 0: "1, 15 for length, 2 and 3 come first"; and "any other answer is 15 at 0" of the list reader
 unfoldable pub before : ℕ → Found
 before n = Fd.Refused (refusal n 0)
 
+-- "1, 15 for length, 2 and 3 come first"; refusal 15: "path over 96 numbers", at "0 for length"
 unfoldable pub fieldFound : ℕ → List ℕ → List ℕ → List ℕ → Found
 fieldFound o b m path =
     pick (lawful b)
@@ -157,13 +168,14 @@ fieldFound o b m path =
     (before 15))
     (before 1)
 
+-- "Reading one field": the answer at a path, by schema b and message m
 unfoldable pub field : ℕ → List ℕ → List ℕ → List ℕ → Answer
 field o b m path = answerOf (fieldFound o b m path)
 
--- ---- the values of each case, as four numbers for those who cannot be given an enum. The first is the library's own number
--- of the case: 0 a boolean, 1 a number (its bits, its width in bits, 1 where it has a sign), 2 a float (its bits, its width),
--- 3 an object (its record kind, place and length), 4 a struct (its place), 5 absent, 6 unknown (its number), 7 refused
--- (number, place)
+-- ---- "Where an answer is an enum, a definition gives this paper's number and values for each of its cases.": the values,
+-- as four numbers for those who cannot be given an enum. The first is the library's own number of the case: 0 a boolean, 1
+-- a number (its bits, its width in bits, 1 where it has a sign), 2 a float (its bits, its width), 3 an object (its record
+-- kind, place and length), 4 a struct (its place), 5 absent, 6 unknown (its number), 7 refused (number, place)
 unfoldable pub answerCase : Answer → Case
 answerCase (A.Boolean x) = record { case = 0; a = pick x 1 0; b = 0; c = 0 }
 answerCase (A.Number x w s) = record { case = 1; a = x; b = w; c = pick s 1 0 }
@@ -175,18 +187,22 @@ answerCase (A.Unknown x) = record { case = 6; a = x; b = 0; c = 0 }
 answerCase (A.Refused r) = record { case = 7; a = r .number; b = r .place; c = 0 }
 
 -- ---- "texts and bytes can be had as a part of the message": the content where the answer is a text or bytes, else nothing
+-- no "part of the message"
 unfoldable pub noSpan : Span
 noSpan = record { there = false; start = 0; length = 0 }
 
+-- a "part of the message": n bytes from `start`
 unfoldable pub spanAt : ℕ → ℕ → Span
 spanAt start n = record { there = true; start = start; length = n }
 
+-- the part that an object is: "texts and bytes", without header and end byte
 unfoldable pub objectSpan : Object → ℕ → ℕ → Span
 objectSpan O.Text start n = spanAt start n
 objectSpan O.Bytes start n = spanAt start n
 objectSpan (O.List i) start n = noSpan
 objectSpan (O.Table i) start n = noSpan
 
+-- the part that a path has come to: "texts and bytes" only
 unfoldable pub foundSpan : Found → Span
 foundSpan (Fd.Refused r) = noSpan
 foundSpan Fd.Absent = noSpan
@@ -195,29 +211,34 @@ foundSpan (Fd.Value k x holder) = noSpan
 foundSpan (Fd.Struct i at holder) = noSpan
 foundSpan (Fd.Object ob at start n d) = objectSpan ob start n
 
+-- "texts and bytes can be had as a part of the message": where it stands, at a path
 unfoldable pub fieldSpan : ℕ → List ℕ → List ℕ → List ℕ → Span
 fieldSpan o b m path = foundSpan (fieldFound o b m path)
 
--- the bytes of such a part
+-- the bytes of a "part of the message"
 unfoldable pub textOf : List ℕ → Span → List ℕ
 textOf m p = take (p .length) (drop (p .start) m)
 
+-- "texts and bytes can be had as a part of the message": its bytes, at a path
 unfoldable pub fieldText : ℕ → List ℕ → List ℕ → List ℕ → List ℕ
 fieldText o b m path = textOf m (fieldSpan o b m path)
 
--- ---- the list reader. "It starts from a path to a list whose elements are of kinds 13 to 17; a refused path gives its own
--- refusal, any other answer is 15 at 0."
+-- ---- the list reader
+-- "a list whose elements are of kinds 13 to 17": whether an element is of these
 unfoldable pub leads : Kind → Bool
 leads (OfFlat k) = false
 leads (OfObject ob) = true
 leads (OfUnion i) = true
 
+-- an object, if it is "a list whose elements are of kinds 13 to 17"; otherwise "any other answer is 15 at 0"
 unfoldable pub listFound : Schema → Object → ℕ → ℕ → ℕ → ℕ → Found
 listFound S O.Text at start n d = before 15
 listFound S O.Bytes at start n d = before 15
 listFound S (O.List i) at start n d = pick (leads (elementOf S i)) (Fd.Object (O.List i) at start n d) (before 15)
 listFound S (O.Table i) at start n d = before 15
 
+-- "It starts from a path to a list whose elements are of kinds 13 to 17; a refused path gives its own refusal, any other
+-- answer is 15 at 0."
 unfoldable pub readerOf : Schema → Found → Found
 readerOf S (Fd.Refused r) = Fd.Refused r
 readerOf S Fd.Absent = before 15
@@ -226,23 +247,26 @@ readerOf S (Fd.Value k x holder) = before 15
 readerOf S (Fd.Struct i at holder) = before 15
 readerOf S (Fd.Object ob at start n d) = listFound S ob at start n d
 
--- the list that a reader goes over, or why there is none
+-- "It starts from a path to a list": the list that a reader goes over, or why there is none
 unfoldable pub readerStart : ℕ → List ℕ → List ℕ → List ℕ → Found
 readerStart o b m path = readerOf (parse b) (fieldFound o b m path)
 
--- "Each step answers as that element's path would ..; after the last it answers 15 at the list and stays.": the answer of the
--- step at element j, as a number more would give it at the end of the list's path; or the refusal of the reader's start
+-- "Each step answers as that element's path would ...; after the last it answers 15 at the list": the answer of a step at
+-- element j of the list, or the refusal of the reader's start
 unfoldable pub listGives : ℕ → Schema → List ℕ → Found → ℕ → Answer
 listGives o S m list j = answerOf (partOf o S m list j)
 
+-- "Each step answers as that element's path would": the same of the reader that starts from a path
 unfoldable pub readerGives : ℕ → List ℕ → List ℕ → List ℕ → ℕ → Answer
 readerGives o b m path j = listGives o (parse b) m (readerStart o b m path) j
 
--- "and moves on, refused or not": where the reader of a list of n elements stands after a step at element j
+-- "and moves on, refused or not; after the last it answers 15 at the list and stays": where the reader of a list of n
+-- elements stands after a step at element j
 unfoldable pub readerNext : ℕ → ℕ → ℕ
 readerNext n j = pick (ltb j n) (j + 1) j
 
--- how many elements the reader's list has; none where there is no list
+-- how many elements the reader's list has, for "after the last it answers 15 at the list and stays"; none where there is no
+-- list
 unfoldable pub listCount : Found → ℕ
 listCount (Fd.Refused r) = 0
 listCount Fd.Absent = 0
@@ -251,20 +275,25 @@ listCount (Fd.Value k x holder) = 0
 listCount (Fd.Struct i at holder) = 0
 listCount (Fd.Object ob at start n d) = n
 
+-- the same of the reader that "starts from a path to a list"
 unfoldable pub readerCount : ℕ → List ℕ → List ℕ → List ℕ → ℕ
 readerCount o b m path = listCount (readerStart o b m path)
 
--- ---- many steps at once: k steps from element j on, of a reader of n elements, each with the four numbers of its case
+-- ---- many steps at once. The papers do not ask for it; it serves callers that cannot keep a reader, and each step is the
+-- one of "Each step answers as that element's path would".
+-- the four numbers of a case, in order
 unfoldable pub caseNumbers : Case → List ℕ
 caseNumbers x = x .case ∷ x .a ∷ x .b ∷ x .c ∷ []
 
+-- the numbers of k steps, one step after the other, from element j on, of a reader of n elements
 unfoldable pub stepNumbers : (ℕ → Answer) → ℕ → ℕ → ℕ → List ℕ
 stepNumbers gives n j zero = []
 stepNumbers gives n j (suc k) = caseNumbers (answerCase (gives j)) ++ stepNumbers gives n (readerNext n j) k
 
--- as many steps as there is room for; the numbers left over, three at most, are as they were
+-- what the output holds then: as many steps as there is room for; the numbers left over, three at most, are as they were
 unfoldable pub stepsOver : (ℕ → Answer) → ℕ → ℕ → List ℕ → List ℕ
 stepsOver gives n j out = stepNumbers gives n j (length out / 4) ++ drop (4 * (length out / 4)) out
 
+-- the same of the reader that starts from a path
 unfoldable pub readerOver : ℕ → List ℕ → List ℕ → List ℕ → ℕ → List ℕ → List ℕ
 readerOver o b m path from out = stepsOver (readerGives o b m path) (readerCount o b m path) from out

@@ -1,4 +1,4 @@
--- Which bytes are a lawful schema.
+-- Which bytes are a lawful schema: all that paper 01 says under "Schema, packed most significant bit first".
 use Prim.Native.Nat.{ℕ, zero, suc, _+_}
 use mathlib.Core.List.{List}
 use mathlib.Core.Bool.{Bool, true, false, _&&_, not}
@@ -10,6 +10,7 @@ use Rattle.coding.specs.Structs.{structSize}
 use Rattle.coding.specs.declared.Role.{Role}
 use Rattle.coding.specs.declared.Role.the-variants.{InStruct, InList, InUnion, InTable}
 
+-- whether x is from low to high, for "1 to 32" and the like
 abbrev pub between : ℕ → ℕ → ℕ → Bool
 between low high x = leb low x && leb x high
 
@@ -22,7 +23,7 @@ countsOk b =
     && (leb (unionCount b) 64
     && (leb 1 (tableCount b) && (leb (tableCount b) 64 && ltb (rootIndex b) (tableCount b)))))
 
--- the record counts of n blocks are in a range
+-- whether each of the n blocks from `start` on has from low to high records, for "8-bit member count 1 to 32" and the like
 unfoldable pub blocksOk : List ℕ → ℕ → ℕ → ℕ → ℕ → ℕ → Bool
 blocksOk b head low high start n = every (λ i. between low high (records b head (blocks b head start i))) n
 
@@ -35,6 +36,7 @@ placesOk b =
     && (blocksOk b 4 0 64 (unionPlace b (unionCount b)) (tableCount b)
     && eqb (tablePlace b (tableCount b)) (length b)))
 
+-- all of the above: the counts are in their ranges, and "Nothing follows the last table."
 unfoldable pub shapeOk : List ℕ → Bool
 shapeOk b = countsOk b && placesOk b
 
@@ -73,50 +75,59 @@ inplaceOk InList k = false
 inplaceOk InUnion k = false
 inplaceOk InTable k = ltb 12 k
 
+-- the record at a place: "Optional only on table members of kind 0 to 10 and 12; in place only on table members of kind 13
+-- to 17"
 unfoldable pub flagsOk : List ℕ → Role → ℕ → Bool
 flagsOk b role at =
     pick (optionalAt b at) (optionalOk role (kindAt b at)) true && pick (inplaceAt b at) (inplaceOk role (kindAt b at)) true
 
+-- one record: "kind 5, optional 1, in place 1, zero 1, argument 8", of which "zero 1" is 0 and each other part is lawful by
+-- the rules above
 unfoldable pub recordOk : List ℕ → Role → ℕ → Bool
 recordOk b role at =
     zeroAt b at
     && (argumentOk b (kindAt b at) (argumentAt b at) && (kindOk role (kindAt b at) (argumentAt b at) && flagsOk b role at))
 
--- the first n records of a block; all of them
+-- whether the first n records of the block at a place are lawful: "member records"
 unfoldable pub firstOk : List ℕ → Role → ℕ → ℕ → ℕ → Bool
 firstOk b role head at n = every (λ j. recordOk b role (recordPlace head at j)) n
 
+-- whether all records of the block at a place are lawful: "member records", "records"
 unfoldable pub recordsOk : List ℕ → Role → ℕ → ℕ → Bool
 recordsOk b role head at = firstOk b role head at (records b head at)
 
--- how many of the first n records of a table are in place
+-- how many of the first n records of the table at a place are in place, for "at most one per table"
 unfoldable pub inplaces : List ℕ → ℕ → ℕ → ℕ
 inplaces b at zero = 0
 inplaces b at (suc n) = inplaces b at n + pick (inplaceAt b (recordPlace 4 at n)) 1 0
 
--- ---- the rules, of one struct, list, union and table each
--- "No struct is over 4,096 bytes."
+-- ---- the rules, of one struct, list, union and table each, also of those that nothing refers to
+-- struct i: its records are lawful, and "No struct is over 4,096 bytes."
 unfoldable pub structLawful : List ℕ → ℕ → Bool
 structLawful b i = recordsOk b (InStruct i) 0 (structPlace b i) && leb (structSize (parse b) i) 4096
 
+-- list i: "list: one record for its element", which is lawful
 unfoldable pub listLawful : List ℕ → ℕ → Bool
 listLawful b i = recordOk b InList (listPlace b i)
 
+-- union i: "union: 8-bit case count 1 to 32, records", which are lawful
 unfoldable pub unionLawful : List ℕ → ℕ → Bool
 unionLawful b i = recordsOk b InUnion 0 (unionPlace b i)
 
--- "at most one per table"
+-- table i: its records are lawful, and in place are "at most one per table"
 unfoldable pub tableLawful : List ℕ → ℕ → Bool
 tableLawful b i =
     recordsOk b InTable 4 (tablePlace b i) && leb (inplaces b (tablePlace b i) (records b 4 (tablePlace b i))) 1
 
--- "Table ids differ.": table i has another id than each of the first n
+-- "Table ids differ.": table i has another id than each of the first n tables
 unfoldable pub idDiffers : List ℕ → ℕ → ℕ → Bool
 idDiffers b i n = every (λ j. not (eqb (idAt b (tablePlace b i)) (idAt b (tablePlace b j)))) n
 
+-- "Table ids differ.": table i has another id than each table before it
 unfoldable pub idLawful : List ℕ → ℕ → Bool
 idLawful b i = idDiffers b i i
 
+-- the rules of every struct, list, union and table, and "Table ids differ."
 unfoldable pub rulesOk : List ℕ → Bool
 rulesOk b =
     every (structLawful b) (structCount b)
@@ -124,5 +135,6 @@ rulesOk b =
     && (every (unionLawful b) (unionCount b)
     && (every (tableLawful b) (tableCount b) && every (idLawful b) (tableCount b))))
 
+-- whether refusal 1, "schema not lawful", does not arise
 unfoldable pub lawful : List ℕ → Bool
 lawful b = shapeOk b && rulesOk b

@@ -17,6 +17,7 @@ use Rattle.coding.specs.declared.Cursor.{Cursor}
 use Rattle.coding.specs.declared.Slot.{Slot}
 
 -- ---- what a kind takes
+-- whether it is a bool, which takes a bit ("A bool takes the next free bit"); all else takes bytes
 unfoldable pub flatIsBool : Flat → Bool
 flatIsBool Boolean = true
 flatIsBool (Integer s w) = false
@@ -24,18 +25,21 @@ flatIsBool (Float w) = false
 flatIsBool (Enumerated n) = false
 flatIsBool (Struct i) = false
 
+-- the same of any kind: "A bool takes the next free bit"
 unfoldable pub isBool : Kind → Bool
 isBool (OfFlat k) = flatIsBool k
 isBool (OfObject ob) = false
 isBool (OfUnion i) = false
 
--- "Text, bytes, list, table: U48 offset", "Union: 8 bytes as in lists": a U16 choice and an offset
+-- the bytes of a value: "Text, bytes, list, table: U48 offset"; "Union: 8 bytes as in lists", a U16 choice and an offset;
+-- of the others Structs.flatWidth
 unfoldable pub width : ℕ → Schema → Kind → ℕ
 width o S (OfFlat k) = flatWidth (structSize S) k
 width o S (OfObject ob) = o
 width o S (OfUnion i) = 2 + o
 
--- "Optional bool, integer or struct: a flag bool first, then the value. Optional float: NaN is no value."
+-- "Optional bool, integer or struct: a flag bool first, then the value. Optional float: NaN is no value.": whether a flag
+-- stands before it, if it is optional
 unfoldable pub flatTakesFlag : Flat → Bool
 flatTakesFlag Boolean = true
 flatTakesFlag (Integer s w) = true
@@ -43,59 +47,70 @@ flatTakesFlag (Float w) = false
 flatTakesFlag (Enumerated n) = false
 flatTakesFlag (Struct i) = true
 
+-- the same of any kind: "Optional bool, integer or struct"
 unfoldable pub takesFlag : Kind → Bool
 takesFlag (OfFlat k) = flatTakesFlag k
 takesFlag (OfObject ob) = false
 takesFlag (OfUnion i) = false
 
+-- whether a member has a flag: "a flag bool first"
 unfoldable pub hasFlag : Member → Bool
 hasFlag r = r .optional && takesFlag (r .kind)
 
--- ---- the cursor
+-- ---- the cursor: the bytes laid out so far, the last bool byte, and its next free bit
+-- before the first member there are no bytes, and of "the last bool byte" no bit is free
 unfoldable pub begin : Cursor
 begin = record { end = 0; byte = 0; bit = 8 }
 
--- "A bool takes the next free bit, lowest first, of the last bool byte; if none is free a zeroed byte is appended."
+-- "A bool takes the next free bit, lowest first, of the last bool byte; if none is free a zeroed byte is appended.": the
+-- byte of the next bool
 unfoldable pub bitByte : Cursor → ℕ
 bitByte c = pick (ltb (c .bit) 8) (c .byte) (c .end)
 
+-- "the next free bit, lowest first, of the last bool byte": which bit of that byte
 unfoldable pub bitIndex : Cursor → ℕ
 bitIndex c = pick (ltb (c .bit) 8) (c .bit) 0
 
+-- the cursor behind a bool: "if none is free a zeroed byte is appended"
 unfoldable pub afterBit : Cursor → Cursor
 afterBit c =
     pick (ltb (c .bit) 8)
     (record { end = c .end; byte = c .byte; bit = c .bit + 1 })
     (record { end = c .end + 1; byte = c .end; bit = 1 })
 
+-- the cursor behind w bytes; "the last bool byte" stays the same
 unfoldable pub afterBytes : ℕ → Cursor → Cursor
 afterBytes w c = record { end = c .end + w; byte = c .byte; bit = c .bit }
 
--- behind the flag, if there is one
+-- "a flag bool first": the cursor behind a member's flag, if it has one
 unfoldable pub afterFlag : Member → Cursor → Cursor
 afterFlag r c = pick (hasFlag r) (afterBit c) c
 
--- where a value stands that comes next, and the cursor behind it
+-- where the value stands that comes next: a bool in "the next free bit", all else behind what is laid out, "without
+-- padding" (000)
 unfoldable pub slotOf : ℕ → Schema → Kind → Cursor → Slot
 slotOf o S k c =
     pick (isBool k)
     (record { at = bitByte c; bit = bitIndex c; size = 1 })
     (record { at = c .end; bit = 0; size = width o S k })
 
+-- the cursor behind that value: "if none is free a zeroed byte is appended", or as many bytes as it takes
 unfoldable pub afterValue : ℕ → Schema → Kind → Cursor → Cursor
 afterValue o S k c = pick (isBool k) (afterBit c) (afterBytes (width o S k) c)
 
--- a member: its flag, if there is one, and then its value
+-- "a flag bool first, then the value": where a member's value stands
 unfoldable pub memberSlot : ℕ → Schema → Member → Cursor → Slot
 memberSlot o S r c = slotOf o S (r .kind) (afterFlag r c)
 
+-- the cursor behind a member: "a flag bool first, then the value"
 unfoldable pub afterMember : ℕ → Schema → Member → Cursor → Cursor
 afterMember o S r c = afterValue o S (r .kind) (afterFlag r c)
 
+-- "Next the members of the table are encoded in turn" (000): the cursor behind these members
 unfoldable pub afterMembers : ℕ → Schema → List Member → Cursor → Cursor
 afterMembers o S [] c = c
 afterMembers o S (r ∷ rs) c = afterMembers o S rs (afterMember o S r c)
 
--- a full fixed part's bytes
+-- "Table: length bytes of fixed part.": the bytes of a full one, for "Fixed parts have their full schema size."
 unfoldable pub fixedSize : ℕ → Schema → List Member → ℕ
 fixedSize o S rs = afterMembers o S rs begin .end

@@ -1,5 +1,7 @@
--- The definitions that everything is judged by, in the order in which they are best read. Each rule carries the sentence of
--- paper 01 (Requirements and rules for the build) or 000 (Binary coding) that it renders.
+-- The definitions that everything is judged by, in the order in which they are best read. Each one carries, in quotation
+-- marks, the sentence that it states, or says in plain words what it is and which sentence it serves.
+-- A sentence is paper 01's (Requirements and rules for the build) unless 000 (Binary coding) is named. `...` stands for
+-- words that are left out. A refusal's number names its row in 01's table.
 pub mod Lists
 pub mod Bytes
 pub mod Schema

@@ -1,5 +1,5 @@
 -- The values of a message, by the same steps as the walk: "From the root, members and elements in order". It is total: what
--- no accepted message has reads as something, which nobody is shown. `o` is the width of an offset in bytes.
+-- no accepted message has reads as something that no answer shows. `o` is the width of an offset in bytes.
 use Prim.Native.Nat.{ℕ, zero, suc, _+_}
 use mathlib.Core.List.{List, [], _∷_}
 use lib.ListN.{take, drop}
@@ -21,10 +21,13 @@ use Rattle.coding.specs.declared.Place.the-variants.{ByOffset, InPlace}
 use Rattle.coding.specs.declared.Step.{Step}
 use Rattle.coding.specs.declared.Step.the-variants as St
 
--- ---- what a step shows: `inner` reads a struct, `child` an object
+-- ---- what a step shows
+-- what is read of an object at a place, "its offset as stored, or where its in-place content starts"
 abbrev pub Child : Type 0
 Child = Object → Place → Value
 
+-- the value that a step shows: "0 absent, 1 present, 2 unknown". `inner` reads a struct, `child` an object. A refused step
+-- does not arise in an accepted message.
 unfoldable pub stepRead : (ℕ → ℕ → Value) → Child → Step → Value
 stepRead inner child (St.Refused n) = absent
 stepRead inner child St.Absent = absent
@@ -35,50 +38,61 @@ stepRead inner child (St.Object ob p) = child ob p
 stepRead inner child (St.Choice c ob p) = chosen c (child ob p)
 
 -- ---- structs
+-- "Struct members: kinds 0 to 12": a struct leads to no object
 abbrev pub noObject : Child
 noObject ob p = absent
 
+-- "members joined without padding": the members of a struct from a place on
 unfoldable pub fieldsRead : (ℕ → ℕ → Value) → Schema → List ℕ → List Flat → ℕ → Values
 fieldsRead inner S m [] at = none
 fieldsRead inner S m (k ∷ ks) at =
     stepRead inner noObject (fieldStep m k at) then fieldsRead inner S m ks (at + flatWidth (structSize S) k)
 
+-- struct i at a place, given the inner structs: "a struct inside a struct is laid out the same way"
 unfoldable pub readBy : Schema → List ℕ → (ℕ → ℕ → Value) → ℕ → ℕ → Value
 readBy S m inner i at = row (fieldsRead inner S m (structOf S i) at)
 
+-- what byIndex gives for an index that is not lower, which "an inner struct having a lower index" excludes
 abbrev pub noStruct : ℕ → Value
 noStruct at = absent
 
+-- struct i at a place: "a struct inside a struct is laid out the same way"
 unfoldable pub structRead : Schema → List ℕ → ℕ → ℕ → Value
 structRead S m i = byIndex noStruct (readBy S m) i
 
 -- ---- objects
+-- "Table members in order": the members, from the cursor on, of a table whose fixed part has n bytes from `start`
 unfoldable pub membersRead : Child → ℕ → Schema → List ℕ → ℕ → ℕ → Cursor → List Member → Values
 membersRead child o S m start n c [] = none
 membersRead child o S m start n c (r ∷ rs) =
     stepRead (structRead S m) child (memberStep o S m start n c r) then
     membersRead child o S m start n (afterMember o S r c) rs
 
+-- "List: length elements.": n elements of a list, from element i on
 unfoldable pub elementsRead : Child → ℕ → Schema → List ℕ → ℕ → Kind → ℕ → ℕ → Values
 elementsRead child o S m start k zero i = none
 elementsRead child o S m start k (suc n) i =
     stepRead (structRead S m) child (elementStep o S m k start i) then elementsRead child o S m start k n (i + 1)
 
--- an object's content; a text's value is "the bytes" without the zero byte behind them
+-- an object's content of length n at `start`: "Text: length bytes and one zero byte. Bytes: length bytes."; a text's value
+-- is "the bytes" without the zero byte
 unfoldable pub contentRead : Child → ℕ → Schema → List ℕ → Object → ℕ → ℕ → Value
 contentRead child o S m O.Text start n = blob (take n (drop start m))
 contentRead child o S m O.Bytes start n = blob (take n (drop start m))
 contentRead child o S m (O.List i) start n = row (elementsRead child o S m start (elementOf S i) n 0)
 contentRead child o S m (O.Table i) start n = row (membersRead child o S m start n begin (tableOf S i .members))
 
+-- an object at its place: behind its magic and "then U48 length", or in place "the content without magic and length"
 unfoldable pub placeRead : Child → ℕ → Schema → List ℕ → Child
 placeRead child o S m ob (ByOffset x) = contentRead child o S m ob (x + headerSize o) (le m (x + 4) o)
 placeRead child o S m ob (InPlace a n) = contentRead child o S m ob a n
 
--- an object with d objects of depth left
+-- an object with d objects of depth left, this one counted: "Depth: 32 objects, the root being 1". No accepted message goes
+-- deeper.
 unfoldable pub read : ℕ → ℕ → Schema → List ℕ → Child
 read zero o S m ob p = absent
 read (suc d) o S m ob p = placeRead (read d o S m) o S m ob p
 
+-- "The root table's content": the values of the whole message
 unfoldable pub messageRead : ℕ → Schema → List ℕ → Value
 messageRead o S m = read deepest o S m (O.Table (S .root)) (rootPlace o m)

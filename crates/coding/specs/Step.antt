@@ -28,30 +28,32 @@ use Rattle.coding.specs.declared.Step.the-variants as St
 unfoldable pub enumStep : ℕ → ℕ → Step
 enumStep n x = pick (eqb x 255) St.Absent (pick (ltb x n) (St.Value x) (St.Unknown x))
 
--- "a NaN means no value", where `none` says so: in a list, and in an optional member
+-- "a NaN means no value" in a list, and "Optional float: NaN is no value.": `none` says whether it is one of these
 unfoldable pub floatStep : Bool → ℕ → ℕ → Step
 floatStep none w x = pick (none && isNaN w x) St.Absent (St.Value x)
 
--- refusal 10: "struct boolean not 0 or 1"
+-- a struct at a place; refusal 10: "struct boolean not 0 or 1"
 unfoldable pub structStep : Schema → List ℕ → ℕ → ℕ → Step
 structStep S m i at = pick (structOk S m i at) (St.Struct i at) (St.Refused 10)
 
--- the object that a reference or, in place, a length x leads to. "In place: the U48 is the length .., and the content
+-- the object that a reference or, in place, a length x leads to. "In place: the U48 is the length ..., and the content
 -- without magic and length starts where its table's fixed part ends": at `tail`.
 unfoldable pub placeOf : Bool → ℕ → ℕ → Place
 placeOf inplace tail x = pick inplace (InPlace tail x) (ByOffset x)
 
--- "U48 offset, 0 none"; in place, "Length 0 means no value"
+-- "Text, bytes, list, table: U48 offset, 0 none."; in place, "Length 0 means no value"
 unfoldable pub objectStep : Object → Bool → ℕ → ℕ → Step
 objectStep ob inplace tail x = pick (eqb x 0) St.Absent (St.Object ob (placeOf inplace tail x))
 
 -- "choice 0 none, cases from 1"; "A union choice above the case count is unknown and is not followed."; in place, length 0
--- "in a union with a known choice .. is an empty object". An offset 0 under a known choice is refused by the walk.
+-- "in a union with a known choice ... is an empty object". An offset 0 under a known choice is refused by the walk.
 unfoldable pub unionStep : List Object → Bool → ℕ → ℕ → ℕ → Step
 unionStep cases inplace tail c x =
     pick (eqb c 0) St.Absent
     (pick (leb c (length cases)) (St.Choice c (caseOf cases c) (placeOf inplace tail x)) (St.Unknown c))
 
+-- what stands at a place, and of a bool at its bit there: "Numbers stand as they are; a NaN means no value. Enum is one
+-- byte." `none`: a NaN is no value.
 unfoldable pub flatStep : Schema → List ℕ → Flat → Bool → ℕ → ℕ → Step
 flatStep S m F.Boolean none at bit = St.Value (bitAt m at bit)
 flatStep S m (F.Integer s w) none at bit = St.Value (le m at w)
@@ -59,8 +61,8 @@ flatStep S m (F.Float w) none at bit = floatStep none w (le m at w)
 flatStep S m (F.Enumerated n) none at bit = enumStep n (getD m at 0)
 flatStep S m (F.Struct i) none at bit = structStep S m i at
 
--- what stands at a struct's member, in a struct that was judged as a whole: "a bool as a byte 0 or 1"; a NaN means no value in
--- a list and in an optional member only, so that it is a value here
+-- what stands at a struct's member, in a struct that was judged as a whole: "a bool as a byte 0 or 1". A NaN means no value
+-- in a list and in an optional member only, so that it is a value here.
 unfoldable pub fieldStep : List ℕ → Flat → ℕ → Step
 fieldStep m F.Boolean at = St.Value (getD m at 0)
 fieldStep m (F.Integer s w) at = St.Value (le m at w)
@@ -68,15 +70,17 @@ fieldStep m (F.Float w) at = St.Value (le m at w)
 fieldStep m (F.Enumerated n) at = enumStep n (getD m at 0)
 fieldStep m (F.Struct i) at = St.Struct i at
 
--- what stands at a place of the message (and a bit of it, for a bool). `none`: a NaN is no value.
+-- what stands at a place of the message, of any kind: "References are U48; 0 means none. Union: U16 choice and U48 offset."
+-- `none`: a NaN is no value.
 unfoldable pub valueStep : ℕ → Schema → List ℕ → Kind → Bool → Bool → ℕ → ℕ → ℕ → Step
 valueStep o S m (OfFlat k) none inplace tail at bit = flatStep S m k none at bit
 valueStep o S m (OfObject ob) none inplace tail at bit = objectStep ob inplace tail (le m at o)
 valueStep o S m (OfUnion i) none inplace tail at bit = unionStep (casesOf S i) inplace tail (le m at 2) (le m (at + 2) o)
 
 -- ---- a member
--- "A member starting at or after the fixed part's end is absent; one wholly inside is read; one cut by the end is
--- refused.": the slot against a fixed part of n bytes
+-- "A table may be shorter or longer than its schema says. A member starting at or after the fixed part's end is absent; one
+-- wholly inside is read; one cut by the end is refused.": the slot against a fixed part of n bytes; `past` and `here` are
+-- the steps of a member past the end and of one inside
 unfoldable pub inside : ℕ → Slot → Step → Step → Step
 inside n slot past here = pick (leb n (slot .at)) past (pick (leb (slot .at + slot .size) n) here (St.Refused 8))
 
@@ -89,7 +93,8 @@ flagged m start n c slot here =
     (inside n slot (St.Refused 8) here)
     (inside n slot St.Absent St.Absent))
 
--- a member, where the cursor stands, of a table whose fixed part has n bytes from `start`
+-- a member, where the cursor stands, of a table whose fixed part has n bytes from `start`. Its content in place is at start
+-- + n: "table offset + 10 + length".
 unfoldable pub memberStep : ℕ → Schema → List ℕ → ℕ → ℕ → Cursor → Member → Step
 memberStep o S m start n c r =
     let slot = memberSlot o S r c in
@@ -97,14 +102,15 @@ memberStep o S m start n c r =
     pick (hasFlag r) (flagged m start n c slot here) (inside n slot St.Absent here)
 
 -- ---- an element
--- "Bool i is (byte[i>>3] >> (i & 7)) & 1"; the others stand one behind the other
+-- "Bool i is (byte[i>>3] >> (i & 7)) & 1": where element i stands, that byte for a bool; "Next the individual elements are
+-- encoded in order." (000)
 unfoldable pub elementPlace : ℕ → Schema → Kind → ℕ → ℕ → ℕ
 elementPlace o S k start i = pick (isBool k) (start + i / 8) (start + width o S k * i)
 
--- element i of a list whose elements start at `start`
+-- element i of a list whose elements start at `start`; nothing in a list is in place, and "a NaN means no value"
 unfoldable pub elementStep : ℕ → Schema → List ℕ → Kind → ℕ → ℕ → Step
 elementStep o S m k start i = valueStep o S m k true false 0 (elementPlace o S k start i) (i % 8)
 
--- the bytes of n elements
+-- "List: length elements.": the bytes of n elements. "Bools are packed into bytes." (000)
 unfoldable pub elementsSize : ℕ → Schema → Kind → ℕ → ℕ
 elementsSize o S k n = pick (isBool k) ((n + 7) / 8) (width o S k * n)

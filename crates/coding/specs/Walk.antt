@@ -44,7 +44,8 @@ magic S O.Bytes = 0xDCDB_BE10
 magic S (O.List i) = 0x3400_BB46
 magic S (O.Table i) = tableOf S i .id
 
--- a header: the magic and a length. The message's start has the same size.
+-- the magic and a length, of every object: "Each kind of object owns its own magic and header length", "then U48 length".
+-- The message's start has the same size: "magic 0xB5C0C4B3, U48 root offset".
 unfoldable pub headerSize : ℕ → ℕ
 headerSize o = 4 + o
 
@@ -63,16 +64,16 @@ endOk m O.Bytes start n = true
 endOk m (O.List i) start n = true
 endOk m (O.Table i) start n = true
 
--- content of length n at `start`: refusal 6 "content does not fit", then the end byte
+-- content of length n at `start`: refusal 6, "content does not fit", then refusal 10, "text end byte not 0"
 unfoldable pub openContent : ℕ → Schema → List ℕ → Object → ℕ → ℕ → Opened
 openContent o S m ob start n =
     pick (leb (start + contentSize o S ob n) (length m))
     (pick (endOk m ob start n) (Op.Content start n) (Op.Refused 10))
     (Op.Refused 6)
 
--- "Judged at an arrival: .. offset and header fit, magic, content fit, text's end byte."; refusals 6 "offset under 10, or
+-- "Judged at an arrival: ... offset and header fit, magic, content fit, text's end byte."; refusals 6 "offset under 10, or
 -- header or content does not fit" and 7 "wrong object magic". "An offset under 10 is not lawful where an object is
--- required." In place there is no header.
+-- required."; "Offsets count from the message's first byte." In place there is no header.
 unfoldable pub openObject : ℕ → Schema → List ℕ → Object → Place → Opened
 openObject o S m ob (ByOffset x) =
     pick (leb (headerSize o) x && leb (x + headerSize o) (length m))
@@ -80,7 +81,8 @@ openObject o S m ob (ByOffset x) =
     (Op.Refused 6)
 openObject o S m ob (InPlace a n) = openContent o S m ob a n
 
--- ---- going on
+-- ---- members, elements and the arrivals that they lead to
+-- a refusal with its number and place, after what was spent: "Judging answers number, place and visits"
 unfoldable pub refuse : ℕ → ℕ → Spent → Walked
 refuse n at s = Refused (record { number = n; place = at }) s
 
@@ -89,17 +91,17 @@ unfoldable pub andThen : Walked → (Spent → Walked) → Walked
 andThen (Going s) next = next s
 andThen (Refused r s) next = Refused r s
 
--- an arrival at an object
+-- what the walk does at an arrival at an object: "the arrival it leads to"
 abbrev pub Child : Type 0
 Child = Object → Place → Spent → Walked
 
--- refusal 9: "known union choice, not in place, offset 0", at the holder
+-- where a union's choice leads; refusal 9: "known union choice, not in place, offset 0", at the "holder"
 unfoldable pub followChoice : Child → ℕ → Object → Place → Spent → Walked
 followChoice child holder ob (ByOffset x) s = pick (eqb x 0) (refuse 9 holder s) (child ob (ByOffset x) s)
 followChoice child holder ob (InPlace a n) s = child ob (InPlace a n) s
 
--- what a step leads to, for a holder at a place. Refusal 8, "member cut, or flag without value", is at the "table"; refusal 10,
--- "struct boolean not 0 or 1", at the "object" that holds the struct. An unknown enum or choice: "Neither is refused."
+-- what a step leads to, for a holder at a place. Refusal 8, "member cut, or flag without value", is at the "table"; refusal
+-- 10, "struct boolean not 0 or 1", at the "object" that holds the struct. An unknown enum or choice: "Neither is refused."
 unfoldable pub follow : Child → ℕ → Step → Spent → Walked
 follow child holder (St.Refused n) s = refuse n holder s
 follow child holder St.Absent s = Going s
@@ -116,27 +118,31 @@ members child o S m holder start n c (r ∷ rs) s =
     andThen (follow child holder (memberStep o S m start n c r) s)
     (members child o S m holder start n (afterMember o S r c) rs)
 
--- n elements of a list at `holder`, from element i on
+-- "Then each member or element in turn": n elements of a list at `holder`, from element i on
 unfoldable pub elements : Child → ℕ → Schema → List ℕ → ℕ → ℕ → Kind → ℕ → ℕ → Spent → Walked
 elements child o S m holder start k zero i s = Going s
 elements child o S m holder start k (suc n) i s =
     andThen (follow child holder (elementStep o S m k start i) s) (elements child o S m holder start k n (i + 1))
 
--- an object's content, for the object at `holder`
+-- "tables lead to lists and unions, and those lead back to tables": what the content of the object at `holder` leads to;
+-- texts and bytes lead to nothing
 unfoldable pub content : Child → ℕ → Schema → List ℕ → Object → ℕ → ℕ → ℕ → Spent → Walked
 content child o S m O.Text holder start n s = Going s
 content child o S m O.Bytes holder start n s = Going s
 content child o S m (O.List i) holder start n s = elements child o S m holder start (elementOf S i) n 0 s
 content child o S m (O.Table i) holder start n s = members child o S m holder start n begin (tableOf S i .members) s
 
+-- what the arrival found at the object at `holder`: a refusal, at the "object", or the content
 unfoldable pub enter : Child → ℕ → Schema → List ℕ → Object → ℕ → Opened → Spent → Walked
 enter child o S m ob holder (Op.Refused n) s = refuse n holder s
 enter child o S m ob holder (Op.Content start n) s = content child o S m ob holder start n s
 
+-- an arrival after budget and depth: "offset and header fit, magic, content fit, text's end byte. Then each member or
+-- element in turn"
 unfoldable pub arrive : Child → ℕ → Schema → List ℕ → Child
 arrive child o S m ob p s = enter child o S m ob (placed p) (openObject o S m ob p) s
 
--- refusal 5: "deeper than 32", at the object
+-- refusal 5: "deeper than 32", at the "object"
 unfoldable pub tooDeep : Child
 tooDeep ob p s = refuse 5 (placed p) s
 
@@ -152,26 +158,31 @@ unfoldable pub visit : ℕ → ℕ → Schema → List ℕ → Budget → Child
 visit zero o S m b = counted tooDeep b
 visit (suc d) o S m b = counted (arrive (visit d o S m b) o S m) b
 
--- "From the root": "Start: magic 0xB5C0C4B3, U48 root offset."
+-- "Start: magic 0xB5C0C4B3, U48 root offset."
 unfoldable pub rootPlace : ℕ → List ℕ → Place
 rootPlace o m = ByOffset (le m 4 o)
 
+-- "From the root, members and elements in order": the arrival at the root table, with nothing spent; "Depth: 32 objects,
+-- the root being 1"
 unfoldable pub walk : ℕ → Schema → List ℕ → Budget → Walked
 walk o S m b = visit deepest o S m b (O.Table (S .root)) (rootPlace o m) (record { visits = 0 })
 
 -- ---- the verdict
+-- "Judging answers number, place and visits": of a walk that ended without a refusal, "accepted", 0 at 0
 unfoldable pub verdictOf : Walked → Verdict
 verdictOf (Going s) = record { number = 0; place = 0; visits = s .visits }
 verdictOf (Refused r s) = record { number = r .number; place = r .place; visits = s .visits }
 
--- a refusal before the walk
+-- a number with place 0 and visits 0: "Before the walk, 1, 2, 3 are tried in order with visits 0." The writer's and the
+-- field's answers at place 0 have the same form.
 unfoldable pub early : ℕ → Verdict
 early n = record { number = n; place = 0; visits = 0 }
 
--- refusals 2: "message under 10 bytes or over the size", and 3: "wrong message magic"
+-- whether refusal 2, "message under 10 bytes or over the size", does not arise
 unfoldable pub sizeOk : ℕ → List ℕ → Bool
 sizeOk o m = leb (headerSize o) (length m) && leb (length m) largest
 
+-- whether refusal 3, "wrong message magic", does not arise: "magic 0xB5C0C4B3"
 unfoldable pub startOk : List ℕ → Bool
 startOk m = eqb (le m 0 4) 0xB5C0_C4B3
 
