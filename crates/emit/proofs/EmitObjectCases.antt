@@ -14,13 +14,14 @@ use Rattle.coding.specs.Bits.{bits}
 use Rattle.coding.specs.Packed.{parse}
 use Rattle.coding.specs.Schema as Sc
 use Rattle.coding.specs.Schema.{Schema}
-use Rattle.coding.specs.Sheet.{Parsed, fail, got, bind}
+use Rattle.coding.specs.Sheet.{Parsed, fail, got, bind, bare, flatBare}
+use Rattle.coding.specs.declared.Flat.{Flat}
 use Rattle.coding.specs.declared.Object.{Object}
 use Rattle.coding.specs.declared.Object.the-variants as O
 use Rattle.coding.specs.declared.Kind.{Kind}
-use Rattle.coding.specs.declared.Kind.the-variants.{OfObject}
+use Rattle.coding.specs.declared.Kind.the-variants.{OfFlat, OfObject}
 use Rattle.coding.specs.declared.Member.{Member}
-use Rattle.laws.specs.Sound.{ObjectSound, KindSound, NoStruct}
+use Rattle.laws.specs.Sound.{FlatSound, ObjectSound, KindSound, FlatScalar, NoStruct}
 use Rattle.schema.specs.Directory.{Accepted, accepted-sound}
 use Rattle.survey.proofs.ObjectCases.{element-sound}
 use Rattle.bitio.specs.Taken.{TakenNumber}
@@ -29,6 +30,7 @@ use Rattle.survey.specs.declared.Extent.{Extent}
 use Rattle.store.specs.State.{State}
 use Rattle.emit.specs.EmitSheet.{Emitter, emitRefer, emitElement, emitMembers, emitElements, emitBlob, emitContent, emit}
 use Rattle.emit.specs.EmitObjects.{emit-lost}
+use Rattle.emit.specs.EmitRun.{emitFlats, flats-run}
 use Rattle.emit.specs.Measure.{Measured}
 use Rattle.store.specs.Storing.{stateOf, Stood}
 use Rattle.emit.specs.Emitting.{closed, referred, opened, emitMember, Room, EmittedAt, Opens, emitUnflagged, isBlob, isLeaf}
@@ -36,7 +38,7 @@ use Rattle.store.specs.declared.Places.{Places}
 use Rattle.emit.proofs.OpenCases.{not-list, not-table}
 use Rattle.emit.proofs.EmitRoom.{taken-at, refused}
 use Rattle.emit.proofs.EmitRest.{emitted-on}
-use Rattle.emit.proofs.EmitPartCases.{refer-unlawful, refer-closed, leaf-refers, unflagged-member}
+use Rattle.emit.proofs.EmitPartCases.{refer-unlawful, refer-closed, leaf-refers, unflagged-member, flat-marked, flat-scalar}
 
 -- ---- an object that is referred to: its content goes forward in the sheet
 module _ (d : ℕ) (b dir : List ℕ) (a : Accepted b dir) (s : List ℕ) (inplace : Bool) (ob : Object) (c : Places) (o : List ℕ) (pos : ℕ) (room : Room s pos c)
@@ -153,11 +155,29 @@ module _ (child : Emitter) (measure : Surveyor) (S : Schema) (s : List ℕ) (i :
       → EmittedAt s (emitContent child measure u48 S (O.List i) (stateOf c o) (drop pos (bits s))) pos c 0 t q o₁ m
   list-objects k ek ob eo room whole n first taken h t q o₁ m em = list-elements (OfObject ob) (sym eo ∙ ek) room whole n first taken h t q o₁ m em
 
+  pub list-flats : (k : Kind) → k ≡ Sc.elementOf S i → (f : Flat) → k ≡ OfFlat f → (t₀ : Bool) → t₀ ≡ bare k → t₀ ≡ false → Room s pos c → (whole : Bool) (n first : ℕ) → TakenNumber s pos 32 whole n first → not whole ≡ false
+      → (t : Bool) (q : Places) (o₁ : List ℕ) (m : ℕ) → EmittedAt s (emitFlats S f n (stateOf c o) (drop first (bits s))) first c 0 t q o₁ m
+      → EmittedAt s (emitContent child measure u48 S (O.List i) (stateOf c o) (drop pos (bits s))) pos c 0 t q o₁ m
+  list-flats k ek f ef t₀ e₀ h₀ room whole n first taken h t q o₁ m em =
+      list-elements (OfFlat f) (sym ef ∙ ek) room whole n first taken h t q o₁ m
+      (rw (flats-run child measure u48 S f (flat-marked k f ef (sym e₀ ∙ h₀)) n (stateOf c o) (drop first (bits s))) em)
+
 pub element-scalar : (b dir : List ℕ) → Accepted b dir → (i : ℕ) (k : Kind) → k ≡ Sc.elementOf (parse b) i → NoStruct k
 element-scalar b dir a i k e = rw e (accepted-sound b dir a .lists i .scalar)
 
 pub element-object : (b dir : List ℕ) → Accepted b dir → (i : ℕ) (k : Kind) → k ≡ Sc.elementOf (parse b) i → (ob : Object) → k ≡ OfObject ob → ObjectSound (parse b) ob
 element-object b dir a i k e ob eo = subst (KindSound (parse b)) eo (element-sound b dir a i k e)
+
+-- of a flat kind that has a mark
+module _ (b dir : List ℕ) (a : Accepted b dir) (i : ℕ) (k : Kind) (e : k ≡ Sc.elementOf (parse b) i) (f : Flat) (ef : k ≡ OfFlat f) where
+  pub element-flat-sound : FlatSound (length (parse b .structs)) f
+  element-flat-sound = subst (KindSound (parse b)) ef (element-sound b dir a i k e)
+
+  pub element-flat-scalar : FlatScalar f
+  element-flat-scalar = flat-scalar k f ef (element-scalar b dir a i k e)
+
+pub element-flat-marked : (k : Kind) (f : Flat) → k ≡ OfFlat f → (t : Bool) → t ≡ bare k → t ≡ false → flatBare f ≡ false
+element-flat-marked k f ef t e h = flat-marked k f ef (sym e ∙ h)
 
 pub elements-start : (child : Emitter) (measure : Surveyor) (S : Schema) (k : Kind) (n : ℕ) (st : State) (xs : List ℕ)
     → emitElements child measure u48 S k n st xs ≡ emitElements child measure u48 S k (n - 0) st xs

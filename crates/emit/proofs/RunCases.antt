@@ -1,7 +1,7 @@
 -- The ways out of the pass over a run of numbers, one lemma for each.
 use mathlib.Core.Path.{_≡_, refl, sym, ap, _∙_, subst}
 use mathlib.Core.Bool.{Bool, true, false, not}
-use mathlib.Core.List.{List}
+use mathlib.Core.List.{List, []}
 use Prim.Native.Nat.{ℕ, zero, suc, _+_, _-_, _*_, _^_, _<_, _≤_}
 use native.Mathlib.Omega.{arith}
 use lib.ListN.{length, drop}
@@ -19,16 +19,18 @@ use Rattle.coding.specs.declared.Object.the-variants as O
 use Rattle.coding.specs.declared.Kind.{Kind}
 use Rattle.coding.specs.declared.Kind.the-variants.{OfFlat, OfObject, OfUnion}
 use Rattle.coding.specs.Packed.{parse}
+use Rattle.laws.specs.All.{all-drop}
+use Rattle.laws.specs.Bits.{Bit, bits-bits}
 use Rattle.laws.specs.Sound.{KindSound}
 use Rattle.schema.specs.Directory.{Accepted}
 use Rattle.survey.proofs.ObjectCases.{element-sound}
 use Rattle.bitio.specs.Taken.{TakenNumber}
 use Rattle.survey.specs.Survey.{Surveyor}
 use Rattle.store.specs.State.{State, putBit, putNumber}
-use Rattle.emit.specs.EmitSheet.{Emitter, emitNumber, emitElements, emitContent}
-use Rattle.emit.specs.EmitRun.{emitRun, flatIntegerWidth, integerWidth, emitBare, bare-run}
+use Rattle.emit.specs.EmitSheet.{Emitter, emitNumber, emitElements, emitBlob, emitContent}
+use Rattle.emit.specs.EmitRun.{emitRun, flatIntegerWidth, integerWidth, emitBare, bare-run, octets-blob, emitFlats}
 use Rattle.store.specs.Storing.{stateOf, forward, Stood, BitPut}
-use Rattle.emit.specs.Emitting.{Room, EmittedAt}
+use Rattle.emit.specs.Emitting.{Room, EmittedAt, emitMarkedFlat}
 use Rattle.store.specs.declared.Places.{Places}
 use Rattle.emit.proofs.EmitRoom.{taken-at, room-bit, room-below, refused}
 use Rattle.store.proofs.PutCases.{number-put}
@@ -174,6 +176,48 @@ module _ (s : List ℕ) (n : ℕ) (c : Places) (o : List ℕ) (pos : ℕ) (o₁ 
         one ∙ ap (λ (u : Bool). after (pick u (got x (drop next (bits s))) fail)) (not-false whole f)
         ∙ ap (λ (st : State). emitRun 1 putBit (left - 1) st (drop next (bits s))) (sym (t .is))
 
+-- ---- floats or enums, with their marks
+module _ (S : Schema) (s : List ℕ) (k : Flat) (n : ℕ) (c : Places) (o : List ℕ) (pos : ℕ) (o₁ : List ℕ) (p : Places) (at left : ℕ)
+    (inv : emitFlats S k n (stateOf c o) (drop pos (bits s)) ≡ emitFlats S k left (stateOf p o₁) (drop at (bits s))) where
+  pub flats-done : Room s at p → left ≤ 0 → p .at + 8192 * pos ≤ c .at + 8192 * at → (t : Bool) (q : Places) (m : ℕ) → t ≡ true → q ≡ p → m ≡ at
+      → EmittedAt s (emitFlats S k n (stateOf c o) (drop pos (bits s))) pos c 0 t q o₁ m
+  flats-done room h l t q m et eq em =
+      let z : left ≡ 0 = omega arith in
+      let g : p .at + 8192 * pos ≤ c .at + 0 + 8192 * at = omega arith in
+      rw (et, eq, em)
+      (record {
+        is = inv ∙ ap (λ (j : ℕ). emitFlats S k j (stateOf p o₁) (drop at (bits s))) z ∙ (unfold emitFlats in refl);
+        here = room .here;
+        at = g;
+        bool = room .bool;
+        tail = room .tail;
+        next = room .next;
+      })
+
+  module _ (h : 0 < left) (whole : Bool) (y : Places) (o₂ : List ℕ) (next : ℕ)
+      (em : EmittedAt s (emitMarkedFlat S k (stateOf p o₁) (drop at (bits s))) at p 0 whole y o₂ next) where
+    abbrev behind : Parsed State → Parsed State
+    behind z = bind z (λ st ys. emitFlats S k (left - 1) st ys)
+
+    flat : emitFlats S k n (stateOf c o) (drop pos (bits s)) ≡ behind (pick whole (got (stateOf y o₂) (drop next (bits s))) fail)
+    unfolding emitFlats
+    flat =
+        let z : left ≡ suc (left - 1) = omega arith in
+        inv ∙ ap (λ (j : ℕ). emitFlats S k j (stateOf p o₁) (drop at (bits s))) z ∙ ap behind (em .is)
+
+    pub flats-cut : Room s pos c → not whole ≡ true → (t : Bool) (q : Places) (m : ℕ) → t ≡ false → q ≡ c → m ≡ pos
+        → EmittedAt s (emitFlats S k n (stateOf c o) (drop pos (bits s))) pos c 0 t q o₂ m
+    unfolding bind
+    flats-cut begin f t q m et eq en =
+        refused s _ pos c 0 (flat ∙ ap (λ (u : Bool). behind (pick u (got (stateOf y o₂) (drop next (bits s))) fail)) (not-true whole f)) begin t q o₂ m et eq en
+
+    pub flats-turn : not whole ≡ false → (z : Places) → z ≡ y
+        → emitFlats S k n (stateOf c o) (drop pos (bits s)) ≡ emitFlats S k (left - 1) (stateOf z o₂) (drop next (bits s))
+    unfolding bind
+    flats-turn f z ez =
+        flat ∙ ap (λ (u : Bool). behind (pick u (got (stateOf y o₂) (drop next (bits s))) fail)) (not-false whole f)
+        ∙ ap (λ (q : Places). emitFlats S k (left - 1) (stateOf q o₂) (drop next (bits s))) (sym ez)
+
 -- ---- a list of elements without a mark
 module _ (s : List ℕ) (w n : ℕ) (c : Places) (o : List ℕ) (pos : ℕ) (t : Bool) (q : Places) (o₁ : List ℕ) (m : ℕ) where
   pub bare-bools : w ≡ 0 → EmittedAt s (emitRun 1 putBit n (stateOf c o) (drop pos (bits s))) pos c 0 t q o₁ m
@@ -198,6 +242,19 @@ module _ (k : Kind) (w : ℕ) (ew : w ≡ integerWidth k) where
       by S (OfFlat (Struct a)) g = unfold integerWidth flatIntegerWidth in omega arith
       by S (OfObject ob) g = unfold integerWidth in omega arith
       by S (OfUnion u) g = unfold integerWidth in omega arith
+
+  pub list-octets : w ≡ 1 → (child : Emitter) (measure : Surveyor) (S : Schema) (s : List ℕ) (i : ℕ) → k ≡ Sc.elementOf S i → (c : Places) (o : List ℕ) (pos : ℕ)
+      → (t : Bool) (q : Places) (o₁ : List ℕ) (m : ℕ) → EmittedAt s (emitBlob [] (stateOf c o) (drop pos (bits s))) pos c 0 t q o₁ m
+      → EmittedAt s (emitContent child measure u48 S (O.List i) (stateOf c o) (drop pos (bits s))) pos c 0 t q o₁ m
+  list-octets h child measure S s i ek c o pos t q o₁ m em =
+      record {
+        is = octets-blob child measure u48 S i (ap integerWidth (sym ek) ∙ sym ew ∙ h) (stateOf c o) (drop pos (bits s)) (all-drop Bit pos (bits s) (bits-bits s)) ∙ em .is;
+        here = em .here;
+        at = em .at;
+        bool = em .bool;
+        tail = em .tail;
+        next = em .next;
+      }
 
   pub list-run : (b dir : List ℕ) → Accepted b dir → (t₀ : Bool) → t₀ ≡ bare k → t₀ ≡ true → (child : Emitter) (measure : Surveyor) (s : List ℕ) (i : ℕ) → k ≡ Sc.elementOf (parse b) i
       → (c : Places) (o : List ℕ) (pos : ℕ) → Room s pos c → (whole : Bool) (n first : ℕ) → TakenNumber s pos 32 whole n first → not whole ≡ false

@@ -1,24 +1,35 @@
--- Elements without a mark: a run of numbers.
-use Prim.Native.Nat.{ℕ, zero, suc, _*_}
-use mathlib.Core.Path.{_≡_, refl, sym, ap, _∙_}
+-- Elements that lead to no object: without a mark a run of numbers, of which those of one byte are stored as bytes are; with a
+-- mark one after another.
+use Prim.Native.Nat.{ℕ, zero, suc, _+_, _*_, _%_, _<_, _≤_}
+use mathlib.Core.Path.{_≡_, refl, sym, ap, ap₂, _∙_}
 use mathlib.Core.Bool.{Bool, true, false}
-use mathlib.Core.List.{List}
+use mathlib.Core.List.{List, [], _∷_}
+use native.Mathlib.Nat.{mod-eq-of-lt}
 use native.Mathlib.Omega.{arith}
-use lib.Dec.{eqb}
-use borrow.Author.Tests.{ne-eqb}
+use lib.ListN.{length, take, drop, length-drop}
+use lib.Seq.{drop-drop}
+use lib.Dec.{eqb, leb}
+use borrow.Author.Tests.{ne-eqb, le-leb, lt-leb, leb-true, leb-false}
 use Rattle.coding.specs.Lists.{pick}
-use Rattle.coding.specs.Schema.{Schema}
-use Rattle.coding.specs.Sheet.{Parsed, fail, got, bind, bare, flatBare}
+use Rattle.coding.specs.Bytes.{leBytes}
+use Rattle.coding.specs.Bits.{value, pack}
+use Rattle.coding.specs.Schema.{Schema, elementOf}
+use Rattle.coding.specs.Sheet.{Parsed, fail, got, bind, takeNumber, takeBytes, bare, flatBare}
 use Rattle.coding.specs.declared.Flat.{Flat}
 use Rattle.coding.specs.declared.Flat.the-variants.{Boolean, Integer, Float, Enumerated, Struct}
 use Rattle.coding.specs.declared.Kind.{Kind}
 use Rattle.coding.specs.declared.Kind.the-variants.{OfFlat, OfObject, OfUnion}
+use Rattle.coding.specs.declared.Object.the-variants as O
 use Rattle.laws.specs.Lists.{never}
-use Rattle.laws.specs.Sound.{KindSound}
-use Rattle.survey.specs.Survey.{Surveyor}
+use Rattle.laws.specs.Sound.{All, KindSound}
+use Rattle.laws.specs.All.{all-drop}
+use Rattle.laws.specs.Bits.{Bit, front-lt}
+use Rattle.survey.specs.Survey.{Surveyor, surveyMark}
 use Rattle.survey.specs.Mapped.{bind-same}
-use Rattle.store.specs.State.{State, putBit, putNumber}
-use Rattle.emit.specs.EmitSheet.{Emitter, emitNumber, emitFlat, emitBody, emitElement, emitElements}
+use Rattle.store.specs.State.{State, putBytes, putBit, putNumber}
+use Rattle.emit.specs.EmitSheet.{Emitter, emitNumber, emitFlat, lack, pass, emitBody, emitPart, emitElement, emitElements, emitBlob, emitContent}
+use Rattle.emit.specs.EmitFlats.{put-none, put-append}
+use Rattle.emit.specs.Emitting.{emitMarkedFlat}
 
 -- n numbers of w bits each
 unfoldable pub emitRun : ℕ → (ℕ → State → State) → ℕ → State → List ℕ → Parsed State
@@ -66,3 +77,90 @@ module _ (child : Emitter) (measure : Surveyor) (o : ℕ) (S : Schema) where
   bare-run (OfFlat (Struct i)) g h n st xs = never h
   bare-run (OfObject ob) g h n st xs = never h
   bare-run (OfUnion i) g h n st xs = never h
+
+-- ---- integers of one byte
+put-one : (x : ℕ) (st : State) → x < 256 → putNumber 1 x st ≡ putBytes (x ∷ []) st
+unfolding putNumber leBytes
+put-one x st l = ap (λ (y : ℕ). putBytes (y ∷ []) st) (mod-eq-of-lt l)
+
+-- one after another they are stored as they are all at once
+bytes-run : (n : ℕ) (st : State) (xs : List ℕ) → All Bit xs → emitRun 8 (putNumber 1) n st xs ≡ bind (takeBytes n xs) (λ l ys. got (putBytes l st) ys)
+unfolding emitRun emitNumber takeNumber takeBytes pack bind
+bytes-run zero st xs h =
+    ap (λ (u : State). got u xs) (sym (put-none st))
+    ∙ ap (λ (v : Bool). bind (pick v (got [] xs) fail) (λ l ys. got (putBytes l st) ys)) (sym (le-leb 0 (length xs) (omega arith)))
+bytes-run (suc n) st xs h =
+    by (leb 8 (length xs)) refl (bytes-run n (putBytes (value (take 8 xs) ∷ []) st) (drop 8 xs) (all-drop Bit 8 xs h))
+  where
+    all : (v : Bool)
+        → bind (pick v (got (pack n (drop 8 xs)) (drop (8 * n) (drop 8 xs))) fail) (λ l ys. got (putBytes l (putBytes (value (take 8 xs) ∷ []) st)) ys)
+        ≡ bind (pick v (got (value (take 8 xs) ∷ pack n (drop 8 xs)) (drop (8 * suc n) xs)) fail) (λ l ys. got (putBytes l st) ys)
+    all false = refl
+    all true =
+        let e : 8 + 8 * n ≡ 8 * suc n = omega arith in
+        ap₂ (λ (u : State) (ys : List ℕ). got u ys) (put-append (value (take 8 xs) ∷ []) (pack n (drop 8 xs)) st)
+        (drop-drop (8 * n) 8 xs ∙ ap (λ (k : ℕ). drop k xs) e)
+
+    same : 8 ≤ length xs → (v : Bool) → leb (8 * suc n) (length xs) ≡ v → leb (8 * n) (length (drop 8 xs)) ≡ leb (8 * suc n) (length xs)
+    same l false e = lt-leb (8 * n) (length (drop 8 xs)) (let g = leb-false (8 * suc n) (length xs) e in let k = length-drop 8 xs in omega arith) ∙ sym e
+    same l true e = le-leb (8 * n) (length (drop 8 xs)) (let g = leb-true (8 * suc n) (length xs) e in let k = length-drop 8 xs in omega arith) ∙ sym e
+
+    by : (u : Bool) → leb 8 (length xs) ≡ u
+        → emitRun 8 (putNumber 1) n (putBytes (value (take 8 xs) ∷ []) st) (drop 8 xs)
+        ≡ bind (takeBytes n (drop 8 xs)) (λ l ys. got (putBytes l (putBytes (value (take 8 xs) ∷ []) st)) ys)
+        → bind (bind (pick u (got (value (take 8 xs)) (drop 8 xs)) fail) (λ x ys. got (putNumber 1 x st) ys)) (λ next ys. emitRun 8 (putNumber 1) n next ys)
+        ≡ bind (takeBytes (suc n) xs) (λ l ys. got (putBytes l st) ys)
+    by false e rest = rw (lt-leb (8 * suc n) (length xs) (let g = leb-false 8 (length xs) e in omega arith)) refl
+    by true e rest =
+        let l = leb-true 8 (length xs) e in
+        ap (λ (u : State). emitRun 8 (putNumber 1) n u (drop 8 xs)) (put-one (value (take 8 xs)) st (front-lt 8 xs h l))
+        ∙ rest
+        ∙ ap (λ (v : Bool). bind (pick v (got (pack n (drop 8 xs)) (drop (8 * n) (drop 8 xs))) fail) (λ l ys. got (putBytes l (putBytes (value (take 8 xs) ∷ []) st)) ys))
+        (same l (leb (8 * suc n) (length xs)) refl)
+        ∙ all (leb (8 * suc n) (length xs))
+
+module _ (child : Emitter) (measure : Surveyor) (o : ℕ) (S : Schema) where
+  octets-run : (k : Kind) → integerWidth k ≡ 1 → (n : ℕ) (st : State) (xs : List ℕ) → emitElements child measure o S k n st xs ≡ emitRun 8 (putNumber 1) n st xs
+  unfolding integerWidth flatIntegerWidth
+  octets-run (OfFlat Boolean) e n st xs = absurd (let y : ⊥ = omega arith in y)
+  octets-run (OfFlat (Integer s w)) e n st xs = integers-run child measure o S s w n st xs ∙ ap (λ (v : ℕ). emitRun (8 * v) (putNumber v) n st xs) e
+  octets-run (OfFlat (Float w)) e n st xs = absurd (let y : ⊥ = omega arith in y)
+  octets-run (OfFlat (Enumerated m)) e n st xs = absurd (let y : ⊥ = omega arith in y)
+  octets-run (OfFlat (Struct i)) e n st xs = absurd (let y : ⊥ = omega arith in y)
+  octets-run (OfObject ob) e n st xs = absurd (let y : ⊥ = omega arith in y)
+  octets-run (OfUnion i) e n st xs = absurd (let y : ⊥ = omega arith in y)
+
+  -- a list of them is stored as bytes are
+  pub octets-blob : (i : ℕ) → integerWidth (elementOf S i) ≡ 1 → (st : State) (xs : List ℕ) → All Bit xs → emitContent child measure o S (O.List i) st xs ≡ emitBlob [] st xs
+  unfolding emitContent emitBlob takeNumber bind
+  octets-blob i w st xs h = by (leb 32 (length xs))
+    where
+      run : (n : ℕ) (ys : List ℕ) → All Bit ys
+          → emitElements child measure o S (elementOf S i) n st ys ≡ bind (takeBytes n ys) (λ l zs. got (putBytes [] (putBytes l st)) zs)
+      run n ys b =
+          octets-run (elementOf S i) w n st ys ∙ bytes-run n st ys b
+          ∙ bind-same (takeBytes n ys) _ _ (λ l zs. ap (λ (u : State). got u zs) (sym (put-none (putBytes l st))))
+
+      by : (u : Bool)
+          → bind (pick u (got (value (take 32 xs)) (drop 32 xs)) fail) (λ n ys. emitElements child measure o S (elementOf S i) n st ys)
+          ≡ bind (pick u (got (value (take 32 xs)) (drop 32 xs)) fail) (λ n ys. bind (takeBytes n ys) (λ l zs. got (putBytes [] (putBytes l st)) zs))
+      by false = refl
+      by true = run (value (take 32 xs)) (drop 32 xs) (all-drop Bit 32 xs h)
+
+-- ---- elements with a mark
+-- n of them
+unfoldable pub emitFlats : Schema → Flat → ℕ → State → List ℕ → Parsed State
+emitFlats S f zero st xs = got st xs
+emitFlats S f (suc n) st xs = bind (emitMarkedFlat S f st xs) (λ next ys. emitFlats S f n next ys)
+
+module _ (child : Emitter) (measure : Surveyor) (o : ℕ) (S : Schema) (f : Flat) (h : flatBare f ≡ false) where
+  one-flat : (st : State) (xs : List ℕ) → emitElement child measure o S (OfFlat f) st xs ≡ emitMarkedFlat S f st xs
+  unfolding emitElement emitPart emitMarkedFlat surveyMark lack pass emitBody bare
+  one-flat st xs = rw h refl
+
+  pub flats-run : (n : ℕ) (st : State) (xs : List ℕ) → emitElements child measure o S (OfFlat f) n st xs ≡ emitFlats S f n st xs
+  unfolding emitElements emitFlats
+  flats-run zero st xs = refl
+  flats-run (suc n) st xs =
+      ap (λ (p : Parsed State). bind p (λ next ys. emitElements child measure o S (OfFlat f) n next ys)) (one-flat st xs)
+      ∙ bind-same (emitMarkedFlat S f st xs) _ _ (λ next ys. flats-run n next ys)

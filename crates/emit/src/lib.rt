@@ -27,7 +27,7 @@ ghost use Rattle.store.specs.State as St;
 ghost use Rattle.store.specs.Storing.{stateOf, HeldOk, BitPut, Stood};
 ghost use Rattle.emit.specs.EmitSheet as Es;
 ghost use Rattle.emit.specs.Measure.{Measured, MeasuredContent, anyInPlace, KnownSize};
-ghost use Rattle.emit.specs.EmitRun.{emitRun, emitBare, integerWidth};
+ghost use Rattle.emit.specs.EmitRun.{emitRun, emitBare, emitFlats, integerWidth};
 ghost use Rattle.emit.specs.Emitting as Eg;
 ghost use Rattle.emit.specs.Emitting.{Room, EmittedAt};
 
@@ -362,6 +362,35 @@ fn emit_marked_flat(b: &[u8], s: &[u8], out: &mut [u8], k: Flat, c: Places, pos:
         Flat::Enumerated(n) => emit_marked_enum(s, out, n, c, pos),
         Flat::Struct(_) => not_lawful(c, pos),
     }
+}
+
+// n of them.
+fn emit_flats(
+    b: &[u8],
+    s: &[u8],
+    out: &mut [u8],
+    k: Flat,
+    n: usize,
+    c: Places,
+    pos: usize,
+) -> Emitted
+    requires { ⌜ (FlatSound (length (P.parse (now b) .structs)) k) × (FlatScalar k) × (Sh.flatBare k ≡ false) ⌝ }
+    requires { ⌜ Room (now s) pos c ⌝ }
+    ensures { λ r. ⌜ EmittedAt (now (s .entry)) (emitFlats (P.parse (now (b .entry))) k n (stateOf c (now (out .entry))) (drop pos (bits (now (s .entry))))) pos c 0 (r .whole) (r .places) (now (out .exit)) (r .next) ⌝ }
+{
+    let mut p = c;
+    let mut at = pos;
+    let mut left = n;
+    while 0 < left {
+        let e = emit_marked_flat(b, s, out, k, p, at);
+        if !e.whole {
+            return not_lawful(c, pos);
+        }
+        p = store::copied(e.places);
+        at = e.next;
+        left -= 1;
+    }
+    stored(p, at)
 }
 
 // ---- elements without a mark
@@ -1200,17 +1229,17 @@ fn emit_list(
     requires { ⌜ Room (now s) pos c ⌝ }
     ensures { λ r. ⌜ EmittedAt (now (s .entry)) (Es.emitContent (Es.emit d B.u48 (P.parse (now (b .entry)))) (Sv.survey d B.u48 (P.parse (now (b .entry)))) B.u48 (P.parse (now (b .entry))) (Object.List i) (stateOf c (now (out .entry))) (drop pos (bits (now (s .entry))))) pos c 0 (r .whole) (r .places) (now (out .exit)) (r .next) ⌝ }
 {
+    let k = schema::element(b, dir, i);
     let y = bitio::take_number(s, pos, 32);
     if !y.whole {
         return not_lawful(c, pos);
     }
     let n = y.value as usize;
-    let k = schema::element(b, dir, i);
     if survey::bare(k) {
         return emit_bare(s, out, integer_width(k), n, c, y.next);
     }
     match k {
-        Kind::OfFlat(_) => emit_elements(b, dir, s, out, d, k, n, c, y.next),
+        Kind::OfFlat(f) => emit_flats(b, s, out, f, n, c, y.next),
         Kind::OfObject(ob) => emit_objects(b, dir, s, out, d, ob, n, c, y.next),
         Kind::OfUnion(_) => emit_elements(b, dir, s, out, d, k, n, c, y.next),
     }
