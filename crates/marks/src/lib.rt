@@ -190,6 +190,46 @@ pub fn write_float(out: &mut [u8], pos: usize, none: bool, w: u8, x: u64) -> usi
     write_marked(out, pos, 1, 8 * wire::index(w), x)
 }
 
+// The n floats of w bytes from `at`, elements of a list, in which a NaN is no value.
+pub fn write_floats(m: &[u8], out: &mut [u8], pos: usize, w: u8, at: usize, n: usize) -> usize
+    requires { ⌜ Room (now out) pos ⌝ }
+    requires { ⌜ (w ≤ 8) × (at < 2 ^ 58) × (n < 2 ^ 48) ⌝ }
+    ensures { λ r. ⌜ Puts (now (out .entry)) pos (Bt.floatsAt (now (m .entry)) w n at) (now (out .exit)) r ⌝ }
+{
+    let mut p = pos;
+    let mut from = at;
+    let mut left = n;
+    while 0 < left {
+        if 134217720 < p {
+            return p;
+        }
+        p = write_float(out, p, true, w, wire::number(m, from, wire::index(w)));
+        from += wire::index(w);
+        left -= 1;
+    }
+    p
+}
+
+// The n enums of k values from `at`, elements of a list.
+pub fn write_enums(m: &[u8], out: &mut [u8], pos: usize, k: u8, at: usize, n: usize) -> usize
+    requires { ⌜ Room (now out) pos ⌝ }
+    requires { ⌜ (at < 2 ^ 58) × (n < 2 ^ 48) ⌝ }
+    ensures { λ r. ⌜ Puts (now (out .entry)) pos (Bt.enumsAt (now (m .entry)) k n at) (now (out .exit)) r ⌝ }
+{
+    let mut p = pos;
+    let mut from = at;
+    let mut left = n;
+    while 0 < left {
+        if 134217720 < p {
+            return p;
+        }
+        p = write_enum(out, p, k, wire::byte(m, from));
+        from += 1;
+        left -= 1;
+    }
+    p
+}
+
 // A text or bytes with its mark: the n bytes from `at`.
 pub fn write_blob(m: &[u8], out: &mut [u8], pos: usize, at: usize, n: usize) -> usize
     requires { ⌜ Room (now out) pos ⌝ }
