@@ -1,5 +1,5 @@
 -- A mark and what follows it, and elements without a mark, as bits of the sheet.
-use Prim.Native.Nat.{ℕ, zero, suc, _+_, _*_, _/_, _%_}
+use Prim.Native.Nat.{ℕ, zero, suc, _+_, _*_, _/_, _%_, _^_}
 use mathlib.Core.Bool.{Bool, true, _&&_}
 use mathlib.Core.List.{List, [], _++_}
 use lib.ListN.{getD, take, drop}
@@ -42,6 +42,11 @@ floatsAt m w (suc n) at = floatAt true w (le m at w) ++ floatsAt m w n (at + w)
 unfoldable pub enumsAt : List ℕ → ℕ → ℕ → ℕ → List ℕ
 enumsAt m k zero at = []
 enumsAt m k (suc n) at = enumAt k (getD m at 0) ++ enumsAt m k n (at + 1)
+
+-- n bits of a byte from bit k on
+unfoldable pub bitsFrom : ℕ → ℕ → ℕ → List ℕ
+bitsFrom x zero k = []
+bitsFrom x (suc n) k = bitsOf 1 (x / 2 ^ k % 2) ++ bitsFrom x n (k + 1)
 
 -- bool i of the bytes from `start`
 unfoldable pub boolAt : List ℕ → ℕ → ℕ → ℕ
