@@ -1,3 +1,4 @@
 pub mod Bools
 pub mod Cases
+pub mod Elements
 pub mod Remaining

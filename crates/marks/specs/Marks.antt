@@ -1,8 +1,8 @@
 -- A mark and what follows it, and elements without a mark, as bits of the sheet.
-use Prim.Native.Nat.{ℕ, zero, suc, _+_, _*_, _/_, _%_}
-use mathlib.Core.Bool.{Bool, _&&_}
+use Prim.Native.Nat.{ℕ, zero, suc, _+_, _*_, _/_, _%_, _^_}
+use mathlib.Core.Bool.{Bool, true, _&&_}
 use mathlib.Core.List.{List, [], _++_}
-use lib.ListN.{take, drop}
+use lib.ListN.{getD, take, drop}
 use lib.Dec.{leb, ltb, eqb}
 use Rattle.coding.specs.Lists.{pick}
 use Rattle.coding.specs.Bytes.{le, bitAt, isNaN}
@@ -33,6 +33,20 @@ blobAt m at n = bitsOf 2 1 ++ E.blobBits (take n (drop at m))
 unfoldable pub numbersAt : List ℕ → ℕ → ℕ → ℕ → List ℕ
 numbersAt m w zero at = []
 numbersAt m w (suc n) at = bitsOf (8 * w) (le m at w) ++ numbersAt m w n (at + w)
+
+-- n floats of w bytes, in which a NaN is no value, and n enums of k values
+unfoldable pub floatsAt : List ℕ → ℕ → ℕ → ℕ → List ℕ
+floatsAt m w zero at = []
+floatsAt m w (suc n) at = floatAt true w (le m at w) ++ floatsAt m w n (at + w)
+
+unfoldable pub enumsAt : List ℕ → ℕ → ℕ → ℕ → List ℕ
+enumsAt m k zero at = []
+enumsAt m k (suc n) at = enumAt k (getD m at 0) ++ enumsAt m k n (at + 1)
+
+-- n bits of a byte from bit k on
+unfoldable pub bitsFrom : ℕ → ℕ → ℕ → List ℕ
+bitsFrom x zero k = []
+bitsFrom x (suc n) k = bitsOf 1 (x / 2 ^ k % 2) ++ bitsFrom x n (k + 1)
 
 -- bool i of the bytes from `start`
 unfoldable pub boolAt : List ℕ → ℕ → ℕ → ℕ

@@ -2,6 +2,7 @@
 // where there is room.
 ghost use mathlib.Core.Path.{_≡_};
 ghost use mathlib.Core.Bool.{Bool};
+ghost use mathlib.Core.List.{_++_};
 ghost use Prim.Native.Nat.{_+_, _-_, _*_, _<_, _≤_, _^_};
 ghost use lib.ListN.{length};
 ghost use Rattle.coding.specs.Bytes as B;
@@ -156,18 +157,96 @@ fn gathered(left: usize) -> usize
     if left < 32 { left } else { 32 }
 }
 
-// The n bools of the bytes from `start`.
+// hi, and behind it lo, of n bits each.
+fn pair(hi: u64, lo: u64, n: usize) -> u64
+    requires { ⌜ (hi < 2 ^ n) × (lo < 2 ^ n) × (n ≤ 32) ⌝ }
+    ensures { λ r. ⌜ (bitsOf (n + n) r ≡ bitsOf n hi ++ bitsOf n lo) × (r < 2 ^ (n + n)) ⌝ }
+{
+    hi << n | lo
+}
+
+// Two, four and all bits of a byte, from bit k on, the first one highest. In this form the compiler reverses them at once.
+fn two_bits(x: u8, k: usize) -> u64
+    requires { ⌜ k ≤ 6 ⌝ }
+    ensures { λ r. ⌜ (bitsOf 2 r ≡ Bt.bitsFrom x 2 k) × (r < 2 ^ 2) ⌝ }
+{
+    pair(wire::bit_value(x, k), wire::bit_value(x, k + 1), 1)
+}
+
+fn four_bits(x: u8, k: usize) -> u64
+    requires { ⌜ k ≤ 4 ⌝ }
+    ensures { λ r. ⌜ (bitsOf 4 r ≡ Bt.bitsFrom x 4 k) × (r < 2 ^ 4) ⌝ }
+{
+    pair(two_bits(x, k), two_bits(x, k + 2), 2)
+}
+
+fn all_bits(x: u8) -> u64
+    ensures { λ r. ⌜ (bitsOf 8 r ≡ Bt.bitsFrom x 8 0) × (r < 2 ^ 8) ⌝ }
+{
+    pair(four_bits(x, 0), four_bits(x, 4), 4)
+}
+
+// The bools of two, four and eight bytes from `at` on.
+fn bools_16(m: &[u8], at: usize) -> u64
+    requires { ⌜ at < 2 ^ 62 ⌝ }
+    ensures { λ r. ⌜ (bitsOf 16 r ≡ Bt.boolsAt (now (m .entry)) at 16 0) × (r < 2 ^ 16) ⌝ }
+{
+    pair(
+        all_bits(wire::byte(m, at)),
+        all_bits(wire::byte(m, at + 1)),
+        8,
+    )
+}
+
+fn bools_32(m: &[u8], at: usize) -> u64
+    requires { ⌜ at < 2 ^ 61 ⌝ }
+    ensures { λ r. ⌜ (bitsOf 32 r ≡ Bt.boolsAt (now (m .entry)) at 32 0) × (r < 2 ^ 32) ⌝ }
+{
+    pair(bools_16(m, at), bools_16(m, at + 2), 16)
+}
+
+fn bools_64(m: &[u8], at: usize) -> u64
+    requires { ⌜ at < 2 ^ 60 ⌝ }
+    ensures { λ r. ⌜ bitsOf 64 r ≡ Bt.boolsAt (now (m .entry)) at 64 0 ⌝ }
+{
+    pair(bools_32(m, at), bools_32(m, at + 4), 32)
+}
+
+// The 64 * k bools of the bytes from `start`, for which there is room.
+fn put_bools(m: &[u8], out: &mut [u8], pos: usize, start: usize, k: usize) -> usize
+    requires { ⌜ (Room (now out) pos) × (pos + 64 * k ≤ 8 * length (now out)) ⌝ }
+    requires { ⌜ start < 2 ^ 59 ⌝ }
+    ensures { λ r. ⌜ Puts (now (out .entry)) pos (Bt.boolsAt (now (m .entry)) start (64 * k) 0) (now (out .exit)) r ⌝ }
+{
+    let mut p = pos;
+    let mut at = start;
+    let mut left = k;
+    while 0 < left {
+        bitio::put_eight(out, p, bools_64(m, at));
+        p += 64;
+        at += 8;
+        left -= 1;
+    }
+    p
+}
+
+// The n bools of the bytes from `start`: counted at once where there is no room.
 pub fn write_bools(m: &[u8], out: &mut [u8], pos: usize, start: usize, n: usize) -> usize
     requires { ⌜ Room (now out) pos ⌝ }
     requires { ⌜ (start < 2 ^ 59) × (n < 2 ^ 48) ⌝ }
     ensures { λ r. ⌜ Puts (now (out .entry)) pos (Bt.boolsAt (now (m .entry)) start n 0) (now (out .exit)) r ⌝ }
 {
-    let mut p = pos;
-    let mut i: usize = 0;
+    let end = pos + n;
+    if 134217720 < end {
+        return 134217721;
+    }
+    if 8 * out.len() < end {
+        return end;
+    }
+    let k = n >> 6;
+    let mut p = put_bools(m, out, pos, start, k);
+    let mut i = 64 * k;
     while i < n {
-        if 134217720 < p {
-            return p;
-        }
         let w = gathered(n - i);
         p = bitio::write(out, p, w, gather(m, start, i, w));
         i += w;
@@ -188,6 +267,46 @@ pub fn write_float(out: &mut [u8], pos: usize, none: bool, w: u8, x: u64) -> usi
         return write_marked(out, pos, 1, 8 * wire::index(w), x);
     }
     write_marked(out, pos, 1, 8 * wire::index(w), x)
+}
+
+// The n floats of w bytes from `at`, elements of a list, in which a NaN is no value.
+pub fn write_floats(m: &[u8], out: &mut [u8], pos: usize, w: u8, at: usize, n: usize) -> usize
+    requires { ⌜ Room (now out) pos ⌝ }
+    requires { ⌜ (w ≤ 8) × (at < 2 ^ 58) × (n < 2 ^ 48) ⌝ }
+    ensures { λ r. ⌜ Puts (now (out .entry)) pos (Bt.floatsAt (now (m .entry)) w n at) (now (out .exit)) r ⌝ }
+{
+    let mut p = pos;
+    let mut from = at;
+    let mut left = n;
+    while 0 < left {
+        if 134217720 < p {
+            return p;
+        }
+        p = write_float(out, p, true, w, wire::number(m, from, wire::index(w)));
+        from += wire::index(w);
+        left -= 1;
+    }
+    p
+}
+
+// The n enums of k values from `at`, elements of a list.
+pub fn write_enums(m: &[u8], out: &mut [u8], pos: usize, k: u8, at: usize, n: usize) -> usize
+    requires { ⌜ Room (now out) pos ⌝ }
+    requires { ⌜ (at < 2 ^ 58) × (n < 2 ^ 48) ⌝ }
+    ensures { λ r. ⌜ Puts (now (out .entry)) pos (Bt.enumsAt (now (m .entry)) k n at) (now (out .exit)) r ⌝ }
+{
+    let mut p = pos;
+    let mut from = at;
+    let mut left = n;
+    while 0 < left {
+        if 134217720 < p {
+            return p;
+        }
+        p = write_enum(out, p, k, wire::byte(m, from));
+        from += 1;
+        left -= 1;
+    }
+    p
 }
 
 // A text or bytes with its mark: the n bytes from `at`.
