@@ -1214,7 +1214,7 @@ fn emit_elements(
     stored(p, at)
 }
 
-// A list's content.
+// A list's content. Integers of one byte are stored as bytes are.
 fn emit_list(
     b: &[u8],
     dir: &[u16],
@@ -1230,6 +1230,9 @@ fn emit_list(
     ensures { λ r. ⌜ EmittedAt (now (s .entry)) (Es.emitContent (Es.emit d B.u48 (P.parse (now (b .entry)))) (Sv.survey d B.u48 (P.parse (now (b .entry)))) B.u48 (P.parse (now (b .entry))) (Object.List i) (stateOf c (now (out .entry))) (drop pos (bits (now (s .entry))))) pos c 0 (r .whole) (r .places) (now (out .exit)) (r .next) ⌝ }
 {
     let k = schema::element(b, dir, i);
+    if integer_width(k) == 1 {
+        return emit_bytes(s, out, c, pos);
+    }
     let y = bitio::take_number(s, pos, 32);
     if !y.whole {
         return not_lawful(c, pos);
