@@ -3,14 +3,13 @@ use mathlib.Core.Path.{_≡_, refl, sym, ap, ap₂, _∙_, subst}
 use mathlib.Core.List.{List, [], _++_, append-assoc, append-nil}
 use Prim.Native.Nat.{ℕ, zero, suc, _+_, _-_, _*_, _/_, _%_, _^_, _<_, _≤_}
 use native.Mathlib.Omega.{arith}
-use native.Mathlib.Nat.{zero-add, lt-of-lt-of-le}
+use native.Mathlib.Nat.{zero-add}
 use lib.ListN.{length, getD, length-append}
-use lib.Pow.{pow-add, pow-mono, shl-exact, shl-lt}
-use lib.Bits.{bitOr, or-shifted, or-lt}
+use lib.Pow.{pow-add, shl-exact}
+use lib.Bits.{bitOr, or-shifted}
 use Rattle.coding.specs.Bytes.{bitAt}
 use Rattle.coding.specs.Bits.{bitsOf, bits}
 use Rattle.laws.specs.Bits.{bitsOf-join, bitsOf-length}
-use Rattle.bits.proofs.Masks.{or-more}
 use Rattle.bitio.specs.Splice.{splice}
 use Rattle.bitio.specs.Puts.{Room, Puts}
 use Rattle.bitio.specs.PutsLaws.{bits-in, run-over, run-not}
@@ -104,17 +103,6 @@ pub bools-all : (o o₁ o₂ : List ℕ) (p q r : ℕ) (m : List ℕ) (start n k
 bools-all o o₁ o₂ p q r m start n k i g h puts inv g₂ l =
     bools-rest o p m start n g o₁ q k h puts .on o₂ r (bools-done o₁ o₂ q r (A.boolsAt m start (n - 64 * k) (64 * k)) m start n i inv g₂ l)
 
--- ---- two numbers of n bits joined
-module _ (hi lo n : ℕ) (h : hi < 2 ^ n) (l : lo < 2 ^ n) (few : n ≤ 32) where
-  pub pair-bits : bitsOf (n + n) (bitOr ((hi * 2 ^ n) % 2 ^ 64) lo) ≡ bitsOf n hi ++ bitsOf n lo
-  pair-bits = ap (bitsOf (n + n)) (or-more hi n n lo h (omega arith) l) ∙ bitsOf-join n n hi lo l
-
-  pub pair-small : bitOr ((hi * 2 ^ n) % 2 ^ 64) lo < 2 ^ (n + n)
-  pair-small =
-      let a : hi * 2 ^ n < 2 ^ (n + n) = shl-lt n n h in
-      or-lt (n + n) _ _ (subst (λ (k : ℕ). k < 2 ^ (n + n)) (sym (shl-exact n n 64 h (omega arith))) a)
-      (lt-of-lt-of-le l (pow-mono (let z : n ≤ n + n = omega arith in z)))
-
 -- ---- the bits of a byte
 bits-split : (x a b k : ℕ) → A.bitsFrom x (a + b) k ≡ A.bitsFrom x a k ++ A.bitsFrom x b (k + a)
 unfolding A.bitsFrom
@@ -129,23 +117,23 @@ bits-split x (suc a) b k =
     ∙ ap (λ (l : List ℕ). bitsOf 1 (x / 2 ^ k % 2) ++ l) (bits-split x a b (k + 1) ∙ ap (λ (i : ℕ). A.bitsFrom x a (k + 1) ++ A.bitsFrom x b i) y)
     ∙ sym (append-assoc (bitsOf 1 (x / 2 ^ k % 2)) (A.bitsFrom x a (k + 1)) (A.bitsFrom x b (k + suc a)))
 
-bits-twice : (x k n hi lo r : ℕ) → bitsOf (n + n) r ≡ bitsOf n hi ++ bitsOf n lo → bitsOf n hi ≡ A.bitsFrom x n k → bitsOf n lo ≡ A.bitsFrom x n (k + n)
+bits-twice : (x k n hi lo r : ℕ) → r ≡ hi * 2 ^ n + lo → lo < 2 ^ n → bitsOf n hi ≡ A.bitsFrom x n k → bitsOf n lo ≡ A.bitsFrom x n (k + n)
     → bitsOf (n + n) r ≡ A.bitsFrom x (n + n) k
-bits-twice x k n hi lo r e h l = e ∙ ap₂ _++_ h l ∙ sym (bits-split x n n k)
+bits-twice x k n hi lo r e s h l = ap (bitsOf (n + n)) e ∙ bitsOf-join n n hi lo s ∙ ap₂ _++_ h l ∙ sym (bits-split x n n k)
 
 bit-one : (x k v : ℕ) → v ≡ x / 2 ^ k % 2 → bitsOf 1 v ≡ A.bitsFrom x 1 k
 unfolding A.bitsFrom
 bit-one x k v e = ap (bitsOf 1) e ∙ sym (append-nil (bitsOf 1 (x / 2 ^ k % 2)))
 
 module _ (x k hi lo r : ℕ) where
-  pub bits-two : bitsOf 2 r ≡ bitsOf 1 hi ++ bitsOf 1 lo → hi ≡ x / 2 ^ k % 2 → lo ≡ x / 2 ^ (k + 1) % 2 → bitsOf 2 r ≡ A.bitsFrom x 2 k
-  bits-two e h l = bits-twice x k 1 hi lo r e (bit-one x k hi h) (bit-one x (k + 1) lo l)
+  pub bits-two : r ≡ hi * 2 ^ 1 + lo → lo < 2 → hi ≡ x / 2 ^ k % 2 → lo ≡ x / 2 ^ (k + 1) % 2 → bitsOf 2 r ≡ A.bitsFrom x 2 k
+  bits-two e s h l = bits-twice x k 1 hi lo r e s (bit-one x k hi h) (bit-one x (k + 1) lo l)
 
-  pub bits-four : bitsOf 4 r ≡ bitsOf 2 hi ++ bitsOf 2 lo → bitsOf 2 hi ≡ A.bitsFrom x 2 k → bitsOf 2 lo ≡ A.bitsFrom x 2 (k + 2) → bitsOf 4 r ≡ A.bitsFrom x 4 k
-  bits-four e h l = bits-twice x k 2 hi lo r e h l
+  pub bits-four : r ≡ hi * 2 ^ 2 + lo → lo < 2 ^ 2 → bitsOf 2 hi ≡ A.bitsFrom x 2 k → bitsOf 2 lo ≡ A.bitsFrom x 2 (k + 2) → bitsOf 4 r ≡ A.bitsFrom x 4 k
+  bits-four e s h l = bits-twice x k 2 hi lo r e s h l
 
-  pub bits-eight : bitsOf 8 r ≡ bitsOf 4 hi ++ bitsOf 4 lo → bitsOf 4 hi ≡ A.bitsFrom x 4 0 → bitsOf 4 lo ≡ A.bitsFrom x 4 4 → bitsOf 8 r ≡ A.bitsFrom x 8 0
-  bits-eight e h l = bits-twice x 0 4 hi lo r e h l
+  pub bits-eight : r ≡ hi * 2 ^ 4 + lo → lo < 2 ^ 4 → bitsOf 4 hi ≡ A.bitsFrom x 4 0 → bitsOf 4 lo ≡ A.bitsFrom x 4 4 → bitsOf 8 r ≡ A.bitsFrom x 8 0
+  bits-eight e s h l = bits-twice x 0 4 hi lo r e s h l
 
 bits-bools : (m : List ℕ) (at n i : ℕ) → i + n ≤ 8 → A.boolsAt m at n i ≡ A.bitsFrom (getD m at 0) n i
 unfolding A.boolsAt A.boolAt A.bitsFrom bitAt
@@ -175,21 +163,21 @@ bools-behind m at n j b e =
     bools-split m at n b 0 ∙ ap (λ (s : List ℕ). A.boolsAt m at n 0 ++ s) (ap (λ (k : ℕ). A.boolsAt m at b k) z ∙ bools-from m at j b 0)
 
 module _ (m : List ℕ) (at hi lo r : ℕ) where
-  bools-twice : (n j : ℕ) → n ≡ 8 * j → bitsOf (n + n) r ≡ bitsOf n hi ++ bitsOf n lo → bitsOf n hi ≡ A.boolsAt m at n 0
+  bools-twice : (n j : ℕ) → n ≡ 8 * j → r ≡ hi * 2 ^ n + lo → lo < 2 ^ n → bitsOf n hi ≡ A.boolsAt m at n 0
       → bitsOf n lo ≡ A.boolsAt m (at + j) n 0 → bitsOf (n + n) r ≡ A.boolsAt m at (n + n) 0
-  bools-twice n j e f h l = f ∙ ap₂ _++_ h l ∙ sym (bools-behind m at n j n e)
+  bools-twice n j e f s h l = ap (bitsOf (n + n)) f ∙ bitsOf-join n n hi lo s ∙ ap₂ _++_ h l ∙ sym (bools-behind m at n j n e)
 
-  pub bools-two : (x y : ℕ) → x ≡ getD m at 0 → y ≡ getD m (at + 1) 0 → bitsOf 16 r ≡ bitsOf 8 hi ++ bitsOf 8 lo → bitsOf 8 hi ≡ A.bitsFrom x 8 0
+  pub bools-two : (x y : ℕ) → x ≡ getD m at 0 → y ≡ getD m (at + 1) 0 → r ≡ hi * 2 ^ 8 + lo → lo < 2 ^ 8 → bitsOf 8 hi ≡ A.bitsFrom x 8 0
       → bitsOf 8 lo ≡ A.bitsFrom y 8 0 → bitsOf 16 r ≡ A.boolsAt m at 16 0
-  bools-two x y ex ey e h l = bools-twice 8 1 refl e (byte-bools m at x hi ex h) (byte-bools m (at + 1) y lo ey l)
+  bools-two x y ex ey e s h l = bools-twice 8 1 refl e s (byte-bools m at x hi ex h) (byte-bools m (at + 1) y lo ey l)
 
-  pub bools-four : bitsOf 32 r ≡ bitsOf 16 hi ++ bitsOf 16 lo → bitsOf 16 hi ≡ A.boolsAt m at 16 0 → bitsOf 16 lo ≡ A.boolsAt m (at + 2) 16 0
+  pub bools-four : r ≡ hi * 2 ^ 16 + lo → lo < 2 ^ 16 → bitsOf 16 hi ≡ A.boolsAt m at 16 0 → bitsOf 16 lo ≡ A.boolsAt m (at + 2) 16 0
       → bitsOf 32 r ≡ A.boolsAt m at 32 0
-  bools-four e h l = bools-twice 16 2 refl e h l
+  bools-four e s h l = bools-twice 16 2 refl e s h l
 
-  pub bools-eight : bitsOf 64 r ≡ bitsOf 32 hi ++ bitsOf 32 lo → bitsOf 32 hi ≡ A.boolsAt m at 32 0 → bitsOf 32 lo ≡ A.boolsAt m (at + 4) 32 0
+  pub bools-eight : r ≡ hi * 2 ^ 32 + lo → lo < 2 ^ 32 → bitsOf 32 hi ≡ A.boolsAt m at 32 0 → bitsOf 32 lo ≡ A.boolsAt m (at + 4) 32 0
       → bitsOf 64 r ≡ A.boolsAt m at 64 0
-  bools-eight e h l = bools-twice 32 4 refl e h l
+  bools-eight e s h l = bools-twice 32 4 refl e s h l
 
 -- ---- whole words
 pub words-start : (o : List ℕ) (p : ℕ) (m : List ℕ) (start k : ℕ) → Remaining o p (A.boolsAt m start (64 * k) 0) o p (A.boolsAt m start (64 * k) 0)

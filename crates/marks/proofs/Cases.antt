@@ -1,7 +1,7 @@
 -- The ways out of the writers.
 use mathlib.Core.Path.{_≡_, refl, sym, ap, ap₂, _∙_, subst}
 use mathlib.Core.Bool.{Bool, true, false}
-use mathlib.Core.List.{List, _++_, append-assoc}
+use mathlib.Core.List.{List, [], _++_, append-assoc}
 use Prim.Native.Nat.{ℕ, zero, suc, _+_, _-_, _*_, _/_, _%_, _^_, _<_, _≤_}
 use native.Mathlib.Omega.{arith}
 use native.Mathlib.Nat.{mul-zero, mul-suc, mul-le-mul, le-of-lt, mod-lt}
@@ -15,11 +15,10 @@ use Rattle.coding.specs.Bits.{bitsOf, bits}
 use Rattle.coding.specs.Sheet as E
 use Rattle.laws.specs.Bits.{bitsOf-length, bitsOf-split, bitsOf-low, bitsOf-mod, bitsOf-join}
 use Rattle.wire.specs.Numbers.{Number, le-join}
-use Rattle.bitio.specs.Splice.{splice}
 use Rattle.bitio.specs.Puts.{Room, Puts, saturated}
-use Rattle.bitio.specs.PutsLaws.{count-in, count-over, puts-then, puts-same, run-over, run-not, bits-in}
+use Rattle.bitio.specs.PutsLaws.{count-in, count-over, puts-then, puts-same, run-over, run-not}
 use Rattle.marks.specs.Marks as A
-use Rattle.marks.proofs.Remaining.{Remaining, remaining-all, remaining-turn, remaining-done}
+use Rattle.marks.proofs.Remaining.{Remaining, remaining-turn}
 
 -- ---- a mark and a number
 -- as one number
@@ -157,34 +156,12 @@ numbers-cons : (m : List ℕ) (w n at : ℕ) → 0 < n → A.numbersAt m w n at 
 unfolding A.numbersAt
 numbers-cons m w n at h = let e : n ≡ suc (n - 1) = omega arith in ap (λ (k : ℕ). A.numbersAt m w k at) e
 
-pub numbers-start : (o : List ℕ) (p : ℕ) (m : List ℕ) (w n at : ℕ) → Remaining o p (A.numbersAt m w n at) o p (A.numbersAt m w n at)
-numbers-start o p m w n at = remaining-all o p (A.numbersAt m w n at) (A.numbersAt m w n at) refl
-
 pub numbers-turn : (o₀ o o₁ : List ℕ) (p₀ p p₁ : ℕ) (whole m : List ℕ) (w n at : ℕ) → Remaining o₀ p₀ whole o p (A.numbersAt m w n at) → Room o p → 0 < n
     → Puts o p (bitsOf (8 * w) (le m at w)) o₁ p₁ → Remaining o₀ p₀ whole o₁ p₁ (A.numbersAt m w (n - 1) (at + w))
 numbers-turn o₀ o o₁ p₀ p p₁ whole m w n at inv g h k =
     remaining-turn o₀ o o₁ p₀ p p₁ whole (A.numbersAt m w n at) (bitsOf (8 * w) (le m at w)) (A.numbersAt m w (n - 1) (at + w)) inv (g .short)
     (numbers-cons m w n at h) k
 
-pub numbers-done : (o₀ o : List ℕ) (p₀ p : ℕ) (whole m : List ℕ) (w n at : ℕ) → Remaining o₀ p₀ whole o p (A.numbersAt m w n at) → Room o p → n ≤ 0 → Puts o₀ p₀ whole o p
+pub numbers-none : (m : List ℕ) (w n at : ℕ) → n ≤ 0 → A.numbersAt m w n at ≡ []
 unfolding A.numbersAt
-numbers-done o₀ o p₀ p whole m w n at inv g h =
-    let z : n ≡ 0 = omega arith in
-    remaining-done o₀ o p₀ p whole (A.numbersAt m w n at) inv g (ap (λ (k : ℕ). A.numbersAt m w k at) z)
-
--- eight bytes that are put where there is room
-pub words-turn : (o₀ o o₁ : List ℕ) (p₀ p : ℕ) (whole m : List ℕ) (n at x : ℕ) → Remaining o₀ p₀ whole o p (A.numbersAt m 8 n at) → Room o p → p + 64 * n ≤ 8 * length o → 0 < n
-    → Number m at 8 x → length o₁ ≡ length o → bits o₁ ≡ splice (bits o) p (bitsOf 64 x) → Remaining o₀ p₀ whole o₁ (p + 64) (A.numbersAt m 8 (n - 1) (at + 8))
-words-turn o₀ o o₁ p₀ p whole m n at x inv g fit h nx l k =
-    let s = g .short in
-    numbers-turn o₀ o o₁ p₀ p (p + 64) whole m 8 n at inv g h (number-puts m o o₁ p (p + 64) 8 at x nx (bits-in o p 64 x g (omega arith) o₁ l k))
-
-pub words-room : (o o₁ : List ℕ) (p n : ℕ) → Room o p → p + 64 * n ≤ 8 * length o → 0 < n → length o₁ ≡ length o → Room o₁ (p + 64)
-words-room o o₁ p n g fit h l = let s = g .short in record { short = omega arith; most = omega arith }
-
-module _ (w n : ℕ) (e : w ≡ 8) where
-  pub words-fit : (p k l : ℕ) → k ≡ 8 * w * n → p + k ≤ l → p + 64 * n ≤ l
-  words-fit p k l z h = let y : k ≡ 64 * n = z ∙ ap (λ (i : ℕ). 8 * i * n) e in omega arith
-
-  pub words-puts : (o o₁ : List ℕ) (p q : ℕ) (m : List ℕ) (at : ℕ) → Puts o p (A.numbersAt m 8 n at) o₁ q → Puts o p (A.numbersAt m w n at) o₁ q
-  words-puts o o₁ p q m at h = puts-same o o₁ p q (A.numbersAt m 8 n at) (A.numbersAt m w n at) (ap (λ (i : ℕ). A.numbersAt m i n at) (sym e)) h
+numbers-none m w n at h = let z : n ≡ 0 = omega arith in ap (λ (k : ℕ). A.numbersAt m w k at) z

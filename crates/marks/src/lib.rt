@@ -2,8 +2,7 @@
 // where there is room.
 ghost use mathlib.Core.Path.{_≡_};
 ghost use mathlib.Core.Bool.{Bool};
-ghost use mathlib.Core.List.{_++_};
-ghost use Prim.Native.Nat.{_+_, _-_, _*_, _<_, _≤_, _^_};
+ghost use Prim.Native.Nat.{_+_, _-_, _*_, _/_, _<_, _≤_, _^_};
 ghost use lib.ListN.{length};
 ghost use Rattle.coding.specs.Bytes as B;
 ghost use Rattle.coding.specs.Bits.{bitsOf};
@@ -79,17 +78,73 @@ fn numbers_size(w: usize, n: usize) -> usize
     8 * w * n
 }
 
-// The n numbers of eight bytes from `at`, for which there is room.
-fn put_words(m: &[u8], out: &mut [u8], pos: usize, at: usize, n: usize) -> usize
+// Two numbers of n bits as one, the first one higher.
+fn pair(hi: u64, lo: u64, n: usize) -> u64
+    requires { ⌜ (n ≤ 32) × (hi < 2 ^ n) × (lo < 2 ^ n) ⌝ }
+    ensures { λ r. ⌜ (r ≡ hi * 2 ^ n + lo) × (r < 2 ^ (n + n)) ⌝ }
+{
+    hi << n | lo
+}
+
+// How many numbers of w bytes eight bytes have, as a power of 2; 3 where they are not put by the word.
+fn grouping(w: usize) -> usize
+    ensures { λ r. ⌜ (r ≤ 2 → w ≡ 8 / 2 ^ r) ⌝ }
+{
+    if w == 8 {
+        return 0;
+    }
+    if w == 4 {
+        return 1;
+    }
+    if w == 2 {
+        return 2;
+    }
+    3
+}
+
+// How many words n numbers fill, 2 ^ s of them each.
+fn grouped(n: usize, s: usize) -> usize
+    requires { ⌜ s ≤ 2 ⌝ }
+    ensures { λ r. ⌜ (r * 2 ^ s ≤ n) × (r ≤ n) ⌝ }
+{
+    n >> s
+}
+
+// How many of n numbers are left over by k words.
+fn ungrouped(n: usize, k: usize, s: usize) -> usize
+    requires { ⌜ (s ≤ 2) × (k * 2 ^ s ≤ n) × (n < 2 ^ 48) ⌝ }
+    ensures { λ r. ⌜ n ≡ k * 2 ^ s + r ⌝ }
+{
+    n - (k << s)
+}
+
+// The eight bytes from `at` as 2 ^ s numbers, the first one highest.
+fn word_of(m: &[u8], at: usize, s: usize) -> u64
+    requires { ⌜ (s ≤ 2) × (at < 2 ^ 60) ⌝ }
+    ensures { λ r. ⌜ bitsOf 64 r ≡ Bt.numbersAt (now (m .entry)) (8 / 2 ^ s) (2 ^ s) at ⌝ }
+{
+    if s == 0 {
+        return wire::number(m, at, 8);
+    }
+    if s == 1 {
+        return pair(wire::number(m, at, 4), wire::number(m, at + 4, 4), 32);
+    }
+    let hi = pair(wire::number(m, at, 2), wire::number(m, at + 2, 2), 16);
+    let lo = pair(wire::number(m, at + 4, 2), wire::number(m, at + 6, 2), 16);
+    pair(hi, lo, 32)
+}
+
+// The n words from `at` that have 2 ^ s numbers each, for which there is room.
+fn put_words(m: &[u8], out: &mut [u8], pos: usize, s: usize, at: usize, n: usize) -> usize
     requires { ⌜ (Room (now out) pos) × (pos + 64 * n ≤ 8 * length (now out)) ⌝ }
-    requires { ⌜ (at < 2 ^ 58) × (n < 2 ^ 48) ⌝ }
-    ensures { λ r. ⌜ Puts (now (out .entry)) pos (Bt.numbersAt (now (m .entry)) 8 n at) (now (out .exit)) r ⌝ }
+    requires { ⌜ (s ≤ 2) × (at < 2 ^ 58) × (n < 2 ^ 48) ⌝ }
+    ensures { λ r. ⌜ Puts (now (out .entry)) pos (Bt.numbersAt (now (m .entry)) (8 / 2 ^ s) (n * 2 ^ s) at) (now (out .exit)) r ⌝ }
 {
     let mut p = pos;
     let mut from = at;
     let mut left = n;
     while 0 < left {
-        bitio::put_eight(out, p, wire::number(m, from, 8));
+        bitio::put_eight(out, p, word_of(m, from, s));
         p += 64;
         from += 8;
         left -= 1;
@@ -97,7 +152,24 @@ fn put_words(m: &[u8], out: &mut [u8], pos: usize, at: usize, n: usize) -> usize
     p
 }
 
-// The n numbers of w bytes from `at`: counted at once where there is no room.
+// The n numbers of w bytes from `at`, one after the other.
+fn put_each(m: &[u8], out: &mut [u8], pos: usize, w: usize, at: usize, n: usize) -> usize
+    requires { ⌜ Room (now out) pos ⌝ }
+    requires { ⌜ (w ≤ 8) × (at < 2 ^ 59) × (n < 2 ^ 48) ⌝ }
+    ensures { λ r. ⌜ Puts (now (out .entry)) pos (Bt.numbersAt (now (m .entry)) w n at) (now (out .exit)) r ⌝ }
+{
+    let mut p = pos;
+    let mut from = at;
+    let mut left = n;
+    while 0 < left {
+        p = write_number(m, out, p, w, from);
+        from += w;
+        left -= 1;
+    }
+    p
+}
+
+// The n numbers of w bytes from `at`: counted at once where there is no room, and put by the word where w is 2, 4 or 8.
 pub fn write_numbers(m: &[u8], out: &mut [u8], pos: usize, w: usize, at: usize, n: usize) -> usize
     requires { ⌜ Room (now out) pos ⌝ }
     requires { ⌜ (w ≤ 8) × (at < 2 ^ 58) × (n < 2 ^ 48) ⌝ }
@@ -110,21 +182,13 @@ pub fn write_numbers(m: &[u8], out: &mut [u8], pos: usize, w: usize, at: usize, 
     if 8 * out.len() < end {
         return end;
     }
-    if w == 8 {
-        return put_words(m, out, pos, at, n);
+    let s = grouping(w);
+    if 2 < s {
+        return put_each(m, out, pos, w, at, n);
     }
-    let mut p = pos;
-    let mut from = at;
-    let mut left = n;
-    while 0 < left {
-        if 134217720 < p {
-            return p;
-        }
-        p = write_number(m, out, p, w, from);
-        from += w;
-        left -= 1;
-    }
-    p
+    let k = grouped(n, s);
+    let p = put_words(m, out, pos, s, at, k);
+    put_each(m, out, p, w, at + 8 * k, ungrouped(n, k, s))
 }
 
 // Bool i of the bytes from `start`.
@@ -155,14 +219,6 @@ fn gathered(left: usize) -> usize
     ensures { λ r. ⌜ (0 < r) × (r ≤ left) × (r ≤ 32) ⌝ }
 {
     if left < 32 { left } else { 32 }
-}
-
-// hi, and behind it lo, of n bits each.
-fn pair(hi: u64, lo: u64, n: usize) -> u64
-    requires { ⌜ (hi < 2 ^ n) × (lo < 2 ^ n) × (n ≤ 32) ⌝ }
-    ensures { λ r. ⌜ (bitsOf (n + n) r ≡ bitsOf n hi ++ bitsOf n lo) × (r < 2 ^ (n + n)) ⌝ }
-{
-    hi << n | lo
 }
 
 // Two, four and all bits of a byte, from bit k on, the first one highest. In this form the compiler reverses them at once.

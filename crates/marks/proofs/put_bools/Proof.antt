@@ -5,7 +5,7 @@ use lib.ListN.{length}
 use Rattle.bitio.specs.Puts.{Room}
 use Rattle.marks.specs.Marks as A
 use Rattle.marks.proofs.Remaining.{Remaining}
-use Rattle.marks.proofs.Cases.{words-room}
+use Rattle.marks.proofs.Words.{words-room}
 use Rattle.marks.proofs.Bools.{words-start, words-turn, words-done}
 use borrow.Author.Needs.{needs}
 use Rattle.marks.proofs.put_bools.Statement.{statement}
