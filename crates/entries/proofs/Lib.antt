@@ -8,6 +8,7 @@ pub mod Flats
 pub mod Values
 pub mod LeafCases
 pub mod References
+pub mod Runs
 pub mod CodedMembers
 pub mod CodedWays
 pub mod Leads

@@ -165,7 +165,7 @@ pub elements-readable : (child : D.Child) (S : Schema) (m : List ℕ) (k : Kind)
     → D.ElementsReadable child S m k start (n - 0) 0
 elements-readable child S m k start n h = let z : n ≡ n - 0 = omega arith in subst (λ (x : ℕ). D.ElementsReadable child S m k start x 0) z h
 
-elements-cons : (d : ℕ) (S : Schema) (m : List ℕ) (k : Kind) (start n i : ℕ) → E.bare k ≡ false
+pub elements-cons : (d : ℕ) (S : Schema) (m : List ℕ) (k : Kind) (start n i : ℕ) → E.bare k ≡ false
     → D.StepReadable (D.ObjectReadable d S m) S m (T.elementStep u48 S m k start i)
     → A.elementsAt d S m k start (suc n) i ≡ A.stepAt d S m k (T.elementStep u48 S m k start i) ++ A.elementsAt d S m k start n (i + 1)
 unfolding A.elementsAt E.elementsBits R.elementsRead E.elementBits
@@ -236,8 +236,8 @@ bool-kind (OfFlat (F.Struct i)) e = let z : _≡_ {A = ℕ} 0 1 = cc in absurd (
 bool-kind (OfObject ob) e = let z : _≡_ {A = ℕ} 0 1 = cc in absurd (omega arith)
 bool-kind (OfUnion i) e = let z : _≡_ {A = ℕ} 0 1 = cc in absurd (omega arith)
 
--- an integer kind is one by its width; a kind that is none has marks
-integer-kind : (d : ℕ) (S : Schema) (m : List ℕ) (k : Kind) (start n : ℕ) → 0 < A.integerWidth k → K.numbersAt m (A.integerWidth k) n start ≡ A.elementsAt d S m k start n 0
+-- an integer kind is one by its width
+pub integer-kind : (d : ℕ) (S : Schema) (m : List ℕ) (k : Kind) (start n : ℕ) → 0 < A.integerWidth k → K.numbersAt m (A.integerWidth k) n start ≡ A.elementsAt d S m k start n 0
 unfolding A.integerWidth A.flatInteger
 integer-kind d S m (OfFlat F.Boolean) start n h = absurd (omega arith)
 integer-kind d S m (OfFlat (F.Integer s w)) start n h =
@@ -248,16 +248,6 @@ integer-kind d S m (OfFlat (F.Enumerated c)) start n h = absurd (omega arith)
 integer-kind d S m (OfFlat (F.Struct i)) start n h = absurd (omega arith)
 integer-kind d S m (OfObject ob) start n h = absurd (omega arith)
 integer-kind d S m (OfUnion i) start n h = absurd (omega arith)
-
-bare-kind : (S : Schema) (k : Kind) → KindSound S k → L.isBool k ≡ false → A.integerWidth k ≤ 0 → E.bare k ≡ false
-unfolding A.integerWidth A.flatInteger L.isBool L.flatIsBool E.bare E.flatBare
-bare-kind S (OfFlat F.Boolean) l e h = let z : _≡_ {A = ℕ} 0 1 = cc in absurd (omega arith)
-bare-kind S (OfFlat (F.Integer s w)) l e h = absurd (let a = l .0 in omega arith)
-bare-kind S (OfFlat (F.Float w)) l e h = refl
-bare-kind S (OfFlat (F.Enumerated c)) l e h = refl
-bare-kind S (OfFlat (F.Struct i)) l e h = refl
-bare-kind S (OfObject ob) l e h = refl
-bare-kind S (OfUnion i) l e h = refl
 
 pub integer-eight : (S : Schema) (k : Kind) (w : ℕ) → KindSound S k → w ≡ A.integerWidth k → w ≤ 8
 unfolding A.integerWidth A.flatInteger
@@ -284,29 +274,23 @@ list-start start x c h l = omega arith
 
 module _ (d : ℕ) (S : Schema) (m : List ℕ) (i start n x : ℕ) (k : Kind) (e : k ≡ Sc.elementOf S i) (ex : x ≡ n) (o o₁ o₂ : List ℕ) (p q r : ℕ) (g : Room o p)
     (h : Puts o p (bitsOf 32 x) o₁ q) where
-  joined : Puts o₁ q (A.elementsAt d S m k start n 0) o₂ r → Puts o p (A.listAt d S m (Sc.elementOf S i) start n) o₂ r
+  pub list-elements : Puts o₁ q (A.elementsAt d S m k start n 0) o₂ r → Puts o p (A.listAt d S m (Sc.elementOf S i) start n) o₂ r
   unfolding A.listAt
-  joined l =
+  list-elements l =
       puts-then o o₁ o₂ p q r (bitsOf 32 n) (A.elementsAt d S m (Sc.elementOf S i) start n 0) (g .short)
       (subst (λ (v : ℕ). Puts o p (bitsOf 32 v) o₁ q) ex h) (subst (λ (v : Kind). Puts o₁ q (A.elementsAt d S m v start n 0) o₂ r) e l)
 
   pub list-bools : (t : Bool) → t ≡ L.isBool k → t ≡ true → Puts o₁ q (K.boolsAt m start n 0) o₂ r → Puts o p (A.listAt d S m (Sc.elementOf S i) start n) o₂ r
   list-bools t et f l =
-      joined (puts-same o₁ o₂ q r (K.boolsAt m start n 0) (A.elementsAt d S m k start n 0)
+      list-elements (puts-same o₁ o₂ q r (K.boolsAt m start n 0) (A.elementsAt d S m k start n 0)
       (bools-same d S m start n 0 ∙ ap (λ (v : Kind). A.elementsAt d S m v start n 0) (sym (bool-kind k (sym et ∙ f)))) l)
 
   pub list-numbers : (w : ℕ) → w ≡ A.integerWidth k → 0 < w → Puts o₁ q (K.numbersAt m w n start) o₂ r → Puts o p (A.listAt d S m (Sc.elementOf S i) start n) o₂ r
   list-numbers w ew f l =
-      joined (puts-same o₁ o₂ q r (K.numbersAt m w n start) (A.elementsAt d S m k start n 0)
+      list-elements (puts-same o₁ o₂ q r (K.numbersAt m w n start) (A.elementsAt d S m k start n 0)
       (ap (λ (v : ℕ). K.numbersAt m v n start) ew ∙ integer-kind d S m k start n (subst (λ (v : ℕ). 0 < v) ew f)) l)
 
-  pub list-elements : Puts o₁ q (A.elementsAt d S m k start n 0) o₂ r → Puts o p (A.listAt d S m (Sc.elementOf S i) start n) o₂ r
-  list-elements l = joined l
-
 module _ (S : Schema) (i : ℕ) (k : Kind) (e : k ≡ Sc.elementOf S i) where
-  pub elements-marked : (t : Bool) (w : ℕ) → KindSound S k → t ≡ L.isBool k → t ≡ false → w ≡ A.integerWidth k → w ≤ 0 → E.bare k ≡ false
-  elements-marked t w l et f ew h = bare-kind S k l (sym et ∙ f) (subst (λ (v : ℕ). v ≤ 0) ew h)
-
   pub elements-inside : (start n c : ℕ) → start + T.elementsSize u48 S (Sc.elementOf S i) n ≤ c → start + T.elementsSize u48 S k n ≤ c
   elements-inside start n c h = subst (λ (v : Kind). start + T.elementsSize u48 S v n ≤ c) (sym e) h
 

@@ -1,7 +1,7 @@
 -- The sheet's bits of what stands in a message: encode of read, part by part, as the code goes over it.
 use Prim.Native.Nat.{ℕ, _+_, _-_, _*_}
 use mathlib.Core.Bool.{Bool, true}
-use mathlib.Core.List.{List, _++_}
+use mathlib.Core.List.{List, [], _++_}
 use lib.ListN.{getD}
 use lib.Dec.{leb, ltb, eqb}
 use Rattle.coding.specs.Lists.{pick}
@@ -11,7 +11,7 @@ use Rattle.coding.specs.Packed.{widthOf}
 use Rattle.coding.specs.Structs.{structOk}
 use Rattle.coding.specs.Bits.{bitsOf}
 use Rattle.coding.specs.Layout.{bitByte, bitIndex, afterBit}
-use Rattle.marks.specs.Marks.{marked, enumAt, floatAt, plainAt}
+use Rattle.marks.specs.Marks.{marked, enumAt, floatAt, floatsAt, enumsAt, plainAt}
 use Rattle.coding.specs.Read as R
 use Rattle.coding.specs.Sheet as E
 use Rattle.coding.specs.Step.{fieldStep, objectStep, unionStep}
@@ -150,6 +150,14 @@ unfoldable pub integerWidth : Kind → ℕ
 integerWidth (OfFlat k) = flatInteger k
 integerWidth (OfObject ob) = 0
 integerWidth (OfUnion i) = 0
+
+-- n floats or enums; the other flat elements have no mark
+unfoldable pub flatsAt : List ℕ → Flat → ℕ → ℕ → List ℕ
+flatsAt m F.Boolean n at = []
+flatsAt m (F.Integer s w) n at = []
+flatsAt m (F.Float w) n at = floatsAt m w n at
+flatsAt m (F.Enumerated k) n at = enumsAt m k n at
+flatsAt m (F.Struct i) n at = []
 
 -- a list's count and its n elements
 unfoldable pub listAt : ℕ → Schema → List ℕ → Kind → ℕ → ℕ → List ℕ

@@ -5,14 +5,13 @@ use coding::Kind;
 use coding::Object;
 use coding::Place;
 ghost use mathlib.Core.Path.{_≡_};
-ghost use mathlib.Core.Bool.{true, false};
-ghost use Prim.Native.Nat.{_+_, _-_, _*_, _<_, _≤_, _^_};
+ghost use mathlib.Core.Bool.{true};
+ghost use Prim.Native.Nat.{_+_, _*_, _<_, _≤_, _^_};
 ghost use lib.ListN.{length};
 ghost use Rattle.coding.specs.Bytes as B;
 ghost use Rattle.coding.specs.Layout as L;
 ghost use Rattle.coding.specs.Packed as P;
 ghost use Rattle.coding.specs.Schema as Sc;
-ghost use Rattle.coding.specs.Sheet as E;
 ghost use Rattle.coding.specs.Step as T;
 ghost use Rattle.coding.specs.Structs as S;
 ghost use Rattle.laws.specs.Sound.{FlatSound, KindSound};
@@ -176,6 +175,21 @@ fn write_flat(
         ),
         Flat::Enumerated(n) => marks::write_enum(out, pos, n, wire::byte_in(m, at)),
         Flat::Struct(i) => write_whole(b, dir, m, out, wire::index(i), at, pos),
+    }
+}
+
+// The n floats or enums of a list, which start at `at`; no other flat element has a mark.
+fn write_flats(m: &[u8], out: &mut [u8], f: Flat, at: usize, n: usize, pos: usize) -> usize
+    requires { ⌜ Room (now out) pos ⌝ }
+    requires { ⌜ (FlatSound 0 f) × (at < 2 ^ 58) × (n < 2 ^ 48) ⌝ }
+    ensures { λ r. ⌜ Puts (now (out .entry)) pos (Bt.flatsAt (now (m .entry)) f n at) (now (out .exit)) r ⌝ }
+{
+    match f {
+        Flat::Boolean => pos,
+        Flat::Integer(_, _) => pos,
+        Flat::Float(w) => marks::write_floats(m, out, pos, w, at, n),
+        Flat::Enumerated(k) => marks::write_enums(m, out, pos, k, at, n),
+        Flat::Struct(_) => pos,
     }
 }
 
@@ -599,54 +613,6 @@ fn write_union(
     write_object(b, dir, m, out, d, ob, place, p)
 }
 
-// What an element holds, where its value is there: its mark, and what follows it.
-fn write_value(
-    b: &[u8],
-    dir: &[u16],
-    m: &[u8],
-    out: &mut [u8],
-    d: usize,
-    q: PlacedMember,
-    tail: usize,
-    pos: usize,
-) -> usize
-    requires { ⌜ Room (now out) pos ⌝ }
-    requires { ⌜ (Accepted (now b) (now dir)) × (length (now m) ≤ 16777215) × (KindSound (P.parse (now b)) (q .kind)) ⌝ }
-    requires { ⌜ (q .here ≡ true → q .at + L.width B.u48 (P.parse (now b)) (q .kind) ≤ length (now m)) × (q .bit < 8) × (q .at < 2 ^ 60) ⌝ }
-    requires { ⌜ D.StepReadable (D.ObjectReadable d (P.parse (now b)) (now m)) (P.parse (now b)) (now m) (Bt.placed (q .here) (T.valueStep B.u48 (P.parse (now b)) (now m) (q .kind) (q .none) (q .inplace) tail (q .at) (q .bit))) ⌝ }
-    ensures { λ r. ⌜ Puts (now (out .entry)) pos (Bt.stepAt d (P.parse (now (b .entry))) (now (m .entry)) (q .kind) (Bt.placed (q .here) (T.valueStep B.u48 (P.parse (now (b .entry))) (now (m .entry)) (q .kind) (q .none) (q .inplace) tail (q .at) (q .bit)))) (now (out .exit)) r ⌝ }
-{
-    if !q.here {
-        return bitio::write(out, pos, 2, 0);
-    }
-    let at = q.at;
-    let k = q.kind;
-    match k {
-        Kind::OfFlat(f) => write_flat(b, dir, m, out, f, q.none, at, q.bit, pos),
-        Kind::OfObject(ob) => {
-            let x = wire::u48_in(m, at) as usize;
-            write_reference(b, dir, m, out, d, ob, q.inplace, tail, x, pos)
-        }
-        Kind::OfUnion(u) => {
-            let c = wire::u16_in(m, at) as usize;
-            let x = wire::u48_in(m, at + 2) as usize;
-            write_union(
-                b,
-                dir,
-                m,
-                out,
-                d,
-                wire::index(u),
-                q.inplace,
-                tail,
-                c,
-                x,
-                pos,
-            )
-        }
-    }
-}
-
 // An object with d objects of depth left, this one counted.
 fn write_object(
     b: &[u8],
@@ -764,18 +730,21 @@ fn write_list(
     ensures { λ r. ⌜ Puts (now (out .entry)) pos (Bt.listAt d (P.parse (now (b .entry))) (now (m .entry)) (Sc.elementOf (P.parse (now (b .entry))) i) start n) (now (out .exit)) r ⌝ }
 {
     let k = schema::element(b, dir, i);
+    let w = integer_width(k);
+    if w == 1 {
+        return bitio::write_blob(m, out, pos, start, n);
+    }
     let p = bitio::write(out, pos, 32, marks::number64(n));
     if layout::is_bool(k) {
         return marks::write_bools(m, out, p, start, n);
     }
-    let w = integer_width(k);
     if 0 < w {
         return marks::write_numbers(m, out, p, w, start, n);
     }
     match k {
-        Kind::OfFlat(_) => write_elements(b, dir, m, out, d, k, start, n, p),
+        Kind::OfFlat(f) => write_flats(m, out, f, start, n, p),
         Kind::OfObject(ob) => write_references(b, dir, m, out, d, ob, start, n, p),
-        Kind::OfUnion(_) => write_elements(b, dir, m, out, d, k, start, n, p),
+        Kind::OfUnion(u) => write_choices(b, dir, m, out, d, wire::index(u), start, n, p),
     }
 }
 
@@ -811,40 +780,34 @@ fn write_references(
     p
 }
 
-// The n elements of kind k with their marks.
-fn write_elements(
+// The n choices of a list of union u, which start at `start`.
+fn write_choices(
     b: &[u8],
     dir: &[u16],
     m: &[u8],
     out: &mut [u8],
     d: usize,
-    k: Kind,
+    u: usize,
     start: usize,
     n: usize,
     pos: usize,
 ) -> usize
     requires { ⌜ Room (now out) pos ⌝ }
-    requires { ⌜ (Accepted (now b) (now dir)) × (length (now m) ≤ 16777215) × (KindSound (P.parse (now b)) k) × (E.bare k ≡ false) ⌝ }
-    requires { ⌜ start + T.elementsSize B.u48 (P.parse (now b)) k n ≤ length (now m) ⌝ }
-    requires { ⌜ D.ElementsReadable (D.ObjectReadable d (P.parse (now b)) (now m)) (P.parse (now b)) (now m) k start n 0 ⌝ }
-    ensures { λ r. ⌜ Puts (now (out .entry)) pos (Bt.elementsAt d (P.parse (now (b .entry))) (now (m .entry)) k start n 0) (now (out .exit)) r ⌝ }
+    requires { ⌜ (Accepted (now b) (now dir)) × (length (now m) ≤ 16777215) × (u < P.unionCount (now b)) × (start + 8 * n ≤ length (now m)) ⌝ }
+    requires { ⌜ D.ElementsReadable (D.ObjectReadable d (P.parse (now b)) (now m)) (P.parse (now b)) (now m) (Kind.OfUnion u) start n 0 ⌝ }
+    ensures { λ r. ⌜ Puts (now (out .entry)) pos (Bt.elementsAt d (P.parse (now (b .entry))) (now (m .entry)) (Kind.OfUnion u) start n 0) (now (out .exit)) r ⌝ }
 {
     let mut p = pos;
+    let mut at = start;
     let mut j: usize = 0;
     while j < n {
         if 134217720 < p {
             return p;
         }
-        let q = PlacedMember {
-            kind: k,
-            none: true,
-            inplace: false,
-            here: true,
-            at: step::element_place(b, dir, k, start, j),
-            bit: wire::low_three(j),
-            next: layout::begin(),
-        };
-        p = write_value(b, dir, m, out, d, q, 0, p);
+        let c = wire::u16_in(m, at) as usize;
+        let x = wire::u48_in(m, at + 2) as usize;
+        p = write_union(b, dir, m, out, d, u, false, 0, c, x, p);
+        at += 8;
         j += 1;
     }
     p
