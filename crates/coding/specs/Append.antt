@@ -38,22 +38,22 @@ pub data Alike {A : Type 0} (R : A → A → Type 0) : List A → List A → Typ
   also : {x y : A} {xs ys : List A} → R x y → Alike R xs ys → Alike R (x ∷ xs) (y ∷ ys)
 
 -- "any enum a larger count; no other old bit differs". A larger count is at least the old one.
-pub data SameFlat : Flat → Flat → Type 0 where
-  boolean : SameFlat Boolean Boolean
-  integer : {s : Bool} {w : ℕ} → SameFlat (Integer s w) (Integer s w)
-  float : {w : ℕ} → SameFlat (Float w) (Float w)
-  enumerated : {n n′ : ℕ} → n ≤ n′ → SameFlat (Enumerated n) (Enumerated n′)
-  struct : {i : ℕ} → SameFlat (Struct i) (Struct i)
+pub data FlatAppends : Flat → Flat → Type 0 where
+  boolean : FlatAppends Boolean Boolean
+  integer : {s : Bool} {w : ℕ} → FlatAppends (Integer s w) (Integer s w)
+  float : {w : ℕ} → FlatAppends (Float w) (Float w)
+  enumerated : {n n′ : ℕ} → n ≤ n′ → FlatAppends (Enumerated n) (Enumerated n′)
+  struct : {i : ℕ} → FlatAppends (Struct i) (Struct i)
 
 -- the same of any kind: "no other old bit differs", an index neither
-pub data SameKind : Kind → Kind → Type 0 where
-  flat : {k k′ : Flat} → SameFlat k k′ → SameKind (OfFlat k) (OfFlat k′)
-  object : {ob : Object} → SameKind (OfObject ob) (OfObject ob)
-  union : {i : ℕ} → SameKind (OfUnion i) (OfUnion i)
+pub data KindAppends : Kind → Kind → Type 0 where
+  flat : {k k′ : Flat} → FlatAppends k k′ → KindAppends (OfFlat k) (OfFlat k′)
+  object : {ob : Object} → KindAppends (OfObject ob) (OfObject ob)
+  union : {i : ℕ} → KindAppends (OfUnion i) (OfUnion i)
 
 -- the same of a table's member, with its flags: "no other old bit differs"
-pub record SameMember (r r′ : Member) : Type 0 where
-  pub kind : SameKind (r .kind) (r′ .kind)
+pub record MemberAppends (r r′ : Member) : Type 0 where
+  pub kind : KindAppends (r .kind) (r′ .kind)
   pub optional : r .optional ≡ r′ .optional
   pub inplace : r .inplace ≡ r′ .inplace
 
@@ -62,19 +62,19 @@ pub data SameObject : Object → Object → Type 0 where
   same : {ob : Object} → SameObject ob ob
 
 -- "tables members after the old ones"; the table has "the same index and id in the newer"
-pub record SameTable (t t′ : Table) : Type 0 where
+pub record TableAppends (t t′ : Table) : Type 0 where
   pub id : t .id ≡ t′ .id
-  pub members : Extends SameMember (t .members) (t′ .members)
+  pub members : Extends MemberAppends (t .members) (t′ .members)
 
 -- "Same root index. Every struct, list, union and table of the older has the same index and id in the newer; unions may
 -- have cases after the old ones, tables members after the old ones, structs none". There may be more of each: "the counts
 -- of what was added aside".
 pub record SchemaAppends (older newer : Schema) : Type 0 where
   pub root : older .root ≡ newer .root
-  pub structs : Extends (Alike SameFlat) (older .structs) (newer .structs)
-  pub lists : Extends SameKind (older .lists) (newer .lists)
+  pub structs : Extends (Alike FlatAppends) (older .structs) (newer .structs)
+  pub lists : Extends KindAppends (older .lists) (newer .lists)
   pub unions : Extends (Extends SameObject) (older .unions) (newer .unions)
-  pub tables : Extends SameTable (older .tables) (newer .tables)
+  pub tables : Extends TableAppends (older .tables) (newer .tables)
 
 -- the older and the newer schema as bytes: "Both are lawful."
 pub record Appends (older newer : List ℕ) : Type 0 where

@@ -95,22 +95,22 @@ unfoldable pub partBits : Encoder → Schema → Kind → Value → List ℕ
 partBits child S k v = markBits (unknownWidth k) (bodyBits child S k) v
 
 -- whether an element has no mark: "Elements ... have a mark too, except bool and integer elements"
-unfoldable pub flatBare : Flat → Bool
-flatBare Boolean = true
-flatBare (Integer s w) = true
-flatBare (Float w) = false
-flatBare (Enumerated n) = false
-flatBare (Struct i) = false
+unfoldable pub flatUnmarked : Flat → Bool
+flatUnmarked Boolean = true
+flatUnmarked (Integer s w) = true
+flatUnmarked (Float w) = false
+flatUnmarked (Enumerated n) = false
+flatUnmarked (Struct i) = false
 
 -- the same of any kind: "except bool and integer elements"
-unfoldable pub bare : Kind → Bool
-bare (OfFlat k) = flatBare k
-bare (OfObject ob) = false
-bare (OfUnion i) = false
+unfoldable pub unmarked : Kind → Bool
+unmarked (OfFlat k) = flatUnmarked k
+unmarked (OfObject ob) = false
+unmarked (OfUnion i) = false
 
 -- an element, with or without a mark: "Elements ... have a mark too, except bool and integer elements"
 unfoldable pub elementBits : Encoder → Schema → Kind → Value → List ℕ
-elementBits child S k v = pick (bare k) (bodyBits child S k v) (partBits child S k v)
+elementBits child S k v = pick (unmarked k) (bodyBits child S k v) (partBits child S k v)
 
 -- "Table members in order, each with a 2-bit mark"
 unfoldable pub membersBits : Encoder → Schema → List Member → Values → List ℕ
@@ -185,8 +185,8 @@ unfoldable pub unknownEnum : ℕ → ℕ → Bool
 unknownEnum n x = leb n x && not (eqb x 255)
 
 -- an unknown enum of n values: "the 8-bit or 16-bit number, which must truly be unknown"
-unfoldable pub takeLostEnum : ℕ → List ℕ → Parsed Value
-takeLostEnum n xs = takeIf 8 (unknownEnum n) unknown xs
+unfoldable pub takeUnknownEnum : ℕ → List ℕ → Parsed Value
+takeUnknownEnum n xs = takeIf 8 (unknownEnum n) unknown xs
 
 -- "A present enum is below its count"
 unfoldable pub takeEnum : ℕ → List ℕ → Parsed Value
@@ -205,7 +205,7 @@ unfoldable pub takeField : (ℕ → List ℕ → Parsed Value) → Flat → List
 takeField inner Boolean xs = takeFlat inner Boolean xs
 takeField inner (Integer s w) xs = takeFlat inner (Integer s w) xs
 takeField inner (Float w) xs = takeFlat inner (Float w) xs
-takeField inner (Enumerated n) xs = takeMark (takeLostEnum n) (takeFlat inner (Enumerated n)) xs
+takeField inner (Enumerated n) xs = takeMark (takeUnknownEnum n) (takeFlat inner (Enumerated n)) xs
 takeField inner (Struct i) xs = takeFlat inner (Struct i) xs
 
 -- a struct's members in order: "enum struct members have a mark too ...; other struct members have none"
@@ -245,26 +245,26 @@ takeBody child S (OfObject ob) xs = child ob xs
 takeBody child S (OfUnion i) xs = takeChoice child (casesOf S i) xs
 
 -- an unknown number: "Unknown (enum, union only)"
-unfoldable pub takeLostFlat : Flat → List ℕ → Parsed Value
-takeLostFlat Boolean xs = fail
-takeLostFlat (Integer s w) xs = fail
-takeLostFlat (Float w) xs = fail
-takeLostFlat (Enumerated n) xs = takeLostEnum n xs
-takeLostFlat (Struct i) xs = fail
+unfoldable pub takeUnknownFlat : Flat → List ℕ → Parsed Value
+takeUnknownFlat Boolean xs = fail
+takeUnknownFlat (Integer s w) xs = fail
+takeUnknownFlat (Float w) xs = fail
+takeUnknownFlat (Enumerated n) xs = takeUnknownEnum n xs
+takeUnknownFlat (Struct i) xs = fail
 
 -- the same of any kind: "the 8-bit or 16-bit number, which must truly be unknown"; a choice above the case count
-unfoldable pub takeLost : Schema → Kind → List ℕ → Parsed Value
-takeLost S (OfFlat k) xs = takeLostFlat k xs
-takeLost S (OfObject ob) xs = fail
-takeLost S (OfUnion i) xs = takeIf 16 (λ c. ltb (length (casesOf S i)) c) unknown xs
+unfoldable pub takeUnknown : Schema → Kind → List ℕ → Parsed Value
+takeUnknown S (OfFlat k) xs = takeUnknownFlat k xs
+takeUnknown S (OfObject ob) xs = fail
+takeUnknown S (OfUnion i) xs = takeIf 16 (λ c. ltb (length (casesOf S i)) c) unknown xs
 
 -- a member or element with its mark: "each with a 2-bit mark"
 unfoldable pub takePart : Decoder → Schema → Kind → List ℕ → Parsed Value
-takePart child S k xs = takeMark (takeLost S k) (takeBody child S k) xs
+takePart child S k xs = takeMark (takeUnknown S k) (takeBody child S k) xs
 
 -- an element, with or without a mark: "Elements ... have a mark too, except bool and integer elements"
 unfoldable pub takeElement : Decoder → Schema → Kind → List ℕ → Parsed Value
-takeElement child S k xs = pick (bare k) (takeBody child S k xs) (takePart child S k xs)
+takeElement child S k xs = pick (unmarked k) (takeBody child S k xs) (takePart child S k xs)
 
 -- "Table members in order, each with a 2-bit mark"
 unfoldable pub takeMembers : Decoder → Schema → List Member → List ℕ → Parsed Values

@@ -131,7 +131,7 @@ every-kind-agrees =
 
 -- the older's sheet: both enums and both choices are unknown
 pub every-kind-sheet : Message.messageSheet Bytes.u48 older message ≡ 0x70 ∷ 0x2B ∷ 0x02 ∷ 0x04 ∷ 0xA0 ∷ 0x00 ∷ 0x00 ∷ 0x00 ∷ 0x30 ∷ 0x00 ∷ 0x14 ∷ 0x00 ∷ 0x04 ∷ []
-unfolding Lists.every Lists.run Bytes.le Bytes.bitAt Bytes.isNaN Bytes.largest Bytes.deepest Bytes.u48 Schema.structOf Schema.elementOf Schema.casesOf Schema.tableOf Schema.caseOf Structs.lower Structs.byIndex Structs.flatWidth Structs.total Structs.sizeBy Structs.structSize Structs.flatOk Structs.flatsOk Structs.okBy Structs.structOk Packed.kindAt Packed.optionalAt Packed.inplaceAt Packed.zeroAt Packed.argumentAt Packed.widthOf Packed.flatOf Packed.objectOf Packed.kindOf Packed.flatAt Packed.objectAt Packed.elementAt Packed.memberAt Packed.records Packed.recordPlace Packed.blocks Packed.structPlace Packed.listPlace Packed.unionPlace Packed.tablePlace Packed.idAt Packed.recordsAt Packed.tableAt Packed.parse Lawful.countsOk Lawful.blocksOk Lawful.placesOk Lawful.shapeOk Lawful.argumentOk Lawful.kindOk Lawful.optionalOk Lawful.inplaceOk Lawful.flagsOk Lawful.recordOk Lawful.firstOk Lawful.recordsOk Lawful.inplaces Lawful.structLawful Lawful.listLawful Lawful.unionLawful Lawful.tableLawful Lawful.idDiffers Lawful.idLawful Lawful.rulesOk Lawful.lawful Layout.flatIsBool Layout.isBool Layout.width Layout.flatTakesFlag Layout.takesFlag Layout.hasFlag Layout.begin Layout.bitByte Layout.bitIndex Layout.afterBit Layout.afterBytes Layout.afterFlag Layout.slotOf Layout.afterValue Layout.memberSlot Layout.afterMember Step.enumStep Step.floatStep Step.structStep Step.placeOf Step.objectStep Step.unionStep Step.flatStep Step.valueStep Step.inside Step.flagged Step.memberStep Step.elementPlace Step.elementStep Step.elementsSize Walk.placed Walk.magic Walk.headerSize Walk.contentSize Walk.endOk Walk.openContent Walk.openObject Walk.refuse Walk.andThen Walk.followChoice Walk.follow Walk.members Walk.elements Walk.content Walk.enter Walk.arrive Walk.tooDeep Walk.counted Walk.visit Walk.rootPlace Walk.walk Walk.verdictOf Walk.early Walk.sizeOk Walk.startOk Walk.verdict Value.asNumber Value.asBlob Value.asRow Value.asObject Value.first Value.others Value.count Read.stepRead Read.fieldsRead Read.readBy Read.structRead Read.membersRead Read.elementsRead Read.contentRead Read.placeRead Read.read Read.messageRead Step.fieldStep Bits.bitsOf Bits.bits Bits.value Bits.pack Bits.byteCount Bits.packed Sheet.markBits Sheet.flatBits Sheet.fieldBits Sheet.fieldsBits Sheet.bitsBy Sheet.structBits Sheet.bodyBits Sheet.flatUnknown Sheet.unknownWidth Sheet.partBits Sheet.flatBare Sheet.bare Sheet.elementBits Sheet.membersBits Sheet.elementsBits Sheet.blobBits Sheet.contentBits Sheet.encode Sheet.sheetBits Sheet.sheetOf Message.messageSheet
+unfolding Lists.every Lists.run Bytes.le Bytes.bitAt Bytes.isNaN Bytes.largest Bytes.deepest Bytes.u48 Schema.structOf Schema.elementOf Schema.casesOf Schema.tableOf Schema.caseOf Structs.lower Structs.byIndex Structs.flatWidth Structs.total Structs.sizeBy Structs.structSize Structs.flatOk Structs.flatsOk Structs.okBy Structs.structOk Packed.kindAt Packed.optionalAt Packed.inplaceAt Packed.zeroAt Packed.argumentAt Packed.widthOf Packed.flatOf Packed.objectOf Packed.kindOf Packed.flatAt Packed.objectAt Packed.elementAt Packed.memberAt Packed.records Packed.recordPlace Packed.blocks Packed.structPlace Packed.listPlace Packed.unionPlace Packed.tablePlace Packed.idAt Packed.recordsAt Packed.tableAt Packed.parse Lawful.countsOk Lawful.blocksOk Lawful.placesOk Lawful.shapeOk Lawful.argumentOk Lawful.kindOk Lawful.optionalOk Lawful.inplaceOk Lawful.flagsOk Lawful.recordOk Lawful.firstOk Lawful.recordsOk Lawful.inplaces Lawful.structLawful Lawful.listLawful Lawful.unionLawful Lawful.tableLawful Lawful.idDiffers Lawful.idLawful Lawful.rulesOk Lawful.lawful Layout.flatIsBool Layout.isBool Layout.width Layout.flatTakesFlag Layout.takesFlag Layout.hasFlag Layout.begin Layout.bitByte Layout.bitIndex Layout.afterBit Layout.afterBytes Layout.afterFlag Layout.slotOf Layout.afterValue Layout.memberSlot Layout.afterMember Step.enumStep Step.floatStep Step.structStep Step.placeOf Step.objectStep Step.unionStep Step.flatStep Step.valueStep Step.inside Step.flagged Step.memberStep Step.elementPlace Step.elementStep Step.elementsSize Walk.placed Walk.magic Walk.headerSize Walk.contentSize Walk.endOk Walk.openContent Walk.openObject Walk.refuse Walk.andThen Walk.followChoice Walk.follow Walk.members Walk.elements Walk.content Walk.enter Walk.arrive Walk.tooDeep Walk.counted Walk.visit Walk.rootPlace Walk.walk Walk.verdictOf Walk.early Walk.sizeOk Walk.startOk Walk.verdict Value.asNumber Value.asBlob Value.asRow Value.asObject Value.first Value.others Value.count Read.stepRead Read.fieldsRead Read.readBy Read.structRead Read.membersRead Read.elementsRead Read.contentRead Read.placeRead Read.read Read.messageRead Step.fieldStep Bits.bitsOf Bits.bits Bits.value Bits.pack Bits.byteCount Bits.packed Sheet.markBits Sheet.flatBits Sheet.fieldBits Sheet.fieldsBits Sheet.bitsBy Sheet.structBits Sheet.bodyBits Sheet.flatUnknown Sheet.unknownWidth Sheet.partBits Sheet.flatUnmarked Sheet.unmarked Sheet.elementBits Sheet.membersBits Sheet.elementsBits Sheet.blobBits Sheet.contentBits Sheet.encode Sheet.sheetBits Sheet.sheetOf Message.messageSheet
 every-kind-sheet = refl
 
 -- ---- the papers' O and N

@@ -10,7 +10,7 @@ use Rattle.coding.specs.Bytes.{le, deepest}
 use Rattle.coding.specs.Schema.{Schema}
 use Rattle.coding.specs.Layout.{begin, afterMember}
 use Rattle.coding.specs.Walk.{placed, magic, headerSize, contentSize, endOk, openContent, openObject, refuse, andThen, Child, followChoice, follow, members, elements, content, enter, arrive, counted, visit, rootPlace, walk}
-use Rattle.coding.specs.Append.{Extends, rest, more, SameKind, SameMember, SchemaAppends}
+use Rattle.coding.specs.Append.{Extends, rest, more, KindAppends, MemberAppends, SchemaAppends}
 use Rattle.coding.specs.declared.Object.{Object}
 use Rattle.coding.specs.declared.Object.the-variants as Ob
 use Rattle.coding.specs.declared.Kind.{Kind}
@@ -62,7 +62,7 @@ module _ (o : ℕ) (O N : Schema) (sound : Sound O) (G : SchemaAppends O N) (m :
   follow-same (choice-appended l) h holder s = absurd h
   follow-same choice-unknown h holder s = absurd h
 
-  members-same : {rs rs′ : List Member} → Extends SameMember rs rs′ → All (MemberSound O) rs → (holder start n : ℕ) (c : Cursor)
+  members-same : {rs rs′ : List Member} → Extends MemberAppends rs rs′ → All (MemberSound O) rs → (holder start n : ℕ) (c : Cursor)
       → membersPlain P o O m start n c rs → (s : Spent)
       → members new o N m holder start n c rs′ s ≡ members old o O m holder start n c rs s
   unfolding members membersPlain
@@ -71,7 +71,7 @@ module _ (o : ℕ) (O N : Schema) (sound : Sound O) (G : SchemaAppends O N) (m :
       then-same _ _ (follow-same (member-step-same O N sound G m o q (a .0) start n c) (h .0) holder s)
       (λ t. rw (← after-member-same O N sound G o q (a .0) c) (members-same l (a .1) holder start n (afterMember o O x c) (h .1) t))
 
-  elements-same : {k k′ : Kind} → SameKind k k′ → KindSound O k → (holder start n i : ℕ) → elementsPlain P o O m start k n i → (s : Spent)
+  elements-same : {k k′ : Kind} → KindAppends k k′ → KindSound O k → (holder start n i : ℕ) → elementsPlain P o O m start k n i → (s : Spent)
       → elements new o N m holder start k′ n i s ≡ elements old o O m holder start k n i s
   unfolding elements elementsPlain
   elements-same q a holder start zero i h s = refl

@@ -16,7 +16,7 @@ use Rattle.coding.specs.Step.{enumStep, fieldStep}
 use Rattle.coding.specs.Walk.{headerSize, rootPlace}
 use Rattle.coding.specs.Value.{Value, absent, row, _then_, first, others}
 use Rattle.coding.specs.Read.{Child, stepRead, noObject, fieldsRead, readBy, noStruct, structRead, membersRead, elementsRead, contentRead, placeRead, read, messageRead}
-use Rattle.coding.specs.Append.{Extends, rest, more, Alike, done, also, SameFlat, boolean, integer, float, enumerated, struct, SameKind, SameMember, SchemaAppends, inRow, Change, addedValues, withChoice, withPart, withMembers, withElements, addedMembers, withContent, withAdded}
+use Rattle.coding.specs.Append.{Extends, rest, more, Alike, done, also, FlatAppends, boolean, integer, float, enumerated, struct, KindAppends, MemberAppends, SchemaAppends, inRow, Change, addedValues, withChoice, withPart, withMembers, withElements, addedMembers, withContent, withAdded}
 use Rattle.coding.specs.declared.Flat.{Flat}
 use Rattle.coding.specs.declared.Object.{Object}
 use Rattle.coding.specs.declared.Object.the-variants as Ob
@@ -55,7 +55,7 @@ enum-known n n′ x h a b = by-none (eqb x 255)
     by-none false k = by (ltb x n) (ltb x n′) refl refl k
 
 module _ (n : ℕ) (m : List ℕ) (a b : ℕ → ℕ → Value) (e : (j : ℕ) → j < n → (at : ℕ) → Known (a j at) → b j at ≡ a j at) where
-  field-known : {k k′ : Flat} → SameFlat k k′ → FlatSound n k → (at : ℕ) → Known (stepRead a noObject (fieldStep m k at))
+  field-known : {k k′ : Flat} → FlatAppends k k′ → FlatSound n k → (at : ℕ) → Known (stepRead a noObject (fieldStep m k at))
       → stepRead b noObject (fieldStep m k′ at) ≡ stepRead a noObject (fieldStep m k at)
   unfolding fieldStep stepRead
   field-known boolean s at h = refl
@@ -66,7 +66,7 @@ module _ (n : ℕ) (m : List ℕ) (a b : ℕ → ℕ → Value) (e : (j : ℕ) �
 
 module _ (O N : Schema) (sound : Sound O) (G : SchemaAppends O N) (m : List ℕ) where
   fields-known : (n : ℕ) → n ≤ length (O .structs) → (a b : ℕ → ℕ → Value) → ((j : ℕ) → j < n → (at : ℕ) → Known (a j at) → b j at ≡ a j at)
-      → {ks ks′ : List Flat} → Alike SameFlat ks ks′ → All (FlatSound n) ks → (at : ℕ) → AllKnown (fieldsRead a O m ks at)
+      → {ks ks′ : List Flat} → Alike FlatAppends ks ks′ → All (FlatSound n) ks → (at : ℕ) → AllKnown (fieldsRead a O m ks at)
       → fieldsRead b N m ks′ at ≡ fieldsRead a O m ks at
   unfolding fieldsRead Known
   fields-known n h a b e done s at k = refl
@@ -121,7 +121,7 @@ module _ (o : ℕ) (O N : Schema) (sound : Sound O) (G : SchemaAppends O N) (m :
     step-with (choice-appended l) h = absurd h
     step-with choice-unknown h = absurd h
 
-    members-with : {rs rs′ : List Member} → Extends SameMember rs rs′ → All (MemberSound O) rs → (start n : ℕ) (at : Cursor)
+    members-with : {rs rs′ : List Member} → Extends MemberAppends rs rs′ → All (MemberSound O) rs → (start n : ℕ) (at : Cursor)
         → membersPlain P o O m start n at rs
         → membersRead b o N m start n at rs′ ≡ withMembers c o O N rs at (drop (length rs) rs′) (membersRead a o O m start n at rs)
     unfolding membersRead withMembers membersPlain first others
@@ -131,7 +131,7 @@ module _ (o : ℕ) (O N : Schema) (sound : Sound O) (G : SchemaAppends O N) (m :
         ap₂ _then_ (step-with (member-step-same O N sound G m o q (s .0) start n at) (h .0))
         (rw (← after-member-same O N sound G o q (s .0) at) (members-with l (s .1) start n (afterMember o O x at) (h .1)))
 
-    elements-with : {k k′ : Kind} → SameKind k k′ → KindSound O k → (start n i : ℕ) → elementsPlain P o O m start k n i
+    elements-with : {k k′ : Kind} → KindAppends k k′ → KindSound O k → (start n i : ℕ) → elementsPlain P o O m start k n i
         → elementsRead b o N m start k′ n i ≡ withElements c O k (elementsRead a o O m start k n i)
     unfolding elementsRead withElements elementsPlain
     elements-with q s start zero i h = refl

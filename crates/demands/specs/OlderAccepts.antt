@@ -14,7 +14,7 @@ use Rattle.coding.specs.Schema.{Schema, elementOf, tableOf}
 use Rattle.coding.specs.Layout.{begin, afterMember}
 use Rattle.coding.specs.Step.{memberStep, elementStep}
 use Rattle.coding.specs.Walk.{placed, headerSize, openContent, openObject, refuse, andThen, Child, followChoice, follow, members, elements, content, enter, arrive, tooDeep, counted, visit, rootPlace, walk}
-use Rattle.coding.specs.Append.{Extends, rest, more, SameKind, SameMember, SchemaAppends}
+use Rattle.coding.specs.Append.{Extends, rest, more, KindAppends, MemberAppends, SchemaAppends}
 use Rattle.coding.specs.declared.Object.{Object}
 use Rattle.coding.specs.declared.Object.the-variants as Ob
 use Rattle.coding.specs.declared.Kind.{Kind}
@@ -171,7 +171,7 @@ module _ (o : ℕ) (O N : Schema) (sound : Sound O) (G : SchemaAppends O N) (m :
     follow-within (choice-appended {ob} {p} l) holder s s′ h = from-within h (choice-up new U o N m holder ob p s′)
     follow-within choice-unknown holder s s′ h = going h
 
-    members-within : {rs rs′ : List Member} → Extends SameMember rs rs′ → All (MemberSound O) rs → (holder start n : ℕ) (c : Cursor)
+    members-within : {rs rs′ : List Member} → Extends MemberAppends rs rs′ → All (MemberSound O) rs → (holder start n : ℕ) (c : Cursor)
         (s s′ : Spent) → s .visits ≤ s′ .visits
         → Within (members old o O m holder start n c rs s) (members new o N m holder start n c rs′ s′)
     unfolding members
@@ -182,7 +182,7 @@ module _ (o : ℕ) (O N : Schema) (sound : Sound O) (G : SchemaAppends O N) (m :
         rw (after-member-same O N sound G o q (a .0) c)
         (members-within l (a .1) holder start n (afterMember o N y c) t t′ g))
 
-    elements-within : {k k′ : Kind} → SameKind k k′ → KindSound O k → (holder start n i : ℕ) (s s′ : Spent) → s .visits ≤ s′ .visits
+    elements-within : {k k′ : Kind} → KindAppends k k′ → KindSound O k → (holder start n i : ℕ) (s s′ : Spent) → s .visits ≤ s′ .visits
         → Within (elements old o O m holder start k n i s) (elements new o N m holder start k′ n i s′)
     unfolding elements
     elements-within q a holder start zero i s s′ h = going h

@@ -16,7 +16,7 @@ use Rattle.coding.specs.Step.{enumStep, fieldStep}
 use Rattle.coding.specs.Walk.{headerSize, rootPlace}
 use Rattle.coding.specs.Value.{Value, absent, number, row, _then_, first, others}
 use Rattle.coding.specs.Read.{Child, stepRead, noObject, fieldsRead, readBy, noStruct, structRead, membersRead, elementsRead, contentRead, placeRead, read, messageRead}
-use Rattle.coding.specs.Append.{Extends, rest, more, Alike, done, also, SameFlat, boolean, integer, float, enumerated, struct, SameKind, SameMember, SchemaAppends, withoutEnum, inRow, withoutFlat, withoutFields, withoutBy, same-value, withoutStruct, Change, withoutChoice, withoutPart, withoutMembers, withoutElements, withoutContent, without}
+use Rattle.coding.specs.Append.{Extends, rest, more, Alike, done, also, FlatAppends, boolean, integer, float, enumerated, struct, KindAppends, MemberAppends, SchemaAppends, withoutEnum, inRow, withoutFlat, withoutFields, withoutBy, same-value, withoutStruct, Change, withoutChoice, withoutPart, withoutMembers, withoutElements, withoutContent, without}
 use Rattle.coding.specs.declared.Flat.{Flat}
 use Rattle.coding.specs.declared.Flat.the-variants.{Boolean, Integer, Float, Enumerated, Struct}
 use Rattle.coding.specs.declared.Object.{Object}
@@ -56,7 +56,7 @@ enum-without n n′ x h a b = by-none (eqb x 255)
 
 module _ (n : ℕ) (m : List ℕ) (a b : ℕ → ℕ → Value) (c : ℕ → Value → Value)
     (e : (j : ℕ) → j < n → (at : ℕ) → a j at ≡ c j (b j at)) where
-  field-without : {k k′ : Flat} → SameFlat k k′ → FlatSound n k → (at : ℕ)
+  field-without : {k k′ : Flat} → FlatAppends k k′ → FlatSound n k → (at : ℕ)
       → stepRead a noObject (fieldStep m k at) ≡ withoutFlat c k (stepRead b noObject (fieldStep m k′ at))
   unfolding fieldStep stepRead withoutFlat
   field-without boolean s at = refl
@@ -67,7 +67,7 @@ module _ (n : ℕ) (m : List ℕ) (a b : ℕ → ℕ → Value) (c : ℕ → Val
 
 module _ (O N : Schema) (sound : Sound O) (G : SchemaAppends O N) (m : List ℕ) where
   fields-without : (n : ℕ) → n ≤ length (O .structs) → (a b : ℕ → ℕ → Value) (c : ℕ → Value → Value)
-      → ((j : ℕ) → j < n → (at : ℕ) → a j at ≡ c j (b j at)) → {ks ks′ : List Flat} → Alike SameFlat ks ks′ → All (FlatSound n) ks
+      → ((j : ℕ) → j < n → (at : ℕ) → a j at ≡ c j (b j at)) → {ks ks′ : List Flat} → Alike FlatAppends ks ks′ → All (FlatSound n) ks
       → (at : ℕ) → fieldsRead a O m ks at ≡ withoutFields c ks (fieldsRead b N m ks′ at)
   unfolding fieldsRead withoutFields first others
   fields-without n h a b c e done s at = refl
@@ -137,7 +137,7 @@ module _ (o : ℕ) (O N : Schema) (sound : Sound O) (G : SchemaAppends O N) (m :
     step-without (choice-appended {i} {c = x} l) = rw (lt-leb x (length (casesOf O i)) l)
     step-without choice-unknown = refl
 
-    members-without : {rs rs′ : List Member} → Extends SameMember rs rs′ → All (MemberSound O) rs → (start n : ℕ) (at : Cursor)
+    members-without : {rs rs′ : List Member} → Extends MemberAppends rs rs′ → All (MemberSound O) rs → (start n : ℕ) (at : Cursor)
         → membersRead a o O m start n at rs ≡ withoutMembers c O rs (membersRead b o N m start n at rs′)
     unfolding membersRead withoutMembers first others
     members-without rest s start n at = refl
@@ -145,7 +145,7 @@ module _ (o : ℕ) (O N : Schema) (sound : Sound O) (G : SchemaAppends O N) (m :
         ap₂ _then_ (step-without (member-step-same O N sound G m o q (s .0) start n at))
         (rw (after-member-same O N sound G o q (s .0) at) (members-without l (s .1) start n (afterMember o N y at)))
 
-    elements-without : {k k′ : Kind} → SameKind k k′ → KindSound O k → (start n i : ℕ)
+    elements-without : {k k′ : Kind} → KindAppends k k′ → KindSound O k → (start n i : ℕ)
         → elementsRead a o O m start k n i ≡ withoutElements c O k (elementsRead b o N m start k′ n i)
     unfolding elementsRead withoutElements
     elements-without q s start zero i = refl

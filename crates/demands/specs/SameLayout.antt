@@ -11,7 +11,7 @@ use Rattle.coding.specs.Structs.{flatWidth, total, sizeBy, structSize, flatOk, 
 use Rattle.coding.specs.Layout.{flatIsBool, isBool, width, flatTakesFlag, takesFlag, hasFlag, afterFlag, slotOf, afterValue, memberSlot, afterMember}
 use Rattle.coding.specs.Step.{elementPlace, elementsSize}
 use Rattle.coding.specs.Walk.{magic, contentSize}
-use Rattle.coding.specs.Append.{Extends, rest, more, Alike, done, also, SameFlat, boolean, integer, float, enumerated, struct, SameKind, flat, object, union, SameMember, SameObject, SameTable, SchemaAppends}
+use Rattle.coding.specs.Append.{Extends, rest, more, Alike, done, also, FlatAppends, boolean, integer, float, enumerated, struct, KindAppends, flat, object, union, MemberAppends, SameObject, TableAppends, SchemaAppends}
 use Rattle.coding.specs.declared.Flat.{Flat}
 use Rattle.coding.specs.declared.Object.{Object}
 use Rattle.coding.specs.declared.Object.the-variants as Ob
@@ -34,7 +34,7 @@ extends-le (more r l) = let h = extends-le l in omega arith
 
 -- ---- structs, given what stands at the lower indices
 module _ (n : ℕ) (f g : ℕ → ℕ) (e : (j : ℕ) → j < n → f j ≡ g j) where
-  pub flat-width : {k k′ : Flat} → SameFlat k k′ → FlatSound n k → flatWidth f k ≡ flatWidth g k′
+  pub flat-width : {k k′ : Flat} → FlatAppends k k′ → FlatSound n k → flatWidth f k ≡ flatWidth g k′
   unfolding flatWidth
   flat-width boolean s = refl
   flat-width integer s = refl
@@ -42,13 +42,13 @@ module _ (n : ℕ) (f g : ℕ → ℕ) (e : (j : ℕ) → j < n → f j ≡ g j)
   flat-width (enumerated h) s = refl
   flat-width (struct {i}) s = e i s
 
-  total-same : {ks ks′ : List Flat} → Alike SameFlat ks ks′ → All (FlatSound n) ks → total f ks ≡ total g ks′
+  total-same : {ks ks′ : List Flat} → Alike FlatAppends ks ks′ → All (FlatSound n) ks → total f ks ≡ total g ks′
   unfolding total
   total-same done s = refl
   total-same (also r l) s = ap₂ _+_ (flat-width r (s .0)) (total-same l (s .1))
 
 module _ (n : ℕ) (m : List ℕ) (a b : ℕ → ℕ → Bool) (e : (j : ℕ) → j < n → (at : ℕ) → a j at ≡ b j at) where
-  flat-ok : {k k′ : Flat} → SameFlat k k′ → FlatSound n k → (at : ℕ) → flatOk a m k at ≡ flatOk b m k′ at
+  flat-ok : {k k′ : Flat} → FlatAppends k k′ → FlatSound n k → (at : ℕ) → flatOk a m k at ≡ flatOk b m k′ at
   unfolding flatOk
   flat-ok boolean s at = refl
   flat-ok integer s at = refl
@@ -57,7 +57,7 @@ module _ (n : ℕ) (m : List ℕ) (a b : ℕ → ℕ → Bool) (e : (j : ℕ) �
   flat-ok (struct {i}) s at = e i s at
 
 -- ---- kinds that differ in an enum's count only
-flat-is-bool : {k k′ : Flat} → SameFlat k k′ → flatIsBool k ≡ flatIsBool k′
+flat-is-bool : {k k′ : Flat} → FlatAppends k k′ → flatIsBool k ≡ flatIsBool k′
 unfolding flatIsBool
 flat-is-bool boolean = refl
 flat-is-bool integer = refl
@@ -65,13 +65,13 @@ flat-is-bool float = refl
 flat-is-bool (enumerated h) = refl
 flat-is-bool struct = refl
 
-pub is-bool-same : {k k′ : Kind} → SameKind k k′ → isBool k ≡ isBool k′
+pub is-bool-same : {k k′ : Kind} → KindAppends k k′ → isBool k ≡ isBool k′
 unfolding isBool
 is-bool-same (flat r) = flat-is-bool r
 is-bool-same object = refl
 is-bool-same union = refl
 
-flat-takes-flag : {k k′ : Flat} → SameFlat k k′ → flatTakesFlag k ≡ flatTakesFlag k′
+flat-takes-flag : {k k′ : Flat} → FlatAppends k k′ → flatTakesFlag k ≡ flatTakesFlag k′
 unfolding flatTakesFlag
 flat-takes-flag boolean = refl
 flat-takes-flag integer = refl
@@ -79,27 +79,27 @@ flat-takes-flag float = refl
 flat-takes-flag (enumerated h) = refl
 flat-takes-flag struct = refl
 
-takes-flag : {k k′ : Kind} → SameKind k k′ → takesFlag k ≡ takesFlag k′
+takes-flag : {k k′ : Kind} → KindAppends k k′ → takesFlag k ≡ takesFlag k′
 unfolding takesFlag
 takes-flag (flat r) = flat-takes-flag r
 takes-flag object = refl
 takes-flag union = refl
 
-pub has-flag-same : {r r′ : Member} → SameMember r r′ → hasFlag r ≡ hasFlag r′
+pub has-flag-same : {r r′ : Member} → MemberAppends r r′ → hasFlag r ≡ hasFlag r′
 unfolding hasFlag
 has-flag-same q = ap₂ _&&_ (q .optional) (takes-flag (q .kind))
 
-after-flag-same : {r r′ : Member} → SameMember r r′ → (c : Cursor) → afterFlag r c ≡ afterFlag r′ c
+after-flag-same : {r r′ : Member} → MemberAppends r r′ → (c : Cursor) → afterFlag r c ≡ afterFlag r′ c
 unfolding afterFlag
 after-flag-same q c = rw (has-flag-same q)
 
 module _ (O N : Schema) (sound : Sound O) (G : SchemaAppends O N) where
   -- ---- what stands at an index of the older
-  pub struct-same : (i : ℕ) → i < length (O .structs) → Alike SameFlat (structOf O i) (structOf N i)
+  pub struct-same : (i : ℕ) → i < length (O .structs) → Alike FlatAppends (structOf O i) (structOf N i)
   unfolding structOf
   struct-same i h = extends-at (G .structs) i h [] []
 
-  pub element-same : (i : ℕ) → i < length (O .lists) → SameKind (elementOf O i) (elementOf N i)
+  pub element-same : (i : ℕ) → i < length (O .lists) → KindAppends (elementOf O i) (elementOf N i)
   unfolding elementOf
   element-same i h = extends-at (G .lists) i h _ _
 
@@ -107,7 +107,7 @@ module _ (O N : Schema) (sound : Sound O) (G : SchemaAppends O N) where
   unfolding casesOf
   cases-same i h = extends-at (G .unions) i h [] []
 
-  pub table-same : (i : ℕ) → i < length (O .tables) → SameTable (tableOf O i) (tableOf N i)
+  pub table-same : (i : ℕ) → i < length (O .tables) → TableAppends (tableOf O i) (tableOf N i)
   unfolding tableOf
   table-same i h = extends-at (G .tables) i h _ _
 
@@ -123,7 +123,7 @@ module _ (O N : Schema) (sound : Sound O) (G : SchemaAppends O N) where
           total-same i f g (λ j l. e j l (omega arith)) (struct-same i h) (sound .structs i .members)
 
   flats-ok : (n : ℕ) → n ≤ length (O .structs) → (m : List ℕ) (a b : ℕ → ℕ → Bool) → ((j : ℕ) → j < n → (at : ℕ) → a j at ≡ b j at)
-      → {ks ks′ : List Flat} → Alike SameFlat ks ks′ → All (FlatSound n) ks → (at : ℕ) → flatsOk a O m ks at ≡ flatsOk b N m ks′ at
+      → {ks ks′ : List Flat} → Alike FlatAppends ks ks′ → All (FlatSound n) ks → (at : ℕ) → flatsOk a O m ks at ≡ flatsOk b N m ks′ at
   unfolding flatsOk
   flats-ok n h m a b e done s at = refl
   flats-ok n h m a b e (also {x} {y} {xs} {ys} r l) s at =
@@ -144,35 +144,35 @@ module _ (O N : Schema) (sound : Sound O) (G : SchemaAppends O N) where
 
   -- ---- widths, slots and cursors
   module _ (o : ℕ) where
-    pub width-same : {k k′ : Kind} → SameKind k k′ → KindSound O k → width o O k ≡ width o N k′
+    pub width-same : {k k′ : Kind} → KindAppends k k′ → KindSound O k → width o O k ≡ width o N k′
     unfolding width
     width-same (flat r) s = flat-width (length (O .structs)) (structSize O) (structSize N) struct-size-same r s
     width-same object s = refl
     width-same union s = refl
 
-    slot-same : {k k′ : Kind} → SameKind k k′ → KindSound O k → (c : Cursor) → slotOf o O k c ≡ slotOf o N k′ c
+    slot-same : {k k′ : Kind} → KindAppends k k′ → KindSound O k → (c : Cursor) → slotOf o O k c ≡ slotOf o N k′ c
     unfolding slotOf
     slot-same r s c = rw (is-bool-same r, width-same r s)
 
-    after-value-same : {k k′ : Kind} → SameKind k k′ → KindSound O k → (c : Cursor) → afterValue o O k c ≡ afterValue o N k′ c
+    after-value-same : {k k′ : Kind} → KindAppends k k′ → KindSound O k → (c : Cursor) → afterValue o O k c ≡ afterValue o N k′ c
     unfolding afterValue
     after-value-same r s c = rw (is-bool-same r, width-same r s)
 
-    pub member-slot-same : {r r′ : Member} → SameMember r r′ → MemberSound O r → (c : Cursor) → memberSlot o O r c ≡ memberSlot o N r′ c
+    pub member-slot-same : {r r′ : Member} → MemberAppends r r′ → MemberSound O r → (c : Cursor) → memberSlot o O r c ≡ memberSlot o N r′ c
     unfolding memberSlot
     member-slot-same q s c = rw (after-flag-same q c) (slot-same (q .kind) (s .kind) _)
 
-    pub after-member-same : {r r′ : Member} → SameMember r r′ → MemberSound O r → (c : Cursor)
+    pub after-member-same : {r r′ : Member} → MemberAppends r r′ → MemberSound O r → (c : Cursor)
         → afterMember o O r c ≡ afterMember o N r′ c
     unfolding afterMember
     after-member-same q s c = rw (after-flag-same q c) (after-value-same (q .kind) (s .kind) _)
 
-    pub element-place-same : {k k′ : Kind} → SameKind k k′ → KindSound O k → (start i : ℕ)
+    pub element-place-same : {k k′ : Kind} → KindAppends k k′ → KindSound O k → (start i : ℕ)
         → elementPlace o O k start i ≡ elementPlace o N k′ start i
     unfolding elementPlace
     element-place-same r s start i = rw (is-bool-same r, width-same r s)
 
-    elements-size-same : {k k′ : Kind} → SameKind k k′ → KindSound O k → (n : ℕ) → elementsSize o O k n ≡ elementsSize o N k′ n
+    elements-size-same : {k k′ : Kind} → KindAppends k k′ → KindSound O k → (n : ℕ) → elementsSize o O k n ≡ elementsSize o N k′ n
     unfolding elementsSize
     elements-size-same r s n = rw (is-bool-same r, width-same r s)
 

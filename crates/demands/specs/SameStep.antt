@@ -14,7 +14,7 @@ use Rattle.coding.specs.Schema.{Schema, casesOf, caseOf}
 use Rattle.coding.specs.Structs.{structOk}
 use Rattle.coding.specs.Layout.{hasFlag, bitByte, bitIndex, memberSlot}
 use Rattle.coding.specs.Step.{enumStep, floatStep, structStep, placeOf, objectStep, unionStep, flatStep, valueStep, inside, flagged, memberStep, elementStep}
-use Rattle.coding.specs.Append.{Extends, SameFlat, boolean, integer, float, enumerated, struct, SameKind, flat, object, union, SameMember, SameObject, same, SchemaAppends}
+use Rattle.coding.specs.Append.{Extends, FlatAppends, boolean, integer, float, enumerated, struct, KindAppends, flat, object, union, MemberAppends, SameObject, same, SchemaAppends}
 use Rattle.coding.specs.declared.Flat.{Flat}
 use Rattle.coding.specs.declared.Flat.the-variants.{Boolean, Integer, Float, Enumerated, Struct}
 use Rattle.coding.specs.declared.Object.{Object}
@@ -124,7 +124,7 @@ module _ (O N : Schema) (sound : Sound O) (G : SchemaAppends O N) where
     unfolding structStep
     struct-step i h at = rw (struct-ok-same O N sound G m i h at) (pick-step (structOk N m i at) (struct-value h) refused)
 
-    flat-step : {k k′ : Flat} → SameFlat k k′ → FlatSound (length (O .structs)) k → (none : Bool) (at bit : ℕ)
+    flat-step : {k k′ : Flat} → FlatAppends k k′ → FlatSound (length (O .structs)) k → (none : Bool) (at bit : ℕ)
         → SameStep O (OfFlat k) (flatStep O m k none at bit) (flatStep N m k′ none at bit)
     unfolding flatStep floatStep
     flat-step boolean s none at bit = value plain-boolean
@@ -133,14 +133,14 @@ module _ (O N : Schema) (sound : Sound O) (G : SchemaAppends O N) where
     flat-step (enumerated {n} {n′} h) s none at bit = enum-step O n n′ (getD m at 0) h
     flat-step (struct {i}) s none at bit = struct-step i s at
 
-    value-step : (o : ℕ) {k k′ : Kind} → SameKind k k′ → KindSound O k → (none inplace : Bool) (tail at bit : ℕ)
+    value-step : (o : ℕ) {k k′ : Kind} → KindAppends k k′ → KindSound O k → (none inplace : Bool) (tail at bit : ℕ)
         → SameStep O k (valueStep o O m k none inplace tail at bit) (valueStep o N m k′ none inplace tail at bit)
     unfolding valueStep objectStep
     value-step o (flat r) s none inplace tail at bit = flat-step r s none at bit
     value-step o object s none inplace tail at bit = pick-step (eqb (le m at o) 0) no-value (object-value s)
     value-step o (union {i}) s none inplace tail at bit = union-step i s inplace tail (le m at 2) (le m (at + 2) o)
 
-    pub member-step-same : (o : ℕ) {r r′ : Member} → SameMember r r′ → MemberSound O r → (start n : ℕ) (c : Cursor)
+    pub member-step-same : (o : ℕ) {r r′ : Member} → MemberAppends r r′ → MemberSound O r → (start n : ℕ) (c : Cursor)
         → SameStep O (r .kind) (memberStep o O m start n c r) (memberStep o N m start n c r′)
     unfolding memberStep
     member-step-same o {r} {r′} q s start n c =
@@ -152,7 +152,7 @@ module _ (O N : Schema) (sound : Sound O) (G : SchemaAppends O N) where
             (valueStep o N m (r′ .kind) (r′ .optional) (r′ .inplace) (start + n) (start + memberSlot o N r′ c .at) (memberSlot o N r′ c .bit))
         here = value-step o (q .kind) (s .kind) _ _ _ _ _
 
-    pub element-step-same : (o : ℕ) {k k′ : Kind} → SameKind k k′ → KindSound O k → (start i : ℕ)
+    pub element-step-same : (o : ℕ) {k k′ : Kind} → KindAppends k k′ → KindSound O k → (start i : ℕ)
         → SameStep O k (elementStep o O m k start i) (elementStep o N m k′ start i)
     unfolding elementStep
     element-step-same o r s start i = rw (element-place-same O N sound G o r s start i) (value-step o r s _ _ _ _ _)

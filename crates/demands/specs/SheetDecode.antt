@@ -12,8 +12,8 @@ use Rattle.coding.specs.Lists.{pick}
 use Rattle.coding.specs.Schema.{Schema, structOf, elementOf, casesOf, caseOf}
 use Rattle.coding.specs.Value.{Value, Values, absent, unknown, number, blob, row, chosen, asNumber, asBlob, asRow, asObject, present, first, others, count}
 use Rattle.coding.specs.Bits.{bitsOf, bits}
-use Rattle.coding.specs.Sheet.{markBits, flatBits, fieldBits, fieldsBits, bitsBy, noBits, structBits, Encoder, bodyBits, flatUnknown, unknownWidth, partBits, bare, elementBits, membersBits, elementsBits, blobBits, contentBits, encode}
-use Rattle.coding.specs.Sheet.{Parsed, got, bind, takeNumber, takeBytes, takeValue, takeIf, takeMark, unknownEnum, takeLostEnum, takeEnum, takeFlat, takeField, takeFields, takeBy, takeNothing, takeStruct, Decoder, takeChoice, takeBody, takeLostFlat, takeLost, takePart, takeElement, takeMembers, takeElements, takeBlob, takeContent, decode}
+use Rattle.coding.specs.Sheet.{markBits, flatBits, fieldBits, fieldsBits, bitsBy, noBits, structBits, Encoder, bodyBits, flatUnknown, unknownWidth, partBits, unmarked, elementBits, membersBits, elementsBits, blobBits, contentBits, encode}
+use Rattle.coding.specs.Sheet.{Parsed, got, bind, takeNumber, takeBytes, takeValue, takeIf, takeMark, unknownEnum, takeUnknownEnum, takeEnum, takeFlat, takeField, takeFields, takeBy, takeNothing, takeStruct, Decoder, takeChoice, takeBody, takeUnknownFlat, takeUnknown, takePart, takeElement, takeMembers, takeElements, takeBlob, takeContent, decode}
 use Rattle.coding.specs.declared.Flat.{Flat}
 use Rattle.coding.specs.declared.Object.{Object}
 use Rattle.coding.specs.declared.Kind.{Kind}
@@ -87,8 +87,8 @@ module _ (w : ℕ) (body : Value → List ℕ) (lost decoder : List ℕ → Pars
       )
 
 -- ---- what leads to no object
-enum-lost : (n x : ℕ) → n ≤ x → x < 255 → Spells (takeLostEnum n) (bitsOf 8 x) (unknown x)
-unfolding takeLostEnum
+enum-lost : (n x : ℕ) → n ≤ x → x < 255 → Spells (takeUnknownEnum n) (bitsOf 8 x) (unknown x)
+unfolding takeUnknownEnum
 enum-lost n x l u = if-spelt 8 x (unknownEnum n) unknown (omega arith) ok
   where
     ok : unknownEnum n x ≡ true
@@ -113,8 +113,8 @@ module _ (S : Schema) (n : ℕ) (encoder : ℕ → Value → List ℕ) (decoder 
 
   -- with its mark
   marked-spelt : {k : Flat} {v : Value} → FlatSound n k → FlatShown S k v
-      → Spells (takeMark (takeLostFlat k) (takeFlat decoder k)) (markBits (flatUnknown k) (flatBits encoder k) v) v
-  unfolding takeLostFlat flatUnknown present
+      → Spells (takeMark (takeUnknownFlat k) (takeFlat decoder k)) (markBits (flatUnknown k) (flatBits encoder k) v) v
+  unfolding takeUnknownFlat flatUnknown present
   marked-spelt s (boolean h) = present-spelt _ _ _ _ _ refl (flat-spelt s (boolean h) refl)
   marked-spelt s (integer h) = present-spelt _ _ _ _ _ refl (flat-spelt s (integer h) refl)
   marked-spelt s (float h) = present-spelt _ _ _ _ _ refl (flat-spelt s (float h) refl)
@@ -125,7 +125,7 @@ module _ (S : Schema) (n : ℕ) (encoder : ℕ → Value → List ℕ) (decoder 
 
   -- a struct's member
   field-spelt : {k : Flat} {v : Value} → FlatSound n k → FlatShown S k v → Spells (takeField decoder k) (fieldBits encoder k v) v
-  unfolding takeField fieldBits takeLostFlat flatUnknown present
+  unfolding takeField fieldBits takeUnknownFlat flatUnknown present
   field-spelt s (boolean h) = flat-spelt s (boolean h) refl
   field-spelt s (integer h) = flat-spelt s (integer h) refl
   field-spelt s (float h) = flat-spelt s (float h) refl
@@ -186,24 +186,24 @@ module _ (S : Schema) (G : Sound S) where
     body-spelt s (choice {i} {c} {v} l u h) p = choice-spelt i c v l u h
     body-spelt s (unknown-choice l u) p = absurd (false≢true p)
 
-    choice-lost : (i c : ℕ) → length (casesOf S i) < c → c < 2 ^ 16 → Spells (takeLost S (OfUnion i)) (bitsOf 16 c) (unknown c)
-    unfolding takeLost
+    choice-lost : (i c : ℕ) → length (casesOf S i) < c → c < 2 ^ 16 → Spells (takeUnknown S (OfUnion i)) (bitsOf 16 c) (unknown c)
+    unfolding takeUnknown
     choice-lost i c l u = if-spelt 16 c (λ x. ltb (length (casesOf S i)) x) unknown u (lt-ltb (length (casesOf S i)) c l)
 
     part-spelt : {k : Kind} {v : Value} → KindSound S k → PartShown child S k v → Spells (takePart decoder S k) (partBits encoder S k v) v
     unfolding takePart partBits unknownWidth
     part-spelt s no-part = absent-spelt _ _ _ _
     part-spelt s (flat h) =
-        unfold takeLost takeBody bodyBits in
+        unfold takeUnknown takeBody bodyBits in
         marked-spelt S (length (S .structs)) (structBits S) (takeStruct S) (λ j l. struct-spelt j) s h
     part-spelt s (object {ob} {v} h) = present-spelt _ _ _ _ v (below ob v h .1) (body-spelt s (object h) (below ob v h .1))
     part-spelt s (choice {i} {c} {v} l u h) = unfold present in present-spelt _ _ _ _ (chosen c v) refl (choice-spelt i c v l u h)
     part-spelt s (unknown-choice {i} {c} l u) = unknown-spelt _ _ _ _ c (choice-lost i c l u)
 
-    element-spelt : {k : Kind} {v : Value} → KindSound S k → PartShown child S k v → (bare k ≡ true → present v ≡ true)
+    element-spelt : {k : Kind} {v : Value} → KindSound S k → PartShown child S k v → (unmarked k ≡ true → present v ≡ true)
         → Spells (takeElement decoder S k) (elementBits encoder S k v) v
     unfolding takeElement elementBits
-    element-spelt {k} {v} s h p = by (bare k) p
+    element-spelt {k} {v} s h p = by (unmarked k) p
       where
         by : (t : Bool) → (t ≡ true → present v ≡ true)
             → Spells (λ xs. pick t (takeBody decoder S k xs) (takePart decoder S k xs)) (pick t (bodyBits encoder S k v) (partBits encoder S k v)) v

@@ -11,8 +11,8 @@ use Rattle.coding.specs.Lists.{pick}
 use Rattle.coding.specs.Schema.{Schema, structOf, elementOf, casesOf, caseOf, tableOf}
 use Rattle.coding.specs.Value.{Value, absent, unknown, number, blob, asNumber, asBlob, asRow, asObject, present, first, others, count}
 use Rattle.coding.specs.Bits.{bitsOf, bits, value, pack}
-use Rattle.coding.specs.Sheet.{markBits, flatBits, fieldBits, fieldsBits, bitsBy, noBits, structBits, Encoder, bodyBits, flatUnknown, unknownWidth, partBits, bare, elementBits, membersBits, elementsBits, blobBits, contentBits, encode}
-use Rattle.coding.specs.Sheet.{Parsed, fail, got, bind, takeNumber, takeBytes, takeValue, takeIf, takeMark, unknownEnum, takeLostEnum, takeEnum, takeFlat, takeField, takeFields, takeBy, takeNothing, takeStruct, Decoder, takeChoice, takeBody, takeLostFlat, takeLost, takePart, takeElement, takeMembers, takeElements, takeBlob, takeContent, decode}
+use Rattle.coding.specs.Sheet.{markBits, flatBits, fieldBits, fieldsBits, bitsBy, noBits, structBits, Encoder, bodyBits, flatUnknown, unknownWidth, partBits, unmarked, elementBits, membersBits, elementsBits, blobBits, contentBits, encode}
+use Rattle.coding.specs.Sheet.{Parsed, fail, got, bind, takeNumber, takeBytes, takeValue, takeIf, takeMark, unknownEnum, takeUnknownEnum, takeEnum, takeFlat, takeField, takeFields, takeBy, takeNothing, takeStruct, Decoder, takeChoice, takeBody, takeUnknownFlat, takeUnknown, takePart, takeElement, takeMembers, takeElements, takeBlob, takeContent, decode}
 use Rattle.coding.specs.declared.Flat.{Flat}
 use Rattle.coding.specs.declared.Flat.the-variants.{Boolean, Integer, Float, Enumerated, Struct}
 use Rattle.coding.specs.declared.Object.{Object}
@@ -137,8 +137,8 @@ unknown-enum-is S n x l e =
     let ne = eqb-false x 255 (not-true (eqb x 255) (both-right (leb n x) (not (eqb x 255)) e)) in
     unknown-enum (leb-true n x (both-left (leb n x) (not (eqb x 255)) e)) (omega arith)
 
-lost-enum : (S : Schema) (n : ℕ) (xs : List ℕ) → All Bit xs → Lost (FlatShown S (Enumerated n)) 8 xs (takeLostEnum n xs)
-unfolding takeLostEnum
+lost-enum : (S : Schema) (n : ℕ) (xs : List ℕ) → All Bit xs → Lost (FlatShown S (Enumerated n)) 8 xs (takeUnknownEnum n xs)
+unfolding takeUnknownEnum
 lost-enum S n xs h = lost-if (FlatShown S (Enumerated n)) 8 (unknownEnum n) (unknown-enum-is S n) xs h
 
 -- a value of a kind that is there
@@ -172,7 +172,7 @@ module _ (S : Schema) (n : ℕ) (encoder : ℕ → Value → List ℕ) (decoder 
   field-from (Integer g w) s xs h = weaken (λ v p. p .0) (flat-from (Integer g w) s xs h)
   field-from (Float w) s xs h = weaken (λ v p. p .0) (flat-from (Float w) s xs h)
   field-from (Enumerated c) s xs h =
-      mark-from (FlatShown S (Enumerated c)) 8 (flatBits encoder (Enumerated c)) (takeLostEnum c) (takeFlat decoder (Enumerated c)) no-enum
+      mark-from (FlatShown S (Enumerated c)) 8 (flatBits encoder (Enumerated c)) (takeUnknownEnum c) (takeFlat decoder (Enumerated c)) no-enum
       (lost-enum S c) (flat-from (Enumerated c) s) xs h
   field-from (Struct i) s xs h = weaken (λ v p. p .0) (flat-from (Struct i) s xs h)
 
@@ -230,8 +230,8 @@ module _ (S : Schema) (G : Sound S) where
     body-from (OfObject ob) s xs h = weaken (λ v p. (object (p .0), p .1)) (below ob xs h)
     body-from (OfUnion i) s xs h = choice-from i xs h
 
-    lost-flat : (k : Flat) (xs : List ℕ) → All Bit xs → Lost (PartShown child S (OfFlat k)) (flatUnknown k) xs (takeLostFlat k xs)
-    unfolding flatUnknown takeLostFlat takeLostEnum
+    lost-flat : (k : Flat) (xs : List ℕ) → All Bit xs → Lost (PartShown child S (OfFlat k)) (flatUnknown k) xs (takeUnknownFlat k xs)
+    unfolding flatUnknown takeUnknownFlat takeUnknownEnum
     lost-flat Boolean xs h = lost-fail
     lost-flat (Integer g w) xs h = lost-fail
     lost-flat (Float w) xs h = lost-fail
@@ -239,8 +239,8 @@ module _ (S : Schema) (G : Sound S) where
         lost-if (PartShown child S (OfFlat (Enumerated n))) 8 (unknownEnum n) (λ x l e. flat (unknown-enum-is S n x l e)) xs h
     lost-flat (Struct i) xs h = lost-fail
 
-    lost-from : (k : Kind) (xs : List ℕ) → All Bit xs → Lost (PartShown child S k) (unknownWidth k) xs (takeLost S k xs)
-    unfolding unknownWidth takeLost
+    lost-from : (k : Kind) (xs : List ℕ) → All Bit xs → Lost (PartShown child S k) (unknownWidth k) xs (takeUnknown S k xs)
+    unfolding unknownWidth takeUnknown
     lost-from (OfFlat k) xs h = lost-flat k xs h
     lost-from (OfObject ob) xs h = lost-fail
     lost-from (OfUnion i) xs h =
@@ -250,15 +250,15 @@ module _ (S : Schema) (G : Sound S) where
     part-from : (k : Kind) → KindSound S k → (xs : List ℕ) → All Bit xs → From (PartShown child S k) (partBits encoder S k) xs (takePart decoder S k xs)
     unfolding Part partBits takePart
     part-from k s xs h =
-        mark-from (PartShown child S k) (unknownWidth k) (bodyBits encoder S k) (takeLost S k) (takeBody decoder S k) no-part (lost-from k) (body-from k s) xs h
+        mark-from (PartShown child S k) (unknownWidth k) (bodyBits encoder S k) (takeUnknown S k) (takeBody decoder S k) no-part (lost-from k) (body-from k s) xs h
 
     -- an element: one with no mark is there
     Element : Kind → Value → Type 0
-    Element k v = PartShown child S k v × (bare k ≡ true → present v ≡ true)
+    Element k v = PartShown child S k v × (unmarked k ≡ true → present v ≡ true)
 
     element-from : (k : Kind) → KindSound S k → (xs : List ℕ) → All Bit xs → From (Element k) (elementBits encoder S k) xs (takeElement decoder S k xs)
     unfolding Part Element elementBits takeElement
-    element-from k s xs h = by (bare k)
+    element-from k s xs h = by (unmarked k)
       where
         by : (t : Bool)
             → From (λ v. PartShown child S k v × (t ≡ true → present v ≡ true)) (λ v. pick t (bodyBits encoder S k v) (partBits encoder S k v)) xs

@@ -6,7 +6,7 @@ use Prim.Native.Nat.{ℕ, zero, suc, _*_, _^_, _<_, _≤_}
 use lib.ListN.{length}
 use Rattle.coding.specs.Schema.{Schema, structOf, elementOf, casesOf, caseOf, tableOf}
 use Rattle.coding.specs.Value.{Value, Values, absent, unknown, number, blob, row, chosen, none, _then_, present, count}
-use Rattle.coding.specs.Sheet.{bare}
+use Rattle.coding.specs.Sheet.{unmarked}
 use Rattle.coding.specs.declared.Flat.{Flat}
 use Rattle.coding.specs.declared.Flat.the-variants.{Boolean, Integer, Float, Enumerated, Struct}
 use Rattle.coding.specs.declared.Object.{Object}
@@ -57,7 +57,7 @@ pub data MembersShown (child : Objects) (S : Schema) : List Member → Values �
 -- "Elements .. have a mark too, except bool and integer elements", which are there
 pub data ElementsShown (child : Objects) (S : Schema) (k : Kind) : Values → Type 0 where
   no-element : ElementsShown child S k none
-  elements : {v : Value} {vs : Values} → PartShown child S k v → (bare k ≡ true → present v ≡ true)
+  elements : {v : Value} {vs : Values} → PartShown child S k v → (unmarked k ≡ true → present v ≡ true)
       → ElementsShown child S k vs → ElementsShown child S k (v then vs)
 
 -- ---- objects. "text or bytes a 32-bit length and the bytes; list a 32-bit count and elements; table its members"

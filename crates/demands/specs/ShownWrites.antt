@@ -11,7 +11,7 @@ use Rattle.coding.specs.Bytes.{isNaN}
 use Rattle.coding.specs.Schema.{Schema, casesOf, caseOf}
 use Rattle.coding.specs.Layout.{flatTakesFlag}
 use Rattle.coding.specs.Value.{Value, Values, absent, row, asNumber, asRow, asObject, present, known, first, others}
-use Rattle.coding.specs.Sheet.{bare, flatBare}
+use Rattle.coding.specs.Sheet.{unmarked, flatUnmarked}
 use Rattle.coding.specs.Message.{lengthOf, flatKnown, flatsKnown, knownBy, allKnown, structKnown, flatWritable, Test, valueWritable, membersWritable, elementsWritable, contentWritable, writable}
 use Rattle.coding.specs.declared.Flat.{Flat}
 use Rattle.coding.specs.declared.Flat.the-variants as F
@@ -119,9 +119,9 @@ module _ (S : Schema) (sound : Sound S) where
     part-writes optional inplace (unknown-choice h l) e = never e
 
     -- a bool or an integer of a list is there
-    element-writes : {k : Kind} {v : Value} {nan inplace : Bool} → (bare k ≡ true → present v ≡ true) → NoStruct k → PartWrites G o S true nan inplace k v
+    element-writes : {k : Kind} {v : Value} {nan inplace : Bool} → (unmarked k ≡ true → present v ≡ true) → NoStruct k → PartWrites G o S true nan inplace k v
         → PartWrites G o S false nan inplace k v
-    unfolding bare flatBare present flatTakesFlag
+    unfolding unmarked flatUnmarked present flatTakesFlag
     element-writes b s (W.no-flat {k = F.Boolean} e t) = never (b refl)
     element-writes b s (W.no-flat {k = F.Integer g w} e t) = never (b refl)
     element-writes b s (W.no-flat {k = F.Float w} e t) = never t

@@ -17,7 +17,7 @@ use Rattle.coding.specs.Step.{enumStep, floatStep, structStep, placeOf, objectS
 use Rattle.coding.specs.Value.{Value, unknown, number, present}
 use Rattle.coding.specs.Read as R
 use Rattle.coding.specs.Read.{stepRead, noObject, fieldsRead, readBy, noStruct, structRead}
-use Rattle.coding.specs.Sheet.{flatBare, bare}
+use Rattle.coding.specs.Sheet.{flatUnmarked, unmarked}
 use Rattle.coding.specs.declared.Flat.{Flat}
 use Rattle.coding.specs.declared.Flat.the-variants.{Boolean, Integer, Float, Enumerated, Struct}
 use Rattle.coding.specs.declared.Object.{Object}
@@ -161,9 +161,9 @@ module _ (S : Schema) (m : List ℕ) (small : (i : ℕ) → getD m i 0 < 256) wh
     element-step o k start i = value-step o k true false 0 (elementPlace o S k start i) (i % 8)
 
     -- an element that has no mark is there
-    pub element-present : (o : ℕ) (child : R.Child) (k : Kind) (start i : ℕ) → bare k ≡ true
+    pub element-present : (o : ℕ) (child : R.Child) (k : Kind) (start i : ℕ) → unmarked k ≡ true
         → present (stepRead (structRead S m) child (elementStep o S m k start i)) ≡ true
-    unfolding elementStep valueStep flatStep stepRead present bare flatBare
+    unfolding elementStep valueStep flatStep stepRead present unmarked flatUnmarked
     element-present o child (OfFlat Boolean) start i e = refl
     element-present o child (OfFlat (Integer g w)) start i e = refl
     element-present o child (OfFlat (Float w)) start i e = absurd (false≢true e)

@@ -15,7 +15,7 @@ use Rattle.coding.specs.Schema as Sc
 use Rattle.coding.specs.Schema.{Schema}
 use Rattle.coding.specs.Structs.{structSize}
 use Rattle.coding.specs.Message.{zeros}
-use Rattle.coding.specs.Sheet.{Parsed, fail, got, bind, takeNumber, takeBytes, unknownEnum, flatBare}
+use Rattle.coding.specs.Sheet.{Parsed, fail, got, bind, takeNumber, takeBytes, unknownEnum, flatUnmarked}
 use Rattle.coding.specs.declared.Flat.{Flat}
 use Rattle.coding.specs.declared.Flat.the-variants.{Boolean, Integer, Float, Enumerated, Struct}
 use Rattle.coding.specs.declared.Object.{Object}
@@ -245,13 +245,13 @@ module _ (S : Schema) (s : List ℕ) (f : Flat) (c : Places) (st : State) (pos :
   unfolding emitMarkedEnum emitMarkedFlat surveyMark lackFlat passFlat emitFlat
   marked-enum m e u = rw e u
 
-  pub marked-boolean : f ≡ Boolean → flatBare f ≡ false → EmittedAt s (emitMarkedFlat S f st (drop pos (bits s))) pos c 0 t p out n
-  unfolding flatBare
-  marked-boolean e h = never (sym (subst (λ (g : Flat). flatBare g ≡ false) e h))
+  pub marked-boolean : f ≡ Boolean → flatUnmarked f ≡ false → EmittedAt s (emitMarkedFlat S f st (drop pos (bits s))) pos c 0 t p out n
+  unfolding flatUnmarked
+  marked-boolean e h = never (sym (subst (λ (g : Flat). flatUnmarked g ≡ false) e h))
 
-  pub marked-integer : (g : Bool) (w : ℕ) → f ≡ Integer g w → flatBare f ≡ false → EmittedAt s (emitMarkedFlat S f st (drop pos (bits s))) pos c 0 t p out n
-  unfolding flatBare
-  marked-integer g w e h = never (sym (subst (λ (q : Flat). flatBare q ≡ false) e h))
+  pub marked-integer : (g : Bool) (w : ℕ) → f ≡ Integer g w → flatUnmarked f ≡ false → EmittedAt s (emitMarkedFlat S f st (drop pos (bits s))) pos c 0 t p out n
+  unfolding flatUnmarked
+  marked-integer g w e h = never (sym (subst (λ (q : Flat). flatUnmarked q ≡ false) e h))
 
   pub marked-struct : (i : ℕ) → f ≡ Struct i → FlatScalar f → EmittedAt s (emitMarkedFlat S f st (drop pos (bits s))) pos c 0 t p out n
   marked-struct i e h = absurd (subst FlatScalar e h)

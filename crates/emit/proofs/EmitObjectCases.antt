@@ -14,7 +14,7 @@ use Rattle.coding.specs.Bits.{bits}
 use Rattle.coding.specs.Packed.{parse}
 use Rattle.coding.specs.Schema as Sc
 use Rattle.coding.specs.Schema.{Schema}
-use Rattle.coding.specs.Sheet.{Parsed, fail, got, bind, bare, flatBare}
+use Rattle.coding.specs.Sheet.{Parsed, fail, got, bind, unmarked, flatUnmarked}
 use Rattle.coding.specs.declared.Flat.{Flat}
 use Rattle.coding.specs.declared.Object.{Object}
 use Rattle.coding.specs.declared.Object.the-variants as O
@@ -155,7 +155,7 @@ module _ (child : Emitter) (measure : Surveyor) (S : Schema) (s : List ℕ) (i :
       → EmittedAt s (emitContent child measure u48 S (O.List i) (stateOf c o) (drop pos (bits s))) pos c 0 t q o₁ m
   list-objects k ek ob eo room whole n first taken h t q o₁ m em = list-elements (OfObject ob) (sym eo ∙ ek) room whole n first taken h t q o₁ m em
 
-  pub list-flats : (k : Kind) → k ≡ Sc.elementOf S i → (f : Flat) → k ≡ OfFlat f → (t₀ : Bool) → t₀ ≡ bare k → t₀ ≡ false → Room s pos c → (whole : Bool) (n first : ℕ) → TakenNumber s pos 32 whole n first → not whole ≡ false
+  pub list-flats : (k : Kind) → k ≡ Sc.elementOf S i → (f : Flat) → k ≡ OfFlat f → (t₀ : Bool) → t₀ ≡ unmarked k → t₀ ≡ false → Room s pos c → (whole : Bool) (n first : ℕ) → TakenNumber s pos 32 whole n first → not whole ≡ false
       → (t : Bool) (q : Places) (o₁ : List ℕ) (m : ℕ) → EmittedAt s (emitFlats S f n (stateOf c o) (drop first (bits s))) first c 0 t q o₁ m
       → EmittedAt s (emitContent child measure u48 S (O.List i) (stateOf c o) (drop pos (bits s))) pos c 0 t q o₁ m
   list-flats k ek f ef t₀ e₀ h₀ room whole n first taken h t q o₁ m em =
@@ -176,7 +176,7 @@ module _ (b dir : List ℕ) (a : Accepted b dir) (i : ℕ) (k : Kind) (e : k ≡
   pub element-flat-scalar : FlatScalar f
   element-flat-scalar = flat-scalar k f ef (element-scalar b dir a i k e)
 
-pub element-flat-marked : (k : Kind) (f : Flat) → k ≡ OfFlat f → (t : Bool) → t ≡ bare k → t ≡ false → flatBare f ≡ false
+pub element-flat-marked : (k : Kind) (f : Flat) → k ≡ OfFlat f → (t : Bool) → t ≡ unmarked k → t ≡ false → flatUnmarked f ≡ false
 element-flat-marked k f ef t e h = flat-marked k f ef (sym e ∙ h)
 
 pub elements-start : (child : Emitter) (measure : Surveyor) (S : Schema) (k : Kind) (n : ℕ) (st : State) (xs : List ℕ)

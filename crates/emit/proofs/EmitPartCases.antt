@@ -14,7 +14,7 @@ use Rattle.coding.specs.Schema as Sc
 use Rattle.coding.specs.Schema.{Schema}
 use Rattle.coding.specs.Layout.{hasFlag, takesFlag}
 use Rattle.coding.specs.Walk.{headerSize, magic}
-use Rattle.coding.specs.Sheet.{Parsed, fail, got, bind, bare, flatBare}
+use Rattle.coding.specs.Sheet.{Parsed, fail, got, bind, unmarked, flatUnmarked}
 use Rattle.coding.specs.declared.Flat.{Flat}
 use Rattle.coding.specs.declared.Object.{Object}
 use Rattle.coding.specs.declared.Kind.{Kind}
@@ -303,7 +303,7 @@ module _ (child : Emitter) (measure : Surveyor) (S : Schema) (s : List ℕ) (r :
 
 -- ---- elements
 module _ (child : Emitter) (measure : Surveyor) (S : Schema) (s : List ℕ) (k : Kind) (c : Places) (o : List ℕ) (pos : ℕ) (w : Bool) (q : Places) (o₁ : List ℕ) (n : ℕ)
-    (t : Bool) (et : t ≡ bare k) where
+    (t : Bool) (et : t ≡ unmarked k) where
   pub element-marked : t ≡ false → EmittedAt s (emitMember child measure u48 S (record { kind = k; optional = false; inplace = false }) (stateOf c o) (drop pos (bits s))) pos c 0 w q o₁ n
       → EmittedAt s (emitElement child measure u48 S k (stateOf c o) (drop pos (bits s))) pos c 0 w q o₁ n
   unfolding emitElement emitMember flagged hasFlag
@@ -342,7 +342,7 @@ module _ (child : Emitter) (measure : Surveyor) (S : Schema) (s : List ℕ) (ob 
 
     pub marked-bad : (x ≡ 1 → ⊥) → (x ≡ 0 → ⊥) → (w : Bool) (q : Places) (n : ℕ) → w ≡ false → q ≡ c → n ≡ pos
         → EmittedAt s (emitElement child measure u48 S (OfObject ob) (stateOf c o) (drop pos (bits s))) pos c 0 w q o n
-    unfolding emitElement emitPart surveyMark bind bare pass
+    unfolding emitElement emitPart surveyMark bind unmarked pass
     marked-bad h1 h0 w q n ew eq en =
         refused s _ pos c 0 (rw (taken .number, not-false whole h) (simp (ne-eqb x 0 h0, ne-eqb x 1 h1) (by (eqb x 2)))) room w q o n ew eq en
       where
@@ -467,7 +467,7 @@ unfolding emitMember emitUnflagged flagged
 unflagged-member child measure S s r h st xs pos c w q o₁ n t = rw (no-flag r h) t
 
 -- ---- elements with a mark
-module _ (child : Emitter) (measure : Surveyor) (S : Schema) (s : List ℕ) (k : Kind) (h : bare k ≡ false) (c : Places) (o : List ℕ) (pos : ℕ) (w : Bool) (q : Places) (o₁ : List ℕ) (n : ℕ) where
+module _ (child : Emitter) (measure : Surveyor) (S : Schema) (s : List ℕ) (k : Kind) (h : unmarked k ≡ false) (c : Places) (o : List ℕ) (pos : ℕ) (w : Bool) (q : Places) (o₁ : List ℕ) (n : ℕ) where
   pub element-flat : (f : Flat) → k ≡ OfFlat f → EmittedAt s (emitMarkedFlat S f (stateOf c o) (drop pos (bits s))) pos c 0 w q o₁ n
       → EmittedAt s (emitElement child measure u48 S k (stateOf c o) (drop pos (bits s))) pos c 0 w q o₁ n
   unfolding emitElement emitPart emitMarkedFlat surveyMark lack pass emitBody
@@ -478,12 +478,12 @@ module _ (child : Emitter) (measure : Surveyor) (S : Schema) (s : List ℕ) (k :
   unfolding emitElement emitUnflagged
   element-refers t = rw h t
 
-pub not-bare : (k : Kind) (t : Bool) → t ≡ bare k → t ≡ false → bare k ≡ false
-not-bare k t e h = sym e ∙ h
+pub not-unmarked : (k : Kind) (t : Bool) → t ≡ unmarked k → t ≡ false → unmarked k ≡ false
+not-unmarked k t e h = sym e ∙ h
 
-pub flat-marked : (k : Kind) (f : Flat) → k ≡ OfFlat f → bare k ≡ false → flatBare f ≡ false
-unfolding bare
-flat-marked k f e h = subst (λ (q : Kind). bare q ≡ false) e h
+pub flat-marked : (k : Kind) (f : Flat) → k ≡ OfFlat f → unmarked k ≡ false → flatUnmarked f ≡ false
+unfolding unmarked
+flat-marked k f e h = subst (λ (q : Kind). unmarked q ≡ false) e h
 
 pub flat-scalar : (k : Kind) (f : Flat) → k ≡ OfFlat f → NoStruct k → FlatScalar f
 flat-scalar k f e h = subst NoStruct e h

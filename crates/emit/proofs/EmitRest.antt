@@ -12,7 +12,7 @@ use Rattle.coding.specs.Bits.{bits}
 use Rattle.coding.specs.Schema as Sc
 use Rattle.coding.specs.Schema.{Schema}
 use Rattle.coding.specs.Structs.{lower, byIndex}
-use Rattle.coding.specs.Sheet.{Parsed, fail, got, bind, takeNumber, takeBytes, unknownEnum, bare}
+use Rattle.coding.specs.Sheet.{Parsed, fail, got, bind, takeNumber, takeBytes, unknownEnum, unmarked}
 use Rattle.coding.specs.declared.Flat.{Flat}
 use Rattle.coding.specs.declared.Flat.the-variants.{Boolean, Integer, Float, Enumerated, Struct}
 use Rattle.coding.specs.declared.Object.{Object}
@@ -152,7 +152,7 @@ module _ (child : Emitter) (measure : Surveyor) (o : ℕ) (S : Schema) (f : (ob 
 
   element-left : (k : Kind) (st : State) (xs : List ℕ) (n : ℕ) → length xs ≤ n → left (emitElement child measure o S k st xs) ≤ n
   unfolding emitElement
-  element-left k st xs n l = pick-left n (bare k) _ _ (body-left k false st xs n l) (part-left k false st st xs n l)
+  element-left k st xs n l = pick-left n (unmarked k) _ _ (body-left k false st xs n l) (part-left k false st st xs n l)
 
   members-left : (rs : List Member) (st : State) (xs : List ℕ) (n : ℕ) → length xs ≤ n → left (emitMembers child measure o S rs st xs) ≤ n
   unfolding emitMembers left

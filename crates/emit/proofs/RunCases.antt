@@ -12,7 +12,7 @@ use Rattle.coding.specs.Bytes.{u48, leBytes}
 use Rattle.coding.specs.Bits.{bits}
 use Rattle.coding.specs.Schema as Sc
 use Rattle.coding.specs.Schema.{Schema}
-use Rattle.coding.specs.Sheet.{Parsed, fail, got, bind, bare}
+use Rattle.coding.specs.Sheet.{Parsed, fail, got, bind, unmarked}
 use Rattle.coding.specs.declared.Flat.{Flat}
 use Rattle.coding.specs.declared.Flat.the-variants.{Boolean, Integer, Float, Enumerated, Struct}
 use Rattle.coding.specs.declared.Object.the-variants as O
@@ -28,7 +28,7 @@ use Rattle.bitio.specs.Taken.{TakenNumber}
 use Rattle.survey.specs.Survey.{Surveyor}
 use Rattle.store.specs.State.{State, putBit, putNumber}
 use Rattle.emit.specs.EmitSheet.{Emitter, emitNumber, emitElements, emitBlob, emitContent}
-use Rattle.emit.specs.EmitRun.{emitRun, flatIntegerWidth, integerWidth, emitBare, bare-run, octets-blob, emitFlats}
+use Rattle.emit.specs.EmitRun.{emitRun, flatIntegerWidth, integerWidth, emitUnmarked, unmarked-run, octets-blob, emitFlats}
 use Rattle.store.specs.Storing.{stateOf, forward, Stood, BitPut}
 use Rattle.emit.specs.Emitting.{Room, EmittedAt, emitMarkedFlat}
 use Rattle.store.specs.declared.Places.{Places}
@@ -220,15 +220,15 @@ module _ (S : Schema) (s : List ℕ) (k : Flat) (n : ℕ) (c : Places) (o : List
 
 -- ---- a list of elements without a mark
 module _ (s : List ℕ) (w n : ℕ) (c : Places) (o : List ℕ) (pos : ℕ) (t : Bool) (q : Places) (o₁ : List ℕ) (m : ℕ) where
-  pub bare-bools : w ≡ 0 → EmittedAt s (emitRun 1 putBit n (stateOf c o) (drop pos (bits s))) pos c 0 t q o₁ m
-      → EmittedAt s (emitBare w n (stateOf c o) (drop pos (bits s))) pos c 0 t q o₁ m
-  unfolding emitBare
-  bare-bools e em = rw (eq-eqb w 0 e) em
+  pub unmarked-bools : w ≡ 0 → EmittedAt s (emitRun 1 putBit n (stateOf c o) (drop pos (bits s))) pos c 0 t q o₁ m
+      → EmittedAt s (emitUnmarked w n (stateOf c o) (drop pos (bits s))) pos c 0 t q o₁ m
+  unfolding emitUnmarked
+  unmarked-bools e em = rw (eq-eqb w 0 e) em
 
-  pub bare-integers : (w ≡ 0 → ⊥) → EmittedAt s (emitRun (8 * w) (putNumber w) n (stateOf c o) (drop pos (bits s))) pos c 0 t q o₁ m
-      → EmittedAt s (emitBare w n (stateOf c o) (drop pos (bits s))) pos c 0 t q o₁ m
-  unfolding emitBare
-  bare-integers e em = rw (ne-eqb w 0 e) em
+  pub unmarked-integers : (w ≡ 0 → ⊥) → EmittedAt s (emitRun (8 * w) (putNumber w) n (stateOf c o) (drop pos (bits s))) pos c 0 t q o₁ m
+      → EmittedAt s (emitUnmarked w n (stateOf c o) (drop pos (bits s))) pos c 0 t q o₁ m
+  unfolding emitUnmarked
+  unmarked-integers e em = rw (ne-eqb w 0 e) em
 
 module _ (k : Kind) (w : ℕ) (ew : w ≡ integerWidth k) where
   pub integer-wide : (b dir : List ℕ) → Accepted b dir → (i : ℕ) → k ≡ Sc.elementOf (parse b) i → w ≤ 8
@@ -256,9 +256,9 @@ module _ (k : Kind) (w : ℕ) (ew : w ≡ integerWidth k) where
         next = em .next;
       }
 
-  pub list-run : (b dir : List ℕ) → Accepted b dir → (t₀ : Bool) → t₀ ≡ bare k → t₀ ≡ true → (child : Emitter) (measure : Surveyor) (s : List ℕ) (i : ℕ) → k ≡ Sc.elementOf (parse b) i
+  pub list-run : (b dir : List ℕ) → Accepted b dir → (t₀ : Bool) → t₀ ≡ unmarked k → t₀ ≡ true → (child : Emitter) (measure : Surveyor) (s : List ℕ) (i : ℕ) → k ≡ Sc.elementOf (parse b) i
       → (c : Places) (o : List ℕ) (pos : ℕ) → Room s pos c → (whole : Bool) (n first : ℕ) → TakenNumber s pos 32 whole n first → not whole ≡ false
-      → (t : Bool) (q : Places) (o₁ : List ℕ) (m : ℕ) → EmittedAt s (emitBare w n (stateOf c o) (drop first (bits s))) first c 0 t q o₁ m
+      → (t : Bool) (q : Places) (o₁ : List ℕ) (m : ℕ) → EmittedAt s (emitUnmarked w n (stateOf c o) (drop first (bits s))) first c 0 t q o₁ m
       → EmittedAt s (emitContent child measure u48 (parse b) (O.List i) (stateOf c o) (drop pos (bits s))) pos c 0 t q o₁ m
   list-run b dir acc t₀ e₀ h child measure s i ek c o pos room whole n first taken f t q o₁ m em =
       let e = taken-at s pos 32 whole n first taken (room .here) f in
@@ -272,5 +272,5 @@ module _ (k : Kind) (w : ℕ) (ew : w ≡ integerWidth k) where
 
       is : emitContent child measure u48 (parse b) (O.List i) (stateOf c o) (drop pos (bits s)) ≡ pick t (got (stateOf q o₁) (drop m (bits s))) fail
       is =
-          first-is ∙ bare-run child measure u48 (parse b) k (element-sound b dir acc i k ek) (sym e₀ ∙ h) n (stateOf c o) (drop first (bits s))
-          ∙ ap (λ (v : ℕ). emitBare v n (stateOf c o) (drop first (bits s))) (sym ew) ∙ em .is
+          first-is ∙ unmarked-run child measure u48 (parse b) k (element-sound b dir acc i k ek) (sym e₀ ∙ h) n (stateOf c o) (drop first (bits s))
+          ∙ ap (λ (v : ℕ). emitUnmarked v n (stateOf c o) (drop first (bits s))) (sym ew) ∙ em .is

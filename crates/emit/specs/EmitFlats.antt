@@ -11,7 +11,7 @@ use Rattle.coding.specs.Schema.{Schema, structOf}
 use Rattle.coding.specs.Structs.{structSize}
 use Rattle.coding.specs.Value.{Value, Values, absent, unknown, number, row, present, asNumber, asRow, first, others}
 use Rattle.coding.specs.Cells.Slots.{end, bytes}
-use Rattle.coding.specs.Sheet.{Parsed, fail, got, bind, takeNumber, takeValue, takeIf, unknownEnum, takeLostEnum, takeEnum, takeFlat, takeField, takeFields, takeBy, takeNothing, takeStruct, takeLostFlat}
+use Rattle.coding.specs.Sheet.{Parsed, fail, got, bind, takeNumber, takeValue, takeIf, unknownEnum, takeUnknownEnum, takeEnum, takeFlat, takeField, takeFields, takeBy, takeNothing, takeStruct, takeUnknownFlat}
 use Rattle.coding.specs.Message.{numberOr, flatBytes, flatsBytes, bytesBy, noBytes, structBytes, zeros, flatSlots}
 use Rattle.coding.specs.declared.Flat.{Flat}
 use Rattle.coding.specs.declared.Flat.the-variants.{Boolean, Integer, Float, Enumerated, Struct}
@@ -60,13 +60,13 @@ module _ (S : Schema) (i : ℕ) (emitter : ℕ → State → List ℕ → Parsed
     (inner : (j : ℕ) → j < i → StructEmitted (emitter j) (take j) (bytesOf j)) where
   field-emitted : (k : Flat) → FlatSound i k → (st : State) (xs : List ℕ)
       → emitField emitter k st xs ≡ mapped (λ v. putBytes (flatBytes bytesOf k v) st) (takeField take k xs)
-  unfolding emitField takeField takeFlat flatBytes putByte putNumber asNumber numberOr present takeLostEnum takeEnum
+  unfolding emitField takeField takeFlat flatBytes putByte putNumber asNumber numberOr present takeUnknownEnum takeEnum
   field-emitted Boolean ok st xs = number-emitted _ 1 putByte st (λ x. refl) xs
   field-emitted (Integer s w) ok st xs = number-emitted _ (8 * w) (putNumber w) st (λ x. refl) xs
   field-emitted (Float w) ok st xs = number-emitted _ (8 * w) (putNumber w) st (λ x. refl) xs
   field-emitted (Enumerated n) ok st xs =
       mark-mapped (λ v. putBytes (numberOr v 255 ∷ []) st) (putByte 255 st) (emitIf 8 (unknownEnum n) putNothing (putByte 255 st)) (emitIf 8 (belowCount n) putByte st)
-      (takeLostEnum n) (takeEnum n) refl
+      (takeUnknownEnum n) (takeEnum n) refl
       (λ ys. if-emitted (λ v. putBytes (numberOr v 255 ∷ []) st) 8 (unknownEnum n) unknown putNothing (putByte 255 st) (λ x. refl) ys)
       (λ ys. if-emitted (λ v. putBytes (numberOr v 255 ∷ []) st) 8 (belowCount n) number putByte st (λ x. refl) ys) xs
   field-emitted (Struct j) ok st xs = inner j ok .is st xs
@@ -126,8 +126,8 @@ module _ (S : Schema) (sound : Sound S) (o : ℕ) where
   lack-emitted (Struct i) st = refl
 
   pub pass-emitted : (k : Flat) (st : State) (xs : List ℕ)
-      → passFlat k (lackFlat S k st) xs ≡ mapped (λ v. emitSlots o st (flatSlots S k v end)) (takeLostFlat k xs)
-  unfolding passFlat takeLostFlat lackFlat flatSlots emitSlots putByte putNumber asNumber numberOr present takeLostEnum
+      → passFlat k (lackFlat S k st) xs ≡ mapped (λ v. emitSlots o st (flatSlots S k v end)) (takeUnknownFlat k xs)
+  unfolding passFlat takeUnknownFlat lackFlat flatSlots emitSlots putByte putNumber asNumber numberOr present takeUnknownEnum
   pass-emitted Boolean st xs = refl
   pass-emitted (Integer s w) st xs = refl
   pass-emitted (Float w) st xs = refl

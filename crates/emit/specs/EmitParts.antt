@@ -14,7 +14,7 @@ use Rattle.coding.specs.Walk.{headerSize, magic}
 use Rattle.coding.specs.Value.{Value, Values, absent, unknown, number, blob, row, chosen, none, _then_, present, asNumber, asBlob, asRow, asObject, first, others}
 use Rattle.coding.specs.Cells.{width, chain, below, Slots, packBits}
 use Rattle.coding.specs.Cells.Slots.{end, bytes, bit, reference, inPlace}
-use Rattle.coding.specs.Sheet.{Parsed, fail, got, bind, takeNumber, takeBytes, takeIf, unknownEnum, takeLostEnum, takeFlat, takeStruct, Decoder, takeChoice, takeBody, takeLostFlat, takeLost, takePart, bare, takeElement, takeMembers, takeElements, takeBlob, takeContent}
+use Rattle.coding.specs.Sheet.{Parsed, fail, got, bind, takeNumber, takeBytes, takeIf, unknownEnum, takeUnknownEnum, takeFlat, takeStruct, Decoder, takeChoice, takeBody, takeUnknownFlat, takeUnknown, takePart, unmarked, takeElement, takeMembers, takeElements, takeBlob, takeContent}
 use Rattle.coding.specs.Message.{lengthOf, Test, zeros, numberOr, flatSlots, Planner, objectSlots, referSlots, valueSlots, flagOf, memberSlots, membersSlots, elementsSlots, contentSlots}
 use Rattle.coding.specs.declared.Flat.{Flat}
 use Rattle.coding.specs.declared.Flat.the-variants as F
@@ -173,8 +173,8 @@ module _ (o : ℕ) (S : Schema) (sound : Sound S) (child : Emitter) (measure : S
 
   -- ---- with its mark
   lost-flat : (k : Flat) (inplace : Bool) (st0 st1 : State) (xs : List ℕ)
-      → passFlat k (lackFlat S k st0) xs ≡ mapped (λ v. valueState o S P (OfFlat k) inplace (pick (present v) st1 st0) v) (takeLostFlat k xs)
-  unfolding passFlat lackFlat takeLostFlat takeLostEnum valueSlots flatSlots emitSlots putByte numberOr present
+      → passFlat k (lackFlat S k st0) xs ≡ mapped (λ v. valueState o S P (OfFlat k) inplace (pick (present v) st1 st0) v) (takeUnknownFlat k xs)
+  unfolding passFlat lackFlat takeUnknownFlat takeUnknownEnum valueSlots flatSlots emitSlots putByte numberOr present
   lost-flat F.Boolean inplace st0 st1 xs = refl
   lost-flat (F.Integer s w) inplace st0 st1 xs = refl
   lost-flat (F.Float w) inplace st0 st1 xs = refl
@@ -182,8 +182,8 @@ module _ (o : ℕ) (S : Schema) (sound : Sound S) (child : Emitter) (measure : S
   lost-flat (F.Struct i) inplace st0 st1 xs = refl
 
   lost-emitted : (k : Kind) (inplace : Bool) (st0 st1 : State) (xs : List ℕ)
-      → pass S k (lack o S k st0) xs ≡ mapped (λ v. valueState o S P k inplace (pick (present v) st1 st0) v) (takeLost S k xs)
-  unfolding pass lack takeLost
+      → pass S k (lack o S k st0) xs ≡ mapped (λ v. valueState o S P k inplace (pick (present v) st1 st0) v) (takeUnknown S k xs)
+  unfolding pass lack takeUnknown
   lost-emitted (OfFlat k) inplace st0 st1 xs = lost-flat k inplace st0 st1 xs
   lost-emitted (OfObject ob) inplace st0 st1 xs = refl
   lost-emitted (OfUnion i) inplace st0 st1 xs =
@@ -203,7 +203,7 @@ module _ (o : ℕ) (S : Schema) (sound : Sound S) (child : Emitter) (measure : S
   unfolding emitPart takePart
   part-emitted k inplace st0 st1 xs =
       mark-mapped (λ v. valueState o S P k inplace (pick (present v) st1 st0) v) (lack o S k st0) (pass S k (lack o S k st0)) (emitBody child measure o S k inplace st1)
-      (takeLost S k) (takeBody decoder S k) (none-emitted k inplace st0 st1) (λ ys. lost-emitted k inplace st0 st1 ys)
+      (takeUnknown S k) (takeBody decoder S k) (none-emitted k inplace st0 st1) (λ ys. lost-emitted k inplace st0 st1 ys)
       (λ ys. body-emitted k inplace st1 ys ∙ mapped-same _ _ (takeBody decoder S k ys) (all (takeBody decoder S k ys) (body-there k ys))) xs
     where
       all : (p : Parsed Value) → Has Present p → Has (λ v. valueState o S P k inplace st1 v ≡ valueState o S P k inplace (pick (present v) st1 st0) v) p
@@ -212,7 +212,7 @@ module _ (o : ℕ) (S : Schema) (sound : Sound S) (child : Emitter) (measure : S
 
   element-emitted : (k : Kind) (st : State) (xs : List ℕ) → emitElement child measure o S k st xs ≡ mapped (valueState o S P k false st) (takeElement decoder S k xs)
   unfolding emitElement takeElement
-  element-emitted k st xs = by (bare k)
+  element-emitted k st xs = by (unmarked k)
     where
       same : (t : Bool) (v : Value) → valueState o S P k false (pick t st st) v ≡ valueState o S P k false st v
       same true v = refl

@@ -14,7 +14,7 @@ use Rattle.coding.specs.Lists.{pick}
 use Rattle.coding.specs.Bytes.{leBytes}
 use Rattle.coding.specs.Bits.{value, pack}
 use Rattle.coding.specs.Schema.{Schema, elementOf}
-use Rattle.coding.specs.Sheet.{Parsed, fail, got, bind, takeNumber, takeBytes, bare, flatBare}
+use Rattle.coding.specs.Sheet.{Parsed, fail, got, bind, takeNumber, takeBytes, unmarked, flatUnmarked}
 use Rattle.coding.specs.declared.Flat.{Flat}
 use Rattle.coding.specs.declared.Flat.the-variants.{Boolean, Integer, Float, Enumerated, Struct}
 use Rattle.coding.specs.declared.Kind.{Kind}
@@ -50,33 +50,33 @@ integerWidth (OfObject ob) = 0
 integerWidth (OfUnion i) = 0
 
 -- n elements without a mark: integers of w bytes, or bools where w is 0
-unfoldable pub emitBare : ℕ → ℕ → State → List ℕ → Parsed State
-emitBare w n st xs = pick (eqb w 0) (emitRun 1 putBit n st xs) (emitRun (8 * w) (putNumber w) n st xs)
+unfoldable pub emitUnmarked : ℕ → ℕ → State → List ℕ → Parsed State
+emitUnmarked w n st xs = pick (eqb w 0) (emitRun 1 putBit n st xs) (emitRun (8 * w) (putNumber w) n st xs)
 
 module _ (child : Emitter) (measure : Surveyor) (o : ℕ) (S : Schema) where
   bools-run : (n : ℕ) (st : State) (xs : List ℕ) → emitElements child measure o S (OfFlat Boolean) n st xs ≡ emitRun 1 putBit n st xs
-  unfolding emitElements emitElement emitBody emitFlat emitRun bare flatBare
+  unfolding emitElements emitElement emitBody emitFlat emitRun unmarked flatUnmarked
   bools-run zero st xs = refl
   bools-run (suc n) st xs = bind-same (emitNumber 1 putBit st xs) _ _ (λ next ys. bools-run n next ys)
 
   integers-run : (s : Bool) (w n : ℕ) (st : State) (xs : List ℕ) → emitElements child measure o S (OfFlat (Integer s w)) n st xs ≡ emitRun (8 * w) (putNumber w) n st xs
-  unfolding emitElements emitElement emitBody emitFlat emitRun bare flatBare
+  unfolding emitElements emitElement emitBody emitFlat emitRun unmarked flatUnmarked
   integers-run s w zero st xs = refl
   integers-run s w (suc n) st xs =
       bind-same (emitNumber (8 * w) (putNumber w) st xs) _ _ (λ next ys. integers-run s w n next ys)
 
-  pub bare-run : (k : Kind) → KindSound S k → bare k ≡ true → (n : ℕ) (st : State) (xs : List ℕ)
-      → emitElements child measure o S k n st xs ≡ emitBare (integerWidth k) n st xs
-  unfolding integerWidth flatIntegerWidth bare flatBare emitBare
-  bare-run (OfFlat Boolean) g h n st xs = bools-run n st xs
-  bare-run (OfFlat (Integer s w)) g h n st xs =
+  pub unmarked-run : (k : Kind) → KindSound S k → unmarked k ≡ true → (n : ℕ) (st : State) (xs : List ℕ)
+      → emitElements child measure o S k n st xs ≡ emitUnmarked (integerWidth k) n st xs
+  unfolding integerWidth flatIntegerWidth unmarked flatUnmarked emitUnmarked
+  unmarked-run (OfFlat Boolean) g h n st xs = bools-run n st xs
+  unmarked-run (OfFlat (Integer s w)) g h n st xs =
       let z : w ≡ 0 → ⊥ = λ e. (let l = g .0 in let y : ⊥ = omega arith in y) in
       rw (ne-eqb w 0 z) (integers-run s w n st xs)
-  bare-run (OfFlat (Float w)) g h n st xs = never h
-  bare-run (OfFlat (Enumerated m)) g h n st xs = never h
-  bare-run (OfFlat (Struct i)) g h n st xs = never h
-  bare-run (OfObject ob) g h n st xs = never h
-  bare-run (OfUnion i) g h n st xs = never h
+  unmarked-run (OfFlat (Float w)) g h n st xs = never h
+  unmarked-run (OfFlat (Enumerated m)) g h n st xs = never h
+  unmarked-run (OfFlat (Struct i)) g h n st xs = never h
+  unmarked-run (OfObject ob) g h n st xs = never h
+  unmarked-run (OfUnion i) g h n st xs = never h
 
 -- ---- integers of one byte
 put-one : (x : ℕ) (st : State) → x < 256 → putNumber 1 x st ≡ putBytes (x ∷ []) st
@@ -153,9 +153,9 @@ unfoldable pub emitFlats : Schema → Flat → ℕ → State → List ℕ → Pa
 emitFlats S f zero st xs = got st xs
 emitFlats S f (suc n) st xs = bind (emitMarkedFlat S f st xs) (λ next ys. emitFlats S f n next ys)
 
-module _ (child : Emitter) (measure : Surveyor) (o : ℕ) (S : Schema) (f : Flat) (h : flatBare f ≡ false) where
+module _ (child : Emitter) (measure : Surveyor) (o : ℕ) (S : Schema) (f : Flat) (h : flatUnmarked f ≡ false) where
   one-flat : (st : State) (xs : List ℕ) → emitElement child measure o S (OfFlat f) st xs ≡ emitMarkedFlat S f st xs
-  unfolding emitElement emitPart emitMarkedFlat surveyMark lack pass emitBody bare
+  unfolding emitElement emitPart emitMarkedFlat surveyMark lack pass emitBody unmarked
   one-flat st xs = rw h refl
 
   pub flats-run : (n : ℕ) (st : State) (xs : List ℕ) → emitElements child measure o S (OfFlat f) n st xs ≡ emitFlats S f n st xs

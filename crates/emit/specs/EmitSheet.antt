@@ -12,7 +12,7 @@ use Rattle.coding.specs.Structs.{byIndex, structSize}
 use Rattle.coding.specs.Layout.{hasFlag}
 use Rattle.coding.specs.Walk.{headerSize, magic}
 use Rattle.coding.specs.Message.{zeros}
-use Rattle.coding.specs.Sheet.{Parsed, fail, got, bind, takeNumber, takeBytes, unknownEnum, bare}
+use Rattle.coding.specs.Sheet.{Parsed, fail, got, bind, takeNumber, takeBytes, unknownEnum, unmarked}
 use Rattle.coding.specs.declared.Flat.{Flat}
 use Rattle.coding.specs.declared.Flat.the-variants.{Boolean, Integer, Float, Enumerated, Struct}
 use Rattle.coding.specs.declared.Object.{Object}
@@ -132,7 +132,7 @@ emitPart child measure o S k inplace st0 st1 xs =
 
 unfoldable pub emitElement : Emitter → Surveyor → ℕ → Schema → Kind → State → List ℕ → Parsed State
 emitElement child measure o S k st xs =
-    pick (bare k) (emitBody child measure o S k false st xs) (emitPart child measure o S k false st st xs)
+    pick (unmarked k) (emitBody child measure o S k false st xs) (emitPart child measure o S k false st st xs)
 
 unfoldable pub flagged : Member → ℕ → State → State
 flagged r x st = pick (hasFlag r) (putBit x st) st

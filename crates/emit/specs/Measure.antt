@@ -12,7 +12,7 @@ use Rattle.coding.specs.Bytes.{u48}
 use Rattle.coding.specs.Schema.{Schema, elementOf, casesOf, caseOf, tableOf}
 use Rattle.coding.specs.Layout.{fixedSize}
 use Rattle.coding.specs.Step.{elementsSize}
-use Rattle.coding.specs.Sheet.{Parsed, fail, got, bind, takeNumber, takeBytes, bare}
+use Rattle.coding.specs.Sheet.{Parsed, fail, got, bind, takeNumber, takeBytes, unmarked}
 use Rattle.coding.specs.declared.Object.{Object}
 use Rattle.coding.specs.declared.Object.the-variants as O
 use Rattle.coding.specs.declared.Kind.{Kind}
@@ -122,7 +122,7 @@ module _ (child : Surveyor) (o : ℕ) (S : Schema) where
 
   element-unchained : (k : Kind) (xs : List ℕ) → Has Unchained (surveyElement child o S k xs)
   unfolding surveyElement
-  element-unchained k xs = by (bare k)
+  element-unchained k xs = by (unmarked k)
     where
       by : (t : Bool) → Has Unchained (pick t (surveyBody child o S k true false xs) (surveyPart child o S k true false xs))
       by true = body-unchained k true xs

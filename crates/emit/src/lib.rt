@@ -27,7 +27,7 @@ ghost use Rattle.store.specs.State as St;
 ghost use Rattle.store.specs.Storing.{stateOf, HeldOk, BitPut, Stood};
 ghost use Rattle.emit.specs.EmitSheet as Es;
 ghost use Rattle.emit.specs.Measure.{Measured, MeasuredContent, anyInPlace, KnownSize};
-ghost use Rattle.emit.specs.EmitRun.{emitRun, emitBare, emitFlats, integerWidth};
+ghost use Rattle.emit.specs.EmitRun.{emitRun, emitUnmarked, emitFlats, integerWidth};
 ghost use Rattle.emit.specs.Emitting as Eg;
 ghost use Rattle.emit.specs.Emitting.{Room, EmittedAt};
 
@@ -351,7 +351,7 @@ fn emit_marked_float(s: &[u8], out: &mut [u8], w: u8, c: Places, pos: usize) -> 
 
 // A float or an enum: no other has a mark.
 fn emit_marked_flat(b: &[u8], s: &[u8], out: &mut [u8], k: Flat, c: Places, pos: usize) -> Emitted
-    requires { ⌜ (FlatSound (length (P.parse (now b) .structs)) k) × (FlatScalar k) × (Sh.flatBare k ≡ false) ⌝ }
+    requires { ⌜ (FlatSound (length (P.parse (now b) .structs)) k) × (FlatScalar k) × (Sh.flatUnmarked k ≡ false) ⌝ }
     requires { ⌜ Room (now s) pos c ⌝ }
     ensures { λ r. ⌜ EmittedAt (now (s .entry)) (Eg.emitMarkedFlat (P.parse (now (b .entry))) k (stateOf c (now (out .entry))) (drop pos (bits (now (s .entry))))) pos c 0 (r .whole) (r .places) (now (out .exit)) (r .next) ⌝ }
 {
@@ -374,7 +374,7 @@ fn emit_flats(
     c: Places,
     pos: usize,
 ) -> Emitted
-    requires { ⌜ (FlatSound (length (P.parse (now b) .structs)) k) × (FlatScalar k) × (Sh.flatBare k ≡ false) ⌝ }
+    requires { ⌜ (FlatSound (length (P.parse (now b) .structs)) k) × (FlatScalar k) × (Sh.flatUnmarked k ≡ false) ⌝ }
     requires { ⌜ Room (now s) pos c ⌝ }
     ensures { λ r. ⌜ EmittedAt (now (s .entry)) (emitFlats (P.parse (now (b .entry))) k n (stateOf c (now (out .entry))) (drop pos (bits (now (s .entry))))) pos c 0 (r .whole) (r .places) (now (out .exit)) (r .next) ⌝ }
 {
@@ -454,10 +454,10 @@ fn emit_bits(s: &[u8], out: &mut [u8], n: usize, c: Places, pos: usize) -> Emitt
 }
 
 // n integers of w bytes, or n bools where w is 0.
-fn emit_bare(s: &[u8], out: &mut [u8], w: usize, n: usize, c: Places, pos: usize) -> Emitted
+fn emit_unmarked(s: &[u8], out: &mut [u8], w: usize, n: usize, c: Places, pos: usize) -> Emitted
     requires { ⌜ w ≤ 8 ⌝ }
     requires { ⌜ Room (now s) pos c ⌝ }
-    ensures { λ r. ⌜ EmittedAt (now (s .entry)) (emitBare w n (stateOf c (now (out .entry))) (drop pos (bits (now (s .entry))))) pos c 0 (r .whole) (r .places) (now (out .exit)) (r .next) ⌝ }
+    ensures { λ r. ⌜ EmittedAt (now (s .entry)) (emitUnmarked w n (stateOf c (now (out .entry))) (drop pos (bits (now (s .entry))))) pos c 0 (r .whole) (r .places) (now (out .exit)) (r .next) ⌝ }
 {
     if w == 0 {
         return emit_bits(s, out, n, c, pos);
@@ -1063,7 +1063,7 @@ fn emit_element(
     c: Places,
     pos: usize,
 ) -> Emitted
-    requires { ⌜ (Accepted (now b) (now dir)) × (KindSound (P.parse (now b)) k) × (NoStruct k) × (Sh.bare k ≡ false) ⌝ }
+    requires { ⌜ (Accepted (now b) (now dir)) × (KindSound (P.parse (now b)) k) × (NoStruct k) × (Sh.unmarked k ≡ false) ⌝ }
     requires { ⌜ Room (now s) pos c ⌝ }
     ensures { λ r. ⌜ EmittedAt (now (s .entry)) (Es.emitElement (Es.emit d B.u48 (P.parse (now (b .entry)))) (Sv.survey d B.u48 (P.parse (now (b .entry)))) B.u48 (P.parse (now (b .entry))) k (stateOf c (now (out .entry))) (drop pos (bits (now (s .entry))))) pos c 0 (r .whole) (r .places) (now (out .exit)) (r .next) ⌝ }
 {
@@ -1195,7 +1195,7 @@ fn emit_elements(
     c: Places,
     pos: usize,
 ) -> Emitted
-    requires { ⌜ (Accepted (now b) (now dir)) × (KindSound (P.parse (now b)) k) × (NoStruct k) × (Sh.bare k ≡ false) × (n < 2 ^ 32) ⌝ }
+    requires { ⌜ (Accepted (now b) (now dir)) × (KindSound (P.parse (now b)) k) × (NoStruct k) × (Sh.unmarked k ≡ false) × (n < 2 ^ 32) ⌝ }
     requires { ⌜ Room (now s) pos c ⌝ }
     ensures { λ r. ⌜ EmittedAt (now (s .entry)) (Es.emitElements (Es.emit d B.u48 (P.parse (now (b .entry)))) (Sv.survey d B.u48 (P.parse (now (b .entry)))) B.u48 (P.parse (now (b .entry))) k n (stateOf c (now (out .entry))) (drop pos (bits (now (s .entry))))) pos c 0 (r .whole) (r .places) (now (out .exit)) (r .next) ⌝ }
 {
@@ -1238,8 +1238,8 @@ fn emit_list(
         return not_lawful(c, pos);
     }
     let n = y.value as usize;
-    if survey::bare(k) {
-        return emit_bare(s, out, integer_width(k), n, c, y.next);
+    if survey::unmarked(k) {
+        return emit_unmarked(s, out, integer_width(k), n, c, y.next);
     }
     match k {
         Kind::OfFlat(f) => emit_flats(b, s, out, f, n, c, y.next),

@@ -165,7 +165,7 @@ pub elements-readable : (child : D.Child) (S : Schema) (m : List ℕ) (k : Kind)
     → D.ElementsReadable child S m k start (n - 0) 0
 elements-readable child S m k start n h = let z : n ≡ n - 0 = omega arith in subst (λ (x : ℕ). D.ElementsReadable child S m k start x 0) z h
 
-pub elements-cons : (d : ℕ) (S : Schema) (m : List ℕ) (k : Kind) (start n i : ℕ) → E.bare k ≡ false
+pub elements-cons : (d : ℕ) (S : Schema) (m : List ℕ) (k : Kind) (start n i : ℕ) → E.unmarked k ≡ false
     → D.StepReadable (D.ObjectReadable d S m) S m (T.elementStep u48 S m k start i)
     → A.elementsAt d S m k start (suc n) i ≡ A.stepAt d S m k (T.elementStep u48 S m k start i) ++ A.elementsAt d S m k start n (i + 1)
 unfolding A.elementsAt E.elementsBits R.elementsRead E.elementBits
@@ -193,7 +193,7 @@ module _ (d : ℕ) (S : Schema) (m : List ℕ) (k : Kind) (start n j : ℕ) (h :
     pub element-readable : D.StepReadable (D.ObjectReadable d S m) S m (A.placed true (T.valueStep u48 S m k true false 0 at bit))
     element-readable = subst (D.StepReadable (D.ObjectReadable d S m) S m) (sym element-is) (split-elements .0)
 
-    pub elements-turn : E.bare k ≡ false → (whole o₀ o o₁ : List ℕ) (p₀ p p₁ : ℕ) → Remaining o₀ p₀ whole o p (A.elementsAt d S m k start (n - j) j) → Room o p
+    pub elements-turn : E.unmarked k ≡ false → (whole o₀ o o₁ : List ℕ) (p₀ p p₁ : ℕ) → Remaining o₀ p₀ whole o p (A.elementsAt d S m k start (n - j) j) → Room o p
         → Puts o p (A.stepAt d S m k (A.placed true (T.valueStep u48 S m k true false 0 at bit))) o₁ p₁
         → Remaining o₀ p₀ whole o₁ p₁ (A.elementsAt d S m k start (n - (j + 1)) (j + 1))
     elements-turn f whole o₀ o o₁ p₀ p p₁ inv g put =
@@ -213,13 +213,13 @@ elements-done d S m k start n j whole o₀ o p₀ p inv g h =
 
 -- ---- elements without a mark
 bools-same : (d : ℕ) (S : Schema) (m : List ℕ) (start n i : ℕ) → K.boolsAt m start n i ≡ A.elementsAt d S m (OfFlat F.Boolean) start n i
-unfolding K.boolsAt K.boolAt A.elementsAt E.elementsBits R.elementsRead E.elementBits E.bare E.flatBare E.bodyBits E.flatBits R.stepRead T.elementStep T.valueStep T.flatStep T.elementPlace L.isBool L.flatIsBool Tree.asNumber
+unfolding K.boolsAt K.boolAt A.elementsAt E.elementsBits R.elementsRead E.elementBits E.unmarked E.flatUnmarked E.bodyBits E.flatBits R.stepRead T.elementStep T.valueStep T.flatStep T.elementPlace L.isBool L.flatIsBool Tree.asNumber
 bools-same d S m start zero i = refl
 bools-same d S m start (suc n) i = ap (λ (l : List ℕ). bitsOf 1 (bitAt m (start + i / 8) (i % 8)) ++ l) (bools-same d S m start n (i + 1))
 
 numbers-same : (d : ℕ) (S : Schema) (m : List ℕ) (s : Bool) (w start n i : ℕ)
     → K.numbersAt m w n (start + w * i) ≡ A.elementsAt d S m (OfFlat (F.Integer s w)) start n i
-unfolding K.numbersAt A.elementsAt E.elementsBits R.elementsRead E.elementBits E.bare E.flatBare E.bodyBits E.flatBits R.stepRead T.elementStep T.valueStep T.flatStep T.elementPlace L.isBool L.flatIsBool Tree.asNumber L.width flatWidth
+unfolding K.numbersAt A.elementsAt E.elementsBits R.elementsRead E.elementBits E.unmarked E.flatUnmarked E.bodyBits E.flatBits R.stepRead T.elementStep T.valueStep T.flatStep T.elementPlace L.isBool L.flatIsBool Tree.asNumber L.width flatWidth
 numbers-same d S m s w start zero i = refl
 numbers-same d S m s w start (suc n) i =
     let z : w * (i + 1) ≡ w * i + w = ap (λ (x : ℕ). w * x) (add-one i) ∙ mul-suc w i in

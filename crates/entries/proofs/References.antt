@@ -25,8 +25,8 @@ offset-place : (S : Schema) (ob : Object) (start j : ℕ) → start + 6 * j ≡ 
 unfolding T.elementPlace L.isBool L.width u48
 offset-place S ob start j = refl
 
-offset-marked : (ob : Object) → E.bare (OfObject ob) ≡ false
-unfolding E.bare
+offset-marked : (ob : Object) → E.unmarked (OfObject ob) ≡ false
+unfolding E.unmarked
 offset-marked ob = refl
 
 module _ (d : ℕ) (S : Schema) (m : List ℕ) (ob : Object) (start n j : ℕ) (h : j < n)
@@ -63,8 +63,8 @@ choice-place : (S : Schema) (u start j : ℕ) → start + 8 * j ≡ T.elementPla
 unfolding T.elementPlace L.isBool L.width u48
 choice-place S u start j = refl
 
-choice-marked : (u : ℕ) → E.bare (OfUnion u) ≡ false
-unfolding E.bare
+choice-marked : (u : ℕ) → E.unmarked (OfUnion u) ≡ false
+unfolding E.unmarked
 choice-marked u = refl
 
 module _ (d : ℕ) (S : Schema) (m : List ℕ) (u start n j : ℕ) (h : j < n) (good : D.ElementsReadable (D.ObjectReadable d S m) S m (OfUnion u) start (n - j) j)

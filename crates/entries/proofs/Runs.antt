@@ -106,7 +106,7 @@ module _ (m : List ℕ) (f : Flat) (n at : ℕ) (o : List ℕ) (p : ℕ) where
     flats-enum k e h = rw e h
 
 module _ (d : ℕ) (S : Schema) (m : List ℕ) where
-  flats-cons : (f : Flat) (start n i : ℕ) → E.bare (OfFlat f) ≡ false → D.ElementsReadable (D.ObjectReadable d S m) S m (OfFlat f) start (suc n) i
+  flats-cons : (f : Flat) (start n i : ℕ) → E.unmarked (OfFlat f) ≡ false → D.ElementsReadable (D.ObjectReadable d S m) S m (OfFlat f) start (suc n) i
       → A.elementsAt d S m (OfFlat f) start (suc n) i
       ≡ A.flatAt S m f true (T.elementPlace u48 S (OfFlat f) start i) (i % 8) ++ A.elementsAt d S m (OfFlat f) start n (i + 1)
   unfolding D.ElementsReadable T.elementStep T.valueStep
@@ -128,7 +128,7 @@ module _ (d : ℕ) (S : Schema) (m : List ℕ) where
 
   floats-same : (w start n i : ℕ) → D.ElementsReadable (D.ObjectReadable d S m) S m (OfFlat (F.Float w)) start n i
       → K.floatsAt m w n (start + w * i) ≡ A.elementsAt d S m (OfFlat (F.Float w)) start n i
-  unfolding K.floatsAt A.flatAt E.bare E.flatBare T.elementPlace L.isBool L.flatIsBool L.width flatWidth
+  unfolding K.floatsAt A.flatAt E.unmarked E.flatUnmarked T.elementPlace L.isBool L.flatIsBool L.width flatWidth
   floats-same w start zero i h = none-left (OfFlat (F.Float w)) start i
   floats-same w start (suc n) i h =
       ap (λ (l : List ℕ). K.floatAt true w (le m (start + w * i) w) ++ l)
@@ -137,7 +137,7 @@ module _ (d : ℕ) (S : Schema) (m : List ℕ) where
 
   enums-same : (k start n i : ℕ) → D.ElementsReadable (D.ObjectReadable d S m) S m (OfFlat (F.Enumerated k)) start n i
       → K.enumsAt m k n (start + 1 * i) ≡ A.elementsAt d S m (OfFlat (F.Enumerated k)) start n i
-  unfolding K.enumsAt A.flatAt E.bare E.flatBare T.elementPlace L.isBool L.flatIsBool L.width flatWidth
+  unfolding K.enumsAt A.flatAt E.unmarked E.flatUnmarked T.elementPlace L.isBool L.flatIsBool L.width flatWidth
   enums-same k start zero i h = none-left (OfFlat (F.Enumerated k)) start i
   enums-same k start (suc n) i h =
       ap (λ (l : List ℕ). K.enumAt k (getD m (start + 1 * i) 0) ++ l)

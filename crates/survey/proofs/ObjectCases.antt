@@ -16,7 +16,7 @@ use Rattle.coding.specs.Schema.{Schema}
 use Rattle.coding.specs.Packed as P
 use Rattle.coding.specs.Layout as L
 use Rattle.coding.specs.Step as T
-use Rattle.coding.specs.Sheet.{Parsed, fail, got, bind, bare}
+use Rattle.coding.specs.Sheet.{Parsed, fail, got, bind, unmarked}
 use Rattle.coding.specs.declared.Object.{Object}
 use Rattle.coding.specs.declared.Object.the-variants as O
 use Rattle.coding.specs.declared.Kind.{Kind}
@@ -27,7 +27,7 @@ use Rattle.laws.specs.SoundAt.{member-sound-at, list-index, table-index}
 use Rattle.schema.specs.Directory.{Accepted, accepted-sound}
 use Rattle.bitio.specs.Taken.{TakenNumber}
 use Rattle.survey.specs.Survey.{opened, joined, referred, Surveyor, surveyObject, surveyPart, surveyElement, surveyMembers, surveyElements, surveyBlob, surveyContent, survey}
-use Rattle.survey.specs.BareElements.{bareBits, passed, bare-elements}
+use Rattle.survey.specs.UnmarkedElements.{unmarkedBits, passed, unmarked-elements}
 use Rattle.survey.specs.Surveyed.{Small, Fits, SurveyedAt}
 use Rattle.survey.specs.declared.Extent.{Extent}
 use Rattle.survey.proofs.PartCases.{refer-surveyed}
@@ -94,7 +94,7 @@ module _ (child : Surveyor) (S : Schema) (s : List ℕ) (t at : ℕ) where
           ∙ ap (λ (m : ℕ). surveyMembers child u48 S (drop m (Sc.tableOf S t .members)) g (drop next (bits s))) (sym (add-one j))
 
 -- ---- the elements of a list, from element j on
-pub marked : (k : Kind) (t : Bool) → t ≡ bare k → t ≡ false → bare k ≡ false
+pub marked : (k : Kind) (t : Bool) → t ≡ unmarked k → t ≡ false → unmarked k ≡ false
 marked k t e h = sym e ∙ h
 
 module _ (child : Surveyor) (S : Schema) (s : List ℕ) (i at : ℕ) where
@@ -116,15 +116,15 @@ module _ (child : Surveyor) (S : Schema) (s : List ℕ) (i at : ℕ) where
         ∙ ap (λ (y : ℕ). surveyElements child u48 S k y a (drop first (bits s))) e)
 
     -- without marks
-    pub elements-bare : not whole ≡ false → (k : Kind) → k ≡ Sc.elementOf S i → (z : ℕ) → z ≡ T.elementsSize u48 S k n → (a : Extent) → Fits (opened n z) a
-        → (t : Bool) → t ≡ bare k → t ≡ true → (u : ℕ) → u ≡ bareBits k → (w : Bool) (e : Extent) (m : ℕ)
+    pub elements-unmarked : not whole ≡ false → (k : Kind) → k ≡ Sc.elementOf S i → (z : ℕ) → z ≡ T.elementsSize u48 S k n → (a : Extent) → Fits (opened n z) a
+        → (t : Bool) → t ≡ unmarked k → t ≡ true → (u : ℕ) → u ≡ unmarkedBits k → (w : Bool) (e : Extent) (m : ℕ)
         → SurveyedAt s (passed (n * u) a (drop first (bits s))) w e m → SurveyedAt s (surveyContent child u48 S (O.List i) (drop at (bits s))) w e m
     unfolding surveyContent bind
-    elements-bare h k ek z ez a f t et ht u eu w e m q =
+    elements-unmarked h k ek z ez a f t et ht u eu w e m q =
         record {
           is = rw (taken .number, not-false whole h)
               (ap (λ (y : Kind). surveyElements child u48 S y n (opened n (T.elementsSize u48 S y n)) (drop first (bits s))) (sym ek)
-              ∙ bare-elements child u48 S k (sym et ∙ ht) n n (T.elementsSize u48 S k n) (drop first (bits s))
+              ∙ unmarked-elements child u48 S k (sym et ∙ ht) n n (T.elementsSize u48 S k n) (drop first (bits s))
               ∙ ap (λ (y : ℕ). passed (n * y) (opened n (T.elementsSize u48 S k n)) (drop first (bits s))) (sym eu)
               ∙ ap (λ (y : ℕ). passed (n * u) (opened n y) (drop first (bits s))) (sym ez)
               ∙ ap (λ (y : Extent). passed (n * u) y (drop first (bits s))) (sym (f .is)) ∙ q .is);
@@ -152,8 +152,8 @@ pub row-counted : (b dir : List ℕ) → Accepted b dir → (i : ℕ) (k : Kind)
     → t < P.tableCount b
 row-counted b dir a i k e t et h = table-index b t (subst (KindSound (P.parse b)) (et h) (element-sound b dir a i k e))
 
-pub object-marked : (ob : Object) → bare (OfObject ob) ≡ false
-unfolding bare
+pub object-marked : (ob : Object) → unmarked (OfObject ob) ≡ false
+unfolding unmarked
 object-marked ob = refl
 
 pub rows-start : (child : Surveyor) (S : Schema) (s : List ℕ) (k : Kind) (n total at : ℕ) (a : Extent) → Fits (opened n total) a
@@ -171,7 +171,7 @@ module _ (child : Surveyor) (S : Schema) (s : List ℕ) (at : ℕ) (p : Parsed E
         let z : n - j ≡ 0 = omega arith in
         record { is = inv ∙ ap (λ (m : ℕ). surveyElements child u48 S k m a (drop pos (bits s))) z; inside = l; small = sm }
 
-    module _ (h : j < n) (marks : bare k ≡ false) (whole : Bool) (x : Extent) (next : ℕ)
+    module _ (h : j < n) (marks : unmarked k ≡ false) (whole : Bool) (x : Extent) (next : ℕ)
         (q : SurveyedAt s (surveyPart child u48 S k true false (drop pos (bits s))) whole x next) where
       element-is : surveyElement child u48 S k (drop pos (bits s)) ≡ surveyPart child u48 S k true false (drop pos (bits s))
       unfolding surveyElement

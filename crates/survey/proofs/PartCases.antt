@@ -15,7 +15,7 @@ use Rattle.coding.specs.Bits.{bits}
 use Rattle.coding.specs.Schema as Sc
 use Rattle.coding.specs.Schema.{Schema}
 use Rattle.coding.specs.Packed as P
-use Rattle.coding.specs.Sheet.{Parsed, fail, got, bind, takeNumber, takeBytes, unknownEnum, bare}
+use Rattle.coding.specs.Sheet.{Parsed, fail, got, bind, takeNumber, takeBytes, unknownEnum, unmarked}
 use Rattle.coding.specs.declared.Flat.{Flat}
 use Rattle.coding.specs.declared.Flat.the-variants.{Boolean, Integer, Float, Enumerated, Struct}
 use Rattle.coding.specs.declared.Object.{Object}
@@ -28,7 +28,7 @@ use Rattle.schema.specs.Directory.{Accepted, accepted-sound}
 use Rattle.bitio.specs.Taken.{TakenNumber, TakenBytes}
 use Rattle.survey.specs.Survey.{testNumber, testIf, anyNumber, floatFine, belowCount, aboveCount, surveyMark, surveyFlat, surveyStruct, surveyLostFlat, plain, opened, referred, Surveyor, plainOf, surveyObject, surveyChoice, surveyBody, surveyLost, mayLack, surveyPart, surveyBlob, survey}
 use Rattle.laws.specs.Bits.{bits-length}
-use Rattle.survey.specs.BareElements.{bareBits, flatBareBits, passed}
+use Rattle.survey.specs.UnmarkedElements.{unmarkedBits, flatUnmarkedBits, passed}
 use Rattle.survey.specs.BlobReferred.{BlobEnd, blobReferred, blob-is}
 use Rattle.survey.specs.Surveyed.{TestedAt, Small, Fits, SurveyedAt}
 use Rattle.survey.specs.declared.Extent.{Extent}
@@ -348,8 +348,8 @@ not-less h = absurd (omega arith)
 pub table-index-in : (k : Kind) (ob : Object) (t j : ℕ) → k ≡ OfObject ob → ob ≡ O.Table t → j ≡ t → k ≡ OfObject (O.Table j)
 table-index-in k ob t j ek eo ej = rw (ek, eo, ej)
 
-pub bits-integer : (k : Kind) (f : Flat) (g : Bool) (w j : ℕ) → k ≡ OfFlat f → f ≡ Integer g w → j ≡ w → 8 * j ≡ bareBits k
-unfolding bareBits flatBareBits
+pub bits-integer : (k : Kind) (f : Flat) (g : Bool) (w j : ℕ) → k ≡ OfFlat f → f ≡ Integer g w → j ≡ w → 8 * j ≡ unmarkedBits k
+unfolding unmarkedBits flatUnmarkedBits
 bits-integer k f g w j ek ef ej = rw (ek, ef, ej)
 
 module _ (s : List ℕ) (pos w n : ℕ) (a : Extent) (l : pos ≤ 8 * length s) (x : ℕ) (ex : x ≡ w * n) where

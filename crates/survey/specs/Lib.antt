@@ -8,6 +8,6 @@ pub mod SurveyParts
 pub mod Widths
 pub mod SurveyObjects
 pub mod Surveyed
-pub mod BareElements
+pub mod UnmarkedElements
 pub mod BlobReferred
 pub mod Leaves

@@ -12,7 +12,7 @@ use Rattle.coding.specs.Structs.{byIndex}
 use Rattle.coding.specs.Layout.{fixedSize}
 use Rattle.coding.specs.Step.{elementsSize}
 use Rattle.coding.specs.Walk.{headerSize}
-use Rattle.coding.specs.Sheet.{Parsed, fail, got, bind, takeNumber, takeBytes, unknownEnum, bare}
+use Rattle.coding.specs.Sheet.{Parsed, fail, got, bind, takeNumber, takeBytes, unknownEnum, unmarked}
 use Rattle.coding.specs.declared.Flat.{Flat}
 use Rattle.coding.specs.declared.Flat.the-variants.{Boolean, Integer, Float, Enumerated, Struct}
 use Rattle.coding.specs.declared.Object.{Object}
@@ -179,7 +179,7 @@ surveyPart child o S k optional inplace xs =
     surveyMark (plain (mayLack optional k)) (surveyLost S k) (surveyBody child o S k optional inplace) xs
 
 unfoldable pub surveyElement : Surveyor → ℕ → Schema → Kind → List ℕ → Parsed Extent
-surveyElement child o S k xs = pick (bare k) (surveyBody child o S k true false xs) (surveyPart child o S k true false xs)
+surveyElement child o S k xs = pick (unmarked k) (surveyBody child o S k true false xs) (surveyPart child o S k true false xs)
 
 -- `a`: what stands before
 unfoldable pub surveyMembers : Surveyor → ℕ → Schema → List Member → Extent → List ℕ → Parsed Extent

@@ -7,7 +7,7 @@ use lib.ListN.{length}
 use Rattle.coding.specs.Lists.{pick}
 use Rattle.coding.specs.Schema.{Schema, structOf}
 use Rattle.coding.specs.Value.{Value, Values, absent, unknown, number, row, none, _then_, present, known, asNumber, asRow, first, others}
-use Rattle.coding.specs.Sheet.{Parsed, fail, got, bind, takeNumber, takeValue, takeIf, takeMark, unknownEnum, takeLostEnum, takeEnum, takeFlat, takeField, takeFields, takeBy, takeNothing, takeStruct, takeLostFlat}
+use Rattle.coding.specs.Sheet.{Parsed, fail, got, bind, takeNumber, takeValue, takeIf, takeMark, unknownEnum, takeUnknownEnum, takeEnum, takeFlat, takeField, takeFields, takeBy, takeNothing, takeStruct, takeUnknownFlat}
 use Rattle.coding.specs.Message.{flatKnown, flatsKnown, knownBy, allKnown, structKnown, flatWritable}
 use Rattle.coding.specs.declared.Flat.{Flat}
 use Rattle.coding.specs.declared.Flat.the-variants.{Boolean, Integer, Float, Enumerated, Struct}
@@ -56,12 +56,12 @@ pub record StructSurveyed (survey : List ℕ → Parsed Bool) (take : List ℕ �
 module _ (S : Schema) (i : ℕ) (survey : ℕ → List ℕ → Parsed Bool) (take : ℕ → List ℕ → Parsed Value) (fine : ℕ → Value → Bool)
     (inner : (j : ℕ) → j < i → StructSurveyed (survey j) (take j) (fine j)) where
   field-surveyed : (k : Flat) → FlatSound i k → (xs : List ℕ) → surveyField survey k xs ≡ mapped (flatKnown fine k) (takeField take k xs)
-  unfolding surveyField surveyFlat enumField takeField takeFlat flatKnown floatFine known takeLostEnum takeEnum
+  unfolding surveyField surveyFlat enumField takeField takeFlat flatKnown floatFine known takeUnknownEnum takeEnum
   field-surveyed Boolean ok xs = number-tested _ 1 anyNumber (λ x. refl) xs
   field-surveyed (Integer s w) ok xs = number-tested _ (8 * w) anyNumber (λ x. refl) xs
   field-surveyed (Float w) ok xs = number-tested _ (8 * w) (floatFine false w) (λ x. refl) xs
   field-surveyed (Enumerated n) ok xs =
-      mark-mapped known true (testIf 8 (unknownEnum n) false) (λ ys. testIf 8 (belowCount n) true ys) (takeLostEnum n) (λ ys. takeEnum n ys)
+      mark-mapped known true (testIf 8 (unknownEnum n) false) (λ ys. testIf 8 (belowCount n) true ys) (takeUnknownEnum n) (λ ys. takeEnum n ys)
       refl (λ ys. if-tested known 8 (unknownEnum n) unknown false (λ x. refl) ys)
       (λ ys. if-tested known 8 (belowCount n) number true (λ x. refl) ys) xs
   field-surveyed (Struct j) ok xs = inner j ok .is xs
@@ -120,8 +120,8 @@ module _ (S : Schema) (sound : Sound S) where
   flat-there (Enumerated n) xs = unfold takeEnum in if-there 8 (belowCount n) xs
   flat-there (Struct i) xs = struct-surveyed i .there xs
 
-  pub lost-surveyed : (optional : Bool) (k : Flat) (xs : List ℕ) → surveyLostFlat k xs ≡ mapped (flatWritable S optional k) (takeLostFlat k xs)
-  unfolding surveyLostFlat takeLostFlat flatWritable takeLostEnum known
+  pub lost-surveyed : (optional : Bool) (k : Flat) (xs : List ℕ) → surveyLostFlat k xs ≡ mapped (flatWritable S optional k) (takeUnknownFlat k xs)
+  unfolding surveyLostFlat takeUnknownFlat flatWritable takeUnknownEnum known
   lost-surveyed optional Boolean xs = refl
   lost-surveyed optional (Integer s w) xs = refl
   lost-surveyed optional (Float w) xs = refl

@@ -11,7 +11,7 @@ use Rattle.coding.specs.Lists.{pick}
 use Rattle.coding.specs.Schema.{Schema, casesOf, caseOf}
 use Rattle.coding.specs.Value.{Value, Values, absent, unknown, number, row, chosen, none, _then_, present, known, asNumber, asObject, first, others}
 use Rattle.coding.specs.Cells.{width, chain, below, packBits}
-use Rattle.coding.specs.Sheet.{Parsed, fail, got, bind, takeNumber, takeIf, takeFlat, takeStruct, Decoder, takeChoice, takeBody, takeLostFlat, takeLost, takePart, bare, takeElement, takeMembers, takeElements}
+use Rattle.coding.specs.Sheet.{Parsed, fail, got, bind, takeNumber, takeIf, takeFlat, takeStruct, Decoder, takeChoice, takeBody, takeUnknownFlat, takeUnknown, takePart, unmarked, takeElement, takeMembers, takeElements}
 use Rattle.coding.specs.Message.{lengthOf, flatWritable, Test, valueWritable, membersWritable, elementsWritable, Planner, valueSlots, membersSlots, elementsSlots}
 use Rattle.coding.specs.declared.Flat.{Flat}
 use Rattle.coding.specs.declared.Flat.the-variants as F
@@ -142,12 +142,12 @@ module _ (o : ℕ) (S : Schema) (sound : Sound S) (child : Surveyor) (decoder : 
     body-surveyed (OfUnion i) optional inplace xs = choice-surveyed optional inplace i xs
 
     lost-part : (k : Kind) (optional inplace : Bool) (xs : List ℕ)
-        → surveyLost S k xs ≡ mapped (partExtent k optional inplace) (takeLost S k xs)
-    unfolding surveyLost takeLost plainOf valueWritable present known
+        → surveyLost S k xs ≡ mapped (partExtent k optional inplace) (takeUnknown S k xs)
+    unfolding surveyLost takeUnknown plainOf valueWritable present known
     lost-part (OfFlat k) optional inplace xs =
         ap (λ p. bind p (λ t ys. got (plain t) ys)) (lost-surveyed S sound optional k xs)
-        ∙ mapped-got (flatWritable S optional k) plain (partExtent (OfFlat k) optional inplace) (takeLostFlat k xs)
-        (has-all _ (λ v. plain-summed (flatWritable S optional k v)) (takeLostFlat k xs))
+        ∙ mapped-got (flatWritable S optional k) plain (partExtent (OfFlat k) optional inplace) (takeUnknownFlat k xs)
+        (has-all _ (λ v. plain-summed (flatWritable S optional k v)) (takeUnknownFlat k xs))
     lost-part (OfObject ob) optional inplace xs = refl
     lost-part (OfUnion i) optional inplace xs =
         if-plain (partExtent (OfUnion i) optional inplace) 16 (aboveCount (length (casesOf S i))) unknown false (λ x. plain-summed false) xs
@@ -171,12 +171,12 @@ module _ (o : ℕ) (S : Schema) (sound : Sound S) (child : Surveyor) (decoder : 
     unfolding surveyPart takePart
     part-surveyed k optional inplace xs =
         mark-mapped (partExtent k optional inplace) (plain (mayLack optional k)) (surveyLost S k) (surveyBody child o S k optional inplace)
-        (takeLost S k) (takeBody decoder S k) (none-part k optional inplace) (λ ys. lost-part k optional inplace ys)
+        (takeUnknown S k) (takeBody decoder S k) (none-part k optional inplace) (λ ys. lost-part k optional inplace ys)
         (λ ys. body-surveyed k optional inplace ys) xs
 
     element-surveyed : (k : Kind) (xs : List ℕ) → surveyElement child o S k xs ≡ mapped (partExtent k true false) (takeElement decoder S k xs)
     unfolding surveyElement takeElement
-    element-surveyed k xs = by (bare k)
+    element-surveyed k xs = by (unmarked k)
       where
         by : (t : Bool) → pick t (surveyBody child o S k true false xs) (surveyPart child o S k true false xs)
             ≡ mapped (partExtent k true false) (pick t (takeBody decoder S k xs) (takePart decoder S k xs))

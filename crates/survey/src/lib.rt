@@ -22,7 +22,7 @@ ghost use Rattle.laws.specs.Sound.{FlatSound, ObjectSound, KindSound, MemberSou
 ghost use Rattle.layout.specs.Bounds.{Laid};
 ghost use Rattle.schema.specs.Directory.{Accepted};
 ghost use Rattle.survey.specs.Survey as Sv;
-ghost use Rattle.survey.specs.BareElements as Ba;
+ghost use Rattle.survey.specs.UnmarkedElements as Ba;
 ghost use Rattle.survey.specs.BlobReferred.{BlobEnd, blobReferred};
 ghost use Rattle.survey.specs.Surveyed.{TestedAt, Small, Fits, SurveyedAt};
 ghost use Rattle.survey.specs.Leaves.{flatPart, joinedPart, LeftAt, WholeBytes};
@@ -604,8 +604,8 @@ fn may_lack(optional: bool, k: Kind) -> bool
 }
 
 // Elements without a mark.
-pub fn bare(k: Kind) -> bool
-    ensures { λ r. ⌜ r ≡ Sh.bare k ⌝ }
+pub fn unmarked(k: Kind) -> bool
+    ensures { λ r. ⌜ r ≡ Sh.unmarked k ⌝ }
 {
     match k {
         Kind::OfFlat(f) => match f {
@@ -637,8 +637,8 @@ fn table_in(k: Kind) -> usize
 }
 
 // The bits of an element without a mark.
-fn bare_bits(k: Kind) -> usize
-    ensures { λ r. ⌜ (r ≡ Ba.bareBits k) × (r ≤ 2040) ⌝ }
+fn unmarked_bits(k: Kind) -> usize
+    ensures { λ r. ⌜ (r ≡ Ba.unmarkedBits k) × (r ≤ 2040) ⌝ }
 {
     match k {
         Kind::OfFlat(f) => match f {
@@ -1145,8 +1145,8 @@ fn list(b: &[u8], dir: &[u16], s: &[u8], d: usize, i: usize, at: usize) -> Surve
         return rows(b, dir, s, d, t, n, total, y.next);
     }
     let first = opened(n, total);
-    if bare(k) {
-        return pass(s, y.next, bare_bits(k), n, first);
+    if unmarked(k) {
+        return pass(s, y.next, unmarked_bits(k), n, first);
     }
     let mut a = first;
     let mut pos = y.next;

@@ -16,7 +16,7 @@ use Rattle.emit.specs.Emitting.{Room}
 use Rattle.survey.proofs.PartCases.{kind-flat, kind-object, union-counted, case-sound}
 use Rattle.survey.proofs.ObjectCases.{list-counted, table-counted, element-sound, member-kind, member-counted}
 use Rattle.emit.proofs.EmitRoom.{room-taken, room-choice, room-open, room-copied, room-below, stood-next, stood-tail}
-use Rattle.emit.proofs.EmitPartCases.{choice-cut, choice-zero, choice-above, choice-known, body-no-flat, body-object, body-union, unflagged-cut, unflagged-there, unflagged-bad, unflagged-none, unflagged-pass, room-lacked, leaf-told, leaf-refers, object-refers, union-refers, element-flat, element-refers, not-bare, flat-marked, flat-scalar, marked-cut, marked-there, marked-none, marked-bad}
+use Rattle.emit.proofs.EmitPartCases.{choice-cut, choice-zero, choice-above, choice-known, body-no-flat, body-object, body-union, unflagged-cut, unflagged-there, unflagged-bad, unflagged-none, unflagged-pass, room-lacked, leaf-told, leaf-refers, object-refers, union-refers, element-flat, element-refers, not-unmarked, flat-marked, flat-scalar, marked-cut, marked-there, marked-none, marked-bad}
 use Rattle.emit.proofs.EmitObjectCases.{refer-cut, refer-done, members-start, members-done, members-stopped, members-turn, refers-stopped, refers-turn, element-scalar, elements-cut, list-elements, list-objects, list-flats, element-object, element-flat-sound, element-flat-scalar, element-flat-marked, elements-start, elements-done, elements-stopped, elements-turn, content-deep, content-text, content-bytes, content-list, content-table}
 use Rattle.emit.proofs.RunCases.{integer-wide, list-octets, list-run}
 use borrow.Fn.Kinds.{In}
@@ -63,14 +63,14 @@ use Rattle.schema.proofs.element.Reads as element-reads
 use Rattle.schema.proofs.member.Reads as member-reads
 use Rattle.schema.proofs.member_count.Reads as member-count-reads
 use Rattle.schema.proofs.union_case.Reads as union-case-reads
-use Rattle.survey.proofs.bare.Reads as bare-reads
+use Rattle.survey.proofs.unmarked.Reads as unmarked-reads
 use Rattle.wire.proofs.index.Reads as index-reads
 use Rattle.emit.proofs.close.Reads as close-reads
 use Rattle.emit.proofs.emit_bytes.Reads as emit-bytes-reads
 use Rattle.emit.proofs.emit_leaf.Reads as emit-leaf-reads
 use Rattle.emit.proofs.emit_marked_flat.Reads as emit-marked-flat-reads
 use Rattle.emit.proofs.is_leaf.Reads as is-leaf-reads
-use Rattle.emit.proofs.emit_bare.Reads as emit-bare-reads
+use Rattle.emit.proofs.emit_unmarked.Reads as emit-unmarked-reads
 use Rattle.emit.proofs.emit_flats.Reads as emit-flats-reads
 use Rattle.emit.proofs.emit_text.Reads as emit-text-reads
 use Rattle.emit.proofs.integer_width.Reads as integer-width-reads
@@ -243,7 +243,7 @@ abbrev emit-elements-R : ℕ → emit-elements-lts.Claims
 emit-elements-R t = (emit-element-below t, emit-element.Post, not-lawful-reads.Asked, not-lawful-reads.Learnt, copied-reads.Asked, copied-reads.Learnt, stored-reads.Asked, stored-reads.Learnt)
 
 abbrev emit-list-R : ℕ → emit-list-lts.Claims
-emit-list-R t = (element-reads.Asked, element-reads.Learnt, integer-width-reads.Asked, integer-width-reads.Learnt, emit-bytes-reads.Asked, emit-bytes-reads.Learnt, take-number-reads.Asked, take-number-reads.Learnt, not-lawful-reads.Asked, not-lawful-reads.Learnt, bare-reads.Asked, bare-reads.Learnt, emit-bare-reads.Asked, emit-bare-reads.Learnt, emit-flats-reads.Asked, emit-flats-reads.Learnt, emit-objects-below t, emit-objects.Post, emit-elements-below t, emit-elements.Post)
+emit-list-R t = (element-reads.Asked, element-reads.Learnt, integer-width-reads.Asked, integer-width-reads.Learnt, emit-bytes-reads.Asked, emit-bytes-reads.Learnt, take-number-reads.Asked, take-number-reads.Learnt, not-lawful-reads.Asked, not-lawful-reads.Learnt, unmarked-reads.Asked, unmarked-reads.Learnt, emit-unmarked-reads.Asked, emit-unmarked-reads.Learnt, emit-flats-reads.Asked, emit-flats-reads.Learnt, emit-objects-below t, emit-objects.Post, emit-elements-below t, emit-elements.Post)
 
 abbrev emit-marked-R : ℕ → emit-marked-lts.Claims
 emit-marked-R t = (take-number-reads.Asked, take-number-reads.Learnt, not-lawful-reads.Asked, not-lawful-reads.Learnt, measure-by-reads.Asked, measure-by-reads.Learnt, emit-measured-below t, emit-measured.Post, put-number-reads.Asked, put-number-reads.Learnt, stored-reads.Asked, stored-reads.Learnt)
@@ -555,20 +555,20 @@ emit-list-not-lawful-requires t c κs = search needs
 emit-list-returns-2 : (t : ℕ) → emit-list-lts.Need-returns-2 (emit-list-R t) (emit-list-at t) emit-list.Post
 emit-list-returns-2 t c = search elements-cut
 
-emit-list-bare-requires : (t : ℕ) → emit-list-lts.Need-bare-requires (emit-list-R t) (emit-list-at t) emit-list.Post
-emit-list-bare-requires t c κs = search needs
+emit-list-unmarked-requires : (t : ℕ) → emit-list-lts.Need-unmarked-requires (emit-list-R t) (emit-list-at t) emit-list.Post
+emit-list-unmarked-requires t c κs = search needs
 
 emit-list-integer-width-requires-2 : (t : ℕ) → emit-list-lts.Need-integer-width-requires-2 (emit-list-R t) (emit-list-at t) emit-list.Post
 emit-list-integer-width-requires-2 t c κs = search needs
 
-emit-list-emit-bare-requires : (t : ℕ) → emit-list-lts.Need-emit-bare-requires (emit-list-R t) (emit-list-at t) emit-list.Post
-emit-list-emit-bare-requires t c κs = (search integer-wide, search room-taken)
+emit-list-emit-unmarked-requires : (t : ℕ) → emit-list-lts.Need-emit-unmarked-requires (emit-list-R t) (emit-list-at t) emit-list.Post
+emit-list-emit-unmarked-requires t c κs = (search integer-wide, search room-taken)
 
 emit-list-same-length-2 : (t : ℕ) → emit-list-lts.Need-same-length-2 (emit-list-R t) (emit-list-at t) emit-list.Post
 emit-list-same-length-2 t c = search needs
 
 emit-list-returns-3 : (t : ℕ) → emit-list-lts.Need-returns-3 (emit-list-R t) (emit-list-at t) emit-list.Post
-emit-list-returns-3 t c = search (list-run, c .before .before .before .before .before .before .before .before .before .before .before .before .before .before .before .before .before .pre .1 .0 .0, c .before .before .before .before .before .before .before .before .before .before .before .before .before .before .before .before .before .pre .1 .1, c .before .before .before .before .before .before .before .before .before .before .before .before .element .ensures, c .before .before .before .before .before .before .before .before .before .take-number .ensures, c .before .before .before .before .before .before .before .if2 .left, c .before .before .before .before .before .before .bare .ensures, c .before .before .before .before .before .if3 .taken, c .before .before .before .integer-width2 .ensures, c .before .before .emit-bare .ensures)
+emit-list-returns-3 t c = search (list-run, c .before .before .before .before .before .before .before .before .before .before .before .before .before .before .before .before .before .pre .1 .0 .0, c .before .before .before .before .before .before .before .before .before .before .before .before .before .before .before .before .before .pre .1 .1, c .before .before .before .before .before .before .before .before .before .before .before .before .element .ensures, c .before .before .before .before .before .before .before .before .before .take-number .ensures, c .before .before .before .before .before .before .before .if2 .left, c .before .before .before .before .before .before .unmarked .ensures, c .before .before .before .before .before .if3 .taken, c .before .before .before .integer-width2 .ensures, c .before .before .emit-unmarked .ensures)
 
 emit-list-enum-known-k : (t : ℕ) → emit-list-lts.Need-enum-known-k (emit-list-R t) (emit-list-at t) emit-list.Post
 emit-list-enum-known-k t c = search needs
@@ -586,13 +586,13 @@ emit-list-enum-told : (t : ℕ) → emit-list-lts.Need-enum-told (emit-list-R t)
 emit-list-enum-told t c = search needs
 
 emit-list-emit-elements-requires : (t : ℕ) → emit-list-lts.Need-emit-elements-requires (emit-list-R t) (emit-list-at t) emit-list.Post
-emit-list-emit-elements-requires t c κs = (search needs, ((c .before .before .before .before .before .before .before .before .before .before .before .before .before .before .before .pre .1 .0 .0, search (element-sound, c .before .before .before .before .before .before .before .before .before .before .before .before .before .before .before .pre .1 .0 .0, c .before .before .before .before .before .before .before .before .before .before .element .ensures), search (element-scalar, c .before .before .before .before .before .before .before .before .before .before .before .before .before .before .before .pre .1 .0 .0, c .before .before .before .before .before .before .before .before .before .before .element .ensures), search (not-bare, c .before .before .before .before .bare .ensures, c .before .before .before .if3 .left), search (needs, c .before .before .before .before .before .before .before .take-number .ensures)), search (room-taken, c .before .before .before .before .before .before .before .before .before .before .before .before .before .before .before .pre .1 .1, c .before .before .before .before .before .before .before .take-number .ensures, c .before .before .before .before .before .if2 .left)))
+emit-list-emit-elements-requires t c κs = (search needs, ((c .before .before .before .before .before .before .before .before .before .before .before .before .before .before .before .pre .1 .0 .0, search (element-sound, c .before .before .before .before .before .before .before .before .before .before .before .before .before .before .before .pre .1 .0 .0, c .before .before .before .before .before .before .before .before .before .before .element .ensures), search (element-scalar, c .before .before .before .before .before .before .before .before .before .before .before .before .before .before .before .pre .1 .0 .0, c .before .before .before .before .before .before .before .before .before .before .element .ensures), search (not-unmarked, c .before .before .before .before .unmarked .ensures, c .before .before .before .if3 .left), search (needs, c .before .before .before .before .before .before .before .take-number .ensures)), search (room-taken, c .before .before .before .before .before .before .before .before .before .before .before .before .before .before .before .pre .1 .1, c .before .before .before .before .before .before .before .take-number .ensures, c .before .before .before .before .before .if2 .left)))
 
 emit-list-same-length-3 : (t : ℕ) → emit-list-lts.Need-same-length-3 (emit-list-R t) (emit-list-at t) emit-list.Post
 emit-list-same-length-3 t c = search needs
 
 emit-list-returns-4 : (t : ℕ) → emit-list-lts.Need-returns-4 (emit-list-R t) (emit-list-at t) emit-list.Post
-emit-list-returns-4 t c = search (list-flats, c .before .before .before .before .before .before .before .before .before .before .before .before .before .before .before .before .before .before .before .pre .1 .1, c .before .before .before .before .before .before .before .before .before .before .before .before .before .before .element .ensures, c .before .before .before .before .before .before .before .before .before .before .before .take-number .ensures, c .before .before .before .before .before .before .before .before .before .if2 .left, c .before .before .before .before .before .before .before .before .bare .ensures, c .before .before .before .before .before .before .before .if3 .left, c .before .before .emit-flats .ensures)
+emit-list-returns-4 t c = search (list-flats, c .before .before .before .before .before .before .before .before .before .before .before .before .before .before .before .before .before .before .before .pre .1 .1, c .before .before .before .before .before .before .before .before .before .before .before .before .before .before .element .ensures, c .before .before .before .before .before .before .before .before .before .before .before .take-number .ensures, c .before .before .before .before .before .before .before .before .before .if2 .left, c .before .before .before .before .before .before .before .before .unmarked .ensures, c .before .before .before .before .before .before .before .if3 .left, c .before .before .emit-flats .ensures)
 
 emit-list-same-length-4 : (t : ℕ) → emit-list-lts.Need-same-length-4 (emit-list-R t) (emit-list-at t) emit-list.Post
 emit-list-same-length-4 t c = search needs
@@ -976,9 +976,9 @@ pub +emit-body+emit-choice+emit-content+emit-element+emit-elements+emit-list+emi
     (emit-list-take-number-requires t)
     (emit-list-not-lawful-requires t)
     (emit-list-returns-2 t)
-    (emit-list-bare-requires t)
+    (emit-list-unmarked-requires t)
     (emit-list-integer-width-requires-2 t)
-    (emit-list-emit-bare-requires t)
+    (emit-list-emit-unmarked-requires t)
     (emit-list-same-length-2 t)
     (emit-list-returns-3 t)
     (emit-list-enum-known-k t)

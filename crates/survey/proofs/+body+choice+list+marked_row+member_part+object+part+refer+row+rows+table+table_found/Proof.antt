@@ -10,14 +10,14 @@ use Rattle.coding.specs.Packed as P
 use Rattle.coding.specs.Schema as Sc
 use Rattle.coding.specs.Layout as L
 use Rattle.coding.specs.declared.Kind.the-variants.{OfObject}
-use Rattle.coding.specs.Sheet.{bare}
+use Rattle.coding.specs.Sheet.{unmarked}
 use Rattle.coding.specs.declared.Object.the-variants as O
 use Rattle.survey.specs.Survey.{opened, surveyMembers, surveyElements, surveyContent, survey}
 use Rattle.survey.specs.Surveyed.{Small}
 use borrow.Fn.Kinds.{In}
 use borrow.Fn.PlainCycle.{Measures, is, falls, and}
 use Rattle.survey.proofs.PartCases.{kind-flat, kind-object, union-counted, case-sound, body-flat, body-object, body-union, choice-cut, choice-zero, choice-above, choice-known, part-cut, part-none, part-there, part-lost, part-bad, refer-surveyed, refer-blob, object-none, object-there, object-bad}
-use Rattle.survey.proofs.ObjectCases.{list-counted, table-counted, element-sound, member-kind, member-counted, members-start, members-done, elements-cut, elements-start, elements-bare, elements-rows, row-counted, row-deep, row-there, rows-start, object-marked, marked, elements-done, elements-stopped, elements-turn, object-deep, object-text, object-bytes, object-list, object-table}
+use Rattle.survey.proofs.ObjectCases.{list-counted, table-counted, element-sound, member-kind, member-counted, members-start, members-done, elements-cut, elements-start, elements-unmarked, elements-rows, row-counted, row-deep, row-there, rows-start, object-marked, marked, elements-done, elements-stopped, elements-turn, object-deep, object-text, object-bytes, object-list, object-table}
 use Rattle.survey.proofs.LeafCases.{members-few, table-cut, table-ended, table-stopped, table-turn}
 use Rattle.survey.proofs.body.Reads as body
 use Rattle.survey.proofs.body.Kinds as body-kinds
@@ -62,8 +62,8 @@ use Rattle.schema.proofs.member.Reads as member-reads
 use Rattle.schema.proofs.member_count.Reads as member-count-reads
 use Rattle.schema.proofs.union_case.Reads as union-case-reads
 use Rattle.wire.proofs.index.Reads as index-reads
-use Rattle.survey.proofs.bare.Reads as bare-reads
-use Rattle.survey.proofs.bare_bits.Reads as bare-bits-reads
+use Rattle.survey.proofs.unmarked.Reads as unmarked-reads
+use Rattle.survey.proofs.unmarked_bits.Reads as unmarked-bits-reads
 use Rattle.survey.proofs.blob.Reads as blob-reads
 use Rattle.survey.proofs.blob_end.Reads as blob-end-reads
 use Rattle.survey.proofs.elements_size.Reads as elements-size-reads
@@ -211,7 +211,7 @@ abbrev choice-R : ℕ → choice-lts.Claims
 choice-R t = (case-count-reads.Asked, case-count-reads.Learnt, take-number-reads.Asked, take-number-reads.Learnt, unlawful-reads.Asked, unlawful-reads.Learnt, union-case-reads.Asked, union-case-reads.Learnt, refer-below t, refer.Post)
 
 abbrev list-R : ℕ → list-lts.Claims
-list-R t = (take-number-reads.Asked, take-number-reads.Learnt, unlawful-reads.Asked, unlawful-reads.Learnt, element-reads.Asked, element-reads.Learnt, elements-size-reads.Asked, elements-size-reads.Learnt, table-in-reads.Asked, table-in-reads.Learnt, rows-below t, rows.Post, opened-reads.Asked, opened-reads.Learnt, bare-reads.Asked, bare-reads.Learnt, bare-bits-reads.Asked, bare-bits-reads.Learnt, pass-reads.Asked, pass-reads.Learnt, part-below t, part.Post, joined-reads.Asked, joined-reads.Learnt)
+list-R t = (take-number-reads.Asked, take-number-reads.Learnt, unlawful-reads.Asked, unlawful-reads.Learnt, element-reads.Asked, element-reads.Learnt, elements-size-reads.Asked, elements-size-reads.Learnt, table-in-reads.Asked, table-in-reads.Learnt, rows-below t, rows.Post, opened-reads.Asked, opened-reads.Learnt, unmarked-reads.Asked, unmarked-reads.Learnt, unmarked-bits-reads.Asked, unmarked-bits-reads.Learnt, pass-reads.Asked, pass-reads.Learnt, part-below t, part.Post, joined-reads.Asked, joined-reads.Learnt)
 
 abbrev object-R : ℕ → object-lts.Claims
 object-R t = (unlawful-reads.Asked, unlawful-reads.Learnt, blob-reads.Asked, blob-reads.Learnt, index-reads.Asked, index-reads.Learnt, list-below t, list.Post, table-found-below t, table-found.Post)
@@ -318,7 +318,7 @@ choice-returns-4 t c = search choice-known
 
 abbrev list-Inv-loop : list-lts.InvT-loop
 list-Inv-loop b dir s d i at n k total u a₀ pos₀ j₀ a pos j =
-    (j ≤ n) × (n < 2 ^ 32) × (at ≤ 8 * length s) × (pos ≤ 8 * length s) × Small a × (bare k ≡ false)
+    (j ≤ n) × (n < 2 ^ 32) × (at ≤ 8 * length s) × (pos ≤ 8 * length s) × Small a × (unmarked k ≡ false)
     × (surveyContent (survey d u48 (P.parse b)) u48 (P.parse b) (O.List i) (drop at (bits s)) ≡ surveyElements (survey d u48 (P.parse b)) u48 (P.parse b) k (n - j) a (drop pos (bits s)))
 
 abbrev list-μ-loop : list-lts.MeasureT-loop
@@ -357,17 +357,17 @@ list-returns-2 t c = search elements-rows
 list-opened-requires : (t : ℕ) → list-lts.Need-opened-requires (list-R t) (list-at t) list.Post list-Inv-loop list-μ-loop
 list-opened-requires t c κs = search needs
 
-list-bare-requires : (t : ℕ) → list-lts.Need-bare-requires (list-R t) (list-at t) list.Post list-Inv-loop list-μ-loop
-list-bare-requires t c κs = search needs
+list-unmarked-requires : (t : ℕ) → list-lts.Need-unmarked-requires (list-R t) (list-at t) list.Post list-Inv-loop list-μ-loop
+list-unmarked-requires t c κs = search needs
 
-list-bare-bits-requires : (t : ℕ) → list-lts.Need-bare-bits-requires (list-R t) (list-at t) list.Post list-Inv-loop list-μ-loop
-list-bare-bits-requires t c κs = search needs
+list-unmarked-bits-requires : (t : ℕ) → list-lts.Need-unmarked-bits-requires (list-R t) (list-at t) list.Post list-Inv-loop list-μ-loop
+list-unmarked-bits-requires t c κs = search needs
 
 list-pass-requires : (t : ℕ) → list-lts.Need-pass-requires (list-R t) (list-at t) list.Post list-Inv-loop list-μ-loop
 list-pass-requires t c κs = search needs
 
 list-returns-3 : (t : ℕ) → list-lts.Need-returns-3 (list-R t) (list-at t) list.Post list-Inv-loop list-μ-loop
-list-returns-3 t c = search elements-bare
+list-returns-3 t c = search elements-unmarked
 
 -- src/lib.rt:599:5
 list-loop-holds : (t : ℕ) → list-lts.Need-loop-holds (list-R t) (list-at t) list.Post list-Inv-loop list-μ-loop
@@ -658,7 +658,7 @@ row-returns-2 t c = search row-there
 
 abbrev rows-Inv-loop : rows-lts.InvT-loop
 rows-Inv-loop b dir s d t n total at size a₀ pos₀ j₀ a pos j =
-    (j ≤ n) × (n < 2 ^ 32) × (at ≤ 8 * length s) × (pos ≤ 8 * length s) × Small a × (bare (OfObject (O.Table t)) ≡ false)
+    (j ≤ n) × (n < 2 ^ 32) × (at ≤ 8 * length s) × (pos ≤ 8 * length s) × Small a × (unmarked (OfObject (O.Table t)) ≡ false)
     × (size ≡ L.fixedSize u48 (P.parse b) (Sc.tableOf (P.parse b) t .members)) × (size < 2 ^ 40)
     × (surveyElements (survey d u48 (P.parse b)) u48 (P.parse b) (OfObject (O.Table t)) n (opened n total) (drop at (bits s))
     ≡ surveyElements (survey d u48 (P.parse b)) u48 (P.parse b) (OfObject (O.Table t)) (n - j) a (drop pos (bits s)))
@@ -752,8 +752,8 @@ pub +body+choice+list+marked-row+member-part+object+part+refer+row+rows+table+ta
     (list-rows-requires t)
     (list-returns-2 t)
     (list-opened-requires t)
-    (list-bare-requires t)
-    (list-bare-bits-requires t)
+    (list-unmarked-requires t)
+    (list-unmarked-bits-requires t)
     (list-pass-requires t)
     (list-returns-3 t)
     (list-loop-holds t)

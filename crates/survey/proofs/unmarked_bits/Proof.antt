@@ -1,11 +1,11 @@
 use borrow.Author.Needs.{needs}
 use native.Mathlib.Omega.{arith}
-use Rattle.survey.specs.BareElements as Ba
+use Rattle.survey.specs.UnmarkedElements as Ba
 use Rattle.survey.proofs.PartCases.{bits-integer}
-use Rattle.survey.proofs.bare_bits.Statement.{statement}
-use Rattle.survey.proofs.bare_bits.Tie as tie
-use Rattle.survey.proofs.bare_bits.Reads as reads
-use Rattle.survey.proofs.bare_bits.Lts as lts
+use Rattle.survey.proofs.unmarked_bits.Statement.{statement}
+use Rattle.survey.proofs.unmarked_bits.Tie as tie
+use Rattle.survey.proofs.unmarked_bits.Reads as reads
+use Rattle.survey.proofs.unmarked_bits.Lts as lts
 use Rattle.wire.proofs.index.Reads as index-reads
 
 -- src/lib.rt:448:22
@@ -50,7 +50,7 @@ enum-told-6 c = search needs
 
 -- src/lib.rt:444:1
 returns : tie.Need-returns
-unfolding Ba.bareBits Ba.flatBareBits
+unfolding Ba.unmarkedBits Ba.flatUnmarkedBits
 returns c = (search needs, omega arith)
 
 -- src/lib.rt:444:1
@@ -59,31 +59,31 @@ returns-2 c = (search bits-integer, omega arith)
 
 -- src/lib.rt:444:1
 returns-3 : tie.Need-returns-3
-unfolding Ba.bareBits Ba.flatBareBits
+unfolding Ba.unmarkedBits Ba.flatUnmarkedBits
 returns-3 c = (search needs, omega arith)
 
 -- src/lib.rt:444:1
 returns-4 : tie.Need-returns-4
-unfolding Ba.bareBits Ba.flatBareBits
+unfolding Ba.unmarkedBits Ba.flatUnmarkedBits
 returns-4 c = (search needs, omega arith)
 
 -- src/lib.rt:444:1
 returns-5 : tie.Need-returns-5
-unfolding Ba.bareBits Ba.flatBareBits
+unfolding Ba.unmarkedBits Ba.flatUnmarkedBits
 returns-5 c = (search needs, omega arith)
 
 -- src/lib.rt:444:1
 returns-6 : tie.Need-returns-6
-unfolding Ba.bareBits Ba.flatBareBits
+unfolding Ba.unmarkedBits Ba.flatUnmarkedBits
 returns-6 c = (search needs, omega arith)
 
 -- src/lib.rt:444:1
 returns-7 : tie.Need-returns-7
-unfolding Ba.bareBits Ba.flatBareBits
+unfolding Ba.unmarkedBits Ba.flatUnmarkedBits
 returns-7 c = (search needs, omega arith)
 
-pub bare-bits-spec : {M : Type 1} → statement M
-bare-bits-spec =
+pub unmarked-bits-spec : {M : Type 1} → statement M
+unmarked-bits-spec =
     tie.close
     (tie.spec
     enum-known-k

@@ -1,9 +1,9 @@
 use Rattle.coding.specs.Sheet as Sh
 use borrow.Author.Needs.{needs}
-use Rattle.survey.proofs.bare.Statement.{statement}
-use Rattle.survey.proofs.bare.Tie as tie
-use Rattle.survey.proofs.bare.Reads as reads
-use Rattle.survey.proofs.bare.Lts as lts
+use Rattle.survey.proofs.unmarked.Statement.{statement}
+use Rattle.survey.proofs.unmarked.Tie as tie
+use Rattle.survey.proofs.unmarked.Reads as reads
+use Rattle.survey.proofs.unmarked.Lts as lts
 
 -- src/lib.rt:428:22
 enum-known-k : tie.Need-enum-known-k
@@ -39,41 +39,41 @@ enum-told-7 c = search needs
 
 -- src/lib.rt:424:1
 returns : tie.Need-returns
-unfolding Sh.bare Sh.flatBare
+unfolding Sh.unmarked Sh.flatUnmarked
 returns c = search needs
 
 -- src/lib.rt:424:1
 returns-2 : tie.Need-returns-2
-unfolding Sh.bare Sh.flatBare
+unfolding Sh.unmarked Sh.flatUnmarked
 returns-2 c = search needs
 
 -- src/lib.rt:424:1
 returns-3 : tie.Need-returns-3
-unfolding Sh.bare Sh.flatBare
+unfolding Sh.unmarked Sh.flatUnmarked
 returns-3 c = search needs
 
 -- src/lib.rt:424:1
 returns-4 : tie.Need-returns-4
-unfolding Sh.bare Sh.flatBare
+unfolding Sh.unmarked Sh.flatUnmarked
 returns-4 c = search needs
 
 -- src/lib.rt:424:1
 returns-5 : tie.Need-returns-5
-unfolding Sh.bare Sh.flatBare
+unfolding Sh.unmarked Sh.flatUnmarked
 returns-5 c = search needs
 
 -- src/lib.rt:424:1
 returns-6 : tie.Need-returns-6
-unfolding Sh.bare Sh.flatBare
+unfolding Sh.unmarked Sh.flatUnmarked
 returns-6 c = search needs
 
 -- src/lib.rt:424:1
 returns-7 : tie.Need-returns-7
-unfolding Sh.bare Sh.flatBare
+unfolding Sh.unmarked Sh.flatUnmarked
 returns-7 c = search needs
 
-pub bare-spec : {M : Type 1} → statement M
-bare-spec =
+pub unmarked-spec : {M : Type 1} → statement M
+unmarked-spec =
     tie.close
     (tie.spec
     enum-known-k

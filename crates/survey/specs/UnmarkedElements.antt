@@ -12,7 +12,7 @@ use borrow.Author.Tests.{le-leb, lt-leb, leb-true, leb-false}
 use Rattle.coding.specs.Lists.{pick}
 use Rattle.coding.specs.Bytes.{largest}
 use Rattle.coding.specs.Schema.{Schema}
-use Rattle.coding.specs.Sheet.{Parsed, fail, got, bind, takeNumber, bare, flatBare}
+use Rattle.coding.specs.Sheet.{Parsed, fail, got, bind, takeNumber, unmarked, flatUnmarked}
 use Rattle.coding.specs.declared.Flat.{Flat}
 use Rattle.coding.specs.declared.Flat.the-variants.{Boolean, Integer, Float, Enumerated, Struct}
 use Rattle.coding.specs.declared.Kind.{Kind}
@@ -22,17 +22,17 @@ use Rattle.survey.specs.Summed.{capped-in}
 use Rattle.survey.specs.declared.Extent.{Extent}
 
 -- the bits of an element without a mark
-unfoldable pub flatBareBits : Flat → ℕ
-flatBareBits Boolean = 1
-flatBareBits (Integer s w) = 8 * w
-flatBareBits (Float w) = 0
-flatBareBits (Enumerated n) = 0
-flatBareBits (Struct i) = 0
+unfoldable pub flatUnmarkedBits : Flat → ℕ
+flatUnmarkedBits Boolean = 1
+flatUnmarkedBits (Integer s w) = 8 * w
+flatUnmarkedBits (Float w) = 0
+flatUnmarkedBits (Enumerated n) = 0
+flatUnmarkedBits (Struct i) = 0
 
-unfoldable pub bareBits : Kind → ℕ
-bareBits (OfFlat k) = flatBareBits k
-bareBits (OfObject ob) = 0
-bareBits (OfUnion i) = 0
+unfoldable pub unmarkedBits : Kind → ℕ
+unmarkedBits (OfFlat k) = flatUnmarkedBits k
+unmarkedBits (OfObject ob) = 0
+unmarkedBits (OfUnion i) = 0
 
 -- m bits passed over
 unfoldable pub passed : ℕ → Extent → List ℕ → Parsed Extent
@@ -43,15 +43,15 @@ module _ (child : Surveyor) (o : ℕ) (S : Schema) where
   false-true e = let z : _≡_ {A = ℕ} 0 1 = cc in absurd (omega arith)
 
   -- one element
-  bare-element : (k : Kind) → bare k ≡ true → (xs : List ℕ) → surveyElement child o S k xs ≡ plainOf (testNumber (bareBits k) anyNumber xs)
-  unfolding surveyElement surveyBody surveyFlat bare flatBare bareBits flatBareBits
-  bare-element (OfFlat Boolean) e xs = refl
-  bare-element (OfFlat (Integer s w)) e xs = refl
-  bare-element (OfFlat (Float w)) e xs = absurd (false-true e)
-  bare-element (OfFlat (Enumerated n)) e xs = absurd (false-true e)
-  bare-element (OfFlat (Struct i)) e xs = absurd (false-true e)
-  bare-element (OfObject ob) e xs = absurd (false-true e)
-  bare-element (OfUnion i) e xs = absurd (false-true e)
+  unmarked-element : (k : Kind) → unmarked k ≡ true → (xs : List ℕ) → surveyElement child o S k xs ≡ plainOf (testNumber (unmarkedBits k) anyNumber xs)
+  unfolding surveyElement surveyBody surveyFlat unmarked flatUnmarked unmarkedBits flatUnmarkedBits
+  unmarked-element (OfFlat Boolean) e xs = refl
+  unmarked-element (OfFlat (Integer s w)) e xs = refl
+  unmarked-element (OfFlat (Float w)) e xs = absurd (false-true e)
+  unmarked-element (OfFlat (Enumerated n)) e xs = absurd (false-true e)
+  unmarked-element (OfFlat (Struct i)) e xs = absurd (false-true e)
+  unmarked-element (OfObject ob) e xs = absurd (false-true e)
+  unmarked-element (OfUnion i) e xs = absurd (false-true e)
 
 any-number : (w : ℕ) (xs : List ℕ) → plainOf (testNumber w anyNumber xs) ≡ passed w (plain true) xs
 unfolding plainOf testNumber takeNumber bind passed
@@ -114,13 +114,13 @@ passed-more w m a e xs = by (leb w (length xs)) refl
         simp (lt-leb (w + m) (length xs) z)
 
 -- n elements
-pub bare-elements : (child : Surveyor) (o : ℕ) (S : Schema) (k : Kind) → bare k ≡ true → (n l z : ℕ) (xs : List ℕ)
-    → surveyElements child o S k n (opened l z) xs ≡ passed (n * bareBits k) (opened l z) xs
+pub unmarked-elements : (child : Surveyor) (o : ℕ) (S : Schema) (k : Kind) → unmarked k ≡ true → (n l z : ℕ) (xs : List ℕ)
+    → surveyElements child o S k n (opened l z) xs ≡ passed (n * unmarkedBits k) (opened l z) xs
 unfolding surveyElements
-bare-elements child o S k e zero l z xs = sym (passed-none (opened l z) xs (0 * bareBits k) (omega arith))
-bare-elements child o S k e (suc n) l z xs =
-    ap (λ p. bind p (λ x ys. surveyElements child o S k n (joined (opened l z) x) ys)) (bare-element child o S k e xs ∙ any-number (bareBits k) xs)
-    ∙ passed-then (bareBits k) (λ x ys. surveyElements child o S k n (joined (opened l z) x) ys) (λ x ys. passed (n * bareBits k) (opened l z) ys) xs
-    (λ ys. ap (λ (a : Extent). surveyElements child o S k n a ys) (joined-plain l z) ∙ bare-elements child o S k e n l z ys)
-    ∙ passed-more (bareBits k) (n * bareBits k) (opened l z) (plain true) xs
-    ∙ ap (λ (m : ℕ). passed m (opened l z) xs) (add-comm (bareBits k) (n * bareBits k) ∙ sym (suc-mul n (bareBits k)))
+unmarked-elements child o S k e zero l z xs = sym (passed-none (opened l z) xs (0 * unmarkedBits k) (omega arith))
+unmarked-elements child o S k e (suc n) l z xs =
+    ap (λ p. bind p (λ x ys. surveyElements child o S k n (joined (opened l z) x) ys)) (unmarked-element child o S k e xs ∙ any-number (unmarkedBits k) xs)
+    ∙ passed-then (unmarkedBits k) (λ x ys. surveyElements child o S k n (joined (opened l z) x) ys) (λ x ys. passed (n * unmarkedBits k) (opened l z) ys) xs
+    (λ ys. ap (λ (a : Extent). surveyElements child o S k n a ys) (joined-plain l z) ∙ unmarked-elements child o S k e n l z ys)
+    ∙ passed-more (unmarkedBits k) (n * unmarkedBits k) (opened l z) (plain true) xs
+    ∙ ap (λ (m : ℕ). passed m (opened l z) xs) (add-comm (unmarkedBits k) (n * unmarkedBits k) ∙ sym (suc-mul n (unmarkedBits k)))
