@@ -51,11 +51,12 @@ counted-puts o p n q xs g e l eq = subst (λ (k : ℕ). Puts o p xs o k) (sym eq
     ends true h = let f = leb-true (p + n) 134217720 h in subst (λ (k : ℕ). Puts o p xs o k) (count-in (p + n) f) (run-not o p n xs g e f l)
     ends false h = let f = leb-false (p + n) 134217720 h in subst (λ (k : ℕ). Puts o p xs o k) (count-over (p + n) f) (run-over o p n xs g e f)
 
-pub marked-counted : (o : List ℕ) (p q mark w x : ℕ) → Room o p → 8 * length o < p + (2 + w) → q ≡ saturated (p + (2 + w)) → Puts o p (A.marked mark w x) o q
+pub marked-length : (mark w x : ℕ) → length (A.marked mark w x) ≡ 2 + w
 unfolding A.marked
-marked-counted o p q mark w x g l eq =
-    counted-puts o p (2 + w) q (bitsOf 2 mark ++ bitsOf w x) g
-    (length-append (bitsOf 2 mark) (bitsOf w x) ∙ ap₂ (λ (i j : ℕ). i + j) (bitsOf-length 2 mark) (bitsOf-length w x)) l eq
+marked-length mark w x = length-append (bitsOf 2 mark) (bitsOf w x) ∙ ap₂ (λ (i j : ℕ). i + j) (bitsOf-length 2 mark) (bitsOf-length w x)
+
+pub marked-counted : (o : List ℕ) (p q mark w x : ℕ) → Room o p → 8 * length o < p + (2 + w) → q ≡ saturated (p + (2 + w)) → Puts o p (A.marked mark w x) o q
+marked-counted o p q mark w x g l eq = counted-puts o p (2 + w) q (A.marked mark w x) g (marked-length mark w x) l eq
 
 -- ---- an enum
 module _ (n x : ℕ) (o o₁ : List ℕ) (p q : ℕ) where

@@ -1,8 +1,8 @@
 // What follows a mark, and elements without one: numbers, enums, floats, bools, texts and bytes, counted always and stored
 // where there is room.
 ghost use mathlib.Core.Path.{_≡_};
-ghost use mathlib.Core.Bool.{Bool};
-ghost use Prim.Native.Nat.{_+_, _-_, _*_, _/_, _<_, _≤_, _^_};
+ghost use mathlib.Core.Bool.{Bool, true};
+ghost use Prim.Native.Nat.{ℕ, _+_, _-_, _*_, _/_, _<_, _≤_, _^_};
 ghost use lib.ListN.{length};
 ghost use Rattle.coding.specs.Bytes as B;
 ghost use Rattle.coding.specs.Bits.{bitsOf};
@@ -325,19 +325,49 @@ pub fn write_float(out: &mut [u8], pos: usize, none: bool, w: u8, x: u64) -> usi
     write_marked(out, pos, 1, 8 * wire::index(w), x)
 }
 
-// The n floats of w bytes from `at`, elements of a list, in which a NaN is no value.
+// 1 for a float of w bytes that is a value, 0 for a NaN.
+fn float_value(w: u8, x: u64) -> usize
+    ensures { λ r. ⌜ (length (Bt.floatAt true w x) ≡ 2 + 8 * w * r) × (r ≤ 1) ⌝ }
+{
+    if step::is_nan(w, x) {
+        return 0;
+    }
+    1
+}
+
+// The bits of the n floats of w bytes from `at`.
+fn floats_size(m: &[u8], w: u8, at: usize, n: usize) -> usize
+    requires { ⌜ (w ≤ 8) × (at < 2 ^ 58) × (n < 2 ^ 48) ⌝ }
+    ensures { λ r. ⌜ (length (Bt.floatsAt (now (m .entry)) w n at) ≡ r) × (r ≤ 66 * 2 ^ 48) ⌝ }
+{
+    let mut values: usize = 0;
+    let mut from = at;
+    let mut left = n;
+    while 0 < left {
+        values += float_value(w, wire::number(m, from, wire::index(w)));
+        from += wire::index(w);
+        left -= 1;
+    }
+    2 * n + numbers_size(wire::index(w), values)
+}
+
+// The n floats of w bytes from `at`, elements of a list, in which a NaN is no value: counted first.
 pub fn write_floats(m: &[u8], out: &mut [u8], pos: usize, w: u8, at: usize, n: usize) -> usize
     requires { ⌜ Room (now out) pos ⌝ }
     requires { ⌜ (w ≤ 8) × (at < 2 ^ 58) × (n < 2 ^ 48) ⌝ }
     ensures { λ r. ⌜ Puts (now (out .entry)) pos (Bt.floatsAt (now (m .entry)) w n at) (now (out .exit)) r ⌝ }
 {
+    let end = pos + floats_size(m, w, at, n);
+    if 134217720 < end {
+        return 134217721;
+    }
+    if 8 * out.len() < end {
+        return end;
+    }
     let mut p = pos;
     let mut from = at;
     let mut left = n;
     while 0 < left {
-        if 134217720 < p {
-            return p;
-        }
         p = write_float(out, p, true, w, wire::number(m, from, wire::index(w)));
         from += wire::index(w);
         left -= 1;
@@ -345,19 +375,49 @@ pub fn write_floats(m: &[u8], out: &mut [u8], pos: usize, w: u8, at: usize, n: u
     p
 }
 
-// The n enums of k values from `at`, elements of a list.
+// 1 for an enum that is a value, 0 for 255.
+fn enum_value(x: u8) -> usize
+    ensures { λ r. ⌜ ((k : ℕ) → length (Bt.enumAt k x) ≡ 2 + 8 * r) × (r ≤ 1) ⌝ }
+{
+    if x == 255 {
+        return 0;
+    }
+    1
+}
+
+// The bits of the n enums from `at`, of any number of values.
+fn enums_size(m: &[u8], at: usize, n: usize) -> usize
+    requires { ⌜ (at < 2 ^ 58) × (n < 2 ^ 48) ⌝ }
+    ensures { λ r. ⌜ ((k : ℕ) → length (Bt.enumsAt (now (m .entry)) k n at) ≡ r) × (r ≤ 10 * 2 ^ 48) ⌝ }
+{
+    let mut values: usize = 0;
+    let mut from = at;
+    let mut left = n;
+    while 0 < left {
+        values += enum_value(wire::byte(m, from));
+        from += 1;
+        left -= 1;
+    }
+    2 * n + 8 * values
+}
+
+// The n enums of k values from `at`, elements of a list: counted first.
 pub fn write_enums(m: &[u8], out: &mut [u8], pos: usize, k: u8, at: usize, n: usize) -> usize
     requires { ⌜ Room (now out) pos ⌝ }
     requires { ⌜ (at < 2 ^ 58) × (n < 2 ^ 48) ⌝ }
     ensures { λ r. ⌜ Puts (now (out .entry)) pos (Bt.enumsAt (now (m .entry)) k n at) (now (out .exit)) r ⌝ }
 {
+    let end = pos + enums_size(m, at, n);
+    if 134217720 < end {
+        return 134217721;
+    }
+    if 8 * out.len() < end {
+        return end;
+    }
     let mut p = pos;
     let mut from = at;
     let mut left = n;
     while 0 < left {
-        if 134217720 < p {
-            return p;
-        }
         p = write_enum(out, p, k, wire::byte(m, from));
         from += 1;
         left -= 1;
