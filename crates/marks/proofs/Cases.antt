@@ -22,7 +22,7 @@ use Rattle.marks.proofs.Remaining.{Remaining, remaining-turn}
 
 -- ---- a mark and a number
 -- as one number
-marked-bits : (mark w x v : ℕ) → v ≡ mark * 2 ^ w + x % 2 ^ w → bitsOf (2 + w) v ≡ bitsOf 2 mark ++ bitsOf w x
+pub marked-bits : (mark w x v : ℕ) → v ≡ mark * 2 ^ w + x % 2 ^ w → bitsOf (2 + w) v ≡ bitsOf 2 mark ++ bitsOf w x
 marked-bits mark w x v e =
     ap (bitsOf (2 + w)) e ∙ bitsOf-join 2 w mark (x % 2 ^ w) (mod-lt x (pow-pos w)) ∙ ap (λ (s : List ℕ). bitsOf 2 mark ++ s) (bitsOf-mod w x)
 

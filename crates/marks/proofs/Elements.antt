@@ -69,12 +69,6 @@ enums-cons m k n at x h ex =
     let e : n ≡ suc (n - 1) = omega arith in
     ap (λ (i : ℕ). A.enumsAt m k i at) e ∙ ap (λ (y : ℕ). A.enumAt k y ++ A.enumsAt m k (n - 1) (at + 1)) (sym ex)
 
-pub enums-turn : (o₀ o o₁ : List ℕ) (p₀ p p₁ : ℕ) (whole m : List ℕ) (k n at x : ℕ) → Remaining o₀ p₀ whole o p (A.enumsAt m k n at) → Room o p → 0 < n
-    → x ≡ getD m at 0 → Puts o p (A.enumAt k x) o₁ p₁ → Remaining o₀ p₀ whole o₁ p₁ (A.enumsAt m k (n - 1) (at + 1))
-enums-turn o₀ o o₁ p₀ p p₁ whole m k n at x inv g h ex a =
-    remaining-turn o₀ o o₁ p₀ p p₁ whole (A.enumsAt m k n at) (A.enumAt k x) (A.enumsAt m k (n - 1) (at + 1)) inv (g .short)
-    (enums-cons m k n at x h ex) a
-
 pub enum-size-none : (k x : ℕ) → x ≡ 255 → length (A.enumAt k x) ≡ 2 + 8 * 0
 unfolding A.enumAt
 enum-size-none k x h = simp (eq-eqb _ _ h) (bitsOf-length 2 0)

@@ -17,6 +17,10 @@ marked mark w x = bitsOf 2 mark ++ bitsOf w x
 unfoldable pub enumAt : ℕ → ℕ → List ℕ
 enumAt n x = pick (eqb x 255) (bitsOf 2 0) (pick (ltb x n) (marked 1 8 x) (marked 2 8 x))
 
+-- its bits
+unfoldable pub enumWidth : ℕ → ℕ
+enumWidth x = pick (eqb x 255) 2 10
+
 -- a float of w bytes; where it may be absent, a NaN is no value
 unfoldable pub floatAt : Bool → ℕ → ℕ → List ℕ
 floatAt none w x = pick (none && isNaN w x) (bitsOf 2 0) (marked 1 (8 * w) x)

@@ -213,12 +213,12 @@ fn gather(m: &[u8], start: usize, i: usize, n: usize) -> u64
     v
 }
 
-// How many of the bools that are left go into one number.
-fn gathered(left: usize) -> usize
-    requires { ⌜ 0 < left ⌝ }
-    ensures { λ r. ⌜ (0 < r) × (r ≤ left) × (r ≤ 32) ⌝ }
+// How many of the elements that are left go into one number.
+fn gathered(left: usize, most: usize) -> usize
+    requires { ⌜ (0 < left) × (0 < most) ⌝ }
+    ensures { λ r. ⌜ (0 < r) × (r ≤ left) × (r ≤ most) ⌝ }
 {
-    if left < 32 { left } else { 32 }
+    if left < most { left } else { most }
 }
 
 // Two, four and all bits of a byte, from bit k on, the first one highest. In this form the compiler reverses them at once.
@@ -303,7 +303,7 @@ pub fn write_bools(m: &[u8], out: &mut [u8], pos: usize, start: usize, n: usize)
     let mut p = put_bools(m, out, pos, start, k);
     let mut i = 64 * k;
     while i < n {
-        let w = gathered(n - i);
+        let w = gathered(n - i, 32);
         p = bitio::write(out, p, w, gather(m, start, i, w));
         i += w;
     }
@@ -401,7 +401,50 @@ fn enums_size(m: &[u8], at: usize, n: usize) -> usize
     2 * n + 8 * values
 }
 
-// The n enums of k values from `at`, elements of a list: counted first.
+// An enum of k values with its mark: how many bits, and the bits as a number.
+fn enum_width(x: u8) -> usize
+    ensures { λ r. ⌜ (r ≡ Bt.enumWidth x) × (r ≤ 10) ⌝ }
+{
+    if x == 255 { 2 } else { 10 }
+}
+
+fn enum_number(k: u8, x: u8) -> u64
+    ensures { λ r. ⌜ (bitsOf (Bt.enumWidth x) r ≡ Bt.enumAt k x) × (r < 2 ^ Bt.enumWidth x) ⌝ }
+{
+    if x == 255 {
+        return 0;
+    }
+    if x < k {
+        return bits::append(1, 8, wire::wide(x));
+    }
+    bits::append(2, 8, wire::wide(x))
+}
+
+// Bits as a number.
+struct BitRun {
+    width: usize,
+    value: u64,
+}
+
+// The bits of up to five enums of k values from `at`, the first one's highest.
+fn gather_enums(m: &[u8], k: u8, at: usize, n: usize) -> BitRun
+    requires { ⌜ (n ≤ 5) × (at < 2 ^ 59) ⌝ }
+    ensures { λ r. ⌜ (bitsOf (r .width) (r .value) ≡ Bt.enumsAt (now (m .entry)) k n at) × (r .width ≤ 50) ⌝ }
+{
+    let mut v: u64 = 0;
+    let mut w: usize = 0;
+    let mut j: usize = 0;
+    while j < n {
+        let x = wire::byte(m, at + j);
+        let b = enum_width(x);
+        v = v << b | enum_number(k, x);
+        w += b;
+        j += 1;
+    }
+    BitRun { width: w, value: v }
+}
+
+// The n enums of k values from `at`, elements of a list: counted first, and stored five at a time.
 pub fn write_enums(m: &[u8], out: &mut [u8], pos: usize, k: u8, at: usize, n: usize) -> usize
     requires { ⌜ Room (now out) pos ⌝ }
     requires { ⌜ (at < 2 ^ 58) × (n < 2 ^ 48) ⌝ }
@@ -418,9 +461,11 @@ pub fn write_enums(m: &[u8], out: &mut [u8], pos: usize, k: u8, at: usize, n: us
     let mut from = at;
     let mut left = n;
     while 0 < left {
-        p = write_enum(out, p, k, wire::byte(m, from));
-        from += 1;
-        left -= 1;
+        let j = gathered(left, 5);
+        let g = gather_enums(m, k, from, j);
+        p = bitio::write(out, p, g.width, g.value);
+        from += j;
+        left -= j;
     }
     p
 }
