@@ -2,6 +2,7 @@
 // where there is room.
 ghost use mathlib.Core.Path.{_≡_};
 ghost use mathlib.Core.Bool.{Bool, true};
+ghost use mathlib.Core.Logic.{_⊎_};
 ghost use Prim.Native.Nat.{ℕ, _+_, _-_, _*_, _/_, _<_, _≤_, _^_};
 ghost use lib.ListN.{length};
 ghost use Rattle.coding.specs.Bytes as B;
@@ -351,28 +352,68 @@ fn floats_size(m: &[u8], w: u8, at: usize, n: usize) -> usize
     2 * n + numbers_size(wire::index(w), values)
 }
 
-// The n floats of w bytes from `at`, elements of a list, in which a NaN is no value: counted first.
-pub fn write_floats(m: &[u8], out: &mut [u8], pos: usize, w: u8, at: usize, n: usize) -> usize
-    requires { ⌜ Room (now out) pos ⌝ }
-    requires { ⌜ (w ≤ 8) × (at < 2 ^ 58) × (n < 2 ^ 48) ⌝ }
+// The same, of 4 or 8 bytes: the width is a constant in each call, so that the compiler makes a loop for each.
+fn floats_length(m: &[u8], w: u8, at: usize, n: usize) -> usize
+    requires { ⌜ ((w ≡ 4) ⊎ (w ≡ 8)) × (at < 2 ^ 58) × (n < 2 ^ 48) ⌝ }
+    ensures { λ r. ⌜ (length (Bt.floatsAt (now (m .entry)) w n at) ≡ r) × (r ≤ 66 * 2 ^ 48) ⌝ }
+{
+    if w == 4 {
+        return floats_size(m, 4, at, n);
+    }
+    floats_size(m, 8, at, n)
+}
+
+// A float of 4 or 8 bytes with its mark, for which there is room; a NaN is no value.
+fn put_float(out: &mut [u8], pos: usize, w: u8, x: u64) -> usize
+    requires { ⌜ (Room (now out) pos) × (pos + length (Bt.floatAt true w x) ≤ 8 * length (now out)) ⌝ }
+    requires { ⌜ (w ≡ 4) ⊎ (w ≡ 8) ⌝ }
+    ensures { λ r. ⌜ Puts (now (out .entry)) pos (Bt.floatAt true w x) (now (out .exit)) r ⌝ }
+{
+    if step::is_nan(w, x) {
+        return bitio::write(out, pos, 2, 0);
+    }
+    if w == 4 {
+        return bitio::write(out, pos, 34, bits::append(1, 32, x));
+    }
+    let p = bitio::write(out, pos, 2, 1);
+    bitio::put_eight(out, p, x);
+    p + 64
+}
+
+// The n floats of 4 or 8 bytes from `at`, for which there is room.
+fn put_floats(m: &[u8], out: &mut [u8], pos: usize, w: u8, at: usize, n: usize) -> usize
+    requires { ⌜ (Room (now out) pos) × (pos + length (Bt.floatsAt (now m) w n at) ≤ 8 * length (now out)) ⌝ }
+    requires { ⌜ ((w ≡ 4) ⊎ (w ≡ 8)) × (at < 2 ^ 58) × (n < 2 ^ 48) ⌝ }
     ensures { λ r. ⌜ Puts (now (out .entry)) pos (Bt.floatsAt (now (m .entry)) w n at) (now (out .exit)) r ⌝ }
 {
-    let end = pos + floats_size(m, w, at, n);
+    let mut p = pos;
+    let mut from = at;
+    let mut left = n;
+    while 0 < left {
+        p = put_float(out, p, w, wire::number(m, from, wire::index(w)));
+        from += wire::index(w);
+        left -= 1;
+    }
+    p
+}
+
+// The n floats of 4 or 8 bytes from `at`, elements of a list, in which a NaN is no value: counted first.
+pub fn write_floats(m: &[u8], out: &mut [u8], pos: usize, w: u8, at: usize, n: usize) -> usize
+    requires { ⌜ Room (now out) pos ⌝ }
+    requires { ⌜ ((w ≡ 4) ⊎ (w ≡ 8)) × (at < 2 ^ 58) × (n < 2 ^ 48) ⌝ }
+    ensures { λ r. ⌜ Puts (now (out .entry)) pos (Bt.floatsAt (now (m .entry)) w n at) (now (out .exit)) r ⌝ }
+{
+    let end = pos + floats_length(m, w, at, n);
     if 134217720 < end {
         return 134217721;
     }
     if 8 * out.len() < end {
         return end;
     }
-    let mut p = pos;
-    let mut from = at;
-    let mut left = n;
-    while 0 < left {
-        p = write_float(out, p, true, w, wire::number(m, from, wire::index(w)));
-        from += wire::index(w);
-        left -= 1;
+    if w == 4 {
+        return put_floats(m, out, pos, 4, at, n);
     }
-    p
+    put_floats(m, out, pos, 8, at, n)
 }
 
 // 1 for an enum that is a value, 0 for 255.

@@ -1,4 +1,5 @@
-use Rattle.entries.proofs.Flats.{float-width}
+use mathlib.Core.Path.{subst}
+use Rattle.laws.specs.Sound.{FlatSound}
 use Rattle.entries.proofs.Runs.{flats-boolean, flats-integer, flats-float, flats-enum, flats-struct}
 use borrow.Author.Needs.{needs}
 use Rattle.entries.proofs.write_flats.Statement.{statement}
@@ -20,7 +21,7 @@ enum-known-f c = search needs
 write-floats-requires : tie.Need-write-floats-requires
 write-floats-requires c κs =
     let q = c .before .before .before .before .before .before .pre in
-    (q .0, (float-width _ _ (q .1 .0) _ (c .before .before .f .given .1), q .1 .1, q .1 .2))
+    (q .0, (subst (FlatSound 0) (c .before .before .f .given .1) (q .1 .0), q .1 .1, q .1 .2))
 
 -- src/lib.rt:191:26
 enum-known-f-2 : tie.Need-enum-known-f-2
