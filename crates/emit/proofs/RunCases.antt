@@ -26,9 +26,9 @@ use Rattle.schema.specs.Directory.{Accepted}
 use Rattle.survey.proofs.ObjectCases.{element-sound}
 use Rattle.bitio.specs.Taken.{TakenNumber}
 use Rattle.survey.specs.Survey.{Surveyor}
-use Rattle.store.specs.State.{State, putBit, putNumber}
+use Rattle.store.specs.State.{State, putBit, putNumber, putOctet, reversed}
 use Rattle.emit.specs.EmitSheet.{Emitter, emitNumber, emitElements, emitBlob, emitContent}
-use Rattle.emit.specs.EmitRun.{emitRun, flatIntegerWidth, integerWidth, emitUnmarked, unmarked-run, octets-blob, emitFlats}
+use Rattle.emit.specs.EmitRun.{emitRun, flatIntegerWidth, integerWidth, emitUnmarked, unmarked-run, octet-run, octets-blob, emitFlats}
 use Rattle.store.specs.Storing.{stateOf, forward, Stood, BitPut}
 use Rattle.emit.specs.Emitting.{Room, EmittedAt, emitMarkedFlat}
 use Rattle.store.specs.declared.Places.{Places}
@@ -175,6 +175,30 @@ module _ (s : List ℕ) (n : ℕ) (c : Places) (o : List ℕ) (pos : ℕ) (o₁ 
     bits-turn f q o₂ t =
         one ∙ ap (λ (u : Bool). after (pick u (got x (drop next (bits s))) fail)) (not-false whole f)
         ∙ ap (λ (st : State). emitRun 1 putBit (left - 1) st (drop next (bits s))) (sym (t .is))
+
+  -- eight at once
+  pub bits-octet : 8 ≤ left → p .free ≡ 0 → (whole : Bool) (x next : ℕ) → TakenNumber s at 8 whole x next → whole ≡ true → (v y : ℕ) → v ≡ x → y ≡ reversed v → (q : Places) (o₂ : List ℕ)
+      → BitPut (putOctet y (stateOf p o₁)) (stateOf q o₂) p q
+      → emitRun 1 putBit n (stateOf c o) (drop pos (bits s)) ≡ emitRun 1 putBit (left - 8) (stateOf q o₂) (drop next (bits s))
+  unfolding bind
+  bits-octet h free whole x next taken f v y ev ey q o₂ t =
+      let z : left ≡ 8 + (left - 8) = omega arith in
+      inv ∙ ap (λ (k : ℕ). emitRun 1 putBit k (stateOf p o₁) (drop at (bits s))) z
+      ∙ octet-run (left - 8) (stateOf p o₁) (drop at (bits s)) free (all-drop Bit at (bits s) (bits-bits s))
+      ∙ ap (λ (r : Parsed ℕ). bind r (λ u ys. emitRun 1 putBit (left - 8) (putOctet (reversed u) (stateOf p o₁)) ys)) (taken .number ∙ ap (λ (u : Bool). pick u (got x (drop next (bits s))) fail) f)
+      ∙ ap (λ (u : ℕ). emitRun 1 putBit (left - 8) (putOctet u (stateOf p o₁)) (drop next (bits s))) (sym (ey ∙ ap reversed ev))
+      ∙ ap (λ (st : State). emitRun 1 putBit (left - 8) st (drop next (bits s))) (sym (t .is))
+
+module _ (s : List ℕ) (p : Places) (at : ℕ) (room : Room s at p) (whole : Bool) (x next : ℕ) (taken : TakenNumber s at 8 whole x next) (f : whole ≡ true)
+    (put now : State) (q : Places) (t : BitPut put now p q) where
+  pub octet-goes : Room s next q
+  octet-goes = room-bit s at 8 p room whole x next taken (ap not f) (omega arith) put now q t
+
+  pub octet-on : (c : Places) (pos : ℕ) → p .at + 8192 * pos ≤ c .at + 8192 * at → q .at + 8192 * pos ≤ c .at + 8192 * next
+  octet-on c pos l =
+      let e = taken-at s at 8 whole x next taken (room .here) (ap not f) in
+      let a = t .at in
+      omega arith
 
 -- ---- floats or enums, with their marks
 module _ (S : Schema) (s : List ℕ) (k : Flat) (n : ℕ) (c : Places) (o : List ℕ) (pos : ℕ) (o₁ : List ℕ) (p : Places) (at left : ℕ)

@@ -1,11 +1,12 @@
 -- Elements that lead to no object: without a mark a run of numbers, of which those of one byte are stored as bytes are; with a
 -- mark one after another.
-use Prim.Native.Nat.{ℕ, zero, suc, _+_, _*_, _<_, _≤_}
+use Prim.Native.Nat.{ℕ, zero, suc, _+_, _*_, _/_, _%_, _^_, _<_, _≤_}
 use mathlib.Core.Path.{_≡_, refl, sym, ap, ap₂, _∙_}
 use mathlib.Core.Bool.{Bool, true, false}
 use mathlib.Core.List.{List, [], _∷_}
 use native.Mathlib.Nat.{mod-eq-of-lt}
 use native.Mathlib.Omega.{arith}
+use lib.Pow.{high}
 use lib.ListN.{length, take, drop, length-drop}
 use lib.Seq.{drop-drop}
 use lib.Dec.{eqb, leb}
@@ -26,7 +27,8 @@ use Rattle.laws.specs.All.{all-drop}
 use Rattle.laws.specs.Bits.{Bit, front-lt}
 use Rattle.survey.specs.Survey.{Surveyor, surveyMark}
 use Rattle.survey.specs.Mapped.{bind-same}
-use Rattle.store.specs.State.{State, putBytes, putBit, putNumber}
+use Rattle.store.specs.State.{State, putBytes, putBit, putNumber, putOctet, reversed}
+use Rattle.store.specs.Octets.{octet-bits}
 use Rattle.emit.specs.EmitSheet.{Emitter, emitNumber, emitFlat, lack, pass, emitBody, emitPart, emitElement, emitElements, emitBlob, emitContent}
 use Rattle.emit.specs.EmitFlats.{put-none, put-append}
 use Rattle.emit.specs.Emitting.{emitMarkedFlat}
@@ -77,6 +79,82 @@ module _ (child : Emitter) (measure : Surveyor) (o : ℕ) (S : Schema) where
   unmarked-run (OfFlat (Struct i)) g h n st xs = never h
   unmarked-run (OfObject ob) g h n st xs = never h
   unmarked-run (OfUnion i) g h n st xs = never h
+
+-- ---- bools
+bit-run : (n : ℕ) (st : State) (b : ℕ) (ys : List ℕ) → emitRun 1 putBit (suc n) st (b ∷ ys) ≡ emitRun 1 putBit n (putBit b st) ys
+unfolding emitRun emitNumber takeNumber bind value
+bit-run n st b ys =
+    let z : b * 1 + 0 ≡ b = omega arith in
+    ap (λ (u : Bool). bind (bind (pick u (got (b * 1 + 0) ys) fail) (λ x zs. got (putBit x st) zs)) (λ next zs. emitRun 1 putBit n next zs))
+    (le-leb 1 (length (b ∷ ys)) (omega arith))
+    ∙ ap (λ (x : ℕ). emitRun 1 putBit n (putBit x st) ys) z
+
+-- too few bits
+run-short : (m : ℕ) (st : State) (xs : List ℕ) → length xs < m → emitRun 1 putBit m st xs ≡ fail
+unfolding emitRun emitNumber takeNumber bind
+run-short zero st xs h = absurd (let z : ⊥ = omega arith in z)
+run-short (suc m) st [] h = refl
+run-short (suc m) st (b ∷ ys) h = bit-run m st b ys ∙ run-short m (putBit b st) ys (omega arith)
+
+-- eight bits as a number, and the number reversed
+digit : (k x n b r : ℕ) → x ≡ (n * 2 + b) * 2 ^ k + r → r < 2 ^ k → b < 2 → b ≡ x / 2 ^ k % 2
+digit k x n b r e h l =
+    let z : (n * 2 + b) % 2 ≡ b = omega arith in
+    sym (ap (λ (y : ℕ). y / 2 ^ k % 2) e ∙ ap (λ (y : ℕ). y % 2) (high (n * 2 + b) k h) ∙ z)
+
+grouped : (a b c d e f g h a₁ b₁ c₁ d₁ e₁ f₁ g₁ h₁ : ℕ) → a ≡ a₁ → b ≡ b₁ → c ≡ c₁ → d ≡ d₁ → e ≡ e₁ → f ≡ f₁ → g ≡ g₁ → h ≡ h₁
+    → a + b * 2 + c * 4 + d * 8 + e * 16 + f * 32 + g * 64 + h * 128 ≡ a₁ + b₁ * 2 + (c₁ * 4 + d₁ * 8) + (e₁ * 16 + f₁ * 32 + (g₁ * 64 + h₁ * 128))
+grouped a b c d e f g h a₁ b₁ c₁ d₁ e₁ f₁ g₁ h₁ ea eb ec ed ee ef eg eh = omega arith
+
+module _ (a b c d e f g h : ℕ) (ha : a < 2) (hb : b < 2) (hc : c < 2) (hd : d < 2) (he : e < 2) (hf : f < 2) (hg : g < 2) (hh : h < 2) where
+  abbrev number : ℕ
+  number = value (a ∷ b ∷ c ∷ d ∷ e ∷ f ∷ g ∷ h ∷ [])
+
+  number-is : number ≡ a * 128 + b * 64 + c * 32 + d * 16 + e * 8 + f * 4 + g * 2 + h
+  unfolding value
+  number-is = omega arith
+
+  digits : a + b * 2 + c * 4 + d * 8 + e * 16 + f * 32 + g * 64 + h * 128 ≡ reversed number
+  unfolding reversed
+  digits =
+      grouped a b c d e f g h _ _ _ _ _ _ _ _
+      (digit 7 number 0 a (b * 64 + c * 32 + d * 16 + e * 8 + f * 4 + g * 2 + h) (omega (arith, number-is)) (omega arith) ha)
+      (digit 6 number a b (c * 32 + d * 16 + e * 8 + f * 4 + g * 2 + h) (omega (arith, number-is)) (omega arith) hb)
+      (digit 5 number (a * 2 + b) c (d * 16 + e * 8 + f * 4 + g * 2 + h) (omega (arith, number-is)) (omega arith) hc)
+      (digit 4 number (a * 4 + b * 2 + c) d (e * 8 + f * 4 + g * 2 + h) (omega (arith, number-is)) (omega arith) hd)
+      (digit 3 number (a * 8 + b * 4 + c * 2 + d) e (f * 4 + g * 2 + h) (omega (arith, number-is)) (omega arith) he)
+      (digit 2 number (a * 16 + b * 8 + c * 4 + d * 2 + e) f (g * 2 + h) (omega (arith, number-is)) (omega arith) hf)
+      (digit 1 number (a * 32 + b * 16 + c * 8 + d * 4 + e * 2 + f) g h (omega (arith, number-is)) (omega arith) hg)
+      (digit 0 number (a * 64 + b * 32 + c * 16 + d * 8 + e * 4 + f * 2 + g) h 0 (omega (arith, number-is)) (omega arith) hh)
+
+-- eight bools that fill a byte of their own
+octet-long : (n : ℕ) (st : State) (xs : List ℕ) → st .free ≡ 0 → All Bit xs → 8 ≤ length xs
+    → emitRun 1 putBit (8 + n) st xs ≡ emitRun 1 putBit n (putOctet (reversed (value (take 8 xs))) st) (drop 8 xs)
+octet-long n st [] e h l = absurd (let z : ⊥ = omega arith in z)
+octet-long n st (a ∷ []) e h l = absurd (let z : ⊥ = omega arith in z)
+octet-long n st (a ∷ b ∷ []) e h l = absurd (let z : ⊥ = omega arith in z)
+octet-long n st (a ∷ b ∷ c ∷ []) e h l = absurd (let z : ⊥ = omega arith in z)
+octet-long n st (a ∷ b ∷ c ∷ d ∷ []) e h l = absurd (let z : ⊥ = omega arith in z)
+octet-long n st (a ∷ b ∷ c ∷ d ∷ i ∷ []) e h l = absurd (let z : ⊥ = omega arith in z)
+octet-long n st (a ∷ b ∷ c ∷ d ∷ i ∷ j ∷ []) e h l = absurd (let z : ⊥ = omega arith in z)
+octet-long n st (a ∷ b ∷ c ∷ d ∷ i ∷ j ∷ k ∷ []) e h l = absurd (let z : ⊥ = omega arith in z)
+octet-long n st (a ∷ b ∷ c ∷ d ∷ i ∷ j ∷ k ∷ m ∷ ys) e h l =
+    let z : 8 + n ≡ suc (suc (suc (suc (suc (suc (suc (suc n))))))) = omega arith in
+    ap (λ (q : ℕ). emitRun 1 putBit q st (a ∷ b ∷ c ∷ d ∷ i ∷ j ∷ k ∷ m ∷ ys)) z
+    ∙ bit-run _ _ a _ ∙ bit-run _ _ b _ ∙ bit-run _ _ c _ ∙ bit-run _ _ d _ ∙ bit-run _ _ i _ ∙ bit-run _ _ j _ ∙ bit-run _ _ k _ ∙ bit-run _ _ m _
+    ∙ ap (λ (u : State). emitRun 1 putBit n u ys)
+    (octet-bits st a b c d i j k m e
+    ∙ ap (λ (y : ℕ). putOctet y st) (digits a b c d i j k m (h .0) (h .1 .0) (h .1 .1 .0) (h .1 .1 .1 .0) (h .1 .1 .1 .1 .0) (h .1 .1 .1 .1 .1 .0) (h .1 .1 .1 .1 .1 .1 .0) (h .1 .1 .1 .1 .1 .1 .1 .0)))
+
+pub octet-run : (n : ℕ) (st : State) (xs : List ℕ) → st .free ≡ 0 → All Bit xs
+    → emitRun 1 putBit (8 + n) st xs ≡ bind (takeNumber 8 xs) (λ x ys. emitRun 1 putBit n (putOctet (reversed x) st) ys)
+unfolding takeNumber bind
+octet-run n st xs e h = by (leb 8 (length xs)) refl
+  where
+    by : (u : Bool) → leb 8 (length xs) ≡ u
+        → emitRun 1 putBit (8 + n) st xs ≡ bind (pick u (got (value (take 8 xs)) (drop 8 xs)) fail) (λ x ys. emitRun 1 putBit n (putOctet (reversed x) st) ys)
+    by true f = octet-long n st xs e h (leb-true 8 (length xs) f)
+    by false f = run-short (8 + n) st xs (let g = leb-false 8 (length xs) f in omega arith)
 
 -- ---- integers of one byte
 put-one : (x : ℕ) (st : State) → x < 256 → putNumber 1 x st ≡ putBytes (x ∷ []) st

@@ -433,7 +433,7 @@ fn emit_run(s: &[u8], out: &mut [u8], w: usize, n: usize, c: Places, pos: usize)
     stored(store::forward(c, done), at)
 }
 
-// n bools, each into the next free bit.
+// n bools, each into the next free bit; eight at once where they fill a byte.
 fn emit_bits(s: &[u8], out: &mut [u8], n: usize, c: Places, pos: usize) -> Emitted
     requires { ⌜ Room (now s) pos c ⌝ }
     ensures { λ r. ⌜ EmittedAt (now (s .entry)) (emitRun 1 St.putBit n (stateOf c (now (out .entry))) (drop pos (bits (now (s .entry))))) pos c 0 (r .whole) (r .places) (now (out .exit)) (r .next) ⌝ }
@@ -442,6 +442,17 @@ fn emit_bits(s: &[u8], out: &mut [u8], n: usize, c: Places, pos: usize) -> Emitt
     let mut at = pos;
     let mut left = n;
     while 0 < left {
+        if 8 <= left {
+            if p.free == 0 {
+                let y = bitio::take_number(s, at, 8);
+                if y.whole {
+                    p = store::put_octet(out, p, store::reversed(y.value as u8));
+                    at = y.next;
+                    left -= 8;
+                    continue;
+                }
+            }
+        }
         let x = bitio::take_number(s, at, 1);
         if !x.whole {
             return not_lawful(c, pos);

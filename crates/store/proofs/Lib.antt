@@ -1,3 +1,4 @@
 pub mod StoreCases
 pub mod BitCases
 pub mod PutCases
+pub mod OctetCases

@@ -2,3 +2,4 @@
 pub mod State
 pub mod Stores
 pub mod Storing
+pub mod Octets

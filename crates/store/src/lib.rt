@@ -235,6 +235,36 @@ pub fn put_bit(out: &mut [u8], c: Places, x: usize) -> Places
     }
 }
 
+// Eight bits, the highest of them made the lowest: bools stand in a message from the lowest bit on, in a sheet from the highest.
+pub fn reversed(x: u8) -> u8
+    ensures { λ r. ⌜ r ≡ St.reversed x ⌝ }
+{
+    let a = wire::bit_value(x, 7) + wire::bit_value(x, 6) * 2;
+    let b = wire::bit_value(x, 5) * 4 + wire::bit_value(x, 4) * 8;
+    let c = wire::bit_value(x, 3) * 16 + wire::bit_value(x, 2) * 32;
+    let d = wire::bit_value(x, 1) * 64 + wire::bit_value(x, 0) * 128;
+    (a + b + (c + d)) as u8
+}
+
+// A whole byte of bools.
+pub fn put_octet(out: &mut [u8], c: Places, y: u8) -> Places
+    requires { ⌜ c .at < 2 ^ 61 ⌝ }
+    ensures { λ r. ⌜ BitPut (St.putOctet y (stateOf c (now (out .entry)))) (stateOf r (now (out .exit))) c r ⌝ }
+{
+    let at = c.at;
+    let tail = c.tail;
+    let next = c.next;
+    store_byte(out, at, y);
+    Places {
+        at: at + 1,
+        last: at,
+        free: 0,
+        held: y as usize,
+        tail,
+        next,
+    }
+}
+
 // ---- moves of the places
 // Behind n bytes more of the present sequence.
 pub fn forward(c: Places, n: usize) -> Places
