@@ -17,7 +17,7 @@ use reference::Verdict;
 use std::hint::black_box;
 use std::process::ExitCode;
 use std::time::{Duration, Instant};
-use tasks::{Task, SUMMED, TASKS};
+use tasks::{Task, SUMMED};
 use timing::Plan;
 
 fn ours(case: &Case) -> Verdict {
@@ -148,8 +148,7 @@ fn time_tasks(plan: &Plan) -> bool {
         "task", "ours best", "median", "ref best", "median", "best", "median", "ours", "ref",
     );
     let mut sound = true;
-    for build in TASKS {
-        let task = build();
+    for task in tasks::all() {
         match task.fault() {
             None => time_task(plan, &task),
             Some(report) => {
@@ -198,10 +197,7 @@ fn stacks() -> bool {
 
 /// Runs the library's side of one task for some seconds, for a profiler.
 fn spin(name: &str) -> bool {
-    let found = TASKS
-        .iter()
-        .map(|build| build())
-        .find(|task| task.name.contains(name));
+    let found = tasks::all().find(|task| task.name.contains(name));
     let Some(task) = found else {
         return false;
     };
@@ -248,7 +244,7 @@ fn all(plan: &Plan) -> bool {
 
 #[cfg(test)]
 mod tests {
-    use super::{depth, fault, stack, CASES, TASKS};
+    use super::{depth, fault, stack, tasks, CASES};
 
     #[test]
     fn both_programs_give_the_expected_verdicts() {
@@ -261,9 +257,7 @@ mod tests {
 
     #[test]
     fn both_programs_do_the_same_tasks() {
-        let faults: Vec<String> = (TASKS.iter().map(|build| build()))
-            .filter_map(|task| task.fault())
-            .collect();
+        let faults: Vec<String> = tasks::all().filter_map(|task| task.fault()).collect();
         assert!(faults.is_empty(), "{}", faults.join("\n"));
     }
 

@@ -42,44 +42,36 @@ impl Task {
     }
 }
 
-/// Each task is built when its turn comes.
-pub const TASKS: &[fn() -> Task] = &[
+/// One field, one text, many steps of a list.
+const PARTS: &[fn() -> Task] = &[
     field_at_depth_5,
     text_at_depth_5,
     field_by_the_largest_schema,
     list_of_tables,
-    || read(cases::texts()),
-    || read(cases::every_kind()),
-    || read(cases::numbers("(d) a list of 1,000,000 U64", 1_000_000)),
-    || read(cases::tables()),
-    || read(deep_numbers()),
-    || write(cases::texts()),
-    || write(cases::every_kind()),
-    || write(cases::numbers("(d) a list of 1,000,000 U64", 1_000_000)),
-    || write(cases::tables()),
-    || write(deep_numbers()),
-    || read(bools()),
-    || read(cases::elements("1,000,000 U8", plain(U8), 1)),
-    || read(cases::elements("1,000,000 U16", plain(U16), 2)),
-    || read(cases::elements("1,000,000 U32", plain(U32), 4)),
-    || read(cases::elements("1,000,000 F32", plain(F32), 4)),
-    || read(cases::elements("1,000,000 F64", plain(F64), 8)),
-    || read(enums()),
-    || write(bools()),
-    || write(cases::elements("1,000,000 U8", plain(U8), 1)),
-    || write(cases::elements("1,000,000 U16", plain(U16), 2)),
-    || write(cases::elements("1,000,000 U32", plain(U32), 4)),
-    || write(cases::elements("1,000,000 F32", plain(F32), 4)),
-    || write(cases::elements("1,000,000 F64", plain(F64), 8)),
-    || write(enums()),
 ];
 
-fn bools() -> Case {
-    cases::elements("1,000,000 bools", plain(BOOL), 0)
-}
+/// Messages that are read to a sheet, and whose sheets are written.
+const WHOLES: &[fn() -> Case] = &[
+    cases::texts,
+    cases::every_kind,
+    || cases::numbers("(d) a list of 1,000,000 U64", 1_000_000),
+    cases::tables,
+    deep_numbers,
+    || cases::elements("1,000,000 bools", plain(BOOL), 0),
+    || cases::elements("1,000,000 U8", plain(U8), 1),
+    || cases::elements("1,000,000 U16", plain(U16), 2),
+    || cases::elements("1,000,000 U32", plain(U32), 4),
+    || cases::elements("1,000,000 F32", plain(F32), 4),
+    || cases::elements("1,000,000 F64", plain(F64), 8),
+    || cases::elements("1,000,000 enums of 11 values", Record::of(ENUM, 11), 1),
+];
 
-fn enums() -> Case {
-    cases::elements("1,000,000 enums of 11 values", Record::of(ENUM, 11), 1)
+/// Each task is built when its turn comes.
+pub fn all() -> impl Iterator<Item = Task> {
+    let parts = PARTS.iter().map(|build| build());
+    let reads = WHOLES.iter().map(|build| read(build()));
+    let writes = WHOLES.iter().map(|build| write(build()));
+    parts.chain(reads).chain(writes)
 }
 
 /// Enough of a sum to tell outputs apart; the timed calls do not take it.
