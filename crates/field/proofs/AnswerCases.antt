@@ -21,7 +21,7 @@ use Rattle.coding.specs.declared.Refusal.{Refusal}
 use Rattle.coding.specs.declared.Answer.{Answer}
 use Rattle.coding.specs.declared.Answer.the-variants as A
 use Rattle.laws.specs.Sound.{FlatSound, KindSound}
-use Rattle.arrival.specs.Within.{FoundWithin}
+use Rattle.field_arrival.specs.Within.{FoundWithin}
 
 -- ---- values
 module _ (k : Flat) (x : ℕ) where

@@ -21,7 +21,7 @@ use Rattle.coding.specs.declared.Answer.the-variants as A
 use Rattle.coding.specs.declared.Case.{Case}
 use Rattle.coding.specs.declared.Span.{Span}
 use Rattle.coding.specs.Field.{answerCase}
-use Rattle.arrival.specs.Within.{FoundWithin}
+use Rattle.field_arrival.specs.Within.{FoundWithin}
 
 -- ---- where a text stands
 module _ (ob : Object) (start n : ℕ) (r : Span) where

@@ -14,7 +14,7 @@ ghost use Rattle.coding.specs.Field as F;
 ghost use Rattle.coding.specs.Lists.{pick};
 ghost use Rattle.coding.specs.Packed as P;
 ghost use Rattle.laws.specs.Sound.{FlatSound, KindSound};
-ghost use Rattle.arrival.specs.Within.{FoundWithin};
+ghost use Rattle.field_arrival.specs.Within.{FoundWithin};
 
 // ---- the answer
 fn flat_answer(b: &[u8], k: Flat, x: u64) -> Answer
@@ -70,7 +70,7 @@ pub fn answer_of(b: &[u8], m: &[u8], f: Found) -> Answer
 pub fn field(b: &[u8], m: &[u8], path: &[u32]) -> Answer
     ensures { λ r. ⌜ r ≡ F.field B.u48 (now (b .entry)) (now (m .entry)) (now (path .entry)) ⌝ }
 {
-    let found = path::field_found(b, m, path);
+    let found = field_path::field_found(b, m, path);
     answer_of(b, m, found)
 }
 
@@ -159,7 +159,7 @@ fn span_of(f: Found) -> Span
 pub fn text_span(b: &[u8], m: &[u8], path: &[u32]) -> Span
     ensures { λ r. ⌜ (r ≡ F.fieldSpan B.u48 (now (b .entry)) (now (m .entry)) (now (path .entry))) × (r .start + r .length ≤ length (now (m .entry))) ⌝ }
 {
-    let f = path::field_found(b, m, path);
+    let f = field_path::field_found(b, m, path);
     span_of(f)
 }
 

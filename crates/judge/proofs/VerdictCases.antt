@@ -20,8 +20,8 @@ use Rattle.coding.specs.declared.Verdict.{Verdict}
 use Rattle.coding.specs.declared.Walked.{Walked}
 use Rattle.coding.specs.declared.Walked.the-variants.{Going, Refused}
 use Rattle.schema.specs.Directory.{Accepted, Judged}
-use Rattle.text.specs.declared.Outcome.{Outcome}
-use Rattle.text.specs.Answers.{walkedOf}
+use Rattle.judge_text.specs.declared.Outcome.{Outcome}
+use Rattle.judge_text.specs.Answers.{walkedOf}
 use Rattle.judge.proofs.NumberCases.{NumberSmall, walk-small}
 
 pub walk-is : (b m : List ℕ) (budget : Budget) (ob : Object) (p : Place) → ob ≡ O.Table (P.parse b .root) → p ≡ W.rootPlace u48 m → (r : Walked)

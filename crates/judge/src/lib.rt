@@ -2,7 +2,7 @@
 use coding::Budget;
 use coding::Spent;
 use coding::Verdict;
-use text::Outcome;
+use judge_text::Outcome;
 ghost use mathlib.Core.Path.{_≡_};
 ghost use Prim.Native.Nat.{_≤_};
 ghost use lib.ListN.{length};
@@ -10,7 +10,7 @@ ghost use Rattle.coding.specs.Bytes as B;
 ghost use Rattle.coding.specs.Packed as P;
 ghost use Rattle.coding.specs.Walk as W;
 ghost use Rattle.schema.specs.Directory.{Accepted};
-ghost use Rattle.text.specs.Answers as As;
+ghost use Rattle.judge_text.specs.Answers as As;
 
 fn verdict_of(w: Outcome) -> Verdict
     requires { ⌜ w .code ≤ 256 ⌝ }
@@ -47,9 +47,9 @@ fn walk_from_root(b: &[u8], dir: &[u16], m: &[u8], budget: Budget) -> Outcome
     requires { ⌜ (Accepted (now b) (now dir)) × (length (now m) ≤ 16777215) × (10 ≤ length (now m)) ⌝ }
     ensures { λ r. ⌜ As.walkedOf r ≡ W.walk B.u48 (P.parse (now (b .entry))) (now (m .entry)) budget ⌝ }
 {
-    let ob = object::root_object(b, dir);
-    let p = object::root_place(m);
-    walk::visit(b, dir, m, budget, 32, ob, p, Spent { visits: 0 })
+    let ob = message_object::root_object(b, dir);
+    let p = message_object::root_place(m);
+    judge_walk::visit(b, dir, m, budget, 32, ob, p, Spent { visits: 0 })
 }
 
 // The verdict by a schema that was judged before.
@@ -63,7 +63,7 @@ pub fn judged(b: &[u8], dir: &[u16], m: &[u8], budget: Budget) -> Verdict
     if 16777215 < m.len() {
         return early(2);
     }
-    if object::start_ok(m) {
+    if message_object::start_ok(m) {
         return verdict_of(walk_from_root(b, dir, m, budget));
     }
     early(3)
@@ -74,7 +74,7 @@ pub fn judge(b: &[u8], m: &[u8], budget: Budget) -> Verdict
     ensures { λ r. ⌜ r ≡ W.verdict B.u48 (now (b .entry)) (now (m .entry)) budget ⌝ }
 {
     let mut dir: [u16; 384] = [0; 384];
-    if lawful::judge_schema(b, &mut dir) {
+    if schema_lawful::judge_schema(b, &mut dir) {
         return judged(b, &dir, m, budget);
     }
     early(1)

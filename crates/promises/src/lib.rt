@@ -194,7 +194,7 @@ pub fn step_and_field(
     // "any other answer is 15 at 0"
     ensures other { λ r. ⌜ (((q : Refusal) → F.field B.u48 (now (schema .entry)) (now (message .entry)) (now (path .entry)) ≡ Answer.Refused q → ⊥) → ((i at start n left : ℕ) → F.fieldFound B.u48 (now (schema .entry)) (now (message .entry)) (now (path .entry)) ≡ Found.Object (Object.List i) at start n left → F.leads (elementOf (P.parse (now (schema .entry))) i) ≡ true → ⊥) → r .step ≡ Answer.Refused (F.refusal 15 0)) ⌝ }
 {
-    let step = element::reader_answer(schema, message, path, element);
+    let step = field_element::reader_answer(schema, message, path, element);
     let answer = field::field(schema, message, whole);
     StepAndField {
         step,
@@ -214,7 +214,7 @@ pub fn steps(schema: &[u8], message: &[u8], path: &[u32], from: usize, out: &mut
     // "any other answer is 15 at 0": the same
     ensures other { λ r. ⌜ (((q : Refusal) → F.field B.u48 (now (schema .entry)) (now (message .entry)) (now (path .entry)) ≡ Answer.Refused q → ⊥) → ((i at start n left : ℕ) → F.fieldFound B.u48 (now (schema .entry)) (now (message .entry)) (now (path .entry)) ≡ Found.Object (Object.List i) at start n left → F.leads (elementOf (P.parse (now (schema .entry))) i) ≡ true → ⊥) → (r ≡ 0) × ((k : ℕ) → k < length (now (out .entry)) / 4 → take 4 (drop (4 * k) (now (out .exit))) ≡ F.caseNumbers (F.answerCase (Answer.Refused (F.refusal 15 0))))) ⌝ }
 {
-    list::read_list(schema, message, path, from, out)
+    field_list::read_list(schema, message, path, from, out)
 }
 
 // Writing a message of a sheet.
@@ -229,7 +229,7 @@ pub fn written(schema: &[u8], sheet: &[u8], out: &mut [u8]) -> WriteAnswer
     // "on refusal the length is 0 and the output is unchanged"
     ensures kept { λ r. ⌜ ((r .number ≡ 0 → ⊥) → (r .length ≡ 0) × (now (out .exit) ≡ now (out .entry))) ⌝ }
 {
-    writer::write(schema, sheet, out)
+    write::write(schema, sheet, out)
 }
 
 // A message that was written, and what reading it gives.
@@ -249,7 +249,7 @@ pub fn write_then_read(
     ensures same { λ r. ⌜ (r .written .number ≡ 0 → enough (now (schema .entry)) (now (sheet .entry)) ≤ budget .visits → length (now (sheet .entry)) ≤ length (now (out .entry)) → (r .read ≡ record { verdict = record { number = 0; place = 0; visits = enough (now (schema .entry)) (now (sheet .entry)) }; length = length (now (sheet .entry)) }) × (now (out .exit) ≡ now (sheet .entry) ++ drop (length (now (sheet .entry))) (now (out .entry)))) ⌝ }
     ensures less { λ r. ⌜ (r .written .number ≡ 0 → budget .visits < enough (now (schema .entry)) (now (sheet .entry)) → (at : ℕ) × (r .read ≡ record { verdict = record { number = 4; place = at; visits = budget .visits }; length = 0 }) × (now (out .exit) ≡ now (out .entry))) ⌝ }
 {
-    let written = writer::write(schema, sheet, room);
+    let written = write::write(schema, sheet, room);
     let n = written.length;
     let read = sheet::read(schema, &room[..n], budget, out);
     Trip { written, read }
@@ -266,7 +266,7 @@ pub fn write_then_read_newer(
 ) -> Trip
     ensures { λ r. ⌜ (Ap.Appends (now (older .entry)) (now (newer .entry)) → r .written .number ≡ 0 → enough (now (older .entry)) (now (sheet .entry)) ≤ budget .visits → (r .read .verdict .number ≡ 14 → ⊥) → (r .read .verdict .number ≡ 0) × (r .read .verdict .visits ≡ enough (now (older .entry)) (now (sheet .entry))) × (take (r .read .length) (now (out .exit)) ≡ Ap.sheetWith B.u48 (now (older .entry)) (now (newer .entry)) (now (sheet .entry)))) ⌝ }
 {
-    let written = writer::write(older, sheet, room);
+    let written = write::write(older, sheet, room);
     let n = written.length;
     let read = sheet::read(newer, &room[..n], budget, out);
     Trip { written, read }
@@ -290,7 +290,7 @@ pub fn write_then_judge(
 ) -> Judgements
     ensures { λ r. ⌜ (Ap.Appends (now (older .entry)) (now (newer .entry)) → r .written .number ≡ 0 → r .newer ≡ r .older) ⌝ }
 {
-    let written = writer::write(older, sheet, room);
+    let written = write::write(older, sheet, room);
     let n = written.length;
     let by_older = judge::judge(older, &room[..n], budget);
     let by_newer = judge::judge(newer, &room[..n], budget);

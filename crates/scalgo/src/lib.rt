@@ -84,7 +84,7 @@ pub extern "C" fn scalgo_list(
     ensures { λ r. ⌜ r ≡ F.readerCount B.u48 (now (schema .entry)) (now (message .entry)) (now (path .entry)) ⌝ }
     ensures { λ _. ⌜ now (cases .exit) ≡ F.readerOver B.u48 (now (schema .entry)) (now (message .entry)) (now (path .entry)) from (now (cases .entry)) ⌝ }
 {
-    list::read_list(schema, message, path, from as usize, cases) as u64
+    field_list::read_list(schema, message, path, from as usize, cases) as u64
 }
 
 // Reads a message to its value sheet: answers the number, and stores place, visits and the sheet's length.
@@ -124,7 +124,7 @@ pub extern "C" fn scalgo_write(
     ensures { λ _. ⌜ now (length .exit) ≡ M.writeAnswer B.u48 (now (schema .entry)) (now (sheet .entry)) (now (message .entry)) .length ⌝ }
     ensures { λ _. ⌜ now (message .exit) ≡ M.writeOut B.u48 (now (schema .entry)) (now (sheet .entry)) (now (message .entry)) ⌝ }
 {
-    let answer = writer::write(schema, sheet, message);
+    let answer = write::write(schema, sheet, message);
     *length = answer.length as u64;
     answer.number as u32
 }

@@ -34,11 +34,11 @@ use Rattle.coding.specs.declared.Walked.{Walked}
 use Rattle.coding.specs.declared.Walked.the-variants.{Going, Refused}
 use Rattle.laws.specs.Sound.{All, FlatSound, ObjectSound, KindSound, MemberSound, NoStruct, Sound}
 use Rattle.laws.specs.SoundAt.{case-sound-at}
-use Rattle.step.specs.Lead.{reached, reachOf}
-use Rattle.step.specs.declared.Reach.{Reach}
-use Rattle.step.specs.declared.Reach.the-variants.{Cut, Past, Here}
-use Rattle.step.proofs.ReachCases.{step-reached, here-inside, slot-size}
-use Rattle.entries.specs.Readable as D
+use Rattle.message_step.specs.Lead.{reached, reachOf}
+use Rattle.message_step.specs.declared.Reach.{Reach}
+use Rattle.message_step.specs.declared.Reach.the-variants.{Cut, Past, Here}
+use Rattle.message_step.proofs.ReachCases.{step-reached, here-inside, slot-size}
+use Rattle.sheet_walk.specs.Readable as D
 
 -- ---- what a step may lead to
 -- a refusal has a number, a struct lies within the message, an object's index stands for something

@@ -28,8 +28,8 @@ use Rattle.laws.specs.Bits.{Byte, packed-length}
 use Rattle.schema.specs.Directory.{Accepted, Judged, accepted-sound}
 use Rattle.bitio.specs.Puts.{Room, Puts, saturated}
 use Rattle.bitio.specs.Filled.{sheet-filled}
-use Rattle.entries.specs.MessageBits as A
-use Rattle.entries.specs.Readable as D
+use Rattle.sheet_walk.specs.MessageBits as A
+use Rattle.sheet_walk.specs.Readable as D
 use Rattle.sheet.specs.Answers.{noRoom, sheetAnswer, sheetOver}
 use Rattle.sheet.proofs.Walked.{Says, visit-says}
 

@@ -11,8 +11,8 @@ ghost use Rattle.coding.specs.Message as M;
 ghost use Rattle.coding.specs.Packed as P;
 ghost use Rattle.schema.specs.Directory.{Accepted};
 ghost use Rattle.bitio.specs.Puts.{saturated};
-ghost use Rattle.entries.specs.MessageBits as Bt;
-ghost use Rattle.entries.specs.Readable as D;
+ghost use Rattle.sheet_walk.specs.MessageBits as Bt;
+ghost use Rattle.sheet_walk.specs.Readable as D;
 ghost use Rattle.sheet.specs.Answers as An;
 
 // How many bits, or one more than a sheet may have; nothing is written.
@@ -21,7 +21,7 @@ fn count_bits(b: &[u8], dir: &[u16], m: &[u8], out: &mut [u8]) -> usize
     ensures { λ r. ⌜ r ≡ saturated (length (Bt.rootAt (P.parse (now (b .entry))) (now (m .entry)))) ⌝ }
     ensures { λ _. ⌜ now (out .exit) ≡ now (out .entry) ⌝ }
 {
-    entries::write_root(b, dir, m, &mut out[..0])
+    sheet_walk::put_root(b, dir, m, &mut out[..0])
 }
 
 // The sheet, into a buffer of its size.
@@ -32,7 +32,7 @@ fn fill(b: &[u8], dir: &[u16], m: &[u8], out: &mut [u8])
     ensures { λ _. ⌜ now (out .exit) ≡ packed (Bt.rootAt (P.parse (now (b .entry))) (now (m .entry))) ⌝ }
 {
     bitio::clear_last(out);
-    entries::write_root(b, dir, m, out);
+    sheet_walk::put_root(b, dir, m, out);
 }
 
 // No room in the output, or a sheet over the size.
@@ -94,7 +94,7 @@ pub fn read(b: &[u8], m: &[u8], budget: Budget, out: &mut [u8]) -> ReadAnswer
     ensures { λ _. ⌜ now (out .exit) ≡ M.readOut B.u48 (now (b .entry)) (now (m .entry)) budget (now (out .entry)) ⌝ }
 {
     let mut dir: [u16; 384] = [0; 384];
-    if lawful::judge_schema(b, &mut dir) {
+    if schema_lawful::judge_schema(b, &mut dir) {
         return read_judged(b, &dir, m, budget, out);
     }
     let refusal = Verdict {

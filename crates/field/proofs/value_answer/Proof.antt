@@ -1,4 +1,4 @@
-use Rattle.step.proofs.Inside.{flat-sound}
+use Rattle.message_step.proofs.Inside.{flat-sound}
 use Rattle.field.proofs.AnswerCases.{value-flat, value-object, value-union}
 use borrow.Author.Needs.{needs}
 use Rattle.field.proofs.value_answer.Statement.{statement}

@@ -1,4 +1,4 @@
-use Rattle.object.proofs.OpenCases.{schema-accepted}
+use Rattle.message_object.proofs.OpenCases.{schema-accepted}
 use Rattle.judge.proofs.VerdictCases.{verdict-unlawful}
 use borrow.Author.Needs.{needs}
 use Rattle.judge.proofs.judge.Statement.{statement}
@@ -7,7 +7,7 @@ use Rattle.judge.proofs.judge.Reads as reads
 use Rattle.judge.proofs.judge.Lts as lts
 use Rattle.judge.proofs.early.Reads as early-reads
 use Rattle.judge.proofs.judged.Reads as judged-reads
-use Rattle.lawful.proofs.judge_schema.Reads as judge-schema-reads
+use Rattle.schema_lawful.proofs.judge_schema.Reads as judge-schema-reads
 
 -- src/lib.rt:554:32
 slice-aggregate-judge-schema : tie.Need-slice-aggregate-judge-schema

@@ -1,0 +1,207 @@
+-- The ways out of many steps of a list reader: what the loop stores, and what a refused reader gives.
+use mathlib.Core.Path.{_≡_, refl, sym, ap, _∙_}
+use mathlib.Core.Bool.{Bool, true, false, and-false}
+use mathlib.Core.List.{List, [], _∷_, _++_, append-assoc}
+use Prim.Native.Nat.{ℕ, zero, suc, _+_, _*_, _-_, _/_, _<_, _≤_}
+use native.Mathlib.Omega.{arith}
+use borrow.Author.Tests.{lt-leb, lt-ltb, le-ltb}
+use lib.ListN.{length, set, take, drop, length-append, take-append-drop}
+use lib.Seq.{length-take-le, take-at, drop-append-add, drop-drop, sets-eq}
+use lib.Dec.{leb}
+use Rattle.coding.specs.Lists.{pick}
+use Rattle.coding.specs.Bytes.{u48, largest}
+use Rattle.coding.specs.Lawful.{lawful}
+use Rattle.coding.specs.Walk as W
+use Rattle.coding.specs.Packed as P
+use Rattle.coding.specs.Field as Field
+use Rattle.coding.specs.Field.{caseNumbers, answerCase, stepNumbers, stepsOver, readerNext}
+use Rattle.coding.specs.declared.Object.{Object}
+use Rattle.coding.specs.declared.Kind.{Kind}
+use Rattle.coding.specs.declared.Found.{Found}
+use Rattle.coding.specs.declared.Found.the-variants as Fd
+use Rattle.coding.specs.declared.Refusal.{Refusal}
+use Rattle.coding.specs.declared.Answer.{Answer}
+use Rattle.coding.specs.declared.Case.{Case}
+use Rattle.coding.specs.declared.Answer.the-variants as A
+use Rattle.schema.specs.Directory.{Judged}
+use Rattle.field_list.specs.Stepping.{always, stepsLeft}
+use Rattle.field_element.proofs.ReaderCases.{start-unlawful, gives-unlawful, gives-long}
+
+-- ---- the number of elements
+module _ (f : Found) where
+  pub count-refused : (x : Refusal) → f ≡ Fd.Refused x → 0 ≡ Field.listCount f
+  unfolding Field.listCount
+  count-refused x e = rw e
+
+  pub count-absent : f ≡ Fd.Absent → 0 ≡ Field.listCount f
+  unfolding Field.listCount
+  count-absent e = rw e
+
+  pub count-unknown : (x : ℕ) → f ≡ Fd.Unknown x → 0 ≡ Field.listCount f
+  unfolding Field.listCount
+  count-unknown x e = rw e
+
+  pub count-value : (k : Kind) (x holder : ℕ) → f ≡ Fd.Value k x holder → 0 ≡ Field.listCount f
+  unfolding Field.listCount
+  count-value k x holder e = rw e
+
+  pub count-struct : (i at holder : ℕ) → f ≡ Fd.Struct i at holder → 0 ≡ Field.listCount f
+  unfolding Field.listCount
+  count-struct i at holder e = rw e
+
+  pub count-object : (ob : Object) (at start n d : ℕ) → f ≡ Fd.Object ob at start n d → n ≡ Field.listCount f
+  unfolding Field.listCount
+  count-object ob at start n d e = rw e
+
+-- of an unlawful schema
+pub count-unlawful : (b dir m path : List ℕ) (t : Bool) → Judged b dir t → t ≡ false → 0 ≡ Field.readerCount u48 b m path
+unfolding Field.readerCount Field.listCount
+count-unlawful b dir m path t j f = sym (ap Field.listCount (start-unlawful b dir m path t j f))
+
+-- a message over the size has no list
+pub count-long : (b m path : List ℕ) → 16777215 < length m → 0 ≡ Field.readerCount u48 b m path
+unfolding Field.readerCount Field.readerStart Field.fieldFound Field.readerOf Field.before Field.listCount W.sizeOk largest
+count-long b m path h = simp (lt-leb _ _ h, and-false) (by (lawful b) (leb (length path) 96))
+  where
+    by : (s t : Bool) → 0 ≡ Field.listCount (Field.readerOf (P.parse b) (pick s (pick t (Field.before 2) (Field.before 15)) (Field.before 1)))
+    by true true = refl
+    by true false = refl
+    by false t = refl
+
+-- ---- the loop
+-- what stands before a store's end and behind it
+module _ (out ns : List ℕ) (at : ℕ) (l : length ns ≡ 4) (fits : at + 4 ≤ length out) where
+  pub stored : List ℕ
+  stored = take at out ++ (ns ++ drop (at + 4) out)
+
+  head-length : length (take at out ++ ns) ≡ at + 4
+  head-length =
+      let t = length-take-le at out (omega arith) in
+      omega (arith, length-append (take at out) ns)
+
+  before-end : take (at + 4) stored ≡ take at out ++ ns
+  unfolding stored
+  before-end =
+      rw (← append-assoc (take at out) ns (drop (at + 4) out)) (take-at (take at out ++ ns) (drop (at + 4) out) (at + 4) head-length)
+
+  behind-end : (e : ℕ) → at + 4 ≤ e → drop e stored ≡ drop e out
+  unfolding stored
+  behind-end e h =
+      let k = e - (at + 4) in
+      let x : length (take at out ++ ns) + k ≡ e = omega (arith, head-length) in
+      let y : at + 4 + k ≡ e = omega arith in
+      ap (drop e) (sym (append-assoc (take at out) ns (drop (at + 4) out)))
+      ∙ ap (λ (n : ℕ). drop n ((take at out ++ ns) ++ drop (at + 4) out)) (sym x)
+      ∙ drop-append-add (take at out ++ ns) (drop (at + 4) out) k
+      ∙ drop-drop k (at + 4) out
+      ∙ ap (λ (n : ℕ). drop n out) y
+
+  -- the rest, stored after it
+  pub after-store : (e : ℕ) → at + 4 ≤ e → (rest : List ℕ)
+      → take (at + 4) stored ++ (rest ++ drop e stored) ≡ take at out ++ ((ns ++ rest) ++ drop e out)
+  after-store e h rest =
+      rw (before-end, behind-end e h) (append-assoc (take at out) ns (rest ++ drop e out) ∙ ap (λ (t : List ℕ). take at out ++ t) (sym (append-assoc ns rest (drop e out))))
+
+case-length : (x : Case) → length (caseNumbers x) ≡ 4
+unfolding caseNumbers
+case-length x = refl
+
+module _ (gives : ℕ → Answer) (n : ℕ) where
+  pub left-start : (j : ℕ) (out : List ℕ) → stepsLeft gives n j 0 (length out / 4) out ≡ stepsOver gives n j out
+  unfolding stepsLeft stepsOver
+  left-start j out =
+      let z : length out / 4 - 0 ≡ length out / 4 = omega arith in
+      ap (λ (k : ℕ). stepNumbers gives n j k ++ drop (4 * (length out / 4)) out) z
+
+  pub left-done : (j i steps : ℕ) (out : List ℕ) → steps ≤ i → i ≤ steps → stepsLeft gives n j i steps out ≡ out
+  unfolding stepsLeft stepNumbers
+  left-done j i steps out h l =
+      let e : i ≡ steps = omega arith in
+      let z : steps - i ≡ 0 = omega arith in
+      rw (z, e) (take-append-drop (4 * steps) out)
+
+  pub left-turn : (j i steps : ℕ) (out : List ℕ) → i < steps → 4 * steps ≤ length out → (x : Case) → x ≡ answerCase (gives j)
+      → (out′ : List ℕ) → out′ ≡ take (4 * i) out ++ (caseNumbers x ++ drop (4 * i + 4) out) → (k : ℕ) → k ≡ readerNext n j
+      → stepsLeft gives n k (i + 1) steps out′ ≡ stepsLeft gives n j i steps out
+  unfolding stepsLeft stepNumbers stored
+  left-turn j i steps out h s x ex out′ eo k ek =
+      let a : steps - i ≡ suc (steps - (i + 1)) = omega arith in
+      let b : 4 * (i + 1) ≡ 4 * i + 4 = omega arith in
+      let rest = stepNumbers gives n k (steps - (i + 1)) in
+      let z = after-store out (caseNumbers x) (4 * i) (case-length x) (omega arith) (4 * steps) (omega arith) rest in
+      ap (λ (e : ℕ). take e out′ ++ (rest ++ drop (4 * steps) out′)) b
+      ∙ ap (λ (w : List ℕ). take (4 * i + 4) w ++ (rest ++ drop (4 * steps) w)) eo
+      ∙ z
+      ∙ ap (λ (y : Case). take (4 * i) out ++ ((caseNumbers y ++ rest) ++ drop (4 * steps) out)) ex
+      ∙ ap (λ (y : ℕ). take (4 * i) out ++ ((caseNumbers (answerCase (gives j)) ++ stepNumbers gives n y (steps - (i + 1))) ++ drop (4 * steps) out)) ek
+      ∙ ap (λ (y : ℕ). take (4 * i) out ++ (stepNumbers gives n j y ++ drop (4 * steps) out)) (sym a)
+
+-- ---- four stores
+pub put-four : (out : List ℕ) (at : ℕ) → at + 4 ≤ length out → (x : Case)
+    → set (set (set (set out at (x .case)) (at + 1) (x .a)) (at + 2) (x .b)) (at + 3) (x .c) ≡ take at out ++ (caseNumbers x ++ drop (at + 4) out)
+unfolding caseNumbers
+put-four out at h x =
+    let e : at + 1 ≡ suc at = omega arith in
+    let f : at + 2 ≡ suc (suc at) = omega arith in
+    let g : at + 3 ≡ suc (suc (suc at)) = omega arith in
+    let ns = x .case ∷ x .a ∷ x .b ∷ x .c ∷ [] in
+    ap (λ (k : ℕ). set (set (set (set out at (x .case)) k (x .a)) (at + 2) (x .b)) (at + 3) (x .c)) e
+    ∙ ap (λ (k : ℕ). set (set (set (set out at (x .case)) (suc at) (x .a)) k (x .b)) (at + 3) (x .c)) f
+    ∙ ap (λ (k : ℕ). set (set (set (set out at (x .case)) (suc at) (x .a)) (suc (suc at)) (x .b)) k (x .c)) g
+    ∙ sets-eq ns out at h
+    ∙ append-assoc (take at out) ns (drop (at + 4) out)
+
+-- ---- a refused reader
+-- where a step at the first element gives q, and the reader does not move, every step does
+module _ (gives : ℕ → Answer) (q : Answer) (j : ℕ) (e : q ≡ gives j) where
+  stays : j ≡ readerNext 0 j
+  unfolding readerNext
+  stays = simp (le-ltb j 0 (omega arith))
+
+  same-steps : (k : ℕ) → stepNumbers (always q) 0 0 k ≡ stepNumbers gives 0 j k
+  unfolding stepNumbers always readerNext
+  same-steps zero = refl
+  same-steps (suc k) =
+      ap (λ (y : Answer). caseNumbers (answerCase y) ++ stepNumbers (always q) 0 0 k) e
+      ∙ ap (λ (t : List ℕ). caseNumbers (answerCase (gives j)) ++ t) (same-steps k)
+      ∙ ap (λ (x : ℕ). caseNumbers (answerCase (gives j)) ++ stepNumbers gives 0 x k) stays
+
+  pub same-over : (out : List ℕ) → stepsOver (always q) 0 0 out ≡ stepsOver gives 0 j out
+  unfolding stepsOver
+  same-over out = ap (λ (t : List ℕ). t ++ drop (4 * (length out / 4)) out) (same-steps (length out / 4))
+
+over-refused : (b m path : List ℕ) (q : Answer) (j : ℕ) → q ≡ Field.readerGives u48 b m path j → 0 ≡ Field.readerCount u48 b m path
+    → (out : List ℕ) → stepsOver (always q) 0 0 out ≡ Field.readerOver u48 b m path j out
+unfolding Field.readerOver
+over-refused b m path q j e none out =
+    same-over (Field.readerGives u48 b m path) q j e out ∙ ap (λ (n : ℕ). stepsOver (Field.readerGives u48 b m path) n j out) none
+
+pub over-unlawful : (b dir m path : List ℕ) (t : Bool) → Judged b dir t → t ≡ false → (j : ℕ) (out out′ : List ℕ)
+    → out′ ≡ stepsOver (always (A.Refused (Field.refusal 1 0))) 0 0 out → out′ ≡ Field.readerOver u48 b m path j out
+over-unlawful b dir m path t u f j out out′ h =
+    h ∙ over-refused b m path _ j (gives-unlawful b dir m path t u f j) (count-unlawful b dir m path t u f) out
+
+-- a reader that has its list, or a refusal that its steps give
+module _ (b m path : List ℕ) (list : Found) (el : list ≡ Field.readerStart u48 b m path) where
+  pub count-found : (r : ℕ) → r ≡ Field.listCount list → r ≡ Field.readerCount u48 b m path
+  unfolding Field.readerCount
+  count-found r e = e ∙ ap Field.listCount el
+
+  pub over-found : (j : ℕ) (out out′ : List ℕ) → out′ ≡ stepsOver (Field.listGives u48 (P.parse b) m list) (Field.listCount list) j out
+      → out′ ≡ Field.readerOver u48 b m path j out
+  unfolding Field.readerOver Field.readerGives Field.readerCount
+  over-found j out out′ h = h ∙ ap (λ (f : Found). stepsOver (Field.listGives u48 (P.parse b) m f) (Field.listCount f) j out) el
+
+  -- a message over the size
+  pub over-long : 16777215 < length m → (q : Answer) → q ≡ Field.answerOf list → (j : ℕ) (out out′ : List ℕ)
+      → out′ ≡ stepsOver (always q) 0 0 out → out′ ≡ Field.readerOver u48 b m path j out
+  over-long h q e j out out′ x = x ∙ over-refused b m path q j (gives-long b m path list el j q h e) (count-long b m path h) out
+
+-- ---- moving on
+pub next-more : (n j : ℕ) → j < n → j + 1 ≡ Field.readerNext n j
+unfolding Field.readerNext
+next-more n j h = simp (lt-ltb _ _ h)
+
+pub next-stays : (n j : ℕ) → n ≤ j → j ≡ Field.readerNext n j
+unfolding Field.readerNext
+next-stays n j h = simp (le-ltb _ _ h)

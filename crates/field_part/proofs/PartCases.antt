@@ -1,0 +1,278 @@
+-- The ways out of a struct's members, of a table's members, of a list's elements, and of one number of a path.
+use mathlib.Core.Path.{_≡_, refl, sym, ap, _∙_, subst}
+use mathlib.Core.Bool.{Bool}
+use mathlib.Core.List.{List, [], _∷_, _++_}
+use Prim.Native.Nat.{ℕ, _+_, _*_, _^_, _<_, _≤_}
+use native.Mathlib.Omega.{arith}
+use native.Mathlib.Numerals.{add-one}
+use lib.ListN.{length, getD, take}
+use lib.Seq.{take-suc}
+use borrow.Author.Tests.{lt-ltb, le-ltb}
+use Rattle.coding.specs.Bytes.{u48}
+use Rattle.coding.specs.Schema as Sc
+use Rattle.coding.specs.Schema.{Schema}
+use Rattle.coding.specs.Packed as P
+use Rattle.coding.specs.Layout as L
+use Rattle.coding.specs.Step as T
+use Rattle.coding.specs.Structs.{flatWidth, total, structSize}
+use Rattle.coding.specs.Walk as W
+use Rattle.coding.specs.Field as Field
+use Rattle.coding.specs.declared.Flat.{Flat}
+use Rattle.coding.specs.declared.Flat.the-variants as F
+use Rattle.coding.specs.declared.Object.{Object}
+use Rattle.coding.specs.declared.Object.the-variants as O
+use Rattle.coding.specs.declared.Kind.{Kind}
+use Rattle.coding.specs.declared.Kind.the-variants.{OfFlat}
+use Rattle.coding.specs.declared.Member.{Member}
+use Rattle.coding.specs.declared.Cursor.{Cursor}
+use Rattle.coding.specs.declared.Slot.{Slot}
+use Rattle.coding.specs.declared.Step.{Step}
+use Rattle.coding.specs.declared.Step.the-variants as St
+use Rattle.coding.specs.declared.Found.{Found}
+use Rattle.coding.specs.declared.Found.the-variants as Fd
+use Rattle.coding.specs.declared.Refusal.{Refusal}
+use Rattle.laws.specs.Sound.{FlatSound, ObjectSound}
+use Rattle.laws.specs.SoundAt.{struct-index}
+use Rattle.laws.specs.Parsed.{structs-length}
+use Rattle.message_layout.specs.Bounds.{Laid, Stands}
+use Rattle.message_layout.proofs.Booleans.{flat-weaker, field-sound}
+use Rattle.schema.specs.Directory.{Accepted, accepted-sound}
+use Rattle.message_step.specs.Lead.{Stepped}
+use Rattle.wire.specs.Numbers.{Number}
+use Rattle.field_arrival.specs.Within.{Readable, StepWithin, FoundWithin}
+use Rattle.message_object.proofs.OpenCases.{member-sound-of}
+use Rattle.field_part.proofs.StepsWithin.{total-append, member-within, element-within, field-within}
+
+-- ---- a struct's member
+module _ (m : List ℕ) (k : Flat) (at : ℕ) where
+  pub at-boolean : k ≡ F.Boolean → (x y : ℕ) → x ≡ getD m at 0 → y ≡ x → St.Value y ≡ T.fieldStep m k at
+  unfolding T.fieldStep
+  at-boolean e x y ex ey = rw e (ap St.Value (ey ∙ ex))
+
+  pub at-integer : (s : Bool) (w : ℕ) → k ≡ F.Integer s w → (v : ℕ) → v ≡ w → (x : ℕ) → Number m at v x → St.Value x ≡ T.fieldStep m k at
+  unfolding T.fieldStep
+  at-integer s w e v ev x n = rw (e, ← ev) (ap St.Value (n .is))
+
+  pub at-float : (w : ℕ) → k ≡ F.Float w → (v : ℕ) → v ≡ w → (x : ℕ) → Number m at v x → St.Value x ≡ T.fieldStep m k at
+  unfolding T.fieldStep
+  at-float w e v ev x n = rw (e, ← ev) (ap St.Value (n .is))
+
+  pub at-enum : (n : ℕ) → k ≡ F.Enumerated n → (x : ℕ) → x ≡ getD m at 0 → (r : Step) → r ≡ T.enumStep n x → r ≡ T.fieldStep m k at
+  unfolding T.fieldStep
+  at-enum n e x ex r f = rw e (f ∙ ap (T.enumStep n) ex)
+
+  pub at-struct : (i : ℕ) → k ≡ F.Struct i → St.Struct i at ≡ T.fieldStep m k at
+  unfolding T.fieldStep
+  at-struct i e = rw e
+
+-- the bytes of the members before it
+module _ (S : Schema) (s : ℕ) where
+  pub size-start : 0 ≡ total (structSize S) (take 0 (Sc.structOf S s))
+  unfolding total
+  size-start = refl
+
+  pub size-turn : (size i : ℕ) → size ≡ total (structSize S) (take i (Sc.structOf S s)) → (j : ℕ) → i < j → j < length (Sc.structOf S s)
+      → (k : Flat) → k ≡ Sc.fieldOf S s i → (w : ℕ) → w ≡ flatWidth (structSize S) k → size + w ≡ total (structSize S) (take (i + 1) (Sc.structOf S s))
+  unfolding total Sc.fieldOf
+  size-turn size i e j l h k ek w ew =
+      let ks = Sc.structOf S s in
+      let p : take (i + 1) ks ≡ take i ks ++ Sc.fieldOf S s i ∷ [] = ap (λ (x : ℕ). take x ks) (add-one i) ∙ take-suc ks i F.Boolean (omega arith) in
+      let q : total (structSize S) (take (i + 1) ks) ≡ total (structSize S) (take i ks) + total (structSize S) (Sc.fieldOf S s i ∷ []) =
+      ap (total (structSize S)) p ∙ total-append S (take i ks) (Sc.fieldOf S s i ∷ []) in
+      let z : w ≡ flatWidth (structSize S) (Sc.fieldOf S s i) = ew ∙ ap (flatWidth (structSize S)) ek in
+      omega (arith, q, z, e)
+
+-- its kind
+pub field-sound-before : (b dir : List ℕ) → Accepted b dir → (s i j : ℕ) → s < P.structCount b → i < j → j < length (Sc.structOf (P.parse b) s)
+    → (k : Flat) → k ≡ Sc.fieldOf (P.parse b) s i → FlatSound (length (P.parse b .structs)) k
+field-sound-before b dir a s i j l h g k e =
+    flat-weaker b s k l (field-sound b dir a s i (length (Sc.structOf (P.parse b) s)) refl k e (omega arith))
+
+pub field-sound-here : (b dir : List ℕ) → Accepted b dir → (s j : ℕ) → s < P.structCount b → j < length (Sc.structOf (P.parse b) s)
+    → (k : Flat) → k ≡ Sc.fieldOf (P.parse b) s j → FlatSound (length (P.parse b .structs)) k
+field-sound-here b dir a s j l h k e = flat-weaker b s k l (field-sound b dir a s j (length (Sc.structOf (P.parse b) s)) refl k e h)
+
+-- a place in the message is a small number
+pub field-low : (m : List ℕ) → Readable m → (at z : ℕ) → at + z ≤ length m → (size j : ℕ) → size ≤ 4096 * j → j < 256 → at + size < 2 ^ 60
+field-low m r at z h size j l g = omega (arith, r .size)
+
+pub field-at-is : (S : Schema) (m : List ℕ) (s at j : ℕ) (k : Flat) (size : ℕ) → size ≡ total (structSize S) (take j (Sc.structOf S s))
+    → (r : Step) → r ≡ T.fieldStep m k (at + size) → r ≡ T.fieldStep m k (at + total (structSize S) (take j (Sc.structOf S s)))
+field-at-is S m s at j k size ez r e = e ∙ ap (λ (x : ℕ). T.fieldStep m k (at + x)) ez
+
+pub field-at-within : (b dir m : List ℕ) → Accepted b dir → Readable m → (s at j : ℕ) → s < P.structCount b
+    → at + structSize (P.parse b) s ≤ length m → j < length (Sc.structOf (P.parse b) s) → (k : Flat) → k ≡ Sc.fieldOf (P.parse b) s j
+    → (size : ℕ) → size ≡ total (structSize (P.parse b)) (take j (Sc.structOf (P.parse b) s))
+    → (step : Step) → step ≡ T.fieldStep m k (at + size) → StepWithin (P.parse b) m step
+field-at-within b dir m a r s at j l h g k ek size ez step e =
+    subst (StepWithin (P.parse b) m)
+    (sym
+    (e ∙ ap (λ (f : Flat). T.fieldStep m f (at + size)) ek
+    ∙ ap (λ (x : ℕ). T.fieldStep m (Sc.fieldOf (P.parse b) s j) (at + x)) ez))
+    (field-within (P.parse b) (accepted-sound b dir a) m r s at j (omega (arith, structs-length b)) h g)
+
+module _ (S : Schema) (m : List ℕ) (s at holder j n : ℕ) (en : n ≡ length (Sc.structOf S s)) (r : Found) where
+  pub struct-none : n ≤ j → r ≡ Fd.Refused (Field.refusal 15 holder) → r ≡ Field.structPart u48 S m s at holder j
+  unfolding Field.structPart Field.noPart
+  struct-none h e = simp (← en, le-ltb _ _ h) e
+
+  pub struct-there : j < n → (k : Flat) → k ≡ Sc.fieldOf S s j → (step : Step)
+      → step ≡ T.fieldStep m k (at + total (structSize S) (take j (Sc.structOf S s)))
+      → r ≡ Field.stepped 0 u48 S m holder (OfFlat k) step → r ≡ Field.structPart u48 S m s at holder j
+  unfolding Field.structPart
+  struct-there h k ek step et e = simp (← en, lt-ltb _ _ h, ← ek, ← et) e
+
+-- ---- the cursor at a member
+module _ (S : Schema) (t : ℕ) where
+  after-append : (rs qs : List Member) (c : Cursor) → L.afterMembers u48 S (rs ++ qs) c ≡ L.afterMembers u48 S qs (L.afterMembers u48 S rs c)
+  unfolding L.afterMembers
+  after-append [] qs c = refl
+  after-append (r ∷ rs) qs c = after-append rs qs (L.afterMember u48 S r c)
+
+  pub cursor-start : (c : Cursor) → c ≡ L.begin → c ≡ L.afterMembers u48 S (take 0 (Sc.tableOf S t .members)) L.begin
+  unfolding L.afterMembers
+  cursor-start c e = e
+
+  pub cursor-turn : (c : Cursor) (i : ℕ) → c ≡ L.afterMembers u48 S (take i (Sc.tableOf S t .members)) L.begin → (j : ℕ) → i < j
+      → j < length (Sc.tableOf S t .members) → (q : Cursor) → q ≡ L.afterMember u48 S (Sc.memberOf S t i) c
+      → q ≡ L.afterMembers u48 S (take (i + 1) (Sc.tableOf S t .members)) L.begin
+  unfolding L.afterMembers Sc.memberOf
+  cursor-turn c i e j l h q eq =
+      let rs = Sc.tableOf S t .members in
+      let p : take (i + 1) rs ≡ take i rs ++ Sc.memberOf S t i ∷ [] = ap (λ (x : ℕ). take x rs) (add-one i) ∙ take-suc rs i Sc.plainBool (omega arith) in
+      eq ∙ ap (L.afterMember u48 S (Sc.memberOf S t i)) e
+      ∙ sym (ap (λ (xs : List Member). L.afterMembers u48 S xs L.begin) p ∙ after-append (take i rs) (Sc.memberOf S t i ∷ []) L.begin)
+
+module _ (S : Schema) (t i : ℕ) (c : Cursor) (r : Member) (er : r ≡ Sc.memberOf S t i) (s : Slot) (next : Cursor)
+    (h : Stands (L.memberSlot u48 S r c) (L.afterMember u48 S r c) (c .end + 1) s next) where
+  pub after-is : next ≡ L.afterMember u48 S (Sc.memberOf S t i) c
+  after-is = h .next-is ∙ ap (λ (x : Member). L.afterMember u48 S x c) er
+
+pub after-laid : (S : Schema) (i : ℕ) (c : Cursor) → Laid (4097 * i) c → (r : Member) (s : Slot) (next : Cursor)
+    → Stands (L.memberSlot u48 S r c) (L.afterMember u48 S r c) (c .end + 1) s next → Laid (4097 * (i + 1)) next
+after-laid S i c l r s next h =
+    let p = l .end in
+    let q = h .laid in
+    let g = q .end in
+    record { end = omega arith; byte = q .byte; bit = q .bit }
+
+-- ---- a table's member
+module _ (S : Schema) (m : List ℕ) (t start n j : ℕ) (x : Member) (c : Cursor)
+    (ec : c ≡ L.afterMembers u48 S (take j (Sc.tableOf S t .members)) L.begin) (step : Step) (next : Cursor)
+    (h : Stepped (T.memberStep u48 S m start n c x) (L.afterMember u48 S x c) (c .end) step next) where
+  pub member-at-is : step ≡ T.memberStep u48 S m start n (L.afterMembers u48 S (take j (Sc.tableOf S t .members)) L.begin) x
+  member-at-is = h .step-is ∙ ap (λ (k : Cursor). T.memberStep u48 S m start n k x) ec
+
+pub member-at-within : (b dir m : List ℕ) → Accepted b dir → Readable m → (t start n j : ℕ) → start + n ≤ length m
+    → j < length (Sc.tableOf (P.parse b) t .members) → (x : Member) → x ≡ Sc.memberOf (P.parse b) t j
+    → (c : Cursor) (step : Step) (next : Cursor) → Stepped (T.memberStep u48 (P.parse b) m start n c x) (L.afterMember u48 (P.parse b) x c) (c .end) step next
+    → StepWithin (P.parse b) m step
+member-at-within b dir m a r t start n j h g x ex c step next q =
+    subst (StepWithin (P.parse b) m) (sym (q .step-is))
+    (member-within (P.parse b) (accepted-sound b dir a) m r x (member-sound-of b dir a t j x ex g) start n c h)
+
+pub cursor-low : (c : Cursor) (j : ℕ) → Laid (4097 * j) c → j < 256 → c .end < 2 ^ 58
+cursor-low c j l h = omega (arith, l .end)
+
+module _ (S : Schema) (m : List ℕ) (t at start n d j count : ℕ) (ec : count ≡ length (Sc.tableOf S t .members)) (r : Found) where
+  pub table-none : count ≤ j → r ≡ Fd.Refused (Field.refusal 15 at) → r ≡ Field.objectPart u48 S m (O.Table t) at start n d j
+  unfolding Field.objectPart Field.noPart
+  table-none h e = simp (← ec, le-ltb _ _ h) e
+
+  pub table-there : j < count → (x : Member) → x ≡ Sc.memberOf S t j → (step : Step)
+      → step ≡ T.memberStep u48 S m start n (L.afterMembers u48 S (take j (Sc.tableOf S t .members)) L.begin) x
+      → r ≡ Field.stepped d u48 S m at (x .kind) step → r ≡ Field.objectPart u48 S m (O.Table t) at start n d j
+  unfolding Field.objectPart
+  table-there h x ex step es e = simp (← ec, lt-ltb _ _ h, ← ex, ← es) e
+
+-- ---- a list's element
+module _ (S : Schema) (m : List ℕ) (i at start n d j : ℕ) (r : Found) where
+  pub list-none : n ≤ j → r ≡ Fd.Refused (Field.refusal 15 at) → r ≡ Field.objectPart u48 S m (O.List i) at start n d j
+  unfolding Field.objectPart Field.noPart
+  list-none h e = simp (le-ltb _ _ h) e
+
+  pub list-there : j < n → (k : Kind) → k ≡ Sc.elementOf S i → (step : Step) → step ≡ T.elementStep u48 S m k start j
+      → r ≡ Field.stepped d u48 S m at k step → r ≡ Field.objectPart u48 S m (O.List i) at start n d j
+  unfolding Field.objectPart
+  list-there h k ek step es e = simp (lt-ltb _ _ h, ← ek, ← es) e
+
+pub element-step-within : (b dir m : List ℕ) → Accepted b dir → Readable m → (i start n j : ℕ)
+    → start + T.elementsSize u48 (P.parse b) (Sc.elementOf (P.parse b) i) n ≤ length m → j < n → (k : Kind) → k ≡ Sc.elementOf (P.parse b) i
+    → (step : Step) → step ≡ T.elementStep u48 (P.parse b) m k start j → StepWithin (P.parse b) m step
+element-step-within b dir m a r i start n j h l k ek step e =
+    subst (StepWithin (P.parse b) m) (sym (e ∙ ap (λ (q : Kind). T.elementStep u48 (P.parse b) m q start j) ek))
+    (element-within (P.parse b) (accepted-sound b dir a) m r (Sc.elementOf (P.parse b) i) (accepted-sound b dir a .lists i .kind) start n j h l)
+
+-- ---- an object's part
+module _ (S : Schema) (m : List ℕ) (ob : Object) (at start n d j : ℕ) (r : Found) where
+  pub part-text : ob ≡ O.Text → r ≡ Fd.Refused (Field.refusal 15 at) → r ≡ Field.objectPart u48 S m ob at start n d j
+  unfolding Field.objectPart Field.noPart
+  part-text e f = rw e f
+
+  pub part-bytes : ob ≡ O.Bytes → r ≡ Fd.Refused (Field.refusal 15 at) → r ≡ Field.objectPart u48 S m ob at start n d j
+  unfolding Field.objectPart Field.noPart
+  part-bytes e f = rw e f
+
+  pub part-list : (i x : ℕ) → ob ≡ O.List i → x ≡ i → r ≡ Field.objectPart u48 S m (O.List x) at start n d j
+      → r ≡ Field.objectPart u48 S m ob at start n d j
+  part-list i x e ex f = f ∙ ap (λ (q : Object). Field.objectPart u48 S m q at start n d j) (ap O.List ex ∙ sym e)
+
+  pub part-table : (i x : ℕ) → ob ≡ O.Table i → x ≡ i → r ≡ Field.objectPart u48 S m (O.Table x) at start n d j
+      → r ≡ Field.objectPart u48 S m ob at start n d j
+  part-table i x e ex f = f ∙ ap (λ (q : Object). Field.objectPart u48 S m q at start n d j) (ap O.Table ex ∙ sym e)
+
+-- ---- one number more
+module _ (S : Schema) (m : List ℕ) (f : Found) (j : ℕ) where
+  pub of-refused : (x : Refusal) → f ≡ Fd.Refused x → Fd.Refused x ≡ Field.partOf u48 S m f j
+  unfolding Field.partOf
+  of-refused x e = rw e
+
+  pub of-absent : f ≡ Fd.Absent → Fd.Absent ≡ Field.partOf u48 S m f j
+  unfolding Field.partOf
+  of-absent e = rw e
+
+  pub of-unknown : (x : ℕ) → f ≡ Fd.Unknown x → Fd.Unknown x ≡ Field.partOf u48 S m f j
+  unfolding Field.partOf
+  of-unknown x e = rw e
+
+  module _ (r : Found) where
+    pub of-value : (k : Kind) (x holder : ℕ) → f ≡ Fd.Value k x holder → r ≡ Fd.Refused (Field.refusal 15 holder) → r ≡ Field.partOf u48 S m f j
+    unfolding Field.partOf Field.noPart
+    of-value k x holder e q = rw e q
+
+    pub of-struct : (i at holder s : ℕ) → f ≡ Fd.Struct i at holder → s ≡ i → r ≡ Field.structPart u48 S m s at holder j → r ≡ Field.partOf u48 S m f j
+    unfolding Field.partOf
+    of-struct i at holder s e es q = rw e (q ∙ ap (λ (x : ℕ). Field.structPart u48 S m x at holder j) es)
+
+    pub of-object : (ob : Object) (at start n d : ℕ) → f ≡ Fd.Object ob at start n d → r ≡ Field.objectPart u48 S m ob at start n d j
+        → r ≡ Field.partOf u48 S m f j
+    unfolding Field.partOf
+    of-object ob at start n d e q = rw e q
+
+-- what it needs of what was found
+module _ (S : Schema) (m : List ℕ) (f : Found) (within : FoundWithin S m f) where
+  pub struct-fits : (i at holder s : ℕ) → f ≡ Fd.Struct i at holder → s ≡ i → at + structSize S s ≤ length m
+  struct-fits i at holder s e es = rw es (subst (FoundWithin S m) e within .1)
+
+  pub object-index : (ob : Object) (at start n d : ℕ) → f ≡ Fd.Object ob at start n d → ObjectSound S ob
+  object-index ob at start n d e = subst (FoundWithin S m) e within .0
+
+  pub object-fits : (ob : Object) (at start n d : ℕ) → f ≡ Fd.Object ob at start n d → start + W.contentSize u48 S ob n ≤ length m
+  object-fits ob at start n d e = subst (FoundWithin S m) e within .1
+
+-- ---- all members before member j
+pub size-done : (S : Schema) (s size i j : ℕ) → size ≡ total (structSize S) (take i (Sc.structOf S s)) → i ≤ j → j ≤ i
+    → size ≡ total (structSize S) (take j (Sc.structOf S s))
+size-done S s size i j e h l = let z : i ≡ j = omega arith in e ∙ ap (λ (x : ℕ). total (structSize S) (take x (Sc.structOf S s))) z
+
+pub cursor-done : (S : Schema) (t : ℕ) (c : Cursor) (i j : ℕ) → c ≡ L.afterMembers u48 S (take i (Sc.tableOf S t .members)) L.begin → i ≤ j → j ≤ i
+    → c ≡ L.afterMembers u48 S (take j (Sc.tableOf S t .members)) L.begin
+cursor-done S t c i j e h l =
+    let z : i ≡ j = omega arith in e ∙ ap (λ (x : ℕ). L.afterMembers u48 S (take x (Sc.tableOf S t .members)) L.begin) z
+
+pub laid-done : (c : Cursor) (i j : ℕ) → Laid (4097 * i) c → i ≤ j → j ≤ i → Laid (4097 * j) c
+laid-done c i j h l g = let z : i ≡ j = omega arith in subst (λ (x : ℕ). Laid (4097 * x) c) z h
+
+pub struct-counted-of : (b m : List ℕ) (f : Found) → FoundWithin (P.parse b) m f → (i at holder s : ℕ) → f ≡ Fd.Struct i at holder → s ≡ i
+    → s < P.structCount b
+struct-counted-of b m f within i at holder s e es = rw es (struct-index b i (subst (FoundWithin (P.parse b) m) e within .0))

@@ -1,0 +1,38 @@
+use native.Mathlib.Omega.{arith}
+use Rattle.field_part.proofs.PartCases.{table-none, table-there}
+use borrow.Author.Needs.{needs}
+use Rattle.field_part.proofs.table_part.Statement.{statement}
+use Rattle.field_part.proofs.table_part.Tie as tie
+
+member-count-requires : tie.Need-member-count-requires
+member-count-requires c κs = search needs
+
+refuse-requires : tie.Need-refuse-requires
+refuse-requires c κs = search needs
+
+returns : tie.Need-returns
+returns c = search table-none
+
+member-requires : tie.Need-member-requires
+member-requires c κs = search needs
+
+member-at-requires : tie.Need-member-at-requires
+member-at-requires c κs = (c .before .before .before .before .before .before .pre, (omega (arith, c .before .before .member-count .ensures .0, c .before .if1 .left), omega (arith, c .before .before .member-count .ensures .1, c .before .if1 .left), c .member .ensures))
+
+follow-requires : tie.Need-follow-requires
+follow-requires c κs = search needs
+
+returns-2 : tie.Need-returns-2
+returns-2 c = search table-there
+
+pub table-part-spec : {M : Type 1} → statement M
+table-part-spec =
+    tie.close
+    (tie.spec
+    member-count-requires
+    refuse-requires
+    returns
+    member-requires
+    member-at-requires
+    follow-requires
+    returns-2)

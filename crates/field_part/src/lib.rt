@@ -1,0 +1,217 @@
+// A part of what a path has come to: a member of a struct or of a table, an element of a list. Only this part is judged.
+use coding::Cursor;
+use coding::Flat;
+use coding::Found;
+use coding::Kind;
+use coding::Member;
+use coding::Object;
+use coding::Step;
+ghost use mathlib.Core.Path.{_≡_};
+ghost use Prim.Native.Nat.{_+_, _*_, _<_, _≤_, _^_};
+ghost use lib.ListN.{length, take};
+ghost use Rattle.coding.specs.Bytes as B;
+ghost use Rattle.coding.specs.Field as F;
+ghost use Rattle.coding.specs.Layout as L;
+ghost use Rattle.coding.specs.Packed as P;
+ghost use Rattle.coding.specs.Schema as Sc;
+ghost use Rattle.coding.specs.Step as T;
+ghost use Rattle.coding.specs.Structs as S;
+ghost use Rattle.coding.specs.Walk as W;
+ghost use Rattle.laws.specs.Sound.{FlatSound, ObjectSound};
+ghost use Rattle.message_layout.specs.Bounds.{Laid};
+ghost use Rattle.schema.specs.Directory.{Accepted};
+ghost use Rattle.field_arrival.specs.Within.{Readable, StepWithin, FoundWithin};
+
+// ---- a struct's members
+// What stands at a struct's member.
+fn field_step(b: &[u8], m: &[u8], k: Flat, at: usize) -> Step
+    requires { ⌜ (FlatSound (length (P.parse (now b) .structs)) k) × (at < 2 ^ 60) ⌝ }
+    ensures { λ r. ⌜ r ≡ T.fieldStep (now (m .entry)) k at ⌝ }
+{
+    match k {
+        Flat::Boolean => Step::Value(wire::wide(wire::byte(m, at))),
+        Flat::Integer(_, w) => Step::Value(wire::number(m, at, wire::index(w))),
+        Flat::Float(w) => Step::Value(wire::number(m, at, wire::index(w))),
+        Flat::Enumerated(n) => message_step::enum_step(n, wire::byte(m, at)),
+        Flat::Struct(i) => Step::Struct(i, at),
+    }
+}
+
+// The bytes of the members before member j of struct s.
+fn fields_size(b: &[u8], dir: &[u16], s: usize, j: usize) -> usize
+    requires { ⌜ (Accepted (now b) (now dir)) × (s < P.structCount (now b)) × (j < length (Sc.structOf (P.parse (now b)) s)) × (j < 256) ⌝ }
+    ensures { λ r. ⌜ (r ≡ S.total (S.structSize (P.parse (now (b .entry)))) (take j (Sc.structOf (P.parse (now (b .entry))) s))) × (r ≤ 4096 * j) ⌝ }
+{
+    let mut size: usize = 0;
+    let mut i: usize = 0;
+    while i < j {
+        let k = schema::field(b, dir, s, i);
+        size += message_layout::flat_width(b, dir, k);
+        i += 1;
+    }
+    size
+}
+
+// What stands at member j, of kind k, of the struct s at a place.
+fn field_at(b: &[u8], dir: &[u16], m: &[u8], s: usize, at: usize, j: usize, k: Flat) -> Step
+    requires { ⌜ (Accepted (now b) (now dir)) × (Readable (now m)) × (s < P.structCount (now b)) × (at + S.structSize (P.parse (now b)) s ≤ length (now m)) ⌝ }
+    requires { ⌜ (j < length (Sc.structOf (P.parse (now b)) s)) × (j < 256) × (k ≡ Sc.fieldOf (P.parse (now b)) s j) ⌝ }
+    ensures { λ r. ⌜ (r ≡ T.fieldStep (now (m .entry)) k (at + S.total (S.structSize (P.parse (now (b .entry)))) (take j (Sc.structOf (P.parse (now (b .entry))) s)))) × StepWithin (P.parse (now (b .entry))) (now (m .entry)) r ⌝ }
+{
+    let size = fields_size(b, dir, s, j);
+    field_step(b, m, k, at + size)
+}
+
+// Member j of the struct s at a place.
+fn struct_part(
+    b: &[u8],
+    dir: &[u16],
+    m: &[u8],
+    s: usize,
+    at: usize,
+    holder: usize,
+    j: usize,
+) -> Found
+    requires { ⌜ (Accepted (now b) (now dir)) × (Readable (now m)) × (s < P.structCount (now b)) × (at + S.structSize (P.parse (now b)) s ≤ length (now m)) ⌝ }
+    ensures { λ r. ⌜ r ≡ F.structPart B.u48 (P.parse (now (b .entry))) (now (m .entry)) s at holder j ⌝ }
+{
+    if schema::field_count(b, dir, s) <= j {
+        return field_arrival::refuse(15, holder);
+    }
+    let k = schema::field(b, dir, s, j);
+    let step = field_at(b, dir, m, s, at, j, k);
+    field_arrival::follow(b, dir, m, 0, holder, Kind::OfFlat(k), step)
+}
+
+// ---- members and elements
+// The cursor behind member i of table t.
+fn after_member(b: &[u8], dir: &[u16], t: usize, i: usize, c: Cursor) -> Cursor
+    requires { ⌜ (Accepted (now b) (now dir)) × (t < P.tableCount (now b)) × (i < length (Sc.tableOf (P.parse (now b)) t .members)) × (i < 256) × (Laid (4097 * i) c) ⌝ }
+    ensures { λ r. ⌜ (r ≡ L.afterMember B.u48 (P.parse (now (b .entry))) (Sc.memberOf (P.parse (now (b .entry))) t i) c) × Laid (4097 * (i + 1)) r ⌝ }
+{
+    let r = schema::member(b, dir, t, i);
+    let p = message_layout::place_member(b, dir, r, c);
+    p.next
+}
+
+// The cursor at member j of table t.
+fn cursor_at(b: &[u8], dir: &[u16], t: usize, j: usize) -> Cursor
+    requires { ⌜ (Accepted (now b) (now dir)) × (t < P.tableCount (now b)) × (j < length (Sc.tableOf (P.parse (now b)) t .members)) × (j < 256) ⌝ }
+    ensures { λ r. ⌜ (r ≡ L.afterMembers B.u48 (P.parse (now (b .entry))) (take j (Sc.tableOf (P.parse (now (b .entry))) t .members)) L.begin) × Laid (4097 * j) r ⌝ }
+{
+    let mut c = message_layout::begin();
+    let mut i: usize = 0;
+    while i < j {
+        c = after_member(b, dir, t, i, c);
+        i += 1;
+    }
+    c
+}
+
+// What member j, which is r, of table t holds. The fixed part has n bytes from `start`.
+fn member_at(
+    b: &[u8],
+    dir: &[u16],
+    m: &[u8],
+    t: usize,
+    start: usize,
+    n: usize,
+    j: usize,
+    r: Member,
+) -> Step
+    requires { ⌜ (Accepted (now b) (now dir)) × (Readable (now m)) × (t < P.tableCount (now b)) × (start + n ≤ length (now m)) ⌝ }
+    requires { ⌜ (j < length (Sc.tableOf (P.parse (now b)) t .members)) × (j < 256) × (r ≡ Sc.memberOf (P.parse (now b)) t j) ⌝ }
+    ensures { λ q. ⌜ (q ≡ T.memberStep B.u48 (P.parse (now (b .entry))) (now (m .entry)) start n (L.afterMembers B.u48 (P.parse (now (b .entry))) (take j (Sc.tableOf (P.parse (now (b .entry))) t .members)) L.begin) r) × StepWithin (P.parse (now (b .entry))) (now (m .entry)) q ⌝ }
+{
+    let c = cursor_at(b, dir, t, j);
+    let q = message_step::member_step(b, dir, m, start, n, c, r);
+    q.step
+}
+
+// Member j of table t.
+fn table_part(
+    b: &[u8],
+    dir: &[u16],
+    m: &[u8],
+    t: usize,
+    at: usize,
+    start: usize,
+    n: usize,
+    d: usize,
+    j: usize,
+) -> Found
+    requires { ⌜ (Accepted (now b) (now dir)) × (Readable (now m)) × (t < P.tableCount (now b)) × (start + n ≤ length (now m)) ⌝ }
+    ensures { λ r. ⌜ r ≡ F.objectPart B.u48 (P.parse (now (b .entry))) (now (m .entry)) (Object.Table t) at start n d j ⌝ }
+{
+    if schema::member_count(b, dir, t) <= j {
+        return field_arrival::refuse(15, at);
+    }
+    let r = schema::member(b, dir, t, j);
+    let step = member_at(b, dir, m, t, start, n, j, r);
+    let k = r.kind;
+    field_arrival::follow(b, dir, m, d, at, k, step)
+}
+
+// Element j of a list of n elements that start at `start`.
+pub fn list_part(
+    b: &[u8],
+    dir: &[u16],
+    m: &[u8],
+    i: usize,
+    at: usize,
+    start: usize,
+    n: usize,
+    d: usize,
+    j: usize,
+) -> Found
+    requires { ⌜ (Accepted (now b) (now dir)) × (Readable (now m)) × (i < P.listCount (now b)) ⌝ }
+    requires { ⌜ start + T.elementsSize B.u48 (P.parse (now b)) (Sc.elementOf (P.parse (now b)) i) n ≤ length (now m) ⌝ }
+    ensures { λ r. ⌜ r ≡ F.objectPart B.u48 (P.parse (now (b .entry))) (now (m .entry)) (Object.List i) at start n d j ⌝ }
+{
+    if n <= j {
+        return field_arrival::refuse(15, at);
+    }
+    let k = schema::element(b, dir, i);
+    let step = message_step::element_step(b, dir, m, k, start, n, j);
+    field_arrival::follow(b, dir, m, d, at, k, step)
+}
+
+// Part j of an object.
+fn object_part(
+    b: &[u8],
+    dir: &[u16],
+    m: &[u8],
+    ob: Object,
+    at: usize,
+    start: usize,
+    n: usize,
+    d: usize,
+    j: usize,
+) -> Found
+    requires { ⌜ (Accepted (now b) (now dir)) × (Readable (now m)) × (ObjectSound (P.parse (now b)) ob) ⌝ }
+    requires { ⌜ start + W.contentSize B.u48 (P.parse (now b)) ob n ≤ length (now m) ⌝ }
+    ensures { λ r. ⌜ r ≡ F.objectPart B.u48 (P.parse (now (b .entry))) (now (m .entry)) ob at start n d j ⌝ }
+{
+    match ob {
+        Object::Text => field_arrival::refuse(15, at),
+        Object::Bytes => field_arrival::refuse(15, at),
+        Object::List(i) => list_part(b, dir, m, wire::index(i), at, start, n, d, j),
+        Object::Table(t) => table_part(b, dir, m, wire::index(t), at, start, n, d, j),
+    }
+}
+
+// ---- one number of a path
+// One number more.
+pub fn part_of(b: &[u8], dir: &[u16], m: &[u8], f: Found, j: usize) -> Found
+    requires { ⌜ (Accepted (now b) (now dir)) × (Readable (now m)) × (FoundWithin (P.parse (now b)) (now m) f) ⌝ }
+    ensures { λ r. ⌜ r ≡ F.partOf B.u48 (P.parse (now (b .entry))) (now (m .entry)) f j ⌝ }
+{
+    match f {
+        Found::Refused(x) => Found::Refused(x),
+        Found::Absent => Found::Absent,
+        Found::Unknown(x) => Found::Unknown(x),
+        Found::Value(_, _, holder) => field_arrival::refuse(15, holder),
+        Found::Struct(i, at, holder) => struct_part(b, dir, m, wire::index(i), at, holder, j),
+        Found::Object(ob, at, start, n, d) => object_part(b, dir, m, ob, at, start, n, d, j),
+    }
+}

@@ -1,0 +1,48 @@
+// The list reader: a schema, a message, a path to a list, and the element at which the next step answers. Its functions are
+// thin: the work is done by functions on slices and numbers.
+use coding::Answer;
+ghost use mathlib.Core.Path.{_≡_};
+ghost use Rattle.coding.specs.Bytes as B;
+ghost use Rattle.coding.specs.Field as F;
+
+pub struct ListReader<'a, 'b, 'c> {
+    pub schema: &'a [u8],
+    pub message: &'b [u8],
+    pub path: &'c [u32],
+    pub element: usize,
+}
+
+// A reader before its first step.
+pub fn new<'a, 'b, 'c>(
+    schema: &'a [u8],
+    message: &'b [u8],
+    path: &'c [u32],
+) -> ListReader<'a, 'b, 'c>
+    ensures { λ r. ⌜ (r .schema ≡ schema .entry) × (r .message ≡ message .entry) × (r .path ≡ path .entry) × (r .element ≡ 0) ⌝ }
+{
+    ListReader {
+        schema,
+        message,
+        path,
+        element: 0,
+    }
+}
+
+// The answer of the step at the reader's element.
+pub fn answer<'a, 'b, 'c>(r: ListReader<'a, 'b, 'c>) -> Answer
+    ensures { λ q. ⌜ q ≡ F.readerGives B.u48 (now (r .entry .schema)) (now (r .entry .message)) (now (r .entry .path)) (r .entry .element) ⌝ }
+{
+    field_element::reader_answer(r.schema, r.message, r.path, r.element)
+}
+
+// The reader at another element.
+pub fn moved<'a, 'b, 'c>(r: ListReader<'a, 'b, 'c>, element: usize) -> ListReader<'a, 'b, 'c>
+    ensures { λ q. ⌜ (q .schema ≡ r .entry .schema) × (q .message ≡ r .entry .message) × (q .path ≡ r .entry .path) × (q .element ≡ element) ⌝ }
+{
+    ListReader {
+        schema: r.schema,
+        message: r.message,
+        path: r.path,
+        element,
+    }
+}

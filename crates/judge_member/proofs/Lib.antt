@@ -1,0 +1,2 @@
+pub mod PlainCases
+pub mod RowRecords

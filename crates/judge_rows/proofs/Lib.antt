@@ -1,0 +1,3 @@
+pub mod EndCases
+pub mod MemberCases
+pub mod RowCases

@@ -1,0 +1,82 @@
+use borrow.Author.Needs.{needs}
+use native.Mathlib.Omega.{arith}
+use Prim.Native.Nat.{ℕ, _+_, _-_, _*_, _≤_}
+use mathlib.Core.Path.{_≡_}
+use Rattle.coding.specs.Bytes as B
+use Rattle.coding.specs.Packed as P
+use Rattle.coding.specs.Walk as W
+use Rattle.coding.specs.declared.Kind.the-variants.{OfObject}
+use Rattle.coding.specs.declared.Object.the-variants as O
+use Rattle.judge_text.proofs.ElementCases.{elements-start, elements-done, references-stopped, references-turn}
+use Rattle.judge_rows.proofs.row_tables.Statement.{statement}
+use Rattle.judge_rows.proofs.row_tables.Tie as tie
+use Rattle.judge_rows.proofs.row_tables.Reads as reads
+use Rattle.judge_rows.proofs.row_tables.Lts as lts
+use Rattle.judge_text.proofs.going.Reads as going-reads
+use Rattle.judge_rows.proofs.refer_row.Reads as refer-row-reads
+use Rattle.wire.proofs.u48_in.Reads as u48-in-reads
+
+abbrev Inv-loop : tie.InvT-loop
+Inv-loop b m budget d t id first count holder start n v₀ at₀ j₀ v at j =
+    (j ≤ n) × (at ≡ start + 6 * j)
+    × (W.elements (W.visit d B.u48 (P.parse b) m budget) B.u48 (P.parse b) m holder start (OfObject (O.Table t)) n 0 v₀ ≡ W.elements (W.visit d B.u48 (P.parse b) m budget) B.u48 (P.parse b) m holder start (OfObject (O.Table t)) (n - j) j v)
+
+abbrev μ-loop : tie.MeasureT-loop
+μ-loop b m budget d t id first count holder start n v₀ at₀ j₀ v at j = n - j
+
+-- src/lib.rt:583:5
+loop-holds : tie.Need-loop-holds Inv-loop μ-loop
+loop-holds c = (omega arith, omega arith, search elements-start)
+
+-- src/lib.rt:584:17
+u48-in-requires : tie.Need-u48-in-requires Inv-loop μ-loop
+u48-in-requires c κs = search needs
+
+-- src/lib.rt:585:13
+refer-row-requires : tie.Need-refer-row-requires Inv-loop μ-loop
+refer-row-requires c κs = (c .before .before .before .before .before .pre .0, c .before .before .before .before .before .pre .2, omega (arith, c .u48-in .ensures .small), c .before .before .before .before .before .pre .1)
+
+-- src/lib.rt:587:13
+returns : tie.Need-returns Inv-loop μ-loop
+returns c = search references-stopped
+
+-- src/lib.rt:590:9
+add-at : tie.Need-add-at Inv-loop μ-loop
+add-at c = search needs
+
+-- src/lib.rt:591:9
+add-j : tie.Need-add-j Inv-loop μ-loop
+add-j c = search needs
+
+-- src/lib.rt:583:5
+loop-less : tie.Need-loop-less Inv-loop μ-loop
+loop-less c = search needs
+
+-- src/lib.rt:583:5
+loop-again : tie.Need-loop-again Inv-loop μ-loop
+loop-again c = (omega arith, omega arith, search references-turn)
+
+-- src/lib.rt:593:5
+going-requires : tie.Need-going-requires Inv-loop μ-loop
+going-requires c κs = search needs
+
+-- src/lib.rt:563:1
+returns-2 : tie.Need-returns-2 Inv-loop μ-loop
+returns-2 c = search elements-done
+
+pub row-tables-spec : {M : Type 1} → statement M
+row-tables-spec =
+    tie.close
+    (tie.spec
+    Inv-loop
+    μ-loop
+    loop-holds
+    u48-in-requires
+    refer-row-requires
+    returns
+    add-at
+    add-j
+    loop-less
+    loop-again
+    going-requires
+    returns-2)

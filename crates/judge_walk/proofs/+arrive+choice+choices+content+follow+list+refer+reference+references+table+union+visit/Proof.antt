@@ -1,0 +1,1113 @@
+use Rattle.judge_walk.proofs.ReferenceCases.{reference-past, reference-cut, reference-here, reference-text, reference-sound, reference-stopped, reference-turn, reference-laid, same-sound}
+use Rattle.schema.specs.Records.{record-whole}
+use mathlib.Core.Path.{_≡_}
+use native.Mathlib.Omega.{arith}
+use borrow.Author.Needs.{needs}
+use lib.ListN.{length, drop}
+use Rattle.coding.specs.Bytes as B
+use Rattle.coding.specs.Packed as P
+use Rattle.coding.specs.Schema as Sc
+use Rattle.coding.specs.Layout as L
+use Rattle.coding.specs.Walk as W
+use Rattle.message_layout.specs.Bounds.{Laid}
+use Rattle.message_object.proofs.OpenCases.{list-counted-of, table-counted-of, opened-fits, offset-small, inplace-first, inplace-length}
+use Rattle.judge_text.proofs.VisitCases.{visit-spent, visit-deep, visit-refused, visit-content}
+use Rattle.judge_walk.proofs.WalkCases.{arrive-text, arrive-offset, arrive-inplace, content-text, content-bytes, content-list, content-table, follow-absent, follow-value, follow-unknown, follow-struct, follow-refused, follow-object, follow-choice, object-small, object-place, choice-small, choice-place, union-none, union-offset, union-inplace}
+use Rattle.message_object.proofs.OpenCases.{list-fits, table-fits}
+use Rattle.judge_rows.proofs.MemberCases.{members-start, members-ended, members-done, members-stopped, members-turn, members-nowhere}
+use Rattle.judge_walk.proofs.ListCases.{list-flat, list-objects, list-unions, objects-sound, unions-counted, objects-there, unions-there, references-texts, choices-stopped, choices-turn, choice-none, choice-unknown, choice-known, choice-sound}
+use Rattle.judge_text.proofs.ElementCases.{elements-start, elements-done, references-stopped, references-turn, refer-none, refer-object}
+use Rattle.coding.specs.declared.Kind.the-variants.{OfObject, OfUnion}
+use Prim.Native.Nat.{ℕ, _+_, _-_, _*_, _<_, _≤_}
+use Prim.Native.Nat.{ℕ, _<_}
+use borrow.Fn.Kinds.{In}
+use borrow.Fn.PlainCycle.{Measures, is, falls, and}
+use Rattle.judge_walk.proofs.arrive.Reads as arrive
+use Rattle.judge_walk.proofs.arrive.Kinds as arrive-kinds
+use Rattle.judge_walk.proofs.+arrive+choice+choices+content+follow+list+refer+reference+references+table+union+visit.Lts-arrive as arrive-lts
+use Rattle.judge_walk.proofs.choice.Reads as choice
+use Rattle.judge_walk.proofs.choice.Kinds as choice-kinds
+use Rattle.judge_walk.proofs.+arrive+choice+choices+content+follow+list+refer+reference+references+table+union+visit.Lts-choice as choice-lts
+use Rattle.judge_walk.proofs.choices.Reads as choices
+use Rattle.judge_walk.proofs.choices.Kinds as choices-kinds
+use Rattle.judge_walk.proofs.+arrive+choice+choices+content+follow+list+refer+reference+references+table+union+visit.Lts-choices as choices-lts
+use Rattle.judge_walk.proofs.content.Reads as content
+use Rattle.judge_walk.proofs.content.Kinds as content-kinds
+use Rattle.judge_walk.proofs.+arrive+choice+choices+content+follow+list+refer+reference+references+table+union+visit.Lts-content as content-lts
+use Rattle.judge_walk.proofs.follow.Reads as follow
+use Rattle.judge_walk.proofs.follow.Kinds as follow-kinds
+use Rattle.judge_walk.proofs.+arrive+choice+choices+content+follow+list+refer+reference+references+table+union+visit.Lts-follow as follow-lts
+use Rattle.judge_walk.proofs.list.Reads as list
+use Rattle.judge_walk.proofs.list.Kinds as list-kinds
+use Rattle.judge_walk.proofs.+arrive+choice+choices+content+follow+list+refer+reference+references+table+union+visit.Lts-list as list-lts
+use Rattle.judge_walk.proofs.refer.Reads as refer
+use Rattle.judge_walk.proofs.refer.Kinds as refer-kinds
+use Rattle.judge_walk.proofs.+arrive+choice+choices+content+follow+list+refer+reference+references+table+union+visit.Lts-refer as refer-lts
+use Rattle.judge_walk.proofs.reference.Reads as reference
+use Rattle.judge_walk.proofs.reference.Kinds as reference-kinds
+use Rattle.judge_walk.proofs.+arrive+choice+choices+content+follow+list+refer+reference+references+table+union+visit.Lts-reference as reference-lts
+use Rattle.judge_walk.proofs.references.Reads as references
+use Rattle.judge_walk.proofs.references.Kinds as references-kinds
+use Rattle.judge_walk.proofs.+arrive+choice+choices+content+follow+list+refer+reference+references+table+union+visit.Lts-references as references-lts
+use Rattle.judge_walk.proofs.table.Reads as table
+use Rattle.judge_walk.proofs.table.Kinds as table-kinds
+use Rattle.judge_walk.proofs.+arrive+choice+choices+content+follow+list+refer+reference+references+table+union+visit.Lts-table as table-lts
+use Rattle.judge_walk.proofs.union.Reads as union
+use Rattle.judge_walk.proofs.union.Kinds as union-kinds
+use Rattle.judge_walk.proofs.+arrive+choice+choices+content+follow+list+refer+reference+references+table+union+visit.Lts-union as union-lts
+use Rattle.judge_walk.proofs.visit.Reads as visit
+use Rattle.judge_walk.proofs.visit.Kinds as visit-kinds
+use Rattle.judge_walk.proofs.+arrive+choice+choices+content+follow+list+refer+reference+references+table+union+visit.Lts-visit as visit-lts
+use Rattle.message_layout.proofs.begin.Reads as begin-reads
+use Rattle.message_layout.proofs.bit_byte.Reads as bit-byte-reads
+use Rattle.judge_rows.proofs.row_references.Reads as row-references-reads
+use Rattle.judge_member.proofs.behind_reference.Reads as behind-reference-reads
+use Rattle.judge_member.proofs.is_row_table.Reads as is-row-table-reads
+use Rattle.judge_member.proofs.lead_member.Reads as lead-member-reads
+use Rattle.judge_member.proofs.refers.Reads as refers-reads
+use Rattle.message_object.proofs.open_object.Reads as open-object-reads
+use Rattle.message_object.proofs.placed.Reads as placed-reads
+use Rattle.schema.proofs.argument_at.Reads as argument-at-reads
+use Rattle.schema.proofs.case_count.Reads as case-count-reads
+use Rattle.schema.proofs.kind_at.Reads as kind-at-reads
+use Rattle.schema.proofs.list_place.Reads as list-place-reads
+use Rattle.schema.proofs.member_count.Reads as member-count-reads
+use Rattle.schema.proofs.object_at.Reads as object-at-reads
+use Rattle.schema.proofs.record_place.Reads as record-place-reads
+use Rattle.schema.proofs.table_place.Reads as table-place-reads
+use Rattle.schema.proofs.union_case.Reads as union-case-reads
+use Rattle.judge_text.proofs.going.Reads as going-reads
+use Rattle.judge_text.proofs.is_text.Reads as is-text-reads
+use Rattle.judge_text.proofs.refer_text.Reads as refer-text-reads
+use Rattle.judge_text.proofs.refuse.Reads as refuse-reads
+use Rattle.judge_text.proofs.texts.Reads as texts-reads
+use Rattle.judge_text.proofs.visit_text.Reads as visit-text-reads
+use Rattle.judge_walk.proofs.leads_nowhere.Reads as leads-nowhere-reads
+use Rattle.wire.proofs.index.Reads as index-reads
+use Rattle.wire.proofs.u16_in.Reads as u16-in-reads
+use Rattle.wire.proofs.u48_in.Reads as u48-in-reads
+use Rattle.judge_walk.proofs.+arrive+choice+choices+content+follow+list+refer+reference+references+table+union+visit.{
+  statement,
+}
+use Rattle.judge_walk.proofs.+arrive+choice+choices+content+follow+list+refer+reference+references+table+union+visit.Tie.{
+  close,
+}
+
+abbrev μ-arrive : Measures 3 arrive-kinds.ps ℕ
+μ-arrive κs a = 16 * a .1 .1 .1 .1 .0 + 4
+
+abbrev μ-choice : Measures 3 choice-kinds.ps ℕ
+μ-choice κs a = 16 * a .1 .1 .1 .1 .0 + 5
+
+abbrev μ-choices : Measures 3 choices-kinds.ps ℕ
+μ-choices κs a = 16 * a .1 .1 .1 .1 .0 + 6
+
+abbrev μ-content : Measures 3 content-kinds.ps ℕ
+μ-content κs a = 16 * a .1 .1 .1 .1 .0 + 8
+
+abbrev μ-follow : Measures 3 follow-kinds.ps ℕ
+μ-follow κs a = 16 * a .1 .1 .1 .1 .0 + 5
+
+abbrev μ-list : Measures 3 list-kinds.ps ℕ
+μ-list κs a = 16 * a .1 .1 .1 .1 .0 + 7
+
+abbrev μ-refer : Measures 3 refer-kinds.ps ℕ
+μ-refer κs a = 16 * a .1 .1 .1 .1 .0 + 4
+
+abbrev μ-reference : Measures 3 reference-kinds.ps ℕ
+μ-reference κs a = 16 * a .1 .1 .1 .1 .0 + 5
+
+abbrev μ-references : Measures 3 references-kinds.ps ℕ
+μ-references κs a = 16 * a .1 .1 .1 .1 .0 + 6
+
+abbrev μ-table : Measures 3 table-kinds.ps ℕ
+μ-table κs a = 16 * a .1 .1 .1 .1 .0 + 7
+
+abbrev μ-union : Measures 3 union-kinds.ps ℕ
+μ-union κs a = 16 * a .1 .1 .1 .1 .0 + 4
+
+abbrev μ-visit : Measures 3 visit-kinds.ps ℕ
+μ-visit κs a = 16 * a .1 .1 .1 .1 .0 + 0
+
+abbrev arrive-at : ℕ → In 3 arrive-kinds.ps
+arrive-at t = and 3 arrive-kinds.ps (is 3 arrive-kinds.ps μ-arrive t) arrive.Pre
+
+abbrev arrive-below : ℕ → In 3 arrive-kinds.ps
+arrive-below t = and 3 arrive-kinds.ps (falls 3 arrive-kinds.ps _<_ μ-arrive t) arrive.Pre
+
+abbrev choice-at : ℕ → In 3 choice-kinds.ps
+choice-at t = and 3 choice-kinds.ps (is 3 choice-kinds.ps μ-choice t) choice.Pre
+
+abbrev choice-below : ℕ → In 3 choice-kinds.ps
+choice-below t = and 3 choice-kinds.ps (falls 3 choice-kinds.ps _<_ μ-choice t) choice.Pre
+
+abbrev choices-at : ℕ → In 3 choices-kinds.ps
+choices-at t = and 3 choices-kinds.ps (is 3 choices-kinds.ps μ-choices t) choices.Pre
+
+abbrev choices-below : ℕ → In 3 choices-kinds.ps
+choices-below t = and 3 choices-kinds.ps (falls 3 choices-kinds.ps _<_ μ-choices t) choices.Pre
+
+abbrev content-at : ℕ → In 3 content-kinds.ps
+content-at t = and 3 content-kinds.ps (is 3 content-kinds.ps μ-content t) content.Pre
+
+abbrev content-below : ℕ → In 3 content-kinds.ps
+content-below t = and 3 content-kinds.ps (falls 3 content-kinds.ps _<_ μ-content t) content.Pre
+
+abbrev follow-at : ℕ → In 3 follow-kinds.ps
+follow-at t = and 3 follow-kinds.ps (is 3 follow-kinds.ps μ-follow t) follow.Pre
+
+abbrev follow-below : ℕ → In 3 follow-kinds.ps
+follow-below t = and 3 follow-kinds.ps (falls 3 follow-kinds.ps _<_ μ-follow t) follow.Pre
+
+abbrev list-at : ℕ → In 3 list-kinds.ps
+list-at t = and 3 list-kinds.ps (is 3 list-kinds.ps μ-list t) list.Pre
+
+abbrev list-below : ℕ → In 3 list-kinds.ps
+list-below t = and 3 list-kinds.ps (falls 3 list-kinds.ps _<_ μ-list t) list.Pre
+
+abbrev refer-at : ℕ → In 3 refer-kinds.ps
+refer-at t = and 3 refer-kinds.ps (is 3 refer-kinds.ps μ-refer t) refer.Pre
+
+abbrev refer-below : ℕ → In 3 refer-kinds.ps
+refer-below t = and 3 refer-kinds.ps (falls 3 refer-kinds.ps _<_ μ-refer t) refer.Pre
+
+abbrev reference-at : ℕ → In 3 reference-kinds.ps
+reference-at t = and 3 reference-kinds.ps (is 3 reference-kinds.ps μ-reference t) reference.Pre
+
+abbrev reference-below : ℕ → In 3 reference-kinds.ps
+reference-below t =
+    and 3 reference-kinds.ps (falls 3 reference-kinds.ps _<_ μ-reference t) reference.Pre
+
+abbrev references-at : ℕ → In 3 references-kinds.ps
+references-at t =
+    and 3 references-kinds.ps (is 3 references-kinds.ps μ-references t) references.Pre
+
+abbrev references-below : ℕ → In 3 references-kinds.ps
+references-below t =
+    and 3 references-kinds.ps (falls 3 references-kinds.ps _<_ μ-references t) references.Pre
+
+abbrev table-at : ℕ → In 3 table-kinds.ps
+table-at t = and 3 table-kinds.ps (is 3 table-kinds.ps μ-table t) table.Pre
+
+abbrev table-below : ℕ → In 3 table-kinds.ps
+table-below t = and 3 table-kinds.ps (falls 3 table-kinds.ps _<_ μ-table t) table.Pre
+
+abbrev union-at : ℕ → In 3 union-kinds.ps
+union-at t = and 3 union-kinds.ps (is 3 union-kinds.ps μ-union t) union.Pre
+
+abbrev union-below : ℕ → In 3 union-kinds.ps
+union-below t = and 3 union-kinds.ps (falls 3 union-kinds.ps _<_ μ-union t) union.Pre
+
+abbrev visit-at : ℕ → In 3 visit-kinds.ps
+visit-at t = and 3 visit-kinds.ps (is 3 visit-kinds.ps μ-visit t) visit.Pre
+
+abbrev visit-below : ℕ → In 3 visit-kinds.ps
+visit-below t = and 3 visit-kinds.ps (falls 3 visit-kinds.ps _<_ μ-visit t) visit.Pre
+
+abbrev arrive-R : ℕ → arrive-lts.Claims
+arrive-R t = (is-text-reads.Asked, is-text-reads.Learnt, visit-text-reads.Asked, visit-text-reads.Learnt, visit-below t, visit.Post)
+
+abbrev choice-R : ℕ → choice-lts.Claims
+choice-R t = (u16-in-reads.Asked, u16-in-reads.Learnt, going-reads.Asked, going-reads.Learnt, case-count-reads.Asked, case-count-reads.Learnt, union-case-reads.Asked, union-case-reads.Learnt, u48-in-reads.Asked, u48-in-reads.Learnt, union-below t, union.Post)
+
+abbrev choices-R : ℕ → choices-lts.Claims
+choices-R t = (choice-below t, choice.Post, going-reads.Asked, going-reads.Learnt)
+
+abbrev content-R : ℕ → content-lts.Claims
+content-R t = (going-reads.Asked, going-reads.Learnt, index-reads.Asked, index-reads.Learnt, list-below t, list.Post, table-below t, table.Post)
+
+abbrev follow-R : ℕ → follow-lts.Claims
+follow-R t = (refuse-reads.Asked, refuse-reads.Learnt, going-reads.Asked, going-reads.Learnt, arrive-below t, arrive.Post, union-below t, union.Post)
+
+abbrev list-R : ℕ → list-lts.Claims
+list-R t = (list-place-reads.Asked, list-place-reads.Learnt, kind-at-reads.Asked, kind-at-reads.Learnt, going-reads.Asked, going-reads.Learnt, object-at-reads.Asked, object-at-reads.Learnt, references-below t, references.Post, argument-at-reads.Asked, argument-at-reads.Learnt, index-reads.Asked, index-reads.Learnt, choices-below t, choices.Post)
+
+abbrev refer-R : ℕ → refer-lts.Claims
+refer-R t = (going-reads.Asked, going-reads.Learnt, visit-below t, visit.Post)
+
+abbrev reference-R : ℕ → reference-lts.Claims
+reference-R t = (going-reads.Asked, going-reads.Learnt, refuse-reads.Asked, refuse-reads.Learnt, u48-in-reads.Asked, u48-in-reads.Learnt, object-at-reads.Asked, object-at-reads.Learnt, is-text-reads.Asked, is-text-reads.Learnt, refer-text-reads.Asked, refer-text-reads.Learnt, refer-below t, refer.Post)
+
+abbrev references-R : ℕ → references-lts.Claims
+references-R t = (is-text-reads.Asked, is-text-reads.Learnt, texts-reads.Asked, texts-reads.Learnt, is-row-table-reads.Asked, is-row-table-reads.Learnt, row-references-reads.Asked, row-references-reads.Learnt, u48-in-reads.Asked, u48-in-reads.Learnt, refer-below t, refer.Post, going-reads.Asked, going-reads.Learnt)
+
+abbrev table-R : ℕ → table-lts.Claims
+table-R t = (member-count-reads.Asked, member-count-reads.Learnt, table-place-reads.Asked, table-place-reads.Learnt, begin-reads.Asked, begin-reads.Learnt, bit-byte-reads.Asked, bit-byte-reads.Learnt, going-reads.Asked, going-reads.Learnt, record-place-reads.Asked, record-place-reads.Learnt, refers-reads.Asked, refers-reads.Learnt, reference-below t, reference.Post, behind-reference-reads.Asked, behind-reference-reads.Learnt, lead-member-reads.Asked, lead-member-reads.Learnt, leads-nowhere-reads.Asked, leads-nowhere-reads.Learnt, follow-below t, follow.Post)
+
+abbrev union-R : ℕ → union-lts.Claims
+union-R t = (refuse-reads.Asked, refuse-reads.Learnt, visit-below t, visit.Post)
+
+abbrev visit-R : ℕ → visit-lts.Claims
+visit-R t = (placed-reads.Asked, placed-reads.Learnt, refuse-reads.Asked, refuse-reads.Learnt, open-object-reads.Asked, open-object-reads.Learnt, content-below t, content.Post)
+
+-- src/lib.rt:370:25
+arrive-enum-known-p : (t : ℕ) → arrive-lts.Need-enum-known-p (arrive-R t) (arrive-at t) arrive.Post
+arrive-enum-known-p t c = search needs
+
+-- src/lib.rt:371:16
+arrive-is-text-requires : (t : ℕ) → arrive-lts.Need-is-text-requires (arrive-R t) (arrive-at t) arrive.Post
+arrive-is-text-requires t c κs = search needs
+
+-- src/lib.rt:372:17
+arrive-visit-text-requires : (t : ℕ) → arrive-lts.Need-visit-text-requires (arrive-R t) (arrive-at t) arrive.Post
+arrive-visit-text-requires t c κs = search offset-small
+
+-- src/lib.rt:372:17
+arrive-returns : (t : ℕ) → arrive-lts.Need-returns (arrive-R t) (arrive-at t) arrive.Post
+arrive-returns t c = search arrive-text
+
+-- src/lib.rt:374:13
+arrive-visit-requires : (t : ℕ) → arrive-lts.Need-visit-requires (arrive-R t) (arrive-at t) arrive.Post
+arrive-visit-requires t c κs = (omega arith, (c .before .before .before .before .before .before .before .before .pre .1 .0, c .before .before .before .before .before .before .before .before .pre .1 .1, c .before .before .before .before .before .before .before .before .pre .1 .2, search offset-small))
+
+-- src/lib.rt:376:24
+arrive-enum-known-p-2 : (t : ℕ) → arrive-lts.Need-enum-known-p-2 (arrive-R t) (arrive-at t) arrive.Post
+arrive-enum-known-p-2 t c = search needs
+
+-- src/lib.rt:376:33
+arrive-visit-requires-2 : (t : ℕ) → arrive-lts.Need-visit-requires-2 (arrive-R t) (arrive-at t) arrive.Post
+arrive-visit-requires-2 t c κs = search (inplace-first, inplace-length, needs)
+
+-- src/lib.rt:356:1
+arrive-returns-2 : (t : ℕ) → arrive-lts.Need-returns-2 (arrive-R t) (arrive-at t) arrive.Post
+arrive-returns-2 t c = search (arrive-offset, c .before .before .before .before .p .given .1, c .visit .ensures)
+
+-- src/lib.rt:356:1
+arrive-returns-3 : (t : ℕ) → arrive-lts.Need-returns-3 (arrive-R t) (arrive-at t) arrive.Post
+arrive-returns-3 t c = search arrive-inplace
+
+-- src/lib.rt:318:13
+choice-u16-in-requires : (t : ℕ) → choice-lts.Need-u16-in-requires (choice-R t) (choice-at t) choice.Post
+choice-u16-in-requires t c κs = search needs
+
+-- src/lib.rt:320:9
+choice-going-requires : (t : ℕ) → choice-lts.Need-going-requires (choice-R t) (choice-at t) choice.Post
+choice-going-requires t c κs = search needs
+
+-- src/lib.rt:320:9
+choice-returns : (t : ℕ) → choice-lts.Need-returns (choice-R t) (choice-at t) choice.Post
+choice-returns t c = search choice-none
+
+-- src/lib.rt:322:8
+choice-case-count-requires : (t : ℕ) → choice-lts.Need-case-count-requires (choice-R t) (choice-at t) choice.Post
+choice-case-count-requires t c κs = search needs
+
+-- src/lib.rt:323:9
+choice-going-requires-2 : (t : ℕ) → choice-lts.Need-going-requires-2 (choice-R t) (choice-at t) choice.Post
+choice-going-requires-2 t c κs = search needs
+
+-- src/lib.rt:323:9
+choice-returns-2 : (t : ℕ) → choice-lts.Need-returns-2 (choice-R t) (choice-at t) choice.Post
+choice-returns-2 t c = search choice-unknown
+
+-- src/lib.rt:325:9
+choice-union-case-requires : (t : ℕ) → choice-lts.Need-union-case-requires (choice-R t) (choice-at t) choice.Post
+choice-union-case-requires t c κs = search needs
+
+-- src/lib.rt:326:29
+choice-add-u48-in : (t : ℕ) → choice-lts.Need-add-u48-in (choice-R t) (choice-at t) choice.Post
+choice-add-u48-in t c = search needs
+
+-- src/lib.rt:326:13
+choice-u48-in-requires : (t : ℕ) → choice-lts.Need-u48-in-requires (choice-R t) (choice-at t) choice.Post
+choice-u48-in-requires t c κs = search needs
+
+-- src/lib.rt:327:5
+choice-union-requires : (t : ℕ) → choice-lts.Need-union-requires (choice-R t) (choice-at t) choice.Post
+choice-union-requires t c κs = (omega arith, (c .before .before .before .before .before .before .before .before .before .pre .1 .0, c .before .before .before .before .before .before .before .before .before .pre .1 .1, search (choice-sound, c .before .before .before .before .before .before .before .before .before .pre .1 .0, c .before .before .before .before .if1 .left, c .before .before .before .case-count .ensures .0, c .before .before .if2 .left, c .before .union-case .ensures), omega (arith, c .u48-in .ensures .small)))
+
+-- src/lib.rt:304:1
+choice-returns-3 : (t : ℕ) → choice-lts.Need-returns-3 (choice-R t) (choice-at t) choice.Post
+choice-returns-3 t c = search choice-known
+
+abbrev choices-Inv-loop : choices-lts.InvT-loop
+choices-Inv-loop b dir m budget d i holder start n v₀ at₀ j₀ v at j =
+    (j ≤ n) × (at ≡ start + 8 * j)
+    × (W.elements (W.visit d B.u48 (P.parse b) m budget) B.u48 (P.parse b) m holder start (OfUnion i) n 0 v₀ ≡ W.elements (W.visit d B.u48 (P.parse b) m budget) B.u48 (P.parse b) m holder start (OfUnion i) (n - j) j v)
+
+abbrev choices-μ-loop : choices-lts.MeasureT-loop
+choices-μ-loop b dir m budget d i holder start n v₀ at₀ j₀ v at j = n - j
+
+-- src/lib.rt:291:5
+choices-loop-holds : (t : ℕ) → choices-lts.Need-loop-holds (choices-R t) (choices-at t) choices.Post choices-Inv-loop choices-μ-loop
+choices-loop-holds t c = (omega arith, omega arith, search elements-start)
+
+-- src/lib.rt:292:13
+choices-choice-requires : (t : ℕ) → choices-lts.Need-choice-requires (choices-R t) (choices-at t) choices.Post choices-Inv-loop choices-μ-loop
+choices-choice-requires t c κs = (omega arith, (c .before .before .before .before .before .pre .1 .0, c .before .before .before .before .before .pre .1 .1, c .before .before .before .before .before .pre .1 .2, omega (arith, c .before .before .before .before .before .pre .1 .3, c .before .loop .inv .1)))
+
+-- src/lib.rt:294:13
+choices-returns : (t : ℕ) → choices-lts.Need-returns (choices-R t) (choices-at t) choices.Post choices-Inv-loop choices-μ-loop
+choices-returns t c = search choices-stopped
+
+-- src/lib.rt:297:9
+choices-add-at : (t : ℕ) → choices-lts.Need-add-at (choices-R t) (choices-at t) choices.Post choices-Inv-loop choices-μ-loop
+choices-add-at t c = search needs
+
+-- src/lib.rt:298:9
+choices-add-j : (t : ℕ) → choices-lts.Need-add-j (choices-R t) (choices-at t) choices.Post choices-Inv-loop choices-μ-loop
+choices-add-j t c = search needs
+
+-- src/lib.rt:291:5
+choices-loop-less : (t : ℕ) → choices-lts.Need-loop-less (choices-R t) (choices-at t) choices.Post choices-Inv-loop choices-μ-loop
+choices-loop-less t c = search needs
+
+-- src/lib.rt:291:5
+choices-loop-again : (t : ℕ) → choices-lts.Need-loop-again (choices-R t) (choices-at t) choices.Post choices-Inv-loop choices-μ-loop
+choices-loop-again t c = (omega arith, omega arith, search choices-turn)
+
+-- src/lib.rt:300:5
+choices-going-requires : (t : ℕ) → choices-lts.Need-going-requires (choices-R t) (choices-at t) choices.Post choices-Inv-loop choices-μ-loop
+choices-going-requires t c κs = search needs
+
+-- src/lib.rt:273:1
+choices-returns-2 : (t : ℕ) → choices-lts.Need-returns-2 (choices-R t) (choices-at t) choices.Post choices-Inv-loop choices-μ-loop
+choices-returns-2 t c = search elements-done
+
+-- src/lib.rt:89:25
+content-enum-told : (t : ℕ) → content-lts.Need-enum-told (content-R t) (content-at t) content.Post
+content-enum-told t c = search needs
+
+-- src/lib.rt:89:25
+content-going-requires : (t : ℕ) → content-lts.Need-going-requires (content-R t) (content-at t) content.Post
+content-going-requires t c κs = search needs
+
+-- src/lib.rt:90:26
+content-enum-told-2 : (t : ℕ) → content-lts.Need-enum-told-2 (content-R t) (content-at t) content.Post
+content-enum-told-2 t c = search needs
+
+-- src/lib.rt:90:26
+content-going-requires-2 : (t : ℕ) → content-lts.Need-going-requires-2 (content-R t) (content-at t) content.Post
+content-going-requires-2 t c κs = search needs
+
+-- src/lib.rt:91:22
+content-enum-known-ob : (t : ℕ) → content-lts.Need-enum-known-ob (content-R t) (content-at t) content.Post
+content-enum-known-ob t c = search needs
+
+-- src/lib.rt:91:55
+content-index-requires : (t : ℕ) → content-lts.Need-index-requires (content-R t) (content-at t) content.Post
+content-index-requires t c κs = search needs
+
+-- src/lib.rt:91:28
+content-list-requires : (t : ℕ) → content-lts.Need-list-requires (content-R t) (content-at t) content.Post
+content-list-requires t c κs = search (list-counted-of, list-fits, needs)
+
+-- src/lib.rt:92:23
+content-enum-known-ob-2 : (t : ℕ) → content-lts.Need-enum-known-ob-2 (content-R t) (content-at t) content.Post
+content-enum-known-ob-2 t c = search needs
+
+-- src/lib.rt:92:57
+content-index-requires-2 : (t : ℕ) → content-lts.Need-index-requires-2 (content-R t) (content-at t) content.Post
+content-index-requires-2 t c κs = search needs
+
+-- src/lib.rt:92:29
+content-table-requires : (t : ℕ) → content-lts.Need-table-requires (content-R t) (content-at t) content.Post
+content-table-requires t c κs = search (table-counted-of, table-fits, needs)
+
+-- src/lib.rt:72:1
+content-returns : (t : ℕ) → content-lts.Need-returns (content-R t) (content-at t) content.Post
+content-returns t c = search content-text
+
+-- src/lib.rt:72:1
+content-returns-2 : (t : ℕ) → content-lts.Need-returns-2 (content-R t) (content-at t) content.Post
+content-returns-2 t c = search content-bytes
+
+-- src/lib.rt:72:1
+content-returns-3 : (t : ℕ) → content-lts.Need-returns-3 (content-R t) (content-at t) content.Post
+content-returns-3 t c = search content-list
+
+-- src/lib.rt:72:1
+content-returns-4 : (t : ℕ) → content-lts.Need-returns-4 (content-R t) (content-at t) content.Post
+content-returns-4 t c = search content-table
+
+-- src/lib.rt:345:23
+follow-enum-known-step : (t : ℕ) → follow-lts.Need-enum-known-step (follow-R t) (follow-at t) follow.Post
+follow-enum-known-step t c = search needs
+
+-- src/lib.rt:345:29
+follow-refuse-requires : (t : ℕ) → follow-lts.Need-refuse-requires (follow-R t) (follow-at t) follow.Post
+follow-refuse-requires t c κs = search needs
+
+-- src/lib.rt:346:25
+follow-enum-told : (t : ℕ) → follow-lts.Need-enum-told (follow-R t) (follow-at t) follow.Post
+follow-enum-told t c = search needs
+
+-- src/lib.rt:346:25
+follow-going-requires : (t : ℕ) → follow-lts.Need-going-requires (follow-R t) (follow-at t) follow.Post
+follow-going-requires t c κs = search needs
+
+-- src/lib.rt:347:27
+follow-enum-told-2 : (t : ℕ) → follow-lts.Need-enum-told-2 (follow-R t) (follow-at t) follow.Post
+follow-enum-told-2 t c = search needs
+
+-- src/lib.rt:347:27
+follow-going-requires-2 : (t : ℕ) → follow-lts.Need-going-requires-2 (follow-R t) (follow-at t) follow.Post
+follow-going-requires-2 t c κs = search needs
+
+-- src/lib.rt:348:29
+follow-enum-told-3 : (t : ℕ) → follow-lts.Need-enum-told-3 (follow-R t) (follow-at t) follow.Post
+follow-enum-told-3 t c = search needs
+
+-- src/lib.rt:348:29
+follow-going-requires-3 : (t : ℕ) → follow-lts.Need-going-requires-3 (follow-R t) (follow-at t) follow.Post
+follow-going-requires-3 t c κs = search needs
+
+-- src/lib.rt:349:31
+follow-enum-told-4 : (t : ℕ) → follow-lts.Need-enum-told-4 (follow-R t) (follow-at t) follow.Post
+follow-enum-told-4 t c = search needs
+
+-- src/lib.rt:349:31
+follow-going-requires-4 : (t : ℕ) → follow-lts.Need-going-requires-4 (follow-R t) (follow-at t) follow.Post
+follow-going-requires-4 t c κs = search needs
+
+-- src/lib.rt:350:22
+follow-enum-known-step-2 : (t : ℕ) → follow-lts.Need-enum-known-step-2 (follow-R t) (follow-at t) follow.Post
+follow-enum-known-step-2 t c = search needs
+
+-- src/lib.rt:350:32
+follow-arrive-requires : (t : ℕ) → follow-lts.Need-arrive-requires (follow-R t) (follow-at t) follow.Post
+follow-arrive-requires t c κs = search (object-small, object-place, needs)
+
+-- src/lib.rt:351:25
+follow-enum-known-step-3 : (t : ℕ) → follow-lts.Need-enum-known-step-3 (follow-R t) (follow-at t) follow.Post
+follow-enum-known-step-3 t c = search needs
+
+-- src/lib.rt:351:35
+follow-union-requires : (t : ℕ) → follow-lts.Need-union-requires (follow-R t) (follow-at t) follow.Post
+follow-union-requires t c κs = search (choice-small, choice-place, needs)
+
+-- src/lib.rt:331:1
+follow-returns : (t : ℕ) → follow-lts.Need-returns (follow-R t) (follow-at t) follow.Post
+follow-returns t c = search follow-refused
+
+-- src/lib.rt:331:1
+follow-returns-2 : (t : ℕ) → follow-lts.Need-returns-2 (follow-R t) (follow-at t) follow.Post
+follow-returns-2 t c = search follow-absent
+
+-- src/lib.rt:331:1
+follow-returns-3 : (t : ℕ) → follow-lts.Need-returns-3 (follow-R t) (follow-at t) follow.Post
+follow-returns-3 t c = search follow-value
+
+-- src/lib.rt:331:1
+follow-returns-4 : (t : ℕ) → follow-lts.Need-returns-4 (follow-R t) (follow-at t) follow.Post
+follow-returns-4 t c = search follow-unknown
+
+-- src/lib.rt:331:1
+follow-returns-5 : (t : ℕ) → follow-lts.Need-returns-5 (follow-R t) (follow-at t) follow.Post
+follow-returns-5 t c = search follow-struct
+
+-- src/lib.rt:331:1
+follow-returns-6 : (t : ℕ) → follow-lts.Need-returns-6 (follow-R t) (follow-at t) follow.Post
+follow-returns-6 t c = search follow-object
+
+-- src/lib.rt:331:1
+follow-returns-7 : (t : ℕ) → follow-lts.Need-returns-7 (follow-R t) (follow-at t) follow.Post
+follow-returns-7 t c = search follow-choice
+
+-- src/lib.rt:200:9
+list-list-place-requires : (t : ℕ) → list-lts.Need-list-place-requires (list-R t) (list-at t) list.Post
+list-list-place-requires t c κs = search needs
+
+-- src/lib.rt:201:9
+list-kind-at-requires : (t : ℕ) → list-lts.Need-kind-at-requires (list-R t) (list-at t) list.Post
+list-kind-at-requires t c κs = search needs
+
+-- src/lib.rt:203:9
+list-going-requires : (t : ℕ) → list-lts.Need-going-requires (list-R t) (list-at t) list.Post
+list-going-requires t c κs = search needs
+
+-- src/lib.rt:203:9
+list-returns : (t : ℕ) → list-lts.Need-returns (list-R t) (list-at t) list.Post
+list-returns t c = search list-flat
+
+-- src/lib.rt:206:13
+list-object-at-requires : (t : ℕ) → list-lts.Need-object-at-requires (list-R t) (list-at t) list.Post
+list-object-at-requires t c κs = search needs
+
+-- src/lib.rt:207:9
+list-references-requires : (t : ℕ) → list-lts.Need-references-requires (list-R t) (list-at t) list.Post
+list-references-requires t c κs = (omega arith, (c .before .before .before .before .before .before .before .before .pre .1 .0 .0, c .before .before .before .before .before .before .before .before .pre .1 .0 .1, search objects-sound, search objects-there))
+
+-- src/lib.rt:207:9
+list-returns-2 : (t : ℕ) → list-lts.Need-returns-2 (list-R t) (list-at t) list.Post
+list-returns-2 t c = search list-objects
+
+-- src/lib.rt:209:25
+list-argument-at-requires : (t : ℕ) → list-lts.Need-argument-at-requires (list-R t) (list-at t) list.Post
+list-argument-at-requires t c κs = search needs
+
+-- src/lib.rt:209:9
+list-index-requires : (t : ℕ) → list-lts.Need-index-requires (list-R t) (list-at t) list.Post
+list-index-requires t c κs = search needs
+
+-- src/lib.rt:210:5
+list-choices-requires : (t : ℕ) → list-lts.Need-choices-requires (list-R t) (list-at t) list.Post
+list-choices-requires t c κs = (omega arith, (c .before .before .before .before .before .before .before .before .before .pre .1 .0 .0, c .before .before .before .before .before .before .before .before .before .pre .1 .0 .1, search unions-counted, search unions-there))
+
+-- src/lib.rt:184:1
+list-returns-3 : (t : ℕ) → list-lts.Need-returns-3 (list-R t) (list-at t) list.Post
+list-returns-3 t c = search list-unions
+
+-- src/lib.rt:267:9
+refer-going-requires : (t : ℕ) → refer-lts.Need-going-requires (refer-R t) (refer-at t) refer.Post
+refer-going-requires t c κs = search needs
+
+-- src/lib.rt:267:9
+refer-returns : (t : ℕ) → refer-lts.Need-returns (refer-R t) (refer-at t) refer.Post
+refer-returns t c = search refer-none
+
+-- src/lib.rt:269:5
+refer-visit-requires : (t : ℕ) → refer-lts.Need-visit-requires (refer-R t) (refer-at t) refer.Post
+refer-visit-requires t c κs = (omega arith, (c .before .before .before .before .pre .1 .0, c .before .before .before .before .pre .1 .1, c .before .before .before .before .pre .1 .2, c .before .before .before .before .pre .1 .3))
+
+-- src/lib.rt:252:1
+refer-returns-2 : (t : ℕ) → refer-lts.Need-returns-2 (refer-R t) (refer-at t) refer.Post
+refer-returns-2 t c = search refer-object
+
+-- src/lib.rt:170:9
+reference-going-requires : (t : ℕ) → reference-lts.Need-going-requires (reference-R t) (reference-at t) reference.Post
+reference-going-requires t c κs = search needs
+
+-- src/lib.rt:170:9
+reference-returns : (t : ℕ) → reference-lts.Need-returns (reference-R t) (reference-at t) reference.Post
+reference-returns t c = search reference-past
+
+-- src/lib.rt:172:12
+reference-add-if2 : (t : ℕ) → reference-lts.Need-add-if2 (reference-R t) (reference-at t) reference.Post
+reference-add-if2 t c = search needs
+
+-- src/lib.rt:173:9
+reference-refuse-requires : (t : ℕ) → reference-lts.Need-refuse-requires (reference-R t) (reference-at t) reference.Post
+reference-refuse-requires t c κs = search needs
+
+-- src/lib.rt:173:9
+reference-returns-2 : (t : ℕ) → reference-lts.Need-returns-2 (reference-R t) (reference-at t) reference.Post
+reference-returns-2 t c = search reference-cut
+
+-- src/lib.rt:175:29
+reference-add-u48-in : (t : ℕ) → reference-lts.Need-add-u48-in (reference-R t) (reference-at t) reference.Post
+reference-add-u48-in t c = search needs
+
+-- src/lib.rt:175:13
+reference-u48-in-requires : (t : ℕ) → reference-lts.Need-u48-in-requires (reference-R t) (reference-at t) reference.Post
+reference-u48-in-requires t c κs = search needs
+
+-- src/lib.rt:176:9
+reference-object-at-requires : (t : ℕ) → reference-lts.Need-object-at-requires (reference-R t) (reference-at t) reference.Post
+reference-object-at-requires t c κs = search needs
+
+-- src/lib.rt:177:8
+reference-is-text-requires : (t : ℕ) → reference-lts.Need-is-text-requires (reference-R t) (reference-at t) reference.Post
+reference-is-text-requires t c κs = search needs
+
+-- src/lib.rt:178:9
+reference-refer-text-requires : (t : ℕ) → reference-lts.Need-refer-text-requires (reference-R t) (reference-at t) reference.Post
+reference-refer-text-requires t c κs = omega (arith, c .before .before .before .u48-in .ensures .small)
+
+-- src/lib.rt:178:9
+reference-returns-3 : (t : ℕ) → reference-lts.Need-returns-3 (reference-R t) (reference-at t) reference.Post
+reference-returns-3 t c = search reference-text
+
+-- src/lib.rt:180:5
+reference-refer-requires : (t : ℕ) → reference-lts.Need-refer-requires (reference-R t) (reference-at t) reference.Post
+reference-refer-requires t c κs = (omega arith, (c .before .before .before .before .before .before .before .before .before .pre .1 .0 .0, c .before .before .before .before .before .before .before .before .before .pre .1 .0 .1, same-sound _ _ _ (c .before .before .object-at .ensures) (c .before .before .before .before .before .before .before .before .before .pre .1 .1 .0), omega (arith, c .before .before .before .u48-in .ensures .small)))
+
+-- src/lib.rt:151:1
+reference-returns-4 : (t : ℕ) → reference-lts.Need-returns-4 (reference-R t) (reference-at t) reference.Post
+reference-returns-4 t c = search reference-here
+
+abbrev references-Inv-loop : references-lts.InvT-loop
+references-Inv-loop b dir m budget d ob holder start n v₀ at₀ j₀ v at j =
+    (j ≤ n) × (at ≡ start + 6 * j)
+    × (W.elements (W.visit d B.u48 (P.parse b) m budget) B.u48 (P.parse b) m holder start (OfObject ob) n 0 v₀ ≡ W.elements (W.visit d B.u48 (P.parse b) m budget) B.u48 (P.parse b) m holder start (OfObject ob) (n - j) j v)
+
+abbrev references-μ-loop : references-lts.MeasureT-loop
+references-μ-loop b dir m budget d ob holder start n v₀ at₀ j₀ v at j = n - j
+
+-- src/lib.rt:229:8
+references-is-text-requires : (t : ℕ) → references-lts.Need-is-text-requires (references-R t) (references-at t) references.Post references-Inv-loop references-μ-loop
+references-is-text-requires t c κs = search needs
+
+-- src/lib.rt:230:9
+references-texts-requires : (t : ℕ) → references-lts.Need-texts-requires (references-R t) (references-at t) references.Post references-Inv-loop references-μ-loop
+references-texts-requires t c κs = search needs
+
+-- src/lib.rt:230:9
+references-returns : (t : ℕ) → references-lts.Need-returns (references-R t) (references-at t) references.Post references-Inv-loop references-μ-loop
+references-returns t c = search references-texts
+
+-- src/lib.rt:232:8
+references-is-row-table-requires : (t : ℕ) → references-lts.Need-is-row-table-requires (references-R t) (references-at t) references.Post references-Inv-loop references-μ-loop
+references-is-row-table-requires t c κs = search needs
+
+-- src/lib.rt:233:9
+references-row-references-requires : (t : ℕ) → references-lts.Need-row-references-requires (references-R t) (references-at t) references.Post references-Inv-loop references-μ-loop
+references-row-references-requires t c κs = (c .before .before .before .before .before .before .before .pre .1 .0, c .before .before .before .before .before .before .before .pre .1 .1, c .before .before .before .before .before .before .before .pre .1 .2, c .before .before .before .before .before .before .before .pre .1 .3, c .before .is-row-table .ensures (c .if2 .taken))
+
+-- src/lib.rt:233:9
+references-returns-2 : (t : ℕ) → references-lts.Need-returns-2 (references-R t) (references-at t) references.Post references-Inv-loop references-μ-loop
+references-returns-2 t c = c .row-references .ensures
+
+-- src/lib.rt:238:5
+references-loop-holds : (t : ℕ) → references-lts.Need-loop-holds (references-R t) (references-at t) references.Post references-Inv-loop references-μ-loop
+references-loop-holds t c = (omega arith, omega arith, search elements-start)
+
+-- src/lib.rt:239:17
+references-u48-in-requires : (t : ℕ) → references-lts.Need-u48-in-requires (references-R t) (references-at t) references.Post references-Inv-loop references-μ-loop
+references-u48-in-requires t c κs = search needs
+
+-- src/lib.rt:240:13
+references-refer-requires : (t : ℕ) → references-lts.Need-refer-requires (references-R t) (references-at t) references.Post references-Inv-loop references-μ-loop
+references-refer-requires t c κs = (omega arith, (c .before .before .before .before .before .before .before .before .before .before .pre .1 .0, c .before .before .before .before .before .before .before .before .before .before .pre .1 .1, c .before .before .before .before .before .before .before .before .before .before .pre .1 .2, omega (arith, c .u48-in .ensures .small)))
+
+-- src/lib.rt:242:13
+references-returns-3 : (t : ℕ) → references-lts.Need-returns-3 (references-R t) (references-at t) references.Post references-Inv-loop references-μ-loop
+references-returns-3 t c = search references-stopped
+
+-- src/lib.rt:245:9
+references-add-at : (t : ℕ) → references-lts.Need-add-at (references-R t) (references-at t) references.Post references-Inv-loop references-μ-loop
+references-add-at t c = search needs
+
+-- src/lib.rt:246:9
+references-add-j : (t : ℕ) → references-lts.Need-add-j (references-R t) (references-at t) references.Post references-Inv-loop references-μ-loop
+references-add-j t c = search needs
+
+-- src/lib.rt:238:5
+references-loop-less : (t : ℕ) → references-lts.Need-loop-less (references-R t) (references-at t) references.Post references-Inv-loop references-μ-loop
+references-loop-less t c = search needs
+
+-- src/lib.rt:238:5
+references-loop-again : (t : ℕ) → references-lts.Need-loop-again (references-R t) (references-at t) references.Post references-Inv-loop references-μ-loop
+references-loop-again t c = (omega arith, omega arith, search references-turn)
+
+-- src/lib.rt:248:5
+references-going-requires : (t : ℕ) → references-lts.Need-going-requires (references-R t) (references-at t) references.Post references-Inv-loop references-μ-loop
+references-going-requires t c κs = search needs
+
+-- src/lib.rt:214:1
+references-returns-4 : (t : ℕ) → references-lts.Need-returns-4 (references-R t) (references-at t) references.Post references-Inv-loop references-μ-loop
+references-returns-4 t c = search elements-done
+
+abbrev table-Inv-loop : table-lts.InvT-loop
+table-Inv-loop b dir m budget d t holder start n count first c₀ v₀ j₀ c v j =
+    (j ≤ count) × Laid (4097 * j) c
+    × (W.members (W.visit d B.u48 (P.parse b) m budget) B.u48 (P.parse b) m holder start n L.begin (Sc.tableOf (P.parse b) t .members) v₀
+    ≡ W.members (W.visit d B.u48 (P.parse b) m budget) B.u48 (P.parse b) m holder start n c (drop j (Sc.tableOf (P.parse b) t .members)) v)
+
+abbrev table-μ-loop : table-lts.MeasureT-loop
+table-μ-loop b dir m budget d t holder start n count first c₀ v₀ j₀ c v j = count - j
+
+-- src/lib.rt:112:9
+table-member-count-requires : (t : ℕ) → table-lts.Need-member-count-requires (table-R t) (table-at t) table.Post table-Inv-loop table-μ-loop
+table-member-count-requires t c κs = search needs
+
+-- src/lib.rt:113:9
+table-table-place-requires : (t : ℕ) → table-lts.Need-table-place-requires (table-R t) (table-at t) table.Post table-Inv-loop table-μ-loop
+table-table-place-requires t c κs = search needs
+
+-- src/lib.rt:114:9
+table-begin-requires : (t : ℕ) → table-lts.Need-begin-requires (table-R t) (table-at t) table.Post table-Inv-loop table-μ-loop
+table-begin-requires t c κs = search needs
+
+-- src/lib.rt:117:5
+table-loop-holds : (t : ℕ) → table-lts.Need-loop-holds (table-R t) (table-at t) table.Post table-Inv-loop table-μ-loop
+table-loop-holds t c = (omega arith, search needs, search members-start)
+
+-- src/lib.rt:118:17
+table-bit-byte-requires : (t : ℕ) → table-lts.Need-bit-byte-requires (table-R t) (table-at t) table.Post table-Inv-loop table-μ-loop
+table-bit-byte-requires t c κs = c .before .loop .inv .1 .byte
+
+-- src/lib.rt:119:13
+table-going-requires : (t : ℕ) → table-lts.Need-going-requires (table-R t) (table-at t) table.Post table-Inv-loop table-μ-loop
+table-going-requires t c κs = search needs
+
+-- src/lib.rt:119:13
+table-returns : (t : ℕ) → table-lts.Need-returns (table-R t) (table-at t) table.Post table-Inv-loop table-μ-loop
+table-returns t c = search members-ended
+
+-- src/lib.rt:121:13
+table-record-place-requires : (t : ℕ) → table-lts.Need-record-place-requires (table-R t) (table-at t) table.Post table-Inv-loop table-μ-loop
+table-record-place-requires t c κs = (omega arith, c .before .before .before .before .before .table-place .ensures .small, omega (arith, c .before .before .before .before .before .before .member-count .ensures .1))
+
+-- src/lib.rt:122:12
+table-refers-requires : (t : ℕ) → table-lts.Need-refers-requires (table-R t) (table-at t) table.Post table-Inv-loop table-μ-loop
+table-refers-requires t c κs = omega (arith, record-whole _ _ _ (c .before .before .before .before .before .before .before .before .before .before .before .pre .1 .2) _ (c .before .before .before .before .before .before .before .member-count .ensures .0) (c .before .before .before .loop-test .taken) _ (c .before .before .before .before .before .before .table-place .ensures) _ (c .record-place .ensures .1))
+
+-- src/lib.rt:123:17
+table-reference-requires : (t : ℕ) → table-lts.Need-reference-requires (table-R t) (table-at t) table.Post table-Inv-loop table-μ-loop
+table-reference-requires t c κs = (omega arith, ((c .before .before .before .before .before .before .before .before .before .before .before .before .before .pre .1 .0, c .before .before .before .before .before .before .before .before .before .before .before .before .before .pre .1 .1, record-whole _ _ _ (c .before .before .before .before .before .before .before .before .before .before .before .before .before .pre .1 .2) _ (c .before .before .before .before .before .before .before .before .before .member-count .ensures .0) (c .before .before .before .before .before .loop-test .taken) _ (c .before .before .before .before .before .before .before .before .table-place .ensures) _ (c .before .before .record-place .ensures .1), c .before .refers .ensures (c .if2 .taken)), (reference-sound _ _ _ (c .before .before .before .before .before .before .before .before .before .before .before .before .before .pre .1 .2) _ (c .before .before .before .before .before .before .before .before .before .member-count .ensures .0) (c .before .before .before .before .before .loop-test .taken) _ (c .before .before .before .before .before .before .before .before .table-place .ensures) _ _ (c .before .before .before .before .before .before .before .before .before .before .before .before .before .pre .1 .0) (c .before .before .record-place .ensures .0) (c .before .refers .ensures (c .if2 .taken)), c .before .before .before .before .before .before .before .before .before .before .before .before .before .pre .1 .3, omega (arith, c .before .before .before .before .before .before .loop .inv .1 .end, c .before .before .before .before .before .before .before .before .before .member-count .ensures .1))))
+
+-- src/lib.rt:125:17
+table-returns-2 : (t : ℕ) → table-lts.Need-returns-2 (table-R t) (table-at t) table.Post table-Inv-loop table-μ-loop
+table-returns-2 t c = reference-stopped _ _ _ _ _ _ _ _ _ _ _ (c .before .before .before .before .before .before .before .before .before .loop .inv .2) _ (c .before .before .before .before .before .before .before .before .before .before .before .before .member-count .ensures .0) (c .before .before .before .before .before .before .before .before .loop-test .taken) (c .before .before .before .before .before .before .before .before .before .before .before .before .before .before .before .before .pre .1 .2) _ (c .before .before .before .before .before .before .before .before .before .before .before .table-place .ensures) _ (c .before .before .before .before .before .record-place .ensures .0) _ (c .before .before .reference .ensures) (c .if3 .taken)
+
+-- src/lib.rt:128:13
+table-behind-reference-requires : (t : ℕ) → table-lts.Need-behind-reference-requires (table-R t) (table-at t) table.Post table-Inv-loop table-μ-loop
+table-behind-reference-requires t c κs = (c .before .before .before .before .before .before .before .before .before .before .loop .inv .1 .byte, c .before .before .before .before .before .before .before .before .before .before .loop .inv .1 .bit, omega (arith, c .before .before .before .before .before .before .before .before .before .before .loop .inv .1 .end, c .before .before .before .before .before .before .before .before .before .before .before .before .before .member-count .ensures .1))
+
+-- src/lib.rt:129:13
+table-add-j : (t : ℕ) → table-lts.Need-add-j (table-R t) (table-at t) table.Post table-Inv-loop table-μ-loop
+table-add-j t c = search needs
+
+-- src/lib.rt:117:5
+table-loop-less : (t : ℕ) → table-lts.Need-loop-less (table-R t) (table-at t) table.Post table-Inv-loop table-μ-loop
+table-loop-less t c = search needs
+
+-- src/lib.rt:117:5
+table-loop-again : (t : ℕ) → table-lts.Need-loop-again (table-R t) (table-at t) table.Post table-Inv-loop table-μ-loop
+table-loop-again t c = (omega arith, reference-laid _ _ _ (c .before .before .before .before .before .before .before .before .before .before .before .loop .inv .1) (c .behind-reference .ensures .1), reference-turn _ _ _ _ _ _ _ _ _ _ _ (c .before .before .before .before .before .before .before .before .before .before .before .loop .inv .2) _ (c .before .before .before .before .before .before .before .before .before .before .before .before .before .before .member-count .ensures .0) (c .before .before .before .before .before .before .before .before .before .before .loop-test .taken) (c .before .before .before .before .before .before .before .before .before .before .before .before .before .before .before .before .before .before .pre .1 .2) _ (c .before .before .before .before .before .before .before .before .before .before .before .before .before .table-place .ensures) _ (c .before .before .before .before .before .before .before .record-place .ensures .0) _ (c .before .before .before .before .reference .ensures) (c .before .before .if3 .left) (c .before .before .before .before .before .before .refers .ensures (c .before .before .before .before .before .if2 .taken)) _ (c .behind-reference .ensures .0))
+
+-- src/lib.rt:132:13
+table-lead-member-requires : (t : ℕ) → table-lts.Need-lead-member-requires (table-R t) (table-at t) table.Post table-Inv-loop table-μ-loop
+table-lead-member-requires t c κs = ((c .before .before .before .before .before .before .before .before .before .before .before .before .before .pre .1 .0, c .before .before .before .before .before .before .before .before .before .before .before .before .before .pre .1 .2, omega (arith, c .before .before .before .before .before .before .before .before .before .member-count .ensures .0), omega (arith, c .before .before .before .before .before .before .before .before .before .member-count .ensures .1)), (omega (arith, c .before .before .before .before .before .before .before .before .before .before .before .before .before .pre .1 .3), omega (arith, c .before .before .before .before .before .before .before .before .before .before .before .before .before .pre .1 .1), c .before .before .before .before .before .before .loop .inv .1))
+
+-- src/lib.rt:134:12
+table-leads-nowhere-requires : (t : ℕ) → table-lts.Need-leads-nowhere-requires (table-R t) (table-at t) table.Post table-Inv-loop table-μ-loop
+table-leads-nowhere-requires t c κs = search needs
+
+-- src/lib.rt:136:13
+table-add-j-2 : (t : ℕ) → table-lts.Need-add-j-2 (table-R t) (table-at t) table.Post table-Inv-loop table-μ-loop
+table-add-j-2 t c = search needs
+
+-- src/lib.rt:117:5
+table-loop-less-2 : (t : ℕ) → table-lts.Need-loop-less-2 (table-R t) (table-at t) table.Post table-Inv-loop table-μ-loop
+table-loop-less-2 t c = search needs
+
+-- src/lib.rt:117:5
+table-loop-again-2 : (t : ℕ) → table-lts.Need-loop-again-2 (table-R t) (table-at t) table.Post table-Inv-loop table-μ-loop
+table-loop-again-2 t c = (omega arith, c .before .before .before .lead-member .ensures .laid, members-nowhere _ _ _ _ _ _ _ _ _ _ _ (c .before .before .before .before .before .before .before .before .before .before .loop .inv .2) _ (c .before .before .before .before .before .before .before .before .before .before .before .before .before .member-count .ensures .0) (c .before .before .before .before .before .before .before .before .before .loop-test .taken) _ (c .before .before .before .lead-member .ensures .step-is) (c .before .before .leads-nowhere .ensures (c .before .if4 .taken)) _ (c .before .before .before .lead-member .ensures .next-is))
+
+-- src/lib.rt:139:13
+table-follow-requires : (t : ℕ) → table-lts.Need-follow-requires (table-R t) (table-at t) table.Post table-Inv-loop table-μ-loop
+table-follow-requires t c κs = (omega (arith, c .before .before .before .before .before .before .before .before .before .before .before .before .before .before .before .before .pre .0), (c .before .before .before .before .before .before .before .before .before .before .before .before .before .before .before .before .pre .1 .0, c .before .before .before .before .before .before .before .before .before .before .before .before .before .before .before .before .pre .1 .1, c .before .before .lead-member .ensures .small))
+
+-- src/lib.rt:141:13
+table-returns-3 : (t : ℕ) → table-lts.Need-returns-3 (table-R t) (table-at t) table.Post table-Inv-loop table-μ-loop
+table-returns-3 t c = members-stopped _ _ _ _ _ _ _ _ _ _ _ (c .before .before .before .before .before .before .before .before .before .before .before .before .loop .inv .2) _ (c .before .before .before .before .before .before .before .before .before .before .before .before .before .before .before .member-count .ensures .0) (c .before .before .before .before .before .before .before .before .before .before .before .loop-test .taken) _ (c .before .before .before .before .before .lead-member .ensures .step-is) _ (c .before .before .follow .ensures) (c .if5 .taken)
+
+-- src/lib.rt:145:9
+table-add-j-3 : (t : ℕ) → table-lts.Need-add-j-3 (table-R t) (table-at t) table.Post table-Inv-loop table-μ-loop
+table-add-j-3 t c = search needs
+
+-- src/lib.rt:117:5
+table-loop-less-3 : (t : ℕ) → table-lts.Need-loop-less-3 (table-R t) (table-at t) table.Post table-Inv-loop table-μ-loop
+table-loop-less-3 t c = search needs
+
+-- src/lib.rt:117:5
+table-loop-again-3 : (t : ℕ) → table-lts.Need-loop-again-3 (table-R t) (table-at t) table.Post table-Inv-loop table-μ-loop
+table-loop-again-3 t c = (omega arith, c .before .before .before .before .before .before .before .lead-member .ensures .laid, members-turn _ _ _ _ _ _ _ _ _ _ _ (c .before .before .before .before .before .before .before .before .before .before .before .before .before .before .loop .inv .2) _ (c .before .before .before .before .before .before .before .before .before .before .before .before .before .before .before .before .before .member-count .ensures .0) (c .before .before .before .before .before .before .before .before .before .before .before .before .before .loop-test .taken) _ (c .before .before .before .before .before .before .before .lead-member .ensures .step-is) _ (c .before .before .before .before .follow .ensures) (c .before .before .if5 .left) _ (c .before .before .before .before .before .before .before .lead-member .ensures .next-is))
+
+-- src/lib.rt:147:5
+table-going-requires-2 : (t : ℕ) → table-lts.Need-going-requires-2 (table-R t) (table-at t) table.Post table-Inv-loop table-μ-loop
+table-going-requires-2 t c κs = search needs
+
+-- src/lib.rt:97:1
+table-returns-4 : (t : ℕ) → table-lts.Need-returns-4 (table-R t) (table-at t) table.Post table-Inv-loop table-μ-loop
+table-returns-4 t c = search members-done
+
+-- src/lib.rt:396:25
+union-enum-known-p : (t : ℕ) → union-lts.Need-enum-known-p (union-R t) (union-at t) union.Post
+union-enum-known-p t c = search needs
+
+-- src/lib.rt:398:17
+union-refuse-requires : (t : ℕ) → union-lts.Need-refuse-requires (union-R t) (union-at t) union.Post
+union-refuse-requires t c κs = search needs
+
+-- src/lib.rt:398:17
+union-returns : (t : ℕ) → union-lts.Need-returns (union-R t) (union-at t) union.Post
+union-returns t c = search union-none
+
+-- src/lib.rt:400:13
+union-visit-requires : (t : ℕ) → union-lts.Need-visit-requires (union-R t) (union-at t) union.Post
+union-visit-requires t c κs = (omega arith, (c .before .before .before .before .before .before .before .pre .1 .0, c .before .before .before .before .before .before .before .pre .1 .1, c .before .before .before .before .before .before .before .pre .1 .2, search offset-small))
+
+-- src/lib.rt:402:24
+union-enum-known-p-2 : (t : ℕ) → union-lts.Need-enum-known-p-2 (union-R t) (union-at t) union.Post
+union-enum-known-p-2 t c = search needs
+
+-- src/lib.rt:402:33
+union-visit-requires-2 : (t : ℕ) → union-lts.Need-visit-requires-2 (union-R t) (union-at t) union.Post
+union-visit-requires-2 t c κs = search (inplace-first, inplace-length, needs)
+
+-- src/lib.rt:381:1
+union-returns-2 : (t : ℕ) → union-lts.Need-returns-2 (union-R t) (union-at t) union.Post
+union-returns-2 t c = search (union-offset, c .before .if1 .left, c .before .before .before .p .given .1, c .visit .ensures)
+
+-- src/lib.rt:381:1
+union-returns-3 : (t : ℕ) → union-lts.Need-returns-3 (union-R t) (union-at t) union.Post
+union-returns-3 t c = search union-inplace
+
+-- src/lib.rt:56:9
+visit-placed-requires : (t : ℕ) → visit-lts.Need-placed-requires (visit-R t) (visit-at t) visit.Post
+visit-placed-requires t c κs = search needs
+
+-- src/lib.rt:59:9
+visit-refuse-requires : (t : ℕ) → visit-lts.Need-refuse-requires (visit-R t) (visit-at t) visit.Post
+visit-refuse-requires t c κs = search needs
+
+-- src/lib.rt:59:9
+visit-returns : (t : ℕ) → visit-lts.Need-returns (visit-R t) (visit-at t) visit.Post
+visit-returns t c = search visit-spent
+
+-- src/lib.rt:61:29
+visit-add-t16 : (t : ℕ) → visit-lts.Need-add-t16 (visit-R t) (visit-at t) visit.Post
+visit-add-t16 t c = search needs
+
+-- src/lib.rt:63:9
+visit-refuse-requires-2 : (t : ℕ) → visit-lts.Need-refuse-requires-2 (visit-R t) (visit-at t) visit.Post
+visit-refuse-requires-2 t c κs = search needs
+
+-- src/lib.rt:63:9
+visit-returns-2 : (t : ℕ) → visit-lts.Need-returns-2 (visit-R t) (visit-at t) visit.Post
+visit-returns-2 t c = search visit-deep
+
+-- src/lib.rt:65:11
+visit-open-object-requires : (t : ℕ) → visit-lts.Need-open-object-requires (visit-R t) (visit-at t) visit.Post
+visit-open-object-requires t c κs = search needs
+
+-- src/lib.rt:66:25
+visit-enum-known-e : (t : ℕ) → visit-lts.Need-enum-known-e (visit-R t) (visit-at t) visit.Post
+visit-enum-known-e t c = search needs
+
+-- src/lib.rt:66:31
+visit-refuse-requires-3 : (t : ℕ) → visit-lts.Need-refuse-requires-3 (visit-R t) (visit-at t) visit.Post
+visit-refuse-requires-3 t c κs = search needs
+
+-- src/lib.rt:67:25
+visit-enum-known-start : (t : ℕ) → visit-lts.Need-enum-known-start (visit-R t) (visit-at t) visit.Post
+visit-enum-known-start t c = search needs
+
+-- src/lib.rt:67:65
+visit-sub-content : (t : ℕ) → visit-lts.Need-sub-content (visit-R t) (visit-at t) visit.Post
+visit-sub-content t c = search needs
+
+-- src/lib.rt:67:38
+visit-content-requires : (t : ℕ) → visit-lts.Need-content-requires (visit-R t) (visit-at t) visit.Post
+visit-content-requires t c κs = search (opened-fits, needs)
+
+-- src/lib.rt:43:1
+visit-returns-3 : (t : ℕ) → visit-lts.Need-returns-3 (visit-R t) (visit-at t) visit.Post
+visit-returns-3 t c = search visit-refused
+
+-- src/lib.rt:43:1
+visit-returns-4 : (t : ℕ) → visit-lts.Need-returns-4 (visit-R t) (visit-at t) visit.Post
+visit-returns-4 t c = search visit-content
+
+pub +arrive+choice+choices+content+follow+list+refer+reference+references+table+union+visit-spec :
+    {M : Type 1} → statement M
++arrive+choice+choices+content+follow+list+refer+reference+references+table+union+visit-spec =
+    close
+    μ-arrive
+    μ-choice
+    μ-choices
+    μ-content
+    μ-follow
+    μ-list
+    μ-refer
+    μ-reference
+    μ-references
+    μ-table
+    μ-union
+    μ-visit
+    (λ t. arrive-lts.spec (arrive-R t)
+    (arrive-at t)
+    arrive.Post
+    (arrive-enum-known-p t)
+    (arrive-is-text-requires t)
+    (arrive-visit-text-requires t)
+    (arrive-returns t)
+    (arrive-visit-requires t)
+    (arrive-enum-known-p-2 t)
+    (arrive-visit-requires-2 t)
+    (arrive-returns-2 t)
+    (arrive-returns-3 t))
+    (λ t. choice-lts.spec (choice-R t)
+    (choice-at t)
+    choice.Post
+    (choice-u16-in-requires t)
+    (choice-going-requires t)
+    (choice-returns t)
+    (choice-case-count-requires t)
+    (choice-going-requires-2 t)
+    (choice-returns-2 t)
+    (choice-union-case-requires t)
+    (choice-add-u48-in t)
+    (choice-u48-in-requires t)
+    (choice-union-requires t)
+    (choice-returns-3 t))
+    (λ t. choices-lts.spec
+    (choice-below t, choice.Post, going-reads.Asked, going-reads.Learnt)
+    (choices-at t)
+    choices.Post
+    choices-Inv-loop
+    choices-μ-loop
+    (choices-loop-holds t)
+    (choices-choice-requires t)
+    (choices-returns t)
+    (choices-add-at t)
+    (choices-add-j t)
+    (choices-loop-less t)
+    (choices-loop-again t)
+    (choices-going-requires t)
+    (choices-returns-2 t))
+    (λ t. content-lts.spec (content-R t)
+    (content-at t)
+    content.Post
+    (content-enum-told t)
+    (content-going-requires t)
+    (content-enum-told-2 t)
+    (content-going-requires-2 t)
+    (content-enum-known-ob t)
+    (content-index-requires t)
+    (content-list-requires t)
+    (content-enum-known-ob-2 t)
+    (content-index-requires-2 t)
+    (content-table-requires t)
+    (content-returns t)
+    (content-returns-2 t)
+    (content-returns-3 t)
+    (content-returns-4 t))
+    (λ t. follow-lts.spec (follow-R t)
+    (follow-at t)
+    follow.Post
+    (follow-enum-known-step t)
+    (follow-refuse-requires t)
+    (follow-enum-told t)
+    (follow-going-requires t)
+    (follow-enum-told-2 t)
+    (follow-going-requires-2 t)
+    (follow-enum-told-3 t)
+    (follow-going-requires-3 t)
+    (follow-enum-told-4 t)
+    (follow-going-requires-4 t)
+    (follow-enum-known-step-2 t)
+    (follow-arrive-requires t)
+    (follow-enum-known-step-3 t)
+    (follow-union-requires t)
+    (follow-returns t)
+    (follow-returns-2 t)
+    (follow-returns-3 t)
+    (follow-returns-4 t)
+    (follow-returns-5 t)
+    (follow-returns-6 t)
+    (follow-returns-7 t))
+    (λ t. list-lts.spec (list-R t)
+    (list-at t)
+    list.Post
+    (list-list-place-requires t)
+    (list-kind-at-requires t)
+    (list-going-requires t)
+    (list-returns t)
+    (list-object-at-requires t)
+    (list-references-requires t)
+    (list-returns-2 t)
+    (list-argument-at-requires t)
+    (list-index-requires t)
+    (list-choices-requires t)
+    (list-returns-3 t))
+    (λ t. refer-lts.spec
+    (refer-R t)
+    (refer-at t)
+    refer.Post
+    (refer-going-requires t)
+    (refer-returns t)
+    (refer-visit-requires t)
+    (refer-returns-2 t))
+    (λ t. reference-lts.spec (reference-R t)
+    (reference-at t)
+    reference.Post
+    (reference-going-requires t)
+    (reference-returns t)
+    (reference-add-if2 t)
+    (reference-refuse-requires t)
+    (reference-returns-2 t)
+    (reference-add-u48-in t)
+    (reference-u48-in-requires t)
+    (reference-object-at-requires t)
+    (reference-is-text-requires t)
+    (reference-refer-text-requires t)
+    (reference-returns-3 t)
+    (reference-refer-requires t)
+    (reference-returns-4 t))
+    (λ t. references-lts.spec (references-R t)
+    (references-at t)
+    references.Post
+    references-Inv-loop
+    references-μ-loop
+    (references-is-text-requires t)
+    (references-texts-requires t)
+    (references-returns t)
+    (references-is-row-table-requires t)
+    (references-row-references-requires t)
+    (references-returns-2 t)
+    (references-loop-holds t)
+    (references-u48-in-requires t)
+    (references-refer-requires t)
+    (references-returns-3 t)
+    (references-add-at t)
+    (references-add-j t)
+    (references-loop-less t)
+    (references-loop-again t)
+    (references-going-requires t)
+    (references-returns-4 t))
+    (λ t. table-lts.spec (table-R t)
+    (table-at t)
+    table.Post
+    table-Inv-loop
+    table-μ-loop
+    (table-member-count-requires t)
+    (table-table-place-requires t)
+    (table-begin-requires t)
+    (table-loop-holds t)
+    (table-bit-byte-requires t)
+    (table-going-requires t)
+    (table-returns t)
+    (table-record-place-requires t)
+    (table-refers-requires t)
+    (table-reference-requires t)
+    (table-returns-2 t)
+    (table-behind-reference-requires t)
+    (table-add-j t)
+    (table-loop-less t)
+    (table-loop-again t)
+    (table-lead-member-requires t)
+    (table-leads-nowhere-requires t)
+    (table-add-j-2 t)
+    (table-loop-less-2 t)
+    (table-loop-again-2 t)
+    (table-follow-requires t)
+    (table-returns-3 t)
+    (table-add-j-3 t)
+    (table-loop-less-3 t)
+    (table-loop-again-3 t)
+    (table-going-requires-2 t)
+    (table-returns-4 t))
+    (λ t. union-lts.spec
+    (union-R t)
+    (union-at t)
+    union.Post
+    (union-enum-known-p t)
+    (union-refuse-requires t)
+    (union-returns t)
+    (union-visit-requires t)
+    (union-enum-known-p-2 t)
+    (union-visit-requires-2 t)
+    (union-returns-2 t)
+    (union-returns-3 t))
+    λ t. visit-lts.spec (visit-R t)
+    (visit-at t)
+    visit.Post
+    (visit-placed-requires t)
+    (visit-refuse-requires t)
+    (visit-returns t)
+    (visit-add-t16 t)
+    (visit-refuse-requires-2 t)
+    (visit-returns-2 t)
+    (visit-open-object-requires t)
+    (visit-enum-known-e t)
+    (visit-refuse-requires-3 t)
+    (visit-enum-known-start t)
+    (visit-sub-content t)
+    (visit-content-requires t)
+    (visit-returns-3 t)
+    (visit-returns-4 t)

@@ -1,0 +1,145 @@
+-- Members that are objects by their offset, neither optional nor in place, by the first byte of their record.
+use mathlib.Core.Path.{_≡_, refl, sym, ap, _∙_, subst}
+use mathlib.Core.Bool.{Bool, true, false}
+use mathlib.Core.List.{List}
+use Prim.Native.Nat.{ℕ, _+_, _*_, _/_, _%_, _<_, _≤_}
+use native.Mathlib.Omega.{arith}
+use lib.ListN.{length, getD, drop}
+use lib.Dec.{eqb}
+use borrow.Author.Tests.{ne-eqb, le-leb, lt-leb}
+use Rattle.coding.specs.Bytes.{u48, le}
+use Rattle.coding.specs.Schema as Sc
+use Rattle.coding.specs.Schema.{Schema}
+use Rattle.coding.specs.Packed as P
+use Rattle.coding.specs.Layout as L
+use Rattle.coding.specs.Step as T
+use Rattle.coding.specs.Walk as W
+use Rattle.coding.specs.declared.Object.{Object}
+use Rattle.coding.specs.declared.Object.the-variants as O
+use Rattle.coding.specs.declared.Kind.{Kind}
+use Rattle.coding.specs.declared.Kind.the-variants.{OfObject}
+use Rattle.coding.specs.declared.Member.{Member}
+use Rattle.coding.specs.declared.Cursor.{Cursor}
+use Rattle.coding.specs.declared.Step.{Step}
+use Rattle.coding.specs.declared.Step.the-variants as St
+use Rattle.coding.specs.declared.Spent.{Spent}
+use Rattle.coding.specs.declared.Walked.{Walked}
+use Rattle.coding.specs.declared.Walked.the-variants.{Going}
+use Rattle.laws.specs.Sound.{ObjectSound, MemberSound}
+use Rattle.message_layout.specs.Bounds.{Laid}
+use Rattle.schema.specs.Directory.{Accepted, Block}
+use Rattle.message_step.specs.Lead.{leadOf}
+use Rattle.wire.specs.Numbers.{Number}
+use Rattle.judge_text.specs.declared.Outcome.{Outcome}
+use Rattle.judge_text.specs.Answers.{walkedOf, isText}
+use Rattle.judge_member.specs.Records.{Refers}
+use Rattle.message_header.proofs.SizeCases.{element-object}
+use Rattle.message_object.proofs.OpenCases.{member-sound-of}
+use Rattle.judge_text.proofs.TextCases.{text-only}
+use Rattle.schema.specs.Records.{record-member}
+use Rattle.judge_rows.proofs.MemberCases.{lead-follows, members-stopped, members-turn}
+
+abbrev reference-member : Object → Member
+reference-member ob = record { kind = OfObject ob; optional = false; inplace = false }
+
+reference-is : (b : List ℕ) (at : ℕ) → Refers (getD b at 0) → P.memberAt b at ≡ reference-member (P.objectAt b at)
+unfolding P.memberAt P.optionalAt P.inplaceAt P.kindAt
+reference-is b at p =
+    let l = p .low in
+    let g = p .high in
+    let f = p .flags in
+    let x : 13 ≤ getD b at 0 / 8 = omega arith in
+    let y : getD b at 0 / 8 < 17 = omega arith in
+    let o : eqb (getD b at 0 / 4 % 2) 1 ≡ false = ne-eqb (getD b at 0 / 4 % 2) 1 (λ (z : getD b at 0 / 4 % 2 ≡ 1). absurd (omega arith)) in
+    let i : eqb (getD b at 0 / 2 % 2) 1 ≡ false = ne-eqb (getD b at 0 / 2 % 2) 1 (λ (z : getD b at 0 / 2 % 2 ≡ 1). absurd (omega arith)) in
+    let q : P.elementAt b at ≡ OfObject (P.objectAt b at) = element-object b at (getD b at 0 / 8) refl x y (P.objectAt b at) refl in
+    ap (λ (k : Kind). record { kind = k; optional = eqb (getD b at 0 / 4 % 2) 1; inplace = eqb (getD b at 0 / 2 % 2) 1 }) q
+    ∙ ap (λ (k : Bool). record { kind = OfObject (P.objectAt b at); optional = k; inplace = eqb (getD b at 0 / 2 % 2) 1 }) o
+    ∙ ap (λ (k : Bool). record { kind = OfObject (P.objectAt b at); optional = false; inplace = k }) i
+
+reference-step : (S : Schema) (m : List ℕ) (start n : ℕ) (c : Cursor) (ob : Object)
+    → T.memberStep u48 S m start n c (reference-member ob)
+    ≡ T.inside n (record { at = c .end; bit = 0; size = 6 }) St.Absent (T.objectStep ob false 0 (le m (start + c .end) 6))
+unfolding T.memberStep L.memberSlot L.slotOf L.afterFlag L.hasFlag L.isBool L.width T.valueStep T.objectStep T.placeOf u48
+reference-step S m start n c ob = refl
+
+reference-next : (S : Schema) (c : Cursor) (ob : Object) → L.afterBytes 6 c ≡ L.afterMember u48 S (reference-member ob) c
+unfolding L.afterMember L.afterValue L.afterFlag L.hasFlag L.isBool L.width u48
+reference-next S c ob = refl
+
+-- ---- the ways out
+module _ (child : W.Child) (b m : List ℕ) (holder at start n : ℕ) (c : Cursor) (s : Spent) (p : Refers (getD b at 0)) (r : Walked) where
+  by-step : (q : Step) → T.inside n (record { at = c .end; bit = 0; size = 6 }) St.Absent (T.objectStep (P.objectAt b at) false 0 (le m (start + c .end) 6)) ≡ q
+      → r ≡ W.follow child holder q s → r ≡ W.follow child holder (T.memberStep u48 (P.parse b) m start n c (P.memberAt b at)) s
+  by-step q f g =
+      g ∙ ap (λ (k : Step). W.follow child holder k s)
+      (sym (ap (T.memberStep u48 (P.parse b) m start n c) (reference-is b at p) ∙ reference-step (P.parse b) m start n c (P.objectAt b at) ∙ f))
+
+  pub reference-past : n ≤ c .end → r ≡ Going s → r ≡ W.follow child holder (T.memberStep u48 (P.parse b) m start n c (P.memberAt b at)) s
+  unfolding W.follow T.inside
+  reference-past h f = by-step St.Absent (simp (le-leb _ _ h)) f
+
+  module _ (l : c .end < n) where
+    pub reference-cut : n < c .end + 6 → r ≡ W.refuse 8 holder s → r ≡ W.follow child holder (T.memberStep u48 (P.parse b) m start n c (P.memberAt b at)) s
+    unfolding W.follow T.inside
+    reference-cut h f = by-step (St.Refused 8) (simp (lt-leb _ _ l, lt-leb _ _ h)) f
+
+    module _ (h : c .end + 6 ≤ n) (x : ℕ) (nx : Number m (start + c .end) 6 x) (ob : Object) (eo : ob ≡ P.objectAt b at) where
+      pub reference-here : r ≡ W.follow child holder (T.objectStep ob false 0 x) s
+          → r ≡ W.follow child holder (T.memberStep u48 (P.parse b) m start n c (P.memberAt b at)) s
+      unfolding T.inside
+      reference-here f =
+          by-step (T.objectStep (P.objectAt b at) false 0 (le m (start + c .end) 6)) (simp (lt-leb _ _ l, le-leb _ _ h))
+          (f ∙ ap (λ (q : ℕ). W.follow child holder (T.objectStep ob false 0 q) s) (nx .is)
+          ∙ ap (λ (q : Object). W.follow child holder (T.objectStep q false 0 (le m (start + c .end) 6)) s) eo)
+
+      pub reference-text : (t : Bool) → t ≡ isText ob → t ≡ true → r ≡ W.follow child holder (T.objectStep O.Text false 0 x) s
+          → r ≡ W.follow child holder (T.memberStep u48 (P.parse b) m start n c (P.memberAt b at)) s
+      reference-text t et e f = reference-here (f ∙ ap (λ (q : Object). W.follow child holder (T.objectStep q false 0 x) s) (sym (text-only ob t et e)))
+
+-- ---- member j of a table
+module _ (b : List ℕ) (t j : ℕ) (l : t < P.tableCount b) (count : ℕ) (ec : count ≡ length (Sc.tableOf (P.parse b) t .members)) (h : j < count) (first : ℕ)
+    (bl : Block b 4 (P.tablePlace b t) first) (at : ℕ) where
+  counted : j < length (Sc.tableOf (P.parse b) t .members)
+  counted = subst (λ (k : ℕ). j < k) ec h
+
+  pub reference-sound : (dir : List ℕ) → Accepted b dir → at ≡ P.recordPlace 4 first j → Refers (getD b at 0) → ObjectSound (P.parse b) (P.objectAt b at)
+  reference-sound dir a ea p =
+      let e = record-member b t j first l counted (bl .is) at ea in
+      subst (λ (r : Member). MemberSound (P.parse b) r) (reference-is b at p) (member-sound-of b dir a t j (P.memberAt b at) e counted) .kind
+
+-- ---- the members of a table, from such a member j on
+module _ (child : W.Child) (b m : List ℕ) (holder start n t : ℕ) (s : Spent) (c : Cursor) (j : ℕ) (v : Spent)
+    (inv : W.members child u48 (P.parse b) m holder start n L.begin (Sc.tableOf (P.parse b) t .members) s
+    ≡ W.members child u48 (P.parse b) m holder start n c (drop j (Sc.tableOf (P.parse b) t .members)) v) (count : ℕ)
+    (ec : count ≡ length (Sc.tableOf (P.parse b) t .members)) (h : j < count) (l : t < P.tableCount b) (first : ℕ) (bl : Block b 4 (P.tablePlace b t) first) (at : ℕ)
+    (ea : at ≡ P.recordPlace 4 first j) (g : Outcome) (eg : walkedOf g ≡ W.follow child holder (T.memberStep u48 (P.parse b) m start n c (P.memberAt b at)) v) where
+  is-member : P.memberAt b at ≡ Sc.memberOf (P.parse b) t j
+  is-member = record-member b t j first l (subst (λ (k : ℕ). j < k) ec h) (bl .is) at ea
+
+  led : walkedOf g ≡ W.follow child holder (leadOf (T.memberStep u48 (P.parse b) m start n c (Sc.memberOf (P.parse b) t j))) v
+  led =
+      eg ∙ ap (λ (r : Member). W.follow child holder (T.memberStep u48 (P.parse b) m start n c r) v) is-member
+      ∙ sym (lead-follows child holder (T.memberStep u48 (P.parse b) m start n c (Sc.memberOf (P.parse b) t j)) v)
+
+  pub reference-stopped : (g .code ≡ 0 → ⊥) → walkedOf g ≡ W.members child u48 (P.parse b) m holder start n L.begin (Sc.tableOf (P.parse b) t .members) s
+  reference-stopped f =
+      members-stopped child (P.parse b) m holder start n t s c j v inv count ec h
+      (leadOf (T.memberStep u48 (P.parse b) m start n c (Sc.memberOf (P.parse b) t j))) refl g led f
+
+  pub reference-turn : g .code ≡ 0 → Refers (getD b at 0) → (next : Cursor) → next ≡ L.afterBytes 6 c
+      → W.members child u48 (P.parse b) m holder start n L.begin (Sc.tableOf (P.parse b) t .members) s
+      ≡ W.members child u48 (P.parse b) m holder start n next (drop (j + 1) (Sc.tableOf (P.parse b) t .members)) (g .spent)
+  reference-turn f p next en =
+      members-turn child (P.parse b) m holder start n t s c j v inv count ec h
+      (leadOf (T.memberStep u48 (P.parse b) m start n c (Sc.memberOf (P.parse b) t j))) refl g led f next
+      (en ∙ reference-next (P.parse b) c (P.objectAt b at) ∙ ap (λ (r : Member). L.afterMember u48 (P.parse b) r c) (sym (reference-is b at p) ∙ is-member))
+
+pub reference-laid : (j : ℕ) (c next : Cursor) → Laid (4097 * j) c → Laid (c .end + 6) next → Laid (4097 * (j + 1)) next
+reference-laid j c next p q =
+    let x = p .end in
+    let y = q .end in
+    record { end = omega arith; byte = q .byte; bit = q .bit }
+
+pub same-sound : (S : Schema) (ob o : Object) → ob ≡ o → ObjectSound S o → ObjectSound S ob
+same-sound S ob o e h = subst (ObjectSound S) (sym e) h

@@ -1,3 +1,0 @@
-pub mod EndCases
-pub mod MemberCases
-pub mod LeafCases

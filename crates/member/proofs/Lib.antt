@@ -1,2 +1,0 @@
-pub mod PlainCases
-pub mod LeafRecords

@@ -1,0 +1,18 @@
+use Rattle.message_header.proofs.ContentCases.{table-fit}
+use borrow.Author.Needs.{needs}
+use Rattle.message_header.proofs.table_content.Statement.{statement}
+use Rattle.message_header.proofs.table_content.Tie as tie
+use Rattle.message_header.proofs.table_content.Reads as reads
+use Rattle.message_header.proofs.table_content.Lts as lts
+use Rattle.message_header.proofs.fits.Reads as fits-reads
+
+-- src/lib.rt:156:5
+fits-requires : tie.Need-fits-requires
+fits-requires c κs = search needs
+
+-- src/lib.rt:152:1
+returns : tie.Need-returns
+returns c = search table-fit
+
+pub table-content-spec : {M : Type 1} → statement M
+table-content-spec = tie.close (tie.spec fits-requires returns)

@@ -1,0 +1,68 @@
+-- Where a value stands: the ways out.
+use mathlib.Core.Path.{_≡_, refl, sym, ap, _∙_}
+use mathlib.Core.Bool.{Bool, true, false}
+use Prim.Native.Nat.{ℕ, _+_, _<_, _≤_}
+use native.Mathlib.Omega.{arith}
+use Rattle.coding.specs.Lists.{pick}
+use Rattle.coding.specs.Bytes.{u48}
+use Rattle.coding.specs.Schema.{Schema}
+use Rattle.coding.specs.Layout as L
+use Rattle.coding.specs.declared.Kind.{Kind}
+use Rattle.coding.specs.declared.Member.{Member}
+use Rattle.coding.specs.declared.Cursor.{Cursor}
+use Rattle.coding.specs.declared.Slot.{Slot}
+use Rattle.message_layout.specs.Bounds.{Laid, Stands}
+
+pub flag-first : (flag : Bool) (c r : Cursor) → flag ≡ true → r ≡ L.afterBit c → r ≡ pick flag (L.afterBit c) c
+flag-first flag c r e f = simp e f
+
+module _ (S : Schema) (k : Kind) (c : Cursor) (t : Bool) (et : t ≡ L.isBool k) where
+  pub bool-stands : t ≡ true → (at bit : ℕ) (next : Cursor) → at ≡ L.bitByte c → at ≤ c .end → bit ≡ L.bitIndex c → bit < 8 → next ≡ L.afterBit c
+      → Laid (c .end + 1) next
+      → Stands (L.slotOf u48 S k c) (L.afterValue u48 S k c) (c .end) (record { at = at; bit = bit; size = 1 }) next
+  unfolding L.slotOf L.afterValue
+  bool-stands f at bit next ea la eb lb en laid =
+      record {
+        slot-is = simp (← et, f, ← ea, ← eb);
+        next-is = simp (← et, f) en;
+        at = la;
+        bit = lb;
+        some = omega arith;
+        size = omega arith;
+        laid = record { end = omega arith; byte = laid .byte; bit = laid .bit };
+      }
+
+  pub bytes-stand : t ≡ false → (w : ℕ) → w ≡ L.width u48 S k → 0 < w → w ≤ 4096 → c .byte ≤ c .end → c .bit ≤ 8
+      → Stands (L.slotOf u48 S k c) (L.afterValue u48 S k c) (c .end) (record { at = c .end; bit = 0; size = w })
+      (record { end = c .end + w; byte = c .byte; bit = c .bit })
+  unfolding L.slotOf L.afterValue L.afterBytes
+  bytes-stand f w ew some small lb li =
+      record {
+        slot-is = simp (← et, f, ← ew);
+        next-is = simp (← et, f, ← ew);
+        at = omega arith;
+        bit = omega arith;
+        some = some;
+        size = small;
+        laid = record { end = omega arith; byte = omega arith; bit = li };
+      }
+
+-- a member's value behind its flag
+pub member-stands : (S : Schema) (r : Member) (c f : Cursor) (t : Bool) → t ≡ L.hasFlag r → f ≡ pick t (L.afterBit c) c → Laid (c .end + 1) f → (s : Slot) (n : Cursor)
+    → Stands (L.slotOf u48 S (r .kind) f) (L.afterValue u48 S (r .kind) f) (f .end) s n
+    → Stands (L.memberSlot u48 S r c) (L.afterMember u48 S r c) (c .end + 1) s n
+unfolding L.memberSlot L.afterMember L.afterFlag
+member-stands S r c f t et ef laid s n h =
+    let e : f ≡ pick (L.hasFlag r) (L.afterBit c) c = ef ∙ ap (λ (u : Bool). pick u (L.afterBit c) c) et in
+    let l = laid .end in
+    let g = h .at in
+    let q = h .laid in
+    record {
+      slot-is = h .slot-is ∙ ap (L.slotOf u48 S (r .kind)) e;
+      next-is = h .next-is ∙ ap (L.afterValue u48 S (r .kind)) e;
+      at = omega arith;
+      bit = h .bit;
+      some = h .some;
+      size = h .size;
+      laid = record { end = omega arith; byte = q .byte; bit = q .bit };
+    }

@@ -1,0 +1,238 @@
+// The fixed part of a table: where its members stand.
+use coding::Cursor;
+use coding::Flat;
+use coding::Kind;
+use coding::Member;
+use coding::Slot;
+ghost use mathlib.Core.Path.{_≡_};
+ghost use Prim.Native.Nat.{ℕ, _+_, _-_, _*_, _<_, _≤_, _^_};
+ghost use lib.ListN.{length, getD};
+ghost use Rattle.coding.specs.Bytes as B;
+ghost use Rattle.coding.specs.Layout as L;
+ghost use Rattle.coding.specs.Lists.{pick};
+ghost use Rattle.coding.specs.Packed as P;
+ghost use Rattle.coding.specs.Structs as S;
+ghost use Rattle.laws.specs.Sound.{FlatSound, KindSound, MemberSound};
+ghost use Rattle.message_layout.specs.Bounds.{Laid, Stands};
+ghost use Rattle.schema.specs.Directory.{Accepted};
+
+// Nothing laid out yet.
+pub fn begin() -> Cursor
+    ensures { λ r. ⌜ (r ≡ L.begin) × Laid 0 r ⌝ }
+{
+    Cursor {
+        end: 0,
+        byte: 0,
+        bit: 8,
+    }
+}
+
+// The byte that the next bool takes.
+pub fn bit_byte(c: Cursor) -> usize
+    requires { ⌜ c .byte ≤ c .end ⌝ }
+    ensures { λ r. ⌜ (r ≡ L.bitByte c) × (r ≤ c .end) ⌝ }
+{
+    let byte = c.byte;
+    let end = c.end;
+    if c.bit < 8 { byte } else { end }
+}
+
+// Its bit there.
+pub fn bit_index(c: Cursor) -> usize
+    ensures { λ r. ⌜ (r ≡ L.bitIndex c) × (r < 8) ⌝ }
+{
+    let bit = c.bit;
+    if bit < 8 { bit } else { 0 }
+}
+
+// Behind the next bool.
+pub fn after_bit(c: Cursor) -> Cursor
+    requires { ⌜ (c .byte ≤ c .end) × (c .bit ≤ 8) × (c .end < 2 ^ 60) ⌝ }
+    ensures { λ r. ⌜ (r ≡ L.afterBit c) × Laid (c .end + 1) r ⌝ }
+{
+    let byte = c.byte;
+    let end = c.end;
+    let bit = c.bit;
+    if bit < 8 {
+        Cursor {
+            end,
+            byte,
+            bit: bit + 1,
+        }
+    } else {
+        Cursor {
+            end: end + 1,
+            byte: end,
+            bit: 1,
+        }
+    }
+}
+
+// Whether the kind is a bool, which takes a bit and no bytes of its own.
+pub fn is_bool(k: Kind) -> bool
+    ensures { λ r. ⌜ r ≡ L.isBool k ⌝ }
+{
+    match k {
+        Kind::OfFlat(f) => match f {
+            Flat::Boolean => true,
+            Flat::Integer(_, _) => false,
+            Flat::Float(_) => false,
+            Flat::Enumerated(_) => false,
+            Flat::Struct(_) => false,
+        },
+        Kind::OfObject(_) => false,
+        Kind::OfUnion(_) => false,
+    }
+}
+
+fn takes_flag(k: Kind) -> bool
+    ensures { λ r. ⌜ r ≡ L.takesFlag k ⌝ }
+{
+    match k {
+        Kind::OfFlat(f) => match f {
+            Flat::Boolean => true,
+            Flat::Integer(_, _) => true,
+            Flat::Float(_) => false,
+            Flat::Enumerated(_) => false,
+            Flat::Struct(_) => true,
+        },
+        Kind::OfObject(_) => false,
+        Kind::OfUnion(_) => false,
+    }
+}
+
+// Whether a flag stands before the member's value.
+pub fn has_flag(r: Member) -> bool
+    ensures { λ q. ⌜ q ≡ L.hasFlag r ⌝ }
+{
+    let k = r.kind;
+    if r.optional {
+        return takes_flag(k);
+    }
+    false
+}
+
+// ---- sizes
+// The bytes of a flat value.
+pub fn flat_width(b: &[u8], dir: &[u16], k: Flat) -> usize
+    requires { ⌜ (Accepted (now b) (now dir)) × FlatSound (length (P.parse (now b) .structs)) k ⌝ }
+    ensures { λ r. ⌜ (r ≡ S.flatWidth (S.structSize (P.parse (now (b .entry)))) k) × (0 < r) × (r ≤ 4096) ⌝ }
+{
+    match k {
+        Flat::Boolean => 1,
+        Flat::Integer(_, w) => wire::index(w),
+        Flat::Float(w) => wire::index(w),
+        Flat::Enumerated(_) => 1,
+        Flat::Struct(i) => schema::stored_size(b, dir, wire::index(i)),
+    }
+}
+
+// The bytes of a member or an element.
+pub fn width(b: &[u8], dir: &[u16], k: Kind) -> usize
+    requires { ⌜ (Accepted (now b) (now dir)) × KindSound (P.parse (now b)) k ⌝ }
+    ensures { λ r. ⌜ (r ≡ L.width B.u48 (P.parse (now (b .entry))) k) × (0 < r) × (r ≤ 4096) ⌝ }
+{
+    match k {
+        Kind::OfFlat(f) => flat_width(b, dir, f),
+        Kind::OfObject(_) => 6,
+        Kind::OfUnion(_) => 8,
+    }
+}
+
+// ---- members
+// Where a value stands in its fixed part, and the cursor behind it.
+pub struct Placement {
+    pub slot: Slot,
+    pub next: Cursor,
+}
+
+// Behind the member's flag, if it has one.
+fn after_flag(flag: bool, c: Cursor) -> Cursor
+    requires { ⌜ (c .byte ≤ c .end) × (c .bit ≤ 8) × (c .end < 2 ^ 60) ⌝ }
+    ensures { λ r. ⌜ (r ≡ pick flag (L.afterBit c) c) × Laid (c .end + 1) r ⌝ }
+{
+    if flag {
+        return after_bit(c);
+    }
+    c
+}
+
+// A value that comes next.
+fn place_value(b: &[u8], dir: &[u16], k: Kind, c: Cursor) -> Placement
+    requires { ⌜ (Accepted (now b) (now dir)) × KindSound (P.parse (now b)) k ⌝ }
+    requires { ⌜ (c .byte ≤ c .end) × (c .bit ≤ 8) × (c .end < 2 ^ 59) ⌝ }
+    ensures { λ r. ⌜ Stands (L.slotOf B.u48 (P.parse (now (b .entry))) k c) (L.afterValue B.u48 (P.parse (now (b .entry))) k c) (c .end) (r .slot) (r .next) ⌝ }
+{
+    if is_bool(k) {
+        let next = after_bit(c);
+        let slot = Slot {
+            at: bit_byte(c),
+            bit: bit_index(c),
+            size: 1,
+        };
+        return Placement { slot, next };
+    }
+    let w = width(b, dir, k);
+    let end = c.end;
+    let slot = Slot {
+        at: end,
+        bit: 0,
+        size: w,
+    };
+    let next = Cursor {
+        end: end + w,
+        byte: c.byte,
+        bit: c.bit,
+    };
+    Placement { slot, next }
+}
+
+// A member: its flag, if it has one, and then its value.
+pub fn place_member(b: &[u8], dir: &[u16], r: Member, c: Cursor) -> Placement
+    requires { ⌜ (Accepted (now b) (now dir)) × MemberSound (P.parse (now b)) r ⌝ }
+    requires { ⌜ (c .byte ≤ c .end) × (c .bit ≤ 8) × (c .end < 2 ^ 58) ⌝ }
+    ensures { λ q. ⌜ Stands (L.memberSlot B.u48 (P.parse (now (b .entry))) r c) (L.afterMember B.u48 (P.parse (now (b .entry))) r c) (c .end + 1) (q .slot) (q .next) ⌝ }
+{
+    let k = r.kind;
+    let f = after_flag(has_flag(r), c);
+    place_value(b, dir, k, f)
+}
+
+// ---- struct booleans, by recursion on the struct index, which falls at every inner struct
+fn field_ok(b: &[u8], dir: &[u16], m: &[u8], i: usize, k: Flat, at: usize) -> bool
+    requires { ⌜ (Accepted (now b) (now dir)) × (FlatSound i k) × (i < P.structCount (now b)) ⌝ }
+    requires { ⌜ at + S.flatWidth (S.structSize (P.parse (now b))) k ≤ length (now m) ⌝ }
+    ensures { λ r. ⌜ r ≡ S.flatOk (S.structOk (P.parse (now (b .entry))) (now (m .entry))) (now (m .entry)) k at ⌝ }
+{
+    match k {
+        Flat::Boolean => wire::byte_in(m, at) <= 1,
+        Flat::Integer(_, _) => true,
+        Flat::Float(_) => true,
+        Flat::Enumerated(_) => true,
+        Flat::Struct(a) => struct_ok(b, dir, m, wire::index(a), at),
+    }
+}
+
+// Whether each bool of the struct i at a place is a byte 0 or 1. It goes over the members of the struct's representative,
+// which are two or more or one that is no struct: the calls are no more than about twice the bytes, however deep the structs.
+pub fn struct_ok(b: &[u8], dir: &[u16], m: &[u8], i: usize, at: usize) -> bool
+    requires { ⌜ (Accepted (now b) (now dir)) × (i < P.structCount (now b)) × (at + S.structSize (P.parse (now b)) i ≤ length (now m)) ⌝ }
+    ensures { λ r. ⌜ r ≡ S.structOk (P.parse (now (b .entry))) (now (m .entry)) i at ⌝ }
+{
+    let s = schema::representative(b, dir, i);
+    if s == 65535 {
+        return true;
+    }
+    let n = schema::field_count(b, dir, s);
+    let mut pos = at;
+    let mut j: usize = 0;
+    while j < n {
+        let k = schema::field(b, dir, s, j);
+        if !field_ok(b, dir, m, s, k, pos) {
+            return false;
+        }
+        pos += flat_width(b, dir, k);
+        j += 1;
+    }
+    true
+}

@@ -1,0 +1,24 @@
+use Rattle.message_object.proofs.StartCases.{root-sound}
+use mathlib.Core.Path.{ap}
+use Rattle.coding.specs.declared.Object.the-variants as O
+use borrow.Author.Needs.{needs}
+use Rattle.message_object.proofs.root_object.Statement.{statement}
+use Rattle.message_object.proofs.root_object.Tie as tie
+use Rattle.message_object.proofs.root_object.Reads as reads
+use Rattle.message_object.proofs.root_object.Lts as lts
+use Rattle.schema.proofs.root.Reads as root-reads
+
+-- src/lib.rt:512:19
+root-requires : tie.Need-root-requires
+root-requires c κs = search needs
+
+-- src/lib.rt:512:19
+cast-t4 : tie.Need-cast-t4
+cast-t4 c = search needs
+
+-- src/lib.rt:508:1
+returns : tie.Need-returns
+returns c = (ap O.Table (c .root .ensures .0), search root-sound)
+
+pub root-object-spec : {M : Type 1} → statement M
+root-object-spec = tie.close (tie.spec root-requires cast-t4 returns)

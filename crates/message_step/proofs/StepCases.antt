@@ -1,0 +1,209 @@
+-- The ways out of a step's parts: references, unions, enums, floats and structs; and a value by its kind.
+use mathlib.Core.Path.{_≡_, refl, sym, ap, _∙_}
+use mathlib.Core.Bool.{Bool, true, false}
+use mathlib.Core.List.{List}
+use Prim.Native.Nat.{ℕ, suc, _+_, _*_, _/_, _%_, _^_, _<_, _≤_}
+use native.Mathlib.Omega.{arith}
+use native.Mathlib.Nat.{mul-le-mul-left, mul-suc}
+use lib.ListN.{length, getD}
+use lib.Dec.{eqb, leb, ltb}
+use borrow.Author.Tests.{eq-eqb, ne-eqb, le-leb, lt-leb, lt-ltb, le-ltb}
+use Rattle.coding.specs.Lists.{pick}
+use Rattle.coding.specs.Bytes.{le, bitAt, isNaN, u48}
+use Rattle.coding.specs.Schema as Sc
+use Rattle.coding.specs.Schema.{Schema}
+use Rattle.coding.specs.Layout as L
+use Rattle.coding.specs.Step as T
+use Rattle.coding.specs.Structs.{structOk, structSize, flatWidth}
+use Rattle.coding.specs.declared.Flat.{Flat}
+use Rattle.coding.specs.declared.Flat.the-variants as F
+use Rattle.coding.specs.declared.Object.{Object}
+use Rattle.coding.specs.declared.Kind.{Kind}
+use Rattle.coding.specs.declared.Kind.the-variants.{OfFlat, OfObject, OfUnion}
+use Rattle.coding.specs.declared.Place.{Place}
+use Rattle.coding.specs.declared.Place.the-variants.{ByOffset, InPlace}
+use Rattle.coding.specs.declared.Step.{Step}
+use Rattle.coding.specs.declared.Step.the-variants as St
+use Rattle.wire.specs.Numbers.{Number}
+use Rattle.message_step.specs.Lead.{leadOf}
+use Rattle.message_step.proofs.ReachCases.{bool-one}
+
+-- ---- references
+module _ (inplace : Bool) (tail x : ℕ) where
+  pub place-inplace : inplace ≡ true → InPlace tail x ≡ T.placeOf inplace tail x
+  unfolding T.placeOf
+  place-inplace e = simp e
+
+  pub place-offset : inplace ≡ false → ByOffset x ≡ T.placeOf inplace tail x
+  unfolding T.placeOf
+  place-offset e = simp e
+
+  module _ (ob : Object) where
+    pub object-none : x ≡ 0 → St.Absent ≡ T.objectStep ob inplace tail x
+    unfolding T.objectStep
+    object-none h = simp (eq-eqb _ _ h)
+
+    pub object-there : (x ≡ 0 → ⊥) → (p : Place) → p ≡ T.placeOf inplace tail x → St.Object ob p ≡ T.objectStep ob inplace tail x
+    unfolding T.objectStep
+    object-there h p e = simp (ne-eqb _ _ h, ← e)
+
+  module _ (cases : List Object) (c : ℕ) where
+    pub union-none : c ≡ 0 → St.Absent ≡ T.unionStep cases inplace tail c x
+    unfolding T.unionStep
+    union-none h = simp (eq-eqb _ _ h)
+
+    module _ (h : c ≡ 0 → ⊥) (k n : ℕ) (ek : k ≡ c) (en : n ≡ length cases) where
+      pub union-known : k ≤ n → (ob : Object) → ob ≡ Sc.caseOf cases k → (p : Place) → p ≡ T.placeOf inplace tail x
+          → St.Choice c ob p ≡ T.unionStep cases inplace tail c x
+      unfolding T.unionStep
+      union-known l ob eo p ep = simp (ne-eqb _ _ h, ← ek, ← en, le-leb _ _ l, ← eo, ← ep)
+
+      pub union-unknown : n < k → St.Unknown c ≡ T.unionStep cases inplace tail c x
+      unfolding T.unionStep
+      union-unknown l = simp (ne-eqb _ _ h, ← ek, ← en, lt-leb _ _ l)
+
+-- ---- values
+module _ (n x : ℕ) where
+  pub enum-none : x ≡ 255 → St.Absent ≡ T.enumStep n x
+  unfolding T.enumStep
+  enum-none h = simp (eq-eqb _ _ h)
+
+  module _ (h : x ≡ 255 → ⊥) (y : ℕ) (e : y ≡ x) where
+    pub enum-known : x < n → St.Value y ≡ T.enumStep n x
+    unfolding T.enumStep
+    enum-known l = simp (ne-eqb _ _ h, lt-ltb _ _ l, e)
+
+    pub enum-unknown : n ≤ x → St.Unknown y ≡ T.enumStep n x
+    unfolding T.enumStep
+    enum-unknown l = simp (ne-eqb _ _ h, le-ltb _ _ l, e)
+
+module _ (none : Bool) (w x : ℕ) where
+  pub float-plain : none ≡ false → St.Value x ≡ T.floatStep none w x
+  unfolding T.floatStep
+  float-plain e = simp e
+
+  module _ (e : none ≡ true) (t : Bool) (et : t ≡ isNaN w x) where
+    pub float-none : t ≡ true → St.Absent ≡ T.floatStep none w x
+    unfolding T.floatStep
+    float-none f = simp (e, ← et, f)
+
+    pub float-value : t ≡ false → St.Value x ≡ T.floatStep none w x
+    unfolding T.floatStep
+    float-value f = simp (e, ← et, f)
+
+module _ (S : Schema) (m : List ℕ) (i j at : ℕ) (ej : j ≡ i) (t : Bool) (et : t ≡ structOk S m j at) where
+  pub struct-good : t ≡ true → St.Struct i at ≡ T.structStep S m i at
+  unfolding T.structStep
+  struct-good f = simp (← ej, ← et, f)
+
+  pub struct-bad : t ≡ false → St.Refused 10 ≡ T.structStep S m i at
+  unfolding T.structStep
+  struct-bad f = simp (← ej, ← et, f)
+
+-- ---- by the kind
+module _ (S : Schema) (m : List ℕ) (k : Flat) (none : Bool) (at bit : ℕ) where
+  pub flat-boolean : k ≡ F.Boolean → (x y : ℕ) → y ≡ getD m at 0 → x ≡ y / 2 ^ bit % 2 → St.Value x ≡ T.flatStep S m k none at bit
+  unfolding T.flatStep bitAt
+  flat-boolean e x y ey ex = rw e (simp (ex, ey))
+
+  pub flat-integer : (s : Bool) (w : ℕ) → k ≡ F.Integer s w → (v x : ℕ) → v ≡ w → Number m at v x → St.Value x ≡ T.flatStep S m k none at bit
+  unfolding T.flatStep
+  flat-integer s w e v x ev n = rw e (simp (← ev, ← (n .is)))
+
+module _ (S : Schema) (m : List ℕ) (k : Flat) (none : Bool) (at bit : ℕ) (r : Step) where
+  pub flat-float : (w : ℕ) → k ≡ F.Float w → (v x : ℕ) → v ≡ w → Number m at v x → r ≡ T.floatStep none w x → r ≡ T.flatStep S m k none at bit
+  unfolding T.flatStep
+  flat-float w e v x ev n f = rw e (f ∙ ap (T.floatStep none w) (n .is ∙ ap (le m at) ev))
+
+  pub flat-enum : (n : ℕ) → k ≡ F.Enumerated n → (x : ℕ) → x ≡ getD m at 0 → r ≡ T.enumStep n x → r ≡ T.flatStep S m k none at bit
+  unfolding T.flatStep
+  flat-enum n e x ex f = rw e (rw ex at f)
+
+  pub flat-struct : (i : ℕ) → k ≡ F.Struct i → r ≡ T.structStep S m i at → r ≡ T.flatStep S m k none at bit
+  unfolding T.flatStep
+  flat-struct i e f = rw e f
+
+module _ (S : Schema) (m : List ℕ) (k : Kind) (none inplace : Bool) (tail at bit : ℕ) (r : Step) where
+  pub value-flat : (f : Flat) → k ≡ OfFlat f → r ≡ T.flatStep S m f none at bit → r ≡ T.valueStep u48 S m k none inplace tail at bit
+  unfolding T.valueStep
+  value-flat f e q = rw e q
+
+  pub value-object : (ob : Object) → k ≡ OfObject ob → (x : ℕ) → Number m at 6 x → r ≡ T.objectStep ob inplace tail x
+      → r ≡ T.valueStep u48 S m k none inplace tail at bit
+  unfolding T.valueStep u48
+  value-object ob e x n q = rw e (q ∙ ap (T.objectStep ob inplace tail) (n .is))
+
+  pub value-union : (u i : ℕ) → k ≡ OfUnion u → i ≡ u → (c x : ℕ) → Number m at 2 c → Number m (at + 2) 6 x
+      → r ≡ T.unionStep (Sc.casesOf S i) inplace tail c x → r ≡ T.valueStep u48 S m k none inplace tail at bit
+  unfolding T.valueStep u48
+  value-union u i e ei c x nc nx q = rw e (simp (← ei, ← (nc .is), ← (nx .is)) q)
+
+-- the widths of references
+pub object-width : (S : Schema) (k : Kind) (ob : Object) → k ≡ OfObject ob → L.width u48 S k ≡ 6
+unfolding L.width u48
+object-width S k ob e = rw e
+
+pub union-width : (S : Schema) (k : Kind) (u : ℕ) → k ≡ OfUnion u → L.width u48 S k ≡ 8
+unfolding L.width u48
+union-width S k u e = rw e
+
+pub flat-width : (S : Schema) (k : Kind) (f : Flat) → k ≡ OfFlat f → L.width u48 S k ≡ flatWidth (structSize S) f
+unfolding L.width
+flat-width S k f e = rw e
+
+-- ---- elements
+module _ (S : Schema) (k : Kind) (start i : ℕ) (t : Bool) (et : t ≡ L.isBool k) where
+  pub place-bool : t ≡ true → (x : ℕ) → x ≡ i / 8 → start + x ≡ T.elementPlace u48 S k start i
+  unfolding T.elementPlace
+  place-bool f x e = simp (← et, f, e)
+
+  pub place-other : t ≡ false → (w : ℕ) → w ≡ L.width u48 S k → (x : ℕ) → x ≡ w * i → start + x ≡ T.elementPlace u48 S k start i
+  unfolding T.elementPlace
+  place-other f w e x ex = simp (← et, f, ex, e)
+
+bool-inside : (i n : ℕ) → i < n → i / 8 + 1 ≤ (n + 7) / 8
+bool-inside i n h = omega arith
+
+other-inside : (w i n : ℕ) → i < n → w * i + w ≤ w * n
+other-inside w i n h =
+    let p : w * suc i ≤ w * n = mul-le-mul-left w h in
+    let e : w * suc i ≡ w * i + w = mul-suc w i in
+    omega arith
+
+-- an element lies inside the list's bytes
+pub element-inside : (S : Schema) (k : Kind) (start n i : ℕ) → i < n
+    → T.elementPlace u48 S k start i + L.width u48 S k ≤ start + T.elementsSize u48 S k n
+unfolding T.elementPlace T.elementsSize
+element-inside S k start n i h = by (L.isBool k) refl
+  where
+    by : (t : Bool) → L.isBool k ≡ t
+        → pick t (start + i / 8) (start + L.width u48 S k * i) + L.width u48 S k ≤ start + pick t ((n + 7) / 8) (L.width u48 S k * n)
+    by true e = omega (arith, bool-one u48 S k e, bool-inside i n h)
+    by false e = omega (arith, other-inside (L.width u48 S k) i n h)
+
+-- ---- NaN
+module _ (w x : ℕ) (r : Bool) where
+  pub nan-four : w ≡ 4 → r ≡ ltb 0x7F80_0000 (x % 0x8000_0000) → r ≡ isNaN w x
+  unfolding isNaN
+  nan-four h e = simp (eq-eqb _ _ h) e
+
+  pub nan-eight : (w ≡ 4 → ⊥) → r ≡ ltb 0x7FF0_0000_0000_0000 (x % 0x8000_0000_0000_0000) → r ≡ isNaN w x
+  unfolding isNaN
+  nan-eight h e = simp (ne-eqb _ _ h) e
+
+-- ---- an element's value, where the code reads it
+module _ (S : Schema) (m : List ℕ) (k : Kind) (start n i at : ℕ) (ea : at ≡ T.elementPlace u48 S k start i) where
+  pub element-there : (c : ℕ) → start + T.elementsSize u48 S k n ≤ c → i < n → at + L.width u48 S k ≤ c
+  element-there c h l = omega (arith, element-inside S k start n i l)
+
+  pub element-low : (c : ℕ) → start + T.elementsSize u48 S k n ≤ c → i < n → c ≤ 16777215 → at < 2 ^ 60
+  element-low c h l z = omega (arith, element-inside S k start n i l)
+
+module _ (S : Schema) (m : List ℕ) (k : Kind) (start i at : ℕ) (ea : at ≡ T.elementPlace u48 S k start i) (bit : ℕ) (eb : bit ≡ i % 8) (r : Step) where
+  pub element-value : r ≡ T.valueStep u48 S m k true false 0 at bit → r ≡ T.elementStep u48 S m k start i
+  unfolding T.elementStep
+  element-value e = simp (← ea, ← eb) e
+
+  pub element-leads : r ≡ leadOf (T.valueStep u48 S m k true false 0 at bit) → r ≡ leadOf (T.elementStep u48 S m k start i)
+  unfolding T.elementStep
+  element-leads e = simp (← ea, ← eb) e

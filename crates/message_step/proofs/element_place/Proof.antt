@@ -1,0 +1,58 @@
+use native.Mathlib.Omega.{arith}
+use mathlib.Core.Path.{_≡_, refl, sym, ap, _∙_}
+use borrow.Author.Tests.{le-ltb, lt-ltb, le-leb, lt-leb, eq-eqb, ne-eqb}
+use Rattle.message_step.proofs.StepCases.{place-bool, place-other}
+use borrow.Author.Needs.{needs}
+use Rattle.message_step.proofs.element_place.Statement.{statement}
+use Rattle.message_step.proofs.element_place.Tie as tie
+use Rattle.message_step.proofs.element_place.Reads as reads
+use Rattle.message_step.proofs.element_place.Lts as lts
+use Rattle.message_layout.proofs.is_bool.Reads as is-bool-reads
+use Rattle.message_layout.proofs.width.Reads as width-reads
+use Rattle.message_step.proofs.times.Reads as times-reads
+use Rattle.wire.proofs.eighth.Reads as eighth-reads
+
+-- src/lib.rt:326:8
+is-bool-requires : tie.Need-is-bool-requires
+is-bool-requires c κs = search needs
+
+-- src/lib.rt:327:24
+eighth-requires : tie.Need-eighth-requires
+eighth-requires c κs = search needs
+
+-- src/lib.rt:327:16
+add-result : tie.Need-add-result
+add-result c = search needs
+
+-- src/lib.rt:327:9
+returns : tie.Need-returns
+returns c = search place-bool
+
+-- src/lib.rt:329:19
+width-requires : tie.Need-width-requires
+width-requires c κs = search needs
+
+-- src/lib.rt:329:13
+times-requires : tie.Need-times-requires
+times-requires c κs = search needs
+
+-- src/lib.rt:329:5
+add-result-2 : tie.Need-add-result-2
+add-result-2 c = search needs
+
+-- src/lib.rt:322:1
+returns-2 : tie.Need-returns-2
+returns-2 c = search place-other
+
+pub element-place-spec : {M : Type 1} → statement M
+element-place-spec =
+    tie.close
+    (tie.spec
+    is-bool-requires
+    eighth-requires
+    add-result
+    returns
+    width-requires
+    times-requires
+    add-result-2
+    returns-2)

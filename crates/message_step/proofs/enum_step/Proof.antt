@@ -1,0 +1,29 @@
+use native.Mathlib.Omega.{arith}
+use mathlib.Core.Path.{_≡_, refl, sym, ap, _∙_}
+use borrow.Author.Tests.{le-ltb, lt-ltb, le-leb, lt-leb, eq-eqb, ne-eqb}
+use Rattle.message_step.proofs.StepCases.{enum-none, enum-known, enum-unknown}
+use borrow.Author.Needs.{needs}
+use Rattle.message_step.proofs.enum_step.Statement.{statement}
+use Rattle.message_step.proofs.enum_step.Tie as tie
+use Rattle.message_step.proofs.enum_step.Reads as reads
+use Rattle.message_step.proofs.enum_step.Lts as lts
+use Rattle.wire.proofs.wide.Reads as wide-reads
+
+-- src/lib.rt:110:9
+returns : tie.Need-returns
+returns c = search enum-none
+
+-- src/lib.rt:113:28
+wide-requires : tie.Need-wide-requires
+wide-requires c κs = search needs
+
+-- src/lib.rt:113:9
+returns-2 : tie.Need-returns-2
+returns-2 c = search enum-known
+
+-- src/lib.rt:106:1
+returns-3 : tie.Need-returns-3
+returns-3 c = search enum-unknown
+
+pub enum-step-spec : {M : Type 1} → statement M
+enum-step-spec = tie.close (tie.spec returns wide-requires returns-2 returns-3)

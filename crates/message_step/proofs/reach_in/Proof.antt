@@ -1,0 +1,28 @@
+use native.Mathlib.Omega.{arith}
+use mathlib.Core.Path.{_≡_, refl, sym, ap, _∙_}
+use borrow.Author.Tests.{le-ltb, lt-ltb, le-leb, lt-leb, eq-eqb, ne-eqb}
+use Rattle.message_step.proofs.ReachCases.{in-past, in-here, in-cut}
+use borrow.Author.Needs.{needs}
+use Rattle.message_step.proofs.reach_in.Statement.{statement}
+use Rattle.message_step.proofs.reach_in.Tie as tie
+use Rattle.message_step.proofs.reach_in.Reads as reads
+use Rattle.message_step.proofs.reach_in.Lts as lts
+
+-- src/lib.rt:38:9
+returns : tie.Need-returns
+returns c = search in-past
+
+-- src/lib.rt:40:8
+add-if2 : tie.Need-add-if2
+add-if2 c = search needs
+
+-- src/lib.rt:41:9
+returns-2 : tie.Need-returns-2
+returns-2 c = search in-here
+
+-- src/lib.rt:32:1
+returns-3 : tie.Need-returns-3
+returns-3 c = search in-cut
+
+pub reach-in-spec : {M : Type 1} → statement M
+reach-in-spec = tie.close (tie.spec returns add-if2 returns-2 returns-3)

@@ -1,0 +1,30 @@
+use native.Mathlib.Omega.{arith}
+use mathlib.Core.Path.{_≡_, refl, sym, ap, _∙_}
+use borrow.Author.Tests.{le-ltb, lt-ltb, le-leb, lt-leb, eq-eqb, ne-eqb}
+use Rattle.message_step.proofs.ReachCases.{reach-flag, reach-plain}
+use borrow.Author.Needs.{needs}
+use Rattle.message_step.proofs.reach_of.Statement.{statement}
+use Rattle.message_step.proofs.reach_of.Tie as tie
+use Rattle.message_step.proofs.reach_of.Reads as reads
+use Rattle.message_step.proofs.reach_of.Lts as lts
+use Rattle.message_step.proofs.reach_flagged.Reads as reach-flagged-reads
+use Rattle.message_step.proofs.reach_in.Reads as reach-in-reads
+
+-- src/lib.rt:67:9
+reach-flagged-requires : tie.Need-reach-flagged-requires
+reach-flagged-requires c κs = search needs
+
+-- src/lib.rt:67:9
+returns : tie.Need-returns
+returns c = search reach-flag
+
+-- src/lib.rt:69:5
+reach-in-requires : tie.Need-reach-in-requires
+reach-in-requires c κs = search needs
+
+-- src/lib.rt:62:1
+returns-2 : tie.Need-returns-2
+returns-2 c = search reach-plain
+
+pub reach-of-spec : {M : Type 1} → statement M
+reach-of-spec = tie.close (tie.spec reach-flagged-requires returns reach-in-requires returns-2)

@@ -1,0 +1,47 @@
+use native.Mathlib.Omega.{arith}
+use mathlib.Core.Path.{_≡_, refl, sym, ap, _∙_}
+use borrow.Author.Tests.{le-ltb, lt-ltb, le-leb, lt-leb, eq-eqb, ne-eqb}
+use Rattle.message_step.proofs.StepCases.{union-none, union-known, union-unknown}
+use borrow.Author.Needs.{needs}
+use Rattle.message_step.proofs.union_step.Statement.{statement}
+use Rattle.message_step.proofs.union_step.Tie as tie
+use Rattle.message_step.proofs.union_step.Reads as reads
+use Rattle.message_step.proofs.union_step.Lts as lts
+use Rattle.schema.proofs.case_count.Reads as case-count-reads
+use Rattle.schema.proofs.union_case.Reads as union-case-reads
+use Rattle.message_step.proofs.place_of.Reads as place-of-reads
+
+-- src/lib.rt:96:9
+returns : tie.Need-returns
+returns c = search union-none
+
+-- src/lib.rt:99:13
+case-count-requires : tie.Need-case-count-requires
+case-count-requires c κs = search needs
+
+-- src/lib.rt:100:32
+union-case-requires : tie.Need-union-case-requires
+union-case-requires c κs = search needs
+
+-- src/lib.rt:100:66
+place-of-requires : tie.Need-place-of-requires
+place-of-requires c κs = search needs
+
+-- src/lib.rt:100:9
+returns-2 : tie.Need-returns-2
+returns-2 c = search union-known
+
+-- src/lib.rt:91:1
+returns-3 : tie.Need-returns-3
+returns-3 c = search union-unknown
+
+pub union-step-spec : {M : Type 1} → statement M
+union-step-spec =
+    tie.close
+    (tie.spec
+    returns
+    case-count-requires
+    union-case-requires
+    place-of-requires
+    returns-2
+    returns-3)

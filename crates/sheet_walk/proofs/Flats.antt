@@ -1,0 +1,109 @@
+-- The ways out of the writers of values that lead to no object, and that their bits are those of the step.
+use mathlib.Core.Path.{_≡_, refl, sym, ap, _∙_, subst}
+use mathlib.Core.Bool.{Bool, true, false, _&&_}
+use mathlib.Core.List.{List, _++_}
+use mathlib.Core.Logic.{⊎-elim}
+use Prim.Native.Nat.{ℕ, _*_, _/_, _%_, _^_, _≤_}
+use native.Mathlib.Omega.{arith}
+use lib.ListN.{getD}
+use lib.Dec.{eqb, ltb}
+use Rattle.coding.specs.Lists.{pick}
+use Rattle.coding.specs.Bytes.{le, bitAt, isNaN}
+use Rattle.coding.specs.Schema.{Schema}
+use Rattle.coding.specs.Structs.{structOk}
+use Rattle.coding.specs.Step as T
+use Rattle.coding.specs.Bits.{bitsOf}
+use Rattle.coding.specs.Sheet as E
+use Rattle.coding.specs.declared.Flat.{Flat}
+use Rattle.coding.specs.declared.Flat.the-variants as F
+use Rattle.coding.specs.declared.Kind.the-variants.{OfFlat}
+use Rattle.coding.specs.declared.Step.the-variants as St
+use Rattle.laws.specs.Sound.{FlatSound}
+use Rattle.wire.specs.Numbers.{Number}
+use Rattle.bitio.specs.Puts.{Room, Puts}
+use Rattle.bitio.specs.PutsLaws.{puts-then}
+use Rattle.sheet_values.specs.Marks as K
+use Rattle.sheet_walk.specs.MessageBits as A
+use Rattle.sheet_walk.specs.Readable as D
+
+-- ---- structs
+pub whole-there : (S : Schema) (m : List ℕ) (i at : ℕ) (o o₁ : List ℕ) (p q : ℕ) → structOk S m i at ≡ true → Room o p → (o₂ : List ℕ) (r : ℕ)
+    → Puts o p (bitsOf 2 1) o₁ q → Puts o₁ q (A.structAt S m i at) o₂ r → Puts o p (A.wholeAt S m i at) o₂ r
+unfolding A.wholeAt
+whole-there S m i at o o₁ p q e g o₂ r a b = simp e (puts-then o o₁ o₂ p q r (bitsOf 2 1) (A.structAt S m i at) (g .short) a b)
+
+-- that the booleans of a struct that was accepted are 0 or 1
+pub flat-lawful : (child : D.Child) (S : Schema) (m : List ℕ) (k : Flat) (none : Bool) (at bit : ℕ) → D.StepReadable child S m (T.flatStep S m k none at bit)
+    → D.FlatReadable S m k at
+unfolding D.StepReadable D.FlatReadable T.flatStep T.structStep
+flat-lawful child S m F.Boolean none at bit h = tt
+flat-lawful child S m (F.Integer s w) none at bit h = tt
+flat-lawful child S m (F.Float w) none at bit h = tt
+flat-lawful child S m (F.Enumerated n) none at bit h = tt
+flat-lawful child S m (F.Struct i) none at bit h = by (structOk S m i at) refl h
+  where
+    by : (t : Bool) → structOk S m i at ≡ t → D.StepReadable child S m (pick t (St.Struct i at) (St.Refused 10)) → structOk S m i at ≡ true
+    by true e g = e
+    by false e g = absurd g
+
+pub struct-lawful : (S : Schema) (m : List ℕ) (k : Flat) (at : ℕ) → D.FlatReadable S m k at → (i j : ℕ) → k ≡ F.Struct i → j ≡ i → structOk S m j at ≡ true
+unfolding D.FlatReadable
+struct-lawful S m k at h i j e ej =
+    subst (λ (x : ℕ). structOk S m x at ≡ true) (sym ej) (subst (λ (f : Flat). D.FlatReadable S m f at) e h)
+
+-- ---- by the kind
+module _ (S : Schema) (m : List ℕ) (k : Flat) (none : Bool) (at bit : ℕ) (o o₁ : List ℕ) (p q : ℕ) where
+  pub flat-boolean : k ≡ F.Boolean → (x y : ℕ) → y ≡ getD m at 0 → x ≡ y / 2 ^ bit % 2 → Puts o p (K.marked 1 1 x) o₁ q → Puts o p (A.flatAt S m k none at bit) o₁ q
+  unfolding A.flatAt bitAt
+  flat-boolean e x y ey ex h = rw e (subst (λ (z : ℕ). Puts o p (K.marked 1 1 z) o₁ q) (ex ∙ ap (λ (z : ℕ). z / 2 ^ bit % 2) ey) h)
+
+  pub flat-integer : (s : Bool) (w : ℕ) → k ≡ F.Integer s w → (v u x : ℕ) → v ≡ w → u ≡ w → Number m at v x → Puts o p (K.marked 1 (8 * u) x) o₁ q
+      → Puts o p (A.flatAt S m k none at bit) o₁ q
+  unfolding A.flatAt
+  flat-integer s w e v u x ev eu n h =
+      rw e
+      (subst (λ (z : ℕ). Puts o p (K.marked 1 (8 * w) z) o₁ q) (n .is ∙ ap (le m at) ev) (subst (λ (z : ℕ). Puts o p (K.marked 1 (8 * z) x) o₁ q) eu h))
+
+  pub flat-float : (w : ℕ) → k ≡ F.Float w → (v x : ℕ) → v ≡ w → Number m at v x → Puts o p (K.floatAt none w x) o₁ q → Puts o p (A.flatAt S m k none at bit) o₁ q
+  unfolding A.flatAt
+  flat-float w e v x ev n h = rw e (subst (λ (z : ℕ). Puts o p (K.floatAt none w z) o₁ q) (n .is ∙ ap (le m at) ev) h)
+
+  pub flat-enum : (n x : ℕ) → k ≡ F.Enumerated n → x ≡ getD m at 0 → Puts o p (K.enumAt n x) o₁ q → Puts o p (A.flatAt S m k none at bit) o₁ q
+  unfolding A.flatAt
+  flat-enum n x e ex h = rw e (subst (λ (z : ℕ). Puts o p (K.enumAt n z) o₁ q) ex h)
+
+  pub flat-struct : (i j : ℕ) → k ≡ F.Struct i → j ≡ i → Puts o p (A.wholeAt S m j at) o₁ q → Puts o p (A.flatAt S m k none at bit) o₁ q
+  unfolding A.flatAt
+  flat-struct i j e ej h = rw e (subst (λ (z : ℕ). Puts o p (A.wholeAt S m z at) o₁ q) ej h)
+
+-- ---- widths
+module _ (c : ℕ) (k : Flat) (sound : FlatSound c k) (w : ℕ) where
+  pub integer-bits : (s : Bool) → k ≡ F.Integer s w → (v : ℕ) → v ≡ w → 8 * v ≤ 64
+  integer-bits s e v q = let l = subst (FlatSound c) e sound in omega arith
+
+  pub float-width : k ≡ F.Float w → w ≤ 8
+  float-width e = ⊎-elim (λ l. omega arith) (λ l. omega arith) (subst (FlatSound c) e sound)
+
+-- ---- the bits of a flat value's step
+pub flat-bits : (d : ℕ) (S : Schema) (m : List ℕ) (k : Flat) (none : Bool) (at bit : ℕ)
+    → A.flatAt S m k none at bit ≡ A.stepAt d S m (OfFlat k) (T.flatStep S m k none at bit)
+unfolding A.flatAt K.floatAt A.wholeAt K.enumAt A.stepAt A.valueWidth A.flatValue E.unknownWidth E.flatUnknown T.flatStep T.floatStep T.enumStep T.structStep
+flat-bits d S m F.Boolean none at bit = refl
+flat-bits d S m (F.Integer s w) none at bit = refl
+flat-bits d S m (F.Float w) none at bit = by (none && isNaN w (le m at w))
+  where
+    by : (t : Bool) → pick t (bitsOf 2 0) (K.marked 1 (8 * w) (le m at w)) ≡ A.stepAt d S m (OfFlat (F.Float w)) (pick t St.Absent (St.Value (le m at w)))
+    by true = refl
+    by false = refl
+flat-bits d S m (F.Enumerated n) none at bit = by (eqb (getD m at 0) 255) (ltb (getD m at 0) n)
+  where
+    by : (t u : Bool) → pick t (bitsOf 2 0) (pick u (K.marked 1 8 (getD m at 0)) (K.marked 2 8 (getD m at 0)))
+        ≡ A.stepAt d S m (OfFlat (F.Enumerated n)) (pick t St.Absent (pick u (St.Value (getD m at 0)) (St.Unknown (getD m at 0))))
+    by true u = refl
+    by false true = refl
+    by false false = refl
+flat-bits d S m (F.Struct i) none at bit = by (structOk S m i at)
+  where
+    by : (t : Bool) → pick t (bitsOf 2 1 ++ A.structAt S m i at) (bitsOf 2 0) ≡ A.stepAt d S m (OfFlat (F.Struct i)) (pick t (St.Struct i at) (St.Refused 10))
+    by true = refl
+    by false = refl

@@ -1,0 +1,14 @@
+pub mod PartLaws
+pub mod FlatMembers
+pub mod Objects
+pub mod Parts
+pub mod Root
+pub mod StructInside
+pub mod Flats
+pub mod Values
+pub mod FlatMemberCases
+pub mod References
+pub mod Runs
+pub mod CodedMembers
+pub mod CodedWays
+pub mod Leads

@@ -1,5 +1,0 @@
-pub mod FlatCases
-pub mod ExtentCases
-pub mod PartCases
-pub mod ObjectCases
-pub mod LeafCases

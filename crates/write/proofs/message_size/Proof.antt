@@ -1,0 +1,25 @@
+use Rattle.write.proofs.WriteCases.{size-is}
+use borrow.Author.Needs.{needs}
+use Rattle.write.proofs.message_size.Statement.{statement}
+use Rattle.write.proofs.message_size.Tie as tie
+use Rattle.write.proofs.message_size.Reads as reads
+use Rattle.write.proofs.message_size.Lts as lts
+
+-- src/lib.rt:95:19
+add-content : tie.Need-add-content
+add-content c = search needs
+
+-- src/lib.rt:96:5
+add-result : tie.Need-add-result
+add-result c = search needs
+
+-- src/lib.rt:96:5
+add-result-2 : tie.Need-add-result-2
+add-result-2 c = search needs
+
+-- src/lib.rt:91:1
+returns : tie.Need-returns
+returns c = search size-is
+
+pub message-size-spec : {M : Type 1} → statement M
+message-size-spec = tie.close (tie.spec add-content add-result add-result-2 returns)

@@ -1,0 +1,95 @@
+// Writing a message from a value sheet: the sheet is surveyed first, and then one pass over it stores the message.
+use coding::WriteAnswer;
+use write_measure::Extent;
+ghost use mathlib.Core.Path.{_≡_};
+ghost use Prim.Native.Nat.{ℕ, _+_, _*_, _≤_};
+ghost use lib.ListN.{length, drop};
+ghost use Rattle.coding.specs.Bytes as B;
+ghost use Rattle.coding.specs.Bits.{bits};
+ghost use Rattle.coding.specs.Message as M;
+ghost use Rattle.schema.specs.Directory.{Accepted};
+ghost use Rattle.write_measure.specs.Surveyed.{Small};
+ghost use Rattle.write.specs.Writing as Wr;
+
+fn refused(number: u8) -> WriteAnswer
+    ensures { λ r. ⌜ (r .number ≡ number) × (r .length ≡ 0) ⌝ }
+{
+    WriteAnswer { number, length: 0 }
+}
+
+// Whether less than a byte of the sheet is left, and zero bits only.
+fn closed(s: &[u8], pos: usize) -> bool
+    requires { ⌜ (length (now s) ≤ 16777215) × (pos ≤ 8 * length (now s)) ⌝ }
+    ensures { λ r. ⌜ r ≡ Wr.onlyEnd (drop pos (bits (now (s .entry)))) ⌝ }
+{
+    let left = 8 * s.len() - pos;
+    if 8 <= left {
+        return false;
+    }
+    bitio::get(s, pos, left) == 0
+}
+
+// The length of the message whose root table takes e.
+fn message_size(e: Extent) -> usize
+    requires { ⌜ Small e ⌝ }
+    ensures { λ r. ⌜ r ≡ Wr.messageSize e ⌝ }
+{
+    let content = e.width + e.chain;
+    20 + content + e.below
+}
+
+// A sheet that is lawful, whose root table takes e.
+fn write_lawful(b: &[u8], dir: &[u16], s: &[u8], e: Extent, out: &mut [u8]) -> WriteAnswer
+    requires { ⌜ (Accepted (now b) (now dir)) × Wr.LawfulSheet (now b) (now s) e ⌝ }
+    ensures { λ r. ⌜ r ≡ M.writeAnswer B.u48 (now (b .entry)) (now (s .entry)) (now (out .entry)) ⌝ }
+    ensures { λ _. ⌜ now (out .exit) ≡ M.writeOut B.u48 (now (b .entry)) (now (s .entry)) (now (out .entry)) ⌝ }
+{
+    if !e.writable {
+        return refused(12);
+    }
+    let n = message_size(e);
+    if 16777215 < n {
+        return refused(13);
+    }
+    if out.len() < n {
+        return refused(14);
+    }
+    write_pass::emit_message(b, dir, s, e, &mut out[..n]);
+    WriteAnswer {
+        number: 0,
+        length: n,
+    }
+}
+
+// By a schema that was judged before.
+fn write_judged(b: &[u8], dir: &[u16], s: &[u8], out: &mut [u8]) -> WriteAnswer
+    requires { ⌜ Accepted (now b) (now dir) ⌝ }
+    ensures { λ r. ⌜ r ≡ M.writeAnswer B.u48 (now (b .entry)) (now (s .entry)) (now (out .entry)) ⌝ }
+    ensures { λ _. ⌜ now (out .exit) ≡ M.writeOut B.u48 (now (b .entry)) (now (s .entry)) (now (out .entry)) ⌝ }
+{
+    if 16777215 < s.len() {
+        return refused(11);
+    }
+    let ob = message_object::root_object(b, dir);
+    let x = write_measure::object(b, dir, s, 32, ob, 0);
+    if !x.whole {
+        return refused(11);
+    }
+    if !closed(s, x.next) {
+        return refused(11);
+    }
+    write_lawful(b, dir, s, x.extent, out)
+}
+
+// Writes a sheet as a message: 1, 11, 12, 13 or 14, each over the whole sheet; else the message's length, and the message in
+// the output, whose bytes after it keep what they held.
+pub fn write(b: &[u8], s: &[u8], out: &mut [u8]) -> WriteAnswer
+    ensures { λ r. ⌜ r ≡ M.writeAnswer B.u48 (now (b .entry)) (now (s .entry)) (now (out .entry)) ⌝ }
+    ensures { λ _. ⌜ now (out .exit) ≡ M.writeOut B.u48 (now (b .entry)) (now (s .entry)) (now (out .entry)) ⌝ }
+{
+    let mut dir: [u16; 384] = [0; 384];
+    if schema_lawful::judge_schema(b, &mut dir) {
+        return write_judged(b, &dir, s, out);
+    }
+    refused(1)
+}

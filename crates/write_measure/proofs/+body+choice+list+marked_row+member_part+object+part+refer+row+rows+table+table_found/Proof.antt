@@ -1,0 +1,881 @@
+use Prim.Native.Nat.{ℕ, _+_, _-_, _*_, _^_, _<_, _≤_}
+use mathlib.Core.Path.{_≡_}
+use mathlib.Core.Bool.{false}
+use native.Mathlib.Omega.{arith}
+use borrow.Author.Needs.{needs}
+use lib.ListN.{length, drop}
+use Rattle.coding.specs.Bytes.{u48}
+use Rattle.coding.specs.Bits.{bits}
+use Rattle.coding.specs.Packed as P
+use Rattle.coding.specs.Schema as Sc
+use Rattle.coding.specs.Layout as L
+use Rattle.coding.specs.declared.Kind.the-variants.{OfObject}
+use Rattle.coding.specs.Sheet.{unmarked}
+use Rattle.coding.specs.declared.Object.the-variants as O
+use Rattle.write_measure.specs.Survey.{opened, surveyMembers, surveyElements, surveyContent, survey}
+use Rattle.write_measure.specs.Surveyed.{Small}
+use borrow.Fn.Kinds.{In}
+use borrow.Fn.PlainCycle.{Measures, is, falls, and}
+use Rattle.write_measure.proofs.PartCases.{kind-flat, kind-object, union-counted, case-sound, body-flat, body-object, body-union, choice-cut, choice-zero, choice-above, choice-known, part-cut, part-none, part-there, part-lost, part-bad, refer-surveyed, refer-blob, object-none, object-there, object-bad}
+use Rattle.write_measure.proofs.ObjectCases.{list-counted, table-counted, element-sound, member-kind, member-counted, members-start, members-done, elements-cut, elements-start, elements-unmarked, elements-rows, row-counted, row-deep, row-there, rows-start, object-marked, marked, elements-done, elements-stopped, elements-turn, object-deep, object-text, object-bytes, object-list, object-table}
+use Rattle.write_measure.proofs.SimpleCases.{members-few, table-cut, table-ended, table-stopped, table-turn}
+use Rattle.write_measure.proofs.body.Reads as body
+use Rattle.write_measure.proofs.body.Kinds as body-kinds
+use Rattle.write_measure.proofs.+body+choice+list+marked_row+member_part+object+part+refer+row+rows+table+table_found.Lts-body as body-lts
+use Rattle.write_measure.proofs.choice.Reads as choice
+use Rattle.write_measure.proofs.choice.Kinds as choice-kinds
+use Rattle.write_measure.proofs.+body+choice+list+marked_row+member_part+object+part+refer+row+rows+table+table_found.Lts-choice as choice-lts
+use Rattle.write_measure.proofs.list.Reads as list
+use Rattle.write_measure.proofs.list.Kinds as list-kinds
+use Rattle.write_measure.proofs.+body+choice+list+marked_row+member_part+object+part+refer+row+rows+table+table_found.Lts-list as list-lts
+use Rattle.write_measure.proofs.marked_row.Reads as marked-row
+use Rattle.write_measure.proofs.marked_row.Kinds as marked-row-kinds
+use Rattle.write_measure.proofs.+body+choice+list+marked_row+member_part+object+part+refer+row+rows+table+table_found.Lts-marked_row as marked-row-lts
+use Rattle.write_measure.proofs.member_part.Reads as member-part
+use Rattle.write_measure.proofs.member_part.Kinds as member-part-kinds
+use Rattle.write_measure.proofs.+body+choice+list+marked_row+member_part+object+part+refer+row+rows+table+table_found.Lts-member_part as member-part-lts
+use Rattle.write_measure.proofs.object.Reads as object
+use Rattle.write_measure.proofs.object.Kinds as object-kinds
+use Rattle.write_measure.proofs.+body+choice+list+marked_row+member_part+object+part+refer+row+rows+table+table_found.Lts-object as object-lts
+use Rattle.write_measure.proofs.part.Reads as part
+use Rattle.write_measure.proofs.part.Kinds as part-kinds
+use Rattle.write_measure.proofs.+body+choice+list+marked_row+member_part+object+part+refer+row+rows+table+table_found.Lts-part as part-lts
+use Rattle.write_measure.proofs.refer.Reads as refer
+use Rattle.write_measure.proofs.refer.Kinds as refer-kinds
+use Rattle.write_measure.proofs.+body+choice+list+marked_row+member_part+object+part+refer+row+rows+table+table_found.Lts-refer as refer-lts
+use Rattle.write_measure.proofs.row.Reads as row
+use Rattle.write_measure.proofs.row.Kinds as row-kinds
+use Rattle.write_measure.proofs.+body+choice+list+marked_row+member_part+object+part+refer+row+rows+table+table_found.Lts-row as row-lts
+use Rattle.write_measure.proofs.rows.Reads as rows
+use Rattle.write_measure.proofs.rows.Kinds as rows-kinds
+use Rattle.write_measure.proofs.+body+choice+list+marked_row+member_part+object+part+refer+row+rows+table+table_found.Lts-rows as rows-lts
+use Rattle.write_measure.proofs.table.Reads as table
+use Rattle.write_measure.proofs.table.Kinds as table-kinds
+use Rattle.write_measure.proofs.+body+choice+list+marked_row+member_part+object+part+refer+row+rows+table+table_found.Lts-table as table-lts
+use Rattle.write_measure.proofs.table_found.Reads as table-found
+use Rattle.write_measure.proofs.table_found.Kinds as table-found-kinds
+use Rattle.write_measure.proofs.+body+choice+list+marked_row+member_part+object+part+refer+row+rows+table+table_found.Lts-table_found as table-found-lts
+use Rattle.bitio.proofs.take_number.Reads as take-number-reads
+use Rattle.schema.proofs.case_count.Reads as case-count-reads
+use Rattle.schema.proofs.element.Reads as element-reads
+use Rattle.schema.proofs.member.Reads as member-reads
+use Rattle.schema.proofs.member_count.Reads as member-count-reads
+use Rattle.schema.proofs.union_case.Reads as union-case-reads
+use Rattle.wire.proofs.index.Reads as index-reads
+use Rattle.write_measure.proofs.unmarked.Reads as unmarked-reads
+use Rattle.write_measure.proofs.unmarked_bits.Reads as unmarked-bits-reads
+use Rattle.write_measure.proofs.blob.Reads as blob-reads
+use Rattle.write_measure.proofs.blob_end.Reads as blob-end-reads
+use Rattle.write_measure.proofs.elements_size.Reads as elements-size-reads
+use Rattle.write_measure.proofs.fixed_size.Reads as fixed-size-reads
+use Rattle.write_measure.proofs.flat_test.Reads as flat-test-reads
+use Rattle.write_measure.proofs.joined.Reads as joined-reads
+use Rattle.write_measure.proofs.simple_members.Reads as simple-members-reads
+use Rattle.write_measure.proofs.lost.Reads as lost-reads
+use Rattle.write_measure.proofs.may_lack.Reads as may-lack-reads
+use Rattle.write_measure.proofs.opened.Reads as opened-reads
+use Rattle.write_measure.proofs.pass.Reads as pass-reads
+use Rattle.write_measure.proofs.plain.Reads as plain-reads
+use Rattle.write_measure.proofs.plain_of.Reads as plain-of-reads
+use Rattle.write_measure.proofs.refer_blob.Reads as refer-blob-reads
+use Rattle.write_measure.proofs.referred.Reads as referred-reads
+use Rattle.write_measure.proofs.table_in.Reads as table-in-reads
+use Rattle.write_measure.proofs.unlawful.Reads as unlawful-reads
+use Rattle.write_measure.proofs.+body+choice+list+marked_row+member_part+object+part+refer+row+rows+table+table_found.{statement}
+use Rattle.write_measure.proofs.+body+choice+list+marked_row+member_part+object+part+refer+row+rows+table+table_found.Tie.{close}
+
+abbrev μ-body : Measures 3 body-kinds.ps ℕ
+μ-body κs a = 8 * a .1 .1 .1 .0 + 3
+
+abbrev μ-choice : Measures 3 choice-kinds.ps ℕ
+μ-choice κs a = 8 * a .1 .1 .1 .0 + 2
+
+abbrev μ-list : Measures 3 list-kinds.ps ℕ
+μ-list κs a = 8 * a .1 .1 .1 .0 + 6
+
+abbrev μ-marked-row : Measures 3 marked-row-kinds.ps ℕ
+μ-marked-row κs a = 8 * a .1 .1 .1 .0 + 2
+
+abbrev μ-object : Measures 3 object-kinds.ps ℕ
+μ-object κs a = 8 * a .1 .1 .1 .0 + 0
+
+abbrev μ-member-part : Measures 3 member-part-kinds.ps ℕ
+μ-member-part κs a = 8 * a .1 .1 .1 .0 + 5
+
+abbrev μ-part : Measures 3 part-kinds.ps ℕ
+μ-part κs a = 8 * a .1 .1 .1 .0 + 4
+
+abbrev μ-refer : Measures 3 refer-kinds.ps ℕ
+μ-refer κs a = 8 * a .1 .1 .1 .0 + 1
+
+abbrev μ-row : Measures 3 row-kinds.ps ℕ
+μ-row κs a = 8 * a .1 .1 .1 .0 + 1
+
+abbrev μ-rows : Measures 3 rows-kinds.ps ℕ
+μ-rows κs a = 8 * a .1 .1 .1 .0 + 3
+
+abbrev μ-table-found : Measures 3 table-found-kinds.ps ℕ
+μ-table-found κs a = 8 * a .1 .1 .1 .0 + 7
+
+abbrev μ-table : Measures 3 table-kinds.ps ℕ
+μ-table κs a = 8 * a .1 .1 .1 .0 + 6
+
+abbrev marked-row-at : ℕ → In 3 marked-row-kinds.ps
+marked-row-at t = and 3 marked-row-kinds.ps (is 3 marked-row-kinds.ps μ-marked-row t) marked-row.Pre
+
+abbrev marked-row-below : ℕ → In 3 marked-row-kinds.ps
+marked-row-below t = and 3 marked-row-kinds.ps (falls 3 marked-row-kinds.ps _<_ μ-marked-row t) marked-row.Pre
+
+abbrev row-at : ℕ → In 3 row-kinds.ps
+row-at t = and 3 row-kinds.ps (is 3 row-kinds.ps μ-row t) row.Pre
+
+abbrev row-below : ℕ → In 3 row-kinds.ps
+row-below t = and 3 row-kinds.ps (falls 3 row-kinds.ps _<_ μ-row t) row.Pre
+
+abbrev rows-at : ℕ → In 3 rows-kinds.ps
+rows-at t = and 3 rows-kinds.ps (is 3 rows-kinds.ps μ-rows t) rows.Pre
+
+abbrev rows-below : ℕ → In 3 rows-kinds.ps
+rows-below t = and 3 rows-kinds.ps (falls 3 rows-kinds.ps _<_ μ-rows t) rows.Pre
+
+abbrev table-found-at : ℕ → In 3 table-found-kinds.ps
+table-found-at t = and 3 table-found-kinds.ps (is 3 table-found-kinds.ps μ-table-found t) table-found.Pre
+
+abbrev table-found-below : ℕ → In 3 table-found-kinds.ps
+table-found-below t = and 3 table-found-kinds.ps (falls 3 table-found-kinds.ps _<_ μ-table-found t) table-found.Pre
+
+abbrev body-at : ℕ → In 3 body-kinds.ps
+body-at t = and 3 body-kinds.ps (is 3 body-kinds.ps μ-body t) body.Pre
+
+abbrev body-below : ℕ → In 3 body-kinds.ps
+body-below t = and 3 body-kinds.ps (falls 3 body-kinds.ps _<_ μ-body t) body.Pre
+
+abbrev choice-at : ℕ → In 3 choice-kinds.ps
+choice-at t = and 3 choice-kinds.ps (is 3 choice-kinds.ps μ-choice t) choice.Pre
+
+abbrev choice-below : ℕ → In 3 choice-kinds.ps
+choice-below t = and 3 choice-kinds.ps (falls 3 choice-kinds.ps _<_ μ-choice t) choice.Pre
+
+abbrev list-at : ℕ → In 3 list-kinds.ps
+list-at t = and 3 list-kinds.ps (is 3 list-kinds.ps μ-list t) list.Pre
+
+abbrev list-below : ℕ → In 3 list-kinds.ps
+list-below t = and 3 list-kinds.ps (falls 3 list-kinds.ps _<_ μ-list t) list.Pre
+
+abbrev object-at : ℕ → In 3 object-kinds.ps
+object-at t = and 3 object-kinds.ps (is 3 object-kinds.ps μ-object t) object.Pre
+
+abbrev object-below : ℕ → In 3 object-kinds.ps
+object-below t = and 3 object-kinds.ps (falls 3 object-kinds.ps _<_ μ-object t) object.Pre
+
+abbrev member-part-at : ℕ → In 3 member-part-kinds.ps
+member-part-at t = and 3 member-part-kinds.ps (is 3 member-part-kinds.ps μ-member-part t) member-part.Pre
+
+abbrev member-part-below : ℕ → In 3 member-part-kinds.ps
+member-part-below t = and 3 member-part-kinds.ps (falls 3 member-part-kinds.ps _<_ μ-member-part t) member-part.Pre
+
+abbrev part-at : ℕ → In 3 part-kinds.ps
+part-at t = and 3 part-kinds.ps (is 3 part-kinds.ps μ-part t) part.Pre
+
+abbrev part-below : ℕ → In 3 part-kinds.ps
+part-below t = and 3 part-kinds.ps (falls 3 part-kinds.ps _<_ μ-part t) part.Pre
+
+abbrev refer-at : ℕ → In 3 refer-kinds.ps
+refer-at t = and 3 refer-kinds.ps (is 3 refer-kinds.ps μ-refer t) refer.Pre
+
+abbrev refer-below : ℕ → In 3 refer-kinds.ps
+refer-below t = and 3 refer-kinds.ps (falls 3 refer-kinds.ps _<_ μ-refer t) refer.Pre
+
+abbrev table-at : ℕ → In 3 table-kinds.ps
+table-at t = and 3 table-kinds.ps (is 3 table-kinds.ps μ-table t) table.Pre
+
+abbrev table-below : ℕ → In 3 table-kinds.ps
+table-below t = and 3 table-kinds.ps (falls 3 table-kinds.ps _<_ μ-table t) table.Pre
+
+abbrev marked-row-R : ℕ → marked-row-lts.Claims
+marked-row-R t = (take-number-reads.Asked, take-number-reads.Learnt, unlawful-reads.Asked, unlawful-reads.Learnt, plain-reads.Asked, plain-reads.Learnt, row-below t, row.Post)
+
+abbrev row-R : ℕ → row-lts.Claims
+row-R t = (unlawful-reads.Asked, unlawful-reads.Learnt, table-below t, table.Post, referred-reads.Asked, referred-reads.Learnt)
+
+abbrev rows-R : ℕ → rows-lts.Claims
+rows-R t = (fixed-size-reads.Asked, fixed-size-reads.Learnt, opened-reads.Asked, opened-reads.Learnt, marked-row-below t, marked-row.Post, unlawful-reads.Asked, unlawful-reads.Learnt, joined-reads.Asked, joined-reads.Learnt)
+
+abbrev table-found-R : ℕ → table-found-lts.Claims
+table-found-R t = (fixed-size-reads.Asked, fixed-size-reads.Learnt, table-below t, table.Post)
+
+abbrev body-R : ℕ → body-lts.Claims
+body-R t = (flat-test-reads.Asked, flat-test-reads.Learnt, plain-of-reads.Asked, plain-of-reads.Learnt, refer-below t, refer.Post, index-reads.Asked, index-reads.Learnt, choice-below t, choice.Post)
+
+abbrev choice-R : ℕ → choice-lts.Claims
+choice-R t = (case-count-reads.Asked, case-count-reads.Learnt, take-number-reads.Asked, take-number-reads.Learnt, unlawful-reads.Asked, unlawful-reads.Learnt, union-case-reads.Asked, union-case-reads.Learnt, refer-below t, refer.Post)
+
+abbrev list-R : ℕ → list-lts.Claims
+list-R t = (take-number-reads.Asked, take-number-reads.Learnt, unlawful-reads.Asked, unlawful-reads.Learnt, element-reads.Asked, element-reads.Learnt, elements-size-reads.Asked, elements-size-reads.Learnt, table-in-reads.Asked, table-in-reads.Learnt, rows-below t, rows.Post, opened-reads.Asked, opened-reads.Learnt, unmarked-reads.Asked, unmarked-reads.Learnt, unmarked-bits-reads.Asked, unmarked-bits-reads.Learnt, pass-reads.Asked, pass-reads.Learnt, part-below t, part.Post, joined-reads.Asked, joined-reads.Learnt)
+
+abbrev object-R : ℕ → object-lts.Claims
+object-R t = (unlawful-reads.Asked, unlawful-reads.Learnt, blob-reads.Asked, blob-reads.Learnt, index-reads.Asked, index-reads.Learnt, list-below t, list.Post, table-found-below t, table-found.Post)
+
+abbrev member-part-R : ℕ → member-part-lts.Claims
+member-part-R t = (part-below t, part.Post)
+
+abbrev part-R : ℕ → part-lts.Claims
+part-R t = (take-number-reads.Asked, take-number-reads.Learnt, unlawful-reads.Asked, unlawful-reads.Learnt, may-lack-reads.Asked, may-lack-reads.Learnt, plain-reads.Asked, plain-reads.Learnt, body-below t, body.Post, lost-reads.Asked, lost-reads.Learnt)
+
+abbrev refer-R : ℕ → refer-lts.Claims
+refer-R t = (blob-end-reads.Asked, blob-end-reads.Learnt, refer-blob-reads.Asked, refer-blob-reads.Learnt, object-below t, object.Post, referred-reads.Asked, referred-reads.Learnt)
+
+abbrev table-R : ℕ → table-lts.Claims
+table-R t = (member-count-reads.Asked, member-count-reads.Learnt, opened-reads.Asked, opened-reads.Learnt, simple-members-reads.Asked, simple-members-reads.Learnt, unlawful-reads.Asked, unlawful-reads.Learnt, member-reads.Asked, member-reads.Learnt, member-part-below t, member-part.Post, joined-reads.Asked, joined-reads.Learnt)
+
+-- src/lib.rt:514:22
+body-enum-known-k : (t : ℕ) → body-lts.Need-enum-known-k (body-R t) (body-at t) body.Post
+body-enum-known-k t c = search needs
+
+-- src/lib.rt:514:37
+body-flat-test-requires : (t : ℕ) → body-lts.Need-flat-test-requires (body-R t) (body-at t) body.Post
+body-flat-test-requires t c κs = search (kind-flat, needs)
+
+-- src/lib.rt:514:28
+body-plain-of-requires : (t : ℕ) → body-lts.Need-plain-of-requires (body-R t) (body-at t) body.Post
+body-plain-of-requires t c κs = search needs
+
+-- src/lib.rt:515:24
+body-enum-known-k-2 : (t : ℕ) → body-lts.Need-enum-known-k-2 (body-R t) (body-at t) body.Post
+body-enum-known-k-2 t c = search needs
+
+-- src/lib.rt:515:31
+body-refer-requires : (t : ℕ) → body-lts.Need-refer-requires (body-R t) (body-at t) body.Post
+body-refer-requires t c κs = search (kind-object, needs)
+
+-- src/lib.rt:516:23
+body-enum-known-k-3 : (t : ℕ) → body-lts.Need-enum-known-k-3 (body-R t) (body-at t) body.Post
+body-enum-known-k-3 t c = search needs
+
+-- src/lib.rt:516:50
+body-index-requires : (t : ℕ) → body-lts.Need-index-requires (body-R t) (body-at t) body.Post
+body-index-requires t c κs = search needs
+
+-- src/lib.rt:516:29
+body-choice-requires : (t : ℕ) → body-lts.Need-choice-requires (body-R t) (body-at t) body.Post
+body-choice-requires t c κs = search (union-counted, needs)
+
+-- src/lib.rt:509:1
+body-returns : (t : ℕ) → body-lts.Need-returns (body-R t) (body-at t) body.Post
+body-returns t c = search body-flat
+
+-- src/lib.rt:509:1
+body-returns-2 : (t : ℕ) → body-lts.Need-returns-2 (body-R t) (body-at t) body.Post
+body-returns-2 t c = search body-object
+
+-- src/lib.rt:509:1
+body-returns-3 : (t : ℕ) → body-lts.Need-returns-3 (body-R t) (body-at t) body.Post
+body-returns-3 t c = search body-union
+
+-- src/lib.rt:492:9
+choice-case-count-requires : (t : ℕ) → choice-lts.Need-case-count-requires (choice-R t) (choice-at t) choice.Post
+choice-case-count-requires t c κs = search needs
+
+-- src/lib.rt:493:9
+choice-take-number-requires : (t : ℕ) → choice-lts.Need-take-number-requires (choice-R t) (choice-at t) choice.Post
+choice-take-number-requires t c κs = search needs
+
+-- src/lib.rt:495:9
+choice-unlawful-requires : (t : ℕ) → choice-lts.Need-unlawful-requires (choice-R t) (choice-at t) choice.Post
+choice-unlawful-requires t c κs = search needs
+
+-- src/lib.rt:495:9
+choice-returns : (t : ℕ) → choice-lts.Need-returns (choice-R t) (choice-at t) choice.Post
+choice-returns t c = search choice-cut
+
+-- src/lib.rt:499:9
+choice-unlawful-requires-2 : (t : ℕ) → choice-lts.Need-unlawful-requires-2 (choice-R t) (choice-at t) choice.Post
+choice-unlawful-requires-2 t c κs = search needs
+
+-- src/lib.rt:499:9
+choice-returns-2 : (t : ℕ) → choice-lts.Need-returns-2 (choice-R t) (choice-at t) choice.Post
+choice-returns-2 t c = search choice-zero
+
+-- src/lib.rt:502:9
+choice-unlawful-requires-3 : (t : ℕ) → choice-lts.Need-unlawful-requires-3 (choice-R t) (choice-at t) choice.Post
+choice-unlawful-requires-3 t c κs = search needs
+
+-- src/lib.rt:502:9
+choice-returns-3 : (t : ℕ) → choice-lts.Need-returns-3 (choice-R t) (choice-at t) choice.Post
+choice-returns-3 t c = search choice-above
+
+-- src/lib.rt:504:9
+choice-union-case-requires : (t : ℕ) → choice-lts.Need-union-case-requires (choice-R t) (choice-at t) choice.Post
+choice-union-case-requires t c κs = search needs
+
+-- src/lib.rt:505:5
+choice-refer-requires : (t : ℕ) → choice-lts.Need-refer-requires (choice-R t) (choice-at t) choice.Post
+choice-refer-requires t c κs = search (case-sound, needs)
+
+-- src/lib.rt:488:1
+choice-returns-4 : (t : ℕ) → choice-lts.Need-returns-4 (choice-R t) (choice-at t) choice.Post
+choice-returns-4 t c = search choice-known
+
+abbrev list-Inv-loop : list-lts.InvT-loop
+list-Inv-loop b dir s d i at n k total u a₀ pos₀ j₀ a pos j =
+    (j ≤ n) × (n < 2 ^ 32) × (at ≤ 8 * length s) × (pos ≤ 8 * length s) × Small a × (unmarked k ≡ false)
+    × (surveyContent (survey d u48 (P.parse b)) u48 (P.parse b) (O.List i) (drop at (bits s)) ≡ surveyElements (survey d u48 (P.parse b)) u48 (P.parse b) k (n - j) a (drop pos (bits s)))
+
+abbrev list-μ-loop : list-lts.MeasureT-loop
+list-μ-loop b dir s d i at n k total u a₀ pos₀ j₀ a pos j = n - j
+
+-- src/lib.rt:590:9
+list-take-number-requires : (t : ℕ) → list-lts.Need-take-number-requires (list-R t) (list-at t) list.Post list-Inv-loop list-μ-loop
+list-take-number-requires t c κs = search needs
+
+-- src/lib.rt:592:9
+list-unlawful-requires : (t : ℕ) → list-lts.Need-unlawful-requires (list-R t) (list-at t) list.Post list-Inv-loop list-μ-loop
+list-unlawful-requires t c κs = search needs
+
+-- src/lib.rt:592:9
+list-returns : (t : ℕ) → list-lts.Need-returns (list-R t) (list-at t) list.Post list-Inv-loop list-μ-loop
+list-returns t c = search elements-cut
+
+-- src/lib.rt:595:9
+list-element-requires : (t : ℕ) → list-lts.Need-element-requires (list-R t) (list-at t) list.Post list-Inv-loop list-μ-loop
+list-element-requires t c κs = search needs
+
+-- src/lib.rt:596:27
+list-elements-size-requires : (t : ℕ) → list-lts.Need-elements-size-requires (list-R t) (list-at t) list.Post list-Inv-loop list-μ-loop
+list-elements-size-requires t c κs = search (element-sound, needs)
+
+list-table-in-requires : (t : ℕ) → list-lts.Need-table-in-requires (list-R t) (list-at t) list.Post list-Inv-loop list-μ-loop
+list-table-in-requires t c κs = search needs
+
+list-rows-requires : (t : ℕ) → list-lts.Need-rows-requires (list-R t) (list-at t) list.Post list-Inv-loop list-μ-loop
+list-rows-requires t c κs = search (row-counted, needs)
+
+list-returns-2 : (t : ℕ) → list-lts.Need-returns-2 (list-R t) (list-at t) list.Post list-Inv-loop list-μ-loop
+list-returns-2 t c = search elements-rows
+
+-- src/lib.rt:596:9
+list-opened-requires : (t : ℕ) → list-lts.Need-opened-requires (list-R t) (list-at t) list.Post list-Inv-loop list-μ-loop
+list-opened-requires t c κs = search needs
+
+list-unmarked-requires : (t : ℕ) → list-lts.Need-unmarked-requires (list-R t) (list-at t) list.Post list-Inv-loop list-μ-loop
+list-unmarked-requires t c κs = search needs
+
+list-unmarked-bits-requires : (t : ℕ) → list-lts.Need-unmarked-bits-requires (list-R t) (list-at t) list.Post list-Inv-loop list-μ-loop
+list-unmarked-bits-requires t c κs = search needs
+
+list-pass-requires : (t : ℕ) → list-lts.Need-pass-requires (list-R t) (list-at t) list.Post list-Inv-loop list-μ-loop
+list-pass-requires t c κs = search needs
+
+list-returns-3 : (t : ℕ) → list-lts.Need-returns-3 (list-R t) (list-at t) list.Post list-Inv-loop list-μ-loop
+list-returns-3 t c = search elements-unmarked
+
+-- src/lib.rt:599:5
+list-loop-holds : (t : ℕ) → list-lts.Need-loop-holds (list-R t) (list-at t) list.Post list-Inv-loop list-μ-loop
+list-loop-holds t c = (search needs, search needs, search needs, search needs, search needs, search marked, search elements-start)
+
+-- src/lib.rt:600:13
+list-part-requires : (t : ℕ) → list-lts.Need-part-requires (list-R t) (list-at t) list.Post list-Inv-loop list-μ-loop
+list-part-requires t c κs = search (element-sound, needs)
+
+-- src/lib.rt:602:13
+list-unlawful-requires-2 : (t : ℕ) → list-lts.Need-unlawful-requires-2 (list-R t) (list-at t) list.Post list-Inv-loop list-μ-loop
+list-unlawful-requires-2 t c κs = search needs
+
+-- src/lib.rt:602:13
+list-returns-4 : (t : ℕ) → list-lts.Need-returns-4 (list-R t) (list-at t) list.Post list-Inv-loop list-μ-loop
+list-returns-4 t c = search elements-stopped
+
+-- src/lib.rt:605:9
+list-joined-requires : (t : ℕ) → list-lts.Need-joined-requires (list-R t) (list-at t) list.Post list-Inv-loop list-μ-loop
+list-joined-requires t c κs = search needs
+
+-- src/lib.rt:606:9
+list-add-j : (t : ℕ) → list-lts.Need-add-j (list-R t) (list-at t) list.Post list-Inv-loop list-μ-loop
+list-add-j t c = search needs
+
+-- src/lib.rt:599:5
+list-loop-less : (t : ℕ) → list-lts.Need-loop-less (list-R t) (list-at t) list.Post list-Inv-loop list-μ-loop
+list-loop-less t c = search needs
+
+-- src/lib.rt:599:5
+list-loop-again : (t : ℕ) → list-lts.Need-loop-again (list-R t) (list-at t) list.Post list-Inv-loop list-μ-loop
+list-loop-again t c = (search needs, search needs, search needs, search needs, search needs, search needs, search elements-turn)
+
+-- src/lib.rt:586:1
+list-returns-5 : (t : ℕ) → list-lts.Need-returns-5 (list-R t) (list-at t) list.Post list-Inv-loop list-μ-loop
+list-returns-5 t c = search elements-done
+
+-- src/lib.rt:621:9
+object-unlawful-requires : (t : ℕ) → object-lts.Need-unlawful-requires (object-R t) (object-at t) object.Post
+object-unlawful-requires t c κs = search needs
+
+-- src/lib.rt:621:9
+object-returns : (t : ℕ) → object-lts.Need-returns (object-R t) (object-at t) object.Post
+object-returns t c = search object-deep
+
+-- src/lib.rt:624:25
+object-enum-told : (t : ℕ) → object-lts.Need-enum-told (object-R t) (object-at t) object.Post
+object-enum-told t c = search needs
+
+-- src/lib.rt:624:25
+object-blob-requires : (t : ℕ) → object-lts.Need-blob-requires (object-R t) (object-at t) object.Post
+object-blob-requires t c κs = search needs
+
+-- src/lib.rt:625:26
+object-enum-told-2 : (t : ℕ) → object-lts.Need-enum-told-2 (object-R t) (object-at t) object.Post
+object-enum-told-2 t c = search needs
+
+-- src/lib.rt:625:26
+object-blob-requires-2 : (t : ℕ) → object-lts.Need-blob-requires-2 (object-R t) (object-at t) object.Post
+object-blob-requires-2 t c κs = search needs
+
+-- src/lib.rt:626:22
+object-enum-known-ob : (t : ℕ) → object-lts.Need-enum-known-ob (object-R t) (object-at t) object.Post
+object-enum-known-ob t c = search needs
+
+-- src/lib.rt:626:44
+object-sub-list : (t : ℕ) → object-lts.Need-sub-list (object-R t) (object-at t) object.Post
+object-sub-list t c = search needs
+
+-- src/lib.rt:626:51
+object-index-requires : (t : ℕ) → object-lts.Need-index-requires (object-R t) (object-at t) object.Post
+object-index-requires t c κs = search needs
+
+-- src/lib.rt:626:28
+object-list-requires : (t : ℕ) → object-lts.Need-list-requires (object-R t) (object-at t) object.Post
+object-list-requires t c κs = search (list-counted, needs)
+
+-- src/lib.rt:627:23
+object-enum-known-ob-2 : (t : ℕ) → object-lts.Need-enum-known-ob-2 (object-R t) (object-at t) object.Post
+object-enum-known-ob-2 t c = search needs
+
+-- src/lib.rt:627:46
+object-sub-table-found : (t : ℕ) → object-lts.Need-sub-table-found (object-R t) (object-at t) object.Post
+object-sub-table-found t c = search needs
+
+-- src/lib.rt:627:53
+object-index-requires-2 : (t : ℕ) → object-lts.Need-index-requires-2 (object-R t) (object-at t) object.Post
+object-index-requires-2 t c κs = search needs
+
+-- src/lib.rt:627:29
+object-table-found-requires : (t : ℕ) → object-lts.Need-table-found-requires (object-R t) (object-at t) object.Post
+object-table-found-requires t c κs = search (table-counted, needs)
+
+-- src/lib.rt:616:1
+object-returns-2 : (t : ℕ) → object-lts.Need-returns-2 (object-R t) (object-at t) object.Post
+object-returns-2 t c = search object-text
+
+-- src/lib.rt:616:1
+object-returns-3 : (t : ℕ) → object-lts.Need-returns-3 (object-R t) (object-at t) object.Post
+object-returns-3 t c = search object-bytes
+
+-- src/lib.rt:616:1
+object-returns-4 : (t : ℕ) → object-lts.Need-returns-4 (object-R t) (object-at t) object.Post
+object-returns-4 t c = search object-list
+
+-- src/lib.rt:616:1
+object-returns-5 : (t : ℕ) → object-lts.Need-returns-5 (object-R t) (object-at t) object.Post
+object-returns-5 t c = search object-table
+
+-- src/lib.rt:525:9
+part-take-number-requires : (t : ℕ) → part-lts.Need-take-number-requires (part-R t) (part-at t) part.Post
+part-take-number-requires t c κs = search needs
+
+-- src/lib.rt:527:9
+part-unlawful-requires : (t : ℕ) → part-lts.Need-unlawful-requires (part-R t) (part-at t) part.Post
+part-unlawful-requires t c κs = search needs
+
+-- src/lib.rt:527:9
+part-returns : (t : ℕ) → part-lts.Need-returns (part-R t) (part-at t) part.Post
+part-returns t c = search part-cut
+
+-- src/lib.rt:534:27
+part-may-lack-requires : (t : ℕ) → part-lts.Need-may-lack-requires (part-R t) (part-at t) part.Post
+part-may-lack-requires t c κs = search needs
+
+-- src/lib.rt:534:21
+part-plain-requires : (t : ℕ) → part-lts.Need-plain-requires (part-R t) (part-at t) part.Post
+part-plain-requires t c κs = search needs
+
+-- src/lib.rt:532:9
+part-returns-2 : (t : ℕ) → part-lts.Need-returns-2 (part-R t) (part-at t) part.Post
+part-returns-2 t c = search part-none
+
+-- src/lib.rt:539:9
+part-body-requires : (t : ℕ) → part-lts.Need-body-requires (part-R t) (part-at t) part.Post
+part-body-requires t c κs = search needs
+
+-- src/lib.rt:539:9
+part-returns-3 : (t : ℕ) → part-lts.Need-returns-3 (part-R t) (part-at t) part.Post
+part-returns-3 t c = search part-there
+
+-- src/lib.rt:542:9
+part-lost-requires : (t : ℕ) → part-lts.Need-lost-requires (part-R t) (part-at t) part.Post
+part-lost-requires t c κs = search needs
+
+-- src/lib.rt:542:9
+part-returns-4 : (t : ℕ) → part-lts.Need-returns-4 (part-R t) (part-at t) part.Post
+part-returns-4 t c = search part-lost
+
+-- src/lib.rt:544:5
+part-unlawful-requires-2 : (t : ℕ) → part-lts.Need-unlawful-requires-2 (part-R t) (part-at t) part.Post
+part-unlawful-requires-2 t c κs = search needs
+
+-- src/lib.rt:521:1
+part-returns-5 : (t : ℕ) → part-lts.Need-returns-5 (part-R t) (part-at t) part.Post
+part-returns-5 t c = search part-bad
+
+-- src/lib.rt:477:9
+refer-blob-end-requires : (t : ℕ) → refer-lts.Need-blob-end-requires (refer-R t) (refer-at t) refer.Post
+refer-blob-end-requires t c κs = search needs
+
+refer-refer-blob-requires : (t : ℕ) → refer-lts.Need-refer-blob-requires (refer-R t) (refer-at t) refer.Post
+refer-refer-blob-requires t c κs = search needs
+
+refer-returns : (t : ℕ) → refer-lts.Need-returns (refer-R t) (refer-at t) refer.Post
+refer-returns t c = search refer-blob
+
+refer-object-requires : (t : ℕ) → refer-lts.Need-object-requires (refer-R t) (refer-at t) refer.Post
+refer-object-requires t c κs = search needs
+
+-- src/lib.rt:482:17
+refer-referred-requires : (t : ℕ) → refer-lts.Need-referred-requires (refer-R t) (refer-at t) refer.Post
+refer-referred-requires t c κs = search needs
+
+-- src/lib.rt:473:1
+refer-returns-2 : (t : ℕ) → refer-lts.Need-returns-2 (refer-R t) (refer-at t) refer.Post
+refer-returns-2 t c = search refer-surveyed
+
+abbrev table-Inv-loop : table-lts.InvT-loop
+table-Inv-loop b dir s d t size at count a₀ pos₀ j₀ a pos j =
+    (j ≤ count) × (count ≡ length (Sc.tableOf (P.parse b) t .members)) × (count < 256) × (at ≤ 8 * length s) × (pos ≤ 8 * length s) × Small a
+    × (surveyContent (survey d u48 (P.parse b)) u48 (P.parse b) (O.Table t) (drop at (bits s)) ≡ surveyMembers (survey d u48 (P.parse b)) u48 (P.parse b) (drop j (Sc.tableOf (P.parse b) t .members)) a (drop pos (bits s)))
+
+abbrev table-μ-loop : table-lts.MeasureT-loop
+table-μ-loop b dir s d t size at count a₀ pos₀ j₀ a pos j = count - j
+
+-- src/lib.rt:562:9
+table-member-count-requires : (t : ℕ) → table-lts.Need-member-count-requires (table-R t) (table-at t) table.Post table-Inv-loop table-μ-loop
+table-member-count-requires t c κs = search needs
+
+-- src/lib.rt:564:9
+table-opened-requires : (t : ℕ) → table-lts.Need-opened-requires (table-R t) (table-at t) table.Post table-Inv-loop table-μ-loop
+table-opened-requires t c κs = search needs
+
+-- src/lib.rt:567:5
+table-loop-holds : (t : ℕ) → table-lts.Need-loop-holds (table-R t) (table-at t) table.Post table-Inv-loop table-μ-loop
+table-loop-holds t c = (search needs, search needs, search needs, search needs, search needs, search needs, search members-start)
+
+table-simple-members-requires : (t : ℕ) → table-lts.Need-simple-members-requires (table-R t) (table-at t) table.Post table-Inv-loop table-μ-loop
+table-simple-members-requires t c κs = search (members-few, needs)
+
+table-unlawful-requires : (t : ℕ) → table-lts.Need-unlawful-requires (table-R t) (table-at t) table.Post table-Inv-loop table-μ-loop
+table-unlawful-requires t c κs = search needs
+
+table-returns : (t : ℕ) → table-lts.Need-returns (table-R t) (table-at t) table.Post table-Inv-loop table-μ-loop
+table-returns t c = search table-cut
+
+table-returns-2 : (t : ℕ) → table-lts.Need-returns-2 (table-R t) (table-at t) table.Post table-Inv-loop table-μ-loop
+table-returns-2 t c = search table-ended
+
+table-member-requires : (t : ℕ) → table-lts.Need-member-requires (table-R t) (table-at t) table.Post table-Inv-loop table-μ-loop
+table-member-requires t c κs = (c .before .before .before .before .before .before .before .before .before .before .before .before .pre .1 .0 .directory, c .before .before .before .before .before .before .before .before .before .before .before .before .pre .1 .1, search member-counted, search needs)
+
+table-member-part-requires : (t : ℕ) → table-lts.Need-member-part-requires (table-R t) (table-at t) table.Post table-Inv-loop table-μ-loop
+table-member-part-requires t c κs = (omega (arith, c .before .before .before .before .before .before .before .before .before .before .before .before .before .pre .0), (c .before .before .before .before .before .before .before .before .before .before .before .before .before .pre .1 .0, member-kind _ _ (c .before .before .before .before .before .before .before .before .before .before .before .before .before .pre .1 .0) _ _ _ (c .member .ensures) _ (c .before .before .before .before .before .before .before .loop .inv .1) (c .before .if2 .left), c .before .before .before .before .before .before .before .before .before .before .before .before .before .pre .1 .2, c .before .before .before .before .before .simple-members .ensures .inside))
+
+table-unlawful-requires-2 : (t : ℕ) → table-lts.Need-unlawful-requires-2 (table-R t) (table-at t) table.Post table-Inv-loop table-μ-loop
+table-unlawful-requires-2 t c κs = search needs
+
+table-returns-3 : (t : ℕ) → table-lts.Need-returns-3 (table-R t) (table-at t) table.Post table-Inv-loop table-μ-loop
+table-returns-3 t c = table-stopped _ _ _ _ _ (c .before .before .before .before .before .before .before .before .before .before .before .loop .a) (c .before .before .before .before .before .before .before .before .before .before .before .loop .pos) (c .before .before .before .before .before .before .before .before .before .before .before .loop .j) (c .before .before .before .before .before .before .before .before .before .before .before .loop .inv .6) (c .before .before .before .before .before .before .before .before .before .simple-members .result .whole) (c .before .before .before .before .before .before .before .before .before .simple-members .result .index) (c .before .before .before .before .before .before .before .before .before .simple-members .result .extent) (c .before .before .before .before .before .before .before .before .before .simple-members .result .next) (c .before .before .before .before .before .before .before .before .before .simple-members .ensures) (c .before .before .before .before .before .before .before .if1 .left) _ (c .before .before .before .before .before .before .before .before .before .before .before .loop .inv .1) (c .before .before .before .before .before .if2 .left) _ (c .before .before .before .before .member .ensures) (c .before .before .before .member-part .result .whole) (c .before .before .before .member-part .result .extent) (c .before .before .before .member-part .result .next) (c .before .before .before .member-part .ensures) (c .before .before .before .before .before .before .before .before .before .before .before .loop .inv .3) (c .before .if3 .taken) _ _ _ (c .unlawful2 .ensures .0) (c .unlawful2 .ensures .1) (c .unlawful2 .ensures .2)
+
+table-joined-requires : (t : ℕ) → table-lts.Need-joined-requires (table-R t) (table-at t) table.Post table-Inv-loop table-μ-loop
+table-joined-requires t c κs = search needs
+
+table-add-j : (t : ℕ) → table-lts.Need-add-j (table-R t) (table-at t) table.Post table-Inv-loop table-μ-loop
+table-add-j t c = record { fits = omega (arith, c .before .before .before .before .before .if2 .left, c .before .before .before .before .before .before .before .before .before .before .before .loop .inv .2) }
+
+table-loop-less : (t : ℕ) → table-lts.Need-loop-less (table-R t) (table-at t) table.Post table-Inv-loop table-μ-loop
+table-loop-less t c = omega (arith, c .before .before .before .before .before .if2 .left, c .before .before .before .before .before .before .before .before .before .before .loop-test .taken, c .before .before .before .before .before .before .before .before .before .simple-members .ensures .on)
+
+table-loop-again : (t : ℕ) → table-lts.Need-loop-again (table-R t) (table-at t) table.Post table-Inv-loop table-μ-loop
+table-loop-again t c = (search needs, c .before .before .before .before .before .before .before .before .before .before .before .loop .inv .1, c .before .before .before .before .before .before .before .before .before .before .before .loop .inv .2, c .before .before .before .before .before .before .before .before .before .before .before .loop .inv .3, search needs, search needs, table-turn _ _ _ _ (c .before .before .before .before .before .before .before .before .before .before .before .before .before .before .before .before .before .args .at) (c .before .before .before .before .before .before .before .before .before .before .before .loop .a) (c .before .before .before .before .before .before .before .before .before .before .before .loop .pos) (c .before .before .before .before .before .before .before .before .before .before .before .loop .j) (c .before .before .before .before .before .before .before .before .before .before .before .loop .inv .6) (c .before .before .before .before .before .before .before .before .before .simple-members .result .whole) (c .before .before .before .before .before .before .before .before .before .simple-members .result .index) (c .before .before .before .before .before .before .before .before .before .simple-members .result .extent) (c .before .before .before .before .before .before .before .before .before .simple-members .result .next) (c .before .before .before .before .before .before .before .before .before .simple-members .ensures) (c .before .before .before .before .before .before .before .if1 .left) _ (c .before .before .before .before .before .before .before .before .before .before .before .loop .inv .1) (c .before .before .before .before .before .if2 .left) _ (c .before .before .before .before .member .ensures) (c .before .before .before .member-part .result .whole) (c .before .before .before .member-part .result .extent) (c .before .before .before .member-part .result .next) (c .before .before .before .member-part .ensures) (c .before .if3 .left) _ (c .joined .ensures))
+
+table-returns-4 : (t : ℕ) → table-lts.Need-returns-4 (table-R t) (table-at t) table.Post table-Inv-loop table-μ-loop
+table-returns-4 t c = search members-done
+
+member-part-part-requires : (t : ℕ) → member-part-lts.Need-part-requires (member-part-R t) (member-part-at t) member-part.Post
+member-part-part-requires t c κs = search needs
+
+member-part-returns : (t : ℕ) → member-part-lts.Need-returns (member-part-R t) (member-part-at t) member-part.Post
+member-part-returns t c = search needs
+
+marked-row-take-number-requires : (t : ℕ) → marked-row-lts.Need-take-number-requires (marked-row-R t) (marked-row-at t) marked-row.Post
+marked-row-take-number-requires t c κs = search needs
+
+marked-row-unlawful-requires : (t : ℕ) → marked-row-lts.Need-unlawful-requires (marked-row-R t) (marked-row-at t) marked-row.Post
+marked-row-unlawful-requires t c κs = search needs
+
+marked-row-returns : (t : ℕ) → marked-row-lts.Need-returns (marked-row-R t) (marked-row-at t) marked-row.Post
+marked-row-returns t c = search part-cut
+
+marked-row-plain-requires : (t : ℕ) → marked-row-lts.Need-plain-requires (marked-row-R t) (marked-row-at t) marked-row.Post
+marked-row-plain-requires t c κs = search needs
+
+marked-row-returns-2 : (t : ℕ) → marked-row-lts.Need-returns-2 (marked-row-R t) (marked-row-at t) marked-row.Post
+marked-row-returns-2 t c = search object-none
+
+marked-row-row-requires : (t : ℕ) → marked-row-lts.Need-row-requires (marked-row-R t) (marked-row-at t) marked-row.Post
+marked-row-row-requires t c κs = search needs
+
+marked-row-returns-3 : (t : ℕ) → marked-row-lts.Need-returns-3 (marked-row-R t) (marked-row-at t) marked-row.Post
+marked-row-returns-3 t c = search object-there
+
+marked-row-unlawful-requires-2 : (t : ℕ) → marked-row-lts.Need-unlawful-requires-2 (marked-row-R t) (marked-row-at t) marked-row.Post
+marked-row-unlawful-requires-2 t c κs = search needs
+
+marked-row-returns-4 : (t : ℕ) → marked-row-lts.Need-returns-4 (marked-row-R t) (marked-row-at t) marked-row.Post
+marked-row-returns-4 t c = search object-bad
+
+row-unlawful-requires : (t : ℕ) → row-lts.Need-unlawful-requires (row-R t) (row-at t) row.Post
+row-unlawful-requires t c κs = search needs
+
+row-returns : (t : ℕ) → row-lts.Need-returns (row-R t) (row-at t) row.Post
+row-returns t c = search row-deep
+
+row-sub-table : (t : ℕ) → row-lts.Need-sub-table (row-R t) (row-at t) row.Post
+row-sub-table t c = search needs
+
+row-table-requires : (t : ℕ) → row-lts.Need-table-requires (row-R t) (row-at t) row.Post
+row-table-requires t c κs = search needs
+
+row-referred-requires : (t : ℕ) → row-lts.Need-referred-requires (row-R t) (row-at t) row.Post
+row-referred-requires t c κs = search needs
+
+row-returns-2 : (t : ℕ) → row-lts.Need-returns-2 (row-R t) (row-at t) row.Post
+row-returns-2 t c = search row-there
+
+abbrev rows-Inv-loop : rows-lts.InvT-loop
+rows-Inv-loop b dir s d t n total at size a₀ pos₀ j₀ a pos j =
+    (j ≤ n) × (n < 2 ^ 32) × (at ≤ 8 * length s) × (pos ≤ 8 * length s) × Small a × (unmarked (OfObject (O.Table t)) ≡ false)
+    × (size ≡ L.fixedSize u48 (P.parse b) (Sc.tableOf (P.parse b) t .members)) × (size < 2 ^ 40)
+    × (surveyElements (survey d u48 (P.parse b)) u48 (P.parse b) (OfObject (O.Table t)) n (opened n total) (drop at (bits s))
+    ≡ surveyElements (survey d u48 (P.parse b)) u48 (P.parse b) (OfObject (O.Table t)) (n - j) a (drop pos (bits s)))
+
+abbrev rows-μ-loop : rows-lts.MeasureT-loop
+rows-μ-loop b dir s d t n total at size a₀ pos₀ j₀ a pos j = n - j
+
+rows-fixed-size-requires : (t : ℕ) → rows-lts.Need-fixed-size-requires (rows-R t) (rows-at t) rows.Post rows-Inv-loop rows-μ-loop
+rows-fixed-size-requires t c κs = search needs
+
+rows-opened-requires : (t : ℕ) → rows-lts.Need-opened-requires (rows-R t) (rows-at t) rows.Post rows-Inv-loop rows-μ-loop
+rows-opened-requires t c κs = search needs
+
+rows-loop-holds : (t : ℕ) → rows-lts.Need-loop-holds (rows-R t) (rows-at t) rows.Post rows-Inv-loop rows-μ-loop
+rows-loop-holds t c = (search needs, search needs, search needs, search needs, search needs, search object-marked, search needs, search needs, search rows-start)
+
+rows-marked-row-requires : (t : ℕ) → rows-lts.Need-marked-row-requires (rows-R t) (rows-at t) rows.Post rows-Inv-loop rows-μ-loop
+rows-marked-row-requires t c κs = search needs
+
+rows-unlawful-requires : (t : ℕ) → rows-lts.Need-unlawful-requires (rows-R t) (rows-at t) rows.Post rows-Inv-loop rows-μ-loop
+rows-unlawful-requires t c κs = search needs
+
+rows-returns : (t : ℕ) → rows-lts.Need-returns (rows-R t) (rows-at t) rows.Post rows-Inv-loop rows-μ-loop
+rows-returns t c = search elements-stopped
+
+rows-joined-requires : (t : ℕ) → rows-lts.Need-joined-requires (rows-R t) (rows-at t) rows.Post rows-Inv-loop rows-μ-loop
+rows-joined-requires t c κs = search needs
+
+rows-add-j : (t : ℕ) → rows-lts.Need-add-j (rows-R t) (rows-at t) rows.Post rows-Inv-loop rows-μ-loop
+rows-add-j t c = search needs
+
+rows-loop-less : (t : ℕ) → rows-lts.Need-loop-less (rows-R t) (rows-at t) rows.Post rows-Inv-loop rows-μ-loop
+rows-loop-less t c = search needs
+
+rows-loop-again : (t : ℕ) → rows-lts.Need-loop-again (rows-R t) (rows-at t) rows.Post rows-Inv-loop rows-μ-loop
+rows-loop-again t c = (search needs, search needs, search needs, search needs, search needs, search needs, search needs, search needs, search elements-turn)
+
+rows-returns-2 : (t : ℕ) → rows-lts.Need-returns-2 (rows-R t) (rows-at t) rows.Post rows-Inv-loop rows-μ-loop
+rows-returns-2 t c = search elements-done
+
+table-found-fixed-size-requires : (t : ℕ) → table-found-lts.Need-fixed-size-requires (table-found-R t) (table-found-at t) table-found.Post
+table-found-fixed-size-requires t c κs = search needs
+
+table-found-table-requires : (t : ℕ) → table-found-lts.Need-table-requires (table-found-R t) (table-found-at t) table-found.Post
+table-found-table-requires t c κs = search needs
+
+table-found-returns : (t : ℕ) → table-found-lts.Need-returns (table-found-R t) (table-found-at t) table-found.Post
+table-found-returns t c = search needs
+
+pub +body+choice+list+marked-row+member-part+object+part+refer+row+rows+table+table-found-spec : {M : Type 1} → statement M
++body+choice+list+marked-row+member-part+object+part+refer+row+rows+table+table-found-spec =
+    close μ-body μ-choice μ-list μ-marked-row μ-member-part μ-object μ-part μ-refer μ-row μ-rows μ-table μ-table-found (λ t. body-lts.spec (body-R t)
+    (body-at t)
+    body.Post
+    (body-enum-known-k t)
+    (body-flat-test-requires t)
+    (body-plain-of-requires t)
+    (body-enum-known-k-2 t)
+    (body-refer-requires t)
+    (body-enum-known-k-3 t)
+    (body-index-requires t)
+    (body-choice-requires t)
+    (body-returns t)
+    (body-returns-2 t)
+    (body-returns-3 t))
+    (λ t. choice-lts.spec (choice-R t)
+    (choice-at t)
+    choice.Post
+    (choice-case-count-requires t)
+    (choice-take-number-requires t)
+    (choice-unlawful-requires t)
+    (choice-returns t)
+    (choice-unlawful-requires-2 t)
+    (choice-returns-2 t)
+    (choice-unlawful-requires-3 t)
+    (choice-returns-3 t)
+    (choice-union-case-requires t)
+    (choice-refer-requires t)
+    (choice-returns-4 t))
+    (λ t. list-lts.spec (list-R t)
+    (list-at t)
+    list.Post
+    list-Inv-loop
+    list-μ-loop
+    (list-take-number-requires t)
+    (list-unlawful-requires t)
+    (list-returns t)
+    (list-element-requires t)
+    (list-elements-size-requires t)
+    (list-table-in-requires t)
+    (list-rows-requires t)
+    (list-returns-2 t)
+    (list-opened-requires t)
+    (list-unmarked-requires t)
+    (list-unmarked-bits-requires t)
+    (list-pass-requires t)
+    (list-returns-3 t)
+    (list-loop-holds t)
+    (list-part-requires t)
+    (list-unlawful-requires-2 t)
+    (list-returns-4 t)
+    (list-joined-requires t)
+    (list-add-j t)
+    (list-loop-less t)
+    (list-loop-again t)
+    (list-returns-5 t))
+    (λ t. marked-row-lts.spec (marked-row-R t)
+    (marked-row-at t)
+    marked-row.Post
+    (marked-row-take-number-requires t)
+    (marked-row-unlawful-requires t)
+    (marked-row-returns t)
+    (marked-row-plain-requires t)
+    (marked-row-returns-2 t)
+    (marked-row-row-requires t)
+    (marked-row-returns-3 t)
+    (marked-row-unlawful-requires-2 t)
+    (marked-row-returns-4 t))
+    (λ t. member-part-lts.spec (member-part-R t)
+    (member-part-at t)
+    member-part.Post
+    (member-part-part-requires t)
+    (member-part-returns t))
+    (λ t. object-lts.spec (object-R t)
+    (object-at t)
+    object.Post
+    (object-unlawful-requires t)
+    (object-returns t)
+    (object-enum-told t)
+    (object-blob-requires t)
+    (object-enum-told-2 t)
+    (object-blob-requires-2 t)
+    (object-enum-known-ob t)
+    (object-sub-list t)
+    (object-index-requires t)
+    (object-list-requires t)
+    (object-enum-known-ob-2 t)
+    (object-sub-table-found t)
+    (object-index-requires-2 t)
+    (object-table-found-requires t)
+    (object-returns-2 t)
+    (object-returns-3 t)
+    (object-returns-4 t)
+    (object-returns-5 t))
+    (λ t. part-lts.spec (part-R t)
+    (part-at t)
+    part.Post
+    (part-take-number-requires t)
+    (part-unlawful-requires t)
+    (part-returns t)
+    (part-may-lack-requires t)
+    (part-plain-requires t)
+    (part-returns-2 t)
+    (part-body-requires t)
+    (part-returns-3 t)
+    (part-lost-requires t)
+    (part-returns-4 t)
+    (part-unlawful-requires-2 t)
+    (part-returns-5 t))
+    (λ t. refer-lts.spec (refer-R t)
+    (refer-at t)
+    refer.Post
+    (refer-blob-end-requires t)
+    (refer-refer-blob-requires t)
+    (refer-returns t)
+    (refer-object-requires t)
+    (refer-referred-requires t)
+    (refer-returns-2 t))
+    (λ t. row-lts.spec (row-R t)
+    (row-at t)
+    row.Post
+    (row-unlawful-requires t)
+    (row-returns t)
+    (row-sub-table t)
+    (row-table-requires t)
+    (row-referred-requires t)
+    (row-returns-2 t))
+    (λ t. rows-lts.spec (rows-R t)
+    (rows-at t)
+    rows.Post
+    rows-Inv-loop
+    rows-μ-loop
+    (rows-fixed-size-requires t)
+    (rows-opened-requires t)
+    (rows-loop-holds t)
+    (rows-marked-row-requires t)
+    (rows-unlawful-requires t)
+    (rows-returns t)
+    (rows-joined-requires t)
+    (rows-add-j t)
+    (rows-loop-less t)
+    (rows-loop-again t)
+    (rows-returns-2 t))
+    (λ t. table-lts.spec (table-R t)
+    (table-at t)
+    table.Post
+    table-Inv-loop
+    table-μ-loop
+    (table-member-count-requires t)
+    (table-opened-requires t)
+    (table-loop-holds t)
+    (table-simple-members-requires t)
+    (table-unlawful-requires t)
+    (table-returns t)
+    (table-returns-2 t)
+    (table-member-requires t)
+    (table-member-part-requires t)
+    (table-unlawful-requires-2 t)
+    (table-returns-3 t)
+    (table-joined-requires t)
+    (table-add-j t)
+    (table-loop-less t)
+    (table-loop-again t)
+    (table-returns-4 t))
+    λ t. table-found-lts.spec (table-found-R t)
+    (table-found-at t)
+    table-found.Post
+    (table-found-fixed-size-requires t)
+    (table-found-table-requires t)
+    (table-found-returns t)

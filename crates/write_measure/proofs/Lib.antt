@@ -1,0 +1,5 @@
+pub mod FlatCases
+pub mod ExtentCases
+pub mod PartCases
+pub mod ObjectCases
+pub mod SimpleCases

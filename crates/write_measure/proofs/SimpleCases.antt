@@ -1,0 +1,431 @@
+-- The ways out of the survey of simple members, one lemma for each.
+use mathlib.Core.Path.{_≡_, refl, sym, ap, _∙_, subst}
+use mathlib.Core.Bool.{Bool, true, false, _&&_, not}
+use mathlib.Core.List.{List}
+use Prim.Native.Nat.{ℕ, zero, suc, _+_, _-_, _*_, _<_, _≤_}
+use native.Mathlib.Omega.{arith}
+use native.Mathlib.Numerals.{add-one}
+use lib.ListN.{length, drop}
+use lib.Seq.{drop-cons}
+use lib.Dec.{ltb, eqb}
+use borrow.Author.Tests.{eq-eqb, ne-eqb, lt-ltb, le-ltb, not-true, not-false}
+use Rattle.coding.specs.Lists.{pick}
+use Rattle.coding.specs.Bytes.{u48}
+use Rattle.coding.specs.Bits.{bits}
+use Rattle.coding.specs.Schema as Sc
+use Rattle.coding.specs.Schema.{Schema}
+use Rattle.coding.specs.Packed as P
+use Rattle.coding.specs.Layout as L
+use Rattle.coding.specs.Structs.{flatWidth}
+use Rattle.coding.specs.Sheet.{Parsed, fail, got, bind}
+use Rattle.coding.specs.declared.Cursor.{Cursor}
+use Rattle.coding.specs.declared.Slot.{Slot}
+use Rattle.message_layout.specs.Bounds.{Laid, Stands}
+use Rattle.coding.specs.declared.Flat.{Flat}
+use Rattle.coding.specs.declared.Flat.the-variants.{Boolean, Integer, Float, Enumerated, Struct}
+use Rattle.coding.specs.declared.Object.the-variants as O
+use Rattle.coding.specs.declared.Kind.{Kind}
+use Rattle.coding.specs.declared.Kind.the-variants.{OfFlat, OfObject, OfUnion}
+use Rattle.coding.specs.declared.Member.{Member}
+use Rattle.laws.specs.Sound.{FlatSound, MemberSound}
+use Rattle.laws.specs.SoundAt.{member-sound-at}
+use Rattle.schema.specs.Directory.{Accepted, Block, accepted-sound}
+use Rattle.schema.proofs.Access.{member-is}
+use Rattle.bitio.specs.Taken.{TakenNumber, TakenBytes}
+use Rattle.write_measure.specs.Survey.{testNumber, testIf, anyNumber, floatFine, belowCount, surveyMark, surveyFlat, surveyStruct, surveyLostFlat, flatMayLack, mayLack, plain, opened, joined, referred, Surveyor, plainOf, surveyBlob, surveyBody, surveyPart, surveyMembers, surveyContent, survey}
+use Rattle.write_measure.specs.Surveyed.{TestedAt, Small, Fits, SurveyedAt}
+use Rattle.write_measure.specs.BlobReferred.{BlobEnd, blobReferred}
+use Rattle.write_measure.specs.SimpleMembers.{flatPart, joinedPart, LeftAt, WholeBytes, flat-part-is, members-joined}
+use Rattle.write_measure.specs.declared.Extent.{Extent}
+use Rattle.write_measure.proofs.FlatCases.{integer-short, float-short}
+use Rattle.write_measure.proofs.PartCases.{flat-boolean, flat-integer, flat-float, flat-enum, flat-struct, struct-counted, kind-flat, refer-blob, object-there, blob-there, blob-referred}
+use Rattle.write_measure.proofs.ObjectCases.{members-done, members-stopped, members-turn}
+
+-- ---- what stands at a record, by its kind
+module _ (b : List ℕ) (at k : ℕ) (ek : k ≡ P.kindAt b at) where
+  boolean-at : k ≡ 0 → P.flatAt b at ≡ Boolean
+  unfolding P.flatAt P.flatOf
+  boolean-at e = simp (← ek, eq-eqb _ _ e)
+
+  integer-at : (k ≡ 0 → ⊥) → k < 9 → P.flatAt b at ≡ Integer (not (ltb k 5)) (P.widthOf k)
+  unfolding P.flatAt P.flatOf
+  integer-at h l = simp (← ek, ne-eqb _ _ h, lt-ltb _ _ l) (by (ltb k 5))
+    where
+      by : (t : Bool) → pick t (Integer false (P.widthOf k)) (Integer true (P.widthOf k)) ≡ Integer (not t) (P.widthOf k)
+      by true = refl
+      by false = refl
+
+  float-at : (k ≡ 0 → ⊥) → 9 ≤ k → k < 11 → P.flatAt b at ≡ Float (P.widthOf k)
+  unfolding P.flatAt P.flatOf
+  float-at h g l = let m : 5 ≤ k = omega arith in simp (← ek, ne-eqb _ _ h, le-ltb _ _ m, le-ltb _ _ g, lt-ltb _ _ l)
+
+  enum-at : k ≡ 11 → P.flatAt b at ≡ Enumerated (P.argumentAt b at)
+  unfolding P.flatAt P.flatOf
+  enum-at e = simp (← ek, e)
+
+  struct-at : (k ≡ 0 → ⊥) → 11 ≤ k → (k ≡ 11 → ⊥) → P.flatAt b at ≡ Struct (P.argumentAt b at)
+  unfolding P.flatAt P.flatOf
+  struct-at h g l =
+      let m : 5 ≤ k = omega arith in
+      let n : 9 ≤ k = omega arith in
+      simp (← ek, ne-eqb _ _ h, le-ltb _ _ m, le-ltb _ _ n, le-ltb _ _ g, ne-eqb _ _ l)
+
+  pub lack-enum : k ≡ 11 → true ≡ flatMayLack (P.optionalAt b at) (P.flatAt b at)
+  unfolding flatMayLack
+  lack-enum e = sym (ap (flatMayLack (P.optionalAt b at)) (enum-at e))
+
+  pub lack-other : (k ≡ 11 → ⊥) → (o : Bool) → o ≡ P.optionalAt b at → o ≡ flatMayLack (P.optionalAt b at) (P.flatAt b at)
+  unfolding P.flatAt P.flatOf flatMayLack
+  lack-other h o eo = eo ∙ simp (← ek, ne-eqb _ _ h) (by (eqb k 0) (ltb k 5) (ltb k 9) (ltb k 11))
+    where
+      by : (t u v w : Bool)
+          → P.optionalAt b at
+          ≡ flatMayLack (P.optionalAt b at) (pick t Boolean (pick u (Integer false (P.widthOf k)) (pick v (Integer true (P.widthOf k)) (pick w (Float (P.widthOf k)) (Struct (P.argumentAt b at))))))
+      by true u v w = refl
+      by false true v w = refl
+      by false false true w = refl
+      by false false false true = refl
+      by false false false false = refl
+
+  -- what is there
+  module _ (s : List ℕ) (pos : ℕ) (w′ f′ : Bool) (n′ : ℕ) where
+    pub body-boolean : k ≡ 0 → TestedAt s (testNumber 1 anyNumber (drop pos (bits s))) w′ f′ n′
+        → TestedAt s (surveyFlat (surveyStruct (P.parse b)) (P.optionalAt b at) (P.flatAt b at) (drop pos (bits s))) w′ f′ n′
+    body-boolean e t = flat-boolean (P.parse b) s (P.optionalAt b at) (P.flatAt b at) pos w′ f′ n′ (boolean-at e) t
+
+    module _ (h : k ≡ 0 → ⊥) where
+      pub body-integer : k < 9 → (j : ℕ) → j ≡ P.widthOf k → TestedAt s (testNumber (8 * j) anyNumber (drop pos (bits s))) w′ f′ n′
+          → TestedAt s (surveyFlat (surveyStruct (P.parse b)) (P.optionalAt b at) (P.flatAt b at) (drop pos (bits s))) w′ f′ n′
+      body-integer l j ej t =
+          flat-integer (P.parse b) s (P.optionalAt b at) (P.flatAt b at) pos w′ f′ n′ (not (ltb k 5)) (P.widthOf k) j (integer-at h l) ej t
+
+      pub body-float : 9 ≤ k → k < 11 → (v : ℕ) → v ≡ P.widthOf k → (o : Bool) → o ≡ P.optionalAt b at
+          → TestedAt s (testNumber (8 * v) (floatFine o v) (drop pos (bits s))) w′ f′ n′
+          → TestedAt s (surveyFlat (surveyStruct (P.parse b)) (P.optionalAt b at) (P.flatAt b at) (drop pos (bits s))) w′ f′ n′
+      body-float g l v ev o eo t =
+          flat-float (P.parse b) s (P.optionalAt b at) (P.flatAt b at) pos w′ f′ n′ v (float-at h g l ∙ ap Float (sym ev))
+          (subst (λ (q : Bool). TestedAt s (testNumber (8 * v) (floatFine q v) (drop pos (bits s))) w′ f′ n′) eo t)
+
+      module _ (n : ℕ) (en : n ≡ P.argumentAt b at) where
+        pub body-struct : 11 ≤ k → (k ≡ 11 → ⊥) → TestedAt s (surveyStruct (P.parse b) n (drop pos (bits s))) w′ f′ n′
+            → TestedAt s (surveyFlat (surveyStruct (P.parse b)) (P.optionalAt b at) (P.flatAt b at) (drop pos (bits s))) w′ f′ n′
+        body-struct g l t =
+            flat-struct (P.parse b) s (P.optionalAt b at) (P.flatAt b at) pos w′ f′ n′ (P.argumentAt b at) n (struct-at h g l) en t
+
+    pub body-enum : k ≡ 11 → (n : ℕ) → n ≡ P.argumentAt b at → TestedAt s (testIf 8 (belowCount n) true (drop pos (bits s))) w′ f′ n′
+        → TestedAt s (surveyFlat (surveyStruct (P.parse b)) (P.optionalAt b at) (P.flatAt b at) (drop pos (bits s))) w′ f′ n′
+    body-enum e n en t = flat-enum (P.parse b) s (P.optionalAt b at) (P.flatAt b at) pos w′ f′ n′ n (enum-at e ∙ ap Enumerated (sym en)) t
+
+  -- bounds
+  module _ (sound : FlatSound (length (P.parse b .structs)) (P.flatAt b at)) (h : k ≡ 0 → ⊥) where
+    pub integer-fits : k < 9 → (j : ℕ) → j ≡ P.widthOf k → 8 * j ≤ 64
+    integer-fits l j ej = integer-short (length (P.parse b .structs)) (P.flatAt b at) (not (ltb k 5)) (P.widthOf k) j (integer-at h l) ej sound
+
+    pub float-fits : 9 ≤ k → k < 11 → (v : ℕ) → v ≡ P.widthOf k → v ≤ 8
+    float-fits g l v ev = float-short (length (P.parse b .structs)) (P.flatAt b at) v (float-at h g l ∙ ap Float (sym ev)) sound
+
+    pub struct-fits : 11 ≤ k → (k ≡ 11 → ⊥) → (n : ℕ) → n ≡ P.argumentAt b at → n < P.structCount b
+    struct-fits g l n en = struct-counted b (P.flatAt b at) (P.argumentAt b at) n (struct-at h g l) en sound
+
+  -- the kinds
+  flat-kind : k < 13 → P.elementAt b at ≡ OfFlat (P.flatAt b at)
+  unfolding P.elementAt P.kindOf P.flatAt
+  flat-kind l = simp (← ek, lt-ltb _ _ l)
+
+  object-kind : 13 ≤ k → k < 17 → P.elementAt b at ≡ OfObject (P.objectAt b at)
+  unfolding P.elementAt P.kindOf P.objectAt
+  object-kind g l = simp (← ek, le-ltb _ _ g, lt-ltb _ _ l)
+
+  union-kind : 17 ≤ k → P.elementAt b at ≡ OfUnion (P.argumentAt b at)
+  unfolding P.elementAt P.kindOf
+  union-kind g = let m : 13 ≤ k = omega arith in simp (← ek, le-ltb _ _ m, le-ltb _ _ g)
+
+  -- the bytes that a member takes
+  module _ (S : Schema) where
+    member-bytes : (q : Kind) → P.elementAt b at ≡ q → (P.optionalAt b at && L.takesFlag q) ≡ false → L.isBool q ≡ false → (w : ℕ) → L.width u48 S q ≡ w
+        → WholeBytes S (P.memberAt b at) w
+    unfolding P.memberAt L.afterMember L.afterValue L.afterFlag L.hasFlag
+    member-bytes q e f g w h =
+        record {
+          next = λ c.
+              ap (λ (y : Kind). pick (L.isBool y) (L.afterBit (pick (P.optionalAt b at && L.takesFlag y) (L.afterBit c) c)) (L.afterBytes (L.width u48 S y) (pick (P.optionalAt b at && L.takesFlag y) (L.afterBit c) c))) e
+              ∙ ap (λ (u : Bool). pick (L.isBool q) (L.afterBit (pick u (L.afterBit c) c)) (L.afterBytes (L.width u48 S q) (pick u (L.afterBit c) c))) f
+              ∙ ap (λ (u : Bool). pick u (L.afterBit c) (L.afterBytes (L.width u48 S q) c)) g
+              ∙ ap (λ (n : ℕ). L.afterBytes n c) h;
+        }
+
+    no-flag : (o : Bool) → (o && false) ≡ false
+    no-flag true = refl
+    no-flag false = refl
+
+    pub number-bytes : (k ≡ 0 → ⊥) → k < 9 → (o : Bool) → o ≡ P.optionalAt b at → o ≡ false → (w : ℕ) → w ≡ P.widthOf k → WholeBytes S (P.memberAt b at) w
+    unfolding L.isBool L.flatIsBool L.width flatWidth
+    number-bytes h l o eo f w ew =
+        let m : k < 13 = omega arith in
+        member-bytes (OfFlat (Integer (not (ltb k 5)) (P.widthOf k))) (flat-kind m ∙ ap OfFlat (integer-at h l))
+        (ap (λ (u : Bool). u && L.takesFlag (OfFlat (Integer (not (ltb k 5)) (P.widthOf k)))) (sym eo ∙ f)) refl w (sym ew)
+
+    pub float-bytes : (k ≡ 0 → ⊥) → 9 ≤ k → k < 11 → (w : ℕ) → w ≡ P.widthOf k → WholeBytes S (P.memberAt b at) w
+    unfolding L.isBool L.flatIsBool L.width flatWidth L.takesFlag L.flatTakesFlag
+    float-bytes h g l w ew =
+        let m : k < 13 = omega arith in
+        member-bytes (OfFlat (Float (P.widthOf k))) (flat-kind m ∙ ap OfFlat (float-at h g l)) (no-flag (P.optionalAt b at)) refl w (sym ew)
+
+    pub enum-bytes : k ≡ 11 → WholeBytes S (P.memberAt b at) 1
+    unfolding L.isBool L.flatIsBool L.width flatWidth L.takesFlag L.flatTakesFlag
+    enum-bytes e =
+        let m : k < 13 = omega arith in
+        member-bytes (OfFlat (Enumerated (P.argumentAt b at))) (flat-kind m ∙ ap OfFlat (enum-at e)) (no-flag (P.optionalAt b at)) refl 1 refl
+
+    pub object-bytes : 13 ≤ k → k < 17 → WholeBytes S (P.memberAt b at) 6
+    unfolding L.isBool L.width L.takesFlag u48
+    object-bytes g l = member-bytes (OfObject (P.objectAt b at)) (object-kind g l) (no-flag (P.optionalAt b at)) refl 6 refl
+
+    pub union-bytes : 17 ≤ k → WholeBytes S (P.memberAt b at) 8
+    unfolding L.isBool L.width L.takesFlag u48
+    union-bytes g = member-bytes (OfUnion (P.argumentAt b at)) (union-kind g) (no-flag (P.optionalAt b at)) refl 8 refl
+
+  blob-kind : 13 ≤ k → k < 15 → BlobEnd (P.objectAt b at) (14 - k)
+  unfolding P.objectAt P.objectOf
+  blob-kind g l =
+      record {
+        bytes = λ e. let z : k ≡ 14 = omega arith in let y : (k ≡ 13 → ⊥) = λ q. absurd (omega arith) in simp (← ek, ne-eqb _ _ y, eq-eqb _ _ z);
+        text = λ e. let z : k ≡ 13 = omega arith in simp (← ek, eq-eqb _ _ z);
+      }
+
+  pub flat-sound : k < 13 → MemberSound (P.parse b) (P.memberAt b at) → FlatSound (length (P.parse b .structs)) (P.flatAt b at)
+  unfolding P.memberAt
+  flat-sound l m = kind-flat (P.parse b) (P.elementAt b at) (P.flatAt b at) (flat-kind l) (m .kind)
+
+  -- ---- a member, with what stands before it
+  module _ (child : Surveyor) (s : List ℕ) (a : Extent) (pos : ℕ) where
+    pub simple-member-flat : k < 13 → (tw tf : Bool) (tn : ℕ)
+        → TestedAt s (flatPart (surveyStruct (P.parse b)) (P.optionalAt b at) (P.flatAt b at) (drop pos (bits s))) tw tf tn → (e : Extent) → Fits (joined a (plain tf)) e
+        → SurveyedAt s (joinedPart child u48 (P.parse b) (P.memberAt b at) a (drop pos (bits s))) tw e tn
+    unfolding joinedPart P.memberAt plainOf bind
+    simple-member-flat l tw tf tn t e f =
+        record {
+          is = ap (λ (q : Kind). bind (surveyPart child u48 (P.parse b) q (P.optionalAt b at) (P.inplaceAt b at) (drop pos (bits s))) (λ x ys. got (joined a x) ys)) (flat-kind l)
+              ∙ ap (λ p. bind p (λ x ys. got (joined a x) ys)) (flat-part-is child u48 (P.parse b) (P.flatAt b at) (P.optionalAt b at) (P.inplaceAt b at) (drop pos (bits s)))
+              ∙ ap (λ p. bind (plainOf p) (λ x ys. got (joined a x) ys)) (t .is) ∙ by tw
+              ∙ ap (λ (y : Extent). pick tw (got y (drop tn (bits s))) fail) (sym (f .is));
+          inside = t .inside;
+          small = f .small;
+        }
+      where
+        by : (u : Bool) → bind (plainOf (pick u (got tf (drop tn (bits s))) fail)) (λ x ys. got (joined a x) ys) ≡ pick u (got (joined a (plain tf)) (drop tn (bits s))) fail
+        by true = refl
+        by false = refl
+
+    pub simple-member-blob : 13 ≤ k → P.kindAt b at < 15 → (w : Bool) (x : Extent) (n : ℕ)
+        → SurveyedAt s (surveyPart child u48 (P.parse b) (OfObject (P.objectAt b at)) false (P.inplaceAt b at) (drop pos (bits s))) w x n
+        → (e : Extent) → Fits (joined a x) e → SurveyedAt s (joinedPart child u48 (P.parse b) (P.memberAt b at) a (drop pos (bits s))) w e n
+    unfolding joinedPart P.memberAt bind
+    simple-member-blob g l w x n t e f =
+        let m : k < 17 = omega arith in
+        record {
+          is = ap (λ (q : Kind). bind (surveyPart child u48 (P.parse b) q (P.optionalAt b at) (P.inplaceAt b at) (drop pos (bits s))) (λ x ys. got (joined a x) ys)) (object-kind g m)
+              ∙ ap (λ p. bind p (λ x ys. got (joined a x) ys)) (same (P.optionalAt b at) ∙ t .is) ∙ by w
+              ∙ ap (λ (y : Extent). pick w (got y (drop n (bits s))) fail) (sym (f .is));
+          inside = t .inside;
+          small = f .small;
+        }
+      where
+        same : (o : Bool) → surveyPart child u48 (P.parse b) (OfObject (P.objectAt b at)) o (P.inplaceAt b at) (drop pos (bits s))
+            ≡ surveyPart child u48 (P.parse b) (OfObject (P.objectAt b at)) false (P.inplaceAt b at) (drop pos (bits s))
+        same o = unfold surveyPart surveyMark surveyBody mayLack in refl
+
+        by : (u : Bool) → bind (pick u (got x (drop n (bits s))) fail) (λ y ys. got (joined a y) ys) ≡ pick u (got (joined a x) (drop n (bits s))) fail
+        by true = refl
+        by false = refl
+
+  -- a text or bytes with its mark
+  pub marked-blob : 13 ≤ P.kindAt b at → P.kindAt b at < 15 → (d : ℕ) (s : List ℕ) (pos : ℕ) (whole : Bool) (x next : ℕ) → TakenNumber s pos 2 whole x next → not whole ≡ false
+      → (x ≡ 0 → ⊥) → x ≡ 1 → (i : Bool) → i ≡ P.inplaceAt b at → (w : Bool) (e : Extent) (n : ℕ)
+      → SurveyedAt s (blobReferred d u48 i false (14 - k) (drop next (bits s))) w e n
+      → SurveyedAt s (surveyPart (survey d u48 (P.parse b)) u48 (P.parse b) (OfObject (P.objectAt b at)) false (P.inplaceAt b at) (drop pos (bits s))) w e n
+  marked-blob g l d s pos whole x next taken h h0 h1 i ei w e n q =
+      let u : 13 ≤ k = omega arith in
+      let v : k < 15 = omega arith in
+      let m : 14 - k < 2 = omega arith in
+      object-there (survey d u48 (P.parse b)) (P.parse b) s (P.objectAt b at) false (P.inplaceAt b at) pos whole x next taken h h0 w e n h1
+      (refer-blob d (P.parse b) s (P.inplaceAt b at) false (P.objectAt b at) next (14 - k) (blob-kind u v) m w e n
+      (subst (λ (y : Bool). SurveyedAt s (blobReferred d u48 y false (14 - k) (drop next (bits s))) w e n) ei q))
+
+-- ---- what leads to no object, with its mark
+module _ (S : Schema) (s : List ℕ) (optional : Bool) (k : Flat) (pos : ℕ) (whole : Bool) (x next : ℕ) (taken : TakenNumber s pos 2 whole x next) where
+  pub flat-cut : pos ≤ 8 * length s → not whole ≡ true → (w f : Bool) (n : ℕ) → w ≡ false → n ≡ pos
+      → TestedAt s (flatPart (surveyStruct S) optional k (drop pos (bits s))) w f n
+  unfolding flatPart surveyMark bind
+  flat-cut l h w f n ew en = record { is = rw (taken .number, not-true whole h, ew); inside = rw en l }
+
+  module _ (h : not whole ≡ false) where
+    pub flat-none : x ≡ 0 → (t : Bool) → t ≡ flatMayLack optional k → TestedAt s (flatPart (surveyStruct S) optional k (drop pos (bits s))) true t next
+    unfolding flatPart surveyMark bind
+    flat-none e t et =
+        record { is = rw (taken .number, not-false whole h) (simp (eq-eqb x 0 e) (ap (λ (q : Bool). got q (drop next (bits s))) (sym et))); inside = taken .inside }
+
+    module _ (h0 : x ≡ 0 → ⊥) (w f : Bool) (n : ℕ) where
+      pub flat-there : x ≡ 1 → TestedAt s (surveyFlat (surveyStruct S) optional k (drop next (bits s))) w f n
+          → TestedAt s (flatPart (surveyStruct S) optional k (drop pos (bits s))) w f n
+      unfolding flatPart surveyMark bind
+      flat-there e t = record { is = rw (taken .number, not-false whole h) (simp (ne-eqb x 0 h0, eq-eqb x 1 e) (t .is)); inside = t .inside }
+
+      module _ (h1 : x ≡ 1 → ⊥) where
+        pub flat-unknown : x ≡ 2 → (g : Flat) → g ≡ k → TestedAt s (surveyLostFlat g (drop next (bits s))) w f n
+            → TestedAt s (flatPart (surveyStruct S) optional k (drop pos (bits s))) w f n
+        unfolding flatPart surveyMark bind
+        flat-unknown e g eg t =
+            record {
+              is = rw (taken .number, not-false whole h) (simp (ne-eqb x 0 h0, ne-eqb x 1 h1, eq-eqb x 2 e)
+                  (ap (λ (q : Flat). surveyLostFlat q (drop next (bits s))) (sym eg) ∙ t .is));
+              inside = t .inside;
+            }
+
+        pub flat-bad : pos ≤ 8 * length s → (x ≡ 2 → ⊥) → w ≡ false → n ≡ pos → TestedAt s (flatPart (surveyStruct S) optional k (drop pos (bits s))) w f n
+        unfolding flatPart surveyMark bind
+        flat-bad l h2 ew en =
+            record { is = rw (taken .number, not-false whole h) (simp (ne-eqb x 0 h0, ne-eqb x 1 h1, ne-eqb x 2 h2, ew)); inside = rw en l }
+
+-- ---- the record of member j
+pub record-sound : (b dir : List ℕ) → Accepted b dir → (t j : ℕ) → j < length (Sc.tableOf (P.parse b) t .members) → (r : ℕ)
+    → P.memberAt b r ≡ Sc.memberOf (P.parse b) t j → MemberSound (P.parse b) (P.memberAt b r)
+record-sound b dir a t j h r e = rw e (member-sound-at (P.parse b) (accepted-sound b dir a) t j h)
+
+pub record-is : (b : List ℕ) (t j first r : ℕ) → t < P.tableCount b → Block b 4 (P.tablePlace b t) first → j < length (Sc.tableOf (P.parse b) t .members)
+    → r ≡ P.recordPlace 4 first j → P.memberAt b r ≡ Sc.memberOf (P.parse b) t j
+record-is b t j first r l bl h e = member-is b t first l bl j r h (P.memberAt b r) e refl
+
+pub record-stands : (b dir : List ℕ) → Accepted b dir → (t j first r : ℕ) → t < P.tableCount b → Block b 4 (P.tablePlace b t) first
+    → j < length (Sc.tableOf (P.parse b) t .members) → r ≡ P.recordPlace 4 first j → MemberSound (P.parse b) (P.memberAt b r)
+record-stands b dir a t j first r l bl h e = record-sound b dir a t j h r (record-is b t j first r l bl h e)
+
+pub simple-member-counted : (b : List ℕ) (r k : ℕ) → k ≡ P.kindAt b r → k ≤ 14 → P.kindAt b r < 15
+simple-member-counted b r k e l = omega arith
+
+-- ---- the members from j on
+module _ (child : Surveyor) (S : Schema) (t : ℕ) (s : List ℕ) (p : Parsed Extent) (a : Extent) (pos j : ℕ)
+    (inv : p ≡ surveyMembers child u48 S (drop j (Sc.tableOf S t .members)) a (drop pos (bits s))) (count : ℕ) (ec : count ≡ length (Sc.tableOf S t .members)) where
+  pub left-here : j ≤ count → (from : ℕ) → from ≤ j → pos ≤ 8 * length s → Small a → LeftAt child S (Sc.tableOf S t .members) s from p true j a pos
+  left-here h from g l sm = record { is = inv; on = g; few = omega arith; inside = l; small = sm }
+
+  module _ (h : j < count) (m : Member) (em : m ≡ Sc.memberOf S t j) (whole : Bool) (x : Extent) (next : ℕ)
+      (q : SurveyedAt s (joinedPart child u48 S m a (drop pos (bits s))) whole x next) where
+    abbrev rest : Parsed Extent → Parsed Extent
+    rest r = bind r (λ e ys. surveyMembers child u48 S (drop (suc j) (Sc.tableOf S t .members)) e ys)
+
+    turned : p ≡ rest (pick whole (got x (drop next (bits s))) fail)
+    unfolding Sc.memberOf
+    turned =
+        let l : j < length (Sc.tableOf S t .members) = omega arith in
+        inv ∙ ap (λ (ms : List Member). surveyMembers child u48 S ms a (drop pos (bits s))) (drop-cons (Sc.tableOf S t .members) j Sc.plainBool l)
+        ∙ members-joined child u48 S (Sc.memberOf S t j) (drop (suc j) (Sc.tableOf S t .members)) a (drop pos (bits s))
+        ∙ ap rest (ap (λ (r : Member). joinedPart child u48 S r a (drop pos (bits s))) (sym em) ∙ q .is)
+
+    pub left-cut : not whole ≡ true → (from : ℕ) → from ≤ length (Sc.tableOf S t .members) → (e : Extent) → Small e → (at : ℕ) → at ≤ 8 * length s
+        → LeftAt child S (Sc.tableOf S t .members) s from p false from e at
+    unfolding bind
+    left-cut f from g e sm at l =
+        record { is = turned ∙ ap (λ (u : Bool). rest (pick u (got x (drop next (bits s))) fail)) (not-true whole f); on = omega arith; few = g; inside = l; small = sm }
+
+    pub left-turn : not whole ≡ false → p ≡ surveyMembers child u48 S (drop (j + 1) (Sc.tableOf S t .members)) x (drop next (bits s))
+    unfolding bind
+    left-turn f =
+        turned ∙ ap (λ (u : Bool). rest (pick u (got x (drop next (bits s))) fail)) (not-false whole f)
+        ∙ ap (λ (n : ℕ). surveyMembers child u48 S (drop n (Sc.tableOf S t .members)) x (drop next (bits s))) (sym (add-one j))
+
+pub members-few : (S : Schema) (t j count : ℕ) → count ≡ length (Sc.tableOf S t .members) → j ≤ count → j ≤ length (Sc.tableOf S t .members)
+members-few S t j count e h = omega arith
+
+-- ---- a table's content, once its members are gone over up to member i
+module _ (child : Surveyor) (S : Schema) (s : List ℕ) (t at : ℕ) (a : Extent) (pos j : ℕ)
+    (inv : surveyContent child u48 S (O.Table t) (drop at (bits s)) ≡ surveyMembers child u48 S (drop j (Sc.tableOf S t .members)) a (drop pos (bits s)))
+    (whole : Bool) (i : ℕ) (e : Extent) (next : ℕ)
+    (left : LeftAt child S (Sc.tableOf S t .members) s j (surveyMembers child u48 S (drop j (Sc.tableOf S t .members)) a (drop pos (bits s))) whole i e next) where
+  gone : (u : Bool) → whole ≡ u
+      → surveyContent child u48 S (O.Table t) (drop at (bits s)) ≡ pick u (surveyMembers child u48 S (drop i (Sc.tableOf S t .members)) e (drop next (bits s))) fail
+  gone u h = inv ∙ left .is ∙ ap (λ (v : Bool). pick v (surveyMembers child u48 S (drop i (Sc.tableOf S t .members)) e (drop next (bits s))) fail) h
+
+  pub table-cut : at ≤ 8 * length s → not whole ≡ true → (w : Bool) (x : Extent) (n : ℕ) → w ≡ false → n ≡ at → Small x
+      → SurveyedAt s (surveyContent child u48 S (O.Table t) (drop at (bits s))) w x n
+  table-cut l h w x n ew en sm = record { is = gone false (not-true whole h) ∙ sym (rw ew); inside = rw en l; small = sm }
+
+  module _ (h : not whole ≡ false) (count : ℕ) (ec : count ≡ length (Sc.tableOf S t .members)) where
+    pub table-ended : count ≤ i → SurveyedAt s (surveyContent child u48 S (O.Table t) (drop at (bits s))) true e next
+    table-ended l = members-done child S s t at e next i (gone true (not-false whole h)) count ec l (left .inside) (left .small)
+
+    module _ (l : i < count) (r : Member) (er : r ≡ Sc.memberOf S t i) (u : Bool) (x : Extent) (after : ℕ)
+        (q : SurveyedAt s (surveyPart child u48 S (r .kind) (r .optional) (r .inplace) (drop next (bits s))) u x after) where
+      pub table-stopped : at ≤ 8 * length s → not u ≡ true → (w : Bool) (y : Extent) (n : ℕ) → w ≡ false → n ≡ at → Small y
+          → SurveyedAt s (surveyContent child u48 S (O.Table t) (drop at (bits s))) w y n
+      table-stopped = members-stopped child S s t at e next i (gone true (not-false whole h)) count ec l r er u x after q
+
+      pub table-turn : not u ≡ false → (g : Extent) → Fits (joined e x) g
+          → surveyContent child u48 S (O.Table t) (drop at (bits s)) ≡ surveyMembers child u48 S (drop (i + 1) (Sc.tableOf S t .members)) g (drop after (bits s))
+      table-turn = members-turn child S s t at e next i (gone true (not-false whole h)) count ec l r er u x after q
+
+-- ---- a struct by its number
+pub struct-index-same : (b : List ℕ) (n i : ℕ) → i ≡ n → n < P.structCount b → i < P.structCount b
+struct-index-same b n i e h = rw e h
+
+pub struct-same : (S : Schema) (s : List ℕ) (pos n i : ℕ) → i ≡ n → (w f : Bool) (m : ℕ) → TestedAt s (surveyStruct S i (drop pos (bits s))) w f m
+    → TestedAt s (surveyStruct S n (drop pos (bits s))) w f m
+struct-same S s pos n i e w f m t = subst (λ (a : ℕ). TestedAt s (surveyStruct S a (drop pos (bits s))) w f m) e t
+
+-- ---- the cursor behind a member
+pub no-bytes : {A : Type 0} → 0 < 0 → A
+no-bytes h = absurd (omega arith)
+
+module _ (S : Schema) (t j : ℕ) (c : Cursor) where
+  pub behind-bytes : (m : Member) → m ≡ Sc.memberOf S t j → (w : ℕ) → (0 < w → WholeBytes S m w) → 0 < w
+      → _≡_ {A = Cursor} (record { end = c .end + w; byte = c .byte; bit = c .bit }) (L.afterMember u48 S (Sc.memberOf S t j) c)
+  unfolding L.afterBytes
+  behind-bytes m em w f h = sym (f h .next c) ∙ ap (λ (r : Member). L.afterMember u48 S r c) em
+
+  pub behind-placed : (r : Member) → r ≡ Sc.memberOf S t j → (e : ℕ) (slot : Slot) (next : Cursor)
+      → Stands (L.memberSlot u48 S r c) (L.afterMember u48 S r c) e slot next → next ≡ L.afterMember u48 S (Sc.memberOf S t j) c
+  behind-placed r er e slot next st = st .next-is ∙ ap (λ (q : Member). L.afterMember u48 S q c) er
+
+pub behind-laid : (j : ℕ) (c : Cursor) (w : ℕ) → w < 256 → Laid (4097 * j) c → Laid (4097 * (j + 1)) (record { end = c .end + w; byte = c .byte; bit = c .bit })
+behind-laid j c w h l =
+    let p = l .end in
+    let q = l .byte in
+    record { end = omega arith; byte = omega arith; bit = l .bit }
+
+-- ---- the bytes of an integer or a float
+pub width-is : (k j w : ℕ) → k ≡ j → w ≡ P.widthOf j → w ≡ P.widthOf k
+width-is k j w e h = rw e h
+
+more : (k n : ℕ) → n ≤ k → (k ≡ n → ⊥) → suc n ≤ k
+more k n l h = omega arith
+
+only : (k n : ℕ) → n ≤ k → k < suc n → k ≡ n
+only k n l h = omega arith
+
+pub width-last : (k : ℕ) → 0 < k → k < 11 → (k ≡ 1 → ⊥) → (k ≡ 2 → ⊥) → (k ≡ 3 → ⊥) → (k ≡ 4 → ⊥) → (k ≡ 5 → ⊥) → (k ≡ 6 → ⊥) → (k ≡ 7 → ⊥) → (k ≡ 8 → ⊥) → (k ≡ 9 → ⊥)
+    → 8 ≡ P.widthOf k
+width-last k g l a b c d e f h i j =
+    width-is k 10 8 (only k 10 (more k 9 (more k 8 (more k 7 (more k 6 (more k 5 (more k 4 (more k 3 (more k 2 (more k 1 g a) b) c) d) e) f) h) i) j) l) (unfold P.widthOf in refl)
+
+pub number-kind : (k : ℕ) → (k ≡ 0 → ⊥) → 0 < k
+number-kind zero h = absurd (h refl)
+number-kind (suc k) h = omega arith
+
+-- ---- a text or bytes that is there
+module _ (s : List ℕ) (d more : ℕ) (inplace may : Bool) (pos : ℕ) (h : d ≡ 0 → ⊥) (whole : Bool) (x next : ℕ) (taken : TakenNumber s pos 32 whole x next) where
+  blob-fails : not whole ≡ true → surveyBlob more (drop pos (bits s)) ≡ fail
+  unfolding surveyBlob bind
+  blob-fails f = rw (taken .number, not-true whole f)
+
+  pub there-cut : pos ≤ 8 * length s → not whole ≡ true → (w : Bool) (e : Extent) (n : ℕ) → w ≡ false → n ≡ pos → Small e
+      → SurveyedAt s (blobReferred d u48 inplace may more (drop pos (bits s))) w e n
+  unfolding blobReferred bind
+  there-cut l f w e n ew en sm = by d h
+    where
+      by : (k : ℕ) → (k ≡ 0 → ⊥) → SurveyedAt s (blobReferred k u48 inplace may more (drop pos (bits s))) w e n
+      by zero g = absurd (g refl)
+      by (suc k) g = record { is = ap (λ p. bind p (λ y ys. got (referred u48 inplace may y) ys)) (blob-fails f) ∙ sym (rw ew); inside = rw en l; small = sm }
+
+  pub there-whole : not whole ≡ false → (w : Bool) (n : ℕ) → TakenBytes s next x w n → (o : Extent) → Fits (opened x (x + more)) o
+      → (e : Extent) → Fits (referred u48 inplace may o) e → SurveyedAt s (blobReferred d u48 inplace may more (drop pos (bits s))) w e n
+  there-whole f w n t o fo e fe = blob-referred s d more inplace may pos h w o n (blob-there s pos more whole x next taken f w n t o fo) e fe

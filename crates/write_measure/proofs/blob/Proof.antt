@@ -1,0 +1,50 @@
+use borrow.Author.Needs.{needs}
+use Rattle.write_measure.proofs.PartCases.{blob-cut, blob-there}
+use Rattle.write_measure.proofs.blob.Statement.{statement}
+use Rattle.write_measure.proofs.blob.Tie as tie
+use Rattle.write_measure.proofs.blob.Reads as reads
+use Rattle.write_measure.proofs.blob.Lts as lts
+use Rattle.bitio.proofs.skip_bytes.Reads as skip-bytes-reads
+use Rattle.bitio.proofs.take_number.Reads as take-number-reads
+use Rattle.write_measure.proofs.opened.Reads as opened-reads
+use Rattle.write_measure.proofs.unlawful.Reads as unlawful-reads
+
+-- src/lib.rt:445:9
+take-number-requires : tie.Need-take-number-requires
+take-number-requires c κs = search needs
+
+-- src/lib.rt:447:9
+unlawful-requires : tie.Need-unlawful-requires
+unlawful-requires c κs = search needs
+
+-- src/lib.rt:447:9
+returns : tie.Need-returns
+returns c = search blob-cut
+
+-- src/lib.rt:450:9
+skip-bytes-requires : tie.Need-skip-bytes-requires
+skip-bytes-requires c κs = search needs
+
+-- src/lib.rt:455:27
+add-opened : tie.Need-add-opened
+add-opened c = search needs
+
+-- src/lib.rt:455:17
+opened-requires : tie.Need-opened-requires
+opened-requires c κs = search needs
+
+-- src/lib.rt:441:1
+returns-2 : tie.Need-returns-2
+returns-2 c = search blob-there
+
+pub blob-spec : {M : Type 1} → statement M
+blob-spec =
+    tie.close
+    (tie.spec
+    take-number-requires
+    unlawful-requires
+    returns
+    skip-bytes-requires
+    add-opened
+    opened-requires
+    returns-2)

@@ -1,0 +1,29 @@
+use borrow.Author.Needs.{needs}
+use Rattle.write_measure.proofs.FlatCases.{known-tested}
+use Rattle.write_measure.proofs.enum_known.Statement.{statement}
+use Rattle.write_measure.proofs.enum_known.Tie as tie
+use Rattle.write_measure.proofs.enum_known.Reads as reads
+use Rattle.write_measure.proofs.enum_known.Lts as lts
+use Rattle.bitio.proofs.take_number.Reads as take-number-reads
+use Rattle.wire.proofs.wide.Reads as wide-reads
+use Rattle.write_measure.proofs.tested_if.Reads as tested-if-reads
+
+-- src/lib.rt:120:9
+take-number-requires : tie.Need-take-number-requires
+take-number-requires c κs = search needs
+
+-- src/lib.rt:121:24
+wide-requires : tie.Need-wide-requires
+wide-requires c κs = search needs
+
+-- src/lib.rt:122:5
+tested-if-requires : tie.Need-tested-if-requires
+tested-if-requires c κs = search needs
+
+-- src/lib.rt:116:1
+returns : tie.Need-returns
+returns c = search known-tested
+
+pub enum-known-spec : {M : Type 1} → statement M
+enum-known-spec =
+    tie.close (tie.spec take-number-requires wide-requires tested-if-requires returns)

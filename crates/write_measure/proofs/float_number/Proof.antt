@@ -1,0 +1,34 @@
+use borrow.Author.Needs.{needs}
+use Rattle.write_measure.proofs.FlatCases.{float-tested}
+use Rattle.write_measure.proofs.float_number.Statement.{statement}
+use Rattle.write_measure.proofs.float_number.Tie as tie
+use Rattle.write_measure.proofs.float_number.Reads as reads
+use Rattle.write_measure.proofs.float_number.Lts as lts
+use Rattle.bitio.proofs.take_number.Reads as take-number-reads
+use Rattle.wire.proofs.index.Reads as index-reads
+use Rattle.write_measure.proofs.float_fine.Reads as float-fine-reads
+
+-- src/lib.rt:106:44
+index-requires : tie.Need-index-requires
+index-requires c κs = search needs
+
+-- src/lib.rt:106:40
+mul-take-number : tie.Need-mul-take-number
+mul-take-number c = search needs
+
+-- src/lib.rt:106:9
+take-number-requires : tie.Need-take-number-requires
+take-number-requires c κs = search needs
+
+-- src/lib.rt:110:15
+float-fine-requires : tie.Need-float-fine-requires
+float-fine-requires c κs = search needs
+
+-- src/lib.rt:102:1
+returns : tie.Need-returns
+returns c = search float-tested
+
+pub float-number-spec : {M : Type 1} → statement M
+float-number-spec =
+    tie.close
+    (tie.spec index-requires mul-take-number take-number-requires float-fine-requires returns)

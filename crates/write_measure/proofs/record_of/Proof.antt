@@ -1,0 +1,20 @@
+use borrow.Author.Needs.{needs}
+use Rattle.schema.proofs.Access.{member-inside}
+use Rattle.write_measure.proofs.SimpleCases.{record-is, record-stands}
+use Rattle.write_measure.proofs.record_of.Statement.{statement}
+use Rattle.write_measure.proofs.record_of.Tie as tie
+
+-- src/lib.rt:666:29
+table-place-requires : tie.Need-table-place-requires
+table-place-requires c κs = search needs
+
+-- src/lib.rt:666:5
+record-place-requires : tie.Need-record-place-requires
+record-place-requires c κs = search needs
+
+-- src/lib.rt:662:1
+returns : tie.Need-returns
+returns c = (search member-inside, search record-is, search record-stands)
+
+pub record-of-spec : {M : Type 1} → statement M
+record-of-spec = tie.close (tie.spec table-place-requires record-place-requires returns)

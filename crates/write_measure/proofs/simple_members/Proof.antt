@@ -1,0 +1,86 @@
+use borrow.Author.Needs.{needs}
+use Prim.Native.Nat.{_-_, _*_, _<_, _≤_}
+use mathlib.Core.Path.{_≡_, refl}
+use lib.ListN.{length, drop}
+use Rattle.coding.specs.Bytes.{u48}
+use Rattle.coding.specs.Bits.{bits}
+use Rattle.coding.specs.Packed as P
+use Rattle.coding.specs.Schema as Sc
+use Rattle.write_measure.specs.Survey.{surveyMembers, survey}
+use Rattle.write_measure.specs.Surveyed.{Small}
+use Rattle.write_measure.proofs.ObjectCases.{member-counted}
+use Rattle.write_measure.proofs.SimpleCases.{simple-member-counted, left-here, left-cut, left-turn}
+use Rattle.write_measure.proofs.simple_members.Statement.{statement}
+use Rattle.write_measure.proofs.simple_members.Tie as tie
+
+abbrev Inv-loop : tie.InvT-loop
+Inv-loop b dir s d t from e at count a₀ pos₀ j₀ a pos j =
+    (j ≤ count) × (count ≡ length (Sc.tableOf (P.parse b) t .members)) × (count < 256) × (from ≤ length (Sc.tableOf (P.parse b) t .members)) × (from ≤ j)
+    × (pos ≤ 8 * length s) × Small a
+    × (surveyMembers (survey d u48 (P.parse b)) u48 (P.parse b) (drop from (Sc.tableOf (P.parse b) t .members)) e (drop at (bits s))
+    ≡ surveyMembers (survey d u48 (P.parse b)) u48 (P.parse b) (drop j (Sc.tableOf (P.parse b) t .members)) a (drop pos (bits s)))
+
+abbrev μ-loop : tie.MeasureT-loop
+μ-loop b dir s d t from e at count a₀ pos₀ j₀ a pos j = count - j
+
+-- src/lib.rt:691:9
+member-count-requires : tie.Need-member-count-requires Inv-loop μ-loop
+member-count-requires c κs = search needs
+
+-- src/lib.rt:695:5
+loop-holds : tie.Need-loop-holds Inv-loop μ-loop
+loop-holds c = (search needs, search needs, search needs, search needs, search needs, search needs, search needs, refl)
+
+-- src/lib.rt:696:13
+record-of-requires : tie.Need-record-of-requires Inv-loop μ-loop
+record-of-requires c κs = (search needs, search needs, search member-counted, search needs)
+
+-- src/lib.rt:697:17
+kind-at-requires : tie.Need-kind-at-requires Inv-loop μ-loop
+kind-at-requires c κs = search needs
+
+-- src/lib.rt:698:13
+returns : tie.Need-returns Inv-loop μ-loop
+returns c = search left-here
+
+-- src/lib.rt:705:13
+simple-member-requires : tie.Need-simple-member-requires Inv-loop μ-loop
+simple-member-requires c κs = (search needs, search needs, search needs, search simple-member-counted, search needs, search needs, search needs)
+
+-- src/lib.rt:707:13
+returns-2 : tie.Need-returns-2 Inv-loop μ-loop
+returns-2 c = search left-cut
+
+-- src/lib.rt:716:9
+add-j : tie.Need-add-j Inv-loop μ-loop
+add-j c = search needs
+
+-- src/lib.rt:695:5
+loop-less : tie.Need-loop-less Inv-loop μ-loop
+loop-less c = search needs
+
+-- src/lib.rt:695:5
+loop-again : tie.Need-loop-again Inv-loop μ-loop
+loop-again c = (search needs, search needs, search needs, search needs, search needs, search needs, search needs, search left-turn)
+
+-- src/lib.rt:678:1
+returns-3 : tie.Need-returns-3 Inv-loop μ-loop
+returns-3 c = search left-here
+
+pub simple-members-spec : {M : Type 1} → statement M
+simple-members-spec =
+    tie.close
+    (tie.spec
+    Inv-loop
+    μ-loop
+    member-count-requires
+    loop-holds
+    record-of-requires
+    kind-at-requires
+    returns
+    simple-member-requires
+    returns-2
+    add-j
+    loop-less
+    loop-again
+    returns-3)

@@ -1,0 +1,1192 @@
+// The survey of a value sheet, which the writer makes before it stores anything: whether the sheet is lawful, whether it can be
+// written, and what each object takes.
+use coding::Cursor;
+use coding::Flat;
+use coding::Kind;
+use coding::Object;
+ghost use mathlib.Core.Path.{_≡_};
+ghost use mathlib.Core.Bool.{Bool, true, false, _&&_};
+ghost use Prim.Native.Nat.{ℕ, _+_, _-_, _*_, _%_, _<_, _≤_, _^_};
+ghost use lib.ListN.{length, take, drop, set, replicate};
+ghost use lib.Seq.{sets};
+ghost use Rattle.coding.specs.Bytes as B;
+ghost use Rattle.coding.specs.Bits.{bits, value, pack};
+ghost use Rattle.coding.specs.Packed as P;
+ghost use Rattle.coding.specs.Sheet as Sh;
+ghost use Rattle.coding.specs.Layout as L;
+ghost use Rattle.coding.specs.Lists.{pick};
+ghost use Rattle.coding.specs.Schema as Sc;
+ghost use Rattle.coding.specs.Step as T;
+ghost use lib.Dec.{ltb};
+ghost use Rattle.laws.specs.Sound.{FlatSound, ObjectSound, KindSound, MemberSound};
+ghost use Rattle.message_layout.specs.Bounds.{Laid};
+ghost use Rattle.schema.specs.Directory.{Accepted};
+ghost use Rattle.write_measure.specs.Survey as Sv;
+ghost use Rattle.write_measure.specs.UnmarkedElements as Ba;
+ghost use Rattle.write_measure.specs.BlobReferred.{BlobEnd, blobReferred};
+ghost use Rattle.write_measure.specs.Surveyed.{TestedAt, Small, Fits, SurveyedAt};
+ghost use Rattle.write_measure.specs.SimpleMembers.{flatPart, joinedPart, LeftAt, WholeBytes};
+
+// What an object of the sheet takes: whether it can be written; the length that its header gives; the bytes of its content
+// (width), of the contents in place behind it (chain), and of the objects that these refer to (below). The last two count to
+// one past the size. The order of the fields is for speed: behind a bool's padding, or as a pair just stored, they are copied
+// slowly.
+pub struct Extent {
+    pub chain: usize,
+    pub length: usize,
+    pub below: usize,
+    pub width: usize,
+    pub writable: bool,
+}
+
+// ---- what leads to no object
+// Whether it is lawful; if so, whether it can be written, and where the sheet goes on, in bits.
+pub struct Tested {
+    pub next: usize,
+    pub whole: bool,
+    pub fine: bool,
+}
+
+fn not_lawful(pos: usize) -> Tested
+    ensures { λ r. ⌜ (r .whole ≡ false) × (r .next ≡ pos) ⌝ }
+{
+    Tested {
+        whole: false,
+        fine: false,
+        next: pos,
+    }
+}
+
+// The answer of a number that must pass a test.
+fn tested_if(whole: bool, ok: bool, answer: bool, next: usize) -> Tested
+    ensures { λ r. ⌜ (r .whole ≡ (whole && ok)) × (r .fine ≡ answer) × (r .next ≡ next) ⌝ }
+{
+    if whole {
+        return Tested {
+            whole: ok,
+            fine: answer,
+            next: next,
+        };
+    }
+    Tested {
+        whole: false,
+        fine: answer,
+        next: next,
+    }
+}
+
+fn is_nan(w: u8, x: u64) -> bool
+    ensures { λ r. ⌜ r ≡ B.isNaN w x ⌝ }
+{
+    if w == 4 {
+        return 0x7F80_0000 < x % 0x8000_0000;
+    }
+    0x7FF0_0000_0000_0000 < x % 0x8000_0000_0000_0000
+}
+
+fn float_fine(optional: bool, w: u8, x: u64) -> bool
+    ensures { λ r. ⌜ r ≡ Sv.floatFine optional w x ⌝ }
+{
+    if optional {
+        return !is_nan(w, x);
+    }
+    true
+}
+
+pub fn unknown_enum(n: u8, x: u64) -> bool
+    ensures { λ r. ⌜ r ≡ Sh.unknownEnum n x ⌝ }
+{
+    if wire::wide(n) <= x {
+        return x != 255;
+    }
+    false
+}
+
+// Any number of w bits, passed over.
+fn any_number(s: &[u8], pos: usize, w: usize) -> Tested
+    requires { ⌜ (length (now s) ≤ 16777215) × (pos ≤ 8 * length (now s)) × (w ≤ 64) ⌝ }
+    ensures { λ r. ⌜ TestedAt (now (s .entry)) (Sv.testNumber w Sv.anyNumber (drop pos (bits (now (s .entry))))) (r .whole) (r .fine) (r .next) ⌝ }
+{
+    if w <= 8 * s.len() - pos {
+        return Tested {
+            whole: true,
+            fine: true,
+            next: pos + w,
+        };
+    }
+    not_lawful(pos)
+}
+
+fn float_number(s: &[u8], pos: usize, optional: bool, w: u8) -> Tested
+    requires { ⌜ (length (now s) ≤ 16777215) × (pos ≤ 8 * length (now s)) × (w ≤ 8) ⌝ }
+    ensures { λ r. ⌜ TestedAt (now (s .entry)) (Sv.testNumber (8 * w) (Sv.floatFine optional w) (drop pos (bits (now (s .entry))))) (r .whole) (r .fine) (r .next) ⌝ }
+{
+    let x = bitio::take_number(s, pos, 8 * wire::index(w));
+    let v = x.value;
+    Tested {
+        whole: x.whole,
+        fine: float_fine(optional, w, v),
+        next: x.next,
+    }
+}
+
+// An enum's number below its count.
+fn enum_known(s: &[u8], pos: usize, n: u8) -> Tested
+    requires { ⌜ (length (now s) ≤ 16777215) × (pos ≤ 8 * length (now s)) ⌝ }
+    ensures { λ r. ⌜ TestedAt (now (s .entry)) (Sv.testIf 8 (Sv.belowCount n) true (drop pos (bits (now (s .entry))))) (r .whole) (r .fine) (r .next) ⌝ }
+{
+    let x = bitio::take_number(s, pos, 8);
+    let ok = x.value < wire::wide(n);
+    tested_if(x.whole, ok, true, x.next)
+}
+
+// An enum's unknown number.
+fn enum_lost(s: &[u8], pos: usize, n: u8) -> Tested
+    requires { ⌜ (length (now s) ≤ 16777215) × (pos ≤ 8 * length (now s)) ⌝ }
+    ensures { λ r. ⌜ TestedAt (now (s .entry)) (Sv.testIf 8 (Sh.unknownEnum n) false (drop pos (bits (now (s .entry))))) (r .whole) (r .fine) (r .next) ⌝ }
+{
+    let x = bitio::take_number(s, pos, 8);
+    let v = x.value;
+    let ok = unknown_enum(n, v);
+    tested_if(x.whole, ok, false, x.next)
+}
+
+// A struct's enum, with its mark.
+fn enum_field(s: &[u8], pos: usize, n: u8) -> Tested
+    requires { ⌜ (length (now s) ≤ 16777215) × (pos ≤ 8 * length (now s)) ⌝ }
+    ensures { λ r. ⌜ TestedAt (now (s .entry)) (Sv.enumField n (drop pos (bits (now (s .entry))))) (r .whole) (r .fine) (r .next) ⌝ }
+{
+    let x = bitio::take_number(s, pos, 2);
+    if !x.whole {
+        return not_lawful(pos);
+    }
+    let mark = x.value;
+    let next = x.next;
+    if mark == 0 {
+        return Tested {
+            whole: true,
+            fine: true,
+            next: next,
+        };
+    }
+    if mark == 1 {
+        return enum_known(s, next, n);
+    }
+    if mark == 2 {
+        return enum_lost(s, next, n);
+    }
+    not_lawful(pos)
+}
+
+// ---- structs, by recursion on the struct index, which falls at every inner struct
+fn field_test(b: &[u8], dir: &[u16], s: &[u8], i: usize, k: Flat, pos: usize) -> Tested
+    requires { ⌜ (Accepted (now b) (now dir)) × (FlatSound i k) × (i < P.structCount (now b)) × (length (now s) ≤ 16777215) × (pos ≤ 8 * length (now s)) ⌝ }
+    ensures { λ r. ⌜ TestedAt (now (s .entry)) (Sv.surveyField (Sv.surveyStruct (P.parse (now (b .entry)))) k (drop pos (bits (now (s .entry))))) (r .whole) (r .fine) (r .next) ⌝ }
+{
+    match k {
+        Flat::Boolean => any_number(s, pos, 1),
+        Flat::Integer(_, w) => any_number(s, pos, 8 * wire::index(w)),
+        Flat::Float(w) => float_number(s, pos, false, w),
+        Flat::Enumerated(n) => enum_field(s, pos, n),
+        Flat::Struct(a) => struct_test(b, dir, s, wire::index(a), pos),
+    }
+}
+
+// Whether a struct has no unknown enum.
+fn struct_test(b: &[u8], dir: &[u16], s: &[u8], i: usize, at: usize) -> Tested
+    requires { ⌜ (Accepted (now b) (now dir)) × (i < P.structCount (now b)) × (length (now s) ≤ 16777215) × (at ≤ 8 * length (now s)) ⌝ }
+    ensures { λ r. ⌜ TestedAt (now (s .entry)) (Sv.surveyStruct (P.parse (now (b .entry))) i (drop at (bits (now (s .entry))))) (r .whole) (r .fine) (r .next) ⌝ }
+{
+    let n = schema::field_count(b, dir, i);
+    let mut pos = at;
+    let mut fine = true;
+    let mut j: usize = 0;
+    while j < n {
+        let k = schema::field(b, dir, i, j);
+        let t = field_test(b, dir, s, i, k, pos);
+        if !t.whole {
+            return not_lawful(at);
+        }
+        fine = both(fine, t.fine);
+        pos = t.next;
+        j += 1;
+    }
+    Tested {
+        whole: true,
+        fine: fine,
+        next: pos,
+    }
+}
+
+fn both(a: bool, b: bool) -> bool
+    ensures { λ r. ⌜ r ≡ (a && b) ⌝ }
+{
+    if a { b } else { false }
+}
+
+// What leads to no object, as a member or an element.
+fn flat_test(b: &[u8], dir: &[u16], s: &[u8], pos: usize, optional: bool, k: Flat) -> Tested
+    requires { ⌜ (Accepted (now b) (now dir)) × (FlatSound (length (P.parse (now b) .structs)) k) × (length (now s) ≤ 16777215) × (pos ≤ 8 * length (now s)) ⌝ }
+    ensures { λ r. ⌜ TestedAt (now (s .entry)) (Sv.surveyFlat (Sv.surveyStruct (P.parse (now (b .entry)))) optional k (drop pos (bits (now (s .entry))))) (r .whole) (r .fine) (r .next) ⌝ }
+{
+    match k {
+        Flat::Boolean => any_number(s, pos, 1),
+        Flat::Integer(_, w) => any_number(s, pos, 8 * wire::index(w)),
+        Flat::Float(w) => float_number(s, pos, optional, w),
+        Flat::Enumerated(n) => enum_known(s, pos, n),
+        Flat::Struct(a) => struct_test(b, dir, s, wire::index(a), pos),
+    }
+}
+
+// Its unknown number, of an enum only.
+fn flat_lost(s: &[u8], pos: usize, k: Flat) -> Tested
+    requires { ⌜ (length (now s) ≤ 16777215) × (pos ≤ 8 * length (now s)) ⌝ }
+    ensures { λ r. ⌜ TestedAt (now (s .entry)) (Sv.surveyLostFlat k (drop pos (bits (now (s .entry))))) (r .whole) (r .fine) (r .next) ⌝ }
+{
+    match k {
+        Flat::Boolean => not_lawful(pos),
+        Flat::Integer(_, _) => not_lawful(pos),
+        Flat::Float(_) => not_lawful(pos),
+        Flat::Enumerated(n) => enum_lost(s, pos, n),
+        Flat::Struct(_) => not_lawful(pos),
+    }
+}
+
+// ---- by the record of a member
+// The bytes of an integer or a float by its kind.
+fn number_width(k: usize) -> usize
+    requires { ⌜ (0 < k) × (k < 11) ⌝ }
+    ensures { λ r. ⌜ (r ≡ P.widthOf k) × (r ≤ 8) ⌝ }
+{
+    if k == 1 {
+        return 1;
+    }
+    if k == 2 {
+        return 2;
+    }
+    if k == 3 {
+        return 4;
+    }
+    if k == 4 {
+        return 8;
+    }
+    if k == 5 {
+        return 1;
+    }
+    if k == 6 {
+        return 2;
+    }
+    if k == 7 {
+        return 4;
+    }
+    if k == 8 {
+        return 8;
+    }
+    if k == 9 { 4 } else { 8 }
+}
+
+// Whether there may be no value.
+fn may_lack_at(b: &[u8], at: usize) -> bool
+    requires { ⌜ at + 1 < length (now b) ⌝ }
+    ensures { λ r. ⌜ r ≡ Sv.flatMayLack (P.optionalAt (now (b .entry)) at) (P.flatAt (now (b .entry)) at) ⌝ }
+{
+    if schema::kind_at(b, at) == 11 {
+        return true;
+    }
+    schema::optional_at(b, at)
+}
+
+// A struct by its number. It is apart for speed: the slices are stored for the call only where there is a struct.
+fn struct_at(b: &[u8], dir: &[u16], s: &[u8], n: u8, pos: usize) -> Tested
+    requires { ⌜ (Accepted (now b) (now dir)) × (n < P.structCount (now b)) × (length (now s) ≤ 16777215) × (pos ≤ 8 * length (now s)) ⌝ }
+    ensures { λ r. ⌜ TestedAt (now (s .entry)) (Sv.surveyStruct (P.parse (now (b .entry))) n (drop pos (bits (now (s .entry))))) (r .whole) (r .fine) (r .next) ⌝ }
+{
+    struct_test(b, dir, s, wire::index(n), pos)
+}
+
+// What is there.
+fn flat_body(b: &[u8], dir: &[u16], s: &[u8], at: usize, pos: usize) -> Tested
+    requires { ⌜ (Accepted (now b) (now dir)) × (at + 1 < length (now b)) × (FlatSound (length (P.parse (now b) .structs)) (P.flatAt (now b) at)) × (length (now s) ≤ 16777215) × (pos ≤ 8 * length (now s)) ⌝ }
+    ensures { λ r. ⌜ TestedAt (now (s .entry)) (Sv.surveyFlat (Sv.surveyStruct (P.parse (now (b .entry)))) (P.optionalAt (now (b .entry)) at) (P.flatAt (now (b .entry)) at) (drop pos (bits (now (s .entry))))) (r .whole) (r .fine) (r .next) ⌝ }
+{
+    let k = schema::kind_at(b, at);
+    if k == 0 {
+        return any_number(s, pos, 1);
+    }
+    if k < 9 {
+        return any_number(s, pos, 8 * number_width(k));
+    }
+    if k < 11 {
+        return float_number(s, pos, schema::optional_at(b, at), schema::width_of(k));
+    }
+    let n = schema::argument_at(b, at);
+    if k == 11 {
+        return enum_known(s, pos, n);
+    }
+    struct_at(b, dir, s, n, pos)
+}
+
+// With its mark.
+fn flat_part(b: &[u8], dir: &[u16], s: &[u8], at: usize, pos: usize) -> Tested
+    requires { ⌜ (Accepted (now b) (now dir)) × (at + 1 < length (now b)) × (FlatSound (length (P.parse (now b) .structs)) (P.flatAt (now b) at)) × (length (now s) ≤ 16777215) × (pos ≤ 8 * length (now s)) ⌝ }
+    ensures { λ r. ⌜ TestedAt (now (s .entry)) (flatPart (Sv.surveyStruct (P.parse (now (b .entry)))) (P.optionalAt (now (b .entry)) at) (P.flatAt (now (b .entry)) at) (drop pos (bits (now (s .entry))))) (r .whole) (r .fine) (r .next) ⌝ }
+{
+    let x = bitio::take_number(s, pos, 2);
+    if !x.whole {
+        return not_lawful(pos);
+    }
+    let mark = x.value;
+    let next = x.next;
+    if mark == 0 {
+        return Tested {
+            whole: true,
+            fine: may_lack_at(b, at),
+            next: next,
+        };
+    }
+    if mark == 1 {
+        return flat_body(b, dir, s, at, next);
+    }
+    if mark == 2 {
+        return flat_lost(s, next, schema::flat_at(b, at));
+    }
+    not_lawful(pos)
+}
+
+// A union's unknown choice.
+fn choice_lost(b: &[u8], dir: &[u16], s: &[u8], pos: usize, u: usize) -> Tested
+    requires { ⌜ (Accepted (now b) (now dir)) × (u < P.unionCount (now b)) × (length (now s) ≤ 16777215) × (pos ≤ 8 * length (now s)) ⌝ }
+    ensures { λ r. ⌜ TestedAt (now (s .entry)) (Sv.testIf 16 (Sv.aboveCount (length (Sc.casesOf (P.parse (now (b .entry))) u))) false (drop pos (bits (now (s .entry))))) (r .whole) (r .fine) (r .next) ⌝ }
+{
+    let n = schema::case_count(b, dir, u);
+    let x = bitio::take_number(s, pos, 16);
+    let ok = (n as u64) < x.value;
+    tested_if(x.whole, ok, false, x.next)
+}
+
+// ---- extents
+// Whether a part of the sheet is lawful; if so, what it takes, and where the sheet goes on, in bits.
+pub struct Surveyed {
+    pub extent: Extent,
+    pub next: usize,
+    pub whole: bool,
+}
+
+fn plain(fine: bool) -> Extent
+    ensures { λ r. ⌜ Fits (Sv.plain fine) r ⌝ }
+{
+    Extent {
+        writable: fine,
+        length: 0,
+        width: 0,
+        chain: 0,
+        below: 0,
+    }
+}
+
+pub fn opened(n: usize, w: usize) -> Extent
+    requires { ⌜ (n < 2 ^ 40) × (w < 2 ^ 48) ⌝ }
+    ensures { λ r. ⌜ Fits (Sv.opened n w) r ⌝ }
+{
+    Extent {
+        writable: true,
+        length: n,
+        width: w,
+        chain: 0,
+        below: 0,
+    }
+}
+
+fn unlawful(pos: usize) -> Surveyed
+    ensures { λ r. ⌜ (r .whole ≡ false) × (r .next ≡ pos) × Small (r .extent) ⌝ }
+{
+    Surveyed {
+        whole: false,
+        extent: plain(false),
+        next: pos,
+    }
+}
+
+fn plain_of(t: Tested) -> Surveyed
+    ensures { λ r. ⌜ (r .whole ≡ t .whole) × (r .next ≡ t .next) × Fits (Sv.plain (t .fine)) (r .extent) ⌝ }
+{
+    let whole = t.whole;
+    let next = t.next;
+    Surveyed {
+        whole: whole,
+        extent: plain(t.fine),
+        next: next,
+    }
+}
+
+// A count of bytes, to one past the size.
+pub fn capped(n: usize) -> usize
+    ensures { λ r. ⌜ (r ≡ Sv.capped n) × (r ≤ 16777216) ⌝ }
+{
+    if n <= 16777215 { n } else { 16777216 }
+}
+
+fn joined(a: Extent, e: Extent) -> Extent
+    requires { ⌜ Small a × Small e ⌝ }
+    ensures { λ r. ⌜ Fits (Sv.joined a e) r ⌝ }
+{
+    let length = a.length;
+    let width = a.width;
+    let chain = a.chain + e.chain;
+    let below = a.below + e.below;
+    Extent {
+        writable: both(a.writable, e.writable),
+        length: length,
+        width: width,
+        chain: capped(chain),
+        below: capped(below),
+    }
+}
+
+// With what leads to no object.
+fn joined_plain(a: Extent, fine: bool) -> Extent
+    requires { ⌜ Small a ⌝ }
+    ensures { λ r. ⌜ Fits (Sv.joined a (Sv.plain fine)) r ⌝ }
+{
+    let length = a.length;
+    let width = a.width;
+    let chain = a.chain;
+    let below = a.below;
+    Extent {
+        writable: both(a.writable, fine),
+        length: length,
+        width: width,
+        chain: chain,
+        below: below,
+    }
+}
+
+// In place: of some length, unless it may be of length 0.
+fn in_place_fine(may: bool, n: usize, fine: bool) -> bool
+    ensures { λ r. ⌜ r ≡ (pick may true (ltb 0 n) && fine) ⌝ }
+{
+    if may {
+        return fine;
+    }
+    if 0 < n { fine } else { false }
+}
+
+fn referred(inplace: bool, may: bool, e: Extent) -> Extent
+    requires { ⌜ Small e ⌝ }
+    ensures { λ r. ⌜ Fits (Sv.referred B.u48 inplace may e) r ⌝ }
+{
+    let fine = e.writable;
+    let below = e.below;
+    let size = e.width + e.chain;
+    if inplace {
+        return Extent {
+            writable: in_place_fine(may, e.length, fine),
+            length: 0,
+            width: 0,
+            chain: capped(size),
+            below: below,
+        };
+    }
+    Extent {
+        writable: fine,
+        length: 0,
+        width: 0,
+        chain: 0,
+        below: capped(10 + size + below),
+    }
+}
+
+// ---- sizes
+// The bytes of n elements of width w.
+fn times(w: usize, n: usize) -> usize
+    requires { ⌜ (w ≤ 4096) × (n < 2 ^ 32) ⌝ }
+    ensures { λ r. ⌜ (r ≡ w * n) × (r ≤ 4096 * 2 ^ 32) ⌝ }
+{
+    w * n
+}
+
+pub fn elements_size(b: &[u8], dir: &[u16], k: Kind, n: usize) -> usize
+    requires { ⌜ (Accepted (now b) (now dir)) × (KindSound (P.parse (now b)) k) × (n < 2 ^ 32) ⌝ }
+    ensures { λ r. ⌜ (r ≡ T.elementsSize B.u48 (P.parse (now (b .entry))) k n) × (r < 2 ^ 48) ⌝ }
+{
+    if message_layout::is_bool(k) {
+        return (n + 7) / 8;
+    }
+    times(message_layout::width(b, dir, k), n)
+}
+
+// Where the record of member j of table t stands.
+fn record_of(b: &[u8], dir: &[u16], t: usize, j: usize) -> usize
+    requires { ⌜ (Accepted (now b) (now dir)) × (t < P.tableCount (now b)) × (j < length (Sc.tableOf (P.parse (now b)) t .members)) × (j < 256) ⌝ }
+    ensures { λ r. ⌜ (r + 1 < length (now (b .entry))) × (P.memberAt (now (b .entry)) r ≡ Sc.memberOf (P.parse (now (b .entry))) t j) × MemberSound (P.parse (now (b .entry))) (P.memberAt (now (b .entry)) r) ⌝ }
+{
+    schema::record_place(4, schema::table_place(b, dir, t), j)
+}
+
+// The bytes of the member of the record at `at` where it takes no bit; 0 where it may take one, and of a struct.
+fn whole_bytes(b: &[u8], at: usize) -> usize
+    requires { ⌜ at + 1 < length (now b) ⌝ }
+    ensures { λ r. ⌜ (r < 256) × (0 < r → WholeBytes (P.parse (now (b .entry))) (P.memberAt (now (b .entry)) at) r) ⌝ }
+{
+    let k = schema::kind_at(b, at);
+    if k == 0 {
+        return 0;
+    }
+    if k < 9 {
+        if schema::optional_at(b, at) {
+            return 0;
+        }
+        return number_width(k);
+    }
+    if k < 11 {
+        return number_width(k);
+    }
+    if k == 11 {
+        return 1;
+    }
+    if k < 13 {
+        return 0;
+    }
+    if k < 17 { 6 } else { 8 }
+}
+
+// The cursor behind member j of table t.
+fn behind(b: &[u8], dir: &[u16], t: usize, j: usize, c: Cursor) -> Cursor
+    requires { ⌜ (Accepted (now b) (now dir)) × (t < P.tableCount (now b)) × (j < length (Sc.tableOf (P.parse (now b)) t .members)) × (j < 256) × Laid (4097 * j) c ⌝ }
+    ensures { λ r. ⌜ (r ≡ L.afterMember B.u48 (P.parse (now (b .entry))) (Sc.memberOf (P.parse (now (b .entry))) t j) c) × Laid (4097 * (j + 1)) r ⌝ }
+{
+    let w = whole_bytes(b, record_of(b, dir, t, j));
+    if 0 < w {
+        let end = c.end + w;
+        return Cursor {
+            end: end,
+            byte: c.byte,
+            bit: c.bit,
+        };
+    }
+    let r = schema::member(b, dir, t, j);
+    let q = message_layout::place_member(b, dir, r, c);
+    let next = q.next;
+    next
+}
+
+// A table's full fixed part.
+pub fn fixed_size(b: &[u8], dir: &[u16], t: usize) -> usize
+    requires { ⌜ (Accepted (now b) (now dir)) × (t < P.tableCount (now b)) ⌝ }
+    ensures { λ r. ⌜ (r ≡ L.fixedSize B.u48 (P.parse (now (b .entry))) (Sc.tableOf (P.parse (now (b .entry))) t .members)) × (r < 2 ^ 40) ⌝ }
+{
+    let count = schema::member_count(b, dir, t);
+    let mut c = message_layout::begin();
+    let mut j: usize = 0;
+    while j < count {
+        c = behind(b, dir, t, j, c);
+        j += 1;
+    }
+    c.end
+}
+
+// ---- members, elements and objects
+// Whether there may be no value.
+fn may_lack(optional: bool, k: Kind) -> bool
+    ensures { λ r. ⌜ r ≡ Sv.mayLack optional k ⌝ }
+{
+    match k {
+        Kind::OfFlat(f) => match f {
+            Flat::Boolean => optional,
+            Flat::Integer(_, _) => optional,
+            Flat::Float(_) => optional,
+            Flat::Enumerated(_) => true,
+            Flat::Struct(_) => optional,
+        },
+        Kind::OfObject(_) => true,
+        Kind::OfUnion(_) => true,
+    }
+}
+
+// Elements without a mark.
+pub fn unmarked(k: Kind) -> bool
+    ensures { λ r. ⌜ r ≡ Sh.unmarked k ⌝ }
+{
+    match k {
+        Kind::OfFlat(f) => match f {
+            Flat::Boolean => true,
+            Flat::Integer(_, _) => true,
+            Flat::Float(_) => false,
+            Flat::Enumerated(_) => false,
+            Flat::Struct(_) => false,
+        },
+        Kind::OfObject(_) => false,
+        Kind::OfUnion(_) => false,
+    }
+}
+
+// The table that is referred to, or 256.
+fn table_in(k: Kind) -> usize
+    ensures { λ r. ⌜ (r < 256 → k ≡ Kind.OfObject (Object.Table r)) ⌝ }
+{
+    match k {
+        Kind::OfFlat(_) => 256,
+        Kind::OfObject(ob) => match ob {
+            Object::Text => 256,
+            Object::Bytes => 256,
+            Object::List(_) => 256,
+            Object::Table(t) => wire::index(t),
+        },
+        Kind::OfUnion(_) => 256,
+    }
+}
+
+// The bits of an element without a mark.
+fn unmarked_bits(k: Kind) -> usize
+    ensures { λ r. ⌜ (r ≡ Ba.unmarkedBits k) × (r ≤ 2040) ⌝ }
+{
+    match k {
+        Kind::OfFlat(f) => match f {
+            Flat::Boolean => 1,
+            Flat::Integer(_, w) => 8 * wire::index(w),
+            Flat::Float(_) => 0,
+            Flat::Enumerated(_) => 0,
+            Flat::Struct(_) => 0,
+        },
+        Kind::OfObject(_) => 0,
+        Kind::OfUnion(_) => 0,
+    }
+}
+
+// n elements of w bits, passed over: any number will do.
+fn pass(s: &[u8], pos: usize, w: usize, n: usize, a: Extent) -> Surveyed
+    requires { ⌜ (length (now s) ≤ 16777215) × (pos ≤ 8 * length (now s)) × (w ≤ 2040) × (n < 2 ^ 32) × Small a ⌝ }
+    ensures { λ r. ⌜ SurveyedAt (now (s .entry)) (Ba.passed (n * w) a (drop pos (bits (now (s .entry))))) (r .whole) (r .extent) (r .next) ⌝ }
+{
+    let size = times(w, n);
+    if size <= 8 * s.len() - pos {
+        return Surveyed {
+            whole: true,
+            extent: a,
+            next: pos + size,
+        };
+    }
+    unlawful(pos)
+}
+
+// A text or bytes; a text has a byte more behind its own.
+fn blob(s: &[u8], pos: usize, more: usize) -> Surveyed
+    requires { ⌜ (length (now s) ≤ 16777215) × (pos ≤ 8 * length (now s)) × (more ≤ 1) ⌝ }
+    ensures { λ r. ⌜ SurveyedAt (now (s .entry)) (Sv.surveyBlob more (drop pos (bits (now (s .entry))))) (r .whole) (r .extent) (r .next) ⌝ }
+{
+    let x = bitio::take_number(s, pos, 32);
+    if !x.whole {
+        return unlawful(pos);
+    }
+    let n = x.value as usize;
+    let y = bitio::skip_bytes(s, x.next, n);
+    let whole = y.whole;
+    let next = y.next;
+    Surveyed {
+        whole: whole,
+        extent: opened(n, n + more),
+        next: next,
+    }
+}
+
+// The bytes behind its own: 1 of a text, 0 of bytes; 2 of what is neither.
+fn blob_end(ob: Object) -> usize
+    ensures { λ r. ⌜ BlobEnd ob r × (r ≤ 2) ⌝ }
+{
+    match ob {
+        Object::Text => 1,
+        Object::Bytes => 0,
+        Object::List(_) => 2,
+        Object::Table(_) => 2,
+    }
+}
+
+// A text or bytes that is referred to, or stands in place.
+fn refer_blob(s: &[u8], d: usize, more: usize, inplace: bool, may: bool, pos: usize) -> Surveyed
+    requires { ⌜ (length (now s) ≤ 16777215) × (pos ≤ 8 * length (now s)) × (more ≤ 1) ⌝ }
+    ensures { λ r. ⌜ SurveyedAt (now (s .entry)) (blobReferred d B.u48 inplace may more (drop pos (bits (now (s .entry))))) (r .whole) (r .extent) (r .next) ⌝ }
+{
+    if d == 0 {
+        return unlawful(pos);
+    }
+    let x = blob(s, pos, more);
+    let whole = x.whole;
+    let next = x.next;
+    Surveyed {
+        whole: whole,
+        extent: referred(inplace, may, x.extent),
+        next: next,
+    }
+}
+
+// ---- members that lead to no object but a text or bytes
+// A text or bytes that is there. It says what `refer_blob` says, and calls nothing but the cursor, for speed.
+fn blob_there(s: &[u8], d: usize, more: usize, inplace: bool, pos: usize) -> Surveyed
+    requires { ⌜ (length (now s) ≤ 16777215) × (pos ≤ 8 * length (now s)) × (more ≤ 1) ⌝ }
+    ensures { λ r. ⌜ SurveyedAt (now (s .entry)) (blobReferred d B.u48 inplace false more (drop pos (bits (now (s .entry))))) (r .whole) (r .extent) (r .next) ⌝ }
+{
+    if d == 0 {
+        return unlawful(pos);
+    }
+    let x = bitio::take_number(s, pos, 32);
+    if !x.whole {
+        return unlawful(pos);
+    }
+    let n = x.value as usize;
+    let y = bitio::skip_bytes(s, x.next, n);
+    let whole = y.whole;
+    let next = y.next;
+    let e = opened(n, n + more);
+    Surveyed {
+        whole: whole,
+        extent: referred(inplace, false, e),
+        next: next,
+    }
+}
+
+// The text or bytes of the record at `at`, with its mark.
+fn blob_part(b: &[u8], s: &[u8], d: usize, at: usize, pos: usize) -> Surveyed
+    requires { ⌜ (at + 1 < length (now b)) × (13 ≤ P.kindAt (now b) at) × (P.kindAt (now b) at < 15) × (length (now s) ≤ 16777215) × (pos ≤ 8 * length (now s)) ⌝ }
+    ensures { λ r. ⌜ SurveyedAt (now (s .entry)) (Sv.surveyPart (Sv.survey d B.u48 (P.parse (now (b .entry)))) B.u48 (P.parse (now (b .entry))) (Kind.OfObject (P.objectAt (now (b .entry)) at)) false (P.inplaceAt (now (b .entry)) at) (drop pos (bits (now (s .entry))))) (r .whole) (r .extent) (r .next) ⌝ }
+{
+    let x = bitio::take_number(s, pos, 2);
+    if !x.whole {
+        return unlawful(pos);
+    }
+    let mark = x.value;
+    let next = x.next;
+    if mark == 0 {
+        return Surveyed {
+            whole: true,
+            extent: plain(true),
+            next: next,
+        };
+    }
+    if mark == 1 {
+        let more = 14 - schema::kind_at(b, at);
+        return blob_there(s, d, more, schema::inplace_at(b, at), next);
+    }
+    unlawful(pos)
+}
+
+// The member of the record at `at`, with what stands before it.
+fn simple_member(
+    b: &[u8],
+    dir: &[u16],
+    s: &[u8],
+    d: usize,
+    at: usize,
+    a: Extent,
+    pos: usize,
+) -> Surveyed
+    requires { ⌜ (Accepted (now b) (now dir)) × (at + 1 < length (now b)) × (MemberSound (P.parse (now b)) (P.memberAt (now b) at)) × (P.kindAt (now b) at < 15) × (length (now s) ≤ 16777215) × (pos ≤ 8 * length (now s)) × Small a ⌝ }
+    ensures { λ r. ⌜ SurveyedAt (now (s .entry)) (joinedPart (Sv.survey d B.u48 (P.parse (now (b .entry)))) B.u48 (P.parse (now (b .entry))) (P.memberAt (now (b .entry)) at) a (drop pos (bits (now (s .entry))))) (r .whole) (r .extent) (r .next) ⌝ }
+{
+    if schema::kind_at(b, at) < 13 {
+        let x = flat_part(b, dir, s, at, pos);
+        let whole = x.whole;
+        let next = x.next;
+        return Surveyed {
+            whole: whole,
+            extent: joined_plain(a, x.fine),
+            next: next,
+        };
+    }
+    let x = blob_part(b, s, d, at, pos);
+    let whole = x.whole;
+    let next = x.next;
+    Surveyed {
+        whole: whole,
+        extent: joined(a, x.extent),
+        next: next,
+    }
+}
+
+// Members gone over up to `index`: whether they are lawful; if so, what is there, and where the sheet goes on, in bits.
+pub struct Left {
+    pub extent: Extent,
+    pub next: usize,
+    pub index: usize,
+    pub whole: bool,
+}
+
+// The members of table t from `from` on, up to one that is not simple.
+fn simple_members(
+    b: &[u8],
+    dir: &[u16],
+    s: &[u8],
+    d: usize,
+    t: usize,
+    from: usize,
+    e: Extent,
+    at: usize,
+) -> Left
+    requires { ⌜ (Accepted (now b) (now dir)) × (t < P.tableCount (now b)) × (from ≤ length (Sc.tableOf (P.parse (now b)) t .members)) × (length (now s) ≤ 16777215) × (at ≤ 8 * length (now s)) × Small e ⌝ }
+    ensures { λ r. ⌜ LeftAt (Sv.survey d B.u48 (P.parse (now (b .entry)))) (P.parse (now (b .entry))) (Sc.tableOf (P.parse (now (b .entry))) t .members) (now (s .entry)) from (Sv.surveyMembers (Sv.survey d B.u48 (P.parse (now (b .entry)))) B.u48 (P.parse (now (b .entry))) (drop from (Sc.tableOf (P.parse (now (b .entry))) t .members)) e (drop at (bits (now (s .entry))))) (r .whole) (r .index) (r .extent) (r .next) ⌝ }
+{
+    let count = schema::member_count(b, dir, t);
+    let mut a = e;
+    let mut pos = at;
+    let mut j = from;
+    while j < count {
+        let r = record_of(b, dir, t, j);
+        if 14 < schema::kind_at(b, r) {
+            return Left {
+                extent: a,
+                next: pos,
+                index: j,
+                whole: true,
+            };
+        }
+        let x = simple_member(b, dir, s, d, r, a, pos);
+        if !x.whole {
+            return Left {
+                extent: e,
+                next: at,
+                index: from,
+                whole: false,
+            };
+        }
+        pos = x.next;
+        a = x.extent;
+        j += 1;
+    }
+    Left {
+        extent: a,
+        next: pos,
+        index: j,
+        whole: true,
+    }
+}
+
+// No known value.
+fn lost(b: &[u8], dir: &[u16], s: &[u8], pos: usize, k: Kind) -> Surveyed
+    requires { ⌜ (Accepted (now b) (now dir)) × (KindSound (P.parse (now b)) k) × (length (now s) ≤ 16777215) × (pos ≤ 8 * length (now s)) ⌝ }
+    ensures { λ r. ⌜ SurveyedAt (now (s .entry)) (Sv.surveyLost (P.parse (now (b .entry))) k (drop pos (bits (now (s .entry))))) (r .whole) (r .extent) (r .next) ⌝ }
+{
+    match k {
+        Kind::OfFlat(f) => plain_of(flat_lost(s, pos, f)),
+        Kind::OfObject(_) => unlawful(pos),
+        Kind::OfUnion(u) => plain_of(choice_lost(b, dir, s, pos, wire::index(u))),
+    }
+}
+
+// An object that is referred to, or stands in place.
+fn refer(
+    b: &[u8],
+    dir: &[u16],
+    s: &[u8],
+    d: usize,
+    ob: Object,
+    inplace: bool,
+    may: bool,
+    pos: usize,
+) -> Surveyed
+    requires { ⌜ (Accepted (now b) (now dir)) × (ObjectSound (P.parse (now b)) ob) × (length (now s) ≤ 16777215) × (pos ≤ 8 * length (now s)) ⌝ }
+    ensures { λ r. ⌜ SurveyedAt (now (s .entry)) (Sv.surveyObject (Sv.survey d B.u48 (P.parse (now (b .entry)))) B.u48 inplace may ob (drop pos (bits (now (s .entry))))) (r .whole) (r .extent) (r .next) ⌝ }
+{
+    let more = blob_end(ob);
+    if more < 2 {
+        return refer_blob(s, d, more, inplace, may, pos);
+    }
+    let x = object(b, dir, s, d, ob, pos);
+    let whole = x.whole;
+    let next = x.next;
+    Surveyed {
+        whole: whole,
+        extent: referred(inplace, may, x.extent),
+        next: next,
+    }
+}
+
+// A union's known choice.
+fn choice(
+    b: &[u8],
+    dir: &[u16],
+    s: &[u8],
+    d: usize,
+    u: usize,
+    inplace: bool,
+    pos: usize,
+) -> Surveyed
+    requires { ⌜ (Accepted (now b) (now dir)) × (u < P.unionCount (now b)) × (length (now s) ≤ 16777215) × (pos ≤ 8 * length (now s)) ⌝ }
+    ensures { λ r. ⌜ SurveyedAt (now (s .entry)) (Sv.surveyChoice (Sv.survey d B.u48 (P.parse (now (b .entry)))) B.u48 inplace (Sc.casesOf (P.parse (now (b .entry))) u) (drop pos (bits (now (s .entry))))) (r .whole) (r .extent) (r .next) ⌝ }
+{
+    let n = schema::case_count(b, dir, u);
+    let x = bitio::take_number(s, pos, 16);
+    if !x.whole {
+        return unlawful(pos);
+    }
+    let c = x.value as usize;
+    if c == 0 {
+        return unlawful(pos);
+    }
+    if n < c {
+        return unlawful(pos);
+    }
+    let ob = schema::union_case(b, dir, u, c);
+    refer(b, dir, s, d, ob, inplace, true, x.next)
+}
+
+// What is there.
+fn body(
+    b: &[u8],
+    dir: &[u16],
+    s: &[u8],
+    d: usize,
+    k: Kind,
+    optional: bool,
+    inplace: bool,
+    pos: usize,
+) -> Surveyed
+    requires { ⌜ (Accepted (now b) (now dir)) × (KindSound (P.parse (now b)) k) × (length (now s) ≤ 16777215) × (pos ≤ 8 * length (now s)) ⌝ }
+    ensures { λ r. ⌜ SurveyedAt (now (s .entry)) (Sv.surveyBody (Sv.survey d B.u48 (P.parse (now (b .entry)))) B.u48 (P.parse (now (b .entry))) k optional inplace (drop pos (bits (now (s .entry))))) (r .whole) (r .extent) (r .next) ⌝ }
+{
+    match k {
+        Kind::OfFlat(f) => plain_of(flat_test(b, dir, s, pos, optional, f)),
+        Kind::OfObject(ob) => refer(b, dir, s, d, ob, inplace, false, pos),
+        Kind::OfUnion(u) => choice(b, dir, s, d, wire::index(u), inplace, pos),
+    }
+}
+
+// A member or an element with its mark.
+fn part(
+    b: &[u8],
+    dir: &[u16],
+    s: &[u8],
+    d: usize,
+    k: Kind,
+    optional: bool,
+    inplace: bool,
+    pos: usize,
+) -> Surveyed
+    requires { ⌜ (Accepted (now b) (now dir)) × (KindSound (P.parse (now b)) k) × (length (now s) ≤ 16777215) × (pos ≤ 8 * length (now s)) ⌝ }
+    ensures { λ r. ⌜ SurveyedAt (now (s .entry)) (Sv.surveyPart (Sv.survey d B.u48 (P.parse (now (b .entry)))) B.u48 (P.parse (now (b .entry))) k optional inplace (drop pos (bits (now (s .entry))))) (r .whole) (r .extent) (r .next) ⌝ }
+{
+    let x = bitio::take_number(s, pos, 2);
+    if !x.whole {
+        return unlawful(pos);
+    }
+    let mark = x.value;
+    let next = x.next;
+    if mark == 0 {
+        return Surveyed {
+            whole: true,
+            extent: plain(may_lack(optional, k)),
+            next: next,
+        };
+    }
+    if mark == 1 {
+        return body(b, dir, s, d, k, optional, inplace, next);
+    }
+    if mark == 2 {
+        return lost(b, dir, s, next, k);
+    }
+    unlawful(pos)
+}
+
+// A member with its mark. It is apart for speed: a table's slices are stored for the call only where there is such a member.
+fn member_part(
+    b: &[u8],
+    dir: &[u16],
+    s: &[u8],
+    d: usize,
+    k: Kind,
+    optional: bool,
+    inplace: bool,
+    pos: usize,
+) -> Surveyed
+    requires { ⌜ (Accepted (now b) (now dir)) × (KindSound (P.parse (now b)) k) × (length (now s) ≤ 16777215) × (pos ≤ 8 * length (now s)) ⌝ }
+    ensures { λ r. ⌜ SurveyedAt (now (s .entry)) (Sv.surveyPart (Sv.survey d B.u48 (P.parse (now (b .entry)))) B.u48 (P.parse (now (b .entry))) k optional inplace (drop pos (bits (now (s .entry))))) (r .whole) (r .extent) (r .next) ⌝ }
+{
+    part(b, dir, s, d, k, optional, inplace, pos)
+}
+
+// A table's content; `size` is that of its full fixed part.
+fn table(b: &[u8], dir: &[u16], s: &[u8], d: usize, t: usize, size: usize, at: usize) -> Surveyed
+    requires { ⌜ (Accepted (now b) (now dir)) × (t < P.tableCount (now b)) × (length (now s) ≤ 16777215) × (at ≤ 8 * length (now s)) × (size ≡ L.fixedSize B.u48 (P.parse (now b)) (Sc.tableOf (P.parse (now b)) t .members)) × (size < 2 ^ 40) ⌝ }
+    ensures { λ r. ⌜ SurveyedAt (now (s .entry)) (Sv.surveyContent (Sv.survey d B.u48 (P.parse (now (b .entry)))) B.u48 (P.parse (now (b .entry))) (Object.Table t) (drop at (bits (now (s .entry))))) (r .whole) (r .extent) (r .next) ⌝ }
+{
+    let count = schema::member_count(b, dir, t);
+    let mut a = opened(size, size);
+    let mut pos = at;
+    let mut j: usize = 0;
+    while j < count {
+        let g = simple_members(b, dir, s, d, t, j, a, pos);
+        if !g.whole {
+            return unlawful(at);
+        }
+        let i = g.index;
+        let e = g.extent;
+        if count <= i {
+            let next = g.next;
+            return Surveyed {
+                whole: true,
+                extent: e,
+                next: next,
+            };
+        }
+        let r = schema::member(b, dir, t, i);
+        let k = r.kind;
+        let x = member_part(b, dir, s, d, k, r.optional, r.inplace, g.next);
+        if !x.whole {
+            return unlawful(at);
+        }
+        pos = x.next;
+        a = joined(e, x.extent);
+        j = i + 1;
+    }
+    Surveyed {
+        whole: true,
+        extent: a,
+        next: pos,
+    }
+}
+
+// A table's content, with the size of its fixed part looked up.
+fn table_found(b: &[u8], dir: &[u16], s: &[u8], d: usize, t: usize, at: usize) -> Surveyed
+    requires { ⌜ (Accepted (now b) (now dir)) × (t < P.tableCount (now b)) × (length (now s) ≤ 16777215) × (at ≤ 8 * length (now s)) ⌝ }
+    ensures { λ r. ⌜ SurveyedAt (now (s .entry)) (Sv.surveyContent (Sv.survey d B.u48 (P.parse (now (b .entry)))) B.u48 (P.parse (now (b .entry))) (Object.Table t) (drop at (bits (now (s .entry))))) (r .whole) (r .extent) (r .next) ⌝ }
+{
+    let size = fixed_size(b, dir, t);
+    table(b, dir, s, d, t, size, at)
+}
+
+// ---- a list of tables, whose fixed parts all have one size
+fn row(b: &[u8], dir: &[u16], s: &[u8], d: usize, t: usize, size: usize, pos: usize) -> Surveyed
+    requires { ⌜ (Accepted (now b) (now dir)) × (t < P.tableCount (now b)) × (length (now s) ≤ 16777215) × (pos ≤ 8 * length (now s)) × (size ≡ L.fixedSize B.u48 (P.parse (now b)) (Sc.tableOf (P.parse (now b)) t .members)) × (size < 2 ^ 40) ⌝ }
+    ensures { λ r. ⌜ SurveyedAt (now (s .entry)) (Sv.surveyObject (Sv.survey d B.u48 (P.parse (now (b .entry)))) B.u48 false false (Object.Table t) (drop pos (bits (now (s .entry))))) (r .whole) (r .extent) (r .next) ⌝ }
+{
+    if d == 0 {
+        return unlawful(pos);
+    }
+    let x = table(b, dir, s, d - 1, t, size, pos);
+    let whole = x.whole;
+    let next = x.next;
+    Surveyed {
+        whole: whole,
+        extent: referred(false, false, x.extent),
+        next: next,
+    }
+}
+
+// With its mark.
+fn marked_row(
+    b: &[u8],
+    dir: &[u16],
+    s: &[u8],
+    d: usize,
+    t: usize,
+    size: usize,
+    pos: usize,
+) -> Surveyed
+    requires { ⌜ (Accepted (now b) (now dir)) × (t < P.tableCount (now b)) × (length (now s) ≤ 16777215) × (pos ≤ 8 * length (now s)) × (size ≡ L.fixedSize B.u48 (P.parse (now b)) (Sc.tableOf (P.parse (now b)) t .members)) × (size < 2 ^ 40) ⌝ }
+    ensures { λ r. ⌜ SurveyedAt (now (s .entry)) (Sv.surveyPart (Sv.survey d B.u48 (P.parse (now (b .entry)))) B.u48 (P.parse (now (b .entry))) (Kind.OfObject (Object.Table t)) true false (drop pos (bits (now (s .entry))))) (r .whole) (r .extent) (r .next) ⌝ }
+{
+    let x = bitio::take_number(s, pos, 2);
+    if !x.whole {
+        return unlawful(pos);
+    }
+    let mark = x.value;
+    let next = x.next;
+    if mark == 0 {
+        return Surveyed {
+            whole: true,
+            extent: plain(true),
+            next: next,
+        };
+    }
+    if mark == 1 {
+        return row(b, dir, s, d, t, size, next);
+    }
+    unlawful(pos)
+}
+
+// n of them.
+fn rows(
+    b: &[u8],
+    dir: &[u16],
+    s: &[u8],
+    d: usize,
+    t: usize,
+    n: usize,
+    total: usize,
+    at: usize,
+) -> Surveyed
+    requires { ⌜ (Accepted (now b) (now dir)) × (t < P.tableCount (now b)) × (length (now s) ≤ 16777215) × (at ≤ 8 * length (now s)) × (n < 2 ^ 32) × (total < 2 ^ 48) ⌝ }
+    ensures { λ r. ⌜ SurveyedAt (now (s .entry)) (Sv.surveyElements (Sv.survey d B.u48 (P.parse (now (b .entry)))) B.u48 (P.parse (now (b .entry))) (Kind.OfObject (Object.Table t)) n (Sv.opened n total) (drop at (bits (now (s .entry))))) (r .whole) (r .extent) (r .next) ⌝ }
+{
+    let size = fixed_size(b, dir, t);
+    let mut a = opened(n, total);
+    let mut pos = at;
+    let mut j: usize = 0;
+    while j < n {
+        let x = marked_row(b, dir, s, d, t, size, pos);
+        if !x.whole {
+            return unlawful(at);
+        }
+        pos = x.next;
+        a = joined(a, x.extent);
+        j += 1;
+    }
+    Surveyed {
+        whole: true,
+        extent: a,
+        next: pos,
+    }
+}
+
+// A list's content.
+fn list(b: &[u8], dir: &[u16], s: &[u8], d: usize, i: usize, at: usize) -> Surveyed
+    requires { ⌜ (Accepted (now b) (now dir)) × (i < P.listCount (now b)) × (length (now s) ≤ 16777215) × (at ≤ 8 * length (now s)) ⌝ }
+    ensures { λ r. ⌜ SurveyedAt (now (s .entry)) (Sv.surveyContent (Sv.survey d B.u48 (P.parse (now (b .entry)))) B.u48 (P.parse (now (b .entry))) (Object.List i) (drop at (bits (now (s .entry))))) (r .whole) (r .extent) (r .next) ⌝ }
+{
+    let y = bitio::take_number(s, at, 32);
+    if !y.whole {
+        return unlawful(at);
+    }
+    let n = y.value as usize;
+    let k = schema::element(b, dir, i);
+    let total = elements_size(b, dir, k, n);
+    let t = table_in(k);
+    if t < 256 {
+        return rows(b, dir, s, d, t, n, total, y.next);
+    }
+    let first = opened(n, total);
+    if unmarked(k) {
+        return pass(s, y.next, unmarked_bits(k), n, first);
+    }
+    let mut a = first;
+    let mut pos = y.next;
+    let mut j: usize = 0;
+    while j < n {
+        let x = part(b, dir, s, d, k, true, false, pos);
+        if !x.whole {
+            return unlawful(at);
+        }
+        pos = x.next;
+        a = joined(a, x.extent);
+        j += 1;
+    }
+    Surveyed {
+        whole: true,
+        extent: a,
+        next: pos,
+    }
+}
+
+// An object, d objects deep.
+pub fn object(b: &[u8], dir: &[u16], s: &[u8], d: usize, ob: Object, pos: usize) -> Surveyed
+    requires { ⌜ (Accepted (now b) (now dir)) × (ObjectSound (P.parse (now b)) ob) × (length (now s) ≤ 16777215) × (pos ≤ 8 * length (now s)) ⌝ }
+    ensures { λ r. ⌜ SurveyedAt (now (s .entry)) (Sv.survey d B.u48 (P.parse (now (b .entry))) ob (drop pos (bits (now (s .entry))))) (r .whole) (r .extent) (r .next) ⌝ }
+{
+    if d == 0 {
+        return unlawful(pos);
+    }
+    match ob {
+        Object::Text => blob(s, pos, 1),
+        Object::Bytes => blob(s, pos, 0),
+        Object::List(i) => list(b, dir, s, d - 1, wire::index(i), pos),
+        Object::Table(t) => table_found(b, dir, s, d - 1, wire::index(t), pos),
+    }
+}

@@ -1,0 +1,149 @@
+-- Flags, magics, references, and the start of an object's content.
+use mathlib.Core.Path.{_≡_, refl, ap, ap₂, _∙_, subst}
+use mathlib.Core.Bool.{Bool, true, false}
+use mathlib.Core.List.{List}
+use Prim.Native.Nat.{ℕ, _+_, _^_, _<_, _≤_}
+use native.Mathlib.Omega.{arith}
+use Rattle.coding.specs.Bytes.{u48, largest}
+use Rattle.coding.specs.Schema as Sc
+use Rattle.coding.specs.Schema.{Schema}
+use Rattle.coding.specs.Layout.{hasFlag}
+use Rattle.coding.specs.Walk.{headerSize, magic}
+use Rattle.coding.specs.declared.Object.{Object}
+use Rattle.laws.specs.Lists.{never}
+use Rattle.coding.specs.declared.Object.the-variants as O
+use Rattle.coding.specs.declared.Member.{Member}
+use Rattle.write_measure.specs.Summed.{capped-most}
+use Rattle.write_measure.specs.declared.Extent.{Extent}
+use Rattle.write_store.specs.State.{State, putBit, enterObject, enterContent, putNumber}
+use Rattle.write_pass.specs.EmitSheet.{openObject, flagged}
+use Rattle.write_store.specs.Storing.{stateOf, enteredObject, enteredContent, leftObject, leftContent, HeldOk, Stood, BitPut}
+use Rattle.write_pass.specs.Emitting.{closed, referred, opened, Opens, isBlob}
+use Rattle.write_store.specs.declared.Places.{Places}
+
+module _ (inplace : Bool) (c i r : Places) where
+  pub closed-content : inplace ≡ true → r ≡ leftContent c i → r ≡ closed inplace c i
+  unfolding closed
+  closed-content e h = rw e h
+
+  pub closed-object : inplace ≡ false → r ≡ leftObject c i → r ≡ closed inplace c i
+  unfolding closed
+  closed-object e h = rw e h
+
+-- ---- flags
+module _ (m : Member) (x : ℕ) (c q : Places) (o o₁ : List ℕ) (t : Bool) (et : t ≡ hasFlag m) where
+  pub flag-some : t ≡ true → BitPut (putBit x (stateOf c o)) (stateOf q o₁) c q → BitPut (flagged m x (stateOf c o)) (stateOf q o₁) c q
+  unfolding flagged
+  flag-some h p = rw (← et, h) p
+
+pub flag-none : (m : Member) (x : ℕ) (c : Places) (o : List ℕ) (t : Bool) → t ≡ hasFlag m → t ≡ false → HeldOk c → BitPut (flagged m x (stateOf c o)) (stateOf c o) c c
+unfolding flagged
+flag-none m x c o t et h ok = rw (← et, h) (record { is = refl; bool = ok; at = omega arith; tail = refl; next = refl })
+
+-- ---- magics
+module _ (S : Schema) (ob : Object) where
+  pub magic-text : ob ≡ O.Text → 0xD812_C8F5 ≡ magic S ob
+  unfolding magic
+  magic-text e = rw e
+
+  pub magic-bytes : ob ≡ O.Bytes → 0xDCDB_BE10 ≡ magic S ob
+  unfolding magic
+  magic-bytes e = rw e
+
+  pub magic-list : (i : ℕ) → ob ≡ O.List i → 0x3400_BB46 ≡ magic S ob
+  unfolding magic
+  magic-list i e = rw e
+
+  pub magic-table : (i j r : ℕ) → ob ≡ O.Table i → j ≡ i → r ≡ Sc.tableOf S j .id → r ≡ magic S ob
+  unfolding magic
+  magic-table i j r e ej er = rw (e, ← ej) er
+
+-- ---- references
+module _ (inplace : Bool) (x : Extent) (c r : Places) (o o₁ : List ℕ) where
+  pub referred-content : inplace ≡ true → Stood 6 (putNumber 6 (x .length) (stateOf c o)) (stateOf r o₁) c r → Stood 6 (referred inplace x (stateOf c o)) (stateOf r o₁) c r
+  unfolding referred u48
+  referred-content e t = rw e t
+
+  pub referred-object : inplace ≡ false → Stood 6 (putNumber 6 (c .next) (stateOf c o)) (stateOf r o₁) c r → Stood 6 (referred inplace x (stateOf c o)) (stateOf r o₁) c r
+  unfolding referred u48
+  referred-object e t = rw e t
+
+-- ---- contents
+held-none : (r : Places) → r .free ≡ 0 → r .held ≡ 0 → HeldOk r
+held-none r e f = record { free = omega arith; held = rw (e, f) (omega arith) }
+
+module _ (c q : Places) (w chain : ℕ) (eq : q ≡ enteredObject w chain c) (l : c .next ≤ 16777216) where
+  pub entered-low : q .at < 2 ^ 61
+  unfolding enteredObject
+  entered-low = let e = ap (λ (p : Places). p .at) eq in omega arith
+
+  pub entered-header : (put now : State) (h : Places) → Stood 4 put now q h → h .at < 2 ^ 61
+  unfolding enteredObject
+  entered-header put now h t = let e = ap (λ (p : Places). p .at) eq in let f = t .at in omega arith
+
+pub object-opened : (S : Schema) (ob : Object) (x : Extent) (c q h r : Places) (o o₁ o₂ : List ℕ) (mg : ℕ) → mg ≡ magic S ob → c .next ≤ 16777216
+    → q ≡ enteredObject (10 + x .width) (x .chain) c → Stood 4 (putNumber 4 mg (stateOf q o)) (stateOf h o₁) q h
+    → Stood 6 (putNumber 6 (x .length) (stateOf h o₁)) (stateOf r o₂) h r → Opens (openObject u48 S ob x (stateOf c o)) (stateOf r o₂) r
+unfolding openObject enterObject enteredObject headerSize u48 largest
+object-opened S ob x c q h r o o₁ o₂ mg em l eq t u =
+    let ea = ap (λ (p : Places). p .at) eq in
+    let et = ap (λ (p : Places). p .tail) eq in
+    let en = ap (λ (p : Places). p .next) eq in
+    let mt = capped-most (c .next + (10 + x .width)) in
+    let mn = capped-most (c .next + (10 + x .width) + x .chain) in
+    let ha = t .at in
+    let ht = t .tail in
+    let hn = t .next in
+    let ra = u .at in
+    let rt = u .tail in
+    let rn = u .next in
+    record {
+      is = u .is ∙ ap (putNumber 6 (x .length)) (t .is ∙ ap₂ (λ (m : ℕ) (p : Places). putNumber 4 m (stateOf p o)) em eq);
+      bool = held-none r (u .free ∙ t .free ∙ ap (λ (p : Places). p .free) eq) (u .held ∙ t .held ∙ ap (λ (p : Places). p .held) eq);
+      at = omega arith;
+      tail = omega arith;
+      next = omega arith;
+    }
+
+module _ (S : Schema) (ob : Object) (inplace : Bool) (x : Extent) (c r : Places) where
+  pub opened-content : inplace ≡ true → c .tail ≤ 16777216 → c .next ≤ 16777216 → r ≡ enteredContent (x .width) c → (o : List ℕ)
+      → Opens (opened S ob inplace x (stateOf c o)) (stateOf r o) r
+  unfolding opened enterContent enteredContent largest
+  opened-content e lt ln er o =
+      let ea = ap (λ (p : Places). p .at) er in
+      let et = ap (λ (p : Places). p .tail) er in
+      let en = ap (λ (p : Places). p .next) er in
+      let mt = capped-most (c .tail + x .width) in
+      rw e (record {
+        is = ap (λ (p : Places). stateOf p o) er;
+        bool = held-none r (ap (λ (p : Places). p .free) er) (ap (λ (p : Places). p .held) er);
+        at = omega arith;
+        tail = omega arith;
+        next = omega arith;
+      })
+
+  pub opened-object : inplace ≡ false → (o o₁ : List ℕ) → Opens (openObject u48 S ob x (stateOf c o)) (stateOf r o₁) r
+      → Opens (opened S ob inplace x (stateOf c o)) (stateOf r o₁) r
+  unfolding opened
+  opened-object e o o₁ t = rw e t
+
+-- ---- texts and bytes by their offset
+module _ (ob : Object) (h : isBlob ob ≡ true) where
+  pub not-list : (i : ℕ) → ob ≡ O.List i → ⊥
+  unfolding isBlob
+  not-list i e = never (subst (λ (q : Object). isBlob q ≡ true) e h)
+
+  pub not-table : (i : ℕ) → ob ≡ O.Table i → ⊥
+  unfolding isBlob
+  not-table i e = never (subst (λ (q : Object). isBlob q ≡ true) e h)
+
+  pub magic-no-list : (S : Schema) (i : ℕ) → ob ≡ O.List i → 0 ≡ magic S ob
+  magic-no-list S i e = absurd (not-list i e)
+
+  pub magic-no-table : (S : Schema) (i : ℕ) → ob ≡ O.Table i → 0 ≡ magic S ob
+  magic-no-table S i e = absurd (not-table i e)
+
+pub terminal-opened : (S : Schema) (ob : Object) (x : Extent) (c q h r : Places) (o o₁ o₂ : List ℕ) (mg : ℕ) → mg ≡ magic S ob → c .next ≤ 16777216
+    → q ≡ enteredObject (10 + x .width) (x .chain) c → Stood 4 (putNumber 4 mg (stateOf q o)) (stateOf h o₁) q h
+    → Stood 6 (putNumber 6 (x .length) (stateOf h o₁)) (stateOf r o₂) h r → Opens (opened S ob false x (stateOf c o)) (stateOf r o₂) r
+terminal-opened S ob x c q h r o o₁ o₂ mg em l eq t u = opened-object S ob false x c r refl o o₂ (object-opened S ob x c q h r o o₁ o₂ mg em l eq t u)

@@ -1,0 +1,55 @@
+use borrow.Author.Needs.{needs}
+use Rattle.write_pass.proofs.EmitCases.{number-cut, bool-there}
+use Rattle.write_pass.proofs.emit_bool.Statement.{statement}
+use Rattle.write_pass.proofs.emit_bool.Tie as tie
+use Rattle.write_pass.proofs.emit_bool.Reads as reads
+use Rattle.write_pass.proofs.emit_bool.Lts as lts
+use Rattle.bitio.proofs.take_number.Reads as take-number-reads
+use Rattle.write_pass.proofs.not_lawful.Reads as not-lawful-reads
+use Rattle.write_store.proofs.put_byte.Reads as put-byte-reads
+use Rattle.write_pass.proofs.stored.Reads as stored-reads
+
+-- src/lib.rt:337:9
+take-number-requires : tie.Need-take-number-requires
+take-number-requires c κs = search needs
+
+-- src/lib.rt:339:9
+not-lawful-requires : tie.Need-not-lawful-requires
+not-lawful-requires c κs = search needs
+
+-- src/lib.rt:339:9
+returns : tie.Need-returns
+returns c = search number-cut
+
+-- src/lib.rt:342:30
+cast-put-byte : tie.Need-cast-put-byte
+cast-put-byte c = search needs
+
+-- src/lib.rt:342:9
+put-byte-requires : tie.Need-put-byte-requires
+put-byte-requires c κs = search needs
+
+-- src/lib.rt:343:5
+stored-requires : tie.Need-stored-requires
+stored-requires c κs = search needs
+
+-- src/lib.rt:333:1
+same-length : tie.Need-same-length
+same-length c = search needs
+
+-- src/lib.rt:333:1
+returns-2 : tie.Need-returns-2
+returns-2 c = search bool-there
+
+pub emit-bool-spec : {M : Type 1} → statement M
+emit-bool-spec =
+    tie.close
+    (tie.spec
+    take-number-requires
+    not-lawful-requires
+    returns
+    cast-put-byte
+    put-byte-requires
+    stored-requires
+    same-length
+    returns-2)

@@ -1,0 +1,43 @@
+use borrow.Author.Needs.{needs}
+use Rattle.write_pass.proofs.OpenCases.{magic-text, magic-bytes, magic-no-list, magic-no-table}
+use Rattle.write_pass.proofs.terminal_magic.Statement.{statement}
+use Rattle.write_pass.proofs.terminal_magic.Tie as tie
+use Rattle.write_pass.proofs.terminal_magic.Reads as reads
+use Rattle.write_pass.proofs.terminal_magic.Lts as lts
+
+-- src/lib.rt:726:25
+enum-told : tie.Need-enum-told
+enum-told c = search needs
+
+-- src/lib.rt:727:26
+enum-told-2 : tie.Need-enum-told-2
+enum-told-2 c = search needs
+
+-- src/lib.rt:728:28
+enum-told-3 : tie.Need-enum-told-3
+enum-told-3 c = search needs
+
+-- src/lib.rt:729:29
+enum-told-4 : tie.Need-enum-told-4
+enum-told-4 c = search needs
+
+-- src/lib.rt:721:1
+returns : tie.Need-returns
+returns c = search magic-text
+
+-- src/lib.rt:721:1
+returns-2 : tie.Need-returns-2
+returns-2 c = search magic-bytes
+
+-- src/lib.rt:721:1
+returns-3 : tie.Need-returns-3
+returns-3 c = search magic-no-list
+
+-- src/lib.rt:721:1
+returns-4 : tie.Need-returns-4
+returns-4 c = search magic-no-table
+
+pub terminal-magic-spec : {M : Type 1} → statement M
+terminal-magic-spec =
+    tie.close
+    (tie.spec enum-told enum-told-2 enum-told-3 enum-told-4 returns returns-2 returns-3 returns-4)

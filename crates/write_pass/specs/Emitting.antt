@@ -1,0 +1,128 @@
+-- What the code of the pass answers, against the definitions: whether a part of the sheet is lawful, where the message goes
+-- on, and where the sheet does.
+use Prim.Native.Nat.{ℕ, _+_, _*_, _^_, _≤_, _<_}
+use mathlib.Core.Path.{_≡_}
+use mathlib.Core.List.{List, []}
+use mathlib.Core.Bool.{Bool, true, false, _&&_, not}
+use lib.ListN.{length, drop}
+use Rattle.coding.specs.Lists.{pick}
+use Rattle.coding.specs.Bytes.{u48, noFloat}
+use Rattle.coding.specs.Bits.{bits}
+use Rattle.coding.specs.Schema.{Schema}
+use Rattle.coding.specs.Sheet.{Parsed, fail, got, unknownEnum}
+use Rattle.coding.specs.declared.Object.{Object}
+use Rattle.coding.specs.declared.Flat.{Flat}
+use Rattle.coding.specs.declared.Object.the-variants as O
+use Rattle.coding.specs.declared.Kind.{Kind}
+use Rattle.coding.specs.declared.Kind.the-variants.{OfFlat, OfObject, OfUnion}
+use Rattle.coding.specs.declared.Member.{Member}
+use Rattle.write_measure.specs.Survey.{belowCount, surveyMark, Surveyor}
+use Rattle.write_measure.specs.declared.Extent.{Extent}
+use Rattle.write_store.specs.State.{State, enterContent, putByte, putNumber}
+use Rattle.write_pass.specs.EmitSheet.{Emitter, putNothing, emitIf, openObject, emitPart, flagged, emitNumber, lackFlat, passFlat, emitFlat, emitBlob}
+use Rattle.write_store.specs.Storing.{stateOf, leftObject, leftContent, HeldOk, forward}
+use Rattle.write_store.specs.declared.Places.{Places}
+
+-- ---- moves of the places
+unfoldable pub closed : Bool → Places → Places → Places
+closed inplace c inner = pick inplace (leftContent c inner) (leftObject c inner)
+
+-- ---- parts of the pass that the code has functions of their own for
+-- a struct's enum, with its mark
+unfoldable pub emitMarkedEnum : ℕ → State → List ℕ → Parsed State
+emitMarkedEnum n st xs =
+    surveyMark (putByte 255 st) (emitIf 8 (unknownEnum n) putNothing (putByte 255 st)) (emitIf 8 (belowCount n) putByte st) xs
+
+-- a float with its mark, and whatever leads to no object
+unfoldable pub emitMarkedFloat : ℕ → State → List ℕ → Parsed State
+emitMarkedFloat w st xs = surveyMark (putNumber w (noFloat w) st) (λ ys. fail) (emitNumber (8 * w) (putNumber w) st) xs
+
+unfoldable pub emitMarkedFlat : Schema → Flat → State → List ℕ → Parsed State
+emitMarkedFlat S f st xs = surveyMark (lackFlat S f st) (passFlat f (lackFlat S f st)) (emitFlat S f st) xs
+
+-- what refers to an object, and where its content is written
+unfoldable pub referred : Bool → Extent → State → State
+referred inplace x st = pick inplace (putNumber u48 (x .length) st) (putNumber u48 (st .next) st)
+
+unfoldable pub opened : Schema → Object → Bool → Extent → State → State
+opened S ob inplace x st = pick inplace (enterContent (x .width) st) (openObject u48 S ob x st)
+
+unfoldable pub emitMember : Emitter → Surveyor → ℕ → Schema → Member → State → List ℕ → Parsed State
+emitMember child measure o S r st xs =
+    emitPart child measure o S (r .kind) (r .inplace) (flagged r 0 st) (flagged r 1 st) xs
+
+-- without a flag
+unfoldable pub emitUnflagged : Emitter → Surveyor → ℕ → Schema → Kind → Bool → State → List ℕ → Parsed State
+emitUnflagged child measure o S k inplace st xs = emitPart child measure o S k inplace st st xs
+
+-- ---- kinds
+-- whether it leads to an object
+unfoldable pub refers : Kind → Bool
+refers (OfFlat k) = false
+refers (OfObject ob) = true
+refers (OfUnion i) = true
+
+-- a text or bytes
+unfoldable pub isBlob : Object → Bool
+isBlob O.Text = true
+isBlob O.Bytes = true
+isBlob (O.List i) = false
+isBlob (O.Table i) = false
+
+-- whether no objects stand below: what leads to no object, and a text or bytes by its offset
+unfoldable pub isTerminal : Kind → Bool → Bool
+isTerminal (OfFlat k) inplace = true
+isTerminal (OfObject ob) inplace = not inplace && isBlob ob
+isTerminal (OfUnion i) inplace = false
+
+-- ---- numbers that fit
+-- Every store takes bits of the sheet, at least one for 8192 bytes, but for a reference, which may take none.
+pub record Room (s : List ℕ) (pos : ℕ) (c : Places) : Type 0 where
+  pub short : length s ≤ 16777215
+  pub here : pos ≤ 8 * length s
+  pub at : c .at + 16 + 65536 * length s ≤ 2 ^ 60 + 8192 * pos
+  pub bool : HeldOk c
+  pub tail : c .tail ≤ 16777216
+  pub next : c .next ≤ 16777216
+
+-- the bytes that a part of the message may take beyond what its bits pay for: an offset or a length
+unfoldable pub extra : Kind → ℕ
+extra (OfFlat k) = 0
+extra (OfObject ob) = 6
+extra (OfUnion i) = 6
+
+-- ---- answers
+-- p is what the definition gives from `pos` and the places `from` on; e is what may be taken beyond what the bits pay for
+pub record EmittedAt (s : List ℕ) (p : Parsed State) (pos : ℕ) (from : Places) (e : ℕ) (whole : Bool) (c : Places) (out : List ℕ) (end : ℕ) : Type 0 where
+  pub is : p ≡ pick whole (got (stateOf c out) (drop end (bits s))) fail
+  pub here : end ≤ 8 * length s
+  pub at : c .at + 8192 * pos ≤ from .at + e + 8192 * end
+  pub bool : HeldOk c
+  pub tail : c .tail ≤ 16777216
+  pub next : c .next ≤ 16777216
+
+-- a text or bytes, of n bytes, was stored from `to` on, whatever places are there
+pub record CopiedAt (s o : List ℕ) (pos to : ℕ) (whole : Bool) (n next : ℕ) (out : List ℕ) : Type 0 where
+  pub is : (c : Places) → Room s pos c → c .at ≡ to
+      → EmittedAt s (emitBlob [] (stateOf c o) (drop pos (bits s))) pos c 0 whole (pick whole (forward n c) c) out next
+  pub small : n < 2 ^ 32
+
+-- the message as a whole
+pub record MessageAt (s : List ℕ) (p : Parsed State) (whole : Bool) (c : Places) (out : List ℕ) (end : ℕ) : Type 0 where
+  pub is : p ≡ pick whole (got (stateOf c out) (drop end (bits s))) fail
+
+-- what stands for no value was put behind the places c
+pub record Lacks (put now : State) (c r : Places) : Type 0 where
+  pub is : now ≡ put
+  pub bool : HeldOk r
+  pub at : r .at ≤ c .at + 4096
+  pub tail : r .tail ≡ c .tail
+  pub next : r .next ≡ c .next
+
+-- the content of an object is stored from the places r on
+pub record Opens (put now : State) (r : Places) : Type 0 where
+  pub is : now ≡ put
+  pub bool : HeldOk r
+  pub at : r .at ≤ 16777226
+  pub tail : r .tail ≤ 16777216
+  pub next : r .next ≤ 16777216

@@ -1,0 +1,1309 @@
+// The pass that stores a message from a value sheet.
+use coding::Flat;
+use coding::Kind;
+use coding::Member;
+use coding::Object;
+use message_header::BytesObject;
+use message_header::ListObject;
+use message_header::TextObject;
+use write_measure::Extent;
+use write_store::Places;
+ghost use mathlib.Core.Path.{_≡_};
+ghost use mathlib.Core.List.{[], _∷_};
+ghost use mathlib.Core.Bool.{Bool, true, false, _&&_, not};
+ghost use Prim.Native.Nat.{ℕ, _+_, _-_, _*_, _%_, _<_, _≤_, _^_};
+ghost use lib.ListN.{length, drop};
+ghost use Rattle.coding.specs.Bytes as B;
+ghost use Rattle.coding.specs.Bits.{bits};
+ghost use Rattle.coding.specs.Packed as P;
+ghost use Rattle.coding.specs.Schema as Sc;
+ghost use Rattle.coding.specs.Sheet as Sh;
+ghost use Rattle.coding.specs.Walk as W;
+ghost use Rattle.laws.specs.Sound.{FlatSound, ObjectSound, KindSound, FlatScalar, NoStruct};
+ghost use Rattle.schema.specs.Directory.{Accepted};
+ghost use Rattle.write_measure.specs.Survey as Sv;
+ghost use Rattle.write_measure.specs.Surveyed.{Small};
+ghost use Rattle.write_store.specs.State as St;
+ghost use Rattle.write_store.specs.Storing.{stateOf, HeldOk, BitPut, Stood};
+ghost use Rattle.write_pass.specs.EmitSheet as Es;
+ghost use Rattle.write_pass.specs.Measure.{Measured, MeasuredContent, anyInPlace, KnownSize};
+ghost use Rattle.write_pass.specs.EmitRun.{emitRun, emitUnmarked, emitFlats, integerWidth};
+ghost use Rattle.write_pass.specs.Emitting as Eg;
+ghost use Rattle.write_pass.specs.Emitting.{Room, EmittedAt};
+
+// ---- what leads to no object
+// Whether a part of the sheet is lawful; if so, where the message goes on behind it, and where the sheet does. The bool stands
+// last for speed: behind its padding the places are copied slowly.
+pub struct Emitted {
+    pub places: Places,
+    pub next: usize,
+    pub whole: bool,
+}
+
+fn stored(c: Places, next: usize) -> Emitted
+    ensures { λ r. ⌜ (r .whole ≡ true) × (r .places ≡ c) × (r .next ≡ next) ⌝ }
+{
+    Emitted {
+        whole: true,
+        places: write_store::copied(c),
+        next,
+    }
+}
+
+fn not_lawful(c: Places, pos: usize) -> Emitted
+    ensures { λ r. ⌜ (r .whole ≡ false) × (r .places ≡ c) × (r .next ≡ pos) ⌝ }
+{
+    Emitted {
+        whole: false,
+        places: write_store::copied(c),
+        next: pos,
+    }
+}
+
+// A number of w bytes.
+fn emit_number(s: &[u8], out: &mut [u8], w: usize, c: Places, pos: usize) -> Emitted
+    requires { ⌜ w ≤ 8 ⌝ }
+    requires { ⌜ Room (now s) pos c ⌝ }
+    ensures { λ r. ⌜ EmittedAt (now (s .entry)) (Es.emitNumber (8 * w) (St.putNumber w) (stateOf c (now (out .entry))) (drop pos (bits (now (s .entry))))) pos c 0 (r .whole) (r .places) (now (out .exit)) (r .next) ⌝ }
+{
+    let x = bitio::take_number(s, pos, 8 * w);
+    if !x.whole {
+        return not_lawful(c, pos);
+    }
+    let next = x.next;
+    let p = write_store::put_number(out, c, w, x.value);
+    stored(p, next)
+}
+
+// A bool into the next free bit.
+fn emit_bit(s: &[u8], out: &mut [u8], c: Places, pos: usize) -> Emitted
+    requires { ⌜ Room (now s) pos c ⌝ }
+    ensures { λ r. ⌜ EmittedAt (now (s .entry)) (Es.emitNumber 1 St.putBit (stateOf c (now (out .entry))) (drop pos (bits (now (s .entry))))) pos c 0 (r .whole) (r .places) (now (out .exit)) (r .next) ⌝ }
+{
+    let x = bitio::take_number(s, pos, 1);
+    if !x.whole {
+        return not_lawful(c, pos);
+    }
+    let next = x.next;
+    let p = write_store::put_bit(out, c, x.value as usize);
+    stored(p, next)
+}
+
+// A struct's bool: a byte.
+fn emit_bool(s: &[u8], out: &mut [u8], c: Places, pos: usize) -> Emitted
+    requires { ⌜ Room (now s) pos c ⌝ }
+    ensures { λ r. ⌜ EmittedAt (now (s .entry)) (Es.emitNumber 1 St.putByte (stateOf c (now (out .entry))) (drop pos (bits (now (s .entry))))) pos c 0 (r .whole) (r .places) (now (out .exit)) (r .next) ⌝ }
+{
+    let x = bitio::take_number(s, pos, 1);
+    if !x.whole {
+        return not_lawful(c, pos);
+    }
+    let next = x.next;
+    let p = write_store::put_byte(out, c, x.value as u8);
+    stored(p, next)
+}
+
+// An enum's number below its count.
+fn emit_enum(s: &[u8], out: &mut [u8], n: u8, c: Places, pos: usize) -> Emitted
+    requires { ⌜ Room (now s) pos c ⌝ }
+    ensures { λ r. ⌜ EmittedAt (now (s .entry)) (Es.emitIf 8 (Sv.belowCount n) St.putByte (stateOf c (now (out .entry))) (drop pos (bits (now (s .entry))))) pos c 0 (r .whole) (r .places) (now (out .exit)) (r .next) ⌝ }
+{
+    let x = bitio::take_number(s, pos, 8);
+    if !x.whole {
+        return not_lawful(c, pos);
+    }
+    let v = x.value;
+    if v < wire::wide(n) {
+        let next = x.next;
+        let p = write_store::put_byte(out, c, v as u8);
+        return stored(p, next);
+    }
+    not_lawful(c, pos)
+}
+
+// An enum's unknown number, passed over.
+fn pass_enum(s: &[u8], out: &mut [u8], n: u8, c: Places, pos: usize) -> Emitted
+    requires { ⌜ Room (now s) pos c ⌝ }
+    ensures { λ r. ⌜ EmittedAt (now (s .entry)) (Es.emitIf 8 (Sh.unknownEnum n) Es.putNothing (stateOf c (now (out .entry))) (drop pos (bits (now (s .entry))))) pos c 0 (r .whole) (r .places) (now (out .exit)) (r .next) ⌝ }
+{
+    let x = bitio::take_number(s, pos, 8);
+    if !x.whole {
+        return not_lawful(c, pos);
+    }
+    let v = x.value;
+    if write_measure::unknown_enum(n, v) {
+        return stored(c, x.next);
+    }
+    not_lawful(c, pos)
+}
+
+// A struct's enum, with its mark.
+fn emit_marked_enum(s: &[u8], out: &mut [u8], n: u8, c: Places, pos: usize) -> Emitted
+    requires { ⌜ Room (now s) pos c ⌝ }
+    ensures { λ r. ⌜ EmittedAt (now (s .entry)) (Eg.emitMarkedEnum n (stateOf c (now (out .entry))) (drop pos (bits (now (s .entry))))) pos c 0 (r .whole) (r .places) (now (out .exit)) (r .next) ⌝ }
+{
+    let x = bitio::take_number(s, pos, 2);
+    if !x.whole {
+        return not_lawful(c, pos);
+    }
+    let mark = x.value;
+    let next = x.next;
+    if mark == 0 {
+        let p = write_store::put_byte(out, c, 255);
+        return stored(p, next);
+    }
+    if mark == 1 {
+        return emit_enum(s, out, n, c, next);
+    }
+    if mark == 2 {
+        let p = write_store::put_byte(out, c, 255);
+        return pass_enum(s, out, n, p, next);
+    }
+    not_lawful(c, pos)
+}
+
+// ---- structs, by recursion on the struct index, which falls at every inner struct
+fn emit_field(
+    b: &[u8],
+    dir: &[u16],
+    s: &[u8],
+    out: &mut [u8],
+    i: usize,
+    k: Flat,
+    c: Places,
+    pos: usize,
+) -> Emitted
+    requires { ⌜ (Accepted (now b) (now dir)) × (FlatSound i k) × (i < P.structCount (now b)) ⌝ }
+    requires { ⌜ Room (now s) pos c ⌝ }
+    ensures { λ r. ⌜ EmittedAt (now (s .entry)) (Es.emitField (Es.emitStruct (P.parse (now (b .entry)))) k (stateOf c (now (out .entry))) (drop pos (bits (now (s .entry))))) pos c 0 (r .whole) (r .places) (now (out .exit)) (r .next) ⌝ }
+{
+    match k {
+        Flat::Boolean => emit_bool(s, out, c, pos),
+        Flat::Integer(_, w) => emit_number(s, out, wire::index(w), c, pos),
+        Flat::Float(w) => emit_number(s, out, wire::index(w), c, pos),
+        Flat::Enumerated(n) => emit_marked_enum(s, out, n, c, pos),
+        Flat::Struct(a) => emit_struct(b, dir, s, out, wire::index(a), c, pos),
+    }
+}
+
+fn emit_struct(
+    b: &[u8],
+    dir: &[u16],
+    s: &[u8],
+    out: &mut [u8],
+    i: usize,
+    c: Places,
+    pos: usize,
+) -> Emitted
+    requires { ⌜ (Accepted (now b) (now dir)) × (i < P.structCount (now b)) ⌝ }
+    requires { ⌜ Room (now s) pos c ⌝ }
+    ensures { λ r. ⌜ EmittedAt (now (s .entry)) (Es.emitStruct (P.parse (now (b .entry))) i (stateOf c (now (out .entry))) (drop pos (bits (now (s .entry))))) pos c 0 (r .whole) (r .places) (now (out .exit)) (r .next) ⌝ }
+{
+    let n = schema::field_count(b, dir, i);
+    let mut p = c;
+    let mut at = pos;
+    let mut j: usize = 0;
+    while j < n {
+        let k = schema::field(b, dir, i, j);
+        let x = emit_field(b, dir, s, out, i, k, p, at);
+        if !x.whole {
+            return not_lawful(c, pos);
+        }
+        at = x.next;
+        p = x.places;
+        j += 1;
+    }
+    stored(p, at)
+}
+
+// What leads to no object, as a member or an element.
+fn emit_flat(
+    b: &[u8],
+    dir: &[u16],
+    s: &[u8],
+    out: &mut [u8],
+    k: Flat,
+    c: Places,
+    pos: usize,
+) -> Emitted
+    requires { ⌜ (Accepted (now b) (now dir)) × (FlatSound (length (P.parse (now b) .structs)) k) ⌝ }
+    requires { ⌜ Room (now s) pos c ⌝ }
+    ensures { λ r. ⌜ EmittedAt (now (s .entry)) (Es.emitFlat (P.parse (now (b .entry))) k (stateOf c (now (out .entry))) (drop pos (bits (now (s .entry))))) pos c 0 (r .whole) (r .places) (now (out .exit)) (r .next) ⌝ }
+{
+    match k {
+        Flat::Boolean => emit_bit(s, out, c, pos),
+        Flat::Integer(_, w) => emit_number(s, out, wire::index(w), c, pos),
+        Flat::Float(w) => emit_number(s, out, wire::index(w), c, pos),
+        Flat::Enumerated(n) => emit_enum(s, out, n, c, pos),
+        Flat::Struct(a) => emit_struct(b, dir, s, out, wire::index(a), c, pos),
+    }
+}
+
+// ---- no value
+// The bits of an absent float.
+fn no_float(w: u8) -> u64
+    ensures { λ r. ⌜ r ≡ B.noFloat w ⌝ }
+{
+    if w == 4 {
+        return 0x7FC0_0000;
+    }
+    0x7FF8_0000_0000_0000
+}
+
+fn lack_flat(b: &[u8], dir: &[u16], out: &mut [u8], k: Flat, c: Places) -> Places
+    requires { ⌜ (Accepted (now b) (now dir)) × (FlatSound (length (P.parse (now b) .structs)) k) × HeldOk c × (c .at < 2 ^ 61) ⌝ }
+    ensures { λ r. ⌜ Eg.Lacks (Es.lackFlat (P.parse (now (b .entry))) k (stateOf c (now (out .entry)))) (stateOf r (now (out .exit))) c r ⌝ }
+{
+    match k {
+        Flat::Boolean => write_store::put_bit(out, c, 0),
+        Flat::Integer(_, w) => write_store::put_number(out, c, wire::index(w), 0),
+        Flat::Float(w) => write_store::put_number(out, c, wire::index(w), no_float(w)),
+        Flat::Enumerated(_) => write_store::put_byte(out, c, 255),
+        Flat::Struct(a) => write_store::put_zeros(
+            out,
+            c,
+            schema::stored_size(b, dir, wire::index(a)),
+        ),
+    }
+}
+
+// What stands for no value.
+fn lack(b: &[u8], dir: &[u16], out: &mut [u8], k: Kind, c: Places) -> Places
+    requires { ⌜ (Accepted (now b) (now dir)) × (KindSound (P.parse (now b)) k) × HeldOk c × (c .at < 2 ^ 61) ⌝ }
+    ensures { λ r. ⌜ Eg.Lacks (Es.lack B.u48 (P.parse (now (b .entry))) k (stateOf c (now (out .entry)))) (stateOf r (now (out .exit))) c r ⌝ }
+{
+    match k {
+        Kind::OfFlat(f) => lack_flat(b, dir, out, f, c),
+        Kind::OfObject(_) => write_store::put_number(out, c, 6, 0),
+        Kind::OfUnion(_) => write_store::put_number(out, c, 8, 0),
+    }
+}
+
+// An unknown number, of an enum only, is passed over.
+fn pass_flat(s: &[u8], out: &mut [u8], k: Flat, c: Places, pos: usize) -> Emitted
+    requires { ⌜ Room (now s) pos c ⌝ }
+    ensures { λ r. ⌜ EmittedAt (now (s .entry)) (Es.passFlat k (stateOf c (now (out .entry))) (drop pos (bits (now (s .entry))))) pos c 0 (r .whole) (r .places) (now (out .exit)) (r .next) ⌝ }
+{
+    match k {
+        Flat::Boolean => not_lawful(c, pos),
+        Flat::Integer(_, _) => not_lawful(c, pos),
+        Flat::Float(_) => not_lawful(c, pos),
+        Flat::Enumerated(n) => pass_enum(s, out, n, c, pos),
+        Flat::Struct(_) => not_lawful(c, pos),
+    }
+}
+
+// A union's unknown choice.
+fn pass_choice(
+    b: &[u8],
+    dir: &[u16],
+    s: &[u8],
+    out: &mut [u8],
+    u: usize,
+    c: Places,
+    pos: usize,
+) -> Emitted
+    requires { ⌜ (Accepted (now b) (now dir)) × (u < P.unionCount (now b)) ⌝ }
+    requires { ⌜ Room (now s) pos c ⌝ }
+    ensures { λ r. ⌜ EmittedAt (now (s .entry)) (Es.emitIf 16 (Sv.aboveCount (length (Sc.casesOf (P.parse (now (b .entry))) u))) Es.putNothing (stateOf c (now (out .entry))) (drop pos (bits (now (s .entry))))) pos c 0 (r .whole) (r .places) (now (out .exit)) (r .next) ⌝ }
+{
+    let n = schema::case_count(b, dir, u);
+    let x = bitio::take_number(s, pos, 16);
+    if !x.whole {
+        return not_lawful(c, pos);
+    }
+    if (n as u64) < x.value {
+        return stored(c, x.next);
+    }
+    not_lawful(c, pos)
+}
+
+fn pass(b: &[u8], dir: &[u16], s: &[u8], out: &mut [u8], k: Kind, c: Places, pos: usize) -> Emitted
+    requires { ⌜ (Accepted (now b) (now dir)) × (KindSound (P.parse (now b)) k) ⌝ }
+    requires { ⌜ Room (now s) pos c ⌝ }
+    ensures { λ r. ⌜ EmittedAt (now (s .entry)) (Es.pass (P.parse (now (b .entry))) k (stateOf c (now (out .entry))) (drop pos (bits (now (s .entry))))) pos c 0 (r .whole) (r .places) (now (out .exit)) (r .next) ⌝ }
+{
+    match k {
+        Kind::OfFlat(f) => pass_flat(s, out, f, c, pos),
+        Kind::OfObject(_) => not_lawful(c, pos),
+        Kind::OfUnion(u) => pass_choice(b, dir, s, out, wire::index(u), c, pos),
+    }
+}
+
+// ---- elements with a mark that lead to no object
+// A float.
+fn emit_marked_float(s: &[u8], out: &mut [u8], w: u8, c: Places, pos: usize) -> Emitted
+    requires { ⌜ w ≤ 8 ⌝ }
+    requires { ⌜ Room (now s) pos c ⌝ }
+    ensures { λ r. ⌜ EmittedAt (now (s .entry)) (Eg.emitMarkedFloat w (stateOf c (now (out .entry))) (drop pos (bits (now (s .entry))))) pos c 0 (r .whole) (r .places) (now (out .exit)) (r .next) ⌝ }
+{
+    let x = bitio::take_number(s, pos, 2);
+    if !x.whole {
+        return not_lawful(c, pos);
+    }
+    let mark = x.value;
+    let next = x.next;
+    if mark == 0 {
+        let p = write_store::put_number(out, c, wire::index(w), no_float(w));
+        return stored(p, next);
+    }
+    if mark == 1 {
+        return emit_number(s, out, wire::index(w), c, next);
+    }
+    not_lawful(c, pos)
+}
+
+// A float or an enum: no other has a mark.
+fn emit_marked_flat(b: &[u8], s: &[u8], out: &mut [u8], k: Flat, c: Places, pos: usize) -> Emitted
+    requires { ⌜ (FlatSound (length (P.parse (now b) .structs)) k) × (FlatScalar k) × (Sh.flatUnmarked k ≡ false) ⌝ }
+    requires { ⌜ Room (now s) pos c ⌝ }
+    ensures { λ r. ⌜ EmittedAt (now (s .entry)) (Eg.emitMarkedFlat (P.parse (now (b .entry))) k (stateOf c (now (out .entry))) (drop pos (bits (now (s .entry))))) pos c 0 (r .whole) (r .places) (now (out .exit)) (r .next) ⌝ }
+{
+    match k {
+        Flat::Boolean => not_lawful(c, pos),
+        Flat::Integer(_, _) => not_lawful(c, pos),
+        Flat::Float(w) => emit_marked_float(s, out, w, c, pos),
+        Flat::Enumerated(n) => emit_marked_enum(s, out, n, c, pos),
+        Flat::Struct(_) => not_lawful(c, pos),
+    }
+}
+
+// n of them.
+fn emit_flats(
+    b: &[u8],
+    s: &[u8],
+    out: &mut [u8],
+    k: Flat,
+    n: usize,
+    c: Places,
+    pos: usize,
+) -> Emitted
+    requires { ⌜ (FlatSound (length (P.parse (now b) .structs)) k) × (FlatScalar k) × (Sh.flatUnmarked k ≡ false) ⌝ }
+    requires { ⌜ Room (now s) pos c ⌝ }
+    ensures { λ r. ⌜ EmittedAt (now (s .entry)) (emitFlats (P.parse (now (b .entry))) k n (stateOf c (now (out .entry))) (drop pos (bits (now (s .entry))))) pos c 0 (r .whole) (r .places) (now (out .exit)) (r .next) ⌝ }
+{
+    let mut p = c;
+    let mut at = pos;
+    let mut left = n;
+    while 0 < left {
+        let e = emit_marked_flat(b, s, out, k, p, at);
+        if !e.whole {
+            return not_lawful(c, pos);
+        }
+        p = write_store::copied(e.places);
+        at = e.next;
+        left -= 1;
+    }
+    stored(p, at)
+}
+
+// ---- elements without a mark
+// The bytes of an integer; 0 for what is none.
+fn integer_width(k: Kind) -> usize
+    ensures { λ r. ⌜ r ≡ integerWidth k ⌝ }
+{
+    match k {
+        Kind::OfFlat(f) => match f {
+            Flat::Boolean => 0,
+            Flat::Integer(_, w) => wire::index(w),
+            Flat::Float(_) => 0,
+            Flat::Enumerated(_) => 0,
+            Flat::Struct(_) => 0,
+        },
+        Kind::OfObject(_) => 0,
+        Kind::OfUnion(_) => 0,
+    }
+}
+
+// n numbers of w bytes each.
+fn emit_run(s: &[u8], out: &mut [u8], w: usize, n: usize, c: Places, pos: usize) -> Emitted
+    requires { ⌜ w ≤ 8 ⌝ }
+    requires { ⌜ Room (now s) pos c ⌝ }
+    ensures { λ r. ⌜ EmittedAt (now (s .entry)) (emitRun (8 * w) (St.putNumber w) n (stateOf c (now (out .entry))) (drop pos (bits (now (s .entry))))) pos c 0 (r .whole) (r .places) (now (out .exit)) (r .next) ⌝ }
+{
+    let mut done: usize = 0;
+    let mut at = pos;
+    let mut left = n;
+    while 0 < left {
+        let x = bitio::take_number(s, at, 8 * w);
+        if !x.whole {
+            return not_lawful(c, pos);
+        }
+        write_store::store_number(out, c.at + done, w, x.value);
+        at = x.next;
+        done += w;
+        left -= 1;
+    }
+    stored(write_store::forward(c, done), at)
+}
+
+// n bools, each into the next free bit; eight at once where they fill a byte.
+fn emit_bits(s: &[u8], out: &mut [u8], n: usize, c: Places, pos: usize) -> Emitted
+    requires { ⌜ Room (now s) pos c ⌝ }
+    ensures { λ r. ⌜ EmittedAt (now (s .entry)) (emitRun 1 St.putBit n (stateOf c (now (out .entry))) (drop pos (bits (now (s .entry))))) pos c 0 (r .whole) (r .places) (now (out .exit)) (r .next) ⌝ }
+{
+    let mut p = c;
+    let mut at = pos;
+    let mut left = n;
+    while 0 < left {
+        if 8 <= left {
+            if p.free == 0 {
+                let y = bitio::take_number(s, at, 8);
+                if y.whole {
+                    p = write_store::put_octet(out, p, write_store::reversed(y.value as u8));
+                    at = y.next;
+                    left -= 8;
+                    continue;
+                }
+            }
+        }
+        let x = bitio::take_number(s, at, 1);
+        if !x.whole {
+            return not_lawful(c, pos);
+        }
+        p = write_store::put_bit(out, p, x.value as usize);
+        at = x.next;
+        left -= 1;
+    }
+    stored(p, at)
+}
+
+// n integers of w bytes, or n bools where w is 0.
+fn emit_unmarked(s: &[u8], out: &mut [u8], w: usize, n: usize, c: Places, pos: usize) -> Emitted
+    requires { ⌜ w ≤ 8 ⌝ }
+    requires { ⌜ Room (now s) pos c ⌝ }
+    ensures { λ r. ⌜ EmittedAt (now (s .entry)) (emitUnmarked w n (stateOf c (now (out .entry))) (drop pos (bits (now (s .entry))))) pos c 0 (r .whole) (r .places) (now (out .exit)) (r .next) ⌝ }
+{
+    if w == 0 {
+        return emit_bits(s, out, n, c, pos);
+    }
+    emit_run(s, out, w, n, c, pos)
+}
+
+// ---- what an object needs around its content
+// What was copied of a text or bytes: how many bytes, where the sheet goes on, and whether it is lawful.
+pub struct Copied {
+    pub length: usize,
+    pub next: usize,
+    pub whole: bool,
+}
+
+// A length and the bytes, which are stored from `to` on.
+fn copy_blob(s: &[u8], out: &mut [u8], to: usize, pos: usize) -> Copied
+    requires { ⌜ (length (now s) ≤ 16777215) × (pos ≤ 8 * length (now s)) × (to < 2 ^ 61) ⌝ }
+    ensures { λ r. ⌜ Eg.CopiedAt (now (s .entry)) (now (out .entry)) pos to (r .whole) (r .length) (r .next) (now (out .exit)) ⌝ }
+{
+    let x = bitio::take_number(s, pos, 32);
+    if !x.whole {
+        return Copied {
+            length: 0,
+            next: pos,
+            whole: false,
+        };
+    }
+    let n = x.value as usize;
+    let at = x.next;
+    let y = bitio::skip_bytes(s, at, n);
+    if !y.whole {
+        return Copied {
+            length: 0,
+            next: pos,
+            whole: false,
+        };
+    }
+    let next = y.next;
+    write_store::store_copy(s, at, out, to, n);
+    Copied {
+        length: n,
+        next,
+        whole: true,
+    }
+}
+
+// Bytes.
+fn emit_bytes(s: &[u8], out: &mut [u8], c: Places, pos: usize) -> Emitted
+    requires { ⌜ Room (now s) pos c ⌝ }
+    ensures { λ r. ⌜ EmittedAt (now (s .entry)) (Es.emitBlob [] (stateOf c (now (out .entry))) (drop pos (bits (now (s .entry))))) pos c 0 (r .whole) (r .places) (now (out .exit)) (r .next) ⌝ }
+{
+    let x = copy_blob(s, out, c.at, pos);
+    if !x.whole {
+        return not_lawful(c, pos);
+    }
+    let next = x.next;
+    stored(write_store::forward(c, x.length), next)
+}
+
+// A text has a zero byte behind its own.
+fn emit_text(s: &[u8], out: &mut [u8], c: Places, pos: usize) -> Emitted
+    requires { ⌜ Room (now s) pos c ⌝ }
+    ensures { λ r. ⌜ EmittedAt (now (s .entry)) (Es.emitBlob (0 ∷ []) (stateOf c (now (out .entry))) (drop pos (bits (now (s .entry))))) pos c 0 (r .whole) (r .places) (now (out .exit)) (r .next) ⌝ }
+{
+    let x = copy_blob(s, out, c.at, pos);
+    if !x.whole {
+        return not_lawful(c, pos);
+    }
+    let next = x.next;
+    let p = write_store::forward(c, x.length);
+    let q = write_store::put_byte(out, p, 0);
+    stored(q, next)
+}
+
+// The flag of a member that has one.
+fn flag(out: &mut [u8], r: Member, x: usize, c: Places) -> Places
+    requires { ⌜ (x < 2) × HeldOk c × (c .at < 2 ^ 61) ⌝ }
+    ensures { λ q. ⌜ BitPut (Es.flagged r x (stateOf c (now (out .entry)))) (stateOf q (now (out .exit))) c q ⌝ }
+{
+    if message_layout::has_flag(r) {
+        return write_store::put_bit(out, c, x);
+    }
+    c
+}
+
+// The magic of an object.
+fn object_magic(b: &[u8], dir: &[u16], ob: Object) -> u64
+    requires { ⌜ (Accepted (now b) (now dir)) × ObjectSound (P.parse (now b)) ob ⌝ }
+    ensures { λ r. ⌜ r ≡ W.magic (P.parse (now (b .entry))) ob ⌝ }
+{
+    match ob {
+        Object::Text => TextObject::MAGIC,
+        Object::Bytes => BytesObject::MAGIC,
+        Object::List(_) => ListObject::MAGIC,
+        Object::Table(t) => schema::table_id(b, dir, wire::index(t)),
+    }
+}
+
+// What refers to an object: its offset, or its length in place.
+fn put_reference(out: &mut [u8], inplace: bool, e: Extent, c: Places) -> Places
+    requires { ⌜ c .at < 2 ^ 61 ⌝ }
+    ensures { λ r. ⌜ Stood 6 (Eg.referred inplace e (stateOf c (now (out .entry)))) (stateOf r (now (out .exit))) c r ⌝ }
+{
+    if inplace {
+        return write_store::put_number(out, c, 6, e.length as u64);
+    }
+    let x = c.next as u64;
+    write_store::put_number(out, c, 6, x)
+}
+
+// An object's header, at the next object's place; behind it the content goes on.
+fn open_object(b: &[u8], dir: &[u16], out: &mut [u8], ob: Object, e: Extent, c: Places) -> Places
+    requires { ⌜ (Accepted (now b) (now dir)) × (ObjectSound (P.parse (now b)) ob) × (Small e) × (c .next ≤ 16777216) ⌝ }
+    ensures { λ r. ⌜ Eg.Opens (Es.openObject B.u48 (P.parse (now (b .entry))) ob e (stateOf c (now (out .entry)))) (stateOf r (now (out .exit))) r ⌝ }
+{
+    let magic = object_magic(b, dir, ob);
+    let q = write_store::enter_object(c, 10 + e.width, e.chain);
+    let h = write_store::put_number(out, q, 4, magic);
+    write_store::put_number(out, h, 6, e.length as u64)
+}
+
+// Where the content is stored: c is behind what refers to it.
+fn open(
+    b: &[u8],
+    dir: &[u16],
+    out: &mut [u8],
+    ob: Object,
+    inplace: bool,
+    e: Extent,
+    c: Places,
+) -> Places
+    requires { ⌜ (Accepted (now b) (now dir)) × (ObjectSound (P.parse (now b)) ob) × (Small e) × (c .next ≤ 16777216) × (c .tail ≤ 16777216) ⌝ }
+    ensures { λ r. ⌜ Eg.Opens (Eg.opened (P.parse (now (b .entry))) ob inplace e (stateOf c (now (out .entry)))) (stateOf r (now (out .exit))) r ⌝ }
+{
+    if inplace {
+        return write_store::enter_content(c, e.width);
+    }
+    open_object(b, dir, out, ob, e, c)
+}
+
+// Back from the content: c is behind what refers to it.
+fn close(inplace: bool, c: Places, inner: Places) -> Places
+    ensures { λ r. ⌜ r ≡ Eg.closed inplace c inner ⌝ }
+{
+    if inplace {
+        return write_store::leave_content(c, inner);
+    }
+    write_store::leave_object(c, inner)
+}
+
+// ---- what an object takes, without a survey of what stands in it where none is needed
+// Whether a table has an in-place member.
+fn any_in_place(b: &[u8], dir: &[u16], t: usize) -> bool
+    requires { ⌜ (Accepted (now b) (now dir)) × (t < P.tableCount (now b)) ⌝ }
+    ensures { λ r. ⌜ r ≡ anyInPlace (Sc.tableOf (P.parse (now (b .entry))) t .members) ⌝ }
+{
+    let n = schema::member_count(b, dir, t);
+    let mut j: usize = 0;
+    while j < n {
+        let r = schema::member(b, dir, t, j);
+        if r.inplace {
+            return true;
+        }
+        j += 1;
+    }
+    false
+}
+
+// Whether bytes may stand in place behind a table that is referred to.
+fn chained(b: &[u8], dir: &[u16], t: usize, inplace: bool) -> bool
+    requires { ⌜ (Accepted (now b) (now dir)) × (t < P.tableCount (now b)) ⌝ }
+    ensures { λ r. ⌜ r ≡ (not inplace && anyInPlace (Sc.tableOf (P.parse (now (b .entry))) t .members)) ⌝ }
+{
+    if inplace {
+        return false;
+    }
+    any_in_place(b, dir, t)
+}
+
+// A text or bytes; a text has a byte more behind its own.
+fn measure_blob(s: &[u8], pos: usize, more: usize) -> Extent
+    requires { ⌜ (length (now s) ≤ 16777215) × (pos ≤ 8 * length (now s)) × (more ≤ 1) ⌝ }
+    ensures { λ r. ⌜ Measured false (Sv.surveyBlob more (drop pos (bits (now (s .entry))))) r ⌝ }
+{
+    let x = bitio::take_number(s, pos, 32);
+    let n = x.value as usize;
+    write_measure::opened(n, n + more)
+}
+
+fn measure_list(b: &[u8], dir: &[u16], s: &[u8], i: usize, pos: usize) -> Extent
+    requires { ⌜ (Accepted (now b) (now dir)) × (i < P.listCount (now b)) × (length (now s) ≤ 16777215) × (pos ≤ 8 * length (now s)) ⌝ }
+    ensures { λ r. ⌜ MeasuredContent (P.parse (now (b .entry))) (Object.List i) (drop pos (bits (now (s .entry)))) r ⌝ }
+{
+    let x = bitio::take_number(s, pos, 32);
+    let n = x.value as usize;
+    let k = schema::element(b, dir, i);
+    write_measure::opened(n, write_measure::elements_size(b, dir, k, n))
+}
+
+fn measure_table(
+    b: &[u8],
+    dir: &[u16],
+    s: &[u8],
+    d: usize,
+    t: u8,
+    inplace: bool,
+    pos: usize,
+) -> Extent
+    requires { ⌜ (Accepted (now b) (now dir)) × (ObjectSound (P.parse (now b)) (Object.Table t)) × (length (now s) ≤ 16777215) × (pos ≤ 8 * length (now s)) ⌝ }
+    ensures { λ r. ⌜ Measured inplace (Sv.survey d B.u48 (P.parse (now (b .entry))) (Object.Table t) (drop pos (bits (now (s .entry))))) r ⌝ }
+{
+    let i = wire::index(t);
+    if chained(b, dir, i, inplace) {
+        let x = write_measure::object(b, dir, s, d, Object::Table(t), pos);
+        return x.extent;
+    }
+    let n = write_measure::fixed_size(b, dir, i);
+    write_measure::opened(n, n)
+}
+
+// The length and the width of an object, and what stands in place behind it unless it stands in place itself. They are right
+// where the sheet is lawful; the pass finds out where it is not.
+fn measure(
+    b: &[u8],
+    dir: &[u16],
+    s: &[u8],
+    d: usize,
+    ob: Object,
+    inplace: bool,
+    pos: usize,
+) -> Extent
+    requires { ⌜ (Accepted (now b) (now dir)) × (ObjectSound (P.parse (now b)) ob) × (length (now s) ≤ 16777215) × (pos ≤ 8 * length (now s)) ⌝ }
+    ensures { λ r. ⌜ Measured inplace (Sv.survey d B.u48 (P.parse (now (b .entry))) ob (drop pos (bits (now (s .entry))))) r ⌝ }
+{
+    match ob {
+        Object::Text => measure_blob(s, pos, 1),
+        Object::Bytes => measure_blob(s, pos, 0),
+        Object::List(i) => measure_list(b, dir, s, wire::index(i), pos),
+        Object::Table(t) => measure_table(b, dir, s, d, t, inplace, pos),
+    }
+}
+
+// ---- the size of an object's content where it is known before its sheet, that of a table behind which nothing stands in place;
+// 0 where it is not
+fn known_table(b: &[u8], dir: &[u16], t: usize) -> usize
+    requires { ⌜ (Accepted (now b) (now dir)) × (t < P.tableCount (now b)) ⌝ }
+    ensures { λ r. ⌜ KnownSize (P.parse (now (b .entry))) (Object.Table t) r ⌝ }
+{
+    if any_in_place(b, dir, t) {
+        return 0;
+    }
+    write_measure::fixed_size(b, dir, t)
+}
+
+fn known_size(b: &[u8], dir: &[u16], ob: Object) -> usize
+    requires { ⌜ (Accepted (now b) (now dir)) × (ObjectSound (P.parse (now b)) ob) ⌝ }
+    ensures { λ r. ⌜ KnownSize (P.parse (now (b .entry))) ob r ⌝ }
+{
+    match ob {
+        Object::Text => 0,
+        Object::Bytes => 0,
+        Object::List(_) => 0,
+        Object::Table(t) => known_table(b, dir, wire::index(t)),
+    }
+}
+
+// By its known size n, or else measured.
+fn measure_by(b: &[u8], dir: &[u16], s: &[u8], d: usize, ob: Object, n: usize, pos: usize) -> Extent
+    requires { ⌜ (Accepted (now b) (now dir)) × (ObjectSound (P.parse (now b)) ob) × (KnownSize (P.parse (now b)) ob n) × (length (now s) ≤ 16777215) × (pos ≤ 8 * length (now s)) ⌝ }
+    ensures { λ r. ⌜ Measured false (Sv.survey d B.u48 (P.parse (now (b .entry))) ob (drop pos (bits (now (s .entry))))) r ⌝ }
+{
+    if 0 < n {
+        return write_measure::opened(n, n);
+    }
+    measure(b, dir, s, d, ob, false, pos)
+}
+
+// ---- members without objects below: what leads to no object, and texts and bytes by their offset. They stand apart from the
+// cycle, so that the compiler keeps the places in registers.
+fn is_blob(ob: Object) -> bool
+    ensures { λ r. ⌜ r ≡ Eg.isBlob ob ⌝ }
+{
+    match ob {
+        Object::Text => true,
+        Object::Bytes => true,
+        Object::List(_) => false,
+        Object::Table(_) => false,
+    }
+}
+
+fn by_offset(ob: Object, inplace: bool) -> bool
+    ensures { λ r. ⌜ r ≡ (not inplace && Eg.isBlob ob) ⌝ }
+{
+    if inplace {
+        return false;
+    }
+    is_blob(ob)
+}
+
+fn is_terminal(k: Kind, inplace: bool) -> bool
+    ensures { λ r. ⌜ r ≡ Eg.isTerminal k inplace ⌝ }
+{
+    match k {
+        Kind::OfFlat(_) => true,
+        Kind::OfObject(ob) => by_offset(ob, inplace),
+        Kind::OfUnion(_) => false,
+    }
+}
+
+fn measure_terminal(b: &[u8], s: &[u8], d: usize, ob: Object, pos: usize) -> Extent
+    requires { ⌜ (Eg.isBlob ob ≡ true) × (length (now s) ≤ 16777215) × (pos ≤ 8 * length (now s)) ⌝ }
+    ensures { λ r. ⌜ Measured false (Sv.survey d B.u48 (P.parse (now (b .entry))) ob (drop pos (bits (now (s .entry))))) r ⌝ }
+{
+    match ob {
+        Object::Text => measure_blob(s, pos, 1),
+        Object::Bytes => measure_blob(s, pos, 0),
+        Object::List(_) => measure_blob(s, pos, 0),
+        Object::Table(_) => measure_blob(s, pos, 0),
+    }
+}
+
+fn terminal_magic(b: &[u8], ob: Object) -> u64
+    requires { ⌜ Eg.isBlob ob ≡ true ⌝ }
+    ensures { λ r. ⌜ r ≡ W.magic (P.parse (now (b .entry))) ob ⌝ }
+{
+    match ob {
+        Object::Text => TextObject::MAGIC,
+        Object::Bytes => BytesObject::MAGIC,
+        Object::List(_) => 0,
+        Object::Table(_) => 0,
+    }
+}
+
+fn open_terminal(b: &[u8], out: &mut [u8], ob: Object, e: Extent, c: Places) -> Places
+    requires { ⌜ (Eg.isBlob ob ≡ true) × (Small e) × (c .next ≤ 16777216) ⌝ }
+    ensures { λ r. ⌜ Eg.Opens (Eg.opened (P.parse (now (b .entry))) ob false e (stateOf c (now (out .entry)))) (stateOf r (now (out .exit))) r ⌝ }
+{
+    let magic = terminal_magic(b, ob);
+    let q = write_store::enter_object(c, 10 + e.width, e.chain);
+    let h = write_store::put_number(out, q, 4, magic);
+    write_store::put_number(out, h, 6, e.length as u64)
+}
+
+// Its content, d objects deep.
+fn terminal_content(
+    b: &[u8],
+    s: &[u8],
+    out: &mut [u8],
+    d: usize,
+    ob: Object,
+    c: Places,
+    pos: usize,
+) -> Emitted
+    requires { ⌜ Eg.isBlob ob ≡ true ⌝ }
+    requires { ⌜ Room (now s) pos c ⌝ }
+    ensures { λ r. ⌜ EmittedAt (now (s .entry)) (Es.emit d B.u48 (P.parse (now (b .entry))) ob (stateOf c (now (out .entry))) (drop pos (bits (now (s .entry))))) pos c 0 (r .whole) (r .places) (now (out .exit)) (r .next) ⌝ }
+{
+    if d == 0 {
+        return not_lawful(c, pos);
+    }
+    match ob {
+        Object::Text => emit_text(s, out, c, pos),
+        Object::Bytes => emit_bytes(s, out, c, pos),
+        Object::List(_) => not_lawful(c, pos),
+        Object::Table(_) => not_lawful(c, pos),
+    }
+}
+
+fn refer_terminal(
+    b: &[u8],
+    dir: &[u16],
+    s: &[u8],
+    out: &mut [u8],
+    d: usize,
+    ob: Object,
+    c: Places,
+    pos: usize,
+) -> Emitted
+    requires { ⌜ (Accepted (now b) (now dir)) × (Eg.isBlob ob ≡ true) ⌝ }
+    requires { ⌜ Room (now s) pos c ⌝ }
+    ensures { λ r. ⌜ EmittedAt (now (s .entry)) (Es.emitRefer (Es.emit d B.u48 (P.parse (now (b .entry)))) (Sv.survey d B.u48 (P.parse (now (b .entry)))) B.u48 (P.parse (now (b .entry))) false ob (stateOf c (now (out .entry))) (drop pos (bits (now (s .entry))))) pos c 6 (r .whole) (r .places) (now (out .exit)) (r .next) ⌝ }
+{
+    let e = measure_terminal(b, s, d, ob, pos);
+    let p = put_reference(out, false, e, c);
+    let q = open_terminal(b, out, ob, e, p);
+    let y = terminal_content(b, s, out, d, ob, q, pos);
+    if !y.whole {
+        return not_lawful(c, pos);
+    }
+    let next = y.next;
+    stored(close(false, p, y.places), next)
+}
+
+// What is there.
+fn terminal_body(
+    b: &[u8],
+    dir: &[u16],
+    s: &[u8],
+    out: &mut [u8],
+    d: usize,
+    k: Kind,
+    inplace: bool,
+    c: Places,
+    pos: usize,
+) -> Emitted
+    requires { ⌜ (Accepted (now b) (now dir)) × (KindSound (P.parse (now b)) k) × (Eg.isTerminal k inplace ≡ true) ⌝ }
+    requires { ⌜ Room (now s) pos c ⌝ }
+    ensures { λ r. ⌜ EmittedAt (now (s .entry)) (Es.emitBody (Es.emit d B.u48 (P.parse (now (b .entry)))) (Sv.survey d B.u48 (P.parse (now (b .entry)))) B.u48 (P.parse (now (b .entry))) k inplace (stateOf c (now (out .entry))) (drop pos (bits (now (s .entry))))) pos c (Eg.extra k) (r .whole) (r .places) (now (out .exit)) (r .next) ⌝ }
+{
+    match k {
+        Kind::OfFlat(f) => emit_flat(b, dir, s, out, f, c, pos),
+        Kind::OfObject(ob) => refer_terminal(b, dir, s, out, d, ob, c, pos),
+        Kind::OfUnion(_) => not_lawful(c, pos),
+    }
+}
+
+// With its mark.
+fn emit_terminal(
+    b: &[u8],
+    dir: &[u16],
+    s: &[u8],
+    out: &mut [u8],
+    d: usize,
+    r: Member,
+    c: Places,
+    pos: usize,
+) -> Emitted
+    requires { ⌜ (Accepted (now b) (now dir)) × (KindSound (P.parse (now b)) (r .kind)) × (Eg.isTerminal (r .kind) (r .inplace) ≡ true) ⌝ }
+    requires { ⌜ Room (now s) pos c ⌝ }
+    ensures { λ q. ⌜ EmittedAt (now (s .entry)) (Eg.emitMember (Es.emit d B.u48 (P.parse (now (b .entry)))) (Sv.survey d B.u48 (P.parse (now (b .entry)))) B.u48 (P.parse (now (b .entry))) r (stateOf c (now (out .entry))) (drop pos (bits (now (s .entry))))) pos c 0 (q .whole) (q .places) (now (out .exit)) (q .next) ⌝ }
+{
+    let x = bitio::take_number(s, pos, 2);
+    if !x.whole {
+        return not_lawful(c, pos);
+    }
+    let mark = x.value;
+    let next = x.next;
+    let k = r.kind;
+    if mark == 1 {
+        let p = flag(out, r, 1, c);
+        return terminal_body(b, dir, s, out, d, k, r.inplace, p, next);
+    }
+    if mark == 3 {
+        return not_lawful(c, pos);
+    }
+    let p = flag(out, r, 0, c);
+    let q = lack(b, dir, out, k, p);
+    if mark == 0 {
+        return stored(q, next);
+    }
+    pass(b, dir, s, out, k, q, next)
+}
+
+// ---- members, elements and objects
+// An object that is referred to, or stands in place.
+fn emit_refer(
+    b: &[u8],
+    dir: &[u16],
+    s: &[u8],
+    out: &mut [u8],
+    d: usize,
+    ob: Object,
+    inplace: bool,
+    c: Places,
+    pos: usize,
+) -> Emitted
+    requires { ⌜ (Accepted (now b) (now dir)) × (ObjectSound (P.parse (now b)) ob) ⌝ }
+    requires { ⌜ Room (now s) pos c ⌝ }
+    ensures { λ r. ⌜ EmittedAt (now (s .entry)) (Es.emitRefer (Es.emit d B.u48 (P.parse (now (b .entry)))) (Sv.survey d B.u48 (P.parse (now (b .entry)))) B.u48 (P.parse (now (b .entry))) inplace ob (stateOf c (now (out .entry))) (drop pos (bits (now (s .entry))))) pos c 6 (r .whole) (r .places) (now (out .exit)) (r .next) ⌝ }
+{
+    let e = measure(b, dir, s, d, ob, inplace, pos);
+    emit_measured(b, dir, s, out, d, ob, inplace, e, c, pos)
+}
+
+// The same, once its extent is known.
+fn emit_measured(
+    b: &[u8],
+    dir: &[u16],
+    s: &[u8],
+    out: &mut [u8],
+    d: usize,
+    ob: Object,
+    inplace: bool,
+    e: Extent,
+    c: Places,
+    pos: usize,
+) -> Emitted
+    requires { ⌜ (Accepted (now b) (now dir)) × (ObjectSound (P.parse (now b)) ob) × (Measured inplace (Sv.survey d B.u48 (P.parse (now b)) ob (drop pos (bits (now s)))) e) ⌝ }
+    requires { ⌜ Room (now s) pos c ⌝ }
+    ensures { λ r. ⌜ EmittedAt (now (s .entry)) (Es.emitRefer (Es.emit d B.u48 (P.parse (now (b .entry)))) (Sv.survey d B.u48 (P.parse (now (b .entry)))) B.u48 (P.parse (now (b .entry))) inplace ob (stateOf c (now (out .entry))) (drop pos (bits (now (s .entry))))) pos c 6 (r .whole) (r .places) (now (out .exit)) (r .next) ⌝ }
+{
+    let p = put_reference(out, inplace, e, c);
+    let q = open(b, dir, out, ob, inplace, e, p);
+    let y = emit_content(b, dir, s, out, d, ob, q, pos);
+    if !y.whole {
+        return not_lawful(c, pos);
+    }
+    let next = y.next;
+    stored(close(inplace, p, y.places), next)
+}
+
+// A union's known choice.
+fn emit_choice(
+    b: &[u8],
+    dir: &[u16],
+    s: &[u8],
+    out: &mut [u8],
+    d: usize,
+    u: usize,
+    inplace: bool,
+    c: Places,
+    pos: usize,
+) -> Emitted
+    requires { ⌜ (Accepted (now b) (now dir)) × (u < P.unionCount (now b)) ⌝ }
+    requires { ⌜ Room (now s) pos c ⌝ }
+    ensures { λ r. ⌜ EmittedAt (now (s .entry)) (Es.emitChoice (Es.emit d B.u48 (P.parse (now (b .entry)))) (Sv.survey d B.u48 (P.parse (now (b .entry)))) B.u48 (P.parse (now (b .entry))) inplace (Sc.casesOf (P.parse (now (b .entry))) u) (stateOf c (now (out .entry))) (drop pos (bits (now (s .entry))))) pos c 6 (r .whole) (r .places) (now (out .exit)) (r .next) ⌝ }
+{
+    let n = schema::case_count(b, dir, u);
+    let x = bitio::take_number(s, pos, 16);
+    if !x.whole {
+        return not_lawful(c, pos);
+    }
+    let k = x.value as usize;
+    if k == 0 {
+        return not_lawful(c, pos);
+    }
+    if n < k {
+        return not_lawful(c, pos);
+    }
+    let ob = schema::union_case(b, dir, u, k);
+    let next = x.next;
+    let p = write_store::put_number(out, c, 2, x.value);
+    emit_refer(b, dir, s, out, d, ob, inplace, p, next)
+}
+
+// What is there, where it leads to an object.
+fn emit_body(
+    b: &[u8],
+    dir: &[u16],
+    s: &[u8],
+    out: &mut [u8],
+    d: usize,
+    k: Kind,
+    inplace: bool,
+    c: Places,
+    pos: usize,
+) -> Emitted
+    requires { ⌜ (Accepted (now b) (now dir)) × (KindSound (P.parse (now b)) k) × (Eg.refers k ≡ true) ⌝ }
+    requires { ⌜ Room (now s) pos c ⌝ }
+    ensures { λ r. ⌜ EmittedAt (now (s .entry)) (Es.emitBody (Es.emit d B.u48 (P.parse (now (b .entry)))) (Sv.survey d B.u48 (P.parse (now (b .entry)))) B.u48 (P.parse (now (b .entry))) k inplace (stateOf c (now (out .entry))) (drop pos (bits (now (s .entry))))) pos c (Eg.extra k) (r .whole) (r .places) (now (out .exit)) (r .next) ⌝ }
+{
+    match k {
+        Kind::OfFlat(_) => not_lawful(c, pos),
+        Kind::OfObject(ob) => emit_refer(b, dir, s, out, d, ob, inplace, c, pos),
+        Kind::OfUnion(u) => emit_choice(b, dir, s, out, d, wire::index(u), inplace, c, pos),
+    }
+}
+
+// A member or an element that leads to an object, with its mark.
+fn emit_part(
+    b: &[u8],
+    dir: &[u16],
+    s: &[u8],
+    out: &mut [u8],
+    d: usize,
+    k: Kind,
+    inplace: bool,
+    c: Places,
+    pos: usize,
+) -> Emitted
+    requires { ⌜ (Accepted (now b) (now dir)) × (KindSound (P.parse (now b)) k) × (Eg.refers k ≡ true) ⌝ }
+    requires { ⌜ Room (now s) pos c ⌝ }
+    ensures { λ r. ⌜ EmittedAt (now (s .entry)) (Eg.emitUnflagged (Es.emit d B.u48 (P.parse (now (b .entry)))) (Sv.survey d B.u48 (P.parse (now (b .entry)))) B.u48 (P.parse (now (b .entry))) k inplace (stateOf c (now (out .entry))) (drop pos (bits (now (s .entry))))) pos c 0 (r .whole) (r .places) (now (out .exit)) (r .next) ⌝ }
+{
+    let x = bitio::take_number(s, pos, 2);
+    if !x.whole {
+        return not_lawful(c, pos);
+    }
+    let mark = x.value;
+    let next = x.next;
+    if mark == 1 {
+        return emit_body(b, dir, s, out, d, k, inplace, c, next);
+    }
+    if mark == 3 {
+        return not_lawful(c, pos);
+    }
+    let q = lack(b, dir, out, k, c);
+    if mark == 0 {
+        return stored(q, next);
+    }
+    pass(b, dir, s, out, k, q, next)
+}
+
+// An element with its mark.
+fn emit_element(
+    b: &[u8],
+    dir: &[u16],
+    s: &[u8],
+    out: &mut [u8],
+    d: usize,
+    k: Kind,
+    c: Places,
+    pos: usize,
+) -> Emitted
+    requires { ⌜ (Accepted (now b) (now dir)) × (KindSound (P.parse (now b)) k) × (NoStruct k) × (Sh.unmarked k ≡ false) ⌝ }
+    requires { ⌜ Room (now s) pos c ⌝ }
+    ensures { λ r. ⌜ EmittedAt (now (s .entry)) (Es.emitElement (Es.emit d B.u48 (P.parse (now (b .entry)))) (Sv.survey d B.u48 (P.parse (now (b .entry)))) B.u48 (P.parse (now (b .entry))) k (stateOf c (now (out .entry))) (drop pos (bits (now (s .entry))))) pos c 0 (r .whole) (r .places) (now (out .exit)) (r .next) ⌝ }
+{
+    match k {
+        Kind::OfFlat(f) => emit_marked_flat(b, s, out, f, c, pos),
+        Kind::OfObject(_) => emit_part(b, dir, s, out, d, k, false, c, pos),
+        Kind::OfUnion(_) => emit_part(b, dir, s, out, d, k, false, c, pos),
+    }
+}
+
+// A table's content.
+fn emit_table(
+    b: &[u8],
+    dir: &[u16],
+    s: &[u8],
+    out: &mut [u8],
+    d: usize,
+    t: usize,
+    c: Places,
+    pos: usize,
+) -> Emitted
+    requires { ⌜ (Accepted (now b) (now dir)) × (t < P.tableCount (now b)) ⌝ }
+    requires { ⌜ Room (now s) pos c ⌝ }
+    ensures { λ r. ⌜ EmittedAt (now (s .entry)) (Es.emitContent (Es.emit d B.u48 (P.parse (now (b .entry)))) (Sv.survey d B.u48 (P.parse (now (b .entry)))) B.u48 (P.parse (now (b .entry))) (Object.Table t) (stateOf c (now (out .entry))) (drop pos (bits (now (s .entry))))) pos c 0 (r .whole) (r .places) (now (out .exit)) (r .next) ⌝ }
+{
+    let n = schema::member_count(b, dir, t);
+    let mut p = c;
+    let mut at = pos;
+    let mut j: usize = 0;
+    while j < n {
+        let r = schema::member(b, dir, t, j);
+        let k = r.kind;
+        if is_terminal(k, r.inplace) {
+            let y = emit_terminal(b, dir, s, out, d, r, p, at);
+            if !y.whole {
+                return not_lawful(c, pos);
+            }
+            at = y.next;
+            p = write_store::copied(y.places);
+            j += 1;
+            continue;
+        }
+        let x = emit_part(b, dir, s, out, d, k, r.inplace, p, at);
+        if !x.whole {
+            return not_lawful(c, pos);
+        }
+        at = x.next;
+        p = write_store::copied(x.places);
+        j += 1;
+    }
+    stored(p, at)
+}
+
+// ---- lists
+// An object that an element refers to, with its mark; n is its known size.
+fn emit_marked(
+    b: &[u8],
+    dir: &[u16],
+    s: &[u8],
+    out: &mut [u8],
+    d: usize,
+    ob: Object,
+    n: usize,
+    c: Places,
+    pos: usize,
+) -> Emitted
+    requires { ⌜ (Accepted (now b) (now dir)) × (ObjectSound (P.parse (now b)) ob) × (KnownSize (P.parse (now b)) ob n) ⌝ }
+    requires { ⌜ Room (now s) pos c ⌝ }
+    ensures { λ r. ⌜ EmittedAt (now (s .entry)) (Es.emitElement (Es.emit d B.u48 (P.parse (now (b .entry)))) (Sv.survey d B.u48 (P.parse (now (b .entry)))) B.u48 (P.parse (now (b .entry))) (Kind.OfObject ob) (stateOf c (now (out .entry))) (drop pos (bits (now (s .entry))))) pos c 0 (r .whole) (r .places) (now (out .exit)) (r .next) ⌝ }
+{
+    let x = bitio::take_number(s, pos, 2);
+    if !x.whole {
+        return not_lawful(c, pos);
+    }
+    let mark = x.value;
+    let next = x.next;
+    if mark == 1 {
+        let e = measure_by(b, dir, s, d, ob, n, next);
+        return emit_measured(b, dir, s, out, d, ob, false, e, c, next);
+    }
+    if mark == 0 {
+        let p = write_store::put_number(out, c, 6, 0);
+        return stored(p, next);
+    }
+    not_lawful(c, pos)
+}
+
+// n elements that refer to objects.
+fn emit_objects(
+    b: &[u8],
+    dir: &[u16],
+    s: &[u8],
+    out: &mut [u8],
+    d: usize,
+    ob: Object,
+    n: usize,
+    c: Places,
+    pos: usize,
+) -> Emitted
+    requires { ⌜ (Accepted (now b) (now dir)) × (ObjectSound (P.parse (now b)) ob) × (n < 2 ^ 32) ⌝ }
+    requires { ⌜ Room (now s) pos c ⌝ }
+    ensures { λ r. ⌜ EmittedAt (now (s .entry)) (Es.emitElements (Es.emit d B.u48 (P.parse (now (b .entry)))) (Sv.survey d B.u48 (P.parse (now (b .entry)))) B.u48 (P.parse (now (b .entry))) (Kind.OfObject ob) n (stateOf c (now (out .entry))) (drop pos (bits (now (s .entry))))) pos c 0 (r .whole) (r .places) (now (out .exit)) (r .next) ⌝ }
+{
+    let size = known_size(b, dir, ob);
+    let mut p = c;
+    let mut at = pos;
+    let mut j: usize = 0;
+    while j < n {
+        let x = emit_marked(b, dir, s, out, d, ob, size, p, at);
+        if !x.whole {
+            return not_lawful(c, pos);
+        }
+        at = x.next;
+        p = write_store::copied(x.places);
+        j += 1;
+    }
+    stored(p, at)
+}
+
+// n elements with their marks.
+fn emit_elements(
+    b: &[u8],
+    dir: &[u16],
+    s: &[u8],
+    out: &mut [u8],
+    d: usize,
+    k: Kind,
+    n: usize,
+    c: Places,
+    pos: usize,
+) -> Emitted
+    requires { ⌜ (Accepted (now b) (now dir)) × (KindSound (P.parse (now b)) k) × (NoStruct k) × (Sh.unmarked k ≡ false) × (n < 2 ^ 32) ⌝ }
+    requires { ⌜ Room (now s) pos c ⌝ }
+    ensures { λ r. ⌜ EmittedAt (now (s .entry)) (Es.emitElements (Es.emit d B.u48 (P.parse (now (b .entry)))) (Sv.survey d B.u48 (P.parse (now (b .entry)))) B.u48 (P.parse (now (b .entry))) k n (stateOf c (now (out .entry))) (drop pos (bits (now (s .entry))))) pos c 0 (r .whole) (r .places) (now (out .exit)) (r .next) ⌝ }
+{
+    let mut p = c;
+    let mut at = pos;
+    let mut j: usize = 0;
+    while j < n {
+        let x = emit_element(b, dir, s, out, d, k, p, at);
+        if !x.whole {
+            return not_lawful(c, pos);
+        }
+        at = x.next;
+        p = write_store::copied(x.places);
+        j += 1;
+    }
+    stored(p, at)
+}
+
+// A list's content. Integers of one byte are stored as bytes are.
+fn emit_list(
+    b: &[u8],
+    dir: &[u16],
+    s: &[u8],
+    out: &mut [u8],
+    d: usize,
+    i: usize,
+    c: Places,
+    pos: usize,
+) -> Emitted
+    requires { ⌜ (Accepted (now b) (now dir)) × (i < P.listCount (now b)) ⌝ }
+    requires { ⌜ Room (now s) pos c ⌝ }
+    ensures { λ r. ⌜ EmittedAt (now (s .entry)) (Es.emitContent (Es.emit d B.u48 (P.parse (now (b .entry)))) (Sv.survey d B.u48 (P.parse (now (b .entry)))) B.u48 (P.parse (now (b .entry))) (Object.List i) (stateOf c (now (out .entry))) (drop pos (bits (now (s .entry))))) pos c 0 (r .whole) (r .places) (now (out .exit)) (r .next) ⌝ }
+{
+    let k = schema::element(b, dir, i);
+    if integer_width(k) == 1 {
+        return emit_bytes(s, out, c, pos);
+    }
+    let y = bitio::take_number(s, pos, 32);
+    if !y.whole {
+        return not_lawful(c, pos);
+    }
+    let n = y.value as usize;
+    if write_measure::unmarked(k) {
+        return emit_unmarked(s, out, integer_width(k), n, c, y.next);
+    }
+    match k {
+        Kind::OfFlat(f) => emit_flats(b, s, out, f, n, c, y.next),
+        Kind::OfObject(ob) => emit_objects(b, dir, s, out, d, ob, n, c, y.next),
+        Kind::OfUnion(_) => emit_elements(b, dir, s, out, d, k, n, c, y.next),
+    }
+}
+
+// An object's content, d objects deep.
+fn emit_content(
+    b: &[u8],
+    dir: &[u16],
+    s: &[u8],
+    out: &mut [u8],
+    d: usize,
+    ob: Object,
+    c: Places,
+    pos: usize,
+) -> Emitted
+    requires { ⌜ (Accepted (now b) (now dir)) × (ObjectSound (P.parse (now b)) ob) ⌝ }
+    requires { ⌜ Room (now s) pos c ⌝ }
+    ensures { λ r. ⌜ EmittedAt (now (s .entry)) (Es.emit d B.u48 (P.parse (now (b .entry))) ob (stateOf c (now (out .entry))) (drop pos (bits (now (s .entry))))) pos c 0 (r .whole) (r .places) (now (out .exit)) (r .next) ⌝ }
+{
+    if d == 0 {
+        return not_lawful(c, pos);
+    }
+    match ob {
+        Object::Text => emit_text(s, out, c, pos),
+        Object::Bytes => emit_bytes(s, out, c, pos),
+        Object::List(i) => emit_list(b, dir, s, out, d - 1, wire::index(i), c, pos),
+        Object::Table(t) => emit_table(b, dir, s, out, d - 1, wire::index(t), c, pos),
+    }
+}
+
+// ---- the whole message
+// The message's start and the root table, which takes e, into a buffer of the message's length.
+pub fn emit_message(b: &[u8], dir: &[u16], s: &[u8], e: Extent, out: &mut [u8]) -> Emitted
+    requires { ⌜ (Accepted (now b) (now dir)) × (length (now s) ≤ 16777215) × (Measured false (Sv.survey B.deepest B.u48 (P.parse (now b)) (Object.Table (P.parse (now b) .root)) (bits (now s))) e) ⌝ }
+    ensures { λ r. ⌜ Eg.MessageAt (now (s .entry)) (Es.emitMessage B.u48 (P.parse (now (b .entry))) (now (out .entry)) (bits (now (s .entry)))) (r .whole) (r .places) (now (out .exit)) (r .next) ⌝ }
+{
+    let start = Places {
+        at: 0,
+        last: 0,
+        free: 0,
+        held: 0,
+        tail: 10,
+        next: 10,
+    };
+    let ob = message_object::root_object(b, dir);
+    let p = write_store::put_number(out, start, 4, 0xB5C0_C4B3);
+    emit_measured(b, dir, s, out, 32, ob, false, e, p, 0)
+}

@@ -1,0 +1,27 @@
+use borrow.Author.Needs.{needs}
+use Rattle.write_store.proofs.PutCases.{byte-put}
+use Rattle.write_store.proofs.put_byte.Statement.{statement}
+use Rattle.write_store.proofs.put_byte.Tie as tie
+use Rattle.write_store.proofs.put_byte.Reads as reads
+use Rattle.write_store.proofs.put_byte.Lts as lts
+use Rattle.write_store.proofs.forward.Reads as forward-reads
+use Rattle.write_store.proofs.store_byte.Reads as store-byte-reads
+
+-- src/lib.rt:263:5
+store-byte-requires : tie.Need-store-byte-requires
+store-byte-requires c κs = search needs
+
+-- src/lib.rt:264:5
+forward-requires : tie.Need-forward-requires
+forward-requires c κs = search needs
+
+-- src/lib.rt:259:1
+same-length : tie.Need-same-length
+same-length c = search needs
+
+-- src/lib.rt:259:1
+returns : tie.Need-returns
+returns c = search byte-put
+
+pub put-byte-spec : {M : Type 1} → statement M
+put-byte-spec = tie.close (tie.spec store-byte-requires forward-requires same-length returns)

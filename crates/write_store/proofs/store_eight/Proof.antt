@@ -1,0 +1,32 @@
+use borrow.Author.Needs.{needs}
+use Rattle.write_store.proofs.StoreCases.{eight-stored}
+use Rattle.write_store.proofs.store_eight.Statement.{statement}
+use Rattle.write_store.proofs.store_eight.Tie as tie
+use Rattle.write_store.proofs.store_eight.Reads as reads
+use Rattle.write_store.proofs.store_eight.Lts as lts
+use Rattle.write_store.proofs.store_four.Reads as store-four-reads
+
+-- src/lib.rt:106:5
+store-four-requires : tie.Need-store-four-requires
+store-four-requires c κs = search needs
+
+-- src/lib.rt:107:21
+add-store-four : tie.Need-add-store-four
+add-store-four c = search needs
+
+-- src/lib.rt:107:5
+store-four-requires-2 : tie.Need-store-four-requires-2
+store-four-requires-2 c κs = search needs
+
+-- src/lib.rt:102:1
+same-length : tie.Need-same-length
+same-length c = search needs
+
+-- src/lib.rt:102:1
+returns : tie.Need-returns
+returns c = search eight-stored
+
+pub store-eight-spec : {M : Type 1} → statement M
+store-eight-spec =
+    tie.close
+    (tie.spec store-four-requires add-store-four store-four-requires-2 same-length returns)

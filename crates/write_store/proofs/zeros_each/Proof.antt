@@ -1,0 +1,68 @@
+use Prim.Native.Nat.{ℕ, _+_, _-_, _*_, _<_, _≤_}
+use mathlib.Core.Path.{_≡_, refl, _∙_}
+use native.Mathlib.Omega.{arith}
+use lib.ListN.{length, drop, replicate}
+use lib.Seq.{sets}
+use Rattle.coding.specs.Bytes.{leBytes}
+use Rattle.coding.specs.Bits.{bits, pack}
+use borrow.Author.Needs.{needs}
+use Rattle.write_store.proofs.StoreCases.{zeros-turn, zeros-done}
+use Rattle.write_store.proofs.zeros_each.Statement.{statement}
+use Rattle.write_store.proofs.zeros_each.Tie as tie
+use Rattle.write_store.proofs.zeros_each.Reads as reads
+use Rattle.write_store.proofs.zeros_each.Lts as lts
+use Rattle.write_store.proofs.store_byte.Reads as store-byte-reads
+
+abbrev Inv-loop : tie.InvT-loop
+Inv-loop out₀ at n i₀ left₀ out i left =
+    (i + left ≤ at + n) × (length out ≡ length out₀) × (sets out₀ at (replicate n 0) ≡ sets out i (replicate left 0))
+
+abbrev μ-loop : tie.MeasureT-loop
+μ-loop out₀ at n i₀ left₀ out i left = left
+
+-- src/lib.rt:704:5
+loop-holds : tie.Need-loop-holds Inv-loop μ-loop
+loop-holds c = (omega arith, refl, refl)
+
+-- src/lib.rt:705:9
+store-byte-requires : tie.Need-store-byte-requires Inv-loop μ-loop
+store-byte-requires c κs = search needs
+
+-- src/lib.rt:706:9
+add-i : tie.Need-add-i Inv-loop μ-loop
+add-i c = search needs
+
+-- src/lib.rt:707:9
+sub-left : tie.Need-sub-left Inv-loop μ-loop
+sub-left c = search needs
+
+-- src/lib.rt:704:5
+loop-less : tie.Need-loop-less Inv-loop μ-loop
+loop-less c = search needs
+
+-- src/lib.rt:704:5
+loop-again : tie.Need-loop-again Inv-loop μ-loop
+loop-again c = (omega arith, c .before .before .store-byte .kept .0 ∙ c .before .before .before .before .before .loop .inv .1, search (zeros-turn, c .before .before .before .before .before .loop .inv .2))
+
+-- src/lib.rt:698:1
+same-length : tie.Need-same-length Inv-loop μ-loop
+same-length c = search needs
+
+-- src/lib.rt:698:1
+returns : tie.Need-returns Inv-loop μ-loop
+returns c = search zeros-done
+
+pub zeros-each-spec : {M : Type 1} → statement M
+zeros-each-spec =
+    tie.close
+    (tie.spec
+    Inv-loop
+    μ-loop
+    loop-holds
+    store-byte-requires
+    add-i
+    sub-left
+    loop-less
+    loop-again
+    same-length
+    returns)
