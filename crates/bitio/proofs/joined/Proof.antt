@@ -6,15 +6,12 @@ use Rattle.bitio.proofs.joined.Reads as reads
 use Rattle.bitio.proofs.joined.Lts as lts
 use Rattle.bitio.proofs.behind.Reads as behind-reads
 
--- src/lib.rt:301:9
 returns : tie.Need-returns
 returns c = search joined-none
 
--- src/lib.rt:303:5
 behind-requires : tie.Need-behind-requires
 behind-requires c κs = search needs
 
--- src/lib.rt:296:1
 returns-2 : tie.Need-returns-2
 returns-2 c = search needs
 

@@ -6,19 +6,15 @@ use Rattle.bitio.proofs.put_byte.Reads as reads
 use Rattle.bitio.proofs.put_byte.Lts as lts
 use Rattle.bits.proofs.last_byte.Reads as last-byte-reads
 
--- src/lib.rt:314:14
 last-byte-requires : tie.Need-last-byte-requires
 last-byte-requires c κs = search needs
 
--- src/lib.rt:314:5
 slice-write-out : tie.Need-slice-write-out
 slice-write-out c = search needs
 
--- src/lib.rt:310:1
 same-length : tie.Need-same-length
 same-length c = search needs
 
--- src/lib.rt:310:1
 returns : tie.Need-returns
 returns c = search byte-put
 

@@ -21,62 +21,48 @@ use Rattle.bitio.proofs.put_word.Reads as put-word-reads
 use Rattle.bits.proofs.low.Reads as low-reads
 use Rattle.bits.proofs.offset.Reads as offset-reads
 
--- src/lib.rt:313:9
 offset-requires : tie.Need-offset-requires
 offset-requires c κs = search needs
 
--- src/lib.rt:315:16
 add-left : tie.Need-add-left
 add-left c = search needs
 
--- src/lib.rt:315:16
 sub-left : tie.Need-sub-left
 sub-left c = search needs
 
--- src/lib.rt:316:20
 byte-requires : tie.Need-byte-requires
 byte-requires c κs = search needs
 
--- src/lib.rt:316:37
 sub-joined : tie.Need-sub-joined
 sub-joined c = search needs
 
--- src/lib.rt:316:45
 shr-joined : tie.Need-shr-joined
 shr-joined c = search needs
 
--- src/lib.rt:316:9
 joined-requires : tie.Need-joined-requires
 joined-requires c κs = search needs
 
--- src/lib.rt:317:5
 put-word-requires : tie.Need-put-word-requires
 put-word-requires c κs = search needs
 
--- src/lib.rt:319:26
 add-put-in : tie.Need-add-put-in
 add-put-in c = search needs
 
--- src/lib.rt:319:21
 mul-put-in : tie.Need-mul-put-in
 mul-put-in c = search needs
 
--- src/lib.rt:319:40
 low-requires : tie.Need-low-requires
 low-requires c κs = search needs
 
--- src/lib.rt:319:9
 put-in-requires : tie.Need-put-in-requires
 put-in-requires c κs =
     let a = c .before .before .before .before .before .before .before .before .before .before .before .before .args in
     let o = c .before .before .before .before .before .before .before .before .before .before .offset in
     (search needs, (omega arith, (search needs, rw (c .low .ensures) (mod-lt (a .v) (pow-pos (o .result + a .width - 64))))))
 
--- src/lib.rt:307:1
 same-length : tie.Need-same-length
 same-length c = search needs
 
--- src/lib.rt:307:1
 returns : tie.Need-returns
 returns c =
     let a = c .before .before .before .before .before .before .before .before .before .before .before .before .before .before .before .args in
@@ -90,11 +76,9 @@ returns c =
     (a .v) (y .result) (j .result) (8 * (a .pos / 8 + 8)) refl (o .ensures) (omega arith) (omega arith) (omega arith) (omega arith) (y .ensures .0) (j .ensures) (one .ensures)
     (omega arith) (two .ensures ∙ ap (splice (bits (one .last .0)) (8 * (a .pos / 8 + 8))) (ap (bitsOf (o .result + a .width - 64)) (low .ensures) ∙ bitsOf-mod (o .result + a .width - 64) (a .v)))
 
--- src/lib.rt:307:1
 same-length-2 : tie.Need-same-length-2
 same-length-2 c = search needs
 
--- src/lib.rt:307:1
 returns-2 : tie.Need-returns-2
 returns-2 c =
     let a = c .before .before .before .before .before .before .before .before .before .before .args in

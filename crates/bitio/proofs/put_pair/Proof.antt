@@ -12,23 +12,18 @@ use Rattle.bitio.proofs.put_pair.Reads as reads
 use Rattle.bitio.proofs.put_pair.Lts as lts
 use Rattle.bitio.proofs.put_byte.Reads as put-byte-reads
 
--- src/lib.rt:321:5
 put-byte-requires : tie.Need-put-byte-requires
 put-byte-requires c κs = search needs
 
--- src/lib.rt:322:19
 add-put-byte : tie.Need-add-put-byte
 add-put-byte c = search needs
 
--- src/lib.rt:322:5
 put-byte-requires-2 : tie.Need-put-byte-requires-2
 put-byte-requires-2 c κs = search needs
 
--- src/lib.rt:317:1
 same-length : tie.Need-same-length
 same-length c = search needs
 
--- src/lib.rt:317:1
 returns : tie.Need-returns
 returns c =
     let a = c .before .before .before .before .before .before .before .before .before .args in

@@ -12,23 +12,18 @@ use Rattle.bitio.proofs.put_quad.Reads as reads
 use Rattle.bitio.proofs.put_quad.Lts as lts
 use Rattle.bitio.proofs.put_pair.Reads as put-pair-reads
 
--- src/lib.rt:329:5
 put-pair-requires : tie.Need-put-pair-requires
 put-pair-requires c κs = search needs
 
--- src/lib.rt:330:19
 add-put-pair : tie.Need-add-put-pair
 add-put-pair c = search needs
 
--- src/lib.rt:330:5
 put-pair-requires-2 : tie.Need-put-pair-requires-2
 put-pair-requires-2 c κs = search needs
 
--- src/lib.rt:325:1
 same-length : tie.Need-same-length
 same-length c = search needs
 
--- src/lib.rt:325:1
 returns : tie.Need-returns
 returns c =
     let a = c .before .before .before .before .before .before .before .before .before .args in

@@ -12,23 +12,18 @@ use Rattle.bitio.proofs.put_word.Reads as reads
 use Rattle.bitio.proofs.put_word.Lts as lts
 use Rattle.bitio.proofs.put_quad.Reads as put-quad-reads
 
--- src/lib.rt:337:5
 put-quad-requires : tie.Need-put-quad-requires
 put-quad-requires c κs = search needs
 
--- src/lib.rt:338:19
 add-put-quad : tie.Need-add-put-quad
 add-put-quad c = search needs
 
--- src/lib.rt:338:5
 put-quad-requires-2 : tie.Need-put-quad-requires-2
 put-quad-requires-2 c κs = search needs
 
--- src/lib.rt:333:1
 same-length : tie.Need-same-length
 same-length c = search needs
 
--- src/lib.rt:333:1
 returns : tie.Need-returns
 returns c =
     let a = c .before .before .before .before .before .before .before .before .before .args in

@@ -16,39 +16,30 @@ use Rattle.bitio.proofs.byte.Reads as byte-reads
 use Rattle.bitio.proofs.put_word.Reads as put-word-reads
 use Rattle.bits.proofs.offset.Reads as offset-reads
 
--- src/lib.rt:339:9
 offset-requires : tie.Need-offset-requires
 offset-requires c κs = search needs
 
--- src/lib.rt:340:20
 byte-requires : tie.Need-byte-requires
 byte-requires c κs = search needs
 
--- src/lib.rt:340:9
 behind-requires : tie.Need-behind-requires
 behind-requires c κs = search needs
 
--- src/lib.rt:341:28
 sub-put-word : tie.Need-sub-put-word
 sub-put-word c = search needs
 
--- src/lib.rt:341:28
 sub-put-word-2 : tie.Need-sub-put-word-2
 sub-put-word-2 c = search needs
 
--- src/lib.rt:341:22
 shl-put-word : tie.Need-shl-put-word
 shl-put-word c = search needs
 
--- src/lib.rt:341:5
 put-word-requires : tie.Need-put-word-requires
 put-word-requires c κs = search needs
 
--- src/lib.rt:334:1
 same-length : tie.Need-same-length
 same-length c = search needs
 
--- src/lib.rt:334:1
 returns : tie.Need-returns
 returns c =
     let a = c .before .before .before .before .before .before .before .before .before .args in

@@ -10,43 +10,33 @@ use Rattle.bitio.proofs.put_zeroed.Reads as put-zeroed-reads
 use Rattle.bitio.proofs.write_wide.Reads as write-wide-reads
 use Rattle.bits.proofs.offset.Reads as offset-reads
 
--- src/lib.rt:440:8
 add-if1 : tie.Need-add-if1
 add-if1 c = search needs
 
--- src/lib.rt:441:12
 offset-requires : tie.Need-offset-requires
 offset-requires c κs = search needs
 
--- src/lib.rt:441:12
 add-if2 : tie.Need-add-if2
 add-if2 c = search needs
 
--- src/lib.rt:443:17
 put-zeroed-requires : tie.Need-put-zeroed-requires
 put-zeroed-requires c κs = search needs
 
--- src/lib.rt:444:24
 add-result : tie.Need-add-result
 add-result c = search needs
 
--- src/lib.rt:444:17
 same-length : tie.Need-same-length
 same-length c = search needs
 
--- src/lib.rt:444:17
 returns : tie.Need-returns
 returns c = bits-zeroed _ _ _ _ _ (search needs) (omega arith) (omega arith) (search needs) (c .before .before .put-zeroed .ensures)
 
--- src/lib.rt:448:5
 write-wide-requires : tie.Need-write-wide-requires
 write-wide-requires c κs = search needs
 
--- src/lib.rt:435:1
 same-length-2 : tie.Need-same-length-2
 same-length-2 c = search needs
 
--- src/lib.rt:435:1
 returns-2 : tie.Need-returns-2
 returns-2 c = search needs
 

@@ -3,35 +3,27 @@ use borrow.Author.Needs.{needs}
 use Rattle.field.proofs.record_kind.Statement.{statement}
 use Rattle.field.proofs.record_kind.Tie as tie
 
--- src/lib.rt:322:25
 enum-told : tie.Need-enum-told
 enum-told c = search needs
 
--- src/lib.rt:323:26
 enum-told-2 : tie.Need-enum-told-2
 enum-told-2 c = search needs
 
--- src/lib.rt:324:28
 enum-told-3 : tie.Need-enum-told-3
 enum-told-3 c = search needs
 
--- src/lib.rt:325:29
 enum-told-4 : tie.Need-enum-told-4
 enum-told-4 c = search needs
 
--- src/lib.rt:318:1
 returns : tie.Need-returns
 returns c = search record-text
 
--- src/lib.rt:318:1
 returns-2 : tie.Need-returns-2
 returns-2 c = search record-bytes
 
--- src/lib.rt:318:1
 returns-3 : tie.Need-returns-3
 returns-3 c = search record-list
 
--- src/lib.rt:318:1
 returns-4 : tie.Need-returns-4
 returns-4 c = search record-table
 

@@ -4,31 +4,24 @@ use borrow.Author.Needs.{needs}
 use Rattle.field.proofs.value_answer.Statement.{statement}
 use Rattle.field.proofs.value_answer.Tie as tie
 
--- src/lib.rt:312:22
 enum-known-k : tie.Need-enum-known-k
 enum-known-k c = search needs
 
--- src/lib.rt:312:28
 flat-answer-requires : tie.Need-flat-answer-requires
 flat-answer-requires c κs = search flat-sound
 
--- src/lib.rt:313:30
 enum-told : tie.Need-enum-told
 enum-told c = search needs
 
--- src/lib.rt:314:29
 enum-told-2 : tie.Need-enum-told-2
 enum-told-2 c = search needs
 
--- src/lib.rt:307:1
 returns : tie.Need-returns
 returns c = search value-flat
 
--- src/lib.rt:307:1
 returns-2 : tie.Need-returns-2
 returns-2 c = search value-object
 
--- src/lib.rt:307:1
 returns-3 : tie.Need-returns-3
 returns-3 c = search value-union
 

@@ -3,43 +3,33 @@ use borrow.Author.Needs.{needs}
 use Rattle.field_arrival.proofs.arrive.Statement.{statement}
 use Rattle.field_arrival.proofs.arrive.Tie as tie
 
--- src/lib.rt:47:9
 placed-requires : tie.Need-placed-requires
 placed-requires c κs = search needs
 
--- src/lib.rt:49:9
 refuse-requires : tie.Need-refuse-requires
 refuse-requires c κs = search needs
 
--- src/lib.rt:49:9
 returns : tie.Need-returns
 returns c = search arrive-deep
 
--- src/lib.rt:51:11
 open-object-requires : tie.Need-open-object-requires
 open-object-requires c κs = search needs
 
--- src/lib.rt:52:25
 enum-known-e : tie.Need-enum-known-e
 enum-known-e c = search needs
 
--- src/lib.rt:52:31
 refuse-requires-2 : tie.Need-refuse-requires-2
 refuse-requires-2 c κs = search needs
 
--- src/lib.rt:53:25
 enum-known-start : tie.Need-enum-known-start
 enum-known-start c = search needs
 
--- src/lib.rt:53:70
 sub-t14 : tie.Need-sub-t14
 sub-t14 c = search needs
 
--- src/lib.rt:43:1
 returns-2 : tie.Need-returns-2
 returns-2 c = search arrive-refused
 
--- src/lib.rt:43:1
 returns-3 : tie.Need-returns-3
 returns-3 c = search arrive-content
 

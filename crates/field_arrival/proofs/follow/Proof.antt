@@ -3,71 +3,54 @@ use borrow.Author.Needs.{needs}
 use Rattle.field_arrival.proofs.follow.Statement.{statement}
 use Rattle.field_arrival.proofs.follow.Tie as tie
 
--- src/lib.rt:79:23
 enum-known-step : tie.Need-enum-known-step
 enum-known-step c = search needs
 
--- src/lib.rt:79:29
 refuse-requires : tie.Need-refuse-requires
 refuse-requires c κs = search needs
 
--- src/lib.rt:80:25
 enum-told : tie.Need-enum-told
 enum-told c = search needs
 
--- src/lib.rt:81:21
 enum-known-step-2 : tie.Need-enum-known-step-2
 enum-known-step-2 c = search needs
 
--- src/lib.rt:82:23
 enum-known-step-3 : tie.Need-enum-known-step-3
 enum-known-step-3 c = search needs
 
--- src/lib.rt:83:22
 enum-known-step-4 : tie.Need-enum-known-step-4
 enum-known-step-4 c = search needs
 
--- src/lib.rt:84:22
 enum-known-step-5 : tie.Need-enum-known-step-5
 enum-known-step-5 c = search needs
 
--- src/lib.rt:84:32
 arrive-requires : tie.Need-arrive-requires
 arrive-requires c κs = search (object-sound, object-place, needs)
 
--- src/lib.rt:85:25
 enum-known-step-6 : tie.Need-enum-known-step-6
 enum-known-step-6 c = search needs
 
--- src/lib.rt:85:35
 choose-requires : tie.Need-choose-requires
 choose-requires c κs = search (choice-sound, choice-place, needs)
 
--- src/lib.rt:74:1
 returns : tie.Need-returns
 returns c = search follow-refused
 
--- src/lib.rt:74:1
 returns-2 : tie.Need-returns-2
 returns-2 c = search follow-absent
 
--- src/lib.rt:74:1
 returns-3 : tie.Need-returns-3
 returns-3 c = search follow-value
 
--- src/lib.rt:74:1
 returns-4 : tie.Need-returns-4
 returns-4 c = search follow-unknown
 
--- src/lib.rt:74:1
 returns-5 : tie.Need-returns-5
 returns-5 c = search follow-struct
 
--- src/lib.rt:74:1
 returns-6 : tie.Need-returns-6
 returns-6 c = search follow-object
 
--- src/lib.rt:74:1
 returns-7 : tie.Need-returns-7
 returns-7 c = search follow-choice
 

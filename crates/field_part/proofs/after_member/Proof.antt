@@ -4,15 +4,12 @@ use borrow.Author.Needs.{needs}
 use Rattle.field_part.proofs.after_member.Statement.{statement}
 use Rattle.field_part.proofs.after_member.Tie as tie
 
--- src/lib.rt:139:9
 member-requires : tie.Need-member-requires
 member-requires c κs = search needs
 
--- src/lib.rt:140:9
 place-member-requires : tie.Need-place-member-requires
 place-member-requires c κs = search (member-sound-of, needs)
 
--- src/lib.rt:135:1
 returns : tie.Need-returns
 returns c = (search after-is, search after-laid)
 

@@ -18,31 +18,24 @@ Inv-loop b dir t j c₀ i₀ c i = (i ≤ j) × (c ≡ L.afterMembers B.u48 (P.p
 abbrev μ-loop : tie.MeasureT-loop
 μ-loop b dir t j c₀ i₀ c i = j - i
 
--- src/lib.rt:149:9
 begin-requires : tie.Need-begin-requires Inv-loop μ-loop
 begin-requires c κs = search needs
 
--- src/lib.rt:151:5
 loop-holds : tie.Need-loop-holds Inv-loop μ-loop
 loop-holds c = (omega arith, search cursor-start, search needs)
 
--- src/lib.rt:152:9
 after-member-requires : tie.Need-after-member-requires Inv-loop μ-loop
 after-member-requires c κs = search needs
 
--- src/lib.rt:153:9
 add-i : tie.Need-add-i Inv-loop μ-loop
 add-i c = search needs
 
--- src/lib.rt:151:5
 loop-less : tie.Need-loop-less Inv-loop μ-loop
 loop-less c = search needs
 
--- src/lib.rt:151:5
 loop-again : tie.Need-loop-again Inv-loop μ-loop
 loop-again c = (omega arith, search cursor-turn, search needs)
 
--- src/lib.rt:145:1
 returns : tie.Need-returns Inv-loop μ-loop
 returns c = (search cursor-done, search laid-done)
 

@@ -5,75 +5,57 @@ use borrow.Author.Needs.{needs}
 use Rattle.field_part.proofs.field_step.Statement.{statement}
 use Rattle.field_part.proofs.field_step.Tie as tie
 
--- src/lib.rt:96:49
 enum-told : tie.Need-enum-told
 enum-told c = search needs
 
--- src/lib.rt:96:49
 byte-requires : tie.Need-byte-requires
 byte-requires c κs = search needs
 
--- src/lib.rt:96:38
 wide-requires : tie.Need-wide-requires
 wide-requires c κs = search needs
 
--- src/lib.rt:97:26
 enum-known-k : tie.Need-enum-known-k
 enum-known-k c = search needs
 
--- src/lib.rt:97:64
 index-requires : tie.Need-index-requires
 index-requires c κs = search needs
 
--- src/lib.rt:97:44
 number-requires : tie.Need-number-requires
 number-requires c κs = (search integer-eight, omega arith)
 
--- src/lib.rt:98:21
 enum-known-k-2 : tie.Need-enum-known-k-2
 enum-known-k-2 c = search needs
 
--- src/lib.rt:98:59
 index-requires-2 : tie.Need-index-requires-2
 index-requires-2 c κs = search needs
 
--- src/lib.rt:98:39
 number-requires-2 : tie.Need-number-requires-2
 number-requires-2 c κs = (search float-eight, omega arith)
 
--- src/lib.rt:99:26
 enum-known-k-3 : tie.Need-enum-known-k-3
 enum-known-k-3 c = search needs
 
--- src/lib.rt:99:51
 byte-requires-2 : tie.Need-byte-requires-2
 byte-requires-2 c κs = search needs
 
--- src/lib.rt:99:32
 enum-step-requires : tie.Need-enum-step-requires
 enum-step-requires c κs = search needs
 
--- src/lib.rt:100:22
 enum-known-k-4 : tie.Need-enum-known-k-4
 enum-known-k-4 c = search needs
 
--- src/lib.rt:91:1
 returns : tie.Need-returns
 returns c = search at-boolean
 
--- src/lib.rt:91:1
 returns-2 : tie.Need-returns-2
 returns-2 c = search at-integer
 
--- src/lib.rt:91:1
 returns-3 : tie.Need-returns-3
 returns-3 c = search at-float
 
--- src/lib.rt:91:1
 returns-4 : tie.Need-returns-4
 returns-4 c = search at-enum
 
--- src/lib.rt:91:1
 returns-5 : tie.Need-returns-5
 returns-5 c = search at-struct
 

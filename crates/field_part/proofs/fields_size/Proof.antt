@@ -16,35 +16,27 @@ Inv-loop b dir s j size₀ i₀ size i = (i ≤ j) × (size ≡ total (structSiz
 abbrev μ-loop : tie.MeasureT-loop
 μ-loop b dir s j size₀ i₀ size i = j - i
 
--- src/lib.rt:111:5
 loop-holds : tie.Need-loop-holds Inv-loop μ-loop
 loop-holds c = (omega arith, search size-start, omega arith)
 
--- src/lib.rt:112:13
 field-requires : tie.Need-field-requires Inv-loop μ-loop
 field-requires c κs = search needs
 
--- src/lib.rt:113:17
 flat-width-requires : tie.Need-flat-width-requires Inv-loop μ-loop
 flat-width-requires c κs = search (field-sound-before, needs)
 
--- src/lib.rt:113:9
 add-size : tie.Need-add-size Inv-loop μ-loop
 add-size c = search needs
 
--- src/lib.rt:114:9
 add-i : tie.Need-add-i Inv-loop μ-loop
 add-i c = search needs
 
--- src/lib.rt:111:5
 loop-less : tie.Need-loop-less Inv-loop μ-loop
 loop-less c = search needs
 
--- src/lib.rt:111:5
 loop-again : tie.Need-loop-again Inv-loop μ-loop
 loop-again c = (omega arith, search size-turn, omega arith)
 
--- src/lib.rt:105:1
 returns : tie.Need-returns Inv-loop μ-loop
 returns c = (search size-done, omega arith)
 

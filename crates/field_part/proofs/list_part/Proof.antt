@@ -4,27 +4,21 @@ use borrow.Author.Needs.{needs}
 use Rattle.field_part.proofs.list_part.Statement.{statement}
 use Rattle.field_part.proofs.list_part.Tie as tie
 
--- src/lib.rt:201:9
 refuse-requires : tie.Need-refuse-requires
 refuse-requires c κs = search needs
 
--- src/lib.rt:201:9
 returns : tie.Need-returns
 returns c = search list-none
 
--- src/lib.rt:203:9
 element-requires : tie.Need-element-requires
 element-requires c κs = search needs
 
--- src/lib.rt:204:9
 element-step-requires : tie.Need-element-step-requires
 element-step-requires c κs = search (element-sound, elements-there, needs)
 
--- src/lib.rt:205:5
 follow-requires : tie.Need-follow-requires
 follow-requires c κs = search (element-step-within, needs)
 
--- src/lib.rt:185:1
 returns-2 : tie.Need-returns-2
 returns-2 c = search list-there
 

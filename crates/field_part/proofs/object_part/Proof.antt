@@ -5,59 +5,45 @@ use borrow.Author.Needs.{needs}
 use Rattle.field_part.proofs.object_part.Statement.{statement}
 use Rattle.field_part.proofs.object_part.Tie as tie
 
--- src/lib.rt:225:25
 enum-told : tie.Need-enum-told
 enum-told c = search needs
 
--- src/lib.rt:225:25
 refuse-requires : tie.Need-refuse-requires
 refuse-requires c κs = search needs
 
--- src/lib.rt:226:26
 enum-told-2 : tie.Need-enum-told-2
 enum-told-2 c = search needs
 
--- src/lib.rt:226:26
 refuse-requires-2 : tie.Need-refuse-requires-2
 refuse-requires-2 c κs = search needs
 
--- src/lib.rt:227:22
 enum-known-ob : tie.Need-enum-known-ob
 enum-known-ob c = search needs
 
--- src/lib.rt:227:49
 index-requires : tie.Need-index-requires
 index-requires c κs = search needs
 
--- src/lib.rt:227:28
 list-part-requires : tie.Need-list-part-requires
 list-part-requires c κs = search (list-counted-of, list-fits, needs)
 
--- src/lib.rt:228:23
 enum-known-ob-2 : tie.Need-enum-known-ob-2
 enum-known-ob-2 c = search needs
 
--- src/lib.rt:228:51
 index-requires-2 : tie.Need-index-requires-2
 index-requires-2 c κs = search needs
 
--- src/lib.rt:228:29
 table-part-requires : tie.Need-table-part-requires
 table-part-requires c κs = search (table-counted-of, table-fits, needs)
 
--- src/lib.rt:209:1
 returns : tie.Need-returns
 returns c = search part-text
 
--- src/lib.rt:209:1
 returns-2 : tie.Need-returns-2
 returns-2 c = search part-bytes
 
--- src/lib.rt:209:1
 returns-3 : tie.Need-returns-3
 returns-3 c = search part-list
 
--- src/lib.rt:209:1
 returns-4 : tie.Need-returns-4
 returns-4 c = search part-table
 

@@ -18,39 +18,30 @@ Inv-loop b dir m path f₀ i₀ f i = (i ≤ length path) × (Field.along B.u48 
 abbrev μ-loop : tie.MeasureT-loop
 μ-loop b dir m path f₀ i₀ f i = length path - i
 
--- src/lib.rt:255:5
 loop-holds : tie.Need-loop-holds Inv-loop μ-loop
 loop-holds c = (omega arith, search needs, search needs)
 
--- src/lib.rt:256:35
 mul-part-of : tie.Need-mul-part-of Inv-loop μ-loop
 mul-part-of c = search needs
 
--- src/lib.rt:256:35
 shared-slice-read-part-of : tie.Need-shared-slice-read-part-of Inv-loop μ-loop
 shared-slice-read-part-of c = search needs
 
--- src/lib.rt:256:35
 cast-part-of : tie.Need-cast-part-of Inv-loop μ-loop
 cast-part-of c = omega (arith, c .shared-slice-known5 .given (c .before .before .loop .i))
 
--- src/lib.rt:256:9
 part-of-requires : tie.Need-part-of-requires Inv-loop μ-loop
 part-of-requires c κs = search needs
 
--- src/lib.rt:257:9
 add-i : tie.Need-add-i Inv-loop μ-loop
 add-i c = search needs
 
--- src/lib.rt:255:5
 loop-less : tie.Need-loop-less Inv-loop μ-loop
 loop-less c = search needs
 
--- src/lib.rt:255:5
 loop-again : tie.Need-loop-again Inv-loop μ-loop
 loop-again c = (omega arith, search along-turn, search next-within)
 
--- src/lib.rt:249:1
 returns : tie.Need-returns Inv-loop μ-loop
 returns c = (search along-done, search needs)
 

@@ -5,7 +5,6 @@ use Rattle.judge.proofs.early.Tie as tie
 use Rattle.judge.proofs.early.Reads as reads
 use Rattle.judge.proofs.early.Lts as lts
 
--- src/lib.rt:479:1
 returns : tie.Need-returns
 unfolding W.early
 returns c = search needs

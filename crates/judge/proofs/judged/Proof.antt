@@ -9,43 +9,33 @@ use Rattle.message_object.proofs.start_ok.Reads as start-ok-reads
 use Rattle.judge.proofs.verdict_of.Reads as verdict-of-reads
 use Rattle.judge.proofs.walk_from_root.Reads as walk-from-root-reads
 
--- src/lib.rt:538:9
 early-requires : tie.Need-early-requires
 early-requires c κs = search needs
 
--- src/lib.rt:538:9
 returns : tie.Need-returns
 returns c = search verdict-short
 
--- src/lib.rt:541:9
 early-requires-2 : tie.Need-early-requires-2
 early-requires-2 c κs = search needs
 
--- src/lib.rt:541:9
 returns-2 : tie.Need-returns-2
 returns-2 c = search verdict-long
 
--- src/lib.rt:543:8
 start-ok-requires : tie.Need-start-ok-requires
 start-ok-requires c κs = search needs
 
--- src/lib.rt:544:27
 walk-from-root-requires : tie.Need-walk-from-root-requires
 walk-from-root-requires c κs = search needs
 
--- src/lib.rt:544:9
 verdict-of-requires : tie.Need-verdict-of-requires
 verdict-of-requires c κs = code-small _ _ _ _ (c .walk-from-root .ensures)
 
--- src/lib.rt:544:9
 returns-3 : tie.Need-returns-3
 returns-3 c = search verdict-walk
 
--- src/lib.rt:546:5
 early-requires-3 : tie.Need-early-requires-3
 early-requires-3 c κs = search needs
 
--- src/lib.rt:533:1
 returns-4 : tie.Need-returns-4
 returns-4 c = search verdict-other
 

@@ -5,19 +5,15 @@ use Rattle.judge.proofs.verdict_of.Tie as tie
 use Rattle.judge.proofs.verdict_of.Reads as reads
 use Rattle.judge.proofs.verdict_of.Lts as lts
 
--- src/lib.rt:776:9
 returns : tie.Need-returns
 returns c = search verdict-going
 
--- src/lib.rt:783:18
 sub-t4 : tie.Need-sub-t4
 sub-t4 c = search needs
 
--- src/lib.rt:783:17
 cast-t5 : tie.Need-cast-t5
 cast-t5 c = search needs
 
--- src/lib.rt:770:1
 returns-2 : tie.Need-returns-2
 returns-2 c = search verdict-refused
 

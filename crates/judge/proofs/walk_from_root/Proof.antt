@@ -8,19 +8,15 @@ use Rattle.message_object.proofs.root_object.Reads as root-object-reads
 use Rattle.message_object.proofs.root_place.Reads as root-place-reads
 use Rattle.judge_walk.proofs.visit.Reads as visit-reads
 
--- src/lib.rt:527:9
 root-object-requires : tie.Need-root-object-requires
 root-object-requires c κs = search needs
 
--- src/lib.rt:528:9
 root-place-requires : tie.Need-root-place-requires
 root-place-requires c κs = search needs
 
--- src/lib.rt:529:5
 visit-requires : tie.Need-visit-requires
 visit-requires c κs = search needs
 
--- src/lib.rt:523:1
 returns : tie.Need-returns
 returns c = search walk-is
 

@@ -19,43 +19,33 @@ Inv-loop b first count j₀ j = (j ≤ count) × Rs.RowMembers b first j
 abbrev μ-loop : tie.MeasureT-loop
 μ-loop b first count j₀ j = count - j
 
--- src/lib.rt:423:5
 loop-holds : tie.Need-loop-holds Inv-loop μ-loop
 loop-holds c = (omega arith, search row-members-none)
 
--- src/lib.rt:424:13
 record-place-requires : tie.Need-record-place-requires Inv-loop μ-loop
 record-place-requires c κs = search needs
 
--- src/lib.rt:425:32
 byte-in-requires : tie.Need-byte-in-requires Inv-loop μ-loop
 byte-in-requires c κs = search needs
 
--- src/lib.rt:425:20
 index-requires : tie.Need-index-requires Inv-loop μ-loop
 index-requires c κs = search needs
 
--- src/lib.rt:425:12
 is-row-member-requires : tie.Need-is-row-member-requires Inv-loop μ-loop
 is-row-member-requires c κs = search needs
 
--- src/lib.rt:426:13
 add-j : tie.Need-add-j Inv-loop μ-loop
 add-j c = search needs
 
--- src/lib.rt:423:5
 loop-less : tie.Need-loop-less Inv-loop μ-loop
 loop-less c = search needs
 
--- src/lib.rt:423:5
 loop-again : tie.Need-loop-again Inv-loop μ-loop
 loop-again c = (omega arith, row-members-more _ _ _ (c .before .before .before .before .before .before .loop .inv .1) _ (c .before .before .before .before .record-place .ensures .1) _ (c .before .before .before .byte-in .ensures) _ (c .before .before .index .ensures .0) (c .before .is-row-member .ensures (c .if1 .taken)))
 
--- src/lib.rt:428:13
 returns : tie.Need-returns Inv-loop μ-loop
 returns c = λ e. never e
 
--- src/lib.rt:418:1
 returns-2 : tie.Need-returns-2 Inv-loop μ-loop
 returns-2 c = λ e. search row-members-all
 

@@ -7,11 +7,9 @@ use Rattle.judge_member.proofs.behind_reference.Tie as tie
 use Rattle.judge_member.proofs.behind_reference.Reads as reads
 use Rattle.judge_member.proofs.behind_reference.Lts as lts
 
--- src/lib.rt:680:14
 add-t3 : tie.Need-add-t3
 add-t3 c = search needs
 
--- src/lib.rt:674:1
 returns : tie.Need-returns
 unfolding L.afterBytes
 returns c = (refl, record { end = omega arith; byte = omega (arith, c .pre .0); bit = c .pre .1 })

@@ -7,15 +7,12 @@ use Rattle.judge_member.proofs.is_row_member.Reads as reads
 use Rattle.judge_member.proofs.is_row_member.Lts as lts
 use Rattle.judge_member.proofs.is_plain.Reads as is-plain-reads
 
--- src/lib.rt:401:9
 returns : tie.Need-returns
 returns c = search needs
 
--- src/lib.rt:403:5
 is-plain-requires : tie.Need-is-plain-requires
 is-plain-requires c κs = search needs
 
--- src/lib.rt:397:1
 returns-2 : tie.Need-returns-2
 returns-2 c = λ e. row-of-plain _ (c .is-plain .ensures e)
 

@@ -12,51 +12,39 @@ use Rattle.schema.proofs.records.Reads as records-reads
 use Rattle.schema.proofs.table_place.Reads as table-place-reads
 use Rattle.wire.proofs.index.Reads as index-reads
 
--- src/lib.rt:602:25
 enum-told : tie.Need-enum-told
 enum-told c = search needs
 
--- src/lib.rt:603:26
 enum-told-2 : tie.Need-enum-told-2
 enum-told-2 c = search needs
 
--- src/lib.rt:604:28
 enum-told-3 : tie.Need-enum-told-3
 enum-told-3 c = search needs
 
--- src/lib.rt:605:23
 enum-known-ob : tie.Need-enum-known-ob
 enum-known-ob c = search needs
 
--- src/lib.rt:606:53
 index-requires : tie.Need-index-requires
 index-requires c κs = search needs
 
--- src/lib.rt:606:17
 table-place-requires : tie.Need-table-place-requires
 table-place-requires c κs = search (table-counted-of, needs)
 
--- src/lib.rt:607:34
 records-requires : tie.Need-records-requires
 records-requires c κs = search needs
 
--- src/lib.rt:607:13
 all-row-members-requires : tie.Need-all-row-members-requires
 all-row-members-requires c κs = search needs
 
--- src/lib.rt:597:1
 returns : tie.Need-returns
 returns c = λ e. never e
 
--- src/lib.rt:597:1
 returns-2 : tie.Need-returns-2
 returns-2 c = λ e. never e
 
--- src/lib.rt:597:1
 returns-3 : tie.Need-returns-3
 returns-3 c = λ e. never e
 
--- src/lib.rt:597:1
 returns-4 : tie.Need-returns-4
 returns-4 c = λ e. row-object _ _ _ _ (c .before .before .before .before .before .ob .given .1) (c .before .before .before .index .ensures .0) _ (c .before .before .table-place .ensures) _ (c .before .records .ensures .0) (c .all-row-members .ensures e)
 

@@ -7,31 +7,24 @@ use Rattle.judge_member.proofs.lead_number.Lts as lts
 use Rattle.judge_member.proofs.plain_width.Reads as plain-width-reads
 use Rattle.wire.proofs.eighth.Reads as eighth-reads
 
--- src/lib.rt:396:25
 eighth-requires : tie.Need-eighth-requires
 eighth-requires c κs = search needs
 
--- src/lib.rt:396:9
 plain-width-requires : tie.Need-plain-width-requires
 plain-width-requires c κs = search needs
 
--- src/lib.rt:399:14
 add-if2 : tie.Need-add-if2
 add-if2 c = search needs
 
--- src/lib.rt:404:9
 returns : tie.Need-returns
 returns c = (search number-past, tt)
 
--- src/lib.rt:409:8
 add-if2-2 : tie.Need-add-if2-2
 add-if2-2 c = search needs
 
--- src/lib.rt:410:9
 returns-2 : tie.Need-returns-2
 returns-2 c = (search number-here, tt)
 
--- src/lib.rt:383:1
 returns-3 : tie.Need-returns-3
 returns-3 c = (search number-cut, tt)
 

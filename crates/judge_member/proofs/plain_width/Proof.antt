@@ -8,19 +8,15 @@ use Rattle.judge_member.proofs.plain_width.Lts as lts
 use Rattle.schema.proofs.width_of.Reads as width-of-reads
 use Rattle.wire.proofs.index.Reads as index-reads
 
--- src/lib.rt:377:9
 returns : tie.Need-returns
 returns c = (search width-enum, omega arith)
 
--- src/lib.rt:379:17
 width-of-requires : tie.Need-width-of-requires
 width-of-requires c κs = search needs
 
--- src/lib.rt:379:5
 index-requires : tie.Need-index-requires
 index-requires c κs = search needs
 
--- src/lib.rt:372:1
 returns-2 : tie.Need-returns-2
 returns-2 c = (search width-number, omega arith)
 

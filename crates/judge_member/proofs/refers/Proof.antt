@@ -9,31 +9,24 @@ use Rattle.wire.proofs.byte_in.Reads as byte-in-reads
 use Rattle.wire.proofs.index.Reads as index-reads
 use Rattle.wire.proofs.low_three.Reads as low-three-reads
 
--- src/lib.rt:660:25
 byte-in-requires : tie.Need-byte-in-requires
 byte-in-requires c κs = search needs
 
--- src/lib.rt:660:9
 index-requires : tie.Need-index-requires
 index-requires c κs = search needs
 
--- src/lib.rt:662:9
 returns : tie.Need-returns
 returns c = λ e. never e
 
--- src/lib.rt:665:9
 returns-2 : tie.Need-returns-2
 returns-2 c = λ e. never e
 
--- src/lib.rt:667:8
 low-three-requires : tie.Need-low-three-requires
 low-three-requires c κs = search needs
 
--- src/lib.rt:668:9
 returns-3 : tie.Need-returns-3
 returns-3 c = search needs
 
--- src/lib.rt:656:1
 returns-4 : tie.Need-returns-4
 returns-4 c = λ e. never e
 

@@ -8,19 +8,15 @@ use Rattle.judge_member.proofs.row_width.Lts as lts
 use Rattle.judge_member.proofs.plain_width.Reads as plain-width-reads
 use Rattle.wire.proofs.eighth.Reads as eighth-reads
 
--- src/lib.rt:412:9
 returns : tie.Need-returns
 returns c = (search width-text, omega arith)
 
--- src/lib.rt:414:17
 eighth-requires : tie.Need-eighth-requires
 eighth-requires c κs = search needs
 
--- src/lib.rt:414:5
 plain-width-requires : tie.Need-plain-width-requires
 plain-width-requires c κs = search needs
 
--- src/lib.rt:407:1
 returns-2 : tie.Need-returns-2
 returns-2 c = (search width-plain, omega arith)
 

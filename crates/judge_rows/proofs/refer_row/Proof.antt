@@ -8,19 +8,15 @@ use Rattle.judge_rows.proofs.refer_row.Lts as lts
 use Rattle.judge_text.proofs.going.Reads as going-reads
 use Rattle.judge_rows.proofs.visit_row.Reads as visit-row-reads
 
--- src/lib.rt:557:9
 going-requires : tie.Need-going-requires
 going-requires c κs = search needs
 
--- src/lib.rt:557:9
 returns : tie.Need-returns
 returns c = search refer-none
 
--- src/lib.rt:559:5
 visit-row-requires : tie.Need-visit-row-requires
 visit-row-requires c κs = search needs
 
--- src/lib.rt:540:1
 returns-2 : tie.Need-returns-2
 returns-2 c = search refer-object
 

@@ -14,51 +14,39 @@ use Rattle.wire.proofs.byte_in.Reads as byte-in-reads
 use Rattle.wire.proofs.index.Reads as index-reads
 use Rattle.wire.proofs.u48_in.Reads as u48-in-reads
 
--- src/lib.rt:451:25
 byte-in-requires : tie.Need-byte-in-requires
 byte-in-requires c κs = search needs
 
--- src/lib.rt:451:9
 index-requires : tie.Need-index-requires
 index-requires c κs = search needs
 
--- src/lib.rt:452:18
 row-width-requires : tie.Need-row-width-requires
 row-width-requires c κs = search needs
 
--- src/lib.rt:452:12
 add-if1 : tie.Need-add-if1
 add-if1 c = search needs
 
--- src/lib.rt:453:9
 refuse-requires : tie.Need-refuse-requires
 refuse-requires c κs = search needs
 
--- src/lib.rt:453:9
 returns : tie.Need-returns
 returns c = search row-cut
 
--- src/lib.rt:456:33
 add-u48-in : tie.Need-add-u48-in
 add-u48-in c = search needs
 
--- src/lib.rt:456:17
 u48-in-requires : tie.Need-u48-in-requires
 u48-in-requires c κs = omega (arith, text-wide _ (c .if2 .taken) _ (c .before .before .row-width .ensures .0))
 
--- src/lib.rt:457:9
 refer-text-requires : tie.Need-refer-text-requires
 refer-text-requires c κs = search needs
 
--- src/lib.rt:457:9
 returns-2 : tie.Need-returns-2
 returns-2 c = search row-text
 
--- src/lib.rt:459:5
 going-requires : tie.Need-going-requires
 going-requires c κs = search needs
 
--- src/lib.rt:435:1
 returns-3 : tie.Need-returns-3
 returns-3 c = search row-number
 

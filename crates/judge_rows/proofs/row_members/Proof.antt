@@ -30,63 +30,48 @@ Inv-loop b m budget d t first count holder start n end₀ v₀ j₀ end v j =
 abbrev μ-loop : tie.MeasureT-loop
 μ-loop b m budget d t first count holder start n end₀ v₀ j₀ end v j = count - j
 
--- src/lib.rt:482:5
 loop-holds : tie.Need-loop-holds Inv-loop μ-loop
 loop-holds c = (omega arith, omega arith, search row-start)
 
--- src/lib.rt:484:13
 going-requires : tie.Need-going-requires Inv-loop μ-loop
 going-requires c κs = search needs
 
--- src/lib.rt:484:13
 returns : tie.Need-returns Inv-loop μ-loop
 returns c = search row-ended
 
--- src/lib.rt:486:13
 record-place-requires : tie.Need-record-place-requires Inv-loop μ-loop
 record-place-requires c κs = (omega arith, (c .before .before .before .before .before .pre .0) .small, omega (arith, (c .before .before .before .before .before .pre .0) .few))
 
--- src/lib.rt:487:13
 row-member-requires : tie.Need-row-member-requires Inv-loop μ-loop
 row-member-requires c κs = ((omega (arith, (c .before .before .before .before .before .before .pre .0) .inside, c .record-place .ensures .1), row-here _ _ _ _ (c .before .before .before .before .before .before .pre .0) _ (c .before .before .loop-test .taken) _ (c .record-place .ensures .1)), (c .before .before .before .before .before .before .pre .1, c .before .before .before .before .before .before .pre .2, omega (arith, c .before .if1 .left)))
 
--- src/lib.rt:489:13
 returns-2 : tie.Need-returns-2 Inv-loop μ-loop
 returns-2 c = row-stopped _ _ _ _ _ _ _ _ _ _ (c .before .before .before .before .before .before .before .before .before .pre .0) _ _ _ (c .before .before .before .before .before .before .loop .inv .2) (c .before .before .before .before .before .loop-test .taken) _ (c .before .before .before .record-place .ensures .0) _ (c .before .before .row-member .ensures) (c .if2 .taken)
 
--- src/lib.rt:492:39
 byte-in-requires : tie.Need-byte-in-requires Inv-loop μ-loop
 byte-in-requires c κs = omega (arith, (c .before .before .before .before .before .before .before .before .before .before .pre .0) .inside, c .before .before .before .before .record-place .ensures .1)
 
--- src/lib.rt:492:27
 index-requires : tie.Need-index-requires Inv-loop μ-loop
 index-requires c κs = search needs
 
--- src/lib.rt:492:16
 row-width-requires : tie.Need-row-width-requires Inv-loop μ-loop
 row-width-requires c κs = row-read _ _ _ _ (c .before .before .before .before .before .before .before .before .before .before .before .before .pre .0) _ (c .before .before .before .before .before .before .before .before .loop-test .taken) _ (c .before .before .before .before .before .before .record-place .ensures .1) _ (c .before .byte-in .ensures) _ (c .index .ensures .0)
 
--- src/lib.rt:492:9
 add-end : tie.Need-add-end Inv-loop μ-loop
 add-end c = omega (arith, c .row-width .ensures .1, (c .before .before .before .before .before .before .before .before .before .before .before .before .before .pre .0) .few, c .before .before .before .before .before .before .before .before .before .before .loop .inv .1)
 
--- src/lib.rt:493:9
 add-j : tie.Need-add-j Inv-loop μ-loop
 add-j c = search needs
 
--- src/lib.rt:482:5
 loop-less : tie.Need-loop-less Inv-loop μ-loop
 loop-less c = search needs
 
--- src/lib.rt:482:5
 loop-again : tie.Need-loop-again Inv-loop μ-loop
 loop-again c = (omega arith, omega (arith, c .row-width .ensures .1, c .before .before .before .before .before .before .before .before .before .before .loop .inv .1), row-turn _ _ _ _ _ _ _ _ _ _ (c .before .before .before .before .before .before .before .before .before .before .before .before .before .pre .0) _ _ _ (c .before .before .before .before .before .before .before .before .before .before .loop .inv .2) (c .before .before .before .before .before .before .before .before .before .loop-test .taken) _ (c .before .before .before .before .before .before .before .record-place .ensures .0) _ (c .before .before .before .before .before .before .row-member .ensures) (c .before .before .before .before .if2 .left) (c .before .before .before .before .before .before .before .record-place .ensures .1) _ (c .before .before .byte-in .ensures) _ (c .before .index .ensures .0) _ (c .row-width .ensures .0) (c .row-width .ensures .1))
 
--- src/lib.rt:495:5
 going-requires-2 : tie.Need-going-requires-2 Inv-loop μ-loop
 going-requires-2 c κs = search needs
 
--- src/lib.rt:463:1
 returns-3 : tie.Need-returns-3 Inv-loop μ-loop
 returns-3 c = search row-done
 

@@ -14,67 +14,51 @@ use Rattle.schema.proofs.table_id.Reads as table-id-reads
 use Rattle.schema.proofs.table_place.Reads as table-place-reads
 use Rattle.wire.proofs.index.Reads as index-reads
 
--- src/lib.rt:629:25
 enum-told : tie.Need-enum-told
 enum-told c = search needs
 
--- src/lib.rt:629:25
 going-requires : tie.Need-going-requires
 going-requires c κs = search needs
 
--- src/lib.rt:630:26
 enum-told-2 : tie.Need-enum-told-2
 enum-told-2 c = search needs
 
--- src/lib.rt:630:26
 going-requires-2 : tie.Need-going-requires-2
 going-requires-2 c κs = search needs
 
--- src/lib.rt:631:28
 enum-told-3 : tie.Need-enum-told-3
 enum-told-3 c = search needs
 
--- src/lib.rt:631:28
 going-requires-3 : tie.Need-going-requires-3
 going-requires-3 c κs = search needs
 
--- src/lib.rt:632:23
 enum-known-ob : tie.Need-enum-known-ob
 enum-known-ob c = search needs
 
--- src/lib.rt:633:17
 index-requires : tie.Need-index-requires
 index-requires c κs = search needs
 
--- src/lib.rt:634:17
 table-place-requires : tie.Need-table-place-requires
 table-place-requires c κs = search (table-counted-of, needs)
 
--- src/lib.rt:635:17
 records-requires : tie.Need-records-requires
 records-requires c κs = search needs
 
--- src/lib.rt:636:17
 table-id-requires : tie.Need-table-id-requires
 table-id-requires c κs = search (table-counted-of, needs)
 
--- src/lib.rt:637:13
 row-tables-requires : tie.Need-row-tables-requires
 row-tables-requires c κs = (row-table _ _ _ _ (c .before .before .before .before .before .ob .given .1) (c .before .before .before .index .ensures .0) _ (c .before .before .table-place .ensures) _ (c .before .records .ensures .0) (c .before .before .before .before .before .before .before .before .before .before .pre .2) (c .before .records .ensures .1) (c .before .before .before .before .before .before .before .before .before .before .pre .4), row-id _ _ _ _ (c .table-id .ensures .0) (c .before .before .before .index .ensures .0), c .before .before .before .before .before .before .before .before .before .before .pre .1, c .before .before .before .before .before .before .before .before .before .before .pre .3)
 
--- src/lib.rt:613:1
 returns : tie.Need-returns
 returns c = search row-no-text
 
--- src/lib.rt:613:1
 returns-2 : tie.Need-returns-2
 returns-2 c = search row-no-bytes
 
--- src/lib.rt:613:1
 returns-3 : tie.Need-returns-3
 returns-3 c = search row-no-list
 
--- src/lib.rt:613:1
 returns-4 : tie.Need-returns-4
 returns-4 c = search row-list
 

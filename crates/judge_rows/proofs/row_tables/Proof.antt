@@ -24,43 +24,33 @@ Inv-loop b m budget d t id first count holder start n v₀ at₀ j₀ v at j =
 abbrev μ-loop : tie.MeasureT-loop
 μ-loop b m budget d t id first count holder start n v₀ at₀ j₀ v at j = n - j
 
--- src/lib.rt:583:5
 loop-holds : tie.Need-loop-holds Inv-loop μ-loop
 loop-holds c = (omega arith, omega arith, search elements-start)
 
--- src/lib.rt:584:17
 u48-in-requires : tie.Need-u48-in-requires Inv-loop μ-loop
 u48-in-requires c κs = search needs
 
--- src/lib.rt:585:13
 refer-row-requires : tie.Need-refer-row-requires Inv-loop μ-loop
 refer-row-requires c κs = (c .before .before .before .before .before .pre .0, c .before .before .before .before .before .pre .2, omega (arith, c .u48-in .ensures .small), c .before .before .before .before .before .pre .1)
 
--- src/lib.rt:587:13
 returns : tie.Need-returns Inv-loop μ-loop
 returns c = search references-stopped
 
--- src/lib.rt:590:9
 add-at : tie.Need-add-at Inv-loop μ-loop
 add-at c = search needs
 
--- src/lib.rt:591:9
 add-j : tie.Need-add-j Inv-loop μ-loop
 add-j c = search needs
 
--- src/lib.rt:583:5
 loop-less : tie.Need-loop-less Inv-loop μ-loop
 loop-less c = search needs
 
--- src/lib.rt:583:5
 loop-again : tie.Need-loop-again Inv-loop μ-loop
 loop-again c = (omega arith, omega arith, search references-turn)
 
--- src/lib.rt:593:5
 going-requires : tie.Need-going-requires Inv-loop μ-loop
 going-requires c κs = search needs
 
--- src/lib.rt:563:1
 returns-2 : tie.Need-returns-2 Inv-loop μ-loop
 returns-2 c = search elements-done
 

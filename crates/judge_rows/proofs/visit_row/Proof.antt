@@ -10,55 +10,42 @@ use Rattle.judge_rows.proofs.row_members.Reads as row-members-reads
 use Rattle.message_object.proofs.open_table.Reads as open-table-reads
 use Rattle.judge_text.proofs.refuse.Reads as refuse-reads
 
--- src/lib.rt:527:9
 refuse-requires : tie.Need-refuse-requires
 refuse-requires c κs = search needs
 
--- src/lib.rt:527:9
 returns : tie.Need-returns
 returns c = search offset-spent
 
--- src/lib.rt:529:29
 add-t17 : tie.Need-add-t17
 add-t17 c = search needs
 
--- src/lib.rt:531:9
 refuse-requires-2 : tie.Need-refuse-requires-2
 refuse-requires-2 c κs = search needs
 
--- src/lib.rt:531:9
 returns-2 : tie.Need-returns-2
 returns-2 c = search offset-deep
 
--- src/lib.rt:533:11
 open-table-requires : tie.Need-open-table-requires
 open-table-requires c κs = search needs
 
--- src/lib.rt:534:25
 enum-known-e : tie.Need-enum-known-e
 enum-known-e c = search needs
 
--- src/lib.rt:534:31
 refuse-requires-3 : tie.Need-refuse-requires-3
 refuse-requires-3 c κs = search needs
 
--- src/lib.rt:535:25
 enum-known-start : tie.Need-enum-known-start
 enum-known-start c = search needs
 
--- src/lib.rt:535:65
 sub-row-members : tie.Need-sub-row-members
 sub-row-members c = search needs
 
--- src/lib.rt:535:38
 row-members-requires : tie.Need-row-members-requires
 row-members-requires c κs = search (table-opened, needs)
 
--- src/lib.rt:510:1
 returns-3 : tie.Need-returns-3
 returns-3 c = search offset-refused
 
--- src/lib.rt:510:1
 returns-4 : tie.Need-returns-4
 returns-4 c = search table-judged
 

@@ -5,7 +5,6 @@ use Rattle.judge_text.proofs.going.Tie as tie
 use Rattle.judge_text.proofs.going.Reads as reads
 use Rattle.judge_text.proofs.going.Lts as lts
 
--- src/lib.rt:256:1
 returns : tie.Need-returns
 unfolding As.walkedOf
 returns c = refl

@@ -5,38 +5,30 @@ use Rattle.judge_text.proofs.is_text.Tie as tie
 use Rattle.judge_text.proofs.is_text.Reads as reads
 use Rattle.judge_text.proofs.is_text.Lts as lts
 
--- src/lib.rt:255:25
 enum-told : tie.Need-enum-told
 enum-told c = search needs
 
--- src/lib.rt:256:26
 enum-told-2 : tie.Need-enum-told-2
 enum-told-2 c = search needs
 
--- src/lib.rt:257:28
 enum-told-3 : tie.Need-enum-told-3
 enum-told-3 c = search needs
 
--- src/lib.rt:258:29
 enum-told-4 : tie.Need-enum-told-4
 enum-told-4 c = search needs
 
--- src/lib.rt:251:1
 returns : tie.Need-returns
 unfolding As.isText
 returns c = search needs
 
--- src/lib.rt:251:1
 returns-2 : tie.Need-returns-2
 unfolding As.isText
 returns-2 c = search needs
 
--- src/lib.rt:251:1
 returns-3 : tie.Need-returns-3
 unfolding As.isText
 returns-3 c = search needs
 
--- src/lib.rt:251:1
 returns-4 : tie.Need-returns-4
 unfolding As.isText
 returns-4 c = search needs

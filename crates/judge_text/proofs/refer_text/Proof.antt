@@ -7,19 +7,15 @@ use Rattle.judge_text.proofs.refer_text.Lts as lts
 use Rattle.judge_text.proofs.going.Reads as going-reads
 use Rattle.judge_text.proofs.visit_text.Reads as visit-text-reads
 
--- src/lib.rt:332:9
 going-requires : tie.Need-going-requires
 going-requires c κs = search needs
 
--- src/lib.rt:332:9
 returns : tie.Need-returns
 returns c = search refer-none
 
--- src/lib.rt:334:5
 visit-text-requires : tie.Need-visit-text-requires
 visit-text-requires c κs = search needs
 
--- src/lib.rt:319:1
 returns-2 : tie.Need-returns-2
 returns-2 c = search refer-object
 

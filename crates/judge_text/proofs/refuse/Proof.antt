@@ -6,15 +6,12 @@ use Rattle.judge_text.proofs.refuse.Reads as reads
 use Rattle.judge_text.proofs.refuse.Lts as lts
 use Rattle.wire.proofs.index.Reads as index-reads
 
--- src/lib.rt:270:15
 index-requires : tie.Need-index-requires
 index-requires c κs = search needs
 
--- src/lib.rt:270:15
 add-t5 : tie.Need-add-t5
 add-t5 c = search needs
 
--- src/lib.rt:266:1
 returns : tie.Need-returns
 returns c = search answer-refuses
 

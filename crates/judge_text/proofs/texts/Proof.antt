@@ -24,43 +24,33 @@ Inv-loop b m budget d holder start n v₀ at₀ j₀ v at j =
 abbrev μ-loop : tie.MeasureT-loop
 μ-loop b m budget d holder start n v₀ at₀ j₀ v at j = n - j
 
--- src/lib.rt:354:5
 loop-holds : tie.Need-loop-holds Inv-loop μ-loop
 loop-holds c = (omega arith, omega arith, search elements-start)
 
--- src/lib.rt:355:17
 u48-in-requires : tie.Need-u48-in-requires Inv-loop μ-loop
 u48-in-requires c κs = search needs
 
--- src/lib.rt:356:13
 refer-text-requires : tie.Need-refer-text-requires Inv-loop μ-loop
 refer-text-requires c κs = omega (arith, c .u48-in .ensures .small)
 
--- src/lib.rt:358:13
 returns : tie.Need-returns Inv-loop μ-loop
 returns c = search references-stopped
 
--- src/lib.rt:361:9
 add-at : tie.Need-add-at Inv-loop μ-loop
 add-at c = search needs
 
--- src/lib.rt:362:9
 add-j : tie.Need-add-j Inv-loop μ-loop
 add-j c = search needs
 
--- src/lib.rt:354:5
 loop-less : tie.Need-loop-less Inv-loop μ-loop
 loop-less c = search needs
 
--- src/lib.rt:354:5
 loop-again : tie.Need-loop-again Inv-loop μ-loop
 loop-again c = (omega arith, omega arith, search references-turn)
 
--- src/lib.rt:364:5
 going-requires : tie.Need-going-requires Inv-loop μ-loop
 going-requires c κs = search needs
 
--- src/lib.rt:338:1
 returns-2 : tie.Need-returns-2 Inv-loop μ-loop
 returns-2 c = search elements-done
 

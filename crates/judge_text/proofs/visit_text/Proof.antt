@@ -8,51 +8,39 @@ use Rattle.judge_text.proofs.going.Reads as going-reads
 use Rattle.message_object.proofs.open_text.Reads as open-text-reads
 use Rattle.judge_text.proofs.refuse.Reads as refuse-reads
 
--- src/lib.rt:306:9
 refuse-requires : tie.Need-refuse-requires
 refuse-requires c κs = search needs
 
--- src/lib.rt:306:9
 returns : tie.Need-returns
 returns c = search offset-spent
 
--- src/lib.rt:308:29
 add-t11 : tie.Need-add-t11
 add-t11 c = search needs
 
--- src/lib.rt:310:9
 refuse-requires-2 : tie.Need-refuse-requires-2
 refuse-requires-2 c κs = search needs
 
--- src/lib.rt:310:9
 returns-2 : tie.Need-returns-2
 returns-2 c = search offset-deep
 
--- src/lib.rt:312:11
 open-text-requires : tie.Need-open-text-requires
 open-text-requires c κs = search needs
 
--- src/lib.rt:313:25
 enum-known-e : tie.Need-enum-known-e
 enum-known-e c = search needs
 
--- src/lib.rt:313:31
 refuse-requires-3 : tie.Need-refuse-requires-3
 refuse-requires-3 c κs = search needs
 
--- src/lib.rt:314:34
 enum-told : tie.Need-enum-told
 enum-told c = search needs
 
--- src/lib.rt:314:34
 going-requires : tie.Need-going-requires
 going-requires c κs = search needs
 
--- src/lib.rt:300:1
 returns-3 : tie.Need-returns-3
 returns-3 c = search offset-refused
 
--- src/lib.rt:300:1
 returns-4 : tie.Need-returns-4
 returns-4 c = search text-judged
 

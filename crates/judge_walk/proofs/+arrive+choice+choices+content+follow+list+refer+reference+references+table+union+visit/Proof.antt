@@ -240,83 +240,63 @@ union-R t = (refuse-reads.Asked, refuse-reads.Learnt, visit-below t, visit.Post)
 abbrev visit-R : ℕ → visit-lts.Claims
 visit-R t = (placed-reads.Asked, placed-reads.Learnt, refuse-reads.Asked, refuse-reads.Learnt, open-object-reads.Asked, open-object-reads.Learnt, content-below t, content.Post)
 
--- src/lib.rt:370:25
 arrive-enum-known-p : (t : ℕ) → arrive-lts.Need-enum-known-p (arrive-R t) (arrive-at t) arrive.Post
 arrive-enum-known-p t c = search needs
 
--- src/lib.rt:371:16
 arrive-is-text-requires : (t : ℕ) → arrive-lts.Need-is-text-requires (arrive-R t) (arrive-at t) arrive.Post
 arrive-is-text-requires t c κs = search needs
 
--- src/lib.rt:372:17
 arrive-visit-text-requires : (t : ℕ) → arrive-lts.Need-visit-text-requires (arrive-R t) (arrive-at t) arrive.Post
 arrive-visit-text-requires t c κs = search offset-small
 
--- src/lib.rt:372:17
 arrive-returns : (t : ℕ) → arrive-lts.Need-returns (arrive-R t) (arrive-at t) arrive.Post
 arrive-returns t c = search arrive-text
 
--- src/lib.rt:374:13
 arrive-visit-requires : (t : ℕ) → arrive-lts.Need-visit-requires (arrive-R t) (arrive-at t) arrive.Post
 arrive-visit-requires t c κs = (omega arith, (c .before .before .before .before .before .before .before .before .pre .1 .0, c .before .before .before .before .before .before .before .before .pre .1 .1, c .before .before .before .before .before .before .before .before .pre .1 .2, search offset-small))
 
--- src/lib.rt:376:24
 arrive-enum-known-p-2 : (t : ℕ) → arrive-lts.Need-enum-known-p-2 (arrive-R t) (arrive-at t) arrive.Post
 arrive-enum-known-p-2 t c = search needs
 
--- src/lib.rt:376:33
 arrive-visit-requires-2 : (t : ℕ) → arrive-lts.Need-visit-requires-2 (arrive-R t) (arrive-at t) arrive.Post
 arrive-visit-requires-2 t c κs = search (inplace-first, inplace-length, needs)
 
--- src/lib.rt:356:1
 arrive-returns-2 : (t : ℕ) → arrive-lts.Need-returns-2 (arrive-R t) (arrive-at t) arrive.Post
 arrive-returns-2 t c = search (arrive-offset, c .before .before .before .before .p .given .1, c .visit .ensures)
 
--- src/lib.rt:356:1
 arrive-returns-3 : (t : ℕ) → arrive-lts.Need-returns-3 (arrive-R t) (arrive-at t) arrive.Post
 arrive-returns-3 t c = search arrive-inplace
 
--- src/lib.rt:318:13
 choice-u16-in-requires : (t : ℕ) → choice-lts.Need-u16-in-requires (choice-R t) (choice-at t) choice.Post
 choice-u16-in-requires t c κs = search needs
 
--- src/lib.rt:320:9
 choice-going-requires : (t : ℕ) → choice-lts.Need-going-requires (choice-R t) (choice-at t) choice.Post
 choice-going-requires t c κs = search needs
 
--- src/lib.rt:320:9
 choice-returns : (t : ℕ) → choice-lts.Need-returns (choice-R t) (choice-at t) choice.Post
 choice-returns t c = search choice-none
 
--- src/lib.rt:322:8
 choice-case-count-requires : (t : ℕ) → choice-lts.Need-case-count-requires (choice-R t) (choice-at t) choice.Post
 choice-case-count-requires t c κs = search needs
 
--- src/lib.rt:323:9
 choice-going-requires-2 : (t : ℕ) → choice-lts.Need-going-requires-2 (choice-R t) (choice-at t) choice.Post
 choice-going-requires-2 t c κs = search needs
 
--- src/lib.rt:323:9
 choice-returns-2 : (t : ℕ) → choice-lts.Need-returns-2 (choice-R t) (choice-at t) choice.Post
 choice-returns-2 t c = search choice-unknown
 
--- src/lib.rt:325:9
 choice-union-case-requires : (t : ℕ) → choice-lts.Need-union-case-requires (choice-R t) (choice-at t) choice.Post
 choice-union-case-requires t c κs = search needs
 
--- src/lib.rt:326:29
 choice-add-u48-in : (t : ℕ) → choice-lts.Need-add-u48-in (choice-R t) (choice-at t) choice.Post
 choice-add-u48-in t c = search needs
 
--- src/lib.rt:326:13
 choice-u48-in-requires : (t : ℕ) → choice-lts.Need-u48-in-requires (choice-R t) (choice-at t) choice.Post
 choice-u48-in-requires t c κs = search needs
 
--- src/lib.rt:327:5
 choice-union-requires : (t : ℕ) → choice-lts.Need-union-requires (choice-R t) (choice-at t) choice.Post
 choice-union-requires t c κs = (omega arith, (c .before .before .before .before .before .before .before .before .before .pre .1 .0, c .before .before .before .before .before .before .before .before .before .pre .1 .1, search (choice-sound, c .before .before .before .before .before .before .before .before .before .pre .1 .0, c .before .before .before .before .if1 .left, c .before .before .before .case-count .ensures .0, c .before .before .if2 .left, c .before .union-case .ensures), omega (arith, c .u48-in .ensures .small)))
 
--- src/lib.rt:304:1
 choice-returns-3 : (t : ℕ) → choice-lts.Need-returns-3 (choice-R t) (choice-at t) choice.Post
 choice-returns-3 t c = search choice-known
 
@@ -328,291 +308,219 @@ choices-Inv-loop b dir m budget d i holder start n v₀ at₀ j₀ v at j =
 abbrev choices-μ-loop : choices-lts.MeasureT-loop
 choices-μ-loop b dir m budget d i holder start n v₀ at₀ j₀ v at j = n - j
 
--- src/lib.rt:291:5
 choices-loop-holds : (t : ℕ) → choices-lts.Need-loop-holds (choices-R t) (choices-at t) choices.Post choices-Inv-loop choices-μ-loop
 choices-loop-holds t c = (omega arith, omega arith, search elements-start)
 
--- src/lib.rt:292:13
 choices-choice-requires : (t : ℕ) → choices-lts.Need-choice-requires (choices-R t) (choices-at t) choices.Post choices-Inv-loop choices-μ-loop
 choices-choice-requires t c κs = (omega arith, (c .before .before .before .before .before .pre .1 .0, c .before .before .before .before .before .pre .1 .1, c .before .before .before .before .before .pre .1 .2, omega (arith, c .before .before .before .before .before .pre .1 .3, c .before .loop .inv .1)))
 
--- src/lib.rt:294:13
 choices-returns : (t : ℕ) → choices-lts.Need-returns (choices-R t) (choices-at t) choices.Post choices-Inv-loop choices-μ-loop
 choices-returns t c = search choices-stopped
 
--- src/lib.rt:297:9
 choices-add-at : (t : ℕ) → choices-lts.Need-add-at (choices-R t) (choices-at t) choices.Post choices-Inv-loop choices-μ-loop
 choices-add-at t c = search needs
 
--- src/lib.rt:298:9
 choices-add-j : (t : ℕ) → choices-lts.Need-add-j (choices-R t) (choices-at t) choices.Post choices-Inv-loop choices-μ-loop
 choices-add-j t c = search needs
 
--- src/lib.rt:291:5
 choices-loop-less : (t : ℕ) → choices-lts.Need-loop-less (choices-R t) (choices-at t) choices.Post choices-Inv-loop choices-μ-loop
 choices-loop-less t c = search needs
 
--- src/lib.rt:291:5
 choices-loop-again : (t : ℕ) → choices-lts.Need-loop-again (choices-R t) (choices-at t) choices.Post choices-Inv-loop choices-μ-loop
 choices-loop-again t c = (omega arith, omega arith, search choices-turn)
 
--- src/lib.rt:300:5
 choices-going-requires : (t : ℕ) → choices-lts.Need-going-requires (choices-R t) (choices-at t) choices.Post choices-Inv-loop choices-μ-loop
 choices-going-requires t c κs = search needs
 
--- src/lib.rt:273:1
 choices-returns-2 : (t : ℕ) → choices-lts.Need-returns-2 (choices-R t) (choices-at t) choices.Post choices-Inv-loop choices-μ-loop
 choices-returns-2 t c = search elements-done
 
--- src/lib.rt:89:25
 content-enum-told : (t : ℕ) → content-lts.Need-enum-told (content-R t) (content-at t) content.Post
 content-enum-told t c = search needs
 
--- src/lib.rt:89:25
 content-going-requires : (t : ℕ) → content-lts.Need-going-requires (content-R t) (content-at t) content.Post
 content-going-requires t c κs = search needs
 
--- src/lib.rt:90:26
 content-enum-told-2 : (t : ℕ) → content-lts.Need-enum-told-2 (content-R t) (content-at t) content.Post
 content-enum-told-2 t c = search needs
 
--- src/lib.rt:90:26
 content-going-requires-2 : (t : ℕ) → content-lts.Need-going-requires-2 (content-R t) (content-at t) content.Post
 content-going-requires-2 t c κs = search needs
 
--- src/lib.rt:91:22
 content-enum-known-ob : (t : ℕ) → content-lts.Need-enum-known-ob (content-R t) (content-at t) content.Post
 content-enum-known-ob t c = search needs
 
--- src/lib.rt:91:55
 content-index-requires : (t : ℕ) → content-lts.Need-index-requires (content-R t) (content-at t) content.Post
 content-index-requires t c κs = search needs
 
--- src/lib.rt:91:28
 content-list-requires : (t : ℕ) → content-lts.Need-list-requires (content-R t) (content-at t) content.Post
 content-list-requires t c κs = search (list-counted-of, list-fits, needs)
 
--- src/lib.rt:92:23
 content-enum-known-ob-2 : (t : ℕ) → content-lts.Need-enum-known-ob-2 (content-R t) (content-at t) content.Post
 content-enum-known-ob-2 t c = search needs
 
--- src/lib.rt:92:57
 content-index-requires-2 : (t : ℕ) → content-lts.Need-index-requires-2 (content-R t) (content-at t) content.Post
 content-index-requires-2 t c κs = search needs
 
--- src/lib.rt:92:29
 content-table-requires : (t : ℕ) → content-lts.Need-table-requires (content-R t) (content-at t) content.Post
 content-table-requires t c κs = search (table-counted-of, table-fits, needs)
 
--- src/lib.rt:72:1
 content-returns : (t : ℕ) → content-lts.Need-returns (content-R t) (content-at t) content.Post
 content-returns t c = search content-text
 
--- src/lib.rt:72:1
 content-returns-2 : (t : ℕ) → content-lts.Need-returns-2 (content-R t) (content-at t) content.Post
 content-returns-2 t c = search content-bytes
 
--- src/lib.rt:72:1
 content-returns-3 : (t : ℕ) → content-lts.Need-returns-3 (content-R t) (content-at t) content.Post
 content-returns-3 t c = search content-list
 
--- src/lib.rt:72:1
 content-returns-4 : (t : ℕ) → content-lts.Need-returns-4 (content-R t) (content-at t) content.Post
 content-returns-4 t c = search content-table
 
--- src/lib.rt:345:23
 follow-enum-known-step : (t : ℕ) → follow-lts.Need-enum-known-step (follow-R t) (follow-at t) follow.Post
 follow-enum-known-step t c = search needs
 
--- src/lib.rt:345:29
 follow-refuse-requires : (t : ℕ) → follow-lts.Need-refuse-requires (follow-R t) (follow-at t) follow.Post
 follow-refuse-requires t c κs = search needs
 
--- src/lib.rt:346:25
 follow-enum-told : (t : ℕ) → follow-lts.Need-enum-told (follow-R t) (follow-at t) follow.Post
 follow-enum-told t c = search needs
 
--- src/lib.rt:346:25
 follow-going-requires : (t : ℕ) → follow-lts.Need-going-requires (follow-R t) (follow-at t) follow.Post
 follow-going-requires t c κs = search needs
 
--- src/lib.rt:347:27
 follow-enum-told-2 : (t : ℕ) → follow-lts.Need-enum-told-2 (follow-R t) (follow-at t) follow.Post
 follow-enum-told-2 t c = search needs
 
--- src/lib.rt:347:27
 follow-going-requires-2 : (t : ℕ) → follow-lts.Need-going-requires-2 (follow-R t) (follow-at t) follow.Post
 follow-going-requires-2 t c κs = search needs
 
--- src/lib.rt:348:29
 follow-enum-told-3 : (t : ℕ) → follow-lts.Need-enum-told-3 (follow-R t) (follow-at t) follow.Post
 follow-enum-told-3 t c = search needs
 
--- src/lib.rt:348:29
 follow-going-requires-3 : (t : ℕ) → follow-lts.Need-going-requires-3 (follow-R t) (follow-at t) follow.Post
 follow-going-requires-3 t c κs = search needs
 
--- src/lib.rt:349:31
 follow-enum-told-4 : (t : ℕ) → follow-lts.Need-enum-told-4 (follow-R t) (follow-at t) follow.Post
 follow-enum-told-4 t c = search needs
 
--- src/lib.rt:349:31
 follow-going-requires-4 : (t : ℕ) → follow-lts.Need-going-requires-4 (follow-R t) (follow-at t) follow.Post
 follow-going-requires-4 t c κs = search needs
 
--- src/lib.rt:350:22
 follow-enum-known-step-2 : (t : ℕ) → follow-lts.Need-enum-known-step-2 (follow-R t) (follow-at t) follow.Post
 follow-enum-known-step-2 t c = search needs
 
--- src/lib.rt:350:32
 follow-arrive-requires : (t : ℕ) → follow-lts.Need-arrive-requires (follow-R t) (follow-at t) follow.Post
 follow-arrive-requires t c κs = search (object-small, object-place, needs)
 
--- src/lib.rt:351:25
 follow-enum-known-step-3 : (t : ℕ) → follow-lts.Need-enum-known-step-3 (follow-R t) (follow-at t) follow.Post
 follow-enum-known-step-3 t c = search needs
 
--- src/lib.rt:351:35
 follow-union-requires : (t : ℕ) → follow-lts.Need-union-requires (follow-R t) (follow-at t) follow.Post
 follow-union-requires t c κs = search (choice-small, choice-place, needs)
 
--- src/lib.rt:331:1
 follow-returns : (t : ℕ) → follow-lts.Need-returns (follow-R t) (follow-at t) follow.Post
 follow-returns t c = search follow-refused
 
--- src/lib.rt:331:1
 follow-returns-2 : (t : ℕ) → follow-lts.Need-returns-2 (follow-R t) (follow-at t) follow.Post
 follow-returns-2 t c = search follow-absent
 
--- src/lib.rt:331:1
 follow-returns-3 : (t : ℕ) → follow-lts.Need-returns-3 (follow-R t) (follow-at t) follow.Post
 follow-returns-3 t c = search follow-value
 
--- src/lib.rt:331:1
 follow-returns-4 : (t : ℕ) → follow-lts.Need-returns-4 (follow-R t) (follow-at t) follow.Post
 follow-returns-4 t c = search follow-unknown
 
--- src/lib.rt:331:1
 follow-returns-5 : (t : ℕ) → follow-lts.Need-returns-5 (follow-R t) (follow-at t) follow.Post
 follow-returns-5 t c = search follow-struct
 
--- src/lib.rt:331:1
 follow-returns-6 : (t : ℕ) → follow-lts.Need-returns-6 (follow-R t) (follow-at t) follow.Post
 follow-returns-6 t c = search follow-object
 
--- src/lib.rt:331:1
 follow-returns-7 : (t : ℕ) → follow-lts.Need-returns-7 (follow-R t) (follow-at t) follow.Post
 follow-returns-7 t c = search follow-choice
 
--- src/lib.rt:200:9
 list-list-place-requires : (t : ℕ) → list-lts.Need-list-place-requires (list-R t) (list-at t) list.Post
 list-list-place-requires t c κs = search needs
 
--- src/lib.rt:201:9
 list-kind-at-requires : (t : ℕ) → list-lts.Need-kind-at-requires (list-R t) (list-at t) list.Post
 list-kind-at-requires t c κs = search needs
 
--- src/lib.rt:203:9
 list-going-requires : (t : ℕ) → list-lts.Need-going-requires (list-R t) (list-at t) list.Post
 list-going-requires t c κs = search needs
 
--- src/lib.rt:203:9
 list-returns : (t : ℕ) → list-lts.Need-returns (list-R t) (list-at t) list.Post
 list-returns t c = search list-flat
 
--- src/lib.rt:206:13
 list-object-at-requires : (t : ℕ) → list-lts.Need-object-at-requires (list-R t) (list-at t) list.Post
 list-object-at-requires t c κs = search needs
 
--- src/lib.rt:207:9
 list-references-requires : (t : ℕ) → list-lts.Need-references-requires (list-R t) (list-at t) list.Post
 list-references-requires t c κs = (omega arith, (c .before .before .before .before .before .before .before .before .pre .1 .0 .0, c .before .before .before .before .before .before .before .before .pre .1 .0 .1, search objects-sound, search objects-there))
 
--- src/lib.rt:207:9
 list-returns-2 : (t : ℕ) → list-lts.Need-returns-2 (list-R t) (list-at t) list.Post
 list-returns-2 t c = search list-objects
 
--- src/lib.rt:209:25
 list-argument-at-requires : (t : ℕ) → list-lts.Need-argument-at-requires (list-R t) (list-at t) list.Post
 list-argument-at-requires t c κs = search needs
 
--- src/lib.rt:209:9
 list-index-requires : (t : ℕ) → list-lts.Need-index-requires (list-R t) (list-at t) list.Post
 list-index-requires t c κs = search needs
 
--- src/lib.rt:210:5
 list-choices-requires : (t : ℕ) → list-lts.Need-choices-requires (list-R t) (list-at t) list.Post
 list-choices-requires t c κs = (omega arith, (c .before .before .before .before .before .before .before .before .before .pre .1 .0 .0, c .before .before .before .before .before .before .before .before .before .pre .1 .0 .1, search unions-counted, search unions-there))
 
--- src/lib.rt:184:1
 list-returns-3 : (t : ℕ) → list-lts.Need-returns-3 (list-R t) (list-at t) list.Post
 list-returns-3 t c = search list-unions
 
--- src/lib.rt:267:9
 refer-going-requires : (t : ℕ) → refer-lts.Need-going-requires (refer-R t) (refer-at t) refer.Post
 refer-going-requires t c κs = search needs
 
--- src/lib.rt:267:9
 refer-returns : (t : ℕ) → refer-lts.Need-returns (refer-R t) (refer-at t) refer.Post
 refer-returns t c = search refer-none
 
--- src/lib.rt:269:5
 refer-visit-requires : (t : ℕ) → refer-lts.Need-visit-requires (refer-R t) (refer-at t) refer.Post
 refer-visit-requires t c κs = (omega arith, (c .before .before .before .before .pre .1 .0, c .before .before .before .before .pre .1 .1, c .before .before .before .before .pre .1 .2, c .before .before .before .before .pre .1 .3))
 
--- src/lib.rt:252:1
 refer-returns-2 : (t : ℕ) → refer-lts.Need-returns-2 (refer-R t) (refer-at t) refer.Post
 refer-returns-2 t c = search refer-object
 
--- src/lib.rt:170:9
 reference-going-requires : (t : ℕ) → reference-lts.Need-going-requires (reference-R t) (reference-at t) reference.Post
 reference-going-requires t c κs = search needs
 
--- src/lib.rt:170:9
 reference-returns : (t : ℕ) → reference-lts.Need-returns (reference-R t) (reference-at t) reference.Post
 reference-returns t c = search reference-past
 
--- src/lib.rt:172:12
 reference-add-if2 : (t : ℕ) → reference-lts.Need-add-if2 (reference-R t) (reference-at t) reference.Post
 reference-add-if2 t c = search needs
 
--- src/lib.rt:173:9
 reference-refuse-requires : (t : ℕ) → reference-lts.Need-refuse-requires (reference-R t) (reference-at t) reference.Post
 reference-refuse-requires t c κs = search needs
 
--- src/lib.rt:173:9
 reference-returns-2 : (t : ℕ) → reference-lts.Need-returns-2 (reference-R t) (reference-at t) reference.Post
 reference-returns-2 t c = search reference-cut
 
--- src/lib.rt:175:29
 reference-add-u48-in : (t : ℕ) → reference-lts.Need-add-u48-in (reference-R t) (reference-at t) reference.Post
 reference-add-u48-in t c = search needs
 
--- src/lib.rt:175:13
 reference-u48-in-requires : (t : ℕ) → reference-lts.Need-u48-in-requires (reference-R t) (reference-at t) reference.Post
 reference-u48-in-requires t c κs = search needs
 
--- src/lib.rt:176:9
 reference-object-at-requires : (t : ℕ) → reference-lts.Need-object-at-requires (reference-R t) (reference-at t) reference.Post
 reference-object-at-requires t c κs = search needs
 
--- src/lib.rt:177:8
 reference-is-text-requires : (t : ℕ) → reference-lts.Need-is-text-requires (reference-R t) (reference-at t) reference.Post
 reference-is-text-requires t c κs = search needs
 
--- src/lib.rt:178:9
 reference-refer-text-requires : (t : ℕ) → reference-lts.Need-refer-text-requires (reference-R t) (reference-at t) reference.Post
 reference-refer-text-requires t c κs = omega (arith, c .before .before .before .u48-in .ensures .small)
 
--- src/lib.rt:178:9
 reference-returns-3 : (t : ℕ) → reference-lts.Need-returns-3 (reference-R t) (reference-at t) reference.Post
 reference-returns-3 t c = search reference-text
 
--- src/lib.rt:180:5
 reference-refer-requires : (t : ℕ) → reference-lts.Need-refer-requires (reference-R t) (reference-at t) reference.Post
 reference-refer-requires t c κs = (omega arith, (c .before .before .before .before .before .before .before .before .before .pre .1 .0 .0, c .before .before .before .before .before .before .before .before .before .pre .1 .0 .1, same-sound _ _ _ (c .before .before .object-at .ensures) (c .before .before .before .before .before .before .before .before .before .pre .1 .1 .0), omega (arith, c .before .before .before .u48-in .ensures .small)))
 
--- src/lib.rt:151:1
 reference-returns-4 : (t : ℕ) → reference-lts.Need-returns-4 (reference-R t) (reference-at t) reference.Post
 reference-returns-4 t c = search reference-here
 
@@ -624,67 +532,51 @@ references-Inv-loop b dir m budget d ob holder start n v₀ at₀ j₀ v at j =
 abbrev references-μ-loop : references-lts.MeasureT-loop
 references-μ-loop b dir m budget d ob holder start n v₀ at₀ j₀ v at j = n - j
 
--- src/lib.rt:229:8
 references-is-text-requires : (t : ℕ) → references-lts.Need-is-text-requires (references-R t) (references-at t) references.Post references-Inv-loop references-μ-loop
 references-is-text-requires t c κs = search needs
 
--- src/lib.rt:230:9
 references-texts-requires : (t : ℕ) → references-lts.Need-texts-requires (references-R t) (references-at t) references.Post references-Inv-loop references-μ-loop
 references-texts-requires t c κs = search needs
 
--- src/lib.rt:230:9
 references-returns : (t : ℕ) → references-lts.Need-returns (references-R t) (references-at t) references.Post references-Inv-loop references-μ-loop
 references-returns t c = search references-texts
 
--- src/lib.rt:232:8
 references-is-row-table-requires : (t : ℕ) → references-lts.Need-is-row-table-requires (references-R t) (references-at t) references.Post references-Inv-loop references-μ-loop
 references-is-row-table-requires t c κs = search needs
 
--- src/lib.rt:233:9
 references-row-references-requires : (t : ℕ) → references-lts.Need-row-references-requires (references-R t) (references-at t) references.Post references-Inv-loop references-μ-loop
 references-row-references-requires t c κs = (c .before .before .before .before .before .before .before .pre .1 .0, c .before .before .before .before .before .before .before .pre .1 .1, c .before .before .before .before .before .before .before .pre .1 .2, c .before .before .before .before .before .before .before .pre .1 .3, c .before .is-row-table .ensures (c .if2 .taken))
 
--- src/lib.rt:233:9
 references-returns-2 : (t : ℕ) → references-lts.Need-returns-2 (references-R t) (references-at t) references.Post references-Inv-loop references-μ-loop
 references-returns-2 t c = c .row-references .ensures
 
--- src/lib.rt:238:5
 references-loop-holds : (t : ℕ) → references-lts.Need-loop-holds (references-R t) (references-at t) references.Post references-Inv-loop references-μ-loop
 references-loop-holds t c = (omega arith, omega arith, search elements-start)
 
--- src/lib.rt:239:17
 references-u48-in-requires : (t : ℕ) → references-lts.Need-u48-in-requires (references-R t) (references-at t) references.Post references-Inv-loop references-μ-loop
 references-u48-in-requires t c κs = search needs
 
--- src/lib.rt:240:13
 references-refer-requires : (t : ℕ) → references-lts.Need-refer-requires (references-R t) (references-at t) references.Post references-Inv-loop references-μ-loop
 references-refer-requires t c κs = (omega arith, (c .before .before .before .before .before .before .before .before .before .before .pre .1 .0, c .before .before .before .before .before .before .before .before .before .before .pre .1 .1, c .before .before .before .before .before .before .before .before .before .before .pre .1 .2, omega (arith, c .u48-in .ensures .small)))
 
--- src/lib.rt:242:13
 references-returns-3 : (t : ℕ) → references-lts.Need-returns-3 (references-R t) (references-at t) references.Post references-Inv-loop references-μ-loop
 references-returns-3 t c = search references-stopped
 
--- src/lib.rt:245:9
 references-add-at : (t : ℕ) → references-lts.Need-add-at (references-R t) (references-at t) references.Post references-Inv-loop references-μ-loop
 references-add-at t c = search needs
 
--- src/lib.rt:246:9
 references-add-j : (t : ℕ) → references-lts.Need-add-j (references-R t) (references-at t) references.Post references-Inv-loop references-μ-loop
 references-add-j t c = search needs
 
--- src/lib.rt:238:5
 references-loop-less : (t : ℕ) → references-lts.Need-loop-less (references-R t) (references-at t) references.Post references-Inv-loop references-μ-loop
 references-loop-less t c = search needs
 
--- src/lib.rt:238:5
 references-loop-again : (t : ℕ) → references-lts.Need-loop-again (references-R t) (references-at t) references.Post references-Inv-loop references-μ-loop
 references-loop-again t c = (omega arith, omega arith, search references-turn)
 
--- src/lib.rt:248:5
 references-going-requires : (t : ℕ) → references-lts.Need-going-requires (references-R t) (references-at t) references.Post references-Inv-loop references-μ-loop
 references-going-requires t c κs = search needs
 
--- src/lib.rt:214:1
 references-returns-4 : (t : ℕ) → references-lts.Need-returns-4 (references-R t) (references-at t) references.Post references-Inv-loop references-μ-loop
 references-returns-4 t c = search elements-done
 
@@ -697,199 +589,150 @@ table-Inv-loop b dir m budget d t holder start n count first c₀ v₀ j₀ c v 
 abbrev table-μ-loop : table-lts.MeasureT-loop
 table-μ-loop b dir m budget d t holder start n count first c₀ v₀ j₀ c v j = count - j
 
--- src/lib.rt:112:9
 table-member-count-requires : (t : ℕ) → table-lts.Need-member-count-requires (table-R t) (table-at t) table.Post table-Inv-loop table-μ-loop
 table-member-count-requires t c κs = search needs
 
--- src/lib.rt:113:9
 table-table-place-requires : (t : ℕ) → table-lts.Need-table-place-requires (table-R t) (table-at t) table.Post table-Inv-loop table-μ-loop
 table-table-place-requires t c κs = search needs
 
--- src/lib.rt:114:9
 table-begin-requires : (t : ℕ) → table-lts.Need-begin-requires (table-R t) (table-at t) table.Post table-Inv-loop table-μ-loop
 table-begin-requires t c κs = search needs
 
--- src/lib.rt:117:5
 table-loop-holds : (t : ℕ) → table-lts.Need-loop-holds (table-R t) (table-at t) table.Post table-Inv-loop table-μ-loop
 table-loop-holds t c = (omega arith, search needs, search members-start)
 
--- src/lib.rt:118:17
 table-bit-byte-requires : (t : ℕ) → table-lts.Need-bit-byte-requires (table-R t) (table-at t) table.Post table-Inv-loop table-μ-loop
 table-bit-byte-requires t c κs = c .before .loop .inv .1 .byte
 
--- src/lib.rt:119:13
 table-going-requires : (t : ℕ) → table-lts.Need-going-requires (table-R t) (table-at t) table.Post table-Inv-loop table-μ-loop
 table-going-requires t c κs = search needs
 
--- src/lib.rt:119:13
 table-returns : (t : ℕ) → table-lts.Need-returns (table-R t) (table-at t) table.Post table-Inv-loop table-μ-loop
 table-returns t c = search members-ended
 
--- src/lib.rt:121:13
 table-record-place-requires : (t : ℕ) → table-lts.Need-record-place-requires (table-R t) (table-at t) table.Post table-Inv-loop table-μ-loop
 table-record-place-requires t c κs = (omega arith, c .before .before .before .before .before .table-place .ensures .small, omega (arith, c .before .before .before .before .before .before .member-count .ensures .1))
 
--- src/lib.rt:122:12
 table-refers-requires : (t : ℕ) → table-lts.Need-refers-requires (table-R t) (table-at t) table.Post table-Inv-loop table-μ-loop
 table-refers-requires t c κs = omega (arith, record-whole _ _ _ (c .before .before .before .before .before .before .before .before .before .before .before .pre .1 .2) _ (c .before .before .before .before .before .before .before .member-count .ensures .0) (c .before .before .before .loop-test .taken) _ (c .before .before .before .before .before .before .table-place .ensures) _ (c .record-place .ensures .1))
 
--- src/lib.rt:123:17
 table-reference-requires : (t : ℕ) → table-lts.Need-reference-requires (table-R t) (table-at t) table.Post table-Inv-loop table-μ-loop
 table-reference-requires t c κs = (omega arith, ((c .before .before .before .before .before .before .before .before .before .before .before .before .before .pre .1 .0, c .before .before .before .before .before .before .before .before .before .before .before .before .before .pre .1 .1, record-whole _ _ _ (c .before .before .before .before .before .before .before .before .before .before .before .before .before .pre .1 .2) _ (c .before .before .before .before .before .before .before .before .before .member-count .ensures .0) (c .before .before .before .before .before .loop-test .taken) _ (c .before .before .before .before .before .before .before .before .table-place .ensures) _ (c .before .before .record-place .ensures .1), c .before .refers .ensures (c .if2 .taken)), (reference-sound _ _ _ (c .before .before .before .before .before .before .before .before .before .before .before .before .before .pre .1 .2) _ (c .before .before .before .before .before .before .before .before .before .member-count .ensures .0) (c .before .before .before .before .before .loop-test .taken) _ (c .before .before .before .before .before .before .before .before .table-place .ensures) _ _ (c .before .before .before .before .before .before .before .before .before .before .before .before .before .pre .1 .0) (c .before .before .record-place .ensures .0) (c .before .refers .ensures (c .if2 .taken)), c .before .before .before .before .before .before .before .before .before .before .before .before .before .pre .1 .3, omega (arith, c .before .before .before .before .before .before .loop .inv .1 .end, c .before .before .before .before .before .before .before .before .before .member-count .ensures .1))))
 
--- src/lib.rt:125:17
 table-returns-2 : (t : ℕ) → table-lts.Need-returns-2 (table-R t) (table-at t) table.Post table-Inv-loop table-μ-loop
 table-returns-2 t c = reference-stopped _ _ _ _ _ _ _ _ _ _ _ (c .before .before .before .before .before .before .before .before .before .loop .inv .2) _ (c .before .before .before .before .before .before .before .before .before .before .before .before .member-count .ensures .0) (c .before .before .before .before .before .before .before .before .loop-test .taken) (c .before .before .before .before .before .before .before .before .before .before .before .before .before .before .before .before .pre .1 .2) _ (c .before .before .before .before .before .before .before .before .before .before .before .table-place .ensures) _ (c .before .before .before .before .before .record-place .ensures .0) _ (c .before .before .reference .ensures) (c .if3 .taken)
 
--- src/lib.rt:128:13
 table-behind-reference-requires : (t : ℕ) → table-lts.Need-behind-reference-requires (table-R t) (table-at t) table.Post table-Inv-loop table-μ-loop
 table-behind-reference-requires t c κs = (c .before .before .before .before .before .before .before .before .before .before .loop .inv .1 .byte, c .before .before .before .before .before .before .before .before .before .before .loop .inv .1 .bit, omega (arith, c .before .before .before .before .before .before .before .before .before .before .loop .inv .1 .end, c .before .before .before .before .before .before .before .before .before .before .before .before .before .member-count .ensures .1))
 
--- src/lib.rt:129:13
 table-add-j : (t : ℕ) → table-lts.Need-add-j (table-R t) (table-at t) table.Post table-Inv-loop table-μ-loop
 table-add-j t c = search needs
 
--- src/lib.rt:117:5
 table-loop-less : (t : ℕ) → table-lts.Need-loop-less (table-R t) (table-at t) table.Post table-Inv-loop table-μ-loop
 table-loop-less t c = search needs
 
--- src/lib.rt:117:5
 table-loop-again : (t : ℕ) → table-lts.Need-loop-again (table-R t) (table-at t) table.Post table-Inv-loop table-μ-loop
 table-loop-again t c = (omega arith, reference-laid _ _ _ (c .before .before .before .before .before .before .before .before .before .before .before .loop .inv .1) (c .behind-reference .ensures .1), reference-turn _ _ _ _ _ _ _ _ _ _ _ (c .before .before .before .before .before .before .before .before .before .before .before .loop .inv .2) _ (c .before .before .before .before .before .before .before .before .before .before .before .before .before .before .member-count .ensures .0) (c .before .before .before .before .before .before .before .before .before .before .loop-test .taken) (c .before .before .before .before .before .before .before .before .before .before .before .before .before .before .before .before .before .before .pre .1 .2) _ (c .before .before .before .before .before .before .before .before .before .before .before .before .before .table-place .ensures) _ (c .before .before .before .before .before .before .before .record-place .ensures .0) _ (c .before .before .before .before .reference .ensures) (c .before .before .if3 .left) (c .before .before .before .before .before .before .refers .ensures (c .before .before .before .before .before .if2 .taken)) _ (c .behind-reference .ensures .0))
 
--- src/lib.rt:132:13
 table-lead-member-requires : (t : ℕ) → table-lts.Need-lead-member-requires (table-R t) (table-at t) table.Post table-Inv-loop table-μ-loop
 table-lead-member-requires t c κs = ((c .before .before .before .before .before .before .before .before .before .before .before .before .before .pre .1 .0, c .before .before .before .before .before .before .before .before .before .before .before .before .before .pre .1 .2, omega (arith, c .before .before .before .before .before .before .before .before .before .member-count .ensures .0), omega (arith, c .before .before .before .before .before .before .before .before .before .member-count .ensures .1)), (omega (arith, c .before .before .before .before .before .before .before .before .before .before .before .before .before .pre .1 .3), omega (arith, c .before .before .before .before .before .before .before .before .before .before .before .before .before .pre .1 .1), c .before .before .before .before .before .before .loop .inv .1))
 
--- src/lib.rt:134:12
 table-leads-nowhere-requires : (t : ℕ) → table-lts.Need-leads-nowhere-requires (table-R t) (table-at t) table.Post table-Inv-loop table-μ-loop
 table-leads-nowhere-requires t c κs = search needs
 
--- src/lib.rt:136:13
 table-add-j-2 : (t : ℕ) → table-lts.Need-add-j-2 (table-R t) (table-at t) table.Post table-Inv-loop table-μ-loop
 table-add-j-2 t c = search needs
 
--- src/lib.rt:117:5
 table-loop-less-2 : (t : ℕ) → table-lts.Need-loop-less-2 (table-R t) (table-at t) table.Post table-Inv-loop table-μ-loop
 table-loop-less-2 t c = search needs
 
--- src/lib.rt:117:5
 table-loop-again-2 : (t : ℕ) → table-lts.Need-loop-again-2 (table-R t) (table-at t) table.Post table-Inv-loop table-μ-loop
 table-loop-again-2 t c = (omega arith, c .before .before .before .lead-member .ensures .laid, members-nowhere _ _ _ _ _ _ _ _ _ _ _ (c .before .before .before .before .before .before .before .before .before .before .loop .inv .2) _ (c .before .before .before .before .before .before .before .before .before .before .before .before .before .member-count .ensures .0) (c .before .before .before .before .before .before .before .before .before .loop-test .taken) _ (c .before .before .before .lead-member .ensures .step-is) (c .before .before .leads-nowhere .ensures (c .before .if4 .taken)) _ (c .before .before .before .lead-member .ensures .next-is))
 
--- src/lib.rt:139:13
 table-follow-requires : (t : ℕ) → table-lts.Need-follow-requires (table-R t) (table-at t) table.Post table-Inv-loop table-μ-loop
 table-follow-requires t c κs = (omega (arith, c .before .before .before .before .before .before .before .before .before .before .before .before .before .before .before .before .pre .0), (c .before .before .before .before .before .before .before .before .before .before .before .before .before .before .before .before .pre .1 .0, c .before .before .before .before .before .before .before .before .before .before .before .before .before .before .before .before .pre .1 .1, c .before .before .lead-member .ensures .small))
 
--- src/lib.rt:141:13
 table-returns-3 : (t : ℕ) → table-lts.Need-returns-3 (table-R t) (table-at t) table.Post table-Inv-loop table-μ-loop
 table-returns-3 t c = members-stopped _ _ _ _ _ _ _ _ _ _ _ (c .before .before .before .before .before .before .before .before .before .before .before .before .loop .inv .2) _ (c .before .before .before .before .before .before .before .before .before .before .before .before .before .before .before .member-count .ensures .0) (c .before .before .before .before .before .before .before .before .before .before .before .loop-test .taken) _ (c .before .before .before .before .before .lead-member .ensures .step-is) _ (c .before .before .follow .ensures) (c .if5 .taken)
 
--- src/lib.rt:145:9
 table-add-j-3 : (t : ℕ) → table-lts.Need-add-j-3 (table-R t) (table-at t) table.Post table-Inv-loop table-μ-loop
 table-add-j-3 t c = search needs
 
--- src/lib.rt:117:5
 table-loop-less-3 : (t : ℕ) → table-lts.Need-loop-less-3 (table-R t) (table-at t) table.Post table-Inv-loop table-μ-loop
 table-loop-less-3 t c = search needs
 
--- src/lib.rt:117:5
 table-loop-again-3 : (t : ℕ) → table-lts.Need-loop-again-3 (table-R t) (table-at t) table.Post table-Inv-loop table-μ-loop
 table-loop-again-3 t c = (omega arith, c .before .before .before .before .before .before .before .lead-member .ensures .laid, members-turn _ _ _ _ _ _ _ _ _ _ _ (c .before .before .before .before .before .before .before .before .before .before .before .before .before .before .loop .inv .2) _ (c .before .before .before .before .before .before .before .before .before .before .before .before .before .before .before .before .before .member-count .ensures .0) (c .before .before .before .before .before .before .before .before .before .before .before .before .before .loop-test .taken) _ (c .before .before .before .before .before .before .before .lead-member .ensures .step-is) _ (c .before .before .before .before .follow .ensures) (c .before .before .if5 .left) _ (c .before .before .before .before .before .before .before .lead-member .ensures .next-is))
 
--- src/lib.rt:147:5
 table-going-requires-2 : (t : ℕ) → table-lts.Need-going-requires-2 (table-R t) (table-at t) table.Post table-Inv-loop table-μ-loop
 table-going-requires-2 t c κs = search needs
 
--- src/lib.rt:97:1
 table-returns-4 : (t : ℕ) → table-lts.Need-returns-4 (table-R t) (table-at t) table.Post table-Inv-loop table-μ-loop
 table-returns-4 t c = search members-done
 
--- src/lib.rt:396:25
 union-enum-known-p : (t : ℕ) → union-lts.Need-enum-known-p (union-R t) (union-at t) union.Post
 union-enum-known-p t c = search needs
 
--- src/lib.rt:398:17
 union-refuse-requires : (t : ℕ) → union-lts.Need-refuse-requires (union-R t) (union-at t) union.Post
 union-refuse-requires t c κs = search needs
 
--- src/lib.rt:398:17
 union-returns : (t : ℕ) → union-lts.Need-returns (union-R t) (union-at t) union.Post
 union-returns t c = search union-none
 
--- src/lib.rt:400:13
 union-visit-requires : (t : ℕ) → union-lts.Need-visit-requires (union-R t) (union-at t) union.Post
 union-visit-requires t c κs = (omega arith, (c .before .before .before .before .before .before .before .pre .1 .0, c .before .before .before .before .before .before .before .pre .1 .1, c .before .before .before .before .before .before .before .pre .1 .2, search offset-small))
 
--- src/lib.rt:402:24
 union-enum-known-p-2 : (t : ℕ) → union-lts.Need-enum-known-p-2 (union-R t) (union-at t) union.Post
 union-enum-known-p-2 t c = search needs
 
--- src/lib.rt:402:33
 union-visit-requires-2 : (t : ℕ) → union-lts.Need-visit-requires-2 (union-R t) (union-at t) union.Post
 union-visit-requires-2 t c κs = search (inplace-first, inplace-length, needs)
 
--- src/lib.rt:381:1
 union-returns-2 : (t : ℕ) → union-lts.Need-returns-2 (union-R t) (union-at t) union.Post
 union-returns-2 t c = search (union-offset, c .before .if1 .left, c .before .before .before .p .given .1, c .visit .ensures)
 
--- src/lib.rt:381:1
 union-returns-3 : (t : ℕ) → union-lts.Need-returns-3 (union-R t) (union-at t) union.Post
 union-returns-3 t c = search union-inplace
 
--- src/lib.rt:56:9
 visit-placed-requires : (t : ℕ) → visit-lts.Need-placed-requires (visit-R t) (visit-at t) visit.Post
 visit-placed-requires t c κs = search needs
 
--- src/lib.rt:59:9
 visit-refuse-requires : (t : ℕ) → visit-lts.Need-refuse-requires (visit-R t) (visit-at t) visit.Post
 visit-refuse-requires t c κs = search needs
 
--- src/lib.rt:59:9
 visit-returns : (t : ℕ) → visit-lts.Need-returns (visit-R t) (visit-at t) visit.Post
 visit-returns t c = search visit-spent
 
--- src/lib.rt:61:29
 visit-add-t16 : (t : ℕ) → visit-lts.Need-add-t16 (visit-R t) (visit-at t) visit.Post
 visit-add-t16 t c = search needs
 
--- src/lib.rt:63:9
 visit-refuse-requires-2 : (t : ℕ) → visit-lts.Need-refuse-requires-2 (visit-R t) (visit-at t) visit.Post
 visit-refuse-requires-2 t c κs = search needs
 
--- src/lib.rt:63:9
 visit-returns-2 : (t : ℕ) → visit-lts.Need-returns-2 (visit-R t) (visit-at t) visit.Post
 visit-returns-2 t c = search visit-deep
 
--- src/lib.rt:65:11
 visit-open-object-requires : (t : ℕ) → visit-lts.Need-open-object-requires (visit-R t) (visit-at t) visit.Post
 visit-open-object-requires t c κs = search needs
 
--- src/lib.rt:66:25
 visit-enum-known-e : (t : ℕ) → visit-lts.Need-enum-known-e (visit-R t) (visit-at t) visit.Post
 visit-enum-known-e t c = search needs
 
--- src/lib.rt:66:31
 visit-refuse-requires-3 : (t : ℕ) → visit-lts.Need-refuse-requires-3 (visit-R t) (visit-at t) visit.Post
 visit-refuse-requires-3 t c κs = search needs
 
--- src/lib.rt:67:25
 visit-enum-known-start : (t : ℕ) → visit-lts.Need-enum-known-start (visit-R t) (visit-at t) visit.Post
 visit-enum-known-start t c = search needs
 
--- src/lib.rt:67:65
 visit-sub-content : (t : ℕ) → visit-lts.Need-sub-content (visit-R t) (visit-at t) visit.Post
 visit-sub-content t c = search needs
 
--- src/lib.rt:67:38
 visit-content-requires : (t : ℕ) → visit-lts.Need-content-requires (visit-R t) (visit-at t) visit.Post
 visit-content-requires t c κs = search (opened-fits, needs)
 
--- src/lib.rt:43:1
 visit-returns-3 : (t : ℕ) → visit-lts.Need-returns-3 (visit-R t) (visit-at t) visit.Post
 visit-returns-3 t c = search visit-refused
 
--- src/lib.rt:43:1
 visit-returns-4 : (t : ℕ) → visit-lts.Need-returns-4 (visit-R t) (visit-at t) visit.Post
 visit-returns-4 t c = search visit-content
 

@@ -6,11 +6,9 @@ use Rattle.message_header.proofs.bytes_content.Reads as reads
 use Rattle.message_header.proofs.bytes_content.Lts as lts
 use Rattle.message_header.proofs.fits.Reads as fits-reads
 
--- src/lib.rt:149:5
 fits-requires : tie.Need-fits-requires
 fits-requires c κs = search needs
 
--- src/lib.rt:145:1
 returns : tie.Need-returns
 returns c = search bytes-fit
 

@@ -5,15 +5,12 @@ use Rattle.message_header.proofs.fits.Tie as tie
 use Rattle.message_header.proofs.fits.Reads as reads
 use Rattle.message_header.proofs.fits.Lts as lts
 
--- src/lib.rt:126:8
 add-if1 : tie.Need-add-if1
 add-if1 c = search needs
 
--- src/lib.rt:127:9
 returns : tie.Need-returns
 returns c = search fit-yes
 
--- src/lib.rt:122:1
 returns-2 : tie.Need-returns-2
 returns-2 c = search fit-no
 

@@ -9,51 +9,39 @@ use Rattle.message_header.proofs.list_content.Reads as list-content-rea
 use Rattle.message_header.proofs.table_content.Reads as table-content-reads
 use Rattle.message_header.proofs.text_content.Reads as text-content-reads
 
--- src/lib.rt:197:25
 enum-told : tie.Need-enum-told
 enum-told c = search needs
 
--- src/lib.rt:197:25
 text-content-requires : tie.Need-text-content-requires
 text-content-requires c κs = search needs
 
--- src/lib.rt:198:26
 enum-told-2 : tie.Need-enum-told-2
 enum-told-2 c = search needs
 
--- src/lib.rt:198:26
 bytes-content-requires : tie.Need-bytes-content-requires
 bytes-content-requires c κs = search needs
 
--- src/lib.rt:199:22
 enum-known-ob : tie.Need-enum-known-ob
 enum-known-ob c = search needs
 
--- src/lib.rt:199:28
 list-content-requires : tie.Need-list-content-requires
 list-content-requires c κs = search (object-list, needs)
 
--- src/lib.rt:200:23
 enum-known-ob-2 : tie.Need-enum-known-ob-2
 enum-known-ob-2 c = search needs
 
--- src/lib.rt:200:29
 table-content-requires : tie.Need-table-content-requires
 table-content-requires c κs = search needs
 
--- src/lib.rt:192:1
 returns : tie.Need-returns
 returns c = search content-of-text
 
--- src/lib.rt:192:1
 returns-2 : tie.Need-returns-2
 returns-2 c = search content-of-bytes
 
--- src/lib.rt:192:1
 returns-3 : tie.Need-returns-3
 returns-3 c = search content-of-list
 
--- src/lib.rt:192:1
 returns-4 : tie.Need-returns-4
 returns-4 c = search content-of-table
 

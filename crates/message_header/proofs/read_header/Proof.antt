@@ -8,35 +8,27 @@ use Rattle.message_header.proofs.read_header.Lts as lts
 use Rattle.wire.proofs.u32_in.Reads as u32-in-reads
 use Rattle.wire.proofs.u48_in.Reads as u48-in-reads
 
--- src/lib.rt:39:9
 returns : tie.Need-returns
 returns c = (search header-low, tt)
 
--- src/lib.rt:41:18
 add-if2 : tie.Need-add-if2
 add-if2 c = search needs
 
--- src/lib.rt:42:9
 returns-2 : tie.Need-returns-2
 returns-2 c = (search header-short, tt)
 
--- src/lib.rt:44:8
 u32-in-requires : tie.Need-u32-in-requires
 u32-in-requires c κs = search needs
 
--- src/lib.rt:45:9
 returns-3 : tie.Need-returns-3
 returns-3 c = (search header-other, tt)
 
--- src/lib.rt:47:36
 add-u48-in : tie.Need-add-u48-in
 add-u48-in c = search needs
 
--- src/lib.rt:47:20
 u48-in-requires : tie.Need-u48-in-requires
 u48-in-requires c κs = search needs
 
--- src/lib.rt:34:1
 returns-4 : tie.Need-returns-4
 returns-4 c = (search header-good, omega (arith, c .u48-in .ensures .small))
 

@@ -6,11 +6,9 @@ use Rattle.message_header.proofs.table_content.Reads as reads
 use Rattle.message_header.proofs.table_content.Lts as lts
 use Rattle.message_header.proofs.fits.Reads as fits-reads
 
--- src/lib.rt:156:5
 fits-requires : tie.Need-fits-requires
 fits-requires c κs = search needs
 
--- src/lib.rt:152:1
 returns : tie.Need-returns
 returns c = search table-fit
 

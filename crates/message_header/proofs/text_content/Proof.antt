@@ -6,31 +6,24 @@ use Rattle.message_header.proofs.text_content.Reads as reads
 use Rattle.message_header.proofs.text_content.Lts as lts
 use Rattle.wire.proofs.byte_in.Reads as byte-in-reads
 
--- src/lib.rt:136:27
 add-if1 : tie.Need-add-if1
 add-if1 c = search needs
 
--- src/lib.rt:136:18
 add-if1-2 : tie.Need-add-if1-2
 add-if1-2 c = search needs
 
--- src/lib.rt:137:9
 returns : tie.Need-returns
 returns c = search text-short
 
--- src/lib.rt:139:25
 add-byte-in : tie.Need-add-byte-in
 add-byte-in c = search needs
 
--- src/lib.rt:139:8
 byte-in-requires : tie.Need-byte-in-requires
 byte-in-requires c κs = search needs
 
--- src/lib.rt:140:9
 returns-2 : tie.Need-returns-2
 returns-2 c = search (text-good, c .if2 .taken, c .before .byte-in .ensures, c .before .before .if1 .left)
 
--- src/lib.rt:132:1
 returns-3 : tie.Need-returns-3
 returns-3 c = search text-bad
 

@@ -7,11 +7,9 @@ use Rattle.message_header.proofs.times.Tie as tie
 use Rattle.message_header.proofs.times.Reads as reads
 use Rattle.message_header.proofs.times.Lts as lts
 
--- src/lib.rt:164:5
 mul-result : tie.Need-mul-result
 mul-result c = omega (arith, size-times (c .args .w) (c .args .n) (c .pre .0) (c .pre .1))
 
--- src/lib.rt:160:1
 returns : tie.Need-returns
 returns c = (refl, size-times (c .args .w) (c .args .n) (c .pre .0) (c .pre .1))
 

@@ -8,20 +8,16 @@ use Rattle.message_layout.proofs.after_bit.Tie as tie
 use Rattle.message_layout.proofs.after_bit.Reads as reads
 use Rattle.message_layout.proofs.after_bit.Lts as lts
 
--- src/lib.rt:52:18
 add-t7 : tie.Need-add-t7
 add-t7 c = search needs
 
--- src/lib.rt:56:18
 add-t8 : tie.Need-add-t8
 add-t8 c = search needs
 
--- src/lib.rt:41:1
 returns : tie.Need-returns
 unfolding L.afterBit
 returns c = (simp (lt-ltb _ _ (c .if1 .taken)), record { end = omega arith; byte = omega arith; bit = omega arith })
 
--- src/lib.rt:41:1
 returns-2 : tie.Need-returns-2
 unfolding L.afterBit
 returns-2 c = (simp (le-ltb _ _ (c .if1 .left)), record { end = omega arith; byte = omega arith; bit = omega arith })

@@ -10,15 +10,12 @@ use Rattle.message_layout.proofs.after_flag.Reads as reads
 use Rattle.message_layout.proofs.after_flag.Lts as lts
 use Rattle.message_layout.proofs.after_bit.Reads as after-bit-reads
 
--- src/lib.rt:155:9
 after-bit-requires : tie.Need-after-bit-requires
 after-bit-requires c κs = search needs
 
--- src/lib.rt:155:9
 returns : tie.Need-returns
 returns c = search (flag-first, needs)
 
--- src/lib.rt:150:1
 returns-2 : tie.Need-returns-2
 returns-2 c = search needs
 

@@ -8,7 +8,6 @@ use Rattle.message_layout.proofs.begin.Tie as tie
 use Rattle.message_layout.proofs.begin.Reads as reads
 use Rattle.message_layout.proofs.begin.Lts as lts
 
--- src/lib.rt:12:1
 returns : tie.Need-returns
 unfolding L.begin
 returns c = search needs

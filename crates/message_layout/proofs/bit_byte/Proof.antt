@@ -7,12 +7,10 @@ use Rattle.message_layout.proofs.bit_byte.Tie as tie
 use Rattle.message_layout.proofs.bit_byte.Reads as reads
 use Rattle.message_layout.proofs.bit_byte.Lts as lts
 
--- src/lib.rt:23:1
 returns : tie.Need-returns
 unfolding L.bitByte
 returns c = (simp (lt-ltb _ _ (c .if1 .taken)), omega arith)
 
--- src/lib.rt:23:1
 returns-2 : tie.Need-returns-2
 unfolding L.bitByte
 returns-2 c = (simp (le-ltb _ _ (c .if1 .left)), omega arith)

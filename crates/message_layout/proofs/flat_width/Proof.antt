@@ -10,59 +10,45 @@ use Rattle.message_layout.proofs.flat_width.Lts as lts
 use Rattle.schema.proofs.stored_size.Reads as stored-size-reads
 use Rattle.wire.proofs.index.Reads as index-reads
 
--- src/lib.rt:122:26
 enum-told : tie.Need-enum-told
 enum-told c = search needs
 
--- src/lib.rt:123:26
 enum-known-k : tie.Need-enum-known-k
 enum-known-k c = search needs
 
--- src/lib.rt:123:32
 index-requires : tie.Need-index-requires
 index-requires c κs = search needs
 
--- src/lib.rt:124:21
 enum-known-k-2 : tie.Need-enum-known-k-2
 enum-known-k-2 c = search needs
 
--- src/lib.rt:124:27
 index-requires-2 : tie.Need-index-requires-2
 index-requires-2 c κs = search needs
 
--- src/lib.rt:125:32
 enum-told-2 : tie.Need-enum-told-2
 enum-told-2 c = search needs
 
--- src/lib.rt:126:22
 enum-known-k-3 : tie.Need-enum-known-k-3
 enum-known-k-3 c = search needs
 
--- src/lib.rt:126:56
 index-requires-3 : tie.Need-index-requires-3
 index-requires-3 c κs = search needs
 
--- src/lib.rt:126:28
 stored-size-requires : tie.Need-stored-size-requires
 stored-size-requires c κs = search (struct-index, needs)
 
--- src/lib.rt:117:1
 returns : tie.Need-returns
 returns c = (search width-boolean, omega arith, omega arith)
 
--- src/lib.rt:117:1
 returns-2 : tie.Need-returns-2
 returns-2 c = (search width-integer, search some-integer, search small-integer)
 
--- src/lib.rt:117:1
 returns-3 : tie.Need-returns-3
 returns-3 c = (search width-float, search some-float, search small-float)
 
--- src/lib.rt:117:1
 returns-4 : tie.Need-returns-4
 returns-4 c = (search width-enum, omega arith, omega arith)
 
--- src/lib.rt:117:1
 returns-5 : tie.Need-returns-5
 returns-5 c = (search width-struct, search some-struct, omega arith)
 

@@ -9,16 +9,13 @@ use Rattle.message_layout.proofs.has_flag.Reads as reads
 use Rattle.message_layout.proofs.has_flag.Lts as lts
 use Rattle.message_layout.proofs.takes_flag.Reads as takes-flag-reads
 
--- src/lib.rt:102:9
 takes-flag-requires : tie.Need-takes-flag-requires
 takes-flag-requires c κs = search needs
 
--- src/lib.rt:102:9
 returns : tie.Need-returns
 unfolding L.hasFlag L.takesFlag
 returns c = search needs
 
--- src/lib.rt:97:1
 returns-2 : tie.Need-returns-2
 unfolding L.hasFlag L.takesFlag
 returns-2 c = search needs

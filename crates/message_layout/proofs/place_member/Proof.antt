@@ -8,19 +8,15 @@ use Rattle.message_layout.proofs.after_flag.Reads as after-flag-reads
 use Rattle.message_layout.proofs.has_flag.Reads as has-flag-reads
 use Rattle.message_layout.proofs.place_value.Reads as place-value-reads
 
--- src/lib.rt:197:24
 has-flag-requires : tie.Need-has-flag-requires
 has-flag-requires c κs = search needs
 
--- src/lib.rt:197:9
 after-flag-requires : tie.Need-after-flag-requires
 after-flag-requires c κs = search needs
 
--- src/lib.rt:198:5
 place-value-requires : tie.Need-place-value-requires
 place-value-requires c κs = search needs
 
--- src/lib.rt:191:1
 returns : tie.Need-returns
 returns c = search member-stands
 

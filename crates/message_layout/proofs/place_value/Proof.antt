@@ -14,35 +14,27 @@ use Rattle.message_layout.proofs.bit_index.Reads as bit-index-reads
 use Rattle.message_layout.proofs.is_bool.Reads as is-bool-reads
 use Rattle.message_layout.proofs.width.Reads as width-reads
 
--- src/lib.rt:166:8
 is-bool-requires : tie.Need-is-bool-requires
 is-bool-requires c κs = search needs
 
--- src/lib.rt:167:13
 after-bit-requires : tie.Need-after-bit-requires
 after-bit-requires c κs = search needs
 
--- src/lib.rt:169:17
 bit-byte-requires : tie.Need-bit-byte-requires
 bit-byte-requires c κs = search needs
 
--- src/lib.rt:170:18
 bit-index-requires : tie.Need-bit-index-requires
 bit-index-requires c κs = search needs
 
--- src/lib.rt:173:9
 returns : tie.Need-returns
 returns c = search bool-stands
 
--- src/lib.rt:175:9
 width-requires : tie.Need-width-requires
 width-requires c κs = search needs
 
--- src/lib.rt:183:14
 add-t14 : tie.Need-add-t14
 add-t14 c = search needs
 
--- src/lib.rt:161:1
 returns-2 : tie.Need-returns-2
 returns-2 c = search bytes-stand
 

@@ -8,69 +8,54 @@ use Rattle.message_layout.proofs.takes_flag.Tie as tie
 use Rattle.message_layout.proofs.takes_flag.Reads as reads
 use Rattle.message_layout.proofs.takes_flag.Lts as lts
 
--- src/lib.rt:84:22
 enum-known-k : tie.Need-enum-known-k
 enum-known-k c = search needs
 
--- src/lib.rt:85:30
 enum-told : tie.Need-enum-told
 enum-told c = search needs
 
--- src/lib.rt:86:36
 enum-told-2 : tie.Need-enum-told-2
 enum-told-2 c = search needs
 
--- src/lib.rt:87:31
 enum-told-3 : tie.Need-enum-told-3
 enum-told-3 c = search needs
 
--- src/lib.rt:88:36
 enum-told-4 : tie.Need-enum-told-4
 enum-told-4 c = search needs
 
--- src/lib.rt:89:32
 enum-told-5 : tie.Need-enum-told-5
 enum-told-5 c = search needs
 
--- src/lib.rt:91:30
 enum-told-6 : tie.Need-enum-told-6
 enum-told-6 c = search needs
 
--- src/lib.rt:92:29
 enum-told-7 : tie.Need-enum-told-7
 enum-told-7 c = search needs
 
--- src/lib.rt:80:1
 returns : tie.Need-returns
 unfolding L.takesFlag L.flatTakesFlag
 returns c = search needs
 
--- src/lib.rt:80:1
 returns-2 : tie.Need-returns-2
 unfolding L.takesFlag L.flatTakesFlag
 returns-2 c = search needs
 
--- src/lib.rt:80:1
 returns-3 : tie.Need-returns-3
 unfolding L.takesFlag L.flatTakesFlag
 returns-3 c = search needs
 
--- src/lib.rt:80:1
 returns-4 : tie.Need-returns-4
 unfolding L.takesFlag L.flatTakesFlag
 returns-4 c = search needs
 
--- src/lib.rt:80:1
 returns-5 : tie.Need-returns-5
 unfolding L.takesFlag L.flatTakesFlag
 returns-5 c = search needs
 
--- src/lib.rt:80:1
 returns-6 : tie.Need-returns-6
 unfolding L.takesFlag L.flatTakesFlag
 returns-6 c = search needs
 
--- src/lib.rt:80:1
 returns-7 : tie.Need-returns-7
 unfolding L.takesFlag L.flatTakesFlag
 returns-7 c = search needs

@@ -9,31 +9,24 @@ use Rattle.message_layout.proofs.width.Reads as reads
 use Rattle.message_layout.proofs.width.Lts as lts
 use Rattle.message_layout.proofs.flat_width.Reads as flat-width-reads
 
--- src/lib.rt:136:22
 enum-known-k : tie.Need-enum-known-k
 enum-known-k c = search needs
 
--- src/lib.rt:136:28
 flat-width-requires : tie.Need-flat-width-requires
 flat-width-requires c κs = search (flat-sound, needs)
 
--- src/lib.rt:137:30
 enum-told : tie.Need-enum-told
 enum-told c = search needs
 
--- src/lib.rt:138:29
 enum-told-2 : tie.Need-enum-told-2
 enum-told-2 c = search needs
 
--- src/lib.rt:131:1
 returns : tie.Need-returns
 returns c = (search width-flat, omega arith, omega arith)
 
--- src/lib.rt:131:1
 returns-2 : tie.Need-returns-2
 returns-2 c = (search width-object, omega arith, omega arith)
 
--- src/lib.rt:131:1
 returns-3 : tie.Need-returns-3
 returns-3 c = (search width-union, omega arith, omega arith)
 

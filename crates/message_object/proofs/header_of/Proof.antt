@@ -11,59 +11,45 @@ use Rattle.message_header.proofs.TextObject.header.Reads as TextObject-header-r
 use Rattle.schema.proofs.table_id.Reads as table-id-reads
 use Rattle.wire.proofs.index.Reads as index-reads
 
--- src/lib.rt:184:25
 enum-told : tie.Need-enum-told
 enum-told c = search needs
 
--- src/lib.rt:184:25
 header-requires : tie.Need-header-requires
 header-requires c κs = search needs
 
--- src/lib.rt:185:26
 enum-told-2 : tie.Need-enum-told-2
 enum-told-2 c = search needs
 
--- src/lib.rt:185:26
 header-requires-2 : tie.Need-header-requires-2
 header-requires-2 c κs = search needs
 
--- src/lib.rt:186:28
 enum-told-3 : tie.Need-enum-told-3
 enum-told-3 c = search needs
 
--- src/lib.rt:186:28
 header-requires-3 : tie.Need-header-requires-3
 header-requires-3 c κs = search needs
 
--- src/lib.rt:187:23
 enum-known-ob : tie.Need-enum-known-ob
 enum-known-ob c = search needs
 
--- src/lib.rt:187:81
 index-requires : tie.Need-index-requires
 index-requires c κs = search needs
 
--- src/lib.rt:187:56
 table-id-requires : tie.Need-table-id-requires
 table-id-requires c κs = search (table-counted-of, needs)
 
--- src/lib.rt:187:29
 header-requires-4 : tie.Need-header-requires-4
 header-requires-4 c κs = search needs
 
--- src/lib.rt:179:1
 returns : tie.Need-returns
 returns c = (search header-text, search needs)
 
--- src/lib.rt:179:1
 returns-2 : tie.Need-returns-2
 returns-2 c = (search header-bytes, search needs)
 
--- src/lib.rt:179:1
 returns-3 : tie.Need-returns-3
 returns-3 c = (search header-list, search needs)
 
--- src/lib.rt:179:1
 returns-4 : tie.Need-returns-4
 returns-4 c = (search header-table, search needs)
 

@@ -7,47 +7,36 @@ use Rattle.message_object.proofs.open_object.Lts as lts
 use Rattle.message_object.proofs.header_of.Reads as header-of-reads
 use Rattle.message_header.proofs.open_content.Reads as open-content-reads
 
--- src/lib.rt:210:25
 enum-known-p : tie.Need-enum-known-p
 enum-known-p c = search needs
 
--- src/lib.rt:210:37
 header-of-requires : tie.Need-header-of-requires
 header-of-requires c κs = search (offset-small, needs)
 
--- src/lib.rt:211:29
 enum-known-e : tie.Need-enum-known-e
 enum-known-e c = search needs
 
--- src/lib.rt:212:28
 enum-known-n : tie.Need-enum-known-n
 enum-known-n c = search needs
 
--- src/lib.rt:212:62
 add-open-content : tie.Need-add-open-content
 add-open-content c = record { fits = search offset-word }
 
--- src/lib.rt:212:34
 open-content-requires : tie.Need-open-content-requires
 open-content-requires c κs = search (offset-ten, small-length, needs)
 
--- src/lib.rt:214:24
 enum-known-p-2 : tie.Need-enum-known-p-2
 enum-known-p-2 c = search needs
 
--- src/lib.rt:214:33
 open-content-requires-2 : tie.Need-open-content-requires-2
 open-content-requires-2 c κs = search (inplace-start, inplace-length, needs)
 
--- src/lib.rt:205:1
 returns : tie.Need-returns
 returns c = search open-refused
 
--- src/lib.rt:205:1
 returns-2 : tie.Need-returns-2
 returns-2 c = search open-offset
 
--- src/lib.rt:205:1
 returns-3 : tie.Need-returns-3
 returns-3 c = search open-inplace
 

@@ -5,20 +5,16 @@ use Rattle.message_object.proofs.placed.Tie as tie
 use Rattle.message_object.proofs.placed.Reads as reads
 use Rattle.message_object.proofs.placed.Lts as lts
 
--- src/lib.rt:224:25
 enum-known-p : tie.Need-enum-known-p
 enum-known-p c = search needs
 
--- src/lib.rt:225:24
 enum-known-p-2 : tie.Need-enum-known-p-2
 enum-known-p-2 c = search needs
 
--- src/lib.rt:220:1
 returns : tie.Need-returns
 unfolding W.placed
 returns c = search needs
 
--- src/lib.rt:220:1
 returns-2 : tie.Need-returns-2
 unfolding W.placed
 returns-2 c = search needs

@@ -8,15 +8,12 @@ use Rattle.message_object.proofs.root_object.Reads as reads
 use Rattle.message_object.proofs.root_object.Lts as lts
 use Rattle.schema.proofs.root.Reads as root-reads
 
--- src/lib.rt:512:19
 root-requires : tie.Need-root-requires
 root-requires c κs = search needs
 
--- src/lib.rt:512:19
 cast-t4 : tie.Need-cast-t4
 cast-t4 c = search needs
 
--- src/lib.rt:508:1
 returns : tie.Need-returns
 returns c = (ap O.Table (c .root .ensures .0), search root-sound)
 

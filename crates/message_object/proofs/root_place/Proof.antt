@@ -7,11 +7,9 @@ use Rattle.message_object.proofs.root_place.Reads as reads
 use Rattle.message_object.proofs.root_place.Lts as lts
 use Rattle.wire.proofs.u48_in.Reads as u48-in-reads
 
--- src/lib.rt:520:21
 u48-in-requires : tie.Need-u48-in-requires
 u48-in-requires c κs = search needs
 
--- src/lib.rt:516:1
 returns : tie.Need-returns
 returns c = (search root-at, omega (arith, c .u48-in .ensures .small))
 

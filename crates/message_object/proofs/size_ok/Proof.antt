@@ -4,11 +4,9 @@ use Rattle.message_object.proofs.size_ok.Tie as tie
 use Rattle.message_object.proofs.size_ok.Reads as reads
 use Rattle.message_object.proofs.size_ok.Lts as lts
 
--- src/lib.rt:494:9
 returns : tie.Need-returns
 returns c = search size-short
 
--- src/lib.rt:490:1
 returns-2 : tie.Need-returns-2
 returns-2 c = search size-long
 

@@ -6,11 +6,9 @@ use Rattle.message_object.proofs.start_ok.Reads as reads
 use Rattle.message_object.proofs.start_ok.Lts as lts
 use Rattle.wire.proofs.u32_in.Reads as u32-in-reads
 
--- src/lib.rt:504:5
 u32-in-requires : tie.Need-u32-in-requires
 u32-in-requires c κs = search needs
 
--- src/lib.rt:500:1
 returns : tie.Need-returns
 returns c = search start-is
 

@@ -12,19 +12,15 @@ use Rattle.message_step.proofs.element_place.Reads as element-place-rea
 use Rattle.message_step.proofs.value_lead.Reads as value-lead-reads
 use Rattle.wire.proofs.low_three.Reads as low-three-reads
 
--- src/lib.rt:340:9
 element-place-requires : tie.Need-element-place-requires
 element-place-requires c κs = search (index-small, needs)
 
--- src/lib.rt:341:50
 low-three-requires : tie.Need-low-three-requires
 low-three-requires c κs = search needs
 
--- src/lib.rt:341:5
 value-lead-requires : tie.Need-value-lead-requires
 value-lead-requires c κs = search (element-there, element-low, needs)
 
--- src/lib.rt:335:1
 returns : tie.Need-returns
 returns c = search (element-leads, needs)
 

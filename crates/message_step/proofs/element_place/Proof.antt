@@ -12,35 +12,27 @@ use Rattle.message_layout.proofs.width.Reads as width-reads
 use Rattle.message_step.proofs.times.Reads as times-reads
 use Rattle.wire.proofs.eighth.Reads as eighth-reads
 
--- src/lib.rt:326:8
 is-bool-requires : tie.Need-is-bool-requires
 is-bool-requires c κs = search needs
 
--- src/lib.rt:327:24
 eighth-requires : tie.Need-eighth-requires
 eighth-requires c κs = search needs
 
--- src/lib.rt:327:16
 add-result : tie.Need-add-result
 add-result c = search needs
 
--- src/lib.rt:327:9
 returns : tie.Need-returns
 returns c = search place-bool
 
--- src/lib.rt:329:19
 width-requires : tie.Need-width-requires
 width-requires c κs = search needs
 
--- src/lib.rt:329:13
 times-requires : tie.Need-times-requires
 times-requires c κs = search needs
 
--- src/lib.rt:329:5
 add-result-2 : tie.Need-add-result-2
 add-result-2 c = search needs
 
--- src/lib.rt:322:1
 returns-2 : tie.Need-returns-2
 returns-2 c = search place-other
 

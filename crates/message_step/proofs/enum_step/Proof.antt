@@ -9,19 +9,15 @@ use Rattle.message_step.proofs.enum_step.Reads as reads
 use Rattle.message_step.proofs.enum_step.Lts as lts
 use Rattle.wire.proofs.wide.Reads as wide-reads
 
--- src/lib.rt:110:9
 returns : tie.Need-returns
 returns c = search enum-none
 
--- src/lib.rt:113:28
 wide-requires : tie.Need-wide-requires
 wide-requires c κs = search needs
 
--- src/lib.rt:113:9
 returns-2 : tie.Need-returns-2
 returns-2 c = search enum-known
 
--- src/lib.rt:106:1
 returns-3 : tie.Need-returns-3
 returns-3 c = search enum-unknown
 

@@ -16,83 +16,63 @@ use Rattle.wire.proofs.byte_in.Reads as byte-in-reads
 use Rattle.wire.proofs.index.Reads as index-reads
 use Rattle.wire.proofs.number.Reads as number-reads
 
--- src/lib.rt:155:54
 enum-told : tie.Need-enum-told
 enum-told c = search needs
 
--- src/lib.rt:155:54
 byte-in-requires : tie.Need-byte-in-requires
 byte-in-requires c κs = search boolean-there
 
--- src/lib.rt:155:38
 bit-value-requires : tie.Need-bit-value-requires
 bit-value-requires c κs = search needs
 
--- src/lib.rt:156:26
 enum-known-k : tie.Need-enum-known-k
 enum-known-k c = search needs
 
--- src/lib.rt:156:64
 index-requires : tie.Need-index-requires
 index-requires c κs = search needs
 
--- src/lib.rt:156:44
 number-requires : tie.Need-number-requires
 number-requires c κs = (search integer-eight, omega arith)
 
--- src/lib.rt:157:21
 enum-known-k-2 : tie.Need-enum-known-k-2
 enum-known-k-2 c = search needs
 
--- src/lib.rt:157:67
 index-requires-2 : tie.Need-index-requires-2
 index-requires-2 c κs = search needs
 
--- src/lib.rt:157:47
 number-requires-2 : tie.Need-number-requires-2
 number-requires-2 c κs = (search float-eight, omega arith)
 
--- src/lib.rt:157:27
 float-step-requires : tie.Need-float-step-requires
 float-step-requires c κs = search needs
 
--- src/lib.rt:158:26
 enum-known-k-3 : tie.Need-enum-known-k-3
 enum-known-k-3 c = search needs
 
--- src/lib.rt:158:45
 byte-in-requires-2 : tie.Need-byte-in-requires-2
 byte-in-requires-2 c κs = search enum-there
 
--- src/lib.rt:158:32
 enum-step-requires : tie.Need-enum-step-requires
 enum-step-requires c κs = search needs
 
--- src/lib.rt:159:22
 enum-known-k-4 : tie.Need-enum-known-k-4
 enum-known-k-4 c = search needs
 
--- src/lib.rt:159:28
 struct-step-requires : tie.Need-struct-step-requires
 struct-step-requires c κs = search (struct-counted, struct-there, needs)
 
--- src/lib.rt:149:1
 returns : tie.Need-returns
 returns c = search flat-boolean
 
--- src/lib.rt:149:1
 returns-2 : tie.Need-returns-2
 returns-2 c = search flat-integer
 
--- src/lib.rt:149:1
 returns-3 : tie.Need-returns-3
 returns-3 c = search flat-float
 
--- src/lib.rt:149:1
 returns-4 : tie.Need-returns-4
 returns-4 c = search flat-enum
 
--- src/lib.rt:149:1
 returns-5 : tie.Need-returns-5
 returns-5 c = search flat-struct
 

@@ -9,19 +9,15 @@ use Rattle.message_step.proofs.float_step.Reads as reads
 use Rattle.message_step.proofs.float_step.Lts as lts
 use Rattle.message_step.proofs.is_nan.Reads as is-nan-reads
 
--- src/lib.rt:131:12
 is-nan-requires : tie.Need-is-nan-requires
 is-nan-requires c κs = search needs
 
--- src/lib.rt:132:13
 returns : tie.Need-returns
 returns c = search float-none
 
--- src/lib.rt:134:9
 returns-2 : tie.Need-returns-2
 returns-2 c = search float-value
 
--- src/lib.rt:127:1
 returns-3 : tie.Need-returns-3
 returns-3 c = search float-plain
 

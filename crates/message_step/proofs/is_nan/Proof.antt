@@ -7,11 +7,9 @@ use Rattle.message_step.proofs.is_nan.Tie as tie
 use Rattle.message_step.proofs.is_nan.Reads as reads
 use Rattle.message_step.proofs.is_nan.Lts as lts
 
--- src/lib.rt:122:9
 returns : tie.Need-returns
 returns c = search nan-four
 
--- src/lib.rt:118:1
 returns-2 : tie.Need-returns-2
 returns-2 c = search nan-eight
 

@@ -12,54 +12,42 @@ use Rattle.message_layout.proofs.place_member.Reads as place-member-reads
 use Rattle.message_step.proofs.reach_of.Reads as reach-of-reads
 use Rattle.message_step.proofs.value_lead.Reads as value-lead-reads
 
--- src/lib.rt:293:9
 place-member-requires : tie.Need-place-member-requires
 place-member-requires c κs = search needs
 
--- src/lib.rt:297:42
 has-flag-requires : tie.Need-has-flag-requires
 has-flag-requires c κs = search needs
 
--- src/lib.rt:297:11
 reach-of-requires : tie.Need-reach-of-requires
 reach-of-requires c κs = search needs
 
--- src/lib.rt:299:19
 enum-told : tie.Need-enum-told
 enum-told c = search needs
 
--- src/lib.rt:303:19
 enum-told-2 : tie.Need-enum-told-2
 enum-told-2 c = search needs
 
--- src/lib.rt:307:72
 enum-told-3 : tie.Need-enum-told-3
 enum-told-3 c = search needs
 
--- src/lib.rt:307:72
 add-value-lead : tie.Need-add-value-lead
 add-value-lead c = search needs
 
--- src/lib.rt:307:83
 add-value-lead-2 : tie.Need-add-value-lead-2
 add-value-lead-2 c = search needs
 
--- src/lib.rt:307:17
 value-lead-requires : tie.Need-value-lead-requires
 value-lead-requires c κs = (
   (c .before .before .before .before .before .before .before .before .before .before .before .pre .0 .0, c .before .before .before .before .before .before .before .before .before .before .before .pre .0 .1 .kind, omega (arith, c .before .before .before .before .before .before .before .before .before .before .before .pre .0 .2, c .before .before .before .before .before .before .before .before .before .before .before .pre .0 .3)),
   (search value-inside, omega (arith, c .before .before .before .before .before .before .before .before .before .before .before .pre .0 .2, c .before .before .before .before .before .before .before .before .before .before .before .pre .0 .3, c .before .before .before .before .before .before .before .before .before .before .before .pre .1 .2, c .before .before .before .before .before .before .before .place-member .ensures .at)),
 )
 
--- src/lib.rt:288:1
 returns : tie.Need-returns
 returns c = (search lead-cut, tt)
 
--- src/lib.rt:288:1
 returns-2 : tie.Need-returns-2
 returns-2 c = (search lead-past, tt)
 
--- src/lib.rt:288:1
 returns-3 : tie.Need-returns-3
 returns-3 c = search (lead-here, needs)
 

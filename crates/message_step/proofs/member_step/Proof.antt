@@ -12,54 +12,42 @@ use Rattle.message_layout.proofs.place_member.Reads as place-member-reads
 use Rattle.message_step.proofs.reach_of.Reads as reach-of-reads
 use Rattle.message_step.proofs.value_step.Reads as value-step-reads
 
--- src/lib.rt:267:9
 place-member-requires : tie.Need-place-member-requires
 place-member-requires c κs = search needs
 
--- src/lib.rt:271:42
 has-flag-requires : tie.Need-has-flag-requires
 has-flag-requires c κs = search needs
 
--- src/lib.rt:271:11
 reach-of-requires : tie.Need-reach-of-requires
 reach-of-requires c κs = search needs
 
--- src/lib.rt:273:19
 enum-told : tie.Need-enum-told
 enum-told c = search needs
 
--- src/lib.rt:277:19
 enum-told-2 : tie.Need-enum-told-2
 enum-told-2 c = search needs
 
--- src/lib.rt:281:72
 enum-told-3 : tie.Need-enum-told-3
 enum-told-3 c = search needs
 
--- src/lib.rt:281:72
 add-value-step : tie.Need-add-value-step
 add-value-step c = search needs
 
--- src/lib.rt:281:83
 add-value-step-2 : tie.Need-add-value-step-2
 add-value-step-2 c = search needs
 
--- src/lib.rt:281:17
 value-step-requires : tie.Need-value-step-requires
 value-step-requires c κs = (
   (c .before .before .before .before .before .before .before .before .before .before .before .pre .0 .0, c .before .before .before .before .before .before .before .before .before .before .before .pre .0 .1 .kind),
   (search value-inside, c .before .before .before .before .before .before .before .place-member .ensures .bit, omega (arith, c .before .before .before .before .before .before .before .before .before .before .before .pre .0 .2, c .before .before .before .before .before .before .before .before .before .before .before .pre .0 .3, c .before .before .before .before .before .before .before .before .before .before .before .pre .1 .2, c .before .before .before .before .before .before .before .place-member .ensures .at)),
 )
 
--- src/lib.rt:262:1
 returns : tie.Need-returns
 returns c = search step-cut
 
--- src/lib.rt:262:1
 returns-2 : tie.Need-returns-2
 returns-2 c = search step-past
 
--- src/lib.rt:262:1
 returns-3 : tie.Need-returns-3
 returns-3 c = search step-here
 

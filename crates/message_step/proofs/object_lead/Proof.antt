@@ -8,15 +8,12 @@ use Rattle.message_step.proofs.object_lead.Tie as tie
 use Rattle.message_step.proofs.object_lead.Reads as reads
 use Rattle.message_step.proofs.object_lead.Lts as lts
 
--- src/lib.rt:209:9
 returns : tie.Need-returns
 returns c = (search lead-none, tt)
 
--- src/lib.rt:212:9
 returns-2 : tie.Need-returns-2
 returns-2 c = (search lead-inplace, search needs)
 
--- src/lib.rt:204:1
 returns-3 : tie.Need-returns-3
 returns-3 c = (search lead-offset, search needs)
 

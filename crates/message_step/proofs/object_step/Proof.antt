@@ -9,15 +9,12 @@ use Rattle.message_step.proofs.object_step.Reads as reads
 use Rattle.message_step.proofs.object_step.Lts as lts
 use Rattle.message_step.proofs.place_of.Reads as place-of-reads
 
--- src/lib.rt:86:9
 returns : tie.Need-returns
 returns c = search object-none
 
--- src/lib.rt:88:22
 place-of-requires : tie.Need-place-of-requires
 place-of-requires c κs = search needs
 
--- src/lib.rt:82:1
 returns-2 : tie.Need-returns-2
 returns-2 c = search object-there
 

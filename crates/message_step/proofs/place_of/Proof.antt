@@ -7,11 +7,9 @@ use Rattle.message_step.proofs.place_of.Tie as tie
 use Rattle.message_step.proofs.place_of.Reads as reads
 use Rattle.message_step.proofs.place_of.Lts as lts
 
--- src/lib.rt:77:9
 returns : tie.Need-returns
 returns c = search place-inplace
 
--- src/lib.rt:73:1
 returns-2 : tie.Need-returns-2
 returns-2 c = search place-offset
 

@@ -12,39 +12,30 @@ use Rattle.message_layout.proofs.bit_index.Reads as bit-index-reads
 use Rattle.message_step.proofs.reach_in.Reads as reach-in-reads
 use Rattle.wire.proofs.bit_in.Reads as bit-in-reads
 
--- src/lib.rt:51:9
 bit-byte-requires : tie.Need-bit-byte-requires
 bit-byte-requires c κs = search needs
 
--- src/lib.rt:53:9
 returns : tie.Need-returns
 returns c = search flag-past
 
--- src/lib.rt:55:24
 add-bit-in : tie.Need-add-bit-in
 add-bit-in c = search needs
 
--- src/lib.rt:55:36
 bit-index-requires : tie.Need-bit-index-requires
 bit-index-requires c κs = search needs
 
--- src/lib.rt:55:8
 bit-in-requires : tie.Need-bit-in-requires
 bit-in-requires c κs = search needs
 
--- src/lib.rt:56:9
 reach-in-requires : tie.Need-reach-in-requires
 reach-in-requires c κs = search needs
 
--- src/lib.rt:56:9
 returns-2 : tie.Need-returns-2
 returns-2 c = search flag-set
 
--- src/lib.rt:58:5
 reach-in-requires-2 : tie.Need-reach-in-requires-2
 reach-in-requires-2 c κs = search needs
 
--- src/lib.rt:47:1
 returns-3 : tie.Need-returns-3
 returns-3 c = search flag-clear
 

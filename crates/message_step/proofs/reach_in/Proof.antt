@@ -8,19 +8,15 @@ use Rattle.message_step.proofs.reach_in.Tie as tie
 use Rattle.message_step.proofs.reach_in.Reads as reads
 use Rattle.message_step.proofs.reach_in.Lts as lts
 
--- src/lib.rt:38:9
 returns : tie.Need-returns
 returns c = search in-past
 
--- src/lib.rt:40:8
 add-if2 : tie.Need-add-if2
 add-if2 c = search needs
 
--- src/lib.rt:41:9
 returns-2 : tie.Need-returns-2
 returns-2 c = search in-here
 
--- src/lib.rt:32:1
 returns-3 : tie.Need-returns-3
 returns-3 c = search in-cut
 

@@ -10,19 +10,15 @@ use Rattle.message_step.proofs.reach_of.Lts as lts
 use Rattle.message_step.proofs.reach_flagged.Reads as reach-flagged-reads
 use Rattle.message_step.proofs.reach_in.Reads as reach-in-reads
 
--- src/lib.rt:67:9
 reach-flagged-requires : tie.Need-reach-flagged-requires
 reach-flagged-requires c κs = search needs
 
--- src/lib.rt:67:9
 returns : tie.Need-returns
 returns c = search reach-flag
 
--- src/lib.rt:69:5
 reach-in-requires : tie.Need-reach-in-requires
 reach-in-requires c κs = search needs
 
--- src/lib.rt:62:1
 returns-2 : tie.Need-returns-2
 returns-2 c = search reach-plain
 

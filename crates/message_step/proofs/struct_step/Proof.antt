@@ -11,19 +11,15 @@ use Rattle.message_step.proofs.struct_step.Lts as lts
 use Rattle.message_layout.proofs.struct_ok.Reads as struct-ok-reads
 use Rattle.wire.proofs.index.Reads as index-reads
 
--- src/lib.rt:143:37
 index-requires : tie.Need-index-requires
 index-requires c κs = search needs
 
--- src/lib.rt:143:8
 struct-ok-requires : tie.Need-struct-ok-requires
 struct-ok-requires c κs = search (count-same, size-same, needs)
 
--- src/lib.rt:144:9
 returns : tie.Need-returns
 returns c = search struct-good
 
--- src/lib.rt:139:1
 returns-2 : tie.Need-returns-2
 returns-2 c = search struct-bad
 

@@ -7,11 +7,9 @@ use Rattle.message_step.proofs.times.Tie as tie
 use Rattle.message_step.proofs.times.Reads as reads
 use Rattle.message_step.proofs.times.Lts as lts
 
--- src/lib.rt:319:5
 mul-result : tie.Need-mul-result
 mul-result c = omega (arith, place-times (c .args .w) (c .args .i) (c .pre .0) (c .pre .1))
 
--- src/lib.rt:315:1
 returns : tie.Need-returns
 returns c = (refl, place-times (c .args .w) (c .args .i) (c .pre .0) (c .pre .1))
 

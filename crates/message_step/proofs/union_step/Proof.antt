@@ -11,27 +11,21 @@ use Rattle.schema.proofs.case_count.Reads as case-count-reads
 use Rattle.schema.proofs.union_case.Reads as union-case-reads
 use Rattle.message_step.proofs.place_of.Reads as place-of-reads
 
--- src/lib.rt:96:9
 returns : tie.Need-returns
 returns c = search union-none
 
--- src/lib.rt:99:13
 case-count-requires : tie.Need-case-count-requires
 case-count-requires c κs = search needs
 
--- src/lib.rt:100:32
 union-case-requires : tie.Need-union-case-requires
 union-case-requires c κs = search needs
 
--- src/lib.rt:100:66
 place-of-requires : tie.Need-place-of-requires
 place-of-requires c κs = search needs
 
--- src/lib.rt:100:9
 returns-2 : tie.Need-returns-2
 returns-2 c = search union-known
 
--- src/lib.rt:91:1
 returns-3 : tie.Need-returns-3
 returns-3 c = search union-unknown
 

@@ -15,63 +15,48 @@ use Rattle.wire.proofs.index.Reads as index-reads
 use Rattle.wire.proofs.u16_in.Reads as u16-in-reads
 use Rattle.wire.proofs.u48_in.Reads as u48-in-reads
 
--- src/lib.rt:170:22
 enum-known-k : tie.Need-enum-known-k
 enum-known-k c = search needs
 
--- src/lib.rt:170:28
 flat-step-requires : tie.Need-flat-step-requires
 flat-step-requires c κs = search (flat-sound, flat-there, needs)
 
--- src/lib.rt:171:24
 enum-known-k-2 : tie.Need-enum-known-k-2
 enum-known-k-2 c = search needs
 
--- src/lib.rt:171:62
 u48-in-requires : tie.Need-u48-in-requires
 u48-in-requires c κs = search object-there
 
--- src/lib.rt:171:31
 object-step-requires : tie.Need-object-step-requires
 object-step-requires c κs = search needs
 
--- src/lib.rt:172:23
 enum-known-k-3 : tie.Need-enum-known-k-3
 enum-known-k-3 c = search needs
 
--- src/lib.rt:175:13
 index-requires : tie.Need-index-requires
 index-requires c κs = search needs
 
--- src/lib.rt:178:13
 u16-in-requires : tie.Need-u16-in-requires
 u16-in-requires c κs = search choice-there
 
--- src/lib.rt:178:13
 cast-union-step : tie.Need-cast-union-step
 cast-union-step c = search needs
 
--- src/lib.rt:179:29
 add-u48-in : tie.Need-add-u48-in
 add-u48-in c = search needs
 
--- src/lib.rt:179:13
 u48-in-requires-2 : tie.Need-u48-in-requires-2
 u48-in-requires-2 c κs = search offset-there
 
--- src/lib.rt:172:29
 union-step-requires : tie.Need-union-step-requires
 union-step-requires c κs = search (union-counted, needs)
 
--- src/lib.rt:164:1
 returns : tie.Need-returns
 returns c = search value-flat
 
--- src/lib.rt:164:1
 returns-2 : tie.Need-returns-2
 returns-2 c = search value-object
 
--- src/lib.rt:164:1
 returns-3 : tie.Need-returns-3
 returns-3 c = search value-union
 

@@ -7,15 +7,12 @@ use Rattle.scalgo.proofs.scalgo_judge.Reads as reads
 use Rattle.scalgo.proofs.scalgo_judge.Lts as lts
 use Rattle.judge.proofs.judge.Reads as judge-reads
 
--- src/lib.rt:20:9
 judge-requires : tie.Need-judge-requires
 judge-requires c κs = search needs
 
--- src/lib.rt:23:5
 cast-result : tie.Need-cast-result
 cast-result c = search needs
 
--- src/lib.rt:8:1
 returns : tie.Need-returns
 returns c = (
   ap (λ (v : Verdict). v .number) (c .before .judge .ensures),

@@ -7,19 +7,15 @@ use Rattle.sheet_values.proofs.all_bits.Lts as lts
 use Rattle.sheet_values.proofs.four_bits.Reads as four-bits-reads
 use Rattle.sheet_values.proofs.pair.Reads as pair-reads
 
--- src/lib.rt:186:10
 four-bits-requires : tie.Need-four-bits-requires
 four-bits-requires c κs = search needs
 
--- src/lib.rt:186:27
 four-bits-requires-2 : tie.Need-four-bits-requires-2
 four-bits-requires-2 c κs = search needs
 
--- src/lib.rt:186:5
 pair-requires : tie.Need-pair-requires
 pair-requires c κs = search needs
 
--- src/lib.rt:183:1
 returns : tie.Need-returns
 returns c = (search bits-eight, search needs)
 

@@ -8,31 +8,24 @@ use Rattle.sheet_values.proofs.all_bits.Reads as all-bits-reads
 use Rattle.sheet_values.proofs.pair.Reads as pair-reads
 use Rattle.wire.proofs.byte.Reads as byte-reads
 
--- src/lib.rt:194:19
 byte-requires : tie.Need-byte-requires
 byte-requires c κs = search needs
 
--- src/lib.rt:194:10
 all-bits-requires : tie.Need-all-bits-requires
 all-bits-requires c κs = search needs
 
--- src/lib.rt:194:62
 add-byte : tie.Need-add-byte
 add-byte c = search needs
 
--- src/lib.rt:194:48
 byte-requires-2 : tie.Need-byte-requires-2
 byte-requires-2 c κs = search needs
 
--- src/lib.rt:194:39
 all-bits-requires-2 : tie.Need-all-bits-requires-2
 all-bits-requires-2 c κs = search needs
 
--- src/lib.rt:194:5
 pair-requires : tie.Need-pair-requires
 pair-requires c κs = search needs
 
--- src/lib.rt:190:1
 returns : tie.Need-returns
 returns c = (search bools-two, search needs)
 

@@ -7,23 +7,18 @@ use Rattle.sheet_values.proofs.bools_64.Lts as lts
 use Rattle.sheet_values.proofs.bools_32.Reads as bools-32-reads
 use Rattle.sheet_values.proofs.pair.Reads as pair-reads
 
--- src/lib.rt:208:10
 bools-32-requires : tie.Need-bools-32-requires
 bools-32-requires c κs = search needs
 
--- src/lib.rt:208:39
 add-bools-32 : tie.Need-add-bools-32
 add-bools-32 c = search needs
 
--- src/lib.rt:208:27
 bools-32-requires-2 : tie.Need-bools-32-requires-2
 bools-32-requires-2 c κs = search needs
 
--- src/lib.rt:208:5
 pair-requires : tie.Need-pair-requires
 pair-requires c κs = search needs
 
--- src/lib.rt:204:1
 returns : tie.Need-returns
 returns c = search bools-eight
 

@@ -5,15 +5,12 @@ use Rattle.sheet_values.proofs.counted.Tie as tie
 use Rattle.sheet_values.proofs.counted.Reads as reads
 use Rattle.sheet_values.proofs.counted.Lts as lts
 
--- src/lib.rt:24:15
 add-end : tie.Need-add-end
 add-end c = search needs
 
--- src/lib.rt:26:9
 returns : tie.Need-returns
 returns c = search count-over
 
--- src/lib.rt:20:1
 returns-2 : tie.Need-returns-2
 returns-2 c = search count-in
 

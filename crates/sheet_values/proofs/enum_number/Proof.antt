@@ -7,31 +7,24 @@ use Rattle.sheet_values.proofs.enum_number.Lts as lts
 use Rattle.bits.proofs.append.Reads as append-reads
 use Rattle.wire.proofs.wide.Reads as wide-reads
 
--- src/lib.rt:415:9
 returns : tie.Need-returns
 returns c = (search number-none, search number-some)
 
--- src/lib.rt:418:35
 wide-requires : tie.Need-wide-requires
 wide-requires c κs = search needs
 
--- src/lib.rt:418:9
 append-requires : tie.Need-append-requires
 append-requires c κs = search needs
 
--- src/lib.rt:418:9
 returns-2 : tie.Need-returns-2
 returns-2 c = (search number-known, search known-small)
 
--- src/lib.rt:420:24
 wide-requires-2 : tie.Need-wide-requires-2
 wide-requires-2 c κs = search needs
 
--- src/lib.rt:420:5
 append-requires-2 : tie.Need-append-requires-2
 append-requires-2 c κs = search needs
 
--- src/lib.rt:411:1
 returns-3 : tie.Need-returns-3
 returns-3 c = (search number-unknown, search unknown-small)
 

@@ -3,11 +3,9 @@ use Rattle.sheet_values.proofs.Elements.{enum-size-none, enum-size-valu
 use Rattle.sheet_values.proofs.enum_value.Statement.{statement}
 use Rattle.sheet_values.proofs.enum_value.Tie as tie
 
--- src/lib.rt:313:9
 returns : tie.Need-returns
 returns c = (λ k. search enum-size-none, omega arith)
 
--- src/lib.rt:309:1
 returns-2 : tie.Need-returns-2
 returns-2 c = (λ k. search enum-size-value, omega arith)
 

@@ -5,11 +5,9 @@ use Rattle.sheet_values.proofs.enum_width.Tie as tie
 use Rattle.sheet_values.proofs.enum_width.Reads as reads
 use Rattle.sheet_values.proofs.enum_width.Lts as lts
 
--- src/lib.rt:405:1
 returns : tie.Need-returns
 returns c = (search width-none, omega arith)
 
--- src/lib.rt:405:1
 returns-2 : tie.Need-returns-2
 returns-2 c = (search width-value, omega arith)
 

@@ -15,51 +15,39 @@ Inv-loop m at n values₀ from₀ left₀ values from left =
 abbrev μ-loop : tie.MeasureT-loop
 μ-loop m at n values₀ from₀ left₀ values from left = left
 
--- src/lib.rt:326:5
 loop-holds : tie.Need-loop-holds Inv-loop μ-loop
 loop-holds c = (omega arith, omega arith, omega arith, λ k. omega arith)
 
--- src/lib.rt:327:30
 byte-requires : tie.Need-byte-requires Inv-loop μ-loop
 byte-requires c κs = search needs
 
--- src/lib.rt:327:19
 enum-value-requires : tie.Need-enum-value-requires Inv-loop μ-loop
 enum-value-requires c κs = search needs
 
--- src/lib.rt:327:9
 add-values : tie.Need-add-values Inv-loop μ-loop
 add-values c = search needs
 
--- src/lib.rt:328:9
 add-from : tie.Need-add-from Inv-loop μ-loop
 add-from c = search needs
 
--- src/lib.rt:329:9
 sub-left : tie.Need-sub-left Inv-loop μ-loop
 sub-left c = search needs
 
--- src/lib.rt:326:5
 loop-less : tie.Need-loop-less Inv-loop μ-loop
 loop-less c = search needs
 
--- src/lib.rt:326:5
 loop-again : tie.Need-loop-again Inv-loop μ-loop
 loop-again c = (omega arith, omega arith, omega arith, λ k. search (enums-count, c .before .before .before .loop .inv .3 k, c .before .before .before .loop .inv .1, c .before .before .loop-test .taken, c .before .byte .ensures, c .enum-value .ensures .0 k))
 
--- src/lib.rt:331:5
 mul-result : tie.Need-mul-result Inv-loop μ-loop
 mul-result c = search needs
 
--- src/lib.rt:331:13
 mul-result-2 : tie.Need-mul-result-2 Inv-loop μ-loop
 mul-result-2 c = search needs
 
--- src/lib.rt:331:5
 add-result : tie.Need-add-result Inv-loop μ-loop
 add-result c = search needs
 
--- src/lib.rt:319:1
 returns : tie.Need-returns Inv-loop μ-loop
 returns c = (λ k. search (enums-counted, c .before .loop .inv .3 k, c .loop-test .left), omega arith)
 

@@ -4,15 +4,12 @@ use borrow.Author.Needs.{needs}
 use Rattle.sheet_values.proofs.float_value.Statement.{statement}
 use Rattle.sheet_values.proofs.float_value.Tie as tie
 
--- src/lib.rt:262:8
 is-nan-requires : tie.Need-is-nan-requires
 is-nan-requires c κs = search needs
 
--- src/lib.rt:263:9
 returns : tie.Need-returns
 returns c = (search float-size-none, omega arith)
 
--- src/lib.rt:259:1
 returns-2 : tie.Need-returns-2
 returns-2 c = (search float-size-value, omega arith)
 

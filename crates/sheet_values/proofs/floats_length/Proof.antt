@@ -3,19 +3,15 @@ use borrow.Author.Needs.{needs}
 use Rattle.sheet_values.proofs.floats_length.Statement.{statement}
 use Rattle.sheet_values.proofs.floats_length.Tie as tie
 
--- src/lib.rt:361:9
 floats-size-requires : tie.Need-floats-size-requires
 floats-size-requires c κs = search needs
 
--- src/lib.rt:361:9
 returns : tie.Need-returns
 returns c = (search floats-length, search needs)
 
--- src/lib.rt:363:5
 floats-size-requires-2 : tie.Need-floats-size-requires-2
 floats-size-requires-2 c κs = search needs
 
--- src/lib.rt:356:1
 returns-2 : tie.Need-returns-2
 returns-2 c = (search (floats-length, float-wide), search needs)
 

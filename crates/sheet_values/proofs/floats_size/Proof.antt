@@ -15,63 +15,48 @@ Inv-loop m w at n values₀ from₀ left₀ values from left =
 abbrev μ-loop : tie.MeasureT-loop
 μ-loop m w at n values₀ from₀ left₀ values from left = left
 
--- src/lib.rt:276:5
 loop-holds : tie.Need-loop-holds Inv-loop μ-loop
 loop-holds c = (omega arith, omega arith, omega arith, omega arith)
 
--- src/lib.rt:277:56
 index-requires : tie.Need-index-requires Inv-loop μ-loop
 index-requires c κs = search needs
 
--- src/lib.rt:277:34
 number-requires : tie.Need-number-requires Inv-loop μ-loop
 number-requires c κs = search needs
 
--- src/lib.rt:277:19
 float-value-requires : tie.Need-float-value-requires Inv-loop μ-loop
 float-value-requires c κs = search needs
 
--- src/lib.rt:277:9
 add-values : tie.Need-add-values Inv-loop μ-loop
 add-values c = search needs
 
--- src/lib.rt:278:17
 index-requires-2 : tie.Need-index-requires-2 Inv-loop μ-loop
 index-requires-2 c κs = search needs
 
--- src/lib.rt:278:9
 add-from : tie.Need-add-from Inv-loop μ-loop
 add-from c = search needs
 
--- src/lib.rt:279:9
 sub-left : tie.Need-sub-left Inv-loop μ-loop
 sub-left c = search needs
 
--- src/lib.rt:276:5
 loop-less : tie.Need-loop-less Inv-loop μ-loop
 loop-less c = search needs
 
--- src/lib.rt:276:5
 loop-again : tie.Need-loop-again Inv-loop μ-loop
 loop-again c = (omega arith, omega arith, omega arith, search (floats-count, c .before .before .before .before .before .loop .inv .3, c .before .before .before .before .before .loop .inv .1, c .before .before .before .before .loop-test .taken, c .before .before .before .index .ensures .0, c .index2 .ensures .0, c .before .before .number .ensures, c .before .float-value .ensures .0))
 
--- src/lib.rt:281:5
 mul-result : tie.Need-mul-result Inv-loop μ-loop
 mul-result c = search needs
 
--- src/lib.rt:281:26
 index-requires-3 : tie.Need-index-requires-3 Inv-loop μ-loop
 index-requires-3 c κs = search needs
 
--- src/lib.rt:281:13
 numbers-size-requires : tie.Need-numbers-size-requires Inv-loop μ-loop
 numbers-size-requires c κs = search needs
 
--- src/lib.rt:281:5
 add-result : tie.Need-add-result Inv-loop μ-loop
 add-result c = search needs
 
--- src/lib.rt:269:1
 returns : tie.Need-returns Inv-loop μ-loop
 returns c = (search floats-counted, omega arith)
 

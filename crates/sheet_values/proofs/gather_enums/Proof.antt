@@ -19,43 +19,33 @@ Inv-loop m k at n v₀ w₀ j₀ v w j = (j ≤ n) × (w ≤ 10 * j) × (v < 2 ^
 abbrev μ-loop : tie.MeasureT-loop
 μ-loop m k at n v₀ w₀ j₀ v w j = n - j
 
--- src/lib.rt:437:5
 loop-holds : tie.Need-loop-holds Inv-loop μ-loop
 loop-holds c = (omega arith, omega arith, omega arith, search enums-start)
 
--- src/lib.rt:438:31
 add-byte : tie.Need-add-byte Inv-loop μ-loop
 add-byte c = search needs
 
--- src/lib.rt:438:13
 byte-requires : tie.Need-byte-requires Inv-loop μ-loop
 byte-requires c κs = search needs
 
--- src/lib.rt:439:13
 enum-width-requires : tie.Need-enum-width-requires Inv-loop μ-loop
 enum-width-requires c κs = search needs
 
--- src/lib.rt:440:13
 shl-v : tie.Need-shl-v Inv-loop μ-loop
 shl-v c = search needs
 
--- src/lib.rt:440:22
 enum-number-requires : tie.Need-enum-number-requires Inv-loop μ-loop
 enum-number-requires c κs = search needs
 
--- src/lib.rt:441:9
 add-w : tie.Need-add-w Inv-loop μ-loop
 add-w c = search needs
 
--- src/lib.rt:442:9
 add-j : tie.Need-add-j Inv-loop μ-loop
 add-j c = search needs
 
--- src/lib.rt:437:5
 loop-less : tie.Need-loop-less Inv-loop μ-loop
 loop-less c = search needs
 
--- src/lib.rt:437:5
 loop-again : tie.Need-loop-again Inv-loop μ-loop
 loop-again c =
     let l = c .before .before .before .before .loop in
@@ -67,7 +57,6 @@ loop-again c =
       enums-join (l .j) _ _ _ _ _ few (l .inv .2) (e .0) (c .enum-number .ensures .1) _ _ _ (l .inv .3) (c .before .before .byte .ensures) (c .enum-number .ensures .0),
     )
 
--- src/lib.rt:430:1
 returns : tie.Need-returns Inv-loop μ-loop
 returns c = (search enums-gathered, omega arith)
 

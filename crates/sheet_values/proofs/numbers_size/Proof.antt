@@ -7,15 +7,12 @@ use Rattle.sheet_values.proofs.numbers_size.Tie as tie
 use Rattle.sheet_values.proofs.numbers_size.Reads as reads
 use Rattle.sheet_values.proofs.numbers_size.Lts as lts
 
--- src/lib.rt:149:5
 mul-result : tie.Need-mul-result
 mul-result c = search needs
 
--- src/lib.rt:149:5
 mul-result-2 : tie.Need-mul-result-2
 mul-result-2 c = omega (arith, numbers-most (c .args .w) (c .args .n) (c .pre .0) (c .pre .1))
 
--- src/lib.rt:145:1
 returns : tie.Need-returns
 returns c = (refl, numbers-most (c .args .w) (c .args .n) (c .pre .0) (c .pre .1))
 

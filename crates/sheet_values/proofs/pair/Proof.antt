@@ -3,11 +3,9 @@ use borrow.Author.Needs.{needs}
 use Rattle.sheet_values.proofs.pair.Statement.{statement}
 use Rattle.sheet_values.proofs.pair.Tie as tie
 
--- src/lib.rt:86:5
 shl-result : tie.Need-shl-result
 shl-result c = search needs
 
--- src/lib.rt:82:1
 returns : tie.Need-returns
 returns c = (search pair-is, search pair-small)
 

@@ -8,39 +8,30 @@ use Rattle.bitio.proofs.write_bytes.Reads as write-bytes-reads
 use Rattle.sheet_values.proofs.number64.Reads as number64-reads
 use Rattle.sheet_values.proofs.put_marked.Reads as put-marked-reads
 
--- src/lib.rt:326:43
 number64-requires : tie.Need-number64-requires
 number64-requires c κs = search needs
 
--- src/lib.rt:326:9
 put-marked-requires : tie.Need-put-marked-requires
 put-marked-requires c κs = search needs
 
--- src/lib.rt:327:39
 add-write-bytes : tie.Need-add-write-bytes
 add-write-bytes c = search needs
 
--- src/lib.rt:327:32
 sub-write-bytes : tie.Need-sub-write-bytes
 sub-write-bytes c = search needs
 
--- src/lib.rt:327:32
 part-write-bytes-start : tie.Need-part-write-bytes-start
 part-write-bytes-start c = search needs
 
--- src/lib.rt:327:32
 part-write-bytes-end : tie.Need-part-write-bytes-end
 part-write-bytes-end c = search needs
 
--- src/lib.rt:327:5
 write-bytes-requires : tie.Need-write-bytes-requires
 write-bytes-requires c κs = search needs
 
--- src/lib.rt:321:1
 same-length : tie.Need-same-length
 same-length c = search needs
 
--- src/lib.rt:321:1
 returns : tie.Need-returns
 returns c = search blob-marked
 

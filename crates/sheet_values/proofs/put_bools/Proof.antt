@@ -24,67 +24,51 @@ Inv-loop m out₀ pos start n end k p₀ i₀ out p i =
 abbrev μ-loop : tie.MeasureT-loop
 μ-loop m out₀ pos start n end k p₀ i₀ out p i = n - i
 
--- src/lib.rt:236:15
 add-end : tie.Need-add-end Inv-loop μ-loop
 add-end c = search needs
 
--- src/lib.rt:238:9
 returns : tie.Need-returns Inv-loop μ-loop
 returns c = search bools-over
 
--- src/lib.rt:240:8
 mul-if2 : tie.Need-mul-if2 Inv-loop μ-loop
 mul-if2 c = search needs
 
--- src/lib.rt:241:9
 returns-2 : tie.Need-returns-2 Inv-loop μ-loop
 returns-2 c = search bools-not
 
--- src/lib.rt:244:9
 store-bools-requires : tie.Need-store-bools-requires Inv-loop μ-loop
 store-bools-requires c κs = ((search needs, omega arith), search needs)
 
--- src/lib.rt:245:17
 mul-i : tie.Need-mul-i Inv-loop μ-loop
 mul-i c = search needs
 
--- src/lib.rt:246:5
 loop-holds : tie.Need-loop-holds Inv-loop μ-loop
 loop-holds c = (search room-next, omega arith, refl, remaining-all _ _ _ _ refl)
 
--- src/lib.rt:247:26
 sub-gathered : tie.Need-sub-gathered Inv-loop μ-loop
 sub-gathered c = search needs
 
--- src/lib.rt:247:13
 gathered-requires : tie.Need-gathered-requires Inv-loop μ-loop
 gathered-requires c κs = search needs
 
--- src/lib.rt:248:37
 gather-requires : tie.Need-gather-requires Inv-loop μ-loop
 gather-requires c κs = search needs
 
--- src/lib.rt:248:9
 write-requires : tie.Need-write-requires Inv-loop μ-loop
 write-requires c κs = search needs
 
--- src/lib.rt:249:9
 add-i : tie.Need-add-i Inv-loop μ-loop
 add-i c = search needs
 
--- src/lib.rt:246:5
 loop-less : tie.Need-loop-less Inv-loop μ-loop
 loop-less c = search needs
 
--- src/lib.rt:246:5
 loop-again : tie.Need-loop-again Inv-loop μ-loop
 loop-again c = (search room-next, omega arith, omega arith, search (bools-turn, c .before .before .before .before .before .before .before .loop .inv .3, c .before .before .before .before .before .before .before .loop .inv .0, c .before .before .before .before .before .before .loop-test .taken, c .before .before .before .before .before .gathered .ensures .1, c .before .before .before .gather .ensures, c .before .before .write .ensures))
 
--- src/lib.rt:231:1
 same-length : tie.Need-same-length Inv-loop μ-loop
 same-length c = search needs
 
--- src/lib.rt:231:1
 returns-3 : tie.Need-returns-3 Inv-loop μ-loop
 returns-3 c = bools-all _ _ _ _ _ _ _ _ _ _ _ (search needs) (omega arith) (c .before .before .before .before .store-bools .ensures) (c .before .loop .inv .3) (c .before .loop .inv .0) (search needs)
 

@@ -25,63 +25,48 @@ Inv-loop m out₀ pos k at n end p₀ from₀ left₀ out p from left =
 abbrev μ-loop : tie.MeasureT-loop
 μ-loop m out₀ pos k at n end p₀ from₀ left₀ out p from left = left
 
--- src/lib.rt:453:21
 enums-size-requires : tie.Need-enums-size-requires Inv-loop μ-loop
 enums-size-requires c κs = search needs
 
--- src/lib.rt:453:15
 add-end : tie.Need-add-end Inv-loop μ-loop
 add-end c = search needs
 
--- src/lib.rt:455:9
 returns : tie.Need-returns Inv-loop μ-loop
 returns c = search (run-over, c .before .enums-size .ensures .0 (c .before .before .before .before .args .k))
 
--- src/lib.rt:457:8
 mul-if2 : tie.Need-mul-if2 Inv-loop μ-loop
 mul-if2 c = search needs
 
--- src/lib.rt:458:9
 returns-2 : tie.Need-returns-2 Inv-loop μ-loop
 returns-2 c = search (run-not, c .before .before .enums-size .ensures .0 (c .before .before .before .before .before .args .k))
 
--- src/lib.rt:463:5
 loop-holds : tie.Need-loop-holds Inv-loop μ-loop
 loop-holds c = (search needs, omega arith, omega arith, refl, search (remaining-all, refl))
 
--- src/lib.rt:464:13
 gathered-requires : tie.Need-gathered-requires Inv-loop μ-loop
 gathered-requires c κs = search needs
 
--- src/lib.rt:465:13
 gather-enums-requires : tie.Need-gather-enums-requires Inv-loop μ-loop
 gather-enums-requires c κs = search needs
 
--- src/lib.rt:466:9
 write-requires : tie.Need-write-requires Inv-loop μ-loop
 write-requires c κs = search needs
 
--- src/lib.rt:467:9
 add-from : tie.Need-add-from Inv-loop μ-loop
 add-from c = search needs
 
--- src/lib.rt:468:9
 sub-left : tie.Need-sub-left Inv-loop μ-loop
 sub-left c = search needs
 
--- src/lib.rt:463:5
 loop-less : tie.Need-loop-less Inv-loop μ-loop
 loop-less c = search needs
 
--- src/lib.rt:463:5
 loop-again : tie.Need-loop-again Inv-loop μ-loop
 loop-again c = (search room-next, omega arith, omega arith, omega arith, enums-turn _ _ _ _ _ _ _ _ _ _ _ _ _ _ (c .before .before .before .before .before .before .before .loop .inv .4) (c .before .before .before .before .before .before .before .loop .inv .0) (c .before .before .before .before .before .gathered .ensures .1) (c .before .before .before .before .gather-enums .ensures .0) (c .before .before .write .ensures))
 
--- src/lib.rt:448:1
 same-length : tie.Need-same-length Inv-loop μ-loop
 same-length c = search needs
 
--- src/lib.rt:448:1
 returns-3 : tie.Need-returns-3 Inv-loop μ-loop
 returns-3 c = search (remaining-done, enums-none)
 

@@ -6,47 +6,36 @@ use borrow.Author.Needs.{needs}
 use Rattle.sheet_values.proofs.put_floats.Statement.{statement}
 use Rattle.sheet_values.proofs.put_floats.Tie as tie
 
--- src/lib.rt:406:21
 floats-length-requires : tie.Need-floats-length-requires
 floats-length-requires c κs = search needs
 
--- src/lib.rt:406:15
 add-end : tie.Need-add-end
 add-end c = search needs
 
--- src/lib.rt:408:9
 returns : tie.Need-returns
 returns c = search run-over
 
--- src/lib.rt:410:8
 mul-if2 : tie.Need-mul-if2
 mul-if2 c = search needs
 
--- src/lib.rt:411:9
 returns-2 : tie.Need-returns-2
 returns-2 c = search run-not
 
--- src/lib.rt:414:9
 store-floats-requires : tie.Need-store-floats-requires
 store-floats-requires c κs = ((search needs, search floats-fit), (inl refl, search needs, search needs))
 
--- src/lib.rt:414:9
 same-length : tie.Need-same-length
 same-length c = search needs
 
--- src/lib.rt:414:9
 returns-3 : tie.Need-returns-3
 returns-3 c = search floats-put
 
--- src/lib.rt:416:5
 store-floats-requires-2 : tie.Need-store-floats-requires-2
 store-floats-requires-2 c κs = ((search needs, search (floats-fit, float-wide)), (inr refl, search needs, search needs))
 
--- src/lib.rt:401:1
 same-length-2 : tie.Need-same-length-2
 same-length-2 c = search needs
 
--- src/lib.rt:401:1
 returns-4 : tie.Need-returns-4
 returns-4 c = search (floats-put, float-wide)
 

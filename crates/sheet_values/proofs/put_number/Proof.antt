@@ -3,43 +3,33 @@ use borrow.Author.Needs.{needs}
 use Rattle.sheet_values.proofs.put_number.Statement.{statement}
 use Rattle.sheet_values.proofs.put_number.Tie as tie
 
--- src/lib.rt:68:39
 mul-write : tie.Need-mul-write
 mul-write c = search needs
 
--- src/lib.rt:68:46
 number-requires : tie.Need-number-requires
 number-requires c κs = search needs
 
--- src/lib.rt:68:9
 write-requires : tie.Need-write-requires
 write-requires c κs = search needs
 
--- src/lib.rt:68:9
 same-length : tie.Need-same-length
 same-length c = search needs
 
--- src/lib.rt:68:9
 returns : tie.Need-returns
 returns c = search number-puts
 
--- src/lib.rt:70:33
 mul-write-wide : tie.Need-mul-write-wide
 mul-write-wide c = search needs
 
--- src/lib.rt:70:40
 number-requires-2 : tie.Need-number-requires-2
 number-requires-2 c κs = search needs
 
--- src/lib.rt:70:5
 write-wide-requires : tie.Need-write-wide-requires
 write-wide-requires c κs = search needs
 
--- src/lib.rt:62:1
 same-length-2 : tie.Need-same-length-2
 same-length-2 c = search needs
 
--- src/lib.rt:62:1
 returns-2 : tie.Need-returns-2
 returns-2 c = search number-puts
 

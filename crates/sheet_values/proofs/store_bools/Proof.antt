@@ -23,43 +23,33 @@ Inv-loop m out₀ pos start k p₀ at₀ left₀ out p at left =
 abbrev μ-loop : tie.MeasureT-loop
 μ-loop m out₀ pos start k p₀ at₀ left₀ out p at left = left
 
--- src/lib.rt:221:5
 loop-holds : tie.Need-loop-holds Inv-loop μ-loop
 loop-holds c = (search needs, search needs, refl, omega arith, refl, search words-start)
 
--- src/lib.rt:222:34
 bools-64-requires : tie.Need-bools-64-requires Inv-loop μ-loop
 bools-64-requires c κs = search needs
 
--- src/lib.rt:222:9
 put-eight-requires : tie.Need-put-eight-requires Inv-loop μ-loop
 put-eight-requires c κs = search needs
 
--- src/lib.rt:223:9
 add-p : tie.Need-add-p Inv-loop μ-loop
 add-p c = search needs
 
--- src/lib.rt:224:9
 add-at : tie.Need-add-at Inv-loop μ-loop
 add-at c = search needs
 
--- src/lib.rt:225:9
 sub-left : tie.Need-sub-left Inv-loop μ-loop
 sub-left c = search needs
 
--- src/lib.rt:221:5
 loop-less : tie.Need-loop-less Inv-loop μ-loop
 loop-less c = search needs
 
--- src/lib.rt:221:5
 loop-again : tie.Need-loop-again Inv-loop μ-loop
 loop-again c = (search words-room, omega arith, omega arith, omega arith, omega arith, search words-turn)
 
--- src/lib.rt:212:1
 same-length : tie.Need-same-length Inv-loop μ-loop
 same-length c = search needs
 
--- src/lib.rt:212:1
 returns : tie.Need-returns Inv-loop μ-loop
 returns c = search words-done
 

@@ -18,35 +18,27 @@ Inv-loop m out₀ pos w at n p₀ from₀ left₀ out p from left =
 abbrev μ-loop : tie.MeasureT-loop
 μ-loop m out₀ pos w at n p₀ from₀ left₀ out p from left = left
 
--- src/lib.rt:156:5
 loop-holds : tie.Need-loop-holds Inv-loop μ-loop
 loop-holds c = (search needs, omega arith, omega arith, refl, search (remaining-all, refl))
 
--- src/lib.rt:157:9
 put-number-requires : tie.Need-put-number-requires Inv-loop μ-loop
 put-number-requires c κs = search needs
 
--- src/lib.rt:158:9
 add-from : tie.Need-add-from Inv-loop μ-loop
 add-from c = search needs
 
--- src/lib.rt:159:9
 sub-left : tie.Need-sub-left Inv-loop μ-loop
 sub-left c = search needs
 
--- src/lib.rt:156:5
 loop-less : tie.Need-loop-less Inv-loop μ-loop
 loop-less c = search needs
 
--- src/lib.rt:156:5
 loop-again : tie.Need-loop-again Inv-loop μ-loop
 loop-again c = (search room-next, omega arith, omega arith, omega arith, search numbers-turn)
 
--- src/lib.rt:148:1
 same-length : tie.Need-same-length Inv-loop μ-loop
 same-length c = search needs
 
--- src/lib.rt:148:1
 returns : tie.Need-returns Inv-loop μ-loop
 returns c = search (remaining-done, numbers-none)
 

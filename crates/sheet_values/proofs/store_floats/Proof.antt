@@ -19,39 +19,30 @@ Inv-loop m out₀ pos w at n p₀ from₀ left₀ out p from left =
 abbrev μ-loop : tie.MeasureT-loop
 μ-loop m out₀ pos w at n p₀ from₀ left₀ out p from left = left
 
--- src/lib.rt:392:5
 loop-holds : tie.Need-loop-holds Inv-loop μ-loop
 loop-holds c = (search needs, search needs, search float-most, omega arith, omega arith, refl, search (remaining-all, refl))
 
--- src/lib.rt:393:56
 index-requires : tie.Need-index-requires Inv-loop μ-loop
 index-requires c κs = search needs
 
--- src/lib.rt:393:34
 number-requires : tie.Need-number-requires Inv-loop μ-loop
 number-requires c κs = search needs
 
--- src/lib.rt:393:9
 store-float-requires : tie.Need-store-float-requires Inv-loop μ-loop
 store-float-requires c κs = ((search needs, search floats-first), search needs)
 
--- src/lib.rt:394:17
 index-requires-2 : tie.Need-index-requires-2 Inv-loop μ-loop
 index-requires-2 c κs = search needs
 
--- src/lib.rt:394:9
 add-from : tie.Need-add-from Inv-loop μ-loop
 add-from c = search needs
 
--- src/lib.rt:395:9
 sub-left : tie.Need-sub-left Inv-loop μ-loop
 sub-left c = search needs
 
--- src/lib.rt:392:5
 loop-less : tie.Need-loop-less Inv-loop μ-loop
 loop-less c = search needs
 
--- src/lib.rt:392:5
 loop-again : tie.Need-loop-again Inv-loop μ-loop
 loop-again c =
     let inv = c .before .before .before .before .before .before .before .before .loop .inv in
@@ -69,11 +60,9 @@ loop-again c =
       search (floats-turn, inv .6, inv .0, more, i, j, x, put),
     )
 
--- src/lib.rt:384:1
 same-length : tie.Need-same-length Inv-loop μ-loop
 same-length c = search needs
 
--- src/lib.rt:384:1
 returns : tie.Need-returns Inv-loop μ-loop
 returns c = search (remaining-done, floats-none)
 

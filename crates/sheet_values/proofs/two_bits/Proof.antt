@@ -7,23 +7,18 @@ use Rattle.sheet_values.proofs.two_bits.Lts as lts
 use Rattle.sheet_values.proofs.pair.Reads as pair-reads
 use Rattle.wire.proofs.bit_value.Reads as bit-value-reads
 
--- src/lib.rt:173:10
 bit-value-requires : tie.Need-bit-value-requires
 bit-value-requires c κs = search needs
 
--- src/lib.rt:173:52
 add-bit-value : tie.Need-add-bit-value
 add-bit-value c = search needs
 
--- src/lib.rt:173:33
 bit-value-requires-2 : tie.Need-bit-value-requires-2
 bit-value-requires-2 c κs = search needs
 
--- src/lib.rt:173:5
 pair-requires : tie.Need-pair-requires
 pair-requires c κs = search needs
 
--- src/lib.rt:169:1
 returns : tie.Need-returns
 returns c = (search bits-two, search needs)
 

@@ -3,75 +3,57 @@ use borrow.Author.Needs.{needs}
 use Rattle.sheet_values.proofs.word_of.Statement.{statement}
 use Rattle.sheet_values.proofs.word_of.Tie as tie
 
--- src/lib.rt:119:9
 number-requires : tie.Need-number-requires
 number-requires c κs = search needs
 
--- src/lib.rt:119:9
 returns : tie.Need-returns
 returns c = search word-one
 
--- src/lib.rt:122:21
 number-requires-2 : tie.Need-number-requires-2
 number-requires-2 c κs = search needs
 
--- src/lib.rt:122:61
 add-number : tie.Need-add-number
 add-number c = search needs
 
--- src/lib.rt:122:45
 number-requires-3 : tie.Need-number-requires-3
 number-requires-3 c κs = search needs
 
--- src/lib.rt:122:9
 pair-requires : tie.Need-pair-requires
 pair-requires c κs = search needs
 
--- src/lib.rt:122:9
 returns-2 : tie.Need-returns-2
 returns-2 c = search word-two
 
--- src/lib.rt:124:19
 number-requires-4 : tie.Need-number-requires-4
 number-requires-4 c κs = search needs
 
--- src/lib.rt:124:59
 add-number-2 : tie.Need-add-number-2
 add-number-2 c = search needs
 
--- src/lib.rt:124:43
 number-requires-5 : tie.Need-number-requires-5
 number-requires-5 c κs = search needs
 
--- src/lib.rt:124:9
 pair-requires-2 : tie.Need-pair-requires-2
 pair-requires-2 c κs = search needs
 
--- src/lib.rt:125:35
 add-number-3 : tie.Need-add-number-3
 add-number-3 c = search needs
 
--- src/lib.rt:125:19
 number-requires-6 : tie.Need-number-requires-6
 number-requires-6 c κs = search needs
 
--- src/lib.rt:125:63
 add-number-4 : tie.Need-add-number-4
 add-number-4 c = search needs
 
--- src/lib.rt:125:47
 number-requires-7 : tie.Need-number-requires-7
 number-requires-7 c κs = search needs
 
--- src/lib.rt:125:9
 pair-requires-3 : tie.Need-pair-requires-3
 pair-requires-3 c κs = search needs
 
--- src/lib.rt:126:5
 pair-requires-4 : tie.Need-pair-requires-4
 pair-requires-4 c κs = search needs
 
--- src/lib.rt:114:1
 returns-3 : tie.Need-returns-3
 returns-3 c = search word-four
 

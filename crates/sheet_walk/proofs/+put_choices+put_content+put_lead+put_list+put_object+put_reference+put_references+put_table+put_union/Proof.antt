@@ -255,50 +255,39 @@ put-choices-Inv-loop b dir m out₀ d u start n pos p₀ at₀ j₀ out p at j =
 abbrev put-choices-μ-loop : put-choices-lts.MeasureT-loop
 put-choices-μ-loop b dir m out₀ d u start n pos p₀ at₀ j₀ out p at j = n - j
 
--- src/lib.rt:803:5
 put-choices-loop-holds : (t : ℕ) → put-choices-lts.Need-loop-holds (put-choices-R t) (put-choices-at t) put-choices.Post put-choices-Inv-loop put-choices-μ-loop
 put-choices-loop-holds t c = (search needs, omega arith, refl, omega arith, search elements-readable, search elements-start)
 
--- src/lib.rt:805:13
 put-choices-same-length : (t : ℕ) → put-choices-lts.Need-same-length (put-choices-R t) (put-choices-at t) put-choices.Post put-choices-Inv-loop put-choices-μ-loop
 put-choices-same-length t c = search needs
 
--- src/lib.rt:805:13
 put-choices-returns : (t : ℕ) → put-choices-lts.Need-returns (put-choices-R t) (put-choices-at t) put-choices.Post put-choices-Inv-loop put-choices-μ-loop
 put-choices-returns t c = search remaining-over
 
--- src/lib.rt:807:17
 put-choices-u16-in-requires : (t : ℕ) → put-choices-lts.Need-u16-in-requires (put-choices-R t) (put-choices-at t) put-choices.Post put-choices-Inv-loop put-choices-μ-loop
 put-choices-u16-in-requires t c κs = search needs
 
--- src/lib.rt:808:33
 put-choices-add-u48-in : (t : ℕ) → put-choices-lts.Need-add-u48-in (put-choices-R t) (put-choices-at t) put-choices.Post put-choices-Inv-loop put-choices-μ-loop
 put-choices-add-u48-in t c = search needs
 
--- src/lib.rt:808:17
 put-choices-u48-in-requires : (t : ℕ) → put-choices-lts.Need-u48-in-requires (put-choices-R t) (put-choices-at t) put-choices.Post put-choices-Inv-loop put-choices-μ-loop
 put-choices-u48-in-requires t c κs = search needs
 
--- src/lib.rt:809:9
 put-choices-put-union-requires : (t : ℕ) → put-choices-lts.Need-put-union-requires (put-choices-R t) (put-choices-at t) put-choices.Post put-choices-Inv-loop put-choices-μ-loop
 put-choices-put-union-requires t c κs =
     let q = c .before .before .before .before .before .before .before .before .before .before .pre .1 in
     let inv = c .before .before .before .before .before .loop .inv in
     (omega (arith, c .before .before .before .before .before .before .before .before .before .before .pre .0), (inv .0, ((q .1 .0 .0, q .1 .0 .1, q .1 .0 .2), chosen-readable _ _ _ _ _ _ _ (c .before .before .before .before .loop-test .taken) (inv .4) _ _ _ (inv .3) (c .before .before .u16-in .ensures) (c .before .u48-in .ensures))))
 
--- src/lib.rt:810:9
 put-choices-add-at : (t : ℕ) → put-choices-lts.Need-add-at (put-choices-R t) (put-choices-at t) put-choices.Post put-choices-Inv-loop put-choices-μ-loop
 put-choices-add-at t c = search needs
 
--- src/lib.rt:811:9
 put-choices-add-j : (t : ℕ) → put-choices-lts.Need-add-j (put-choices-R t) (put-choices-at t) put-choices.Post put-choices-Inv-loop put-choices-μ-loop
 put-choices-add-j t c = search needs
 
--- src/lib.rt:803:5
 put-choices-loop-less : (t : ℕ) → put-choices-lts.Need-loop-less (put-choices-R t) (put-choices-at t) put-choices.Post put-choices-Inv-loop put-choices-μ-loop
 put-choices-loop-less t c = search needs
 
--- src/lib.rt:803:5
 put-choices-loop-again : (t : ℕ) → put-choices-lts.Need-loop-again (put-choices-R t) (put-choices-at t) put-choices.Post put-choices-Inv-loop put-choices-μ-loop
 put-choices-loop-again t c =
     let inv = c .before .before .before .before .before .before .before .before .loop .inv in
@@ -312,147 +301,112 @@ put-choices-loop-again t c =
       search (choices-turn, less, inv .4, inv .3, c .before .before .before .before .before .u16-in .ensures, c .before .before .before .before .u48-in .ensures, inv .5, inv .0, put),
     )
 
--- src/lib.rt:784:1
 put-choices-same-length-2 : (t : ℕ) → put-choices-lts.Need-same-length-2 (put-choices-R t) (put-choices-at t) put-choices.Post put-choices-Inv-loop put-choices-μ-loop
 put-choices-same-length-2 t c = search needs
 
--- src/lib.rt:784:1
 put-choices-returns-2 : (t : ℕ) → put-choices-lts.Need-returns-2 (put-choices-R t) (put-choices-at t) put-choices.Post put-choices-Inv-loop put-choices-μ-loop
 put-choices-returns-2 t c = search elements-done
 
--- src/lib.rt:658:46
 put-content-enum-told : (t : ℕ) → put-content-lts.Need-enum-told (put-content-R t) (put-content-at t) put-content.Post
 put-content-enum-told t c = search needs
 
--- src/lib.rt:658:25
 put-content-write-blob-requires : (t : ℕ) → put-content-lts.Need-write-blob-requires (put-content-R t) (put-content-at t) put-content.Post
 put-content-write-blob-requires t c κs = search needs
 
--- src/lib.rt:659:47
 put-content-enum-told-2 : (t : ℕ) → put-content-lts.Need-enum-told-2 (put-content-R t) (put-content-at t) put-content.Post
 put-content-enum-told-2 t c = search needs
 
--- src/lib.rt:659:26
 put-content-write-blob-requires-2 : (t : ℕ) → put-content-lts.Need-write-blob-requires-2 (put-content-R t) (put-content-at t) put-content.Post
 put-content-write-blob-requires-2 t c κs = search needs
 
--- src/lib.rt:660:22
 put-content-enum-known-ob : (t : ℕ) → put-content-lts.Need-enum-known-ob (put-content-R t) (put-content-at t) put-content.Post
 put-content-enum-known-ob t c = search needs
 
--- src/lib.rt:660:58
 put-content-index-requires : (t : ℕ) → put-content-lts.Need-index-requires (put-content-R t) (put-content-at t) put-content.Post
 put-content-index-requires t c κs = search needs
 
--- src/lib.rt:660:28
 put-content-put-list-requires : (t : ℕ) → put-content-lts.Need-put-list-requires (put-content-R t) (put-content-at t) put-content.Post
 put-content-put-list-requires t c κs =
     let q = c .before .before .before .before .before .before .before .before .before .pre .1 in
     (omega (arith, c .before .before .before .before .before .before .before .before .before .pre .0), (q .0, ((q .1 .0 .0, q .1 .0 .1, search (list-counted, q .1 .1, c .before .before .before .ob .given .1, c .index .ensures .0)), (search (list-inside, q .1 .1, c .before .before .before .ob .given .1, c .index .ensures .0), search (list-readable, q .1 .1, c .before .before .before .ob .given .1, c .index .ensures .0)))))
 
--- src/lib.rt:661:23
 put-content-enum-known-ob-2 : (t : ℕ) → put-content-lts.Need-enum-known-ob-2 (put-content-R t) (put-content-at t) put-content.Post
 put-content-enum-known-ob-2 t c = search needs
 
--- src/lib.rt:661:60
 put-content-index-requires-2 : (t : ℕ) → put-content-lts.Need-index-requires-2 (put-content-R t) (put-content-at t) put-content.Post
 put-content-index-requires-2 t c κs = search needs
 
--- src/lib.rt:661:29
 put-content-put-table-requires : (t : ℕ) → put-content-lts.Need-put-table-requires (put-content-R t) (put-content-at t) put-content.Post
 put-content-put-table-requires t c κs =
     let q = c .before .before .before .before .before .before .before .before .before .pre .1 in
     (omega (arith, c .before .before .before .before .before .before .before .before .before .pre .0), (q .0, ((q .1 .0 .0, q .1 .0 .1, search (table-counted, q .1 .1, c .before .before .before .ob2 .given .1, c .index2 .ensures .0), search (table-inside, q .1 .1, c .before .before .before .ob2 .given .1, c .index2 .ensures .0)), search (table-readable, q .1 .1, c .before .before .before .ob2 .given .1, c .index2 .ensures .0))))
 
--- src/lib.rt:641:1
 put-content-same-length : (t : ℕ) → put-content-lts.Need-same-length (put-content-R t) (put-content-at t) put-content.Post
 put-content-same-length t c = search needs
 
--- src/lib.rt:641:1
 put-content-returns : (t : ℕ) → put-content-lts.Need-returns (put-content-R t) (put-content-at t) put-content.Post
 put-content-returns t c = search content-text
 
--- src/lib.rt:641:1
 put-content-same-length-2 : (t : ℕ) → put-content-lts.Need-same-length-2 (put-content-R t) (put-content-at t) put-content.Post
 put-content-same-length-2 t c = search needs
 
--- src/lib.rt:641:1
 put-content-returns-2 : (t : ℕ) → put-content-lts.Need-returns-2 (put-content-R t) (put-content-at t) put-content.Post
 put-content-returns-2 t c = search content-bytes
 
--- src/lib.rt:641:1
 put-content-same-length-3 : (t : ℕ) → put-content-lts.Need-same-length-3 (put-content-R t) (put-content-at t) put-content.Post
 put-content-same-length-3 t c = search needs
 
--- src/lib.rt:641:1
 put-content-returns-3 : (t : ℕ) → put-content-lts.Need-returns-3 (put-content-R t) (put-content-at t) put-content.Post
 put-content-returns-3 t c = search content-list
 
--- src/lib.rt:641:1
 put-content-same-length-4 : (t : ℕ) → put-content-lts.Need-same-length-4 (put-content-R t) (put-content-at t) put-content.Post
 put-content-same-length-4 t c = search needs
 
--- src/lib.rt:641:1
 put-content-returns-4 : (t : ℕ) → put-content-lts.Need-returns-4 (put-content-R t) (put-content-at t) put-content.Post
 put-content-returns-4 t c = search content-table
 
--- src/lib.rt:539:9
 put-lead-kind-at-requires : (t : ℕ) → put-lead-lts.Need-kind-at-requires (put-lead-R t) (put-lead-at t) put-lead.Post
 put-lead-kind-at-requires t c κs = search needs
 
--- src/lib.rt:540:18
 put-lead-lead-width-requires : (t : ℕ) → put-lead-lts.Need-lead-width-requires (put-lead-R t) (put-lead-at t) put-lead.Post
 put-lead-lead-width-requires t c κs = search needs
 
--- src/lib.rt:540:12
 put-lead-add-if1 : (t : ℕ) → put-lead-lts.Need-add-if1 (put-lead-R t) (put-lead-at t) put-lead.Post
 put-lead-add-if1 t c = omega (arith, c .before .before .before .before .before .before .pre .1 .1 .1 .0 .3, c .lead-width .ensures .1)
 
--- src/lib.rt:541:9
 put-lead-write-requires : (t : ℕ) → put-lead-lts.Need-write-requires (put-lead-R t) (put-lead-at t) put-lead.Post
 put-lead-write-requires t c κs = search needs
 
--- src/lib.rt:541:9
 put-lead-same-length : (t : ℕ) → put-lead-lts.Need-same-length (put-lead-R t) (put-lead-at t) put-lead.Post
 put-lead-same-length t c = search needs
 
--- src/lib.rt:541:9
 put-lead-returns : (t : ℕ) → put-lead-lts.Need-returns (put-lead-R t) (put-lead-at t) put-lead.Post
 put-lead-returns t c = search lead-past
 
--- src/lib.rt:543:9
 put-lead-inplace-at-requires : (t : ℕ) → put-lead-lts.Need-inplace-at-requires (put-lead-R t) (put-lead-at t) put-lead.Post
 put-lead-inplace-at-requires t c κs = search needs
 
--- src/lib.rt:544:16
 put-lead-add-from : (t : ℕ) → put-lead-lts.Need-add-from (put-lead-R t) (put-lead-at t) put-lead.Post
 put-lead-add-from t c = search needs
 
--- src/lib.rt:546:29
 put-lead-argument-at-requires : (t : ℕ) → put-lead-lts.Need-argument-at-requires (put-lead-R t) (put-lead-at t) put-lead.Post
 put-lead-argument-at-requires t c κs = search needs
 
--- src/lib.rt:546:13
 put-lead-index-requires : (t : ℕ) → put-lead-lts.Need-index-requires (put-lead-R t) (put-lead-at t) put-lead.Post
 put-lead-index-requires t c κs = search needs
 
--- src/lib.rt:547:17
 put-lead-u16-in-requires : (t : ℕ) → put-lead-lts.Need-u16-in-requires (put-lead-R t) (put-lead-at t) put-lead.Post
 put-lead-u16-in-requires t c κs = omega (arith, c .before .before .before .before .before .before .before .before .before .before .before .pre .1 .1 .1 .0 .0, c .before .before .before .before .if1 .left, c .before .before .before .before .before .lead-width .ensures .0, width-union _ (c .before .before .if2 .taken))
 
--- src/lib.rt:548:33
 put-lead-add-u48-in : (t : ℕ) → put-lead-lts.Need-add-u48-in (put-lead-R t) (put-lead-at t) put-lead.Post
 put-lead-add-u48-in t c = search needs
 
--- src/lib.rt:548:17
 put-lead-u48-in-requires : (t : ℕ) → put-lead-lts.Need-u48-in-requires (put-lead-R t) (put-lead-at t) put-lead.Post
 put-lead-u48-in-requires t c κs = omega (arith, c .before .before .before .before .before .before .before .before .before .before .before .before .pre .1 .1 .1 .0 .0, c .before .before .before .before .before .if1 .left, c .before .before .before .before .before .before .lead-width .ensures .0, width-union _ (c .before .before .before .if2 .taken))
 
--- src/lib.rt:549:59
 put-lead-add-put-union : (t : ℕ) → put-lead-lts.Need-add-put-union (put-lead-R t) (put-lead-at t) put-lead.Post
 put-lead-add-put-union t c = search needs
 
--- src/lib.rt:549:9
 put-lead-put-union-requires : (t : ℕ) → put-lead-lts.Need-put-union-requires (put-lead-R t) (put-lead-at t) put-lead.Post
 put-lead-put-union-requires t c κs =
     let q = c .before .before .before .before .before .before .before .before .before .before .before .before .before .before .pre .1 in
@@ -462,140 +416,109 @@ put-lead-put-union-requires t c κs =
     let index = c .before .before .before .index .ensures .0 in
     (omega (arith, c .before .before .before .before .before .before .before .before .before .before .before .before .before .before .pre .0), (q .0, ((q .1 .0 .0, q .1 .0 .1, search (lead-counted, kind, q .1 .1 .0 .1, q .1 .1 .0 .2, chosen, q .1 .0 .3, argument, index)), search (chosen-given, kind, q .1 .1 .0 .1, q .1 .1 .0 .2, c .before .before .before .before .before .before .before .before .lead-width .ensures .0, c .before .before .before .before .before .before .before .if1 .left, c .before .before .before .before .before .before .inplace-at .ensures, chosen, argument, index, c .before .before .u16-in .ensures, c .before .u48-in .ensures, q .1 .1 .1))))
 
--- src/lib.rt:549:9
 put-lead-same-length-2 : (t : ℕ) → put-lead-lts.Need-same-length-2 (put-lead-R t) (put-lead-at t) put-lead.Post
 put-lead-same-length-2 t c = search needs
 
--- src/lib.rt:549:9
 put-lead-returns-2 : (t : ℕ) → put-lead-lts.Need-returns-2 (put-lead-R t) (put-lead-at t) put-lead.Post
 put-lead-returns-2 t c =
     let q = c .before .before .before .before .before .before .before .before .before .before .before .before .before .before .before .before .before .pre .1 .1 .1 in
     search (lead-chosen, c .before .before .before .before .before .before .before .before .before .before .before .before .kind-at .ensures .0, q .0 .1, q .0 .2, c .before .before .before .before .before .before .before .before .before .before .before .lead-width .ensures .0, c .before .before .before .before .before .before .before .before .before .before .if1 .left, c .before .before .before .before .before .before .before .before .before .inplace-at .ensures, c .before .before .before .before .before .before .before .before .if2 .taken, c .before .before .before .before .before .before .before .argument-at .ensures, c .before .before .before .before .before .before .index .ensures .0, c .before .before .before .before .before .u16-in .ensures, c .before .before .before .before .u48-in .ensures, c .before .before .put-union .ensures)
 
--- src/lib.rt:551:13
 put-lead-u48-in-requires-2 : (t : ℕ) → put-lead-lts.Need-u48-in-requires-2 (put-lead-R t) (put-lead-at t) put-lead.Post
 put-lead-u48-in-requires-2 t c κs = omega (arith, c .before .before .before .before .before .before .before .before .before .pre .1 .1 .1 .0 .0, c .before .before .if1 .left, c .before .before .before .lead-width .ensures .0, width-object _ (c .if2 .left))
 
--- src/lib.rt:552:9
 put-lead-object-at-requires : (t : ℕ) → put-lead-lts.Need-object-at-requires (put-lead-R t) (put-lead-at t) put-lead.Post
 put-lead-object-at-requires t c κs = search needs
 
--- src/lib.rt:553:8
 put-lead-is-blob-requires : (t : ℕ) → put-lead-lts.Need-is-blob-requires (put-lead-R t) (put-lead-at t) put-lead.Post
 put-lead-is-blob-requires t c κs = search needs
 
--- src/lib.rt:554:54
 put-lead-add-refer-blob : (t : ℕ) → put-lead-lts.Need-add-refer-blob (put-lead-R t) (put-lead-at t) put-lead.Post
 put-lead-add-refer-blob t c = search needs
 
--- src/lib.rt:554:9
 put-lead-refer-blob-requires : (t : ℕ) → put-lead-lts.Need-refer-blob-requires (put-lead-R t) (put-lead-at t) put-lead.Post
 put-lead-refer-blob-requires t c κs =
     let q = c .before .before .before .before .before .before .before .before .before .before .before .before .before .before .pre .1 in
     (q .0, ((q .1 .0 .1, sym (c .before .before .is-blob .ensures) ∙ c .before .if3 .taken), search (referred-given, c .before .before .before .before .before .before .before .before .before .kind-at .ensures .0, q .1 .1 .0 .1, q .1 .1 .0 .2, c .before .before .before .before .before .before .before .before .lead-width .ensures .0, c .before .before .before .before .before .before .before .if1 .left, c .before .before .before .before .before .before .inplace-at .ensures, c .before .before .before .before .before .if2 .left, c .before .before .before .object-at .ensures, c .before .before .before .before .u48-in2 .ensures, q .1 .1 .1)))
 
--- src/lib.rt:554:9
 put-lead-same-length-3 : (t : ℕ) → put-lead-lts.Need-same-length-3 (put-lead-R t) (put-lead-at t) put-lead.Post
 put-lead-same-length-3 t c = search needs
 
--- src/lib.rt:554:9
 put-lead-returns-3 : (t : ℕ) → put-lead-lts.Need-returns-3 (put-lead-R t) (put-lead-at t) put-lead.Post
 put-lead-returns-3 t c = search lead-referred
 
--- src/lib.rt:556:53
 put-lead-add-put-reference : (t : ℕ) → put-lead-lts.Need-add-put-reference (put-lead-R t) (put-lead-at t) put-lead.Post
 put-lead-add-put-reference t c = search needs
 
--- src/lib.rt:556:5
 put-lead-put-reference-requires : (t : ℕ) → put-lead-lts.Need-put-reference-requires (put-lead-R t) (put-lead-at t) put-lead.Post
 put-lead-put-reference-requires t c κs =
     let q = c .before .before .before .before .before .before .before .before .before .before .before .before .before .before .pre .1 in
     (omega (arith, c .before .before .before .before .before .before .before .before .before .before .before .before .before .before .pre .0), (q .0, ((q .1 .0 .0, q .1 .0 .1), search (referred-given, c .before .before .before .before .before .before .before .before .before .kind-at .ensures .0, q .1 .1 .0 .1, q .1 .1 .0 .2, c .before .before .before .before .before .before .before .before .lead-width .ensures .0, c .before .before .before .before .before .before .before .if1 .left, c .before .before .before .before .before .before .inplace-at .ensures, c .before .before .before .before .before .if2 .left, c .before .before .before .object-at .ensures, c .before .before .before .before .u48-in2 .ensures, q .1 .1 .1))))
 
--- src/lib.rt:520:1
 put-lead-same-length-4 : (t : ℕ) → put-lead-lts.Need-same-length-4 (put-lead-R t) (put-lead-at t) put-lead.Post
 put-lead-same-length-4 t c = search needs
 
--- src/lib.rt:520:1
 put-lead-returns-4 : (t : ℕ) → put-lead-lts.Need-returns-4 (put-lead-R t) (put-lead-at t) put-lead.Post
 put-lead-returns-4 t c = search lead-referred
 
--- src/lib.rt:732:9
 put-list-element-requires : (t : ℕ) → put-list-lts.Need-element-requires (put-list-R t) (put-list-at t) put-list.Post
 put-list-element-requires t c κs = search needs
 
--- src/lib.rt:733:9
 put-list-integer-width-requires : (t : ℕ) → put-list-lts.Need-integer-width-requires (put-list-R t) (put-list-at t) put-list.Post
 put-list-integer-width-requires t c κs = search needs
 
--- src/lib.rt:735:9
 put-list-write-blob-requires : (t : ℕ) → put-list-lts.Need-write-blob-requires (put-list-R t) (put-list-at t) put-list.Post
 put-list-write-blob-requires t c κs = search needs
 
--- src/lib.rt:735:9
 put-list-same-length : (t : ℕ) → put-list-lts.Need-same-length (put-list-R t) (put-list-at t) put-list.Post
 put-list-same-length t c = search needs
 
--- src/lib.rt:735:9
 put-list-returns : (t : ℕ) → put-list-lts.Need-returns (put-list-R t) (put-list-at t) put-list.Post
 put-list-returns t c = search list-bytes
 
--- src/lib.rt:737:40
 put-list-number64-requires : (t : ℕ) → put-list-lts.Need-number64-requires (put-list-R t) (put-list-at t) put-list.Post
 put-list-number64-requires t c κs = search needs
 
--- src/lib.rt:737:9
 put-list-write-requires : (t : ℕ) → put-list-lts.Need-write-requires (put-list-R t) (put-list-at t) put-list.Post
 put-list-write-requires t c κs = search needs
 
--- src/lib.rt:738:8
 put-list-is-bool-requires : (t : ℕ) → put-list-lts.Need-is-bool-requires (put-list-R t) (put-list-at t) put-list.Post
 put-list-is-bool-requires t c κs = search needs
 
--- src/lib.rt:739:9
 put-list-put-bools-requires : (t : ℕ) → put-list-lts.Need-put-bools-requires (put-list-R t) (put-list-at t) put-list.Post
 put-list-put-bools-requires t c κs =
     let q = c .before .before .before .before .before .before .before .before .before .before .before .before .before .before .before .pre .1 in
     (search (room-next, q .0, c .before .before .before .before .before .write .ensures), (omega (arith, list-start _ _ _ (q .1 .1 .0) (q .1 .0 .1)), search (list-few, q .1 .0 .0, q .1 .1 .0, q .1 .0 .1)))
 
--- src/lib.rt:739:9
 put-list-same-length-2 : (t : ℕ) → put-list-lts.Need-same-length-2 (put-list-R t) (put-list-at t) put-list.Post
 put-list-same-length-2 t c = search needs
 
--- src/lib.rt:739:9
 put-list-returns-2 : (t : ℕ) → put-list-lts.Need-returns-2 (put-list-R t) (put-list-at t) put-list.Post
 put-list-returns-2 t c = search list-bools
 
--- src/lib.rt:742:9
 put-list-put-numbers-requires : (t : ℕ) → put-list-lts.Need-put-numbers-requires (put-list-R t) (put-list-at t) put-list.Post
 put-list-put-numbers-requires t c κs =
     let q = c .before .before .before .before .before .before .before .before .before .before .before .before .before .before .before .before .pre .1 in
     let sound = element-sound _ _ (q .1 .0 .0) _ _ (c .before .before .before .before .before .before .before .before .before .before .before .element .ensures) in
     (search (room-next, q .0, c .before .before .before .before .before .before .write .ensures), (integer-eight _ _ _ sound (c .before .before .before .before .before .before .before .before .before .before .integer-width .ensures), list-start _ _ _ (q .1 .1 .0) (q .1 .0 .1), search (list-few, q .1 .0 .0, q .1 .1 .0, q .1 .0 .1)))
 
--- src/lib.rt:742:9
 put-list-same-length-3 : (t : ℕ) → put-list-lts.Need-same-length-3 (put-list-R t) (put-list-at t) put-list.Post
 put-list-same-length-3 t c = search needs
 
--- src/lib.rt:742:9
 put-list-returns-3 : (t : ℕ) → put-list-lts.Need-returns-3 (put-list-R t) (put-list-at t) put-list.Post
 put-list-returns-3 t c = search list-numbers
 
--- src/lib.rt:745:22
 put-list-enum-known-k : (t : ℕ) → put-list-lts.Need-enum-known-k (put-list-R t) (put-list-at t) put-list.Post
 put-list-enum-known-k t c = search needs
 
--- src/lib.rt:745:28
 put-list-put-flats-requires : (t : ℕ) → put-list-lts.Need-put-flats-requires (put-list-R t) (put-list-at t) put-list.Post
 put-list-put-flats-requires t c κs =
     let q = c .before .before .before .before .before .before .before .before .before .before .before .before .before .before .before .before .before .before .before .pre .1 in
     (search (room-next, q .0, c .before .before .before .before .before .before .before .before .before .write .ensures), (element-flat _ _ (q .1 .0 .0) _ _ (c .before .before .before .before .before .before .before .before .before .before .before .before .before .before .element .ensures) _ (c .before .before .k .given .1), list-start _ _ _ (q .1 .1 .0) (q .1 .0 .1), search (list-few, q .1 .0 .0, q .1 .1 .0, q .1 .0 .1)))
 
--- src/lib.rt:746:24
 put-list-enum-known-k-2 : (t : ℕ) → put-list-lts.Need-enum-known-k-2 (put-list-R t) (put-list-at t) put-list.Post
 put-list-enum-known-k-2 t c = search needs
 
--- src/lib.rt:746:31
 put-list-put-references-requires : (t : ℕ) → put-list-lts.Need-put-references-requires (put-list-R t) (put-list-at t) put-list.Post
 put-list-put-references-requires t c κs =
     let q = c .before .before .before .before .before .before .before .before .before .before .before .before .before .before .before .before .before .before .before .pre .1 in
@@ -608,15 +531,12 @@ put-list-put-references-requires t c κs =
       ),
     )
 
--- src/lib.rt:747:23
 put-list-enum-known-k-3 : (t : ℕ) → put-list-lts.Need-enum-known-k-3 (put-list-R t) (put-list-at t) put-list.Post
 put-list-enum-known-k-3 t c = search needs
 
--- src/lib.rt:747:62
 put-list-index-requires : (t : ℕ) → put-list-lts.Need-index-requires (put-list-R t) (put-list-at t) put-list.Post
 put-list-index-requires t c κs = search needs
 
--- src/lib.rt:747:29
 put-list-put-choices-requires : (t : ℕ) → put-list-lts.Need-put-choices-requires (put-list-R t) (put-list-at t) put-list.Post
 put-list-put-choices-requires t c κs =
     let q = c .before .before .before .before .before .before .before .before .before .before .before .before .before .before .before .before .before .before .before .before .pre .1 in
@@ -630,92 +550,71 @@ put-list-put-choices-requires t c κs =
       ),
     )
 
--- src/lib.rt:715:1
 put-list-same-length-4 : (t : ℕ) → put-list-lts.Need-same-length-4 (put-list-R t) (put-list-at t) put-list.Post
 put-list-same-length-4 t c = search needs
 
--- src/lib.rt:715:1
 put-list-returns-4 : (t : ℕ) → put-list-lts.Need-returns-4 (put-list-R t) (put-list-at t) put-list.Post
 put-list-returns-4 t c = search list-flats
 
--- src/lib.rt:715:1
 put-list-same-length-5 : (t : ℕ) → put-list-lts.Need-same-length-5 (put-list-R t) (put-list-at t) put-list.Post
 put-list-same-length-5 t c = search needs
 
--- src/lib.rt:715:1
 put-list-returns-5 : (t : ℕ) → put-list-lts.Need-returns-5 (put-list-R t) (put-list-at t) put-list.Post
 put-list-returns-5 t c = search list-offsets
 
--- src/lib.rt:715:1
 put-list-same-length-6 : (t : ℕ) → put-list-lts.Need-same-length-6 (put-list-R t) (put-list-at t) put-list.Post
 put-list-same-length-6 t c = search needs
 
--- src/lib.rt:715:1
 put-list-returns-6 : (t : ℕ) → put-list-lts.Need-returns-6 (put-list-R t) (put-list-at t) put-list.Post
 put-list-returns-6 t c = search list-choices
 
--- src/lib.rt:633:9
 put-object-returns : (t : ℕ) → put-object-lts.Need-returns (put-object-R t) (put-object-at t) put-object.Post
 put-object-returns t c = search object-none
 
--- src/lib.rt:635:9
 put-object-start-of-requires : (t : ℕ) → put-object-lts.Need-start-of-requires (put-object-R t) (put-object-at t) put-object.Post
 put-object-start-of-requires t c κs = (search header-there, search needs)
 
--- src/lib.rt:636:9
 put-object-length-of-requires : (t : ℕ) → put-object-lts.Need-length-of-requires (put-object-R t) (put-object-at t) put-object.Post
 put-object-length-of-requires t c κs = (search header-there, search needs)
 
--- src/lib.rt:637:35
 put-object-sub-put-content : (t : ℕ) → put-object-lts.Need-sub-put-content (put-object-R t) (put-object-at t) put-object.Post
 put-object-sub-put-content t c = search needs
 
--- src/lib.rt:637:5
 put-object-put-content-requires : (t : ℕ) → put-object-lts.Need-put-content-requires (put-object-R t) (put-object-at t) put-object.Post
 put-object-put-content-requires t c κs =
     let q = c .before .before .before .before .before .before .before .before .pre .1 in
     (omega (arith, c .before .before .before .before .before .before .before .before .pre .0, c .before .before .before .if1 .left), (q .0, ((q .1 .0 .0, q .1 .0 .1), search (content-readable, q .1 .1, c .before .before .before .if1 .left, c .before .before .start-of .ensures, c .before .length-of .ensures))))
 
--- src/lib.rt:617:1
 put-object-same-length : (t : ℕ) → put-object-lts.Need-same-length (put-object-R t) (put-object-at t) put-object.Post
 put-object-same-length t c = search needs
 
--- src/lib.rt:617:1
 put-object-returns-2 : (t : ℕ) → put-object-lts.Need-returns-2 (put-object-R t) (put-object-at t) put-object.Post
 put-object-returns-2 t c = search object-content
 
--- src/lib.rt:578:9
 put-reference-write-requires : (t : ℕ) → put-reference-lts.Need-write-requires (put-reference-R t) (put-reference-at t) put-reference.Post
 put-reference-write-requires t c κs = search needs
 
--- src/lib.rt:578:9
 put-reference-same-length : (t : ℕ) → put-reference-lts.Need-same-length (put-reference-R t) (put-reference-at t) put-reference.Post
 put-reference-same-length t c = search needs
 
--- src/lib.rt:578:9
 put-reference-returns : (t : ℕ) → put-reference-lts.Need-returns (put-reference-R t) (put-reference-at t) put-reference.Post
 put-reference-returns t c = search reference-none
 
--- src/lib.rt:580:9
 put-reference-place-of-requires : (t : ℕ) → put-reference-lts.Need-place-of-requires (put-reference-R t) (put-reference-at t) put-reference.Post
 put-reference-place-of-requires t c κs = search needs
 
--- src/lib.rt:581:9
 put-reference-write-requires-2 : (t : ℕ) → put-reference-lts.Need-write-requires-2 (put-reference-R t) (put-reference-at t) put-reference.Post
 put-reference-write-requires-2 t c κs = search needs
 
--- src/lib.rt:582:5
 put-reference-put-object-requires : (t : ℕ) → put-reference-lts.Need-put-object-requires (put-reference-R t) (put-reference-at t) put-reference.Post
 put-reference-put-object-requires t c κs =
     let q = c .before .before .before .before .before .before .before .before .before .before .before .pre .1 in
     let fall = c .before .before .before .before .before .before .before .before .before .before .before .pre .0 in
     (omega (arith, fall), (search (room-next, q .0, c .before .before .before .write2 .ensures), ((q .1 .0 .0, q .1 .0 .1), search (reference-readable, q .1 .1, c .before .before .before .before .before .before .if1 .left, c .before .before .before .before .before .place-of .ensures))))
 
--- src/lib.rt:560:1
 put-reference-same-length-2 : (t : ℕ) → put-reference-lts.Need-same-length-2 (put-reference-R t) (put-reference-at t) put-reference.Post
 put-reference-same-length-2 t c = search needs
 
--- src/lib.rt:560:1
 put-reference-returns-2 : (t : ℕ) → put-reference-lts.Need-returns-2 (put-reference-R t) (put-reference-at t) put-reference.Post
 put-reference-returns-2 t c = search reference-there
 
@@ -727,23 +626,18 @@ put-references-Inv-loop b dir m out₀ d ob start n pos p₀ at₀ j₀ out p at
 abbrev put-references-μ-loop : put-references-lts.MeasureT-loop
 put-references-μ-loop b dir m out₀ d ob start n pos p₀ at₀ j₀ out p at j = n - j
 
--- src/lib.rt:771:5
 put-references-loop-holds : (t : ℕ) → put-references-lts.Need-loop-holds (put-references-R t) (put-references-at t) put-references.Post put-references-Inv-loop put-references-μ-loop
 put-references-loop-holds t c = (search needs, omega arith, refl, omega arith, search elements-readable, search elements-start)
 
--- src/lib.rt:773:13
 put-references-same-length : (t : ℕ) → put-references-lts.Need-same-length (put-references-R t) (put-references-at t) put-references.Post put-references-Inv-loop put-references-μ-loop
 put-references-same-length t c = search needs
 
--- src/lib.rt:773:13
 put-references-returns : (t : ℕ) → put-references-lts.Need-returns (put-references-R t) (put-references-at t) put-references.Post put-references-Inv-loop put-references-μ-loop
 put-references-returns t c = search remaining-over
 
--- src/lib.rt:775:17
 put-references-u48-in-requires : (t : ℕ) → put-references-lts.Need-u48-in-requires (put-references-R t) (put-references-at t) put-references.Post put-references-Inv-loop put-references-μ-loop
 put-references-u48-in-requires t c κs = search needs
 
--- src/lib.rt:776:9
 put-references-put-reference-requires :
     (t : ℕ) → put-references-lts.Need-put-reference-requires (
       u48-in-reads.Asked,
@@ -760,19 +654,15 @@ put-references-put-reference-requires t c κs =
     let inv = c .before .before .before .before .loop .inv in
     (omega (arith, c .before .before .before .before .before .before .before .before .before .pre .0), (inv .0, ((q .1 .0 .0, q .1 .0 .1), offset-readable _ _ _ _ _ _ _ (c .before .before .before .loop-test .taken) (inv .4) _ _ (inv .3) (c .before .u48-in .ensures))))
 
--- src/lib.rt:777:9
 put-references-add-at : (t : ℕ) → put-references-lts.Need-add-at (put-references-R t) (put-references-at t) put-references.Post put-references-Inv-loop put-references-μ-loop
 put-references-add-at t c = search needs
 
--- src/lib.rt:778:9
 put-references-add-j : (t : ℕ) → put-references-lts.Need-add-j (put-references-R t) (put-references-at t) put-references.Post put-references-Inv-loop put-references-μ-loop
 put-references-add-j t c = search needs
 
--- src/lib.rt:771:5
 put-references-loop-less : (t : ℕ) → put-references-lts.Need-loop-less (put-references-R t) (put-references-at t) put-references.Post put-references-Inv-loop put-references-μ-loop
 put-references-loop-less t c = search needs
 
--- src/lib.rt:771:5
 put-references-loop-again : (t : ℕ) → put-references-lts.Need-loop-again (put-references-R t) (put-references-at t) put-references.Post put-references-Inv-loop put-references-μ-loop
 put-references-loop-again t c =
     let inv = c .before .before .before .before .before .before .before .loop .inv in
@@ -786,11 +676,9 @@ put-references-loop-again t c =
       search (offsets-turn, less, inv .4, inv .3, c .before .before .before .before .u48-in .ensures, inv .5, inv .0, put),
     )
 
--- src/lib.rt:752:1
 put-references-same-length-2 : (t : ℕ) → put-references-lts.Need-same-length-2 (put-references-R t) (put-references-at t) put-references.Post put-references-Inv-loop put-references-μ-loop
 put-references-same-length-2 t c = search needs
 
--- src/lib.rt:752:1
 put-references-returns-2 : (t : ℕ) → put-references-lts.Need-returns-2 (put-references-R t) (put-references-at t) put-references.Post put-references-Inv-loop put-references-μ-loop
 put-references-returns-2 t c = search elements-done
 
@@ -804,60 +692,47 @@ put-table-Inv-loop b dir m out₀ d t start n pos count first c₀ p₀ j₀ out
 abbrev put-table-μ-loop : put-table-lts.MeasureT-loop
 put-table-μ-loop b dir m out₀ d t start n pos count first c₀ p₀ j₀ out c p j = count - j
 
--- src/lib.rt:682:9
 put-table-member-count-requires : (t : ℕ) → put-table-lts.Need-member-count-requires (put-table-R t) (put-table-at t) put-table.Post put-table-Inv-loop put-table-μ-loop
 put-table-member-count-requires t c κs = search needs
 
--- src/lib.rt:683:9
 put-table-table-place-requires : (t : ℕ) → put-table-lts.Need-table-place-requires (put-table-R t) (put-table-at t) put-table.Post put-table-Inv-loop put-table-μ-loop
 put-table-table-place-requires t c κs = search needs
 
--- src/lib.rt:684:9
 put-table-begin-requires : (t : ℕ) → put-table-lts.Need-begin-requires (put-table-R t) (put-table-at t) put-table.Post put-table-Inv-loop put-table-μ-loop
 put-table-begin-requires t c κs = search needs
 
--- src/lib.rt:687:5
 put-table-loop-holds : (t : ℕ) → put-table-lts.Need-loop-holds (put-table-R t) (put-table-at t) put-table.Post put-table-Inv-loop put-table-μ-loop
 put-table-loop-holds t c = (search needs, omega arith, refl, search needs, search readable-start, search members-start)
 
--- src/lib.rt:689:13
 put-table-same-length : (t : ℕ) → put-table-lts.Need-same-length (put-table-R t) (put-table-at t) put-table.Post put-table-Inv-loop put-table-μ-loop
 put-table-same-length t c = search needs
 
--- src/lib.rt:689:13
 put-table-returns : (t : ℕ) → put-table-lts.Need-returns (put-table-R t) (put-table-at t) put-table.Post put-table-Inv-loop put-table-μ-loop
 put-table-returns t c = search remaining-over
 
--- src/lib.rt:691:13
 put-table-record-place-requires : (t : ℕ) → put-table-lts.Need-record-place-requires (put-table-R t) (put-table-at t) put-table.Post put-table-Inv-loop put-table-μ-loop
 put-table-record-place-requires t c κs = (omega arith, c .before .before .before .before .table-place .ensures .small, omega (arith, c .before .before .before .before .before .member-count .ensures .1, c .before .loop-test .taken))
 
--- src/lib.rt:692:13
 put-table-code-at-requires : (t : ℕ) → put-table-lts.Need-code-at-requires (put-table-R t) (put-table-at t) put-table.Post put-table-Inv-loop put-table-μ-loop
 put-table-code-at-requires t c κs = omega (arith, record-whole _ _ _ (c .before .before .before .before .before .before .before .before .before .before .before .pre .1 .1 .0 .2) _ (c .before .before .before .before .before .before .member-count .ensures .0) (c .before .before .loop-test .taken) _ (c .before .before .before .before .before .table-place .ensures) _ (c .record-place .ensures .1))
 
--- src/lib.rt:694:13
 put-table-put-coded-requires : (t : ℕ) → put-table-lts.Need-put-coded-requires (put-table-R t) (put-table-at t) put-table.Post put-table-Inv-loop put-table-μ-loop
 put-table-put-coded-requires t c κs =
     let q = c .before .before .before .before .before .before .before .before .before .before .before .before .before .before .pre .1 in
     let inv = c .before .before .before .before .before .before .loop .inv in
     (inv .0, (q .1 .0 .3, q .1 .0 .1, omega (arith, inv .3 .end, c .before .before .before .before .before .before .before .before .before .member-count .ensures .1, c .before .before .before .before .before .loop-test .taken), inv .3 .byte, inv .3 .bit, c .before .before .code-at .ensures .1))
 
--- src/lib.rt:695:13
 put-table-behind-coded-requires : (t : ℕ) → put-table-lts.Need-behind-coded-requires (put-table-R t) (put-table-at t) put-table.Post put-table-Inv-loop put-table-μ-loop
 put-table-behind-coded-requires t c κs =
     let inv = c .before .before .before .before .before .before .before .before .before .loop .inv in
     (omega (arith, inv .3 .end, c .before .before .before .before .before .before .before .before .before .before .before .before .member-count .ensures .1, c .before .before .before .before .before .before .before .before .loop-test .taken), inv .3 .byte, inv .3 .bit, c .before .before .before .before .before .code-at .ensures .1)
 
--- src/lib.rt:696:13
 put-table-add-j : (t : ℕ) → put-table-lts.Need-add-j (put-table-R t) (put-table-at t) put-table.Post put-table-Inv-loop put-table-μ-loop
 put-table-add-j t c = search needs
 
--- src/lib.rt:687:5
 put-table-loop-less : (t : ℕ) → put-table-lts.Need-loop-less (put-table-R t) (put-table-at t) put-table.Post put-table-Inv-loop put-table-μ-loop
 put-table-loop-less t c = search needs
 
--- src/lib.rt:687:5
 put-table-loop-again : (t : ℕ) → put-table-lts.Need-loop-again (put-table-R t) (put-table-at t) put-table.Post put-table-Inv-loop put-table-μ-loop
 put-table-loop-again t c =
     let inv = c .before .before .before .before .before .before .before .before .before .before .loop .inv in
@@ -876,11 +751,9 @@ put-table-loop-again t c =
       search (coded-turn, count, less, inv .4, is, wide .0 some, next, inv .5, inv .0, put),
     )
 
--- src/lib.rt:699:13
 put-table-kind-at-requires : (t : ℕ) → put-table-lts.Need-kind-at-requires (put-table-R t) (put-table-at t) put-table.Post put-table-Inv-loop put-table-μ-loop
 put-table-kind-at-requires t c κs = omega (arith, record-whole _ _ _ (c .before .before .before .before .before .before .before .before .before .before .before .before .before .pre .1 .1 .0 .2) _ (c .before .before .before .before .before .before .before .before .member-count .ensures .0) (c .before .before .before .before .loop-test .taken) _ (c .before .before .before .before .before .before .before .table-place .ensures) _ (c .before .before .record-place .ensures .1))
 
--- src/lib.rt:701:13
 put-table-put-lead-requires : (t : ℕ) → put-table-lts.Need-put-lead-requires (put-table-R t) (put-table-at t) put-table.Post put-table-Inv-loop put-table-μ-loop
 put-table-put-lead-requires t c κs =
     let q = c .before .before .before .before .before .before .before .before .before .before .before .before .before .before .before .before .pre .1 in
@@ -892,23 +765,18 @@ put-table-put-lead-requires t c κs =
     let is = coded-member _ _ _ (q .1 .0 .2) _ (count .0) less _ block _ (place .0) in
     (omega (arith, c .before .before .before .before .before .before .before .before .before .before .before .before .before .before .before .before .pre .0), (inv .0, ((q .1 .0 .0, q .1 .0 .1, record-whole _ _ _ (q .1 .0 .2) _ (count .0) less _ block _ (place .1), member-sound-of _ _ (q .1 .0 .0) _ _ _ is (omega (arith, count .0, less)) .kind), ((q .1 .0 .3, omega (arith, c .before .before .kind-at .ensures .0, c .before .if3 .taken), lead-known _ _ (q .1 .0 .0) _ _ (q .1 .0 .2) _ (count .0) less _ block _ (place .0), omega (arith, inv .3 .end, count .1, less)), search (lead-readable, count .0, less, inv .4, is)))))
 
--- src/lib.rt:702:33
 put-table-lead-width-requires : (t : ℕ) → put-table-lts.Need-lead-width-requires (put-table-R t) (put-table-at t) put-table.Post put-table-Inv-loop put-table-μ-loop
 put-table-lead-width-requires t c κs = search needs
 
--- src/lib.rt:702:13
 put-table-behind-plain-requires : (t : ℕ) → put-table-lts.Need-behind-plain-requires (put-table-R t) (put-table-at t) put-table.Post put-table-Inv-loop put-table-μ-loop
 put-table-behind-plain-requires t c κs = let inv = c .before .before .before .before .before .before .before .before .before .before .before .before .loop .inv in (omega (arith, inv .3 .end, c .before .before .before .before .before .before .before .before .before .before .before .before .before .before .before .member-count .ensures .1, c .before .before .before .before .before .before .before .before .before .before .before .loop-test .taken), c .lead-width .ensures .1)
 
--- src/lib.rt:703:13
 put-table-add-j-2 : (t : ℕ) → put-table-lts.Need-add-j-2 (put-table-R t) (put-table-at t) put-table.Post put-table-Inv-loop put-table-μ-loop
 put-table-add-j-2 t c = search needs
 
--- src/lib.rt:687:5
 put-table-loop-less-2 : (t : ℕ) → put-table-lts.Need-loop-less-2 (put-table-R t) (put-table-at t) put-table.Post put-table-Inv-loop put-table-μ-loop
 put-table-loop-less-2 t c = search needs
 
--- src/lib.rt:687:5
 put-table-loop-again-2 : (t : ℕ) → put-table-lts.Need-loop-again-2 (put-table-R t) (put-table-at t) put-table.Post put-table-Inv-loop put-table-μ-loop
 put-table-loop-again-2 t c =
     let q = c .before .before .before .before .before .before .before .before .before .before .before .before .before .before .before .before .before .before .before .before .before .pre .1 in
@@ -931,17 +799,14 @@ put-table-loop-again-2 t c =
       search (lead-turn, count, less, inv .4, is, next, inv .5, inv .0, put),
     )
 
--- src/lib.rt:706:13
 put-table-member-at-requires : (t : ℕ) → put-table-lts.Need-member-at-requires (put-table-R t) (put-table-at t) put-table.Post put-table-Inv-loop put-table-μ-loop
 put-table-member-at-requires t c κs =
     let q = c .before .before .before .before .before .before .before .before .before .before .before .before .before .before .before .pre .1 in
     ((q .1 .0 .0, q .1 .0 .2, omega (arith, c .before .before .before .before .before .before .before .before .before .before .member-count .ensures .0, c .before .before .before .before .before .before .loop-test .taken), omega (arith, c .before .before .before .before .before .before .before .before .before .before .member-count .ensures .1, c .before .before .before .before .before .before .loop-test .taken)), (q .1 .0 .3, q .1 .0 .1, c .before .before .before .before .before .before .before .loop .inv .3))
 
--- src/lib.rt:708:46
 put-table-add-put-flat-member : (t : ℕ) → put-table-lts.Need-add-put-flat-member (put-table-R t) (put-table-at t) put-table.Post put-table-Inv-loop put-table-μ-loop
 put-table-add-put-flat-member t c = let q = c .before .before .before .before .before .before .before .before .before .before .before .before .before .before .before .before .before .before .pre .1 in omega (arith, q .1 .0 .3, q .1 .0 .1)
 
--- src/lib.rt:708:9
 put-table-put-flat-member-requires : (t : ℕ) → put-table-lts.Need-put-flat-member-requires (put-table-R t) (put-table-at t) put-table.Post put-table-Inv-loop put-table-μ-loop
 put-table-put-flat-member-requires t c κs =
     let q = c .before .before .before .before .before .before .before .before .before .before .before .before .before .before .before .before .before .before .pre .1 in
@@ -952,15 +817,12 @@ put-table-put-flat-member-requires t c κs =
     let same = coded-member _ _ _ (q .1 .0 .2) _ count less _ (c .before .before .before .before .before .before .before .before .before .before .before .before .table-place .ensures) _ (c .before .before .before .before .before .before .before .record-place .ensures .0) in
     (inv .0, ((q .1 .0 .0, q .1 .0 .1, is .sound, flat-member _ _ _ (c .before .before .before .before .kind-at .ensures .0) (c .before .before .before .if3 .left) _ same _ (is .kind-is)), ((is .inside, is .bit-low, is .low), search (member-readable, count, less, inv .4, is))))
 
--- src/lib.rt:709:9
 put-table-add-j-3 : (t : ℕ) → put-table-lts.Need-add-j-3 (put-table-R t) (put-table-at t) put-table.Post put-table-Inv-loop put-table-μ-loop
 put-table-add-j-3 t c = search needs
 
--- src/lib.rt:687:5
 put-table-loop-less-3 : (t : ℕ) → put-table-lts.Need-loop-less-3 (put-table-R t) (put-table-at t) put-table.Post put-table-Inv-loop put-table-μ-loop
 put-table-loop-less-3 t c = search needs
 
--- src/lib.rt:687:5
 put-table-loop-again-3 : (t : ℕ) → put-table-lts.Need-loop-again-3 (put-table-R t) (put-table-at t) put-table.Post put-table-Inv-loop put-table-μ-loop
 put-table-loop-again-3 t c =
     let inv = c .before .before .before .before .before .before .before .before .before .before .before .before .before .loop .inv in
@@ -976,74 +838,57 @@ put-table-loop-again-3 t c =
       search (members-turn, count, less, inv .4, is, inv .5, inv .0, put),
     )
 
--- src/lib.rt:666:1
 put-table-same-length-2 : (t : ℕ) → put-table-lts.Need-same-length-2 (put-table-R t) (put-table-at t) put-table.Post put-table-Inv-loop put-table-μ-loop
 put-table-same-length-2 t c = search needs
 
--- src/lib.rt:666:1
 put-table-returns-2 : (t : ℕ) → put-table-lts.Need-returns-2 (put-table-R t) (put-table-at t) put-table.Post put-table-Inv-loop put-table-μ-loop
 put-table-returns-2 t c = search members-done
 
--- src/lib.rt:605:9
 put-union-write-requires : (t : ℕ) → put-union-lts.Need-write-requires (put-union-R t) (put-union-at t) put-union.Post
 put-union-write-requires t c κs = search needs
 
--- src/lib.rt:605:9
 put-union-same-length : (t : ℕ) → put-union-lts.Need-same-length (put-union-R t) (put-union-at t) put-union.Post
 put-union-same-length t c = search needs
 
--- src/lib.rt:605:9
 put-union-returns : (t : ℕ) → put-union-lts.Need-returns (put-union-R t) (put-union-at t) put-union.Post
 put-union-returns t c = search choice-none
 
--- src/lib.rt:607:8
 put-union-case-count-requires : (t : ℕ) → put-union-lts.Need-case-count-requires (put-union-R t) (put-union-at t) put-union.Post
 put-union-case-count-requires t c κs = search needs
 
--- src/lib.rt:608:53
 put-union-number64-requires : (t : ℕ) → put-union-lts.Need-number64-requires (put-union-R t) (put-union-at t) put-union.Post
 put-union-number64-requires t c κs = search needs
 
--- src/lib.rt:608:9
 put-union-put-marked-requires : (t : ℕ) → put-union-lts.Need-put-marked-requires (put-union-R t) (put-union-at t) put-union.Post
 put-union-put-marked-requires t c κs = search needs
 
--- src/lib.rt:608:9
 put-union-same-length-2 : (t : ℕ) → put-union-lts.Need-same-length-2 (put-union-R t) (put-union-at t) put-union.Post
 put-union-same-length-2 t c = search needs
 
--- src/lib.rt:608:9
 put-union-returns-2 : (t : ℕ) → put-union-lts.Need-returns-2 (put-union-R t) (put-union-at t) put-union.Post
 put-union-returns-2 t c = search choice-unknown
 
--- src/lib.rt:610:9
 put-union-union-case-requires : (t : ℕ) → put-union-lts.Need-union-case-requires (put-union-R t) (put-union-at t) put-union.Post
 put-union-union-case-requires t c κs = search needs
 
--- src/lib.rt:611:9
 put-union-place-of-requires : (t : ℕ) → put-union-lts.Need-place-of-requires (put-union-R t) (put-union-at t) put-union.Post
 put-union-place-of-requires t c κs = search needs
 
--- src/lib.rt:612:50
 put-union-number64-requires-2 : (t : ℕ) → put-union-lts.Need-number64-requires-2 (put-union-R t) (put-union-at t) put-union.Post
 put-union-number64-requires-2 t c κs = search needs
 
--- src/lib.rt:612:9
 put-union-put-marked-requires-2 : (t : ℕ) → put-union-lts.Need-put-marked-requires-2 (put-union-R t) (put-union-at t) put-union.Post
 put-union-put-marked-requires-2 t c κs = search needs
 
--- src/lib.rt:613:5
 put-union-put-object-requires : (t : ℕ) → put-union-lts.Need-put-object-requires (put-union-R t) (put-union-at t) put-union.Post
 put-union-put-object-requires t c κs =
     let q = c .before .before .before .before .before .before .before .before .before .before .before .before .before .before .before .pre .1 in
     let fall = c .before .before .before .before .before .before .before .before .before .before .before .before .before .before .before .pre .0 in
     (omega (arith, fall), (search (room-next, q .0, c .before .before .before .write-marked2 .ensures), ((q .1 .0 .0, q .1 .0 .1), search (case-readable, q .1 .1, c .before .before .before .before .before .before .before .before .before .before .if1 .left, c .before .before .before .before .before .before .before .before .before .case-count .ensures .0, c .before .before .before .before .before .before .before .before .if2 .left, c .before .before .before .before .before .before .before .union-case .ensures, c .before .before .before .before .before .before .place-of .ensures))))
 
--- src/lib.rt:586:1
 put-union-same-length-3 : (t : ℕ) → put-union-lts.Need-same-length-3 (put-union-R t) (put-union-at t) put-union.Post
 put-union-same-length-3 t c = search needs
 
--- src/lib.rt:586:1
 put-union-returns-3 : (t : ℕ) → put-union-lts.Need-returns-3 (put-union-R t) (put-union-at t) put-union.Post
 put-union-returns-3 t c = search choice-known
 

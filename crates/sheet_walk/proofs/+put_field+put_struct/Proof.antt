@@ -66,108 +66,82 @@ put-field-R t = (byte-reads.Asked, byte-reads.Learnt, wide-reads.Asked, wide-rea
 abbrev put-struct-R : ℕ → put-struct-lts.Claims
 put-struct-R t = (field-count-reads.Asked, field-count-reads.Learnt, field-reads.Asked, field-reads.Learnt, put-field-below t, put-field.Post, flat-width-reads.Asked, flat-width-reads.Learnt)
 
--- src/lib.rt:138:39
 put-field-enum-told : (t : ℕ) → put-field-lts.Need-enum-told (put-field-R t) (put-field-at t) put-field.Post
 put-field-enum-told t c = search needs
 
--- src/lib.rt:138:63
 put-field-byte-requires : (t : ℕ) → put-field-lts.Need-byte-requires (put-field-R t) (put-field-at t) put-field.Post
 put-field-byte-requires t c κs = search needs
 
--- src/lib.rt:138:52
 put-field-wide-requires : (t : ℕ) → put-field-lts.Need-wide-requires (put-field-R t) (put-field-at t) put-field.Post
 put-field-wide-requires t c κs = search needs
 
--- src/lib.rt:138:26
 put-field-write-requires : (t : ℕ) → put-field-lts.Need-write-requires (put-field-R t) (put-field-at t) put-field.Post
 put-field-write-requires t c κs = search needs
 
--- src/lib.rt:139:26
 put-field-enum-known-k : (t : ℕ) → put-field-lts.Need-enum-known-k (put-field-R t) (put-field-at t) put-field.Post
 put-field-enum-known-k t c = search needs
 
--- src/lib.rt:139:58
 put-field-index-requires : (t : ℕ) → put-field-lts.Need-index-requires (put-field-R t) (put-field-at t) put-field.Post
 put-field-index-requires t c κs = search needs
 
--- src/lib.rt:139:32
 put-field-put-number-requires : (t : ℕ) → put-field-lts.Need-put-number-requires (put-field-R t) (put-field-at t) put-field.Post
 put-field-put-number-requires t c κs = (search needs, (search integer-eight, omega arith))
 
--- src/lib.rt:140:21
 put-field-enum-known-k-2 : (t : ℕ) → put-field-lts.Need-enum-known-k-2 (put-field-R t) (put-field-at t) put-field.Post
 put-field-enum-known-k-2 t c = search needs
 
--- src/lib.rt:140:53
 put-field-index-requires-2 : (t : ℕ) → put-field-lts.Need-index-requires-2 (put-field-R t) (put-field-at t) put-field.Post
 put-field-index-requires-2 t c κs = search needs
 
--- src/lib.rt:140:27
 put-field-put-number-requires-2 : (t : ℕ) → put-field-lts.Need-put-number-requires-2 (put-field-R t) (put-field-at t) put-field.Post
 put-field-put-number-requires-2 t c κs = (search needs, (search float-eight, omega arith))
 
--- src/lib.rt:141:26
 put-field-enum-known-k-3 : (t : ℕ) → put-field-lts.Need-enum-known-k-3 (put-field-R t) (put-field-at t) put-field.Post
 put-field-enum-known-k-3 t c = search needs
 
--- src/lib.rt:141:56
 put-field-byte-requires-2 : (t : ℕ) → put-field-lts.Need-byte-requires-2 (put-field-R t) (put-field-at t) put-field.Post
 put-field-byte-requires-2 t c κs = search needs
 
--- src/lib.rt:141:32
 put-field-put-enum-requires : (t : ℕ) → put-field-lts.Need-put-enum-requires (put-field-R t) (put-field-at t) put-field.Post
 put-field-put-enum-requires t c κs = search needs
 
--- src/lib.rt:142:22
 put-field-enum-known-k-4 : (t : ℕ) → put-field-lts.Need-enum-known-k-4 (put-field-R t) (put-field-at t) put-field.Post
 put-field-enum-known-k-4 t c = search needs
 
--- src/lib.rt:142:57
 put-field-index-requires-3 : (t : ℕ) → put-field-lts.Need-index-requires-3 (put-field-R t) (put-field-at t) put-field.Post
 put-field-index-requires-3 t c κs = search needs
 
--- src/lib.rt:142:28
 put-field-put-struct-requires : (t : ℕ) → put-field-lts.Need-put-struct-requires (put-field-R t) (put-field-at t) put-field.Post
 put-field-put-struct-requires t c κs = let l : c .index3 .result < c .before .before .before .before .before .before .before .before .before .args .i = search struct-lower in
     (omega arith, (search needs, ((search needs, omega arith, search needs), search struct-inside)))
 
--- src/lib.rt:131:1
 put-field-same-length : (t : ℕ) → put-field-lts.Need-same-length (put-field-R t) (put-field-at t) put-field.Post
 put-field-same-length t c = search needs
 
--- src/lib.rt:131:1
 put-field-returns : (t : ℕ) → put-field-lts.Need-returns (put-field-R t) (put-field-at t) put-field.Post
 put-field-returns t c = search field-boolean
 
--- src/lib.rt:131:1
 put-field-same-length-2 : (t : ℕ) → put-field-lts.Need-same-length-2 (put-field-R t) (put-field-at t) put-field.Post
 put-field-same-length-2 t c = search needs
 
--- src/lib.rt:131:1
 put-field-returns-2 : (t : ℕ) → put-field-lts.Need-returns-2 (put-field-R t) (put-field-at t) put-field.Post
 put-field-returns-2 t c = search field-integer
 
--- src/lib.rt:131:1
 put-field-same-length-3 : (t : ℕ) → put-field-lts.Need-same-length-3 (put-field-R t) (put-field-at t) put-field.Post
 put-field-same-length-3 t c = search needs
 
--- src/lib.rt:131:1
 put-field-returns-3 : (t : ℕ) → put-field-lts.Need-returns-3 (put-field-R t) (put-field-at t) put-field.Post
 put-field-returns-3 t c = search field-float
 
--- src/lib.rt:131:1
 put-field-same-length-4 : (t : ℕ) → put-field-lts.Need-same-length-4 (put-field-R t) (put-field-at t) put-field.Post
 put-field-same-length-4 t c = search needs
 
--- src/lib.rt:131:1
 put-field-returns-4 : (t : ℕ) → put-field-lts.Need-returns-4 (put-field-R t) (put-field-at t) put-field.Post
 put-field-returns-4 t c = search field-enum
 
--- src/lib.rt:131:1
 put-field-same-length-5 : (t : ℕ) → put-field-lts.Need-same-length-5 (put-field-R t) (put-field-at t) put-field.Post
 put-field-same-length-5 t c = search needs
 
--- src/lib.rt:131:1
 put-field-returns-5 : (t : ℕ) → put-field-lts.Need-returns-5 (put-field-R t) (put-field-at t) put-field.Post
 put-field-returns-5 t c = search field-struct
 
@@ -180,19 +154,15 @@ put-struct-Inv-loop b dir m out₀ i at pos n p₀ from₀ j₀ out p from j =
 abbrev put-struct-μ-loop : put-struct-lts.MeasureT-loop
 put-struct-μ-loop b dir m out₀ i at pos n p₀ from₀ j₀ out p from j = n - j
 
--- src/lib.rt:153:9
 put-struct-field-count-requires : (t : ℕ) → put-struct-lts.Need-field-count-requires (put-struct-R t) (put-struct-at t) put-struct.Post put-struct-Inv-loop put-struct-μ-loop
 put-struct-field-count-requires t c κs = search needs
 
--- src/lib.rt:157:5
 put-struct-loop-holds : (t : ℕ) → put-struct-lts.Need-loop-holds (put-struct-R t) (put-struct-at t) put-struct.Post put-struct-Inv-loop put-struct-μ-loop
 put-struct-loop-holds t c = (search needs, omega arith, refl, search all-inside, search fields-start)
 
--- src/lib.rt:158:13
 put-struct-field-requires : (t : ℕ) → put-struct-lts.Need-field-requires (put-struct-R t) (put-struct-at t) put-struct.Post put-struct-Inv-loop put-struct-μ-loop
 put-struct-field-requires t c κs = search needs
 
--- src/lib.rt:159:9
 put-struct-put-field-requires : (t : ℕ) → put-struct-lts.Need-put-field-requires (put-struct-R t) (put-struct-at t) put-struct.Post put-struct-Inv-loop put-struct-μ-loop
 put-struct-put-field-requires t c κs =
     let q = c .before .before .before .before .before .before .before .before .before .pre .1 .1 in (
@@ -206,23 +176,18 @@ put-struct-put-field-requires t c κs =
       ),
     )
 
--- src/lib.rt:160:17
 put-struct-flat-width-requires : (t : ℕ) → put-struct-lts.Need-flat-width-requires (put-struct-R t) (put-struct-at t) put-struct.Post put-struct-Inv-loop put-struct-μ-loop
 put-struct-flat-width-requires t c κs = search (flat-weaker, field-sound, needs)
 
--- src/lib.rt:160:9
 put-struct-add-from : (t : ℕ) → put-struct-lts.Need-add-from (put-struct-R t) (put-struct-at t) put-struct.Post put-struct-Inv-loop put-struct-μ-loop
 put-struct-add-from t c = search needs
 
--- src/lib.rt:161:9
 put-struct-add-j : (t : ℕ) → put-struct-lts.Need-add-j (put-struct-R t) (put-struct-at t) put-struct.Post put-struct-Inv-loop put-struct-μ-loop
 put-struct-add-j t c = search needs
 
--- src/lib.rt:157:5
 put-struct-loop-less : (t : ℕ) → put-struct-lts.Need-loop-less (put-struct-R t) (put-struct-at t) put-struct.Post put-struct-Inv-loop put-struct-μ-loop
 put-struct-loop-less t c = search needs
 
--- src/lib.rt:157:5
 put-struct-loop-again : (t : ℕ) → put-struct-lts.Need-loop-again (put-struct-R t) (put-struct-at t) put-struct.Post put-struct-Inv-loop put-struct-μ-loop
 put-struct-loop-again t c = (
   search room-next,
@@ -232,11 +197,9 @@ put-struct-loop-again t c = (
   search (fields-turn, c .before .before .before .before .before .before .before .loop .inv .4, c .before .before .before .before .before .before .before .loop .inv .0, c .before .before .before .before .before .before .before .before .field-count .ensures .0, c .before .before .before .before .before .before .loop-test .taken, c .before .before .before .before .before .field .ensures, c .before .before .before .put-field .ensures, c .flat-width .ensures .0),
 )
 
--- src/lib.rt:147:1
 put-struct-same-length : (t : ℕ) → put-struct-lts.Need-same-length (put-struct-R t) (put-struct-at t) put-struct.Post put-struct-Inv-loop put-struct-μ-loop
 put-struct-same-length t c = search needs
 
--- src/lib.rt:147:1
 put-struct-returns : (t : ℕ) → put-struct-lts.Need-returns (put-struct-R t) (put-struct-at t) put-struct.Post put-struct-Inv-loop put-struct-μ-loop
 put-struct-returns t c = search fields-done
 

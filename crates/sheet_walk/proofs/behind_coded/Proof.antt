@@ -7,51 +7,39 @@ use Rattle.sheet_walk.proofs.behind_coded.Lts as lts
 use Rattle.sheet_walk.proofs.behind_plain.Reads as behind-plain-reads
 use Rattle.message_layout.proofs.after_bit.Reads as after-bit-reads
 
--- src/lib.rt:491:9
 behind-plain-requires : tie.Need-behind-plain-requires
 behind-plain-requires c κs = search (needs, number-eight)
 
--- src/lib.rt:491:9
 returns : tie.Need-returns
 returns c = search behind-number
 
--- src/lib.rt:494:29
 after-bit-requires : tie.Need-after-bit-requires
 after-bit-requires c κs = search needs
 
--- src/lib.rt:494:9
 behind-plain-requires-2 : tie.Need-behind-plain-requires-2
 behind-plain-requires-2 c κs = search (needs, optional-eight)
 
--- src/lib.rt:494:9
 returns-2 : tie.Need-returns-2
 returns-2 c = search behind-optional
 
--- src/lib.rt:497:9
 after-bit-requires-2 : tie.Need-after-bit-requires-2
 after-bit-requires-2 c κs = search needs
 
--- src/lib.rt:497:9
 returns-3 : tie.Need-returns-3
 returns-3 c = search behind-bool
 
--- src/lib.rt:500:32
 sub-behind-plain : tie.Need-sub-behind-plain
 sub-behind-plain c = search float-whole
 
--- src/lib.rt:500:9
 behind-plain-requires-3 : tie.Need-behind-plain-requires-3
 behind-plain-requires-3 c κs = search (needs, float-eight)
 
--- src/lib.rt:500:9
 returns-4 : tie.Need-returns-4
 returns-4 c = search behind-float
 
--- src/lib.rt:502:5
 behind-plain-requires-4 : tie.Need-behind-plain-requires-4
 behind-plain-requires-4 c κs = search needs
 
--- src/lib.rt:486:1
 returns-5 : tie.Need-returns-5
 returns-5 c = search behind-enum
 

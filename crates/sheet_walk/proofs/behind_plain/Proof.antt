@@ -6,11 +6,9 @@ use Rattle.sheet_walk.proofs.behind_plain.Tie as tie
 use Rattle.sheet_walk.proofs.behind_plain.Reads as reads
 use Rattle.sheet_walk.proofs.behind_plain.Lts as lts
 
--- src/lib.rt:510:14
 add-t3 : tie.Need-add-t3
 add-t3 c = search needs
 
--- src/lib.rt:505:1
 returns : tie.Need-returns
 unfolding L.afterBytes
 returns c = refl

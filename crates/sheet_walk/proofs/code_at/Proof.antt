@@ -13,51 +13,39 @@ use Rattle.schema.proofs.kind_at.Reads as kind-at-reads
 use Rattle.schema.proofs.optional_at.Reads as optional-at-reads
 use Rattle.wire.proofs.index.Reads as index-reads
 
--- src/lib.rt:325:9
 kind-at-requires : tie.Need-kind-at-requires
 kind-at-requires c κs = search needs
 
--- src/lib.rt:327:33
 argument-at-requires : tie.Need-argument-at-requires
 argument-at-requires c κs = search needs
 
--- src/lib.rt:327:21
 index-requires : tie.Need-index-requires
 index-requires c κs = search needs
 
--- src/lib.rt:327:16
 add-result : tie.Need-add-result
 add-result c = search needs
 
--- src/lib.rt:327:9
 returns : tie.Need-returns
 returns c = (λ _. search enum-at, search small-enum)
 
--- src/lib.rt:330:9
 returns-2 : tie.Need-returns-2
 returns-2 c = (λ e. absurd (omega (arith, e)), small-none)
 
--- src/lib.rt:332:8
 optional-at-requires : tie.Need-optional-at-requires
 optional-at-requires c κs = search needs
 
--- src/lib.rt:333:9
 optional-code-requires : tie.Need-optional-code-requires
 optional-code-requires c κs = search needs
 
--- src/lib.rt:333:9
 returns-3 : tie.Need-returns-3
 returns-3 c = (λ e. search (optional-at, e), search small-code)
 
--- src/lib.rt:336:9
 returns-4 : tie.Need-returns-4
 returns-4 c = (λ _. search bool-at, small-bool)
 
--- src/lib.rt:338:5
 plain-bytes-requires : tie.Need-plain-bytes-requires
 plain-bytes-requires c κs = search needs
 
--- src/lib.rt:321:1
 returns-5 : tie.Need-returns-5
 returns-5 c = (λ _. search number-at, search small-number)
 

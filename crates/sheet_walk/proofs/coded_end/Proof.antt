@@ -7,15 +7,12 @@ use Rattle.sheet_walk.proofs.coded_end.Reads as reads
 use Rattle.sheet_walk.proofs.coded_end.Lts as lts
 use Rattle.sheet_walk.proofs.optional_end.Reads as optional-end-reads
 
--- src/lib.rt:365:9
 returns : tie.Need-returns
 returns c = (search end-plain, omega arith)
 
--- src/lib.rt:367:5
 optional-end-requires : tie.Need-optional-end-requires
 optional-end-requires c κs = search needs
 
--- src/lib.rt:360:1
 returns-2 : tie.Need-returns-2
 returns-2 c = (search end-optional, search needs)
 

@@ -4,11 +4,9 @@ use Rattle.sheet_walk.proofs.coded_width.Tie as tie
 use Rattle.sheet_walk.proofs.coded_width.Reads as reads
 use Rattle.sheet_walk.proofs.coded_width.Lts as lts
 
--- src/lib.rt:375:9
 returns : tie.Need-returns
 returns c = search width-plain
 
--- src/lib.rt:370:1
 returns-2 : tie.Need-returns-2
 returns-2 c = search width-optional
 

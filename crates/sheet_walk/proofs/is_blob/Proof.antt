@@ -3,35 +3,27 @@ use borrow.Author.Needs.{needs}
 use Rattle.sheet_walk.proofs.is_blob.Statement.{statement}
 use Rattle.sheet_walk.proofs.is_blob.Tie as tie
 
--- src/lib.rt:213:25
 enum-told : tie.Need-enum-told
 enum-told c = search needs
 
--- src/lib.rt:214:26
 enum-told-2 : tie.Need-enum-told-2
 enum-told-2 c = search needs
 
--- src/lib.rt:215:28
 enum-told-3 : tie.Need-enum-told-3
 enum-told-3 c = search needs
 
--- src/lib.rt:216:29
 enum-told-4 : tie.Need-enum-told-4
 enum-told-4 c = search needs
 
--- src/lib.rt:209:1
 returns : tie.Need-returns
 returns c = search blob-text
 
--- src/lib.rt:209:1
 returns-2 : tie.Need-returns-2
 returns-2 c = search blob-bytes
 
--- src/lib.rt:209:1
 returns-3 : tie.Need-returns-3
 returns-3 c = search blob-list
 
--- src/lib.rt:209:1
 returns-4 : tie.Need-returns-4
 returns-4 c = search blob-table
 

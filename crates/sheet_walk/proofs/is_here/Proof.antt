@@ -5,27 +5,21 @@ use Rattle.sheet_walk.proofs.is_here.Tie as tie
 use Rattle.sheet_walk.proofs.is_here.Reads as reads
 use Rattle.sheet_walk.proofs.is_here.Lts as lts
 
--- src/lib.rt:307:29
 enum-told : tie.Need-enum-told
 enum-told c = search needs
 
--- src/lib.rt:308:30
 enum-told-2 : tie.Need-enum-told-2
 enum-told-2 c = search needs
 
--- src/lib.rt:309:30
 enum-told-3 : tie.Need-enum-told-3
 enum-told-3 c = search needs
 
--- src/lib.rt:303:1
 returns : tie.Need-returns
 returns c = search here-cut
 
--- src/lib.rt:303:1
 returns-2 : tie.Need-returns-2
 returns-2 c = search here-past
 
--- src/lib.rt:303:1
 returns-3 : tie.Need-returns-3
 returns-3 c = search here-here
 

@@ -3,11 +3,9 @@ use Rattle.sheet_walk.proofs.Leads.{width-union, width-object}
 use Rattle.sheet_walk.proofs.lead_width.Statement.{statement}
 use Rattle.sheet_walk.proofs.lead_width.Tie as tie
 
--- src/lib.rt:476:1
 returns : tie.Need-returns
 returns c = (search width-union, omega arith)
 
--- src/lib.rt:476:1
 returns-2 : tie.Need-returns-2
 returns-2 c = (search width-object, omega arith)
 

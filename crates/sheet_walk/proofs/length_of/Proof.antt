@@ -4,27 +4,21 @@ use borrow.Author.Needs.{needs}
 use Rattle.sheet_walk.proofs.length_of.Statement.{statement}
 use Rattle.sheet_walk.proofs.length_of.Tie as tie
 
--- src/lib.rt:230:25
 enum-known-p : tie.Need-enum-known-p
 enum-known-p c = search needs
 
--- src/lib.rt:230:47
 add-u48-in : tie.Need-add-u48-in
 add-u48-in c = let h = header-inside _ _ _ (c .before .p .given .1) (c .before .before .before .before .pre .0) in omega arith
 
--- src/lib.rt:230:31
 u48-in-requires : tie.Need-u48-in-requires
 u48-in-requires c κs = let h = header-inside _ _ _ (c .before .p .given .1) (c .before .before .before .before .pre .0) in omega arith
 
--- src/lib.rt:231:27
 enum-known-p-2 : tie.Need-enum-known-p-2
 enum-known-p-2 c = search needs
 
--- src/lib.rt:225:1
 returns : tie.Need-returns
 returns c = search length-offset
 
--- src/lib.rt:225:1
 returns-2 : tie.Need-returns-2
 returns-2 c = search length-inplace
 

@@ -6,31 +6,24 @@ use Rattle.sheet_walk.proofs.optional_code.Reads as reads
 use Rattle.sheet_walk.proofs.optional_code.Lts as lts
 use Rattle.sheet_walk.proofs.plain_bytes.Reads as plain-bytes-reads
 
--- src/lib.rt:347:9
 returns : tie.Need-returns
 returns c = search code-none
 
--- src/lib.rt:350:21
 plain-bytes-requires : tie.Need-plain-bytes-requires
 plain-bytes-requires c κs = search needs
 
--- src/lib.rt:350:16
 add-result : tie.Need-add-result
 add-result c = search needs
 
--- src/lib.rt:350:9
 returns-2 : tie.Need-returns-2
 returns-2 c = search code-integer
 
--- src/lib.rt:352:10
 plain-bytes-requires-2 : tie.Need-plain-bytes-requires-2
 plain-bytes-requires-2 c κs = search needs
 
--- src/lib.rt:352:5
 add-result-2 : tie.Need-add-result-2
 add-result-2 c = search needs
 
--- src/lib.rt:342:1
 returns-3 : tie.Need-returns-3
 returns-3 c = search code-float
 

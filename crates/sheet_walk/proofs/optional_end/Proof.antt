@@ -10,35 +10,27 @@ use Rattle.message_layout.proofs.bit_byte.Reads as bit-byte-reads
 use Rattle.message_layout.proofs.bit_index.Reads as bit-index-reads
 use Rattle.wire.proofs.bit_in.Reads as bit-in-reads
 
--- src/lib.rt:348:9
 bit-byte-requires : tie.Need-bit-byte-requires
 bit-byte-requires c κs = search needs
 
--- src/lib.rt:350:9
 returns : tie.Need-returns
 returns c = (search optional-past, omega arith)
 
--- src/lib.rt:352:24
 add-bit-in : tie.Need-add-bit-in
 add-bit-in c = search needs
 
--- src/lib.rt:352:36
 bit-index-requires : tie.Need-bit-index-requires
 bit-index-requires c κs = search needs
 
--- src/lib.rt:352:8
 bit-in-requires : tie.Need-bit-in-requires
 bit-in-requires c κs = search needs
 
--- src/lib.rt:353:13
 after-bit-requires : tie.Need-after-bit-requires
 after-bit-requires c κs = search needs
 
--- src/lib.rt:354:9
 returns-2 : tie.Need-returns-2
 returns-2 c = (search optional-there, search needs)
 
--- src/lib.rt:344:1
 returns-3 : tie.Need-returns-3
 returns-3 c = (search optional-unset, omega arith)
 

@@ -11,47 +11,36 @@ use Rattle.sheet_values.proofs.put_marked.Reads as put-marked-reads
 use Rattle.wire.proofs.bit_value.Reads as bit-value-reads
 use Rattle.wire.proofs.byte_in.Reads as byte-in-reads
 
--- src/lib.rt:374:9
 bit-byte-requires : tie.Need-bit-byte-requires
 bit-byte-requires c κs = search needs
 
--- src/lib.rt:376:9
 write-requires : tie.Need-write-requires
 write-requires c κs = search needs
 
--- src/lib.rt:376:9
 same-length : tie.Need-same-length
 same-length c = search needs
 
--- src/lib.rt:376:9
 returns : tie.Need-returns
 returns c = search bool-past
 
--- src/lib.rt:378:30
 add-byte-in : tie.Need-add-byte-in
 add-byte-in c = search needs
 
--- src/lib.rt:378:9
 byte-in-requires : tie.Need-byte-in-requires
 byte-in-requires c κs = search needs
 
--- src/lib.rt:379:60
 bit-index-requires : tie.Need-bit-index-requires
 bit-index-requires c κs = search needs
 
--- src/lib.rt:379:41
 bit-value-requires : tie.Need-bit-value-requires
 bit-value-requires c κs = search needs
 
--- src/lib.rt:379:5
 put-marked-requires : tie.Need-put-marked-requires
 put-marked-requires c κs = search needs
 
--- src/lib.rt:369:1
 same-length-2 : tie.Need-same-length-2
 same-length-2 c = search needs
 
--- src/lib.rt:369:1
 returns-2 : tie.Need-returns-2
 returns-2 c = search bool-there
 

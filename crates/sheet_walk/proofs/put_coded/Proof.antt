@@ -9,35 +9,27 @@ use Rattle.sheet_walk.proofs.coded_width.Reads as coded-width-reads
 use Rattle.sheet_walk.proofs.put_other.Reads as put-other-reads
 use Rattle.sheet_values.proofs.put_plain.Reads as put-plain-reads
 
--- src/lib.rt:446:9
 put-other-requires : tie.Need-put-other-requires
 put-other-requires c κs = search needs
 
--- src/lib.rt:446:9
 same-length : tie.Need-same-length
 same-length c = search needs
 
--- src/lib.rt:446:9
 returns : tie.Need-returns
 returns c = search coded-other
 
--- src/lib.rt:448:9
 coded-end-requires : tie.Need-coded-end-requires
 coded-end-requires c κs = search needs
 
--- src/lib.rt:449:32
 coded-width-requires : tie.Need-coded-width-requires
 coded-width-requires c κs = search needs
 
--- src/lib.rt:449:5
 put-plain-requires : tie.Need-put-plain-requires
 put-plain-requires c κs = (search needs, (search width-eight, search needs, search needs))
 
--- src/lib.rt:432:1
 same-length-2 : tie.Need-same-length-2
 same-length-2 c = search needs
 
--- src/lib.rt:432:1
 returns-2 : tie.Need-returns-2
 returns-2 c = search coded-number
 

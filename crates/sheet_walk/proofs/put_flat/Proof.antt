@@ -15,123 +15,93 @@ use Rattle.wire.proofs.byte_in.Reads as byte-in-reads
 use Rattle.wire.proofs.index.Reads as index-reads
 use Rattle.wire.proofs.number.Reads as number-reads
 
--- src/lib.rt:288:39
 enum-told : tie.Need-enum-told
 enum-told c = search needs
 
--- src/lib.rt:288:71
 byte-in-requires : tie.Need-byte-in-requires
 byte-in-requires c κs = search boolean-there
 
--- src/lib.rt:288:55
 bit-value-requires : tie.Need-bit-value-requires
 bit-value-requires c κs = search needs
 
--- src/lib.rt:288:26
 put-marked-requires : tie.Need-put-marked-requires
 put-marked-requires c κs = search needs
 
--- src/lib.rt:289:26
 enum-known-k : tie.Need-enum-known-k
 enum-known-k c = search needs
 
--- src/lib.rt:293:17
 index-requires : tie.Need-index-requires
 index-requires c κs = search needs
 
--- src/lib.rt:293:13
 mul-put-marked : tie.Need-mul-put-marked
 mul-put-marked c = search needs
 
--- src/lib.rt:294:33
 index-requires-2 : tie.Need-index-requires-2
 index-requires-2 c κs = search needs
 
--- src/lib.rt:294:13
 number-requires : tie.Need-number-requires
 number-requires c κs = (search integer-eight, omega arith)
 
--- src/lib.rt:289:32
 put-marked-requires-2 : tie.Need-put-marked-requires-2
 put-marked-requires-2 c κs = (search needs, (search integer-bits, omega arith))
 
--- src/lib.rt:296:21
 enum-known-k-2 : tie.Need-enum-known-k-2
 enum-known-k-2 c = search needs
 
--- src/lib.rt:296:78
 index-requires-3 : tie.Need-index-requires-3
 index-requires-3 c κs = search needs
 
--- src/lib.rt:296:58
 number-requires-2 : tie.Need-number-requires-2
 number-requires-2 c κs = (search float-eight, omega arith)
 
--- src/lib.rt:296:27
 put-float-requires : tie.Need-put-float-requires
 put-float-requires c κs = (search needs, search float-width)
 
--- src/lib.rt:297:26
 enum-known-k-3 : tie.Need-enum-known-k-3
 enum-known-k-3 c = search needs
 
--- src/lib.rt:297:56
 byte-in-requires-2 : tie.Need-byte-in-requires-2
 byte-in-requires-2 c κs = search enum-there
 
--- src/lib.rt:297:32
 put-enum-requires : tie.Need-put-enum-requires
 put-enum-requires c κs = search needs
 
--- src/lib.rt:298:22
 enum-known-k-4 : tie.Need-enum-known-k-4
 enum-known-k-4 c = search needs
 
--- src/lib.rt:298:56
 index-requires-4 : tie.Need-index-requires-4
 index-requires-4 c κs = search needs
 
--- src/lib.rt:298:28
 put-whole-requires : tie.Need-put-whole-requires
 put-whole-requires c κs = (search needs, ((search needs, search struct-counted, search needs), (search struct-there, search struct-lawful)))
 
--- src/lib.rt:271:1
 same-length : tie.Need-same-length
 same-length c = search needs
 
--- src/lib.rt:271:1
 returns : tie.Need-returns
 returns c = search flat-boolean
 
--- src/lib.rt:271:1
 same-length-2 : tie.Need-same-length-2
 same-length-2 c = search needs
 
--- src/lib.rt:271:1
 returns-2 : tie.Need-returns-2
 returns-2 c = search flat-integer
 
--- src/lib.rt:271:1
 same-length-3 : tie.Need-same-length-3
 same-length-3 c = search needs
 
--- src/lib.rt:271:1
 returns-3 : tie.Need-returns-3
 returns-3 c = search flat-float
 
--- src/lib.rt:271:1
 same-length-4 : tie.Need-same-length-4
 same-length-4 c = search needs
 
--- src/lib.rt:271:1
 returns-4 : tie.Need-returns-4
 returns-4 c = search flat-enum
 
--- src/lib.rt:271:1
 same-length-5 : tie.Need-same-length-5
 same-length-5 c = search needs
 
--- src/lib.rt:271:1
 returns-5 : tie.Need-returns-5
 returns-5 c = search flat-struct
 

@@ -5,50 +5,39 @@ use borrow.Author.Needs.{needs}
 use Rattle.sheet_walk.proofs.put_flat_member.Statement.{statement}
 use Rattle.sheet_walk.proofs.put_flat_member.Tie as tie
 
--- src/lib.rt:249:9
 write-requires : tie.Need-write-requires
 write-requires c κs = search needs
 
--- src/lib.rt:249:9
 same-length : tie.Need-same-length
 same-length c = search needs
 
--- src/lib.rt:249:9
 returns : tie.Need-returns
 returns c = search value-none
 
--- src/lib.rt:253:22
 enum-known-k : tie.Need-enum-known-k
 enum-known-k c = search needs
 
--- src/lib.rt:253:28
 put-flat-requires : tie.Need-put-flat-requires
 put-flat-requires c κs =
     let q = c .before .before .before .before .before .before .before .before .before .before .pre in
     let fits = q .1 .1 .0 .0 (is-true _ (c .before .before .before .before .if1 .left)) in
     (q .0, ((q .1 .0 .0, search (flat-sound, q .1 .0 .2, c .before .before .k .given .1), q .1 .0 .1), ((search (flat-there, fits, c .before .before .k .given .1), q .1 .1 .0 .1, q .1 .1 .0 .2), search (flat-given, q .1 .1 .1, c .before .before .before .before .if1 .left, c .before .before .k .given .1))))
 
--- src/lib.rt:254:30
 enum-told : tie.Need-enum-told
 enum-told c = search needs
 
--- src/lib.rt:255:29
 enum-told-2 : tie.Need-enum-told-2
 enum-told-2 c = search needs
 
--- src/lib.rt:232:1
 same-length-2 : tie.Need-same-length-2
 same-length-2 c = search needs
 
--- src/lib.rt:232:1
 returns-2 : tie.Need-returns-2
 returns-2 c = search value-flat
 
--- src/lib.rt:232:1
 returns-3 : tie.Need-returns-3
 returns-3 c = absurd (search (flat-no-object, c .before .before .before .before .before .before .before .before .pre .1 .0 .3))
 
--- src/lib.rt:232:1
 returns-4 : tie.Need-returns-4
 returns-4 c = absurd (search (flat-no-union, c .before .before .before .before .before .before .before .before .pre .1 .0 .3))
 

@@ -8,43 +8,33 @@ use Rattle.bitio.proofs.write.Reads as write-reads
 use Rattle.sheet_values.proofs.put_float.Reads as put-float-reads
 use Rattle.wire.proofs.number.Reads as number-reads
 
--- src/lib.rt:420:12
 add-if1 : tie.Need-add-if1
 add-if1 c = search needs
 
--- src/lib.rt:421:9
 write-requires : tie.Need-write-requires
 write-requires c κs = search needs
 
--- src/lib.rt:421:9
 same-length : tie.Need-same-length
 same-length c = search needs
 
--- src/lib.rt:421:9
 returns : tie.Need-returns
 returns c = search float-past
 
--- src/lib.rt:423:40
 cast-put-float : tie.Need-cast-put-float
 cast-put-float c = search needs
 
--- src/lib.rt:423:65
 add-number : tie.Need-add-number
 add-number c = search needs
 
--- src/lib.rt:423:49
 number-requires : tie.Need-number-requires
 number-requires c κs = search needs
 
--- src/lib.rt:423:5
 put-float-requires : tie.Need-put-float-requires
 put-float-requires c κs = search needs
 
--- src/lib.rt:407:1
 same-length-2 : tie.Need-same-length-2
 same-length-2 c = search needs
 
--- src/lib.rt:407:1
 returns-2 : tie.Need-returns-2
 returns-2 c = search float-there
 

@@ -10,67 +10,51 @@ use Rattle.sheet_walk.proofs.put_optional_float.Reads as put-optional-f
 use Rattle.sheet_values.proofs.put_enum.Reads as put-enum-reads
 use Rattle.wire.proofs.byte_in.Reads as byte-in-reads
 
--- src/lib.rt:441:9
 put-bool-requires : tie.Need-put-bool-requires
 put-bool-requires c κs = search needs
 
--- src/lib.rt:441:9
 same-length : tie.Need-same-length
 same-length c = search needs
 
--- src/lib.rt:441:9
 returns : tie.Need-returns
 returns c = search other-bool
 
--- src/lib.rt:444:45
 sub-put-optional-float : tie.Need-sub-put-optional-float
 sub-put-optional-float c = search float-whole
 
--- src/lib.rt:444:9
 put-optional-float-requires : tie.Need-put-optional-float-requires
 put-optional-float-requires c κs = search (needs, float-eight)
 
--- src/lib.rt:444:9
 same-length-2 : tie.Need-same-length-2
 same-length-2 c = search needs
 
--- src/lib.rt:444:9
 returns-2 : tie.Need-returns-2
 returns-2 c = search other-float
 
--- src/lib.rt:447:9
 write-requires : tie.Need-write-requires
 write-requires c κs = search needs
 
--- src/lib.rt:447:9
 same-length-3 : tie.Need-same-length-3
 same-length-3 c = search needs
 
--- src/lib.rt:447:9
 returns-3 : tie.Need-returns-3
 returns-3 c = search other-past
 
--- src/lib.rt:449:33
 cast-put-enum : tie.Need-cast-put-enum
 cast-put-enum c = search needs
 
--- src/lib.rt:449:66
 add-byte-in : tie.Need-add-byte-in
 add-byte-in c = search needs
 
--- src/lib.rt:449:49
 byte-in-requires : tie.Need-byte-in-requires
 byte-in-requires c κs = search needs
 
--- src/lib.rt:449:5
 put-enum-requires : tie.Need-put-enum-requires
 put-enum-requires c κs = search needs
 
--- src/lib.rt:427:1
 same-length-4 : tie.Need-same-length-4
 same-length-4 c = search needs
 
--- src/lib.rt:427:1
 returns-4 : tie.Need-returns-4
 returns-4 c = search other-enum
 

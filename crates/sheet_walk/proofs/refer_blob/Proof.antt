@@ -11,41 +11,32 @@ use Rattle.sheet_walk.proofs.start_of.Reads as start-of-reads
 use Rattle.sheet_values.proofs.put_blob.Reads as put-blob-reads
 use Rattle.message_step.proofs.place_of.Reads as place-of-reads
 
--- src/lib.rt:348:9
 write-requires : tie.Need-write-requires
 write-requires c κs = search needs
 
--- src/lib.rt:348:9
 same-length : tie.Need-same-length
 same-length c = search needs
 
--- src/lib.rt:348:9
 returns : tie.Need-returns
 returns c = search reference-none
 
--- src/lib.rt:350:9
 place-of-requires : tie.Need-place-of-requires
 place-of-requires c κs = search needs
 
--- src/lib.rt:351:9
 start-of-requires : tie.Need-start-of-requires
 start-of-requires c κs = (search blob-header, search needs)
 
--- src/lib.rt:352:9
 length-of-requires : tie.Need-length-of-requires
 length-of-requires c κs = (search blob-header, search needs)
 
--- src/lib.rt:353:5
 put-blob-requires : tie.Need-put-blob-requires
 put-blob-requires c κs =
     let q = c .before .before .before .before .before .before .before .before .pre in
     (q .0, (search (blob-inside, q .1 .1, c .before .before .before .before .if1 .left, c .before .before .before .place-of .ensures, q .1 .0 .1, c .before .before .start-of .ensures, c .before .length-of .ensures), q .1 .0 .0))
 
--- src/lib.rt:331:1
 same-length-2 : tie.Need-same-length-2
 same-length-2 c = search needs
 
--- src/lib.rt:331:1
 returns-2 : tie.Need-returns-2
 returns-2 c = search blob-referred
 

@@ -4,23 +4,18 @@ use borrow.Author.Needs.{needs}
 use Rattle.sheet_walk.proofs.start_of.Statement.{statement}
 use Rattle.sheet_walk.proofs.start_of.Tie as tie
 
--- src/lib.rt:220:25
 enum-known-p : tie.Need-enum-known-p
 enum-known-p c = search needs
 
--- src/lib.rt:220:31
 add-result : tie.Need-add-result
 add-result c = let h = header-inside _ _ _ (c .before .p .given .1) (c .before .before .before .pre .0) in omega arith
 
--- src/lib.rt:221:24
 enum-known-p-2 : tie.Need-enum-known-p-2
 enum-known-p-2 c = search needs
 
--- src/lib.rt:215:1
 returns : tie.Need-returns
 returns c = search start-offset
 
--- src/lib.rt:215:1
 returns-2 : tie.Need-returns-2
 returns-2 c = search start-inplace
 

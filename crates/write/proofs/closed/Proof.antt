@@ -6,23 +6,18 @@ use Rattle.write.proofs.closed.Reads as reads
 use Rattle.write.proofs.closed.Lts as lts
 use Rattle.bitio.proofs.get.Reads as get-reads
 
--- src/lib.rt:83:16
 mul-left : tie.Need-mul-left
 mul-left c = search needs
 
--- src/lib.rt:83:16
 sub-left : tie.Need-sub-left
 sub-left c = search needs
 
--- src/lib.rt:85:9
 returns : tie.Need-returns
 returns c = search end-long
 
--- src/lib.rt:87:5
 get-requires : tie.Need-get-requires
 get-requires c κs = search needs
 
--- src/lib.rt:79:1
 returns-2 : tie.Need-returns-2
 returns-2 c = search end-short
 

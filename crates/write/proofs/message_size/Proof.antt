@@ -5,19 +5,15 @@ use Rattle.write.proofs.message_size.Tie as tie
 use Rattle.write.proofs.message_size.Reads as reads
 use Rattle.write.proofs.message_size.Lts as lts
 
--- src/lib.rt:95:19
 add-content : tie.Need-add-content
 add-content c = search needs
 
--- src/lib.rt:96:5
 add-result : tie.Need-add-result
 add-result c = search needs
 
--- src/lib.rt:96:5
 add-result-2 : tie.Need-add-result-2
 add-result-2 c = search needs
 
--- src/lib.rt:91:1
 returns : tie.Need-returns
 returns c = search size-is
 

@@ -8,35 +8,27 @@ use Rattle.schema_lawful.proofs.judge_schema.Reads as judge-schema-reads
 use Rattle.write.proofs.refused.Reads as refused-reads
 use Rattle.write.proofs.write_judged.Reads as write-judged-reads
 
--- src/lib.rt:149:32
 slice-aggregate-judge-schema : tie.Need-slice-aggregate-judge-schema
 slice-aggregate-judge-schema c = search needs
 
--- src/lib.rt:149:8
 judge-schema-requires : tie.Need-judge-schema-requires
 judge-schema-requires c κs = search needs
 
--- src/lib.rt:150:32
 slice-aggregate-write-judged : tie.Need-slice-aggregate-write-judged
 slice-aggregate-write-judged c = search needs
 
--- src/lib.rt:150:9
 write-judged-requires : tie.Need-write-judged-requires
 write-judged-requires c κs = search schema-accepted
 
--- src/lib.rt:150:9
 same-length : tie.Need-same-length
 same-length c = search needs
 
--- src/lib.rt:150:9
 returns : tie.Need-returns
 returns c = search needs
 
--- src/lib.rt:152:5
 refused-requires : tie.Need-refused-requires
 refused-requires c κs = search needs
 
--- src/lib.rt:144:1
 returns-2 : tie.Need-returns-2
 returns-2 c = (search schema-answer, search schema-out)
 

@@ -10,51 +10,39 @@ use Rattle.write.proofs.closed.Reads as closed-reads
 use Rattle.write.proofs.refused.Reads as refused-reads
 use Rattle.write.proofs.write_lawful.Reads as write-lawful-reads
 
--- src/lib.rt:129:9
 refused-requires : tie.Need-refused-requires
 refused-requires c κs = search needs
 
--- src/lib.rt:129:9
 returns : tie.Need-returns
 returns c = (search long-answer, search long-out)
 
--- src/lib.rt:131:9
 root-object-requires : tie.Need-root-object-requires
 root-object-requires c κs = search needs
 
--- src/lib.rt:132:9
 object-requires : tie.Need-object-requires
 object-requires c κs = search needs
 
--- src/lib.rt:134:9
 refused-requires-2 : tie.Need-refused-requires-2
 refused-requires-2 c κs = search needs
 
--- src/lib.rt:134:9
 returns-2 : tie.Need-returns-2
 returns-2 c = (search cut-answer, search cut-out)
 
--- src/lib.rt:136:9
 closed-requires : tie.Need-closed-requires
 closed-requires c κs = search needs
 
--- src/lib.rt:137:9
 refused-requires-3 : tie.Need-refused-requires-3
 refused-requires-3 c κs = search needs
 
--- src/lib.rt:137:9
 returns-3 : tie.Need-returns-3
 returns-3 c = (search open-answer, search open-out)
 
--- src/lib.rt:139:5
 write-lawful-requires : tie.Need-write-lawful-requires
 write-lawful-requires c κs = (search needs, search sheet-lawful)
 
--- src/lib.rt:123:1
 same-length : tie.Need-same-length
 same-length c = search needs
 
--- src/lib.rt:123:1
 returns-4 : tie.Need-returns-4
 returns-4 c = search needs
 

@@ -8,51 +8,39 @@ use Rattle.write_pass.proofs.emit_message.Reads as emit-message-reads
 use Rattle.write.proofs.message_size.Reads as message-size-reads
 use Rattle.write.proofs.refused.Reads as refused-reads
 
--- src/lib.rt:106:9
 refused-requires : tie.Need-refused-requires
 refused-requires c κs = search needs
 
--- src/lib.rt:106:9
 returns : tie.Need-returns
 returns c = (search not-answer, search not-out)
 
--- src/lib.rt:108:9
 message-size-requires : tie.Need-message-size-requires
 message-size-requires c κs = search needs
 
--- src/lib.rt:110:9
 refused-requires-2 : tie.Need-refused-requires-2
 refused-requires-2 c κs = search needs
 
--- src/lib.rt:110:9
 returns-2 : tie.Need-returns-2
 returns-2 c = (search over-answer, search over-out)
 
--- src/lib.rt:113:9
 refused-requires-3 : tie.Need-refused-requires-3
 refused-requires-3 c κs = search needs
 
--- src/lib.rt:113:9
 returns-3 : tie.Need-returns-3
 returns-3 c = (search full-answer, search full-out)
 
--- src/lib.rt:115:29
 slice-relend-prefix-emit-message : tie.Need-slice-relend-prefix-emit-message
 slice-relend-prefix-emit-message c = search needs
 
--- src/lib.rt:115:29
 slice-aggregate-emit-message : tie.Need-slice-aggregate-emit-message
 slice-aggregate-emit-message c = search taken
 
--- src/lib.rt:115:5
 emit-message-requires : tie.Need-emit-message-requires
 emit-message-requires c κs = (search needs, search sheet-short, search sheet-measured)
 
--- src/lib.rt:100:1
 same-length : tie.Need-same-length
 same-length c = search needs
 
--- src/lib.rt:100:1
 returns-4 : tie.Need-returns-4
 returns-4 c = (search done-answer, search done-out)
 

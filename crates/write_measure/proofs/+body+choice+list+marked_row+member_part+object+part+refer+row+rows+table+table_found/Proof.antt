@@ -228,91 +228,69 @@ refer-R t = (blob-end-reads.Asked, blob-end-reads.Learnt, refer-blob-reads.Asked
 abbrev table-R : ℕ → table-lts.Claims
 table-R t = (member-count-reads.Asked, member-count-reads.Learnt, opened-reads.Asked, opened-reads.Learnt, simple-members-reads.Asked, simple-members-reads.Learnt, unlawful-reads.Asked, unlawful-reads.Learnt, member-reads.Asked, member-reads.Learnt, member-part-below t, member-part.Post, joined-reads.Asked, joined-reads.Learnt)
 
--- src/lib.rt:514:22
 body-enum-known-k : (t : ℕ) → body-lts.Need-enum-known-k (body-R t) (body-at t) body.Post
 body-enum-known-k t c = search needs
 
--- src/lib.rt:514:37
 body-flat-test-requires : (t : ℕ) → body-lts.Need-flat-test-requires (body-R t) (body-at t) body.Post
 body-flat-test-requires t c κs = search (kind-flat, needs)
 
--- src/lib.rt:514:28
 body-plain-of-requires : (t : ℕ) → body-lts.Need-plain-of-requires (body-R t) (body-at t) body.Post
 body-plain-of-requires t c κs = search needs
 
--- src/lib.rt:515:24
 body-enum-known-k-2 : (t : ℕ) → body-lts.Need-enum-known-k-2 (body-R t) (body-at t) body.Post
 body-enum-known-k-2 t c = search needs
 
--- src/lib.rt:515:31
 body-refer-requires : (t : ℕ) → body-lts.Need-refer-requires (body-R t) (body-at t) body.Post
 body-refer-requires t c κs = search (kind-object, needs)
 
--- src/lib.rt:516:23
 body-enum-known-k-3 : (t : ℕ) → body-lts.Need-enum-known-k-3 (body-R t) (body-at t) body.Post
 body-enum-known-k-3 t c = search needs
 
--- src/lib.rt:516:50
 body-index-requires : (t : ℕ) → body-lts.Need-index-requires (body-R t) (body-at t) body.Post
 body-index-requires t c κs = search needs
 
--- src/lib.rt:516:29
 body-choice-requires : (t : ℕ) → body-lts.Need-choice-requires (body-R t) (body-at t) body.Post
 body-choice-requires t c κs = search (union-counted, needs)
 
--- src/lib.rt:509:1
 body-returns : (t : ℕ) → body-lts.Need-returns (body-R t) (body-at t) body.Post
 body-returns t c = search body-flat
 
--- src/lib.rt:509:1
 body-returns-2 : (t : ℕ) → body-lts.Need-returns-2 (body-R t) (body-at t) body.Post
 body-returns-2 t c = search body-object
 
--- src/lib.rt:509:1
 body-returns-3 : (t : ℕ) → body-lts.Need-returns-3 (body-R t) (body-at t) body.Post
 body-returns-3 t c = search body-union
 
--- src/lib.rt:492:9
 choice-case-count-requires : (t : ℕ) → choice-lts.Need-case-count-requires (choice-R t) (choice-at t) choice.Post
 choice-case-count-requires t c κs = search needs
 
--- src/lib.rt:493:9
 choice-take-number-requires : (t : ℕ) → choice-lts.Need-take-number-requires (choice-R t) (choice-at t) choice.Post
 choice-take-number-requires t c κs = search needs
 
--- src/lib.rt:495:9
 choice-unlawful-requires : (t : ℕ) → choice-lts.Need-unlawful-requires (choice-R t) (choice-at t) choice.Post
 choice-unlawful-requires t c κs = search needs
 
--- src/lib.rt:495:9
 choice-returns : (t : ℕ) → choice-lts.Need-returns (choice-R t) (choice-at t) choice.Post
 choice-returns t c = search choice-cut
 
--- src/lib.rt:499:9
 choice-unlawful-requires-2 : (t : ℕ) → choice-lts.Need-unlawful-requires-2 (choice-R t) (choice-at t) choice.Post
 choice-unlawful-requires-2 t c κs = search needs
 
--- src/lib.rt:499:9
 choice-returns-2 : (t : ℕ) → choice-lts.Need-returns-2 (choice-R t) (choice-at t) choice.Post
 choice-returns-2 t c = search choice-zero
 
--- src/lib.rt:502:9
 choice-unlawful-requires-3 : (t : ℕ) → choice-lts.Need-unlawful-requires-3 (choice-R t) (choice-at t) choice.Post
 choice-unlawful-requires-3 t c κs = search needs
 
--- src/lib.rt:502:9
 choice-returns-3 : (t : ℕ) → choice-lts.Need-returns-3 (choice-R t) (choice-at t) choice.Post
 choice-returns-3 t c = search choice-above
 
--- src/lib.rt:504:9
 choice-union-case-requires : (t : ℕ) → choice-lts.Need-union-case-requires (choice-R t) (choice-at t) choice.Post
 choice-union-case-requires t c κs = search needs
 
--- src/lib.rt:505:5
 choice-refer-requires : (t : ℕ) → choice-lts.Need-refer-requires (choice-R t) (choice-at t) choice.Post
 choice-refer-requires t c κs = search (case-sound, needs)
 
--- src/lib.rt:488:1
 choice-returns-4 : (t : ℕ) → choice-lts.Need-returns-4 (choice-R t) (choice-at t) choice.Post
 choice-returns-4 t c = search choice-known
 
@@ -324,23 +302,18 @@ list-Inv-loop b dir s d i at n k total u a₀ pos₀ j₀ a pos j =
 abbrev list-μ-loop : list-lts.MeasureT-loop
 list-μ-loop b dir s d i at n k total u a₀ pos₀ j₀ a pos j = n - j
 
--- src/lib.rt:590:9
 list-take-number-requires : (t : ℕ) → list-lts.Need-take-number-requires (list-R t) (list-at t) list.Post list-Inv-loop list-μ-loop
 list-take-number-requires t c κs = search needs
 
--- src/lib.rt:592:9
 list-unlawful-requires : (t : ℕ) → list-lts.Need-unlawful-requires (list-R t) (list-at t) list.Post list-Inv-loop list-μ-loop
 list-unlawful-requires t c κs = search needs
 
--- src/lib.rt:592:9
 list-returns : (t : ℕ) → list-lts.Need-returns (list-R t) (list-at t) list.Post list-Inv-loop list-μ-loop
 list-returns t c = search elements-cut
 
--- src/lib.rt:595:9
 list-element-requires : (t : ℕ) → list-lts.Need-element-requires (list-R t) (list-at t) list.Post list-Inv-loop list-μ-loop
 list-element-requires t c κs = search needs
 
--- src/lib.rt:596:27
 list-elements-size-requires : (t : ℕ) → list-lts.Need-elements-size-requires (list-R t) (list-at t) list.Post list-Inv-loop list-μ-loop
 list-elements-size-requires t c κs = search (element-sound, needs)
 
@@ -353,7 +326,6 @@ list-rows-requires t c κs = search (row-counted, needs)
 list-returns-2 : (t : ℕ) → list-lts.Need-returns-2 (list-R t) (list-at t) list.Post list-Inv-loop list-μ-loop
 list-returns-2 t c = search elements-rows
 
--- src/lib.rt:596:9
 list-opened-requires : (t : ℕ) → list-lts.Need-opened-requires (list-R t) (list-at t) list.Post list-Inv-loop list-μ-loop
 list-opened-requires t c κs = search needs
 
@@ -369,163 +341,123 @@ list-pass-requires t c κs = search needs
 list-returns-3 : (t : ℕ) → list-lts.Need-returns-3 (list-R t) (list-at t) list.Post list-Inv-loop list-μ-loop
 list-returns-3 t c = search elements-unmarked
 
--- src/lib.rt:599:5
 list-loop-holds : (t : ℕ) → list-lts.Need-loop-holds (list-R t) (list-at t) list.Post list-Inv-loop list-μ-loop
 list-loop-holds t c = (search needs, search needs, search needs, search needs, search needs, search marked, search elements-start)
 
--- src/lib.rt:600:13
 list-part-requires : (t : ℕ) → list-lts.Need-part-requires (list-R t) (list-at t) list.Post list-Inv-loop list-μ-loop
 list-part-requires t c κs = search (element-sound, needs)
 
--- src/lib.rt:602:13
 list-unlawful-requires-2 : (t : ℕ) → list-lts.Need-unlawful-requires-2 (list-R t) (list-at t) list.Post list-Inv-loop list-μ-loop
 list-unlawful-requires-2 t c κs = search needs
 
--- src/lib.rt:602:13
 list-returns-4 : (t : ℕ) → list-lts.Need-returns-4 (list-R t) (list-at t) list.Post list-Inv-loop list-μ-loop
 list-returns-4 t c = search elements-stopped
 
--- src/lib.rt:605:9
 list-joined-requires : (t : ℕ) → list-lts.Need-joined-requires (list-R t) (list-at t) list.Post list-Inv-loop list-μ-loop
 list-joined-requires t c κs = search needs
 
--- src/lib.rt:606:9
 list-add-j : (t : ℕ) → list-lts.Need-add-j (list-R t) (list-at t) list.Post list-Inv-loop list-μ-loop
 list-add-j t c = search needs
 
--- src/lib.rt:599:5
 list-loop-less : (t : ℕ) → list-lts.Need-loop-less (list-R t) (list-at t) list.Post list-Inv-loop list-μ-loop
 list-loop-less t c = search needs
 
--- src/lib.rt:599:5
 list-loop-again : (t : ℕ) → list-lts.Need-loop-again (list-R t) (list-at t) list.Post list-Inv-loop list-μ-loop
 list-loop-again t c = (search needs, search needs, search needs, search needs, search needs, search needs, search elements-turn)
 
--- src/lib.rt:586:1
 list-returns-5 : (t : ℕ) → list-lts.Need-returns-5 (list-R t) (list-at t) list.Post list-Inv-loop list-μ-loop
 list-returns-5 t c = search elements-done
 
--- src/lib.rt:621:9
 object-unlawful-requires : (t : ℕ) → object-lts.Need-unlawful-requires (object-R t) (object-at t) object.Post
 object-unlawful-requires t c κs = search needs
 
--- src/lib.rt:621:9
 object-returns : (t : ℕ) → object-lts.Need-returns (object-R t) (object-at t) object.Post
 object-returns t c = search object-deep
 
--- src/lib.rt:624:25
 object-enum-told : (t : ℕ) → object-lts.Need-enum-told (object-R t) (object-at t) object.Post
 object-enum-told t c = search needs
 
--- src/lib.rt:624:25
 object-blob-requires : (t : ℕ) → object-lts.Need-blob-requires (object-R t) (object-at t) object.Post
 object-blob-requires t c κs = search needs
 
--- src/lib.rt:625:26
 object-enum-told-2 : (t : ℕ) → object-lts.Need-enum-told-2 (object-R t) (object-at t) object.Post
 object-enum-told-2 t c = search needs
 
--- src/lib.rt:625:26
 object-blob-requires-2 : (t : ℕ) → object-lts.Need-blob-requires-2 (object-R t) (object-at t) object.Post
 object-blob-requires-2 t c κs = search needs
 
--- src/lib.rt:626:22
 object-enum-known-ob : (t : ℕ) → object-lts.Need-enum-known-ob (object-R t) (object-at t) object.Post
 object-enum-known-ob t c = search needs
 
--- src/lib.rt:626:44
 object-sub-list : (t : ℕ) → object-lts.Need-sub-list (object-R t) (object-at t) object.Post
 object-sub-list t c = search needs
 
--- src/lib.rt:626:51
 object-index-requires : (t : ℕ) → object-lts.Need-index-requires (object-R t) (object-at t) object.Post
 object-index-requires t c κs = search needs
 
--- src/lib.rt:626:28
 object-list-requires : (t : ℕ) → object-lts.Need-list-requires (object-R t) (object-at t) object.Post
 object-list-requires t c κs = search (list-counted, needs)
 
--- src/lib.rt:627:23
 object-enum-known-ob-2 : (t : ℕ) → object-lts.Need-enum-known-ob-2 (object-R t) (object-at t) object.Post
 object-enum-known-ob-2 t c = search needs
 
--- src/lib.rt:627:46
 object-sub-table-found : (t : ℕ) → object-lts.Need-sub-table-found (object-R t) (object-at t) object.Post
 object-sub-table-found t c = search needs
 
--- src/lib.rt:627:53
 object-index-requires-2 : (t : ℕ) → object-lts.Need-index-requires-2 (object-R t) (object-at t) object.Post
 object-index-requires-2 t c κs = search needs
 
--- src/lib.rt:627:29
 object-table-found-requires : (t : ℕ) → object-lts.Need-table-found-requires (object-R t) (object-at t) object.Post
 object-table-found-requires t c κs = search (table-counted, needs)
 
--- src/lib.rt:616:1
 object-returns-2 : (t : ℕ) → object-lts.Need-returns-2 (object-R t) (object-at t) object.Post
 object-returns-2 t c = search object-text
 
--- src/lib.rt:616:1
 object-returns-3 : (t : ℕ) → object-lts.Need-returns-3 (object-R t) (object-at t) object.Post
 object-returns-3 t c = search object-bytes
 
--- src/lib.rt:616:1
 object-returns-4 : (t : ℕ) → object-lts.Need-returns-4 (object-R t) (object-at t) object.Post
 object-returns-4 t c = search object-list
 
--- src/lib.rt:616:1
 object-returns-5 : (t : ℕ) → object-lts.Need-returns-5 (object-R t) (object-at t) object.Post
 object-returns-5 t c = search object-table
 
--- src/lib.rt:525:9
 part-take-number-requires : (t : ℕ) → part-lts.Need-take-number-requires (part-R t) (part-at t) part.Post
 part-take-number-requires t c κs = search needs
 
--- src/lib.rt:527:9
 part-unlawful-requires : (t : ℕ) → part-lts.Need-unlawful-requires (part-R t) (part-at t) part.Post
 part-unlawful-requires t c κs = search needs
 
--- src/lib.rt:527:9
 part-returns : (t : ℕ) → part-lts.Need-returns (part-R t) (part-at t) part.Post
 part-returns t c = search part-cut
 
--- src/lib.rt:534:27
 part-may-lack-requires : (t : ℕ) → part-lts.Need-may-lack-requires (part-R t) (part-at t) part.Post
 part-may-lack-requires t c κs = search needs
 
--- src/lib.rt:534:21
 part-plain-requires : (t : ℕ) → part-lts.Need-plain-requires (part-R t) (part-at t) part.Post
 part-plain-requires t c κs = search needs
 
--- src/lib.rt:532:9
 part-returns-2 : (t : ℕ) → part-lts.Need-returns-2 (part-R t) (part-at t) part.Post
 part-returns-2 t c = search part-none
 
--- src/lib.rt:539:9
 part-body-requires : (t : ℕ) → part-lts.Need-body-requires (part-R t) (part-at t) part.Post
 part-body-requires t c κs = search needs
 
--- src/lib.rt:539:9
 part-returns-3 : (t : ℕ) → part-lts.Need-returns-3 (part-R t) (part-at t) part.Post
 part-returns-3 t c = search part-there
 
--- src/lib.rt:542:9
 part-lost-requires : (t : ℕ) → part-lts.Need-lost-requires (part-R t) (part-at t) part.Post
 part-lost-requires t c κs = search needs
 
--- src/lib.rt:542:9
 part-returns-4 : (t : ℕ) → part-lts.Need-returns-4 (part-R t) (part-at t) part.Post
 part-returns-4 t c = search part-lost
 
--- src/lib.rt:544:5
 part-unlawful-requires-2 : (t : ℕ) → part-lts.Need-unlawful-requires-2 (part-R t) (part-at t) part.Post
 part-unlawful-requires-2 t c κs = search needs
 
--- src/lib.rt:521:1
 part-returns-5 : (t : ℕ) → part-lts.Need-returns-5 (part-R t) (part-at t) part.Post
 part-returns-5 t c = search part-bad
 
--- src/lib.rt:477:9
 refer-blob-end-requires : (t : ℕ) → refer-lts.Need-blob-end-requires (refer-R t) (refer-at t) refer.Post
 refer-blob-end-requires t c κs = search needs
 
@@ -538,11 +470,9 @@ refer-returns t c = search refer-blob
 refer-object-requires : (t : ℕ) → refer-lts.Need-object-requires (refer-R t) (refer-at t) refer.Post
 refer-object-requires t c κs = search needs
 
--- src/lib.rt:482:17
 refer-referred-requires : (t : ℕ) → refer-lts.Need-referred-requires (refer-R t) (refer-at t) refer.Post
 refer-referred-requires t c κs = search needs
 
--- src/lib.rt:473:1
 refer-returns-2 : (t : ℕ) → refer-lts.Need-returns-2 (refer-R t) (refer-at t) refer.Post
 refer-returns-2 t c = search refer-surveyed
 
@@ -554,15 +484,12 @@ table-Inv-loop b dir s d t size at count a₀ pos₀ j₀ a pos j =
 abbrev table-μ-loop : table-lts.MeasureT-loop
 table-μ-loop b dir s d t size at count a₀ pos₀ j₀ a pos j = count - j
 
--- src/lib.rt:562:9
 table-member-count-requires : (t : ℕ) → table-lts.Need-member-count-requires (table-R t) (table-at t) table.Post table-Inv-loop table-μ-loop
 table-member-count-requires t c κs = search needs
 
--- src/lib.rt:564:9
 table-opened-requires : (t : ℕ) → table-lts.Need-opened-requires (table-R t) (table-at t) table.Post table-Inv-loop table-μ-loop
 table-opened-requires t c κs = search needs
 
--- src/lib.rt:567:5
 table-loop-holds : (t : ℕ) → table-lts.Need-loop-holds (table-R t) (table-at t) table.Post table-Inv-loop table-μ-loop
 table-loop-holds t c = (search needs, search needs, search needs, search needs, search needs, search needs, search members-start)
 

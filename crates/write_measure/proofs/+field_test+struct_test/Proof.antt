@@ -55,75 +55,57 @@ field-test-R t = (any-number-reads.Asked, any-number-reads.Learnt, index-reads.A
 abbrev struct-test-R : ℕ → struct-test-lts.Claims
 struct-test-R t = (field-count-reads.Asked, field-count-reads.Learnt, field-reads.Asked, field-reads.Learnt, field-test-below t, field-test.Post, not-lawful-reads.Asked, not-lawful-reads.Learnt, both-reads.Asked, both-reads.Learnt)
 
--- src/lib.rt:169:26
 field-test-enum-told : (t : ℕ) → field-test-lts.Need-enum-told (field-test-R t) (field-test-at t) field-test.Post
 field-test-enum-told t c = search needs
 
--- src/lib.rt:169:26
 field-test-any-number-requires : (t : ℕ) → field-test-lts.Need-any-number-requires (field-test-R t) (field-test-at t) field-test.Post
 field-test-any-number-requires t c κs = search needs
 
--- src/lib.rt:170:26
 field-test-enum-known-k : (t : ℕ) → field-test-lts.Need-enum-known-k (field-test-R t) (field-test-at t) field-test.Post
 field-test-enum-known-k t c = search needs
 
--- src/lib.rt:170:55
 field-test-index-requires : (t : ℕ) → field-test-lts.Need-index-requires (field-test-R t) (field-test-at t) field-test.Post
 field-test-index-requires t c κs = search needs
 
--- src/lib.rt:170:51
 field-test-mul-any-number : (t : ℕ) → field-test-lts.Need-mul-any-number (field-test-R t) (field-test-at t) field-test.Post
 field-test-mul-any-number t c = search needs
 
--- src/lib.rt:170:32
 field-test-any-number-requires-2 : (t : ℕ) → field-test-lts.Need-any-number-requires-2 (field-test-R t) (field-test-at t) field-test.Post
 field-test-any-number-requires-2 t c κs = search (integer-short, needs)
 
--- src/lib.rt:171:21
 field-test-enum-known-k-2 : (t : ℕ) → field-test-lts.Need-enum-known-k-2 (field-test-R t) (field-test-at t) field-test.Post
 field-test-enum-known-k-2 t c = search needs
 
--- src/lib.rt:171:27
 field-test-float-number-requires : (t : ℕ) → field-test-lts.Need-float-number-requires (field-test-R t) (field-test-at t) field-test.Post
 field-test-float-number-requires t c κs = search (float-short, needs)
 
--- src/lib.rt:172:26
 field-test-enum-known-k-3 : (t : ℕ) → field-test-lts.Need-enum-known-k-3 (field-test-R t) (field-test-at t) field-test.Post
 field-test-enum-known-k-3 t c = search needs
 
--- src/lib.rt:172:32
 field-test-enum-field-requires : (t : ℕ) → field-test-lts.Need-enum-field-requires (field-test-R t) (field-test-at t) field-test.Post
 field-test-enum-field-requires t c κs = search needs
 
--- src/lib.rt:173:22
 field-test-enum-known-k-4 : (t : ℕ) → field-test-lts.Need-enum-known-k-4 (field-test-R t) (field-test-at t) field-test.Post
 field-test-enum-known-k-4 t c = search needs
 
--- src/lib.rt:173:51
 field-test-index-requires-2 : (t : ℕ) → field-test-lts.Need-index-requires-2 (field-test-R t) (field-test-at t) field-test.Post
 field-test-index-requires-2 t c κs = search needs
 
--- src/lib.rt:173:28
 field-test-struct-test-requires : (t : ℕ) → field-test-lts.Need-struct-test-requires (field-test-R t) (field-test-at t) field-test.Post
 field-test-struct-test-requires t c κs = (let l : c .index2 .result < c .before .before .before .before .before .before .before .args .i = search struct-lower in (omega arith, (search needs, omega arith, search needs, search needs)))
 
--- src/lib.rt:164:1
 field-test-returns : (t : ℕ) → field-test-lts.Need-returns (field-test-R t) (field-test-at t) field-test.Post
 field-test-returns t c = search field-boolean
 
--- src/lib.rt:164:1
 field-test-returns-2 : (t : ℕ) → field-test-lts.Need-returns-2 (field-test-R t) (field-test-at t) field-test.Post
 field-test-returns-2 t c = search field-integer
 
--- src/lib.rt:164:1
 field-test-returns-3 : (t : ℕ) → field-test-lts.Need-returns-3 (field-test-R t) (field-test-at t) field-test.Post
 field-test-returns-3 t c = search field-float
 
--- src/lib.rt:164:1
 field-test-returns-4 : (t : ℕ) → field-test-lts.Need-returns-4 (field-test-R t) (field-test-at t) field-test.Post
 field-test-returns-4 t c = search field-enum
 
--- src/lib.rt:164:1
 field-test-returns-5 : (t : ℕ) → field-test-lts.Need-returns-5 (field-test-R t) (field-test-at t) field-test.Post
 field-test-returns-5 t c = search field-struct
 
@@ -135,47 +117,36 @@ struct-test-Inv-loop b dir s i at n pos₀ fine₀ j₀ pos fine j =
 abbrev struct-test-μ-loop : struct-test-lts.MeasureT-loop
 struct-test-μ-loop b dir s i at n pos₀ fine₀ j₀ pos fine j = n - j
 
--- src/lib.rt:182:9
 struct-test-field-count-requires : (t : ℕ) → struct-test-lts.Need-field-count-requires (struct-test-R t) (struct-test-at t) struct-test.Post struct-test-Inv-loop struct-test-μ-loop
 struct-test-field-count-requires t c κs = search needs
 
--- src/lib.rt:186:5
 struct-test-loop-holds : (t : ℕ) → struct-test-lts.Need-loop-holds (struct-test-R t) (struct-test-at t) struct-test.Post struct-test-Inv-loop struct-test-μ-loop
 struct-test-loop-holds t c = (omega arith, search needs, search fields-all)
 
--- src/lib.rt:187:13
 struct-test-field-requires : (t : ℕ) → struct-test-lts.Need-field-requires (struct-test-R t) (struct-test-at t) struct-test.Post struct-test-Inv-loop struct-test-μ-loop
 struct-test-field-requires t c κs = search needs
 
--- src/lib.rt:188:13
 struct-test-field-test-requires : (t : ℕ) → struct-test-lts.Need-field-test-requires (struct-test-R t) (struct-test-at t) struct-test.Post struct-test-Inv-loop struct-test-μ-loop
 struct-test-field-test-requires t c κs = search (field-sound, needs)
 
--- src/lib.rt:190:13
 struct-test-not-lawful-requires : (t : ℕ) → struct-test-lts.Need-not-lawful-requires (struct-test-R t) (struct-test-at t) struct-test.Post struct-test-Inv-loop struct-test-μ-loop
 struct-test-not-lawful-requires t c κs = search needs
 
--- src/lib.rt:190:13
 struct-test-returns : (t : ℕ) → struct-test-lts.Need-returns (struct-test-R t) (struct-test-at t) struct-test.Post struct-test-Inv-loop struct-test-μ-loop
 struct-test-returns t c = search fields-cut
 
--- src/lib.rt:192:9
 struct-test-both-requires : (t : ℕ) → struct-test-lts.Need-both-requires (struct-test-R t) (struct-test-at t) struct-test.Post struct-test-Inv-loop struct-test-μ-loop
 struct-test-both-requires t c κs = search needs
 
--- src/lib.rt:194:9
 struct-test-add-j : (t : ℕ) → struct-test-lts.Need-add-j (struct-test-R t) (struct-test-at t) struct-test.Post struct-test-Inv-loop struct-test-μ-loop
 struct-test-add-j t c = search needs
 
--- src/lib.rt:186:5
 struct-test-loop-less : (t : ℕ) → struct-test-lts.Need-loop-less (struct-test-R t) (struct-test-at t) struct-test.Post struct-test-Inv-loop struct-test-μ-loop
 struct-test-loop-less t c = search needs
 
--- src/lib.rt:186:5
 struct-test-loop-again : (t : ℕ) → struct-test-lts.Need-loop-again (struct-test-R t) (struct-test-at t) struct-test.Post struct-test-Inv-loop struct-test-μ-loop
 struct-test-loop-again t c = (search needs, search needs, search fields-turn)
 
--- src/lib.rt:178:1
 struct-test-returns-2 : (t : ℕ) → struct-test-lts.Need-returns-2 (struct-test-R t) (struct-test-at t) struct-test.Post struct-test-Inv-loop struct-test-μ-loop
 struct-test-returns-2 t c = search fields-done
 

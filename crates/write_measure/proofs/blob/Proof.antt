@@ -9,31 +9,24 @@ use Rattle.bitio.proofs.take_number.Reads as take-number-reads
 use Rattle.write_measure.proofs.opened.Reads as opened-reads
 use Rattle.write_measure.proofs.unlawful.Reads as unlawful-reads
 
--- src/lib.rt:445:9
 take-number-requires : tie.Need-take-number-requires
 take-number-requires c κs = search needs
 
--- src/lib.rt:447:9
 unlawful-requires : tie.Need-unlawful-requires
 unlawful-requires c κs = search needs
 
--- src/lib.rt:447:9
 returns : tie.Need-returns
 returns c = search blob-cut
 
--- src/lib.rt:450:9
 skip-bytes-requires : tie.Need-skip-bytes-requires
 skip-bytes-requires c κs = search needs
 
--- src/lib.rt:455:27
 add-opened : tie.Need-add-opened
 add-opened c = search needs
 
--- src/lib.rt:455:17
 opened-requires : tie.Need-opened-requires
 opened-requires c κs = search needs
 
--- src/lib.rt:441:1
 returns-2 : tie.Need-returns-2
 returns-2 c = search blob-there
 

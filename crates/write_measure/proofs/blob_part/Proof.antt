@@ -4,51 +4,39 @@ use Rattle.write_measure.proofs.SimpleCases.{marked-blob}
 use Rattle.write_measure.proofs.blob_part.Statement.{statement}
 use Rattle.write_measure.proofs.blob_part.Tie as tie
 
--- src/lib.rt:608:9
 take-number-requires : tie.Need-take-number-requires
 take-number-requires c κs = search needs
 
--- src/lib.rt:610:9
 unlawful-requires : tie.Need-unlawful-requires
 unlawful-requires c κs = search needs
 
--- src/lib.rt:610:9
 returns : tie.Need-returns
 returns c = search part-cut
 
--- src/lib.rt:617:21
 plain-requires : tie.Need-plain-requires
 plain-requires c κs = search needs
 
--- src/lib.rt:615:9
 returns-2 : tie.Need-returns-2
 returns-2 c = search object-none
 
--- src/lib.rt:622:25
 kind-at-requires : tie.Need-kind-at-requires
 kind-at-requires c κs = search needs
 
--- src/lib.rt:622:20
 sub-more : tie.Need-sub-more
 sub-more c = search needs
 
--- src/lib.rt:623:39
 inplace-at-requires : tie.Need-inplace-at-requires
 inplace-at-requires c κs = search needs
 
--- src/lib.rt:623:9
 blob-there-requires : tie.Need-blob-there-requires
 blob-there-requires c κs = search needs
 
--- src/lib.rt:623:9
 returns-3 : tie.Need-returns-3
 returns-3 c = search marked-blob
 
--- src/lib.rt:625:5
 unlawful-requires-2 : tie.Need-unlawful-requires-2
 unlawful-requires-2 c κs = search needs
 
--- src/lib.rt:604:1
 returns-4 : tie.Need-returns-4
 returns-4 c = search object-bad
 

@@ -5,11 +5,9 @@ use Rattle.write_measure.proofs.capped.Tie as tie
 use Rattle.write_measure.proofs.capped.Reads as reads
 use Rattle.write_measure.proofs.capped.Lts as lts
 
--- src/lib.rt:311:1
 returns : tie.Need-returns
 returns c = (search capped-short, search needs)
 
--- src/lib.rt:311:1
 returns-2 : tie.Need-returns-2
 returns-2 c = (search capped-past, search needs)
 

@@ -8,19 +8,15 @@ use Rattle.bitio.proofs.take_number.Reads as take-number-reads
 use Rattle.schema.proofs.case_count.Reads as case-count-reads
 use Rattle.write_measure.proofs.tested_if.Reads as tested-if-reads
 
--- src/lib.rt:249:9
 case-count-requires : tie.Need-case-count-requires
 case-count-requires c κs = search needs
 
--- src/lib.rt:250:9
 take-number-requires : tie.Need-take-number-requires
 take-number-requires c κs = search needs
 
--- src/lib.rt:252:5
 tested-if-requires : tie.Need-tested-if-requires
 tested-if-requires c κs = search needs
 
--- src/lib.rt:245:1
 returns : tie.Need-returns
 returns c = search choice-lost-tested
 

@@ -9,27 +9,21 @@ use Rattle.message_layout.proofs.is_bool.Reads as is-bool-reads
 use Rattle.message_layout.proofs.width.Reads as width-reads
 use Rattle.write_measure.proofs.times.Reads as times-reads
 
--- src/lib.rt:382:8
 is-bool-requires : tie.Need-is-bool-requires
 is-bool-requires c κs = search needs
 
--- src/lib.rt:383:17
 add-result : tie.Need-add-result
 add-result c = search needs
 
--- src/lib.rt:383:9
 returns : tie.Need-returns
 returns c = (search size-bool, omega arith)
 
--- src/lib.rt:385:11
 width-requires : tie.Need-width-requires
 width-requires c κs = search needs
 
--- src/lib.rt:385:5
 times-requires : tie.Need-times-requires
 times-requires c κs = search needs
 
--- src/lib.rt:378:1
 returns-2 : tie.Need-returns-2
 returns-2 c = (search size-other, omega arith)
 

@@ -9,43 +9,33 @@ use Rattle.write_measure.proofs.enum_known.Reads as enum-known-reads
 use Rattle.write_measure.proofs.enum_lost.Reads as enum-lost-reads
 use Rattle.write_measure.proofs.not_lawful.Reads as not-lawful-reads
 
--- src/lib.rt:141:9
 take-number-requires : tie.Need-take-number-requires
 take-number-requires c κs = search needs
 
--- src/lib.rt:143:9
 not-lawful-requires : tie.Need-not-lawful-requires
 not-lawful-requires c κs = search needs
 
--- src/lib.rt:143:9
 returns : tie.Need-returns
 returns c = search mark-cut
 
--- src/lib.rt:148:9
 returns-2 : tie.Need-returns-2
 returns-2 c = search mark-none
 
--- src/lib.rt:155:9
 enum-known-requires : tie.Need-enum-known-requires
 enum-known-requires c κs = search needs
 
--- src/lib.rt:155:9
 returns-3 : tie.Need-returns-3
 returns-3 c = search mark-known
 
--- src/lib.rt:158:9
 enum-lost-requires : tie.Need-enum-lost-requires
 enum-lost-requires c κs = search needs
 
--- src/lib.rt:158:9
 returns-4 : tie.Need-returns-4
 returns-4 c = search mark-lost
 
--- src/lib.rt:160:5
 not-lawful-requires-2 : tie.Need-not-lawful-requires-2
 not-lawful-requires-2 c κs = search needs
 
--- src/lib.rt:137:1
 returns-5 : tie.Need-returns-5
 returns-5 c = search mark-bad
 

@@ -8,19 +8,15 @@ use Rattle.bitio.proofs.take_number.Reads as take-number-reads
 use Rattle.write_measure.proofs.tested_if.Reads as tested-if-reads
 use Rattle.write_measure.proofs.unknown_enum.Reads as unknown-enum-reads
 
--- src/lib.rt:130:9
 take-number-requires : tie.Need-take-number-requires
 take-number-requires c κs = search needs
 
--- src/lib.rt:132:9
 unknown-enum-requires : tie.Need-unknown-enum-requires
 unknown-enum-requires c κs = search needs
 
--- src/lib.rt:133:5
 tested-if-requires : tie.Need-tested-if-requires
 tested-if-requires c κs = search needs
 
--- src/lib.rt:126:1
 returns : tie.Need-returns
 returns c = search lost-tested
 

@@ -26,34 +26,27 @@ Inv-loop b dir t count c₀ j₀ c j =
 abbrev μ-loop : tie.MeasureT-loop
 μ-loop b dir t count c₀ j₀ c j = count - j
 
--- src/lib.rt:393:9
 member-count-requires : tie.Need-member-count-requires Inv-loop μ-loop
 member-count-requires c κs = search needs
 
--- src/lib.rt:394:9
 begin-requires : tie.Need-begin-requires Inv-loop μ-loop
 begin-requires c κs = search needs
 
--- src/lib.rt:396:5
 loop-holds : tie.Need-loop-holds Inv-loop μ-loop
 loop-holds c = (search needs, search needs, search fixed-start)
 
 behind-requires : tie.Need-behind-requires Inv-loop μ-loop
 behind-requires c κs = (search needs, search needs, search member-counted, search needs, search needs)
 
--- src/lib.rt:400:9
 add-j : tie.Need-add-j Inv-loop μ-loop
 add-j c = search needs
 
--- src/lib.rt:396:5
 loop-less : tie.Need-loop-less Inv-loop μ-loop
 loop-less c = search needs
 
--- src/lib.rt:396:5
 loop-again : tie.Need-loop-again Inv-loop μ-loop
 loop-again c = (search needs, search needs, search fixed-turn)
 
--- src/lib.rt:389:1
 returns : tie.Need-returns Inv-loop μ-loop
 returns c = (search fixed-done, search needs)
 

@@ -11,75 +11,57 @@ use Rattle.write_measure.proofs.enum_known.Reads as enum-known-reads
 use Rattle.write_measure.proofs.float_number.Reads as float-number-reads
 use Rattle.write_measure.proofs.struct_test.Reads as struct-test-reads
 
--- src/lib.rt:222:26
 enum-told : tie.Need-enum-told
 enum-told c = search needs
 
--- src/lib.rt:222:26
 any-number-requires : tie.Need-any-number-requires
 any-number-requires c κs = search needs
 
--- src/lib.rt:223:26
 enum-known-k : tie.Need-enum-known-k
 enum-known-k c = search needs
 
--- src/lib.rt:223:55
 index-requires : tie.Need-index-requires
 index-requires c κs = search needs
 
--- src/lib.rt:223:51
 mul-any-number : tie.Need-mul-any-number
 mul-any-number c = search needs
 
--- src/lib.rt:223:32
 any-number-requires-2 : tie.Need-any-number-requires-2
 any-number-requires-2 c κs = search (integer-short, needs)
 
--- src/lib.rt:224:21
 enum-known-k-2 : tie.Need-enum-known-k-2
 enum-known-k-2 c = search needs
 
--- src/lib.rt:224:27
 float-number-requires : tie.Need-float-number-requires
 float-number-requires c κs = search (float-short, needs)
 
--- src/lib.rt:225:26
 enum-known-k-3 : tie.Need-enum-known-k-3
 enum-known-k-3 c = search needs
 
--- src/lib.rt:225:32
 enum-known-requires : tie.Need-enum-known-requires
 enum-known-requires c κs = search needs
 
--- src/lib.rt:226:22
 enum-known-k-4 : tie.Need-enum-known-k-4
 enum-known-k-4 c = search needs
 
--- src/lib.rt:226:51
 index-requires-2 : tie.Need-index-requires-2
 index-requires-2 c κs = search needs
 
--- src/lib.rt:226:28
 struct-test-requires : tie.Need-struct-test-requires
 struct-test-requires c κs = search (struct-counted, needs)
 
--- src/lib.rt:217:1
 returns : tie.Need-returns
 returns c = search flat-boolean
 
--- src/lib.rt:217:1
 returns-2 : tie.Need-returns-2
 returns-2 c = search flat-integer
 
--- src/lib.rt:217:1
 returns-3 : tie.Need-returns-3
 returns-3 c = search flat-float
 
--- src/lib.rt:217:1
 returns-4 : tie.Need-returns-4
 returns-4 c = search flat-enum
 
--- src/lib.rt:217:1
 returns-5 : tie.Need-returns-5
 returns-5 c = search flat-struct
 

@@ -6,15 +6,12 @@ use Rattle.write_measure.proofs.float_fine.Reads as reads
 use Rattle.write_measure.proofs.float_fine.Lts as lts
 use Rattle.write_measure.proofs.is_nan.Reads as is-nan-reads
 
--- src/lib.rt:75:17
 is-nan-requires : tie.Need-is-nan-requires
 is-nan-requires c κs = search needs
 
--- src/lib.rt:75:9
 returns : tie.Need-returns
 returns c = search float-optional
 
--- src/lib.rt:71:1
 returns-2 : tie.Need-returns-2
 returns-2 c = search float-any
 

@@ -8,23 +8,18 @@ use Rattle.bitio.proofs.take_number.Reads as take-number-reads
 use Rattle.wire.proofs.index.Reads as index-reads
 use Rattle.write_measure.proofs.float_fine.Reads as float-fine-reads
 
--- src/lib.rt:106:44
 index-requires : tie.Need-index-requires
 index-requires c κs = search needs
 
--- src/lib.rt:106:40
 mul-take-number : tie.Need-mul-take-number
 mul-take-number c = search needs
 
--- src/lib.rt:106:9
 take-number-requires : tie.Need-take-number-requires
 take-number-requires c κs = search needs
 
--- src/lib.rt:110:15
 float-fine-requires : tie.Need-float-fine-requires
 float-fine-requires c κs = search needs
 
--- src/lib.rt:102:1
 returns : tie.Need-returns
 returns c = search float-tested
 

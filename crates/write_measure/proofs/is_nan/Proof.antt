@@ -4,11 +4,9 @@ use Rattle.write_measure.proofs.is_nan.Tie as tie
 use Rattle.write_measure.proofs.is_nan.Reads as reads
 use Rattle.write_measure.proofs.is_nan.Lts as lts
 
--- src/lib.rt:66:9
 returns : tie.Need-returns
 returns c = search nan-four
 
--- src/lib.rt:62:1
 returns-2 : tie.Need-returns-2
 returns-2 c = search nan-eight
 

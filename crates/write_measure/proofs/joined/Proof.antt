@@ -7,27 +7,21 @@ use Rattle.write_measure.proofs.joined.Lts as lts
 use Rattle.write_measure.proofs.both.Reads as both-reads
 use Rattle.write_measure.proofs.capped.Reads as capped-reads
 
--- src/lib.rt:323:17
 add-chain : tie.Need-add-chain
 add-chain c = search needs
 
--- src/lib.rt:324:17
 add-below : tie.Need-add-below
 add-below c = search needs
 
--- src/lib.rt:326:19
 both-requires : tie.Need-both-requires
 both-requires c κs = search needs
 
--- src/lib.rt:329:16
 capped-requires : tie.Need-capped-requires
 capped-requires c κs = search needs
 
--- src/lib.rt:330:16
 capped-requires-2 : tie.Need-capped-requires-2
 capped-requires-2 c κs = search needs
 
--- src/lib.rt:317:1
 returns : tie.Need-returns
 returns c = search joined-fits
 

@@ -6,11 +6,9 @@ use Rattle.write_measure.proofs.joined_plain.Reads as reads
 use Rattle.write_measure.proofs.joined_plain.Lts as lts
 use Rattle.write_measure.proofs.both.Reads as both-reads
 
--- src/lib.rt:395:19
 both-requires : tie.Need-both-requires
 both-requires c κs = search needs
 
--- src/lib.rt:386:1
 returns : tie.Need-returns
 returns c = search plain-joined
 

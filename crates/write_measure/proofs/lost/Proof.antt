@@ -10,51 +10,39 @@ use Rattle.write_measure.proofs.flat_lost.Reads as flat-lost-reads
 use Rattle.write_measure.proofs.plain_of.Reads as plain-of-reads
 use Rattle.write_measure.proofs.unlawful.Reads as unlawful-reads
 
--- src/lib.rt:466:22
 enum-known-k : tie.Need-enum-known-k
 enum-known-k c = search needs
 
--- src/lib.rt:466:37
 flat-lost-requires : tie.Need-flat-lost-requires
 flat-lost-requires c κs = search needs
 
--- src/lib.rt:466:28
 plain-of-requires : tie.Need-plain-of-requires
 plain-of-requires c κs = search needs
 
--- src/lib.rt:467:30
 enum-told : tie.Need-enum-told
 enum-told c = search needs
 
--- src/lib.rt:467:30
 unlawful-requires : tie.Need-unlawful-requires
 unlawful-requires c κs = search needs
 
--- src/lib.rt:468:23
 enum-known-k-2 : tie.Need-enum-known-k-2
 enum-known-k-2 c = search needs
 
--- src/lib.rt:468:66
 index-requires : tie.Need-index-requires
 index-requires c κs = search needs
 
--- src/lib.rt:468:38
 choice-lost-requires : tie.Need-choice-lost-requires
 choice-lost-requires c κs = search (union-counted, needs)
 
--- src/lib.rt:468:29
 plain-of-requires-2 : tie.Need-plain-of-requires-2
 plain-of-requires-2 c κs = search needs
 
--- src/lib.rt:461:1
 returns : tie.Need-returns
 returns c = search lost-flat
 
--- src/lib.rt:461:1
 returns-2 : tie.Need-returns-2
 returns-2 c = search lost-object
 
--- src/lib.rt:461:1
 returns-3 : tie.Need-returns-3
 returns-3 c = search lost-union
 

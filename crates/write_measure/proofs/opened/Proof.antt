@@ -4,7 +4,6 @@ use Rattle.write_measure.proofs.opened.Tie as tie
 use Rattle.write_measure.proofs.opened.Reads as reads
 use Rattle.write_measure.proofs.opened.Lts as lts
 
--- src/lib.rt:275:1
 returns : tie.Need-returns
 returns c = search opened-fits
 

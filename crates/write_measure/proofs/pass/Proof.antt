@@ -7,31 +7,24 @@ use Rattle.write_measure.proofs.pass.Lts as lts
 use Rattle.write_measure.proofs.times.Reads as times-reads
 use Rattle.write_measure.proofs.unlawful.Reads as unlawful-reads
 
--- src/lib.rt:465:9
 times-requires : tie.Need-times-requires
 times-requires c κs = search needs
 
--- src/lib.rt:466:16
 mul-if1 : tie.Need-mul-if1
 mul-if1 c = search needs
 
--- src/lib.rt:466:16
 sub-if1 : tie.Need-sub-if1
 sub-if1 c = search needs
 
--- src/lib.rt:470:19
 add-t11 : tie.Need-add-t11
 add-t11 c = search needs
 
--- src/lib.rt:467:9
 returns : tie.Need-returns
 returns c = search passed-all
 
--- src/lib.rt:473:5
 unlawful-requires : tie.Need-unlawful-requires
 unlawful-requires c κs = search needs
 
--- src/lib.rt:461:1
 returns-2 : tie.Need-returns-2
 returns-2 c = search passed-cut
 

@@ -4,7 +4,6 @@ use Rattle.write_measure.proofs.plain.Tie as tie
 use Rattle.write_measure.proofs.plain.Reads as reads
 use Rattle.write_measure.proofs.plain.Lts as lts
 
--- src/lib.rt:263:1
 returns : tie.Need-returns
 returns c = search plain-fits
 

@@ -4,15 +4,12 @@ use Rattle.write_measure.proofs.SimpleCases.{record-is, record-stands}
 use Rattle.write_measure.proofs.record_of.Statement.{statement}
 use Rattle.write_measure.proofs.record_of.Tie as tie
 
--- src/lib.rt:666:29
 table-place-requires : tie.Need-table-place-requires
 table-place-requires c κs = search needs
 
--- src/lib.rt:666:5
 record-place-requires : tie.Need-record-place-requires
 record-place-requires c κs = search needs
 
--- src/lib.rt:662:1
 returns : tie.Need-returns
 returns c = (search member-inside, search record-is, search record-stands)
 

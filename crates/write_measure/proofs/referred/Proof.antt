@@ -7,35 +7,27 @@ use Rattle.write_measure.proofs.referred.Lts as lts
 use Rattle.write_measure.proofs.capped.Reads as capped-reads
 use Rattle.write_measure.proofs.in_place_fine.Reads as in-place-fine-reads
 
--- src/lib.rt:350:16
 add-size : tie.Need-add-size
 add-size c = search needs
 
--- src/lib.rt:353:23
 in-place-fine-requires : tie.Need-in-place-fine-requires
 in-place-fine-requires c κs = search needs
 
--- src/lib.rt:356:20
 capped-requires : tie.Need-capped-requires
 capped-requires c κs = search needs
 
--- src/lib.rt:352:9
 returns : tie.Need-returns
 returns c = search referred-in
 
--- src/lib.rt:365:23
 add-capped : tie.Need-add-capped
 add-capped c = search needs
 
--- src/lib.rt:365:23
 add-capped-2 : tie.Need-add-capped-2
 add-capped-2 c = search needs
 
--- src/lib.rt:365:16
 capped-requires-2 : tie.Need-capped-requires-2
 capped-requires-2 c κs = search needs
 
--- src/lib.rt:344:1
 returns-2 : tie.Need-returns-2
 returns-2 c = search referred-out
 

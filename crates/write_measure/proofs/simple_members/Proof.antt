@@ -23,47 +23,36 @@ Inv-loop b dir s d t from e at count a₀ pos₀ j₀ a pos j =
 abbrev μ-loop : tie.MeasureT-loop
 μ-loop b dir s d t from e at count a₀ pos₀ j₀ a pos j = count - j
 
--- src/lib.rt:691:9
 member-count-requires : tie.Need-member-count-requires Inv-loop μ-loop
 member-count-requires c κs = search needs
 
--- src/lib.rt:695:5
 loop-holds : tie.Need-loop-holds Inv-loop μ-loop
 loop-holds c = (search needs, search needs, search needs, search needs, search needs, search needs, search needs, refl)
 
--- src/lib.rt:696:13
 record-of-requires : tie.Need-record-of-requires Inv-loop μ-loop
 record-of-requires c κs = (search needs, search needs, search member-counted, search needs)
 
--- src/lib.rt:697:17
 kind-at-requires : tie.Need-kind-at-requires Inv-loop μ-loop
 kind-at-requires c κs = search needs
 
--- src/lib.rt:698:13
 returns : tie.Need-returns Inv-loop μ-loop
 returns c = search left-here
 
--- src/lib.rt:705:13
 simple-member-requires : tie.Need-simple-member-requires Inv-loop μ-loop
 simple-member-requires c κs = (search needs, search needs, search needs, search simple-member-counted, search needs, search needs, search needs)
 
--- src/lib.rt:707:13
 returns-2 : tie.Need-returns-2 Inv-loop μ-loop
 returns-2 c = search left-cut
 
--- src/lib.rt:716:9
 add-j : tie.Need-add-j Inv-loop μ-loop
 add-j c = search needs
 
--- src/lib.rt:695:5
 loop-less : tie.Need-loop-less Inv-loop μ-loop
 loop-less c = search needs
 
--- src/lib.rt:695:5
 loop-again : tie.Need-loop-again Inv-loop μ-loop
 loop-again c = (search needs, search needs, search needs, search needs, search needs, search needs, search needs, search left-turn)
 
--- src/lib.rt:678:1
 returns-3 : tie.Need-returns-3 Inv-loop μ-loop
 returns-3 c = search left-here
 

@@ -6,59 +6,45 @@ use Rattle.write_measure.proofs.table_in.Reads as reads
 use Rattle.write_measure.proofs.table_in.Lts as lts
 use Rattle.wire.proofs.index.Reads as index-reads
 
--- src/lib.rt:449:28
 enum-told : tie.Need-enum-told
 enum-told c = search needs
 
--- src/lib.rt:450:24
 enum-known-k : tie.Need-enum-known-k
 enum-known-k c = search needs
 
--- src/lib.rt:451:29
 enum-told-2 : tie.Need-enum-told-2
 enum-told-2 c = search needs
 
--- src/lib.rt:452:30
 enum-told-3 : tie.Need-enum-told-3
 enum-told-3 c = search needs
 
--- src/lib.rt:453:32
 enum-told-4 : tie.Need-enum-told-4
 enum-told-4 c = search needs
 
--- src/lib.rt:454:27
 enum-known-ob : tie.Need-enum-known-ob
 enum-known-ob c = search needs
 
--- src/lib.rt:454:33
 index-requires : tie.Need-index-requires
 index-requires c κs = search needs
 
--- src/lib.rt:456:29
 enum-told-5 : tie.Need-enum-told-5
 enum-told-5 c = search needs
 
--- src/lib.rt:445:1
 returns : tie.Need-returns
 returns c = λ h. not-less h
 
--- src/lib.rt:445:1
 returns-2 : tie.Need-returns-2
 returns-2 c = λ h. not-less h
 
--- src/lib.rt:445:1
 returns-3 : tie.Need-returns-3
 returns-3 c = λ h. not-less h
 
--- src/lib.rt:445:1
 returns-4 : tie.Need-returns-4
 returns-4 c = λ h. not-less h
 
--- src/lib.rt:445:1
 returns-5 : tie.Need-returns-5
 returns-5 c = λ h. search table-index-in
 
--- src/lib.rt:445:1
 returns-6 : tie.Need-returns-6
 returns-6 c = λ h. not-less h
 

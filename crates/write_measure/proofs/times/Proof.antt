@@ -6,11 +6,9 @@ use Rattle.write_measure.proofs.times.Tie as tie
 use Rattle.write_measure.proofs.times.Reads as reads
 use Rattle.write_measure.proofs.times.Lts as lts
 
--- src/lib.rt:375:5
 mul-result : tie.Need-mul-result
 mul-result c = omega (arith, size-times (c .args .w) (c .args .n) (c .pre .0) (c .pre .1))
 
--- src/lib.rt:371:1
 returns : tie.Need-returns
 returns c = (refl, size-times (c .args .w) (c .args .n) (c .pre .0) (c .pre .1))
 

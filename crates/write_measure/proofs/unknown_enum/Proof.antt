@@ -6,15 +6,12 @@ use Rattle.write_measure.proofs.unknown_enum.Reads as reads
 use Rattle.write_measure.proofs.unknown_enum.Lts as lts
 use Rattle.wire.proofs.wide.Reads as wide-reads
 
--- src/lib.rt:83:8
 wide-requires : tie.Need-wide-requires
 wide-requires c κs = search needs
 
--- src/lib.rt:84:9
 returns : tie.Need-returns
 returns c = search unknown-is
 
--- src/lib.rt:80:1
 returns-2 : tie.Need-returns-2
 returns-2 c = search unknown-not
 

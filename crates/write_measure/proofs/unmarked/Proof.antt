@@ -5,69 +5,54 @@ use Rattle.write_measure.proofs.unmarked.Tie as tie
 use Rattle.write_measure.proofs.unmarked.Reads as reads
 use Rattle.write_measure.proofs.unmarked.Lts as lts
 
--- src/lib.rt:428:22
 enum-known-k : tie.Need-enum-known-k
 enum-known-k c = search needs
 
--- src/lib.rt:429:30
 enum-told : tie.Need-enum-told
 enum-told c = search needs
 
--- src/lib.rt:430:36
 enum-told-2 : tie.Need-enum-told-2
 enum-told-2 c = search needs
 
--- src/lib.rt:431:31
 enum-told-3 : tie.Need-enum-told-3
 enum-told-3 c = search needs
 
--- src/lib.rt:432:36
 enum-told-4 : tie.Need-enum-told-4
 enum-told-4 c = search needs
 
--- src/lib.rt:433:32
 enum-told-5 : tie.Need-enum-told-5
 enum-told-5 c = search needs
 
--- src/lib.rt:435:30
 enum-told-6 : tie.Need-enum-told-6
 enum-told-6 c = search needs
 
--- src/lib.rt:436:29
 enum-told-7 : tie.Need-enum-told-7
 enum-told-7 c = search needs
 
--- src/lib.rt:424:1
 returns : tie.Need-returns
 unfolding Sh.unmarked Sh.flatUnmarked
 returns c = search needs
 
--- src/lib.rt:424:1
 returns-2 : tie.Need-returns-2
 unfolding Sh.unmarked Sh.flatUnmarked
 returns-2 c = search needs
 
--- src/lib.rt:424:1
 returns-3 : tie.Need-returns-3
 unfolding Sh.unmarked Sh.flatUnmarked
 returns-3 c = search needs
 
--- src/lib.rt:424:1
 returns-4 : tie.Need-returns-4
 unfolding Sh.unmarked Sh.flatUnmarked
 returns-4 c = search needs
 
--- src/lib.rt:424:1
 returns-5 : tie.Need-returns-5
 unfolding Sh.unmarked Sh.flatUnmarked
 returns-5 c = search needs
 
--- src/lib.rt:424:1
 returns-6 : tie.Need-returns-6
 unfolding Sh.unmarked Sh.flatUnmarked
 returns-6 c = search needs
 
--- src/lib.rt:424:1
 returns-7 : tie.Need-returns-7
 unfolding Sh.unmarked Sh.flatUnmarked
 returns-7 c = search needs

@@ -8,76 +8,59 @@ use Rattle.write_measure.proofs.unmarked_bits.Reads as reads
 use Rattle.write_measure.proofs.unmarked_bits.Lts as lts
 use Rattle.wire.proofs.index.Reads as index-reads
 
--- src/lib.rt:448:22
 enum-known-k : tie.Need-enum-known-k
 enum-known-k c = search needs
 
--- src/lib.rt:449:30
 enum-told : tie.Need-enum-told
 enum-told c = search needs
 
--- src/lib.rt:450:30
 enum-known-f : tie.Need-enum-known-f
 enum-known-f c = search needs
 
--- src/lib.rt:450:40
 index-requires : tie.Need-index-requires
 index-requires c κs = search needs
 
--- src/lib.rt:450:36
 mul-result : tie.Need-mul-result
 mul-result c = search needs
 
--- src/lib.rt:451:31
 enum-told-2 : tie.Need-enum-told-2
 enum-told-2 c = search needs
 
--- src/lib.rt:452:36
 enum-told-3 : tie.Need-enum-told-3
 enum-told-3 c = search needs
 
--- src/lib.rt:453:32
 enum-told-4 : tie.Need-enum-told-4
 enum-told-4 c = search needs
 
--- src/lib.rt:455:30
 enum-told-5 : tie.Need-enum-told-5
 enum-told-5 c = search needs
 
--- src/lib.rt:456:29
 enum-told-6 : tie.Need-enum-told-6
 enum-told-6 c = search needs
 
--- src/lib.rt:444:1
 returns : tie.Need-returns
 unfolding Ba.unmarkedBits Ba.flatUnmarkedBits
 returns c = (search needs, omega arith)
 
--- src/lib.rt:444:1
 returns-2 : tie.Need-returns-2
 returns-2 c = (search bits-integer, omega arith)
 
--- src/lib.rt:444:1
 returns-3 : tie.Need-returns-3
 unfolding Ba.unmarkedBits Ba.flatUnmarkedBits
 returns-3 c = (search needs, omega arith)
 
--- src/lib.rt:444:1
 returns-4 : tie.Need-returns-4
 unfolding Ba.unmarkedBits Ba.flatUnmarkedBits
 returns-4 c = (search needs, omega arith)
 
--- src/lib.rt:444:1
 returns-5 : tie.Need-returns-5
 unfolding Ba.unmarkedBits Ba.flatUnmarkedBits
 returns-5 c = (search needs, omega arith)
 
--- src/lib.rt:444:1
 returns-6 : tie.Need-returns-6
 unfolding Ba.unmarkedBits Ba.flatUnmarkedBits
 returns-6 c = (search needs, omega arith)
 
--- src/lib.rt:444:1
 returns-7 : tie.Need-returns-7
 unfolding Ba.unmarkedBits Ba.flatUnmarkedBits
 returns-7 c = (search needs, omega arith)

@@ -263,191 +263,144 @@ emit-refer-R t = (measure-reads.Asked, measure-reads.Learnt, emit-measured-below
 abbrev emit-table-R : ℕ → emit-table-lts.Claims
 emit-table-R t = (member-count-reads.Asked, member-count-reads.Learnt, member-reads.Asked, member-reads.Learnt, is-terminal-reads.Asked, is-terminal-reads.Learnt, emit-terminal-reads.Asked, emit-terminal-reads.Learnt, not-lawful-reads.Asked, not-lawful-reads.Learnt, copied-reads.Asked, copied-reads.Learnt, emit-part-below t, emit-part.Post, stored-reads.Asked, stored-reads.Learnt)
 
--- src/lib.rt:848:22
 emit-body-enum-told : (t : ℕ) → emit-body-lts.Need-enum-told (emit-body-R t) (emit-body-at t) emit-body.Post
 emit-body-enum-told t c = search needs
 
--- src/lib.rt:848:28
 emit-body-not-lawful-requires : (t : ℕ) → emit-body-lts.Need-not-lawful-requires (emit-body-R t) (emit-body-at t) emit-body.Post
 emit-body-not-lawful-requires t c κs = search needs
 
--- src/lib.rt:849:24
 emit-body-enum-known-k : (t : ℕ) → emit-body-lts.Need-enum-known-k (emit-body-R t) (emit-body-at t) emit-body.Post
 emit-body-enum-known-k t c = search needs
 
--- src/lib.rt:849:31
 emit-body-emit-refer-requires : (t : ℕ) → emit-body-lts.Need-emit-refer-requires (emit-body-R t) (emit-body-at t) emit-body.Post
 emit-body-emit-refer-requires t c κs = search (kind-object, needs)
 
--- src/lib.rt:850:23
 emit-body-enum-known-k-2 : (t : ℕ) → emit-body-lts.Need-enum-known-k-2 (emit-body-R t) (emit-body-at t) emit-body.Post
 emit-body-enum-known-k-2 t c = search needs
 
--- src/lib.rt:850:60
 emit-body-index-requires : (t : ℕ) → emit-body-lts.Need-index-requires (emit-body-R t) (emit-body-at t) emit-body.Post
 emit-body-index-requires t c κs = search needs
 
--- src/lib.rt:850:29
 emit-body-emit-choice-requires : (t : ℕ) → emit-body-lts.Need-emit-choice-requires (emit-body-R t) (emit-body-at t) emit-body.Post
 emit-body-emit-choice-requires t c κs = search (union-counted, needs)
 
--- src/lib.rt:832:1
 emit-body-same-length : (t : ℕ) → emit-body-lts.Need-same-length (emit-body-R t) (emit-body-at t) emit-body.Post
 emit-body-same-length t c = search needs
 
--- src/lib.rt:832:1
 emit-body-returns : (t : ℕ) → emit-body-lts.Need-returns (emit-body-R t) (emit-body-at t) emit-body.Post
 emit-body-returns t c = search body-no-flat
 
--- src/lib.rt:832:1
 emit-body-same-length-2 : (t : ℕ) → emit-body-lts.Need-same-length-2 (emit-body-R t) (emit-body-at t) emit-body.Post
 emit-body-same-length-2 t c = search needs
 
--- src/lib.rt:832:1
 emit-body-returns-2 : (t : ℕ) → emit-body-lts.Need-returns-2 (emit-body-R t) (emit-body-at t) emit-body.Post
 emit-body-returns-2 t c = search body-object
 
--- src/lib.rt:832:1
 emit-body-returns-3 : (t : ℕ) → emit-body-lts.Need-returns-3 (emit-body-R t) (emit-body-at t) emit-body.Post
 emit-body-returns-3 t c = search body-union
 
--- src/lib.rt:813:9
 emit-choice-case-count-requires : (t : ℕ) → emit-choice-lts.Need-case-count-requires (emit-choice-R t) (emit-choice-at t) emit-choice.Post
 emit-choice-case-count-requires t c κs = search needs
 
--- src/lib.rt:814:9
 emit-choice-take-number-requires : (t : ℕ) → emit-choice-lts.Need-take-number-requires (emit-choice-R t) (emit-choice-at t) emit-choice.Post
 emit-choice-take-number-requires t c κs = search needs
 
--- src/lib.rt:816:9
 emit-choice-not-lawful-requires : (t : ℕ) → emit-choice-lts.Need-not-lawful-requires (emit-choice-R t) (emit-choice-at t) emit-choice.Post
 emit-choice-not-lawful-requires t c κs = search needs
 
--- src/lib.rt:816:9
 emit-choice-returns : (t : ℕ) → emit-choice-lts.Need-returns (emit-choice-R t) (emit-choice-at t) emit-choice.Post
 emit-choice-returns t c = search choice-cut
 
--- src/lib.rt:820:9
 emit-choice-not-lawful-requires-2 : (t : ℕ) → emit-choice-lts.Need-not-lawful-requires-2 (emit-choice-R t) (emit-choice-at t) emit-choice.Post
 emit-choice-not-lawful-requires-2 t c κs = search needs
 
--- src/lib.rt:820:9
 emit-choice-returns-2 : (t : ℕ) → emit-choice-lts.Need-returns-2 (emit-choice-R t) (emit-choice-at t) emit-choice.Post
 emit-choice-returns-2 t c = search choice-zero
 
--- src/lib.rt:823:9
 emit-choice-not-lawful-requires-3 : (t : ℕ) → emit-choice-lts.Need-not-lawful-requires-3 (emit-choice-R t) (emit-choice-at t) emit-choice.Post
 emit-choice-not-lawful-requires-3 t c κs = search needs
 
--- src/lib.rt:823:9
 emit-choice-returns-3 : (t : ℕ) → emit-choice-lts.Need-returns-3 (emit-choice-R t) (emit-choice-at t) emit-choice.Post
 emit-choice-returns-3 t c = search choice-above
 
--- src/lib.rt:825:9
 emit-choice-union-case-requires : (t : ℕ) → emit-choice-lts.Need-union-case-requires (emit-choice-R t) (emit-choice-at t) emit-choice.Post
 emit-choice-union-case-requires t c κs = search needs
 
--- src/lib.rt:827:9
 emit-choice-put-number-requires : (t : ℕ) → emit-choice-lts.Need-put-number-requires (emit-choice-R t) (emit-choice-at t) emit-choice.Post
 emit-choice-put-number-requires t c κs = search (room-below, needs)
 
--- src/lib.rt:828:5
 emit-choice-emit-refer-requires : (t : ℕ) → emit-choice-lts.Need-emit-refer-requires (emit-choice-R t) (emit-choice-at t) emit-choice.Post
 emit-choice-emit-refer-requires t c κs = (omega arith, ((c .before .before .before .before .before .before .before .before .before .before .before .before .before .before .before .before .pre .1 .0 .0, search (case-sound, c .before .before .before .before .before .before .before .before .before .before .before .before .before .before .before .before .pre .1 .0 .0, c .before .before .before .before .before .before .before .if2 .left, c .before .before .before .before .before .before .before .before .before .before .before .case-count .ensures .0, c .before .before .before .before .before .before .if3 .left, c .before .before .before .before .before .union-case .ensures)), search (room-choice, c .before .before .before .before .before .before .before .before .before .before .before .before .before .before .before .before .pre .1 .1, c .before .before .before .before .before .before .before .before .before .before .take-number .ensures, c .before .before .before .before .before .before .before .before .if1 .left, c .before .before .before .put-number .ensures)))
 
--- src/lib.rt:798:1
 emit-choice-same-length : (t : ℕ) → emit-choice-lts.Need-same-length (emit-choice-R t) (emit-choice-at t) emit-choice.Post
 emit-choice-same-length t c = search needs
 
--- src/lib.rt:798:1
 emit-choice-returns-4 : (t : ℕ) → emit-choice-lts.Need-returns-4 (emit-choice-R t) (emit-choice-at t) emit-choice.Post
 emit-choice-returns-4 t c = search (choice-known, c .before .before .before .before .before .before .before .before .before .before .before .before .before .before .before .before .before .before .before .pre .1 .1, c .before .before .before .before .before .before .before .before .before .before .before .before .before .take-number .ensures, c .before .before .before .before .before .before .before .before .before .before .before .if1 .left, c .before .before .before .before .before .before .before .before .before .before .if2 .left, c .before .before .before .before .before .before .before .before .before .before .before .before .before .before .case-count .ensures .0, c .before .before .before .before .before .before .before .before .before .if3 .left, c .before .before .before .before .before .before .before .before .union-case .ensures, c .before .before .before .before .before .before .put-number .ensures, c .before .before .emit-refer .ensures)
 
--- src/lib.rt:1000:9
 emit-content-not-lawful-requires : (t : ℕ) → emit-content-lts.Need-not-lawful-requires (emit-content-R t) (emit-content-at t) emit-content.Post
 emit-content-not-lawful-requires t c κs = search needs
 
--- src/lib.rt:1000:9
 emit-content-returns : (t : ℕ) → emit-content-lts.Need-returns (emit-content-R t) (emit-content-at t) emit-content.Post
 emit-content-returns t c = search content-deep
 
--- src/lib.rt:1003:38
 emit-content-enum-told : (t : ℕ) → emit-content-lts.Need-enum-told (emit-content-R t) (emit-content-at t) emit-content.Post
 emit-content-enum-told t c = search needs
 
--- src/lib.rt:1003:25
 emit-content-emit-text-requires : (t : ℕ) → emit-content-lts.Need-emit-text-requires (emit-content-R t) (emit-content-at t) emit-content.Post
 emit-content-emit-text-requires t c κs = search needs
 
--- src/lib.rt:1004:40
 emit-content-enum-told-2 : (t : ℕ) → emit-content-lts.Need-enum-told-2 (emit-content-R t) (emit-content-at t) emit-content.Post
 emit-content-enum-told-2 t c = search needs
 
--- src/lib.rt:1004:26
 emit-content-emit-bytes-requires : (t : ℕ) → emit-content-lts.Need-emit-bytes-requires (emit-content-R t) (emit-content-at t) emit-content.Post
 emit-content-emit-bytes-requires t c κs = search needs
 
--- src/lib.rt:1005:22
 emit-content-enum-known-ob : (t : ℕ) → emit-content-lts.Need-enum-known-ob (emit-content-R t) (emit-content-at t) emit-content.Post
 emit-content-enum-known-ob t c = search needs
 
--- src/lib.rt:1005:54
 emit-content-sub-emit-list : (t : ℕ) → emit-content-lts.Need-sub-emit-list (emit-content-R t) (emit-content-at t) emit-content.Post
 emit-content-sub-emit-list t c = search needs
 
--- src/lib.rt:1005:61
 emit-content-index-requires : (t : ℕ) → emit-content-lts.Need-index-requires (emit-content-R t) (emit-content-at t) emit-content.Post
 emit-content-index-requires t c κs = search needs
 
--- src/lib.rt:1005:28
 emit-content-emit-list-requires : (t : ℕ) → emit-content-lts.Need-emit-list-requires (emit-content-R t) (emit-content-at t) emit-content.Post
 emit-content-emit-list-requires t c κs = search (list-counted, needs)
 
--- src/lib.rt:1006:23
 emit-content-enum-known-ob-2 : (t : ℕ) → emit-content-lts.Need-enum-known-ob-2 (emit-content-R t) (emit-content-at t) emit-content.Post
 emit-content-enum-known-ob-2 t c = search needs
 
--- src/lib.rt:1006:56
 emit-content-sub-emit-table : (t : ℕ) → emit-content-lts.Need-sub-emit-table (emit-content-R t) (emit-content-at t) emit-content.Post
 emit-content-sub-emit-table t c = search needs
 
--- src/lib.rt:1006:63
 emit-content-index-requires-2 : (t : ℕ) → emit-content-lts.Need-index-requires-2 (emit-content-R t) (emit-content-at t) emit-content.Post
 emit-content-index-requires-2 t c κs = search needs
 
--- src/lib.rt:1006:29
 emit-content-emit-table-requires : (t : ℕ) → emit-content-lts.Need-emit-table-requires (emit-content-R t) (emit-content-at t) emit-content.Post
 emit-content-emit-table-requires t c κs = search (table-counted, needs)
 
--- src/lib.rt:985:1
 emit-content-same-length : (t : ℕ) → emit-content-lts.Need-same-length (emit-content-R t) (emit-content-at t) emit-content.Post
 emit-content-same-length t c = search needs
 
--- src/lib.rt:985:1
 emit-content-returns-2 : (t : ℕ) → emit-content-lts.Need-returns-2 (emit-content-R t) (emit-content-at t) emit-content.Post
 emit-content-returns-2 t c = search content-text
 
--- src/lib.rt:985:1
 emit-content-same-length-2 : (t : ℕ) → emit-content-lts.Need-same-length-2 (emit-content-R t) (emit-content-at t) emit-content.Post
 emit-content-same-length-2 t c = search needs
 
--- src/lib.rt:985:1
 emit-content-returns-3 : (t : ℕ) → emit-content-lts.Need-returns-3 (emit-content-R t) (emit-content-at t) emit-content.Post
 emit-content-returns-3 t c = search content-bytes
 
--- src/lib.rt:985:1
 emit-content-same-length-3 : (t : ℕ) → emit-content-lts.Need-same-length-3 (emit-content-R t) (emit-content-at t) emit-content.Post
 emit-content-same-length-3 t c = search needs
 
--- src/lib.rt:985:1
 emit-content-returns-4 : (t : ℕ) → emit-content-lts.Need-returns-4 (emit-content-R t) (emit-content-at t) emit-content.Post
 emit-content-returns-4 t c = search content-list
 
--- src/lib.rt:985:1
 emit-content-same-length-4 : (t : ℕ) → emit-content-lts.Need-same-length-4 (emit-content-R t) (emit-content-at t) emit-content.Post
 emit-content-same-length-4 t c = search needs
 
--- src/lib.rt:985:1
 emit-content-returns-5 : (t : ℕ) → emit-content-lts.Need-returns-5 (emit-content-R t) (emit-content-at t) emit-content.Post
 emit-content-returns-5 t c = search content-table
 
@@ -787,15 +740,12 @@ emit-table-Inv-loop b dir s out₀ d t c pos n p₀ at₀ j₀ out p at j =
 abbrev emit-table-μ-loop : emit-table-lts.MeasureT-loop
 emit-table-μ-loop b dir s out₀ d t c pos n p₀ at₀ j₀ out p at j = n - j
 
--- src/lib.rt:931:9
 emit-table-member-count-requires : (t : ℕ) → emit-table-lts.Need-member-count-requires (emit-table-R t) (emit-table-at t) emit-table.Post emit-table-Inv-loop emit-table-μ-loop
 emit-table-member-count-requires t c κs = search needs
 
--- src/lib.rt:935:5
 emit-table-loop-holds : (t : ℕ) → emit-table-lts.Need-loop-holds (emit-table-R t) (emit-table-at t) emit-table.Post emit-table-Inv-loop emit-table-μ-loop
 emit-table-loop-holds t c = (search needs, search needs, search needs, search needs, search needs, search needs, search needs, search members-start)
 
--- src/lib.rt:936:13
 emit-table-member-requires : (t : ℕ) → emit-table-lts.Need-member-requires (emit-table-R t) (emit-table-at t) emit-table.Post emit-table-Inv-loop emit-table-μ-loop
 emit-table-member-requires t c κs = (search needs, search needs, search member-counted, search needs)
 
@@ -850,11 +800,9 @@ emit-table-loop-less-2 t c = search needs
 emit-table-loop-again-2 : (t : ℕ) → emit-table-lts.Need-loop-again-2 (emit-table-R t) (emit-table-at t) emit-table.Post emit-table-Inv-loop emit-table-μ-loop
 emit-table-loop-again-2 t c = (search needs, search needs, search needs, search needs, search needs, search room-copied, search needs, search (refers-turn, c .before .before .before .before .before .before .before .before .before .before .before .loop .inv .7, c .before .before .before .before .before .before .before .before .before .before .before .loop .inv .1, c .before .before .before .before .before .before .before .before .before .before .loop-test .taken, c .before .before .before .before .before .before .before .before .before .member .ensures, c .before .before .before .before .before .before .before .before .is-terminal .ensures, c .before .before .before .before .before .before .before .if1 .left, c .before .before .before .before .before .emit-part .ensures, c .before .if3 .left))
 
--- src/lib.rt:945:5
 emit-table-stored-requires : (t : ℕ) → emit-table-lts.Need-stored-requires (emit-table-R t) (emit-table-at t) emit-table.Post emit-table-Inv-loop emit-table-μ-loop
 emit-table-stored-requires t c κs = search needs
 
--- src/lib.rt:917:1
 emit-table-same-length-3 : (t : ℕ) → emit-table-lts.Need-same-length-3 (emit-table-R t) (emit-table-at t) emit-table.Post emit-table-Inv-loop emit-table-μ-loop
 emit-table-same-length-3 t c = search needs
 

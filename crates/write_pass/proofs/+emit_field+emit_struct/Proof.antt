@@ -54,95 +54,72 @@ emit-field-R t = (emit-bool-reads.Asked, emit-bool-reads.Learnt, index-reads.Ask
 abbrev emit-struct-R : ℕ → emit-struct-lts.Claims
 emit-struct-R t = (field-count-reads.Asked, field-count-reads.Learnt, field-reads.Asked, field-reads.Learnt, emit-field-below t, emit-field.Post, not-lawful-reads.Asked, not-lawful-reads.Learnt, stored-reads.Asked, stored-reads.Learnt)
 
--- src/lib.rt:421:39
 emit-field-enum-told : (t : ℕ) → emit-field-lts.Need-enum-told (emit-field-R t) (emit-field-at t) emit-field.Post
 emit-field-enum-told t c = search needs
 
--- src/lib.rt:421:26
 emit-field-emit-bool-requires : (t : ℕ) → emit-field-lts.Need-emit-bool-requires (emit-field-R t) (emit-field-at t) emit-field.Post
 emit-field-emit-bool-requires t c κs = search needs
 
--- src/lib.rt:422:26
 emit-field-enum-known-k : (t : ℕ) → emit-field-lts.Need-enum-known-k (emit-field-R t) (emit-field-at t) emit-field.Post
 emit-field-enum-known-k t c = search needs
 
--- src/lib.rt:422:52
 emit-field-index-requires : (t : ℕ) → emit-field-lts.Need-index-requires (emit-field-R t) (emit-field-at t) emit-field.Post
 emit-field-index-requires t c κs = search needs
 
--- src/lib.rt:422:32
 emit-field-emit-number-requires : (t : ℕ) → emit-field-lts.Need-emit-number-requires (emit-field-R t) (emit-field-at t) emit-field.Post
 emit-field-emit-number-requires t c κs = search (integer-eight, needs)
 
--- src/lib.rt:423:21
 emit-field-enum-known-k-2 : (t : ℕ) → emit-field-lts.Need-enum-known-k-2 (emit-field-R t) (emit-field-at t) emit-field.Post
 emit-field-enum-known-k-2 t c = search needs
 
--- src/lib.rt:423:47
 emit-field-index-requires-2 : (t : ℕ) → emit-field-lts.Need-index-requires-2 (emit-field-R t) (emit-field-at t) emit-field.Post
 emit-field-index-requires-2 t c κs = search needs
 
--- src/lib.rt:423:27
 emit-field-emit-number-requires-2 : (t : ℕ) → emit-field-lts.Need-emit-number-requires-2 (emit-field-R t) (emit-field-at t) emit-field.Post
 emit-field-emit-number-requires-2 t c κs = search (float-eight, needs)
 
--- src/lib.rt:424:26
 emit-field-enum-known-k-3 : (t : ℕ) → emit-field-lts.Need-enum-known-k-3 (emit-field-R t) (emit-field-at t) emit-field.Post
 emit-field-enum-known-k-3 t c = search needs
 
--- src/lib.rt:424:32
 emit-field-emit-marked-enum-requires : (t : ℕ) → emit-field-lts.Need-emit-marked-enum-requires (emit-field-R t) (emit-field-at t) emit-field.Post
 emit-field-emit-marked-enum-requires t c κs = search needs
 
--- src/lib.rt:425:22
 emit-field-enum-known-k-4 : (t : ℕ) → emit-field-lts.Need-enum-known-k-4 (emit-field-R t) (emit-field-at t) emit-field.Post
 emit-field-enum-known-k-4 t c = search needs
 
--- src/lib.rt:425:56
 emit-field-index-requires-3 : (t : ℕ) → emit-field-lts.Need-index-requires-3 (emit-field-R t) (emit-field-at t) emit-field.Post
 emit-field-index-requires-3 t c κs = search needs
 
--- src/lib.rt:425:28
 emit-field-emit-struct-requires : (t : ℕ) → emit-field-lts.Need-emit-struct-requires (emit-field-R t) (emit-field-at t) emit-field.Post
 emit-field-emit-struct-requires t c κs = (let l : c .index3 .result < c .before .before .before .before .before .before .before .before .before .args .i = search struct-lower in (omega arith, ((search needs, omega arith), search needs)))
 
--- src/lib.rt:406:1
 emit-field-same-length : (t : ℕ) → emit-field-lts.Need-same-length (emit-field-R t) (emit-field-at t) emit-field.Post
 emit-field-same-length t c = search needs
 
--- src/lib.rt:406:1
 emit-field-returns : (t : ℕ) → emit-field-lts.Need-returns (emit-field-R t) (emit-field-at t) emit-field.Post
 emit-field-returns t c = search field-boolean
 
--- src/lib.rt:406:1
 emit-field-same-length-2 : (t : ℕ) → emit-field-lts.Need-same-length-2 (emit-field-R t) (emit-field-at t) emit-field.Post
 emit-field-same-length-2 t c = search needs
 
--- src/lib.rt:406:1
 emit-field-returns-2 : (t : ℕ) → emit-field-lts.Need-returns-2 (emit-field-R t) (emit-field-at t) emit-field.Post
 emit-field-returns-2 t c = search field-integer
 
--- src/lib.rt:406:1
 emit-field-same-length-3 : (t : ℕ) → emit-field-lts.Need-same-length-3 (emit-field-R t) (emit-field-at t) emit-field.Post
 emit-field-same-length-3 t c = search needs
 
--- src/lib.rt:406:1
 emit-field-returns-3 : (t : ℕ) → emit-field-lts.Need-returns-3 (emit-field-R t) (emit-field-at t) emit-field.Post
 emit-field-returns-3 t c = search field-float
 
--- src/lib.rt:406:1
 emit-field-same-length-4 : (t : ℕ) → emit-field-lts.Need-same-length-4 (emit-field-R t) (emit-field-at t) emit-field.Post
 emit-field-same-length-4 t c = search needs
 
--- src/lib.rt:406:1
 emit-field-returns-4 : (t : ℕ) → emit-field-lts.Need-returns-4 (emit-field-R t) (emit-field-at t) emit-field.Post
 emit-field-returns-4 t c = search field-enum
 
--- src/lib.rt:406:1
 emit-field-same-length-5 : (t : ℕ) → emit-field-lts.Need-same-length-5 (emit-field-R t) (emit-field-at t) emit-field.Post
 emit-field-same-length-5 t c = search needs
 
--- src/lib.rt:406:1
 emit-field-returns-5 : (t : ℕ) → emit-field-lts.Need-returns-5 (emit-field-R t) (emit-field-at t) emit-field.Post
 emit-field-returns-5 t c = search field-struct
 
@@ -152,55 +129,42 @@ emit-struct-Inv-loop b dir s out₀ i c pos n p₀ at₀ j₀ out p at j = (j �
 abbrev emit-struct-μ-loop : emit-struct-lts.MeasureT-loop
 emit-struct-μ-loop b dir s out₀ i c pos n p₀ at₀ j₀ out p at j = n - j
 
--- src/lib.rt:442:9
 emit-struct-field-count-requires : (t : ℕ) → emit-struct-lts.Need-field-count-requires (emit-struct-R t) (emit-struct-at t) emit-struct.Post emit-struct-Inv-loop emit-struct-μ-loop
 emit-struct-field-count-requires t c κs = search needs
 
--- src/lib.rt:446:5
 emit-struct-loop-holds : (t : ℕ) → emit-struct-lts.Need-loop-holds (emit-struct-R t) (emit-struct-at t) emit-struct.Post emit-struct-Inv-loop emit-struct-μ-loop
 emit-struct-loop-holds t c = (omega arith, refl, search fields-all)
 
--- src/lib.rt:447:13
 emit-struct-field-requires : (t : ℕ) → emit-struct-lts.Need-field-requires (emit-struct-R t) (emit-struct-at t) emit-struct.Post emit-struct-Inv-loop emit-struct-μ-loop
 emit-struct-field-requires t c κs = (search needs, search needs, search field-counted, omega (arith, c .before .before .field-count .ensures .1, c .loop-test .taken))
 
--- src/lib.rt:448:13
 emit-struct-emit-field-requires : (t : ℕ) → emit-struct-lts.Need-emit-field-requires (emit-struct-R t) (emit-struct-at t) emit-struct.Post emit-struct-Inv-loop emit-struct-μ-loop
 emit-struct-emit-field-requires t c κs = search (field-sound, fields-room, needs)
 
--- src/lib.rt:450:13
 emit-struct-not-lawful-requires : (t : ℕ) → emit-struct-lts.Need-not-lawful-requires (emit-struct-R t) (emit-struct-at t) emit-struct.Post emit-struct-Inv-loop emit-struct-μ-loop
 emit-struct-not-lawful-requires t c κs = search needs
 
--- src/lib.rt:450:13
 emit-struct-same-length : (t : ℕ) → emit-struct-lts.Need-same-length (emit-struct-R t) (emit-struct-at t) emit-struct.Post emit-struct-Inv-loop emit-struct-μ-loop
 emit-struct-same-length t c = search needs
 
--- src/lib.rt:450:13
 emit-struct-returns : (t : ℕ) → emit-struct-lts.Need-returns (emit-struct-R t) (emit-struct-at t) emit-struct.Post emit-struct-Inv-loop emit-struct-μ-loop
 emit-struct-returns t c = search (fields-cut, c .before .before .before .before .before .emit-field .ensures, c .before .before .before .before .before .before .before .before .before .loop .inv .2)
 
--- src/lib.rt:454:9
 emit-struct-add-j : (t : ℕ) → emit-struct-lts.Need-add-j (emit-struct-R t) (emit-struct-at t) emit-struct.Post emit-struct-Inv-loop emit-struct-μ-loop
 emit-struct-add-j t c = search needs
 
--- src/lib.rt:446:5
 emit-struct-loop-less : (t : ℕ) → emit-struct-lts.Need-loop-less (emit-struct-R t) (emit-struct-at t) emit-struct.Post emit-struct-Inv-loop emit-struct-μ-loop
 emit-struct-loop-less t c = search needs
 
--- src/lib.rt:446:5
 emit-struct-loop-again : (t : ℕ) → emit-struct-lts.Need-loop-again (emit-struct-R t) (emit-struct-at t) emit-struct.Post emit-struct-Inv-loop emit-struct-μ-loop
 emit-struct-loop-again t c = (search needs, search needs, search (fields-turn, c .before .before .before .before .before .emit-field .ensures, c .before .before .before .before .before .before .before .before .before .loop .inv .2))
 
--- src/lib.rt:456:5
 emit-struct-stored-requires : (t : ℕ) → emit-struct-lts.Need-stored-requires (emit-struct-R t) (emit-struct-at t) emit-struct.Post emit-struct-Inv-loop emit-struct-μ-loop
 emit-struct-stored-requires t c κs = search needs
 
--- src/lib.rt:429:1
 emit-struct-same-length-2 : (t : ℕ) → emit-struct-lts.Need-same-length-2 (emit-struct-R t) (emit-struct-at t) emit-struct.Post emit-struct-Inv-loop emit-struct-μ-loop
 emit-struct-same-length-2 t c = search needs
 
--- src/lib.rt:429:1
 emit-struct-returns-2 : (t : ℕ) → emit-struct-lts.Need-returns-2 (emit-struct-R t) (emit-struct-at t) emit-struct.Post emit-struct-Inv-loop emit-struct-μ-loop
 emit-struct-returns-2 t c = search fields-done
 

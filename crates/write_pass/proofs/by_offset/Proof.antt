@@ -6,15 +6,12 @@ use Rattle.write_pass.proofs.by_offset.Reads as reads
 use Rattle.write_pass.proofs.by_offset.Lts as lts
 use Rattle.write_pass.proofs.is_blob.Reads as is-blob-reads
 
--- src/lib.rt:694:9
 returns : tie.Need-returns
 returns c = search needs
 
--- src/lib.rt:696:5
 is-blob-requires : tie.Need-is-blob-requires
 is-blob-requires c κs = search needs
 
--- src/lib.rt:690:1
 returns-2 : tie.Need-returns-2
 returns-2 c = search blob-by-offset
 

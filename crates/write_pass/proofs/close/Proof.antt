@@ -7,19 +7,15 @@ use Rattle.write_pass.proofs.close.Lts as lts
 use Rattle.write_store.proofs.leave_content.Reads as leave-content-reads
 use Rattle.write_store.proofs.leave_object.Reads as leave-object-reads
 
--- src/lib.rt:684:9
 leave-content-requires : tie.Need-leave-content-requires
 leave-content-requires c κs = search needs
 
--- src/lib.rt:684:9
 returns : tie.Need-returns
 returns c = search closed-content
 
--- src/lib.rt:686:5
 leave-object-requires : tie.Need-leave-object-requires
 leave-object-requires c κs = search needs
 
--- src/lib.rt:680:1
 returns-2 : tie.Need-returns-2
 returns-2 c = search closed-object
 

@@ -9,31 +9,24 @@ use Rattle.write_pass.proofs.not_lawful.Reads as not-lawful-reads
 use Rattle.write_store.proofs.put_bit.Reads as put-bit-reads
 use Rattle.write_pass.proofs.stored.Reads as stored-reads
 
--- src/lib.rt:323:9
 take-number-requires : tie.Need-take-number-requires
 take-number-requires c κs = search needs
 
--- src/lib.rt:325:9
 not-lawful-requires : tie.Need-not-lawful-requires
 not-lawful-requires c κs = search needs
 
--- src/lib.rt:325:9
 returns : tie.Need-returns
 returns c = search number-cut
 
--- src/lib.rt:328:9
 put-bit-requires : tie.Need-put-bit-requires
 put-bit-requires c κs = search needs
 
--- src/lib.rt:329:5
 stored-requires : tie.Need-stored-requires
 stored-requires c κs = search needs
 
--- src/lib.rt:319:1
 same-length : tie.Need-same-length
 same-length c = search needs
 
--- src/lib.rt:319:1
 returns-2 : tie.Need-returns-2
 returns-2 c = search bit-there
 

@@ -28,75 +28,57 @@ Inv-loop s out₀ n c pos p₀ at₀ left₀ out p at left =
 abbrev μ-loop : tie.MeasureT-loop
 μ-loop s out₀ n c pos p₀ at₀ left₀ out p at left = left
 
--- src/lib.rt:444:5
 loop-holds : tie.Need-loop-holds Inv-loop μ-loop
 loop-holds c = (search needs, search needs, search needs, search needs, search needs)
 
--- src/lib.rt:447:21
 take-number-requires : tie.Need-take-number-requires Inv-loop μ-loop
 take-number-requires c κs = search needs
 
--- src/lib.rt:449:66
 cast-reversed : tie.Need-cast-reversed Inv-loop μ-loop
 cast-reversed c = search needs
 
--- src/lib.rt:449:50
 reversed-requires : tie.Need-reversed-requires Inv-loop μ-loop
 reversed-requires c κs = search needs
 
--- src/lib.rt:449:21
 put-octet-requires : tie.Need-put-octet-requires Inv-loop μ-loop
 put-octet-requires c κs = search (room-below, needs)
 
--- src/lib.rt:444:5
 loop-less : tie.Need-loop-less Inv-loop μ-loop
 loop-less c = search needs
 
--- src/lib.rt:444:5
 loop-again : tie.Need-loop-again Inv-loop μ-loop
 loop-again c = (search needs, search needs, search octet-goes, search octet-on, search bits-octet)
 
--- src/lib.rt:456:13
 take-number-requires-2 : tie.Need-take-number-requires-2 Inv-loop μ-loop
 take-number-requires-2 c κs = search needs
 
--- src/lib.rt:458:13
 not-lawful-requires : tie.Need-not-lawful-requires Inv-loop μ-loop
 not-lawful-requires c κs = search needs
 
--- src/lib.rt:458:13
 same-length : tie.Need-same-length Inv-loop μ-loop
 same-length c = search needs
 
--- src/lib.rt:458:13
 returns : tie.Need-returns Inv-loop μ-loop
 returns c = search bits-cut
 
--- src/lib.rt:460:9
 put-bit-requires : tie.Need-put-bit-requires Inv-loop μ-loop
 put-bit-requires c κs = search (room-below, needs)
 
--- src/lib.rt:462:9
 sub-left : tie.Need-sub-left Inv-loop μ-loop
 sub-left c = search needs
 
--- src/lib.rt:444:5
 loop-less-2 : tie.Need-loop-less-2 Inv-loop μ-loop
 loop-less-2 c = search needs
 
--- src/lib.rt:444:5
 loop-again-2 : tie.Need-loop-again-2 Inv-loop μ-loop
 loop-again-2 c = (search needs, search needs, search bits-goes, search bits-on, search bits-turn)
 
--- src/lib.rt:464:5
 stored-requires : tie.Need-stored-requires Inv-loop μ-loop
 stored-requires c κs = search needs
 
--- src/lib.rt:437:1
 same-length-2 : tie.Need-same-length-2 Inv-loop μ-loop
 same-length-2 c = search needs
 
--- src/lib.rt:437:1
 returns-2 : tie.Need-returns-2 Inv-loop μ-loop
 returns-2 c = search bits-done
 

@@ -9,35 +9,27 @@ use Rattle.write_pass.proofs.not_lawful.Reads as not-lawful-reads
 use Rattle.write_store.proofs.put_byte.Reads as put-byte-reads
 use Rattle.write_pass.proofs.stored.Reads as stored-reads
 
--- src/lib.rt:337:9
 take-number-requires : tie.Need-take-number-requires
 take-number-requires c κs = search needs
 
--- src/lib.rt:339:9
 not-lawful-requires : tie.Need-not-lawful-requires
 not-lawful-requires c κs = search needs
 
--- src/lib.rt:339:9
 returns : tie.Need-returns
 returns c = search number-cut
 
--- src/lib.rt:342:30
 cast-put-byte : tie.Need-cast-put-byte
 cast-put-byte c = search needs
 
--- src/lib.rt:342:9
 put-byte-requires : tie.Need-put-byte-requires
 put-byte-requires c κs = search needs
 
--- src/lib.rt:343:5
 stored-requires : tie.Need-stored-requires
 stored-requires c κs = search needs
 
--- src/lib.rt:333:1
 same-length : tie.Need-same-length
 same-length c = search needs
 
--- src/lib.rt:333:1
 returns-2 : tie.Need-returns-2
 returns-2 c = search bool-there
 

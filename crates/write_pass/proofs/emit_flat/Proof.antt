@@ -12,95 +12,72 @@ use Rattle.write_pass.proofs.emit_enum.Reads as emit-enum-reads
 use Rattle.write_pass.proofs.emit_number.Reads as emit-number-reads
 use Rattle.write_pass.proofs.emit_struct.Reads as emit-struct-reads
 
--- src/lib.rt:474:38
 enum-told : tie.Need-enum-told
 enum-told c = search needs
 
--- src/lib.rt:474:26
 emit-bit-requires : tie.Need-emit-bit-requires
 emit-bit-requires c κs = search needs
 
--- src/lib.rt:475:26
 enum-known-k : tie.Need-enum-known-k
 enum-known-k c = search needs
 
--- src/lib.rt:475:52
 index-requires : tie.Need-index-requires
 index-requires c κs = search needs
 
--- src/lib.rt:475:32
 emit-number-requires : tie.Need-emit-number-requires
 emit-number-requires c κs = search (integer-eight, needs)
 
--- src/lib.rt:476:21
 enum-known-k-2 : tie.Need-enum-known-k-2
 enum-known-k-2 c = search needs
 
--- src/lib.rt:476:47
 index-requires-2 : tie.Need-index-requires-2
 index-requires-2 c κs = search needs
 
--- src/lib.rt:476:27
 emit-number-requires-2 : tie.Need-emit-number-requires-2
 emit-number-requires-2 c κs = search (float-eight, needs)
 
--- src/lib.rt:477:26
 enum-known-k-3 : tie.Need-enum-known-k-3
 enum-known-k-3 c = search needs
 
--- src/lib.rt:477:32
 emit-enum-requires : tie.Need-emit-enum-requires
 emit-enum-requires c κs = search needs
 
--- src/lib.rt:478:22
 enum-known-k-4 : tie.Need-enum-known-k-4
 enum-known-k-4 c = search needs
 
--- src/lib.rt:478:56
 index-requires-3 : tie.Need-index-requires-3
 index-requires-3 c κs = search needs
 
--- src/lib.rt:478:28
 emit-struct-requires : tie.Need-emit-struct-requires
 emit-struct-requires c κs = search (struct-counted, needs)
 
--- src/lib.rt:460:1
 same-length : tie.Need-same-length
 same-length c = search needs
 
--- src/lib.rt:460:1
 returns : tie.Need-returns
 returns c = search flat-boolean
 
--- src/lib.rt:460:1
 same-length-2 : tie.Need-same-length-2
 same-length-2 c = search needs
 
--- src/lib.rt:460:1
 returns-2 : tie.Need-returns-2
 returns-2 c = search flat-integer
 
--- src/lib.rt:460:1
 same-length-3 : tie.Need-same-length-3
 same-length-3 c = search needs
 
--- src/lib.rt:460:1
 returns-3 : tie.Need-returns-3
 returns-3 c = search flat-float
 
--- src/lib.rt:460:1
 same-length-4 : tie.Need-same-length-4
 same-length-4 c = search needs
 
--- src/lib.rt:460:1
 returns-4 : tie.Need-returns-4
 returns-4 c = search flat-enum
 
--- src/lib.rt:460:1
 same-length-5 : tie.Need-same-length-5
 same-length-5 c = search needs
 
--- src/lib.rt:460:1
 returns-5 : tie.Need-returns-5
 returns-5 c = search flat-struct
 

@@ -12,67 +12,51 @@ use Rattle.write_pass.proofs.pass_enum.Reads as pass-enum-reads
 use Rattle.write_store.proofs.put_byte.Reads as put-byte-reads
 use Rattle.write_pass.proofs.stored.Reads as stored-reads
 
--- src/lib.rt:385:9
 take-number-requires : tie.Need-take-number-requires
 take-number-requires c κs = search needs
 
--- src/lib.rt:387:9
 not-lawful-requires : tie.Need-not-lawful-requires
 not-lawful-requires c κs = search needs
 
--- src/lib.rt:387:9
 returns : tie.Need-returns
 returns c = search mark-cut
 
--- src/lib.rt:392:13
 put-byte-requires : tie.Need-put-byte-requires
 put-byte-requires c κs = search needs
 
--- src/lib.rt:393:9
 stored-requires : tie.Need-stored-requires
 stored-requires c κs = search needs
 
--- src/lib.rt:393:9
 same-length : tie.Need-same-length
 same-length c = search needs
 
--- src/lib.rt:393:9
 returns-2 : tie.Need-returns-2
 returns-2 c = search mark-none
 
--- src/lib.rt:396:9
 emit-enum-requires : tie.Need-emit-enum-requires
 emit-enum-requires c κs = search (room-taken, needs)
 
--- src/lib.rt:396:9
 same-length-2 : tie.Need-same-length-2
 same-length-2 c = search needs
 
--- src/lib.rt:396:9
 returns-3 : tie.Need-returns-3
 returns-3 c = search mark-known
 
--- src/lib.rt:399:13
 put-byte-requires-2 : tie.Need-put-byte-requires-2
 put-byte-requires-2 c κs = search needs
 
--- src/lib.rt:400:9
 pass-enum-requires : tie.Need-pass-enum-requires
 pass-enum-requires c κs = search (room-marked, needs)
 
--- src/lib.rt:400:9
 same-length-3 : tie.Need-same-length-3
 same-length-3 c = search needs
 
--- src/lib.rt:400:9
 returns-4 : tie.Need-returns-4
 returns-4 c = search mark-lost
 
--- src/lib.rt:402:5
 not-lawful-requires-2 : tie.Need-not-lawful-requires-2
 not-lawful-requires-2 c κs = search needs
 
--- src/lib.rt:381:1
 returns-5 : tie.Need-returns-5
 returns-5 c = search mark-bad
 

@@ -9,71 +9,54 @@ use Rattle.write_pass.proofs.emit_marked_enum.Reads as emit-marked-enum
 use Rattle.write_pass.proofs.emit_marked_float.Reads as emit-marked-float-reads
 use Rattle.write_pass.proofs.not_lawful.Reads as not-lawful-reads
 
--- src/lib.rt:359:26
 enum-told : tie.Need-enum-told
 enum-told c = search needs
 
--- src/lib.rt:359:26
 not-lawful-requires : tie.Need-not-lawful-requires
 not-lawful-requires c κs = search needs
 
--- src/lib.rt:360:32
 enum-told-2 : tie.Need-enum-told-2
 enum-told-2 c = search needs
 
--- src/lib.rt:360:32
 not-lawful-requires-2 : tie.Need-not-lawful-requires-2
 not-lawful-requires-2 c κs = search needs
 
--- src/lib.rt:361:21
 enum-known-k : tie.Need-enum-known-k
 enum-known-k c = search needs
 
--- src/lib.rt:361:27
 emit-marked-float-requires : tie.Need-emit-marked-float-requires
 emit-marked-float-requires c κs = search (float-short, needs)
 
--- src/lib.rt:362:26
 enum-known-k-2 : tie.Need-enum-known-k-2
 enum-known-k-2 c = search needs
 
--- src/lib.rt:362:32
 emit-marked-enum-requires : tie.Need-emit-marked-enum-requires
 emit-marked-enum-requires c κs = search needs
 
--- src/lib.rt:363:28
 enum-told-3 : tie.Need-enum-told-3
 enum-told-3 c = search needs
 
--- src/lib.rt:363:28
 not-lawful-requires-3 : tie.Need-not-lawful-requires-3
 not-lawful-requires-3 c κs = search needs
 
--- src/lib.rt:353:1
 returns : tie.Need-returns
 returns c = search marked-boolean
 
--- src/lib.rt:353:1
 returns-2 : tie.Need-returns-2
 returns-2 c = search marked-integer
 
--- src/lib.rt:353:1
 same-length : tie.Need-same-length
 same-length c = search needs
 
--- src/lib.rt:353:1
 returns-3 : tie.Need-returns-3
 returns-3 c = search marked-float
 
--- src/lib.rt:353:1
 same-length-2 : tie.Need-same-length-2
 same-length-2 c = search needs
 
--- src/lib.rt:353:1
 returns-4 : tie.Need-returns-4
 returns-4 c = search marked-enum
 
--- src/lib.rt:353:1
 returns-5 : tie.Need-returns-5
 returns-5 c = search marked-struct
 

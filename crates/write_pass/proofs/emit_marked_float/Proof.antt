@@ -13,63 +13,48 @@ use Rattle.write_pass.proofs.stored.Reads as stored-reads
 use Rattle.write_store.proofs.put_number.Reads as put-number-reads
 use Rattle.wire.proofs.index.Reads as index-reads
 
--- src/lib.rt:336:9
 take-number-requires : tie.Need-take-number-requires
 take-number-requires c κs = search needs
 
--- src/lib.rt:338:9
 not-lawful-requires : tie.Need-not-lawful-requires
 not-lawful-requires c κs = search needs
 
--- src/lib.rt:338:9
 returns : tie.Need-returns
 returns c = search float-cut
 
--- src/lib.rt:343:43
 index-requires : tie.Need-index-requires
 index-requires c κs = search needs
 
--- src/lib.rt:343:59
 no-float-requires : tie.Need-no-float-requires
 no-float-requires c κs = search needs
 
--- src/lib.rt:343:13
 put-number-requires : tie.Need-put-number-requires
 put-number-requires c κs = search needs
 
--- src/lib.rt:344:9
 stored-requires : tie.Need-stored-requires
 stored-requires c κs = search needs
 
--- src/lib.rt:344:9
 same-length : tie.Need-same-length
 same-length c = search needs
 
--- src/lib.rt:344:9
 returns-2 : tie.Need-returns-2
 returns-2 c = search float-none
 
--- src/lib.rt:347:36
 index-requires-2 : tie.Need-index-requires-2
 index-requires-2 c κs = search needs
 
--- src/lib.rt:347:9
 emit-number-requires : tie.Need-emit-number-requires
 emit-number-requires c κs = search (room-taken, needs)
 
--- src/lib.rt:347:9
 same-length-2 : tie.Need-same-length-2
 same-length-2 c = search needs
 
--- src/lib.rt:347:9
 returns-3 : tie.Need-returns-3
 returns-3 c = search float-there
 
--- src/lib.rt:349:5
 not-lawful-requires-2 : tie.Need-not-lawful-requires-2
 not-lawful-requires-2 c κs = search needs
 
--- src/lib.rt:331:1
 returns-4 : tie.Need-returns-4
 returns-4 c = search float-bad
 

@@ -8,23 +8,18 @@ use Rattle.message_object.proofs.root_object.Reads as root-object-reads
 use Rattle.write_pass.proofs.emit_measured.Reads as emit-measured-reads
 use Rattle.write_store.proofs.put_number.Reads as put-number-reads
 
--- src/lib.rt:1024:9
 root-object-requires : tie.Need-root-object-requires
 root-object-requires c κs = search needs
 
--- src/lib.rt:1025:9
 put-number-requires : tie.Need-put-number-requires
 put-number-requires c κs = search needs
 
--- src/lib.rt:1026:5
 emit-measured-requires : tie.Need-emit-measured-requires
 emit-measured-requires c κs = search (message-room, message-measured, needs)
 
--- src/lib.rt:1012:1
 same-length : tie.Need-same-length
 same-length c = search needs
 
--- src/lib.rt:1012:1
 returns : tie.Need-returns
 returns c = search message-done
 

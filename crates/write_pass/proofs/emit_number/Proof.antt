@@ -9,35 +9,27 @@ use Rattle.write_pass.proofs.not_lawful.Reads as not-lawful-reads
 use Rattle.write_store.proofs.put_number.Reads as put-number-reads
 use Rattle.write_pass.proofs.stored.Reads as stored-reads
 
--- src/lib.rt:309:40
 mul-take-number : tie.Need-mul-take-number
 mul-take-number c = search needs
 
--- src/lib.rt:309:9
 take-number-requires : tie.Need-take-number-requires
 take-number-requires c κs = search needs
 
--- src/lib.rt:311:9
 not-lawful-requires : tie.Need-not-lawful-requires
 not-lawful-requires c κs = search needs
 
--- src/lib.rt:311:9
 returns : tie.Need-returns
 returns c = search number-cut
 
--- src/lib.rt:314:9
 put-number-requires : tie.Need-put-number-requires
 put-number-requires c κs = search needs
 
--- src/lib.rt:315:5
 stored-requires : tie.Need-stored-requires
 stored-requires c κs = search needs
 
--- src/lib.rt:304:1
 same-length : tie.Need-same-length
 same-length c = search needs
 
--- src/lib.rt:304:1
 returns-2 : tie.Need-returns-2
 returns-2 c = search number-there
 

@@ -28,67 +28,51 @@ Inv-loop s out₀ w n c pos done₀ at₀ left₀ out done at left =
 abbrev μ-loop : tie.MeasureT-loop
 μ-loop s out₀ w n c pos done₀ at₀ left₀ out done at left = left
 
--- src/lib.rt:703:5
 loop-holds : tie.Need-loop-holds Inv-loop μ-loop
 loop-holds c = (search needs, search needs, search needs, search needs, search needs, search (room-below, needs), search needs, search run-room, search run-start)
 
--- src/lib.rt:704:43
 mul-take-number : tie.Need-mul-take-number Inv-loop μ-loop
 mul-take-number c = search needs
 
--- src/lib.rt:704:13
 take-number-requires : tie.Need-take-number-requires Inv-loop μ-loop
 take-number-requires c κs = search needs
 
--- src/lib.rt:706:13
 not-lawful-requires : tie.Need-not-lawful-requires Inv-loop μ-loop
 not-lawful-requires c κs = search needs
 
--- src/lib.rt:706:13
 same-length : tie.Need-same-length Inv-loop μ-loop
 same-length c = search needs
 
--- src/lib.rt:706:13
 returns : tie.Need-returns Inv-loop μ-loop
 returns c = search run-cut
 
--- src/lib.rt:708:27
 add-store-number : tie.Need-add-store-number Inv-loop μ-loop
 add-store-number c = search needs
 
--- src/lib.rt:708:9
 store-number-requires : tie.Need-store-number-requires Inv-loop μ-loop
 store-number-requires c κs = search needs
 
--- src/lib.rt:710:9
 add-done : tie.Need-add-done Inv-loop μ-loop
 add-done c = search needs
 
--- src/lib.rt:711:9
 sub-left : tie.Need-sub-left Inv-loop μ-loop
 sub-left c = search needs
 
--- src/lib.rt:703:5
 loop-less : tie.Need-loop-less Inv-loop μ-loop
 loop-less c = search needs
 
--- src/lib.rt:703:5
 loop-again : tie.Need-loop-again Inv-loop μ-loop
 loop-again c = (search needs, search needs, search needs, search needs, search needs, search run-below, search run-on, search run-goes, search run-turn)
 
--- src/lib.rt:713:12
 forward-requires : tie.Need-forward-requires Inv-loop μ-loop
 forward-requires c κs = search needs
 
--- src/lib.rt:713:5
 stored-requires : tie.Need-stored-requires Inv-loop μ-loop
 stored-requires c κs = search needs
 
--- src/lib.rt:695:1
 same-length-2 : tie.Need-same-length-2 Inv-loop μ-loop
 same-length-2 c = search needs
 
--- src/lib.rt:695:1
 returns-2 : tie.Need-returns-2 Inv-loop μ-loop
 returns-2 c = search run-done
 

@@ -13,71 +13,54 @@ use Rattle.write_pass.proofs.not_lawful.Reads as not-lawful-reads
 use Rattle.write_pass.proofs.pass.Reads as pass-reads
 use Rattle.write_pass.proofs.stored.Reads as stored-reads
 
--- src/lib.rt:831:9
 take-number-requires : tie.Need-take-number-requires
 take-number-requires c κs = search needs
 
--- src/lib.rt:833:9
 not-lawful-requires : tie.Need-not-lawful-requires
 not-lawful-requires c κs = search needs
 
--- src/lib.rt:833:9
 returns : tie.Need-returns
 returns c = search part-cut
 
--- src/lib.rt:839:13
 flag-requires : tie.Need-flag-requires
 flag-requires c κs = search needs
 
--- src/lib.rt:840:9
 terminal-body-requires : tie.Need-terminal-body-requires
 terminal-body-requires c κs = search (room-flag, needs)
 
--- src/lib.rt:840:9
 same-length : tie.Need-same-length
 same-length c = search needs
 
--- src/lib.rt:840:9
 returns-2 : tie.Need-returns-2
 returns-2 c = search (part-there, c .before .before .before .before .before .before .before .before .before .before .before .before .before .before .before .before .pre .1, c .before .before .before .before .before .before .before .before .before .before .before .take-number .ensures, c .before .before .before .before .before .before .before .before .before .if1 .left, c .before .before .before .before .before .before .before .before .if2 .taken, c .before .before .before .before .before .before .flag .ensures, c .before .before .terminal-body .ensures)
 
--- src/lib.rt:843:9
 not-lawful-requires-2 : tie.Need-not-lawful-requires-2
 not-lawful-requires-2 c κs = search needs
 
--- src/lib.rt:843:9
 returns-3 : tie.Need-returns-3
 returns-3 c = search part-bad
 
--- src/lib.rt:845:9
 flag-requires-2 : tie.Need-flag-requires-2
 flag-requires-2 c κs = search needs
 
--- src/lib.rt:846:9
 lack-requires : tie.Need-lack-requires
 lack-requires c κs = search needs
 
--- src/lib.rt:848:9
 stored-requires : tie.Need-stored-requires
 stored-requires c κs = search needs
 
--- src/lib.rt:848:9
 same-length-2 : tie.Need-same-length-2
 same-length-2 c = search needs
 
--- src/lib.rt:848:9
 returns-4 : tie.Need-returns-4
 returns-4 c = search (part-none, c .before .before .before .before .before .before .before .before .before .before .before .before .before .before .before .before .before .before .before .pre .1, c .before .before .before .before .before .before .before .before .before .before .before .before .before .before .take-number .ensures, c .before .before .before .before .before .before .before .before .before .before .before .before .if1 .left, c .before .before .before .before .before .before .before .before .before .before .before .if2 .left, c .before .before .before .before .before .before .before .before .before .before .if3 .left, c .before .before .before .before .before .before .before .before .flag2 .ensures, c .before .before .before .before .lack .ensures, c .before .if4 .taken, c .stored .ensures .0, c .stored .ensures .1, c .stored .ensures .2)
 
--- src/lib.rt:850:5
 pass-requires : tie.Need-pass-requires
 pass-requires c κs = ((c .before .before .before .before .before .before .before .before .before .before .before .before .before .before .before .before .before .before .before .pre .0 .0, c .before .before .before .before .before .before .before .before .before .before .before .before .before .before .before .before .before .before .before .pre .0 .1), search (room-lack, c .before .before .before .before .before .before .before .before .before .before .before .before .before .before .before .before .before .before .before .pre .1, c .before .before .before .before .before .before .before .before .before .before .before .before .before .before .take-number .ensures, c .before .before .before .before .before .before .before .before .before .before .before .before .if1 .left, c .before .before .before .before .before .before .before .before .flag2 .ensures, c .before .before .before .before .lack .ensures))
 
--- src/lib.rt:817:1
 same-length-3 : tie.Need-same-length-3
 same-length-3 c = search needs
 
--- src/lib.rt:817:1
 returns-5 : tie.Need-returns-5
 returns-5 c = search (part-pass, c .before .before .before .before .before .before .before .before .before .before .before .before .before .before .before .before .before .before .before .before .before .before .pre .1, c .before .before .before .before .before .before .before .before .before .before .before .before .before .before .before .before .before .take-number .ensures, c .before .before .before .before .before .before .before .before .before .before .before .before .before .before .before .if1 .left, c .before .before .before .before .before .before .before .before .before .before .before .before .before .before .if2 .left, c .before .before .before .before .before .before .before .before .before .before .before .before .before .if3 .left, c .before .before .before .before .before .before .before .before .before .before .before .flag2 .ensures, c .before .before .before .before .before .before .before .lack .ensures, c .before .before .before .before .if4 .left, c .before .before .pass .ensures)
 

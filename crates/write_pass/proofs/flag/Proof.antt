@@ -7,23 +7,18 @@ use Rattle.write_pass.proofs.flag.Lts as lts
 use Rattle.message_layout.proofs.has_flag.Reads as has-flag-reads
 use Rattle.write_store.proofs.put_bit.Reads as put-bit-reads
 
--- src/lib.rt:618:8
 has-flag-requires : tie.Need-has-flag-requires
 has-flag-requires c κs = search needs
 
--- src/lib.rt:619:9
 put-bit-requires : tie.Need-put-bit-requires
 put-bit-requires c κs = search needs
 
--- src/lib.rt:619:9
 same-length : tie.Need-same-length
 same-length c = search needs
 
--- src/lib.rt:619:9
 returns : tie.Need-returns
 returns c = search flag-some
 
--- src/lib.rt:614:1
 returns-2 : tie.Need-returns-2
 returns-2 c = search flag-none
 

@@ -5,38 +5,30 @@ use Rattle.write_pass.proofs.is_blob.Tie as tie
 use Rattle.write_pass.proofs.is_blob.Reads as reads
 use Rattle.write_pass.proofs.is_blob.Lts as lts
 
--- src/lib.rt:683:25
 enum-told : tie.Need-enum-told
 enum-told c = search needs
 
--- src/lib.rt:684:26
 enum-told-2 : tie.Need-enum-told-2
 enum-told-2 c = search needs
 
--- src/lib.rt:685:28
 enum-told-3 : tie.Need-enum-told-3
 enum-told-3 c = search needs
 
--- src/lib.rt:686:29
 enum-told-4 : tie.Need-enum-told-4
 enum-told-4 c = search needs
 
--- src/lib.rt:679:1
 returns : tie.Need-returns
 unfolding isBlob
 returns c = search needs
 
--- src/lib.rt:679:1
 returns-2 : tie.Need-returns-2
 unfolding isBlob
 returns-2 c = search needs
 
--- src/lib.rt:679:1
 returns-3 : tie.Need-returns-3
 unfolding isBlob
 returns-3 c = search needs
 
--- src/lib.rt:679:1
 returns-4 : tie.Need-returns-4
 unfolding isBlob
 returns-4 c = search needs

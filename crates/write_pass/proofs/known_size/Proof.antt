@@ -8,43 +8,33 @@ use Rattle.write_pass.proofs.known_size.Lts as lts
 use Rattle.write_pass.proofs.known_table.Reads as known-table-reads
 use Rattle.wire.proofs.index.Reads as index-reads
 
--- src/lib.rt:621:25
 enum-told : tie.Need-enum-told
 enum-told c = search needs
 
--- src/lib.rt:622:26
 enum-told-2 : tie.Need-enum-told-2
 enum-told-2 c = search needs
 
--- src/lib.rt:623:28
 enum-told-3 : tie.Need-enum-told-3
 enum-told-3 c = search needs
 
--- src/lib.rt:624:23
 enum-known-ob : tie.Need-enum-known-ob
 enum-known-ob c = search needs
 
--- src/lib.rt:624:49
 index-requires : tie.Need-index-requires
 index-requires c κs = search needs
 
--- src/lib.rt:624:29
 known-table-requires : tie.Need-known-table-requires
 known-table-requires c κs = search (table-counted, needs)
 
--- src/lib.rt:616:1
 returns : tie.Need-returns
 returns c = search known-none
 
--- src/lib.rt:616:1
 returns-2 : tie.Need-returns-2
 returns-2 c = search known-none
 
--- src/lib.rt:616:1
 returns-3 : tie.Need-returns-3
 returns-3 c = search known-none
 
--- src/lib.rt:616:1
 returns-4 : tie.Need-returns-4
 returns-4 c = search known-table
 

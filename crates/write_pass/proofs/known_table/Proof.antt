@@ -7,19 +7,15 @@ use Rattle.write_pass.proofs.known_table.Lts as lts
 use Rattle.write_pass.proofs.any_in_place.Reads as any-in-place-reads
 use Rattle.write_measure.proofs.fixed_size.Reads as fixed-size-reads
 
--- src/lib.rt:610:8
 any-in-place-requires : tie.Need-any-in-place-requires
 any-in-place-requires c κs = search needs
 
--- src/lib.rt:611:9
 returns : tie.Need-returns
 returns c = search known-none
 
--- src/lib.rt:613:5
 fixed-size-requires : tie.Need-fixed-size-requires
 fixed-size-requires c κs = search needs
 
--- src/lib.rt:606:1
 returns-2 : tie.Need-returns-2
 returns-2 c = search known-fixed
 

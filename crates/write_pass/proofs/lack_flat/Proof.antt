@@ -13,103 +13,78 @@ use Rattle.write_store.proofs.put_byte.Reads as put-byte-reads
 use Rattle.write_store.proofs.put_number.Reads as put-number-reads
 use Rattle.write_store.proofs.put_zeros.Reads as put-zeros-reads
 
--- src/lib.rt:498:34
 enum-told : tie.Need-enum-told
 enum-told c = search needs
 
--- src/lib.rt:498:26
 put-bit-requires : tie.Need-put-bit-requires
 put-bit-requires c κs = search needs
 
--- src/lib.rt:499:26
 enum-known-k : tie.Need-enum-known-k
 enum-known-k c = search needs
 
--- src/lib.rt:499:51
 index-requires : tie.Need-index-requires
 index-requires c κs = search needs
 
--- src/lib.rt:499:32
 put-number-requires : tie.Need-put-number-requires
 put-number-requires c κs = search (integer-eight, needs)
 
--- src/lib.rt:500:21
 enum-known-k-2 : tie.Need-enum-known-k-2
 enum-known-k-2 c = search needs
 
--- src/lib.rt:500:46
 index-requires-2 : tie.Need-index-requires-2
 index-requires-2 c κs = search needs
 
--- src/lib.rt:500:62
 no-float-requires : tie.Need-no-float-requires
 no-float-requires c κs = search needs
 
--- src/lib.rt:500:27
 put-number-requires-2 : tie.Need-put-number-requires-2
 put-number-requires-2 c κs = search (float-eight, needs)
 
--- src/lib.rt:501:41
 enum-told-2 : tie.Need-enum-told-2
 enum-told-2 c = search needs
 
--- src/lib.rt:501:32
 put-byte-requires : tie.Need-put-byte-requires
 put-byte-requires c κs = search needs
 
--- src/lib.rt:502:22
 enum-known-k-3 : tie.Need-enum-known-k-3
 enum-known-k-3 c = search needs
 
--- src/lib.rt:502:74
 index-requires-3 : tie.Need-index-requires-3
 index-requires-3 c κs = search needs
 
--- src/lib.rt:502:46
 stored-size-requires : tie.Need-stored-size-requires
 stored-size-requires c κs = search (struct-counted, needs)
 
--- src/lib.rt:502:28
 put-zeros-requires : tie.Need-put-zeros-requires
 put-zeros-requires c κs = search needs
 
--- src/lib.rt:493:1
 same-length : tie.Need-same-length
 same-length c = search needs
 
--- src/lib.rt:493:1
 returns : tie.Need-returns
 returns c = search lacks-boolean
 
--- src/lib.rt:493:1
 same-length-2 : tie.Need-same-length-2
 same-length-2 c = search needs
 
--- src/lib.rt:493:1
 returns-2 : tie.Need-returns-2
 returns-2 c = search lacks-integer
 
--- src/lib.rt:493:1
 same-length-3 : tie.Need-same-length-3
 same-length-3 c = search needs
 
--- src/lib.rt:493:1
 returns-3 : tie.Need-returns-3
 returns-3 c = search lacks-float
 
--- src/lib.rt:493:1
 same-length-4 : tie.Need-same-length-4
 same-length-4 c = search needs
 
--- src/lib.rt:493:1
 returns-4 : tie.Need-returns-4
 returns-4 c = search lacks-enum
 
--- src/lib.rt:493:1
 same-length-5 : tie.Need-same-length-5
 same-length-5 c = search needs
 
--- src/lib.rt:493:1
 returns-5 : tie.Need-returns-5
 returns-5 c = search lacks-struct
 

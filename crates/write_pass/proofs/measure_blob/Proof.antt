@@ -7,19 +7,15 @@ use Rattle.write_pass.proofs.measure_blob.Lts as lts
 use Rattle.bitio.proofs.take_number.Reads as take-number-reads
 use Rattle.write_measure.proofs.opened.Reads as opened-reads
 
--- src/lib.rt:829:9
 take-number-requires : tie.Need-take-number-requires
 take-number-requires c κs = search needs
 
--- src/lib.rt:831:23
 add-opened : tie.Need-add-opened
 add-opened c = search needs
 
--- src/lib.rt:831:5
 opened-requires : tie.Need-opened-requires
 opened-requires c κs = search needs
 
--- src/lib.rt:825:1
 returns : tie.Need-returns
 returns c = search blob-measured
 

@@ -7,19 +7,15 @@ use Rattle.write_pass.proofs.measure_by.Lts as lts
 use Rattle.write_pass.proofs.measure.Reads as measure-reads
 use Rattle.write_measure.proofs.opened.Reads as opened-reads
 
--- src/lib.rt:642:9
 opened-requires : tie.Need-opened-requires
 opened-requires c κs = search known-small
 
--- src/lib.rt:642:9
 returns : tie.Need-returns
 returns c = search known-measured
 
--- src/lib.rt:644:5
 measure-requires : tie.Need-measure-requires
 measure-requires c κs = search needs
 
--- src/lib.rt:629:1
 returns-2 : tie.Need-returns-2
 returns-2 c = search needs
 

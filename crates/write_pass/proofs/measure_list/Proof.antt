@@ -10,23 +10,18 @@ use Rattle.schema.proofs.element.Reads as element-reads
 use Rattle.write_measure.proofs.elements_size.Reads as elements-size-reads
 use Rattle.write_measure.proofs.opened.Reads as opened-reads
 
--- src/lib.rt:838:9
 take-number-requires : tie.Need-take-number-requires
 take-number-requires c κs = search needs
 
--- src/lib.rt:840:9
 element-requires : tie.Need-element-requires
 element-requires c κs = search needs
 
--- src/lib.rt:841:23
 elements-size-requires : tie.Need-elements-size-requires
 elements-size-requires c κs = search (element-sound, needs)
 
--- src/lib.rt:841:5
 opened-requires : tie.Need-opened-requires
 opened-requires c κs = search needs
 
--- src/lib.rt:834:1
 returns : tie.Need-returns
 returns c = search list-measured
 

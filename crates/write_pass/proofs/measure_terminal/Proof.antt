@@ -6,51 +6,39 @@ use Rattle.write_pass.proofs.measure_terminal.Reads as reads
 use Rattle.write_pass.proofs.measure_terminal.Lts as lts
 use Rattle.write_pass.proofs.measure_blob.Reads as measure-blob-reads
 
--- src/lib.rt:714:25
 enum-told : tie.Need-enum-told
 enum-told c = search needs
 
--- src/lib.rt:714:25
 measure-blob-requires : tie.Need-measure-blob-requires
 measure-blob-requires c κs = search needs
 
--- src/lib.rt:715:26
 enum-told-2 : tie.Need-enum-told-2
 enum-told-2 c = search needs
 
--- src/lib.rt:715:26
 measure-blob-requires-2 : tie.Need-measure-blob-requires-2
 measure-blob-requires-2 c κs = search needs
 
--- src/lib.rt:716:28
 enum-told-3 : tie.Need-enum-told-3
 enum-told-3 c = search needs
 
--- src/lib.rt:716:28
 measure-blob-requires-3 : tie.Need-measure-blob-requires-3
 measure-blob-requires-3 c κs = search needs
 
--- src/lib.rt:717:29
 enum-told-4 : tie.Need-enum-told-4
 enum-told-4 c = search needs
 
--- src/lib.rt:717:29
 measure-blob-requires-4 : tie.Need-measure-blob-requires-4
 measure-blob-requires-4 c κs = search needs
 
--- src/lib.rt:709:1
 returns : tie.Need-returns
 returns c = search measured-text
 
--- src/lib.rt:709:1
 returns-2 : tie.Need-returns-2
 returns-2 c = search measured-bytes
 
--- src/lib.rt:709:1
 returns-3 : tie.Need-returns-3
 returns-3 c = search measured-no-list
 
--- src/lib.rt:709:1
 returns-4 : tie.Need-returns-4
 returns-4 c = search measured-no-table
 

@@ -4,11 +4,9 @@ use Rattle.write_pass.proofs.no_float.Tie as tie
 use Rattle.write_pass.proofs.no_float.Reads as reads
 use Rattle.write_pass.proofs.no_float.Lts as lts
 
--- src/lib.rt:488:9
 returns : tie.Need-returns
 returns c = search no-four
 
--- src/lib.rt:484:1
 returns-2 : tie.Need-returns-2
 returns-2 c = search no-eight
 

@@ -8,43 +8,33 @@ use Rattle.write_pass.proofs.object_magic.Lts as lts
 use Rattle.schema.proofs.table_id.Reads as table-id-reads
 use Rattle.wire.proofs.index.Reads as index-reads
 
--- src/lib.rt:630:25
 enum-told : tie.Need-enum-told
 enum-told c = search needs
 
--- src/lib.rt:631:26
 enum-told-2 : tie.Need-enum-told-2
 enum-told-2 c = search needs
 
--- src/lib.rt:632:28
 enum-told-3 : tie.Need-enum-told-3
 enum-told-3 c = search needs
 
--- src/lib.rt:633:23
 enum-known-ob : tie.Need-enum-known-ob
 enum-known-ob c = search needs
 
--- src/lib.rt:633:54
 index-requires : tie.Need-index-requires
 index-requires c κs = search needs
 
--- src/lib.rt:633:29
 table-id-requires : tie.Need-table-id-requires
 table-id-requires c κs = search (table-counted-of, needs)
 
--- src/lib.rt:625:1
 returns : tie.Need-returns
 returns c = search magic-text
 
--- src/lib.rt:625:1
 returns-2 : tie.Need-returns-2
 returns-2 c = search magic-bytes
 
--- src/lib.rt:625:1
 returns-3 : tie.Need-returns-3
 returns-3 c = search magic-list
 
--- src/lib.rt:625:1
 returns-4 : tie.Need-returns-4
 returns-4 c = search magic-table
 

@@ -7,23 +7,18 @@ use Rattle.write_pass.proofs.open.Lts as lts
 use Rattle.write_store.proofs.enter_content.Reads as enter-content-reads
 use Rattle.write_pass.proofs.open_object.Reads as open-object-reads
 
--- src/lib.rt:674:9
 enter-content-requires : tie.Need-enter-content-requires
 enter-content-requires c κs = search needs
 
--- src/lib.rt:674:9
 returns : tie.Need-returns
 returns c = search opened-content
 
--- src/lib.rt:676:5
 open-object-requires : tie.Need-open-object-requires
 open-object-requires c κs = search needs
 
--- src/lib.rt:661:1
 same-length : tie.Need-same-length
 same-length c = search needs
 
--- src/lib.rt:661:1
 returns-2 : tie.Need-returns-2
 returns-2 c = search opened-object
 

@@ -8,31 +8,24 @@ use Rattle.write_store.proofs.enter_object.Reads as enter-object-reads
 use Rattle.write_pass.proofs.object_magic.Reads as object-magic-reads
 use Rattle.write_store.proofs.put_number.Reads as put-number-reads
 
--- src/lib.rt:654:9
 object-magic-requires : tie.Need-object-magic-requires
 object-magic-requires c κs = search needs
 
--- src/lib.rt:655:29
 add-enter-object : tie.Need-add-enter-object
 add-enter-object c = search needs
 
--- src/lib.rt:655:9
 enter-object-requires : tie.Need-enter-object-requires
 enter-object-requires c κs = search needs
 
--- src/lib.rt:656:9
 put-number-requires : tie.Need-put-number-requires
 put-number-requires c κs = search (entered-low, needs)
 
--- src/lib.rt:657:5
 put-number-requires-2 : tie.Need-put-number-requires-2
 put-number-requires-2 c κs = search (entered-header, needs)
 
--- src/lib.rt:650:1
 same-length : tie.Need-same-length
 same-length c = search needs
 
--- src/lib.rt:650:1
 returns : tie.Need-returns
 returns c = search object-opened
 

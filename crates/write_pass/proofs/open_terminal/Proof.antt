@@ -8,31 +8,24 @@ use Rattle.write_pass.proofs.terminal_magic.Reads as terminal-magic-rea
 use Rattle.write_store.proofs.enter_object.Reads as enter-object-reads
 use Rattle.write_store.proofs.put_number.Reads as put-number-reads
 
--- src/lib.rt:737:9
 terminal-magic-requires : tie.Need-terminal-magic-requires
 terminal-magic-requires c κs = search needs
 
--- src/lib.rt:738:36
 add-enter-object : tie.Need-add-enter-object
 add-enter-object c = search needs
 
--- src/lib.rt:738:9
 enter-object-requires : tie.Need-enter-object-requires
 enter-object-requires c κs = search needs
 
--- src/lib.rt:739:9
 put-number-requires : tie.Need-put-number-requires
 put-number-requires c κs = search (entered-low, needs)
 
--- src/lib.rt:740:5
 put-number-requires-2 : tie.Need-put-number-requires-2
 put-number-requires-2 c κs = search (entered-header, needs)
 
--- src/lib.rt:733:1
 same-length : tie.Need-same-length
 same-length c = search needs
 
--- src/lib.rt:733:1
 returns : tie.Need-returns
 returns c = search terminal-opened
 

@@ -10,51 +10,39 @@ use Rattle.write_pass.proofs.not_lawful.Reads as not-lawful-reads
 use Rattle.write_pass.proofs.pass_choice.Reads as pass-choice-reads
 use Rattle.write_pass.proofs.pass_flat.Reads as pass-flat-reads
 
--- src/lib.rt:563:22
 enum-known-k : tie.Need-enum-known-k
 enum-known-k c = search needs
 
--- src/lib.rt:563:28
 pass-flat-requires : tie.Need-pass-flat-requires
 pass-flat-requires c κs = search needs
 
--- src/lib.rt:564:30
 enum-told : tie.Need-enum-told
 enum-told c = search needs
 
--- src/lib.rt:564:30
 not-lawful-requires : tie.Need-not-lawful-requires
 not-lawful-requires c κs = search needs
 
--- src/lib.rt:565:23
 enum-known-k-2 : tie.Need-enum-known-k-2
 enum-known-k-2 c = search needs
 
--- src/lib.rt:565:57
 index-requires : tie.Need-index-requires
 index-requires c κs = search needs
 
--- src/lib.rt:565:29
 pass-choice-requires : tie.Need-pass-choice-requires
 pass-choice-requires c κs = search (union-counted, needs)
 
--- src/lib.rt:557:1
 same-length : tie.Need-same-length
 same-length c = search needs
 
--- src/lib.rt:557:1
 returns : tie.Need-returns
 returns c = search pass-flat
 
--- src/lib.rt:557:1
 returns-2 : tie.Need-returns-2
 returns-2 c = search pass-object
 
--- src/lib.rt:557:1
 same-length-2 : tie.Need-same-length-2
 same-length-2 c = search needs
 
--- src/lib.rt:557:1
 returns-3 : tie.Need-returns-3
 returns-3 c = search pass-union
 

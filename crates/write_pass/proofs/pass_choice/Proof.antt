@@ -9,35 +9,27 @@ use Rattle.schema.proofs.case_count.Reads as case-count-reads
 use Rattle.write_pass.proofs.not_lawful.Reads as not-lawful-reads
 use Rattle.write_pass.proofs.stored.Reads as stored-reads
 
--- src/lib.rt:546:9
 case-count-requires : tie.Need-case-count-requires
 case-count-requires c κs = search needs
 
--- src/lib.rt:547:9
 take-number-requires : tie.Need-take-number-requires
 take-number-requires c κs = search needs
 
--- src/lib.rt:549:9
 not-lawful-requires : tie.Need-not-lawful-requires
 not-lawful-requires c κs = search needs
 
--- src/lib.rt:549:9
 returns : tie.Need-returns
 returns c = search if-cut
 
--- src/lib.rt:552:9
 stored-requires : tie.Need-stored-requires
 stored-requires c κs = search needs
 
--- src/lib.rt:552:9
 returns-2 : tie.Need-returns-2
 returns-2 c = search choice-there
 
--- src/lib.rt:554:5
 not-lawful-requires-2 : tie.Need-not-lawful-requires-2
 not-lawful-requires-2 c κs = search needs
 
--- src/lib.rt:533:1
 returns-3 : tie.Need-returns-3
 returns-3 c = search choice-fails
 

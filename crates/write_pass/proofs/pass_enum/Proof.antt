@@ -9,35 +9,27 @@ use Rattle.write_measure.proofs.unknown_enum.Reads as unknown-enum-reads
 use Rattle.write_pass.proofs.not_lawful.Reads as not-lawful-reads
 use Rattle.write_pass.proofs.stored.Reads as stored-reads
 
--- src/lib.rt:369:9
 take-number-requires : tie.Need-take-number-requires
 take-number-requires c κs = search needs
 
--- src/lib.rt:371:9
 not-lawful-requires : tie.Need-not-lawful-requires
 not-lawful-requires c κs = search needs
 
--- src/lib.rt:371:9
 returns : tie.Need-returns
 returns c = search if-cut
 
--- src/lib.rt:374:8
 unknown-enum-requires : tie.Need-unknown-enum-requires
 unknown-enum-requires c κs = search needs
 
--- src/lib.rt:375:9
 stored-requires : tie.Need-stored-requires
 stored-requires c κs = search needs
 
--- src/lib.rt:375:9
 returns-2 : tie.Need-returns-2
 returns-2 c = search lost-there
 
--- src/lib.rt:377:5
 not-lawful-requires-2 : tie.Need-not-lawful-requires-2
 not-lawful-requires-2 c κs = search needs
 
--- src/lib.rt:365:1
 returns-3 : tie.Need-returns-3
 returns-3 c = search lost-fails
 

@@ -7,67 +7,51 @@ use Rattle.write_pass.proofs.pass_flat.Lts as lts
 use Rattle.write_pass.proofs.not_lawful.Reads as not-lawful-reads
 use Rattle.write_pass.proofs.pass_enum.Reads as pass-enum-reads
 
--- src/lib.rt:524:26
 enum-told : tie.Need-enum-told
 enum-told c = search needs
 
--- src/lib.rt:524:26
 not-lawful-requires : tie.Need-not-lawful-requires
 not-lawful-requires c κs = search needs
 
--- src/lib.rt:525:32
 enum-told-2 : tie.Need-enum-told-2
 enum-told-2 c = search needs
 
--- src/lib.rt:525:32
 not-lawful-requires-2 : tie.Need-not-lawful-requires-2
 not-lawful-requires-2 c κs = search needs
 
--- src/lib.rt:526:27
 enum-told-3 : tie.Need-enum-told-3
 enum-told-3 c = search needs
 
--- src/lib.rt:526:27
 not-lawful-requires-3 : tie.Need-not-lawful-requires-3
 not-lawful-requires-3 c κs = search needs
 
--- src/lib.rt:527:26
 enum-known-k : tie.Need-enum-known-k
 enum-known-k c = search needs
 
--- src/lib.rt:527:32
 pass-enum-requires : tie.Need-pass-enum-requires
 pass-enum-requires c κs = search needs
 
--- src/lib.rt:528:28
 enum-told-4 : tie.Need-enum-told-4
 enum-told-4 c = search needs
 
--- src/lib.rt:528:28
 not-lawful-requires-4 : tie.Need-not-lawful-requires-4
 not-lawful-requires-4 c κs = search needs
 
--- src/lib.rt:519:1
 returns : tie.Need-returns
 returns c = search pass-boolean
 
--- src/lib.rt:519:1
 returns-2 : tie.Need-returns-2
 returns-2 c = search pass-integer
 
--- src/lib.rt:519:1
 returns-3 : tie.Need-returns-3
 returns-3 c = search pass-float
 
--- src/lib.rt:519:1
 same-length : tie.Need-same-length
 same-length c = search needs
 
--- src/lib.rt:519:1
 returns-4 : tie.Need-returns-4
 returns-4 c = search pass-enum
 
--- src/lib.rt:519:1
 returns-5 : tie.Need-returns-5
 returns-5 c = search pass-struct
 

@@ -6,27 +6,21 @@ use Rattle.write_pass.proofs.put_reference.Reads as reads
 use Rattle.write_pass.proofs.put_reference.Lts as lts
 use Rattle.write_store.proofs.put_number.Reads as put-number-reads
 
--- src/lib.rt:643:9
 put-number-requires : tie.Need-put-number-requires
 put-number-requires c κs = search needs
 
--- src/lib.rt:643:9
 same-length : tie.Need-same-length
 same-length c = search needs
 
--- src/lib.rt:643:9
 returns : tie.Need-returns
 returns c = search referred-content
 
--- src/lib.rt:646:5
 put-number-requires-2 : tie.Need-put-number-requires-2
 put-number-requires-2 c κs = search needs
 
--- src/lib.rt:638:1
 same-length-2 : tie.Need-same-length-2
 same-length-2 c = search needs
 
--- src/lib.rt:638:1
 returns-2 : tie.Need-returns-2
 returns-2 c = search referred-object
 

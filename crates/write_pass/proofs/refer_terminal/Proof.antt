@@ -14,47 +14,36 @@ use Rattle.write_pass.proofs.open_terminal.Reads as open-terminal-reads
 use Rattle.write_pass.proofs.put_reference.Reads as put-reference-reads
 use Rattle.write_pass.proofs.stored.Reads as stored-reads
 
--- src/lib.rt:782:9
 measure-terminal-requires : tie.Need-measure-terminal-requires
 measure-terminal-requires c κs = search needs
 
--- src/lib.rt:783:9
 put-reference-requires : tie.Need-put-reference-requires
 put-reference-requires c κs = search (room-below, needs)
 
--- src/lib.rt:784:9
 open-terminal-requires : tie.Need-open-terminal-requires
 open-terminal-requires c κs = search (stood-next, needs)
 
--- src/lib.rt:785:9
 terminal-content-requires : tie.Need-terminal-content-requires
 terminal-content-requires c κs = (c .before .before .before .before .before .before .before .before .before .before .before .before .before .before .pre .0 .1, search (room-open, c .before .before .before .before .before .before .before .before .before .before .before .before .before .before .pre .1, c .before .before .before .open-terminal .ensures))
 
--- src/lib.rt:787:9
 not-lawful-requires : tie.Need-not-lawful-requires
 not-lawful-requires c κs = search needs
 
--- src/lib.rt:787:9
 same-length : tie.Need-same-length
 same-length c = search needs
 
--- src/lib.rt:787:9
 returns : tie.Need-returns
 returns c = search (refer-cut, c .before .before .before .before .before .before .before .before .before .before .before .before .before .before .before .before .before .before .before .before .pre .0 .0, c .before .before .before .before .before .before .before .before .before .before .before .before .before .before .before .before .before .before .before .before .pre .1, c .before .before .before .before .before .before .before .before .before .before .before .before .before .before .before .measure-terminal .ensures, c .before .before .before .before .before .before .before .before .before .before .before .before .before .put-reference .ensures, c .before .before .before .before .before .before .before .before .before .open-terminal .ensures, c .before .before .before .before .before .terminal-content .ensures, c .before .if1 .taken, c .not-lawful .ensures .0, c .not-lawful .ensures .1, c .not-lawful .ensures .2)
 
--- src/lib.rt:790:12
 close-requires : tie.Need-close-requires
 close-requires c κs = search needs
 
--- src/lib.rt:790:5
 stored-requires : tie.Need-stored-requires
 stored-requires c κs = search needs
 
--- src/lib.rt:768:1
 same-length-2 : tie.Need-same-length-2
 same-length-2 c = c .before .before .before .before .before .before .terminal-content .kept .1 .1 .0 ∙ c .before .before .before .before .before .before .before .before .before .before .open-terminal .kept .1 .0 ∙ c .before .before .before .before .before .before .before .before .before .before .before .before .before .before .put-reference .kept .0
 
--- src/lib.rt:768:1
 returns-2 : tie.Need-returns-2
 returns-2 c = search (refer-done, c .before .before .before .before .before .before .before .before .before .before .before .before .before .before .before .before .before .before .before .before .before .pre .0 .0, c .before .before .before .before .before .before .before .before .before .before .before .before .before .before .before .before .before .before .before .before .before .pre .1, c .before .before .before .before .before .before .before .before .before .before .before .before .before .before .before .before .measure-terminal .ensures, c .before .before .before .before .before .before .before .before .before .before .before .before .before .before .put-reference .ensures, c .before .before .before .before .before .before .before .before .before .before .open-terminal .ensures, c .before .before .before .before .before .before .terminal-content .ensures, c .before .before .if1 .left, c .before .close .ensures, c .stored .ensures .0, c .stored .ensures .1, c .stored .ensures .2)
 

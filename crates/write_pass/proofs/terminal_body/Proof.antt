@@ -9,47 +9,36 @@ use Rattle.write_pass.proofs.emit_flat.Reads as emit-flat-reads
 use Rattle.write_pass.proofs.not_lawful.Reads as not-lawful-reads
 use Rattle.write_pass.proofs.refer_terminal.Reads as refer-terminal-reads
 
--- src/lib.rt:810:22
 enum-known-k : tie.Need-enum-known-k
 enum-known-k c = search needs
 
--- src/lib.rt:810:28
 emit-flat-requires : tie.Need-emit-flat-requires
 emit-flat-requires c κs = search (kind-flat, needs)
 
--- src/lib.rt:811:24
 enum-known-k-2 : tie.Need-enum-known-k-2
 enum-known-k-2 c = search needs
 
--- src/lib.rt:811:31
 refer-terminal-requires : tie.Need-refer-terminal-requires
 refer-terminal-requires c κs = search (terminal-blob, needs)
 
--- src/lib.rt:812:29
 enum-told : tie.Need-enum-told
 enum-told c = search needs
 
--- src/lib.rt:812:29
 not-lawful-requires : tie.Need-not-lawful-requires
 not-lawful-requires c κs = search needs
 
--- src/lib.rt:794:1
 same-length : tie.Need-same-length
 same-length c = search needs
 
--- src/lib.rt:794:1
 returns : tie.Need-returns
 returns c = search body-flat
 
--- src/lib.rt:794:1
 same-length-2 : tie.Need-same-length-2
 same-length-2 c = search needs
 
--- src/lib.rt:794:1
 returns-2 : tie.Need-returns-2
 returns-2 c = search body-terminal
 
--- src/lib.rt:794:1
 returns-3 : tie.Need-returns-3
 returns-3 c = search body-no-terminal
 

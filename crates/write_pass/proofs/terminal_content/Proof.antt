@@ -8,67 +8,51 @@ use Rattle.write_pass.proofs.emit_bytes.Reads as emit-bytes-reads
 use Rattle.write_pass.proofs.emit_text.Reads as emit-text-reads
 use Rattle.write_pass.proofs.not_lawful.Reads as not-lawful-reads
 
--- src/lib.rt:758:9
 not-lawful-requires : tie.Need-not-lawful-requires
 not-lawful-requires c κs = search needs
 
--- src/lib.rt:758:9
 returns : tie.Need-returns
 returns c = search content-deep
 
--- src/lib.rt:761:38
 enum-told : tie.Need-enum-told
 enum-told c = search needs
 
--- src/lib.rt:761:25
 emit-text-requires : tie.Need-emit-text-requires
 emit-text-requires c κs = search needs
 
--- src/lib.rt:762:40
 enum-told-2 : tie.Need-enum-told-2
 enum-told-2 c = search needs
 
--- src/lib.rt:762:26
 emit-bytes-requires : tie.Need-emit-bytes-requires
 emit-bytes-requires c κs = search needs
 
--- src/lib.rt:763:28
 enum-told-3 : tie.Need-enum-told-3
 enum-told-3 c = search needs
 
--- src/lib.rt:763:28
 not-lawful-requires-2 : tie.Need-not-lawful-requires-2
 not-lawful-requires-2 c κs = search needs
 
--- src/lib.rt:764:29
 enum-told-4 : tie.Need-enum-told-4
 enum-told-4 c = search needs
 
--- src/lib.rt:764:29
 not-lawful-requires-3 : tie.Need-not-lawful-requires-3
 not-lawful-requires-3 c κs = search needs
 
--- src/lib.rt:744:1
 same-length : tie.Need-same-length
 same-length c = search needs
 
--- src/lib.rt:744:1
 returns-2 : tie.Need-returns-2
 returns-2 c = search content-text
 
--- src/lib.rt:744:1
 same-length-2 : tie.Need-same-length-2
 same-length-2 c = search needs
 
--- src/lib.rt:744:1
 returns-3 : tie.Need-returns-3
 returns-3 c = search content-bytes
 
--- src/lib.rt:744:1
 returns-4 : tie.Need-returns-4
 returns-4 c = search content-no-list
 
--- src/lib.rt:744:1
 returns-5 : tie.Need-returns-5
 returns-5 c = search content-no-table
 

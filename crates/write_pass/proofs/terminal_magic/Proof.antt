@@ -5,35 +5,27 @@ use Rattle.write_pass.proofs.terminal_magic.Tie as tie
 use Rattle.write_pass.proofs.terminal_magic.Reads as reads
 use Rattle.write_pass.proofs.terminal_magic.Lts as lts
 
--- src/lib.rt:726:25
 enum-told : tie.Need-enum-told
 enum-told c = search needs
 
--- src/lib.rt:727:26
 enum-told-2 : tie.Need-enum-told-2
 enum-told-2 c = search needs
 
--- src/lib.rt:728:28
 enum-told-3 : tie.Need-enum-told-3
 enum-told-3 c = search needs
 
--- src/lib.rt:729:29
 enum-told-4 : tie.Need-enum-told-4
 enum-told-4 c = search needs
 
--- src/lib.rt:721:1
 returns : tie.Need-returns
 returns c = search magic-text
 
--- src/lib.rt:721:1
 returns-2 : tie.Need-returns-2
 returns-2 c = search magic-bytes
 
--- src/lib.rt:721:1
 returns-3 : tie.Need-returns-3
 returns-3 c = search magic-no-list
 
--- src/lib.rt:721:1
 returns-4 : tie.Need-returns-4
 returns-4 c = search magic-no-table
 

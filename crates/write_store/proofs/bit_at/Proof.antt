@@ -5,11 +5,9 @@ use Rattle.write_store.proofs.bit_at.Tie as tie
 use Rattle.write_store.proofs.bit_at.Reads as reads
 use Rattle.write_store.proofs.bit_at.Lts as lts
 
--- src/lib.rt:753:5
 shl-result : tie.Need-shl-result
 shl-result c = search needs
 
--- src/lib.rt:749:1
 returns : tie.Need-returns
 returns c = (bit-shifted (c .args .x) (c .args .k) (c .pre .0) (c .pre .1), bit-most (c .args .x) (c .args .k) (c .pre .0) (c .pre .1))
 

@@ -17,31 +17,24 @@ Inv-loop dst₀ j₀ dst j = (j ≤ length dst₀) × (length dst ≡ length dst
 abbrev μ-loop : tie.MeasureT-loop
 μ-loop dst₀ j₀ dst j = length dst - j
 
--- src/lib.rt:161:5
 loop-holds : tie.Need-loop-holds Inv-loop μ-loop
 loop-holds c = (omega arith, refl, refl)
 
--- src/lib.rt:162:9
 slice-write-dst : tie.Need-slice-write-dst Inv-loop μ-loop
 slice-write-dst c = search needs
 
--- src/lib.rt:163:9
 add-j : tie.Need-add-j Inv-loop μ-loop
 add-j c = search needs
 
--- src/lib.rt:161:5
 loop-less : tie.Need-loop-less Inv-loop μ-loop
 loop-less c = simp length-set (omega arith)
 
--- src/lib.rt:161:5
 loop-again : tie.Need-loop-again Inv-loop μ-loop
 loop-again c = (omega arith, simp length-set (c .before .loop .inv .1), clear-turn _ _ (c .before .loop .j) (c .before .loop .inv .2) (omega arith))
 
--- src/lib.rt:157:1
 same-length : tie.Need-same-length Inv-loop μ-loop
 same-length c = search needs
 
--- src/lib.rt:157:1
 returns : tie.Need-returns Inv-loop μ-loop
 returns c = clear-done _ _ (c .before .loop .j) (c .before .loop .inv .2) (omega arith) (omega arith)
 

@@ -21,43 +21,33 @@ Inv-loop s pos out₀ at n p₀ i₀ left₀ out p i left =
 abbrev μ-loop : tie.MeasureT-loop
 μ-loop s pos out₀ at n p₀ i₀ left₀ out p i left = left
 
--- src/lib.rt:727:5
 loop-holds : tie.Need-loop-holds Inv-loop μ-loop
 loop-holds c = (omega arith, omega arith, refl, refl)
 
--- src/lib.rt:728:28
 sheet-byte-requires : tie.Need-sheet-byte-requires Inv-loop μ-loop
 sheet-byte-requires c κs = search needs
 
--- src/lib.rt:728:9
 store-byte-requires : tie.Need-store-byte-requires Inv-loop μ-loop
 store-byte-requires c κs = search needs
 
--- src/lib.rt:729:9
 add-p : tie.Need-add-p Inv-loop μ-loop
 add-p c = search needs
 
--- src/lib.rt:730:9
 add-i : tie.Need-add-i Inv-loop μ-loop
 add-i c = search needs
 
--- src/lib.rt:731:9
 sub-left : tie.Need-sub-left Inv-loop μ-loop
 sub-left c = search needs
 
--- src/lib.rt:727:5
 loop-less : tie.Need-loop-less Inv-loop μ-loop
 loop-less c = search needs
 
--- src/lib.rt:727:5
 loop-again : tie.Need-loop-again Inv-loop μ-loop
 loop-again c = (omega arith, omega arith, c .before .before .store-byte .kept .0 ∙ c .before .before .before .before .before .before .loop .inv .2, search (copy-turn, c .before .before .before .before .before .before .loop .inv .3))
 
--- src/lib.rt:720:1
 same-length : tie.Need-same-length Inv-loop μ-loop
 same-length c = search needs
 
--- src/lib.rt:720:1
 returns : tie.Need-returns Inv-loop μ-loop
 returns c = search copy-done
 

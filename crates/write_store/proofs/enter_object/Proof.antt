@@ -6,23 +6,18 @@ use Rattle.write_store.proofs.enter_object.Reads as reads
 use Rattle.write_store.proofs.enter_object.Lts as lts
 use Rattle.write_measure.proofs.capped.Reads as capped-reads
 
--- src/lib.rt:181:15
 add-end : tie.Need-add-end
 add-end c = search needs
 
--- src/lib.rt:187:15
 capped-requires : tie.Need-capped-requires
 capped-requires c κs = search needs
 
--- src/lib.rt:188:30
 add-capped : tie.Need-add-capped
 add-capped c = search needs
 
--- src/lib.rt:188:15
 capped-requires-2 : tie.Need-capped-requires-2
 capped-requires-2 c κs = search needs
 
--- src/lib.rt:176:1
 returns : tie.Need-returns
 returns c = search entered-object
 

@@ -5,11 +5,9 @@ use Rattle.write_store.proofs.forward.Tie as tie
 use Rattle.write_store.proofs.forward.Reads as reads
 use Rattle.write_store.proofs.forward.Lts as lts
 
--- src/lib.rt:166:13
 add-t9 : tie.Need-add-t9
 add-t9 c = search needs
 
--- src/lib.rt:155:1
 returns : tie.Need-returns
 returns c = search forward-is
 

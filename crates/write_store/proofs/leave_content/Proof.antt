@@ -4,7 +4,6 @@ use Rattle.write_store.proofs.leave_content.Tie as tie
 use Rattle.write_store.proofs.leave_content.Reads as reads
 use Rattle.write_store.proofs.leave_content.Lts as lts
 
--- src/lib.rt:230:1
 returns : tie.Need-returns
 returns c = search left-content
 

@@ -4,7 +4,6 @@ use Rattle.write_store.proofs.leave_object.Tie as tie
 use Rattle.write_store.proofs.leave_object.Reads as reads
 use Rattle.write_store.proofs.leave_object.Lts as lts
 
--- src/lib.rt:210:1
 returns : tie.Need-returns
 returns c = search left-object
 

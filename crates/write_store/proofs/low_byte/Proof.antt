@@ -4,11 +4,9 @@ use Rattle.write_store.proofs.low_byte.Tie as tie
 use Rattle.write_store.proofs.low_byte.Reads as reads
 use Rattle.write_store.proofs.low_byte.Lts as lts
 
--- src/lib.rt:671:5
 cast-result : tie.Need-cast-result
 cast-result c = record { fits = mask-lt (c .args .x) 8 }
 
--- src/lib.rt:668:1
 returns : tie.Need-returns
 returns c = and-mask (c .args .x) 8
 

@@ -7,55 +7,42 @@ use Rattle.write_store.proofs.put_bit.Lts as lts
 use Rattle.write_store.proofs.bit_at.Reads as bit-at-reads
 use Rattle.write_store.proofs.store_byte.Reads as store-byte-reads
 
--- src/lib.rt:768:29
 cast-store-byte : tie.Need-cast-store-byte
 cast-store-byte c = search needs
 
--- src/lib.rt:768:9
 store-byte-requires : tie.Need-store-byte-requires
 store-byte-requires c κs = search needs
 
--- src/lib.rt:770:17
 add-t15 : tie.Need-add-t15
 add-t15 c = search needs
 
--- src/lib.rt:769:9
 same-length : tie.Need-same-length
 same-length c = search needs
 
--- src/lib.rt:769:9
 returns : tie.Need-returns
 returns c = search bit-new
 
--- src/lib.rt:778:35
 sub-bit-at : tie.Need-sub-bit-at
 sub-bit-at c = search needs
 
--- src/lib.rt:778:25
 bit-at-requires : tie.Need-bit-at-requires
 bit-at-requires c κs = search needs
 
--- src/lib.rt:778:16
 add-held : tie.Need-add-held
 add-held c = record { fits = search held-fits }
 
--- src/lib.rt:779:27
 cast-store-byte-2 : tie.Need-cast-store-byte-2
 cast-store-byte-2 c = record { fits = search held-byte }
 
--- src/lib.rt:779:5
 store-byte-requires-2 : tie.Need-store-byte-requires-2
 store-byte-requires-2 c κs = search needs
 
--- src/lib.rt:783:15
 sub-t16 : tie.Need-sub-t16
 sub-t16 c = search needs
 
--- src/lib.rt:757:1
 same-length-2 : tie.Need-same-length-2
 same-length-2 c = search needs
 
--- src/lib.rt:757:1
 returns-2 : tie.Need-returns-2
 returns-2 c = search bit-old
 

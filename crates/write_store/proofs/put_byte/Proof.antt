@@ -7,19 +7,15 @@ use Rattle.write_store.proofs.put_byte.Lts as lts
 use Rattle.write_store.proofs.forward.Reads as forward-reads
 use Rattle.write_store.proofs.store_byte.Reads as store-byte-reads
 
--- src/lib.rt:263:5
 store-byte-requires : tie.Need-store-byte-requires
 store-byte-requires c κs = search needs
 
--- src/lib.rt:264:5
 forward-requires : tie.Need-forward-requires
 forward-requires c κs = search needs
 
--- src/lib.rt:259:1
 same-length : tie.Need-same-length
 same-length c = search needs
 
--- src/lib.rt:259:1
 returns : tie.Need-returns
 returns c = search byte-put
 

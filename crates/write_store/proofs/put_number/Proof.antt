@@ -7,19 +7,15 @@ use Rattle.write_store.proofs.put_number.Lts as lts
 use Rattle.write_store.proofs.forward.Reads as forward-reads
 use Rattle.write_store.proofs.store_number.Reads as store-number-reads
 
--- src/lib.rt:255:5
 store-number-requires : tie.Need-store-number-requires
 store-number-requires c κs = search needs
 
--- src/lib.rt:256:5
 forward-requires : tie.Need-forward-requires
 forward-requires c κs = search needs
 
--- src/lib.rt:251:1
 same-length : tie.Need-same-length
 same-length c = search needs
 
--- src/lib.rt:251:1
 returns : tie.Need-returns
 returns c = search number-put
 

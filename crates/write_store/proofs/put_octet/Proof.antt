@@ -6,19 +6,15 @@ use Rattle.write_store.proofs.put_octet.Reads as reads
 use Rattle.write_store.proofs.put_octet.Lts as lts
 use Rattle.write_store.proofs.store_byte.Reads as store-byte-reads
 
--- src/lib.rt:374:5
 store-byte-requires : tie.Need-store-byte-requires
 store-byte-requires c κs = search needs
 
--- src/lib.rt:376:13
 add-t10 : tie.Need-add-t10
 add-t10 c = search needs
 
--- src/lib.rt:367:1
 same-length : tie.Need-same-length
 same-length c = search needs
 
--- src/lib.rt:367:1
 returns : tie.Need-returns
 returns c = search octet-put
 

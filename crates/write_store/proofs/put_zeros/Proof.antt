@@ -7,19 +7,15 @@ use Rattle.write_store.proofs.put_zeros.Lts as lts
 use Rattle.write_store.proofs.forward.Reads as forward-reads
 use Rattle.write_store.proofs.store_zeros.Reads as store-zeros-reads
 
--- src/lib.rt:271:5
 store-zeros-requires : tie.Need-store-zeros-requires
 store-zeros-requires c κs = search needs
 
--- src/lib.rt:272:5
 forward-requires : tie.Need-forward-requires
 forward-requires c κs = search needs
 
--- src/lib.rt:267:1
 same-length : tie.Need-same-length
 same-length c = search needs
 
--- src/lib.rt:267:1
 returns : tie.Need-returns
 returns c = search zeros-put
 

@@ -6,99 +6,75 @@ use Rattle.write_store.proofs.reversed.Reads as reads
 use Rattle.write_store.proofs.reversed.Lts as lts
 use Rattle.wire.proofs.bit_value.Reads as bit-value-reads
 
--- src/lib.rt:360:13
 bit-value-requires : tie.Need-bit-value-requires
 bit-value-requires c κs = search needs
 
--- src/lib.rt:360:37
 bit-value-requires-2 : tie.Need-bit-value-requires-2
 bit-value-requires-2 c κs = search needs
 
--- src/lib.rt:360:37
 mul-a : tie.Need-mul-a
 mul-a c = search needs
 
--- src/lib.rt:360:13
 add-a : tie.Need-add-a
 add-a c = search needs
 
--- src/lib.rt:361:13
 bit-value-requires-3 : tie.Need-bit-value-requires-3
 bit-value-requires-3 c κs = search needs
 
--- src/lib.rt:361:13
 mul-b : tie.Need-mul-b
 mul-b c = search needs
 
--- src/lib.rt:361:41
 bit-value-requires-4 : tie.Need-bit-value-requires-4
 bit-value-requires-4 c κs = search needs
 
--- src/lib.rt:361:41
 mul-b-2 : tie.Need-mul-b-2
 mul-b-2 c = search needs
 
--- src/lib.rt:361:13
 add-b : tie.Need-add-b
 add-b c = search needs
 
--- src/lib.rt:362:13
 bit-value-requires-5 : tie.Need-bit-value-requires-5
 bit-value-requires-5 c κs = search needs
 
--- src/lib.rt:362:13
 mul-c : tie.Need-mul-c
 mul-c c = search needs
 
--- src/lib.rt:362:42
 bit-value-requires-6 : tie.Need-bit-value-requires-6
 bit-value-requires-6 c κs = search needs
 
--- src/lib.rt:362:42
 mul-c-2 : tie.Need-mul-c-2
 mul-c-2 c = search needs
 
--- src/lib.rt:362:13
 add-c : tie.Need-add-c
 add-c c = search needs
 
--- src/lib.rt:363:13
 bit-value-requires-7 : tie.Need-bit-value-requires-7
 bit-value-requires-7 c κs = search needs
 
--- src/lib.rt:363:13
 mul-d : tie.Need-mul-d
 mul-d c = search needs
 
--- src/lib.rt:363:42
 bit-value-requires-8 : tie.Need-bit-value-requires-8
 bit-value-requires-8 c κs = search needs
 
--- src/lib.rt:363:42
 mul-d-2 : tie.Need-mul-d-2
 mul-d-2 c = search needs
 
--- src/lib.rt:363:13
 add-d : tie.Need-add-d
 add-d c = search needs
 
--- src/lib.rt:364:6
 add-result : tie.Need-add-result
 add-result c = search needs
 
--- src/lib.rt:364:15
 add-result-2 : tie.Need-add-result-2
 add-result-2 c = search needs
 
--- src/lib.rt:364:6
 add-result-3 : tie.Need-add-result-3
 add-result-3 c = search needs
 
--- src/lib.rt:364:5
 cast-result : tie.Need-cast-result
 cast-result c = search needs
 
--- src/lib.rt:357:1
 returns : tie.Need-returns
 returns c = search reversed-is
 

@@ -7,19 +7,15 @@ use Rattle.write_store.proofs.store_byte.Tie as tie
 use Rattle.write_store.proofs.store_byte.Reads as reads
 use Rattle.write_store.proofs.store_byte.Lts as lts
 
--- src/lib.rt:678:9
 slice-write-out : tie.Need-slice-write-out
 slice-write-out c = search needs
 
--- src/lib.rt:674:1
 same-length : tie.Need-same-length
 same-length c = search needs
 
--- src/lib.rt:674:1
 returns : tie.Need-returns
 returns c = search needs
 
--- src/lib.rt:674:1
 returns-2 : tie.Need-returns-2
 returns-2 c = sym (set-out (now (c .before .args .out)) (c .before .args .i) (c .before .args .x) (c .if1 .left))
 

@@ -7,43 +7,33 @@ use Rattle.write_store.proofs.store_copy.Lts as lts
 use Rattle.bitio.proofs.get_bytes.Reads as get-bytes-reads
 use Rattle.write_store.proofs.copy_each.Reads as copy-each-reads
 
--- src/lib.rt:180:15
 add-end : tie.Need-add-end
 add-end c = search needs
 
--- src/lib.rt:182:9
 copy-each-requires : tie.Need-copy-each-requires
 copy-each-requires c κs = search needs
 
--- src/lib.rt:183:9
 same-length : tie.Need-same-length
 same-length c = search needs
 
--- src/lib.rt:183:9
 returns : tie.Need-returns
 returns c = search needs
 
--- src/lib.rt:185:30
 sub-get-bytes : tie.Need-sub-get-bytes
 sub-get-bytes c = search needs
 
--- src/lib.rt:185:30
 part-get-bytes-start : tie.Need-part-get-bytes-start
 part-get-bytes-start c = search needs
 
--- src/lib.rt:185:30
 part-get-bytes-end : tie.Need-part-get-bytes-end
 part-get-bytes-end c = search needs
 
--- src/lib.rt:185:5
 get-bytes-requires : tie.Need-get-bytes-requires
 get-bytes-requires c κs = search needs
 
--- src/lib.rt:176:1
 same-length-2 : tie.Need-same-length-2
 same-length-2 c = search needs
 
--- src/lib.rt:176:1
 returns-2 : tie.Need-returns-2
 returns-2 c = search copy-lent
 

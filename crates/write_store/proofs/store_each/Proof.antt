@@ -21,39 +21,30 @@ Inv-loop out₀ at w x i₀ left₀ v₀ out i left v =
 abbrev μ-loop : tie.MeasureT-loop
 μ-loop out₀ at w x i₀ left₀ v₀ out i left v = left
 
--- src/lib.rt:690:5
 loop-holds : tie.Need-loop-holds Inv-loop μ-loop
 loop-holds c = (omega arith, refl, refl)
 
--- src/lib.rt:691:28
 low-byte-requires : tie.Need-low-byte-requires Inv-loop μ-loop
 low-byte-requires c κs = search needs
 
--- src/lib.rt:691:9
 store-byte-requires : tie.Need-store-byte-requires Inv-loop μ-loop
 store-byte-requires c κs = search needs
 
--- src/lib.rt:692:9
 add-i : tie.Need-add-i Inv-loop μ-loop
 add-i c = search needs
 
--- src/lib.rt:693:9
 sub-left : tie.Need-sub-left Inv-loop μ-loop
 sub-left c = search needs
 
--- src/lib.rt:690:5
 loop-less : tie.Need-loop-less Inv-loop μ-loop
 loop-less c = search needs
 
--- src/lib.rt:690:5
 loop-again : tie.Need-loop-again Inv-loop μ-loop
 loop-again c = (omega arith, c .before .before .store-byte .kept .0 ∙ c .before .before .before .before .before .before .loop .inv .1, search (number-turn, c .before .before .before .before .before .before .loop .inv .2))
 
--- src/lib.rt:683:1
 same-length : tie.Need-same-length Inv-loop μ-loop
 same-length c = search needs
 
--- src/lib.rt:683:1
 returns : tie.Need-returns Inv-loop μ-loop
 returns c = search number-done
 

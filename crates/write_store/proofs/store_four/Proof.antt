@@ -6,23 +6,18 @@ use Rattle.write_store.proofs.store_four.Reads as reads
 use Rattle.write_store.proofs.store_four.Lts as lts
 use Rattle.write_store.proofs.store_two.Reads as store-two-reads
 
--- src/lib.rt:90:5
 store-two-requires : tie.Need-store-two-requires
 store-two-requires c κs = search needs
 
--- src/lib.rt:91:20
 add-store-two : tie.Need-add-store-two
 add-store-two c = search needs
 
--- src/lib.rt:91:5
 store-two-requires-2 : tie.Need-store-two-requires-2
 store-two-requires-2 c κs = search needs
 
--- src/lib.rt:86:1
 same-length : tie.Need-same-length
 same-length c = search needs
 
--- src/lib.rt:86:1
 returns : tie.Need-returns
 returns c = search four-stored
 

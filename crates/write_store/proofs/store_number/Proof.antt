@@ -12,95 +12,72 @@ use Rattle.write_store.proofs.store_four.Reads as store-four-reads
 use Rattle.write_store.proofs.store_six.Reads as store-six-reads
 use Rattle.write_store.proofs.store_two.Reads as store-two-reads
 
--- src/lib.rt:115:20
 add-if1 : tie.Need-add-if1
 add-if1 c = search needs
 
--- src/lib.rt:116:9
 store-each-requires : tie.Need-store-each-requires
 store-each-requires c κs = search needs
 
--- src/lib.rt:117:9
 same-length : tie.Need-same-length
 same-length c = search needs
 
--- src/lib.rt:117:9
 returns : tie.Need-returns
 returns c = search needs
 
--- src/lib.rt:120:9
 store-eight-requires : tie.Need-store-eight-requires
 store-eight-requires c κs = search needs
 
--- src/lib.rt:121:9
 same-length-2 : tie.Need-same-length-2
 same-length-2 c = search needs
 
--- src/lib.rt:121:9
 returns-2 : tie.Need-returns-2
 returns-2 c = search width-stored
 
--- src/lib.rt:124:9
 store-six-requires : tie.Need-store-six-requires
 store-six-requires c κs = search needs
 
--- src/lib.rt:125:9
 same-length-3 : tie.Need-same-length-3
 same-length-3 c = search needs
 
--- src/lib.rt:125:9
 returns-3 : tie.Need-returns-3
 returns-3 c = search width-stored
 
--- src/lib.rt:128:9
 store-four-requires : tie.Need-store-four-requires
 store-four-requires c κs = search needs
 
--- src/lib.rt:129:9
 same-length-4 : tie.Need-same-length-4
 same-length-4 c = search needs
 
--- src/lib.rt:129:9
 returns-4 : tie.Need-returns-4
 returns-4 c = search width-stored
 
--- src/lib.rt:132:9
 store-two-requires : tie.Need-store-two-requires
 store-two-requires c κs = search needs
 
--- src/lib.rt:133:9
 same-length-5 : tie.Need-same-length-5
 same-length-5 c = search needs
 
--- src/lib.rt:133:9
 returns-5 : tie.Need-returns-5
 returns-5 c = search width-stored
 
--- src/lib.rt:136:29
 low-byte-requires : tie.Need-low-byte-requires
 low-byte-requires c κs = search needs
 
--- src/lib.rt:136:9
 store-byte-requires : tie.Need-store-byte-requires
 store-byte-requires c κs = search needs
 
--- src/lib.rt:137:9
 same-length-6 : tie.Need-same-length-6
 same-length-6 c = search needs
 
--- src/lib.rt:137:9
 returns-6 : tie.Need-returns-6
 returns-6 c = search one-stored
 
--- src/lib.rt:139:5
 store-each-requires-2 : tie.Need-store-each-requires-2
 store-each-requires-2 c κs = search needs
 
--- src/lib.rt:111:1
 same-length-7 : tie.Need-same-length-7
 same-length-7 c = search needs
 
--- src/lib.rt:111:1
 returns-7 : tie.Need-returns-7
 returns-7 c = search needs
 

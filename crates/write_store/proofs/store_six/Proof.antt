@@ -7,23 +7,18 @@ use Rattle.write_store.proofs.store_six.Lts as lts
 use Rattle.write_store.proofs.store_four.Reads as store-four-reads
 use Rattle.write_store.proofs.store_two.Reads as store-two-reads
 
--- src/lib.rt:98:5
 store-four-requires : tie.Need-store-four-requires
 store-four-requires c κs = search needs
 
--- src/lib.rt:99:20
 add-store-two : tie.Need-add-store-two
 add-store-two c = search needs
 
--- src/lib.rt:99:5
 store-two-requires : tie.Need-store-two-requires
 store-two-requires c κs = search needs
 
--- src/lib.rt:94:1
 same-length : tie.Need-same-length
 same-length c = search needs
 
--- src/lib.rt:94:1
 returns : tie.Need-returns
 returns c = search six-stored
 

@@ -7,43 +7,33 @@ use Rattle.write_store.proofs.store_zeros.Lts as lts
 use Rattle.write_store.proofs.clear.Reads as clear-reads
 use Rattle.write_store.proofs.zeros_each.Reads as zeros-each-reads
 
--- src/lib.rt:172:15
 add-end : tie.Need-add-end
 add-end c = search needs
 
--- src/lib.rt:174:9
 zeros-each-requires : tie.Need-zeros-each-requires
 zeros-each-requires c κs = search needs
 
--- src/lib.rt:175:9
 same-length : tie.Need-same-length
 same-length c = search needs
 
--- src/lib.rt:175:9
 returns : tie.Need-returns
 returns c = search needs
 
--- src/lib.rt:177:11
 sub-clear : tie.Need-sub-clear
 sub-clear c = search needs
 
--- src/lib.rt:177:11
 part-clear-start : tie.Need-part-clear-start
 part-clear-start c = search needs
 
--- src/lib.rt:177:11
 part-clear-end : tie.Need-part-clear-end
 part-clear-end c = search needs
 
--- src/lib.rt:177:5
 clear-requires : tie.Need-clear-requires
 clear-requires c κs = search needs
 
--- src/lib.rt:168:1
 same-length-2 : tie.Need-same-length-2
 same-length-2 c = search needs
 
--- src/lib.rt:168:1
 returns-2 : tie.Need-returns-2
 returns-2 c = search zeros-lent
 

@@ -20,35 +20,27 @@ Inv-loop out₀ at n i₀ left₀ out i left =
 abbrev μ-loop : tie.MeasureT-loop
 μ-loop out₀ at n i₀ left₀ out i left = left
 
--- src/lib.rt:704:5
 loop-holds : tie.Need-loop-holds Inv-loop μ-loop
 loop-holds c = (omega arith, refl, refl)
 
--- src/lib.rt:705:9
 store-byte-requires : tie.Need-store-byte-requires Inv-loop μ-loop
 store-byte-requires c κs = search needs
 
--- src/lib.rt:706:9
 add-i : tie.Need-add-i Inv-loop μ-loop
 add-i c = search needs
 
--- src/lib.rt:707:9
 sub-left : tie.Need-sub-left Inv-loop μ-loop
 sub-left c = search needs
 
--- src/lib.rt:704:5
 loop-less : tie.Need-loop-less Inv-loop μ-loop
 loop-less c = search needs
 
--- src/lib.rt:704:5
 loop-again : tie.Need-loop-again Inv-loop μ-loop
 loop-again c = (omega arith, c .before .before .store-byte .kept .0 ∙ c .before .before .before .before .before .loop .inv .1, search (zeros-turn, c .before .before .before .before .before .loop .inv .2))
 
--- src/lib.rt:698:1
 same-length : tie.Need-same-length Inv-loop μ-loop
 same-length c = search needs
 
--- src/lib.rt:698:1
 returns : tie.Need-returns Inv-loop μ-loop
 returns c = search zeros-done
 
