@@ -884,7 +884,7 @@ put-union-put-object-requires : (t : ℕ) → put-union-lts.Need-put-object-requ
 put-union-put-object-requires t c κs =
     let q = c .before .before .before .before .before .before .before .before .before .before .before .before .before .before .before .pre .1 in
     let fall = c .before .before .before .before .before .before .before .before .before .before .before .before .before .before .before .pre .0 in
-    (omega (arith, fall), (search (room-next, q .0, c .before .before .before .write-marked2 .ensures), ((q .1 .0 .0, q .1 .0 .1), search (case-readable, q .1 .1, c .before .before .before .before .before .before .before .before .before .before .if1 .left, c .before .before .before .before .before .before .before .before .before .case-count .ensures .0, c .before .before .before .before .before .before .before .before .if2 .left, c .before .before .before .before .before .before .before .union-case .ensures, c .before .before .before .before .before .before .place-of .ensures))))
+    (omega (arith, fall), (search (room-next, q .0, c .before .before .before .put-marked2 .ensures), ((q .1 .0 .0, q .1 .0 .1), search (case-readable, q .1 .1, c .before .before .before .before .before .before .before .before .before .before .if1 .left, c .before .before .before .before .before .before .before .before .before .case-count .ensures .0, c .before .before .before .before .before .before .before .before .if2 .left, c .before .before .before .before .before .before .before .union-case .ensures, c .before .before .before .before .before .before .place-of .ensures))))
 
 put-union-same-length-3 : (t : ℕ) → put-union-lts.Need-same-length-3 (put-union-R t) (put-union-at t) put-union.Post
 put-union-same-length-3 t c = search needs
