@@ -162,7 +162,7 @@ before n = Fd.Refused (refusal n 0)
 -- "1, 15 for length, 2 and 3 come first"; refusal 15: "path over 96 numbers", at "0 for length"
 unfoldable pub fieldFound : ℕ → List ℕ → List ℕ → List ℕ → Found
 fieldFound o b m path =
-    pick (lawful b)
+    pick (lawful o b)
     (pick (leb (length path) 96)
     (pick (sizeOk o m) (pick (startOk m) (found o (parse b) m path) (before 3)) (before 2))
     (before 15))

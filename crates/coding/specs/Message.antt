@@ -243,7 +243,7 @@ writtenTree o S (Op.some v) =
 
 -- "Writing tries 1, 11, 12, 13, 14, each over the whole sheet", all but 14
 unfoldable pub written : ℕ → List ℕ → List ℕ → Written
-written o b s = pick (lawful b) (writtenTree o (parse b) (sheetTree (parse b) s)) (refused 1)
+written o b s = pick (lawful o b) (writtenTree o (parse b) (sheetTree (parse b) s)) (refused 1)
 
 -- number and length: "On success a written length is given ...; on refusal the length is 0"; refusal 14: "no room in the
 -- output"

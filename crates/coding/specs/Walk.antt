@@ -237,6 +237,6 @@ startOk m = eqb (le m 0 4) 0xB5C0_C4B3
 -- "Before the walk, 1, 2, 3 are tried in order with visits 0."
 unfoldable pub verdict : ℕ → List ℕ → List ℕ → Budget → Verdict
 verdict o b m budget =
-    pick (lawful b)
+    pick (lawful o b)
     (pick (sizeOk o m) (pick (startOk m) (verdictOf (walk o (parse b) m budget)) (early 3)) (early 2))
     (early 1)

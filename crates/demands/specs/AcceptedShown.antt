@@ -228,7 +228,7 @@ ends-number (goes p) e = p
 ends-number (stops n) e = absurd (omega arith)
 
 pub verdict-shows : (P : Type 0) (o : ℕ) (b m : List ℕ) (budget : Budget)
-    → (lawful b ≡ true → length m ≤ largest → Ends P (walk o (parse b) m budget)) → verdict o b m budget .number ≡ 0 → P
+    → (lawful o b ≡ true → length m ≤ largest → Ends P (walk o (parse b) m budget)) → verdict o b m budget .number ≡ 0 → P
 unfolding verdict sizeOk
 verdict-shows P o b m budget h =
     let Q : Verdict → Type 0 = λ v. v .number ≡ 0 → P in
@@ -236,7 +236,7 @@ verdict-shows P o b m budget h =
     let started = pick (startOk m) walked (early 3) in
     let large = leb (length m) largest in
     let sized = leb (startSize o) (length m) && large in
-    pick-holds Q (lawful b) (pick sized started (early 2)) (early 1)
+    pick-holds Q (lawful o b) (pick sized started (early 2)) (early 1)
     (λ e.
     pick-holds Q sized started (early 2)
     (λ f.

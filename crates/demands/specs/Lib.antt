@@ -2,6 +2,7 @@
 -- other modules are their lemmas.
 pub mod Counter
 pub mod Traps
+pub mod OlderCoding
 pub mod Shown
 pub mod SheetDecode
 pub mod SheetEncode

@@ -187,7 +187,7 @@ module _ (o : ℕ) (b m path : List ℕ) (i at start n left : ℕ)
     (has : Field.readerStart o b m path ≡ Fd.Object (O.List i) at start n left) where
   -- the path leads there: the schema is lawful, the path short, the message's size and start as they should be
   record Leads : Type 0 where
-    schema : lawful b ≡ true
+    schema : lawful o b ≡ true
     size : sizeOk o m ≡ true
     begins : startOk m ≡ true
     leads : Field.found o (parse b) m path ≡ Fd.Object (O.List i) at start n left
@@ -215,9 +215,9 @@ module _ (o : ℕ) (b m path : List ℕ) (i at start n left : ℕ)
 
   reader-leads : Leads
   unfolding Field.readerStart Field.fieldFound Field.before
-  reader-leads = by (lawful b) (leb (length path) 96) (sizeOk o m) (startOk m) refl refl refl (same-list _ has)
+  reader-leads = by (lawful o b) (leb (length path) 96) (sizeOk o m) (startOk m) refl refl refl (same-list _ has)
     where
-      by : (l s z g : Bool) → lawful b ≡ l → sizeOk o m ≡ z → startOk m ≡ g
+      by : (l s z g : Bool) → lawful o b ≡ l → sizeOk o m ≡ z → startOk m ≡ g
           → pick l (pick s (pick z (pick g (Field.found o (parse b) m path) (Field.before 3)) (Field.before 2)) (Field.before 15)) (Field.before 1)
           ≡ Fd.Object (O.List i) at start n left
           → Leads

@@ -85,7 +85,7 @@ module _ (o : ℕ) (S : Schema) (m : List ℕ) (b : Budget) where
 -- ---- the verdict
 -- number 0: the schema is lawful, the message's size and start are, and the walk goes to its end
 pub record Walks (o : ℕ) (b m : List ℕ) (budget : Budget) : Type 0 where
-  pub schema : lawful b ≡ true
+  pub schema : lawful o b ≡ true
   pub size : sizeOk o m ≡ true
   pub start : startOk m ≡ true
   pub spent : Spent
@@ -95,12 +95,12 @@ pub record Walks (o : ℕ) (b m : List ℕ) (budget : Budget) : Type 0 where
 module _ (o : ℕ) (b m : List ℕ) (budget : Budget) where
   pub verdict-walks : verdict o b m budget .number ≡ 0 → Walks o b m budget
   unfolding verdict early verdictOf
-  verdict-walks h = by (lawful b) (sizeOk o m) (startOk m) (walk o (parse b) m budget) refl refl refl refl h
+  verdict-walks h = by (lawful o b) (sizeOk o m) (startOk m) (walk o (parse b) m budget) refl refl refl refl h
     where
       judged : Bool → Bool → Bool → Walked → Verdict
       judged l z g w = pick l (pick z (pick g (verdictOf w) (early 3)) (early 2)) (early 1)
 
-      by : (l z g : Bool) (w : Walked) → lawful b ≡ l → sizeOk o m ≡ z → startOk m ≡ g → walk o (parse b) m budget ≡ w
+      by : (l z g : Bool) (w : Walked) → lawful o b ≡ l → sizeOk o m ≡ z → startOk m ≡ g → walk o (parse b) m budget ≡ w
           → judged l z g w .number ≡ 0 → Walks o b m budget
       by true true true (Going s) e f q x h =
           record { schema = e; size = f; start = q; spent = s; walks = x; answer = rw (e, f, q, x) }
@@ -110,7 +110,7 @@ module _ (o : ℕ) (b m : List ℕ) (budget : Budget) where
       by true false g w e f q x h = absurd (omega arith)
       by false z g w e f q x h = absurd (omega arith)
 
-  pub walks-verdict : lawful b ≡ true → sizeOk o m ≡ true → startOk m ≡ true → (s : Spent) → walk o (parse b) m budget ≡ Going s
+  pub walks-verdict : lawful o b ≡ true → sizeOk o m ≡ true → startOk m ≡ true → (s : Spent) → walk o (parse b) m budget ≡ Going s
       → verdict o b m budget ≡ verdictOf (Going s)
   unfolding verdict
   walks-verdict e f q s x = rw (e, f, q, x)

@@ -12,7 +12,7 @@ use lib.ListN.{length, getD, replicate, length-replicate}
 use lib.Dec.{ltb, leb}
 use borrow.Author.Tests.{ltb-true, lt-ltb, leb-true, le-leb}
 use Rattle.coding.specs.Lists.{pick}
-use Rattle.coding.specs.Bytes.{deepest, largest, u48}
+use Rattle.coding.specs.Bytes.{deepest, largest}
 use Rattle.coding.specs.Schema.{Schema}
 use Rattle.coding.specs.Value.{Value}
 use Rattle.coding.specs.Bits.{bits, packed, allZero}
@@ -27,6 +27,7 @@ use Rattle.coding.specs.declared.Spent.{Spent}
 use Rattle.coding.specs.declared.Walked.the-variants.{Going}
 use Rattle.laws.specs.Sound.{Sound}
 use Rattle.laws.specs.LawfulSound.{lawful-sound}
+use Rattle.laws.specs.Rules.{lawful-wide}
 use Rattle.laws.specs.All.{all-index, index-all}
 use Rattle.laws.specs.Bits.{Byte, bits-bits, zero-bits, padding, padding-lt, packed-bytes, bits-packed, packed-from}
 use Rattle.demands.specs.Shown.{Shown}
@@ -109,40 +110,40 @@ module _ (S : Schema) (G : Sound S) where
       by false l e = absurd (Option·none-ne-some v e)
 
 -- "the sheet of an accepted message is lawful unless it is over the size", for a schema and the walk
-module _ (S : Schema) (G : Sound S) (m : List ℕ) (bytes : (i : ℕ) → getD m i 0 < 256) (sized : length m ≤ largest) (budget : Budget)
-    (s : Spent) (accepted : walk u48 S m budget ≡ Going s) where
-  pub accepted-shown : ShownAtRoot S (messageRead u48 S m)
-  accepted-shown = ends-going accepted (walk-ends S G m bytes sized u48 (unfold u48 in omega arith) budget)
+module _ (S : Schema) (G : Sound S) (m : List ℕ) (bytes : (i : ℕ) → getD m i 0 < 256) (sized : length m ≤ largest) (o : ℕ) (wide : 0 < o) (budget : Budget)
+    (s : Spent) (accepted : walk o S m budget ≡ Going s) where
+  pub accepted-shown : ShownAtRoot S (messageRead o S m)
+  accepted-shown = ends-going accepted (walk-ends S G m bytes sized o wide budget)
 
-  pub accepted-sheet-tree : treeOf S (sheetOf S (messageRead u48 S m)) ≡ some (messageRead u48 S m)
-  accepted-sheet-tree = decode-encode S G (messageRead u48 S m) accepted-shown
+  pub accepted-sheet-tree : treeOf S (sheetOf S (messageRead o S m)) ≡ some (messageRead o S m)
+  accepted-sheet-tree = decode-encode S G (messageRead o S m) accepted-shown
 
-  pub accepted-sheet-lawful : length (sheetOf S (messageRead u48 S m)) ≤ largest
-      → sheetTree S (sheetOf S (messageRead u48 S m)) ≡ some (messageRead u48 S m)
-  accepted-sheet-lawful = decode-encode-sized S G (messageRead u48 S m) accepted-shown
+  pub accepted-sheet-lawful : length (sheetOf S (messageRead o S m)) ≤ largest
+      → sheetTree S (sheetOf S (messageRead o S m)) ≡ some (messageRead o S m)
+  accepted-sheet-lawful = decode-encode-sized S G (messageRead o S m) accepted-shown
 
 -- the same for the bytes of a schema and of a message, and the verdict
-module _ (b m : List ℕ) (schema-bytes : (i : ℕ) → getD b i 0 < 256) (message-bytes : (i : ℕ) → getD m i 0 < 256) (budget : Budget)
-    (accepted : verdict u48 b m budget .number ≡ 0) where
+module _ (o : ℕ) (b m : List ℕ) (schema-bytes : (i : ℕ) → getD b i 0 < 256) (message-bytes : (i : ℕ) → getD m i 0 < 256) (budget : Budget)
+    (accepted : verdict o b m budget .number ≡ 0) where
   -- the schema is sound, and what is read can be shown
-  pub verdict-shown : Sound (parse b) × ShownAtRoot (parse b) (messageRead u48 (parse b) m)
+  pub verdict-shown : Sound (parse b) × ShownAtRoot (parse b) (messageRead o (parse b) m)
   verdict-shown =
-      verdict-shows (Sound (parse b) × ShownAtRoot (parse b) (messageRead u48 (parse b) m)) u48 b m budget
+      verdict-shows (Sound (parse b) × ShownAtRoot (parse b) (messageRead o (parse b) m)) o b m budget
       (λ e l.
-      let G = lawful-sound b schema-bytes e in
-      map-ends (λ h. (G, h)) (walk-ends (parse b) G m message-bytes l u48 (unfold u48 in omega arith) budget))
+      let G = lawful-sound o b schema-bytes e in
+      map-ends (λ h. (G, h)) (walk-ends (parse b) G m message-bytes l o (lawful-wide o b e) budget))
       accepted
 
-  pub verdict-sheet-tree : treeOf (parse b) (messageSheet u48 b m) ≡ some (messageRead u48 (parse b) m)
+  pub verdict-sheet-tree : treeOf (parse b) (messageSheet o b m) ≡ some (messageRead o (parse b) m)
   unfolding messageSheet
-  verdict-sheet-tree = decode-encode (parse b) (verdict-shown .0) (messageRead u48 (parse b) m) (verdict-shown .1)
+  verdict-sheet-tree = decode-encode (parse b) (verdict-shown .0) (messageRead o (parse b) m) (verdict-shown .1)
 
   -- "the sheet of an accepted message is lawful unless it is over the size"
-  pub verdict-sheet-lawful : length (messageSheet u48 b m) ≤ largest
-      → sheetTree (parse b) (messageSheet u48 b m) ≡ some (messageRead u48 (parse b) m)
+  pub verdict-sheet-lawful : length (messageSheet o b m) ≤ largest
+      → sheetTree (parse b) (messageSheet o b m) ≡ some (messageRead o (parse b) m)
   unfolding messageSheet
-  verdict-sheet-lawful = decode-encode-sized (parse b) (verdict-shown .0) (messageRead u48 (parse b) m) (verdict-shown .1)
+  verdict-sheet-lawful = decode-encode-sized (parse b) (verdict-shown .0) (messageRead o (parse b) m) (verdict-shown .1)
 
-  pub verdict-sheet-bytes : (i : ℕ) → getD (messageSheet u48 b m) i 0 < 256
+  pub verdict-sheet-bytes : (i : ℕ) → getD (messageSheet o b m) i 0 < 256
   unfolding messageSheet
-  verdict-sheet-bytes = sheet-bytes (parse b) (verdict-shown .0) (messageRead u48 (parse b) m) (verdict-shown .1)
+  verdict-sheet-bytes = sheet-bytes (parse b) (verdict-shown .0) (messageRead o (parse b) m) (verdict-shown .1)
