@@ -18,7 +18,7 @@ use Rattle.coding.specs.declared.Answer.{Answer}
 use Rattle.demands.specs.Counter.{Case, N, M}
 use Rattle.demands.specs.Traps.{table, u48, rooted, inPlace, enum, outcome, case}
 
--- ---- schemas and messages, beside N and M: the root at 10 with a U16, and a text "ab" at 28
+-- ---- schemas and messages, beside N and M, which has its root at 10, a U16 in it, and a text of two bytes at 28
 -- the root has a reference to a second table with a U16; the same in place
 abbrev tables : ℕ → List ℕ
 tables first =
