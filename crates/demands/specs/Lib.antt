@@ -1,7 +1,8 @@
--- The theorems. A reader's way in: Counter, Traps, Sheets, Reached, RoundTrip, Appending, NewerAgrees, Fields, Texts, ListReader; the
--- other modules are their lemmas.
+-- The theorems. A reader's way in: Counter, Traps, FieldCases, Sheets, Reached, RoundTrip, Appending, NewerAgrees, Fields,
+-- Texts, ListReader; the other modules are their lemmas.
 pub mod Counter
 pub mod Traps
+pub mod FieldCases
 pub mod Shown
 pub mod SheetDecode
 pub mod SheetEncode
