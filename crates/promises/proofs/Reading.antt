@@ -1,5 +1,5 @@
 -- What the answer of reading to a sheet says: number 0 is an accepted message whose sheet was handed out.
-use mathlib.Core.Path.{_≡_, refl, sym, ap, _∙_, subst}
+use mathlib.Core.Path.{_≡_, refl, sym, ap, _∙_}
 use mathlib.Core.Bool.{Bool, true, false, _&&_}
 use mathlib.Core.List.{List, _++_}
 use mathlib.Core.Logic.{_⊎_, inl, inr}
@@ -16,7 +16,7 @@ use Rattle.coding.specs.Message.{messageSheet, fitsRoom, readAnswer, readOut}
 use Rattle.coding.specs.declared.Budget.{Budget}
 use Rattle.coding.specs.declared.ReadAnswer.{ReadAnswer}
 use Rattle.coding.specs.declared.Verdict.{Verdict}
-use Rattle.promises.specs.Words.{Fits, NoRoom, HandsOut, KeepsOnRefusal}
+use Rattle.promises.specs.Words.{NoRoom, HandsOut, KeepsOnRefusal}
 
 -- the sheet of an accepted message stands in the output
 pub record Handed (b m : List ℕ) (budget : Budget) (a : ReadAnswer) (out : List ℕ) : Type 0 where

@@ -8,7 +8,7 @@ use coding::Span;
 use coding::Verdict;
 use coding::WriteAnswer;
 ghost use mathlib.Core.Path.{_≡_};
-ghost use mathlib.Core.List.{List, [], _∷_, _++_};
+ghost use mathlib.Core.List.{[], _∷_, _++_};
 ghost use mathlib.Core.Logic.{_↔_, _⊎_};
 ghost use mathlib.Core.Option.{some};
 ghost use mathlib.Core.Bool.{true};
@@ -32,7 +32,7 @@ ghost use Rattle.promises.specs.Words.{entryAt, textAt, LeadsToList, Hol
 pub fn judged(schema: &[u8], message: &[u8], budget: Budget) -> Verdict
     // "Judging answers number, place and visits", as the walk gives them, of refusals too
     ensures whole { λ r. ⌜ r ≡ W.verdict B.u48 (given schema) (given message) budget ⌝ }
-    // "a message is accepted exactly when every object reached by its schema is lawful, within depth and budget"
+    // a message is accepted exactly when every object reached by its schema is lawful, within depth and budget
     ensures exactly { λ r. ⌜ (r .number ≡ 0) ↔ LawfulMessage B.u48 (given schema) (given message) budget ⌝ }
     // "visits in the verdict equal the arrivals of the walk's definition, shared objects counted each time"
     ensures arrivals { λ r. ⌜ (r .number ≡ 0 → r .visits ≡ arrivals B.u48 (given schema) (given message)) ⌝ }
@@ -45,7 +45,7 @@ pub fn read(schema: &[u8], message: &[u8], budget: Budget, out: &mut [u8]) -> Re
     // the answer and the output are the definition's, of refusals too
     ensures whole { λ r. ⌜ r ≡ M.readAnswer B.u48 (given schema) (given message) budget (given out) ⌝ }
     ensures output { λ _. ⌜ after out ≡ M.readOut B.u48 (given schema) (given message) budget (given out) ⌝ }
-    // "a message is accepted exactly when every object reached by its schema is lawful, within depth and budget": number 0 comes
+    // a message is accepted exactly when every object reached by its schema is lawful, within depth and budget: number 0 comes
     // exactly then, if the sheet is within the size and the room
     ensures exactly { λ r. ⌜ (r .verdict .number ≡ 0) ↔ ((LawfulMessage B.u48 (given schema) (given message) budget) × (Fits (M.messageSheet B.u48 (given schema) (given message)) (given out))) ⌝ }
     // "visits in the verdict equal the arrivals of the walk's definition, shared objects counted each time"
@@ -56,7 +56,7 @@ pub fn read(schema: &[u8], message: &[u8], budget: Budget, out: &mut [u8]) -> Re
     ensures kept { λ r. ⌜ KeepsOnRefusal (r .verdict .number) (r .length) (given out) (after out) ⌝ }
     // what is handed out is the sheet of the rules
     ensures sheet { λ r. ⌜ HandsOut r (after out) (M.messageSheet B.u48 (given schema) (given message)) ⌝ }
-    // "the sheet of an accepted message is lawful": what is handed out decodes to the values that the message holds
+    // the sheet of an accepted message is lawful: what is handed out decodes to the values that the message holds
     ensures lawful { λ r. ⌜ (r .verdict .number ≡ 0 → treeOf (given schema) (take (r .length) (after out)) ≡ some (values B.u48 (given schema) (given message))) ⌝ }
 {
     sheet::read(schema, message, budget, out)
@@ -73,7 +73,7 @@ pub fn judged_by_both(older: &[u8], newer: &[u8], message: &[u8], budget: Budget
     // each verdict is the definition's
     ensures by_older { λ r. ⌜ r .older ≡ W.verdict B.u48 (given older) (given message) budget ⌝ }
     ensures by_newer { λ r. ⌜ r .newer ≡ W.verdict B.u48 (given newer) (given message) budget ⌝ }
-    // "whatever bytes the newer accepts with a budget, the older accepts with the same budget"
+    // whatever bytes the newer accepts with a budget, the older accepts with the same budget
     ensures accepts { λ r. ⌜ (Ap.Appends (given older) (given newer) → r .newer .number ≡ 0 → (r .older .number ≡ 0) × (r .older .visits ≤ r .newer .visits)) ⌝ }
 {
     let by_older = judge::judge(older, message, budget);
@@ -106,7 +106,7 @@ pub fn read_by_both(
     ensures newer_out { λ _. ⌜ after second ≡ M.readOut B.u48 (given newer) (given message) budget (given second) ⌝ }
     // what the newer accepts, its sheet having room or not, the older reads if the older's sheet has room
     ensures accepts { λ r. ⌜ (Ap.Appends (given older) (given newer) → Accepts B.u48 (given newer) (given message) budget → (r .older .verdict .number ≡ 0) ⊎ (r .older .verdict .number ≡ 14)) ⌝ }
-    // "the older's sheet is the newer's sheet without the appended members, as bytes"; "the rules give a sheet over the size too",
+    // the older's sheet is the newer's sheet without the appended members, as bytes; "the rules give a sheet over the size too",
     // so the newer's sheet is the one of the rules, handed out or not
     ensures without { λ r. ⌜ (Ap.Appends (given older) (given newer) → Accepts B.u48 (given newer) (given message) budget → HandsOut (r .older) (after first) (Ap.sheetWithout (given older) (given newer) (M.messageSheet B.u48 (given newer) (given message)))) ⌝ }
     // and where it is handed out, it stands in the second output
@@ -241,7 +241,7 @@ pub fn written(schema: &[u8], sheet: &[u8], out: &mut [u8]) -> WriteAnswer
     // the answer and the output are the definition's, of refusals too
     ensures whole { λ r. ⌜ r ≡ M.writeAnswer B.u48 (given schema) (given sheet) (given out) ⌝ }
     ensures output { λ _. ⌜ after out ≡ M.writeOut B.u48 (given schema) (given sheet) (given out) ⌝ }
-    // "every writable sheet becomes the one message of the stated layout", within the size and given room
+    // every writable sheet becomes the one message of the stated layout, within the size and given room
     ensures every { λ r. ⌜ ((v : Value) → Writable B.u48 (given schema) (given sheet) v → Fits (layoutOf B.u48 (given schema) v) (given out) → (r ≡ record { number = 0; length = length (layoutOf B.u48 (given schema) v) }) × (after out ≡ layoutOf B.u48 (given schema) v ++ drop (length (layoutOf B.u48 (given schema) v)) (given out))) ⌝ }
     // and nothing else is written
     ensures only { λ r. ⌜ (r .number ≡ 0 → WrittenAs B.u48 (given schema) (given sheet) (take (r .length) (after out))) ⌝ }
@@ -270,7 +270,7 @@ pub fn write_then_read(
     ensures message { λ _. ⌜ after room ≡ M.writeOut B.u48 (given schema) (given sheet) (given room) ⌝ }
     ensures read { λ r. ⌜ r .read ≡ M.readAnswer B.u48 (given schema) (take (r .written .length) (after room)) budget (given out) ⌝ }
     ensures output { λ r. ⌜ after out ≡ M.readOut B.u48 (given schema) (take (r .written .length) (after room)) budget (given out) ⌝ }
-    // "reading that message with enough budget gives the same sheet"
+    // reading that message with enough budget gives the same sheet
     ensures same { λ r. ⌜ (r .written .number ≡ 0 → enough (given schema) (given sheet) ≤ budget .visits → length (given sheet) ≤ length (given out) → (r .read ≡ record { verdict = record { number = 0; place = 0; visits = enough (given schema) (given sheet) }; length = length (given sheet) }) × (after out ≡ given sheet ++ drop (length (given sheet)) (given out))) ⌝ }
     // the rules give that sheet of the message, with any budget and any room
     ensures sheet { λ r. ⌜ (r .written .number ≡ 0 → M.messageSheet B.u48 (given schema) (take (r .written .length) (after room)) ≡ given sheet) ⌝ }
@@ -299,7 +299,7 @@ pub fn write_then_read_newer(
     ensures output { λ r. ⌜ after out ≡ M.readOut B.u48 (given newer) (take (r .written .length) (after room)) budget (given out) ⌝ }
     // the newer reads the message with as many visits as the older, if its sheet has room
     ensures accepts { λ r. ⌜ (Ap.Appends (given older) (given newer) → r .written .number ≡ 0 → enough (given older) (given sheet) ≤ budget .visits → ((r .read .verdict .number ≡ 0) ⊎ (r .read .verdict .number ≡ 14)) × (r .read .verdict .visits ≡ enough (given older) (given sheet))) ⌝ }
-    // "the newer's sheet is the older's with the added members, as bytes": what is handed out
+    // the newer's sheet is the older's with the added members, as bytes: what is handed out
     ensures added { λ r. ⌜ (Ap.Appends (given older) (given newer) → r .written .number ≡ 0 → HandsOut (r .read) (after out) (Ap.sheetWith B.u48 (given older) (given newer) (given sheet))) ⌝ }
     // and what the rules give of the message, with any budget and any room
     ensures sheet { λ r. ⌜ (Ap.Appends (given older) (given newer) → r .written .number ≡ 0 → M.messageSheet B.u48 (given newer) (take (r .written .length) (after room)) ≡ Ap.sheetWith B.u48 (given older) (given newer) (given sheet)) ⌝ }
@@ -330,8 +330,8 @@ pub fn write_then_judge(
     ensures message { λ _. ⌜ after room ≡ M.writeOut B.u48 (given older) (given sheet) (given room) ⌝ }
     ensures by_older { λ r. ⌜ r .older ≡ W.verdict B.u48 (given older) (take (r .written .length) (after room)) budget ⌝ }
     ensures by_newer { λ r. ⌜ r .newer ≡ W.verdict B.u48 (given newer) (take (r .written .length) (after room)) budget ⌝ }
-    // "whatever message the writer made under the older schema, the newer accepts with every budget with which the older does (and
-    // gives the same visits)": the whole verdict is the same
+    // whatever message the writer made under the older schema, the newer accepts with every budget with which the older does (and
+    // gives the same visits): the whole verdict is the same
     ensures same { λ r. ⌜ (Ap.Appends (given older) (given newer) → r .written .number ≡ 0 → r .newer ≡ r .older) ⌝ }
 {
     let written = write::write(older, sheet, room);
