@@ -1,5 +1,7 @@
 -- The theorems. A reader's way in: Counter, Traps, FieldCases, Sheets, Reached, RoundTrip, Appending, NewerAgrees, Fields,
 -- Texts, ListReader; the other modules are their lemmas.
+-- The theorems. A reader's way in: Counter, Traps, Sheets, Reached, RoundTrip, Appending, NewerAgrees, Fields, Texts, SheetText,
+-- ListReader; the other modules are their lemmas.
 pub mod Counter
 pub mod Traps
 pub mod FieldCases
@@ -55,4 +57,5 @@ pub mod FieldShows
 pub mod FieldsWalked
 pub mod Fields
 pub mod Texts
+pub mod SheetText
 pub mod ListReader

@@ -140,7 +140,7 @@ ruleCases =
     -- refusal 9, at the holder; choice 2 "is unknown and is not followed"
     ∷ case (judged union (rooted 8 (1 ∷ 0 ∷ u48 0)) 2) (9 ∷ 10 ∷ 1 ∷ [])
     ∷ case (judged union (rooted 8 (2 ∷ 0 ∷ u48 0)) 2) (0 ∷ 0 ∷ 1 ∷ 0x80 ∷ 0x00 ∷ 0x80 ∷ [])
-    -- "Length 0 means no value .., except in a union with a known choice, where it is an empty object. A text keeps its zero
+    -- "Length 0 means no value ..., except in a union with a known choice, where it is an empty object. A text keeps its zero
     -- byte unless it is absent."
     ∷ case (judged inPlace (rooted 6 (u48 0)) 2) (0 ∷ 0 ∷ 1 ∷ 0x00 ∷ [])
     ∷ case (judged inPlaceUnion (rooted 8 (1 ∷ 0 ∷ u48 0 ++ (0 ∷ []))) 2)

@@ -15,12 +15,13 @@ use Rattle.coding.specs.declared.Found.the-variants as Fd
 use Rattle.coding.specs.declared.Answer.{Answer}
 use Rattle.coding.specs.declared.Answer.the-variants as A
 use Rattle.coding.specs.declared.Refusal.{Refusal}
+use Rattle.promises.specs.Words.{LeadsToList, HoldsAnswers}
 use Rattle.demands.specs.ListReader.{gives-path, gives-end, counts, over-gives, gives-refusal, refused-path}
 
 -- what is found is no list of kinds 13 to 17
 abbrev NoList : Schema → Found → Type 0
 NoList S f =
-    (i at start n left : ℕ) → f ≡ Fd.Object (O.List i) at start n left → Field.leads (elementOf S i) ≡ true → ⊥
+    (i at start n left : ℕ) → (f ≡ Fd.Object (O.List i) at start n left) × (Field.leads (elementOf S i) ≡ true) → ⊥
 
 other-start : (S : Schema) (f : Found) → ((r : Refusal) → Field.answerOf f ≡ A.Refused r → ⊥) → NoList S f
     → Field.readerOf S f ≡ Fd.Refused (Field.refusal 15 0)
@@ -37,14 +38,13 @@ other-start S (Fd.Object (O.List i) at start n d) free none = by (Field.leads (e
   where
     by : (t : Bool) → Field.leads (elementOf S i) ≡ t
         → pick t (Fd.Object (O.List i) at start n d) (Fd.Refused (Field.refusal 15 0)) ≡ Fd.Refused (Field.refusal 15 0)
-    by true e = absurd (none i at start n d refl e)
+    by true e = absurd (none i at start n d (refl, e))
     by false e = refl
 
 module _ (b m path : List ℕ) where
-  starts : (i at start n left : ℕ) → Field.fieldFound u48 b m path ≡ Fd.Object (O.List i) at start n left
-      → Field.leads (elementOf (parse b) i) ≡ true → Field.readerStart u48 b m path ≡ Fd.Object (O.List i) at start n left
+  starts : (i at start n left : ℕ) → LeadsToList u48 b m path i at start n left → Field.readerStart u48 b m path ≡ Fd.Object (O.List i) at start n left
   unfolding Field.readerStart Field.readerOf Field.listFound
-  starts i at start n left e k = rw (e, k)
+  starts i at start n left h = rw (h .0, h .1)
 
   other : ((r : Refusal) → Field.field u48 b m path ≡ A.Refused r → ⊥) → NoList (parse b) (Field.fieldFound u48 b m path)
       → Field.readerStart u48 b m path ≡ Fd.Refused (Field.refusal 15 0)
@@ -54,18 +54,16 @@ module _ (b m path : List ℕ) where
 -- ---- one step
 module _ (b m path : List ℕ) (j : ℕ) (q : Answer) (eq : q ≡ Field.readerGives u48 b m path j) where
   pub steps-same : (element : List ℕ) (r : Answer) → r ≡ Field.field u48 b m element → (i at start n left : ℕ)
-      → Field.fieldFound u48 b m path ≡ Fd.Object (O.List i) at start n left → Field.leads (elementOf (parse b) i) ≡ true
-      → element ≡ path ++ j ∷ [] → q ≡ r
-  steps-same element r er i at start n left has k e =
+      → LeadsToList u48 b m path i at start n left → element ≡ path ++ j ∷ [] → q ≡ r
+  steps-same element r er i at start n left h e =
       eq
-      ∙ gives-path u48 b m path i at start n left (starts b m path i at start n left has k) j
+      ∙ gives-path u48 b m path i at start n left (starts b m path i at start n left h) j
       ∙ ap (Field.field u48 b m) (sym e)
       ∙ sym er
 
-  pub steps-end : (i at start n left : ℕ) → Field.fieldFound u48 b m path ≡ Fd.Object (O.List i) at start n left
-      → Field.leads (elementOf (parse b) i) ≡ true → n ≤ j → q ≡ A.Refused (Field.refusal 15 at)
-  steps-end i at start n left has k l =
-      eq ∙ gives-end u48 b m path i at start n left (starts b m path i at start n left has k) j l
+  pub steps-end : (i at start n left : ℕ) → LeadsToList u48 b m path i at start n left → n ≤ j → q ≡ A.Refused (Field.refusal 15 at)
+  steps-end i at start n left h l =
+      eq ∙ gives-end u48 b m path i at start n left (starts b m path i at start n left h) j l
 
   step-refused : (r : Refusal) → Field.readerStart u48 b m path ≡ Fd.Refused r → q ≡ A.Refused r
   step-refused r e = eq ∙ gives-refusal u48 b m path r e .1 j
@@ -80,34 +78,30 @@ module _ (b m path : List ℕ) (j : ℕ) (q : Answer) (eq : q ≡ Field.readerGi
 -- ---- many steps
 module _ (b m path : List ℕ) (from : ℕ) (out out′ : List ℕ) (r : ℕ) (er : r ≡ Field.readerCount u48 b m path)
     (eo : out′ ≡ Field.readerOver u48 b m path from out) where
-  -- the step k has the numbers of an answer
-  abbrev Has : ℕ → Answer → Type 0
-  Has k q = take 4 (drop (4 * k) out′) ≡ Field.caseNumbers (Field.answerCase q)
-
-  gives : (k : ℕ) (q : Answer) → k < length out / 4 → Field.readerGives u48 b m path (from + k) ≡ q → Has k q
+  gives : (k : ℕ) (q : Answer) → k < length out / 4 → Field.readerGives u48 b m path (from + k) ≡ q
+      → take 4 (drop (4 * k) out′) ≡ Field.caseNumbers (Field.answerCase q)
   gives k q h e =
       ap (λ (l : List ℕ). take 4 (drop (4 * k) l)) eo
       ∙ over-gives u48 b m path from out k h
       ∙ ap (λ (q : Answer). Field.caseNumbers (Field.answerCase q)) e
 
-  pub all-each : (i at start n left : ℕ) → Field.fieldFound u48 b m path ≡ Fd.Object (O.List i) at start n left
-      → Field.leads (elementOf (parse b) i) ≡ true
-      → (r ≡ n) × ((k : ℕ) → k < length out / 4 → Has k (Field.field u48 b m (path ++ (from + k) ∷ [])))
-  all-each i at start n left has k =
-      let e = starts b m path i at start n left has k in (
+  pub all-each : (i at start n left : ℕ) → LeadsToList u48 b m path i at start n left
+      → (r ≡ n) × HoldsAnswers out′ (length out / 4) (λ k. Field.field u48 b m (path ++ (from + k) ∷ []))
+  all-each i at start n left h =
+      let e = starts b m path i at start n left h in (
         er ∙ counts u48 b m path i at start n left e,
         λ k h. gives k _ h (gives-path u48 b m path i at start n left e (from + k)),
       )
 
   all-refused : (q : Refusal) → Field.readerStart u48 b m path ≡ Fd.Refused q
-      → (r ≡ 0) × ((k : ℕ) → k < length out / 4 → Has k (A.Refused q))
+      → (r ≡ 0) × HoldsAnswers out′ (length out / 4) (λ _. A.Refused q)
   all-refused q e =
       let y = gives-refusal u48 b m path q e in (er ∙ y .0, λ k h. gives k _ h (y .1 (from + k)))
 
   pub all-own : (q : Refusal) → Field.field u48 b m path ≡ A.Refused q
-      → (r ≡ 0) × ((k : ℕ) → k < length out / 4 → Has k (A.Refused q))
+      → (r ≡ 0) × HoldsAnswers out′ (length out / 4) (λ _. A.Refused q)
   all-own q e = all-refused q (refused-path u48 b m path q e)
 
   pub all-other : ((q : Refusal) → Field.field u48 b m path ≡ A.Refused q → ⊥) → NoList (parse b) (Field.fieldFound u48 b m path)
-      → (r ≡ 0) × ((k : ℕ) → k < length out / 4 → Has k (A.Refused (Field.refusal 15 0)))
+      → (r ≡ 0) × HoldsAnswers out′ (length out / 4) (λ _. A.Refused (Field.refusal 15 0))
   all-other free none = all-refused (Field.refusal 15 0) (other b m path free none)

@@ -1,0 +1,2 @@
+-- Words for the contracts of this crate.
+pub mod Words
