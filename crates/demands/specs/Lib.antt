@@ -1,7 +1,5 @@
 -- The theorems. A reader's way in: Counter, Traps, FieldCases, Sheets, Reached, RoundTrip, Appending, NewerAgrees, Fields,
--- Texts, ListReader; the other modules are their lemmas.
--- The theorems. A reader's way in: Counter, Traps, Sheets, Reached, RoundTrip, Appending, NewerAgrees, Fields, Texts, SheetText,
--- ListReader; the other modules are their lemmas.
+-- Texts, SheetText, ListReader; the other modules are their lemmas.
 pub mod Counter
 pub mod Traps
 pub mod FieldCases
