@@ -9,6 +9,8 @@ use coding::Refusal;
 use coding::Span;
 use coding::Verdict;
 use coding::WriteAnswer;
+use field_element::ListStep;
+use field_reader::ListReader;
 ghost use mathlib.Core.Path.{_≡_};
 ghost use mathlib.Core.List.{List, [], _∷_, _++_};
 ghost use mathlib.Core.Logic.{_↔_, _⊎_};
@@ -33,6 +35,7 @@ ghost use Rattle.demands.specs.Fields.{sheetEntry};
 ghost use Rattle.demands.specs.RoundTrip.{enough};
 ghost use Rattle.demands.specs.Texts.{IsText};
 ghost use Rattle.demands.specs.WrittenSheet.{WrittenAs};
+ghost use Rattle.promises.specs.Reader.{Stepped};
 
 // Judging a message.
 pub fn judged(schema: &[u8], message: &[u8], budget: Budget) -> Verdict
@@ -170,7 +173,7 @@ pub fn text_and_sheet(
 
 // A step of the list reader and the field at the element's path, which is given whole.
 pub struct StepAndField {
-    pub step: Answer,
+    pub step: ListStep,
     pub field: Answer,
 }
 
@@ -183,23 +186,31 @@ pub fn step_and_field(
     whole: &[u32],
 ) -> StepAndField
     // the step and the field are the definition's
-    ensures step { λ r. ⌜ r .step ≡ F.readerGives B.u48 (now (schema .entry)) (now (message .entry)) (now (path .entry)) element ⌝ }
+    ensures step { λ r. ⌜ r .step .answer ≡ F.readerGives B.u48 (now (schema .entry)) (now (message .entry)) (now (path .entry)) element ⌝ }
+    ensures next { λ r. ⌜ r .step .next ≡ F.readerNext (F.readerCount B.u48 (now (schema .entry)) (now (message .entry)) (now (path .entry))) element ⌝ }
     ensures field { λ r. ⌜ r .field ≡ F.field B.u48 (now (schema .entry)) (now (message .entry)) (now (whole .entry)) ⌝ }
-    // "Each step answers as that element's path would"
-    ensures same { λ r. ⌜ ((i at start n left : ℕ) → F.fieldFound B.u48 (now (schema .entry)) (now (message .entry)) (now (path .entry)) ≡ Found.Object (Object.List i) at start n left → F.leads (elementOf (P.parse (now (schema .entry))) i) ≡ true → now (whole .entry) ≡ now (path .entry) ++ element ∷ [] → r .step ≡ r .field) ⌝ }
+    // "Each step answers as that element's path would and moves on, refused or not"
+    ensures same { λ r. ⌜ ((i at start n left : ℕ) → F.fieldFound B.u48 (now (schema .entry)) (now (message .entry)) (now (path .entry)) ≡ Found.Object (Object.List i) at start n left → F.leads (elementOf (P.parse (now (schema .entry))) i) ≡ true → (now (whole .entry) ≡ now (path .entry) ++ element ∷ [] → r .step .answer ≡ r .field) × (element < n → r .step .next ≡ element + 1)) ⌝ }
     // "after the last it answers 15 at the list and stays"
-    ensures end { λ r. ⌜ ((i at start n left : ℕ) → F.fieldFound B.u48 (now (schema .entry)) (now (message .entry)) (now (path .entry)) ≡ Found.Object (Object.List i) at start n left → F.leads (elementOf (P.parse (now (schema .entry))) i) ≡ true → n ≤ element → r .step ≡ Answer.Refused (F.refusal 15 at)) ⌝ }
+    ensures end { λ r. ⌜ ((i at start n left : ℕ) → F.fieldFound B.u48 (now (schema .entry)) (now (message .entry)) (now (path .entry)) ≡ Found.Object (Object.List i) at start n left → F.leads (elementOf (P.parse (now (schema .entry))) i) ≡ true → n ≤ element → r .step ≡ record { answer = Answer.Refused (F.refusal 15 at); next = element }) ⌝ }
     // "a refused path gives its own refusal"
-    ensures own { λ r. ⌜ ((q : Refusal) → F.field B.u48 (now (schema .entry)) (now (message .entry)) (now (path .entry)) ≡ Answer.Refused q → r .step ≡ Answer.Refused q) ⌝ }
+    ensures own { λ r. ⌜ ((q : Refusal) → F.field B.u48 (now (schema .entry)) (now (message .entry)) (now (path .entry)) ≡ Answer.Refused q → r .step ≡ record { answer = Answer.Refused q; next = element }) ⌝ }
     // "any other answer is 15 at 0"
-    ensures other { λ r. ⌜ (((q : Refusal) → F.field B.u48 (now (schema .entry)) (now (message .entry)) (now (path .entry)) ≡ Answer.Refused q → ⊥) → ((i at start n left : ℕ) → F.fieldFound B.u48 (now (schema .entry)) (now (message .entry)) (now (path .entry)) ≡ Found.Object (Object.List i) at start n left → F.leads (elementOf (P.parse (now (schema .entry))) i) ≡ true → ⊥) → r .step ≡ Answer.Refused (F.refusal 15 0)) ⌝ }
+    ensures other { λ r. ⌜ (((q : Refusal) → F.field B.u48 (now (schema .entry)) (now (message .entry)) (now (path .entry)) ≡ Answer.Refused q → ⊥) → ((i at start n left : ℕ) → F.fieldFound B.u48 (now (schema .entry)) (now (message .entry)) (now (path .entry)) ≡ Found.Object (Object.List i) at start n left → F.leads (elementOf (P.parse (now (schema .entry))) i) ≡ true → ⊥) → r .step ≡ record { answer = Answer.Refused (F.refusal 15 0); next = element }) ⌝ }
 {
-    let step = field_element::reader_answer(schema, message, path, element);
+    let step = field_element::step(schema, message, path, element);
     let answer = field::field(schema, message, whole);
     StepAndField {
         step,
         field: answer,
     }
+}
+
+// The list reader that "keeps the message and its present place together": a step of it, of which `Stepped` says what is demanded.
+pub fn reader_step<'s, 'a, 'b, 'c>(r: &'s mut ListReader<'a, 'b, 'c>) -> Answer
+    ensures { λ q. ⌜ Stepped (now (r .entry)) q (now (r .exit)) ⌝ }
+{
+    field_reader::step(r)
 }
 
 // Many steps of the list reader at once.

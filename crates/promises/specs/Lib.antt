@@ -1,0 +1,2 @@
+-- What the list reader's demands speak of.
+pub mod Reader
