@@ -7,6 +7,8 @@ use coding::Refusal;
 use coding::Span;
 use coding::Verdict;
 use coding::WriteAnswer;
+use field_element::ListStep;
+use field_reader::ListReader;
 ghost use mathlib.Core.Path.{_≡_};
 ghost use mathlib.Core.List.{[], _∷_, _++_};
 ghost use mathlib.Core.Logic.{_↔_, _⊎_};
@@ -25,6 +27,7 @@ ghost use Rattle.demands.specs.FieldEntries.{shown};
 ghost use Rattle.demands.specs.RoundTrip.{enough};
 ghost use Rattle.demands.specs.Texts.{IsText};
 ghost use Rattle.demands.specs.WrittenSheet.{WrittenAs};
+ghost use Rattle.promises.specs.Reader.{Stepped};
 ghost use Rattle.promises.specs.Words.{given, after, Accepts, arrivals, values, treeOf, Fits, NoRoom, HandsOut, KeepsOnRefusal};
 ghost use Rattle.promises.specs.Words.{entryAt, textAt, LeadsToList, HoldsAnswers, Writable, layoutOf};
 
@@ -189,7 +192,7 @@ pub fn text_and_sheet(
 
 // A step of the list reader and the field at the element's path, which is given whole.
 pub struct StepAndField {
-    pub step: Answer,
+    pub step: ListStep,
     pub field: Answer,
 }
 
@@ -201,24 +204,32 @@ pub fn step_and_field(
     element: usize,
     whole: &[u32],
 ) -> StepAndField
-    // the step and the field are the definition's
-    ensures step { λ r. ⌜ r .step ≡ F.readerGives B.u48 (given schema) (given message) (given path) element ⌝ }
+    // the step's answer, where the reader goes and the field are the definition's
+    ensures step { λ r. ⌜ r .step .answer ≡ F.readerGives B.u48 (given schema) (given message) (given path) element ⌝ }
+    ensures next { λ r. ⌜ r .step .next ≡ F.readerNext (F.readerCount B.u48 (given schema) (given message) (given path)) element ⌝ }
     ensures field { λ r. ⌜ r .field ≡ F.field B.u48 (given schema) (given message) (given whole) ⌝ }
-    // "Each step answers as that element's path would"
-    ensures same { λ r. ⌜ ((i at start n left : ℕ) → LeadsToList B.u48 (given schema) (given message) (given path) i at start n left → given whole ≡ given path ++ element ∷ [] → r .step ≡ r .field) ⌝ }
+    // "Each step answers as that element's path would and moves on, refused or not"
+    ensures same { λ r. ⌜ ((i at start n left : ℕ) → LeadsToList B.u48 (given schema) (given message) (given path) i at start n left → (given whole ≡ given path ++ element ∷ [] → r .step .answer ≡ r .field) × (element < n → r .step .next ≡ element + 1)) ⌝ }
     // "after the last it answers 15 at the list and stays"
-    ensures end { λ r. ⌜ ((i at start n left : ℕ) → LeadsToList B.u48 (given schema) (given message) (given path) i at start n left → n ≤ element → r .step ≡ Answer.Refused (F.refusal 15 at)) ⌝ }
+    ensures end { λ r. ⌜ ((i at start n left : ℕ) → LeadsToList B.u48 (given schema) (given message) (given path) i at start n left → n ≤ element → r .step ≡ record { answer = Answer.Refused (F.refusal 15 at); next = element }) ⌝ }
     // "a refused path gives its own refusal"
-    ensures own { λ r. ⌜ ((q : Refusal) → F.field B.u48 (given schema) (given message) (given path) ≡ Answer.Refused q → r .step ≡ Answer.Refused q) ⌝ }
+    ensures own { λ r. ⌜ ((q : Refusal) → F.field B.u48 (given schema) (given message) (given path) ≡ Answer.Refused q → r .step ≡ record { answer = Answer.Refused q; next = element }) ⌝ }
     // "any other answer is 15 at 0"
-    ensures other { λ r. ⌜ (((q : Refusal) → F.field B.u48 (given schema) (given message) (given path) ≡ Answer.Refused q → ⊥) → ((i at start n left : ℕ) → LeadsToList B.u48 (given schema) (given message) (given path) i at start n left → ⊥) → r .step ≡ Answer.Refused (F.refusal 15 0)) ⌝ }
+    ensures other { λ r. ⌜ (((q : Refusal) → F.field B.u48 (given schema) (given message) (given path) ≡ Answer.Refused q → ⊥) → ((i at start n left : ℕ) → LeadsToList B.u48 (given schema) (given message) (given path) i at start n left → ⊥) → r .step ≡ record { answer = Answer.Refused (F.refusal 15 0); next = element }) ⌝ }
 {
-    let step = field_element::reader_answer(schema, message, path, element);
+    let step = field_element::step(schema, message, path, element);
     let answer = field::field(schema, message, whole);
     StepAndField {
         step,
         field: answer,
     }
+}
+
+// The list reader that "keeps the message and its present place together": a step of it, of which `Stepped` says what is demanded.
+pub fn reader_step<'s, 'a, 'b, 'c>(r: &'s mut ListReader<'a, 'b, 'c>) -> Answer
+    ensures { λ q. ⌜ Stepped (given r) q (after r) ⌝ }
+{
+    field_reader::step(r)
 }
 
 // Many steps of the list reader at once.

@@ -1,7 +1,7 @@
-use Rattle.field_list.proofs.ListCases.{count-refused, count-absent, count-unknown, count-value, count-struct, count-object}
+use Rattle.field_element.proofs.StepCases.{count-refused, count-absent, count-unknown, count-value, count-struct, count-object}
 use borrow.Author.Needs.{needs}
-use Rattle.field_list.proofs.list_count.Statement.{statement}
-use Rattle.field_list.proofs.list_count.Tie as tie
+use Rattle.field_element.proofs.list_count.Statement.{statement}
+use Rattle.field_element.proofs.list_count.Tie as tie
 
 enum-told : tie.Need-enum-told
 enum-told c = search needs

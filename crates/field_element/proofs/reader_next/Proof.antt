@@ -1,7 +1,7 @@
-use Rattle.field_list.proofs.ListCases.{next-more, next-stays}
+use Rattle.field_element.proofs.StepCases.{next-more, next-stays}
 use borrow.Author.Needs.{needs}
-use Rattle.field_list.proofs.reader_next.Statement.{statement}
-use Rattle.field_list.proofs.reader_next.Tie as tie
+use Rattle.field_element.proofs.reader_next.Statement.{statement}
+use Rattle.field_element.proofs.reader_next.Tie as tie
 
 add-result : tie.Need-add-result
 add-result c = search needs

@@ -1,8 +1,8 @@
 use Rattle.field_element.proofs.GivesCases.{step-refused, step-object, step-listed, no-absent, no-unknown, no-value, no-struct}
 use Rattle.field_part.proofs.PartCases.{object-index, object-fits}
 use borrow.Author.Needs.{needs}
-use Rattle.field_element.proofs.reader_step.Statement.{statement}
-use Rattle.field_element.proofs.reader_step.Tie as tie
+use Rattle.field_element.proofs.step_answer.Statement.{statement}
+use Rattle.field_element.proofs.step_answer.Tie as tie
 
 enum-known-list : tie.Need-enum-known-list
 enum-known-list c = search needs
@@ -43,8 +43,8 @@ returns-5 c = search no-struct
 returns-6 : tie.Need-returns-6
 returns-6 c = search step-object
 
-pub reader-step-spec : {M : Type 1} → statement M
-reader-step-spec =
+pub step-answer-spec : {M : Type 1} → statement M
+step-answer-spec =
     tie.close
     (tie.spec
     enum-known-list
