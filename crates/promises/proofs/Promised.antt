@@ -8,7 +8,7 @@ use Prim.Native.Nat.{ℕ, _≤_}
 use lib.ListN.{length, take}
 use Rattle.coding.specs.Bytes.{u48}
 use Rattle.coding.specs.Packed.{parse}
-use Rattle.coding.specs.Walk.{verdict}
+use Rattle.coding.specs.Walk.{spending, atZero, verdict}
 use Rattle.coding.specs.Read.{messageRead}
 use Rattle.coding.specs.Sheet.{sheetTree}
 use Rattle.coding.specs.Message.{messageSheet, readAnswer, readOut}
@@ -59,7 +59,7 @@ module _ (b m : List ℕ) (budget : Budget) (out : List ℕ) (a : ReadAnswer) (e
       let y = handed b m budget out a _ ea refl h in y .visits ∙ accepted-visits u48 b m budget (y .accepted)
 
   pub reads-room : LawfulMessage u48 b m budget → NoRoom (messageSheet u48 b m) out
-      → a ≡ record { verdict = record { number = 14; place = 0; visits = messageArrivals u48 (parse b) m }; length = 0 }
+      → a ≡ record { verdict = atZero 14 (spending (messageArrivals u48 (parse b) m)); length = 0 }
   reads-room h = no-room b m budget out _ a ea (lawful-verdict u48 b m budget h)
 
 module _ (b m : List ℕ) (schema-bytes : AreBytes b) (message-bytes : AreBytes m) (budget : Budget) (out : List ℕ) (a : ReadAnswer) (out′ : List ℕ)

@@ -11,7 +11,7 @@ use lib.Dec.{leb, eqb}
 use borrow.Author.Tests.{eqb-true, eqb-false, eq-eqb, leb-true, le-leb, lt-leb}
 use Rattle.coding.specs.Lists.{pick}
 use Rattle.coding.specs.Bytes.{u48, largest}
-use Rattle.coding.specs.Walk.{verdict}
+use Rattle.coding.specs.Walk.{spending, atZero, spentOf, verdict}
 use Rattle.coding.specs.Message.{messageSheet, fitsRoom, readAnswer, readOut}
 use Rattle.coding.specs.declared.Budget.{Budget}
 use Rattle.coding.specs.declared.ReadAnswer.{ReadAnswer}
@@ -57,7 +57,7 @@ module _ (b m : List ℕ) (budget : Budget) (out : List ℕ) where
       pick s
       (pick t
       (record { verdict = judged; length = length sheet })
-      (record { verdict = record { number = 14; place = 0; visits = judged .visits }; length = 0 }))
+      (record { verdict = atZero 14 (spentOf judged); length = 0 }))
       (record { verdict = judged; length = 0 })
 
   abbrev outBy : Bool → Bool → List ℕ
@@ -116,8 +116,8 @@ module _ (b m : List ℕ) (budget : Budget) (out : List ℕ) where
   read-fits a ea h = fits-by _ _ refl refl (ap (λ (x : ReadAnswer). x .verdict .number) (sym ea) ∙ h)
 
   -- "then 14 with the full visits"
-  pub no-room : (n : ℕ) (a : ReadAnswer) → a ≡ readAnswer u48 b m budget out → judged ≡ record { number = 0; place = 0; visits = n }
-      → NoRoom sheet out → a ≡ record { verdict = record { number = 14; place = 0; visits = n }; length = 0 }
+  pub no-room : (n : ℕ) (a : ReadAnswer) → a ≡ readAnswer u48 b m budget out → judged ≡ atZero 0 (spending n)
+      → NoRoom sheet out → a ≡ record { verdict = atZero 14 (spending n); length = 0 }
   unfolding readAnswer
   no-room n a ea h x = ea ∙ rw (h, not-fits sheet out x)
 

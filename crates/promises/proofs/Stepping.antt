@@ -11,6 +11,7 @@ use Rattle.coding.specs.Lists.{pick}
 use Rattle.coding.specs.Bytes.{u48}
 use Rattle.coding.specs.Schema.{Schema, elementOf}
 use Rattle.coding.specs.Packed.{parse}
+use Rattle.coding.specs.Walk.{refusal}
 use Rattle.coding.specs.Field as Field
 use Rattle.coding.specs.declared.Object.the-variants as O
 use Rattle.coding.specs.declared.Found.{Found}
@@ -31,7 +32,7 @@ NoList S f =
     (i at start n left : ℕ) → (f ≡ Fd.Object (O.List i) at start n left) × (Field.leads (elementOf S i) ≡ true) → ⊥
 
 other-start : (S : Schema) (f : Found) → ((r : Refusal) → Field.answerOf f ≡ A.Refused r → ⊥) → NoList S f
-    → Field.readerOf S f ≡ Fd.Refused (Field.refusal 15 0)
+    → Field.readerOf S f ≡ Fd.Refused (refusal 15 0)
 unfolding Field.readerOf Field.listFound Field.before Field.answerOf
 other-start S (Fd.Refused r) free none = absurd (free r refl)
 other-start S Fd.Absent free none = refl
@@ -44,7 +45,7 @@ other-start S (Fd.Object (O.Table i) at start n d) free none = refl
 other-start S (Fd.Object (O.List i) at start n d) free none = by (Field.leads (elementOf S i)) refl
   where
     by : (t : Bool) → Field.leads (elementOf S i) ≡ t
-        → pick t (Fd.Object (O.List i) at start n d) (Fd.Refused (Field.refusal 15 0)) ≡ Fd.Refused (Field.refusal 15 0)
+        → pick t (Fd.Object (O.List i) at start n d) (Fd.Refused (refusal 15 0)) ≡ Fd.Refused (refusal 15 0)
     by true e = absurd (none i at start n d (refl, e))
     by false e = refl
 
@@ -54,7 +55,7 @@ module _ (b m path : List ℕ) where
   starts i at start n left h = rw (h .0, h .1)
 
   other : ((r : Refusal) → Field.field u48 b m path ≡ A.Refused r → ⊥) → NoList (parse b) (Field.fieldFound u48 b m path)
-      → Field.readerStart u48 b m path ≡ Fd.Refused (Field.refusal 15 0)
+      → Field.readerStart u48 b m path ≡ Fd.Refused (refusal 15 0)
   unfolding Field.readerStart Field.field
   other free none = other-start (parse b) (Field.fieldFound u48 b m path) free none
 
@@ -69,7 +70,7 @@ module _ (b m path : List ℕ) (j : ℕ) (q : Answer) (eq : q ≡ Field.readerGi
       ∙ ap (Field.field u48 b m) (sym e)
       ∙ sym er
 
-  pub steps-end : (i at start n left : ℕ) → LeadsToList u48 b m path i at start n left → n ≤ j → q ≡ A.Refused (Field.refusal 15 at)
+  pub steps-end : (i at start n left : ℕ) → LeadsToList u48 b m path i at start n left → n ≤ j → q ≡ A.Refused (refusal 15 at)
   steps-end i at start n left has l =
       eq ∙ gives-end u48 b m path i at start n left (starts b m path i at start n left has) j l
 
@@ -108,7 +109,7 @@ module _ (b m path : List ℕ) (j : ℕ) (s : ListStep) (ea : s .answer ≡ Fiel
   step-same element r er i at start n left has =
       (steps-same b m path j (s .answer) ea element r er i at start n left has, next-moves b m path j (s .next) en i at start n left has)
 
-  pub step-end : (i at start n left : ℕ) → LeadsToList u48 b m path i at start n left → n ≤ j → s ≡ record { answer = A.Refused (Field.refusal 15 at); next = j }
+  pub step-end : (i at start n left : ℕ) → LeadsToList u48 b m path i at start n left → n ≤ j → s ≡ record { answer = A.Refused (refusal 15 at); next = j }
   step-end i at start n left has l =
       both _ _ (steps-end b m path j (s .answer) ea i at start n left has l) (next-stays b m path j (s .next) en i at start n left has l)
 
@@ -119,8 +120,8 @@ module _ (b m path : List ℕ) (j : ℕ) (s : ListStep) (ea : s .answer ≡ Fiel
   step-own r e = refused r (refused-path u48 b m path r e)
 
   pub step-other : ((r : Refusal) → Field.field u48 b m path ≡ A.Refused r → ⊥) → NoList (parse b) (Field.fieldFound u48 b m path)
-      → s ≡ record { answer = A.Refused (Field.refusal 15 0); next = j }
-  step-other free none = refused (Field.refusal 15 0) (other b m path free none)
+      → s ≡ record { answer = A.Refused (refusal 15 0); next = j }
+  step-other free none = refused (refusal 15 0) (other b m path free none)
 
 -- ---- a step of the reader
 module _ (r : ListReader) (q : Answer) (eq : q ≡ gives r) (r′ : ListReader) (er : r′ ≡ after r) where
@@ -170,5 +171,5 @@ module _ (b m path : List ℕ) (from : ℕ) (out out′ : List ℕ) (r : ℕ) (e
   all-own q e = all-refused q (refused-path u48 b m path q e)
 
   pub all-other : ((q : Refusal) → Field.field u48 b m path ≡ A.Refused q → ⊥) → NoList (parse b) (Field.fieldFound u48 b m path)
-      → (r ≡ 0) × HoldsAnswers out′ (length out / 4) (λ _. A.Refused (Field.refusal 15 0))
-  all-other free none = all-refused (Field.refusal 15 0) (other b m path free none)
+      → (r ≡ 0) × HoldsAnswers out′ (length out / 4) (λ _. A.Refused (refusal 15 0))
+  all-other free none = all-refused (refusal 15 0) (other b m path free none)

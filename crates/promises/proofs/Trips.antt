@@ -7,7 +7,7 @@ use lib.ListN.{length, take, drop}
 use borrow.Author.Tests.{le-leb}
 use Rattle.coding.specs.Bytes.{u48}
 use Rattle.coding.specs.Packed.{parse}
-use Rattle.coding.specs.Walk.{verdict}
+use Rattle.coding.specs.Walk.{refusal, spending, verdictAt, atZero, verdict}
 use Rattle.coding.specs.Value.{Value}
 use Rattle.coding.specs.Message.{message, messageOf, messageSheet, written, writeRoom, writeOver, writeAnswer, writeOut, readAnswer, readOut}
 use Rattle.coding.specs.Append.{Appends, sheetWith}
@@ -50,14 +50,14 @@ module _ (b s : List ℕ) (schema-bytes : AreBytes b) (sheet-bytes : AreBytes s)
   module _ (budget : Budget) (out out′ : List ℕ) (a : ReadAnswer) (ea : a ≡ readAnswer u48 b (take (w .length) room′) budget out)
       (eo : out′ ≡ readOut u48 b (take (w .length) room′) budget out) where
     pub reads-back : enough b s ≤ budget .visits → length s ≤ length out
-        → (a ≡ record { verdict = record { number = 0; place = 0; visits = enough b s }; length = length s }) × (out′ ≡ s ++ drop (length s) out)
+        → (a ≡ record { verdict = atZero 0 (spending (enough b s)); length = length s }) × (out′ ≡ s ++ drop (length s) out)
     reads-back l r = (
       ea ∙ written-answer b s (take (w .length) room′) schema-bytes sheet-bytes is-made budget out l r,
       eo ∙ written-out b s (take (w .length) room′) schema-bytes sheet-bytes is-made budget out l r,
     )
 
     pub spends-all : budget .visits < enough b s
-        → (at : ℕ) × (a ≡ record { verdict = record { number = 4; place = at; visits = budget .visits }; length = 0 }) × (out′ ≡ out)
+        → (at : ℕ) × (a ≡ record { verdict = verdictAt (refusal 4 at) (spending (budget .visits)); length = 0 }) × (out′ ≡ out)
     unfolding readAnswer readOut
     spends-all l =
         let t = written-too-little b s (take (w .length) room′) schema-bytes sheet-bytes is-made budget l in

@@ -4,7 +4,8 @@ use mathlib.Core.Path.{_≡_}
 use mathlib.Core.List.{[], _∷_, _++_}
 use denote.Ref.{now}
 use Rattle.coding.specs.Bytes.{u48}
-use Rattle.coding.specs.Field.{field, refusal}
+use Rattle.coding.specs.Walk.{refusal}
+use Rattle.coding.specs.Field.{field}
 use Rattle.coding.specs.declared.Answer.{Answer}
 use Rattle.coding.specs.declared.Answer.the-variants as A
 use Rattle.coding.specs.declared.Refusal.{Refusal}

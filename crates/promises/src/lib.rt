@@ -54,7 +54,7 @@ pub fn read(schema: &[u8], message: &[u8], budget: Budget, out: &mut [u8]) -> Re
     // "visits in the verdict equal the arrivals of the walk's definition, shared objects counted each time"
     ensures arrivals { λ r. ⌜ (r .verdict .number ≡ 0 → r .verdict .visits ≡ arrivals B.u48 (given schema) (given message)) ⌝ }
     // "then 14 with the full visits"
-    ensures room { λ r. ⌜ (LawfulMessage B.u48 (given schema) (given message) budget → NoRoom (M.messageSheet B.u48 (given schema) (given message)) (given out) → r ≡ record { verdict = record { number = 14; place = 0; visits = arrivals B.u48 (given schema) (given message) }; length = 0 }) ⌝ }
+    ensures room { λ r. ⌜ (LawfulMessage B.u48 (given schema) (given message) budget → NoRoom (M.messageSheet B.u48 (given schema) (given message)) (given out) → r ≡ record { verdict = W.atZero 14 (W.spending (arrivals B.u48 (given schema) (given message))); length = 0 }) ⌝ }
     // "on refusal the length is 0 and the output is unchanged"
     ensures kept { λ r. ⌜ KeepsOnRefusal (r .verdict .number) (r .length) (given out) (after out) ⌝ }
     // what is handed out is the sheet of the rules
@@ -211,11 +211,11 @@ pub fn step_and_field(
     // "Each step answers as that element's path would and moves on, refused or not"
     ensures same { λ r. ⌜ ((i at start n left : ℕ) → LeadsToList B.u48 (given schema) (given message) (given path) i at start n left → (given whole ≡ given path ++ element ∷ [] → r .step .answer ≡ r .field) × (element < n → r .step .next ≡ element + 1)) ⌝ }
     // "after the last it answers 15 at the list and stays"
-    ensures end { λ r. ⌜ ((i at start n left : ℕ) → LeadsToList B.u48 (given schema) (given message) (given path) i at start n left → n ≤ element → r .step ≡ record { answer = Answer.Refused (F.refusal 15 at); next = element }) ⌝ }
+    ensures end { λ r. ⌜ ((i at start n left : ℕ) → LeadsToList B.u48 (given schema) (given message) (given path) i at start n left → n ≤ element → r .step ≡ record { answer = Answer.Refused (W.refusal 15 at); next = element }) ⌝ }
     // "a refused path gives its own refusal"
     ensures own { λ r. ⌜ ((q : Refusal) → F.field B.u48 (given schema) (given message) (given path) ≡ Answer.Refused q → r .step ≡ record { answer = Answer.Refused q; next = element }) ⌝ }
     // "any other answer is 15 at 0"
-    ensures other { λ r. ⌜ (((q : Refusal) → F.field B.u48 (given schema) (given message) (given path) ≡ Answer.Refused q → ⊥) → ((i at start n left : ℕ) → LeadsToList B.u48 (given schema) (given message) (given path) i at start n left → ⊥) → r .step ≡ record { answer = Answer.Refused (F.refusal 15 0); next = element }) ⌝ }
+    ensures other { λ r. ⌜ (((q : Refusal) → F.field B.u48 (given schema) (given message) (given path) ≡ Answer.Refused q → ⊥) → ((i at start n left : ℕ) → LeadsToList B.u48 (given schema) (given message) (given path) i at start n left → ⊥) → r .step ≡ record { answer = Answer.Refused (W.refusal 15 0); next = element }) ⌝ }
 {
     let step = field_element::step(schema, message, path, element);
     let answer = field::field(schema, message, whole);
@@ -242,7 +242,7 @@ pub fn steps(schema: &[u8], message: &[u8], path: &[u32], from: usize, out: &mut
     // "a refused path gives its own refusal": each step has its numbers, and the count is 0
     ensures own { λ r. ⌜ ((q : Refusal) → F.field B.u48 (given schema) (given message) (given path) ≡ Answer.Refused q → (r ≡ 0) × (HoldsAnswers (after out) (length (given out) / 4) (λ _. Answer.Refused q))) ⌝ }
     // "any other answer is 15 at 0": the same
-    ensures other { λ r. ⌜ (((q : Refusal) → F.field B.u48 (given schema) (given message) (given path) ≡ Answer.Refused q → ⊥) → ((i at start n left : ℕ) → LeadsToList B.u48 (given schema) (given message) (given path) i at start n left → ⊥) → (r ≡ 0) × (HoldsAnswers (after out) (length (given out) / 4) (λ _. Answer.Refused (F.refusal 15 0)))) ⌝ }
+    ensures other { λ r. ⌜ (((q : Refusal) → F.field B.u48 (given schema) (given message) (given path) ≡ Answer.Refused q → ⊥) → ((i at start n left : ℕ) → LeadsToList B.u48 (given schema) (given message) (given path) i at start n left → ⊥) → (r ≡ 0) × (HoldsAnswers (after out) (length (given out) / 4) (λ _. Answer.Refused (W.refusal 15 0)))) ⌝ }
 {
     field_list::read_list(schema, message, path, from, out)
 }
@@ -282,11 +282,11 @@ pub fn write_then_read(
     ensures read { λ r. ⌜ r .read ≡ M.readAnswer B.u48 (given schema) (take (r .written .length) (after room)) budget (given out) ⌝ }
     ensures output { λ r. ⌜ after out ≡ M.readOut B.u48 (given schema) (take (r .written .length) (after room)) budget (given out) ⌝ }
     // reading that message with enough budget gives the same sheet
-    ensures same { λ r. ⌜ (r .written .number ≡ 0 → enough (given schema) (given sheet) ≤ budget .visits → length (given sheet) ≤ length (given out) → (r .read ≡ record { verdict = record { number = 0; place = 0; visits = enough (given schema) (given sheet) }; length = length (given sheet) }) × (after out ≡ given sheet ++ drop (length (given sheet)) (given out))) ⌝ }
+    ensures same { λ r. ⌜ (r .written .number ≡ 0 → enough (given schema) (given sheet) ≤ budget .visits → length (given sheet) ≤ length (given out) → (r .read ≡ record { verdict = W.atZero 0 (W.spending (enough (given schema) (given sheet))); length = length (given sheet) }) × (after out ≡ given sheet ++ drop (length (given sheet)) (given out))) ⌝ }
     // the rules give that sheet of the message, with any budget and any room
     ensures sheet { λ r. ⌜ (r .written .number ≡ 0 → M.messageSheet B.u48 (given schema) (take (r .written .length) (after room)) ≡ given sheet) ⌝ }
     // with less the answer is 4, and the whole budget is spent
-    ensures less { λ r. ⌜ (r .written .number ≡ 0 → budget .visits < enough (given schema) (given sheet) → (at : ℕ) × (r .read ≡ record { verdict = record { number = 4; place = at; visits = budget .visits }; length = 0 }) × (after out ≡ given out)) ⌝ }
+    ensures less { λ r. ⌜ (r .written .number ≡ 0 → budget .visits < enough (given schema) (given sheet) → (at : ℕ) × (r .read ≡ record { verdict = W.verdictAt (W.refusal 4 at) (W.spending (budget .visits)); length = 0 }) × (after out ≡ given out)) ⌝ }
 {
     let written = write::write(schema, sheet, room);
     let n = written.length;
