@@ -1,5 +1,5 @@
--- Demand 3, first half: "whatever bytes the newer accepts with a budget, the older accepts with the same budget; the older's
--- sheet is the newer's sheet without the appended members, as bytes".
+-- Demand 3, first half: whatever bytes the newer accepts with a budget, the older accepts with the same budget; the older's
+-- sheet is the newer's sheet without the appended members, as bytes.
 -- When one schema appends to another, and what a sheet is without the appended members, is said in coding's Append. The
 -- second half is in NewerAgrees.
 use Prim.Native.Nat.{ℕ, _<_, _≤_}

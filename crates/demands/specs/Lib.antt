@@ -1,8 +1,9 @@
--- The theorems. A reader's way in: Counter, Traps, Sheets, Reached, RoundTrip, Appending, NewerAgrees, Fields, Texts, ListReader; the
--- other modules are their lemmas.
+-- The theorems. A reader's way in: Counter, OlderCoding, Traps, FieldCases, Sheets, Reached, RoundTrip, Appending, NewerAgrees, Fields,
+-- Texts, SheetText, ListReader; the other modules are their lemmas.
 pub mod Counter
 pub mod Traps
 pub mod OlderCoding
+pub mod FieldCases
 pub mod Shown
 pub mod SheetDecode
 pub mod SheetEncode
@@ -55,4 +56,5 @@ pub mod FieldShows
 pub mod FieldsWalked
 pub mod Fields
 pub mod Texts
+pub mod SheetText
 pub mod ListReader

@@ -1,4 +1,4 @@
--- "Each step answers as that element's path would ..; after the last it answers 15 at the list and stays.": a reader that has
+-- "Each step answers as that element's path would ...; after the last it answers 15 at the list and stays.": a reader that has
 -- its list answers from the list alone. A path to an object has at most 31 numbers, since each goes one object deeper, so the
 -- path of an element is never too long.
 -- `o` is the width of an offset in bytes.

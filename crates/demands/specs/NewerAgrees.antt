@@ -1,5 +1,5 @@
--- Demand 3, second half: "whatever message the writer made under the older schema, the newer accepts with every budget with
--- which the older does (and gives the same visits); the newer's sheet is the older's with the added members, as bytes".
+-- Demand 3, second half: whatever message the writer made under the older schema, the newer accepts with every budget with
+-- which the older does (and gives the same visits); the newer's sheet is the older's with the added members, as bytes.
 -- What a sheet is with the added members is said in coding's Append; which messages are plain in PlainMessage.
 use Prim.Native.Nat.{ℕ, _<_}
 use mathlib.Core.List.{List}

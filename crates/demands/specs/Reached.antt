@@ -1,4 +1,4 @@
--- Demand 2: "a message is accepted exactly when every object reached by its schema is lawful, within depth and budget"; and its
+-- Demand 2: a message is accepted exactly when every object reached by its schema is lawful, within depth and budget; and its
 -- visits are then the arrivals, "shared objects each time". What is reached, lawful and counted is said in Arrivals, apart from
 -- the walk. `o` is the width of an offset in bytes.
 use Prim.Native.Nat.{ℕ, _<_, _≤_}

@@ -44,7 +44,7 @@ optionArrivals S (Op.some v) = rootArrivals S v
 unfoldable pub enough : List ℕ → List ℕ → ℕ
 enough b s = optionArrivals (parse b) (sheetTree (parse b) s)
 
--- "every writable sheet becomes the one message of the stated layout", unless that is over the size
+-- every writable sheet becomes the one message of the stated layout, unless that is over the size
 pub written-layout : (o : ℕ) (b s : List ℕ) (v : Value) → lawful o b ≡ true → sheetTree (parse b) s ≡ some v
     → writable deepest o (parse b) (O.Table (parse b .root)) v ≡ true
     → (length (messageOf o (parse b) v) ≤ largest → written o b s ≡ message (messageOf o (parse b) v))
@@ -136,7 +136,7 @@ module _ (o : ℕ) (b s m : List ℕ) (schema-bytes : (i : ℕ) → getD b i 0 <
   sized : length (messageOf o (parse b) (from .tree)) ≤ largest
   sized = subst (λ (x : List ℕ). length x ≤ largest) (from .made) (from .sized)
 
-  -- "reading that message with enough budget gives the same sheet": it is accepted, with a visit for each object,
+  -- reading that message with enough budget gives the same sheet: it is accepted, with a visit for each object,
   pub written-verdict : (budget : Budget) → enough b s ≤ budget .visits
       → verdict o b m budget ≡ atZero 0 (spending (enough b s))
   written-verdict budget h =

@@ -1,6 +1,6 @@
--- "decode undoes encode on every value a schema can show; a sheet that decodes is the encoding of what it decodes to, byte
+-- Decode undoes encode on every value a schema can show; a sheet that decodes is the encoding of what it decodes to, byte
 -- for byte, so a lawful sheet has one tree and a tree one sheet; the sheet of an accepted message is lawful unless it is
--- over the size". Which values a schema can show is said in Shown.
+-- over the size. Which values a schema can show is said in Shown.
 use mathlib.Core.Path.{_≡_, refl, sym, ap, _∙_}
 use mathlib.Core.List.{List, _++_}
 use mathlib.Core.Bool.{Bool, true, false, _&&_}
@@ -59,7 +59,7 @@ closed-from {P} {e} {xs} {v} (from-got {a} {r} p q b) c = by (ltb (length r) 8) 
     by false t k l c = absurd (Option·none-ne-some v c)
 
 module _ (S : Schema) (G : Sound S) where
-  -- "decode undoes encode on every value a schema can show"
+  -- decode undoes encode on every value a schema can show
   pub decode-encode : (v : Value) → ShownAtRoot S v → treeOf S (sheetOf S v) ≡ some v
   unfolding treeOf sheetOf sheetBits
   decode-encode v h =
@@ -74,7 +74,7 @@ module _ (S : Schema) (G : Sound S) where
       let xs = encode deepest S (O.Table (S .root)) v in
       index-all Byte 0 (packed xs) (omega arith) (packed-bytes xs (object-spelt S G deepest (O.Table (S .root)) v h .0 .0))
 
-  -- "a sheet that decodes is the encoding of what it decodes to, byte for byte"
+  -- a sheet that decodes is the encoding of what it decodes to, byte for byte
   pub encode-decode : (s : List ℕ) (v : Value) → ((i : ℕ) → getD s i 0 < 256) → treeOf S s ≡ some v
       → ShownAtRoot S v × (s ≡ sheetOf S v)
   unfolding treeOf sheetOf sheetBits
@@ -85,11 +85,11 @@ module _ (S : Schema) (G : Sound S) where
         packed-from (encode deepest S root v) s (c .1 .0) (all-index Byte 0 s b) (c .1 .1) (c .1 .2) (c .1 .3),
       )
 
-  -- "so a lawful sheet has one tree": values that can be shown and have the same sheet are the same
+  -- a lawful sheet has one tree: values that can be shown and have the same sheet are the same
   pub one-tree : (v w : Value) → ShownAtRoot S v → ShownAtRoot S w → sheetOf S v ≡ sheetOf S w → v ≡ w
   one-tree v w h k e = Option·some-injective v w (sym (decode-encode v h) ∙ ap (treeOf S) e ∙ decode-encode w k)
 
-  -- "and a tree one sheet"
+  -- a tree has one sheet
   pub one-sheet : (s t : List ℕ) (v : Value) → ((i : ℕ) → getD s i 0 < 256) → ((i : ℕ) → getD t i 0 < 256)
       → treeOf S s ≡ some v → treeOf S t ≡ some v → s ≡ t
   one-sheet s t v b c e f = encode-decode s v b e .1 ∙ sym (encode-decode t v c f .1)
@@ -109,7 +109,7 @@ module _ (S : Schema) (G : Sound S) where
       by true l e = let h = encode-decode s v b e in (h .0, h .1, leb-true (length s) largest l)
       by false l e = absurd (Option·none-ne-some v e)
 
--- "the sheet of an accepted message is lawful unless it is over the size", for a schema and the walk
+-- the sheet of an accepted message is lawful unless it is over the size, for a schema and the walk
 module _ (S : Schema) (G : Sound S) (m : List ℕ) (bytes : (i : ℕ) → getD m i 0 < 256) (sized : length m ≤ largest) (o : ℕ) (wide : 0 < o) (budget : Budget)
     (s : Spent) (accepted : walk o S m budget ≡ Going s) where
   pub accepted-shown : ShownAtRoot S (messageRead o S m)
@@ -138,7 +138,7 @@ module _ (o : ℕ) (b m : List ℕ) (schema-bytes : (i : ℕ) → getD b i 0 < 2
   unfolding messageSheet
   verdict-sheet-tree = decode-encode (parse b) (verdict-shown .0) (messageRead o (parse b) m) (verdict-shown .1)
 
-  -- "the sheet of an accepted message is lawful unless it is over the size"
+  -- the sheet of an accepted message is lawful unless it is over the size
   pub verdict-sheet-lawful : length (messageSheet o b m) ≤ largest
       → sheetTree (parse b) (messageSheet o b m) ≡ some (messageRead o (parse b) m)
   unfolding messageSheet

@@ -26,15 +26,15 @@ use Rattle.demands.specs.Counter.{Case}
 
 -- ---- schemas and messages
 -- a schema of one table, its n members by their records
-abbrev table : ℕ → List ℕ → List ℕ
+abbrev pub table : ℕ → List ℕ → List ℕ
 table n records = 0 ∷ 0 ∷ 0 ∷ 1 ∷ 0 ∷ 0x4C ∷ 0x49 ∷ 0x43 ∷ 0x45 ∷ n ∷ records
 
 -- an offset or a length under 256
-abbrev u48 : ℕ → List ℕ
+abbrev pub u48 : ℕ → List ℕ
 u48 n = n ∷ 0 ∷ 0 ∷ 0 ∷ 0 ∷ 0 ∷ []
 
 -- a message with its root at 10: the length of the root's fixed part, and all bytes from 20 on
-abbrev rooted : ℕ → List ℕ → List ℕ
+abbrev pub rooted : ℕ → List ℕ → List ℕ
 rooted n rest =
     0xB3 ∷ 0xC4 ∷ 0xC0 ∷ 0xB5 ∷ 0x0A ∷ 0x00 ∷ 0x00 ∷ 0x00 ∷ 0x00 ∷ 0x00 ∷ 0x45 ∷ 0x43 ∷ 0x49 ∷ 0x4C ∷ u48 n ++ rest
 
@@ -43,7 +43,7 @@ abbrev text : ℕ → List ℕ
 text x = 0xF5 ∷ 0xC8 ∷ 0x12 ∷ 0xD8 ∷ 0x01 ∷ 0x00 ∷ 0x00 ∷ 0x00 ∷ 0x00 ∷ 0x00 ∷ x ∷ 0x00 ∷ []
 
 -- an in-place text; two texts; an optional U16; an enum of 3; a reference to the table itself; a U16; bytes
-abbrev inPlace : List ℕ
+abbrev pub inPlace : List ℕ
 inPlace = table 1 (0x6A ∷ 0 ∷ [])
 
 abbrev texts : List ℕ
@@ -52,7 +52,7 @@ texts = table 2 (0x68 ∷ 0 ∷ 0x68 ∷ 0 ∷ [])
 abbrev optional : List ℕ
 optional = table 1 (0x14 ∷ 0 ∷ [])
 
-abbrev enum : List ℕ
+abbrev pub enum : List ℕ
 enum = table 1 (0x58 ∷ 3 ∷ [])
 
 abbrev itself : List ℕ
@@ -82,7 +82,7 @@ nestedSheet = 0x50 ∷ 0x00 ∷ 0x00 ∷ 0x00 ∷ 0x16 ∷ 0x14 ∷ 0x00 ∷ 0x0
 
 -- ---- what the definitions give
 -- number, place and visits of the verdict; and behind them, where the message is accepted, the bytes of its sheet
-outcome : Verdict → List ℕ → List ℕ
+unfoldable pub outcome : Verdict → List ℕ → List ℕ
 outcome v sheet = v .number ∷ v .place ∷ v .visits ∷ Lists.pick (eqb (v .number) 0) sheet []
 
 judged : List ℕ → List ℕ → ℕ → List ℕ
@@ -96,7 +96,7 @@ answer (Message.Written.message m) = 0 ∷ m
 wrote : List ℕ → List ℕ → List ℕ
 wrote b s = answer (Message.written Bytes.u48 b s)
 
-abbrev case : List ℕ → List ℕ → Case
+abbrev pub case : List ℕ → List ℕ → Case
 case g e = record { given = g; expected = e }
 
 -- ---- "Traps the trade has met"
@@ -140,7 +140,7 @@ ruleCases =
     -- refusal 9, at the holder; choice 2 "is unknown and is not followed"
     ∷ case (judged union (rooted 8 (1 ∷ 0 ∷ u48 0)) 2) (9 ∷ 10 ∷ 1 ∷ [])
     ∷ case (judged union (rooted 8 (2 ∷ 0 ∷ u48 0)) 2) (0 ∷ 0 ∷ 1 ∷ 0x80 ∷ 0x00 ∷ 0x80 ∷ [])
-    -- "Length 0 means no value .., except in a union with a known choice, where it is an empty object. A text keeps its zero
+    -- "Length 0 means no value ..., except in a union with a known choice, where it is an empty object. A text keeps its zero
     -- byte unless it is absent."
     ∷ case (judged inPlace (rooted 6 (u48 0)) 2) (0 ∷ 0 ∷ 1 ∷ 0x00 ∷ [])
     ∷ case (judged inPlaceUnion (rooted 8 (1 ∷ 0 ∷ u48 0 ++ (0 ∷ []))) 2)

@@ -122,9 +122,6 @@ module _ (b dir m path : List ℕ) (t : Bool) (j : Judged b dir t) (f : t ≡ fa
   unfolding Field.readerStart Field.readerOf
   start-unlawful = ap (Field.readerOf (P.parse b)) (unlawful b dir m path t j f)
 
-  pub reader-unlawful : (r : Found) → r ≡ Fd.Refused (Field.refusal 1 0) → r ≡ Field.readerStart u48 b m path
-  reader-unlawful r e = e ∙ sym start-unlawful
-
   pub gives-unlawful : (i : ℕ) → A.Refused (Field.refusal 1 0) ≡ readerGives u48 b m path i
   unfolding readerGives listGives Field.partOf Field.answerOf
   gives-unlawful i = sym (ap (λ (g : Found). Field.answerOf (Field.partOf u48 (P.parse b) m g i)) start-unlawful)

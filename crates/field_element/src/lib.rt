@@ -72,17 +72,6 @@ pub fn reader_by(b: &[u8], dir: &[u16], m: &[u8], path: &[u32]) -> Found
     reader_of(b, dir, m, f)
 }
 
-// The same, of any message by any schema.
-pub fn reader_start(b: &[u8], m: &[u8], path: &[u32]) -> Found
-    ensures { λ r. ⌜ (r ≡ F.readerStart B.u48 (now (b .entry)) (now (m .entry)) (now (path .entry))) × FoundWithin (P.parse (now (b .entry))) (now (m .entry)) r ⌝ }
-{
-    let mut dir: [u16; 384] = [0; 384];
-    if schema_lawful::judge_schema(b, &mut dir) {
-        return reader_by(b, &dir, m, path);
-    }
-    field_arrival::refuse(1, 0)
-}
-
 // ---- the answer at an element
 // The refusal of a step.
 fn refused(n: u8, at: usize) -> Answer
@@ -191,8 +180,8 @@ fn list_answer(
     }
 }
 
-// The answer of the step at element j of the list that was found.
-pub fn reader_step(b: &[u8], dir: &[u16], m: &[u8], list: Found, j: usize) -> Answer
+// The answer of the step at element j of the list that was found, or the refusal that stands for it.
+pub fn step_answer(b: &[u8], dir: &[u16], m: &[u8], list: Found, j: usize) -> Answer
     requires { ⌜ (Accepted (now b) (now dir)) × (Readable (now m)) × (FoundWithin (P.parse (now b)) (now m) list) × (Reads list) ⌝ }
     ensures { λ r. ⌜ r ≡ F.listGives B.u48 (P.parse (now (b .entry))) (now (m .entry)) list j ⌝ }
 {
@@ -206,28 +195,67 @@ pub fn reader_step(b: &[u8], dir: &[u16], m: &[u8], list: Found, j: usize) -> An
     }
 }
 
-fn reader_at(b: &[u8], dir: &[u16], m: &[u8], path: &[u32], j: usize) -> Answer
+// ---- a step: the answer, and where the reader stands then
+// A step of a list reader: its answer, and the element at which the next step answers.
+pub struct ListStep {
+    pub answer: Answer,
+    pub next: usize,
+}
+
+// How many elements a reader's list has; none where there is no list.
+pub fn list_count(list: Found) -> usize
+    ensures { λ r. ⌜ r ≡ F.listCount list ⌝ }
+{
+    match list {
+        Found::Refused(_) => 0,
+        Found::Absent => 0,
+        Found::Unknown(_) => 0,
+        Found::Value(_, _, _) => 0,
+        Found::Struct(_, _, _) => 0,
+        Found::Object(_, _, _, n, _) => n,
+    }
+}
+
+// Where the reader of a list of n elements stands after the step at element j: at the next element, or where it was if that
+// step was after the last.
+pub fn reader_next(n: usize, j: usize) -> usize
+    ensures { λ r. ⌜ r ≡ F.readerNext n j ⌝ }
+{
+    if j < n {
+        return j + 1;
+    }
+    j
+}
+
+// The step at element j, by a schema that was judged before.
+fn step_by(b: &[u8], dir: &[u16], m: &[u8], path: &[u32], j: usize) -> ListStep
     requires { ⌜ Accepted (now b) (now dir) ⌝ }
-    ensures { λ r. ⌜ r ≡ F.readerGives B.u48 (now (b .entry)) (now (m .entry)) (now (path .entry)) j ⌝ }
+    ensures { λ r. ⌜ (r .answer ≡ F.readerGives B.u48 (now (b .entry)) (now (m .entry)) (now (path .entry)) j) × (r .next ≡ F.readerNext (F.readerCount B.u48 (now (b .entry)) (now (m .entry)) (now (path .entry))) j) ⌝ }
 {
     let list = reader_by(b, dir, m, path);
     if 16777215 < m.len() {
-        return field::answer_of(b, m, list);
+        return ListStep {
+            answer: field::answer_of(b, m, list),
+            next: j,
+        };
     }
-    reader_step(b, dir, m, list, j)
+    ListStep {
+        answer: step_answer(b, dir, m, list, j),
+        next: reader_next(list_count(list), j),
+    }
 }
 
-// The answer of the step at element j, of any message by any schema.
-pub fn reader_answer(b: &[u8], m: &[u8], path: &[u32], j: usize) -> Answer
-    ensures { λ r. ⌜ r ≡ F.readerGives B.u48 (now (b .entry)) (now (m .entry)) (now (path .entry)) j ⌝ }
+// The step at element j of the list that a path leads to, of any message by any schema. The reader moves on, refused or not; after
+// the last element, and where there is no list, it stays.
+pub fn step(b: &[u8], m: &[u8], path: &[u32], j: usize) -> ListStep
+    ensures { λ r. ⌜ (r .answer ≡ F.readerGives B.u48 (now (b .entry)) (now (m .entry)) (now (path .entry)) j) × (r .next ≡ F.readerNext (F.readerCount B.u48 (now (b .entry)) (now (m .entry)) (now (path .entry))) j) ⌝ }
 {
     let mut dir: [u16; 384] = [0; 384];
     if schema_lawful::judge_schema(b, &mut dir) {
-        return reader_at(b, &dir, m, path, j);
+        return step_by(b, &dir, m, path, j);
     }
-    let why = Refusal {
-        number: 1,
-        place: 0,
-    };
-    Answer::Refused(why)
+    ListStep {
+        answer: refused(1, 0),
+        next: j,
+    }
 }

@@ -15,29 +15,7 @@ ghost use Rattle.field_arrival.specs.Within.{Readable, FoundWithin};
 ghost use Rattle.field_element.specs.Listed.{Reads};
 ghost use Rattle.field_list.specs.Stepping as St;
 
-// Where the reader of a list of n elements stands after the step at element j.
-pub fn reader_next(n: usize, j: usize) -> usize
-    ensures { λ r. ⌜ r ≡ F.readerNext n j ⌝ }
-{
-    if j < n {
-        return j + 1;
-    }
-    j
-}
-
-fn list_count(list: Found) -> usize
-    ensures { λ r. ⌜ r ≡ F.listCount list ⌝ }
-{
-    match list {
-        Found::Refused(_) => 0,
-        Found::Absent => 0,
-        Found::Unknown(_) => 0,
-        Found::Value(_, _, _) => 0,
-        Found::Struct(_, _, _) => 0,
-        Found::Object(_, _, _, n, _) => n,
-    }
-}
-
+// The four numbers of a case, stored at a place of the output.
 fn put_case(out: &mut [u64], at: usize, x: Case)
     requires { ⌜ at + 4 ≤ length (now out) ⌝ }
     ensures { λ _. ⌜ now (out .exit) ≡ take at (now (out .entry)) ++ (F.caseNumbers x ++ drop (at + 4) (now (out .entry))) ⌝ }
@@ -66,14 +44,14 @@ fn put_steps(b: &[u8], dir: &[u16], m: &[u8], list: Found, from: usize, out: &mu
     requires { ⌜ (Accepted (now b) (now dir)) × (Readable (now m)) × (FoundWithin (P.parse (now b)) (now m) list) × (Reads list) ⌝ }
     ensures { λ _. ⌜ now (out .exit) ≡ F.stepsOver (F.listGives B.u48 (P.parse (now (b .entry))) (now (m .entry)) list) (F.listCount list) from (now (out .entry)) ⌝ }
 {
-    let n = list_count(list);
+    let n = field_element::list_count(list);
     let steps = out.len() / 4;
     let mut j = from;
     let mut i: usize = 0;
     while i < steps {
-        let answer = field_element::reader_step(b, dir, m, list, j);
+        let answer = field_element::step_answer(b, dir, m, list, j);
         put_case(out, 4 * i, field::case_of(answer));
-        j = reader_next(n, j);
+        j = field_element::reader_next(n, j);
         i += 1;
     }
 }
@@ -90,7 +68,7 @@ fn list_by(b: &[u8], dir: &[u16], m: &[u8], path: &[u32], from: usize, out: &mut
         return 0;
     }
     put_steps(b, dir, m, list, from, out);
-    list_count(list)
+    field_element::list_count(list)
 }
 
 // Many steps of a list reader, of any message by any schema: from an element on, the case and the three numbers of each step,

@@ -1,6 +1,6 @@
-use Rattle.field_list.proofs.ListCases.{count-long}
+use Rattle.field_element.proofs.StepCases.{count-long, count-found}
 use Rattle.field_element.proofs.GivesCases.{reader-reads}
-use Rattle.field_list.proofs.ListCases.{over-long, count-found, over-found}
+use Rattle.field_list.proofs.ListCases.{over-long, over-found}
 use borrow.Author.Needs.{needs}
 use Rattle.field_list.proofs.list_by.Statement.{statement}
 use Rattle.field_list.proofs.list_by.Tie as tie

@@ -1,5 +1,5 @@
 use Rattle.message_object.proofs.OpenCases.{schema-accepted}
-use Rattle.field_list.proofs.ListCases.{count-unlawful}
+use Rattle.field_element.proofs.StepCases.{count-unlawful}
 use Rattle.field_list.proofs.ListCases.{over-unlawful}
 use borrow.Author.Needs.{needs}
 use Rattle.field_list.proofs.read_list.Statement.{statement}
