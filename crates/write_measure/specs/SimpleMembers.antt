@@ -6,7 +6,6 @@ use Prim.Native.Nat.{ℕ, _*_, _≤_}
 use lib.ListN.{length, drop}
 use lib.Dec.{eqb}
 use Rattle.coding.specs.Lists.{pick}
-use Rattle.coding.specs.Bytes.{u48}
 use Rattle.coding.specs.Bits.{bits}
 use Rattle.coding.specs.Schema.{Schema}
 use Rattle.coding.specs.Layout.{afterBytes, afterMember}
@@ -28,16 +27,16 @@ unfoldable pub joinedPart : Surveyor → ℕ → Schema → Member → Extent �
 joinedPart child o S r a xs = bind (surveyPart child o S (r .kind) (r .optional) (r .inplace) xs) (λ e ys. got (joined a e) ys)
 
 -- the members ms are gone over from `from` to j, with `e` for all before j; or p, the survey of those from `from` on, fails
-pub record LeftAt (child : Surveyor) (S : Schema) (ms : List Member) (s : List ℕ) (from : ℕ) (p : Parsed Extent) (whole : Bool) (j : ℕ) (e : Extent) (next : ℕ) : Type 0 where
-  pub is : p ≡ pick whole (surveyMembers child u48 S (drop j ms) e (drop next (bits s))) fail
+pub record LeftAt (child : Surveyor) (o : ℕ) (S : Schema) (ms : List Member) (s : List ℕ) (from : ℕ) (p : Parsed Extent) (whole : Bool) (j : ℕ) (e : Extent) (next : ℕ) : Type 0 where
+  pub is : p ≡ pick whole (surveyMembers child o S (drop j ms) e (drop next (bits s))) fail
   pub on : from ≤ j
   pub few : j ≤ length ms
   pub inside : next ≤ 8 * length s
   pub small : Small e
 
 -- a member takes w bytes, and no bit
-pub record WholeBytes (S : Schema) (m : Member) (w : ℕ) : Type 0 where
-  pub next : (c : Cursor) → afterMember u48 S m c ≡ afterBytes w c
+pub record WholeBytes (o : ℕ) (S : Schema) (m : Member) (w : ℕ) : Type 0 where
+  pub next : (c : Cursor) → afterMember o S m c ≡ afterBytes w c
 
 module _ (child : Surveyor) (o : ℕ) (S : Schema) where
   pub flat-part-is : (k : Flat) (optional inplace : Bool) (xs : List ℕ)

@@ -526,7 +526,7 @@ fn record_of(b: &[u8], dir: &[u16], t: usize, j: usize) -> usize
 // The bytes of the member of the record at `at` where it takes no bit; 0 where it may take one, and of a struct.
 fn whole_bytes(b: &[u8], at: usize) -> usize
     requires { ⌜ at + 1 < length (now b) ⌝ }
-    ensures { λ r. ⌜ (r < 256) × (0 < r → WholeBytes (P.parse (now (b .entry))) (P.memberAt (now (b .entry)) at) r) ⌝ }
+    ensures { λ r. ⌜ (r < 256) × (0 < r → WholeBytes B.u48 (P.parse (now (b .entry))) (P.memberAt (now (b .entry)) at) r) ⌝ }
 {
     let k = schema::kind_at(b, at);
     if k == 0 {
@@ -822,7 +822,7 @@ fn simple_members(
     at: usize,
 ) -> Left
     requires { ⌜ (Accepted (now b) (now dir)) × (t < P.tableCount (now b)) × (from ≤ length (Sc.tableOf (P.parse (now b)) t .members)) × (length (now s) ≤ 16777215) × (at ≤ 8 * length (now s)) × Small e ⌝ }
-    ensures { λ r. ⌜ LeftAt (Sv.survey d B.u48 (P.parse (now (b .entry)))) (P.parse (now (b .entry))) (Sc.tableOf (P.parse (now (b .entry))) t .members) (now (s .entry)) from (Sv.surveyMembers (Sv.survey d B.u48 (P.parse (now (b .entry)))) B.u48 (P.parse (now (b .entry))) (drop from (Sc.tableOf (P.parse (now (b .entry))) t .members)) e (drop at (bits (now (s .entry))))) (r .whole) (r .index) (r .extent) (r .next) ⌝ }
+    ensures { λ r. ⌜ LeftAt (Sv.survey d B.u48 (P.parse (now (b .entry)))) B.u48 (P.parse (now (b .entry))) (Sc.tableOf (P.parse (now (b .entry))) t .members) (now (s .entry)) from (Sv.surveyMembers (Sv.survey d B.u48 (P.parse (now (b .entry)))) B.u48 (P.parse (now (b .entry))) (drop from (Sc.tableOf (P.parse (now (b .entry))) t .members)) e (drop at (bits (now (s .entry))))) (r .whole) (r .index) (r .extent) (r .next) ⌝ }
 {
     let count = schema::member_count(b, dir, t);
     let mut a = e;

@@ -519,10 +519,10 @@ module _ (S : Schema) (k : Kind) (c r : Places) (o o₁ : List ℕ) where
   unfolding lack
   lacks-flat f e u = rw e u
 
-  pub lacks-object : (ob : Object) → k ≡ OfObject ob → HeldOk c → Stood 6 (putNumber 6 0 (stateOf c o)) (stateOf r o₁) c r
+  pub lacks-object : (ob : Object) → k ≡ OfObject ob → HeldOk c → Stood u48 (putNumber u48 0 (stateOf c o)) (stateOf r o₁) c r
       → Lacks (lack u48 S k (stateOf c o)) (stateOf r o₁) c r
   unfolding lack u48 putNumber leBytes
-  lacks-object ob e ok u = rw e (stood-lacks 6 (omega arith) _ _ c r ok u)
+  lacks-object ob e ok u = rw e (stood-lacks u48 (omega arith) _ _ c r ok u)
 
   pub lacks-union : (i : ℕ) → k ≡ OfUnion i → HeldOk c → Stood 8 (putNumber 8 0 (stateOf c o)) (stateOf r o₁) c r
       → Lacks (lack u48 S k (stateOf c o)) (stateOf r o₁) c r

@@ -60,12 +60,12 @@ module _ (S : Schema) (ob : Object) where
 
 -- ---- references
 module _ (inplace : Bool) (x : Extent) (c r : Places) (o o₁ : List ℕ) where
-  pub referred-content : inplace ≡ true → Stood 6 (putNumber 6 (x .length) (stateOf c o)) (stateOf r o₁) c r → Stood 6 (referred inplace x (stateOf c o)) (stateOf r o₁) c r
-  unfolding referred u48
+  pub referred-content : inplace ≡ true → Stood u48 (putNumber u48 (x .length) (stateOf c o)) (stateOf r o₁) c r → Stood u48 (referred u48 inplace x (stateOf c o)) (stateOf r o₁) c r
+  unfolding referred
   referred-content e t = rw e t
 
-  pub referred-object : inplace ≡ false → Stood 6 (putNumber 6 (c .next) (stateOf c o)) (stateOf r o₁) c r → Stood 6 (referred inplace x (stateOf c o)) (stateOf r o₁) c r
-  unfolding referred u48
+  pub referred-object : inplace ≡ false → Stood u48 (putNumber u48 (c .next) (stateOf c o)) (stateOf r o₁) c r → Stood u48 (referred u48 inplace x (stateOf c o)) (stateOf r o₁) c r
+  unfolding referred
   referred-object e t = rw e t
 
 -- ---- contents
@@ -83,7 +83,7 @@ module _ (c q : Places) (w chain : ℕ) (eq : q ≡ enteredObject w chain c) (l 
 
 pub object-opened : (S : Schema) (ob : Object) (x : Extent) (c q h r : Places) (o o₁ o₂ : List ℕ) (mg : ℕ) → mg ≡ magic S ob → c .next ≤ 16777216
     → q ≡ enteredObject (10 + x .width) (x .chain) c → Stood 4 (putNumber 4 mg (stateOf q o)) (stateOf h o₁) q h
-    → Stood 6 (putNumber 6 (x .length) (stateOf h o₁)) (stateOf r o₂) h r → Opens (openObject u48 S ob x (stateOf c o)) (stateOf r o₂) r
+    → Stood u48 (putNumber u48 (x .length) (stateOf h o₁)) (stateOf r o₂) h r → Opens u48 (openObject u48 S ob x (stateOf c o)) (stateOf r o₂) r
 unfolding openObject enterObject enteredObject headerSize u48 largest
 object-opened S ob x c q h r o o₁ o₂ mg em l eq t u =
     let ea = ap (λ (p : Places). p .at) eq in
@@ -98,7 +98,7 @@ object-opened S ob x c q h r o o₁ o₂ mg em l eq t u =
     let rt = u .tail in
     let rn = u .next in
     record {
-      is = u .is ∙ ap (putNumber 6 (x .length)) (t .is ∙ ap₂ (λ (m : ℕ) (p : Places). putNumber 4 m (stateOf p o)) em eq);
+      is = u .is ∙ ap (putNumber u48 (x .length)) (t .is ∙ ap₂ (λ (m : ℕ) (p : Places). putNumber 4 m (stateOf p o)) em eq);
       bool = held-none r (u .free ∙ t .free ∙ ap (λ (p : Places). p .free) eq) (u .held ∙ t .held ∙ ap (λ (p : Places). p .held) eq);
       at = omega arith;
       tail = omega arith;
@@ -107,7 +107,7 @@ object-opened S ob x c q h r o o₁ o₂ mg em l eq t u =
 
 module _ (S : Schema) (ob : Object) (inplace : Bool) (x : Extent) (c r : Places) where
   pub opened-content : inplace ≡ true → c .tail ≤ 16777216 → c .next ≤ 16777216 → r ≡ enteredContent (x .width) c → (o : List ℕ)
-      → Opens (opened S ob inplace x (stateOf c o)) (stateOf r o) r
+      → Opens u48 (opened u48 S ob inplace x (stateOf c o)) (stateOf r o) r
   unfolding opened enterContent enteredContent largest
   opened-content e lt ln er o =
       let ea = ap (λ (p : Places). p .at) er in
@@ -122,8 +122,8 @@ module _ (S : Schema) (ob : Object) (inplace : Bool) (x : Extent) (c r : Places)
         next = omega arith;
       })
 
-  pub opened-object : inplace ≡ false → (o o₁ : List ℕ) → Opens (openObject u48 S ob x (stateOf c o)) (stateOf r o₁) r
-      → Opens (opened S ob inplace x (stateOf c o)) (stateOf r o₁) r
+  pub opened-object : inplace ≡ false → (o o₁ : List ℕ) → Opens u48 (openObject u48 S ob x (stateOf c o)) (stateOf r o₁) r
+      → Opens u48 (opened u48 S ob inplace x (stateOf c o)) (stateOf r o₁) r
   unfolding opened
   opened-object e o o₁ t = rw e t
 
@@ -145,5 +145,5 @@ module _ (ob : Object) (h : isBlob ob ≡ true) where
 
 pub terminal-opened : (S : Schema) (ob : Object) (x : Extent) (c q h r : Places) (o o₁ o₂ : List ℕ) (mg : ℕ) → mg ≡ magic S ob → c .next ≤ 16777216
     → q ≡ enteredObject (10 + x .width) (x .chain) c → Stood 4 (putNumber 4 mg (stateOf q o)) (stateOf h o₁) q h
-    → Stood 6 (putNumber 6 (x .length) (stateOf h o₁)) (stateOf r o₂) h r → Opens (opened S ob false x (stateOf c o)) (stateOf r o₂) r
+    → Stood u48 (putNumber u48 (x .length) (stateOf h o₁)) (stateOf r o₂) h r → Opens u48 (opened u48 S ob false x (stateOf c o)) (stateOf r o₂) r
 terminal-opened S ob x c q h r o o₁ o₂ mg em l eq t u = opened-object S ob false x c r refl o o₂ (object-opened S ob x c q h r o o₁ o₂ mg em l eq t u)

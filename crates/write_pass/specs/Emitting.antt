@@ -6,9 +6,10 @@ use mathlib.Core.List.{List, []}
 use mathlib.Core.Bool.{Bool, true, false, _&&_, not}
 use lib.ListN.{length, drop}
 use Rattle.coding.specs.Lists.{pick}
-use Rattle.coding.specs.Bytes.{u48, noFloat}
+use Rattle.coding.specs.Bytes.{noFloat}
 use Rattle.coding.specs.Bits.{bits}
 use Rattle.coding.specs.Schema.{Schema}
+use Rattle.coding.specs.Walk.{headerSize}
 use Rattle.coding.specs.Sheet.{Parsed, fail, got, unknownEnum}
 use Rattle.coding.specs.declared.Object.{Object}
 use Rattle.coding.specs.declared.Flat.{Flat}
@@ -41,11 +42,11 @@ unfoldable pub emitMarkedFlat : Schema → Flat → State → List ℕ → Parse
 emitMarkedFlat S f st xs = surveyMark (lackFlat S f st) (passFlat f (lackFlat S f st)) (emitFlat S f st) xs
 
 -- what refers to an object, and where its content is written
-unfoldable pub referred : Bool → Extent → State → State
-referred inplace x st = pick inplace (putNumber u48 (x .length) st) (putNumber u48 (st .next) st)
+unfoldable pub referred : ℕ → Bool → Extent → State → State
+referred o inplace x st = pick inplace (putNumber o (x .length) st) (putNumber o (st .next) st)
 
-unfoldable pub opened : Schema → Object → Bool → Extent → State → State
-opened S ob inplace x st = pick inplace (enterContent (x .width) st) (openObject u48 S ob x st)
+unfoldable pub opened : ℕ → Schema → Object → Bool → Extent → State → State
+opened o S ob inplace x st = pick inplace (enterContent (x .width) st) (openObject o S ob x st)
 
 unfoldable pub emitMember : Emitter → Surveyor → ℕ → Schema → Member → State → List ℕ → Parsed State
 emitMember child measure o S r st xs =
@@ -86,10 +87,10 @@ pub record Room (s : List ℕ) (pos : ℕ) (c : Places) : Type 0 where
   pub next : c .next ≤ 16777216
 
 -- the bytes that a part of the message may take beyond what its bits pay for: an offset or a length
-unfoldable pub extra : Kind → ℕ
-extra (OfFlat k) = 0
-extra (OfObject ob) = 6
-extra (OfUnion i) = 6
+unfoldable pub extra : ℕ → Kind → ℕ
+extra o (OfFlat k) = 0
+extra o (OfObject ob) = o
+extra o (OfUnion i) = o
 
 -- ---- answers
 -- p is what the definition gives from `pos` and the places `from` on; e is what may be taken beyond what the bits pay for
@@ -120,9 +121,9 @@ pub record Lacks (put now : State) (c r : Places) : Type 0 where
   pub next : r .next ≡ c .next
 
 -- the content of an object is stored from the places r on
-pub record Opens (put now : State) (r : Places) : Type 0 where
+pub record Opens (o : ℕ) (put now : State) (r : Places) : Type 0 where
   pub is : now ≡ put
   pub bool : HeldOk r
-  pub at : r .at ≤ 16777226
+  pub at : r .at ≤ 16777216 + headerSize o
   pub tail : r .tail ≤ 16777216
   pub next : r .next ≤ 16777216

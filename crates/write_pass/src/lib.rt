@@ -274,7 +274,7 @@ fn lack(b: &[u8], dir: &[u16], out: &mut [u8], k: Kind, c: Places) -> Places
 {
     match k {
         Kind::OfFlat(f) => lack_flat(b, dir, out, f, c),
-        Kind::OfObject(_) => write_store::put_number(out, c, 6, 0),
+        Kind::OfObject(_) => write_store::put_offset(out, c, 0),
         Kind::OfUnion(_) => write_store::put_number(out, c, 8, 0),
     }
 }
@@ -575,24 +575,24 @@ fn object_magic(b: &[u8], dir: &[u16], ob: Object) -> u64
 // What refers to an object: its offset, or its length in place.
 fn put_reference(out: &mut [u8], inplace: bool, e: Extent, c: Places) -> Places
     requires { ⌜ c .at < 2 ^ 61 ⌝ }
-    ensures { λ r. ⌜ Stood 6 (Eg.referred inplace e (stateOf c (now (out .entry)))) (stateOf r (now (out .exit))) c r ⌝ }
+    ensures { λ r. ⌜ Stood B.u48 (Eg.referred B.u48 inplace e (stateOf c (now (out .entry)))) (stateOf r (now (out .exit))) c r ⌝ }
 {
     if inplace {
-        return write_store::put_number(out, c, 6, e.length as u64);
+        return write_store::put_offset(out, c, e.length as u64);
     }
     let x = c.next as u64;
-    write_store::put_number(out, c, 6, x)
+    write_store::put_offset(out, c, x)
 }
 
 // An object's header, at the next object's place; behind it the content goes on.
 fn open_object(b: &[u8], dir: &[u16], out: &mut [u8], ob: Object, e: Extent, c: Places) -> Places
     requires { ⌜ (Accepted (now b) (now dir)) × (ObjectSound (P.parse (now b)) ob) × (Small e) × (c .next ≤ 16777216) ⌝ }
-    ensures { λ r. ⌜ Eg.Opens (Es.openObject B.u48 (P.parse (now (b .entry))) ob e (stateOf c (now (out .entry)))) (stateOf r (now (out .exit))) r ⌝ }
+    ensures { λ r. ⌜ Eg.Opens B.u48 (Es.openObject B.u48 (P.parse (now (b .entry))) ob e (stateOf c (now (out .entry)))) (stateOf r (now (out .exit))) r ⌝ }
 {
     let magic = object_magic(b, dir, ob);
     let q = write_store::enter_object(c, 10 + e.width, e.chain);
     let h = write_store::put_number(out, q, 4, magic);
-    write_store::put_number(out, h, 6, e.length as u64)
+    write_store::put_offset(out, h, e.length as u64)
 }
 
 // Where the content is stored: c is behind what refers to it.
@@ -606,7 +606,7 @@ fn open(
     c: Places,
 ) -> Places
     requires { ⌜ (Accepted (now b) (now dir)) × (ObjectSound (P.parse (now b)) ob) × (Small e) × (c .next ≤ 16777216) × (c .tail ≤ 16777216) ⌝ }
-    ensures { λ r. ⌜ Eg.Opens (Eg.opened (P.parse (now (b .entry))) ob inplace e (stateOf c (now (out .entry)))) (stateOf r (now (out .exit))) r ⌝ }
+    ensures { λ r. ⌜ Eg.Opens B.u48 (Eg.opened B.u48 (P.parse (now (b .entry))) ob inplace e (stateOf c (now (out .entry)))) (stateOf r (now (out .exit))) r ⌝ }
 {
     if inplace {
         return write_store::enter_content(c, e.width);
@@ -665,7 +665,7 @@ fn measure_blob(s: &[u8], pos: usize, more: usize) -> Extent
 
 fn measure_list(b: &[u8], dir: &[u16], s: &[u8], i: usize, pos: usize) -> Extent
     requires { ⌜ (Accepted (now b) (now dir)) × (i < P.listCount (now b)) × (length (now s) ≤ 16777215) × (pos ≤ 8 * length (now s)) ⌝ }
-    ensures { λ r. ⌜ MeasuredContent (P.parse (now (b .entry))) (Object.List i) (drop pos (bits (now (s .entry)))) r ⌝ }
+    ensures { λ r. ⌜ MeasuredContent B.u48 (P.parse (now (b .entry))) (Object.List i) (drop pos (bits (now (s .entry)))) r ⌝ }
 {
     let x = bitio::take_number(s, pos, 32);
     let n = x.value as usize;
@@ -720,7 +720,7 @@ fn measure(
 // 0 where it is not
 fn known_table(b: &[u8], dir: &[u16], t: usize) -> usize
     requires { ⌜ (Accepted (now b) (now dir)) × (t < P.tableCount (now b)) ⌝ }
-    ensures { λ r. ⌜ KnownSize (P.parse (now (b .entry))) (Object.Table t) r ⌝ }
+    ensures { λ r. ⌜ KnownSize B.u48 (P.parse (now (b .entry))) (Object.Table t) r ⌝ }
 {
     if any_in_place(b, dir, t) {
         return 0;
@@ -730,7 +730,7 @@ fn known_table(b: &[u8], dir: &[u16], t: usize) -> usize
 
 fn known_size(b: &[u8], dir: &[u16], ob: Object) -> usize
     requires { ⌜ (Accepted (now b) (now dir)) × (ObjectSound (P.parse (now b)) ob) ⌝ }
-    ensures { λ r. ⌜ KnownSize (P.parse (now (b .entry))) ob r ⌝ }
+    ensures { λ r. ⌜ KnownSize B.u48 (P.parse (now (b .entry))) ob r ⌝ }
 {
     match ob {
         Object::Text => 0,
@@ -742,7 +742,7 @@ fn known_size(b: &[u8], dir: &[u16], ob: Object) -> usize
 
 // By its known size n, or else measured.
 fn measure_by(b: &[u8], dir: &[u16], s: &[u8], d: usize, ob: Object, n: usize, pos: usize) -> Extent
-    requires { ⌜ (Accepted (now b) (now dir)) × (ObjectSound (P.parse (now b)) ob) × (KnownSize (P.parse (now b)) ob n) × (length (now s) ≤ 16777215) × (pos ≤ 8 * length (now s)) ⌝ }
+    requires { ⌜ (Accepted (now b) (now dir)) × (ObjectSound (P.parse (now b)) ob) × (KnownSize B.u48 (P.parse (now b)) ob n) × (length (now s) ≤ 16777215) × (pos ≤ 8 * length (now s)) ⌝ }
     ensures { λ r. ⌜ Measured false (Sv.survey d B.u48 (P.parse (now (b .entry))) ob (drop pos (bits (now (s .entry))))) r ⌝ }
 {
     if 0 < n {
@@ -809,12 +809,12 @@ fn terminal_magic(b: &[u8], ob: Object) -> u64
 
 fn open_terminal(b: &[u8], out: &mut [u8], ob: Object, e: Extent, c: Places) -> Places
     requires { ⌜ (Eg.isBlob ob ≡ true) × (Small e) × (c .next ≤ 16777216) ⌝ }
-    ensures { λ r. ⌜ Eg.Opens (Eg.opened (P.parse (now (b .entry))) ob false e (stateOf c (now (out .entry)))) (stateOf r (now (out .exit))) r ⌝ }
+    ensures { λ r. ⌜ Eg.Opens B.u48 (Eg.opened B.u48 (P.parse (now (b .entry))) ob false e (stateOf c (now (out .entry)))) (stateOf r (now (out .exit))) r ⌝ }
 {
     let magic = terminal_magic(b, ob);
     let q = write_store::enter_object(c, 10 + e.width, e.chain);
     let h = write_store::put_number(out, q, 4, magic);
-    write_store::put_number(out, h, 6, e.length as u64)
+    write_store::put_offset(out, h, e.length as u64)
 }
 
 // Its content, d objects deep.
@@ -854,7 +854,7 @@ fn refer_terminal(
 ) -> Emitted
     requires { ⌜ (Accepted (now b) (now dir)) × (Eg.isBlob ob ≡ true) ⌝ }
     requires { ⌜ Room (now s) pos c ⌝ }
-    ensures { λ r. ⌜ EmittedAt (now (s .entry)) (Es.emitRefer (Es.emit d B.u48 (P.parse (now (b .entry)))) (Sv.survey d B.u48 (P.parse (now (b .entry)))) B.u48 (P.parse (now (b .entry))) false ob (stateOf c (now (out .entry))) (drop pos (bits (now (s .entry))))) pos c 6 (r .whole) (r .places) (now (out .exit)) (r .next) ⌝ }
+    ensures { λ r. ⌜ EmittedAt (now (s .entry)) (Es.emitRefer (Es.emit d B.u48 (P.parse (now (b .entry)))) (Sv.survey d B.u48 (P.parse (now (b .entry)))) B.u48 (P.parse (now (b .entry))) false ob (stateOf c (now (out .entry))) (drop pos (bits (now (s .entry))))) pos c B.u48 (r .whole) (r .places) (now (out .exit)) (r .next) ⌝ }
 {
     let e = measure_terminal(b, s, d, ob, pos);
     let p = put_reference(out, false, e, c);
@@ -881,7 +881,7 @@ fn terminal_body(
 ) -> Emitted
     requires { ⌜ (Accepted (now b) (now dir)) × (KindSound (P.parse (now b)) k) × (Eg.isTerminal k inplace ≡ true) ⌝ }
     requires { ⌜ Room (now s) pos c ⌝ }
-    ensures { λ r. ⌜ EmittedAt (now (s .entry)) (Es.emitBody (Es.emit d B.u48 (P.parse (now (b .entry)))) (Sv.survey d B.u48 (P.parse (now (b .entry)))) B.u48 (P.parse (now (b .entry))) k inplace (stateOf c (now (out .entry))) (drop pos (bits (now (s .entry))))) pos c (Eg.extra k) (r .whole) (r .places) (now (out .exit)) (r .next) ⌝ }
+    ensures { λ r. ⌜ EmittedAt (now (s .entry)) (Es.emitBody (Es.emit d B.u48 (P.parse (now (b .entry)))) (Sv.survey d B.u48 (P.parse (now (b .entry)))) B.u48 (P.parse (now (b .entry))) k inplace (stateOf c (now (out .entry))) (drop pos (bits (now (s .entry))))) pos c (Eg.extra B.u48 k) (r .whole) (r .places) (now (out .exit)) (r .next) ⌝ }
 {
     match k {
         Kind::OfFlat(f) => emit_flat(b, dir, s, out, f, c, pos),
@@ -942,7 +942,7 @@ fn emit_refer(
 ) -> Emitted
     requires { ⌜ (Accepted (now b) (now dir)) × (ObjectSound (P.parse (now b)) ob) ⌝ }
     requires { ⌜ Room (now s) pos c ⌝ }
-    ensures { λ r. ⌜ EmittedAt (now (s .entry)) (Es.emitRefer (Es.emit d B.u48 (P.parse (now (b .entry)))) (Sv.survey d B.u48 (P.parse (now (b .entry)))) B.u48 (P.parse (now (b .entry))) inplace ob (stateOf c (now (out .entry))) (drop pos (bits (now (s .entry))))) pos c 6 (r .whole) (r .places) (now (out .exit)) (r .next) ⌝ }
+    ensures { λ r. ⌜ EmittedAt (now (s .entry)) (Es.emitRefer (Es.emit d B.u48 (P.parse (now (b .entry)))) (Sv.survey d B.u48 (P.parse (now (b .entry)))) B.u48 (P.parse (now (b .entry))) inplace ob (stateOf c (now (out .entry))) (drop pos (bits (now (s .entry))))) pos c B.u48 (r .whole) (r .places) (now (out .exit)) (r .next) ⌝ }
 {
     let e = measure(b, dir, s, d, ob, inplace, pos);
     emit_measured(b, dir, s, out, d, ob, inplace, e, c, pos)
@@ -963,7 +963,7 @@ fn emit_measured(
 ) -> Emitted
     requires { ⌜ (Accepted (now b) (now dir)) × (ObjectSound (P.parse (now b)) ob) × (Measured inplace (Sv.survey d B.u48 (P.parse (now b)) ob (drop pos (bits (now s)))) e) ⌝ }
     requires { ⌜ Room (now s) pos c ⌝ }
-    ensures { λ r. ⌜ EmittedAt (now (s .entry)) (Es.emitRefer (Es.emit d B.u48 (P.parse (now (b .entry)))) (Sv.survey d B.u48 (P.parse (now (b .entry)))) B.u48 (P.parse (now (b .entry))) inplace ob (stateOf c (now (out .entry))) (drop pos (bits (now (s .entry))))) pos c 6 (r .whole) (r .places) (now (out .exit)) (r .next) ⌝ }
+    ensures { λ r. ⌜ EmittedAt (now (s .entry)) (Es.emitRefer (Es.emit d B.u48 (P.parse (now (b .entry)))) (Sv.survey d B.u48 (P.parse (now (b .entry)))) B.u48 (P.parse (now (b .entry))) inplace ob (stateOf c (now (out .entry))) (drop pos (bits (now (s .entry))))) pos c B.u48 (r .whole) (r .places) (now (out .exit)) (r .next) ⌝ }
 {
     let p = put_reference(out, inplace, e, c);
     let q = open(b, dir, out, ob, inplace, e, p);
@@ -989,7 +989,7 @@ fn emit_choice(
 ) -> Emitted
     requires { ⌜ (Accepted (now b) (now dir)) × (u < P.unionCount (now b)) ⌝ }
     requires { ⌜ Room (now s) pos c ⌝ }
-    ensures { λ r. ⌜ EmittedAt (now (s .entry)) (Es.emitChoice (Es.emit d B.u48 (P.parse (now (b .entry)))) (Sv.survey d B.u48 (P.parse (now (b .entry)))) B.u48 (P.parse (now (b .entry))) inplace (Sc.casesOf (P.parse (now (b .entry))) u) (stateOf c (now (out .entry))) (drop pos (bits (now (s .entry))))) pos c 6 (r .whole) (r .places) (now (out .exit)) (r .next) ⌝ }
+    ensures { λ r. ⌜ EmittedAt (now (s .entry)) (Es.emitChoice (Es.emit d B.u48 (P.parse (now (b .entry)))) (Sv.survey d B.u48 (P.parse (now (b .entry)))) B.u48 (P.parse (now (b .entry))) inplace (Sc.casesOf (P.parse (now (b .entry))) u) (stateOf c (now (out .entry))) (drop pos (bits (now (s .entry))))) pos c B.u48 (r .whole) (r .places) (now (out .exit)) (r .next) ⌝ }
 {
     let n = schema::case_count(b, dir, u);
     let x = bitio::take_number(s, pos, 16);
@@ -1023,7 +1023,7 @@ fn emit_body(
 ) -> Emitted
     requires { ⌜ (Accepted (now b) (now dir)) × (KindSound (P.parse (now b)) k) × (Eg.refers k ≡ true) ⌝ }
     requires { ⌜ Room (now s) pos c ⌝ }
-    ensures { λ r. ⌜ EmittedAt (now (s .entry)) (Es.emitBody (Es.emit d B.u48 (P.parse (now (b .entry)))) (Sv.survey d B.u48 (P.parse (now (b .entry)))) B.u48 (P.parse (now (b .entry))) k inplace (stateOf c (now (out .entry))) (drop pos (bits (now (s .entry))))) pos c (Eg.extra k) (r .whole) (r .places) (now (out .exit)) (r .next) ⌝ }
+    ensures { λ r. ⌜ EmittedAt (now (s .entry)) (Es.emitBody (Es.emit d B.u48 (P.parse (now (b .entry)))) (Sv.survey d B.u48 (P.parse (now (b .entry)))) B.u48 (P.parse (now (b .entry))) k inplace (stateOf c (now (out .entry))) (drop pos (bits (now (s .entry))))) pos c (Eg.extra B.u48 k) (r .whole) (r .places) (now (out .exit)) (r .next) ⌝ }
 {
     match k {
         Kind::OfFlat(_) => not_lawful(c, pos),
@@ -1145,7 +1145,7 @@ fn emit_marked(
     c: Places,
     pos: usize,
 ) -> Emitted
-    requires { ⌜ (Accepted (now b) (now dir)) × (ObjectSound (P.parse (now b)) ob) × (KnownSize (P.parse (now b)) ob n) ⌝ }
+    requires { ⌜ (Accepted (now b) (now dir)) × (ObjectSound (P.parse (now b)) ob) × (KnownSize B.u48 (P.parse (now b)) ob n) ⌝ }
     requires { ⌜ Room (now s) pos c ⌝ }
     ensures { λ r. ⌜ EmittedAt (now (s .entry)) (Es.emitElement (Es.emit d B.u48 (P.parse (now (b .entry)))) (Sv.survey d B.u48 (P.parse (now (b .entry)))) B.u48 (P.parse (now (b .entry))) (Kind.OfObject ob) (stateOf c (now (out .entry))) (drop pos (bits (now (s .entry))))) pos c 0 (r .whole) (r .places) (now (out .exit)) (r .next) ⌝ }
 {
@@ -1160,7 +1160,7 @@ fn emit_marked(
         return emit_measured(b, dir, s, out, d, ob, false, e, c, next);
     }
     if mark == 0 {
-        let p = write_store::put_number(out, c, 6, 0);
+        let p = write_store::put_offset(out, c, 0);
         return stored(p, next);
     }
     not_lawful(c, pos)

@@ -391,6 +391,14 @@ pub fn put_number(out: &mut [u8], c: Places, w: usize, x: u64) -> Places
     forward(c, w)
 }
 
+// An offset, or the length that stands in its place: as wide as an offset.
+pub fn put_offset(out: &mut [u8], c: Places, x: u64) -> Places
+    requires { ⌜ c .at < 2 ^ 61 ⌝ }
+    ensures { λ r. ⌜ Stood B.u48 (St.putNumber B.u48 x (stateOf c (now (out .entry)))) (stateOf r (now (out .exit))) c r ⌝ }
+{
+    put_number(out, c, 6, x)
+}
+
 pub fn put_byte(out: &mut [u8], c: Places, x: u8) -> Places
     requires { ⌜ c .at < 2 ^ 61 ⌝ }
     ensures { λ r. ⌜ Stood 1 (St.putByte x (stateOf c (now (out .entry)))) (stateOf r (now (out .exit))) c r ⌝ }

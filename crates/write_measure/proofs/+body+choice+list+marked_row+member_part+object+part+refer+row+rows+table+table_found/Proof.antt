@@ -515,7 +515,7 @@ table-unlawful-requires-2 : (t : ℕ) → table-lts.Need-unlawful-requires-2 (ta
 table-unlawful-requires-2 t c κs = search needs
 
 table-returns-3 : (t : ℕ) → table-lts.Need-returns-3 (table-R t) (table-at t) table.Post table-Inv-loop table-μ-loop
-table-returns-3 t c = table-stopped _ _ _ _ _ (c .before .before .before .before .before .before .before .before .before .before .before .loop .a) (c .before .before .before .before .before .before .before .before .before .before .before .loop .pos) (c .before .before .before .before .before .before .before .before .before .before .before .loop .j) (c .before .before .before .before .before .before .before .before .before .before .before .loop .inv .6) (c .before .before .before .before .before .before .before .before .before .simple-members .result .whole) (c .before .before .before .before .before .before .before .before .before .simple-members .result .index) (c .before .before .before .before .before .before .before .before .before .simple-members .result .extent) (c .before .before .before .before .before .before .before .before .before .simple-members .result .next) (c .before .before .before .before .before .before .before .before .before .simple-members .ensures) (c .before .before .before .before .before .before .before .if1 .left) _ (c .before .before .before .before .before .before .before .before .before .before .before .loop .inv .1) (c .before .before .before .before .before .if2 .left) _ (c .before .before .before .before .member .ensures) (c .before .before .before .member-part .result .whole) (c .before .before .before .member-part .result .extent) (c .before .before .before .member-part .result .next) (c .before .before .before .member-part .ensures) (c .before .before .before .before .before .before .before .before .before .before .before .loop .inv .3) (c .before .if3 .taken) _ _ _ (c .unlawful2 .ensures .0) (c .unlawful2 .ensures .1) (c .unlawful2 .ensures .2)
+table-returns-3 t c = table-stopped u48 _ _ _ _ _ (c .before .before .before .before .before .before .before .before .before .before .before .loop .a) (c .before .before .before .before .before .before .before .before .before .before .before .loop .pos) (c .before .before .before .before .before .before .before .before .before .before .before .loop .j) (c .before .before .before .before .before .before .before .before .before .before .before .loop .inv .6) (c .before .before .before .before .before .before .before .before .before .simple-members .result .whole) (c .before .before .before .before .before .before .before .before .before .simple-members .result .index) (c .before .before .before .before .before .before .before .before .before .simple-members .result .extent) (c .before .before .before .before .before .before .before .before .before .simple-members .result .next) (c .before .before .before .before .before .before .before .before .before .simple-members .ensures) (c .before .before .before .before .before .before .before .if1 .left) _ (c .before .before .before .before .before .before .before .before .before .before .before .loop .inv .1) (c .before .before .before .before .before .if2 .left) _ (c .before .before .before .before .member .ensures) (c .before .before .before .member-part .result .whole) (c .before .before .before .member-part .result .extent) (c .before .before .before .member-part .result .next) (c .before .before .before .member-part .ensures) (c .before .before .before .before .before .before .before .before .before .before .before .loop .inv .3) (c .before .if3 .taken) _ _ _ (c .unlawful2 .ensures .0) (c .unlawful2 .ensures .1) (c .unlawful2 .ensures .2)
 
 table-joined-requires : (t : ℕ) → table-lts.Need-joined-requires (table-R t) (table-at t) table.Post table-Inv-loop table-μ-loop
 table-joined-requires t c κs = search needs
@@ -527,7 +527,7 @@ table-loop-less : (t : ℕ) → table-lts.Need-loop-less (table-R t) (table-at t
 table-loop-less t c = omega (arith, c .before .before .before .before .before .if2 .left, c .before .before .before .before .before .before .before .before .before .before .loop-test .taken, c .before .before .before .before .before .before .before .before .before .simple-members .ensures .on)
 
 table-loop-again : (t : ℕ) → table-lts.Need-loop-again (table-R t) (table-at t) table.Post table-Inv-loop table-μ-loop
-table-loop-again t c = (search needs, c .before .before .before .before .before .before .before .before .before .before .before .loop .inv .1, c .before .before .before .before .before .before .before .before .before .before .before .loop .inv .2, c .before .before .before .before .before .before .before .before .before .before .before .loop .inv .3, search needs, search needs, table-turn _ _ _ _ (c .before .before .before .before .before .before .before .before .before .before .before .before .before .before .before .before .before .args .at) (c .before .before .before .before .before .before .before .before .before .before .before .loop .a) (c .before .before .before .before .before .before .before .before .before .before .before .loop .pos) (c .before .before .before .before .before .before .before .before .before .before .before .loop .j) (c .before .before .before .before .before .before .before .before .before .before .before .loop .inv .6) (c .before .before .before .before .before .before .before .before .before .simple-members .result .whole) (c .before .before .before .before .before .before .before .before .before .simple-members .result .index) (c .before .before .before .before .before .before .before .before .before .simple-members .result .extent) (c .before .before .before .before .before .before .before .before .before .simple-members .result .next) (c .before .before .before .before .before .before .before .before .before .simple-members .ensures) (c .before .before .before .before .before .before .before .if1 .left) _ (c .before .before .before .before .before .before .before .before .before .before .before .loop .inv .1) (c .before .before .before .before .before .if2 .left) _ (c .before .before .before .before .member .ensures) (c .before .before .before .member-part .result .whole) (c .before .before .before .member-part .result .extent) (c .before .before .before .member-part .result .next) (c .before .before .before .member-part .ensures) (c .before .if3 .left) _ (c .joined .ensures))
+table-loop-again t c = (search needs, c .before .before .before .before .before .before .before .before .before .before .before .loop .inv .1, c .before .before .before .before .before .before .before .before .before .before .before .loop .inv .2, c .before .before .before .before .before .before .before .before .before .before .before .loop .inv .3, search needs, search needs, table-turn u48 _ _ _ _ (c .before .before .before .before .before .before .before .before .before .before .before .before .before .before .before .before .before .args .at) (c .before .before .before .before .before .before .before .before .before .before .before .loop .a) (c .before .before .before .before .before .before .before .before .before .before .before .loop .pos) (c .before .before .before .before .before .before .before .before .before .before .before .loop .j) (c .before .before .before .before .before .before .before .before .before .before .before .loop .inv .6) (c .before .before .before .before .before .before .before .before .before .simple-members .result .whole) (c .before .before .before .before .before .before .before .before .before .simple-members .result .index) (c .before .before .before .before .before .before .before .before .before .simple-members .result .extent) (c .before .before .before .before .before .before .before .before .before .simple-members .result .next) (c .before .before .before .before .before .before .before .before .before .simple-members .ensures) (c .before .before .before .before .before .before .before .if1 .left) _ (c .before .before .before .before .before .before .before .before .before .before .before .loop .inv .1) (c .before .before .before .before .before .if2 .left) _ (c .before .before .before .before .member .ensures) (c .before .before .before .member-part .result .whole) (c .before .before .before .member-part .result .extent) (c .before .before .before .member-part .result .next) (c .before .before .before .member-part .ensures) (c .before .if3 .left) _ (c .joined .ensures))
 
 table-returns-4 : (t : ℕ) → table-lts.Need-returns-4 (table-R t) (table-at t) table.Post table-Inv-loop table-μ-loop
 table-returns-4 t c = search members-done

@@ -7,6 +7,7 @@ use Rattle.write_pass.proofs.open_object.Lts as lts
 use Rattle.write_store.proofs.enter_object.Reads as enter-object-reads
 use Rattle.write_pass.proofs.object_magic.Reads as object-magic-reads
 use Rattle.write_store.proofs.put_number.Reads as put-number-reads
+use Rattle.write_store.proofs.put_offset.Reads as put-offset-reads
 
 object-magic-requires : tie.Need-object-magic-requires
 object-magic-requires c κs = search needs
@@ -20,8 +21,8 @@ enter-object-requires c κs = search needs
 put-number-requires : tie.Need-put-number-requires
 put-number-requires c κs = search (entered-low, needs)
 
-put-number-requires-2 : tie.Need-put-number-requires-2
-put-number-requires-2 c κs = search (entered-header, needs)
+put-offset-requires : tie.Need-put-offset-requires
+put-offset-requires c κs = search (entered-header, needs)
 
 same-length : tie.Need-same-length
 same-length c = search needs
@@ -37,6 +38,6 @@ open-object-spec =
     add-enter-object
     enter-object-requires
     put-number-requires
-    put-number-requires-2
+    put-offset-requires
     same-length
     returns)
