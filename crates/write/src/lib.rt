@@ -32,7 +32,7 @@ fn closed(s: &[u8], pos: usize) -> bool
 // The length of the message whose root table takes e.
 fn message_size(e: Extent) -> usize
     requires { ⌜ Small e ⌝ }
-    ensures { λ r. ⌜ r ≡ Wr.messageSize e ⌝ }
+    ensures { λ r. ⌜ r ≡ Wr.messageSize B.u48 e ⌝ }
 {
     let content = e.width + e.chain;
     20 + content + e.below
@@ -40,7 +40,7 @@ fn message_size(e: Extent) -> usize
 
 // A sheet that is lawful, whose root table takes e.
 fn write_lawful(b: &[u8], dir: &[u16], s: &[u8], e: Extent, out: &mut [u8]) -> WriteAnswer
-    requires { ⌜ (Accepted (now b) (now dir)) × Wr.LawfulSheet (now b) (now s) e ⌝ }
+    requires { ⌜ (Accepted (now b) (now dir)) × Wr.LawfulSheet B.u48 (now b) (now s) e ⌝ }
     ensures { λ r. ⌜ r ≡ M.writeAnswer B.u48 (now (b .entry)) (now (s .entry)) (now (out .entry)) ⌝ }
     ensures { λ _. ⌜ now (out .exit) ≡ M.writeOut B.u48 (now (b .entry)) (now (s .entry)) (now (out .entry)) ⌝ }
 {
