@@ -108,7 +108,7 @@ module _ (s : List ℕ) (pos left : ℕ) (el : left ≡ 8 * length s - pos) wher
       er ∙ ap (λ (n : ℕ). eqb n 0) (run .number ∙ ap value whole) ∙ zero-is (drop pos (bits s))
       ∙ sym (simp (lt-ltb (length (drop pos (bits s))) 8 q))
 
-pub size-is : (x : Extent) → 20 + (x .width + x .chain) + x .below ≡ messageSize u48 x
+pub size-is : (x : Extent) → 10 + 10 + (x .width + x .chain) + x .below ≡ messageSize u48 x
 unfolding messageSize headerSize u48
 size-is x = omega arith
 

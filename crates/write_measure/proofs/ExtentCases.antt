@@ -121,18 +121,9 @@ module _ (inplace may : Bool) (e : Extent) (small : Small e) where
         small = record { length = omega arith; width = omega arith; chain = omega arith; below = lb };
       })
 
--- ---- the size of a list's elements
-pub size-times : (w n : ℕ) → w ≤ 4096 → n < 2 ^ 32 → w * n ≤ 4096 * 2 ^ 32
-size-times w n h l = mul-le-mul h (le-of-lt l)
-
-module _ (o : ℕ) (S : Schema) (k : Kind) (n : ℕ) (t : Bool) (et : t ≡ L.isBool k) where
-  pub size-bool : t ≡ true → (n + 7) / 8 ≡ T.elementsSize o S k n
-  unfolding T.elementsSize
-  size-bool f = simp (← et, f)
-
-  pub size-other : t ≡ false → (w : ℕ) → w ≡ L.width o S k → (x : ℕ) → x ≡ w * n → x ≡ T.elementsSize o S k n
-  unfolding T.elementsSize
-  size-other f w ew x ex = simp (← et, f, ← ew) ex
+-- the elements of a list take few bytes
+pub size-short : (n r : ℕ) → r ≤ 4096 * n → n < 2 ^ 32 → r < 2 ^ 48
+size-short n r h l = omega arith
 
 -- ---- a table's full fixed part, from member j on
 pub member-sound-of : (b dir : List ℕ) → Accepted b dir → (t j : ℕ) (r : Member) → r ≡ Sc.memberOf (P.parse b) t j → (count : ℕ) → count ≡ length (Sc.tableOf (P.parse b) t .members)

@@ -28,15 +28,6 @@ use Rattle.write_measure.specs.Survey.{testNumber, testIf, surveyMark, a
 use Rattle.write_measure.specs.Surveyed.{TestedAt, struct-is}
 
 -- ---- tests of a number
-module _ (w x : ℕ) (r : Bool) where
-  pub nan-four : w ≡ 4 → r ≡ ltb 0x7F80_0000 (x % 0x8000_0000) → r ≡ isNaN w x
-  unfolding isNaN
-  nan-four h e = simp (eq-eqb _ _ h) e
-
-  pub nan-eight : (w ≡ 4 → ⊥) → r ≡ ltb 0x7FF0_0000_0000_0000 (x % 0x8000_0000_0000_0000) → r ≡ isNaN w x
-  unfolding isNaN
-  nan-eight h e = simp (ne-eqb _ _ h) e
-
 pub float-optional : (w x : ℕ) (optional : Bool) → optional ≡ true → (t r : Bool) → t ≡ isNaN w x → r ≡ not t → r ≡ floatFine optional w x
 unfolding floatFine
 float-optional w x optional e t r et er = rw (e, ← et) er
@@ -113,9 +104,9 @@ pub known-tested : (s : List ℕ) (pos : ℕ) (whole : Bool) (x next : ℕ) → 
 known-tested s pos whole x next taken n k ek t et w′ f′ n′ e1 e2 e3 =
     if-tested s pos 8 whole x next taken (belowCount n) true t (et ∙ ap (ltb x) ek) w′ f′ n′ e1 e2 e3
 
-pub lost-tested : (s : List ℕ) (pos : ℕ) (whole : Bool) (x next : ℕ) → TakenNumber s pos 8 whole x next → (n : ℕ) (t : Bool) → t ≡ unknownEnum n x
+pub unknown-tested : (s : List ℕ) (pos : ℕ) (whole : Bool) (x next : ℕ) → TakenNumber s pos 8 whole x next → (n : ℕ) (t : Bool) → t ≡ unknownEnum n x
     → (w′ f′ : Bool) (n′ : ℕ) → w′ ≡ (whole && t) → f′ ≡ false → n′ ≡ next → TestedAt s (testIf 8 (unknownEnum n) false (drop pos (bits s))) w′ f′ n′
-lost-tested s pos whole x next taken n t et w′ f′ n′ e1 e2 e3 =
+unknown-tested s pos whole x next taken n t et w′ f′ n′ e1 e2 e3 =
     if-tested s pos 8 whole x next taken (unknownEnum n) false t et w′ f′ n′ e1 e2 e3
 
 -- ---- an enum's mark
@@ -135,9 +126,9 @@ module _ (s : List ℕ) (pos n : ℕ) (whole : Bool) (x next : ℕ) (taken : Tak
       mark-known e t = record { is = rw (taken .number, not-false whole h) (simp (ne-eqb x 0 h0, eq-eqb x 1 e) (t .is)); inside = t .inside }
 
       module _ (h1 : x ≡ 1 → ⊥) where
-        pub mark-lost : x ≡ 2 → TestedAt s (testIf 8 (unknownEnum n) false (drop next (bits s))) w′ f′ n′ → TestedAt s (enumField n (drop pos (bits s))) w′ f′ n′
+        pub mark-unknown : x ≡ 2 → TestedAt s (testIf 8 (unknownEnum n) false (drop next (bits s))) w′ f′ n′ → TestedAt s (enumField n (drop pos (bits s))) w′ f′ n′
         unfolding enumField surveyMark bind
-        mark-lost e t = record { is = rw (taken .number, not-false whole h) (simp (ne-eqb x 0 h0, ne-eqb x 1 h1, eq-eqb x 2 e) (t .is)); inside = t .inside }
+        mark-unknown e t = record { is = rw (taken .number, not-false whole h) (simp (ne-eqb x 0 h0, ne-eqb x 1 h1, eq-eqb x 2 e) (t .is)); inside = t .inside }
 
         pub mark-bad : pos ≤ 8 * length s → (x ≡ 2 → ⊥) → w′ ≡ false → n′ ≡ pos → TestedAt s (enumField n (drop pos (bits s))) w′ f′ n′
         unfolding enumField surveyMark bind

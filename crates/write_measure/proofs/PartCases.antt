@@ -25,7 +25,7 @@ use Rattle.laws.specs.Sound.{FlatSound, ObjectSound, KindSound}
 use Rattle.laws.specs.SoundAt.{case-sound-at, struct-index, union-index}
 use Rattle.schema.specs.Directory.{Accepted, accepted-sound}
 use Rattle.bitio.specs.Taken.{TakenNumber, TakenBytes}
-use Rattle.write_measure.specs.Survey.{testNumber, testIf, anyNumber, floatFine, belowCount, aboveCount, surveyMark, surveyFlat, surveyStruct, surveyLostFlat, plain, opened, referred, Surveyor, plainOf, surveyObject, surveyChoice, surveyBody, surveyLost, mayLack, surveyPart, surveyBlob, survey}
+use Rattle.write_measure.specs.Survey.{testNumber, testIf, anyNumber, floatFine, belowCount, aboveCount, surveyMark, surveyFlat, surveyStruct, surveyUnknownFlat, plain, opened, referred, Surveyor, plainOf, surveyObject, surveyChoice, surveyBody, surveyUnknown, mayLack, surveyPart, surveyBlob, survey}
 use Rattle.laws.specs.Bits.{bits-length}
 use Rattle.write_measure.specs.UnmarkedElements.{unmarkedBits, flatUnmarkedBits, passed}
 use Rattle.write_measure.specs.BlobReferred.{BlobEnd, blobReferred, blob-is}
@@ -64,32 +64,32 @@ struct-counted b k i j e ej h = rw ej (struct-index b i (subst (FlatSound (lengt
 
 module _ (s : List ℕ) (k : Flat) (pos : ℕ) (w′ f′ : Bool) (n′ : ℕ) where
   module _ (l : pos ≤ 8 * length s) (e1 : w′ ≡ false) (e2 : n′ ≡ pos) where
-    pub lost-boolean : k ≡ Boolean → TestedAt s (surveyLostFlat k (drop pos (bits s))) w′ f′ n′
-    unfolding surveyLostFlat
-    lost-boolean e = rw (e, e1) (record { is = refl; inside = rw e2 l })
+    pub unknown-boolean : k ≡ Boolean → TestedAt s (surveyUnknownFlat k (drop pos (bits s))) w′ f′ n′
+    unfolding surveyUnknownFlat
+    unknown-boolean e = rw (e, e1) (record { is = refl; inside = rw e2 l })
 
-    pub lost-integer : (g : Bool) (w : ℕ) → k ≡ Integer g w → TestedAt s (surveyLostFlat k (drop pos (bits s))) w′ f′ n′
-    unfolding surveyLostFlat
-    lost-integer g w e = rw (e, e1) (record { is = refl; inside = rw e2 l })
+    pub unknown-integer : (g : Bool) (w : ℕ) → k ≡ Integer g w → TestedAt s (surveyUnknownFlat k (drop pos (bits s))) w′ f′ n′
+    unfolding surveyUnknownFlat
+    unknown-integer g w e = rw (e, e1) (record { is = refl; inside = rw e2 l })
 
-    pub lost-float : (w : ℕ) → k ≡ Float w → TestedAt s (surveyLostFlat k (drop pos (bits s))) w′ f′ n′
-    unfolding surveyLostFlat
-    lost-float w e = rw (e, e1) (record { is = refl; inside = rw e2 l })
+    pub unknown-float : (w : ℕ) → k ≡ Float w → TestedAt s (surveyUnknownFlat k (drop pos (bits s))) w′ f′ n′
+    unfolding surveyUnknownFlat
+    unknown-float w e = rw (e, e1) (record { is = refl; inside = rw e2 l })
 
-    pub lost-struct : (i : ℕ) → k ≡ Struct i → TestedAt s (surveyLostFlat k (drop pos (bits s))) w′ f′ n′
-    unfolding surveyLostFlat
-    lost-struct i e = rw (e, e1) (record { is = refl; inside = rw e2 l })
+    pub unknown-struct : (i : ℕ) → k ≡ Struct i → TestedAt s (surveyUnknownFlat k (drop pos (bits s))) w′ f′ n′
+    unfolding surveyUnknownFlat
+    unknown-struct i e = rw (e, e1) (record { is = refl; inside = rw e2 l })
 
-  pub lost-enum : (n : ℕ) → k ≡ Enumerated n → TestedAt s (testIf 8 (unknownEnum n) false (drop pos (bits s))) w′ f′ n′
-      → TestedAt s (surveyLostFlat k (drop pos (bits s))) w′ f′ n′
-  unfolding surveyLostFlat
-  lost-enum n e t = rw e t
+  pub unknown-enum : (n : ℕ) → k ≡ Enumerated n → TestedAt s (testIf 8 (unknownEnum n) false (drop pos (bits s))) w′ f′ n′
+      → TestedAt s (surveyUnknownFlat k (drop pos (bits s))) w′ f′ n′
+  unfolding surveyUnknownFlat
+  unknown-enum n e t = rw e t
 
-pub choice-lost-tested : (S : Schema) (s : List ℕ) (pos u : ℕ) (whole : Bool) (x next : ℕ) → TakenNumber s pos 16 whole x next → (n : ℕ) → n ≡ length (Sc.casesOf S u)
+pub choice-unknown-tested : (S : Schema) (s : List ℕ) (pos u : ℕ) (whole : Bool) (x next : ℕ) → TakenNumber s pos 16 whole x next → (n : ℕ) → n ≡ length (Sc.casesOf S u)
     → (t : Bool) → t ≡ ltb n x → (w′ f′ : Bool) (n′ : ℕ) → w′ ≡ (whole && t) → f′ ≡ false → n′ ≡ next
     → TestedAt s (testIf 16 (aboveCount (length (Sc.casesOf S u))) false (drop pos (bits s))) w′ f′ n′
 unfolding testIf bind
-choice-lost-tested S s pos u whole x next taken n en t et w′ f′ n′ e1 e2 e3 =
+choice-unknown-tested S s pos u whole x next taken n en t et w′ f′ n′ e1 e2 e3 =
     record {
       is = ap (λ p. bind p (λ y ys. pick (ltb (length (Sc.casesOf S u)) y) (got false ys) fail)) (taken .number) ∙ by whole
           ∙ sym (rw (e1, e2, e3));
@@ -123,20 +123,20 @@ failed s p pos h l w e n ew en sm = record { is = h ∙ sym (rw ew); inside = rw
 
 module _ (S : Schema) (s : List ℕ) (k : Kind) (pos : ℕ) (w : Bool) (e : Extent) (n : ℕ) where
   module _ (tw tf : Bool) (tn : ℕ) (ew : w ≡ tw) (en : n ≡ tn) (fit : Fits (plain tf) e) where
-    pub lost-flat : (f : Flat) → k ≡ OfFlat f → TestedAt s (surveyLostFlat f (drop pos (bits s))) tw tf tn → SurveyedAt s (surveyLost S k (drop pos (bits s))) w e n
-    unfolding surveyLost
-    lost-flat f q t = rw q (plain-surveyed s (surveyLostFlat f (drop pos (bits s))) tw tf tn t w e n ew en fit)
+    pub unknown-flat : (f : Flat) → k ≡ OfFlat f → TestedAt s (surveyUnknownFlat f (drop pos (bits s))) tw tf tn → SurveyedAt s (surveyUnknown S k (drop pos (bits s))) w e n
+    unfolding surveyUnknown
+    unknown-flat f q t = rw q (plain-surveyed s (surveyUnknownFlat f (drop pos (bits s))) tw tf tn t w e n ew en fit)
 
-    pub lost-union : (u j : ℕ) → k ≡ OfUnion u → j ≡ u → TestedAt s (testIf 16 (aboveCount (length (Sc.casesOf S j))) false (drop pos (bits s))) tw tf tn
-        → SurveyedAt s (surveyLost S k (drop pos (bits s))) w e n
-    unfolding surveyLost
-    lost-union u j q ej t =
+    pub unknown-union : (u j : ℕ) → k ≡ OfUnion u → j ≡ u → TestedAt s (testIf 16 (aboveCount (length (Sc.casesOf S j))) false (drop pos (bits s))) tw tf tn
+        → SurveyedAt s (surveyUnknown S k (drop pos (bits s))) w e n
+    unfolding surveyUnknown
+    unknown-union u j q ej t =
         rw q (plain-surveyed s (testIf 16 (aboveCount (length (Sc.casesOf S u))) false (drop pos (bits s))) tw tf tn
         (subst (λ (a : ℕ). TestedAt s (testIf 16 (aboveCount (length (Sc.casesOf S a))) false (drop pos (bits s))) tw tf tn) ej t) w e n ew en fit)
 
-  pub lost-object : (ob : Object) → k ≡ OfObject ob → pos ≤ 8 * length s → w ≡ false → n ≡ pos → Small e → SurveyedAt s (surveyLost S k (drop pos (bits s))) w e n
-  unfolding surveyLost
-  lost-object ob q l ew en sm = rw q (failed s fail pos refl l w e n ew en sm)
+  pub unknown-object : (ob : Object) → k ≡ OfObject ob → pos ≤ 8 * length s → w ≡ false → n ≡ pos → Small e → SurveyedAt s (surveyUnknown S k (drop pos (bits s))) w e n
+  unfolding surveyUnknown
+  unknown-object ob q l ew en sm = rw q (failed s fail pos refl l w e n ew en sm)
 
 pub union-counted : (b : List ℕ) (k : Kind) (u j : ℕ) → k ≡ OfUnion u → j ≡ u → KindSound (P.parse b) k → j < P.unionCount b
 union-counted b k u j e ej h = rw ej (union-index b u (subst (KindSound (P.parse b)) e h))
@@ -305,10 +305,10 @@ module _ (o : ℕ) (child : Surveyor) (S : Schema) (s : List ℕ) (k : Kind) (op
       part-there z t = record { is = rw (taken .number, not-false whole h) (simp (ne-eqb x 0 h0, eq-eqb x 1 z) (t .is)); inside = t .inside; small = t .small }
 
       module _ (h1 : x ≡ 1 → ⊥) where
-        pub part-lost : x ≡ 2 → SurveyedAt s (surveyLost S k (drop next (bits s))) w e n
+        pub part-unknown : x ≡ 2 → SurveyedAt s (surveyUnknown S k (drop next (bits s))) w e n
             → SurveyedAt s (surveyPart child o S k optional inplace (drop pos (bits s))) w e n
         unfolding surveyPart surveyMark bind
-        part-lost z t =
+        part-unknown z t =
             record { is = rw (taken .number, not-false whole h) (simp (ne-eqb x 0 h0, ne-eqb x 1 h1, eq-eqb x 2 z) (t .is)); inside = t .inside; small = t .small }
 
         pub part-bad : pos ≤ 8 * length s → (x ≡ 2 → ⊥) → w ≡ false → n ≡ pos → Small e
@@ -332,7 +332,7 @@ module _ (o : ℕ) (child : Surveyor) (S : Schema) (s : List ℕ) (ob : Object) 
 
     pub object-bad : (x ≡ 1 → ⊥) → pos ≤ 8 * length s → w ≡ false → n ≡ pos → Small e
         → SurveyedAt s (surveyPart child o S (OfObject ob) optional inplace (drop pos (bits s))) w e n
-    unfolding surveyPart surveyMark bind surveyLost
+    unfolding surveyPart surveyMark bind surveyUnknown
     object-bad h1 l ew en sm =
         failed s _ pos (rw (taken .number, not-false whole h) (simp (ne-eqb x 0 h0, ne-eqb x 1 h1) (by (eqb x 2)))) l w e n ew en sm
       where

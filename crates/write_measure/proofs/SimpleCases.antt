@@ -32,7 +32,7 @@ use Rattle.laws.specs.SoundAt.{member-sound-at}
 use Rattle.schema.specs.Directory.{Accepted, Block, accepted-sound}
 use Rattle.schema.proofs.Access.{member-is}
 use Rattle.bitio.specs.Taken.{TakenNumber, TakenBytes}
-use Rattle.write_measure.specs.Survey.{testNumber, testIf, anyNumber, floatFine, belowCount, surveyMark, surveyFlat, surveyStruct, surveyLostFlat, flatMayLack, mayLack, plain, opened, joined, referred, Surveyor, plainOf, surveyBlob, surveyBody, surveyPart, surveyMembers, surveyContent, survey}
+use Rattle.write_measure.specs.Survey.{testNumber, testIf, anyNumber, floatFine, belowCount, surveyMark, surveyFlat, surveyStruct, surveyUnknownFlat, flatMayLack, mayLack, plain, opened, joined, referred, Surveyor, plainOf, surveyBlob, surveyBody, surveyPart, surveyMembers, surveyContent, survey}
 use Rattle.write_measure.specs.Surveyed.{TestedAt, Small, Fits, SurveyedAt}
 use Rattle.write_measure.specs.BlobReferred.{BlobEnd, blobReferred}
 use Rattle.write_measure.specs.SimpleMembers.{flatPart, joinedPart, LeftAt, WholeBytes, flat-part-is, members-joined}
@@ -273,13 +273,13 @@ module _ (S : Schema) (s : List ℕ) (optional : Bool) (k : Flat) (pos : ℕ) (w
       flat-there e t = record { is = rw (taken .number, not-false whole h) (simp (ne-eqb x 0 h0, eq-eqb x 1 e) (t .is)); inside = t .inside }
 
       module _ (h1 : x ≡ 1 → ⊥) where
-        pub flat-unknown : x ≡ 2 → (g : Flat) → g ≡ k → TestedAt s (surveyLostFlat g (drop next (bits s))) w f n
+        pub flat-unknown : x ≡ 2 → (g : Flat) → g ≡ k → TestedAt s (surveyUnknownFlat g (drop next (bits s))) w f n
             → TestedAt s (flatPart (surveyStruct S) optional k (drop pos (bits s))) w f n
         unfolding flatPart surveyMark bind
         flat-unknown e g eg t =
             record {
               is = rw (taken .number, not-false whole h) (simp (ne-eqb x 0 h0, ne-eqb x 1 h1, eq-eqb x 2 e)
-                  (ap (λ (q : Flat). surveyLostFlat q (drop next (bits s))) (sym eg) ∙ t .is));
+                  (ap (λ (q : Flat). surveyUnknownFlat q (drop next (bits s))) (sym eg) ∙ t .is));
               inside = t .inside;
             }
 
@@ -288,20 +288,8 @@ module _ (S : Schema) (s : List ℕ) (optional : Bool) (k : Flat) (pos : ℕ) (w
         flat-bad l h2 ew en =
             record { is = rw (taken .number, not-false whole h) (simp (ne-eqb x 0 h0, ne-eqb x 1 h1, ne-eqb x 2 h2, ew)); inside = rw en l }
 
--- ---- the record of member j
-pub record-sound : (b dir : List ℕ) → Accepted b dir → (t j : ℕ) → j < length (Sc.tableOf (P.parse b) t .members) → (r : ℕ)
-    → P.memberAt b r ≡ Sc.memberOf (P.parse b) t j → MemberSound (P.parse b) (P.memberAt b r)
-record-sound b dir a t j h r e = rw e (member-sound-at (P.parse b) (accepted-sound b dir a) t j h)
-
-pub record-is : (b : List ℕ) (t j first r : ℕ) → t < P.tableCount b → Block b 4 (P.tablePlace b t) first → j < length (Sc.tableOf (P.parse b) t .members)
-    → r ≡ P.recordPlace 4 first j → P.memberAt b r ≡ Sc.memberOf (P.parse b) t j
-record-is b t j first r l bl h e = member-is b t first l bl j r h (P.memberAt b r) e refl
-
-pub record-stands : (b dir : List ℕ) → Accepted b dir → (t j first r : ℕ) → t < P.tableCount b → Block b 4 (P.tablePlace b t) first
-    → j < length (Sc.tableOf (P.parse b) t .members) → r ≡ P.recordPlace 4 first j → MemberSound (P.parse b) (P.memberAt b r)
-record-stands b dir a t j first r l bl h e = record-sound b dir a t j h r (record-is b t j first r l bl h e)
-
-pub simple-member-counted : (b : List ℕ) (r k : ℕ) → k ≡ P.kindAt b r → k ≤ 14 → P.kindAt b r < 15
+-- ---- the record of a simple member
+pub simple-member-counted : (b : List ℕ) (r k : ℕ) → k ≡ P.kindAt b r → k < 15 → P.kindAt b r < 15
 simple-member-counted b r k e l = omega arith
 
 -- ---- the members from j on
@@ -378,20 +366,19 @@ pub no-bytes : {A : Type 0} → 0 < 0 → A
 no-bytes h = absurd (omega arith)
 
 module _ (o : ℕ) (S : Schema) (t j : ℕ) (c : Cursor) where
-  pub behind-bytes : (m : Member) → m ≡ Sc.memberOf S t j → (w : ℕ) → (0 < w → WholeBytes o S m w) → 0 < w
-      → _≡_ {A = Cursor} (record { end = c .end + w; byte = c .byte; bit = c .bit }) (L.afterMember o S (Sc.memberOf S t j) c)
-  unfolding L.afterBytes
-  behind-bytes m em w f h = sym (f h .next c) ∙ ap (λ (r : Member). L.afterMember o S r c) em
+  pub behind-bytes : (m : Member) → m ≡ Sc.memberOf S t j → (w : ℕ) → (0 < w → WholeBytes o S m w) → 0 < w → (r : Cursor) → r ≡ L.afterBytes w c
+      → r ≡ L.afterMember o S (Sc.memberOf S t j) c
+  behind-bytes m em w f h r er = er ∙ sym (f h .next c) ∙ ap (λ (q : Member). L.afterMember o S q c) em
 
   pub behind-placed : (r : Member) → r ≡ Sc.memberOf S t j → (e : ℕ) (slot : Slot) (next : Cursor)
       → Stands (L.memberSlot o S r c) (L.afterMember o S r c) e slot next → next ≡ L.afterMember o S (Sc.memberOf S t j) c
   behind-placed r er e slot next st = st .next-is ∙ ap (λ (q : Member). L.afterMember o S q c) er
 
-pub behind-laid : (j : ℕ) (c : Cursor) (w : ℕ) → w < 256 → Laid (4097 * j) c → Laid (4097 * (j + 1)) (record { end = c .end + w; byte = c .byte; bit = c .bit })
-behind-laid j c w h l =
+pub behind-laid : (j : ℕ) (c : Cursor) (w : ℕ) → w < 256 → Laid (4097 * j) c → (r : Cursor) → Laid (c .end + w) r → Laid (4097 * (j + 1)) r
+behind-laid j c w h l r q =
     let p = l .end in
-    let q = l .byte in
-    record { end = omega arith; byte = omega arith; bit = l .bit }
+    let e = q .end in
+    record { end = omega arith; byte = q .byte; bit = q .bit }
 
 -- ---- the bytes of an integer or a float
 pub width-is : (k j w : ℕ) → k ≡ j → w ≡ P.widthOf j → w ≡ P.widthOf k

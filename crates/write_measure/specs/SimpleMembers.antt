@@ -14,13 +14,13 @@ use Rattle.coding.specs.declared.Cursor.{Cursor}
 use Rattle.coding.specs.declared.Flat.{Flat}
 use Rattle.coding.specs.declared.Kind.the-variants.{OfFlat}
 use Rattle.coding.specs.declared.Member.{Member}
-use Rattle.write_measure.specs.Survey.{surveyMark, surveyFlat, surveyStruct, plain, joined, Surveyor, plainOf, surveyBody, surveyLostFlat, surveyLost, flatMayLack, mayLack, surveyPart, surveyMembers}
+use Rattle.write_measure.specs.Survey.{surveyMark, surveyFlat, surveyStruct, plain, joined, Surveyor, plainOf, surveyBody, surveyUnknownFlat, surveyUnknown, flatMayLack, mayLack, surveyPart, surveyMembers}
 use Rattle.write_measure.specs.Surveyed.{Small}
 use Rattle.write_measure.specs.declared.Extent.{Extent}
 
 -- what leads to no object, with its mark: whether it can be written
 unfoldable pub flatPart : (ℕ → List ℕ → Parsed Bool) → Bool → Flat → List ℕ → Parsed Bool
-flatPart inner optional k xs = surveyMark (flatMayLack optional k) (surveyLostFlat k) (surveyFlat inner optional k) xs
+flatPart inner optional k xs = surveyMark (flatMayLack optional k) (surveyUnknownFlat k) (surveyFlat inner optional k) xs
 
 -- a member with its mark, and what stands before it
 unfoldable pub joinedPart : Surveyor → ℕ → Schema → Member → Extent → List ℕ → Parsed Extent
@@ -41,20 +41,20 @@ pub record WholeBytes (o : ℕ) (S : Schema) (m : Member) (w : ℕ) : Type 0 whe
 module _ (child : Surveyor) (o : ℕ) (S : Schema) where
   pub flat-part-is : (k : Flat) (optional inplace : Bool) (xs : List ℕ)
       → surveyPart child o S (OfFlat k) optional inplace xs ≡ plainOf (flatPart (surveyStruct S) optional k xs)
-  unfolding surveyPart flatPart surveyMark surveyBody surveyLost mayLack plainOf bind
+  unfolding surveyPart flatPart surveyMark surveyBody surveyUnknown mayLack plainOf bind
   flat-part-is k optional inplace xs = by (takeNumber 2 xs)
     where
       marks : (t u w : Bool) (ys : List ℕ)
-          → pick t (got (plain (flatMayLack optional k)) ys) (pick u (plainOf (surveyFlat (surveyStruct S) optional k ys)) (pick w (plainOf (surveyLostFlat k ys)) fail))
-          ≡ plainOf (pick t (got (flatMayLack optional k) ys) (pick u (surveyFlat (surveyStruct S) optional k ys) (pick w (surveyLostFlat k ys) fail)))
+          → pick t (got (plain (flatMayLack optional k)) ys) (pick u (plainOf (surveyFlat (surveyStruct S) optional k ys)) (pick w (plainOf (surveyUnknownFlat k ys)) fail))
+          ≡ plainOf (pick t (got (flatMayLack optional k) ys) (pick u (surveyFlat (surveyStruct S) optional k ys) (pick w (surveyUnknownFlat k ys) fail)))
       marks true u w ys = refl
       marks false true w ys = refl
       marks false false true ys = refl
       marks false false false ys = refl
 
       by : (p : Parsed ℕ)
-          → bind p (λ mark ys. pick (eqb mark 0) (got (plain (flatMayLack optional k)) ys) (pick (eqb mark 1) (plainOf (surveyFlat (surveyStruct S) optional k ys)) (pick (eqb mark 2) (plainOf (surveyLostFlat k ys)) fail)))
-          ≡ plainOf (bind p (λ mark ys. pick (eqb mark 0) (got (flatMayLack optional k) ys) (pick (eqb mark 1) (surveyFlat (surveyStruct S) optional k ys) (pick (eqb mark 2) (surveyLostFlat k ys) fail))))
+          → bind p (λ mark ys. pick (eqb mark 0) (got (plain (flatMayLack optional k)) ys) (pick (eqb mark 1) (plainOf (surveyFlat (surveyStruct S) optional k ys)) (pick (eqb mark 2) (plainOf (surveyUnknownFlat k ys)) fail)))
+          ≡ plainOf (bind p (λ mark ys. pick (eqb mark 0) (got (flatMayLack optional k) ys) (pick (eqb mark 1) (surveyFlat (surveyStruct S) optional k ys) (pick (eqb mark 2) (surveyUnknownFlat k ys) fail))))
       by fail = refl
       by (got m ys) = marks (eqb m 0) (eqb m 1) (eqb m 2) ys
 

@@ -37,9 +37,9 @@ testIf w ok answer xs = bind (takeNumber w xs) (λ x ys. pick (ok x) (got answer
 
 -- what a mark says to do; `none` where there is no value
 unfoldable pub surveyMark : {A : Type 0} → A → (List ℕ → Parsed A) → (List ℕ → Parsed A) → List ℕ → Parsed A
-surveyMark none lost body xs =
+surveyMark none unknown body xs =
     bind (takeNumber 2 xs)
-    (λ mark ys. pick (eqb mark 0) (got none ys) (pick (eqb mark 1) (body ys) (pick (eqb mark 2) (lost ys) fail)))
+    (λ mark ys. pick (eqb mark 0) (got none ys) (pick (eqb mark 1) (body ys) (pick (eqb mark 2) (unknown ys) fail)))
 
 -- ---- what leads to no object: whether it can be written
 abbrev pub anyNumber : ℕ → Bool
@@ -146,20 +146,20 @@ surveyBody child o S (OfObject ob) optional inplace xs = surveyObject child o in
 surveyBody child o S (OfUnion i) optional inplace xs = surveyChoice child o inplace (casesOf S i) xs
 
 -- no known value
-unfoldable pub surveyLostFlat : Flat → List ℕ → Parsed Bool
-surveyLostFlat Boolean xs = fail
-surveyLostFlat (Integer s w) xs = fail
-surveyLostFlat (Float w) xs = fail
-surveyLostFlat (Enumerated n) xs = testIf 8 (unknownEnum n) false xs
-surveyLostFlat (Struct i) xs = fail
+unfoldable pub surveyUnknownFlat : Flat → List ℕ → Parsed Bool
+surveyUnknownFlat Boolean xs = fail
+surveyUnknownFlat (Integer s w) xs = fail
+surveyUnknownFlat (Float w) xs = fail
+surveyUnknownFlat (Enumerated n) xs = testIf 8 (unknownEnum n) false xs
+surveyUnknownFlat (Struct i) xs = fail
 
 abbrev pub aboveCount : ℕ → ℕ → Bool
 aboveCount n c = ltb n c
 
-unfoldable pub surveyLost : Schema → Kind → List ℕ → Parsed Extent
-surveyLost S (OfFlat k) xs = plainOf (surveyLostFlat k xs)
-surveyLost S (OfObject ob) xs = fail
-surveyLost S (OfUnion i) xs = plainOf (testIf 16 (aboveCount (length (casesOf S i))) false xs)
+unfoldable pub surveyUnknown : Schema → Kind → List ℕ → Parsed Extent
+surveyUnknown S (OfFlat k) xs = plainOf (surveyUnknownFlat k xs)
+surveyUnknown S (OfObject ob) xs = fail
+surveyUnknown S (OfUnion i) xs = plainOf (testIf 16 (aboveCount (length (casesOf S i))) false xs)
 
 -- whether there may be no value
 unfoldable pub flatMayLack : Bool → Flat → Bool
@@ -176,7 +176,7 @@ mayLack optional (OfUnion i) = true
 
 unfoldable pub surveyPart : Surveyor → ℕ → Schema → Kind → Bool → Bool → List ℕ → Parsed Extent
 surveyPart child o S k optional inplace xs =
-    surveyMark (plain (mayLack optional k)) (surveyLost S k) (surveyBody child o S k optional inplace) xs
+    surveyMark (plain (mayLack optional k)) (surveyUnknown S k) (surveyBody child o S k optional inplace) xs
 
 unfoldable pub surveyElement : Surveyor → ℕ → Schema → Kind → List ℕ → Parsed Extent
 surveyElement child o S k xs = pick (unmarked k) (surveyBody child o S k true false xs) (surveyPart child o S k true false xs)

@@ -13,7 +13,7 @@ use Rattle.coding.specs.declared.Flat.{Flat}
 use Rattle.coding.specs.declared.Flat.the-variants.{Boolean, Integer, Float, Enumerated, Struct}
 use Rattle.laws.specs.Sound.{All, FlatSound, Sound}
 use Rattle.laws.specs.Structs.{index-holds₃}
-use Rattle.write_measure.specs.Survey.{testNumber, testIf, surveyMark, anyNumber, floatFine, belowCount, surveyFlat, enumField, surveyField, surveyFields, surveyBy, surveyNothing, surveyStruct, surveyLostFlat}
+use Rattle.write_measure.specs.Survey.{testNumber, testIf, surveyMark, anyNumber, floatFine, belowCount, surveyFlat, enumField, surveyField, surveyFields, surveyBy, surveyNothing, surveyStruct, surveyUnknownFlat}
 use Rattle.write_measure.specs.Mapped.{mapped, Has, mapped-same, bind-mapped, bind-has, seq, mark-mapped}
 
 -- a value that is there
@@ -120,10 +120,10 @@ module _ (S : Schema) (sound : Sound S) where
   flat-there (Enumerated n) xs = unfold takeEnum in if-there 8 (belowCount n) xs
   flat-there (Struct i) xs = struct-surveyed i .there xs
 
-  pub lost-surveyed : (optional : Bool) (k : Flat) (xs : List ℕ) → surveyLostFlat k xs ≡ mapped (flatWritable S optional k) (takeUnknownFlat k xs)
-  unfolding surveyLostFlat takeUnknownFlat flatWritable takeUnknownEnum known
-  lost-surveyed optional Boolean xs = refl
-  lost-surveyed optional (Integer s w) xs = refl
-  lost-surveyed optional (Float w) xs = refl
-  lost-surveyed optional (Enumerated n) xs = if-tested _ 8 (unknownEnum n) unknown false (λ x. refl) xs
-  lost-surveyed optional (Struct i) xs = refl
+  pub unknown-surveyed : (optional : Bool) (k : Flat) (xs : List ℕ) → surveyUnknownFlat k xs ≡ mapped (flatWritable S optional k) (takeUnknownFlat k xs)
+  unfolding surveyUnknownFlat takeUnknownFlat flatWritable takeUnknownEnum known
+  unknown-surveyed optional Boolean xs = refl
+  unknown-surveyed optional (Integer s w) xs = refl
+  unknown-surveyed optional (Float w) xs = refl
+  unknown-surveyed optional (Enumerated n) xs = if-tested _ 8 (unknownEnum n) unknown false (λ x. refl) xs
+  unknown-surveyed optional (Struct i) xs = refl

@@ -30,7 +30,8 @@ use Rattle.write_store.specs.State.{State, enterObject, leaveObject, enterConte
 use Rattle.write_pass.specs.EmitSheet.{Emitter, emitFlat, lack, pass, openObject, emitObject, emitContentAt, emitRefer, emitChoice, emitBody, emitPart, emitElement, flagged}
 use Rattle.write_pass.specs.Measure.{Sizes, Measured}
 use Rattle.write_store.specs.Storing.{stateOf, HeldOk, leftObject, leftContent, Stood, BitPut}
-use Rattle.write_pass.specs.Emitting.{closed, referred, opened, emitMember, Room, EmittedAt, Lacks, Opens, extra, emitMarkedFlat, emitUnflagged, refers, isBlob, isTerminal}
+use Rattle.schema.specs.Kinds.{isBlob}
+use Rattle.write_pass.specs.Emitting.{closed, referred, opened, emitMember, Room, EmittedAt, Lacks, Opens, extra, emitMarkedFlat, emitUnflagged, refers, isTerminal}
 use Rattle.write_store.specs.declared.Places.{Places}
 use Rattle.write_measure.proofs.ObjectCases.{object-marked}
 use Rattle.write_pass.proofs.OpenCases.{flag-none}
@@ -70,20 +71,20 @@ module _ (child : Emitter) (S : Schema) (inplace : Bool) (ob : Object) (st : Sta
   refer-is : (measure : Surveyor) (r : Extent) → Has (Sizes inplace r) (measure ob xs) → ((u : State) → measure ob xs ≡ fail → child ob u xs ≡ fail)
       → emitRefer child measure u48 S inplace ob st xs ≡ within (referred u48 inplace r st) (opened u48 S ob inplace r (referred u48 inplace r st))
   unfolding within bind
-  refer-is measure r m lost = by (measure ob xs) refl m
+  refer-is measure r m fails = by (measure ob xs) refl m
     where
       by : (p : Parsed Extent) → measure ob xs ≡ p → Has (Sizes inplace r) p
           → emitRefer child measure u48 S inplace ob st xs ≡ within (referred u48 inplace r st) (opened u48 S ob inplace r (referred u48 inplace r st))
       by fail e h =
           let g : emitRefer child measure u48 S inplace ob st xs ≡ fail = unfold emitRefer in rw e in
           g ∙ sym (ap (λ (p : Parsed State). bind p (λ inner zs. got (pick inplace (leaveContent (referred u48 inplace r st) inner) (leaveObject (referred u48 inplace r st) inner)) zs))
-          (lost (opened u48 S ob inplace r (referred u48 inplace r st)) e))
+          (fails (opened u48 S ob inplace r (referred u48 inplace r st)) e))
       by (got x ys) e h =
           surveyed measure x ys e ∙ ap (within (referred u48 inplace x st)) (same-opened r x inplace h (referred u48 inplace x st))
           ∙ ap (λ (z : State). within z (opened u48 S ob inplace r z)) (same-referred r x inplace h)
 
 module _ (child : Emitter) (measure : Surveyor) (S : Schema) (s : List ℕ) (inplace : Bool) (ob : Object) (c : Places) (o : List ℕ) (pos : ℕ) (room : Room s pos c)
-    (x : Extent) (m : Measured inplace (measure ob (drop pos (bits s))) x) (lost : (u : State) → measure ob (drop pos (bits s)) ≡ fail → child ob u (drop pos (bits s)) ≡ fail) where
+    (x : Extent) (m : Measured inplace (measure ob (drop pos (bits s))) x) (fails : (u : State) → measure ob (drop pos (bits s)) ≡ fail → child ob u (drop pos (bits s)) ≡ fail) where
   module _ (p : Places) (o₁ : List ℕ) (st : Stood u48 (referred u48 inplace x (stateOf c o)) (stateOf p o₁) c p)
       (q : Places) (o₂ : List ℕ) (op : Opens u48 (opened u48 S ob inplace x (stateOf p o₁)) (stateOf q o₂) q)
       (yw : Bool) (y : Places) (o₃ : List ℕ) (yn : ℕ) (em : EmittedAt s (child ob (stateOf q o₂) (drop pos (bits s))) pos q 0 yw y o₃ yn) where
@@ -93,7 +94,7 @@ module _ (child : Emitter) (measure : Surveyor) (S : Schema) (s : List ℕ) (inp
     referred-is : emitRefer child measure u48 S inplace ob (stateOf c o) (drop pos (bits s)) ≡ back (pick yw (got (stateOf y o₃) (drop yn (bits s))) fail)
     unfolding within
     referred-is =
-        refer-is child S inplace ob (stateOf c o) (drop pos (bits s)) measure x (m .is) lost
+        refer-is child S inplace ob (stateOf c o) (drop pos (bits s)) measure x (m .is) fails
         ∙ ap (λ (z : State). bind (child ob (opened u48 S ob inplace x z) (drop pos (bits s))) (λ inner zs. got (pick inplace (leaveContent z inner) (leaveObject z inner)) zs)) (sym (st .is))
         ∙ ap (λ (z : State). back (child ob z (drop pos (bits s)))) (sym (op .is)) ∙ ap back (em .is)
 

@@ -27,7 +27,7 @@ use Rattle.write_measure.specs.Mapped.{Has, bind-has}
 use Rattle.write_measure.specs.Surveyed.{Small, Fits, SurveyedAt}
 use Rattle.write_measure.specs.declared.Extent.{Extent}
 use Rattle.write_pass.proofs.OpenCases.{not-list, not-table}
-use Rattle.write_pass.specs.Emitting.{isBlob}
+use Rattle.schema.specs.Kinds.{isBlob}
 use Rattle.write_pass.specs.Measure.{Sizes, Measured, MeasuredContent, KnownSize, anyInPlace, list-sizes, table-sizes, measured-deep, measured-content}
 
 -- ---- whether a table has an in-place member, from member j on

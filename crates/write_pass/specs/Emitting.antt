@@ -13,13 +13,13 @@ use Rattle.coding.specs.Walk.{headerSize}
 use Rattle.coding.specs.Sheet.{Parsed, fail, got, unknownEnum}
 use Rattle.coding.specs.declared.Object.{Object}
 use Rattle.coding.specs.declared.Flat.{Flat}
-use Rattle.coding.specs.declared.Object.the-variants as O
 use Rattle.coding.specs.declared.Kind.{Kind}
 use Rattle.coding.specs.declared.Kind.the-variants.{OfFlat, OfObject, OfUnion}
 use Rattle.coding.specs.declared.Member.{Member}
+use Rattle.schema.specs.Kinds.{isBlob}
 use Rattle.write_measure.specs.Survey.{belowCount, surveyMark, Surveyor}
 use Rattle.write_measure.specs.declared.Extent.{Extent}
-use Rattle.write_store.specs.State.{State, enterContent, putByte, putNumber}
+use Rattle.write_store.specs.State.{State, enterObject, enterContent, putByte, putNumber}
 use Rattle.write_pass.specs.EmitSheet.{Emitter, putNothing, emitIf, openObject, emitPart, flagged, emitNumber, lackFlat, passFlat, emitFlat, emitBlob}
 use Rattle.write_store.specs.Storing.{stateOf, leftObject, leftContent, HeldOk, forward}
 use Rattle.write_store.specs.declared.Places.{Places}
@@ -45,6 +45,10 @@ emitMarkedFlat S f st xs = surveyMark (lackFlat S f st) (passFlat f (lackFlat S 
 unfoldable pub referred : ℕ → Bool → Extent → State → State
 referred o inplace x st = pick inplace (putNumber o (x .length) st) (putNumber o (st .next) st)
 
+-- an object's header by its magic, at the next object's place
+unfoldable pub headed : ℕ → ℕ → Extent → State → State
+headed o mg x st = putNumber o (x .length) (putNumber 4 mg (enterObject (headerSize o + x .width) (x .chain) st))
+
 unfoldable pub opened : ℕ → Schema → Object → Bool → Extent → State → State
 opened o S ob inplace x st = pick inplace (enterContent (x .width) st) (openObject o S ob x st)
 
@@ -63,14 +67,7 @@ refers (OfFlat k) = false
 refers (OfObject ob) = true
 refers (OfUnion i) = true
 
--- a text or bytes
-unfoldable pub isBlob : Object → Bool
-isBlob O.Text = true
-isBlob O.Bytes = true
-isBlob (O.List i) = false
-isBlob (O.Table i) = false
-
--- whether no objects stand below: what leads to no object, and a text or bytes by its offset
+-- terminal: a flat value, or a text or bytes by its offset. No object stands below it or in place behind it
 unfoldable pub isTerminal : Kind → Bool → Bool
 isTerminal (OfFlat k) inplace = true
 isTerminal (OfObject ob) inplace = not inplace && isBlob ob

@@ -18,7 +18,7 @@ use Rattle.coding.specs.declared.Kind.{Kind}
 use Rattle.coding.specs.declared.Kind.the-variants.{OfFlat, OfObject, OfUnion}
 use Rattle.coding.specs.declared.Member.{Member}
 use Rattle.laws.specs.Lists.{never}
-use Rattle.write_measure.specs.Survey.{capped, surveyMark, plain, opened, joined, referred, mayLack, Surveyor, plainOf, surveyObject, surveyChoice, surveyFlat, surveyStruct, surveyBody, surveyLostFlat, surveyLost, surveyPart, surveyElement, surveyMembers, surveyElements, surveyBlob, surveyContent, survey}
+use Rattle.write_measure.specs.Survey.{capped, surveyMark, plain, opened, joined, referred, mayLack, Surveyor, plainOf, surveyObject, surveyChoice, surveyFlat, surveyStruct, surveyBody, surveyUnknownFlat, surveyUnknown, surveyPart, surveyElement, surveyMembers, surveyElements, surveyBlob, surveyContent, survey}
 use Rattle.write_measure.specs.Surveyed.{Small}
 use Rattle.write_measure.specs.Mapped.{Has, bind-has}
 use Rattle.write_measure.specs.Summed.{capped-in}
@@ -64,13 +64,13 @@ unfolding bind
 bind-on P Q fail next g h = tt
 bind-on P Q (got a xs) next g h = h a xs g
 
-mark-has : {A : Type 0} (P : A → Type 0) (none : A) (lost body : List ℕ → Parsed A) → P none → ((ys : List ℕ) → Has P (lost ys)) → ((ys : List ℕ) → Has P (body ys))
-    → (xs : List ℕ) → Has P (surveyMark none lost body xs)
+mark-has : {A : Type 0} (P : A → Type 0) (none : A) (unknown body : List ℕ → Parsed A) → P none → ((ys : List ℕ) → Has P (unknown ys)) → ((ys : List ℕ) → Has P (body ys))
+    → (xs : List ℕ) → Has P (surveyMark none unknown body xs)
 unfolding surveyMark
-mark-has P none lost body n l b xs =
+mark-has P none unknown body n l b xs =
     bind-has P (takeNumber 2 xs) _ (λ mark ys. by ys (eqb mark 0) (eqb mark 1) (eqb mark 2))
   where
-    by : (ys : List ℕ) (t u w : Bool) → Has P (pick t (got none ys) (pick u (body ys) (pick w (lost ys) fail)))
+    by : (ys : List ℕ) (t u w : Bool) → Has P (pick t (got none ys) (pick u (body ys) (pick w (unknown ys) fail)))
     by ys true u w = n
     by ys false true w = b ys
     by ys false false true = l ys
@@ -107,17 +107,17 @@ module _ (child : Surveyor) (o : ℕ) (S : Schema) where
       by c ys true = object-unchained true (caseOf (casesOf S i) c) ys
       by c ys false = tt
 
-  lost-unchained : (k : Kind) (xs : List ℕ) → Has Unchained (surveyLost S k xs)
-  unfolding surveyLost
-  lost-unchained (OfFlat k) xs = plain-unchained (surveyLostFlat k xs)
-  lost-unchained (OfObject ob) xs = tt
-  lost-unchained (OfUnion i) xs = plain-unchained _
+  unknown-unchained : (k : Kind) (xs : List ℕ) → Has Unchained (surveyUnknown S k xs)
+  unfolding surveyUnknown
+  unknown-unchained (OfFlat k) xs = plain-unchained (surveyUnknownFlat k xs)
+  unknown-unchained (OfObject ob) xs = tt
+  unknown-unchained (OfUnion i) xs = plain-unchained _
 
   part-unchained : (k : Kind) (optional : Bool) (xs : List ℕ) → Has Unchained (surveyPart child o S k optional false xs)
   unfolding surveyPart
   part-unchained k optional xs =
-      mark-has Unchained (plain (mayLack optional k)) (surveyLost S k) (surveyBody child o S k optional false) (unfold plain in refl)
-      (λ ys. lost-unchained k ys) (λ ys. body-unchained k optional ys) xs
+      mark-has Unchained (plain (mayLack optional k)) (surveyUnknown S k) (surveyBody child o S k optional false) (unfold plain in refl)
+      (λ ys. unknown-unchained k ys) (λ ys. body-unchained k optional ys) xs
 
   element-unchained : (k : Kind) (xs : List ℕ) → Has Unchained (surveyElement child o S k xs)
   unfolding surveyElement

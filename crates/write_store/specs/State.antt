@@ -59,12 +59,6 @@ putBit x st = putBitAt x (st .free) st
 unfoldable pub putOctet : ℕ → State → State
 putOctet y st = record { at = st .at + 1; last = st .at; free = 0; held = y; tail = st .tail; next = st .next; out = set (st .out) (st .at) y }
 
--- a number of eight bits, its highest bit made the lowest
-unfoldable pub reversed : ℕ → ℕ
-reversed x =
-    x / 2 ^ 7 % 2 + x / 2 ^ 6 % 2 * 2 + (x / 2 ^ 5 % 2 * 4 + x / 2 ^ 4 % 2 * 8)
-    + (x / 2 ^ 3 % 2 * 16 + x / 2 ^ 2 % 2 * 32 + (x / 2 ^ 1 % 2 * 64 + x / 2 ^ 0 % 2 * 128))
-
 -- an object of w bytes with c bytes in place behind it; and back where it is referred to. Places count to one past the size.
 unfoldable pub enterObject : ℕ → ℕ → State → State
 enterObject w c st =

@@ -73,7 +73,7 @@ use Rattle.write_pass.proofs.is_terminal.Reads as is-terminal-reads
 use Rattle.write_pass.proofs.emit_unmarked.Reads as emit-unmarked-reads
 use Rattle.write_pass.proofs.emit_flats.Reads as emit-flats-reads
 use Rattle.write_pass.proofs.emit_text.Reads as emit-text-reads
-use Rattle.write_pass.proofs.integer_width.Reads as integer-width-reads
+use Rattle.schema.proofs.integer_width.Reads as integer-width-reads
 use Rattle.write_pass.proofs.known_size.Reads as known-size-reads
 use Rattle.write_pass.proofs.lack.Reads as lack-reads
 use Rattle.write_pass.proofs.measure.Reads as measure-reads
