@@ -1,8 +1,8 @@
 -- The ways out of the tests of what leads to no object, one lemma for each, in the words of the survey.
 use mathlib.Core.Path.{_≡_, refl, sym, ap, _∙_, subst}
 use mathlib.Core.Bool.{Bool, true, false, _&&_, not}
-use mathlib.Core.List.{List, [], _∷_}
-use Prim.Native.Nat.{ℕ, zero, suc, _+_, _-_, _*_, _%_, _^_, _<_, _≤_}
+use mathlib.Core.List.{List}
+use Prim.Native.Nat.{ℕ, suc, _+_, _-_, _*_, _<_, _≤_}
 use native.Mathlib.Omega.{arith}
 use native.Mathlib.Numerals.{add-one}
 use lib.ListN.{length, take, drop, length-drop, drop-of-length-le}
@@ -18,9 +18,8 @@ use Rattle.coding.specs.Packed as P
 use Rattle.coding.specs.Sheet.{Parsed, fail, got, bind, takeNumber, unknownEnum}
 use Rattle.coding.specs.declared.Flat.{Flat}
 use Rattle.coding.specs.declared.Flat.the-variants.{Boolean, Integer, Float, Enumerated, Struct}
-use Rattle.laws.specs.Sound.{All, FlatSound, Sound}
+use Rattle.laws.specs.Sound.{FlatSound}
 use Rattle.laws.specs.Lists.{all-at}
-use Rattle.laws.specs.Parsed.{structs-length}
 use Rattle.laws.specs.Bits.{bits-length}
 use Rattle.schema.specs.Directory.{Accepted, accepted-sound}
 use Rattle.bitio.specs.Taken.{TakenNumber}

@@ -1,8 +1,8 @@
 -- The ways out of the survey of objects, one lemma for each.
 use mathlib.Core.Path.{_≡_, refl, sym, ap, _∙_, subst}
-use mathlib.Core.Bool.{Bool, true, false, _&&_, not}
-use mathlib.Core.List.{List, [], _∷_}
-use Prim.Native.Nat.{ℕ, zero, suc, _+_, _-_, _*_, _^_, _<_, _≤_}
+use mathlib.Core.Bool.{Bool, true, false, not}
+use mathlib.Core.List.{List}
+use Prim.Native.Nat.{ℕ, zero, suc, _+_, _-_, _*_, _<_, _≤_}
 use native.Mathlib.Omega.{arith}
 use native.Mathlib.Numerals.{add-one, sub-one}
 use lib.ListN.{length, drop, drop-of-length-le}
@@ -21,7 +21,7 @@ use Rattle.coding.specs.declared.Object.the-variants as O
 use Rattle.coding.specs.declared.Kind.{Kind}
 use Rattle.coding.specs.declared.Kind.the-variants.{OfObject}
 use Rattle.coding.specs.declared.Member.{Member}
-use Rattle.laws.specs.Sound.{ObjectSound, KindSound, MemberSound}
+use Rattle.laws.specs.Sound.{ObjectSound, KindSound}
 use Rattle.laws.specs.SoundAt.{member-sound-at, list-index, table-index}
 use Rattle.schema.specs.Directory.{Accepted, accepted-sound}
 use Rattle.bitio.specs.Taken.{TakenNumber}

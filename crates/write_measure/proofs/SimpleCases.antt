@@ -28,9 +28,7 @@ use Rattle.coding.specs.declared.Kind.{Kind}
 use Rattle.coding.specs.declared.Kind.the-variants.{OfFlat, OfObject, OfUnion}
 use Rattle.coding.specs.declared.Member.{Member}
 use Rattle.laws.specs.Sound.{FlatSound, MemberSound}
-use Rattle.laws.specs.SoundAt.{member-sound-at}
-use Rattle.schema.specs.Directory.{Accepted, Block, accepted-sound}
-use Rattle.schema.proofs.Access.{member-is}
+use Rattle.laws.specs.RecordSound.{width-range}
 use Rattle.bitio.specs.Taken.{TakenNumber, TakenBytes}
 use Rattle.write_measure.specs.Survey.{testNumber, testIf, anyNumber, floatFine, belowCount, surveyMark, surveyFlat, surveyStruct, surveyUnknownFlat, flatMayLack, mayLack, plain, opened, joined, referred, Surveyor, plainOf, surveyBlob, surveyBody, surveyPart, surveyMembers, surveyContent, survey}
 use Rattle.write_measure.specs.Surveyed.{TestedAt, Small, Fits, SurveyedAt}
@@ -381,23 +379,12 @@ behind-laid j c w h l r q =
     record { end = omega arith; byte = q .byte; bit = q .bit }
 
 -- ---- the bytes of an integer or a float
-pub width-is : (k j w : ℕ) → k ≡ j → w ≡ P.widthOf j → w ≡ P.widthOf k
-width-is k j w e h = rw e h
+module _ (k w r : ℕ) (er : r ≡ w) (ew : w ≡ P.widthOf k) where
+  pub width-found : r ≡ P.widthOf k
+  width-found = er ∙ ew
 
-more : (k n : ℕ) → n ≤ k → (k ≡ n → ⊥) → suc n ≤ k
-more k n l h = omega arith
-
-only : (k n : ℕ) → n ≤ k → k < suc n → k ≡ n
-only k n l h = omega arith
-
-pub width-last : (k : ℕ) → 0 < k → k < 11 → (k ≡ 1 → ⊥) → (k ≡ 2 → ⊥) → (k ≡ 3 → ⊥) → (k ≡ 4 → ⊥) → (k ≡ 5 → ⊥) → (k ≡ 6 → ⊥) → (k ≡ 7 → ⊥) → (k ≡ 8 → ⊥) → (k ≡ 9 → ⊥)
-    → 8 ≡ P.widthOf k
-width-last k g l a b c d e f h i j =
-    width-is k 10 8 (only k 10 (more k 9 (more k 8 (more k 7 (more k 6 (more k 5 (more k 4 (more k 3 (more k 2 (more k 1 g a) b) c) d) e) f) h) i) j) l) (unfold P.widthOf in refl)
-
-pub number-kind : (k : ℕ) → (k ≡ 0 → ⊥) → 0 < k
-number-kind zero h = absurd (h refl)
-number-kind (suc k) h = omega arith
+  pub width-small : k < 11 → r ≤ 8
+  width-small h = let l = width-range k h .1 in rw (er, ew) l
 
 -- ---- a text or bytes that is there
 module _ (o : ℕ) (s : List ℕ) (d more : ℕ) (inplace may : Bool) (pos : ℕ) (h : d ≡ 0 → ⊥) (whole : Bool) (x next : ℕ) (taken : TakenNumber s pos 32 whole x next) where

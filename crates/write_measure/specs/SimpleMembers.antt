@@ -1,4 +1,4 @@
--- SimpleMembers: members that lead to no object but a text or bytes, so that no walk to others is needed for them.
+-- Simple members: flat values, texts and bytes. Nothing in them has parts, so that no walk to other objects is needed.
 use mathlib.Core.Path.{_≡_, refl}
 use mathlib.Core.Bool.{Bool, true, false}
 use mathlib.Core.List.{List, _∷_}
@@ -18,11 +18,11 @@ use Rattle.write_measure.specs.Survey.{surveyMark, surveyFlat, surveyStr
 use Rattle.write_measure.specs.Surveyed.{Small}
 use Rattle.write_measure.specs.declared.Extent.{Extent}
 
--- what leads to no object, with its mark: whether it can be written
+-- a flat value with its mark: whether it can be written
 unfoldable pub flatPart : (ℕ → List ℕ → Parsed Bool) → Bool → Flat → List ℕ → Parsed Bool
 flatPart inner optional k xs = surveyMark (flatMayLack optional k) (surveyUnknownFlat k) (surveyFlat inner optional k) xs
 
--- a member with its mark, and what stands before it
+-- a member with its mark, joined to the extent of what stands before it
 unfoldable pub joinedPart : Surveyor → ℕ → Schema → Member → Extent → List ℕ → Parsed Extent
 joinedPart child o S r a xs = bind (surveyPart child o S (r .kind) (r .optional) (r .inplace) xs) (λ e ys. got (joined a e) ys)
 
@@ -58,7 +58,7 @@ module _ (child : Surveyor) (o : ℕ) (S : Schema) where
       by fail = refl
       by (got m ys) = marks (eqb m 0) (eqb m 1) (eqb m 2) ys
 
-  -- a member, and those after it
+  -- members in turn are the first, joined to what stands before it, and then those after it
   pub members-joined : (r : Member) (rs : List Member) (a : Extent) (xs : List ℕ)
       → surveyMembers child o S (r ∷ rs) a xs ≡ bind (joinedPart child o S r a xs) (λ e ys. surveyMembers child o S rs e ys)
   unfolding surveyMembers joinedPart bind

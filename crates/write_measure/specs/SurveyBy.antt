@@ -1,7 +1,6 @@
 -- What the contracts of this crate say, in few words: the survey of each part by the schema's bytes b, and a function's answer
 -- for the sheet s from bit `pos` on. `o` is the width of an offset in bytes; d objects may stand below.
 use Prim.Native.Nat.{ℕ, _*_, _≤_}
-use mathlib.Core.Path.{_≡_}
 use mathlib.Core.List.{List}
 use mathlib.Core.Bool.{Bool, false}
 use lib.ListN.{length, drop}

@@ -9,10 +9,10 @@ use lib.ListN.{length}
 use lib.Dec.{ltb, leb}
 use Rattle.coding.specs.Lists.{pick}
 use Rattle.coding.specs.Schema.{Schema, casesOf, caseOf}
-use Rattle.coding.specs.Value.{Value, Values, absent, unknown, number, row, chosen, none, _then_, present, known, asNumber, asObject, first, others}
+use Rattle.coding.specs.Value.{Value, Values, absent, unknown, chosen, _then_, present, known, asNumber, asObject, first, others}
 use Rattle.coding.specs.Cells.{width, chain, below, packBits}
 use Rattle.coding.specs.Sheet.{Parsed, fail, got, bind, takeNumber, takeIf, takeFlat, takeStruct, Decoder, takeChoice, takeBody, takeUnknownFlat, takeUnknown, takePart, unmarked, takeElement, takeMembers, takeElements}
-use Rattle.coding.specs.Message.{lengthOf, flatWritable, Test, valueWritable, membersWritable, elementsWritable, Planner, valueSlots, membersSlots, elementsSlots}
+use Rattle.coding.specs.Message.{lengthOf, flatWritable, Test, valueWritable, membersWritable, elementsWritable, Planner, membersSlots, elementsSlots}
 use Rattle.coding.specs.declared.Flat.{Flat}
 use Rattle.coding.specs.declared.Flat.the-variants as F
 use Rattle.coding.specs.declared.Object.{Object}
@@ -20,11 +20,11 @@ use Rattle.coding.specs.declared.Kind.{Kind}
 use Rattle.coding.specs.declared.Kind.the-variants.{OfFlat, OfObject, OfUnion}
 use Rattle.coding.specs.declared.Member.{Member}
 use Rattle.laws.specs.Sound.{Sound}
-use Rattle.write_measure.specs.Survey.{testIf, plain, joined, referred, Surveyor, plainOf, surveyFlat, surveyStruct, surveyObject, surveyChoice, surveyBody, surveyUnknownFlat, aboveCount, surveyUnknown, flatMayLack, mayLack, surveyPart, surveyElement, surveyMembers, surveyElements}
+use Rattle.write_measure.specs.Survey.{testIf, plain, joined, referred, Surveyor, plainOf, surveyObject, surveyChoice, surveyBody, aboveCount, surveyUnknown, flatMayLack, mayLack, surveyPart, surveyElement, surveyMembers, surveyElements}
 use Rattle.write_measure.specs.Mapped.{mapped, Has, mapped-same, bind-mapped, mapped-got, seq, mark-mapped}
 use Rattle.write_measure.specs.Summed.{summed, plain-summed, joined-summed, referFine, referred-summed}
 use Rattle.write_measure.specs.SlotSizes.{objectChain, objectBelow, valueChain, valueBelow, value-chain, value-below, member-chain, member-below}
-use Rattle.write_measure.specs.SurveyFlats.{Present, flat-surveyed, flat-there, unknown-surveyed}
+use Rattle.write_measure.specs.SurveyFlats.{Present, flat-surveyed, unknown-surveyed}
 use Rattle.write_measure.specs.declared.Extent.{Extent}
 
 has-all : {A : Type 0} (P : A → Type 0) → ((a : A) → P a) → (p : Parsed A) → Has P p

@@ -3,6 +3,7 @@
 use coding::Cursor;
 use coding::Flat;
 use coding::Kind;
+use coding::Member;
 use coding::Object;
 use message_header::TableObject;
 ghost use mathlib.Core.Path.{_≡_};
@@ -253,34 +254,10 @@ fn flat_unknown(s: &[u8], pos: usize, k: Flat) -> Tested
 // ---- a flat member by its record in the schema
 // The bytes of an integer or a float by its kind.
 fn number_width(k: usize) -> usize
-    requires { ⌜ (0 < k) × (k < 11) ⌝ }
+    requires { ⌜ k < 11 ⌝ }
     ensures { λ r. ⌜ (r ≡ P.widthOf k) × (r ≤ 8) ⌝ }
 {
-    if k == 1 {
-        return 1;
-    }
-    if k == 2 {
-        return 2;
-    }
-    if k == 3 {
-        return 4;
-    }
-    if k == 4 {
-        return 8;
-    }
-    if k == 5 {
-        return 1;
-    }
-    if k == 6 {
-        return 2;
-    }
-    if k == 7 {
-        return 4;
-    }
-    if k == 8 {
-        return 8;
-    }
-    if k == 9 { 4 } else { 8 }
+    wire::index(schema::width_of(k))
 }
 
 // Whether the flat member of the record at `at` may have no value: an optional one may, and any enum.
@@ -358,8 +335,8 @@ fn choice_unknown(b: &[u8], dir: &[u16], s: &[u8], pos: usize, u: usize) -> Test
 {
     let n = schema::case_count(b, dir, u);
     let x = bitio::take_number(s, pos, 16);
-    let ok = (n as u64) < x.value;
-    tested_if(x.whole, ok, false, x.next)
+    let above = (n as u64) < x.value;
+    tested_if(x.whole, above, false, x.next)
 }
 
 // ---- extents
@@ -967,20 +944,12 @@ fn part(
 }
 
 // `part` of a table's member. It is apart for speed: a table's slices are stored for the call only where there is such a member.
-fn member_part(
-    b: &[u8],
-    dir: &[u16],
-    s: &[u8],
-    d: usize,
-    k: Kind,
-    optional: bool,
-    inplace: bool,
-    pos: usize,
-) -> Surveyed
-    requires { ⌜ (Accepted (now b) (now dir)) × (KindSound (P.parse (now b)) k) × By.Inside (now s) pos ⌝ }
-    ensures { λ r. ⌜ By.Surveys (now (s .entry)) pos (By.part B.u48 d (now (b .entry)) k optional inplace) r ⌝ }
+fn member_part(b: &[u8], dir: &[u16], s: &[u8], d: usize, r: Member, pos: usize) -> Surveyed
+    requires { ⌜ (Accepted (now b) (now dir)) × (KindSound (P.parse (now b)) (r .kind)) × By.Inside (now s) pos ⌝ }
+    ensures { λ q. ⌜ By.Surveys (now (s .entry)) pos (By.part B.u48 d (now (b .entry)) (r .kind) (r .optional) (r .inplace)) q ⌝ }
 {
-    part(b, dir, s, d, k, optional, inplace, pos)
+    let k = r.kind;
+    part(b, dir, s, d, k, r.optional, r.inplace, pos)
 }
 
 // The content of table t; `size` is that of its full fixed part.
@@ -1008,8 +977,7 @@ fn table(b: &[u8], dir: &[u16], s: &[u8], d: usize, t: usize, size: usize, at: u
             };
         }
         let r = schema::member(b, dir, t, i);
-        let k = r.kind;
-        let x = member_part(b, dir, s, d, k, r.optional, r.inplace, g.next);
+        let x = member_part(b, dir, s, d, r, g.next);
         if !x.whole {
             return unlawful(at);
         }

@@ -1,7 +1,7 @@
 -- The ways out of what measures an object, one lemma for each.
-use mathlib.Core.Path.{_≡_, refl, sym, ap, ap₂, _∙_, subst}
+use mathlib.Core.Path.{_≡_, refl, sym, ap, _∙_, subst}
 use mathlib.Core.Bool.{Bool, true, false, not, _&&_}
-use mathlib.Core.List.{List, [], _∷_}
+use mathlib.Core.List.{List}
 use Prim.Native.Nat.{ℕ, suc, _+_, _^_, _<_, _≤_}
 use native.Mathlib.Omega.{arith}
 use native.Mathlib.Numerals.{add-one}
@@ -24,7 +24,7 @@ use Rattle.write_measure.proofs.ObjectCases.{table-counted}
 use Rattle.bitio.specs.Taken.{TakenNumber}
 use Rattle.write_measure.specs.Survey.{Surveyor, opened, surveyElements, surveyBlob, surveyContent, survey}
 use Rattle.write_measure.specs.Mapped.{Has, bind-has}
-use Rattle.write_measure.specs.Surveyed.{Small, Fits, SurveyedAt}
+use Rattle.write_measure.specs.Surveyed.{Fits, SurveyedAt}
 use Rattle.write_measure.specs.declared.Extent.{Extent}
 use Rattle.write_pass.proofs.OpenCases.{not-list, not-table}
 use Rattle.schema.specs.Kinds.{isBlob}

@@ -11,10 +11,10 @@ use Rattle.coding.specs.Bytes.{leBytes}
 use Rattle.coding.specs.Schema.{Schema, elementOf, casesOf, caseOf, tableOf}
 use Rattle.coding.specs.Layout.{hasFlag}
 use Rattle.coding.specs.Walk.{headerSize, magic}
-use Rattle.coding.specs.Value.{Value, Values, absent, unknown, number, blob, row, chosen, none, _then_, present, asNumber, asBlob, asRow, asObject, first, others}
-use Rattle.coding.specs.Cells.{width, chain, below, Slots, packBits}
+use Rattle.coding.specs.Value.{Value, Values, absent, unknown, blob, row, chosen, present, asNumber, asBlob, asRow, asObject, first, others}
+use Rattle.coding.specs.Cells.{width, chain, Slots, packBits}
 use Rattle.coding.specs.Cells.Slots.{end, bytes, bit, reference, inPlace}
-use Rattle.coding.specs.Sheet.{Parsed, fail, got, bind, takeNumber, takeBytes, takeIf, unknownEnum, takeUnknownEnum, takeFlat, takeStruct, Decoder, takeChoice, takeBody, takeUnknownFlat, takeUnknown, takePart, unmarked, takeElement, takeMembers, takeElements, takeBlob, takeContent}
+use Rattle.coding.specs.Sheet.{Parsed, fail, got, bind, takeNumber, takeBytes, unknownEnum, takeUnknownEnum, Decoder, takeChoice, takeBody, takeUnknownFlat, takeUnknown, takePart, unmarked, takeElement, takeMembers, takeElements, takeBlob, takeContent}
 use Rattle.coding.specs.Message.{lengthOf, Test, zeros, numberOr, flatSlots, Planner, objectSlots, referSlots, valueSlots, flagOf, memberSlots, membersSlots, elementsSlots, contentSlots}
 use Rattle.coding.specs.declared.Flat.{Flat}
 use Rattle.coding.specs.declared.Flat.the-variants as F
@@ -24,16 +24,15 @@ use Rattle.coding.specs.declared.Kind.{Kind}
 use Rattle.coding.specs.declared.Kind.the-variants.{OfFlat, OfObject, OfUnion}
 use Rattle.coding.specs.declared.Member.{Member}
 use Rattle.laws.specs.Sound.{Sound}
-use Rattle.write_measure.specs.Survey.{capped, aboveCount, surveyMark, Surveyor}
+use Rattle.write_measure.specs.Survey.{capped, aboveCount, Surveyor}
 use Rattle.write_measure.specs.Mapped.{mapped, Has, mapped-same, bind-mapped, bind-has, seq, mark-mapped}
 use Rattle.write_measure.specs.SlotSizes.{length-leBytes}
 use Rattle.write_measure.specs.SurveyFlats.{Present, flat-there}
 use Rattle.write_measure.specs.SurveyParts.{objectExtent, ObjectSurveyed}
 use Rattle.write_store.specs.State.{State, putBytes, putBit, enterObject, leaveObject, enterContent, leaveContent, putByte, putNumber}
 use Rattle.write_pass.specs.Emit.{emitSlots}
-use Rattle.write_pass.specs.EmitSheet.{emitIf, putNothing, emitFlat, lackFlat, lack, passFlat, pass, Emitter, openObject, emitObject, emitContentAt, emitRefer, emitChoice, emitBody, emitPart, emitElement, flagged, emitMembers, emitElements, emitBlob, emitContent}
+use Rattle.write_pass.specs.EmitSheet.{putNothing, lackFlat, lack, passFlat, pass, Emitter, openObject, emitObject, emitContentAt, emitRefer, emitChoice, emitBody, emitPart, emitElement, flagged, emitMembers, emitElements, emitBlob, emitContent}
 use Rattle.write_pass.specs.EmitFlats.{put-none, if-emitted, flat-emitted, lack-emitted}
-use Rattle.write_measure.specs.declared.Extent.{Extent}
 
 has-all : {A : Type 0} (P : A → Type 0) → ((a : A) → P a) → (p : Parsed A) → Has P p
 has-all P h fail = tt

@@ -78,7 +78,7 @@ bit-run n st b ys =
     (le-leb 1 (length (b ∷ ys)) (omega arith))
     ∙ ap (λ (x : ℕ). emitRun 1 putBit n (putBit x st) ys) z
 
--- too few bits
+-- a run of bools that has too few bits fails
 run-short : (m : ℕ) (st : State) (xs : List ℕ) → length xs < m → emitRun 1 putBit m st xs ≡ fail
 unfolding emitRun emitNumber takeNumber bind
 run-short zero st xs h = absurd (let z : ⊥ = omega arith in z)
@@ -197,7 +197,7 @@ module _ (child : Emitter) (measure : Surveyor) (o : ℕ) (S : Schema) where
   octets-run (OfObject ob) e n st xs = absurd (let y : ⊥ = omega arith in y)
   octets-run (OfUnion i) e n st xs = absurd (let y : ⊥ = omega arith in y)
 
-  -- a list of them is stored as bytes are
+  -- a list of integers of one byte is stored as bytes are
   pub octets-blob : (i : ℕ) → integerWidth (elementOf S i) ≡ 1 → (st : State) (xs : List ℕ) → All Bit xs → emitContent child measure o S (O.List i) st xs ≡ emitBlob [] st xs
   unfolding emitContent emitBlob takeNumber bind
   octets-blob i w st xs h = by (leb 32 (length xs))
@@ -215,7 +215,7 @@ module _ (child : Emitter) (measure : Surveyor) (o : ℕ) (S : Schema) where
       by true = run (value (take 32 xs)) (drop 32 xs) (all-drop Bit 32 xs h)
 
 -- ---- elements with a mark
--- n of them
+-- n floats or enums, each with its mark
 unfoldable pub emitFlats : Schema → Flat → ℕ → State → List ℕ → Parsed State
 emitFlats S f zero st xs = got st xs
 emitFlats S f (suc n) st xs = bind (emitMarkedFlat S f st xs) (λ next ys. emitFlats S f n next ys)

@@ -29,19 +29,19 @@ unfoldable pub closed : Bool → Places → Places → Places
 closed inplace c inner = pick inplace (leftContent c inner) (leftObject c inner)
 
 -- ---- parts of the pass that the code has functions of their own for
--- a struct's enum, with its mark
+-- an enum of a struct or of a list, with its mark
 unfoldable pub emitMarkedEnum : ℕ → State → List ℕ → Parsed State
 emitMarkedEnum n st xs =
     surveyMark (putByte 255 st) (emitIf 8 (unknownEnum n) putNothing (putByte 255 st)) (emitIf 8 (belowCount n) putByte st) xs
 
--- a float with its mark, and whatever leads to no object
+-- a list's float, and any flat value, with its mark
 unfoldable pub emitMarkedFloat : ℕ → State → List ℕ → Parsed State
 emitMarkedFloat w st xs = surveyMark (putNumber w (noFloat w) st) (λ ys. fail) (emitNumber (8 * w) (putNumber w) st) xs
 
 unfoldable pub emitMarkedFlat : Schema → Flat → State → List ℕ → Parsed State
 emitMarkedFlat S f st xs = surveyMark (lackFlat S f st) (passFlat f (lackFlat S f st)) (emitFlat S f st) xs
 
--- what refers to an object, and where its content is written
+-- what refers to an object: its offset, or its length in place
 unfoldable pub referred : ℕ → Bool → Extent → State → State
 referred o inplace x st = pick inplace (putNumber o (x .length) st) (putNumber o (st .next) st)
 
@@ -49,19 +49,21 @@ referred o inplace x st = pick inplace (putNumber o (x .length) st) (putNumber o
 unfoldable pub headed : ℕ → ℕ → Extent → State → State
 headed o mg x st = putNumber o (x .length) (putNumber 4 mg (enterObject (headerSize o + x .width) (x .chain) st))
 
+-- where an object's content is stored: behind its header, or in place
 unfoldable pub opened : ℕ → Schema → Object → Bool → Extent → State → State
 opened o S ob inplace x st = pick inplace (enterContent (x .width) st) (openObject o S ob x st)
 
+-- a member with its flag, if it has one, and its mark
 unfoldable pub emitMember : Emitter → Surveyor → ℕ → Schema → Member → State → List ℕ → Parsed State
 emitMember child measure o S r st xs =
     emitPart child measure o S (r .kind) (r .inplace) (flagged r 0 st) (flagged r 1 st) xs
 
--- without a flag
+-- a member or an element that has no flag, with its mark
 unfoldable pub emitUnflagged : Emitter → Surveyor → ℕ → Schema → Kind → Bool → State → List ℕ → Parsed State
 emitUnflagged child measure o S k inplace st xs = emitPart child measure o S k inplace st st xs
 
 -- ---- kinds
--- whether it leads to an object
+-- whether a kind leads to an object
 unfoldable pub refers : Kind → Bool
 refers (OfFlat k) = false
 refers (OfObject ob) = true

@@ -11,14 +11,14 @@ use Rattle.coding.specs.Lists.{pick}
 use Rattle.coding.specs.Schema.{Schema, elementOf, casesOf, caseOf, tableOf}
 use Rattle.coding.specs.Layout.{fixedSize}
 use Rattle.coding.specs.Step.{elementsSize}
-use Rattle.coding.specs.Sheet.{Parsed, fail, got, bind, takeNumber, takeBytes, unmarked}
+use Rattle.coding.specs.Sheet.{Parsed, fail, got, bind, takeNumber, unmarked}
 use Rattle.coding.specs.declared.Object.{Object}
 use Rattle.coding.specs.declared.Object.the-variants as O
 use Rattle.coding.specs.declared.Kind.{Kind}
 use Rattle.coding.specs.declared.Kind.the-variants.{OfFlat, OfObject, OfUnion}
 use Rattle.coding.specs.declared.Member.{Member}
 use Rattle.laws.specs.Lists.{never}
-use Rattle.write_measure.specs.Survey.{capped, surveyMark, plain, opened, joined, referred, mayLack, Surveyor, plainOf, surveyObject, surveyChoice, surveyFlat, surveyStruct, surveyBody, surveyUnknownFlat, surveyUnknown, surveyPart, surveyElement, surveyMembers, surveyElements, surveyBlob, surveyContent, survey}
+use Rattle.write_measure.specs.Survey.{capped, surveyMark, plain, opened, joined, referred, mayLack, Surveyor, plainOf, surveyObject, surveyChoice, surveyFlat, surveyStruct, surveyBody, surveyUnknownFlat, surveyUnknown, surveyPart, surveyElement, surveyMembers, surveyElements, surveyContent, survey}
 use Rattle.write_measure.specs.Surveyed.{Small}
 use Rattle.write_measure.specs.Mapped.{Has, bind-has}
 use Rattle.write_measure.specs.Summed.{capped-in}
@@ -200,7 +200,7 @@ table-sizes child o S inplace t h xs = by inplace h
         (members-unchained child o S rs (g refl) (opened n n) (unfold opened in refl) xs)
         (λ x s c. sizes-of false n n x s (λ e. c))
 
--- d objects deep
+-- what holds of a content whatever stands below it, holds of the object with d objects of depth left
 pub measured-deep : (d o : ℕ) (S : Schema) (inplace : Bool) (ob : Object) (xs : List ℕ) (r : Extent)
     → ((child : Surveyor) → Has (Sizes inplace r) (surveyContent child o S ob xs)) → Has (Sizes inplace r) (survey d o S ob xs)
 unfolding survey

@@ -1,6 +1,6 @@
 -- Where a message goes on and what its buffer holds, and what a store of bytes or of a bit makes of it. Each bit is added to the
 -- last bool byte as it comes.
-use Prim.Native.Nat.{ℕ, zero, suc, _+_, _*_, _/_, _%_, _-_, _^_}
+use Prim.Native.Nat.{ℕ, zero, suc, _+_, _*_, _-_, _^_}
 use mathlib.Core.List.{List, [], _∷_}
 use lib.ListN.{length, set}
 use lib.Seq.{sets}
@@ -37,7 +37,7 @@ putByte x st = putBytes (x ∷ []) st
 unfoldable pub putNumber : ℕ → ℕ → State → State
 putNumber w x st = putBytes (leBytes w x) st
 
--- into a new byte, or into the last bool byte
+-- a bit into a new byte, or into the last bool byte
 unfoldable pub putBitAt : ℕ → ℕ → State → State
 putBitAt x zero st =
     record { at = st .at + 1; last = st .at; free = 7; held = x; tail = st .tail; next = st .next; out = set (st .out) (st .at) x }
