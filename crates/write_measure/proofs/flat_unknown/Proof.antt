@@ -1,10 +1,10 @@
 use borrow.Author.Needs.{needs}
-use Rattle.write_measure.proofs.PartCases.{lost-boolean, lost-integer, lost-float, lost-enum, lost-struct}
-use Rattle.write_measure.proofs.flat_lost.Statement.{statement}
-use Rattle.write_measure.proofs.flat_lost.Tie as tie
-use Rattle.write_measure.proofs.flat_lost.Reads as reads
-use Rattle.write_measure.proofs.flat_lost.Lts as lts
-use Rattle.write_measure.proofs.enum_lost.Reads as enum-lost-reads
+use Rattle.write_measure.proofs.PartCases.{unknown-boolean, unknown-integer, unknown-float, unknown-enum, unknown-struct}
+use Rattle.write_measure.proofs.flat_unknown.Statement.{statement}
+use Rattle.write_measure.proofs.flat_unknown.Tie as tie
+use Rattle.write_measure.proofs.flat_unknown.Reads as reads
+use Rattle.write_measure.proofs.flat_unknown.Lts as lts
+use Rattle.write_measure.proofs.enum_unknown.Reads as enum-unknown-reads
 use Rattle.write_measure.proofs.not_lawful.Reads as not-lawful-reads
 
 enum-told : tie.Need-enum-told
@@ -28,8 +28,8 @@ not-lawful-requires-3 c κs = search needs
 enum-known-k : tie.Need-enum-known-k
 enum-known-k c = search needs
 
-enum-lost-requires : tie.Need-enum-lost-requires
-enum-lost-requires c κs = search needs
+enum-unknown-requires : tie.Need-enum-unknown-requires
+enum-unknown-requires c κs = search needs
 
 enum-told-4 : tie.Need-enum-told-4
 enum-told-4 c = search needs
@@ -38,22 +38,22 @@ not-lawful-requires-4 : tie.Need-not-lawful-requires-4
 not-lawful-requires-4 c κs = search needs
 
 returns : tie.Need-returns
-returns c = search lost-boolean
+returns c = search unknown-boolean
 
 returns-2 : tie.Need-returns-2
-returns-2 c = search lost-integer
+returns-2 c = search unknown-integer
 
 returns-3 : tie.Need-returns-3
-returns-3 c = search lost-float
+returns-3 c = search unknown-float
 
 returns-4 : tie.Need-returns-4
-returns-4 c = search lost-enum
+returns-4 c = search unknown-enum
 
 returns-5 : tie.Need-returns-5
-returns-5 c = search lost-struct
+returns-5 c = search unknown-struct
 
-pub flat-lost-spec : {M : Type 1} → statement M
-flat-lost-spec =
+pub flat-unknown-spec : {M : Type 1} → statement M
+flat-unknown-spec =
     tie.close
     (tie.spec
     enum-told
@@ -63,7 +63,7 @@ flat-lost-spec =
     enum-told-3
     not-lawful-requires-3
     enum-known-k
-    enum-lost-requires
+    enum-unknown-requires
     enum-told-4
     not-lawful-requires-4
     returns

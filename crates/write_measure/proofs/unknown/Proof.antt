@@ -1,20 +1,20 @@
 use borrow.Author.Needs.{needs}
-use Rattle.write_measure.proofs.PartCases.{lost-flat, lost-object, lost-union, union-counted}
-use Rattle.write_measure.proofs.lost.Statement.{statement}
-use Rattle.write_measure.proofs.lost.Tie as tie
-use Rattle.write_measure.proofs.lost.Reads as reads
-use Rattle.write_measure.proofs.lost.Lts as lts
+use Rattle.write_measure.proofs.PartCases.{unknown-flat, unknown-object, unknown-union, union-counted}
+use Rattle.write_measure.proofs.unknown.Statement.{statement}
+use Rattle.write_measure.proofs.unknown.Tie as tie
+use Rattle.write_measure.proofs.unknown.Reads as reads
+use Rattle.write_measure.proofs.unknown.Lts as lts
 use Rattle.wire.proofs.index.Reads as index-reads
-use Rattle.write_measure.proofs.choice_lost.Reads as choice-lost-reads
-use Rattle.write_measure.proofs.flat_lost.Reads as flat-lost-reads
+use Rattle.write_measure.proofs.choice_unknown.Reads as choice-unknown-reads
+use Rattle.write_measure.proofs.flat_unknown.Reads as flat-unknown-reads
 use Rattle.write_measure.proofs.plain_of.Reads as plain-of-reads
 use Rattle.write_measure.proofs.unlawful.Reads as unlawful-reads
 
 enum-known-k : tie.Need-enum-known-k
 enum-known-k c = search needs
 
-flat-lost-requires : tie.Need-flat-lost-requires
-flat-lost-requires c κs = search needs
+flat-unknown-requires : tie.Need-flat-unknown-requires
+flat-unknown-requires c κs = search needs
 
 plain-of-requires : tie.Need-plain-of-requires
 plain-of-requires c κs = search needs
@@ -31,33 +31,33 @@ enum-known-k-2 c = search needs
 index-requires : tie.Need-index-requires
 index-requires c κs = search needs
 
-choice-lost-requires : tie.Need-choice-lost-requires
-choice-lost-requires c κs = search (union-counted, needs)
+choice-unknown-requires : tie.Need-choice-unknown-requires
+choice-unknown-requires c κs = search (union-counted, needs)
 
 plain-of-requires-2 : tie.Need-plain-of-requires-2
 plain-of-requires-2 c κs = search needs
 
 returns : tie.Need-returns
-returns c = search lost-flat
+returns c = search unknown-flat
 
 returns-2 : tie.Need-returns-2
-returns-2 c = search lost-object
+returns-2 c = search unknown-object
 
 returns-3 : tie.Need-returns-3
-returns-3 c = search lost-union
+returns-3 c = search unknown-union
 
-pub lost-spec : {M : Type 1} → statement M
-lost-spec =
+pub unknown-spec : {M : Type 1} → statement M
+unknown-spec =
     tie.close
     (tie.spec
     enum-known-k
-    flat-lost-requires
+    flat-unknown-requires
     plain-of-requires
     enum-told
     unlawful-requires
     enum-known-k-2
     index-requires
-    choice-lost-requires
+    choice-unknown-requires
     plain-of-requires-2
     returns
     returns-2

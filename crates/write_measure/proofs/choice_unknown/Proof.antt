@@ -1,9 +1,9 @@
 use borrow.Author.Needs.{needs}
-use Rattle.write_measure.proofs.PartCases.{choice-lost-tested}
-use Rattle.write_measure.proofs.choice_lost.Statement.{statement}
-use Rattle.write_measure.proofs.choice_lost.Tie as tie
-use Rattle.write_measure.proofs.choice_lost.Reads as reads
-use Rattle.write_measure.proofs.choice_lost.Lts as lts
+use Rattle.write_measure.proofs.PartCases.{choice-unknown-tested}
+use Rattle.write_measure.proofs.choice_unknown.Statement.{statement}
+use Rattle.write_measure.proofs.choice_unknown.Tie as tie
+use Rattle.write_measure.proofs.choice_unknown.Reads as reads
+use Rattle.write_measure.proofs.choice_unknown.Lts as lts
 use Rattle.bitio.proofs.take_number.Reads as take-number-reads
 use Rattle.schema.proofs.case_count.Reads as case-count-reads
 use Rattle.write_measure.proofs.tested_if.Reads as tested-if-reads
@@ -18,8 +18,8 @@ tested-if-requires : tie.Need-tested-if-requires
 tested-if-requires c κs = search needs
 
 returns : tie.Need-returns
-returns c = search choice-lost-tested
+returns c = search choice-unknown-tested
 
-pub choice-lost-spec : {M : Type 1} → statement M
-choice-lost-spec =
+pub choice-unknown-spec : {M : Type 1} → statement M
+choice-unknown-spec =
     tie.close (tie.spec case-count-requires take-number-requires tested-if-requires returns)
