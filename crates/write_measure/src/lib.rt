@@ -886,25 +886,41 @@ fn choice(
     refer(b, dir, s, d, ob, inplace, true, x.next)
 }
 
-// A member, present, behind its mark; an element is taken as an optional member.
-fn body(b: &[u8], dir: &[u16], s: &[u8], d: usize, r: Member, pos: usize) -> Surveyed
-    requires { ⌜ (Accepted (now b) (now dir)) × (KindSound (P.parse (now b)) (r .kind)) × By.Inside (now s) pos ⌝ }
-    ensures { λ q. ⌜ By.Surveys (now (s .entry)) pos (By.body B.u48 d (now (b .entry)) (r .kind) (r .optional) (r .inplace)) q ⌝ }
+// A member or an element, present, behind its mark.
+fn body(
+    b: &[u8],
+    dir: &[u16],
+    s: &[u8],
+    d: usize,
+    k: Kind,
+    optional: bool,
+    inplace: bool,
+    pos: usize,
+) -> Surveyed
+    requires { ⌜ (Accepted (now b) (now dir)) × (KindSound (P.parse (now b)) k) × By.Inside (now s) pos ⌝ }
+    ensures { λ r. ⌜ By.Surveys (now (s .entry)) pos (By.body B.u48 d (now (b .entry)) k optional inplace) r ⌝ }
 {
-    let k = r.kind;
     match k {
-        Kind::OfFlat(f) => plain_of(flat_test(b, dir, s, pos, r.optional, f)),
-        Kind::OfObject(ob) => refer(b, dir, s, d, ob, r.inplace, false, pos),
-        Kind::OfUnion(u) => choice(b, dir, s, d, wire::index(u), r.inplace, pos),
+        Kind::OfFlat(f) => plain_of(flat_test(b, dir, s, pos, optional, f)),
+        Kind::OfObject(ob) => refer(b, dir, s, d, ob, inplace, false, pos),
+        Kind::OfUnion(u) => choice(b, dir, s, d, wire::index(u), inplace, pos),
     }
 }
 
-// A member: its mark, and what the mark says comes next; an element is taken as an optional member.
-fn part(b: &[u8], dir: &[u16], s: &[u8], d: usize, r: Member, pos: usize) -> Surveyed
-    requires { ⌜ (Accepted (now b) (now dir)) × (KindSound (P.parse (now b)) (r .kind)) × By.Inside (now s) pos ⌝ }
-    ensures { λ q. ⌜ By.Surveys (now (s .entry)) pos (By.part B.u48 d (now (b .entry)) (r .kind) (r .optional) (r .inplace)) q ⌝ }
+// A member or an element: its mark, and what the mark says comes next.
+fn part(
+    b: &[u8],
+    dir: &[u16],
+    s: &[u8],
+    d: usize,
+    k: Kind,
+    optional: bool,
+    inplace: bool,
+    pos: usize,
+) -> Surveyed
+    requires { ⌜ (Accepted (now b) (now dir)) × (KindSound (P.parse (now b)) k) × By.Inside (now s) pos ⌝ }
+    ensures { λ r. ⌜ By.Surveys (now (s .entry)) pos (By.part B.u48 d (now (b .entry)) k optional inplace) r ⌝ }
 {
-    let k = r.kind;
     let x = bitio::take_number(s, pos, 2);
     if !x.whole {
         return unlawful(pos);
@@ -914,12 +930,12 @@ fn part(b: &[u8], dir: &[u16], s: &[u8], d: usize, r: Member, pos: usize) -> Sur
     if mark == 0 {
         return Surveyed {
             whole: true,
-            extent: plain(may_lack(r.optional, k)),
+            extent: plain(may_lack(optional, k)),
             next: next,
         };
     }
     if mark == 1 {
-        return body(b, dir, s, d, r, next);
+        return body(b, dir, s, d, k, optional, inplace, next);
     }
     if mark == 2 {
         return unknown(b, dir, s, next, k);
@@ -932,7 +948,8 @@ fn member_part(b: &[u8], dir: &[u16], s: &[u8], d: usize, r: Member, pos: usize)
     requires { ⌜ (Accepted (now b) (now dir)) × (KindSound (P.parse (now b)) (r .kind)) × By.Inside (now s) pos ⌝ }
     ensures { λ q. ⌜ By.Surveys (now (s .entry)) pos (By.part B.u48 d (now (b .entry)) (r .kind) (r .optional) (r .inplace)) q ⌝ }
 {
-    part(b, dir, s, d, r, pos)
+    let k = r.kind;
+    part(b, dir, s, d, k, r.optional, r.inplace, pos)
 }
 
 // The content of table t; `size` is that of its full fixed part.
@@ -1089,16 +1106,11 @@ fn list(b: &[u8], dir: &[u16], s: &[u8], d: usize, i: usize, at: usize) -> Surve
     if unmarked(k) {
         return pass(s, y.next, unmarked_bits(k), n, first);
     }
-    let r = Member {
-        kind: k,
-        optional: true,
-        inplace: false,
-    };
     let mut a = first;
     let mut pos = y.next;
     let mut j: usize = 0;
     while j < n {
-        let x = part(b, dir, s, d, r, pos);
+        let x = part(b, dir, s, d, k, true, false, pos);
         if !x.whole {
             return unlawful(at);
         }

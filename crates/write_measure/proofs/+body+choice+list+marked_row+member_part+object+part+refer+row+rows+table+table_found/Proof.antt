@@ -296,12 +296,12 @@ choice-returns-4 : (t : ℕ) → choice-lts.Need-returns-4 (choice-R t) (choice-
 choice-returns-4 t c = search choice-known
 
 abbrev list-Inv-loop : list-lts.InvT-loop
-list-Inv-loop b dir s d i at n total u r a₀ pos₀ j₀ a pos j =
-    (j ≤ n) × (n < 2 ^ 32) × (length s ≤ 16777215) × (at ≤ 8 * length s) × (pos ≤ 8 * length s) × Small a × (unmarked (r .kind) ≡ false)
-    × (surveyContent (survey d u48 (P.parse b)) u48 (P.parse b) (O.List i) (drop at (bits s)) ≡ surveyElements (survey d u48 (P.parse b)) u48 (P.parse b) (r .kind) (n - j) a (drop pos (bits s)))
+list-Inv-loop b dir s d i at n k total u a₀ pos₀ j₀ a pos j =
+    (j ≤ n) × (n < 2 ^ 32) × (length s ≤ 16777215) × (at ≤ 8 * length s) × (pos ≤ 8 * length s) × Small a × (unmarked k ≡ false)
+    × (surveyContent (survey d u48 (P.parse b)) u48 (P.parse b) (O.List i) (drop at (bits s)) ≡ surveyElements (survey d u48 (P.parse b)) u48 (P.parse b) k (n - j) a (drop pos (bits s)))
 
 abbrev list-μ-loop : list-lts.MeasureT-loop
-list-μ-loop b dir s d i at n total u r a₀ pos₀ j₀ a pos j = n - j
+list-μ-loop b dir s d i at n k total u a₀ pos₀ j₀ a pos j = n - j
 
 list-take-number-requires : (t : ℕ) → list-lts.Need-take-number-requires (list-R t) (list-at t) list.Post list-Inv-loop list-μ-loop
 list-take-number-requires t c κs = search needs
