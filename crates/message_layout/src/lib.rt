@@ -270,7 +270,7 @@ pub fn struct_ok(b: &[u8], dir: &[u16], m: &[u8], i: usize, at: usize) -> bool
     ensures { λ r. ⌜ r ≡ S.structOk (P.parse (now (b .entry))) (now (m .entry)) i at ⌝ }
 {
     let s = schema::representative(b, dir, i);
-    if s == 65535 {
+    if s == schema::NO_BOOL {
         return true;
     }
     let n = schema::field_count(b, dir, s);
