@@ -90,6 +90,15 @@ lawful-width o b e = by (eqb o 4) refl (both-left _ (L.wellFormed b && pick (eqb
     by true h q = inl (eqb-true o 4 h)
     by false h q = inr (eqb-true o 6 q)
 
+-- under the coding of 000 nothing is asked beyond that
+pub lawful-48 : (b : List ℕ) → L.lawful B.u48 b ≡ L.wellFormed b
+unfolding L.lawful B.widthKnown B.u32 B.u48
+lawful-48 b = by (L.wellFormed b)
+  where
+    by : (t : Bool) → (t && true) ≡ t
+    by true = refl
+    by false = refl
+
 pub lawful-wide : (o : ℕ) (b : List ℕ) → L.lawful o b ≡ true → 0 < o
 lawful-wide o b e = by (lawful-width o b e)
   where

@@ -38,7 +38,7 @@ tree-refuses S (Op.some v) = by (writable deepest u48 S (O.Table (S .root)) v) (
 
 writes-or-refuses : (b s : List ℕ) → Refuses (written u48 b s)
 unfolding written
-writes-or-refuses b s = by (lawful b)
+writes-or-refuses b s = by (lawful u48 b)
   where
     by : (t : Bool) → Refuses (pick t (writtenTree u48 (parse b) (sheetTree (parse b) s)) (refused 1))
     by true = tree-refuses (parse b) (sheetTree (parse b) s)

@@ -95,7 +95,7 @@ HoldsAnswers out n answer = (k : ℕ) → k < n → take 4 (drop (4 * k) out) �
 -- the sheet is lawful by a lawful schema, and its tree is writable
 abbrev pub Writable : ℕ → List ℕ → List ℕ → Value → Type 0
 Writable o b s v =
-    (lawful b ≡ true) × (sheetTree (parse b) s ≡ some v) × (writable deepest o (parse b) (O.Table (parse b .root)) v ≡ true)
+    (lawful o b ≡ true) × (sheetTree (parse b) s ≡ some v) × (writable deepest o (parse b) (O.Table (parse b .root)) v ≡ true)
 
 -- the message of a tree
 abbrev pub layoutOf : ℕ → List ℕ → Value → List ℕ

@@ -15,7 +15,7 @@ use Rattle.laws.specs.Parsed as Pa
 use Rattle.laws.specs.Rules.{struct-small}
 use Rattle.laws.specs.Sound.{MemberSound}
 use Rattle.laws.specs.SoundAt.{member-sound-at}
-use Rattle.schema.specs.Directory.{Block, Accepted, accepted-sound}
+use Rattle.schema.specs.Directory.{Block, Accepted, accepted-sound, accepted-formed}
 use Rattle.schema.specs.Representatives.{Represents}
 
 module _ (b : List ℕ) (i at : ℕ) where
@@ -86,7 +86,7 @@ module _ (b dir : List ℕ) (s r : ℕ) (A : Accepted b dir) (l : s < P.structCo
   size-is e = e ∙ A .sizes s l
 
   pub size-small : r ≡ getD dir (256 + s) 0 → r ≤ 4096
-  size-small e = let q : r ≡ S.structSize (P.parse b) s = size-is e in omega (arith, struct-small b (A .lawful) s l)
+  size-small e = let q : r ≡ S.structSize (P.parse b) s = size-is e in omega (arith, struct-small b (accepted-formed b dir A) s l)
 
   pub representative-is : r ≡ getD dir (320 + s) 0 → Represents (P.parse b) s r
   representative-is e = subst (Represents (P.parse b) s) (sym e) (A .representatives s l)

@@ -108,11 +108,3 @@ pub fn judge_schema(b: &[u8], dir: &mut [u16]) -> bool
     schema_structs::store_representatives(b, dir);
     true
 }
-
-// Whether the bytes are a lawful schema, where nobody needs the directory.
-pub fn is_lawful(b: &[u8]) -> bool
-    ensures { λ r. ⌜ r ≡ L.lawful (now (b .entry)) ⌝ }
-{
-    let mut dir: [u16; 384] = [0; 384];
-    judge_schema(b, &mut dir)
-}

@@ -66,7 +66,7 @@ lead-known b dir a t j l count ec h first bl at e =
     subst (λ (i : ℕ). P.kindAt b i < 18) (sym (e ∙ ap (λ (i : ℕ). P.recordPlace 4 i j) (bl .is)))
     (kind-low b (P.kindAt b place) (P.argumentAt b place)
     (record-argument b InTable place
-    (record-of-block b InTable 4 (P.tablePlace b t) j (table-ok b (a .lawful) t l)
+    (record-of-block b InTable 4 (P.tablePlace b t) j (table-ok b (accepted-formed b dir a) t l)
     (subst (λ (i : ℕ). j < P.records b 4 i) (bl .is) (among b t j first l (subst (λ (i : ℕ). j < i) ec h) (bl .is))))))
   where
     place : ℕ

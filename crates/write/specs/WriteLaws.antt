@@ -138,7 +138,7 @@ module _ (o : ℕ) (S : Schema) (sound : Sound S) where
         ∙ emit-layout o out (messageSlots v) (e ∙ sym message-length) (omega arith)
 
 -- ---- the answers, each over the whole sheet
-module _ (o : ℕ) (b s : List ℕ) (right : lawful b ≡ true) (sound : Sound (parse b)) where
+module _ (o : ℕ) (b s : List ℕ) (right : lawful o b ≡ true) (sound : Sound (parse b)) where
   abbrev S : Schema
   S = parse b
 
