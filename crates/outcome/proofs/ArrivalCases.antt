@@ -55,6 +55,10 @@ charged-deep l at s g eg z = by (l .depth) (ltb (s .visits) (l .budget .visits))
     by zero false e = let y : _≡_ {A = ℕ} 0 1 = cc in absurd (omega arith)
     by (suc d) t e = omega arith
 
+-- what is left below it is less
+pub deeper-falls : (l k : Limits) → k ≡ deeper l → 0 < l .depth → k .depth < l .depth
+deeper-falls l k e h = let z : k .depth ≡ l .depth - 1 = ap (λ (i : Limits). i .depth) e in omega arith
+
 -- ---- an arrival is the charge, and then the object
 module _ (o : ℕ) (S : Schema) (m : List ℕ) (ob : Object) (p : Place) (l : Limits) (s : Spent) where
   charged-first : W.visit (l .depth) o S m (l .budget) ob p s

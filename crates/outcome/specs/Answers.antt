@@ -11,6 +11,7 @@ use Rattle.coding.specs.Walk as W
 use Rattle.coding.specs.declared.Object.{Object}
 use Rattle.coding.specs.declared.Object.the-variants as O
 use Rattle.coding.specs.declared.Kind.{Kind}
+use Rattle.coding.specs.declared.Place.{Place}
 use Rattle.coding.specs.declared.Place.the-variants.{ByOffset}
 use Rattle.coding.specs.declared.Step.{Step}
 use Rattle.coding.specs.declared.Spent.{Spent}
@@ -60,6 +61,10 @@ elementsBy o b m l k x s = W.elements (visitBy o b m l) o (P.parse b) m (x .hold
 -- what a part's step leads to
 abbrev pub followBy : ℕ → List ℕ → List ℕ → Limits → Part → Step → Spent → Walked
 followBy o b m l part step s = W.follow (visitBy o b m l) (part .holder) step s
+
+-- the object of a part that is a union's known choice
+abbrev pub chooseBy : ℕ → List ℕ → List ℕ → Limits → Part → Object → Place → Spent → Walked
+chooseBy o b m l part ob p s = W.followChoice (visitBy o b m l) (part .holder) ob p s
 
 -- the object that an offset leads to: none where it is 0, else an arrival. No part can be refused by it.
 unfoldable pub referred : W.Child → Object → ℕ → Spent → Walked

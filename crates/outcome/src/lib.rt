@@ -8,6 +8,9 @@ ghost use Rattle.coding.specs.Walk as W;
 ghost use Rattle.outcome.specs.Answers as As;
 
 // ---- what walkers are given
+// The objects of depth that a message may have, the root being 1.
+pub const DEEPEST: usize = 32;
+
 // How far the walk may go from here: its budget, and how many objects of depth are left.
 pub struct Limits {
     pub budget: Budget,
