@@ -27,7 +27,7 @@ use Rattle.judge.proofs.NumberCases.{NumberSmall, walk-small}
 
 pub walk-is : (b m : List ℕ) (budget : Budget) (ob : Object) (p : Place) → ob ≡ O.Table (P.parse b .root) → p ≡ W.rootPlace u48 m → (r : Walked)
     → r ≡ W.visit 32 u48 (P.parse b) m budget ob p (record { visits = 0 }) → r ≡ W.walk u48 (P.parse b) m budget
-unfolding W.walk deepest
+unfolding W.walk W.nothing deepest
 walk-is b m budget ob p eo ep r e =
     e ∙ ap (λ (q : Object). W.visit 32 u48 (P.parse b) m budget q p (record { visits = 0 })) eo
     ∙ ap (λ (q : Place). W.visit 32 u48 (P.parse b) m budget (O.Table (P.parse b .root)) q (record { visits = 0 })) ep
@@ -35,11 +35,11 @@ walk-is b m budget ob p eo ep r e =
 -- a message within the size
 module _ (m : List ℕ) (t : Bool) (et : t ≡ W.sizeOk u48 m) (f : t ≡ true) where
   pub size-start : 10 ≤ length m
-  unfolding W.sizeOk W.headerSize u48
+  unfolding W.sizeOk W.startSize u48
   size-start = leb-true 10 (length m) (both-left (leb 10 (length m)) (leb (length m) largest) (sym et ∙ f))
 
   pub size-largest : length m ≤ 16777215
-  unfolding W.sizeOk W.headerSize u48 largest
+  unfolding W.sizeOk W.startSize u48 largest
   size-largest = leb-true (length m) 16777215 (both-right (leb 10 (length m)) (leb (length m) 16777215) (sym et ∙ f))
 
 module _ (b dir m : List ℕ) (a : Accepted b dir) (budget : Budget) (r : Verdict) (q : Bool) (eq : q ≡ W.sizeOk u48 m) where

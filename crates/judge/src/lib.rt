@@ -49,8 +49,8 @@ fn walk_from_root(b: &[u8], dir: &[u16], m: &[u8], budget: Budget) -> Outcome
     requires { ⌜ (Accepted (now b) (now dir)) × (length (now m) ≤ 16777215) × (10 ≤ length (now m)) ⌝ }
     ensures { λ r. ⌜ As.walkedOf r ≡ W.walk B.u48 (P.parse (now (b .entry))) (now (m .entry)) budget ⌝ }
 {
-    let ob = message_object::root_object(b, dir);
-    let p = message_object::root_place(m);
+    let ob = message_start::root_object(b, dir);
+    let p = message_start::root_place(m);
     let l = Limits {
         budget,
         depth: outcome::DEEPEST,
@@ -63,8 +63,8 @@ pub fn judged(b: &[u8], dir: &[u16], m: &[u8], budget: Budget) -> Verdict
     requires { ⌜ Accepted (now b) (now dir) ⌝ }
     ensures { λ r. ⌜ r ≡ W.verdict B.u48 (now (b .entry)) (now (m .entry)) budget ⌝ }
 {
-    if message_object::size_ok(m) {
-        if message_object::start_ok(m) {
+    if message_start::size_ok(m) {
+        if message_start::start_ok(m) {
             return verdict_of(walk_from_root(b, dir, m, budget));
         }
         return early(3);

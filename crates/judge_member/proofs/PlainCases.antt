@@ -86,14 +86,14 @@ member-is b at h e p =
     ∙ ap (λ (x : Bool). record { kind = OfFlat (P.flatOf (h / 8) (P.argumentAt b at)); optional = false; inplace = x }) i
 
 -- ---- its step and the cursor behind it
-nowhere : (S : Schema) (m : List ℕ) (f : Flat) (at bit : ℕ) → FlatScalar f → leadOf (T.flatStep S m f false at bit) ≡ St.Absent
-unfolding T.flatStep T.floatStep T.enumStep leadOf
+nowhere : (S : Schema) (m : List ℕ) (f : Flat) (at bit : ℕ) → FlatScalar f → leadOf (T.structTested S m (T.flatStep m f false at bit)) ≡ St.Absent
+unfolding T.flatStep T.floatStep T.enumStep T.structTested leadOf
 nowhere S m F.Boolean at bit h = refl
 nowhere S m (F.Integer s w) at bit h = refl
 nowhere S m (F.Float w) at bit h = refl
 nowhere S m (F.Enumerated n) at bit h = by (eqb (getD m at 0) 255) (ltb (getD m at 0) n)
   where
-    by : (t u : Bool) → leadOf (pick t St.Absent (pick u (St.Value (getD m at 0)) (St.Unknown (getD m at 0)))) ≡ St.Absent
+    by : (t u : Bool) → leadOf (T.structTested S m (pick t St.Absent (pick u (St.Value (getD m at 0)) (St.Unknown (getD m at 0))))) ≡ St.Absent
     by true u = refl
     by false true = refl
     by false false = refl
@@ -111,12 +111,12 @@ module _ (o : ℕ) (S : Schema) (m : List ℕ) (start n : ℕ) (c : Cursor) (w :
   unfolding L.afterMember L.afterValue L.afterFlag L.hasFlag L.isBool L.width L.afterBytes
   behind = simp (num .no-bool, ← (num .wide))
 
-  step-is : T.memberStep o S m start n c (plain-member f) ≡ T.inside n slot St.Absent (T.flatStep S m f false (start + c .end) 0)
-  unfolding T.memberStep L.hasFlag T.valueStep slot
-  step-is = ap (λ (s : Slot). T.inside n s St.Absent (T.flatStep S m f false (start + s .at) (s .bit))) slot-is
+  step-is : T.memberStep o S m start n c (plain-member f) ≡ T.structTested S m (T.inside n slot St.Absent (T.flatStep m f false (start + c .end) 0))
+  unfolding T.memberStep T.placedStep L.placementOf L.hasFlag T.valueStep slot
+  step-is = ap (λ (s : Slot). T.structTested S m (T.inside n s St.Absent (T.flatStep m f false (start + s .at) (s .bit)))) slot-is
 
   past : n ≤ c .end → leadOf (T.memberStep o S m start n c (plain-member f)) ≡ St.Absent
-  unfolding T.inside slot leadOf
+  unfolding T.inside T.structTested slot leadOf
   past h = ap leadOf step-is ∙ simp (le-leb _ _ h)
 
   here : c .end < n → c .end + w ≤ n → leadOf (T.memberStep o S m start n c (plain-member f)) ≡ St.Absent
@@ -124,7 +124,7 @@ module _ (o : ℕ) (S : Schema) (m : List ℕ) (start n : ℕ) (c : Cursor) (w :
   here h l = ap leadOf step-is ∙ simp (lt-leb _ _ h, le-leb _ _ l) (nowhere S m f (start + c .end) 0 (num .scalar))
 
   cut : c .end < n → n < c .end + w → leadOf (T.memberStep o S m start n c (plain-member f)) ≡ St.Refused 8
-  unfolding T.inside slot leadOf
+  unfolding T.inside T.structTested slot leadOf
   cut h l = ap leadOf step-is ∙ simp (lt-leb _ _ h, lt-leb _ _ l)
 
 module _ (o : ℕ) (b m : List ℕ) (at : ℕ) (x : Content) (c : Cursor) (h : ℕ) (eh : h ≡ getD b at 0) (p : Plain h) (k : ℕ) (ek : k ≡ h / 8) (w : ℕ) (ew : w ≡ plainWidth k)

@@ -14,7 +14,6 @@ ghost use Prim.Native.Nat.{_+_, _*_, _<_, _≤_, _^_};
 ghost use lib.ListN.{length, getD};
 ghost use Rattle.coding.specs.Bytes as B;
 ghost use Rattle.coding.specs.Packed as P;
-ghost use Rattle.coding.specs.Step as T;
 ghost use Rattle.laws.specs.Sound.{ObjectSound};
 ghost use Rattle.schema.specs.Directory.{Accepted};
 ghost use Rattle.outcome.specs.Answers as As;
@@ -34,7 +33,7 @@ fn row_member(
 ) -> Outcome
     requires { ⌜ (at < length (now b)) × (Rs.RowMember (getD (now b) at 0)) ⌝ }
     requires { ⌜ (length (now m) ≤ 16777215) × (x .start + x .length ≤ length (now m)) × (end < x .length) ⌝ }
-    ensures { λ r. ⌜ As.walkedOf r ≡ As.followBy B.u48 (now (b .entry)) (now (m .entry)) l (record { holder = x .holder; number = j }) (T.memberStep B.u48 (P.parse (now (b .entry))) (now (m .entry)) (x .start) (x .length) (Rs.noBool end) (P.memberAt (now (b .entry)) at)) s ⌝ }
+    ensures { λ r. ⌜ As.walkedOf r ≡ As.followBy B.u48 (now (b .entry)) (now (m .entry)) l (As.partOf x j) (As.memberBy B.u48 (now (b .entry)) (now (m .entry)) x (Rs.noBool end) (P.memberAt (now (b .entry)) at)) s ⌝ }
 {
     let h = wire::index(wire::byte_in(b, at));
     if x.length < end + judge_member::row_width(h) {

@@ -39,7 +39,7 @@ module _ (child : W.Child) (o : ℕ) (S : Schema) (m : List ℕ) (holder start :
         let z : n - j ≡ 0 = omega arith in
         f ∙ sym (inv ∙ ap (λ (l : ℕ). W.elements child o S m holder start k l j v) z)
 
-    module _ (h : j < n) (g : Outcome) (eg : walkedOf g ≡ W.follow child holder (T.elementStep o S m k start j) v) where
+    module _ (h : j < n) (g : Outcome) (eg : walkedOf g ≡ W.follow child holder j (T.elementStep o S m k start j) v) where
       abbrev rest : Spent → Walked
       rest = W.elements child o S m holder start k (n - (j + 1)) (j + 1)
 
@@ -65,25 +65,26 @@ module _ (child : W.Child) (ob : Object) (x : ℕ) (s : Spent) (r : Walked) wher
   unfolding referred
   refer-object h f = simp (ne-eqb _ _ h) f
 
--- whoever holds the offset
-pub follow-offset : (child : W.Child) (holder : ℕ) (ob : Object) (x : ℕ) (s : Spent) → referred child ob x s ≡ W.follow child holder (T.objectStep ob false 0 x) s
-unfolding referred T.objectStep T.placeOf W.follow
-follow-offset child holder ob x s = by (eqb x 0)
+-- whichever part holds the offset
+pub follow-offset : (child : W.Child) (S : Schema) (m : List ℕ) (holder j : ℕ) (ob : Object) (x : ℕ) (s : Spent)
+    → referred child ob x s ≡ W.follow child holder j (T.structTested S m (T.objectStep ob false 0 x)) s
+unfolding referred T.objectStep T.placeOf T.structTested W.follow
+follow-offset child S m holder j ob x s = by (eqb x 0)
   where
-    by : (t : Bool) → pick t (Going s) (child ob (ByOffset x) s) ≡ W.follow child holder (pick t St.Absent (St.Object ob (ByOffset x))) s
+    by : (t : Bool) → pick t (Going s) (child ob (ByOffset x) s) ≡ W.follow child holder j (T.structTested S m (pick t St.Absent (St.Object ob (ByOffset x)))) s
     by true = refl
     by false = refl
 
 offset-step : (S : Schema) (m : List ℕ) (ob : Object) (start j at x : ℕ) → at ≡ start + 6 * j → x ≡ le m at u48
-    → T.objectStep ob false 0 x ≡ T.elementStep u48 S m (OfObject ob) start j
+    → T.structTested S m (T.objectStep ob false 0 x) ≡ T.elementStep u48 S m (OfObject ob) start j
 unfolding T.elementStep T.valueStep T.elementPlace L.isBool L.width u48
-offset-step S m ob start j at x ea ex = ap (T.objectStep ob false 0) (ex ∙ ap (λ (q : ℕ). le m q 6) ea)
+offset-step S m ob start j at x ea ex = ap (λ (q : ℕ). T.structTested S m (T.objectStep ob false 0 q)) (ex ∙ ap (λ (q : ℕ). le m q 6) ea)
 
 module _ (child : W.Child) (S : Schema) (m : List ℕ) (holder start : ℕ) (ob : Object) (n : ℕ) (s : Spent) (j : ℕ) (v : Spent)
     (inv : W.elements child u48 S m holder start (OfObject ob) n 0 s ≡ W.elements child u48 S m holder start (OfObject ob) (n - j) j v) (h : j < n) (at : ℕ)
     (ea : at ≡ start + 6 * j) (x : ℕ) (ex : x ≡ le m at u48) (g : Outcome) (eg : walkedOf g ≡ referred child ob x v) where
-  by-step : walkedOf g ≡ W.follow child holder (T.elementStep u48 S m (OfObject ob) start j) v
-  by-step = eg ∙ follow-offset child holder ob x v ∙ ap (λ (q : Step). W.follow child holder q v) (offset-step S m ob start j at x ea ex)
+  by-step : walkedOf g ≡ W.follow child holder j (T.elementStep u48 S m (OfObject ob) start j) v
+  by-step = eg ∙ follow-offset child S m holder j ob x v ∙ ap (λ (q : Step). W.follow child holder j q v) (offset-step S m ob start j at x ea ex)
 
   pub references-stopped : (g .code ≡ 0 → ⊥) → walkedOf g ≡ W.elements child u48 S m holder start (OfObject ob) n 0 s
   references-stopped f = elements-stopped child u48 S m holder start (OfObject ob) n s j v inv h g by-step f

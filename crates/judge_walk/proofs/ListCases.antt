@@ -5,7 +5,7 @@ use mathlib.Core.List.{List}
 use Prim.Native.Nat.{ℕ, zero, suc, _+_, _-_, _*_, _%_, _<_, _≤_}
 use native.Mathlib.Omega.{arith}
 use lib.ListN.{length, getD}
-use lib.Dec.{ltb, eqb}
+use lib.Dec.{ltb, leb, eqb}
 use borrow.Author.Tests.{eq-eqb, ne-eqb, le-leb, lt-leb, ltb-true}
 use Rattle.coding.specs.Lists.{pick}
 use Rattle.coding.specs.Bytes.{u48, le, isNaN}
@@ -40,29 +40,29 @@ use Rattle.judge_text.proofs.TextCases.{text-only}
 use Rattle.judge_text.proofs.ElementCases.{elements-stopped, elements-turn}
 
 -- ---- elements that lead nowhere
-flat-follows : (child : W.Child) (holder : ℕ) (S : Schema) (m : List ℕ) (k : Flat) (at bit : ℕ) (v : Spent) → NoStruct (OfFlat k)
-    → W.follow child holder (T.flatStep S m k true at bit) v ≡ Going v
-unfolding T.flatStep T.floatStep T.enumStep W.follow
-flat-follows child holder S m F.Boolean at bit v h = refl
-flat-follows child holder S m (F.Integer s w) at bit v h = refl
-flat-follows child holder S m (F.Float w) at bit v h = by (isNaN w (le m at w))
+flat-follows : (child : W.Child) (holder j : ℕ) (S : Schema) (m : List ℕ) (k : Flat) (at bit : ℕ) (v : Spent) → NoStruct (OfFlat k)
+    → W.follow child holder j (T.structTested S m (T.flatStep m k true at bit)) v ≡ Going v
+unfolding T.flatStep T.floatStep T.enumStep T.structTested W.follow
+flat-follows child holder j S m F.Boolean at bit v h = refl
+flat-follows child holder j S m (F.Integer s w) at bit v h = refl
+flat-follows child holder j S m (F.Float w) at bit v h = by (isNaN w (le m at w))
   where
-    by : (t : Bool) → W.follow child holder (pick t St.Absent (St.Value (le m at w))) v ≡ Going v
+    by : (t : Bool) → W.follow child holder j (T.structTested S m (pick t St.Absent (St.Value (le m at w)))) v ≡ Going v
     by true = refl
     by false = refl
-flat-follows child holder S m (F.Enumerated n) at bit v h = by (eqb (getD m at 0) 255) (ltb (getD m at 0) n)
+flat-follows child holder j S m (F.Enumerated n) at bit v h = by (eqb (getD m at 0) 255) (ltb (getD m at 0) n)
   where
-    by : (t u : Bool) → W.follow child holder (pick t St.Absent (pick u (St.Value (getD m at 0)) (St.Unknown (getD m at 0)))) v ≡ Going v
+    by : (t u : Bool) → W.follow child holder j (T.structTested S m (pick t St.Absent (pick u (St.Value (getD m at 0)) (St.Unknown (getD m at 0))))) v ≡ Going v
     by true u = refl
     by false true = refl
     by false false = refl
-flat-follows child holder S m (F.Struct i) at bit v h = absurd h
+flat-follows child holder j S m (F.Struct i) at bit v h = absurd h
 
 first-goes : (child : W.Child) (o : ℕ) (S : Schema) (m : List ℕ) (holder start : ℕ) (k : Kind) (f : Flat) (i : ℕ) (s : Spent) → k ≡ OfFlat f → NoStruct k
-    → W.follow child holder (T.elementStep o S m k start i) s ≡ Going s
+    → W.follow child holder i (T.elementStep o S m k start i) s ≡ Going s
 unfolding T.elementStep T.valueStep
 first-goes child o S m holder start k f i s e h =
-    rw e (flat-follows child holder S m f (T.elementPlace o S (OfFlat f) start i) (i % 8) s (subst NoStruct e h))
+    rw e (flat-follows child holder i S m f (T.elementPlace o S (OfFlat f) start i) (i % 8) s (subst NoStruct e h))
 
 scalars-go : (child : W.Child) (o : ℕ) (S : Schema) (m : List ℕ) (holder start : ℕ) (k : Kind) (f : Flat) (n i : ℕ) (s : Spent) → k ≡ OfFlat f → NoStruct k
     → Going s ≡ W.elements child o S m holder start k n i s
@@ -117,16 +117,29 @@ module _ (b : List ℕ) (i : ℕ) (l : i < P.listCount b) (at : ℕ) (ea : at �
     unions-there h a u e eu = subst (λ (w : Kind). start + T.elementsSize u48 (P.parse b) w n ≤ c) (sym (of-union h a u e eu)) fits
 
 -- ---- the choices of a list
+-- no union is a struct
+union-tested : (child : W.Child) (S : Schema) (m : List ℕ) (holder j : ℕ) (cases : List Object) (c x : ℕ) (v : Spent)
+    → W.follow child holder j (T.structTested S m (T.unionStep cases false 0 c x)) v ≡ W.follow child holder j (T.unionStep cases false 0 c x) v
+unfolding T.unionStep T.structTested
+union-tested child S m holder j cases c x v = by (eqb c 0) (leb c (length cases))
+  where
+    by : (t u : Bool)
+        → W.follow child holder j (T.structTested S m (pick t St.Absent (pick u (St.Choice c (Sc.caseOf cases c) (T.placeOf false 0 x)) (St.Unknown c)))) v
+        ≡ W.follow child holder j (pick t St.Absent (pick u (St.Choice c (Sc.caseOf cases c) (T.placeOf false 0 x)) (St.Unknown c))) v
+    by true u = refl
+    by false true = refl
+    by false false = refl
+
 choice-step : (S : Schema) (m : List ℕ) (i start j at : ℕ) → at ≡ start + 8 * j
-    → T.unionStep (Sc.casesOf S i) false 0 (le m at 2) (le m (at + 2) u48) ≡ T.elementStep u48 S m (OfUnion i) start j
+    → T.structTested S m (T.unionStep (Sc.casesOf S i) false 0 (le m at 2) (le m (at + 2) u48)) ≡ T.elementStep u48 S m (OfUnion i) start j
 unfolding T.elementStep T.valueStep T.elementPlace L.isBool L.width u48
-choice-step S m i start j at ea = ap (λ (q : ℕ). T.unionStep (Sc.casesOf S i) false 0 (le m q 2) (le m (q + 2) 6)) ea
+choice-step S m i start j at ea = ap (λ (q : ℕ). T.structTested S m (T.unionStep (Sc.casesOf S i) false 0 (le m q 2) (le m (q + 2) 6))) ea
 
 module _ (child : W.Child) (S : Schema) (m : List ℕ) (holder start i n : ℕ) (s : Spent) (j : ℕ) (v : Spent)
     (inv : W.elements child u48 S m holder start (OfUnion i) n 0 s ≡ W.elements child u48 S m holder start (OfUnion i) (n - j) j v) (h : j < n) (at : ℕ)
-    (ea : at ≡ start + 8 * j) (g : Outcome) (eg : walkedOf g ≡ W.follow child holder (T.unionStep (Sc.casesOf S i) false 0 (le m at 2) (le m (at + 2) u48)) v) where
-  by-choice : walkedOf g ≡ W.follow child holder (T.elementStep u48 S m (OfUnion i) start j) v
-  by-choice = eg ∙ ap (λ (q : Step). W.follow child holder q v) (choice-step S m i start j at ea)
+    (ea : at ≡ start + 8 * j) (g : Outcome) (eg : walkedOf g ≡ W.follow child holder j (T.unionStep (Sc.casesOf S i) false 0 (le m at 2) (le m (at + 2) u48)) v) where
+  by-choice : walkedOf g ≡ W.follow child holder j (T.elementStep u48 S m (OfUnion i) start j) v
+  by-choice = eg ∙ sym (union-tested child S m holder j (Sc.casesOf S i) (le m at 2) (le m (at + 2) u48) v) ∙ ap (λ (q : Step). W.follow child holder j q v) (choice-step S m i start j at ea)
 
   pub choices-stopped : (g .code ≡ 0 → ⊥) → walkedOf g ≡ W.elements child u48 S m holder start (OfUnion i) n 0 s
   choices-stopped f = elements-stopped child u48 S m holder start (OfUnion i) n s j v inv h g by-choice f
@@ -135,18 +148,18 @@ module _ (child : W.Child) (S : Schema) (m : List ℕ) (holder start i n : ℕ) 
       → W.elements child u48 S m holder start (OfUnion i) n 0 s ≡ W.elements child u48 S m holder start (OfUnion i) (n - (j + 1)) (j + 1) (g .spent)
   choices-turn f = elements-turn child u48 S m holder start (OfUnion i) n s j v inv h g by-choice f
 
-module _ (child : W.Child) (m : List ℕ) (holder : ℕ) (cases : List Object) (at : ℕ) (s : Spent) (c : ℕ) (nc : Number m at 2 c) where
-  pub choice-none : c ≡ 0 → (r : Walked) → r ≡ Going s → r ≡ W.follow child holder (T.unionStep cases false 0 (le m at 2) (le m (at + 2) u48)) s
+module _ (child : W.Child) (m : List ℕ) (holder j : ℕ) (cases : List Object) (at : ℕ) (s : Spent) (c : ℕ) (nc : Number m at 2 c) where
+  pub choice-none : c ≡ 0 → (r : Walked) → r ≡ Going s → r ≡ W.follow child holder j (T.unionStep cases false 0 (le m at 2) (le m (at + 2) u48)) s
   unfolding T.unionStep W.follow
   choice-none h r f = simp (← (nc .is), eq-eqb _ _ h) f
 
   module _ (h : c ≡ 0 → ⊥) (n : ℕ) (en : n ≡ length cases) where
-    pub choice-unknown : n < c → (r : Walked) → r ≡ Going s → r ≡ W.follow child holder (T.unionStep cases false 0 (le m at 2) (le m (at + 2) u48)) s
+    pub choice-unknown : n < c → (r : Walked) → r ≡ Going s → r ≡ W.follow child holder j (T.unionStep cases false 0 (le m at 2) (le m (at + 2) u48)) s
     unfolding T.unionStep W.follow
     choice-unknown l r f = simp (← (nc .is), ne-eqb _ _ h, ← en, lt-leb _ _ l) f
 
     pub choice-known : c ≤ n → (ob : Object) → ob ≡ Sc.caseOf cases c → (x : ℕ) → x ≡ le m (at + 2) u48 → (r : Walked)
-        → r ≡ W.followChoice child holder ob (ByOffset x) s → r ≡ W.follow child holder (T.unionStep cases false 0 (le m at 2) (le m (at + 2) u48)) s
+        → r ≡ W.followChoice child holder j ob (ByOffset x) s → r ≡ W.follow child holder j (T.unionStep cases false 0 (le m at 2) (le m (at + 2) u48)) s
     unfolding T.unionStep T.placeOf W.follow
     choice-known l ob eo x ex r f = simp (← (nc .is), ← ex, ne-eqb _ _ h, ← en, le-leb _ _ l, ← eo) f
 

@@ -50,53 +50,53 @@ module _ (child : W.Child) (o : ℕ) (S : Schema) (m : List ℕ) (ob : Object) (
     unfolding W.content
     content-list e f = rw e (f ∙ ap (λ (k : ℕ). W.elements child o S m holder start (Sc.elementOf S k) n 0 s) ej)
 
-    pub content-table : ob ≡ O.Table i → r ≡ W.members child o S m holder start n L.begin (Sc.tableOf S j .members) s
+    pub content-table : ob ≡ O.Table i → r ≡ W.members child o S m holder start n L.begin 0 (Sc.tableOf S j .members) s
         → r ≡ W.content child o S m ob holder start n s
     unfolding W.content
-    content-table e f = rw e (f ∙ ap (λ (k : ℕ). W.members child o S m holder start n L.begin (Sc.tableOf S k .members) s) ej)
+    content-table e f = rw e (f ∙ ap (λ (k : ℕ). W.members child o S m holder start n L.begin 0 (Sc.tableOf S k .members) s) ej)
 
 -- ---- what a step leads to
-module _ (child : W.Child) (holder : ℕ) (step : Step) (s : Spent) where
+module _ (child : W.Child) (holder j : ℕ) (step : Step) (s : Spent) where
   module _ (r : Walked) where
-    pub follow-absent : step ≡ St.Absent → r ≡ Going s → r ≡ W.follow child holder step s
+    pub follow-absent : step ≡ St.Absent → r ≡ Going s → r ≡ W.follow child holder j step s
     unfolding W.follow
     follow-absent e f = rw e f
 
-    pub follow-value : (x : ℕ) → step ≡ St.Value x → r ≡ Going s → r ≡ W.follow child holder step s
+    pub follow-value : (x : ℕ) → step ≡ St.Value x → r ≡ Going s → r ≡ W.follow child holder j step s
     unfolding W.follow
     follow-value x e f = rw e f
 
-    pub follow-unknown : (x : ℕ) → step ≡ St.Unknown x → r ≡ Going s → r ≡ W.follow child holder step s
+    pub follow-unknown : (x : ℕ) → step ≡ St.Unknown x → r ≡ Going s → r ≡ W.follow child holder j step s
     unfolding W.follow
     follow-unknown x e f = rw e f
 
-    pub follow-struct : (i at : ℕ) → step ≡ St.Struct i at → r ≡ Going s → r ≡ W.follow child holder step s
+    pub follow-struct : (i at : ℕ) → step ≡ St.Struct i at → r ≡ Going s → r ≡ W.follow child holder j step s
     unfolding W.follow
     follow-struct i at e f = rw e f
 
-    pub follow-refused : (n : ℕ) → step ≡ St.Refused n → r ≡ W.refuse n holder s → r ≡ W.follow child holder step s
+    pub follow-refused : (n : ℕ) → step ≡ St.Refused n → r ≡ W.refusePart n holder j s → r ≡ W.follow child holder j step s
     unfolding W.follow
     follow-refused n e f = rw e f
 
-    pub follow-object : (ob : Object) (p : Place) → step ≡ St.Object ob p → r ≡ child ob p s → r ≡ W.follow child holder step s
+    pub follow-object : (ob : Object) (p : Place) → step ≡ St.Object ob p → r ≡ child ob p s → r ≡ W.follow child holder j step s
     unfolding W.follow
     follow-object ob p e f = rw e f
 
-    pub follow-choice : (c : ℕ) (ob : Object) (p : Place) → step ≡ St.Choice c ob p → r ≡ W.followChoice child holder ob p s
-        → r ≡ W.follow child holder step s
+    pub follow-choice : (c : ℕ) (ob : Object) (p : Place) → step ≡ St.Choice c ob p → r ≡ W.followChoice child holder j ob p s
+        → r ≡ W.follow child holder j step s
     unfolding W.follow
     follow-choice c ob p e f = rw e f
 
-module _ (child : W.Child) (holder : ℕ) (ob : Object) (p : Place) (s : Spent) (r : Walked) where
-  pub union-none : (x : ℕ) → p ≡ ByOffset x → x ≡ 0 → r ≡ W.refuse 9 holder s → r ≡ W.followChoice child holder ob p s
+module _ (child : W.Child) (holder j : ℕ) (ob : Object) (p : Place) (s : Spent) (r : Walked) where
+  pub union-none : (x : ℕ) → p ≡ ByOffset x → x ≡ 0 → r ≡ W.refusePart 9 holder j s → r ≡ W.followChoice child holder j ob p s
   unfolding W.followChoice
   union-none x e z f = rw e (simp (eq-eqb _ _ z) f)
 
-  pub union-offset : (x : ℕ) → p ≡ ByOffset x → (x ≡ 0 → ⊥) → r ≡ child ob (ByOffset x) s → r ≡ W.followChoice child holder ob p s
+  pub union-offset : (x : ℕ) → p ≡ ByOffset x → (x ≡ 0 → ⊥) → r ≡ child ob (ByOffset x) s → r ≡ W.followChoice child holder j ob p s
   unfolding W.followChoice
   union-offset x e z f = rw e (simp (ne-eqb _ _ z) f)
 
-  pub union-inplace : (a n : ℕ) → p ≡ InPlace a n → r ≡ child ob (InPlace a n) s → r ≡ W.followChoice child holder ob p s
+  pub union-inplace : (a n : ℕ) → p ≡ InPlace a n → r ≡ child ob (InPlace a n) s → r ≡ W.followChoice child holder j ob p s
   unfolding W.followChoice
   union-inplace a n e f = rw e f
 

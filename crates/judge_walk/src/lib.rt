@@ -150,7 +150,7 @@ fn reference(
 ) -> Outcome
     requires { ⌜ (Accepted (now b) (now dir)) × (length (now m) ≤ 16777215) × (k .record + 1 < length (now b)) × (Rs.Refers (getD (now b) (k .record) 0)) ⌝ }
     requires { ⌜ (ObjectSound (P.parse (now b)) (P.objectAt (now b) (k .record))) × (x .start + x .length ≤ length (now m)) × (k .cursor .end < 2 ^ 58) ⌝ }
-    ensures { λ r. ⌜ As.walkedOf r ≡ As.followBy B.u48 (now (b .entry)) (now (m .entry)) l (record { holder = x .holder; number = k .number }) (T.memberStep B.u48 (P.parse (now (b .entry))) (now (m .entry)) (x .start) (x .length) (k .cursor) (P.memberAt (now (b .entry)) (k .record))) s ⌝ }
+    ensures { λ r. ⌜ As.walkedOf r ≡ As.followBy B.u48 (now (b .entry)) (now (m .entry)) l (As.partOf x (k .number)) (As.memberBy B.u48 (now (b .entry)) (now (m .entry)) x (k .cursor) (P.memberAt (now (b .entry)) (k .record))) s ⌝ }
 {
     let c = k.cursor;
     let end = c.end;

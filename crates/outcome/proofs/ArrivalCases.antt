@@ -34,11 +34,11 @@ module _ (l : Limits) (at : ℕ) (s : Spent) (r : Walked) where
 
   module _ (h : s .visits < l .budget .visits) (t : Spent) (et : t ≡ record { visits = s .visits + 1 }) where
     pub charge-deep : l .depth ≡ 0 → r ≡ W.refuse 5 at t → r ≡ charged l at s
-    unfolding charged W.counted W.placed within W.tooDeep
+    unfolding charged W.counted W.placed within W.tooDeep W.oneMore
     charge-deep z f = simp (lt-ltb _ _ h, ← et, z) f
 
     pub charge-going : (l .depth ≡ 0 → ⊥) → r ≡ Going t → r ≡ charged l at s
-    unfolding charged W.counted within
+    unfolding charged W.counted within W.oneMore
     charge-going z f = by (l .depth) z
       where
         by : (d : ℕ) → (d ≡ 0 → ⊥) → r ≡ W.counted (within d) (l .budget) O.Text (ByOffset at) s
@@ -50,7 +50,7 @@ pub charged-deep : (l : Limits) (at : ℕ) (s : Spent) (g : Outcome) → walkedO
 unfolding charged W.counted within W.tooDeep W.refuse
 charged-deep l at s g eg z = by (l .depth) (ltb (s .visits) (l .budget .visits)) (sym (is-going g z) ∙ eg)
   where
-    by : (d : ℕ) (t : Bool) → Going (g .spent) ≡ pick t (within d O.Text (ByOffset at) (record { visits = s .visits + 1 })) (W.refuse 4 (W.placed (ByOffset at)) s) → 0 < d
+    by : (d : ℕ) (t : Bool) → Going (g .spent) ≡ pick t (within d O.Text (ByOffset at) (W.oneMore s)) (W.refuse 4 (W.placed (ByOffset at)) s) → 0 < d
     by zero true e = let y : _≡_ {A = ℕ} 0 1 = cc in absurd (omega arith)
     by zero false e = let y : _≡_ {A = ℕ} 0 1 = cc in absurd (omega arith)
     by (suc d) t e = omega arith
@@ -132,7 +132,7 @@ module _ (o : ℕ) (S : Schema) (m : List ℕ) (x : ℕ) (l : Limits) (s : Spent
   text-judged eq start n ew f = offset-content o S m O.Text x l s g eg z q eq r start n ew (deeper l) refl f
 
   pub table-judged : (t : ℕ) → q ≡ W.openObject o S m (O.Table t) (ByOffset x) → (start n : ℕ) → q ≡ Op.Content start n → (k : Limits) → k ≡ deeper l
-      → r ≡ W.members (W.visit (k .depth) o S m (k .budget)) o S m x start n L.begin (Sc.tableOf S t .members) (g .spent)
+      → r ≡ W.members (W.visit (k .depth) o S m (k .budget)) o S m x start n L.begin 0 (Sc.tableOf S t .members) (g .spent)
       → r ≡ W.visit (l .depth) o S m (l .budget) (O.Table t) (ByOffset x) s
   unfolding W.content
   table-judged t eq start n ew k ek f = offset-content o S m (O.Table t) x l s g eg z q eq r start n ew k ek f

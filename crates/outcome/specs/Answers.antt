@@ -7,10 +7,13 @@ use Rattle.coding.specs.Lists.{pick}
 use Rattle.coding.specs.Schema as Sc
 use Rattle.coding.specs.Packed as P
 use Rattle.coding.specs.Layout as L
+use Rattle.coding.specs.Step as T
 use Rattle.coding.specs.Walk as W
 use Rattle.coding.specs.declared.Object.{Object}
 use Rattle.coding.specs.declared.Object.the-variants as O
 use Rattle.coding.specs.declared.Kind.{Kind}
+use Rattle.coding.specs.declared.Member.{Member}
+use Rattle.coding.specs.declared.Cursor.{Cursor}
 use Rattle.coding.specs.declared.Place.{Place}
 use Rattle.coding.specs.declared.Place.the-variants.{ByOffset}
 use Rattle.coding.specs.declared.Step.{Step}
@@ -52,19 +55,27 @@ contentBy o b m l ob x s = W.content (visitBy o b m l) o (P.parse b) m ob (x .ho
 -- the members of table t
 abbrev pub membersBy : ℕ → List ℕ → List ℕ → Limits → ℕ → Content → Spent → Walked
 membersBy o b m l t x s =
-    W.members (visitBy o b m l) o (P.parse b) m (x .holder) (x .start) (x .length) L.begin (Sc.tableOf (P.parse b) t .members) s
+    W.members (visitBy o b m l) o (P.parse b) m (x .holder) (x .start) (x .length) L.begin 0 (Sc.tableOf (P.parse b) t .members) s
 
 -- the elements of a list
 abbrev pub elementsBy : ℕ → List ℕ → List ℕ → Limits → Kind → Content → Spent → Walked
 elementsBy o b m l k x s = W.elements (visitBy o b m l) o (P.parse b) m (x .holder) (x .start) k (x .length) 0 s
 
+-- the step of a member of a table with that content, before which the cursor stands
+abbrev pub memberBy : ℕ → List ℕ → List ℕ → Content → Cursor → Member → Step
+memberBy o b m x c r = T.memberStep o (P.parse b) m (x .start) (x .length) c r
+
+-- part j of the object with that content
+abbrev pub partOf : Content → ℕ → Part
+partOf x j = record { holder = x .holder; number = j }
+
 -- what a part's step leads to
 abbrev pub followBy : ℕ → List ℕ → List ℕ → Limits → Part → Step → Spent → Walked
-followBy o b m l part step s = W.follow (visitBy o b m l) (part .holder) step s
+followBy o b m l part step s = W.follow (visitBy o b m l) (part .holder) (part .number) step s
 
 -- the object of a part that is a union's known choice
 abbrev pub chooseBy : ℕ → List ℕ → List ℕ → Limits → Part → Object → Place → Spent → Walked
-chooseBy o b m l part ob p s = W.followChoice (visitBy o b m l) (part .holder) ob p s
+chooseBy o b m l part ob p s = W.followChoice (visitBy o b m l) (part .holder) (part .number) ob p s
 
 -- the object that an offset leads to: none where it is 0, else an arrival. No part can be refused by it.
 unfoldable pub referred : W.Child → Object → ℕ → Spent → Walked

@@ -62,7 +62,7 @@ pub fn refuse(n: u8, at: usize, s: Spent) -> Outcome
 
 // Refusal n for a part of an object, at the object's place.
 pub fn refuse_part(n: u8, part: Part, s: Spent) -> Outcome
-    ensures { λ r. ⌜ As.walkedOf r ≡ W.refuse n (part .holder) s ⌝ }
+    ensures { λ r. ⌜ As.walkedOf r ≡ W.refusePart n (part .holder) (part .number) s ⌝ }
 {
     refuse(n, part.holder, s)
 }

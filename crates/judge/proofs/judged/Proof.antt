@@ -7,8 +7,8 @@ use Rattle.judge.proofs.judged.Lts as lts
 use Rattle.judge.proofs.early.Reads as early-reads
 use Rattle.judge.proofs.verdict_of.Reads as verdict-of-reads
 use Rattle.judge.proofs.walk_from_root.Reads as walk-from-root-reads
-use Rattle.message_object.proofs.size_ok.Reads as size-ok-reads
-use Rattle.message_object.proofs.start_ok.Reads as start-ok-reads
+use Rattle.message_start.proofs.size_ok.Reads as size-ok-reads
+use Rattle.message_start.proofs.start_ok.Reads as start-ok-reads
 
 size-ok-requires : tie.Need-size-ok-requires
 size-ok-requires c κs = search needs

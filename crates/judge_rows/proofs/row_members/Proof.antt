@@ -25,7 +25,7 @@ abbrev Inv-loop : tie.InvT-loop
 Inv-loop b m l k x end₀ v₀ j₀ end v j =
     (j ≤ k .count) × (end ≤ 256 * j)
     × (As.membersBy B.u48 b m l (k .table) x v₀
-    ≡ W.members (As.visitBy B.u48 b m l) B.u48 (P.parse b) m (x .holder) (x .start) (x .length) (Rs.noBool end) (drop j (Sc.tableOf (P.parse b) (k .table) .members)) v)
+    ≡ W.members (As.visitBy B.u48 b m l) B.u48 (P.parse b) m (x .holder) (x .start) (x .length) (Rs.noBool end) j (drop j (Sc.tableOf (P.parse b) (k .table) .members)) v)
 
 abbrev μ-loop : tie.MeasureT-loop
 μ-loop b m l k x end₀ v₀ j₀ end v j = k .count - j

@@ -596,7 +596,7 @@ abbrev table-Inv-loop : table-lts.InvT-loop
 table-Inv-loop b dir m l t x count first c₀ v₀ j₀ c v j =
     (j ≤ count) × Laid (4097 * j) c
     × (As.membersBy B.u48 b m l t x v₀
-    ≡ W.members (As.visitBy B.u48 b m l) B.u48 (P.parse b) m (x .holder) (x .start) (x .length) c (drop j (Sc.tableOf (P.parse b) t .members)) v)
+    ≡ W.members (As.visitBy B.u48 b m l) B.u48 (P.parse b) m (x .holder) (x .start) (x .length) c j (drop j (Sc.tableOf (P.parse b) t .members)) v)
 
 abbrev table-μ-loop : table-lts.MeasureT-loop
 table-μ-loop b dir m l t x count first c₀ v₀ j₀ c v j = count - j
