@@ -1,9 +1,9 @@
-use Rattle.judge_text.proofs.VisitCases.{answer-refuses}
+use Rattle.outcome.proofs.AnswerCases.{answer-refuses}
 use borrow.Author.Needs.{needs}
-use Rattle.judge_text.proofs.refuse.Statement.{statement}
-use Rattle.judge_text.proofs.refuse.Tie as tie
-use Rattle.judge_text.proofs.refuse.Reads as reads
-use Rattle.judge_text.proofs.refuse.Lts as lts
+use Rattle.outcome.proofs.refuse.Statement.{statement}
+use Rattle.outcome.proofs.refuse.Tie as tie
+use Rattle.outcome.proofs.refuse.Reads as reads
+use Rattle.outcome.proofs.refuse.Lts as lts
 use Rattle.wire.proofs.index.Reads as index-reads
 
 index-requires : tie.Need-index-requires
