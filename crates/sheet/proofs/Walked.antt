@@ -163,27 +163,27 @@ module _ (S : Schema) (sound : Sound S) (m : List ℕ) (child : W.Child) (good :
   follow-says holder (St.Choice c ob p) s h = choice-says holder ob p s h
 
   members-say : (holder start n : ℕ) (c : Cursor) (rs : List Member) (s : Spent) → All (MemberSound S) rs → start + n ≤ length m
-      → Says (D.MembersReadable good S m start n c rs) (W.members child u48 S m holder start n c rs s)
+      → Says (D.MembersReadable u48 good S m start n c rs) (W.members child u48 S m holder start n c rs s)
   unfolding W.members D.MembersReadable
   members-say holder start n c [] s l h = tt
   members-say holder start n c (r ∷ rs) s l h =
-      says-then (D.StepReadable good S m (T.memberStep u48 S m start n c r)) (D.MembersReadable good S m start n (L.afterMember u48 S r c) rs)
+      says-then (D.StepReadable good S m (T.memberStep u48 S m start n c r)) (D.MembersReadable u48 good S m start n (L.afterMember u48 S r c) rs)
       (W.follow child holder (T.memberStep u48 S m start n c r) s) (W.members child u48 S m holder start n (L.afterMember u48 S r c) rs)
       (follow-says holder (T.memberStep u48 S m start n c r) s (member-inside S sound m start n c r (l .0) h))
       (λ v. members-say holder start n (L.afterMember u48 S r c) rs v (l .1) h)
 
   elements-say : (holder start : ℕ) (k : Kind) (n i : ℕ) (s : Spent) → KindSound S k → NoStruct k
-      → Says (D.ElementsReadable good S m k start n i) (W.elements child u48 S m holder start k n i s)
+      → Says (D.ElementsReadable u48 good S m k start n i) (W.elements child u48 S m holder start k n i s)
   unfolding W.elements D.ElementsReadable
   elements-say holder start k zero i s l h = tt
   elements-say holder start k (suc n) i s l h =
-      says-then (D.StepReadable good S m (T.elementStep u48 S m k start i)) (D.ElementsReadable good S m k start n (i + 1))
+      says-then (D.StepReadable good S m (T.elementStep u48 S m k start i)) (D.ElementsReadable u48 good S m k start n (i + 1))
       (W.follow child holder (T.elementStep u48 S m k start i) s) (W.elements child u48 S m holder start k n (i + 1))
       (follow-says holder (T.elementStep u48 S m k start i) s (element-inside S sound m k start i l h))
       (λ v. elements-say holder start k n (i + 1) v l h)
 
   content-says : (ob : Object) (holder start n : ℕ) (s : Spent) → ObjectSound S ob → start + W.contentSize u48 S ob n ≤ length m
-      → Says (D.ContentReadable good S m ob start n) (W.content child u48 S m ob holder start n s)
+      → Says (D.ContentReadable u48 good S m ob start n) (W.content child u48 S m ob holder start n s)
   unfolding W.content D.ContentReadable W.contentSize
   content-says O.Text holder start n s l h = tt
   content-says O.Bytes holder start n s l h = tt
@@ -191,46 +191,46 @@ module _ (S : Schema) (sound : Sound S) (m : List ℕ) (child : W.Child) (good :
   content-says (O.Table i) holder start n s l h = members-say holder start n L.begin (Sc.tableOf S i .members) s (sound .tables i .members) h
 
   open-says : (ob : Object) (holder start n : ℕ) (s : Spent) → ObjectSound S ob
-      → Says (D.Entered good S m ob start n) (W.enter child u48 S m ob holder (W.openContent u48 S m ob start n) s)
+      → Says (D.Entered u48 good S m ob start n) (W.enter child u48 S m ob holder (W.openContent u48 S m ob start n) s)
   unfolding W.enter W.openContent
   open-says ob holder start n s l = by (leb (start + W.contentSize u48 S ob n) (length m)) (W.endOk m ob start n) refl
     where
       by : (t u : Bool) → leb (start + W.contentSize u48 S ob n) (length m) ≡ t
-          → Says (D.Entered good S m ob start n) (W.enter child u48 S m ob holder (pick t (pick u (Op.Content start n) (Op.Refused 10)) (Op.Refused 6)) s)
+          → Says (D.Entered u48 good S m ob start n) (W.enter child u48 S m ob holder (pick t (pick u (Op.Content start n) (Op.Refused 10)) (Op.Refused 6)) s)
       by true true e =
           let h = leb-true _ _ e in
-          says-map (D.ContentReadable good S m ob start n) (D.Entered good S m ob start n) (λ q. record { sound = l; inside = h; parts = q })
+          says-map (D.ContentReadable u48 good S m ob start n) (D.Entered u48 good S m ob start n) (λ q. record { sound = l; inside = h; parts = q })
           (W.content child u48 S m ob holder start n s) (content-says ob holder start n s l h)
-      by true false e = refuse-says (D.Entered good S m ob start n) 10 holder s (λ z. omega arith)
-      by false u e = refuse-says (D.Entered good S m ob start n) 6 holder s (λ z. omega arith)
+      by true false e = refuse-says (D.Entered u48 good S m ob start n) 10 holder s (λ z. omega arith)
+      by false u e = refuse-says (D.Entered u48 good S m ob start n) 6 holder s (λ z. omega arith)
 
   arrive-says : (ob : Object) (p : Place) (s : Spent) → ObjectSound S ob
-      → Says (D.HeaderInside m p × D.Entered good S m ob (D.startOf p) (D.lengthOf m p)) (W.arrive child u48 S m ob p s)
+      → Says (D.HeaderInside u48 m p × D.Entered u48 good S m ob (D.startOf u48 p) (D.lengthOf u48 m p)) (W.arrive child u48 S m ob p s)
   unfolding W.arrive W.openObject W.enter D.HeaderInside D.startOf D.lengthOf W.headerSize u48 W.placed
   arrive-says ob (ByOffset x) s l = by (leb 10 x) (leb (x + 10) (length m)) (eqb (le m x 4) (W.magic S ob)) refl
     where
       by : (t u v : Bool) → leb (x + 10) (length m) ≡ u
-          → Says ((x + 10 ≤ length m) × D.Entered good S m ob (x + 10) (le m (x + 4) 6))
+          → Says ((x + 10 ≤ length m) × D.Entered u48 good S m ob (x + 10) (le m (x + 4) 6))
           (W.enter child 6 S m ob x (pick (t && u) (pick v (W.openContent 6 S m ob (x + 10) (le m (x + 4) 6)) (Op.Refused 7)) (Op.Refused 6)) s)
       by true true true e =
           let h = leb-true _ _ e in
-          says-map (D.Entered good S m ob (x + 10) (le m (x + 4) 6)) ((x + 10 ≤ length m) × D.Entered good S m ob (x + 10) (le m (x + 4) 6)) (λ q. (h, q))
+          says-map (D.Entered u48 good S m ob (x + 10) (le m (x + 4) 6)) ((x + 10 ≤ length m) × D.Entered u48 good S m ob (x + 10) (le m (x + 4) 6)) (λ q. (h, q))
           (W.enter child 6 S m ob x (W.openContent 6 S m ob (x + 10) (le m (x + 4) 6)) s) (open-says ob x (x + 10) (le m (x + 4) 6) s l)
       by true true false e = refuse-says _ 7 x s (λ z. omega arith)
       by true false v e = refuse-says _ 6 x s (λ z. omega arith)
       by false u v e = refuse-says _ 6 x s (λ z. omega arith)
   arrive-says ob (InPlace a n) s l =
-      says-map (D.Entered good S m ob a n) (Unit {0} × D.Entered good S m ob a n) (λ q. (tt, q))
+      says-map (D.Entered u48 good S m ob a n) (Unit {0} × D.Entered u48 good S m ob a n) (λ q. (tt, q))
       (W.enter child 6 S m ob a (W.openContent 6 S m ob a n) s) (open-says ob a a n s l)
 
 pub visit-says : (S : Schema) → Sound S → (m : List ℕ) (b : Budget) (d : ℕ) (ob : Object) (p : Place) (s : Spent) → ObjectSound S ob
-    → Says (D.ObjectReadable d S m ob p) (W.visit d u48 S m b ob p s)
+    → Says (D.ObjectReadable u48 d S m ob p) (W.visit d u48 S m b ob p s)
 unfolding W.visit W.counted W.tooDeep D.ObjectReadable
 visit-says S sound m b zero ob p s l =
     pick-says ⊥ (ltb (s .visits) (b .visits)) (W.refuse 5 (W.placed p) (record { visits = s .visits + 1 })) (W.refuse 4 (W.placed p) s)
     (λ _. refuse-says ⊥ 5 (W.placed p) (record { visits = s .visits + 1 }) (λ e. omega arith)) (refuse-says ⊥ 4 (W.placed p) s (λ e. omega arith))
 visit-says S sound m b (suc d) ob p s l =
-    pick-says (D.HeaderInside m p × D.Entered (D.ObjectReadable d S m) S m ob (D.startOf p) (D.lengthOf m p)) (ltb (s .visits) (b .visits))
+    pick-says (D.HeaderInside u48 m p × D.Entered u48 (D.ObjectReadable u48 d S m) S m ob (D.startOf u48 p) (D.lengthOf u48 m p)) (ltb (s .visits) (b .visits))
     (W.arrive (W.visit d u48 S m b) u48 S m ob p (record { visits = s .visits + 1 })) (W.refuse 4 (W.placed p) s)
-    (λ _. arrive-says S sound m (W.visit d u48 S m b) (D.ObjectReadable d S m) (λ ob′ p′ s′ l′. visit-says S sound m b d ob′ p′ s′ l′) ob p (record { visits = s .visits + 1 }) l)
+    (λ _. arrive-says S sound m (W.visit d u48 S m b) (D.ObjectReadable u48 d S m) (λ ob′ p′ s′ l′. visit-says S sound m b d ob′ p′ s′ l′) ob p (record { visits = s .visits + 1 }) l)
     (refuse-says _ 4 (W.placed p) s (λ e. omega arith))

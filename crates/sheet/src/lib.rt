@@ -17,8 +17,8 @@ ghost use Rattle.sheet.specs.Answers as An;
 
 // How many bits, or one more than a sheet may have; nothing is written.
 fn count_bits(b: &[u8], dir: &[u16], m: &[u8], out: &mut [u8]) -> usize
-    requires { ⌜ (Accepted (now b) (now dir)) × (D.MessageReadable (P.parse (now b)) (now m)) ⌝ }
-    ensures { λ r. ⌜ r ≡ saturated (length (Bt.rootAt (P.parse (now (b .entry))) (now (m .entry)))) ⌝ }
+    requires { ⌜ (Accepted (now b) (now dir)) × (D.MessageReadable B.u48 (P.parse (now b)) (now m)) ⌝ }
+    ensures { λ r. ⌜ r ≡ saturated (length (Bt.rootAt B.u48 (P.parse (now (b .entry))) (now (m .entry)))) ⌝ }
     ensures { λ _. ⌜ now (out .exit) ≡ now (out .entry) ⌝ }
 {
     sheet_walk::put_root(b, dir, m, &mut out[..0])
@@ -26,10 +26,10 @@ fn count_bits(b: &[u8], dir: &[u16], m: &[u8], out: &mut [u8]) -> usize
 
 // The sheet, into a buffer of its size.
 fn fill(b: &[u8], dir: &[u16], m: &[u8], out: &mut [u8])
-    requires { ⌜ (Accepted (now b) (now dir)) × (D.MessageReadable (P.parse (now b)) (now m)) ⌝ }
-    requires { ⌜ length (now out) ≡ byteCount (Bt.rootAt (P.parse (now b)) (now m)) ⌝ }
+    requires { ⌜ (Accepted (now b) (now dir)) × (D.MessageReadable B.u48 (P.parse (now b)) (now m)) ⌝ }
+    requires { ⌜ length (now out) ≡ byteCount (Bt.rootAt B.u48 (P.parse (now b)) (now m)) ⌝ }
     requires { ⌜ length (now out) ≤ 16777215 ⌝ }
-    ensures { λ _. ⌜ now (out .exit) ≡ packed (Bt.rootAt (P.parse (now (b .entry))) (now (m .entry))) ⌝ }
+    ensures { λ _. ⌜ now (out .exit) ≡ packed (Bt.rootAt B.u48 (P.parse (now (b .entry))) (now (m .entry))) ⌝ }
 {
     bitio::clear_last(out);
     sheet_walk::put_root(b, dir, m, out);
@@ -52,9 +52,9 @@ fn no_room(v: Verdict) -> ReadAnswer
 
 // The sheet of an accepted message, whose verdict is v.
 fn read_accepted(b: &[u8], dir: &[u16], m: &[u8], v: Verdict, out: &mut [u8]) -> ReadAnswer
-    requires { ⌜ (Accepted (now b) (now dir)) × (D.MessageReadable (P.parse (now b)) (now m)) ⌝ }
-    ensures { λ r. ⌜ r ≡ An.sheetAnswer (Bt.rootAt (P.parse (now (b .entry))) (now (m .entry))) v (now (out .entry)) ⌝ }
-    ensures { λ _. ⌜ now (out .exit) ≡ An.sheetOver (Bt.rootAt (P.parse (now (b .entry))) (now (m .entry))) (now (out .entry)) ⌝ }
+    requires { ⌜ (Accepted (now b) (now dir)) × (D.MessageReadable B.u48 (P.parse (now b)) (now m)) ⌝ }
+    ensures { λ r. ⌜ r ≡ An.sheetAnswer (Bt.rootAt B.u48 (P.parse (now (b .entry))) (now (m .entry))) v (now (out .entry)) ⌝ }
+    ensures { λ _. ⌜ now (out .exit) ≡ An.sheetOver (Bt.rootAt B.u48 (P.parse (now (b .entry))) (now (m .entry))) (now (out .entry)) ⌝ }
 {
     let n = count_bits(b, dir, m, out);
     if 134217720 < n {

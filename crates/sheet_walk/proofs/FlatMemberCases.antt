@@ -5,7 +5,6 @@ use mathlib.Core.List.{List, _++_}
 use Prim.Native.Nat.{ℕ, _+_, _-_, _≤_}
 use native.Mathlib.Omega.{arith}
 use lib.ListN.{length, take, drop}
-use Rattle.coding.specs.Bytes.{u48}
 use Rattle.coding.specs.Schema.{Schema}
 use Rattle.coding.specs.Step as T
 use Rattle.coding.specs.Walk as W
@@ -57,40 +56,40 @@ module _ (k : Kind) (h : isFlat k ≡ true) where
 
 -- ---- a text or bytes
 -- what stands there has some depth left
-some-left : (d : ℕ) (S : Schema) (m : List ℕ) (ob : Object) (place : Place) → D.ObjectReadable d S m ob place → d ≡ 0 → ⊥
+some-left : (o d : ℕ) (S : Schema) (m : List ℕ) (ob : Object) (place : Place) → D.ObjectReadable o d S m ob place → d ≡ 0 → ⊥
 unfolding D.ObjectReadable
-some-left d S m ob place h e = subst (λ (k : ℕ). D.ObjectReadable k S m ob place) e h
+some-left o d S m ob place h e = subst (λ (k : ℕ). D.ObjectReadable o k S m ob place) e h
 
-blob-bits : (d : ℕ) (S : Schema) (m : List ℕ) (ob : Object) (start n : ℕ) → isBlob ob ≡ true → E.blobBits (take n (drop start m)) ≡ A.contentAt d S m ob start n
+blob-bits : (o d : ℕ) (S : Schema) (m : List ℕ) (ob : Object) (start n : ℕ) → isBlob ob ≡ true → E.blobBits (take n (drop start m)) ≡ A.contentAt o d S m ob start n
 unfolding isBlob A.contentAt E.contentBits R.contentRead Tree.asBlob
-blob-bits d S m O.Text start n h = refl
-blob-bits d S m O.Bytes start n h = refl
-blob-bits d S m (O.List i) start n h = let y : _≡_ {A = ℕ} 0 1 = cc in absurd (omega arith)
-blob-bits d S m (O.Table i) start n h = let y : _≡_ {A = ℕ} 0 1 = cc in absurd (omega arith)
+blob-bits o d S m O.Text start n h = refl
+blob-bits o d S m O.Bytes start n h = refl
+blob-bits o d S m (O.List i) start n h = let y : _≡_ {A = ℕ} 0 1 = cc in absurd (omega arith)
+blob-bits o d S m (O.Table i) start n h = let y : _≡_ {A = ℕ} 0 1 = cc in absurd (omega arith)
 
-blob-size : (S : Schema) (ob : Object) (start n c : ℕ) → isBlob ob ≡ true → start + W.contentSize u48 S ob n ≤ c → start + n ≤ c
+blob-size : (o : ℕ) (S : Schema) (ob : Object) (start n c : ℕ) → isBlob ob ≡ true → start + W.contentSize o S ob n ≤ c → start + n ≤ c
 unfolding isBlob W.contentSize
-blob-size S O.Text start n c h l = omega arith
-blob-size S O.Bytes start n c h l = l
-blob-size S (O.List i) start n c h l = let y : _≡_ {A = ℕ} 0 1 = cc in absurd (omega arith)
-blob-size S (O.Table i) start n c h l = l
+blob-size o S O.Text start n c h l = omega arith
+blob-size o S O.Bytes start n c h l = l
+blob-size o S (O.List i) start n c h l = let y : _≡_ {A = ℕ} 0 1 = cc in absurd (omega arith)
+blob-size o S (O.Table i) start n c h l = l
 
-module _ (d : ℕ) (S : Schema) (m : List ℕ) (ob : Object) (inplace : Bool) (tail x : ℕ) (place : Place)
-    (h : D.StepReadable (D.ObjectReadable d S m) S m (T.objectStep ob inplace tail x)) (e : x ≡ 0 → ⊥) (ep : place ≡ T.placeOf inplace tail x) where
-  readable : D.ObjectReadable d S m ob place
-  readable = reference-readable d S m ob inplace tail x place h e ep
+module _ (o d : ℕ) (S : Schema) (m : List ℕ) (ob : Object) (inplace : Bool) (tail x : ℕ) (place : Place)
+    (h : D.StepReadable (D.ObjectReadable o d S m) S m (T.objectStep ob inplace tail x)) (e : x ≡ 0 → ⊥) (ep : place ≡ T.placeOf inplace tail x) where
+  readable : D.ObjectReadable o d S m ob place
+  readable = reference-readable o d S m ob inplace tail x place h e ep
 
-  pub blob-header : D.HeaderInside m place
-  blob-header = header-there d S m ob place readable (some-left d S m ob place readable)
+  pub blob-header : D.HeaderInside o m place
+  blob-header = header-there o d S m ob place readable (some-left o d S m ob place readable)
 
-  module _ (blob : isBlob ob ≡ true) (start n : ℕ) (es : start ≡ D.startOf place) (en : n ≡ D.lengthOf m place) where
+  module _ (blob : isBlob ob ≡ true) (start n : ℕ) (es : start ≡ D.startOf o place) (en : n ≡ D.lengthOf o m place) where
     pub blob-inside : start + n ≤ length m
-    blob-inside = blob-size S ob start n (length m) blob (content-readable d S m ob place readable (some-left d S m ob place readable) start n es en .inside)
+    blob-inside = blob-size o S ob start n (length m) blob (content-readable o d S m ob place readable (some-left o d S m ob place readable) start n es en .inside)
 
-    pub blob-referred : (o o₁ : List ℕ) (p q : ℕ) → Puts o p (K.blobAt m start n) o₁ q → Puts o p (A.referenceAt d S m ob inplace tail x) o₁ q
+    pub blob-referred : (out out₁ : List ℕ) (p q : ℕ) → Puts out p (K.blobAt m start n) out₁ q → Puts out p (A.referenceAt o d S m ob inplace tail x) out₁ q
     unfolding A.referenceAt K.blobAt A.stepAt
-    blob-referred o o₁ p q l =
-        puts-same o o₁ p q (bitsOf 2 1 ++ E.blobBits (take n (drop start m))) (A.referenceAt d S m ob inplace tail x)
+    blob-referred out out₁ p q l =
+        puts-same out out₁ p q (bitsOf 2 1 ++ E.blobBits (take n (drop start m))) (A.referenceAt o d S m ob inplace tail x)
         (ap (λ (s : List ℕ). bitsOf 2 1 ++ s)
-        (blob-bits (d - 1) S m ob start n blob ∙ object-same d S m ob place start n (some-left d S m ob place readable) es en)
-        ∙ ap (A.stepAt d S m (OfObject ob)) (C.object-there inplace tail x ob e place ep)) l
+        (blob-bits o (d - 1) S m ob start n blob ∙ object-same o d S m ob place start n (some-left o d S m ob place readable) es en)
+        ∙ ap (A.stepAt o d S m (OfObject ob)) (C.object-there inplace tail x ob e place ep)) l

@@ -97,20 +97,20 @@ flat-member b at k ek h r er q eq =
 
 -- ---- where such a member stands
 -- a kind that is no bool and takes no flag, and its bytes
-record Leads (S : Schema) (k : Kind) (w : ℕ) : Type 0 where
+record Leads (o : ℕ) (S : Schema) (k : Kind) (w : ℕ) : Type 0 where
   no-bool : L.isBool k ≡ false
   no-flag : L.takesFlag k ≡ false
-  wide : L.width u48 S k ≡ w
+  wide : L.width o S k ≡ w
 
-object-leads : (S : Schema) (k : Kind) (ob : Object) → k ≡ OfObject ob → Leads S k 6
+object-leads : (S : Schema) (k : Kind) (ob : Object) → k ≡ OfObject ob → Leads u48 S k 6
 unfolding L.isBool L.takesFlag
 object-leads S k ob e = record { no-bool = rw e; no-flag = rw e; wide = C.object-width S k ob e }
 
-union-leads : (S : Schema) (k : Kind) (u : ℕ) → k ≡ OfUnion u → Leads S k 8
+union-leads : (S : Schema) (k : Kind) (u : ℕ) → k ≡ OfUnion u → Leads u48 S k 8
 unfolding L.isBool L.takesFlag
 union-leads S k u e = record { no-bool = rw e; no-flag = rw e; wide = C.union-width S k u e }
 
-module _ (S : Schema) (r : Member) (w : ℕ) (h : Leads S (r .kind) w) (c : Cursor) where
+module _ (o : ℕ) (S : Schema) (r : Member) (w : ℕ) (h : Leads o S (r .kind) w) (c : Cursor) where
   unflagged : L.hasFlag r ≡ false
   unfolding L.hasFlag
   unflagged = by (r .optional) (L.takesFlag (r .kind)) (h .no-flag)
@@ -119,44 +119,44 @@ module _ (S : Schema) (r : Member) (w : ℕ) (h : Leads S (r .kind) w) (c : Curs
       by true u e = e
       by false u e = refl
 
-  lead-after : L.afterMember u48 S r c ≡ L.afterBytes w c
+  lead-after : L.afterMember o S r c ≡ L.afterBytes w c
   unfolding L.afterMember L.afterValue L.afterFlag
   lead-after = simp (unflagged, h .no-bool, h .wide)
 
-  lead-slot : L.memberSlot u48 S r c ≡ record { at = c .end; bit = 0; size = w }
+  lead-slot : L.memberSlot o S r c ≡ record { at = c .end; bit = 0; size = w }
   unfolding L.memberSlot L.slotOf L.afterFlag
   lead-slot = simp (unflagged, h .no-bool, h .wide)
 
   lead-step : (m : List ℕ) (start n : ℕ)
-      → T.memberStep u48 S m start n c r
-      ≡ T.inside n (record { at = c .end; bit = 0; size = w }) St.Absent (T.valueStep u48 S m (r .kind) (r .optional) (r .inplace) (start + n) (start + c .end) 0)
+      → T.memberStep o S m start n c r
+      ≡ T.inside n (record { at = c .end; bit = 0; size = w }) St.Absent (T.valueStep o S m (r .kind) (r .optional) (r .inplace) (start + n) (start + c .end) 0)
   unfolding T.memberStep
   lead-step m start n = simp (unflagged, lead-slot)
 
   lead-there : (m : List ℕ) (start n : ℕ) → 0 < w → c .end + w ≤ n
-      → T.valueStep u48 S m (r .kind) (r .optional) (r .inplace) (start + n) (start + c .end) 0 ≡ T.memberStep u48 S m start n c r
+      → T.valueStep o S m (r .kind) (r .optional) (r .inplace) (start + n) (start + c .end) 0 ≡ T.memberStep o S m start n c r
   unfolding T.inside
   lead-there m start n some l = let g : c .end < n = omega arith in sym (lead-step m start n ∙ simp (lt-leb _ _ g, le-leb _ _ l))
 
-  lead-none : (d : ℕ) (m : List ℕ) (start n : ℕ) → n < c .end + w → bitsOf 2 0 ≡ A.stepAt d S m (r .kind) (T.memberStep u48 S m start n c r)
+  lead-none : (d : ℕ) (m : List ℕ) (start n : ℕ) → n < c .end + w → bitsOf 2 0 ≡ A.stepAt o d S m (r .kind) (T.memberStep o S m start n c r)
   unfolding T.inside A.stepAt
-  lead-none d m start n l = sym (ap (A.stepAt d S m (r .kind)) (lead-step m start n ∙ cut) ∙ by (leb n (c .end)))
+  lead-none d m start n l = sym (ap (A.stepAt o d S m (r .kind)) (lead-step m start n ∙ cut) ∙ by (leb n (c .end)))
     where
-      cut : T.inside n (record { at = c .end; bit = 0; size = w }) St.Absent (T.valueStep u48 S m (r .kind) (r .optional) (r .inplace) (start + n) (start + c .end) 0)
+      cut : T.inside n (record { at = c .end; bit = 0; size = w }) St.Absent (T.valueStep o S m (r .kind) (r .optional) (r .inplace) (start + n) (start + c .end) 0)
           ≡ pick (leb n (c .end)) St.Absent (St.Refused 8)
       cut = simp (lt-leb _ _ l)
 
-      by : (t : Bool) → A.stepAt d S m (r .kind) (pick t St.Absent (St.Refused 8)) ≡ bitsOf 2 0
+      by : (t : Bool) → A.stepAt o d S m (r .kind) (pick t St.Absent (St.Refused 8)) ≡ bitsOf 2 0
       by true = refl
       by false = refl
 
 -- ---- by the record
-pub width-union : (k : ℕ) → k ≡ 17 → 8 ≡ A.leadWidth k
-unfolding A.leadWidth
+pub width-union : (k : ℕ) → k ≡ 17 → 8 ≡ A.leadWidth u48 k
+unfolding A.leadWidth u48
 width-union k h = simp (eq-eqb _ _ h)
 
-pub width-object : (k : ℕ) → (k ≡ 17 → ⊥) → 6 ≡ A.leadWidth k
-unfolding A.leadWidth
+pub width-object : (k : ℕ) → (k ≡ 17 → ⊥) → 6 ≡ A.leadWidth u48 k
+unfolding A.leadWidth u48
 width-object k h = simp (ne-eqb _ _ h)
 
 module _ (b : List ℕ) (at k : ℕ) (ek : k ≡ P.kindAt b at) (low : 12 < P.kindAt b at) (high : P.kindAt b at < 18) where
@@ -166,26 +166,26 @@ module _ (b : List ℕ) (at k : ℕ) (ek : k ≡ P.kindAt b at) (low : 12 < P.ki
   of-union : k ≡ 17 → P.memberAt b at .kind ≡ OfUnion (P.argumentAt b at)
   of-union h = union-kind b at (omega arith)
 
-  leads : Leads (P.parse b) (P.memberAt b at .kind) (A.leadWidth k)
-  unfolding A.leadWidth
+  leads : Leads u48 (P.parse b) (P.memberAt b at .kind) (A.leadWidth u48 k)
+  unfolding A.leadWidth u48
   leads = by (eqb k 17) refl
     where
-      by : (t : Bool) → eqb k 17 ≡ t → Leads (P.parse b) (P.memberAt b at .kind) (pick t 8 6)
+      by : (t : Bool) → eqb k 17 ≡ t → Leads u48 (P.parse b) (P.memberAt b at .kind) (pick t 8 6)
       by true e = union-leads (P.parse b) (P.memberAt b at .kind) (P.argumentAt b at) (of-union (eqb-true _ _ e))
       by false e = object-leads (P.parse b) (P.memberAt b at .kind) (P.objectAt b at) (of-object (eqb-false _ _ e))
 
-  module _ (w : ℕ) (ew : w ≡ A.leadWidth k) where
-    leads-so : Leads (P.parse b) (P.memberAt b at .kind) w
-    leads-so = subst (Leads (P.parse b) (P.memberAt b at .kind)) (sym ew) leads
+  module _ (w : ℕ) (ew : w ≡ A.leadWidth u48 k) where
+    leads-so : Leads u48 (P.parse b) (P.memberAt b at .kind) w
+    leads-so = subst (Leads u48 (P.parse b) (P.memberAt b at .kind)) (sym ew) leads
 
     pub lead-next : (c next : Cursor) → next ≡ L.afterBytes w c → next ≡ L.afterMember u48 (P.parse b) (P.memberAt b at) c
-    lead-next c next e = e ∙ sym (lead-after (P.parse b) (P.memberAt b at) w leads-so c)
+    lead-next c next e = e ∙ sym (lead-after u48 (P.parse b) (P.memberAt b at) w leads-so c)
 
-    pub lead-past : (d : ℕ) (m : List ℕ) (start n : ℕ) (c : Cursor) (o o₁ : List ℕ) (p q : ℕ) → n < c .end + w → Puts o p (bitsOf 2 0) o₁ q
-        → Puts o p (A.stepAt d (P.parse b) m (P.memberAt b at .kind) (T.memberStep u48 (P.parse b) m start n c (P.memberAt b at))) o₁ q
-    lead-past d m start n c o o₁ p q l h =
-        puts-same o o₁ p q (bitsOf 2 0) (A.stepAt d (P.parse b) m (P.memberAt b at .kind) (T.memberStep u48 (P.parse b) m start n c (P.memberAt b at)))
-        (lead-none (P.parse b) (P.memberAt b at) w leads-so c d m start n l) h
+    pub lead-past : (d : ℕ) (m : List ℕ) (start n : ℕ) (c : Cursor) (out out₁ : List ℕ) (p q : ℕ) → n < c .end + w → Puts out p (bitsOf 2 0) out₁ q
+        → Puts out p (A.stepAt u48 d (P.parse b) m (P.memberAt b at .kind) (T.memberStep u48 (P.parse b) m start n c (P.memberAt b at))) out₁ q
+    lead-past d m start n c out out₁ p q l h =
+        puts-same out out₁ p q (bitsOf 2 0) (A.stepAt u48 d (P.parse b) m (P.memberAt b at .kind) (T.memberStep u48 (P.parse b) m start n c (P.memberAt b at)))
+        (lead-none u48 (P.parse b) (P.memberAt b at) w leads-so c d m start n l) h
 
     module _ (d : ℕ) (m : List ℕ) (start n : ℕ) (c : Cursor) (l : c .end + w ≤ n) (inplace : Bool) (ei : inplace ≡ P.inplaceAt b at) where
       abbrev step : Step
@@ -195,7 +195,7 @@ module _ (b : List ℕ) (at k : ℕ) (ek : k ≡ P.kindAt b at) (low : 12 < P.ki
       value-so some s e =
           e
           ∙ ap (λ (i : Bool). T.valueStep u48 (P.parse b) m (P.memberAt b at .kind) (P.memberAt b at .optional) i (start + n) (start + c .end) 0) (ei ∙ sym (inplace-is b at))
-          ∙ lead-there (P.parse b) (P.memberAt b at) w leads-so c m start n some l
+          ∙ lead-there u48 (P.parse b) (P.memberAt b at) w leads-so c m start n some l
 
       -- a union's choice and its reference
       module _ (h : k ≡ 17) (a u : ℕ) (ea : a ≡ P.argumentAt b at) (eu : u ≡ a) (i x : ℕ) (ni : Number m (start + c .end) 2 i) (nx : Number m (start + c .end + 2) 6 x) where
@@ -205,16 +205,16 @@ module _ (b : List ℕ) (at k : ℕ) (ek : k ≡ P.kindAt b at) (low : 12 < P.ki
             (C.value-union (P.parse b) m (P.memberAt b at .kind) (P.memberAt b at .optional) inplace (start + n) (start + c .end) 0
             (T.unionStep (Sc.casesOf (P.parse b) u) inplace (start + n) i x) (P.argumentAt b at) u (of-union h) (eu ∙ ea) i x ni nx refl)
 
-        pub chosen-given : D.StepReadable (D.ObjectReadable d (P.parse b) m) (P.parse b) m (T.memberStep u48 (P.parse b) m start n c (P.memberAt b at))
-            → D.StepReadable (D.ObjectReadable d (P.parse b) m) (P.parse b) m (T.unionStep (Sc.casesOf (P.parse b) u) inplace (start + n) i x)
-        chosen-given g = subst (D.StepReadable (D.ObjectReadable d (P.parse b) m) (P.parse b) m) (sym chosen) g
+        pub chosen-given : D.StepReadable (D.ObjectReadable u48 d (P.parse b) m) (P.parse b) m (T.memberStep u48 (P.parse b) m start n c (P.memberAt b at))
+            → D.StepReadable (D.ObjectReadable u48 d (P.parse b) m) (P.parse b) m (T.unionStep (Sc.casesOf (P.parse b) u) inplace (start + n) i x)
+        chosen-given g = subst (D.StepReadable (D.ObjectReadable u48 d (P.parse b) m) (P.parse b) m) (sym chosen) g
 
-        pub lead-chosen : (o o₁ : List ℕ) (p q : ℕ) → Puts o p (A.choiceAt d (P.parse b) m u inplace (start + n) i x) o₁ q
-            → Puts o p (A.stepAt d (P.parse b) m (P.memberAt b at .kind) (T.memberStep u48 (P.parse b) m start n c (P.memberAt b at))) o₁ q
+        pub lead-chosen : (out out₁ : List ℕ) (p q : ℕ) → Puts out p (A.choiceAt u48 d (P.parse b) m u inplace (start + n) i x) out₁ q
+            → Puts out p (A.stepAt u48 d (P.parse b) m (P.memberAt b at .kind) (T.memberStep u48 (P.parse b) m start n c (P.memberAt b at))) out₁ q
         unfolding A.choiceAt
-        lead-chosen o o₁ p q g =
-            puts-same o o₁ p q (A.choiceAt d (P.parse b) m u inplace (start + n) i x) (A.stepAt d (P.parse b) m (P.memberAt b at .kind) step)
-            (ap₂ (A.stepAt d (P.parse b) m) (sym (of-union h ∙ ap OfUnion (sym (eu ∙ ea)))) chosen) g
+        lead-chosen out out₁ p q g =
+            puts-same out out₁ p q (A.choiceAt u48 d (P.parse b) m u inplace (start + n) i x) (A.stepAt u48 d (P.parse b) m (P.memberAt b at .kind) step)
+            (ap₂ (A.stepAt u48 d (P.parse b) m) (sym (of-union h ∙ ap OfUnion (sym (eu ∙ ea)))) chosen) g
 
       -- another object's reference
       module _ (h : k ≡ 17 → ⊥) (ob : Object) (eo : ob ≡ P.objectAt b at) (x : ℕ) (nx : Number m (start + c .end) 6 x) where
@@ -224,16 +224,16 @@ module _ (b : List ℕ) (at k : ℕ) (ek : k ≡ P.kindAt b at) (low : 12 < P.ki
             (C.value-object (P.parse b) m (P.memberAt b at .kind) (P.memberAt b at .optional) inplace (start + n) (start + c .end) 0
             (T.objectStep ob inplace (start + n) x) ob (of-object h ∙ ap OfObject (sym eo)) x nx refl)
 
-        pub referred-given : D.StepReadable (D.ObjectReadable d (P.parse b) m) (P.parse b) m (T.memberStep u48 (P.parse b) m start n c (P.memberAt b at))
-            → D.StepReadable (D.ObjectReadable d (P.parse b) m) (P.parse b) m (T.objectStep ob inplace (start + n) x)
-        referred-given g = subst (D.StepReadable (D.ObjectReadable d (P.parse b) m) (P.parse b) m) (sym referred) g
+        pub referred-given : D.StepReadable (D.ObjectReadable u48 d (P.parse b) m) (P.parse b) m (T.memberStep u48 (P.parse b) m start n c (P.memberAt b at))
+            → D.StepReadable (D.ObjectReadable u48 d (P.parse b) m) (P.parse b) m (T.objectStep ob inplace (start + n) x)
+        referred-given g = subst (D.StepReadable (D.ObjectReadable u48 d (P.parse b) m) (P.parse b) m) (sym referred) g
 
-        pub lead-referred : (o o₁ : List ℕ) (p q : ℕ) → Puts o p (A.referenceAt d (P.parse b) m ob inplace (start + n) x) o₁ q
-            → Puts o p (A.stepAt d (P.parse b) m (P.memberAt b at .kind) (T.memberStep u48 (P.parse b) m start n c (P.memberAt b at))) o₁ q
+        pub lead-referred : (out out₁ : List ℕ) (p q : ℕ) → Puts out p (A.referenceAt u48 d (P.parse b) m ob inplace (start + n) x) out₁ q
+            → Puts out p (A.stepAt u48 d (P.parse b) m (P.memberAt b at .kind) (T.memberStep u48 (P.parse b) m start n c (P.memberAt b at))) out₁ q
         unfolding A.referenceAt
-        lead-referred o o₁ p q g =
-            puts-same o o₁ p q (A.referenceAt d (P.parse b) m ob inplace (start + n) x) (A.stepAt d (P.parse b) m (P.memberAt b at .kind) step)
-            (ap₂ (A.stepAt d (P.parse b) m) (sym (of-object h ∙ ap OfObject (sym eo))) referred) g
+        lead-referred out out₁ p q g =
+            puts-same out out₁ p q (A.referenceAt u48 d (P.parse b) m ob inplace (start + n) x) (A.stepAt u48 d (P.parse b) m (P.memberAt b at .kind) step)
+            (ap₂ (A.stepAt u48 d (P.parse b) m) (sym (of-object h ∙ ap OfObject (sym eo))) referred) g
 
   pub lead-counted : k ≡ 17 → KindSound (P.parse b) (P.memberAt b at .kind) → (a u : ℕ) → a ≡ P.argumentAt b at → u ≡ a → u < P.unionCount b
   lead-counted h sound a u ea eu = union-counted b (P.memberAt b at .kind) (P.argumentAt b at) u sound (of-union h) (eu ∙ ea)
@@ -246,29 +246,29 @@ lead-laid j w c next p h e =
     let y = p .byte in
     subst (Laid (4097 * (j + 1))) (sym e) (record { end = omega arith; byte = omega arith; bit = p .bit })
 
-module _ (d : ℕ) (S : Schema) (m : List ℕ) (start n t j count : ℕ) (c : Cursor) (ec : count ≡ length (Sc.tableOf S t .members)) (h : j < count)
-    (good : D.MembersReadable (D.ObjectReadable d S m) S m start n c (drop j (Sc.tableOf S t .members))) (r : Member) (er : r ≡ Sc.memberOf S t j) where
+module _ (o d : ℕ) (S : Schema) (m : List ℕ) (start n t j count : ℕ) (c : Cursor) (ec : count ≡ length (Sc.tableOf S t .members)) (h : j < count)
+    (good : D.MembersReadable o (D.ObjectReadable o d S m) S m start n c (drop j (Sc.tableOf S t .members))) (r : Member) (er : r ≡ Sc.memberOf S t j) where
   opened : drop j (Sc.tableOf S t .members) ≡ r ∷ drop (j + 1) (Sc.tableOf S t .members)
   opened = members-opened S t j count ec h ∙ ap (λ (q : Member). q ∷ drop (j + 1) (Sc.tableOf S t .members)) (sym er)
 
-  split : D.StepReadable (D.ObjectReadable d S m) S m (T.memberStep u48 S m start n c r)
-      × D.MembersReadable (D.ObjectReadable d S m) S m start n (L.afterMember u48 S r c) (drop (j + 1) (Sc.tableOf S t .members))
+  split : D.StepReadable (D.ObjectReadable o d S m) S m (T.memberStep o S m start n c r)
+      × D.MembersReadable o (D.ObjectReadable o d S m) S m start n (L.afterMember o S r c) (drop (j + 1) (Sc.tableOf S t .members))
   unfolding D.MembersReadable
-  split = subst (D.MembersReadable (D.ObjectReadable d S m) S m start n c) opened good
+  split = subst (D.MembersReadable o (D.ObjectReadable o d S m) S m start n c) opened good
 
-  pub lead-readable : D.StepReadable (D.ObjectReadable d S m) S m (T.memberStep u48 S m start n c r)
+  pub lead-readable : D.StepReadable (D.ObjectReadable o d S m) S m (T.memberStep o S m start n c r)
   lead-readable = split .0
 
-  module _ (next : Cursor) (en : next ≡ L.afterMember u48 S r c) where
-    pub lead-rest : D.MembersReadable (D.ObjectReadable d S m) S m start n next (drop (j + 1) (Sc.tableOf S t .members))
-    lead-rest = subst (λ (q : Cursor). D.MembersReadable (D.ObjectReadable d S m) S m start n q (drop (j + 1) (Sc.tableOf S t .members))) (sym en) (split .1)
+  module _ (next : Cursor) (en : next ≡ L.afterMember o S r c) where
+    pub lead-rest : D.MembersReadable o (D.ObjectReadable o d S m) S m start n next (drop (j + 1) (Sc.tableOf S t .members))
+    lead-rest = subst (λ (q : Cursor). D.MembersReadable o (D.ObjectReadable o d S m) S m start n q (drop (j + 1) (Sc.tableOf S t .members))) (sym en) (split .1)
 
-    pub lead-turn : (whole o₀ o o₁ : List ℕ) (p₀ p p₁ : ℕ) → Remaining o₀ p₀ whole o p (A.membersAt d S m start n c (drop j (Sc.tableOf S t .members)))
-        → Room o p → Puts o p (A.stepAt d S m (r .kind) (T.memberStep u48 S m start n c r)) o₁ p₁
-        → Remaining o₀ p₀ whole o₁ p₁ (A.membersAt d S m start n next (drop (j + 1) (Sc.tableOf S t .members)))
-    lead-turn whole o₀ o o₁ p₀ p p₁ inv g put =
-        remaining-turn o₀ o o₁ p₀ p p₁ whole (A.membersAt d S m start n c (drop j (Sc.tableOf S t .members))) (A.stepAt d S m (r .kind) (T.memberStep u48 S m start n c r))
-        (A.membersAt d S m start n next (drop (j + 1) (Sc.tableOf S t .members))) inv (g .short)
-        (ap (A.membersAt d S m start n c) opened ∙ members-cons d S m start n c r (drop (j + 1) (Sc.tableOf S t .members)) (split .0)
-        ∙ ap (λ (q : Cursor). A.stepAt d S m (r .kind) (T.memberStep u48 S m start n c r) ++ A.membersAt d S m start n q (drop (j + 1) (Sc.tableOf S t .members))) (sym en))
+    pub lead-turn : (whole out₀ out out₁ : List ℕ) (p₀ p p₁ : ℕ) → Remaining out₀ p₀ whole out p (A.membersAt o d S m start n c (drop j (Sc.tableOf S t .members)))
+        → Room out p → Puts out p (A.stepAt o d S m (r .kind) (T.memberStep o S m start n c r)) out₁ p₁
+        → Remaining out₀ p₀ whole out₁ p₁ (A.membersAt o d S m start n next (drop (j + 1) (Sc.tableOf S t .members)))
+    lead-turn whole out₀ out out₁ p₀ p p₁ inv g put =
+        remaining-turn out₀ out out₁ p₀ p p₁ whole (A.membersAt o d S m start n c (drop j (Sc.tableOf S t .members))) (A.stepAt o d S m (r .kind) (T.memberStep o S m start n c r))
+        (A.membersAt o d S m start n next (drop (j + 1) (Sc.tableOf S t .members))) inv (g .short)
+        (ap (A.membersAt o d S m start n c) opened ∙ members-cons o d S m start n c r (drop (j + 1) (Sc.tableOf S t .members)) (split .0)
+        ∙ ap (λ (q : Cursor). A.stepAt o d S m (r .kind) (T.memberStep o S m start n c r) ++ A.membersAt o d S m start n q (drop (j + 1) (Sc.tableOf S t .members))) (sym en))
         put

@@ -46,25 +46,25 @@ use Rattle.sheet_walk.specs.Stepping.{MemberAt, isHere}
 
 -- ---- places
 module _ (m : List ℕ) (p : Place) where
-  pub start-offset : (x : ℕ) → p ≡ ByOffset x → x + 10 ≡ D.startOf p
-  unfolding D.startOf
+  pub start-offset : (x : ℕ) → p ≡ ByOffset x → x + 10 ≡ D.startOf u48 p
+  unfolding D.startOf W.headerSize u48
   start-offset x e = rw e
 
-  pub start-inplace : (a n : ℕ) → p ≡ InPlace a n → a ≡ D.startOf p
+  pub start-inplace : (a n : ℕ) → p ≡ InPlace a n → a ≡ D.startOf u48 p
   unfolding D.startOf
   start-inplace a n e = rw e
 
-  pub length-offset : (x r : ℕ) → p ≡ ByOffset x → Number m (x + 4) 6 r → r ≡ D.lengthOf m p
-  unfolding D.lengthOf
+  pub length-offset : (x r : ℕ) → p ≡ ByOffset x → Number m (x + 4) 6 r → r ≡ D.lengthOf u48 m p
+  unfolding D.lengthOf u48
   length-offset x r e h = rw e (h .is)
 
-  pub length-inplace : (a n : ℕ) → p ≡ InPlace a n → n ≡ D.lengthOf m p
+  pub length-inplace : (a n : ℕ) → p ≡ InPlace a n → n ≡ D.lengthOf u48 m p
   unfolding D.lengthOf
   length-inplace a n e = rw e
 
-  pub header-inside : (x : ℕ) → p ≡ ByOffset x → D.HeaderInside m p → x + 10 ≤ length m
-  unfolding D.HeaderInside
-  header-inside x e h = subst (D.HeaderInside m) e h
+  pub header-inside : (x : ℕ) → p ≡ ByOffset x → D.HeaderInside u48 m p → x + 10 ≤ length m
+  unfolding D.HeaderInside W.headerSize u48
+  header-inside x e h = subst (D.HeaderInside u48 m) e h
 
 -- ---- one member
 here-true : (g : Reach) → isHere g ≡ true → g ≡ Here
@@ -90,7 +90,7 @@ pub member-is : (b dir : List ℕ) → Accepted b dir → (m : List ℕ) (t j st
     → j < length (Sc.tableOf (P.parse b) t .members) → j < 256 → start + n ≤ length m → length m ≤ 16777215 → Laid (4097 * j) c → (slot : Slot) (next : Cursor)
     → Stands (L.memberSlot u48 (P.parse b) r c) (L.afterMember u48 (P.parse b) r c) (c .end + 1) slot next
     → (flag : Bool) → flag ≡ L.hasFlag r → (g : Reach) → g ≡ reachOf m start n c slot flag → (here : Bool) → here ≡ isHere g
-    → MemberAt (P.parse b) m t j start n c (r .kind) (r .optional) (r .inplace) here (start + slot .at) (slot .bit) next
+    → MemberAt u48 (P.parse b) m t j start n c (r .kind) (r .optional) (r .inplace) here (start + slot .at) (slot .bit) next
 member-is b dir a m t j start n c r e h few fits short laid slot next stands flag ef g eg here eh =
     let p = laid .end in
     let q = stands .laid in
@@ -118,136 +118,136 @@ pub member-sound-of : (b dir : List ℕ) → Accepted b dir → (t j : ℕ) (r :
 member-sound-of b dir a t j r e h = rw e (member-sound-at (P.parse b) (accepted-sound b dir a) t j h)
 
 -- ---- a step
-module _ (d : ℕ) (S : Schema) (m : List ℕ) (k : Kind) (o o₁ : List ℕ) (p q : ℕ) (step : Step) where
-  pub step-absent : step ≡ St.Absent → Puts o p (bitsOf 2 0) o₁ q → Puts o p (A.stepAt d S m k step) o₁ q
+module _ (o d : ℕ) (S : Schema) (m : List ℕ) (k : Kind) (out out₁ : List ℕ) (p q : ℕ) (step : Step) where
+  pub step-absent : step ≡ St.Absent → Puts out p (bitsOf 2 0) out₁ q → Puts out p (A.stepAt o d S m k step) out₁ q
   unfolding A.stepAt
   step-absent e h = rw e h
 
-  pub step-unknown : (x y w : ℕ) → step ≡ St.Unknown x → w ≡ E.unknownWidth k → y ≡ x → Puts o p (K.marked 2 w y) o₁ q → Puts o p (A.stepAt d S m k step) o₁ q
+  pub step-unknown : (x y w : ℕ) → step ≡ St.Unknown x → w ≡ E.unknownWidth k → y ≡ x → Puts out p (K.marked 2 w y) out₁ q → Puts out p (A.stepAt o d S m k step) out₁ q
   unfolding A.stepAt
   step-unknown x y w e ew ey h =
-      rw e (subst (λ (v : ℕ). Puts o p (K.marked 2 v x) o₁ q) ew (subst (λ (v : ℕ). Puts o p (K.marked 2 w v) o₁ q) ey h))
+      rw e (subst (λ (v : ℕ). Puts out p (K.marked 2 v x) out₁ q) ew (subst (λ (v : ℕ). Puts out p (K.marked 2 w v) out₁ q) ey h))
 
-  module _ (g : Room o p) (o₂ : List ℕ) (r : ℕ) where
-    pub step-object : (ob : Object) (place : Place) → step ≡ St.Object ob place → Puts o p (bitsOf 2 1) o₁ q → Puts o₁ q (A.objectAt d S m ob place) o₂ r
-        → Puts o p (A.stepAt d S m k step) o₂ r
+  module _ (g : Room out p) (out₂ : List ℕ) (r : ℕ) where
+    pub step-object : (ob : Object) (place : Place) → step ≡ St.Object ob place → Puts out p (bitsOf 2 1) out₁ q → Puts out₁ q (A.objectAt o d S m ob place) out₂ r
+        → Puts out p (A.stepAt o d S m k step) out₂ r
     unfolding A.stepAt
-    step-object ob place e h l = rw e (puts-then o o₁ o₂ p q r (bitsOf 2 1) (A.objectAt d S m ob place) (g .short) h l)
+    step-object ob place e h l = rw e (puts-then out out₁ out₂ p q r (bitsOf 2 1) (A.objectAt o d S m ob place) (g .short) h l)
 
-    pub step-choice : (c x : ℕ) (ob : Object) (place : Place) → step ≡ St.Choice c ob place → x ≡ c → Puts o p (K.marked 1 16 x) o₁ q
-        → Puts o₁ q (A.objectAt d S m ob place) o₂ r → Puts o p (A.stepAt d S m k step) o₂ r
+    pub step-choice : (c x : ℕ) (ob : Object) (place : Place) → step ≡ St.Choice c ob place → x ≡ c → Puts out p (K.marked 1 16 x) out₁ q
+        → Puts out₁ q (A.objectAt o d S m ob place) out₂ r → Puts out p (A.stepAt o d S m k step) out₂ r
     unfolding A.stepAt
     step-choice c x ob place e ex h l =
         rw e
-        (puts-then o o₁ o₂ p q r (K.marked 1 16 c) (A.objectAt d S m ob place) (g .short) (subst (λ (v : ℕ). Puts o p (K.marked 1 16 v) o₁ q) ex h) l)
+        (puts-then out out₁ out₂ p q r (K.marked 1 16 c) (A.objectAt o d S m ob place) (g .short) (subst (λ (v : ℕ). Puts out p (K.marked 1 16 v) out₁ q) ex h) l)
 
-module _ (d : ℕ) (S : Schema) (m : List ℕ) (step : Step) (h : D.StepReadable (D.ObjectReadable d S m) S m step) where
-  pub object-readable : (ob : Object) (p : Place) → step ≡ St.Object ob p → D.ObjectReadable d S m ob p
+module _ (o d : ℕ) (S : Schema) (m : List ℕ) (step : Step) (h : D.StepReadable (D.ObjectReadable o d S m) S m step) where
+  pub object-readable : (ob : Object) (p : Place) → step ≡ St.Object ob p → D.ObjectReadable o d S m ob p
   unfolding D.StepReadable
-  object-readable ob p e = subst (D.StepReadable (D.ObjectReadable d S m) S m) e h
+  object-readable ob p e = subst (D.StepReadable (D.ObjectReadable o d S m) S m) e h
 
-  pub choice-readable : (c : ℕ) (ob : Object) (p : Place) → step ≡ St.Choice c ob p → D.ObjectReadable d S m ob p
+  pub choice-readable : (c : ℕ) (ob : Object) (p : Place) → step ≡ St.Choice c ob p → D.ObjectReadable o d S m ob p
   unfolding D.StepReadable
-  choice-readable c ob p e = subst (D.StepReadable (D.ObjectReadable d S m) S m) e h
+  choice-readable c ob p e = subst (D.StepReadable (D.ObjectReadable o d S m) S m) e h
 
 -- ---- an object
-pub object-none : (d : ℕ) (S : Schema) (m : List ℕ) (ob : Object) (place : Place) (o : List ℕ) (p : ℕ) → d ≡ 0 → Room o p → Puts o p (A.objectAt d S m ob place) o p
+pub object-none : (o d : ℕ) (S : Schema) (m : List ℕ) (ob : Object) (place : Place) (out : List ℕ) (p : ℕ) → d ≡ 0 → Room out p → Puts out p (A.objectAt o d S m ob place) out p
 unfolding A.objectAt E.encode
-object-none d S m ob place o p e g = rw e (puts-none o p (g .most))
+object-none o d S m ob place out p e g = rw e (puts-none out p (g .most))
 
-module _ (d : ℕ) (S : Schema) (m : List ℕ) (ob : Object) (place : Place) (h : D.ObjectReadable d S m ob place) (l : d ≡ 0 → ⊥) where
-  pub header-there : D.HeaderInside m place
+module _ (o d : ℕ) (S : Schema) (m : List ℕ) (ob : Object) (place : Place) (h : D.ObjectReadable o d S m ob place) (l : d ≡ 0 → ⊥) where
+  pub header-there : D.HeaderInside o m place
   unfolding D.ObjectReadable
   header-there = by d h l
     where
-      by : (k : ℕ) → D.ObjectReadable k S m ob place → (k ≡ 0 → ⊥) → D.HeaderInside m place
+      by : (k : ℕ) → D.ObjectReadable o k S m ob place → (k ≡ 0 → ⊥) → D.HeaderInside o m place
       by zero q f = absurd (f refl)
       by (suc k) q f = q .0
 
-  pub content-readable : (start n : ℕ) → start ≡ D.startOf place → n ≡ D.lengthOf m place → D.Entered (D.ObjectReadable (d - 1) S m) S m ob start n
+  pub content-readable : (start n : ℕ) → start ≡ D.startOf o place → n ≡ D.lengthOf o m place → D.Entered o (D.ObjectReadable o (d - 1) S m) S m ob start n
   unfolding D.ObjectReadable
   content-readable start n es en = by d h l
     where
-      by : (k : ℕ) → D.ObjectReadable k S m ob place → (k ≡ 0 → ⊥) → D.Entered (D.ObjectReadable (k - 1) S m) S m ob start n
+      by : (k : ℕ) → D.ObjectReadable o k S m ob place → (k ≡ 0 → ⊥) → D.Entered o (D.ObjectReadable o (k - 1) S m) S m ob start n
       by zero q f = absurd (f refl)
       by (suc k) q f = rw (sub-one, es, en) (q .1)
 
-pub object-same : (d : ℕ) (S : Schema) (m : List ℕ) (ob : Object) (place : Place) (start n : ℕ) → (d ≡ 0 → ⊥) → start ≡ D.startOf place → n ≡ D.lengthOf m place
-    → A.contentAt (d - 1) S m ob start n ≡ A.objectAt d S m ob place
-unfolding A.contentAt A.objectAt E.encode R.read R.placeRead D.startOf D.lengthOf W.headerSize u48
-object-same zero S m ob place start n f es en = absurd (f refl)
-object-same (suc d) S m ob place start n f es en =
-    ap (λ (k : ℕ). A.contentAt k S m ob start n) (sub-one (suc d)) ∙ ap₂ (λ (a c : ℕ). A.contentAt d S m ob a c) es en ∙ by place
+pub object-same : (o d : ℕ) (S : Schema) (m : List ℕ) (ob : Object) (place : Place) (start n : ℕ) → (d ≡ 0 → ⊥) → start ≡ D.startOf o place → n ≡ D.lengthOf o m place
+    → A.contentAt o (d - 1) S m ob start n ≡ A.objectAt o d S m ob place
+unfolding A.contentAt A.objectAt E.encode R.read R.placeRead D.startOf D.lengthOf
+object-same o zero S m ob place start n f es en = absurd (f refl)
+object-same o (suc d) S m ob place start n f es en =
+    ap (λ (k : ℕ). A.contentAt o k S m ob start n) (sub-one (suc d)) ∙ ap₂ (λ (a c : ℕ). A.contentAt o d S m ob a c) es en ∙ by place
   where
-    by : (pl : Place) → A.contentAt d S m ob (D.startOf pl) (D.lengthOf m pl) ≡ A.objectAt (suc d) S m ob pl
+    by : (pl : Place) → A.contentAt o d S m ob (D.startOf o pl) (D.lengthOf o m pl) ≡ A.objectAt o (suc d) S m ob pl
     by (ByOffset x) = refl
     by (InPlace a c) = refl
 
-pub object-content : (d : ℕ) (S : Schema) (m : List ℕ) (ob : Object) (place : Place) (o o₁ : List ℕ) (p q start n : ℕ) → (d ≡ 0 → ⊥) → start ≡ D.startOf place
-    → n ≡ D.lengthOf m place → Puts o p (A.contentAt (d - 1) S m ob start n) o₁ q → Puts o p (A.objectAt d S m ob place) o₁ q
-object-content d S m ob place o o₁ p q start n f es en h =
-    puts-same o o₁ p q (A.contentAt (d - 1) S m ob start n) (A.objectAt d S m ob place) (object-same d S m ob place start n f es en) h
+pub object-content : (o d : ℕ) (S : Schema) (m : List ℕ) (ob : Object) (place : Place) (out out₁ : List ℕ) (p q start n : ℕ) → (d ≡ 0 → ⊥) → start ≡ D.startOf o place
+    → n ≡ D.lengthOf o m place → Puts out p (A.contentAt o (d - 1) S m ob start n) out₁ q → Puts out p (A.objectAt o d S m ob place) out₁ q
+object-content o d S m ob place out out₁ p q start n f es en h =
+    puts-same out out₁ p q (A.contentAt o (d - 1) S m ob start n) (A.objectAt o d S m ob place) (object-same o d S m ob place start n f es en) h
 
 -- ---- content by the object
-elements-count : (child : R.Child) (S : Schema) (m : List ℕ) (start : ℕ) (k : Kind) (n i : ℕ) → Tree.count (R.elementsRead child u48 S m start k n i) ≡ n
+elements-count : (o : ℕ) (child : R.Child) (S : Schema) (m : List ℕ) (start : ℕ) (k : Kind) (n i : ℕ) → Tree.count (R.elementsRead child o S m start k n i) ≡ n
 unfolding Tree.count R.elementsRead
-elements-count child S m start k zero i = refl
-elements-count child S m start k (suc n) i = ap suc (elements-count child S m start k n (i + 1))
+elements-count o child S m start k zero i = refl
+elements-count o child S m start k (suc n) i = ap suc (elements-count o child S m start k n (i + 1))
 
-module _ (d : ℕ) (S : Schema) (m : List ℕ) (ob : Object) (start n : ℕ) (o o₁ : List ℕ) (p q : ℕ) where
-  pub content-text : ob ≡ O.Text → Puts o p (E.blobBits (take n (drop start m))) o₁ q → Puts o p (A.contentAt d S m ob start n) o₁ q
+module _ (o d : ℕ) (S : Schema) (m : List ℕ) (ob : Object) (start n : ℕ) (out out₁ : List ℕ) (p q : ℕ) where
+  pub content-text : ob ≡ O.Text → Puts out p (E.blobBits (take n (drop start m))) out₁ q → Puts out p (A.contentAt o d S m ob start n) out₁ q
   unfolding A.contentAt E.contentBits R.contentRead Tree.asBlob
   content-text e h = rw e h
 
-  pub content-bytes : ob ≡ O.Bytes → Puts o p (E.blobBits (take n (drop start m))) o₁ q → Puts o p (A.contentAt d S m ob start n) o₁ q
+  pub content-bytes : ob ≡ O.Bytes → Puts out p (E.blobBits (take n (drop start m))) out₁ q → Puts out p (A.contentAt o d S m ob start n) out₁ q
   unfolding A.contentAt E.contentBits R.contentRead Tree.asBlob
   content-bytes e h = rw e h
 
   module _ (i j : ℕ) (ej : j ≡ i) where
-    pub content-table : ob ≡ O.Table i → Puts o p (A.membersAt d S m start n L.begin (Sc.tableOf S j .members)) o₁ q → Puts o p (A.contentAt d S m ob start n) o₁ q
+    pub content-table : ob ≡ O.Table i → Puts out p (A.membersAt o d S m start n L.begin (Sc.tableOf S j .members)) out₁ q → Puts out p (A.contentAt o d S m ob start n) out₁ q
     unfolding A.contentAt E.contentBits R.contentRead Tree.asRow A.membersAt
     content-table e h =
         rw e
-        (subst (λ (v : ℕ). Puts o p (E.membersBits (E.encode d S) S (Sc.tableOf S v .members) (R.membersRead (R.read d u48 S m) u48 S m start n L.begin (Sc.tableOf S v .members))) o₁ q) ej h)
+        (subst (λ (v : ℕ). Puts out p (E.membersBits (E.encode d S) S (Sc.tableOf S v .members) (R.membersRead (R.read d o S m) o S m start n L.begin (Sc.tableOf S v .members))) out₁ q) ej h)
 
-    list-same : A.listAt d S m (Sc.elementOf S i) start n ≡ A.contentAt d S m (O.List i) start n
+    list-same : A.listAt o d S m (Sc.elementOf S i) start n ≡ A.contentAt o d S m (O.List i) start n
     unfolding A.contentAt E.contentBits R.contentRead Tree.asRow A.listAt A.elementsAt
     list-same =
-        ap (λ (v : ℕ). bitsOf 32 v ++ E.elementsBits (E.encode d S) S (Sc.elementOf S i) (R.elementsRead (R.read d u48 S m) u48 S m start (Sc.elementOf S i) n 0))
-        (sym (elements-count (R.read d u48 S m) S m start (Sc.elementOf S i) n 0))
+        ap (λ (v : ℕ). bitsOf 32 v ++ E.elementsBits (E.encode d S) S (Sc.elementOf S i) (R.elementsRead (R.read d o S m) o S m start (Sc.elementOf S i) n 0))
+        (sym (elements-count o (R.read d o S m) S m start (Sc.elementOf S i) n 0))
 
-    pub content-list : ob ≡ O.List i → Puts o p (A.listAt d S m (Sc.elementOf S j) start n) o₁ q → Puts o p (A.contentAt d S m ob start n) o₁ q
+    pub content-list : ob ≡ O.List i → Puts out p (A.listAt o d S m (Sc.elementOf S j) start n) out₁ q → Puts out p (A.contentAt o d S m ob start n) out₁ q
     content-list e h =
-        subst (λ (v : Object). Puts o p (A.contentAt d S m v start n) o₁ q) (sym e)
-        (puts-same o o₁ p q (A.listAt d S m (Sc.elementOf S i) start n) (A.contentAt d S m (O.List i) start n) list-same
-        (subst (λ (v : ℕ). Puts o p (A.listAt d S m (Sc.elementOf S v) start n) o₁ q) ej h))
+        subst (λ (v : Object). Puts out p (A.contentAt o d S m v start n) out₁ q) (sym e)
+        (puts-same out out₁ p q (A.listAt o d S m (Sc.elementOf S i) start n) (A.contentAt o d S m (O.List i) start n) list-same
+        (subst (λ (v : ℕ). Puts out p (A.listAt o d S m (Sc.elementOf S v) start n) out₁ q) ej h))
 
 -- what an object's content gives to its list or table
-module _ (child : D.Child) (b m : List ℕ) (ob : Object) (start n : ℕ) (h : D.Entered child (P.parse b) m ob start n) (i j : ℕ) (ej : j ≡ i) where
+module _ (o : ℕ) (child : D.Child) (b m : List ℕ) (ob : Object) (start n : ℕ) (h : D.Entered o child (P.parse b) m ob start n) (i j : ℕ) (ej : j ≡ i) where
   pub table-counted : ob ≡ O.Table i → j < P.tableCount b
   table-counted e = rw ej (table-index b i (subst (ObjectSound (P.parse b)) e (h .sound)))
 
   pub table-inside : ob ≡ O.Table i → start + n ≤ length m
   unfolding W.contentSize
-  table-inside e = subst (λ (v : Object). start + W.contentSize u48 (P.parse b) v n ≤ length m) e (h .inside)
+  table-inside e = subst (λ (v : Object). start + W.contentSize o (P.parse b) v n ≤ length m) e (h .inside)
 
-  pub table-readable : ob ≡ O.Table i → D.MembersReadable child (P.parse b) m start n L.begin (Sc.tableOf (P.parse b) j .members)
+  pub table-readable : ob ≡ O.Table i → D.MembersReadable o child (P.parse b) m start n L.begin (Sc.tableOf (P.parse b) j .members)
   unfolding D.ContentReadable
   table-readable e =
-      subst (λ (v : ℕ). D.MembersReadable child (P.parse b) m start n L.begin (Sc.tableOf (P.parse b) v .members)) (sym ej)
-      (subst (λ (v : Object). D.ContentReadable child (P.parse b) m v start n) e (h .parts))
+      subst (λ (v : ℕ). D.MembersReadable o child (P.parse b) m start n L.begin (Sc.tableOf (P.parse b) v .members)) (sym ej)
+      (subst (λ (v : Object). D.ContentReadable o child (P.parse b) m v start n) e (h .parts))
 
   pub list-counted : ob ≡ O.List i → j < P.listCount b
   list-counted e = rw ej (list-index b i (subst (ObjectSound (P.parse b)) e (h .sound)))
 
-  pub list-inside : ob ≡ O.List i → start + T.elementsSize u48 (P.parse b) (Sc.elementOf (P.parse b) j) n ≤ length m
+  pub list-inside : ob ≡ O.List i → start + T.elementsSize o (P.parse b) (Sc.elementOf (P.parse b) j) n ≤ length m
   unfolding W.contentSize
   list-inside e =
-      subst (λ (v : ℕ). start + T.elementsSize u48 (P.parse b) (Sc.elementOf (P.parse b) v) n ≤ length m) (sym ej)
-      (subst (λ (v : Object). start + W.contentSize u48 (P.parse b) v n ≤ length m) e (h .inside))
+      subst (λ (v : ℕ). start + T.elementsSize o (P.parse b) (Sc.elementOf (P.parse b) v) n ≤ length m) (sym ej)
+      (subst (λ (v : Object). start + W.contentSize o (P.parse b) v n ≤ length m) e (h .inside))
 
-  pub list-readable : ob ≡ O.List i → D.ElementsReadable child (P.parse b) m (Sc.elementOf (P.parse b) j) start n 0
+  pub list-readable : ob ≡ O.List i → D.ElementsReadable o child (P.parse b) m (Sc.elementOf (P.parse b) j) start n 0
   unfolding D.ContentReadable
   list-readable e =
-      subst (λ (v : ℕ). D.ElementsReadable child (P.parse b) m (Sc.elementOf (P.parse b) v) start n 0) (sym ej)
-      (subst (λ (v : Object). D.ContentReadable child (P.parse b) m v start n) e (h .parts))
+      subst (λ (v : ℕ). D.ElementsReadable o child (P.parse b) m (Sc.elementOf (P.parse b) v) start n 0) (sym ej)
+      (subst (λ (v : Object). D.ContentReadable o child (P.parse b) m v start n) e (h .parts))

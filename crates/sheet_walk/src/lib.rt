@@ -95,8 +95,8 @@ fn put_struct(
 // ---- objects
 // Where an object's content starts, and the length that its header or its holder gives.
 fn start_of(m: &[u8], p: Place) -> usize
-    requires { ⌜ (D.HeaderInside (now m) p) × (length (now m) ≤ 16777215) ⌝ }
-    ensures { λ r. ⌜ r ≡ D.startOf p ⌝ }
+    requires { ⌜ (D.HeaderInside B.u48 (now m) p) × (length (now m) ≤ 16777215) ⌝ }
+    ensures { λ r. ⌜ r ≡ D.startOf B.u48 p ⌝ }
 {
     match p {
         Place::ByOffset(x) => x + 10,
@@ -105,8 +105,8 @@ fn start_of(m: &[u8], p: Place) -> usize
 }
 
 fn length_of(m: &[u8], p: Place) -> usize
-    requires { ⌜ (D.HeaderInside (now m) p) × (length (now m) ≤ 16777215) ⌝ }
-    ensures { λ r. ⌜ r ≡ D.lengthOf (now (m .entry)) p ⌝ }
+    requires { ⌜ (D.HeaderInside B.u48 (now m) p) × (length (now m) ≤ 16777215) ⌝ }
+    ensures { λ r. ⌜ r ≡ D.lengthOf B.u48 (now (m .entry)) p ⌝ }
 {
     match p {
         Place::ByOffset(x) => wire::u48_in(m, x + 4) as usize,
@@ -207,8 +207,8 @@ fn refer_blob(
 ) -> usize
     requires { ⌜ Room (now out) pos ⌝ }
     requires { ⌜ (length (now m) ≤ 16777215) × (isBlob ob ≡ true) ⌝ }
-    requires { ⌜ D.StepReadable (D.ObjectReadable d (P.parse (now b)) (now m)) (P.parse (now b)) (now m) (T.objectStep ob inplace tail x) ⌝ }
-    ensures { λ r. ⌜ Puts (now (out .entry)) pos (Bt.referenceAt d (P.parse (now (b .entry))) (now (m .entry)) ob inplace tail x) (now (out .exit)) r ⌝ }
+    requires { ⌜ D.StepReadable (D.ObjectReadable B.u48 d (P.parse (now b)) (now m)) (P.parse (now b)) (now m) (T.objectStep ob inplace tail x) ⌝ }
+    ensures { λ r. ⌜ Puts (now (out .entry)) pos (Bt.referenceAt B.u48 d (P.parse (now (b .entry))) (now (m .entry)) ob inplace tail x) (now (out .exit)) r ⌝ }
 {
     if x == 0 {
         return bitio::write(out, pos, 2, 0);
@@ -256,8 +256,8 @@ fn put_flat_member(
     requires { ⌜ Room (now out) pos ⌝ }
     requires { ⌜ (Accepted (now b) (now dir)) × (length (now m) ≤ 16777215) × (KindSound (P.parse (now b)) (q .kind)) × (isFlat (q .kind) ≡ true) ⌝ }
     requires { ⌜ (q .here ≡ true → q .at + L.width B.u48 (P.parse (now b)) (q .kind) ≤ length (now m)) × (q .bit < 8) × (q .at < 2 ^ 60) ⌝ }
-    requires { ⌜ D.StepReadable (D.ObjectReadable d (P.parse (now b)) (now m)) (P.parse (now b)) (now m) (Bt.placed (q .here) (T.valueStep B.u48 (P.parse (now b)) (now m) (q .kind) (q .none) (q .inplace) tail (q .at) (q .bit))) ⌝ }
-    ensures { λ r. ⌜ Puts (now (out .entry)) pos (Bt.stepAt d (P.parse (now (b .entry))) (now (m .entry)) (q .kind) (Bt.placed (q .here) (T.valueStep B.u48 (P.parse (now (b .entry))) (now (m .entry)) (q .kind) (q .none) (q .inplace) tail (q .at) (q .bit)))) (now (out .exit)) r ⌝ }
+    requires { ⌜ D.StepReadable (D.ObjectReadable B.u48 d (P.parse (now b)) (now m)) (P.parse (now b)) (now m) (Bt.placed (q .here) (T.valueStep B.u48 (P.parse (now b)) (now m) (q .kind) (q .none) (q .inplace) tail (q .at) (q .bit))) ⌝ }
+    ensures { λ r. ⌜ Puts (now (out .entry)) pos (Bt.stepAt B.u48 d (P.parse (now (b .entry))) (now (m .entry)) (q .kind) (Bt.placed (q .here) (T.valueStep B.u48 (P.parse (now (b .entry))) (now (m .entry)) (q .kind) (q .none) (q .inplace) tail (q .at) (q .bit)))) (now (out .exit)) r ⌝ }
 {
     if !q.here {
         return bitio::write(out, pos, 2, 0);
@@ -294,7 +294,7 @@ fn member_at(
 ) -> PlacedMember
     requires { ⌜ (Accepted (now b) (now dir)) × (t < P.tableCount (now b)) × (j < length (Sc.tableOf (P.parse (now b)) t .members)) × (j < 256) ⌝ }
     requires { ⌜ (start + n ≤ length (now m)) × (length (now m) ≤ 16777215) × (Laid (4097 * j) c) ⌝ }
-    ensures { λ q. ⌜ MemberAt (P.parse (now (b .entry))) (now (m .entry)) t j start n c (q .kind) (q .none) (q .inplace) (q .here) (q .at) (q .bit) (q .next) ⌝ }
+    ensures { λ q. ⌜ MemberAt B.u48 (P.parse (now (b .entry))) (now (m .entry)) t j start n c (q .kind) (q .none) (q .inplace) (q .here) (q .at) (q .bit) (q .next) ⌝ }
 {
     let r = schema::member(b, dir, t, j);
     let k = r.kind;
@@ -517,7 +517,7 @@ fn behind_coded(c: Cursor, q: usize) -> Cursor
 
 // The bytes of a member that leads to an object, by its kind.
 fn lead_width(k: usize) -> usize
-    ensures { λ r. ⌜ (r ≡ Bt.leadWidth k) × (r ≤ 8) ⌝ }
+    ensures { λ r. ⌜ (r ≡ Bt.leadWidth B.u48 k) × (r ≤ 8) ⌝ }
 {
     if k == 17 { 8 } else { 6 }
 }
@@ -538,8 +538,8 @@ fn put_lead(
     requires { ⌜ Room (now out) pos ⌝ }
     requires { ⌜ (Accepted (now b) (now dir)) × (length (now m) ≤ 16777215) × (at + 1 < length (now b)) × (KindSound (P.parse (now b)) (P.memberAt (now b) at .kind)) ⌝ }
     requires { ⌜ (start + n ≤ length (now m)) × (12 < P.kindAt (now b) at) × (P.kindAt (now b) at < 18) × (c .end < 2 ^ 58) ⌝ }
-    requires { ⌜ D.StepReadable (D.ObjectReadable d (P.parse (now b)) (now m)) (P.parse (now b)) (now m) (T.memberStep B.u48 (P.parse (now b)) (now m) start n c (P.memberAt (now b) at)) ⌝ }
-    ensures { λ r. ⌜ Puts (now (out .entry)) pos (Bt.stepAt d (P.parse (now (b .entry))) (now (m .entry)) (P.memberAt (now (b .entry)) at .kind) (T.memberStep B.u48 (P.parse (now (b .entry))) (now (m .entry)) start n c (P.memberAt (now (b .entry)) at))) (now (out .exit)) r ⌝ }
+    requires { ⌜ D.StepReadable (D.ObjectReadable B.u48 d (P.parse (now b)) (now m)) (P.parse (now b)) (now m) (T.memberStep B.u48 (P.parse (now b)) (now m) start n c (P.memberAt (now b) at)) ⌝ }
+    ensures { λ r. ⌜ Puts (now (out .entry)) pos (Bt.stepAt B.u48 d (P.parse (now (b .entry))) (now (m .entry)) (P.memberAt (now (b .entry)) at .kind) (T.memberStep B.u48 (P.parse (now (b .entry))) (now (m .entry)) start n c (P.memberAt (now (b .entry)) at))) (now (out .exit)) r ⌝ }
 {
     let end = c.end;
     let k = schema::kind_at(b, at);
@@ -577,8 +577,8 @@ fn put_reference(
 ) -> usize
     requires { ⌜ Room (now out) pos ⌝ }
     requires { ⌜ (Accepted (now b) (now dir)) × (length (now m) ≤ 16777215) ⌝ }
-    requires { ⌜ D.StepReadable (D.ObjectReadable d (P.parse (now b)) (now m)) (P.parse (now b)) (now m) (T.objectStep ob inplace tail x) ⌝ }
-    ensures { λ r. ⌜ Puts (now (out .entry)) pos (Bt.referenceAt d (P.parse (now (b .entry))) (now (m .entry)) ob inplace tail x) (now (out .exit)) r ⌝ }
+    requires { ⌜ D.StepReadable (D.ObjectReadable B.u48 d (P.parse (now b)) (now m)) (P.parse (now b)) (now m) (T.objectStep ob inplace tail x) ⌝ }
+    ensures { λ r. ⌜ Puts (now (out .entry)) pos (Bt.referenceAt B.u48 d (P.parse (now (b .entry))) (now (m .entry)) ob inplace tail x) (now (out .exit)) r ⌝ }
 {
     if x == 0 {
         return bitio::write(out, pos, 2, 0);
@@ -604,8 +604,8 @@ fn put_union(
 ) -> usize
     requires { ⌜ Room (now out) pos ⌝ }
     requires { ⌜ (Accepted (now b) (now dir)) × (length (now m) ≤ 16777215) × (u < P.unionCount (now b)) ⌝ }
-    requires { ⌜ D.StepReadable (D.ObjectReadable d (P.parse (now b)) (now m)) (P.parse (now b)) (now m) (T.unionStep (Sc.casesOf (P.parse (now b)) u) inplace tail c x) ⌝ }
-    ensures { λ r. ⌜ Puts (now (out .entry)) pos (Bt.choiceAt d (P.parse (now (b .entry))) (now (m .entry)) u inplace tail c x) (now (out .exit)) r ⌝ }
+    requires { ⌜ D.StepReadable (D.ObjectReadable B.u48 d (P.parse (now b)) (now m)) (P.parse (now b)) (now m) (T.unionStep (Sc.casesOf (P.parse (now b)) u) inplace tail c x) ⌝ }
+    ensures { λ r. ⌜ Puts (now (out .entry)) pos (Bt.choiceAt B.u48 d (P.parse (now (b .entry))) (now (m .entry)) u inplace tail c x) (now (out .exit)) r ⌝ }
 {
     if c == 0 {
         return bitio::write(out, pos, 2, 0);
@@ -632,8 +632,8 @@ fn put_object(
 ) -> usize
     requires { ⌜ Room (now out) pos ⌝ }
     requires { ⌜ (Accepted (now b) (now dir)) × (length (now m) ≤ 16777215) ⌝ }
-    requires { ⌜ D.ObjectReadable d (P.parse (now b)) (now m) ob place ⌝ }
-    ensures { λ r. ⌜ Puts (now (out .entry)) pos (Bt.objectAt d (P.parse (now (b .entry))) (now (m .entry)) ob place) (now (out .exit)) r ⌝ }
+    requires { ⌜ D.ObjectReadable B.u48 d (P.parse (now b)) (now m) ob place ⌝ }
+    ensures { λ r. ⌜ Puts (now (out .entry)) pos (Bt.objectAt B.u48 d (P.parse (now (b .entry))) (now (m .entry)) ob place) (now (out .exit)) r ⌝ }
 {
     if d == 0 {
         return pos;
@@ -657,8 +657,8 @@ fn put_content(
 ) -> usize
     requires { ⌜ Room (now out) pos ⌝ }
     requires { ⌜ (Accepted (now b) (now dir)) × (length (now m) ≤ 16777215) ⌝ }
-    requires { ⌜ D.Entered (D.ObjectReadable d (P.parse (now b)) (now m)) (P.parse (now b)) (now m) ob start n ⌝ }
-    ensures { λ r. ⌜ Puts (now (out .entry)) pos (Bt.contentAt d (P.parse (now (b .entry))) (now (m .entry)) ob start n) (now (out .exit)) r ⌝ }
+    requires { ⌜ D.Entered B.u48 (D.ObjectReadable B.u48 d (P.parse (now b)) (now m)) (P.parse (now b)) (now m) ob start n ⌝ }
+    ensures { λ r. ⌜ Puts (now (out .entry)) pos (Bt.contentAt B.u48 d (P.parse (now (b .entry))) (now (m .entry)) ob start n) (now (out .exit)) r ⌝ }
 {
     match ob {
         Object::Text => bitio::write_blob(m, out, pos, start, n),
@@ -682,8 +682,8 @@ fn put_table(
 ) -> usize
     requires { ⌜ Room (now out) pos ⌝ }
     requires { ⌜ (Accepted (now b) (now dir)) × (length (now m) ≤ 16777215) × (t < P.tableCount (now b)) × (start + n ≤ length (now m)) ⌝ }
-    requires { ⌜ D.MembersReadable (D.ObjectReadable d (P.parse (now b)) (now m)) (P.parse (now b)) (now m) start n L.begin (Sc.tableOf (P.parse (now b)) t .members) ⌝ }
-    ensures { λ r. ⌜ Puts (now (out .entry)) pos (Bt.membersAt d (P.parse (now (b .entry))) (now (m .entry)) start n L.begin (Sc.tableOf (P.parse (now (b .entry))) t .members)) (now (out .exit)) r ⌝ }
+    requires { ⌜ D.MembersReadable B.u48 (D.ObjectReadable B.u48 d (P.parse (now b)) (now m)) (P.parse (now b)) (now m) start n L.begin (Sc.tableOf (P.parse (now b)) t .members) ⌝ }
+    ensures { λ r. ⌜ Puts (now (out .entry)) pos (Bt.membersAt B.u48 d (P.parse (now (b .entry))) (now (m .entry)) start n L.begin (Sc.tableOf (P.parse (now (b .entry))) t .members)) (now (out .exit)) r ⌝ }
 {
     let count = schema::member_count(b, dir, t);
     let first = schema::table_place(b, dir, t);
@@ -732,8 +732,8 @@ fn put_list(
     requires { ⌜ Room (now out) pos ⌝ }
     requires { ⌜ (Accepted (now b) (now dir)) × (length (now m) ≤ 16777215) × (i < P.listCount (now b)) ⌝ }
     requires { ⌜ start + T.elementsSize B.u48 (P.parse (now b)) (Sc.elementOf (P.parse (now b)) i) n ≤ length (now m) ⌝ }
-    requires { ⌜ D.ElementsReadable (D.ObjectReadable d (P.parse (now b)) (now m)) (P.parse (now b)) (now m) (Sc.elementOf (P.parse (now b)) i) start n 0 ⌝ }
-    ensures { λ r. ⌜ Puts (now (out .entry)) pos (Bt.listAt d (P.parse (now (b .entry))) (now (m .entry)) (Sc.elementOf (P.parse (now (b .entry))) i) start n) (now (out .exit)) r ⌝ }
+    requires { ⌜ D.ElementsReadable B.u48 (D.ObjectReadable B.u48 d (P.parse (now b)) (now m)) (P.parse (now b)) (now m) (Sc.elementOf (P.parse (now b)) i) start n 0 ⌝ }
+    ensures { λ r. ⌜ Puts (now (out .entry)) pos (Bt.listAt B.u48 d (P.parse (now (b .entry))) (now (m .entry)) (Sc.elementOf (P.parse (now (b .entry))) i) start n) (now (out .exit)) r ⌝ }
 {
     let k = schema::element(b, dir, i);
     let w = integer_width(k);
@@ -768,8 +768,8 @@ fn put_references(
 ) -> usize
     requires { ⌜ Room (now out) pos ⌝ }
     requires { ⌜ (Accepted (now b) (now dir)) × (length (now m) ≤ 16777215) × (start + 6 * n ≤ length (now m)) ⌝ }
-    requires { ⌜ D.ElementsReadable (D.ObjectReadable d (P.parse (now b)) (now m)) (P.parse (now b)) (now m) (Kind.OfObject ob) start n 0 ⌝ }
-    ensures { λ r. ⌜ Puts (now (out .entry)) pos (Bt.elementsAt d (P.parse (now (b .entry))) (now (m .entry)) (Kind.OfObject ob) start n 0) (now (out .exit)) r ⌝ }
+    requires { ⌜ D.ElementsReadable B.u48 (D.ObjectReadable B.u48 d (P.parse (now b)) (now m)) (P.parse (now b)) (now m) (Kind.OfObject ob) start n 0 ⌝ }
+    ensures { λ r. ⌜ Puts (now (out .entry)) pos (Bt.elementsAt B.u48 d (P.parse (now (b .entry))) (now (m .entry)) (Kind.OfObject ob) start n 0) (now (out .exit)) r ⌝ }
 {
     let mut p = pos;
     let mut at = start;
@@ -800,8 +800,8 @@ fn put_choices(
 ) -> usize
     requires { ⌜ Room (now out) pos ⌝ }
     requires { ⌜ (Accepted (now b) (now dir)) × (length (now m) ≤ 16777215) × (u < P.unionCount (now b)) × (start + 8 * n ≤ length (now m)) ⌝ }
-    requires { ⌜ D.ElementsReadable (D.ObjectReadable d (P.parse (now b)) (now m)) (P.parse (now b)) (now m) (Kind.OfUnion u) start n 0 ⌝ }
-    ensures { λ r. ⌜ Puts (now (out .entry)) pos (Bt.elementsAt d (P.parse (now (b .entry))) (now (m .entry)) (Kind.OfUnion u) start n 0) (now (out .exit)) r ⌝ }
+    requires { ⌜ D.ElementsReadable B.u48 (D.ObjectReadable B.u48 d (P.parse (now b)) (now m)) (P.parse (now b)) (now m) (Kind.OfUnion u) start n 0 ⌝ }
+    ensures { λ r. ⌜ Puts (now (out .entry)) pos (Bt.elementsAt B.u48 d (P.parse (now (b .entry))) (now (m .entry)) (Kind.OfUnion u) start n 0) (now (out .exit)) r ⌝ }
 {
     let mut p = pos;
     let mut at = start;
@@ -823,8 +823,8 @@ fn put_choices(
 // The root's bits, where there is room, and where they end.
 pub fn put_root(b: &[u8], dir: &[u16], m: &[u8], out: &mut [u8]) -> usize
     requires { ⌜ Room (now out) 0 ⌝ }
-    requires { ⌜ (Accepted (now b) (now dir)) × (D.MessageReadable (P.parse (now b)) (now m)) ⌝ }
-    ensures { λ r. ⌜ Puts (now (out .entry)) 0 (Bt.rootAt (P.parse (now (b .entry))) (now (m .entry))) (now (out .exit)) r ⌝ }
+    requires { ⌜ (Accepted (now b) (now dir)) × (D.MessageReadable B.u48 (P.parse (now b)) (now m)) ⌝ }
+    ensures { λ r. ⌜ Puts (now (out .entry)) 0 (Bt.rootAt B.u48 (P.parse (now (b .entry))) (now (m .entry))) (now (out .exit)) r ⌝ }
 {
     let ob = message_object::root_object(b, dir);
     let p = message_object::root_place(m);

@@ -3,6 +3,7 @@ use mathlib.Core.Path.{_≡_, refl, sym, _∙_}
 use native.Mathlib.Omega.{arith}
 use borrow.Author.Needs.{needs}
 use lib.ListN.{length, drop}
+use Rattle.coding.specs.Bytes.{u48}
 use Rattle.coding.specs.Packed as P
 use Rattle.coding.specs.Schema as Sc
 use Rattle.coding.specs.Layout as L
@@ -249,8 +250,8 @@ put-union-R t = (write-reads.Asked, write-reads.Learnt, case-count-reads.Asked, 
 
 abbrev put-choices-Inv-loop : put-choices-lts.InvT-loop
 put-choices-Inv-loop b dir m out₀ d u start n pos p₀ at₀ j₀ out p at j =
-    Room out p × (j ≤ n) × (length out ≡ length out₀) × (at ≡ start + 8 * j) × D.ElementsReadable (D.ObjectReadable d (P.parse b) m) (P.parse b) m (OfUnion u) start (n - j) j
-    × Remaining out₀ pos (A.elementsAt d (P.parse b) m (OfUnion u) start n 0) out p (A.elementsAt d (P.parse b) m (OfUnion u) start (n - j) j)
+    Room out p × (j ≤ n) × (length out ≡ length out₀) × (at ≡ start + 8 * j) × D.ElementsReadable u48 (D.ObjectReadable u48 d (P.parse b) m) (P.parse b) m (OfUnion u) start (n - j) j
+    × Remaining out₀ pos (A.elementsAt u48 d (P.parse b) m (OfUnion u) start n 0) out p (A.elementsAt u48 d (P.parse b) m (OfUnion u) start (n - j) j)
 
 abbrev put-choices-μ-loop : put-choices-lts.MeasureT-loop
 put-choices-μ-loop b dir m out₀ d u start n pos p₀ at₀ j₀ out p at j = n - j
@@ -527,7 +528,7 @@ put-list-put-references-requires t c κs =
       omega (arith, c .before .before .before .before .before .before .before .before .before .before .before .before .before .before .before .before .before .before .before .pre .0),
       (
         search (room-next, q .0, c .before .before .before .before .before .before .before .before .before .write .ensures),
-        ((q .1 .0 .0, q .1 .0 .1, offsets-inside _ _ _ is _ _ _ (elements-inside _ _ _ element _ _ _ (q .1 .1 .0))), offsets-given _ _ _ is _ _ _ _ (elements-given _ _ _ element _ _ _ _ (q .1 .1 .1))),
+        ((q .1 .0 .0, q .1 .0 .1, offsets-inside _ _ _ is _ _ _ (elements-inside u48 _ _ _ element _ _ _ (q .1 .1 .0))), offsets-given _ _ _ is _ _ _ _ (elements-given u48 _ _ _ element _ _ _ _ (q .1 .1 .1))),
       ),
     )
 
@@ -546,7 +547,7 @@ put-list-put-choices-requires t c κs =
       omega (arith, c .before .before .before .before .before .before .before .before .before .before .before .before .before .before .before .before .before .before .before .before .pre .0),
       (
         search (room-next, q .0, c .before .before .before .before .before .before .before .before .before .before .write .ensures),
-        ((q .1 .0 .0, q .1 .0 .1, union-counted _ _ _ _ (element-sound _ _ (q .1 .0 .0) _ _ element) is index, choices-inside _ _ _ _ is index _ _ _ (elements-inside _ _ _ element _ _ _ (q .1 .1 .0))), choices-given _ _ _ _ is index _ _ _ _ (elements-given _ _ _ element _ _ _ _ (q .1 .1 .1))),
+        ((q .1 .0 .0, q .1 .0 .1, union-counted _ _ _ _ (element-sound _ _ (q .1 .0 .0) _ _ element) is index, choices-inside _ _ _ _ is index _ _ _ (elements-inside u48 _ _ _ element _ _ _ (q .1 .1 .0))), choices-given _ _ _ _ is index _ _ _ _ (elements-given u48 _ _ _ element _ _ _ _ (q .1 .1 .1))),
       ),
     )
 
@@ -620,8 +621,8 @@ put-reference-returns-2 t c = search reference-there
 
 abbrev put-references-Inv-loop : put-references-lts.InvT-loop
 put-references-Inv-loop b dir m out₀ d ob start n pos p₀ at₀ j₀ out p at j =
-    Room out p × (j ≤ n) × (length out ≡ length out₀) × (at ≡ start + 6 * j) × D.ElementsReadable (D.ObjectReadable d (P.parse b) m) (P.parse b) m (OfObject ob) start (n - j) j
-    × Remaining out₀ pos (A.elementsAt d (P.parse b) m (OfObject ob) start n 0) out p (A.elementsAt d (P.parse b) m (OfObject ob) start (n - j) j)
+    Room out p × (j ≤ n) × (length out ≡ length out₀) × (at ≡ start + 6 * j) × D.ElementsReadable u48 (D.ObjectReadable u48 d (P.parse b) m) (P.parse b) m (OfObject ob) start (n - j) j
+    × Remaining out₀ pos (A.elementsAt u48 d (P.parse b) m (OfObject ob) start n 0) out p (A.elementsAt u48 d (P.parse b) m (OfObject ob) start (n - j) j)
 
 abbrev put-references-μ-loop : put-references-lts.MeasureT-loop
 put-references-μ-loop b dir m out₀ d ob start n pos p₀ at₀ j₀ out p at j = n - j
@@ -685,9 +686,9 @@ put-references-returns-2 t c = search elements-done
 abbrev put-table-Inv-loop : put-table-lts.InvT-loop
 put-table-Inv-loop b dir m out₀ d t start n pos count first c₀ p₀ j₀ out c p j =
     Room out p × (j ≤ count) × (length out ≡ length out₀) × Laid (4097 * j) c
-    × D.MembersReadable (D.ObjectReadable d (P.parse b) m) (P.parse b) m start n c (drop j (Sc.tableOf (P.parse b) t .members))
-    × Remaining out₀ pos (A.membersAt d (P.parse b) m start n L.begin (Sc.tableOf (P.parse b) t .members)) out p
-    (A.membersAt d (P.parse b) m start n c (drop j (Sc.tableOf (P.parse b) t .members)))
+    × D.MembersReadable u48 (D.ObjectReadable u48 d (P.parse b) m) (P.parse b) m start n c (drop j (Sc.tableOf (P.parse b) t .members))
+    × Remaining out₀ pos (A.membersAt u48 d (P.parse b) m start n L.begin (Sc.tableOf (P.parse b) t .members)) out p
+    (A.membersAt u48 d (P.parse b) m start n c (drop j (Sc.tableOf (P.parse b) t .members)))
 
 abbrev put-table-μ-loop : put-table-lts.MeasureT-loop
 put-table-μ-loop b dir m out₀ d t start n pos count first c₀ p₀ j₀ out c p j = count - j
