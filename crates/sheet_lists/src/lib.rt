@@ -108,8 +108,8 @@ pub fn put_numbers(m: &[u8], out: &mut [u8], pos: usize, w: usize, at: usize, n:
     ensures { λ r. ⌜ Puts (now (out .entry)) pos (Elements.numbersAt (now (m .entry)) w n at) (now (out .exit)) r ⌝ }
 {
     let end = pos + numbers_size(w, n);
-    if 134217720 < end {
-        return 134217721;
+    if sheet_values::MOST < end {
+        return sheet_values::OVER;
     }
     if 8 * out.len() < end {
         return end;
@@ -209,8 +209,8 @@ pub fn put_bools(m: &[u8], out: &mut [u8], pos: usize, start: usize, n: usize) -
     ensures { λ r. ⌜ Puts (now (out .entry)) pos (Elements.boolsAt (now (m .entry)) start n 0) (now (out .exit)) r ⌝ }
 {
     let end = pos + n;
-    if 134217720 < end {
-        return 134217721;
+    if sheet_values::MOST < end {
+        return sheet_values::OVER;
     }
     if 8 * out.len() < end {
         return end;
@@ -305,8 +305,8 @@ pub fn put_floats(m: &[u8], out: &mut [u8], pos: usize, w: u8, at: usize, n: usi
     ensures { λ r. ⌜ Puts (now (out .entry)) pos (Elements.floatsAt (now (m .entry)) w n at) (now (out .exit)) r ⌝ }
 {
     let end = pos + floats_length(m, w, at, n);
-    if 134217720 < end {
-        return 134217721;
+    if sheet_values::MOST < end {
+        return sheet_values::OVER;
     }
     if 8 * out.len() < end {
         return end;
@@ -387,8 +387,8 @@ pub fn put_enums(m: &[u8], out: &mut [u8], pos: usize, k: u8, at: usize, n: usiz
     ensures { λ r. ⌜ Puts (now (out .entry)) pos (Elements.enumsAt (now (m .entry)) k n at) (now (out .exit)) r ⌝ }
 {
     let end = pos + enums_size(m, at, n);
-    if 134217720 < end {
-        return 134217721;
+    if sheet_values::MOST < end {
+        return sheet_values::OVER;
     }
     if 8 * out.len() < end {
         return end;

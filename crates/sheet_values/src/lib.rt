@@ -8,6 +8,11 @@ ghost use Rattle.coding.specs.Bits.{bitsOf};
 ghost use Rattle.bitio.specs.Puts.{Room, Puts, saturated};
 ghost use Rattle.sheet_values.specs.Marks as Marks;
 
+// The most bits of a sheet, and the count of more than that.
+pub const MOST: usize = 134217720;
+
+pub const OVER: usize = 134217721;
+
 // A count as a number.
 pub fn number64(x: usize) -> u64
     ensures { λ r. ⌜ r ≡ x ⌝ }
@@ -21,8 +26,8 @@ fn counted(pos: usize, k: usize) -> usize
     ensures { λ r. ⌜ r ≡ saturated (pos + k) ⌝ }
 {
     let end = pos + k;
-    if 134217720 < end {
-        return 134217721;
+    if MOST < end {
+        return OVER;
     }
     end
 }

@@ -58,9 +58,9 @@ among v true u = refl
 among v false true = refl
 among v false false = refl
 
-number-flat : (k a : ℕ) → (k ≡ 0 → ⊥) → k ≤ 10 → NumberOf (P.flatOf k a) (P.widthOf k)
+number-flat : (k a : ℕ) → (k ≡ 0 → ⊥) → k < 11 → NumberOf (P.flatOf k a) (P.widthOf k)
 unfolding P.flatOf
-number-flat k a h l = let g : k < 11 = omega arith in simp (ne-eqb k 0 h, lt-ltb _ _ g) (among (P.widthOf k) (ltb k 5) (ltb k 9))
+number-flat k a h l = simp (ne-eqb k 0 h, lt-ltb _ _ l) (among (P.widthOf k) (ltb k 5) (ltb k 9))
 
 signed : (v : ℕ) (t : Bool) → IntegerOf (pick t (F.Integer false v) (F.Integer true v)) v
 unfolding IntegerOf
@@ -75,12 +75,11 @@ bool-flat : (k a : ℕ) → k ≡ 0 → P.flatOf k a ≡ F.Boolean
 unfolding P.flatOf
 bool-flat k a h = simp (eq-eqb _ _ h)
 
-float-flat : (k a : ℕ) → 9 ≤ k → k ≤ 10 → P.flatOf k a ≡ F.Float (P.widthOf k)
+float-flat : (k a : ℕ) → 9 ≤ k → k < 11 → P.flatOf k a ≡ F.Float (P.widthOf k)
 unfolding P.flatOf
 float-flat k a h l =
-    let g : k < 11 = omega arith in
     let i : 5 ≤ k = omega arith in
-    simp (ne-eqb k 0 (λ e. omega (arith, e, h)), le-ltb _ _ i, le-ltb _ _ h, lt-ltb _ _ g)
+    simp (ne-eqb k 0 (λ e. omega (arith, e, h)), le-ltb _ _ i, le-ltb _ _ h, lt-ltb _ _ l)
 
 member-at : (b : List ℕ) (at k : ℕ) → k ≡ P.kindAt b at → k ≤ 11 → (o v : Bool) → o ≡ P.optionalAt b at → o ≡ v
     → P.memberAt b at ≡ record { kind = OfFlat (P.flatOf k (P.argumentAt b at)); optional = v; inplace = P.inplaceAt b at }
@@ -333,7 +332,7 @@ enum-at b at k ek h a w ea ew =
     (enum-coded (P.inplaceAt b at) (P.optionalAt b at) w)
 
 -- ---- the code of a record
-module _ (b : List ℕ) (at k : ℕ) (ek : k ≡ P.kindAt b at) (l : k ≤ 10) (o : Bool) (eo : o ≡ P.optionalAt b at) where
+module _ (b : List ℕ) (at k : ℕ) (ek : k ≡ P.kindAt b at) (l : k < 11) (o : Bool) (eo : o ≡ P.optionalAt b at) where
   pub number-at : o ≡ false → (k ≡ 0 → ⊥) → (w : ℕ) → w ≡ P.widthOf k → 0 < w → w ≤ 8 → Coded (P.memberAt b at) w
   number-at f h w ew some few =
       subst (λ (r : Member). Coded r w) (sym (member-at b at k ek (let g : k ≤ 11 = omega arith in g) o false eo f))

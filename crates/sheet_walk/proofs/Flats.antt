@@ -1,7 +1,7 @@
 -- The ways out of the writers of values that lead to no object, and that their bits are those of the step.
 use mathlib.Core.Path.{_≡_, refl, sym, ap, _∙_, subst}
-use mathlib.Core.Bool.{Bool, true, false, _&&_}
-use mathlib.Core.List.{List, _++_}
+use mathlib.Core.Bool.{Bool, true, false, _&&_, not}
+use mathlib.Core.List.{List, [], _++_}
 use mathlib.Core.Logic.{⊎-elim}
 use Prim.Native.Nat.{ℕ, _*_, _/_, _%_, _^_, _≤_}
 use native.Mathlib.Omega.{arith}
@@ -16,12 +16,14 @@ use Rattle.coding.specs.Bits.{bitsOf}
 use Rattle.coding.specs.Sheet as E
 use Rattle.coding.specs.declared.Flat.{Flat}
 use Rattle.coding.specs.declared.Flat.the-variants as F
-use Rattle.coding.specs.declared.Kind.the-variants.{OfFlat}
+use Rattle.coding.specs.declared.Object.{Object}
+use Rattle.coding.specs.declared.Kind.{Kind}
+use Rattle.coding.specs.declared.Kind.the-variants.{OfFlat, OfObject, OfUnion}
 use Rattle.coding.specs.declared.Step.the-variants as St
 use Rattle.laws.specs.Sound.{FlatSound}
 use Rattle.wire.specs.Numbers.{Number}
 use Rattle.bitio.specs.Puts.{Room, Puts}
-use Rattle.bitio.specs.PutsLaws.{puts-then}
+use Rattle.bitio.specs.PutsLaws.{puts-none, puts-then}
 use Rattle.sheet_values.specs.Marks as K
 use Rattle.sheet_walk.specs.MessageBits as A
 use Rattle.sheet_walk.specs.Readable as D
@@ -107,3 +109,40 @@ flat-bits o d S m (F.Struct i) none at bit = by (structOk S m i at)
     by : (t : Bool) → pick t (bitsOf 2 1 ++ A.structAt S m i at) (bitsOf 2 0) ≡ A.stepAt o d S m (OfFlat (F.Struct i)) (pick t (St.Struct i at) (St.Refused 10))
     by true = refl
     by false = refl
+
+-- ---- a member of a kind that leads to no object
+unfoldable pub isFlat : Kind → Bool
+isFlat (OfFlat f) = true
+isFlat (OfObject ob) = false
+isFlat (OfUnion u) = false
+
+pub is-false : (t : Bool) → not t ≡ true → t ≡ false
+is-false true e = sym e
+is-false false e = refl
+
+pub is-true : (t : Bool) → not t ≡ false → t ≡ true
+is-true true e = refl
+is-true false e = sym e
+
+module _ (S : Schema) (m : List ℕ) (k : Kind) (none here : Bool) (at bit : ℕ) (out out₁ : List ℕ) (p q : ℕ) where
+  pub member-none : not here ≡ true → Puts out p (bitsOf 2 0) out₁ q → Puts out p (A.memberAt S m k none here at bit) out₁ q
+  unfolding A.memberAt
+  member-none e h = simp (is-false here e) h
+
+  pub member-flat : not here ≡ false → (f : Flat) → k ≡ OfFlat f → Puts out p (A.flatAt S m f none at bit) out₁ q → Puts out p (A.memberAt S m k none here at bit) out₁ q
+  unfolding A.memberAt A.valueAt
+  member-flat e f ek h = rw ek (simp (is-true here e) h)
+
+module _ (S : Schema) (m : List ℕ) (k : Kind) (none here : Bool) (at bit : ℕ) (out : List ℕ) (p : ℕ) (g : Room out p) (e : not here ≡ false) where
+  pub member-object : (ob : Object) → k ≡ OfObject ob → Puts out p (A.memberAt S m k none here at bit) out p
+  unfolding A.memberAt A.valueAt
+  member-object ob ek = rw ek (simp (is-true here e) (puts-none out p (g .most)))
+
+  pub member-union : (u : ℕ) → k ≡ OfUnion u → Puts out p (A.memberAt S m k none here at bit) out p
+  unfolding A.memberAt A.valueAt
+  member-union u ek = rw ek (simp (is-true here e) (puts-none out p (g .most)))
+
+pub flat-given : (S : Schema) (m : List ℕ) (k : Kind) (here : Bool) (at : ℕ) → (here ≡ true → D.ValueReadable S m k at) → not here ≡ false → (f : Flat) → k ≡ OfFlat f
+    → D.FlatReadable S m f at
+unfolding D.ValueReadable
+flat-given S m k here at h e f ek = subst (λ (j : Kind). D.ValueReadable S m j at) ek (h (is-true here e))

@@ -6,7 +6,7 @@ use Prim.Native.Nat.{ℕ, zero, suc, _+_, _-_, _*_, _<_, _≤_}
 use native.Mathlib.Omega.{arith}
 use native.Mathlib.Numerals.{sub-one}
 use lib.ListN.{length, take, drop}
-use Rattle.coding.specs.Bytes.{u48}
+use Rattle.coding.specs.Bytes.{u48, le}
 use Rattle.coding.specs.Schema as Sc
 use Rattle.coding.specs.Schema.{Schema}
 use Rattle.coding.specs.Packed as P
@@ -36,7 +36,6 @@ use Rattle.message_step.specs.declared.Reach.{Reach}
 use Rattle.message_step.specs.declared.Reach.the-variants.{Cut, Past, Here}
 use Rattle.message_step.proofs.ReachCases.{step-reached}
 use Rattle.message_step.proofs.MemberCases.{value-inside}
-use Rattle.wire.specs.Numbers.{Number}
 use Rattle.bitio.specs.Puts.{Room, Puts}
 use Rattle.bitio.specs.PutsLaws.{puts-none, puts-then, puts-same}
 use Rattle.sheet_values.specs.Marks as K
@@ -45,22 +44,27 @@ use Rattle.sheet_walk.specs.Readable as D
 use Rattle.sheet_walk.specs.Stepping.{MemberAt, isHere}
 
 -- ---- places
+pub header-ten : 10 ≡ W.headerSize u48
+unfolding W.headerSize u48
+header-ten = refl
+
 module _ (m : List ℕ) (p : Place) where
-  pub start-offset : (x : ℕ) → p ≡ ByOffset x → x + 10 ≡ D.startOf u48 p
-  unfolding D.startOf W.headerSize u48
-  start-offset x e = rw e
+  module _ (o : ℕ) where
+    pub start-offset : (x h : ℕ) → p ≡ ByOffset x → h ≡ W.headerSize o → x + h ≡ D.startOf o p
+    unfolding D.startOf
+    start-offset x h e eh = rw e (ap (λ (i : ℕ). x + i) eh)
 
-  pub start-inplace : (a n : ℕ) → p ≡ InPlace a n → a ≡ D.startOf u48 p
-  unfolding D.startOf
-  start-inplace a n e = rw e
+    pub start-inplace : (a n : ℕ) → p ≡ InPlace a n → a ≡ D.startOf o p
+    unfolding D.startOf
+    start-inplace a n e = rw e
 
-  pub length-offset : (x r : ℕ) → p ≡ ByOffset x → Number m (x + 4) 6 r → r ≡ D.lengthOf u48 m p
-  unfolding D.lengthOf u48
-  length-offset x r e h = rw e (h .is)
+    pub length-offset : (x r : ℕ) → p ≡ ByOffset x → r ≡ le m (x + 4) o → r ≡ D.lengthOf o m p
+    unfolding D.lengthOf
+    length-offset x r e h = rw e h
 
-  pub length-inplace : (a n : ℕ) → p ≡ InPlace a n → n ≡ D.lengthOf u48 m p
-  unfolding D.lengthOf
-  length-inplace a n e = rw e
+    pub length-inplace : (a n : ℕ) → p ≡ InPlace a n → n ≡ D.lengthOf o m p
+    unfolding D.lengthOf
+    length-inplace a n e = rw e
 
   pub header-inside : (x : ℕ) → p ≡ ByOffset x → D.HeaderInside u48 m p → x + 10 ≤ length m
   unfolding D.HeaderInside W.headerSize u48

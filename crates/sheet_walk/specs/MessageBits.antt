@@ -12,10 +12,11 @@ use Rattle.coding.specs.Packed.{widthOf}
 use Rattle.coding.specs.Structs.{structOk}
 use Rattle.coding.specs.Bits.{bitsOf}
 use Rattle.coding.specs.Layout.{bitByte, bitIndex, afterBit}
-use Rattle.sheet_values.specs.Marks.{marked, enumAt, floatAt, floatsAt, enumsAt, plainAt}
+use Rattle.sheet_values.specs.Marks.{marked, enumAt, floatAt, plainAt, blobAt}
+use Rattle.sheet_lists.specs.Elements.{floatsAt, enumsAt}
 use Rattle.coding.specs.Read as R
 use Rattle.coding.specs.Sheet as E
-use Rattle.coding.specs.Step.{fieldStep, objectStep, unionStep}
+use Rattle.coding.specs.Step.{fieldStep, placeOf, objectStep, unionStep}
 use Rattle.coding.specs.declared.Flat.{Flat}
 use Rattle.coding.specs.declared.Flat.the-variants as F
 use Rattle.coding.specs.declared.Object.{Object}
@@ -26,6 +27,7 @@ use Rattle.coding.specs.declared.Cursor.{Cursor}
 use Rattle.coding.specs.declared.Place.{Place}
 use Rattle.coding.specs.declared.Step.{Step}
 use Rattle.coding.specs.declared.Step.the-variants as St
+use Rattle.sheet_walk.specs.Readable.{startOf, lengthOf}
 
 -- ---- structs
 unfoldable pub structAt : Schema → List ℕ → ℕ → ℕ → List ℕ
@@ -86,6 +88,16 @@ flatAt S m (F.Float w) none at bit = floatAt none w (le m at w)
 flatAt S m (F.Enumerated n) none at bit = enumAt n (getD m at 0)
 flatAt S m (F.Struct i) none at bit = wholeAt S m i at
 
+-- a value of a kind that leads to no object
+unfoldable pub valueAt : Schema → List ℕ → Kind → Bool → ℕ → ℕ → List ℕ
+valueAt S m (OfFlat f) none at bit = flatAt S m f none at bit
+valueAt S m (OfObject ob) none at bit = []
+valueAt S m (OfUnion u) none at bit = []
+
+-- the same, if it is there
+unfoldable pub memberAt : Schema → List ℕ → Kind → Bool → Bool → ℕ → ℕ → List ℕ
+memberAt S m k none here at bit = pick here (valueAt S m k none at bit) (bitsOf 2 0)
+
 -- a reference or, in place, a length x
 unfoldable pub referenceAt : ℕ → ℕ → Schema → List ℕ → Object → Bool → ℕ → ℕ → List ℕ
 referenceAt o d S m ob inplace tail x = stepAt o d S m (OfObject ob) (objectStep ob inplace tail x)
@@ -94,9 +106,10 @@ referenceAt o d S m ob inplace tail x = stepAt o d S m (OfObject ob) (objectStep
 unfoldable pub choiceAt : ℕ → ℕ → Schema → List ℕ → ℕ → Bool → ℕ → ℕ → ℕ → List ℕ
 choiceAt o d S m u inplace tail c x = stepAt o d S m (OfUnion u) (unionStep (casesOf S u) inplace tail c x)
 
--- a value, if it is there; a member that is cut has the bits of an absent one
-unfoldable pub placed : Bool → Step → Step
-placed here v = pick here v St.Absent
+-- a text or bytes, by its reference or, in place, its length x
+unfoldable pub blobReferenceAt : ℕ → List ℕ → Bool → ℕ → ℕ → List ℕ
+blobReferenceAt o m inplace tail x =
+    pick (eqb x 0) (bitsOf 2 0) (blobAt m (startOf o (placeOf inplace tail x)) (lengthOf o m (placeOf inplace tail x)))
 
 -- ---- members by their records, where the cursor stands in a fixed part that has n bytes from `start`
 -- where an optional integer stands behind its flag; at the fixed part's end, if the flag says that there is none
@@ -138,19 +151,6 @@ codedAt m q start n c = pick (ltb q 32) (plainAt m (codedWidth q) start n (coded
 -- the bytes of a member that leads to an object, by its kind: a union has a choice before the reference
 unfoldable pub leadWidth : ℕ → ℕ → ℕ
 leadWidth o k = pick (eqb k 17) (2 + o) o
-
--- the width of an integer kind in bytes, or 0
-unfoldable pub flatInteger : Flat → ℕ
-flatInteger F.Boolean = 0
-flatInteger (F.Integer s w) = w
-flatInteger (F.Float w) = 0
-flatInteger (F.Enumerated n) = 0
-flatInteger (F.Struct i) = 0
-
-unfoldable pub integerWidth : Kind → ℕ
-integerWidth (OfFlat k) = flatInteger k
-integerWidth (OfObject ob) = 0
-integerWidth (OfUnion i) = 0
 
 -- n floats or enums; the other flat elements have no mark
 unfoldable pub flatsAt : List ℕ → Flat → ℕ → ℕ → List ℕ

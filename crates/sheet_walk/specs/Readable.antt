@@ -16,6 +16,7 @@ use Rattle.coding.specs.declared.Flat.the-variants as F
 use Rattle.coding.specs.declared.Object.{Object}
 use Rattle.coding.specs.declared.Object.the-variants as O
 use Rattle.coding.specs.declared.Kind.{Kind}
+use Rattle.coding.specs.declared.Kind.the-variants.{OfFlat, OfObject, OfUnion}
 use Rattle.coding.specs.declared.Member.{Member}
 use Rattle.coding.specs.declared.Cursor.{Cursor}
 use Rattle.coding.specs.declared.Place.{Place}
@@ -38,6 +39,10 @@ unfoldable pub HeaderInside : ℕ → List ℕ → Place → Type 0
 HeaderInside o m (ByOffset x) = x + headerSize o ≤ length m
 HeaderInside o m (InPlace a n) = Unit {0}
 
+-- a text or bytes lies within it too, with its header
+unfoldable pub BlobInside : ℕ → List ℕ → Place → Type 0
+BlobInside o m p = HeaderInside o m p × (startOf o p + lengthOf o m p ≤ length m)
+
 -- ---- by the step
 abbrev pub Child : Type 1
 Child = Object → Place → Type 0
@@ -58,6 +63,11 @@ FlatReadable S m (F.Integer s w) at = Unit {0}
 FlatReadable S m (F.Float w) at = Unit {0}
 FlatReadable S m (F.Enumerated n) at = Unit {0}
 FlatReadable S m (F.Struct i) at = structOk S m i at ≡ true
+
+unfoldable pub ValueReadable : Schema → List ℕ → Kind → ℕ → Type 0
+ValueReadable S m (OfFlat f) at = FlatReadable S m f at
+ValueReadable S m (OfObject ob) at = Unit {0}
+ValueReadable S m (OfUnion u) at = Unit {0}
 
 unfoldable pub MembersReadable : ℕ → Child → Schema → List ℕ → ℕ → ℕ → Cursor → List Member → Type 0
 MembersReadable o child S m start n c [] = Unit {0}

@@ -10,9 +10,6 @@ use Rattle.coding.specs.Schema.{Schema, memberOf}
 use Rattle.coding.specs.Layout.{width, afterMember, afterBit, afterBytes}
 use Rattle.coding.specs.Step.{memberStep, valueStep}
 use Rattle.coding.specs.declared.Kind.{Kind}
-use Rattle.coding.specs.declared.Kind.the-variants.{OfFlat, OfObject, OfUnion}
-use Rattle.coding.specs.declared.Object.{Object}
-use Rattle.coding.specs.declared.Object.the-variants as O
 use Rattle.coding.specs.declared.Member.{Member}
 use Rattle.coding.specs.declared.Cursor.{Cursor}
 use Rattle.laws.specs.Sound.{KindSound}
@@ -26,19 +23,6 @@ unfoldable pub isHere : Reach → Bool
 isHere Cut = false
 isHere Past = false
 isHere Here = true
-
--- an object that needs no walker
-unfoldable pub isBlob : Object → Bool
-isBlob O.Text = true
-isBlob O.Bytes = true
-isBlob (O.List i) = false
-isBlob (O.Table i) = false
-
--- a kind that leads to no object
-unfoldable pub isFlat : Kind → Bool
-isFlat (OfFlat f) = true
-isFlat (OfObject ob) = false
-isFlat (OfUnion u) = false
 
 -- a member that is written by its record alone, with the code q: how the cursor moves, and its bits
 unfoldable pub behindOther : ℕ → Cursor → Cursor
