@@ -270,21 +270,27 @@ fn member_at(
     m: &[u8],
     t: usize,
     j: usize,
-    start: usize,
-    n: usize,
+    part: Content,
     c: Cursor,
 ) -> PlacedMember
     requires { ⌜ (Accepted (now b) (now dir)) × (t < P.tableCount (now b)) × (j < length (Sc.tableOf (P.parse (now b)) t .members)) × (j < 256) ⌝ }
-    requires { ⌜ (start + n ≤ length (now m)) × (length (now m) ≤ 16777215) × (Laid (4097 * j) c) ⌝ }
-    ensures { λ q. ⌜ MemberAt B.u48 (P.parse (now (b .entry))) (now (m .entry)) t j start n c (q .kind) (q .none) (q .inplace) (q .here) (q .at) (q .bit) (q .next) ⌝ }
+    requires { ⌜ (part .start + part .length ≤ length (now m)) × (length (now m) ≤ 16777215) × (Laid (4097 * j) c) ⌝ }
+    ensures { λ q. ⌜ MemberAt B.u48 (P.parse (now (b .entry))) (now (m .entry)) t j (part .start) (part .length) c (q .kind) (q .none) (q .inplace) (q .here) (q .at) (q .bit) (q .next) ⌝ }
 {
     let r = schema::member(b, dir, t, j);
     let k = r.kind;
     let p = message_layout::place_member(b, dir, r, c);
     let slot = p.slot;
     let next = p.next;
-    let at = start + slot.at;
-    let here = is_here(message_step::reach_of(m, start, n, c, slot, message_layout::has_flag(r)));
+    let at = part.start + slot.at;
+    let here = is_here(message_step::reach_of(
+        m,
+        part.start,
+        part.length,
+        c,
+        slot,
+        message_layout::has_flag(r),
+    ));
     PlacedMember {
         kind: k,
         none: r.optional,
@@ -343,30 +349,30 @@ fn optional_code(k: usize) -> usize
 }
 
 // Where an optional integer stands in the fixed part; at its end, if the flag says that there is none.
-fn optional_end(m: &[u8], start: usize, n: usize, c: Cursor) -> usize
-    requires { ⌜ (start + n ≤ length (now m)) × (length (now m) ≤ 16777215) × (c .end < 2 ^ 57) × (c .byte ≤ c .end) × (c .bit ≤ 8) ⌝ }
-    ensures { λ r. ⌜ (r ≡ Bt.optionalEnd (now (m .entry)) start n c) × (r < 2 ^ 58) ⌝ }
+fn optional_end(m: &[u8], part: Content, c: Cursor) -> usize
+    requires { ⌜ (part .start + part .length ≤ length (now m)) × (length (now m) ≤ 16777215) × (c .end < 2 ^ 57) × (c .byte ≤ c .end) × (c .bit ≤ 8) ⌝ }
+    ensures { λ r. ⌜ (r ≡ Bt.optionalEnd (now (m .entry)) (part .start) (part .length) c) × (r < 2 ^ 58) ⌝ }
 {
     let at = message_layout::bit_byte(c);
-    if n <= at {
-        return n;
+    if part.length <= at {
+        return part.length;
     }
-    if wire::bit_in(m, start + at, message_layout::bit_index(c)) {
+    if wire::bit_in(m, part.start + at, message_layout::bit_index(c)) {
         let next = message_layout::after_bit(c);
         return next.end;
     }
-    n
+    part.length
 }
 
 // Where a number stands that has the code q.
-fn coded_end(m: &[u8], q: usize, start: usize, n: usize, c: Cursor) -> usize
-    requires { ⌜ (start + n ≤ length (now m)) × (length (now m) ≤ 16777215) × (c .end < 2 ^ 57) × (c .byte ≤ c .end) × (c .bit ≤ 8) ⌝ }
-    ensures { λ r. ⌜ (r ≡ Bt.codedEnd (now (m .entry)) q start n c) × (r < 2 ^ 58) ⌝ }
+fn coded_end(m: &[u8], q: usize, part: Content, c: Cursor) -> usize
+    requires { ⌜ (part .start + part .length ≤ length (now m)) × (length (now m) ≤ 16777215) × (c .end < 2 ^ 57) × (c .byte ≤ c .end) × (c .bit ≤ 8) ⌝ }
+    ensures { λ r. ⌜ (r ≡ Bt.codedEnd (now (m .entry)) q (part .start) (part .length) c) × (r < 2 ^ 58) ⌝ }
 {
     if q < 16 {
         return c.end;
     }
-    optional_end(m, start, n, c)
+    optional_end(m, part, c)
 }
 
 // The bytes of a number that has the code q.
@@ -381,16 +387,16 @@ fn coded_width(q: usize) -> usize
 }
 
 // A bool that is not optional, where the cursor stands.
-fn put_bool(m: &[u8], out: &mut [u8], start: usize, n: usize, c: Cursor, pos: usize) -> usize
+fn put_bool(m: &[u8], out: &mut [u8], part: Content, c: Cursor, pos: usize) -> usize
     requires { ⌜ Room (now out) pos ⌝ }
-    requires { ⌜ (start + n ≤ length (now m)) × (length (now m) ≤ 16777215) × (c .byte ≤ c .end) ⌝ }
-    ensures { λ r. ⌜ Puts (now (out .entry)) pos (Bt.boolAt (now (m .entry)) start n c) (now (out .exit)) r ⌝ }
+    requires { ⌜ (part .start + part .length ≤ length (now m)) × (length (now m) ≤ 16777215) × (c .byte ≤ c .end) ⌝ }
+    ensures { λ r. ⌜ Puts (now (out .entry)) pos (Bt.boolAt (now (m .entry)) (part .start) (part .length) c) (now (out .exit)) r ⌝ }
 {
     let at = message_layout::bit_byte(c);
-    if n <= at {
+    if part.length <= at {
         return bitio::write(out, pos, 2, 0);
     }
-    let x = wire::byte_in(m, start + at);
+    let x = wire::byte_in(m, part.start + at);
     sheet_values::put_marked(
         out,
         pos,
@@ -405,66 +411,60 @@ fn put_optional_float(
     m: &[u8],
     out: &mut [u8],
     w: usize,
-    start: usize,
-    n: usize,
+    part: Content,
     c: Cursor,
     pos: usize,
 ) -> usize
     requires { ⌜ Room (now out) pos ⌝ }
-    requires { ⌜ (start + n ≤ length (now m)) × (length (now m) ≤ 16777215) × (c .end < 2 ^ 57) × (w ≤ 8) ⌝ }
-    ensures { λ r. ⌜ Puts (now (out .entry)) pos (Bt.optionalFloatAt (now (m .entry)) w start n c) (now (out .exit)) r ⌝ }
+    requires { ⌜ (part .start + part .length ≤ length (now m)) × (length (now m) ≤ 16777215) × (c .end < 2 ^ 57) × (w ≤ 8) ⌝ }
+    ensures { λ r. ⌜ Puts (now (out .entry)) pos (Bt.optionalFloatAt (now (m .entry)) w (part .start) (part .length) c) (now (out .exit)) r ⌝ }
 {
-    if n < c.end + w {
+    if part.length < c.end + w {
         return bitio::write(out, pos, 2, 0);
     }
-    sheet_values::put_float(out, pos, true, w as u8, wire::number(m, start + c.end, w))
+    sheet_values::put_float(
+        out,
+        pos,
+        true,
+        w as u8,
+        wire::number(m, part.start + c.end, w),
+    )
 }
 
 // A member whose code q says that it is a bool, an optional float or an enum.
-fn put_other(
-    m: &[u8],
-    out: &mut [u8],
-    q: usize,
-    start: usize,
-    n: usize,
-    c: Cursor,
-    pos: usize,
-) -> usize
+fn put_other(m: &[u8], out: &mut [u8], q: usize, part: Content, c: Cursor, pos: usize) -> usize
     requires { ⌜ Room (now out) pos ⌝ }
-    requires { ⌜ (start + n ≤ length (now m)) × (length (now m) ≤ 16777215) × (c .end < 2 ^ 57) × (c .byte ≤ c .end) × (Small q) ⌝ }
-    ensures { λ r. ⌜ Puts (now (out .entry)) pos (Bt.otherAt (now (m .entry)) q start n c) (now (out .exit)) r ⌝ }
+    requires { ⌜ (part .start + part .length ≤ length (now m)) × (length (now m) ≤ 16777215) × (c .end < 2 ^ 57) × (c .byte ≤ c .end) × (Small q) ⌝ }
+    ensures { λ r. ⌜ Puts (now (out .entry)) pos (Bt.otherAt (now (m .entry)) q (part .start) (part .length) c) (now (out .exit)) r ⌝ }
 {
     if q <= 32 {
-        return put_bool(m, out, start, n, c, pos);
+        return put_bool(m, out, part, c, pos);
     }
     if q < 64 {
-        return put_optional_float(m, out, q - 48, start, n, c, pos);
+        return put_optional_float(m, out, q - 48, part, c, pos);
     }
-    if n <= c.end {
+    if part.length <= c.end {
         return bitio::write(out, pos, 2, 0);
     }
-    sheet_values::put_enum(out, pos, (q - 64) as u8, wire::byte_in(m, start + c.end))
+    sheet_values::put_enum(
+        out,
+        pos,
+        (q - 64) as u8,
+        wire::byte_in(m, part.start + c.end),
+    )
 }
 
 // A member that has the code q.
-fn put_coded(
-    m: &[u8],
-    out: &mut [u8],
-    q: usize,
-    start: usize,
-    n: usize,
-    c: Cursor,
-    pos: usize,
-) -> usize
+fn put_coded(m: &[u8], out: &mut [u8], q: usize, part: Content, c: Cursor, pos: usize) -> usize
     requires { ⌜ Room (now out) pos ⌝ }
-    requires { ⌜ (start + n ≤ length (now m)) × (length (now m) ≤ 16777215) × (c .end < 2 ^ 57) × (c .byte ≤ c .end) × (c .bit ≤ 8) × (Small q) ⌝ }
-    ensures { λ r. ⌜ Puts (now (out .entry)) pos (Bt.codedAt (now (m .entry)) q start n c) (now (out .exit)) r ⌝ }
+    requires { ⌜ (part .start + part .length ≤ length (now m)) × (length (now m) ≤ 16777215) × (c .end < 2 ^ 57) × (c .byte ≤ c .end) × (c .bit ≤ 8) × (Small q) ⌝ }
+    ensures { λ r. ⌜ Puts (now (out .entry)) pos (Bt.codedAt (now (m .entry)) q (part .start) (part .length) c) (now (out .exit)) r ⌝ }
 {
     if 32 <= q {
-        return put_other(m, out, q, start, n, c, pos);
+        return put_other(m, out, q, part, c, pos);
     }
-    let end = coded_end(m, q, start, n, c);
-    sheet_values::put_plain(m, out, coded_width(q), start, n, end, pos)
+    let end = coded_end(m, q, part, c);
+    sheet_values::put_plain(m, out, coded_width(q), part.start, part.length, end, pos)
 }
 
 // The cursor behind a member that has the code q.
@@ -658,8 +658,6 @@ fn put_table(
     requires { ⌜ C.TableReadable d (now b) (now m) t (part .start) (part .length) ⌝ }
     ensures { λ r. ⌜ Puts (now (out .entry)) pos (C.tableBits d (now (b .entry)) (now (m .entry)) t (part .start) (part .length)) (now (out .exit)) r ⌝ }
 {
-    let start = part.start;
-    let n = part.length;
     let count = schema::member_count(b, dir, t);
     let first = schema::table_place(b, dir, t);
     let mut c = message_layout::begin();
@@ -672,7 +670,7 @@ fn put_table(
         let at = schema::record_place(4, first, j);
         let code = code_at(b, at);
         if 0 < code {
-            p = put_coded(m, out, code, start, n, c, p);
+            p = put_coded(m, out, code, part, c, p);
             c = behind_coded(c, code);
             j += 1;
             continue;
@@ -684,7 +682,7 @@ fn put_table(
             j += 1;
             continue;
         }
-        let q = member_at(b, dir, m, t, j, start, n, c);
+        let q = member_at(b, dir, m, t, j, part, c);
         c = q.next;
         p = put_flat_member(b, dir, m, out, q, p);
         j += 1;

@@ -686,14 +686,14 @@ put-references-returns-2 : (t : ℕ) → put-references-lts.Need-returns-2 (put-
 put-references-returns-2 t c = search elements-done
 
 abbrev put-table-Inv-loop : put-table-lts.InvT-loop
-put-table-Inv-loop b dir m out₀ d t part pos start n count first c₀ p₀ j₀ out c p j =
+put-table-Inv-loop b dir m out₀ d t part pos count first c₀ p₀ j₀ out c p j =
     Room out p × (j ≤ count) × (length out ≡ length out₀) × Laid (4097 * j) c
     × D.MembersReadable u48 (D.ObjectReadable u48 d (P.parse b) m) (P.parse b) m (part .start) (part .length) c (drop j (Sc.tableOf (P.parse b) t .members))
     × Remaining out₀ pos (A.membersAt u48 d (P.parse b) m (part .start) (part .length) L.begin (Sc.tableOf (P.parse b) t .members)) out p
     (A.membersAt u48 d (P.parse b) m (part .start) (part .length) c (drop j (Sc.tableOf (P.parse b) t .members)))
 
 abbrev put-table-μ-loop : put-table-lts.MeasureT-loop
-put-table-μ-loop b dir m out₀ d t part pos start n count first c₀ p₀ j₀ out c p j = count - j
+put-table-μ-loop b dir m out₀ d t part pos count first c₀ p₀ j₀ out c p j = count - j
 
 put-table-member-count-requires : (t : ℕ) → put-table-lts.Need-member-count-requires (put-table-R t) (put-table-at t) put-table.Post put-table-Inv-loop put-table-μ-loop
 put-table-member-count-requires t c κs = search needs
