@@ -51,7 +51,7 @@ use Rattle.coding.proofs.Answer as S
 use Rattle.coding.proofs.Answer.Laws as S′
 use Rattle.field_element.proofs.reader_answer as step
 use Rattle.field_element.proofs.reader_answer.Symbol as step-def
-use Rattle.field_element.proofs.reader_answer.Symbol.{name as #element·reader-answer}
+use Rattle.field_element.proofs.reader_answer.Symbol.{name as #field-element·reader-answer}
 use Rattle.field_element.proofs.reader_answer.Met as step-thm
 use Rattle.field_reader.proofs.answer.Key.{name as #reader·answer}
 use Rattle.field_reader.proofs.answer as answer
@@ -121,7 +121,7 @@ module _ {M : Type 1} (𝓤 : URA M) (H : Heap 𝓤) (A : Atoms 𝓤) (W : Given
       suffices ! _ (ends-at 𝓤 H A answer.ended stayed (answer.clauses 𝓤 H A mem run) W ((κs, (q, (q′, (q″, tt))), tt, (d, tt), (mach ∷ [], tt)), tt) u n (tt, tt) (tt, tt)) $ says ! e $
       move ! (1 ∷ []) $ frame ! $ nothing ! $ move ! (2 ∷ 0 ∷ []) $ fjoin ! $ frame ! $ done !
 
-  module _ (C : Calls 𝓤 H) (Λ : Loops 𝓤 H) (fm : FmC 𝓤 H (W .laws) C) (known : Triple 𝓤 (C #element·reader-answer) (StepAt 𝓤 H A mem run)) where
+  module _ (C : Calls 𝓤 H) (Λ : Loops 𝓤 H) (fm : FmC 𝓤 H (W .laws) C) (known : Triple 𝓤 (C #field-element·reader-answer) (StepAt 𝓤 H A mem run)) where
     walk : Holds (hasTy (T′.mir (named 0) (named 1) (named 2)) mach) × WT mach → ent 𝓤 (onEntry 𝓤 H A answer.signature κs (q, (q′, (q″, tt))) (d, tt) (mach ∷ [], tt)) (WpFn 𝓤 H C Λ code.function (mach ∷ []) Post)
     walk wt =
         qed W (raw (onEntry 𝓤 H A answer.signature κs (q, (q′, (q″, tt))) (d, tt) (mach ∷ [], tt)) ∷ []) ∵ enter ! C Λ code.function (mach ∷ []) _ $
@@ -141,13 +141,13 @@ module _ {M : Type 1} (𝓤 : URA M) (H : Heap 𝓤) (A : Atoms 𝓤) (W : Given
         move ! (13 ∷ 14 ∷ []) $ free1 ! $ move ! (11 ∷ 12 ∷ []) $ free1 ! $ move ! (9 ∷ 10 ∷ []) $ free1 ! $ move ! (7 ∷ 8 ∷ []) $ free1 ! $ move ! (5 ∷ 6 ∷ []) $ free1 ! $ move ! (3 ∷ 4 ∷ []) $ free1 ! $ free0 ! $ by ! (exits n u e)))))))))))
 
 module _ {M : Type 1} (𝓤 : URA M) (H : Heap 𝓤) (A : Atoms 𝓤) (W : Given 𝓤 H A) (mem : Memory → SProp 𝓤) (run : Routine → Fun 𝓤) where
-  answer-walks : (C : Calls 𝓤 H) (Λ : Loops 𝓤 H) → FmC 𝓤 H (W .laws) C → Triple 𝓤 (C #element·reader-answer) (StepAt 𝓤 H A mem run)
+  answer-walks : (C : Calls 𝓤 H) (Λ : Loops 𝓤 H) → FmC 𝓤 H (W .laws) C → Triple 𝓤 (C #field-element·reader-answer) (StepAt 𝓤 H A mem run)
       → Walks 𝓤 H A answer.ended stayed (WpFn 𝓤 H C Λ code.function) (answer.clauses 𝓤 H A mem run)
   answer-walks C Λ fm known = walked 𝓤 H A answer.ended stayed (answer.clauses 𝓤 H A mem run) (WpFn 𝓤 H C Λ code.function) (λ κs. (LL.vals (D κs) (L κs), tt)) (λ κs. (LL.tells (D κs) (L κs), tt))
       (λ κs qs bounds a g are. via 𝓤 _ (fst∗ 𝓤 _ (emp 𝓤)) (walk 𝓤 H A W mem run (κs .0) (κs .1 .0) (κs .1 .1 .0) (qs .0) (qs .1 .0) (qs .1 .1 .0) (a .0) C Λ fm known (LL.lawful (D κs) (L κs) 𝓤 H A W .typed (a .0) _ (are .0) .0)))
 
 answer-meets : {M : Type 1} (𝓤 : URA M) (H : Heap 𝓤) (A : Atoms 𝓤) (W : Given 𝓤 H A) (mem : Memory → SProp 𝓤) (run : Routine → Fun 𝓤) (𝓣 : Tables 𝓤 H)
-    → Triple 𝓤 (𝓣 .C #element·reader-answer) (StepAt 𝓤 H A mem run)
+    → Triple 𝓤 (𝓣 .C #field-element·reader-answer) (StepAt 𝓤 H A mem run)
     → Meets 𝓤 H A answer.signature (WpFn 𝓤 H (𝓣 .C) (𝓣 .Λ) code.function) (answer.spec 𝓤 H A mem run)
 answer-meets 𝓤 H A W mem run 𝓣 known-step = walk-meets 𝓤 H A answer.ended stayed W (goes-none 𝓤 H A W 3 B yes (λ κs x f. refl), tt) (answer.clauses 𝓤 H A mem run) (WpFn 𝓤 H (𝓣 .C) (𝓣 .Λ) code.function) (WpFn-mono 𝓤 H (W .laws) 𝓣 code.function)
     (answer-walks 𝓤 H A W mem run (𝓣 .C) (𝓣 .Λ) (fmOf 𝓤 H (W .laws) 𝓣) known-step)
@@ -158,4 +158,4 @@ answer-spec 𝓤 H 𝓜 𝓖 𝓡 =
     entered 𝓤 H (tripleOf 𝓤 H (𝓖 .A) answer.signature (answer.spec 𝓤 H (𝓖 .A) (𝓜 .mem) (𝓡 .run)))
     (tables 𝓤 H 𝓜 𝓡 code.env .C) (tables 𝓤 H 𝓜 𝓡 code.env .Λ) #reader·answer code.function (code.unfolded 𝓤 H 𝓜 𝓡)
     (answer-meets 𝓤 H (𝓖 .A) (givenOf 𝓤 H 𝓜 𝓖) (𝓜 .mem) (𝓡 .run) (tablesOf 𝓤 H 𝓜 (tables 𝓤 H 𝓜 𝓡 code.env))
-    (cited 𝓤 H (StepAt 𝓤 H (𝓖 .A) (𝓜 .mem) (𝓡 .run)) 𝓜 𝓡 code.env #element·reader-answer step-def.routine code.calls-element·reader-answer (step-thm.met 𝓤 H 𝓜 𝓖 𝓡)))
+    (cited 𝓤 H (StepAt 𝓤 H (𝓖 .A) (𝓜 .mem) (𝓡 .run)) 𝓜 𝓡 code.env #field-element·reader-answer step-def.routine code.calls-field-element·reader-answer (step-thm.met 𝓤 H 𝓜 𝓖 𝓡)))
