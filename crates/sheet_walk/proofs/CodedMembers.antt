@@ -111,26 +111,26 @@ module _ (q : ℕ) (A : Type 0) (x y z : A) where
 
 -- ---- the bits of a member's step
 module _ (o d : ℕ) (S : Schema) (m : List ℕ) (k : Kind) where
-  refused-bits : A.stepAt o d S m k (St.Refused 8) ≡ bitsOf 2 0
-  unfolding A.stepAt
+  refused-bits : A.stepAt o d S m k (T.structTested S m (St.Refused 8)) ≡ bitsOf 2 0
+  unfolding T.structTested A.stepAt
   refused-bits = refl
 
-  no-bits : A.stepAt o d S m k St.Absent ≡ bitsOf 2 0
-  unfolding A.stepAt
+  no-bits : A.stepAt o d S m k (T.structTested S m St.Absent) ≡ bitsOf 2 0
+  unfolding T.structTested A.stepAt
   no-bits = refl
 
-  absent-bits : (t u : Bool) → A.stepAt o d S m k (pick t St.Absent (pick u St.Absent (St.Refused 8))) ≡ bitsOf 2 0
-  unfolding A.stepAt
+  absent-bits : (t u : Bool) → A.stepAt o d S m k (T.structTested S m (pick t St.Absent (pick u St.Absent (St.Refused 8)))) ≡ bitsOf 2 0
+  unfolding T.structTested A.stepAt
   absent-bits true u = refl
   absent-bits false true = refl
   absent-bits false false = refl
 
-  placed-bits : (w n e x : ℕ) (past : Step) → A.stepAt o d S m k past ≡ bitsOf 2 0 → 0 < w → 8 * w ≡ A.valueWidth k
-      → A.stepAt o d S m k (pick (leb n e) past (pick (leb (e + w) n) (St.Value x) (St.Refused 8))) ≡ pick (leb (e + w) n) (K.marked 1 (8 * w) x) (bitsOf 2 0)
-  unfolding A.stepAt
+  placed-bits : (w n e x : ℕ) (past : Step) → A.stepAt o d S m k (T.structTested S m past) ≡ bitsOf 2 0 → 0 < w → 8 * w ≡ A.valueWidth k
+      → A.stepAt o d S m k (T.structTested S m (pick (leb n e) past (pick (leb (e + w) n) (St.Value x) (St.Refused 8)))) ≡ pick (leb (e + w) n) (K.marked 1 (8 * w) x) (bitsOf 2 0)
+  unfolding T.structTested A.stepAt
   placed-bits w n e x past ep some ew = by (leb n e) (leb (e + w) n) refl refl
     where
-      by : (t u : Bool) → leb n e ≡ t → leb (e + w) n ≡ u → A.stepAt o d S m k (pick t past (pick u (St.Value x) (St.Refused 8))) ≡ pick u (K.marked 1 (8 * w) x) (bitsOf 2 0)
+      by : (t u : Bool) → leb n e ≡ t → leb (e + w) n ≡ u → A.stepAt o d S m k (T.structTested S m (pick t past (pick u (St.Value x) (St.Refused 8)))) ≡ pick u (K.marked 1 (8 * w) x) (bitsOf 2 0)
       by true true et eu = let a = leb-true n e et in let b = leb-true (e + w) n eu in absurd (let z : ⊥ = omega arith in z)
       by true false et eu = ep
       by false true et eu = ap (λ (i : ℕ). K.marked 1 i x) (sym ew)
@@ -148,7 +148,7 @@ module _ (place : Bool) (w : ℕ) where
 
   number-bits : (o d : ℕ) (S : Schema) (m : List ℕ) (start n : ℕ) (c : Cursor) → 0 < w → (f : Flat) → NumberOf f w
       → A.stepAt o d S m (OfFlat f) (T.memberStep o S m start n c (flatMember f false place)) ≡ K.plainAt m w start n (c .end)
-  unfolding T.memberStep T.inside T.valueStep T.flatStep T.floatStep L.memberSlot L.slotOf L.afterFlag L.hasFlag L.isBool L.flatIsBool L.width flatWidth NumberOf K.plainAt A.valueWidth A.flatValue
+  unfolding T.memberStep T.structTested T.placedStep L.placementOf L.bitSlot T.inside T.valueStep T.flatStep T.floatStep L.memberSlot L.slotOf L.afterFlag L.hasFlag L.isBool L.flatIsBool L.width flatWidth NumberOf K.plainAt A.valueWidth A.flatValue
   number-bits o d S m start n c some F.Boolean e = absurd e
   number-bits o d S m start n c some (F.Integer s v) e =
       placed-bits o d S m (OfFlat (F.Integer s v)) v n (c .end) (le m (start + c .end) v) St.Absent (no-bits o d S m (OfFlat (F.Integer s v)))
@@ -183,7 +183,7 @@ module _ (place : Bool) (w : ℕ) where
 
   optional-bits : (o d : ℕ) (S : Schema) (m : List ℕ) (start n : ℕ) (c : Cursor) → 0 < w → (f : Flat) → IntegerOf f w
       → A.stepAt o d S m (OfFlat f) (T.memberStep o S m start n c (flatMember f true place)) ≡ K.plainAt m w start n (A.optionalEnd m start n c)
-  unfolding T.memberStep T.flagged T.inside T.valueStep T.flatStep L.memberSlot L.slotOf L.afterFlag L.hasFlag L.takesFlag L.flatTakesFlag L.isBool L.flatIsBool L.width flatWidth IntegerOf K.plainAt A.optionalEnd A.valueWidth A.flatValue
+  unfolding T.memberStep T.structTested T.placedStep L.placementOf L.bitSlot T.flagged T.inside T.valueStep T.flatStep L.memberSlot L.slotOf L.afterFlag L.hasFlag L.takesFlag L.flatTakesFlag L.isBool L.flatIsBool L.width flatWidth IntegerOf K.plainAt A.optionalEnd A.valueWidth A.flatValue
   optional-bits o d S m start n c some F.Boolean e = absurd e
   optional-bits o d S m start n c some (F.Integer s v) e =
       by (L.afterBit c .end) (leb n (L.bitByte c)) (eqb (bitAt m (start + L.bitByte c) (L.bitIndex c)) 1)
@@ -194,9 +194,9 @@ module _ (place : Bool) (w : ℕ) where
 
       by : (a : ℕ) (t u : Bool)
           → A.stepAt o d S m (OfFlat (F.Integer s v))
-          (pick t St.Absent
+          (T.structTested S m (pick t St.Absent
           (pick u (pick (leb n a) (St.Refused 8) (pick (leb (a + v) n) (St.Value (le m (start + a) v)) (St.Refused 8)))
-          (pick (leb n a) St.Absent (pick (leb (a + v) n) St.Absent (St.Refused 8)))))
+          (pick (leb n a) St.Absent (pick (leb (a + v) n) St.Absent (St.Refused 8))))))
           ≡ K.plainAt m v start n (pick t n (pick u a n))
       by a true u = no-bits o d S m (OfFlat (F.Integer s v)) ∙ past
       by a false true =
@@ -229,11 +229,11 @@ module _ (place : Bool) (w : ℕ) where
 
   float-bits : (o d : ℕ) (S : Schema) (m : List ℕ) (start n : ℕ) (c : Cursor) → 0 < w
       → A.stepAt o d S m (OfFlat (F.Float w)) (T.memberStep o S m start n c (flatMember (F.Float w) true place)) ≡ A.optionalFloatAt m w start n c
-  unfolding T.memberStep T.inside T.valueStep T.flatStep T.floatStep L.memberSlot L.slotOf L.afterFlag L.hasFlag L.takesFlag L.flatTakesFlag L.isBool L.flatIsBool L.width flatWidth K.floatAt A.optionalFloatAt A.stepAt A.valueWidth A.flatValue
+  unfolding T.memberStep T.structTested T.placedStep L.placementOf L.bitSlot T.inside T.valueStep T.flatStep T.floatStep L.memberSlot L.slotOf L.afterFlag L.hasFlag L.takesFlag L.flatTakesFlag L.isBool L.flatIsBool L.width flatWidth K.floatAt A.optionalFloatAt A.stepAt A.valueWidth A.flatValue
   float-bits o d S m start n c some = by (le m (start + c .end) w) (leb n (c .end)) (leb (c .end + w) n) (isNaN w (le m (start + c .end) w)) refl refl
     where
       by : (x : ℕ) (t u v : Bool) → leb n (c .end) ≡ t → leb (c .end + w) n ≡ u
-          → A.stepAt o d S m (OfFlat (F.Float w)) (pick t St.Absent (pick u (pick v St.Absent (St.Value x)) (St.Refused 8)))
+          → A.stepAt o d S m (OfFlat (F.Float w)) (T.structTested S m (pick t St.Absent (pick u (pick v St.Absent (St.Value x)) (St.Refused 8))))
           ≡ pick u (pick v (bitsOf 2 0) (K.marked 1 (8 * w) x)) (bitsOf 2 0)
       by x true true v et eu = let a = leb-true n (c .end) et in let b = leb-true (c .end + w) n eu in absurd (let z : ⊥ = omega arith in z)
       by x true false v et eu = refl
@@ -260,11 +260,11 @@ module _ (place : Bool) (w : ℕ) where
 -- ---- a bool that is not optional
 bool-bits : (place : Bool) (o d : ℕ) (S : Schema) (m : List ℕ) (start n : ℕ) (c : Cursor)
     → A.stepAt o d S m (OfFlat F.Boolean) (T.memberStep o S m start n c (flatMember F.Boolean false place)) ≡ A.boolAt m start n c
-unfolding T.memberStep T.inside T.valueStep T.flatStep L.memberSlot L.slotOf L.afterFlag L.hasFlag L.isBool L.flatIsBool A.boolAt A.stepAt A.valueWidth A.flatValue
+unfolding T.memberStep T.structTested T.placedStep L.placementOf L.bitSlot T.inside T.valueStep T.flatStep L.memberSlot L.slotOf L.afterFlag L.hasFlag L.isBool L.flatIsBool A.boolAt A.stepAt A.valueWidth A.flatValue
 bool-bits place o d S m start n c = by (L.bitByte c) (bitAt m (start + L.bitByte c) (L.bitIndex c)) (leb n (L.bitByte c)) (leb (L.bitByte c + 1) n) refl refl
   where
     by : (a x : ℕ) (t u : Bool) → leb n a ≡ t → leb (a + 1) n ≡ u
-        → A.stepAt o d S m (OfFlat F.Boolean) (pick t St.Absent (pick u (St.Value x) (St.Refused 8))) ≡ pick t (bitsOf 2 0) (K.marked 1 1 x)
+        → A.stepAt o d S m (OfFlat F.Boolean) (T.structTested S m (pick t St.Absent (pick u (St.Value x) (St.Refused 8)))) ≡ pick t (bitsOf 2 0) (K.marked 1 1 x)
     by a x true u et eu = refl
     by a x false true et eu = refl
     by a x false false et eu = let g = leb-false n a et in let l = leb-false (a + 1) n eu in absurd (let z : ⊥ = omega arith in z)
@@ -284,13 +284,13 @@ enum-next place true k o S c = refl
 enum-next place false k o S c = refl
 
 enum-step : (k o d : ℕ) (S : Schema) (m : List ℕ) (n a x : ℕ)
-    → A.stepAt o d S m (OfFlat (F.Enumerated k)) (pick (leb n a) St.Absent (pick (leb (a + 1) n) (T.enumStep k x) (St.Refused 8)))
+    → A.stepAt o d S m (OfFlat (F.Enumerated k)) (T.structTested S m (pick (leb n a) St.Absent (pick (leb (a + 1) n) (T.enumStep k x) (St.Refused 8))))
     ≡ pick (leb n a) (bitsOf 2 0) (K.enumAt k x)
-unfolding A.stepAt A.valueWidth A.flatValue E.unknownWidth E.flatUnknown T.enumStep K.enumAt
+unfolding T.structTested A.stepAt A.valueWidth A.flatValue E.unknownWidth E.flatUnknown T.enumStep K.enumAt
 enum-step k o d S m n a x = by (leb n a) (leb (a + 1) n) (eqb x 255) (ltb x k) refl refl
   where
     by : (t u v w : Bool) → leb n a ≡ t → leb (a + 1) n ≡ u
-        → A.stepAt o d S m (OfFlat (F.Enumerated k)) (pick t St.Absent (pick u (pick v St.Absent (pick w (St.Value x) (St.Unknown x))) (St.Refused 8)))
+        → A.stepAt o d S m (OfFlat (F.Enumerated k)) (T.structTested S m (pick t St.Absent (pick u (pick v St.Absent (pick w (St.Value x) (St.Unknown x))) (St.Refused 8))))
         ≡ pick t (bitsOf 2 0) (pick v (bitsOf 2 0) (pick w (K.marked 1 8 x) (K.marked 2 8 x)))
     by true u v w et eu = refl
     by false true true w et eu = refl
@@ -300,7 +300,7 @@ enum-step k o d S m n a x = by (leb n a) (leb (a + 1) n) (eqb x 255) (ltb x k) r
 
 enum-bits : (place opt : Bool) (k o d : ℕ) (S : Schema) (m : List ℕ) (start n : ℕ) (c : Cursor)
     → A.stepAt o d S m (OfFlat (F.Enumerated k)) (T.memberStep o S m start n c (flatMember (F.Enumerated k) opt place)) ≡ A.enumeratedAt m k start n c
-unfolding T.memberStep T.inside T.valueStep T.flatStep L.memberSlot L.slotOf L.afterFlag L.hasFlag L.takesFlag L.flatTakesFlag L.isBool L.flatIsBool L.width flatWidth A.enumeratedAt
+unfolding T.memberStep T.structTested T.placedStep L.placementOf L.bitSlot T.inside T.valueStep T.flatStep L.memberSlot L.slotOf L.afterFlag L.hasFlag L.takesFlag L.flatTakesFlag L.isBool L.flatIsBool L.width flatWidth A.enumeratedAt
 enum-bits place true k o d S m start n c = enum-step k o d S m n (c .end) (getD m (start + c .end) 0)
 enum-bits place false k o d S m start n c = enum-step k o d S m n (c .end) (getD m (start + c .end) 0)
 

@@ -35,9 +35,9 @@ unfolding A.wholeAt
 whole-there S m i at out out₁ p q e g out₂ r a b = simp e (puts-then out out₁ out₂ p q r (bitsOf 2 1) (A.structAt S m i at) (g .short) a b)
 
 -- that the booleans of a struct that was accepted are 0 or 1
-pub flat-lawful : (child : D.Child) (S : Schema) (m : List ℕ) (k : Flat) (none : Bool) (at bit : ℕ) → D.StepReadable child S m (T.flatStep S m k none at bit)
+pub flat-lawful : (child : D.Child) (S : Schema) (m : List ℕ) (k : Flat) (none : Bool) (at bit : ℕ) → D.StepReadable child S m (T.structTested S m (T.flatStep m k none at bit))
     → D.FlatReadable S m k at
-unfolding D.StepReadable D.FlatReadable T.flatStep T.structStep
+unfolding D.StepReadable D.FlatReadable T.flatStep T.structTested
 flat-lawful child S m F.Boolean none at bit h = tt
 flat-lawful child S m (F.Integer s w) none at bit h = tt
 flat-lawful child S m (F.Float w) none at bit h = tt
@@ -88,19 +88,19 @@ module _ (c : ℕ) (k : Flat) (sound : FlatSound c k) (w : ℕ) where
 
 -- ---- the bits of a flat value's step
 pub flat-bits : (o d : ℕ) (S : Schema) (m : List ℕ) (k : Flat) (none : Bool) (at bit : ℕ)
-    → A.flatAt S m k none at bit ≡ A.stepAt o d S m (OfFlat k) (T.flatStep S m k none at bit)
-unfolding A.flatAt K.floatAt A.wholeAt K.enumAt A.stepAt A.valueWidth A.flatValue E.unknownWidth E.flatUnknown T.flatStep T.floatStep T.enumStep T.structStep
+    → A.flatAt S m k none at bit ≡ A.stepAt o d S m (OfFlat k) (T.structTested S m (T.flatStep m k none at bit))
+unfolding A.flatAt K.floatAt A.wholeAt K.enumAt A.stepAt A.valueWidth A.flatValue E.unknownWidth E.flatUnknown T.flatStep T.floatStep T.enumStep T.structTested
 flat-bits o d S m F.Boolean none at bit = refl
 flat-bits o d S m (F.Integer s w) none at bit = refl
 flat-bits o d S m (F.Float w) none at bit = by (none && isNaN w (le m at w))
   where
-    by : (t : Bool) → pick t (bitsOf 2 0) (K.marked 1 (8 * w) (le m at w)) ≡ A.stepAt o d S m (OfFlat (F.Float w)) (pick t St.Absent (St.Value (le m at w)))
+    by : (t : Bool) → pick t (bitsOf 2 0) (K.marked 1 (8 * w) (le m at w)) ≡ A.stepAt o d S m (OfFlat (F.Float w)) (T.structTested S m (pick t St.Absent (St.Value (le m at w))))
     by true = refl
     by false = refl
 flat-bits o d S m (F.Enumerated n) none at bit = by (eqb (getD m at 0) 255) (ltb (getD m at 0) n)
   where
     by : (t u : Bool) → pick t (bitsOf 2 0) (pick u (K.marked 1 8 (getD m at 0)) (K.marked 2 8 (getD m at 0)))
-        ≡ A.stepAt o d S m (OfFlat (F.Enumerated n)) (pick t St.Absent (pick u (St.Value (getD m at 0)) (St.Unknown (getD m at 0))))
+        ≡ A.stepAt o d S m (OfFlat (F.Enumerated n)) (T.structTested S m (pick t St.Absent (pick u (St.Value (getD m at 0)) (St.Unknown (getD m at 0)))))
     by true u = refl
     by false true = refl
     by false false = refl

@@ -38,7 +38,7 @@ use Rattle.sheet_values.proofs.Remaining.{Remaining, remaining-turn}
 use Rattle.sheet_walk.specs.MessageBits as A
 use Rattle.sheet_walk.specs.Readable as D
 use Rattle.sheet_walk.proofs.Flats.{isFlat, is-true, is-false}
-use Rattle.sheet_walk.proofs.Values.{value-object, value-union}
+use Rattle.sheet_walk.proofs.Values.{tested-object, tested-union, value-object, value-union}
 use Rattle.sheet_walk.proofs.Parts.{members-opened, members-cons}
 
 -- ---- the kind by its number
@@ -130,24 +130,25 @@ module _ (o : ℕ) (S : Schema) (r : Member) (w : ℕ) (h : Leads o S (r .kind) 
 
   lead-step : (m : List ℕ) (start n : ℕ)
       → T.memberStep o S m start n c r
-      ≡ T.inside n (record { at = c .end; bit = 0; size = w }) St.Absent (T.valueStep o S m (r .kind) (r .optional) (r .inplace) (start + n) (start + c .end) 0)
-  unfolding T.memberStep
+      ≡ T.structTested S m
+      (T.inside n (record { at = c .end; bit = 0; size = w }) St.Absent (T.valueStep o S m (r .kind) (r .optional) (r .inplace) (start + n) (start + c .end) 0))
+  unfolding T.memberStep T.placedStep L.placementOf
   lead-step m start n = simp (unflagged, lead-slot)
 
   lead-there : (m : List ℕ) (start n : ℕ) → 0 < w → c .end + w ≤ n
-      → T.valueStep o S m (r .kind) (r .optional) (r .inplace) (start + n) (start + c .end) 0 ≡ T.memberStep o S m start n c r
+      → T.structTested S m (T.valueStep o S m (r .kind) (r .optional) (r .inplace) (start + n) (start + c .end) 0) ≡ T.memberStep o S m start n c r
   unfolding T.inside
   lead-there m start n some l = let g : c .end < n = omega arith in sym (lead-step m start n ∙ simp (lt-leb _ _ g, le-leb _ _ l))
 
   lead-none : (d : ℕ) (m : List ℕ) (start n : ℕ) → n < c .end + w → bitsOf 2 0 ≡ A.stepAt o d S m (r .kind) (T.memberStep o S m start n c r)
-  unfolding T.inside A.stepAt
-  lead-none d m start n l = sym (ap (A.stepAt o d S m (r .kind)) (lead-step m start n ∙ cut) ∙ by (leb n (c .end)))
+  unfolding T.inside T.structTested A.stepAt
+  lead-none d m start n l = sym (ap (A.stepAt o d S m (r .kind)) (lead-step m start n ∙ ap (T.structTested S m) cut) ∙ by (leb n (c .end)))
     where
       cut : T.inside n (record { at = c .end; bit = 0; size = w }) St.Absent (T.valueStep o S m (r .kind) (r .optional) (r .inplace) (start + n) (start + c .end) 0)
           ≡ pick (leb n (c .end)) St.Absent (St.Refused 8)
       cut = simp (lt-leb _ _ l)
 
-      by : (t : Bool) → A.stepAt o d S m (r .kind) (pick t St.Absent (St.Refused 8)) ≡ bitsOf 2 0
+      by : (t : Bool) → A.stepAt o d S m (r .kind) (T.structTested S m (pick t St.Absent (St.Refused 8))) ≡ bitsOf 2 0
       by true = refl
       by false = refl
 
@@ -193,10 +194,10 @@ module _ (o : ℕ) (b : List ℕ) (at k : ℕ) (ek : k ≡ P.kindAt b at) (low :
       abbrev step : Step
       step = T.memberStep o (P.parse b) m start n c (P.memberAt b at)
 
-      value-so : (s : Step) → s ≡ T.valueStep o (P.parse b) m (P.memberAt b at .kind) (P.memberAt b at .optional) inplace (start + n) (start + c .end) 0 → s ≡ step
+      value-so : (s : Step) → s ≡ T.structTested (P.parse b) m (T.valueStep o (P.parse b) m (P.memberAt b at .kind) (P.memberAt b at .optional) inplace (start + n) (start + c .end) 0) → s ≡ step
       value-so s e =
           e
-          ∙ ap (λ (i : Bool). T.valueStep o (P.parse b) m (P.memberAt b at .kind) (P.memberAt b at .optional) i (start + n) (start + c .end) 0) (ei ∙ sym (inplace-is b at))
+          ∙ ap (λ (i : Bool). T.structTested (P.parse b) m (T.valueStep o (P.parse b) m (P.memberAt b at .kind) (P.memberAt b at .optional) i (start + n) (start + c .end) 0)) (ei ∙ sym (inplace-is b at))
           ∙ lead-there o (P.parse b) (P.memberAt b at) w leads-so c m start n some l
 
       -- a union's choice and its reference
@@ -205,8 +206,9 @@ module _ (o : ℕ) (b : List ℕ) (at k : ℕ) (ek : k ≡ P.kindAt b at) (low :
         chosen : T.unionStep (Sc.casesOf (P.parse b) u) inplace (start + n) i x ≡ step
         chosen =
             value-so (T.unionStep (Sc.casesOf (P.parse b) u) inplace (start + n) i x)
-            (value-union o (P.parse b) m (P.memberAt b at .kind) (P.memberAt b at .optional) inplace (start + n) (start + c .end) 0
-            (P.argumentAt b at) u (of-union (eqb-true k 17 (sym et ∙ h))) (eu ∙ ea) i x (ni .is) ex)
+            (tested-union (P.parse b) m (Sc.casesOf (P.parse b) u) inplace (start + n) i x
+            ∙ ap (T.structTested (P.parse b) m) (value-union o (P.parse b) m (P.memberAt b at .kind) (P.memberAt b at .optional) inplace (start + n) (start + c .end) 0
+            (P.argumentAt b at) u (of-union (eqb-true k 17 (sym et ∙ h))) (eu ∙ ea) i x (ni .is) ex))
 
         pub chosen-given : D.StepReadable (D.ObjectReadable o d (P.parse b) m) (P.parse b) m (T.memberStep o (P.parse b) m start n c (P.memberAt b at))
             → D.StepReadable (D.ObjectReadable o d (P.parse b) m) (P.parse b) m (T.unionStep (Sc.casesOf (P.parse b) u) inplace (start + n) i x)
@@ -224,8 +226,9 @@ module _ (o : ℕ) (b : List ℕ) (at k : ℕ) (ek : k ≡ P.kindAt b at) (low :
         referred : T.objectStep ob inplace (start + n) x ≡ step
         referred =
             value-so (T.objectStep ob inplace (start + n) x)
-            (value-object o (P.parse b) m (P.memberAt b at .kind) (P.memberAt b at .optional) inplace (start + n) (start + c .end) 0
-            ob (of-object (eqb-false k 17 (sym et ∙ h)) ∙ ap OfObject (sym eo)) x ex)
+            (tested-object (P.parse b) m ob inplace (start + n) x
+            ∙ ap (T.structTested (P.parse b) m) (value-object o (P.parse b) m (P.memberAt b at .kind) (P.memberAt b at .optional) inplace (start + n) (start + c .end) 0
+            ob (of-object (eqb-false k 17 (sym et ∙ h)) ∙ ap OfObject (sym eo)) x ex))
 
         pub referred-given : D.StepReadable (D.ObjectReadable o d (P.parse b) m) (P.parse b) m (T.memberStep o (P.parse b) m start n c (P.memberAt b at))
             → D.StepReadable (D.ObjectReadable o d (P.parse b) m) (P.parse b) m (T.objectStep ob inplace (start + n) x)

@@ -22,6 +22,7 @@ use Rattle.coding.specs.declared.Object.the-variants as O
 use Rattle.coding.specs.declared.Kind.{Kind}
 use Rattle.coding.specs.declared.Member.{Member}
 use Rattle.coding.specs.declared.Cursor.{Cursor}
+use Rattle.coding.specs.declared.Placement.{Placement}
 use Rattle.coding.specs.declared.Slot.{Slot}
 use Rattle.coding.specs.declared.Place.{Place}
 use Rattle.coding.specs.declared.Place.the-variants.{ByOffset, InPlace}
@@ -34,8 +35,7 @@ use Rattle.message_layout.specs.Bounds.{Laid, Stands}
 use Rattle.message_step.specs.Lead.{reached, reachOf}
 use Rattle.message_step.specs.declared.Reach.{Reach}
 use Rattle.message_step.specs.declared.Reach.the-variants.{Cut, Past, Here}
-use Rattle.message_step.proofs.ReachCases.{step-reached}
-use Rattle.message_step.proofs.MemberCases.{value-inside}
+use Rattle.message_step.proofs.ReachCases.{step-reached, here-inside, slot-size}
 use Rattle.bitio.specs.Puts.{Room, Puts}
 use Rattle.bitio.specs.PutsLaws.{puts-none, puts-then, puts-same}
 use Rattle.sheet_values.specs.Marks as K
@@ -91,25 +91,30 @@ module _ (g : Reach) where
   here-here e = rw e
 
 pub member-is : (b dir : List ℕ) → Accepted b dir → (m : List ℕ) (t j start n : ℕ) (c : Cursor) (r : Member) → r ≡ Sc.memberOf (P.parse b) t j
-    → j < length (Sc.tableOf (P.parse b) t .members) → j < 256 → start + n ≤ length m → length m ≤ 16777215 → Laid (4097 * j) c → (slot : Slot) (next : Cursor)
-    → Stands (L.memberSlot u48 (P.parse b) r c) (L.afterMember u48 (P.parse b) r c) (c .end + 1) slot next
-    → (flag : Bool) → flag ≡ L.hasFlag r → (g : Reach) → g ≡ reachOf m start n c slot flag → (here : Bool) → here ≡ isHere g
-    → MemberAt u48 (P.parse b) m t j start n c (r .kind) (r .optional) (r .inplace) here (start + slot .at) (slot .bit) next
-member-is b dir a m t j start n c r e h few fits short laid slot next stands flag ef g eg here eh =
-    let p = laid .end in
+    → j < length (Sc.tableOf (P.parse b) t .members) → j < 256 → start + n ≤ length m → length m ≤ 16777215 → Laid (4097 * j) c → (p : Placement) (next : Cursor)
+    → p ≡ L.placementOf u48 (P.parse b) r c → Stands (L.memberSlot u48 (P.parse b) r c) (L.afterMember u48 (P.parse b) r c) (c .end + 1) (p .value) next
+    → (flag : Bool) → flag ≡ L.hasFlag r → (g : Reach) → g ≡ reachOf m start n p flag → (here : Bool) → here ≡ isHere g
+    → MemberAt u48 (P.parse b) m t j start n c (r .kind) (r .optional) (r .inplace) here (start + p .value .at) (p .value .bit) next
+unfolding T.memberStep L.memberSlot
+member-is b dir a m t j start n c r e h few fits short laid p next ep stands flag ef g eg here eh =
+    let x = laid .end in
     let q = stands .laid in
     let l = q .end in
     let z = stands .at in
+    let wide : p .value .size ≡ L.width u48 (P.parse b) (r .kind) =
+    ap (λ (i : Slot). i .size) (stands .slot-is) ∙ slot-size u48 (P.parse b) (r .kind) (L.afterFlag r c) in
     let s : MemberSound (P.parse b) (Sc.memberOf (P.parse b) t j) = member-sound-at (P.parse b) (accepted-sound b dir a) t j h in
     record {
       reach = g;
       here-is = eh;
       kind-is = ap (λ (k : Member). k .kind) e;
-      step-is = ap (λ (k : Member). T.memberStep u48 (P.parse b) m start n c k) (sym e) ∙ step-reached u48 (P.parse b) m start n c r
-          ∙ ap₂ (λ (k : Reach) (i : Slot). reached k (T.valueStep u48 (P.parse b) m (r .kind) (r .optional) (r .inplace) (start + n) (start + i .at) (i .bit)))
-          (sym (eg ∙ ap (λ (i : Slot). reachOf m start n c i flag) (stands .slot-is) ∙ ap (reachOf m start n c (L.memberSlot u48 (P.parse b) r c)) ef))
-          (sym (stands .slot-is));
-      inside = λ v. value-inside (P.parse b) m start n c r slot next stands flag ef g eg (here-true g (sym eh ∙ v)) fits;
+      step-is = ap (λ (k : Member). T.memberStep u48 (P.parse b) m start n c k) (sym e)
+          ∙ ap (λ (y : Placement). T.structTested (P.parse b) m (T.placedStep u48 (P.parse b) m start n y r)) (sym ep)
+          ∙ ap (T.structTested (P.parse b) m)
+          (step-reached u48 (P.parse b) m start n p r
+          ∙ ap (λ (k : Reach). reached k (T.valueStep u48 (P.parse b) m (r .kind) (r .optional) (r .inplace) (start + n) (start + p .value .at) (p .value .bit)))
+          (sym (eg ∙ ap (reachOf m start n p) ef)));
+      inside = λ v. omega (arith, wide, here-inside m start n p flag g eg (here-true g (sym eh ∙ v)), fits);
       low = omega arith;
       bit-low = stands .bit;
       next-is = stands .next-is ∙ ap (λ (k : Member). L.afterMember u48 (P.parse b) k c) e;

@@ -70,8 +70,8 @@ members-cons o d S m start n c r rs h =
 
 -- a member that is cut has the bits of an absent one
 reached-bits : (o d : ℕ) (S : Schema) (m : List ℕ) (k : Kind) (none inplace : Bool) (tail at bit : ℕ) (g : Reach) → isFlat k ≡ true
-    → A.stepAt o d S m k (reached g (T.valueStep o S m k none inplace tail at bit)) ≡ A.memberAt S m k none (isHere g) at bit
-unfolding A.stepAt A.memberAt A.valueAt T.valueStep isHere isFlat reached
+    → A.stepAt o d S m k (T.structTested S m (reached g (T.valueStep o S m k none inplace tail at bit))) ≡ A.memberAt S m k none (isHere g) at bit
+unfolding A.stepAt A.memberAt A.valueAt T.valueStep T.structTested isHere isFlat reached
 reached-bits o d S m k none inplace tail at bit Cut e = refl
 reached-bits o d S m k none inplace tail at bit Past e = refl
 reached-bits o d S m (OfFlat f) none inplace tail at bit Here e = sym (flat-bits o d S m f none at bit)
@@ -79,8 +79,8 @@ reached-bits o d S m (OfObject ob) none inplace tail at bit Here e = let z : _�
 reached-bits o d S m (OfUnion u) none inplace tail at bit Here e = let z : _≡_ {A = ℕ} 0 1 = cc in absurd (omega arith)
 
 reached-readable : (o : ℕ) (child : D.Child) (S : Schema) (m : List ℕ) (k : Kind) (none inplace : Bool) (tail at bit : ℕ) (g : Reach)
-    → D.StepReadable child S m (reached g (T.valueStep o S m k none inplace tail at bit)) → isHere g ≡ true → D.ValueReadable S m k at
-unfolding D.ValueReadable T.valueStep isHere reached
+    → D.StepReadable child S m (T.structTested S m (reached g (T.valueStep o S m k none inplace tail at bit))) → isHere g ≡ true → D.ValueReadable S m k at
+unfolding D.ValueReadable T.valueStep T.structTested isHere reached
 reached-readable o child S m k none inplace tail at bit Cut h e = let z : _≡_ {A = ℕ} 0 1 = cc in absurd (omega arith)
 reached-readable o child S m k none inplace tail at bit Past h e = let z : _≡_ {A = ℕ} 0 1 = cc in absurd (omega arith)
 reached-readable o child S m (OfFlat f) none inplace tail at bit Here h e = flat-lawful child S m f none at bit h
@@ -212,13 +212,13 @@ elements-done o d S m k start n j whole out₀ out p₀ p inv g h =
 
 -- ---- elements without a mark
 bools-same : (o d : ℕ) (S : Schema) (m : List ℕ) (start n i : ℕ) → Es.boolsAt m start n i ≡ A.elementsAt o d S m (OfFlat F.Boolean) start n i
-unfolding Es.boolsAt Es.boolAt A.elementsAt E.elementsBits R.elementsRead E.elementBits E.unmarked E.flatUnmarked E.bodyBits E.flatBits R.stepRead T.elementStep T.valueStep T.flatStep T.elementPlace L.isBool L.flatIsBool Tree.asNumber
+unfolding Es.boolsAt Es.boolAt A.elementsAt E.elementsBits R.elementsRead E.elementBits E.unmarked E.flatUnmarked E.bodyBits E.flatBits R.stepRead T.elementStep T.structTested T.valueStep T.flatStep T.elementPlace L.isBool L.flatIsBool Tree.asNumber
 bools-same o d S m start zero i = refl
 bools-same o d S m start (suc n) i = ap (λ (l : List ℕ). bitsOf 1 (bitAt m (start + i / 8) (i % 8)) ++ l) (bools-same o d S m start n (i + 1))
 
 numbers-same : (o d : ℕ) (S : Schema) (m : List ℕ) (s : Bool) (w start n i : ℕ)
     → Es.numbersAt m w n (start + w * i) ≡ A.elementsAt o d S m (OfFlat (F.Integer s w)) start n i
-unfolding Es.numbersAt A.elementsAt E.elementsBits R.elementsRead E.elementBits E.unmarked E.flatUnmarked E.bodyBits E.flatBits R.stepRead T.elementStep T.valueStep T.flatStep T.elementPlace L.isBool L.flatIsBool Tree.asNumber L.width flatWidth
+unfolding Es.numbersAt A.elementsAt E.elementsBits R.elementsRead E.elementBits E.unmarked E.flatUnmarked E.bodyBits E.flatBits R.stepRead T.elementStep T.structTested T.valueStep T.flatStep T.elementPlace L.isBool L.flatIsBool Tree.asNumber L.width flatWidth
 numbers-same o d S m s w start zero i = refl
 numbers-same o d S m s w start (suc n) i =
     let z : w * (i + 1) ≡ w * i + w = ap (λ (x : ℕ). w * x) (add-one i) ∙ mul-suc w i in

@@ -18,12 +18,14 @@ use Rattle.bitio.specs.Puts.{Room, Puts}
 use Rattle.sheet_walk.specs.MessageBits as A
 use Rattle.sheet_walk.specs.Readable as D
 use Rattle.sheet_values.proofs.Remaining.{Remaining}
+use Rattle.sheet_walk.proofs.Values.{tested-object, tested-union}
 use Rattle.sheet_walk.proofs.Parts.{element-readable, elements-turn, list-elements}
 
 offset-step : (S : Schema) (m : List ℕ) (ob : Object) (start j at x : ℕ) → at ≡ start + 6 * j → x ≡ le m at u48
     → T.objectStep ob false 0 x ≡ T.elementStep u48 S m (OfObject ob) start j
 unfolding T.elementStep T.valueStep T.elementPlace L.isBool L.width u48
-offset-step S m ob start j at x ea ex = ap (T.objectStep ob false 0) (ex ∙ ap (λ (i : ℕ). le m i u48) ea)
+offset-step S m ob start j at x ea ex =
+    tested-object S m ob false 0 x ∙ ap (λ (i : ℕ). T.structTested S m (T.objectStep ob false 0 i)) (ex ∙ ap (λ (i : ℕ). le m i u48) ea)
 
 offset-marked : (ob : Object) → E.unmarked (OfObject ob) ≡ false
 unfolding E.unmarked
@@ -63,7 +65,8 @@ choice-step : (S : Schema) (m : List ℕ) (u start j at c x : ℕ) → at ≡ st
     → T.unionStep (Sc.casesOf S u) false 0 c x ≡ T.elementStep u48 S m (OfUnion u) start j
 unfolding T.elementStep T.valueStep T.elementPlace L.isBool L.width u48
 choice-step S m u start j at c x ea ec ex =
-    ap₂ (T.unionStep (Sc.casesOf S u) false 0) (ec ∙ ap (λ (i : ℕ). le m i 2) ea) (ex ∙ ap (λ (i : ℕ). le m (i + 2) u48) ea)
+    tested-union S m (Sc.casesOf S u) false 0 c x
+    ∙ ap₂ (λ (i k : ℕ). T.structTested S m (T.unionStep (Sc.casesOf S u) false 0 i k)) (ec ∙ ap (λ (i : ℕ). le m i 2) ea) (ex ∙ ap (λ (i : ℕ). le m (i + 2) u48) ea)
 
 choice-marked : (u : ℕ) → E.unmarked (OfUnion u) ≡ false
 unfolding E.unmarked

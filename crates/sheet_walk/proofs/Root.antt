@@ -16,7 +16,7 @@ use Rattle.sheet_walk.specs.MessageBits as A
 use Rattle.sheet_walk.specs.Readable as D
 
 pub root-long : (S : Schema) (m : List ℕ) → D.MessageReadable u48 S m → 10 ≤ length m
-unfolding W.headerSize u48
+unfolding W.startSize u48
 root-long S m h = h .long
 
 pub root-readable : (o : ℕ) (S : Schema) (m : List ℕ) → D.MessageReadable o S m → (ob : Object) (p : Place) → ob ≡ O.Table (S .root) → p ≡ W.rootPlace o m → D.ObjectReadable o 32 S m ob p

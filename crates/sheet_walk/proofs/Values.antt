@@ -1,9 +1,11 @@
 -- The ways out of the writers of a value by its kind, and what its parts may rely on.
 use mathlib.Core.Path.{_≡_, refl, sym, ap, ap₂, _∙_}
-use mathlib.Core.Bool.{Bool}
+use mathlib.Core.Bool.{Bool, true, false}
 use mathlib.Core.List.{List}
 use Prim.Native.Nat.{ℕ, _+_, _<_, _≤_}
 use lib.ListN.{length}
+use lib.Dec.{eqb, leb}
+use Rattle.coding.specs.Lists.{pick}
 use Rattle.coding.specs.Bytes.{le}
 use Rattle.coding.specs.Schema as Sc
 use Rattle.coding.specs.Schema.{Schema}
@@ -15,6 +17,7 @@ use Rattle.coding.specs.declared.Kind.{Kind}
 use Rattle.coding.specs.declared.Kind.the-variants.{OfObject, OfUnion}
 use Rattle.coding.specs.declared.Place.{Place}
 use Rattle.coding.specs.declared.Step.{Step}
+use Rattle.coding.specs.declared.Step.the-variants as St
 use Rattle.message_step.proofs.StepCases as C
 use Rattle.bitio.specs.Puts.{Room, Puts}
 use Rattle.sheet_values.specs.Marks as K
@@ -66,6 +69,27 @@ module _ (o d : ℕ) (S : Schema) (m : List ℕ) (u : ℕ) (inplace : Bool) (tai
     pub case-readable : D.StepReadable (D.ObjectReadable o d S m) S m (T.unionStep (Sc.casesOf S u) inplace tail c x) → D.ObjectReadable o d S m ob place
     case-readable h =
         choice-readable o d S m chosen h c ob place (sym (C.union-known inplace tail x (Sc.casesOf S u) c e c n refl en l ob eo place ep))
+
+-- ---- a reference and a choice find no struct
+pub tested-object : (S : Schema) (m : List ℕ) (ob : Object) (inplace : Bool) (tail x : ℕ)
+    → T.objectStep ob inplace tail x ≡ T.structTested S m (T.objectStep ob inplace tail x)
+unfolding T.objectStep T.structTested
+tested-object S m ob inplace tail x = by (eqb x 0)
+  where
+    by : (t : Bool) → pick t St.Absent (St.Object ob (T.placeOf inplace tail x)) ≡ T.structTested S m (pick t St.Absent (St.Object ob (T.placeOf inplace tail x)))
+    by true = refl
+    by false = refl
+
+pub tested-union : (S : Schema) (m : List ℕ) (cases : List Object) (inplace : Bool) (tail c x : ℕ)
+    → T.unionStep cases inplace tail c x ≡ T.structTested S m (T.unionStep cases inplace tail c x)
+unfolding T.unionStep T.structTested
+tested-union S m cases inplace tail c x = by (eqb c 0) (leb c (length cases))
+  where
+    by : (t u : Bool) → pick t St.Absent (pick u (St.Choice c (Sc.caseOf cases c) (T.placeOf inplace tail x)) (St.Unknown c))
+        ≡ T.structTested S m (pick t St.Absent (pick u (St.Choice c (Sc.caseOf cases c) (T.placeOf inplace tail x)) (St.Unknown c)))
+    by true u = refl
+    by false true = refl
+    by false false = refl
 
 -- ---- what a reference and a choice are steps of
 module _ (o : ℕ) (S : Schema) (m : List ℕ) (k : Kind) (none inplace : Bool) (tail at bit : ℕ) where

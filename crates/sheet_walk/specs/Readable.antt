@@ -10,7 +10,7 @@ use Rattle.coding.specs.Schema.{Schema, elementOf, tableOf}
 use Rattle.coding.specs.Structs.{structSize, structOk}
 use Rattle.coding.specs.Layout.{begin, afterMember}
 use Rattle.coding.specs.Step.{memberStep, elementStep}
-use Rattle.coding.specs.Walk.{headerSize, contentSize, rootPlace}
+use Rattle.coding.specs.Walk.{headerSize, startSize, contentSize, rootPlace}
 use Rattle.coding.specs.declared.Flat.{Flat}
 use Rattle.coding.specs.declared.Flat.the-variants as F
 use Rattle.coding.specs.declared.Object.{Object}
@@ -99,6 +99,6 @@ ObjectReadable o (suc d) S m ob p =
 
 -- the whole message: its start, and the root table
 pub record MessageReadable (o : ℕ) (S : Schema) (m : List ℕ) : Type 0 where
-  pub long : headerSize o ≤ length m
+  pub long : startSize o ≤ length m
   pub short : length m ≤ 16777215
   pub root : ObjectReadable o deepest S m (O.Table (S .root)) (rootPlace o m)

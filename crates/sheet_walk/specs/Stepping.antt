@@ -8,7 +8,7 @@ use lib.Dec.{leb, ltb}
 use Rattle.coding.specs.Lists.{pick}
 use Rattle.coding.specs.Schema.{Schema, memberOf}
 use Rattle.coding.specs.Layout.{width, afterMember, afterBit, afterBytes}
-use Rattle.coding.specs.Step.{memberStep, valueStep}
+use Rattle.coding.specs.Step.{memberStep, valueStep, structTested}
 use Rattle.coding.specs.declared.Kind.{Kind}
 use Rattle.coding.specs.declared.Member.{Member}
 use Rattle.coding.specs.declared.Cursor.{Cursor}
@@ -49,7 +49,7 @@ pub record MemberAt (o : ℕ) (S : Schema) (m : List ℕ) (t j start n : ℕ) (c
   pub reach : Reach
   pub here-is : here ≡ isHere reach
   pub kind-is : k ≡ memberOf S t j .kind
-  pub step-is : memberStep o S m start n c (memberOf S t j) ≡ reached reach (valueStep o S m k none inplace (start + n) at bit)
+  pub step-is : memberStep o S m start n c (memberOf S t j) ≡ structTested S m (reached reach (valueStep o S m k none inplace (start + n) at bit))
   pub inside : here ≡ true → at + width o S k ≤ length m
   pub low : at < 2 ^ 60
   pub bit-low : bit < 8

@@ -279,18 +279,13 @@ fn member_at(
 {
     let r = schema::member(b, dir, t, j);
     let k = r.kind;
-    let p = message_layout::place_member(b, dir, r, c);
-    let slot = p.slot;
-    let next = p.next;
+    let placed = message_layout::place_member(b, dir, r, c);
+    let p = placed.placement;
+    let slot = p.value;
+    let next = placed.next;
     let at = part.start + slot.at;
-    let here = is_here(message_step::reach_of(
-        m,
-        part.start,
-        part.length,
-        c,
-        slot,
-        message_layout::has_flag(r),
-    ));
+    let flag = message_layout::has_flag(r);
+    let here = is_here(message_step::reach_of(m, part.start, part.length, p, flag));
     PlacedMember {
         kind: k,
         none: r.optional,
