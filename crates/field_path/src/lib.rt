@@ -28,8 +28,8 @@ fn from_root(b: &[u8], dir: &[u16], m: &[u8], path: &[u32]) -> Found
     requires { ⌜ (Accepted (now b) (now dir)) × (Readable (now m)) × (10 ≤ length (now m)) ⌝ }
     ensures { λ r. ⌜ (r ≡ F.found B.u48 (P.parse (now (b .entry))) (now (m .entry)) (now (path .entry))) × FoundWithin (P.parse (now (b .entry))) (now (m .entry)) r ⌝ }
 {
-    let ob = message_object::root_object(b, dir);
-    let p = message_object::root_place(m);
+    let ob = message_start::root_object(b, dir);
+    let p = message_start::root_place(m);
     let f = field_arrival::arrive(b, dir, m, 32, ob, p);
     along(b, dir, m, f, path)
 }
@@ -48,7 +48,7 @@ pub fn found_by(b: &[u8], dir: &[u16], m: &[u8], path: &[u32]) -> Found
     if 16777215 < m.len() {
         return field_arrival::refuse(2, 0);
     }
-    if message_object::start_ok(m) {
+    if message_start::start_ok(m) {
         return from_root(b, dir, m, path);
     }
     field_arrival::refuse(3, 0)

@@ -5,6 +5,7 @@ use mathlib.Core.List.{List}
 use Prim.Native.Nat.{ℕ, _+_, _<_, _≤_}
 use lib.ListN.{length}
 use lib.Dec.{eqb, leb}
+use borrow.Author.Tests.{ne-eqb}
 use Rattle.coding.specs.Lists.{pick}
 use Rattle.coding.specs.Bytes.{le}
 use Rattle.coding.specs.Schema as Sc
@@ -26,6 +27,10 @@ use Rattle.sheet_walk.specs.Readable as D
 use Rattle.sheet_walk.proofs.Objects.{step-absent, step-object, step-unknown, step-choice, object-readable, choice-readable}
 
 -- ---- a reference
+object-there : (inplace : Bool) (tail x : ℕ) (ob : Object) → (x ≡ 0 → ⊥) → (p : Place) → p ≡ T.placeOf inplace tail x → St.Object ob p ≡ T.objectStep ob inplace tail x
+unfolding T.objectStep
+object-there inplace tail x ob e p ep = simp (ne-eqb _ _ e) (ap (St.Object ob) ep)
+
 module _ (o d : ℕ) (S : Schema) (m : List ℕ) (ob : Object) (inplace : Bool) (tail x : ℕ) (out out₁ : List ℕ) (p q : ℕ) where
   pub reference-none : x ≡ 0 → Puts out p (bitsOf 2 0) out₁ q → Puts out p (A.referenceAt o d S m ob inplace tail x) out₁ q
   unfolding A.referenceAt
@@ -35,12 +40,12 @@ module _ (o d : ℕ) (S : Schema) (m : List ℕ) (ob : Object) (inplace : Bool) 
       → Puts out₁ q (A.objectAt o d S m ob place) out₂ r → Puts out p (A.referenceAt o d S m ob inplace tail x) out₂ r
   unfolding A.referenceAt
   reference-there e place ep g out₂ r a b =
-      step-object o d S m (OfObject ob) out out₁ p q (T.objectStep ob inplace tail x) g out₂ r ob place (sym (C.object-there inplace tail x ob e place ep)) a b
+      step-object o d S m (OfObject ob) out out₁ p q (T.objectStep ob inplace tail x) g out₂ r ob place (sym (object-there inplace tail x ob e place ep)) a b
 
 pub reference-readable : (o d : ℕ) (S : Schema) (m : List ℕ) (ob : Object) (inplace : Bool) (tail x : ℕ) (place : Place)
     → D.StepReadable (D.ObjectReadable o d S m) S m (T.objectStep ob inplace tail x) → (x ≡ 0 → ⊥) → place ≡ T.placeOf inplace tail x → D.ObjectReadable o d S m ob place
 reference-readable o d S m ob inplace tail x place h e ep =
-    object-readable o d S m (T.objectStep ob inplace tail x) h ob place (sym (C.object-there inplace tail x ob e place ep))
+    object-readable o d S m (T.objectStep ob inplace tail x) h ob place (sym (object-there inplace tail x ob e place ep))
 
 -- ---- a union
 module _ (o d : ℕ) (S : Schema) (m : List ℕ) (u : ℕ) (inplace : Bool) (tail c x : ℕ) where

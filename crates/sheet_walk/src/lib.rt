@@ -106,7 +106,7 @@ fn content_of(m: &[u8], ob: Object, p: Place) -> Content
     match p {
         Place::ByOffset(x) => Content {
             start: x + header_size(ob),
-            length: wire::offset_in(m, x + 4),
+            length: wire::offset_in(m, x + wire::MAGIC),
         },
         Place::InPlace(start, length) => Content { start, length },
     }
@@ -795,7 +795,7 @@ pub fn put_root(b: &[u8], dir: &[u16], m: &[u8], out: &mut [u8]) -> usize
     requires { ⌜ (Accepted (now b) (now dir)) × (C.MessageReadable (now b) (now m)) ⌝ }
     ensures { λ r. ⌜ Puts (now (out .entry)) 0 (C.rootBits (now (b .entry)) (now (m .entry))) (now (out .exit)) r ⌝ }
 {
-    let ob = message_object::root_object(b, dir);
-    let p = message_object::root_place(m);
+    let ob = message_start::root_object(b, dir);
+    let p = message_start::root_place(m);
     put_object(b, dir, m, out, 32, ob, p, 0)
 }

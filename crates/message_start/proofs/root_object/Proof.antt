@@ -1,12 +1,10 @@
-use Rattle.message_object.proofs.StartCases.{root-sound}
+-- `message_start::root_object` meets its contract.
+use Rattle.message_start.proofs.StartCases.{root-sound}
 use mathlib.Core.Path.{ap}
 use Rattle.coding.specs.declared.Object.the-variants as O
 use borrow.Author.Needs.{needs}
-use Rattle.message_object.proofs.root_object.Statement.{statement}
-use Rattle.message_object.proofs.root_object.Tie as tie
-use Rattle.message_object.proofs.root_object.Reads as reads
-use Rattle.message_object.proofs.root_object.Lts as lts
-use Rattle.schema.proofs.root.Reads as root-reads
+use Rattle.message_start.proofs.root_object.Statement.{statement}
+use Rattle.message_start.proofs.root_object.Tie as tie
 
 root-requires : tie.Need-root-requires
 root-requires c κs = search needs
