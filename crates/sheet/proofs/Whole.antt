@@ -35,7 +35,7 @@ use Rattle.sheet.proofs.Walked.{Says, visit-says}
 
 -- ---- acceptance
 says-number : (Q : Type 0) (w : Walked) → Says Q w → W.verdictOf w .number ≡ 0 → Q
-unfolding W.verdictOf W.verdictAt W.atZero
+unfolding W.verdictOf
 says-number Q (Going s) h e = h
 says-number Q (Refused r s) h e = absurd (h e)
 
@@ -56,7 +56,7 @@ rooted b dir m a budget q =
     q
 
 pub message-readable : (b dir m : List ℕ) → Accepted b dir → (budget : Budget) (v : Verdict) → v ≡ W.verdict u48 b m budget → v .number ≡ 0 → D.MessageReadable u48 (P.parse b) m
-unfolding W.verdict W.early W.atZero W.verdictAt W.nothing
+unfolding W.verdict W.early W.nothing
 message-readable b dir m a budget v ev h =
     by (W.sizeOk u48 m) (W.startOk m) refl
     (subst (λ (x : Verdict). x .number ≡ 0)
@@ -201,7 +201,7 @@ pub schema-accepted : (b dir : List ℕ) (t : Bool) → Judged b dir t → t ≡
 schema-accepted b dir t j e = j .right e
 
 unlawful : (b dir m : List ℕ) (budget : Budget) (t : Bool) → Judged b dir t → t ≡ false → W.verdict u48 b m budget ≡ record { number = 1; place = 0; visits = 0 }
-unfolding W.verdict W.early W.atZero W.verdictAt W.nothing
+unfolding W.verdict W.early W.nothing
 unlawful b dir m budget t j f = simp (← (j .is), f)
 
 module _ (b dir m o : List ℕ) (budget : Budget) (t : Bool) (j : Judged b dir t) (f : t ≡ false) where

@@ -1,11 +1,10 @@
 use mathlib.Core.Path.{refl}
-use Rattle.coding.specs.Walk.{atZero, verdictAt, spentOf}
 use Rattle.sheet.specs.Answers.{noRoom}
 use Rattle.sheet.proofs.no_room.Statement.{statement}
 use Rattle.sheet.proofs.no_room.Tie as tie
 
 returns : tie.Need-returns
-unfolding noRoom atZero verdictAt spentOf
+unfolding noRoom
 returns c = refl
 
 pub no-room-spec : {M : Type 1} → statement M
