@@ -2,7 +2,8 @@
 use coding::Budget;
 use coding::Spent;
 use coding::Verdict;
-use judge_text::Outcome;
+use outcome::Limits;
+use outcome::Outcome;
 ghost use mathlib.Core.Path.{_≡_};
 ghost use Prim.Native.Nat.{_≤_};
 ghost use lib.ListN.{length};
@@ -10,8 +11,9 @@ ghost use Rattle.coding.specs.Bytes as B;
 ghost use Rattle.coding.specs.Packed as P;
 ghost use Rattle.coding.specs.Walk as W;
 ghost use Rattle.schema.specs.Directory.{Accepted};
-ghost use Rattle.judge_text.specs.Answers as As;
+ghost use Rattle.outcome.specs.Answers as As;
 
+// The verdict of a walk that has ended.
 fn verdict_of(w: Outcome) -> Verdict
     requires { ⌜ w .code ≤ 256 ⌝ }
     ensures { λ r. ⌜ r ≡ W.verdictOf (As.walkedOf w) ⌝ }
@@ -49,24 +51,25 @@ fn walk_from_root(b: &[u8], dir: &[u16], m: &[u8], budget: Budget) -> Outcome
 {
     let ob = message_start::root_object(b, dir);
     let p = message_start::root_place(m);
-    judge_walk::visit(b, dir, m, budget, 32, ob, p, Spent { visits: 0 })
+    let l = Limits {
+        budget,
+        depth: outcome::DEEPEST,
+    };
+    judge_walk::visit(b, dir, m, l, ob, p, Spent { visits: 0 })
 }
 
-// The verdict by a schema that was judged before.
+// The verdict by a schema that was judged before: internal, since no user can show that it was.
 pub fn judged(b: &[u8], dir: &[u16], m: &[u8], budget: Budget) -> Verdict
     requires { ⌜ Accepted (now b) (now dir) ⌝ }
     ensures { λ r. ⌜ r ≡ W.verdict B.u48 (now (b .entry)) (now (m .entry)) budget ⌝ }
 {
-    if m.len() < 10 {
-        return early(2);
+    if message_start::size_ok(m) {
+        if message_start::start_ok(m) {
+            return verdict_of(walk_from_root(b, dir, m, budget));
+        }
+        return early(3);
     }
-    if 16777215 < m.len() {
-        return early(2);
-    }
-    if message_start::start_ok(m) {
-        return verdict_of(walk_from_root(b, dir, m, budget));
-    }
-    early(3)
+    early(2)
 }
 
 // Judges a message by a packed schema: number, place and visits.
