@@ -137,7 +137,7 @@ module _ (b m path : List ℕ) (list : Found) (el : list ≡ Field.readerStart u
       → Field.partOf u48 (P.parse b) m (Field.readerStart u48 b m path) i ≡ Field.readerStart u48 b m path
   unfolding Field.readerStart Field.fieldFound Field.readerOf Field.before Field.partOf W.sizeOk largest
   refused-stays h =
-      simp (lt-leb _ _ h, and-false) (by (lawful b) (leb (length path) 96))
+      simp (lt-leb _ _ h, and-false) (by (lawful u48 b) (leb (length path) 96))
     where
       by : (s t : Bool)
           → Field.partOf u48 (P.parse b) m (Field.readerOf (P.parse b) (pick s (pick t (Field.before 2) (Field.before 15)) (Field.before 1))) i

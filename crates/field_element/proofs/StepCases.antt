@@ -57,7 +57,7 @@ count-unlawful b dir m path t j f = sym (ap Field.listCount (start-unlawful b di
 -- a message over the size has no list
 pub count-long : (b m path : List ℕ) → 16777215 < length m → 0 ≡ Field.readerCount u48 b m path
 unfolding Field.readerCount Field.readerStart Field.fieldFound Field.readerOf Field.before Field.listCount W.sizeOk largest
-count-long b m path h = simp (lt-leb _ _ h, and-false) (by (lawful b) (leb (length path) 96))
+count-long b m path h = simp (lt-leb _ _ h, and-false) (by (lawful u48 b) (leb (length path) 96))
   where
     by : (s t : Bool) → 0 ≡ Field.listCount (Field.readerOf (P.parse b) (pick s (pick t (Field.before 2) (Field.before 15)) (Field.before 1)))
     by true true = refl

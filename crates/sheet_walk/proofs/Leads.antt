@@ -27,7 +27,7 @@ use Rattle.coding.specs.declared.Step.the-variants as St
 use Rattle.laws.specs.Sound.{KindSound}
 use Rattle.laws.specs.Lists.{never}
 use Rattle.laws.specs.Rules.{record-argument, record-of-block, table-ok}
-use Rattle.schema.specs.Directory.{Accepted, Block}
+use Rattle.schema.specs.Directory.{Accepted, Block, accepted-formed}
 use Rattle.schema.specs.Records.{among}
 use Rattle.message_layout.specs.Bounds.{Laid}
 use Rattle.wire.specs.Numbers.{Number}
