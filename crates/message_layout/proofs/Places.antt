@@ -16,6 +16,14 @@ use Rattle.message_layout.specs.Bounds.{Laid, Stands}
 pub flag-first : (flag : Bool) (c r : Cursor) → flag ≡ true → r ≡ L.afterBit c → r ≡ pick flag (L.afterBit c) c
 flag-first flag c r e f = simp e f
 
+module _ (c : Cursor) (w : ℕ) where
+  pub behind-bytes : record { end = c .end + w; byte = c .byte; bit = c .bit } ≡ L.afterBytes w c
+  unfolding L.afterBytes
+  behind-bytes = refl
+
+  pub behind-laid : c .byte ≤ c .end → c .bit ≤ 8 → Laid (c .end + w) (record { end = c .end + w; byte = c .byte; bit = c .bit })
+  behind-laid l h = record { end = omega arith; byte = omega arith; bit = h }
+
 module _ (S : Schema) (k : Kind) (c : Cursor) (t : Bool) (et : t ≡ L.isBool k) where
   pub bool-stands : t ≡ true → (at bit : ℕ) (next : Cursor) → at ≡ L.bitByte c → at ≤ c .end → bit ≡ L.bitIndex c → bit < 8 → next ≡ L.afterBit c
       → Laid (c .end + 1) next
@@ -32,19 +40,18 @@ module _ (S : Schema) (k : Kind) (c : Cursor) (t : Bool) (et : t ≡ L.isBool k)
         laid = record { end = omega arith; byte = laid .byte; bit = laid .bit };
       }
 
-  pub bytes-stand : t ≡ false → (w : ℕ) → w ≡ L.width u48 S k → 0 < w → w ≤ 4096 → c .byte ≤ c .end → c .bit ≤ 8
-      → Stands (L.slotOf u48 S k c) (L.afterValue u48 S k c) (c .end) (record { at = c .end; bit = 0; size = w })
-      (record { end = c .end + w; byte = c .byte; bit = c .bit })
-  unfolding L.slotOf L.afterValue L.afterBytes
-  bytes-stand f w ew some small lb li =
+  pub bytes-stand : t ≡ false → (w : ℕ) → w ≡ L.width u48 S k → 0 < w → w ≤ 4096 → (next : Cursor) → next ≡ L.afterBytes w c → Laid (c .end + w) next
+      → Stands (L.slotOf u48 S k c) (L.afterValue u48 S k c) (c .end) (record { at = c .end; bit = 0; size = w }) next
+  unfolding L.slotOf L.afterValue
+  bytes-stand f w ew some small next en laid =
       record {
         slot-is = simp (← et, f, ← ew);
-        next-is = simp (← et, f, ← ew);
+        next-is = simp (← et, f, ← ew) en;
         at = omega arith;
         bit = omega arith;
         some = some;
         size = small;
-        laid = record { end = omega arith; byte = omega arith; bit = li };
+        laid = record { end = omega arith; byte = laid .byte; bit = laid .bit };
       }
 
 -- a member's value behind its flag

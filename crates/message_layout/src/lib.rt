@@ -11,6 +11,7 @@ ghost use Rattle.coding.specs.Bytes as B;
 ghost use Rattle.coding.specs.Layout as L;
 ghost use Rattle.coding.specs.Lists.{pick};
 ghost use Rattle.coding.specs.Packed as P;
+ghost use Rattle.coding.specs.Step as T;
 ghost use Rattle.coding.specs.Structs as S;
 ghost use Rattle.laws.specs.Sound.{FlatSound, KindSound, MemberSound};
 ghost use Rattle.message_layout.specs.Bounds.{Laid, Stands};
@@ -65,6 +66,19 @@ pub fn after_bit(c: Cursor) -> Cursor
             byte: end,
             bit: 1,
         }
+    }
+}
+
+// Behind w bytes more; the last bool byte stays the same.
+pub fn after_bytes(c: Cursor, w: usize) -> Cursor
+    requires { ⌜ (c .byte ≤ c .end) × (c .bit ≤ 8) × (c .end < 2 ^ 60) × (w ≤ 4096) ⌝ }
+    ensures { λ r. ⌜ (r ≡ L.afterBytes w c) × Laid (c .end + w) r ⌝ }
+{
+    let end = c.end;
+    Cursor {
+        end: end + w,
+        byte: c.byte,
+        bit: c.bit,
     }
 }
 
@@ -134,9 +148,28 @@ pub fn width(b: &[u8], dir: &[u16], k: Kind) -> usize
 {
     match k {
         Kind::OfFlat(f) => flat_width(b, dir, f),
-        Kind::OfObject(_) => 6,
-        Kind::OfUnion(_) => 8,
+        Kind::OfObject(_) => wire::OFFSET,
+        Kind::OfUnion(_) => wire::UNION,
     }
+}
+
+// The bytes of n values of w bytes each.
+pub fn times(w: usize, n: usize) -> usize
+    requires { ⌜ (w ≤ 4096) × (n < 2 ^ 48) ⌝ }
+    ensures { λ r. ⌜ (r ≡ w * n) × (r ≤ 4096 * n) ⌝ }
+{
+    w * n
+}
+
+// The bytes of a list's n elements of kind k.
+pub fn elements_size(b: &[u8], dir: &[u16], k: Kind, n: usize) -> usize
+    requires { ⌜ (Accepted (now b) (now dir)) × (KindSound (P.parse (now b)) k) × (n < 2 ^ 48) ⌝ }
+    ensures { λ r. ⌜ (r ≡ T.elementsSize B.u48 (P.parse (now (b .entry))) k n) × (r ≤ 4096 * n) ⌝ }
+{
+    if is_bool(k) {
+        return (n + 7) / 8;
+    }
+    times(width(b, dir, k), n)
 }
 
 // ---- members
@@ -173,17 +206,12 @@ fn place_value(b: &[u8], dir: &[u16], k: Kind, c: Cursor) -> Placement
         return Placement { slot, next };
     }
     let w = width(b, dir, k);
-    let end = c.end;
     let slot = Slot {
-        at: end,
+        at: c.end,
         bit: 0,
         size: w,
     };
-    let next = Cursor {
-        end: end + w,
-        byte: c.byte,
-        bit: c.bit,
-    };
+    let next = after_bytes(c, w);
     Placement { slot, next }
 }
 

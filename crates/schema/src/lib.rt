@@ -7,13 +7,63 @@ use coding::Kind;
 use coding::Member;
 use coding::Object;
 ghost use mathlib.Core.Path.{_≡_};
+ghost use mathlib.Core.Bool.{_&&_, not};
 ghost use Prim.Native.Nat.{_+_, _*_, _<_, _≤_, _^_};
+ghost use lib.Dec.{eqb, ltb};
 ghost use lib.ListN.{length, getD};
 ghost use Rattle.coding.specs.Packed as P;
 ghost use Rattle.coding.specs.Schema as Sc;
 ghost use Rattle.coding.specs.Structs as S;
+ghost use Rattle.laws.specs.Sound.{MemberSound};
 ghost use Rattle.schema.specs.Directory.{Directory, Block, Accepted};
+ghost use Rattle.schema.specs.Kinds.{isBlob, integerWidth};
 ghost use Rattle.schema.specs.Representatives.{Represents};
+
+// ---- the numbers of kinds in a record
+pub const KIND_BOOL: usize = 0;
+
+// Unsigned integers of 1, 2, 4 and 8 bytes stand from 1 on, signed ones from here.
+pub const KIND_SIGNED: usize = 5;
+
+// Floats of 4 and 8 bytes.
+pub const KIND_FLOAT: usize = 9;
+
+pub const KIND_ENUM: usize = 11;
+
+pub const KIND_STRUCT: usize = 12;
+
+pub const KIND_TEXT: usize = 13;
+
+pub const KIND_BYTES: usize = 14;
+
+pub const KIND_LIST: usize = 15;
+
+pub const KIND_TABLE: usize = 16;
+
+pub const KIND_UNION: usize = 17;
+
+// Whether a kind leads to no object: a bool, an integer, a float, an enum or a struct.
+pub fn is_flat_kind(k: usize) -> bool
+    ensures { λ r. ⌜ r ≡ ltb k 13 ⌝ }
+{
+    k < KIND_TEXT
+}
+
+// Whether a kind is an object: a text, bytes, a list or a table.
+pub fn is_object_kind(k: usize) -> bool
+    ensures { λ r. ⌜ r ≡ (not (ltb k 13) && ltb k 17) ⌝ }
+{
+    if is_flat_kind(k) {
+        return false;
+    }
+    k < KIND_UNION
+}
+
+pub fn is_union_kind(k: usize) -> bool
+    ensures { λ r. ⌜ r ≡ eqb k 17 ⌝ }
+{
+    k == KIND_UNION
+}
 
 // ---- one record, at its place
 pub fn kind_at(b: &[u8], at: usize) -> usize
@@ -64,19 +114,19 @@ pub fn width_of(k: usize) -> u8
 fn flat_of(k: usize, a: u8) -> Flat
     ensures { λ r. ⌜ r ≡ P.flatOf k a ⌝ }
 {
-    if k == 0 {
+    if k == KIND_BOOL {
         return Flat::Boolean;
     }
-    if k < 5 {
+    if k < KIND_SIGNED {
         return Flat::Integer(false, width_of(k));
     }
-    if k < 9 {
+    if k < KIND_FLOAT {
         return Flat::Integer(true, width_of(k));
     }
-    if k < 11 {
+    if k < KIND_ENUM {
         return Flat::Float(width_of(k));
     }
-    if k == 11 {
+    if k == KIND_ENUM {
         return Flat::Enumerated(a);
     }
     Flat::Struct(a)
@@ -85,13 +135,13 @@ fn flat_of(k: usize, a: u8) -> Flat
 fn object_of(k: usize, a: u8) -> Object
     ensures { λ r. ⌜ r ≡ P.objectOf k a ⌝ }
 {
-    if k == 13 {
+    if k == KIND_TEXT {
         return Object::Text;
     }
-    if k == 14 {
+    if k == KIND_BYTES {
         return Object::Bytes;
     }
-    if k == 15 {
+    if k == KIND_LIST {
         return Object::List(a);
     }
     Object::Table(a)
@@ -100,10 +150,10 @@ fn object_of(k: usize, a: u8) -> Object
 fn kind_of(k: usize, a: u8) -> Kind
     ensures { λ r. ⌜ r ≡ P.kindOf k a ⌝ }
 {
-    if k < 13 {
+    if is_flat_kind(k) {
         return Kind::OfFlat(flat_of(k, a));
     }
-    if k < 17 {
+    if is_object_kind(k) {
         return Kind::OfObject(object_of(k, a));
     }
     Kind::OfUnion(a)
@@ -141,6 +191,36 @@ pub fn member_at(b: &[u8], at: usize) -> Member
         kind: k,
         optional: o,
         inplace: i,
+    }
+}
+
+// ---- what a kind is
+// Whether the object is a text or bytes.
+pub fn is_blob(ob: Object) -> bool
+    ensures { λ r. ⌜ r ≡ isBlob ob ⌝ }
+{
+    match ob {
+        Object::Text => true,
+        Object::Bytes => true,
+        Object::List(_) => false,
+        Object::Table(_) => false,
+    }
+}
+
+// The bytes of an integer; 0 for what is none.
+pub fn integer_width(k: Kind) -> usize
+    ensures { λ r. ⌜ r ≡ integerWidth k ⌝ }
+{
+    match k {
+        Kind::OfFlat(f) => match f {
+            Flat::Boolean => 0,
+            Flat::Integer(_, w) => wire::index(w),
+            Flat::Float(_) => 0,
+            Flat::Enumerated(_) => 0,
+            Flat::Struct(_) => 0,
+        },
+        Kind::OfObject(_) => 0,
+        Kind::OfUnion(_) => 0,
     }
 }
 
@@ -269,6 +349,14 @@ pub fn member(b: &[u8], dir: &[u16], t: usize, j: usize) -> Member
     ensures { λ r. ⌜ r ≡ Sc.memberOf (P.parse (now (b .entry))) t j ⌝ }
 {
     member_at(b, record_place(4, table_place(b, dir, t), j))
+}
+
+// Where the record of member j of table t stands.
+pub fn record_of(b: &[u8], dir: &[u16], t: usize, j: usize) -> usize
+    requires { ⌜ (Accepted (now b) (now dir)) × (t < P.tableCount (now b)) × (j < length (Sc.tableOf (P.parse (now b)) t .members)) × (j < 256) ⌝ }
+    ensures { λ r. ⌜ (r + 1 < length (now (b .entry))) × (P.memberAt (now (b .entry)) r ≡ Sc.memberOf (P.parse (now (b .entry))) t j) × MemberSound (P.parse (now (b .entry))) (P.memberAt (now (b .entry)) r) ⌝ }
+{
+    record_place(4, table_place(b, dir, t), j)
 }
 
 pub fn root(b: &[u8]) -> usize
