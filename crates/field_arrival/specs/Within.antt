@@ -3,6 +3,7 @@ use Prim.Native.Nat.{ℕ, _+_, _<_, _≤_}
 use mathlib.Core.List.{List}
 use lib.ListN.{length, getD}
 use Rattle.coding.specs.Schema.{Schema}
+use Rattle.coding.specs.Packed.{parse}
 use Rattle.coding.specs.Structs.{structSize}
 use Rattle.coding.specs.Walk.{contentSize}
 use Rattle.coding.specs.declared.Object.{Object}
@@ -28,11 +29,18 @@ StepWithin S m (St.Struct i at) = (i < length (S .structs)) × (at + structSize 
 StepWithin S m (St.Object ob p) = ObjectSound S ob × PlaceSmall p
 StepWithin S m (St.Choice c ob p) = ObjectSound S ob × PlaceSmall p
 
--- what a path has come to lies within the message
+-- what a path has come to lies within the message; where that is an object, the message is within its size
 abbrev pub FoundWithin : ℕ → Schema → List ℕ → Found → Type 0
 FoundWithin o S m (Fd.Refused r) = Unit {0}
 FoundWithin o S m Fd.Absent = Unit {0}
 FoundWithin o S m (Fd.Unknown x) = Unit {0}
 FoundWithin o S m (Fd.Value k x holder) = KindSound S k
 FoundWithin o S m (Fd.Struct i at holder) = (i < length (S .structs)) × (at + structSize S i ≤ length m)
-FoundWithin o S m (Fd.Object ob at start n d) = ObjectSound S ob × (start + contentSize o S ob n ≤ length m)
+FoundWithin o S m (Fd.Object ob at start n d) = ObjectSound S ob × (start + contentSize o S ob n ≤ length m) × (length m ≤ 16777215)
+
+-- the same by the schema in bytes b
+abbrev pub StepIn : List ℕ → List ℕ → Step → Type 0
+StepIn b m step = StepWithin (parse b) m step
+
+abbrev pub FoundIn : ℕ → List ℕ → List ℕ → Found → Type 0
+FoundIn o b m f = FoundWithin o (parse b) m f

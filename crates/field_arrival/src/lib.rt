@@ -13,7 +13,7 @@ ghost use Rattle.coding.specs.Packed as P;
 ghost use Rattle.laws.specs.Sound.{ObjectSound};
 ghost use Rattle.schema.specs.Directory.{Accepted};
 ghost use Rattle.message_step.specs.Lead as D;
-ghost use Rattle.field_arrival.specs.Within.{StepWithin};
+ghost use Rattle.field_arrival.specs.Within.{StepIn};
 ghost use Rattle.field_arrival.specs.Parts.{arrivedBy, chosenBy, steppedBy};
 
 // The content of an object that a path has come to: the object's place, where its content starts, its length, and how many
@@ -80,7 +80,7 @@ fn choose(b: &[u8], dir: &[u16], m: &[u8], part: Part, ob: Object, p: Place) -> 
 // ---- what a step finds
 // What the step of a part finds.
 pub fn follow(b: &[u8], dir: &[u16], m: &[u8], part: Part, step: Step) -> Found
-    requires { ⌜ (Accepted (now b) (now dir)) × StepWithin (P.parse (now b)) (now m) step ⌝ }
+    requires { ⌜ (Accepted (now b) (now dir)) × StepIn (now b) (now m) step ⌝ }
     ensures { λ r. ⌜ r ≡ steppedBy B.u48 (now (b .entry)) (now (m .entry)) part step ⌝ }
 {
     let kind = part.kind;

@@ -34,12 +34,12 @@ use Rattle.schema.specs.Directory.{Accepted, accepted-sound}
 use Rattle.field_arrival.specs.Within.{Readable, StepWithin, FoundWithin}
 use Rattle.field_part.proofs.StepsWithin.{member-within, element-within, field-within, field-sound}
 
-module _ (S : Schema) (m : List ℕ) where
+module _ (S : Schema) (m : List ℕ) (size : length m ≤ 16777215) where
   opened-within : (ob : Object) (at d : ℕ) (w : Opened) → ObjectSound S ob
       → ((start n : ℕ) → w ≡ Op.Content start n → start + W.contentSize u48 S ob n ≤ length m) → FoundWithin u48 S m (Field.opened ob at d w)
   unfolding Field.opened
   opened-within ob at d (Op.Refused n) s h = tt
-  opened-within ob at d (Op.Content start n) s h = (s, h start n refl)
+  opened-within ob at d (Op.Content start n) s h = (s, h start n refl, size)
 
   arrived-within : (d : ℕ) (ob : Object) (p : Place) → ObjectSound S ob → FoundWithin u48 S m (Field.arrived d u48 S m ob p)
   unfolding Field.arrived
@@ -74,7 +74,7 @@ module _ (S : Schema) (sound : Sound S) (m : List ℕ) (readable : Readable m) w
       (T.fieldStep m (Sc.fieldOf S i j) (at + total (structSize S) (take j (Sc.structOf S i)))))
       (Fd.Refused (Field.refusal 15 holder))
       (λ e. let g = ltb-true j (length (Sc.structOf S i)) e in
-      stepped-within S m 0 holder (OfFlat (Sc.fieldOf S i j)) (field-sound S sound m readable i j l g) _ (field-within S sound m readable i at j l h g))
+      stepped-within S m (readable .size) 0 holder (OfFlat (Sc.fieldOf S i j)) (field-sound S sound m readable i j l g) _ (field-within S sound m readable i at j l h g))
       (λ e. tt)
 
   list-within : (i at start n d j : ℕ) → start + T.elementsSize u48 S (Sc.elementOf S i) n ≤ length m
@@ -84,7 +84,7 @@ module _ (S : Schema) (sound : Sound S) (m : List ℕ) (readable : Readable m) w
       pick-holds (FoundWithin u48 S m) (ltb j n)
       (Field.stepped d u48 S m at (Sc.elementOf S i) (T.elementStep u48 S m (Sc.elementOf S i) start j))
       (Fd.Refused (Field.refusal 15 at))
-      (λ e. stepped-within S m d at (Sc.elementOf S i) (sound .lists i .kind) _
+      (λ e. stepped-within S m (readable .size) d at (Sc.elementOf S i) (sound .lists i .kind) _
       (element-within S sound m readable (Sc.elementOf S i) (sound .lists i .kind) start n j h (ltb-true j n e)))
       (λ e. tt)
 
@@ -100,7 +100,7 @@ module _ (S : Schema) (sound : Sound S) (m : List ℕ) (readable : Readable m) w
       (T.memberStep u48 S m start n (L.afterMembers u48 S (take j (Sc.tableOf S i .members)) L.begin) (Sc.memberOf S i j)))
       (Fd.Refused (Field.refusal 15 at))
       (λ e. let g = member-sound-at S sound i j (ltb-true j (length (Sc.tableOf S i .members)) e) in
-      stepped-within S m d at (Sc.memberOf S i j .kind) (g .kind) _
+      stepped-within S m (readable .size) d at (Sc.memberOf S i j .kind) (g .kind) _
       (member-within S sound m readable (Sc.memberOf S i j) g start n (L.afterMembers u48 S (take j (Sc.tableOf S i .members)) L.begin) h))
       (λ e. tt)
 
@@ -114,9 +114,9 @@ module _ (S : Schema) (sound : Sound S) (m : List ℕ) (readable : Readable m) w
   part-within (Fd.Object ob at start n d) j h = object-within ob at start n d j (h .0) (h .1)
 
 -- ---- as the code has it
-pub arrival-within : (b : List ℕ) (m : List ℕ) (d : ℕ) (ob : Object) (p : Place) (f : Found) → ObjectSound (P.parse b) ob
+pub arrival-within : (b : List ℕ) (m : List ℕ) → Readable m → (d : ℕ) (ob : Object) (p : Place) (f : Found) → ObjectSound (P.parse b) ob
     → f ≡ Field.arrived d u48 (P.parse b) m ob p → FoundWithin u48 (P.parse b) m f
-arrival-within b m d ob p f s e = rw e (arrived-within (P.parse b) m d ob p s)
+arrival-within b m r d ob p f s e = rw e (arrived-within (P.parse b) m (r .size) d ob p s)
 
 pub next-within : (b dir m : List ℕ) → Accepted b dir → Readable m → (f : Found) → FoundWithin u48 (P.parse b) m f → (j : ℕ) (g : Found)
     → g ≡ Field.partOf u48 (P.parse b) m f j → FoundWithin u48 (P.parse b) m g

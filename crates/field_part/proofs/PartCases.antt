@@ -260,6 +260,9 @@ module _ (o : ℕ) (S : Schema) (m : List ℕ) (f : Found) (within : FoundWithin
   pub object-fits : (ob : Object) (at start n d : ℕ) → f ≡ Fd.Object ob at start n d → start + W.contentSize o S ob n ≤ length m
   object-fits ob at start n d e = subst (FoundWithin o S m) e within .1
 
+  pub object-size : (ob : Object) (at start n d : ℕ) → f ≡ Fd.Object ob at start n d → length m ≤ 16777215
+  object-size ob at start n d e = subst (FoundWithin o S m) e within .2
+
 -- ---- all members before member j
 pub size-done : (S : Schema) (s size i j : ℕ) → size ≡ total (structSize S) (take i (Sc.structOf S s)) → i ≤ j → j ≤ i
     → size ≡ total (structSize S) (take j (Sc.structOf S s))

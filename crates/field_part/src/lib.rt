@@ -22,7 +22,7 @@ ghost use Rattle.coding.specs.Walk as W;
 ghost use Rattle.laws.specs.Sound.{FlatSound, ObjectSound};
 ghost use Rattle.message_layout.specs.Bounds.{Laid};
 ghost use Rattle.schema.specs.Directory.{Accepted};
-ghost use Rattle.field_arrival.specs.Within.{Readable, StepWithin, FoundWithin};
+ghost use Rattle.field_arrival.specs.Within.{Readable, StepIn, FoundIn};
 ghost use Rattle.field_arrival.specs.Parts.{objectPartBy};
 ghost use Rattle.field_part.specs.Before.{fieldPlace, cursorAt};
 
@@ -66,7 +66,7 @@ fn fields_size(b: &[u8], dir: &[u16], s: usize, j: usize) -> usize
 fn field_at(b: &[u8], dir: &[u16], m: &[u8], s: StructAt, j: usize, k: Flat) -> Step
     requires { ⌜ (Accepted (now b) (now dir)) × (Readable (now m)) × (s .index < P.structCount (now b)) × (s .place + S.structSize (P.parse (now b)) (s .index) ≤ length (now m)) ⌝ }
     requires { ⌜ (j < length (Sc.structOf (P.parse (now b)) (s .index))) × (j < 256) × (k ≡ Sc.fieldOf (P.parse (now b)) (s .index) j) ⌝ }
-    ensures { λ r. ⌜ (r ≡ T.fieldStep (now (m .entry)) k (s .place + fieldPlace (now (b .entry)) (s .index) j)) × StepWithin (P.parse (now (b .entry))) (now (m .entry)) r ⌝ }
+    ensures { λ r. ⌜ (r ≡ T.fieldStep (now (m .entry)) k (s .place + fieldPlace (now (b .entry)) (s .index) j)) × StepIn (now (b .entry)) (now (m .entry)) r ⌝ }
 {
     let size = fields_size(b, dir, s.index, j);
     field_step(b, m, k, s.place + size)
@@ -117,18 +117,10 @@ fn cursor_at(b: &[u8], dir: &[u16], t: usize, j: usize) -> Cursor
 }
 
 // What member j, which is r, of table t holds.
-fn member_at(
-    b: &[u8],
-    dir: &[u16],
-    m: &[u8],
-    t: usize,
-    c: Content,
-    j: usize,
-    r: Member,
-) -> Step
+fn member_at(b: &[u8], dir: &[u16], m: &[u8], t: usize, c: Content, j: usize, r: Member) -> Step
     requires { ⌜ (Accepted (now b) (now dir)) × (Readable (now m)) × (t < P.tableCount (now b)) × (c .start + c .length ≤ length (now m)) ⌝ }
     requires { ⌜ (j < length (Sc.tableOf (P.parse (now b)) t .members)) × (j < 256) × (r ≡ Sc.memberOf (P.parse (now b)) t j) ⌝ }
-    ensures { λ q. ⌜ (q ≡ T.memberStep B.u48 (P.parse (now (b .entry))) (now (m .entry)) (c .start) (c .length) (cursorAt B.u48 (now (b .entry)) t j) r) × StepWithin (P.parse (now (b .entry))) (now (m .entry)) q ⌝ }
+    ensures { λ q. ⌜ (q ≡ T.memberStep B.u48 (P.parse (now (b .entry))) (now (m .entry)) (c .start) (c .length) (cursorAt B.u48 (now (b .entry)) t j) r) × StepIn (now (b .entry)) (now (m .entry)) q ⌝ }
 {
     let at = cursor_at(b, dir, t, j);
     let q = message_step::member_step(b, dir, m, c.start, c.length, at, r);
@@ -192,7 +184,7 @@ fn object_part(b: &[u8], dir: &[u16], m: &[u8], ob: Object, c: Content, j: usize
 // ---- one number of a path
 // What a path has come to with one number more, from what was found before.
 pub fn part_of(b: &[u8], dir: &[u16], m: &[u8], f: Found, j: usize) -> Found
-    requires { ⌜ (Accepted (now b) (now dir)) × (Readable (now m)) × (FoundWithin B.u48 (P.parse (now b)) (now m) f) ⌝ }
+    requires { ⌜ (Accepted (now b) (now dir)) × (Readable (now m)) × (FoundIn B.u48 (now b) (now m) f) ⌝ }
     ensures { λ r. ⌜ r ≡ F.partOf B.u48 (P.parse (now (b .entry))) (now (m .entry)) f j ⌝ }
 {
     match f {
