@@ -14,7 +14,7 @@ use Rattle.coding.specs.Structs.{byIndex, structSize}
 use Rattle.coding.specs.Packed.{parse}
 use Rattle.coding.specs.Lawful.{lawful}
 use Rattle.coding.specs.Layout.{hasFlag, fixedSize}
-use Rattle.coding.specs.Walk.{magic, verdict, early}
+use Rattle.coding.specs.Walk.{magic, atZero, spentOf, verdict, early}
 use Rattle.coding.specs.Value.{Value, Values, none, _then_, asNumber, asBlob, asRow, asObject, present, known, first, others, count}
 use Rattle.coding.specs.Read.{messageRead}
 use Rattle.coding.specs.Sheet.{sheetOf, sheetTree}
@@ -285,7 +285,7 @@ readAnswer o b m budget out =
     pick (eqb (verdict o b m budget .number) 0)
     (pick (fitsRoom (messageSheet o b m) out)
     (record { verdict = verdict o b m budget; length = length (messageSheet o b m) })
-    (record { verdict = record { number = 14; place = 0; visits = verdict o b m budget .visits }; length = 0 }))
+    (record { verdict = atZero 14 (spentOf (verdict o b m budget)); length = 0 }))
     (record { verdict = verdict o b m budget; length = 0 })
 
 -- what the output holds after the call: "bytes after it keep what they held; on refusal ... the output is unchanged"

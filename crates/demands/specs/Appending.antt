@@ -13,7 +13,7 @@ use Rattle.coding.specs.Bytes.{u48, deepest, largest}
 use Rattle.coding.specs.Packed.{parse}
 use Rattle.coding.specs.Read.{messageRead}
 use Rattle.coding.specs.Sheet.{sheetOf}
-use Rattle.coding.specs.Walk.{headerSize, sizeOk, verdictOf, verdict}
+use Rattle.coding.specs.Walk.{startSize, headerSize, sizeOk, verdictOf, verdict}
 use Rattle.coding.specs.Message.{messageSheet}
 use Rattle.coding.specs.Append.{Appends, without, resheet, sheetWithout}
 use Rattle.coding.specs.declared.Object.the-variants as Ob
@@ -63,7 +63,7 @@ module _ (older newer m : List ℕ) (older-bytes : AreBytes older) (newer-bytes 
       let x = verdict-walks o newer m b h in
       let y = older-accepts older newer older-bytes appends o m b h in
       let sound = lawful-sound newer newer-bytes (appends .newer-lawful) in
-      let sized = leb-true (length m) largest (both-right (leb (headerSize o) (length m)) (leb (length m) largest) (x .size)) in
+      let sized = leb-true (length m) largest (both-right (leb (startSize o) (length m)) (leb (length m) largest) (x .size)) in
       let shown = ends-going (x .walks) (walk-ends (parse newer) sound m message-bytes sized o wide b) in
       record {
         accepts = y .0;

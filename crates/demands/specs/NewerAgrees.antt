@@ -12,7 +12,7 @@ use Rattle.coding.specs.Bytes.{u48, deepest, largest}
 use Rattle.coding.specs.Packed.{parse}
 use Rattle.coding.specs.Read.{messageRead}
 use Rattle.coding.specs.Sheet.{sheetOf, treeOf}
-use Rattle.coding.specs.Walk.{headerSize, sizeOk, verdict}
+use Rattle.coding.specs.Walk.{startSize, headerSize, sizeOk, verdict}
 use Rattle.coding.specs.Message.{message, written, messageSheet}
 use Rattle.coding.specs.Append.{Appends, withAdded, resheet, sheetWith}
 use Rattle.coding.specs.declared.Object.the-variants as Ob
@@ -56,7 +56,7 @@ module _ (older newer : List ℕ) (older-bytes : AreBytes older) (appends : Appe
   plain-sheet message-bytes wide b h =
       let x = verdict-walks o older m b h in
       let sound = lawful-sound older older-bytes (appends .older-lawful) in
-      let sized = leb-true (length m) largest (both-right (leb (headerSize o) (length m)) (leb (length m) largest) (x .size)) in
+      let sized = leb-true (length m) largest (both-right (leb (startSize o) (length m)) (leb (length m) largest) (x .size)) in
       let shown = ends-going (x .walks) (walk-ends (parse older) sound m message-bytes sized o wide b) in
       plain-sheet-of (messageSheet o older m) (decode-encode (parse older) sound (messageRead o (parse older) m) shown)
 

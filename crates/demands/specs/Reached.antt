@@ -12,7 +12,7 @@ use Rattle.coding.specs.Bytes.{deepest}
 use Rattle.coding.specs.Schema.{Schema}
 use Rattle.coding.specs.Packed.{parse}
 use Rattle.coding.specs.Lawful.{lawful}
-use Rattle.coding.specs.Walk.{rootPlace, walk, verdictOf, early, sizeOk, startOk, verdict}
+use Rattle.coding.specs.Walk.{rootPlace, spending, nothing, walk, atZero, verdictOf, early, sizeOk, startOk, verdict}
 use Rattle.coding.specs.declared.Object.the-variants as Ob
 use Rattle.coding.specs.declared.Budget.{Budget}
 use Rattle.coding.specs.declared.Spent.{Spent}
@@ -26,17 +26,18 @@ use Rattle.demands.specs.ArrivalsWalk.{Judged, goes, stops, LawfulDown, 
 -- ---- the walk
 module _ (o : ℕ) (S : Schema) (m : List ℕ) (b : Budget) where
   walk-judged : Judged b (LawfulDown deepest o S m (Ob.Table (S .root)) (rootPlace o m)) (messageArrivals o S m)
-      (record { visits = 0 }) (walk o S m b)
-  unfolding walk messageArrivals
+      nothing (walk o S m b)
+  unfolding walk nothing messageArrivals
   walk-judged =
-      visit-judged deepest o S m b (Ob.Table (S .root)) (rootPlace o m) (record { visits = 0 }) (omega arith)
+      visit-judged deepest o S m b (Ob.Table (S .root)) (rootPlace o m) nothing (omega arith)
 
   -- what the walk accepts is accepted, and it has spent the arrivals
   pub walk-accepts : (s : Spent) → walk o S m b ≡ Going s → Accepted o S m b × (s .visits ≡ messageArrivals o S m)
+  unfolding nothing
   walk-accepts s e = by (walk o S m b) e walk-judged
     where
       by : (w : Walked) → w ≡ Going s
-          → Judged b (LawfulDown deepest o S m (Ob.Table (S .root)) (rootPlace o m)) (messageArrivals o S m) (record { visits = 0 }) w
+          → Judged b (LawfulDown deepest o S m (Ob.Table (S .root)) (rootPlace o m)) (messageArrivals o S m) nothing w
           → Accepted o S m b × (s .visits ≡ messageArrivals o S m)
       by w q (stops r t y n) = let z : _≡_ {A = ℕ} 0 1 = cc in absurd (omega arith)
       by w q (goes t f h x) =
@@ -52,10 +53,11 @@ module _ (o : ℕ) (S : Schema) (m : List ℕ) (b : Budget) where
 
   -- what is accepted the walk accepts, and it has spent the arrivals
   pub accepted-walks : Accepted o S m b → (s : Spent) × (walk o S m b ≡ Going s) × (s .visits ≡ messageArrivals o S m)
+  unfolding nothing
   accepted-walks h = by (walk o S m b) walk-judged
     where
       by : (w : Walked)
-          → Judged b (LawfulDown deepest o S m (Ob.Table (S .root)) (rootPlace o m)) (messageArrivals o S m) (record { visits = 0 }) w
+          → Judged b (LawfulDown deepest o S m (Ob.Table (S .root)) (rootPlace o m)) (messageArrivals o S m) nothing w
           → (s : Spent) × (w ≡ Going s) × (s .visits ≡ messageArrivals o S m)
       by w (goes t f g x) = (t, refl, omega arith)
       by w (stops r t z n) =
@@ -75,7 +77,7 @@ module _ (o : ℕ) (S : Schema) (m : List ℕ) (b : Budget) where
   walk-refuses r t e = by (walk o S m b) e walk-judged
     where
       by : (w : Walked) → w ≡ Refused r t
-          → Judged b (LawfulDown deepest o S m (Ob.Table (S .root)) (rootPlace o m)) (messageArrivals o S m) (record { visits = 0 }) w
+          → Judged b (LawfulDown deepest o S m (Ob.Table (S .root)) (rootPlace o m)) (messageArrivals o S m) nothing w
           → 0 < r .number
       by w q (goes u f g x) = let z : _≡_ {A = ℕ} 0 1 = cc in absurd (omega arith)
       by w q (stops s u z n) = let y : s ≡ r = cc in subst (λ (x : Refusal). 0 < x .number) y z
@@ -114,11 +116,11 @@ module _ (o : ℕ) (b m : List ℕ) (budget : Budget) where
   walks-verdict e f q s x = rw (e, f, q, x)
 
   pub lawful-verdict : LawfulMessage o b m budget
-      → verdict o b m budget ≡ record { number = 0; place = 0; visits = messageArrivals o (parse b) m }
+      → verdict o b m budget ≡ atZero 0 (spending (messageArrivals o (parse b) m))
   unfolding verdictOf
   lawful-verdict h =
       let y = accepted-walks o (parse b) m budget (h .objects) in
-      walks-verdict (h .schema) (h .size) (h .start) (y .0) (y .1) ∙ ap (λ (v : ℕ). record { number = 0; place = 0; visits = v }) (y .2)
+      walks-verdict (h .schema) (h .size) (h .start) (y .0) (y .1) ∙ ap (λ (v : ℕ). atZero 0 (spending v)) (y .2)
 
   verdict-lawful : verdict o b m budget .number ≡ 0 → LawfulMessage o b m budget
   verdict-lawful h =

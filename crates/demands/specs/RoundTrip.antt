@@ -15,7 +15,7 @@ use Rattle.coding.specs.Bytes.{le, largest, deepest, u48}
 use Rattle.coding.specs.Schema.{Schema}
 use Rattle.coding.specs.Packed.{parse}
 use Rattle.coding.specs.Lawful.{lawful}
-use Rattle.coding.specs.Walk.{headerSize, refuse, walk, verdictOf, sizeOk, startOk, verdict, rootPlace}
+use Rattle.coding.specs.Walk.{startSize, refusal, refuse, spending, walk, verdictAt, atZero, verdictOf, sizeOk, startOk, verdict, rootPlace}
 use Rattle.coding.specs.Value.{Value}
 use Rattle.coding.specs.Read.{messageRead}
 use Rattle.coding.specs.Sheet.{sheetOf, sheetTree}
@@ -62,11 +62,11 @@ unfolding u48
 u48-wide = omega arith
 
 -- a verdict where the schema, the size and the start are in order
-verdict-walks : (o : ℕ) (b m : List ℕ) (budget : Budget) → lawful b ≡ true → headerSize o ≤ length m → length m ≤ largest
+verdict-walks : (o : ℕ) (b m : List ℕ) (budget : Budget) → lawful b ≡ true → startSize o ≤ length m → length m ≤ largest
     → le m 0 4 ≡ 0xB5C0_C4B3 → verdict o b m budget ≡ verdictOf (walk o (parse b) m budget)
 unfolding verdict sizeOk startOk
 verdict-walks o b m budget l h k e =
-    rw (l, le-leb (headerSize o) (length m) h, le-leb (length m) largest k, eq-eqb (le m 0 4) 0xB5C0_C4B3 e)
+    rw (l, le-leb (startSize o) (length m) h, le-leb (length m) largest k, eq-eqb (le m 0 4) 0xB5C0_C4B3 e)
 
 -- ---- the message of a sheet's tree
 module _ (b s : List ℕ) (v : Value) (schema-bytes : (i : ℕ) → getD b i 0 < 256) (sheet-bytes : (i : ℕ) → getD s i 0 < 256)
@@ -94,7 +94,7 @@ module _ (b s : List ℕ) (v : Value) (schema-bytes : (i : ℕ) → getD b i 0 <
   tree-bytes : (i : ℕ) → getD (messageOf u48 (parse b) v) i 0 < 256
   tree-bytes = index-all Byte 0 (messageOf u48 (parse b) v) (omega arith) (message-bytes u48 (parse b) sound v writes)
 
-  tree-long : headerSize u48 ≤ length (messageOf u48 (parse b) v)
+  tree-long : startSize u48 ≤ length (messageOf u48 (parse b) v)
   tree-long = message-long u48 (parse b) sound v writes
 
   enough-is : enough b s ≡ rootArrivals (parse b) v
@@ -102,17 +102,17 @@ module _ (b s : List ℕ) (v : Value) (schema-bytes : (i : ℕ) → getD b i 0 <
   enough-is = rw decoded
 
   tree-verdict : (budget : Budget) → enough b s ≤ budget .visits
-      → verdict u48 b (messageOf u48 (parse b) v) budget ≡ record { number = 0; place = 0; visits = enough b s }
+      → verdict u48 b (messageOf u48 (parse b) v) budget ≡ atZero 0 (spending (enough b s))
   unfolding verdictOf
   tree-verdict budget h =
       let m = messageOf u48 (parse b) v in
       let e = enough-is in
       verdict-walks u48 b m budget good tree-long sized (tree-holds .0)
       ∙ ap verdictOf (written-accepted u48 (parse b) sound v writes u48-wide small budget (omega arith))
-      ∙ ap (λ (n : ℕ). record { number = 0; place = 0; visits = n }) (sym e)
+      ∙ ap (λ (n : ℕ). atZero 0 (spending n)) (sym e)
 
   tree-spent : (budget : Budget) → budget .visits < enough b s
-      → (at : ℕ) × (verdict u48 b (messageOf u48 (parse b) v) budget ≡ record { number = 4; place = at; visits = budget .visits })
+      → (at : ℕ) × (verdict u48 b (messageOf u48 (parse b) v) budget ≡ verdictAt (refusal 4 at) (spending (budget .visits)))
   unfolding verdictOf refuse
   tree-spent budget h =
       let m = messageOf u48 (parse b) v in
@@ -135,7 +135,7 @@ module _ (b s m : List ℕ) (schema-bytes : (i : ℕ) → getD b i 0 < 256) (she
 
   -- "reading that message with enough budget gives the same sheet": it is accepted, with a visit for each object,
   pub written-verdict : (budget : Budget) → enough b s ≤ budget .visits
-      → verdict u48 b m budget ≡ record { number = 0; place = 0; visits = enough b s }
+      → verdict u48 b m budget ≡ atZero 0 (spending (enough b s))
   written-verdict budget h =
       ap (λ (x : List ℕ). verdict u48 b x budget) (from .made)
       ∙ tree-verdict b s (from .tree) schema-bytes sheet-bytes (from .schema) (from .decoded) (from .fit) sized budget h
@@ -148,15 +148,15 @@ module _ (b s m : List ℕ) (schema-bytes : (i : ℕ) → getD b i 0 < 256) (she
 
   -- with less, the answer is 4 and the budget is spent
   pub written-too-little : (budget : Budget) → budget .visits < enough b s
-      → (at : ℕ) × (verdict u48 b m budget ≡ record { number = 4; place = at; visits = budget .visits })
+      → (at : ℕ) × (verdict u48 b m budget ≡ verdictAt (refusal 4 at) (spending (budget .visits)))
   written-too-little budget h =
       let out = tree-spent b s (from .tree) schema-bytes sheet-bytes (from .schema) (from .decoded) (from .fit) sized budget h in
       (out .0, ap (λ (x : List ℕ). verdict u48 b x budget) (from .made) ∙ out .1)
 
   -- within the size, and its bytes are bytes
-  pub written-size : (headerSize u48 ≤ length m) × (length m ≤ largest)
+  pub written-size : (startSize u48 ≤ length m) × (length m ≤ largest)
   written-size = (
-    subst (λ (x : List ℕ). headerSize u48 ≤ length x) (sym (from .made))
+    subst (λ (x : List ℕ). startSize u48 ≤ length x) (sym (from .made))
         (tree-long b s (from .tree) schema-bytes sheet-bytes (from .schema) (from .decoded) (from .fit) sized),
     from .sized,
   )
@@ -171,7 +171,7 @@ module _ (b s m : List ℕ) (schema-bytes : (i : ℕ) → getD b i 0 < 256) (she
 
   -- read into an output with room, the sheet is there, and the bytes behind it are kept
   pub written-answer : (budget : Budget) (out : List ℕ) → enough b s ≤ budget .visits → length s ≤ length out
-      → readAnswer u48 b m budget out ≡ record { verdict = record { number = 0; place = 0; visits = enough b s }; length = length s }
+      → readAnswer u48 b m budget out ≡ record { verdict = atZero 0 (spending (enough b s)); length = length s }
   unfolding readAnswer fitsRoom
   written-answer budget out h r =
       rw (written-verdict budget h, written-sheet, le-leb (length s) largest sheet-sized, le-leb (length s) (length out) r)

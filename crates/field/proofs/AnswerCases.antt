@@ -1,5 +1,5 @@
 -- The ways out of an answer.
-use mathlib.Core.Path.{_≡_, ap, _∙_, subst}
+use mathlib.Core.Path.{_≡_, refl, ap, _∙_, subst}
 use mathlib.Core.Bool.{Bool, false}
 use mathlib.Core.Logic.{⊎-elim}
 use mathlib.Core.List.{List}
@@ -120,7 +120,7 @@ field-found o b m path g eg r e = e ∙ ap Field.answerOf eg
 
 -- ---- number, place and visits
 module _ (q : Answer) (r : Verdict) where
-  module _ (f : r ≡ record { number = 0; place = 0; visits = 0 }) where
+  module _ (f : r ≡ W.verdictAt (W.refusal 0 0) W.nothing) where
     pub verdict-boolean : (x : Bool) → q ≡ A.Boolean x → r ≡ Field.answerVerdict q
     unfolding Field.answerVerdict W.early
     verdict-boolean x e = rw e f
@@ -149,6 +149,11 @@ module _ (q : Answer) (r : Verdict) where
     unfolding Field.answerVerdict W.early
     verdict-unknown x e = rw e f
 
-  pub verdict-refused : (x : Refusal) → q ≡ A.Refused x → r ≡ record { number = x .number; place = x .place; visits = 0 } → r ≡ Field.answerVerdict q
+  pub verdict-refused : (x : Refusal) → q ≡ A.Refused x → r ≡ W.verdictAt (W.refusal (x .number) (x .place)) W.nothing → r ≡ Field.answerVerdict q
   unfolding Field.answerVerdict
   verdict-refused x e f = rw e f
+
+-- visits 0
+pub unspent-is : (n at : ℕ) → _≡_ {A = Verdict} (record { number = n; place = at; visits = 0 }) (W.verdictAt (W.refusal n at) W.nothing)
+unfolding W.nothing
+unspent-is n at = refl

@@ -15,6 +15,7 @@ ghost use Rattle.coding.specs.Bytes as B;
 ghost use Rattle.coding.specs.Field as F;
 ghost use Rattle.coding.specs.Lists.{pick};
 ghost use Rattle.coding.specs.Packed as P;
+ghost use Rattle.coding.specs.Walk as W;
 ghost use Rattle.laws.specs.Sound.{FlatSound, KindSound};
 ghost use Rattle.field_arrival.specs.Within.{FoundIn};
 
@@ -83,7 +84,7 @@ pub fn field(b: &[u8], m: &[u8], path: &[u32]) -> Answer
 // ---- the answer's number, place and visits
 // The refusal n at a place, as an answer.
 pub fn refused(n: u8, at: usize) -> Answer
-    ensures { λ r. ⌜ r ≡ Answer.Refused (F.refusal n at) ⌝ }
+    ensures { λ r. ⌜ r ≡ Answer.Refused (W.refusal n at) ⌝ }
 {
     let why = Refusal {
         number: n,
@@ -94,7 +95,7 @@ pub fn refused(n: u8, at: usize) -> Answer
 
 // A number and a place without visits: one field is read without budget.
 fn unspent(number: u8, place: usize) -> Verdict
-    ensures { λ r. ⌜ r ≡ record { number = number; place = place; visits = 0 } ⌝ }
+    ensures { λ r. ⌜ r ≡ W.verdictAt (W.refusal number place) W.nothing ⌝ }
 {
     Verdict {
         number,

@@ -16,11 +16,11 @@ arrivedBy o b m d ob p = arrived d o (parse b) m ob p
 
 -- the object of a union's known choice
 abbrev pub chosenBy : ℕ → List ℕ → List ℕ → Part → Object → Place → Found
-chosenBy o b m part ob p = chosen (part .left) o (parse b) m (part .holder) ob p
+chosenBy o b m part ob p = chosen (part .left) o (parse b) m (part .holder) (part .number) ob p
 
 -- the step of a part
 abbrev pub steppedBy : ℕ → List ℕ → List ℕ → Part → Step → Found
-steppedBy o b m part step = stepped (part .left) o (parse b) m (part .holder) (part .kind) step
+steppedBy o b m part step = stepped (part .left) o (parse b) m (part .holder) (part .number) (part .kind) step
 
 -- part j of an object with its content
 abbrev pub objectPartBy : ℕ → List ℕ → List ℕ → Object → Content → ℕ → Found

@@ -10,6 +10,7 @@ ghost use mathlib.Core.Path.{_≡_};
 ghost use Rattle.coding.specs.Bytes as B;
 ghost use Rattle.coding.specs.Field as F;
 ghost use Rattle.coding.specs.Packed as P;
+ghost use Rattle.coding.specs.Walk as W;
 ghost use Rattle.laws.specs.Sound.{ObjectSound};
 ghost use Rattle.schema.specs.Directory.{Accepted};
 ghost use Rattle.message_step.specs.Lead as D;
@@ -37,7 +38,7 @@ pub struct Part {
 // ---- arrivals
 // The refusal n at a place.
 pub fn refuse(n: u8, at: usize) -> Found
-    ensures { λ r. ⌜ r ≡ Found.Refused (F.refusal n at) ⌝ }
+    ensures { λ r. ⌜ r ≡ Found.Refused (W.refusal n at) ⌝ }
 {
     let why = Refusal {
         number: n,

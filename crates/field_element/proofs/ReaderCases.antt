@@ -6,6 +6,7 @@ use Prim.Native.Nat.{ℕ}
 use Rattle.coding.specs.Schema as Sc
 use Rattle.coding.specs.Schema.{Schema}
 use Rattle.coding.specs.Packed as P
+use Rattle.coding.specs.Walk as W
 use Rattle.coding.specs.Field as Field
 use Rattle.coding.specs.declared.Flat.{Flat}
 use Rattle.coding.specs.declared.Object.{Object}
@@ -38,7 +39,7 @@ module _ (k : Kind) where
 
 -- ---- the list
 module _ (S : Schema) (ob : Object) (at start n d : ℕ) where
-  module _ (r : Found) (er : r ≡ Fd.Refused (Field.refusal 15 0)) where
+  module _ (r : Found) (er : r ≡ Fd.Refused (W.refusal 15 0)) where
     pub list-text : ob ≡ O.Text → r ≡ Field.listFound S ob at start n d
     unfolding Field.listFound Field.before
     list-text e = rw e er
@@ -70,19 +71,19 @@ module _ (S : Schema) (f : Found) where
   from-refused x e = rw e
 
   module _ (r : Found) where
-    pub from-absent : f ≡ Fd.Absent → r ≡ Fd.Refused (Field.refusal 15 0) → r ≡ Field.readerOf S f
+    pub from-absent : f ≡ Fd.Absent → r ≡ Fd.Refused (W.refusal 15 0) → r ≡ Field.readerOf S f
     unfolding Field.readerOf Field.before
     from-absent e q = rw e q
 
-    pub from-unknown : (x : ℕ) → f ≡ Fd.Unknown x → r ≡ Fd.Refused (Field.refusal 15 0) → r ≡ Field.readerOf S f
+    pub from-unknown : (x : ℕ) → f ≡ Fd.Unknown x → r ≡ Fd.Refused (W.refusal 15 0) → r ≡ Field.readerOf S f
     unfolding Field.readerOf Field.before
     from-unknown x e q = rw e q
 
-    pub from-value : (k : Kind) (x holder : ℕ) → f ≡ Fd.Value k x holder → r ≡ Fd.Refused (Field.refusal 15 0) → r ≡ Field.readerOf S f
+    pub from-value : (k : Kind) (x holder : ℕ) → f ≡ Fd.Value k x holder → r ≡ Fd.Refused (W.refusal 15 0) → r ≡ Field.readerOf S f
     unfolding Field.readerOf Field.before
     from-value k x holder e q = rw e q
 
-    pub from-struct : (i at holder : ℕ) → f ≡ Fd.Struct i at holder → r ≡ Fd.Refused (Field.refusal 15 0) → r ≡ Field.readerOf S f
+    pub from-struct : (i at holder : ℕ) → f ≡ Fd.Struct i at holder → r ≡ Fd.Refused (W.refusal 15 0) → r ≡ Field.readerOf S f
     unfolding Field.readerOf Field.before
     from-struct i at holder e q = rw e q
 
@@ -96,7 +97,7 @@ unfolding Field.listFound Field.before
 list-within o S m O.Text at start n d h = tt
 list-within o S m O.Bytes at start n d h = tt
 list-within o S m (O.List i) at start n d h =
-    pick-holds (FoundWithin o S m) (Field.leads (Sc.elementOf S i)) (Fd.Object (O.List i) at start n d) (Fd.Refused (Field.refusal 15 0)) (λ e. h) (λ e. tt)
+    pick-holds (FoundWithin o S m) (Field.leads (Sc.elementOf S i)) (Fd.Object (O.List i) at start n d) (Fd.Refused (W.refusal 15 0)) (λ e. h) (λ e. tt)
 list-within o S m (O.Table i) at start n d h = tt
 
 pub object-list-within : (o : ℕ) (S : Schema) (m : List ℕ) (f : Found) → FoundWithin o S m f → (ob : Object) (at start n d : ℕ) → f ≡ Fd.Object ob at start n d
@@ -110,11 +111,11 @@ reader-found o b m path f e r q = q ∙ ap (Field.readerOf (P.parse b)) e
 
 -- ---- an unlawful schema
 module _ (o : ℕ) (b dir m path : List ℕ) (t : Bool) (j : Judged b dir t) (f : t ≡ false) where
-  pub start-unlawful : Field.readerStart o b m path ≡ Fd.Refused (Field.refusal 1 0)
+  pub start-unlawful : Field.readerStart o b m path ≡ Fd.Refused (W.refusal 1 0)
   unfolding Field.readerStart Field.readerOf
   start-unlawful = ap (Field.readerOf (P.parse b)) (unlawful o b dir m path t j f)
 
-  pub gives-unlawful : (i : ℕ) → A.Refused (Field.refusal 1 0) ≡ readerGives o b m path i
+  pub gives-unlawful : (i : ℕ) → A.Refused (W.refusal 1 0) ≡ readerGives o b m path i
   unfolding readerGives listGives Field.partOf Field.answerOf
   gives-unlawful i = sym (ap (λ (g : Found). Field.answerOf (Field.partOf o (P.parse b) m g i)) start-unlawful)
 

@@ -5,6 +5,7 @@ use mathlib.Core.List.{List}
 use Prim.Native.Nat.{ℕ, _+_, _<_, _≤_}
 use native.Mathlib.Omega.{arith}
 use borrow.Author.Tests.{lt-ltb, le-ltb}
+use Rattle.coding.specs.Walk as W
 use Rattle.coding.specs.Field as Field
 use Rattle.coding.specs.declared.Object.{Object}
 use Rattle.coding.specs.declared.Kind.{Kind}
@@ -78,6 +79,6 @@ module _ (o : ℕ) (b m path : List ℕ) (j : ℕ) where
   next-found list el n en r e = e ∙ ap (λ (k : ℕ). Field.readerNext k j) (count-found o b m path list el n en)
 
 -- ---- the answer where the schema is not lawful
-pub answer-unlawful : (o : ℕ) (b dir m path : List ℕ) (t : Bool) → Judged b dir t → t ≡ false → (j : ℕ) (r : Answer) → r ≡ A.Refused (Field.refusal 1 0)
+pub answer-unlawful : (o : ℕ) (b dir m path : List ℕ) (t : Bool) → Judged b dir t → t ≡ false → (j : ℕ) (r : Answer) → r ≡ A.Refused (W.refusal 1 0)
     → r ≡ Field.readerGives o b m path j
 answer-unlawful o b dir m path t u f j r e = e ∙ gives-unlawful o b dir m path t u f j

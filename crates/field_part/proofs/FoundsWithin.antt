@@ -47,34 +47,34 @@ module _ (S : Schema) (m : List ℕ) (size : length m ≤ 16777215) where
   arrived-within (suc d) ob p s =
       opened-within ob (W.placed p) d (W.openObject u48 S m ob p) s (λ start n e. opened-fits S m ob p (W.openObject u48 S m ob p) start n refl e)
 
-  chosen-within : (d holder : ℕ) (ob : Object) (p : Place) → ObjectSound S ob → FoundWithin u48 S m (Field.chosen d u48 S m holder ob p)
-  unfolding Field.chosen
-  chosen-within d holder ob (ByOffset x) s =
-      pick-holds (FoundWithin u48 S m) (eqb x 0) (Fd.Refused (Field.refusal 9 holder)) (Field.arrived d u48 S m ob (ByOffset x)) (λ e. tt)
+  chosen-within : (d holder j : ℕ) (ob : Object) (p : Place) → ObjectSound S ob → FoundWithin u48 S m (Field.chosen d u48 S m holder j ob p)
+  unfolding Field.chosen Field.partRefused
+  chosen-within d holder j ob (ByOffset x) s =
+      pick-holds (FoundWithin u48 S m) (eqb x 0) (Fd.Refused (W.refusal 9 holder)) (Field.arrived d u48 S m ob (ByOffset x)) (λ e. tt)
       (λ e. arrived-within d ob (ByOffset x) s)
-  chosen-within d holder ob (InPlace a n) s = arrived-within d ob (InPlace a n) s
+  chosen-within d holder j ob (InPlace a n) s = arrived-within d ob (InPlace a n) s
 
-  stepped-within : (d holder : ℕ) (k : Kind) → KindSound S k → (step : Step) → StepWithin S m step
-      → FoundWithin u48 S m (Field.stepped d u48 S m holder k step)
-  unfolding Field.stepped
-  stepped-within d holder k s (St.Refused n) h = tt
-  stepped-within d holder k s St.Absent h = tt
-  stepped-within d holder k s (St.Value x) h = s
-  stepped-within d holder k s (St.Unknown x) h = tt
-  stepped-within d holder k s (St.Struct i at) h = h
-  stepped-within d holder k s (St.Object ob p) h = arrived-within d ob p (h .0)
-  stepped-within d holder k s (St.Choice c ob p) h = chosen-within d holder ob p (h .0)
+  stepped-within : (d holder j : ℕ) (k : Kind) → KindSound S k → (step : Step) → StepWithin S m step
+      → FoundWithin u48 S m (Field.stepped d u48 S m holder j k step)
+  unfolding Field.stepped Field.partRefused
+  stepped-within d holder j k s (St.Refused n) h = tt
+  stepped-within d holder j k s St.Absent h = tt
+  stepped-within d holder j k s (St.Value x) h = s
+  stepped-within d holder j k s (St.Unknown x) h = tt
+  stepped-within d holder j k s (St.Struct i at) h = h
+  stepped-within d holder j k s (St.Object ob p) h = arrived-within d ob p (h .0)
+  stepped-within d holder j k s (St.Choice c ob p) h = chosen-within d holder j ob p (h .0)
 
 module _ (S : Schema) (sound : Sound S) (m : List ℕ) (readable : Readable m) where
   struct-within : (i at holder j : ℕ) → i < length (S .structs) → at + structSize S i ≤ length m → FoundWithin u48 S m (Field.structPart u48 S m i at holder j)
   unfolding Field.structPart Field.noPart
   struct-within i at holder j l h =
       pick-holds (FoundWithin u48 S m) (ltb j (length (Sc.structOf S i)))
-      (Field.stepped 0 u48 S m holder (OfFlat (Sc.fieldOf S i j))
+      (Field.stepped 0 u48 S m holder j (OfFlat (Sc.fieldOf S i j))
       (T.fieldStep m (Sc.fieldOf S i j) (at + total (structSize S) (take j (Sc.structOf S i)))))
-      (Fd.Refused (Field.refusal 15 holder))
+      (Fd.Refused (W.refusal 15 holder))
       (λ e. let g = ltb-true j (length (Sc.structOf S i)) e in
-      stepped-within S m (readable .size) 0 holder (OfFlat (Sc.fieldOf S i j)) (field-sound S sound m readable i j l g) _ (field-within S sound m readable i at j l h g))
+      stepped-within S m (readable .size) 0 holder j (OfFlat (Sc.fieldOf S i j)) (field-sound S sound m readable i j l g) _ (field-within S sound m readable i at j l h g))
       (λ e. tt)
 
   list-within : (i at start n d j : ℕ) → start + T.elementsSize u48 S (Sc.elementOf S i) n ≤ length m
@@ -82,9 +82,9 @@ module _ (S : Schema) (sound : Sound S) (m : List ℕ) (readable : Readable m) w
   unfolding Field.objectPart Field.noPart
   list-within i at start n d j h =
       pick-holds (FoundWithin u48 S m) (ltb j n)
-      (Field.stepped d u48 S m at (Sc.elementOf S i) (T.elementStep u48 S m (Sc.elementOf S i) start j))
-      (Fd.Refused (Field.refusal 15 at))
-      (λ e. stepped-within S m (readable .size) d at (Sc.elementOf S i) (sound .lists i .kind) _
+      (Field.stepped d u48 S m at j (Sc.elementOf S i) (T.elementStep u48 S m (Sc.elementOf S i) start j))
+      (Fd.Refused (W.refusal 15 at))
+      (λ e. stepped-within S m (readable .size) d at j (Sc.elementOf S i) (sound .lists i .kind) _
       (element-within S sound m readable (Sc.elementOf S i) (sound .lists i .kind) start n j h (ltb-true j n e)))
       (λ e. tt)
 
@@ -96,11 +96,11 @@ module _ (S : Schema) (sound : Sound S) (m : List ℕ) (readable : Readable m) w
   object-within (O.List i) at start n d j s h = list-within i at start n d j h
   object-within (O.Table i) at start n d j s h =
       pick-holds (FoundWithin u48 S m) (ltb j (length (Sc.tableOf S i .members)))
-      (Field.stepped d u48 S m at (Sc.memberOf S i j .kind)
+      (Field.stepped d u48 S m at j (Sc.memberOf S i j .kind)
       (T.memberStep u48 S m start n (L.afterMembers u48 S (take j (Sc.tableOf S i .members)) L.begin) (Sc.memberOf S i j)))
-      (Fd.Refused (Field.refusal 15 at))
+      (Fd.Refused (W.refusal 15 at))
       (λ e. let g = member-sound-at S sound i j (ltb-true j (length (Sc.tableOf S i .members)) e) in
-      stepped-within S m (readable .size) d at (Sc.memberOf S i j .kind) (g .kind) _
+      stepped-within S m (readable .size) d at j (Sc.memberOf S i j .kind) (g .kind) _
       (member-within S sound m readable (Sc.memberOf S i j) g start n (L.afterMembers u48 S (take j (Sc.tableOf S i .members)) L.begin) h))
       (λ e. tt)
 

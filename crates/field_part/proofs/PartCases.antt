@@ -112,13 +112,13 @@ field-at-within b dir m a r s at j l h g k ek size ez step e =
     (field-within (P.parse b) (accepted-sound b dir a) m r s at j (omega (arith, structs-length b)) h g)
 
 module _ (o : ℕ) (S : Schema) (m : List ℕ) (s at holder j n : ℕ) (en : n ≡ length (Sc.structOf S s)) (r : Found) where
-  pub struct-none : n ≤ j → r ≡ Fd.Refused (Field.refusal 15 holder) → r ≡ Field.structPart o S m s at holder j
+  pub struct-none : n ≤ j → r ≡ Fd.Refused (W.refusal 15 holder) → r ≡ Field.structPart o S m s at holder j
   unfolding Field.structPart Field.noPart
   struct-none h e = simp (← en, le-ltb _ _ h) e
 
   pub struct-there : j < n → (k : Flat) → k ≡ Sc.fieldOf S s j → (step : Step)
       → step ≡ T.fieldStep m k (at + total (structSize S) (take j (Sc.structOf S s)))
-      → r ≡ Field.stepped 0 o S m holder (OfFlat k) step → r ≡ Field.structPart o S m s at holder j
+      → r ≡ Field.stepped 0 o S m holder j (OfFlat k) step → r ≡ Field.structPart o S m s at holder j
   unfolding Field.structPart
   struct-there h k ek step et e = simp (← en, lt-ltb _ _ h, ← ek, ← et) e
 
@@ -175,24 +175,24 @@ pub cursor-low : (c : Cursor) (j : ℕ) → Laid (4097 * j) c → j < 256 → c 
 cursor-low c j l h = omega (arith, l .end)
 
 module _ (o : ℕ) (S : Schema) (m : List ℕ) (t at start n d j count : ℕ) (ec : count ≡ length (Sc.tableOf S t .members)) (r : Found) where
-  pub table-none : count ≤ j → r ≡ Fd.Refused (Field.refusal 15 at) → r ≡ Field.objectPart o S m (O.Table t) at start n d j
+  pub table-none : count ≤ j → r ≡ Fd.Refused (W.refusal 15 at) → r ≡ Field.objectPart o S m (O.Table t) at start n d j
   unfolding Field.objectPart Field.noPart
   table-none h e = simp (← ec, le-ltb _ _ h) e
 
   pub table-there : j < count → (x : Member) → x ≡ Sc.memberOf S t j → (step : Step)
       → step ≡ T.memberStep o S m start n (L.afterMembers o S (take j (Sc.tableOf S t .members)) L.begin) x
-      → r ≡ Field.stepped d o S m at (x .kind) step → r ≡ Field.objectPart o S m (O.Table t) at start n d j
+      → r ≡ Field.stepped d o S m at j (x .kind) step → r ≡ Field.objectPart o S m (O.Table t) at start n d j
   unfolding Field.objectPart
   table-there h x ex step es e = simp (← ec, lt-ltb _ _ h, ← ex, ← es) e
 
 -- ---- a list's element
 module _ (o : ℕ) (S : Schema) (m : List ℕ) (i at start n d j : ℕ) (r : Found) where
-  pub list-none : n ≤ j → r ≡ Fd.Refused (Field.refusal 15 at) → r ≡ Field.objectPart o S m (O.List i) at start n d j
+  pub list-none : n ≤ j → r ≡ Fd.Refused (W.refusal 15 at) → r ≡ Field.objectPart o S m (O.List i) at start n d j
   unfolding Field.objectPart Field.noPart
   list-none h e = simp (le-ltb _ _ h) e
 
   pub list-there : j < n → (k : Kind) → k ≡ Sc.elementOf S i → (step : Step) → step ≡ T.elementStep o S m k start j
-      → r ≡ Field.stepped d o S m at k step → r ≡ Field.objectPart o S m (O.List i) at start n d j
+      → r ≡ Field.stepped d o S m at j k step → r ≡ Field.objectPart o S m (O.List i) at start n d j
   unfolding Field.objectPart
   list-there h k ek step es e = simp (lt-ltb _ _ h, ← ek, ← es) e
 
@@ -205,11 +205,11 @@ element-step-within b dir m a r i start n j h l k ek step e =
 
 -- ---- an object's part
 module _ (o : ℕ) (S : Schema) (m : List ℕ) (ob : Object) (at start n d j : ℕ) (r : Found) where
-  pub part-text : ob ≡ O.Text → r ≡ Fd.Refused (Field.refusal 15 at) → r ≡ Field.objectPart o S m ob at start n d j
+  pub part-text : ob ≡ O.Text → r ≡ Fd.Refused (W.refusal 15 at) → r ≡ Field.objectPart o S m ob at start n d j
   unfolding Field.objectPart Field.noPart
   part-text e f = rw e f
 
-  pub part-bytes : ob ≡ O.Bytes → r ≡ Fd.Refused (Field.refusal 15 at) → r ≡ Field.objectPart o S m ob at start n d j
+  pub part-bytes : ob ≡ O.Bytes → r ≡ Fd.Refused (W.refusal 15 at) → r ≡ Field.objectPart o S m ob at start n d j
   unfolding Field.objectPart Field.noPart
   part-bytes e f = rw e f
 
@@ -236,7 +236,7 @@ module _ (o : ℕ) (S : Schema) (m : List ℕ) (f : Found) (j : ℕ) where
   of-unknown x e = rw e
 
   module _ (r : Found) where
-    pub of-value : (k : Kind) (x holder : ℕ) → f ≡ Fd.Value k x holder → r ≡ Fd.Refused (Field.refusal 15 holder) → r ≡ Field.partOf o S m f j
+    pub of-value : (k : Kind) (x holder : ℕ) → f ≡ Fd.Value k x holder → r ≡ Fd.Refused (W.refusal 15 holder) → r ≡ Field.partOf o S m f j
     unfolding Field.partOf Field.noPart
     of-value k x holder e q = rw e q
 

@@ -47,12 +47,12 @@ root-found o S m path ob p eo ep f ef r e =
 
 -- ---- what comes first
 module _ (o : ℕ) (b dir m path : List ℕ) (a : Accepted b dir) (r : Found) where
-  pub found-far : 96 < length path → r ≡ Fd.Refused (Field.refusal 15 0) → r ≡ Field.fieldFound o b m path
+  pub found-far : 96 < length path → r ≡ Fd.Refused (W.refusal 15 0) → r ≡ Field.fieldFound o b m path
   unfolding Field.fieldFound Field.before
   found-far h e = simp (a .lawful, lt-leb _ _ h) e
 
   module _ (h : length path ≤ 96) (s : Bool) (es : s ≡ W.sizeOk o m) where
-    pub found-size : s ≡ false → r ≡ Fd.Refused (Field.refusal 2 0) → r ≡ Field.fieldFound o b m path
+    pub found-size : s ≡ false → r ≡ Fd.Refused (W.refusal 2 0) → r ≡ Field.fieldFound o b m path
     unfolding Field.fieldFound Field.before
     found-size f e = simp (a .lawful, le-leb _ _ h, ← es, f) e
 
@@ -61,14 +61,14 @@ module _ (o : ℕ) (b dir m path : List ℕ) (a : Accepted b dir) (r : Found) wh
       unfolding Field.fieldFound
       found-there f e = simp (a .lawful, le-leb _ _ h, ← es, g, ← et, f) e
 
-      pub found-other : t ≡ false → r ≡ Fd.Refused (Field.refusal 3 0) → r ≡ Field.fieldFound o b m path
+      pub found-other : t ≡ false → r ≡ Fd.Refused (W.refusal 3 0) → r ≡ Field.fieldFound o b m path
       unfolding Field.fieldFound Field.before
       found-other f e = simp (a .lawful, le-leb _ _ h, ← es, g, ← et, f) e
 
 -- a message of a right size has its start, and is within the size
 module _ (m : List ℕ) (s : Bool) (es : s ≡ W.sizeOk u48 m) (g : s ≡ true) where
   both : (10 ≤ length m) × (length m ≤ 16777215)
-  unfolding W.sizeOk W.headerSize u48 largest
+  unfolding W.sizeOk W.startSize u48 largest
   both =
       let e : (leb 10 (length m) && leb (length m) 16777215) ≡ true = sym es ∙ g in
       (leb-true _ _ (both-left (leb 10 (length m)) (leb (length m) 16777215) e), leb-true _ _ (both-right (leb 10 (length m)) (leb (length m) 16777215) e))
@@ -79,14 +79,14 @@ module _ (m : List ℕ) (s : Bool) (es : s ≡ W.sizeOk u48 m) (g : s ≡ true) 
   pub size-most : length m ≤ 16777215
   size-most = both .1
 
-pub refused-within : (o : ℕ) (S : Schema) (m : List ℕ) (n at : ℕ) (r : Found) → r ≡ Fd.Refused (Field.refusal n at) → FoundWithin o S m r
+pub refused-within : (o : ℕ) (S : Schema) (m : List ℕ) (n at : ℕ) (r : Found) → r ≡ Fd.Refused (W.refusal n at) → FoundWithin o S m r
 refused-within o S m n at r e = rw e tt
 
 -- ---- the schema
-pub unlawful : (o : ℕ) (b dir m path : List ℕ) (t : Bool) → Judged b dir t → t ≡ false → Field.fieldFound o b m path ≡ Fd.Refused (Field.refusal 1 0)
+pub unlawful : (o : ℕ) (b dir m path : List ℕ) (t : Bool) → Judged b dir t → t ≡ false → Field.fieldFound o b m path ≡ Fd.Refused (W.refusal 1 0)
 unfolding Field.fieldFound Field.before
 unlawful o b dir m path t j f = simp (← (j .is), f)
 
-pub found-unlawful : (o : ℕ) (b dir m path : List ℕ) (t : Bool) → Judged b dir t → t ≡ false → (r : Found) → r ≡ Fd.Refused (Field.refusal 1 0)
+pub found-unlawful : (o : ℕ) (b dir m path : List ℕ) (t : Bool) → Judged b dir t → t ≡ false → (r : Found) → r ≡ Fd.Refused (W.refusal 1 0)
     → r ≡ Field.fieldFound o b m path
 found-unlawful o b dir m path t j f r e = e ∙ sym (unlawful o b dir m path t j f)

@@ -34,8 +34,8 @@ fn from_root(b: &[u8], dir: &[u16], m: &[u8], path: &[u32]) -> Found
     requires { ⌜ (Accepted (now b) (now dir)) × (Readable (now m)) × (10 ≤ length (now m)) ⌝ }
     ensures { λ r. ⌜ (r ≡ F.found B.u48 (P.parse (now (b .entry))) (now (m .entry)) (now (path .entry))) × FoundIn B.u48 (now (b .entry)) (now (m .entry)) r ⌝ }
 {
-    let ob = message_object::root_object(b, dir);
-    let p = message_object::root_place(m);
+    let ob = message_start::root_object(b, dir);
+    let p = message_start::root_place(m);
     let f = field_arrival::arrive(b, dir, m, DEEPEST, ob, p);
     along(b, dir, m, f, path)
 }
@@ -48,8 +48,8 @@ pub fn found_by(b: &[u8], dir: &[u16], m: &[u8], path: &[u32]) -> Found
     if LONGEST_PATH < path.len() {
         return field_arrival::refuse(15, 0);
     }
-    if message_object::size_ok(m) {
-        if message_object::start_ok(m) {
+    if message_start::size_ok(m) {
+        if message_start::start_ok(m) {
             return from_root(b, dir, m, path);
         }
         return field_arrival::refuse(3, 0);

@@ -47,8 +47,8 @@ fn walk_from_root(b: &[u8], dir: &[u16], m: &[u8], budget: Budget) -> Outcome
     requires { ⌜ (Accepted (now b) (now dir)) × (length (now m) ≤ 16777215) × (10 ≤ length (now m)) ⌝ }
     ensures { λ r. ⌜ As.walkedOf r ≡ W.walk B.u48 (P.parse (now (b .entry))) (now (m .entry)) budget ⌝ }
 {
-    let ob = message_object::root_object(b, dir);
-    let p = message_object::root_place(m);
+    let ob = message_start::root_object(b, dir);
+    let p = message_start::root_place(m);
     judge_walk::visit(b, dir, m, budget, 32, ob, p, Spent { visits: 0 })
 }
 
@@ -63,7 +63,7 @@ pub fn judged(b: &[u8], dir: &[u16], m: &[u8], budget: Budget) -> Verdict
     if 16777215 < m.len() {
         return early(2);
     }
-    if message_object::start_ok(m) {
+    if message_start::start_ok(m) {
         return verdict_of(walk_from_root(b, dir, m, budget));
     }
     early(3)

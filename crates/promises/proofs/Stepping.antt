@@ -11,6 +11,7 @@ use Rattle.coding.specs.Lists.{pick}
 use Rattle.coding.specs.Bytes.{u48}
 use Rattle.coding.specs.Schema.{Schema, elementOf}
 use Rattle.coding.specs.Packed.{parse}
+use Rattle.coding.specs.Walk as W
 use Rattle.coding.specs.Field as Field
 use Rattle.coding.specs.declared.Object.the-variants as O
 use Rattle.coding.specs.declared.Found.{Found}
@@ -30,7 +31,7 @@ NoList S f =
     (i at start n left : ℕ) → f ≡ Fd.Object (O.List i) at start n left → Field.leads (elementOf S i) ≡ true → ⊥
 
 other-start : (S : Schema) (f : Found) → ((r : Refusal) → Field.answerOf f ≡ A.Refused r → ⊥) → NoList S f
-    → Field.readerOf S f ≡ Fd.Refused (Field.refusal 15 0)
+    → Field.readerOf S f ≡ Fd.Refused (W.refusal 15 0)
 unfolding Field.readerOf Field.listFound Field.before Field.answerOf
 other-start S (Fd.Refused r) free none = absurd (free r refl)
 other-start S Fd.Absent free none = refl
@@ -43,7 +44,7 @@ other-start S (Fd.Object (O.Table i) at start n d) free none = refl
 other-start S (Fd.Object (O.List i) at start n d) free none = by (Field.leads (elementOf S i)) refl
   where
     by : (t : Bool) → Field.leads (elementOf S i) ≡ t
-        → pick t (Fd.Object (O.List i) at start n d) (Fd.Refused (Field.refusal 15 0)) ≡ Fd.Refused (Field.refusal 15 0)
+        → pick t (Fd.Object (O.List i) at start n d) (Fd.Refused (W.refusal 15 0)) ≡ Fd.Refused (W.refusal 15 0)
     by true e = absurd (none i at start n d refl e)
     by false e = refl
 
@@ -54,7 +55,7 @@ module _ (b m path : List ℕ) where
   starts i at start n left e k = rw (e, k)
 
   other : ((r : Refusal) → Field.field u48 b m path ≡ A.Refused r → ⊥) → NoList (parse b) (Field.fieldFound u48 b m path)
-      → Field.readerStart u48 b m path ≡ Fd.Refused (Field.refusal 15 0)
+      → Field.readerStart u48 b m path ≡ Fd.Refused (W.refusal 15 0)
   unfolding Field.readerStart Field.field
   other free none = other-start (parse b) (Field.fieldFound u48 b m path) free none
 
@@ -70,7 +71,7 @@ module _ (b m path : List ℕ) (j : ℕ) (q : Answer) (eq : q ≡ Field.readerGi
       ∙ sym er
 
   pub steps-end : (i at start n left : ℕ) → Field.fieldFound u48 b m path ≡ Fd.Object (O.List i) at start n left
-      → Field.leads (elementOf (parse b) i) ≡ true → n ≤ j → q ≡ A.Refused (Field.refusal 15 at)
+      → Field.leads (elementOf (parse b) i) ≡ true → n ≤ j → q ≡ A.Refused (W.refusal 15 at)
   steps-end i at start n left has k l =
       eq ∙ gives-end u48 b m path i at start n left (starts b m path i at start n left has k) j l
 
@@ -112,7 +113,7 @@ module _ (b m path : List ℕ) (j : ℕ) (s : ListStep) (ea : s .answer ≡ Fiel
       (steps-same b m path j (s .answer) ea element r er i at start n left has k, next-moves b m path j (s .next) en i at start n left has k)
 
   pub step-end : (i at start n left : ℕ) → Field.fieldFound u48 b m path ≡ Fd.Object (O.List i) at start n left
-      → Field.leads (elementOf (parse b) i) ≡ true → n ≤ j → s ≡ record { answer = A.Refused (Field.refusal 15 at); next = j }
+      → Field.leads (elementOf (parse b) i) ≡ true → n ≤ j → s ≡ record { answer = A.Refused (W.refusal 15 at); next = j }
   step-end i at start n left has k l =
       both _ _ (steps-end b m path j (s .answer) ea i at start n left has k l) (next-stays b m path j (s .next) en i at start n left has k l)
 
@@ -123,8 +124,8 @@ module _ (b m path : List ℕ) (j : ℕ) (s : ListStep) (ea : s .answer ≡ Fiel
   step-own r e = refused r (refused-path u48 b m path r e)
 
   pub step-other : ((r : Refusal) → Field.field u48 b m path ≡ A.Refused r → ⊥) → NoList (parse b) (Field.fieldFound u48 b m path)
-      → s ≡ record { answer = A.Refused (Field.refusal 15 0); next = j }
-  step-other free none = refused (Field.refusal 15 0) (other b m path free none)
+      → s ≡ record { answer = A.Refused (W.refusal 15 0); next = j }
+  step-other free none = refused (W.refusal 15 0) (other b m path free none)
 
 -- ---- a step of the reader
 module _ (r : ListReader) (q : Answer) (eq : q ≡ gives u48 r) (r′ : ListReader) (er : r′ ≡ after u48 r) where
@@ -178,5 +179,5 @@ module _ (b m path : List ℕ) (from : ℕ) (out out′ : List ℕ) (r : ℕ) (e
   all-own q e = all-refused q (refused-path u48 b m path q e)
 
   pub all-other : ((q : Refusal) → Field.field u48 b m path ≡ A.Refused q → ⊥) → NoList (parse b) (Field.fieldFound u48 b m path)
-      → (r ≡ 0) × ((k : ℕ) → k < length out / 4 → Has k (A.Refused (Field.refusal 15 0)))
-  all-other free none = all-refused (Field.refusal 15 0) (other b m path free none)
+      → (r ≡ 0) × ((k : ℕ) → k < length out / 4 → Has k (A.Refused (W.refusal 15 0)))
+  all-other free none = all-refused (W.refusal 15 0) (other b m path free none)

@@ -7,7 +7,8 @@ use denote.Ref.{now}
 use Rattle.coding.specs.Bytes.{u48}
 use Rattle.coding.specs.Schema.{elementOf}
 use Rattle.coding.specs.Packed.{parse}
-use Rattle.coding.specs.Field.{field, fieldFound, leads, refusal}
+use Rattle.coding.specs.Walk.{refusal}
+use Rattle.coding.specs.Field.{field, fieldFound, leads}
 use Rattle.coding.specs.declared.Object.the-variants as O
 use Rattle.coding.specs.declared.Found.the-variants as Fd
 use Rattle.coding.specs.declared.Answer.{Answer}

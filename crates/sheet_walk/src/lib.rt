@@ -826,7 +826,7 @@ pub fn put_root(b: &[u8], dir: &[u16], m: &[u8], out: &mut [u8]) -> usize
     requires { ⌜ (Accepted (now b) (now dir)) × (D.MessageReadable (P.parse (now b)) (now m)) ⌝ }
     ensures { λ r. ⌜ Puts (now (out .entry)) 0 (Bt.rootAt (P.parse (now (b .entry))) (now (m .entry))) (now (out .exit)) r ⌝ }
 {
-    let ob = message_object::root_object(b, dir);
-    let p = message_object::root_place(m);
+    let ob = message_start::root_object(b, dir);
+    let p = message_start::root_place(m);
     put_object(b, dir, m, out, 32, ob, p, 0)
 }

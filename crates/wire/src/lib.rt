@@ -11,6 +11,9 @@ ghost use Rattle.wire.specs.Numbers.{Number};
 // The bytes of an offset, and of a length.
 pub const OFFSET: usize = 6;
 
+// The bytes of a magic.
+pub const MAGIC: usize = 4;
+
 // The bytes of a union: a choice of two bytes and an offset.
 pub const UNION: usize = 8;
 

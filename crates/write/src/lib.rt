@@ -70,7 +70,7 @@ fn write_judged(b: &[u8], dir: &[u16], s: &[u8], out: &mut [u8]) -> WriteAnswer
     if 16777215 < s.len() {
         return refused(11);
     }
-    let ob = message_object::root_object(b, dir);
+    let ob = message_start::root_object(b, dir);
     let x = write_measure::object(b, dir, s, 32, ob, 0);
     if !x.whole {
         return refused(11);

@@ -1303,7 +1303,7 @@ pub fn emit_message(b: &[u8], dir: &[u16], s: &[u8], e: Extent, out: &mut [u8]) 
         tail: 10,
         next: 10,
     };
-    let ob = message_object::root_object(b, dir);
+    let ob = message_start::root_object(b, dir);
     let p = write_store::put_number(out, start, 4, 0xB5C0_C4B3);
     emit_measured(b, dir, s, out, 32, ob, false, e, p, 0)
 }

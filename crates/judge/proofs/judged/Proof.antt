@@ -5,7 +5,7 @@ use Rattle.judge.proofs.judged.Tie as tie
 use Rattle.judge.proofs.judged.Reads as reads
 use Rattle.judge.proofs.judged.Lts as lts
 use Rattle.judge.proofs.early.Reads as early-reads
-use Rattle.message_object.proofs.start_ok.Reads as start-ok-reads
+use Rattle.message_start.proofs.start_ok.Reads as start-ok-reads
 use Rattle.judge.proofs.verdict_of.Reads as verdict-of-reads
 use Rattle.judge.proofs.walk_from_root.Reads as walk-from-root-reads
 

@@ -10,11 +10,8 @@ is-bool-requires c κs = search needs
 after-bit-requires : tie.Need-after-bit-requires
 after-bit-requires c κs = search needs
 
-bit-byte-requires : tie.Need-bit-byte-requires
-bit-byte-requires c κs = search needs
-
-bit-index-requires : tie.Need-bit-index-requires
-bit-index-requires c κs = search needs
+bit-slot-requires : tie.Need-bit-slot-requires
+bit-slot-requires c κs = search needs
 
 returns : tie.Need-returns
 returns c = search bool-stands
@@ -34,8 +31,7 @@ place-value-spec =
     (tie.spec
     is-bool-requires
     after-bit-requires
-    bit-byte-requires
-    bit-index-requires
+    bit-slot-requires
     returns
     width-requires
     after-bytes-requires
