@@ -1,17 +1,11 @@
 -- A step of the list reader: how many elements its list has, and where it stands after the step.
-use mathlib.Core.Path.{_≡_, refl, sym, ap, _∙_}
-use mathlib.Core.Bool.{Bool, true, false, and-false}
+use mathlib.Core.Path.{_≡_, sym, ap, _∙_}
+use mathlib.Core.Bool.{Bool, false}
 use mathlib.Core.List.{List}
 use Prim.Native.Nat.{ℕ, _+_, _<_, _≤_}
 use native.Mathlib.Omega.{arith}
-use borrow.Author.Tests.{lt-leb, lt-ltb, le-ltb}
-use lib.ListN.{length}
-use lib.Dec.{leb}
-use Rattle.coding.specs.Lists.{pick}
-use Rattle.coding.specs.Bytes.{u48, largest}
-use Rattle.coding.specs.Lawful.{lawful}
+use borrow.Author.Tests.{lt-ltb, le-ltb}
 use Rattle.coding.specs.Walk as W
-use Rattle.coding.specs.Packed as P
 use Rattle.coding.specs.Field as Field
 use Rattle.coding.specs.declared.Object.{Object}
 use Rattle.coding.specs.declared.Kind.{Kind}
@@ -50,23 +44,13 @@ module _ (f : Found) where
   count-object ob at start n d e = rw e
 
 -- of an unlawful schema
-pub count-unlawful : (b dir m path : List ℕ) (t : Bool) → Judged b dir t → t ≡ false → 0 ≡ Field.readerCount u48 b m path
+pub count-unlawful : (o : ℕ) (b dir m path : List ℕ) (t : Bool) → Judged b dir t → t ≡ false → 0 ≡ Field.readerCount o b m path
 unfolding Field.readerCount Field.listCount
-count-unlawful b dir m path t j f = sym (ap Field.listCount (start-unlawful b dir m path t j f))
-
--- a message over the size has no list
-pub count-long : (b m path : List ℕ) → 16777215 < length m → 0 ≡ Field.readerCount u48 b m path
-unfolding Field.readerCount Field.readerStart Field.fieldFound Field.readerOf Field.before Field.listCount W.sizeOk largest
-count-long b m path h = simp (lt-leb _ _ h, and-false) (by (lawful u48 b) (leb (length path) 96))
-  where
-    by : (s t : Bool) → 0 ≡ Field.listCount (Field.readerOf (P.parse b) (pick s (pick t (Field.before 2) (Field.before 15)) (Field.before 1)))
-    by true true = refl
-    by true false = refl
-    by false t = refl
+count-unlawful o b dir m path t j f = sym (ap Field.listCount (start-unlawful o b dir m path t j f))
 
 -- of the list that a reader has found, or of the refusal that it gives
-module _ (b m path : List ℕ) (list : Found) (el : list ≡ Field.readerStart u48 b m path) where
-  pub count-found : (r : ℕ) → r ≡ Field.listCount list → r ≡ Field.readerCount u48 b m path
+module _ (o : ℕ) (b m path : List ℕ) (list : Found) (el : list ≡ Field.readerStart o b m path) where
+  pub count-found : (r : ℕ) → r ≡ Field.listCount list → r ≡ Field.readerCount o b m path
   unfolding Field.readerCount
   count-found r e = e ∙ ap Field.listCount el
 
@@ -83,21 +67,18 @@ next-stays n j h = simp (le-ltb _ _ h)
 pub next-none : (j : ℕ) → j ≡ Field.readerNext 0 j
 next-none j = next-stays 0 j (omega arith)
 
-module _ (b m path : List ℕ) (j : ℕ) where
-  next-empty : 0 ≡ Field.readerCount u48 b m path → j ≡ Field.readerNext (Field.readerCount u48 b m path) j
+module _ (o : ℕ) (b m path : List ℕ) (j : ℕ) where
+  next-empty : 0 ≡ Field.readerCount o b m path → j ≡ Field.readerNext (Field.readerCount o b m path) j
   next-empty e = next-none j ∙ ap (λ (n : ℕ). Field.readerNext n j) e
 
-  pub next-unlawful : (dir : List ℕ) (t : Bool) → Judged b dir t → t ≡ false → j ≡ Field.readerNext (Field.readerCount u48 b m path) j
-  next-unlawful dir t u f = next-empty (count-unlawful b dir m path t u f)
+  pub next-unlawful : (dir : List ℕ) (t : Bool) → Judged b dir t → t ≡ false → j ≡ Field.readerNext (Field.readerCount o b m path) j
+  next-unlawful dir t u f = next-empty (count-unlawful o b dir m path t u f)
 
-  pub next-long : 16777215 < length m → j ≡ Field.readerNext (Field.readerCount u48 b m path) j
-  next-long h = next-empty (count-long b m path h)
-
-  pub next-found : (list : Found) → list ≡ Field.readerStart u48 b m path → (n : ℕ) → n ≡ Field.listCount list → (r : ℕ) → r ≡ Field.readerNext n j
-      → r ≡ Field.readerNext (Field.readerCount u48 b m path) j
-  next-found list el n en r e = e ∙ ap (λ (k : ℕ). Field.readerNext k j) (count-found b m path list el n en)
+  pub next-found : (list : Found) → list ≡ Field.readerStart o b m path → (n : ℕ) → n ≡ Field.listCount list → (r : ℕ) → r ≡ Field.readerNext n j
+      → r ≡ Field.readerNext (Field.readerCount o b m path) j
+  next-found list el n en r e = e ∙ ap (λ (k : ℕ). Field.readerNext k j) (count-found o b m path list el n en)
 
 -- ---- the answer where the schema is not lawful
-pub answer-unlawful : (b dir m path : List ℕ) (t : Bool) → Judged b dir t → t ≡ false → (j : ℕ) (r : Answer) → r ≡ A.Refused (Field.refusal 1 0)
-    → r ≡ Field.readerGives u48 b m path j
-answer-unlawful b dir m path t u f j r e = e ∙ gives-unlawful b dir m path t u f j
+pub answer-unlawful : (o : ℕ) (b dir m path : List ℕ) (t : Bool) → Judged b dir t → t ≡ false → (j : ℕ) (r : Answer) → r ≡ A.Refused (W.refusal 1 0)
+    → r ≡ Field.readerGives o b m path j
+answer-unlawful o b dir m path t u f j r e = e ∙ gives-unlawful o b dir m path t u f j

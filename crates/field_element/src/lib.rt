@@ -5,7 +5,7 @@ use coding::Kind;
 use coding::Object;
 use coding::Opened;
 use coding::Place;
-use coding::Refusal;
+use field_arrival::Content;
 ghost use mathlib.Core.Path.{_≡_};
 ghost use Prim.Native.Nat.{_+_, _<_, _≤_, _^_};
 ghost use lib.ListN.{length};
@@ -17,7 +17,8 @@ ghost use Rattle.coding.specs.Step as T;
 ghost use Rattle.coding.specs.Walk as W;
 ghost use Rattle.laws.specs.Sound.{ObjectSound};
 ghost use Rattle.schema.specs.Directory.{Accepted};
-ghost use Rattle.field_arrival.specs.Within.{Readable, FoundWithin};
+ghost use Rattle.field_arrival.specs.Within.{Readable, FoundIn};
+ghost use Rattle.field_arrival.specs.Parts.{arrivedBy, objectPartBy};
 ghost use Rattle.field_element.specs.Listed.{Listed, Reads, offsetGives};
 
 // ---- the list
@@ -32,16 +33,17 @@ fn leads(k: Kind) -> bool
     }
 }
 
-fn list_of(b: &[u8], dir: &[u16], ob: Object, at: usize, start: usize, n: usize, d: usize) -> Found
+// The object, if it is a list whose elements lead to objects; otherwise the refusal 15 at 0.
+fn list_of(b: &[u8], dir: &[u16], ob: Object, c: Content) -> Found
     requires { ⌜ (Accepted (now b) (now dir)) × ObjectSound (P.parse (now b)) ob ⌝ }
-    ensures { λ r. ⌜ r ≡ F.listFound (P.parse (now (b .entry))) ob at start n d ⌝ }
+    ensures { λ r. ⌜ r ≡ F.listFound (P.parse (now (b .entry))) ob (c .place) (c .start) (c .length) (c .left) ⌝ }
 {
     match ob {
         Object::Text => field_arrival::refuse(15, 0),
         Object::Bytes => field_arrival::refuse(15, 0),
         Object::List(i) => {
             if leads(schema::element(b, dir, wire::index(i))) {
-                return Found::Object(Object::List(i), at, start, n, d);
+                return Found::Object(Object::List(i), c.place, c.start, c.length, c.left);
             }
             field_arrival::refuse(15, 0)
         }
@@ -49,9 +51,10 @@ fn list_of(b: &[u8], dir: &[u16], ob: Object, at: usize, start: usize, n: usize,
     }
 }
 
+// What a reader starts from, by what its path comes to.
 fn reader_of(b: &[u8], dir: &[u16], m: &[u8], f: Found) -> Found
-    requires { ⌜ (Accepted (now b) (now dir)) × FoundWithin (P.parse (now b)) (now m) f ⌝ }
-    ensures { λ r. ⌜ (r ≡ F.readerOf (P.parse (now (b .entry))) f) × FoundWithin (P.parse (now (b .entry))) (now (m .entry)) r ⌝ }
+    requires { ⌜ (Accepted (now b) (now dir)) × FoundIn B.u48 (now b) (now m) f ⌝ }
+    ensures { λ r. ⌜ (r ≡ F.readerOf (P.parse (now (b .entry))) f) × FoundIn B.u48 (now (b .entry)) (now (m .entry)) r ⌝ }
 {
     match f {
         Found::Refused(x) => Found::Refused(x),
@@ -59,130 +62,97 @@ fn reader_of(b: &[u8], dir: &[u16], m: &[u8], f: Found) -> Found
         Found::Unknown(_) => field_arrival::refuse(15, 0),
         Found::Value(_, _, _) => field_arrival::refuse(15, 0),
         Found::Struct(_, _, _) => field_arrival::refuse(15, 0),
-        Found::Object(ob, at, start, n, d) => list_of(b, dir, ob, at, start, n, d),
+        Found::Object(ob, place, start, length, left) => {
+            let c = Content {
+                place,
+                start,
+                length,
+                left,
+            };
+            list_of(b, dir, ob, c)
+        }
     }
 }
 
 // The list that a reader goes over, or why there is none, by a schema that was judged before.
 pub fn reader_by(b: &[u8], dir: &[u16], m: &[u8], path: &[u32]) -> Found
     requires { ⌜ Accepted (now b) (now dir) ⌝ }
-    ensures { λ r. ⌜ (r ≡ F.readerStart B.u48 (now (b .entry)) (now (m .entry)) (now (path .entry))) × FoundWithin (P.parse (now (b .entry))) (now (m .entry)) r ⌝ }
+    ensures { λ r. ⌜ (r ≡ F.readerStart B.u48 (now (b .entry)) (now (m .entry)) (now (path .entry))) × (FoundIn B.u48 (now (b .entry)) (now (m .entry)) r) × Reads r ⌝ }
 {
     let f = field_path::found_by(b, dir, m, path);
     reader_of(b, dir, m, f)
 }
 
 // ---- the answer at an element
-// The refusal of a step.
-fn refused(n: u8, at: usize) -> Answer
-    ensures { λ r. ⌜ r ≡ Answer.Refused (F.refusal n at) ⌝ }
-{
-    let why = Refusal {
-        number: n,
-        place: at,
-    };
-    Answer::Refused(why)
-}
-
 // The answer of an arrival at an object by its offset, with d objects of depth left, this one counted.
 fn arrive_answer(b: &[u8], dir: &[u16], m: &[u8], d: usize, ob: Object, x: usize) -> Answer
     requires { ⌜ (Accepted (now b) (now dir)) × (ObjectSound (P.parse (now b)) ob) × (x < 2 ^ 48) ⌝ }
-    ensures { λ r. ⌜ r ≡ F.answerOf (F.arrived d B.u48 (P.parse (now (b .entry))) (now (m .entry)) ob (Place.ByOffset x)) ⌝ }
+    ensures { λ r. ⌜ r ≡ F.answerOf (arrivedBy B.u48 (now (b .entry)) (now (m .entry)) d ob (Place.ByOffset x)) ⌝ }
 {
     if d == 0 {
-        return refused(5, x);
+        return field::refused(5, x);
     }
     match message_object::open_object(b, dir, m, ob, Place::ByOffset(x)) {
-        Opened::Refused(e) => refused(e, x),
+        Opened::Refused(e) => field::refused(e, x),
         Opened::Content(_, n) => Answer::Object(field::record_kind(ob), x, n),
     }
 }
 
-// The answer of an element that is the offset at a place.
+// The answer of an element that is the offset at a place of the message.
 fn offset_answer(b: &[u8], dir: &[u16], m: &[u8], d: usize, ob: Object, at: usize) -> Answer
     requires { ⌜ (Accepted (now b) (now dir)) × (ObjectSound (P.parse (now b)) ob) × (Readable (now m)) × (at + 6 ≤ length (now m)) ⌝ }
     ensures { λ r. ⌜ r ≡ offsetGives d B.u48 (P.parse (now (b .entry))) (now (m .entry)) ob (B.le (now (m .entry)) at B.u48) ⌝ }
 {
-    let x = wire::u48_in(m, at) as usize;
+    let x = wire::offset_in(m, at);
     if x == 0 {
         return Answer::Absent;
     }
     arrive_answer(b, dir, m, d, ob, x)
 }
 
-// The answer of an element of any kind.
-fn part_answer(
-    b: &[u8],
-    dir: &[u16],
-    m: &[u8],
-    i: usize,
-    at: usize,
-    start: usize,
-    n: usize,
-    d: usize,
-    j: usize,
-) -> Answer
+// The answer of element j of a list, whatever its kind is.
+fn part_answer(b: &[u8], dir: &[u16], m: &[u8], i: usize, c: Content, j: usize) -> Answer
     requires { ⌜ (Accepted (now b) (now dir)) × (Readable (now m)) × (i < P.listCount (now b)) ⌝ }
-    requires { ⌜ start + T.elementsSize B.u48 (P.parse (now b)) (Sc.elementOf (P.parse (now b)) i) n ≤ length (now m) ⌝ }
-    ensures { λ r. ⌜ r ≡ F.answerOf (F.objectPart B.u48 (P.parse (now (b .entry))) (now (m .entry)) (Object.List i) at start n d j) ⌝ }
+    requires { ⌜ c .start + T.elementsSize B.u48 (P.parse (now b)) (Sc.elementOf (P.parse (now b)) i) (c .length) ≤ length (now m) ⌝ }
+    ensures { λ r. ⌜ r ≡ F.answerOf (objectPartBy B.u48 (now (b .entry)) (now (m .entry)) (Object.List i) c j) ⌝ }
 {
-    let f = field_part::list_part(b, dir, m, i, at, start, n, d, j);
+    let f = field_part::list_part(b, dir, m, i, c, j);
     field::answer_of(b, m, f)
 }
 
-// The answer of element j of a list; an offset is followed at once.
-fn element_answer(
-    b: &[u8],
-    dir: &[u16],
-    m: &[u8],
-    i: usize,
-    at: usize,
-    start: usize,
-    n: usize,
-    d: usize,
-    j: usize,
-) -> Answer
+// The answer of element j of a list of index i in the schema; an offset is followed at once.
+fn element_answer(b: &[u8], dir: &[u16], m: &[u8], i: usize, c: Content, j: usize) -> Answer
     requires { ⌜ (Accepted (now b) (now dir)) × (Readable (now m)) × (i < P.listCount (now b)) ⌝ }
-    requires { ⌜ start + T.elementsSize B.u48 (P.parse (now b)) (Sc.elementOf (P.parse (now b)) i) n ≤ length (now m) ⌝ }
-    ensures { λ r. ⌜ r ≡ F.answerOf (F.objectPart B.u48 (P.parse (now (b .entry))) (now (m .entry)) (Object.List i) at start n d j) ⌝ }
+    requires { ⌜ c .start + T.elementsSize B.u48 (P.parse (now b)) (Sc.elementOf (P.parse (now b)) i) (c .length) ≤ length (now m) ⌝ }
+    ensures { λ r. ⌜ r ≡ F.answerOf (objectPartBy B.u48 (now (b .entry)) (now (m .entry)) (Object.List i) c j) ⌝ }
 {
-    if n <= j {
-        return refused(15, at);
+    if c.length <= j {
+        return field::refused(15, c.place);
     }
     match schema::element(b, dir, i) {
-        Kind::OfFlat(_) => part_answer(b, dir, m, i, at, start, n, d, j),
-        Kind::OfObject(ob) => offset_answer(b, dir, m, d, ob, start + 6 * j),
-        Kind::OfUnion(_) => part_answer(b, dir, m, i, at, start, n, d, j),
+        Kind::OfFlat(_) => part_answer(b, dir, m, i, c, j),
+        Kind::OfObject(ob) => { offset_answer(b, dir, m, c.left, ob, c.start + wire::OFFSET * j) }
+        Kind::OfUnion(_) => part_answer(b, dir, m, i, c, j),
     }
 }
 
 // The answer of the step at element j of an object that is a list.
-fn list_answer(
-    b: &[u8],
-    dir: &[u16],
-    m: &[u8],
-    ob: Object,
-    at: usize,
-    start: usize,
-    n: usize,
-    d: usize,
-    j: usize,
-) -> Answer
+fn list_answer(b: &[u8], dir: &[u16], m: &[u8], ob: Object, c: Content, j: usize) -> Answer
     requires { ⌜ (Accepted (now b) (now dir)) × (Readable (now m)) × (ObjectSound (P.parse (now b)) ob) × (Listed ob) ⌝ }
-    requires { ⌜ start + W.contentSize B.u48 (P.parse (now b)) ob n ≤ length (now m) ⌝ }
-    ensures { λ r. ⌜ r ≡ F.answerOf (F.objectPart B.u48 (P.parse (now (b .entry))) (now (m .entry)) ob at start n d j) ⌝ }
+    requires { ⌜ c .start + W.contentSize B.u48 (P.parse (now b)) ob (c .length) ≤ length (now m) ⌝ }
+    ensures { λ r. ⌜ r ≡ F.answerOf (objectPartBy B.u48 (now (b .entry)) (now (m .entry)) ob c j) ⌝ }
 {
     match ob {
         Object::Text => Answer::Absent,
         Object::Bytes => Answer::Absent,
-        Object::List(i) => element_answer(b, dir, m, wire::index(i), at, start, n, d, j),
+        Object::List(i) => element_answer(b, dir, m, wire::index(i), c, j),
         Object::Table(_) => Answer::Absent,
     }
 }
 
-// The answer of the step at element j of the list that was found, or the refusal that stands for it.
+// The answer of the step at element j of the list that a reader goes over, or the refusal that stands for it.
 pub fn step_answer(b: &[u8], dir: &[u16], m: &[u8], list: Found, j: usize) -> Answer
-    requires { ⌜ (Accepted (now b) (now dir)) × (Readable (now m)) × (FoundWithin (P.parse (now b)) (now m) list) × (Reads list) ⌝ }
+    requires { ⌜ (Accepted (now b) (now dir)) × (FoundIn B.u48 (now b) (now m) list) × (Reads list) ⌝ }
     ensures { λ r. ⌜ r ≡ F.listGives B.u48 (P.parse (now (b .entry))) (now (m .entry)) list j ⌝ }
 {
     match list {
@@ -191,7 +161,15 @@ pub fn step_answer(b: &[u8], dir: &[u16], m: &[u8], list: Found, j: usize) -> An
         Found::Unknown(x) => Answer::Unknown(x),
         Found::Value(_, _, _) => Answer::Absent,
         Found::Struct(_, _, _) => Answer::Absent,
-        Found::Object(ob, at, start, n, d) => list_answer(b, dir, m, ob, at, start, n, d, j),
+        Found::Object(ob, place, start, length, left) => {
+            let c = Content {
+                place,
+                start,
+                length,
+                left,
+            };
+            list_answer(b, dir, m, ob, c, j)
+        }
     }
 }
 
@@ -233,12 +211,6 @@ fn step_by(b: &[u8], dir: &[u16], m: &[u8], path: &[u32], j: usize) -> ListStep
     ensures { λ r. ⌜ (r .answer ≡ F.readerGives B.u48 (now (b .entry)) (now (m .entry)) (now (path .entry)) j) × (r .next ≡ F.readerNext (F.readerCount B.u48 (now (b .entry)) (now (m .entry)) (now (path .entry))) j) ⌝ }
 {
     let list = reader_by(b, dir, m, path);
-    if 16777215 < m.len() {
-        return ListStep {
-            answer: field::answer_of(b, m, list),
-            next: j,
-        };
-    }
     ListStep {
         answer: step_answer(b, dir, m, list, j),
         next: reader_next(list_count(list), j),
@@ -255,7 +227,7 @@ pub fn step(b: &[u8], m: &[u8], path: &[u32], j: usize) -> ListStep
         return step_by(b, &dir, m, path, j);
     }
     ListStep {
-        answer: refused(1, 0),
+        answer: field::refused(1, 0),
         next: j,
     }
 }

@@ -2,7 +2,6 @@
 use coding::Answer;
 use coding::Case;
 use coding::Found;
-use coding::Refusal;
 ghost use mathlib.Core.Path.{_≡_};
 ghost use Prim.Native.Nat.{_+_, _≤_};
 ghost use lib.ListN.{length, take, drop};
@@ -11,7 +10,7 @@ ghost use Rattle.coding.specs.Bytes as B;
 ghost use Rattle.coding.specs.Field as F;
 ghost use Rattle.coding.specs.Packed as P;
 ghost use Rattle.schema.specs.Directory.{Accepted};
-ghost use Rattle.field_arrival.specs.Within.{Readable, FoundWithin};
+ghost use Rattle.field_arrival.specs.Within.{FoundIn};
 ghost use Rattle.field_element.specs.Listed.{Reads};
 ghost use Rattle.field_list.specs.Stepping as St;
 
@@ -41,7 +40,7 @@ fn put_same(out: &mut [u64], answer: Answer)
 
 // As many steps as the output has room for, from an element on, of the list that was found.
 fn put_steps(b: &[u8], dir: &[u16], m: &[u8], list: Found, from: usize, out: &mut [u64])
-    requires { ⌜ (Accepted (now b) (now dir)) × (Readable (now m)) × (FoundWithin (P.parse (now b)) (now m) list) × (Reads list) ⌝ }
+    requires { ⌜ (Accepted (now b) (now dir)) × (FoundIn B.u48 (now b) (now m) list) × (Reads list) ⌝ }
     ensures { λ _. ⌜ now (out .exit) ≡ F.stepsOver (F.listGives B.u48 (P.parse (now (b .entry))) (now (m .entry)) list) (F.listCount list) from (now (out .entry)) ⌝ }
 {
     let n = field_element::list_count(list);
@@ -56,17 +55,13 @@ fn put_steps(b: &[u8], dir: &[u16], m: &[u8], list: Found, from: usize, out: &mu
     }
 }
 
-// By a schema that was judged before.
+// Many steps of a list reader, by a schema that was judged before.
 fn list_by(b: &[u8], dir: &[u16], m: &[u8], path: &[u32], from: usize, out: &mut [u64]) -> usize
     requires { ⌜ Accepted (now b) (now dir) ⌝ }
     ensures { λ r. ⌜ r ≡ F.readerCount B.u48 (now (b .entry)) (now (m .entry)) (now (path .entry)) ⌝ }
     ensures { λ _. ⌜ now (out .exit) ≡ F.readerOver B.u48 (now (b .entry)) (now (m .entry)) (now (path .entry)) from (now (out .entry)) ⌝ }
 {
     let list = field_element::reader_by(b, dir, m, path);
-    if 16777215 < m.len() {
-        put_same(out, field::answer_of(b, m, list));
-        return 0;
-    }
     put_steps(b, dir, m, list, from, out);
     field_element::list_count(list)
 }
@@ -81,10 +76,6 @@ pub fn read_list(b: &[u8], m: &[u8], path: &[u32], from: usize, out: &mut [u64])
     if schema_lawful::judge_schema(b, &mut dir) {
         return list_by(b, &dir, m, path, from, out);
     }
-    let why = Refusal {
-        number: 1,
-        place: 0,
-    };
-    put_same(out, Answer::Refused(why));
+    put_same(out, field::refused(1, 0));
     0
 }

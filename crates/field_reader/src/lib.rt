@@ -2,6 +2,7 @@
 // thin: the work is done by functions on slices and numbers.
 use coding::Answer;
 ghost use mathlib.Core.Path.{_≡_};
+ghost use Rattle.coding.specs.Bytes as B;
 ghost use Rattle.field_reader.specs.Reading.{gives, after};
 
 pub struct ListReader<'a, 'b, 'c> {
@@ -30,7 +31,7 @@ pub fn new<'a, 'b, 'c>(
 // A step: the answer at the reader's element. The reader moves on, refused or not; after the list's last element, and where there is
 // no list, it stays.
 pub fn step<'s, 'a, 'b, 'c>(r: &'s mut ListReader<'a, 'b, 'c>) -> Answer
-    ensures { λ q. ⌜ (q ≡ gives (now (r .entry))) × (now (r .exit) ≡ after (now (r .entry))) ⌝ }
+    ensures { λ q. ⌜ (q ≡ gives B.u48 (now (r .entry))) × (now (r .exit) ≡ after B.u48 (now (r .entry))) ⌝ }
 {
     let s = field_element::step(r.schema, r.message, r.path, r.element);
     r.element = s.next;

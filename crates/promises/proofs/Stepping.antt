@@ -124,9 +124,9 @@ module _ (b m path : List ℕ) (j : ℕ) (s : ListStep) (ea : s .answer ≡ Fiel
   step-other free none = refused (refusal 15 0) (other b m path free none)
 
 -- ---- a step of the reader
-module _ (r : ListReader) (q : Answer) (eq : q ≡ gives r) (r′ : ListReader) (er : r′ ≡ after r) where
+module _ (r : ListReader) (q : Answer) (eq : q ≡ gives u48 r) (r′ : ListReader) (er : r′ ≡ after u48 r) where
   abbrev step : ListStep
-  step = record { answer = q; next = after r .element }
+  step = record { answer = q; next = after u48 r .element }
 
   whole : (k : Answer) (j : ℕ) → step ≡ record { answer = k; next = j } → (q ≡ k) × (r′ ≡ atElement r j)
   whole k j e = (ap (λ (s : ListStep). s .answer) e, er ∙ ap (λ (s : ListStep). atElement r (s .next)) e)

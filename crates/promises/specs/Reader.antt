@@ -31,8 +31,8 @@ atElement r j = record { schema = r .schema; message = r .message; path = r .pat
 -- what the papers demand of a step that answers q and leaves the reader r′
 pub record Stepped (r : ListReader) (q : Answer) (r′ : ListReader) : Type 0 where
   -- the answer and the reader after it are the definition's
-  pub answers : q ≡ gives r
-  pub goes : r′ ≡ after r
+  pub answers : q ≡ gives u48 r
+  pub goes : r′ ≡ after u48 r
   -- "Each step answers as that element's path would and moves on, refused or not"
   pub moves : (i at start n left : ℕ) → listAt r i at start n left → (q ≡ elementField r) × (r .element < n → r′ ≡ atElement r (r .element + 1))
   -- "after the last it answers 15 at the list and stays"

@@ -46,6 +46,7 @@ use denote.Triple.Table.{entered, cited}
 use denote.Triple.Walked.{says, Stays, stay-ref, walkOf, goes-ref, Walks, ends-at, walked, walk-meets}
 use denote.Triple.Clauses.{ensured, lasts}
 use base.Logic.{emp, via, fst∗}
+use Rattle.coding.specs.Bytes.{u48}
 use Rattle.coding.specs.declared.Answer.{Answer}
 use Rattle.field_element.specs.declared.ListStep.{ListStep}
 use Rattle.field_reader.specs.declared.ListReader.{ListReader}
@@ -126,7 +127,7 @@ module _ {M : Type 1} (𝓤 : URA M) (H : Heap 𝓤) (𝓐 : Atoms 𝓤) (W : Gi
 
   -- what the callee ensures of its result
   abbrev Says : ListStep → Type 0
-  Says r = (r .answer ≡ gives h) × (r .next ≡ after h .element)
+  Says r = (r .answer ≡ gives u48 h) × (r .next ≡ after u48 h .element)
 
   said : (r : ListStep) → ent 𝓤 (ensured 𝓤 H 𝓐 element.ended (element.clauses 𝓤 H 𝓐 at-mem run) (κ₁, (κ₂, (κ₃, tt))) (h .schema, (h .message, (h .path, (h .element, tt)))) tt r) (fact 𝓤 (Says r))
   said r = exE 𝓤 _ (λ ws. snd∗ 𝓤 (sem 𝓤 H 𝓐 (lasts element.ended (κ₁, (κ₂, (κ₃, tt))) (h .schema, (h .message, (h .path, (h .element, tt)))) ws)) (fact 𝓤 (Says r)))
