@@ -20,6 +20,7 @@ ghost use Rattle.schema.specs.Directory.{Accepted};
 ghost use Rattle.field_arrival.specs.Within.{Readable, FoundIn};
 ghost use Rattle.field_arrival.specs.Parts.{arrivedBy, objectPartBy};
 ghost use Rattle.field_element.specs.Listed.{Listed, Reads, offsetGives};
+ghost use Rattle.wire.specs.Sizes.{HasOffset};
 
 // ---- the list
 // Whether elements of a kind lead to objects.
@@ -100,7 +101,7 @@ fn arrive_answer(b: &[u8], dir: &[u16], m: &[u8], d: usize, ob: Object, x: usize
 
 // The answer of an element that is the offset at a place of the message.
 fn offset_answer(b: &[u8], dir: &[u16], m: &[u8], d: usize, ob: Object, at: usize) -> Answer
-    requires { ⌜ (Accepted (now b) (now dir)) × (ObjectSound (P.parse (now b)) ob) × (Readable (now m)) × (at + 6 ≤ length (now m)) ⌝ }
+    requires { ⌜ (Accepted (now b) (now dir)) × (ObjectSound (P.parse (now b)) ob) × (Readable (now m)) × (HasOffset (now m) at) ⌝ }
     ensures { λ r. ⌜ r ≡ offsetGives d B.u48 (P.parse (now (b .entry))) (now (m .entry)) ob (B.le (now (m .entry)) at B.u48) ⌝ }
 {
     let x = wire::offset_in(m, at);

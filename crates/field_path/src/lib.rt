@@ -2,12 +2,12 @@
 use coding::Found;
 ghost use mathlib.Core.Path.{_≡_};
 ghost use Prim.Native.Nat.{_≤_};
-ghost use lib.ListN.{length};
 ghost use Rattle.coding.specs.Bytes as B;
 ghost use Rattle.coding.specs.Field as F;
 ghost use Rattle.coding.specs.Packed as P;
 ghost use Rattle.schema.specs.Directory.{Accepted};
 ghost use Rattle.field_arrival.specs.Within.{Readable, FoundIn};
+ghost use Rattle.wire.specs.Sizes.{HasStart};
 
 // The most numbers that a path may have.
 pub const LONGEST_PATH: usize = 96;
@@ -31,7 +31,7 @@ fn along(b: &[u8], dir: &[u16], m: &[u8], from: Found, path: &[u32]) -> Found
 
 // What a path comes to from the root, in a message that has its start.
 fn from_root(b: &[u8], dir: &[u16], m: &[u8], path: &[u32]) -> Found
-    requires { ⌜ (Accepted (now b) (now dir)) × (Readable (now m)) × (10 ≤ length (now m)) ⌝ }
+    requires { ⌜ (Accepted (now b) (now dir)) × (Readable (now m)) × (HasStart (now m)) ⌝ }
     ensures { λ r. ⌜ (r ≡ F.found B.u48 (P.parse (now (b .entry))) (now (m .entry)) (now (path .entry))) × FoundIn B.u48 (now (b .entry)) (now (m .entry)) r ⌝ }
 {
     let ob = message_start::root_object(b, dir);

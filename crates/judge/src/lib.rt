@@ -6,12 +6,12 @@ use outcome::Limits;
 use outcome::Outcome;
 ghost use mathlib.Core.Path.{_≡_};
 ghost use Prim.Native.Nat.{_≤_};
-ghost use lib.ListN.{length};
 ghost use Rattle.coding.specs.Bytes as B;
 ghost use Rattle.coding.specs.Packed as P;
 ghost use Rattle.coding.specs.Walk as W;
 ghost use Rattle.schema.specs.Directory.{Accepted};
 ghost use Rattle.outcome.specs.Answers as As;
+ghost use Rattle.wire.specs.Sizes.{WithinSize, HasStart};
 
 // The verdict of a walk that has ended.
 fn verdict_of(w: Outcome) -> Verdict
@@ -46,7 +46,7 @@ fn early(n: u8) -> Verdict
 
 // The walk from the root.
 fn walk_from_root(b: &[u8], dir: &[u16], m: &[u8], budget: Budget) -> Outcome
-    requires { ⌜ (Accepted (now b) (now dir)) × (length (now m) ≤ 16777215) × (10 ≤ length (now m)) ⌝ }
+    requires { ⌜ (Accepted (now b) (now dir)) × (WithinSize (now m)) × (HasStart (now m)) ⌝ }
     ensures { λ r. ⌜ As.walkedOf r ≡ W.walk B.u48 (P.parse (now (b .entry))) (now (m .entry)) budget ⌝ }
 {
     let ob = message_start::root_object(b, dir);

@@ -16,6 +16,7 @@ ghost use Rattle.laws.specs.Sound.{ObjectSound};
 ghost use Rattle.message_layout.specs.Bounds.{Laid};
 ghost use Rattle.schema.specs.Directory.{Accepted};
 ghost use Rattle.judge_member.specs.Records as Rs;
+ghost use Rattle.wire.specs.Sizes.{WithinSize};
 
 // ---- a record's first byte
 // It is eight times the kind, and flags that are 0 where the member is neither optional nor in place.
@@ -189,7 +190,7 @@ pub fn lead_member(
     c: Cursor,
 ) -> SteppedMember
     requires { ⌜ (Accepted (now b) (now dir)) × (t < P.tableCount (now b)) × (j < length (Sc.tableOf (P.parse (now b)) t .members)) × (j < 256) ⌝ }
-    requires { ⌜ (x .start + x .length ≤ length (now m)) × (length (now m) ≤ 16777215) × (Laid (4097 * j) c) ⌝ }
+    requires { ⌜ (x .start + x .length ≤ length (now m)) × (WithinSize (now m)) × (Laid (4097 * j) c) ⌝ }
     ensures { λ q. ⌜ Rs.Led B.u48 (P.parse (now (b .entry))) (now (m .entry)) t j x c (q .step) (q .next) ⌝ }
 {
     let at = schema::record_place(4, schema::table_place(b, dir, t), j);

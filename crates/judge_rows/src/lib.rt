@@ -18,6 +18,7 @@ ghost use Rattle.laws.specs.Sound.{ObjectSound};
 ghost use Rattle.schema.specs.Directory.{Accepted};
 ghost use Rattle.outcome.specs.Answers as As;
 ghost use Rattle.judge_member.specs.Records as Rs;
+ghost use Rattle.wire.specs.Sizes.{WithinSize, HasOffsets};
 
 // Member j of a row table, of the record at `at`. The fixed part ends behind the member's first byte, which stands at `end`
 // in it: the member may be cut, and a text is arrived at.
@@ -32,7 +33,7 @@ fn row_member(
     s: Spent,
 ) -> Outcome
     requires { ⌜ (at < length (now b)) × (Rs.RowMember (getD (now b) at 0)) ⌝ }
-    requires { ⌜ (length (now m) ≤ 16777215) × (x .start + x .length ≤ length (now m)) × (end < x .length) ⌝ }
+    requires { ⌜ (WithinSize (now m)) × (x .start + x .length ≤ length (now m)) × (end < x .length) ⌝ }
     ensures { λ r. ⌜ As.walkedOf r ≡ As.followBy B.u48 (now (b .entry)) (now (m .entry)) l (As.partOf x j) (As.memberBy B.u48 (now (b .entry)) (now (m .entry)) x (Rs.noBool end) (P.memberAt (now (b .entry)) at)) s ⌝ }
 {
     let h = wire::index(wire::byte_in(b, at));
@@ -51,7 +52,7 @@ fn row_member(
 
 // The members of a row table.
 fn row_members(b: &[u8], m: &[u8], l: Limits, k: Rows, x: Content, s: Spent) -> Outcome
-    requires { ⌜ (Rs.RowTable (now b) k) × (length (now m) ≤ 16777215) × (x .start + x .length ≤ length (now m)) ⌝ }
+    requires { ⌜ (Rs.RowTable (now b) k) × (WithinSize (now m)) × (x .start + x .length ≤ length (now m)) ⌝ }
     ensures { λ r. ⌜ As.walkedOf r ≡ As.membersBy B.u48 (now (b .entry)) (now (m .entry)) l (k .table) x s ⌝ }
 {
     let mut end: usize = 0;
@@ -75,7 +76,7 @@ fn row_members(b: &[u8], m: &[u8], l: Limits, k: Rows, x: Content, s: Spent) -> 
 
 // An arrival at a row table at offset x.
 fn visit_row(b: &[u8], m: &[u8], l: Limits, k: Rows, x: usize, s: Spent) -> Outcome
-    requires { ⌜ (Rs.RowTable (now b) k) × (length (now m) ≤ 16777215) × (x < 2 ^ 48) ⌝ }
+    requires { ⌜ (Rs.RowTable (now b) k) × (WithinSize (now m)) × (x < 2 ^ 48) ⌝ }
     ensures { λ r. ⌜ As.walkedOf r ≡ As.visitBy B.u48 (now (b .entry)) (now (m .entry)) l (Object.Table (k .table)) (Place.ByOffset x) s ⌝ }
 {
     let g = outcome::charge(l, x, s);
@@ -98,7 +99,7 @@ fn visit_row(b: &[u8], m: &[u8], l: Limits, k: Rows, x: usize, s: Spent) -> Outc
 
 // What offset x leads to where a row table is meant: nothing, or an arrival.
 fn refer_row(b: &[u8], m: &[u8], l: Limits, k: Rows, x: usize, s: Spent) -> Outcome
-    requires { ⌜ (Rs.RowTable (now b) k) × (length (now m) ≤ 16777215) × (x < 2 ^ 48) ⌝ }
+    requires { ⌜ (Rs.RowTable (now b) k) × (WithinSize (now m)) × (x < 2 ^ 48) ⌝ }
     ensures { λ r. ⌜ As.walkedOf r ≡ As.referred (As.visitBy B.u48 (now (b .entry)) (now (m .entry)) l) (Object.Table (k .table)) x s ⌝ }
 {
     if x == 0 {
@@ -109,7 +110,7 @@ fn refer_row(b: &[u8], m: &[u8], l: Limits, k: Rows, x: usize, s: Spent) -> Outc
 
 // The tables of a list of a row table, by their offsets.
 fn row_tables(b: &[u8], m: &[u8], l: Limits, k: Rows, x: Content, s: Spent) -> Outcome
-    requires { ⌜ (Rs.RowTable (now b) k) × (length (now m) ≤ 16777215) × (x .start + 6 * x .length ≤ length (now m)) ⌝ }
+    requires { ⌜ (Rs.RowTable (now b) k) × (WithinSize (now m)) × (HasOffsets (now m) (x .start) (x .length)) ⌝ }
     ensures { λ r. ⌜ As.walkedOf r ≡ As.elementsBy B.u48 (now (b .entry)) (now (m .entry)) l (Kind.OfObject (Object.Table (k .table))) x s ⌝ }
 {
     let mut v = s;
@@ -137,7 +138,7 @@ pub fn row_references(
     x: Content,
     s: Spent,
 ) -> Outcome
-    requires { ⌜ (Accepted (now b) (now dir)) × (length (now m) ≤ 16777215) × (ObjectSound (P.parse (now b)) ob) × (x .start + 6 * x .length ≤ length (now m)) × (Rs.RowObject (now b) ob) ⌝ }
+    requires { ⌜ (Accepted (now b) (now dir)) × (WithinSize (now m)) × (ObjectSound (P.parse (now b)) ob) × (HasOffsets (now m) (x .start) (x .length)) × (Rs.RowObject (now b) ob) ⌝ }
     ensures { λ r. ⌜ As.walkedOf r ≡ As.elementsBy B.u48 (now (b .entry)) (now (m .entry)) l (Kind.OfObject ob) x s ⌝ }
 {
     match ob {

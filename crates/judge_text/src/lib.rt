@@ -8,11 +8,11 @@ use outcome::Content;
 use outcome::Limits;
 use outcome::Outcome;
 ghost use mathlib.Core.Path.{_≡_};
-ghost use Prim.Native.Nat.{_+_, _*_, _<_, _≤_, _^_};
-ghost use lib.ListN.{length};
+ghost use Prim.Native.Nat.{_+_, _*_, _<_, _^_};
 ghost use Rattle.coding.specs.Bytes as B;
 ghost use Rattle.outcome.specs.Answers as As;
 ghost use Rattle.judge_text.specs.Texts as Ts;
+ghost use Rattle.wire.specs.Sizes.{WithinSize, HasOffsets};
 
 // Whether an object is a text.
 pub fn is_text(ob: Object) -> bool
@@ -55,7 +55,7 @@ pub fn refer_text(b: &[u8], m: &[u8], l: Limits, x: usize, s: Spent) -> Outcome
 
 // The texts of a list, by their offsets.
 pub fn texts(b: &[u8], m: &[u8], l: Limits, x: Content, s: Spent) -> Outcome
-    requires { ⌜ (length (now m) ≤ 16777215) × (x .start + 6 * x .length ≤ length (now m)) ⌝ }
+    requires { ⌜ (WithinSize (now m)) × (HasOffsets (now m) (x .start) (x .length)) ⌝ }
     ensures { λ r. ⌜ As.walkedOf r ≡ As.elementsBy B.u48 (now (b .entry)) (now (m .entry)) l (Kind.OfObject Object.Text) x s ⌝ }
 {
     let mut v = s;

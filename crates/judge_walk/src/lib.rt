@@ -24,6 +24,7 @@ ghost use Rattle.schema.specs.Directory.{Accepted};
 ghost use Rattle.message_step.specs.Lead as D;
 ghost use Rattle.outcome.specs.Answers as As;
 ghost use Rattle.judge_member.specs.Records as Rs;
+ghost use Rattle.wire.specs.Sizes.{WithinSize, HasUnion, HasOffsets, HasUnions};
 
 // Where the walk stands in a table: the number of the member that comes next, the place of its record in the schema, and the
 // cursor before it.
@@ -50,7 +51,7 @@ fn leads_nowhere(step: Step) -> bool
 
 // An arrival at an object, with this one counted in the depth that is left.
 pub fn visit(b: &[u8], dir: &[u16], m: &[u8], l: Limits, ob: Object, p: Place, s: Spent) -> Outcome
-    requires { ⌜ (Accepted (now b) (now dir)) × (length (now m) ≤ 16777215) × (ObjectSound (P.parse (now b)) ob) × D.PlaceSmall p ⌝ }
+    requires { ⌜ (Accepted (now b) (now dir)) × (WithinSize (now m)) × (ObjectSound (P.parse (now b)) ob) × D.PlaceSmall p ⌝ }
     ensures { λ r. ⌜ As.walkedOf r ≡ As.visitBy B.u48 (now (b .entry)) (now (m .entry)) l ob p s ⌝ }
 {
     let at = message_object::placed(p);
@@ -74,7 +75,7 @@ pub fn visit(b: &[u8], dir: &[u16], m: &[u8], l: Limits, ob: Object, p: Place, s
 
 // An object's content. Texts and bytes have no parts.
 fn content(b: &[u8], dir: &[u16], m: &[u8], l: Limits, ob: Object, x: Content, s: Spent) -> Outcome
-    requires { ⌜ (Accepted (now b) (now dir)) × (length (now m) ≤ 16777215) × (ObjectSound (P.parse (now b)) ob) ⌝ }
+    requires { ⌜ (Accepted (now b) (now dir)) × (WithinSize (now m)) × (ObjectSound (P.parse (now b)) ob) ⌝ }
     requires { ⌜ x .start + W.contentSize B.u48 (P.parse (now b)) ob (x .length) ≤ length (now m) ⌝ }
     ensures { λ r. ⌜ As.walkedOf r ≡ As.contentBy B.u48 (now (b .entry)) (now (m .entry)) l ob x s ⌝ }
 {
@@ -88,7 +89,7 @@ fn content(b: &[u8], dir: &[u16], m: &[u8], l: Limits, ob: Object, x: Content, s
 
 // The members of table t, whose fixed part is the content.
 fn table(b: &[u8], dir: &[u16], m: &[u8], l: Limits, t: usize, x: Content, s: Spent) -> Outcome
-    requires { ⌜ (Accepted (now b) (now dir)) × (length (now m) ≤ 16777215) × (t < P.tableCount (now b)) × (x .start + x .length ≤ length (now m)) ⌝ }
+    requires { ⌜ (Accepted (now b) (now dir)) × (WithinSize (now m)) × (t < P.tableCount (now b)) × (x .start + x .length ≤ length (now m)) ⌝ }
     ensures { λ r. ⌜ As.walkedOf r ≡ As.membersBy B.u48 (now (b .entry)) (now (m .entry)) l t x s ⌝ }
 {
     let count = schema::member_count(b, dir, t);
@@ -148,7 +149,7 @@ fn reference(
     k: Standing,
     s: Spent,
 ) -> Outcome
-    requires { ⌜ (Accepted (now b) (now dir)) × (length (now m) ≤ 16777215) × (k .record + 1 < length (now b)) × (Rs.Refers (getD (now b) (k .record) 0)) ⌝ }
+    requires { ⌜ (Accepted (now b) (now dir)) × (WithinSize (now m)) × (k .record + 1 < length (now b)) × (Rs.Refers (getD (now b) (k .record) 0)) ⌝ }
     requires { ⌜ (ObjectSound (P.parse (now b)) (P.objectAt (now b) (k .record))) × (x .start + x .length ≤ length (now m)) × (k .cursor .end < 2 ^ 58) ⌝ }
     ensures { λ r. ⌜ As.walkedOf r ≡ As.followBy B.u48 (now (b .entry)) (now (m .entry)) l (As.partOf x (k .number)) (As.memberBy B.u48 (now (b .entry)) (now (m .entry)) x (k .cursor) (P.memberAt (now (b .entry)) (k .record))) s ⌝ }
 {
@@ -174,7 +175,7 @@ fn reference(
 
 // The elements of list i.
 fn list(b: &[u8], dir: &[u16], m: &[u8], l: Limits, i: usize, x: Content, s: Spent) -> Outcome
-    requires { ⌜ (Accepted (now b) (now dir)) × (length (now m) ≤ 16777215) × (i < P.listCount (now b)) ⌝ }
+    requires { ⌜ (Accepted (now b) (now dir)) × (WithinSize (now m)) × (i < P.listCount (now b)) ⌝ }
     requires { ⌜ x .start + T.elementsSize B.u48 (P.parse (now b)) (Sc.elementOf (P.parse (now b)) i) (x .length) ≤ length (now m) ⌝ }
     ensures { λ r. ⌜ As.walkedOf r ≡ As.elementsBy B.u48 (now (b .entry)) (now (m .entry)) l (Sc.elementOf (P.parse (now (b .entry))) i) x s ⌝ }
 {
@@ -199,7 +200,7 @@ fn references(
     x: Content,
     s: Spent,
 ) -> Outcome
-    requires { ⌜ (Accepted (now b) (now dir)) × (length (now m) ≤ 16777215) × (ObjectSound (P.parse (now b)) ob) × (x .start + 6 * x .length ≤ length (now m)) ⌝ }
+    requires { ⌜ (Accepted (now b) (now dir)) × (WithinSize (now m)) × (ObjectSound (P.parse (now b)) ob) × (HasOffsets (now m) (x .start) (x .length)) ⌝ }
     ensures { λ r. ⌜ As.walkedOf r ≡ As.elementsBy B.u48 (now (b .entry)) (now (m .entry)) l (Kind.OfObject ob) x s ⌝ }
 {
     if judge_text::is_text(ob) {
@@ -225,7 +226,7 @@ fn references(
 
 // What offset x leads to: nothing, or an arrival.
 fn refer(b: &[u8], dir: &[u16], m: &[u8], l: Limits, ob: Object, x: usize, s: Spent) -> Outcome
-    requires { ⌜ (Accepted (now b) (now dir)) × (length (now m) ≤ 16777215) × (ObjectSound (P.parse (now b)) ob) × (x < 2 ^ 48) ⌝ }
+    requires { ⌜ (Accepted (now b) (now dir)) × (WithinSize (now m)) × (ObjectSound (P.parse (now b)) ob) × (x < 2 ^ 48) ⌝ }
     ensures { λ r. ⌜ As.walkedOf r ≡ As.referred (As.visitBy B.u48 (now (b .entry)) (now (m .entry)) l) ob x s ⌝ }
 {
     if x == 0 {
@@ -236,7 +237,7 @@ fn refer(b: &[u8], dir: &[u16], m: &[u8], l: Limits, ob: Object, x: usize, s: Sp
 
 // The choices of a list of union i.
 fn choices(b: &[u8], dir: &[u16], m: &[u8], l: Limits, i: usize, x: Content, s: Spent) -> Outcome
-    requires { ⌜ (Accepted (now b) (now dir)) × (length (now m) ≤ 16777215) × (i < P.unionCount (now b)) × (x .start + 8 * x .length ≤ length (now m)) ⌝ }
+    requires { ⌜ (Accepted (now b) (now dir)) × (WithinSize (now m)) × (i < P.unionCount (now b)) × (HasUnions (now m) (x .start) (x .length)) ⌝ }
     ensures { λ r. ⌜ As.walkedOf r ≡ As.elementsBy B.u48 (now (b .entry)) (now (m .entry)) l (Kind.OfUnion i) x s ⌝ }
 {
     let mut v = s;
@@ -269,7 +270,7 @@ fn choice(
     at: usize,
     s: Spent,
 ) -> Outcome
-    requires { ⌜ (Accepted (now b) (now dir)) × (length (now m) ≤ 16777215) × (i < P.unionCount (now b)) × (at + 8 ≤ length (now m)) ⌝ }
+    requires { ⌜ (Accepted (now b) (now dir)) × (WithinSize (now m)) × (i < P.unionCount (now b)) × (HasUnion (now m) at) ⌝ }
     ensures { λ r. ⌜ As.walkedOf r ≡ As.followBy B.u48 (now (b .entry)) (now (m .entry)) l part (T.unionStep (Sc.casesOf (P.parse (now (b .entry))) i) false 0 (B.le (now (m .entry)) at 2) (B.le (now (m .entry)) (at + 2) B.u48)) s ⌝ }
 {
     let c = wire::u16_in(m, at) as usize;
@@ -286,7 +287,7 @@ fn choice(
 
 // What the step of a part leads to.
 fn follow(b: &[u8], dir: &[u16], m: &[u8], l: Limits, part: Part, step: Step, s: Spent) -> Outcome
-    requires { ⌜ (Accepted (now b) (now dir)) × (length (now m) ≤ 16777215) × D.StepSmall (P.parse (now b)) step ⌝ }
+    requires { ⌜ (Accepted (now b) (now dir)) × (WithinSize (now m)) × D.StepSmall (P.parse (now b)) step ⌝ }
     ensures { λ r. ⌜ As.walkedOf r ≡ As.followBy B.u48 (now (b .entry)) (now (m .entry)) l part step s ⌝ }
 {
     match step {
@@ -302,7 +303,7 @@ fn follow(b: &[u8], dir: &[u16], m: &[u8], l: Limits, part: Part, step: Step, s:
 
 // An arrival at an object, at a text by its offset without the walker.
 fn arrive(b: &[u8], dir: &[u16], m: &[u8], l: Limits, ob: Object, p: Place, s: Spent) -> Outcome
-    requires { ⌜ (Accepted (now b) (now dir)) × (length (now m) ≤ 16777215) × (ObjectSound (P.parse (now b)) ob) × D.PlaceSmall p ⌝ }
+    requires { ⌜ (Accepted (now b) (now dir)) × (WithinSize (now m)) × (ObjectSound (P.parse (now b)) ob) × D.PlaceSmall p ⌝ }
     ensures { λ r. ⌜ As.walkedOf r ≡ As.visitBy B.u48 (now (b .entry)) (now (m .entry)) l ob p s ⌝ }
 {
     match p {
@@ -327,7 +328,7 @@ fn union(
     p: Place,
     s: Spent,
 ) -> Outcome
-    requires { ⌜ (Accepted (now b) (now dir)) × (length (now m) ≤ 16777215) × (ObjectSound (P.parse (now b)) ob) × D.PlaceSmall p ⌝ }
+    requires { ⌜ (Accepted (now b) (now dir)) × (WithinSize (now m)) × (ObjectSound (P.parse (now b)) ob) × D.PlaceSmall p ⌝ }
     ensures { λ r. ⌜ As.walkedOf r ≡ As.chooseBy B.u48 (now (b .entry)) (now (m .entry)) l part ob p s ⌝ }
 {
     match p {

@@ -21,6 +21,7 @@ ghost use Rattle.coding.specs.Structs as S;
 ghost use Rattle.laws.specs.Sound.{FlatSound, ObjectSound, KindSound, MemberSound};
 ghost use Rattle.schema.specs.Directory.{Accepted};
 ghost use Rattle.message_step.specs.Lead as D;
+ghost use Rattle.wire.specs.Sizes.{WithinSize};
 
 // ---- whether a value is there
 // Cut by the end of the fixed part; past it, or without its flag; or here.
@@ -270,7 +271,7 @@ pub fn placed_step(
     p: Placement,
     r: Member,
 ) -> Step
-    requires { ⌜ (Accepted (now b) (now dir)) × (MemberSound (P.parse (now b)) r) × (start + n ≤ length (now m)) × (length (now m) ≤ 16777215) ⌝ }
+    requires { ⌜ (Accepted (now b) (now dir)) × (MemberSound (P.parse (now b)) r) × (start + n ≤ length (now m)) × (WithinSize (now m)) ⌝ }
     requires { ⌜ D.Sits (L.width B.u48 (P.parse (now b)) (r .kind)) p ⌝ }
     ensures { λ q. ⌜ q ≡ T.placedStep B.u48 (P.parse (now (b .entry))) (now (m .entry)) start n p r ⌝ }
 {
@@ -303,7 +304,7 @@ pub fn placed_lead(
     p: Placement,
     r: Member,
 ) -> Step
-    requires { ⌜ (Accepted (now b) (now dir)) × (MemberSound (P.parse (now b)) r) × (start + n ≤ length (now m)) × (length (now m) ≤ 16777215) ⌝ }
+    requires { ⌜ (Accepted (now b) (now dir)) × (MemberSound (P.parse (now b)) r) × (start + n ≤ length (now m)) × (WithinSize (now m)) ⌝ }
     requires { ⌜ D.Sits (L.width B.u48 (P.parse (now b)) (r .kind)) p ⌝ }
     ensures { λ q. ⌜ (q ≡ D.withoutValue (T.placedStep B.u48 (P.parse (now (b .entry))) (now (m .entry)) start n p r)) × D.StepSmall (P.parse (now (b .entry))) q ⌝ }
 {
@@ -382,7 +383,7 @@ pub fn member_step(
     c: Cursor,
     r: Member,
 ) -> SteppedMember
-    requires { ⌜ (Accepted (now b) (now dir)) × (MemberSound (P.parse (now b)) r) × (start + n ≤ length (now m)) × (length (now m) ≤ 16777215) ⌝ }
+    requires { ⌜ (Accepted (now b) (now dir)) × (MemberSound (P.parse (now b)) r) × (start + n ≤ length (now m)) × (WithinSize (now m)) ⌝ }
     requires { ⌜ (c .byte ≤ c .end) × (c .bit ≤ 8) × (c .end < 2 ^ 58) ⌝ }
     ensures { λ q. ⌜ D.Stepped (T.memberStep B.u48 (P.parse (now (b .entry))) (now (m .entry)) start n c r) (L.afterMember B.u48 (P.parse (now (b .entry))) r c) (c .end) (q .step) (q .next) ⌝ }
 {
@@ -404,7 +405,7 @@ pub fn member_lead(
     c: Cursor,
     r: Member,
 ) -> SteppedMember
-    requires { ⌜ (Accepted (now b) (now dir)) × (MemberSound (P.parse (now b)) r) × (start + n ≤ length (now m)) × (length (now m) ≤ 16777215) ⌝ }
+    requires { ⌜ (Accepted (now b) (now dir)) × (MemberSound (P.parse (now b)) r) × (start + n ≤ length (now m)) × (WithinSize (now m)) ⌝ }
     requires { ⌜ (c .byte ≤ c .end) × (c .bit ≤ 8) × (c .end < 2 ^ 58) ⌝ }
     ensures { λ q. ⌜ (D.Stepped (D.leadOf (T.memberStep B.u48 (P.parse (now (b .entry))) (now (m .entry)) start n c r)) (L.afterMember B.u48 (P.parse (now (b .entry))) r c) (c .end) (q .step) (q .next)) × D.StepSmall (P.parse (now (b .entry))) (q .step) ⌝ }
 {
@@ -438,7 +439,7 @@ pub fn element_step(
     n: usize,
     i: usize,
 ) -> Step
-    requires { ⌜ (Accepted (now b) (now dir)) × (KindSound (P.parse (now b)) k) × (length (now m) ≤ 16777215) ⌝ }
+    requires { ⌜ (Accepted (now b) (now dir)) × (KindSound (P.parse (now b)) k) × (WithinSize (now m)) ⌝ }
     requires { ⌜ (start + T.elementsSize B.u48 (P.parse (now b)) k n ≤ length (now m)) × (i < n) ⌝ }
     ensures { λ r. ⌜ r ≡ T.elementStep B.u48 (P.parse (now (b .entry))) (now (m .entry)) k start i ⌝ }
 {

@@ -24,7 +24,7 @@ use Rattle.coding.specs.declared.ReadAnswer.{ReadAnswer}
 use Rattle.demands.specs.Arrivals.{LawfulMessage, messageArrivals}
 use Rattle.demands.specs.Reached.{accepted-exactly, accepted-visits, lawful-verdict}
 use Rattle.demands.specs.Sheets.{verdict-sheet-lawful}
-use Rattle.demands.specs.Appending.{AreBytes, OlderAgrees, older-accepts, older-sheet}
+use Rattle.demands.specs.Appending.{AreBytes, OlderAgrees, older-accepts, older-agrees}
 use Rattle.demands.specs.FieldEntries.{shown}
 use Rattle.demands.specs.Fields.{sheet-entry, field-refusal}
 use Rattle.demands.specs.Texts.{IsText, part-answers, text-part}
@@ -42,8 +42,8 @@ module _ (b m : List ℕ) (budget : Budget) (r : Verdict) (e : r ≡ verdict u48
 
 module _ (older newer m : List ℕ) (budget : Budget) (older-bytes : AreBytes older) (r s : Verdict) (er : r ≡ verdict u48 older m budget)
     (es : s ≡ verdict u48 newer m budget) where
-  pub both-judge : Appends older newer → s .number ≡ 0 → (r .number ≡ 0) × (r .visits ≤ s .visits)
-  both-judge appends = rw (er, es) (older-accepts older newer older-bytes appends u48 m budget)
+  pub both-judge : Appends u48 older newer → s .number ≡ 0 → (r .number ≡ 0) × (r .visits ≤ s .visits)
+  both-judge appends = rw (er, es) (older-accepts u48 older newer older-bytes appends m budget)
 
 -- ---- reading to a sheet
 module _ (b m : List ℕ) (budget : Budget) (out : List ℕ) (a : ReadAnswer) (ea : a ≡ readAnswer u48 b m budget out) where
@@ -67,14 +67,14 @@ module _ (b m : List ℕ) (schema-bytes : AreBytes b) (message-bytes : AreBytes 
   pub reads-lawful : a .verdict .number ≡ 0 → sheetTree (parse b) (take (a .length) out′) ≡ some (messageRead u48 (parse b) m)
   reads-lawful h =
       let got = handed b m budget out a out′ ea eo h in
-      rw (got .sheet) (verdict-sheet-lawful b m schema-bytes message-bytes budget (got .accepted) (got .sized))
+      rw (got .sheet) (verdict-sheet-lawful u48 b m schema-bytes message-bytes budget (got .accepted) (got .sized))
 
 -- ---- by the older schema, what the newer accepts
 module _ (older newer m : List ℕ) (older-bytes : AreBytes older) (newer-bytes : AreBytes newer) (message-bytes : AreBytes m) (budget : Budget)
     (out out′ : List ℕ) (a : ReadAnswer) (ea : a ≡ readAnswer u48 older m budget out) (eo : out′ ≡ readOut u48 older m budget out)
-    (appends : Appends older newer) (accepted : Accepts u48 newer m budget) where
+    (appends : Appends u48 older newer) (accepted : Accepts u48 newer m budget) where
   agrees : OlderAgrees u48 older newer m budget
-  agrees = older-sheet older newer m older-bytes newer-bytes message-bytes appends budget accepted
+  agrees = older-agrees u48 older newer m older-bytes newer-bytes message-bytes appends budget accepted
 
   pub older-reads : (a .verdict .number ≡ 0) ⊎ (a .verdict .number ≡ 14)
   older-reads = read-or-room older m budget out a ea (agrees .accepts) .0
@@ -86,14 +86,14 @@ module _ (older newer m : List ℕ) (older-bytes : AreBytes older) (newer-bytes 
 module _ (b m : List ℕ) (schema-bytes : AreBytes b) (message-bytes : AreBytes m) (path : List ℕ) (budget : Budget)
     (accepted : Accepts u48 b m budget) (short : length path ≤ 96) where
   pub shows-entry : (q : Answer) → q ≡ Field.field u48 b m path → shown q ≡ entryAt b (messageSheet u48 b m) path
-  shows-entry q eq = ap shown eq ∙ sheet-entry b m schema-bytes message-bytes budget accepted path short
+  shows-entry q eq = ap shown eq ∙ sheet-entry u48 b m schema-bytes message-bytes budget accepted path short
 
   pub shows-refusal : (q : Answer) → q ≡ Field.field u48 b m path → (r : Refusal) → q ≡ A.Refused r → r .number ≡ 15
   shows-refusal q eq r e = field-refusal u48 b schema-bytes m budget accepted path short r (sym eq ∙ e)
 
   pub shows-text : (p : Span) → p ≡ Field.fieldSpan u48 b m path → Field.textOf m p ≡ textAt b (messageSheet u48 b m) path
   unfolding Field.fieldText
-  shows-text p ep = ap (Field.textOf m) ep ∙ sheet-text b m schema-bytes message-bytes budget accepted path short
+  shows-text p ep = ap (Field.textOf m) ep ∙ sheet-text u48 b m schema-bytes message-bytes budget accepted path short
 
 -- ---- a text or bytes
 module _ (b m path : List ℕ) (p : Span) (ep : p ≡ Field.fieldSpan u48 b m path) where

@@ -45,33 +45,33 @@ module _ (b s : List ℕ) (schema-bytes : AreBytes b) (sheet-bytes : AreBytes s)
 
   -- the rules give the sheet of which the message was made
   pub trip-sheet : messageSheet u48 b (take (w .length) room′) ≡ s
-  trip-sheet = written-sheet b s (take (w .length) room′) schema-bytes sheet-bytes is-made
+  trip-sheet = written-sheet u48 b s (take (w .length) room′) schema-bytes sheet-bytes is-made
 
   module _ (budget : Budget) (out out′ : List ℕ) (a : ReadAnswer) (ea : a ≡ readAnswer u48 b (take (w .length) room′) budget out)
       (eo : out′ ≡ readOut u48 b (take (w .length) room′) budget out) where
     pub reads-back : enough b s ≤ budget .visits → length s ≤ length out
         → (a ≡ record { verdict = atZero 0 (spending (enough b s)); length = length s }) × (out′ ≡ s ++ drop (length s) out)
     reads-back l r = (
-      ea ∙ written-answer b s (take (w .length) room′) schema-bytes sheet-bytes is-made budget out l r,
-      eo ∙ written-out b s (take (w .length) room′) schema-bytes sheet-bytes is-made budget out l r,
+      ea ∙ written-answer u48 b s (take (w .length) room′) schema-bytes sheet-bytes is-made budget out l r,
+      eo ∙ written-out u48 b s (take (w .length) room′) schema-bytes sheet-bytes is-made budget out l r,
     )
 
     pub spends-all : budget .visits < enough b s
         → (at : ℕ) × (a ≡ record { verdict = verdictAt (refusal 4 at) (spending (budget .visits)); length = 0 }) × (out′ ≡ out)
     unfolding readAnswer readOut
     spends-all l =
-        let t = written-too-little b s (take (w .length) room′) schema-bytes sheet-bytes is-made budget l in
+        let t = written-too-little u48 b s (take (w .length) room′) schema-bytes sheet-bytes is-made budget l in
         (t .0, ea ∙ rw (t .1), eo ∙ rw (t .1))
 
   -- ---- writing under the older schema, then reading by the newer
-  module _ (newer : List ℕ) (appends : Appends b newer) where
+  module _ (newer : List ℕ) (appends : Appends u48 b newer) where
     pub same-verdict : (budget : Budget) (r q : Verdict) → r ≡ verdict u48 b (take (w .length) room′) budget → q ≡ verdict u48 newer (take (w .length) room′) budget
         → q ≡ r
     same-verdict budget r q e f =
-        f ∙ newer-agrees b newer s (take (w .length) room′) schema-bytes sheet-bytes appends is-made .verdicts budget ∙ sym e
+        f ∙ newer-agrees u48 b newer s (take (w .length) room′) schema-bytes sheet-bytes appends is-made .verdicts budget ∙ sym e
 
     pub added-sheet : messageSheet u48 newer (take (w .length) room′) ≡ sheetWith u48 b newer s
-    added-sheet = newer-agrees b newer s (take (w .length) room′) schema-bytes sheet-bytes appends is-made .newer-sheet
+    added-sheet = newer-agrees u48 b newer s (take (w .length) room′) schema-bytes sheet-bytes appends is-made .newer-sheet
 
     module _ (budget : Budget) (out out′ : List ℕ) (a : ReadAnswer) (ea : a ≡ readAnswer u48 newer (take (w .length) room′) budget out)
         (eo : out′ ≡ readOut u48 newer (take (w .length) room′) budget out) where
@@ -79,8 +79,8 @@ module _ (b s : List ℕ) (schema-bytes : AreBytes b) (sheet-bytes : AreBytes s)
           → ((a .verdict .number ≡ 0) ⊎ (a .verdict .number ≡ 14)) × (a .verdict .visits ≡ enough b s)
       reads-added l =
           let m = take (w .length) room′ in
-          let agrees = newer-agrees b newer s m schema-bytes sheet-bytes appends is-made in
-          let v = agrees .verdicts budget ∙ written-verdict b s m schema-bytes sheet-bytes is-made budget l in
+          let agrees = newer-agrees u48 b newer s m schema-bytes sheet-bytes appends is-made in
+          let v = agrees .verdicts budget ∙ written-verdict u48 b s m schema-bytes sheet-bytes is-made budget l in
           let y = read-or-room newer m budget out a ea (ap (λ (x : Verdict). x .number) v) in
           (y .0, y .1 ∙ ap (λ (x : Verdict). x .visits) v)
 

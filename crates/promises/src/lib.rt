@@ -77,7 +77,7 @@ pub fn judged_by_both(older: &[u8], newer: &[u8], message: &[u8], budget: Budget
     ensures by_older { λ r. ⌜ r .older ≡ W.verdict B.u48 (given older) (given message) budget ⌝ }
     ensures by_newer { λ r. ⌜ r .newer ≡ W.verdict B.u48 (given newer) (given message) budget ⌝ }
     // whatever bytes the newer accepts with a budget, the older accepts with the same budget
-    ensures accepts { λ r. ⌜ (Ap.Appends (given older) (given newer) → r .newer .number ≡ 0 → (r .older .number ≡ 0) × (r .older .visits ≤ r .newer .visits)) ⌝ }
+    ensures accepts { λ r. ⌜ (Ap.Appends B.u48 (given older) (given newer) → r .newer .number ≡ 0 → (r .older .number ≡ 0) × (r .older .visits ≤ r .newer .visits)) ⌝ }
 {
     let by_older = judge::judge(older, message, budget);
     let by_newer = judge::judge(newer, message, budget);
@@ -108,10 +108,10 @@ pub fn read_by_both(
     ensures by_newer { λ r. ⌜ r .newer ≡ M.readAnswer B.u48 (given newer) (given message) budget (given second) ⌝ }
     ensures newer_out { λ _. ⌜ after second ≡ M.readOut B.u48 (given newer) (given message) budget (given second) ⌝ }
     // what the newer accepts, its sheet having room or not, the older reads if the older's sheet has room
-    ensures accepts { λ r. ⌜ (Ap.Appends (given older) (given newer) → Accepts B.u48 (given newer) (given message) budget → (r .older .verdict .number ≡ 0) ⊎ (r .older .verdict .number ≡ 14)) ⌝ }
+    ensures accepts { λ r. ⌜ (Ap.Appends B.u48 (given older) (given newer) → Accepts B.u48 (given newer) (given message) budget → (r .older .verdict .number ≡ 0) ⊎ (r .older .verdict .number ≡ 14)) ⌝ }
     // the older's sheet is the newer's sheet without the appended members, as bytes; "the rules give a sheet over the size too",
     // so the newer's sheet is the one of the rules, handed out or not
-    ensures without { λ r. ⌜ (Ap.Appends (given older) (given newer) → Accepts B.u48 (given newer) (given message) budget → HandsOut (r .older) (after first) (Ap.sheetWithout (given older) (given newer) (M.messageSheet B.u48 (given newer) (given message)))) ⌝ }
+    ensures without { λ r. ⌜ (Ap.Appends B.u48 (given older) (given newer) → Accepts B.u48 (given newer) (given message) budget → HandsOut (r .older) (after first) (Ap.sheetWithout (given older) (given newer) (M.messageSheet B.u48 (given newer) (given message)))) ⌝ }
     // and where it is handed out, it stands in the second output
     ensures handed { λ r. ⌜ HandsOut (r .newer) (after second) (M.messageSheet B.u48 (given newer) (given message)) ⌝ }
 {
@@ -309,11 +309,11 @@ pub fn write_then_read_newer(
     ensures read { λ r. ⌜ r .read ≡ M.readAnswer B.u48 (given newer) (take (r .written .length) (after room)) budget (given out) ⌝ }
     ensures output { λ r. ⌜ after out ≡ M.readOut B.u48 (given newer) (take (r .written .length) (after room)) budget (given out) ⌝ }
     // the newer reads the message with as many visits as the older, if its sheet has room
-    ensures accepts { λ r. ⌜ (Ap.Appends (given older) (given newer) → r .written .number ≡ 0 → enough (given older) (given sheet) ≤ budget .visits → ((r .read .verdict .number ≡ 0) ⊎ (r .read .verdict .number ≡ 14)) × (r .read .verdict .visits ≡ enough (given older) (given sheet))) ⌝ }
+    ensures accepts { λ r. ⌜ (Ap.Appends B.u48 (given older) (given newer) → r .written .number ≡ 0 → enough (given older) (given sheet) ≤ budget .visits → ((r .read .verdict .number ≡ 0) ⊎ (r .read .verdict .number ≡ 14)) × (r .read .verdict .visits ≡ enough (given older) (given sheet))) ⌝ }
     // the newer's sheet is the older's with the added members, as bytes: what is handed out
-    ensures added { λ r. ⌜ (Ap.Appends (given older) (given newer) → r .written .number ≡ 0 → HandsOut (r .read) (after out) (Ap.sheetWith B.u48 (given older) (given newer) (given sheet))) ⌝ }
+    ensures added { λ r. ⌜ (Ap.Appends B.u48 (given older) (given newer) → r .written .number ≡ 0 → HandsOut (r .read) (after out) (Ap.sheetWith B.u48 (given older) (given newer) (given sheet))) ⌝ }
     // and what the rules give of the message, with any budget and any room
-    ensures sheet { λ r. ⌜ (Ap.Appends (given older) (given newer) → r .written .number ≡ 0 → M.messageSheet B.u48 (given newer) (take (r .written .length) (after room)) ≡ Ap.sheetWith B.u48 (given older) (given newer) (given sheet)) ⌝ }
+    ensures sheet { λ r. ⌜ (Ap.Appends B.u48 (given older) (given newer) → r .written .number ≡ 0 → M.messageSheet B.u48 (given newer) (take (r .written .length) (after room)) ≡ Ap.sheetWith B.u48 (given older) (given newer) (given sheet)) ⌝ }
 {
     let written = write::write(older, sheet, room);
     let n = written.length;
@@ -343,7 +343,7 @@ pub fn write_then_judge(
     ensures by_newer { λ r. ⌜ r .newer ≡ W.verdict B.u48 (given newer) (take (r .written .length) (after room)) budget ⌝ }
     // whatever message the writer made under the older schema, the newer accepts with every budget with which the older does (and
     // gives the same visits): the whole verdict is the same
-    ensures same { λ r. ⌜ (Ap.Appends (given older) (given newer) → r .written .number ≡ 0 → r .newer ≡ r .older) ⌝ }
+    ensures same { λ r. ⌜ (Ap.Appends B.u48 (given older) (given newer) → r .written .number ≡ 0 → r .newer ≡ r .older) ⌝ }
 {
     let written = write::write(older, sheet, room);
     let n = written.length;

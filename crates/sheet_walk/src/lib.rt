@@ -23,6 +23,7 @@ ghost use Rattle.sheet_walk.specs.MessageBits as Bt;
 ghost use Rattle.sheet_walk.specs.Readable as D;
 ghost use Rattle.sheet_walk.specs.Contracts as C;
 ghost use Rattle.sheet_walk.specs.Stepping.{MemberAt, Coded, Small, behind, isHere};
+ghost use Rattle.wire.specs.Sizes.{WithinSize, HasOffsets, HasUnions};
 
 // ---- structs, by recursion on the struct index, which falls at every inner struct
 // A member of struct i, which stands at `at`.
@@ -37,7 +38,7 @@ fn put_field(
     pos: usize,
 ) -> usize
     requires { ⌜ Room (now out) pos ⌝ }
-    requires { ⌜ (Accepted (now b) (now dir)) × (FlatSound i k) × (i < P.structCount (now b)) × (length (now m) ≤ 16777215) ⌝ }
+    requires { ⌜ (Accepted (now b) (now dir)) × (FlatSound i k) × (i < P.structCount (now b)) × (WithinSize (now m)) ⌝ }
     requires { ⌜ at + S.flatWidth (S.structSize (P.parse (now b))) k ≤ length (now m) ⌝ }
     ensures { λ r. ⌜ Puts (now (out .entry)) pos (C.fieldBits (now (b .entry)) (now (m .entry)) k at) (now (out .exit)) r ⌝ }
 {
@@ -61,7 +62,7 @@ fn put_struct(
     pos: usize,
 ) -> usize
     requires { ⌜ Room (now out) pos ⌝ }
-    requires { ⌜ (Accepted (now b) (now dir)) × (i < P.structCount (now b)) × (length (now m) ≤ 16777215) ⌝ }
+    requires { ⌜ (Accepted (now b) (now dir)) × (i < P.structCount (now b)) × (WithinSize (now m)) ⌝ }
     requires { ⌜ at + S.structSize (P.parse (now b)) i ≤ length (now m) ⌝ }
     ensures { λ r. ⌜ Puts (now (out .entry)) pos (C.structBits (now (b .entry)) (now (m .entry)) i at) (now (out .exit)) r ⌝ }
 {
@@ -100,7 +101,7 @@ fn header_size(ob: Object) -> usize
 
 // The content of an object at its place.
 fn content_of(m: &[u8], ob: Object, p: Place) -> Content
-    requires { ⌜ (D.HeaderInside B.u48 (now m) p) × (length (now m) ≤ 16777215) ⌝ }
+    requires { ⌜ (D.HeaderInside B.u48 (now m) p) × (WithinSize (now m)) ⌝ }
     ensures { λ r. ⌜ (r .start ≡ D.startOf B.u48 p) × (r .length ≡ D.lengthOf B.u48 (now (m .entry)) p) ⌝ }
 {
     match p {
@@ -124,7 +125,7 @@ fn put_whole(
     pos: usize,
 ) -> usize
     requires { ⌜ Room (now out) pos ⌝ }
-    requires { ⌜ (Accepted (now b) (now dir)) × (i < P.structCount (now b)) × (length (now m) ≤ 16777215) ⌝ }
+    requires { ⌜ (Accepted (now b) (now dir)) × (i < P.structCount (now b)) × (WithinSize (now m)) ⌝ }
     requires { ⌜ at + S.structSize (P.parse (now b)) i ≤ length (now m) ⌝ }
     requires { ⌜ S.structOk (P.parse (now b)) (now m) i at ≡ true ⌝ }
     ensures { λ r. ⌜ Puts (now (out .entry)) pos (C.wholeBits (now (b .entry)) (now (m .entry)) i at) (now (out .exit)) r ⌝ }
@@ -146,7 +147,7 @@ fn put_flat(
     pos: usize,
 ) -> usize
     requires { ⌜ Room (now out) pos ⌝ }
-    requires { ⌜ (Accepted (now b) (now dir)) × (FlatSound (length (P.parse (now b) .structs)) k) × (length (now m) ≤ 16777215) ⌝ }
+    requires { ⌜ (Accepted (now b) (now dir)) × (FlatSound (length (P.parse (now b) .structs)) k) × (WithinSize (now m)) ⌝ }
     requires { ⌜ (at + S.flatWidth (S.structSize (P.parse (now b))) k ≤ length (now m)) × (bit < 8) × (at < 2 ^ 60) ⌝ }
     requires { ⌜ D.FlatReadable (P.parse (now b)) (now m) k at ⌝ }
     ensures { λ r. ⌜ Puts (now (out .entry)) pos (C.flatBits (now (b .entry)) (now (m .entry)) k none at bit) (now (out .exit)) r ⌝ }
@@ -204,7 +205,7 @@ fn put_blob_reference(
     pos: usize,
 ) -> usize
     requires { ⌜ Room (now out) pos ⌝ }
-    requires { ⌜ length (now m) ≤ 16777215 ⌝ }
+    requires { ⌜ WithinSize (now m) ⌝ }
     requires { ⌜ ((x ≡ 0 → ⊥) → D.BlobInside B.u48 (now m) (T.placeOf inplace tail x)) ⌝ }
     ensures { λ r. ⌜ Puts (now (out .entry)) pos (Bt.blobReferenceAt B.u48 (now (m .entry)) inplace tail x) (now (out .exit)) r ⌝ }
 {
@@ -236,7 +237,7 @@ fn put_flat_member(
     pos: usize,
 ) -> usize
     requires { ⌜ Room (now out) pos ⌝ }
-    requires { ⌜ (Accepted (now b) (now dir)) × (length (now m) ≤ 16777215) × (KindSound (P.parse (now b)) (q .kind)) ⌝ }
+    requires { ⌜ (Accepted (now b) (now dir)) × (WithinSize (now m)) × (KindSound (P.parse (now b)) (q .kind)) ⌝ }
     requires { ⌜ (q .here ≡ true → q .at + L.width B.u48 (P.parse (now b)) (q .kind) ≤ length (now m)) × (q .bit < 8) × (q .at < 2 ^ 60) ⌝ }
     requires { ⌜ (q .here ≡ true → D.ValueReadable (P.parse (now b)) (now m) (q .kind) (q .at)) ⌝ }
     ensures { λ r. ⌜ Puts (now (out .entry)) pos (C.memberBits (now (b .entry)) (now (m .entry)) (q .kind) (q .none) (q .here) (q .at) (q .bit)) (now (out .exit)) r ⌝ }
@@ -274,7 +275,7 @@ fn member_at(
     c: Cursor,
 ) -> PlacedMember
     requires { ⌜ (Accepted (now b) (now dir)) × (t < P.tableCount (now b)) × (j < length (Sc.tableOf (P.parse (now b)) t .members)) × (j < 256) ⌝ }
-    requires { ⌜ (part .start + part .length ≤ length (now m)) × (length (now m) ≤ 16777215) × (Laid (4097 * j) c) ⌝ }
+    requires { ⌜ (part .start + part .length ≤ length (now m)) × (WithinSize (now m)) × (Laid (4097 * j) c) ⌝ }
     ensures { λ q. ⌜ MemberAt B.u48 (P.parse (now (b .entry))) (now (m .entry)) t j (part .start) (part .length) c (q .kind) (q .none) (q .inplace) (q .here) (q .at) (q .bit) (q .next) ⌝ }
 {
     let r = schema::member(b, dir, t, j);
@@ -345,7 +346,7 @@ fn optional_code(k: usize) -> usize
 
 // Where an optional integer stands in the fixed part; at its end, if the flag says that there is none.
 fn optional_end(m: &[u8], part: Content, c: Cursor) -> usize
-    requires { ⌜ (part .start + part .length ≤ length (now m)) × (length (now m) ≤ 16777215) × (c .end < 2 ^ 57) × (c .byte ≤ c .end) × (c .bit ≤ 8) ⌝ }
+    requires { ⌜ (part .start + part .length ≤ length (now m)) × (WithinSize (now m)) × (c .end < 2 ^ 57) × (c .byte ≤ c .end) × (c .bit ≤ 8) ⌝ }
     ensures { λ r. ⌜ (r ≡ Bt.optionalEnd (now (m .entry)) (part .start) (part .length) c) × (r < 2 ^ 58) ⌝ }
 {
     let at = message_layout::bit_byte(c);
@@ -361,7 +362,7 @@ fn optional_end(m: &[u8], part: Content, c: Cursor) -> usize
 
 // Where a number stands that has the code q.
 fn coded_end(m: &[u8], q: usize, part: Content, c: Cursor) -> usize
-    requires { ⌜ (part .start + part .length ≤ length (now m)) × (length (now m) ≤ 16777215) × (c .end < 2 ^ 57) × (c .byte ≤ c .end) × (c .bit ≤ 8) ⌝ }
+    requires { ⌜ (part .start + part .length ≤ length (now m)) × (WithinSize (now m)) × (c .end < 2 ^ 57) × (c .byte ≤ c .end) × (c .bit ≤ 8) ⌝ }
     ensures { λ r. ⌜ (r ≡ Bt.codedEnd (now (m .entry)) q (part .start) (part .length) c) × (r < 2 ^ 58) ⌝ }
 {
     if q < 16 {
@@ -384,7 +385,7 @@ fn coded_width(q: usize) -> usize
 // A bool that is not optional, where the cursor stands.
 fn put_bool(m: &[u8], out: &mut [u8], part: Content, c: Cursor, pos: usize) -> usize
     requires { ⌜ Room (now out) pos ⌝ }
-    requires { ⌜ (part .start + part .length ≤ length (now m)) × (length (now m) ≤ 16777215) × (c .byte ≤ c .end) ⌝ }
+    requires { ⌜ (part .start + part .length ≤ length (now m)) × (WithinSize (now m)) × (c .byte ≤ c .end) ⌝ }
     ensures { λ r. ⌜ Puts (now (out .entry)) pos (Bt.boolAt (now (m .entry)) (part .start) (part .length) c) (now (out .exit)) r ⌝ }
 {
     let at = message_layout::bit_byte(c);
@@ -411,7 +412,7 @@ fn put_optional_float(
     pos: usize,
 ) -> usize
     requires { ⌜ Room (now out) pos ⌝ }
-    requires { ⌜ (part .start + part .length ≤ length (now m)) × (length (now m) ≤ 16777215) × (c .end < 2 ^ 57) × (w ≤ 8) ⌝ }
+    requires { ⌜ (part .start + part .length ≤ length (now m)) × (WithinSize (now m)) × (c .end < 2 ^ 57) × (w ≤ 8) ⌝ }
     ensures { λ r. ⌜ Puts (now (out .entry)) pos (Bt.optionalFloatAt (now (m .entry)) w (part .start) (part .length) c) (now (out .exit)) r ⌝ }
 {
     if part.length < c.end + w {
@@ -429,7 +430,7 @@ fn put_optional_float(
 // A member whose code q says that it is a bool, an optional float or an enum.
 fn put_other(m: &[u8], out: &mut [u8], q: usize, part: Content, c: Cursor, pos: usize) -> usize
     requires { ⌜ Room (now out) pos ⌝ }
-    requires { ⌜ (part .start + part .length ≤ length (now m)) × (length (now m) ≤ 16777215) × (c .end < 2 ^ 57) × (c .byte ≤ c .end) × (Small q) ⌝ }
+    requires { ⌜ (part .start + part .length ≤ length (now m)) × (WithinSize (now m)) × (c .end < 2 ^ 57) × (c .byte ≤ c .end) × (Small q) ⌝ }
     ensures { λ r. ⌜ Puts (now (out .entry)) pos (Bt.otherAt (now (m .entry)) q (part .start) (part .length) c) (now (out .exit)) r ⌝ }
 {
     if q <= 32 {
@@ -452,7 +453,7 @@ fn put_other(m: &[u8], out: &mut [u8], q: usize, part: Content, c: Cursor, pos: 
 // A member that has the code q.
 fn put_coded(m: &[u8], out: &mut [u8], q: usize, part: Content, c: Cursor, pos: usize) -> usize
     requires { ⌜ Room (now out) pos ⌝ }
-    requires { ⌜ (part .start + part .length ≤ length (now m)) × (length (now m) ≤ 16777215) × (c .end < 2 ^ 57) × (c .byte ≤ c .end) × (c .bit ≤ 8) × (Small q) ⌝ }
+    requires { ⌜ (part .start + part .length ≤ length (now m)) × (WithinSize (now m)) × (c .end < 2 ^ 57) × (c .byte ≤ c .end) × (c .bit ≤ 8) × (Small q) ⌝ }
     ensures { λ r. ⌜ Puts (now (out .entry)) pos (Bt.codedAt (now (m .entry)) q (part .start) (part .length) c) (now (out .exit)) r ⌝ }
 {
     if 32 <= q {
@@ -506,7 +507,7 @@ fn put_lead(
     pos: usize,
 ) -> usize
     requires { ⌜ Room (now out) pos ⌝ }
-    requires { ⌜ (Accepted (now b) (now dir)) × (length (now m) ≤ 16777215) × (at + 1 < length (now b)) × (KindSound (P.parse (now b)) (P.memberAt (now b) at .kind)) ⌝ }
+    requires { ⌜ (Accepted (now b) (now dir)) × (WithinSize (now m)) × (at + 1 < length (now b)) × (KindSound (P.parse (now b)) (P.memberAt (now b) at .kind)) ⌝ }
     requires { ⌜ (part .start + part .length ≤ length (now m)) × (12 < P.kindAt (now b) at) × (P.kindAt (now b) at < 18) × (c .end < 2 ^ 58) ⌝ }
     requires { ⌜ C.LeadReadable d (now b) (now m) at (part .start) (part .length) c ⌝ }
     ensures { λ r. ⌜ Puts (now (out .entry)) pos (C.leadBits d (now (b .entry)) (now (m .entry)) at (part .start) (part .length) c) (now (out .exit)) r ⌝ }
@@ -548,7 +549,7 @@ fn put_reference(
     pos: usize,
 ) -> usize
     requires { ⌜ Room (now out) pos ⌝ }
-    requires { ⌜ (Accepted (now b) (now dir)) × (length (now m) ≤ 16777215) ⌝ }
+    requires { ⌜ (Accepted (now b) (now dir)) × (WithinSize (now m)) ⌝ }
     requires { ⌜ C.StepReadable d (now b) (now m) (T.objectStep ob inplace tail x) ⌝ }
     ensures { λ r. ⌜ Puts (now (out .entry)) pos (C.referenceBits d (now (b .entry)) (now (m .entry)) ob inplace tail x) (now (out .exit)) r ⌝ }
 {
@@ -575,7 +576,7 @@ fn put_union(
     pos: usize,
 ) -> usize
     requires { ⌜ Room (now out) pos ⌝ }
-    requires { ⌜ (Accepted (now b) (now dir)) × (length (now m) ≤ 16777215) × (u < P.unionCount (now b)) ⌝ }
+    requires { ⌜ (Accepted (now b) (now dir)) × (WithinSize (now m)) × (u < P.unionCount (now b)) ⌝ }
     requires { ⌜ C.StepReadable d (now b) (now m) (T.unionStep (Sc.casesOf (P.parse (now b)) u) inplace tail c x) ⌝ }
     ensures { λ r. ⌜ Puts (now (out .entry)) pos (C.choiceBits d (now (b .entry)) (now (m .entry)) u inplace tail c x) (now (out .exit)) r ⌝ }
 {
@@ -603,7 +604,7 @@ fn put_object(
     pos: usize,
 ) -> usize
     requires { ⌜ Room (now out) pos ⌝ }
-    requires { ⌜ (Accepted (now b) (now dir)) × (length (now m) ≤ 16777215) ⌝ }
+    requires { ⌜ (Accepted (now b) (now dir)) × (WithinSize (now m)) ⌝ }
     requires { ⌜ C.ObjectReadable d (now b) (now m) ob place ⌝ }
     ensures { λ r. ⌜ Puts (now (out .entry)) pos (C.objectBits d (now (b .entry)) (now (m .entry)) ob place) (now (out .exit)) r ⌝ }
 {
@@ -625,7 +626,7 @@ fn put_content(
     pos: usize,
 ) -> usize
     requires { ⌜ Room (now out) pos ⌝ }
-    requires { ⌜ (Accepted (now b) (now dir)) × (length (now m) ≤ 16777215) ⌝ }
+    requires { ⌜ (Accepted (now b) (now dir)) × (WithinSize (now m)) ⌝ }
     requires { ⌜ C.ContentReadable d (now b) (now m) ob (part .start) (part .length) ⌝ }
     ensures { λ r. ⌜ Puts (now (out .entry)) pos (C.contentBits d (now (b .entry)) (now (m .entry)) ob (part .start) (part .length)) (now (out .exit)) r ⌝ }
 {
@@ -649,7 +650,7 @@ fn put_table(
     pos: usize,
 ) -> usize
     requires { ⌜ Room (now out) pos ⌝ }
-    requires { ⌜ (Accepted (now b) (now dir)) × (length (now m) ≤ 16777215) × (t < P.tableCount (now b)) × (part .start + part .length ≤ length (now m)) ⌝ }
+    requires { ⌜ (Accepted (now b) (now dir)) × (WithinSize (now m)) × (t < P.tableCount (now b)) × (part .start + part .length ≤ length (now m)) ⌝ }
     requires { ⌜ C.TableReadable d (now b) (now m) t (part .start) (part .length) ⌝ }
     ensures { λ r. ⌜ Puts (now (out .entry)) pos (C.tableBits d (now (b .entry)) (now (m .entry)) t (part .start) (part .length)) (now (out .exit)) r ⌝ }
 {
@@ -697,7 +698,7 @@ fn put_list(
     pos: usize,
 ) -> usize
     requires { ⌜ Room (now out) pos ⌝ }
-    requires { ⌜ (Accepted (now b) (now dir)) × (length (now m) ≤ 16777215) × (i < P.listCount (now b)) ⌝ }
+    requires { ⌜ (Accepted (now b) (now dir)) × (WithinSize (now m)) × (i < P.listCount (now b)) ⌝ }
     requires { ⌜ C.ListInside (now b) (now m) i (part .start) (part .length) ⌝ }
     requires { ⌜ C.ListReadable d (now b) (now m) i (part .start) (part .length) ⌝ }
     ensures { λ r. ⌜ Puts (now (out .entry)) pos (C.listBits d (now (b .entry)) (now (m .entry)) i (part .start) (part .length)) (now (out .exit)) r ⌝ }
@@ -735,7 +736,7 @@ fn put_references(
     pos: usize,
 ) -> usize
     requires { ⌜ Room (now out) pos ⌝ }
-    requires { ⌜ (Accepted (now b) (now dir)) × (length (now m) ≤ 16777215) × (part .start + 6 * part .length ≤ length (now m)) ⌝ }
+    requires { ⌜ (Accepted (now b) (now dir)) × (WithinSize (now m)) × (HasOffsets (now m) (part .start) (part .length)) ⌝ }
     requires { ⌜ C.ElementsReadable d (now b) (now m) (Kind.OfObject ob) (part .start) (part .length) ⌝ }
     ensures { λ r. ⌜ Puts (now (out .entry)) pos (C.elementsBits d (now (b .entry)) (now (m .entry)) (Kind.OfObject ob) (part .start) (part .length)) (now (out .exit)) r ⌝ }
 {
@@ -767,7 +768,7 @@ fn put_choices(
     pos: usize,
 ) -> usize
     requires { ⌜ Room (now out) pos ⌝ }
-    requires { ⌜ (Accepted (now b) (now dir)) × (length (now m) ≤ 16777215) × (u < P.unionCount (now b)) × (part .start + 8 * part .length ≤ length (now m)) ⌝ }
+    requires { ⌜ (Accepted (now b) (now dir)) × (WithinSize (now m)) × (u < P.unionCount (now b)) × (HasUnions (now m) (part .start) (part .length)) ⌝ }
     requires { ⌜ C.ElementsReadable d (now b) (now m) (Kind.OfUnion u) (part .start) (part .length) ⌝ }
     ensures { λ r. ⌜ Puts (now (out .entry)) pos (C.elementsBits d (now (b .entry)) (now (m .entry)) (Kind.OfUnion u) (part .start) (part .length)) (now (out .exit)) r ⌝ }
 {

@@ -6,6 +6,7 @@ ghost use lib.ListN.{length, getD};
 ghost use lib.Dec.{eqb};
 ghost use Rattle.coding.specs.Bytes as B;
 ghost use Rattle.wire.specs.Numbers.{Number};
+ghost use Rattle.wire.specs.Sizes.{HasOffset};
 
 // ---- sizes of the coding
 // The bytes of an offset, and of a length.
@@ -80,7 +81,7 @@ pub fn u48_in(m: &[u8], at: usize) -> u64
 
 // An offset or a length whose bytes are there.
 pub fn offset_in(m: &[u8], at: usize) -> usize
-    requires { ⌜ at + 6 ≤ length (now m) ⌝ }
+    requires { ⌜ HasOffset (now m) at ⌝ }
     ensures { λ r. ⌜ (r ≡ B.le (now (m .entry)) at B.u48) × (r < 2 ^ 48) ⌝ }
 {
     u48_in(m, at) as usize

@@ -1,4 +1,5 @@
 // Writing a message from a value sheet: the sheet is surveyed first, and then one pass over it stores the message.
+use coding::Verdict;
 use coding::WriteAnswer;
 use message_header::TableObject;
 use write_measure::Extent;
@@ -95,4 +96,15 @@ pub fn write(b: &[u8], s: &[u8], out: &mut [u8]) -> WriteAnswer
         return write_judged(b, &dir, s, out);
     }
     refused(1)
+}
+
+// Number, place and visits of a writer's answer: 0 or the refusal's number, at 0, with no visits.
+pub fn verdict_of(answer: WriteAnswer) -> Verdict
+    ensures { λ r. ⌜ r ≡ M.writeVerdict answer ⌝ }
+{
+    Verdict {
+        number: answer.number,
+        place: 0,
+        visits: 0,
+    }
 }

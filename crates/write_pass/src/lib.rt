@@ -34,6 +34,7 @@ ghost use Rattle.write_measure.specs.SurveyBy.{Inside};
 ghost use Rattle.write_pass.specs.EmitBy as By;
 ghost use Rattle.write_pass.specs.Emitting as Eg;
 ghost use Rattle.write_pass.specs.Emitting.{Room, EmittedAt};
+ghost use Rattle.wire.specs.Sizes.{WithinSize};
 
 // ---- flat values: bools, numbers, enums and structs, which lead to no object
 // Whether a part of the sheet is lawful; if so, where the message goes on behind it, and where the sheet does. The bool stands
@@ -1289,7 +1290,7 @@ fn emit_content(
 // ---- the whole message
 // The message's start and the root table, which takes e, into a buffer of the message's length.
 pub fn emit_message(b: &[u8], dir: &[u16], s: &[u8], e: Extent, out: &mut [u8]) -> Emitted
-    requires { ⌜ (Accepted (now b) (now dir)) × (length (now s) ≤ 16777215) × (Measured false (Sv.survey B.deepest B.u48 (P.parse (now b)) (Object.Table (P.parse (now b) .root)) (bits (now s))) e) ⌝ }
+    requires { ⌜ (Accepted (now b) (now dir)) × (WithinSize (now s)) × (Measured false (Sv.survey B.deepest B.u48 (P.parse (now b)) (Object.Table (P.parse (now b) .root)) (bits (now s))) e) ⌝ }
     ensures { λ r. ⌜ Eg.MessageAt (now (s .entry)) (Es.emitMessage B.u48 (P.parse (now (b .entry))) (now (out .entry)) (bits (now (s .entry)))) (r .whole) (r .places) (now (out .exit)) (r .next) ⌝ }
 {
     let start = Places {
