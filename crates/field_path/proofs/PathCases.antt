@@ -46,22 +46,22 @@ root-found o S m path ob p eo ep f ef r e =
     (ef ∙ ap (λ (q : Object). Field.arrived 32 o S m q p) eo ∙ ap (Field.arrived 32 o S m (O.Table (S .root))) ep)
 
 -- ---- what comes first
-module _ (o : ℕ) (b dir m path : List ℕ) (a : Accepted b dir) (r : Found) where
-  pub found-far : 96 < length path → r ≡ Fd.Refused (W.refusal 15 0) → r ≡ Field.fieldFound o b m path
+module _ (b dir m path : List ℕ) (a : Accepted b dir) (r : Found) where
+  pub found-far : 96 < length path → r ≡ Fd.Refused (W.refusal 15 0) → r ≡ Field.fieldFound u48 b m path
   unfolding Field.fieldFound Field.before
   found-far h e = simp (a .lawful, lt-leb _ _ h) e
 
-  module _ (h : length path ≤ 96) (s : Bool) (es : s ≡ W.sizeOk o m) where
-    pub found-size : s ≡ false → r ≡ Fd.Refused (W.refusal 2 0) → r ≡ Field.fieldFound o b m path
+  module _ (h : length path ≤ 96) (s : Bool) (es : s ≡ W.sizeOk u48 m) where
+    pub found-size : s ≡ false → r ≡ Fd.Refused (W.refusal 2 0) → r ≡ Field.fieldFound u48 b m path
     unfolding Field.fieldFound Field.before
     found-size f e = simp (a .lawful, le-leb _ _ h, ← es, f) e
 
     module _ (g : s ≡ true) (t : Bool) (et : t ≡ W.startOk m) where
-      pub found-there : t ≡ true → r ≡ Field.found o (P.parse b) m path → r ≡ Field.fieldFound o b m path
+      pub found-there : t ≡ true → r ≡ Field.found u48 (P.parse b) m path → r ≡ Field.fieldFound u48 b m path
       unfolding Field.fieldFound
       found-there f e = simp (a .lawful, le-leb _ _ h, ← es, g, ← et, f) e
 
-      pub found-other : t ≡ false → r ≡ Fd.Refused (W.refusal 3 0) → r ≡ Field.fieldFound o b m path
+      pub found-other : t ≡ false → r ≡ Fd.Refused (W.refusal 3 0) → r ≡ Field.fieldFound u48 b m path
       unfolding Field.fieldFound Field.before
       found-other f e = simp (a .lawful, le-leb _ _ h, ← es, g, ← et, f) e
 
@@ -83,10 +83,10 @@ pub refused-within : (o : ℕ) (S : Schema) (m : List ℕ) (n at : ℕ) (r : Fou
 refused-within o S m n at r e = rw e tt
 
 -- ---- the schema
-pub unlawful : (o : ℕ) (b dir m path : List ℕ) (t : Bool) → Judged b dir t → t ≡ false → Field.fieldFound o b m path ≡ Fd.Refused (W.refusal 1 0)
+pub unlawful : (b dir m path : List ℕ) (t : Bool) → Judged b dir t → t ≡ false → Field.fieldFound u48 b m path ≡ Fd.Refused (W.refusal 1 0)
 unfolding Field.fieldFound Field.before
-unlawful o b dir m path t j f = simp (← (j .is), f)
+unlawful b dir m path t j f = simp (← (j .is), f)
 
-pub found-unlawful : (o : ℕ) (b dir m path : List ℕ) (t : Bool) → Judged b dir t → t ≡ false → (r : Found) → r ≡ Fd.Refused (W.refusal 1 0)
-    → r ≡ Field.fieldFound o b m path
-found-unlawful o b dir m path t j f r e = e ∙ sym (unlawful o b dir m path t j f)
+pub found-unlawful : (b dir m path : List ℕ) (t : Bool) → Judged b dir t → t ≡ false → (r : Found) → r ≡ Fd.Refused (W.refusal 1 0)
+    → r ≡ Field.fieldFound u48 b m path
+found-unlawful b dir m path t j f r e = e ∙ sym (unlawful b dir m path t j f)
