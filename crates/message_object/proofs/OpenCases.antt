@@ -29,7 +29,7 @@ use Rattle.message_header.specs.declared.Header.{Header}
 use Rattle.message_header.specs.declared.Header.the-variants as Hd
 use Rattle.message_header.specs.Headers.{headerOf, fitted, Small, EndInside}
 use Rattle.message_header.proofs.ContentCases.{list-there, fit-is, size-text, size-table}
-use Rattle.message_object.specs.Fit.{EndsInside}
+use Rattle.message_object.specs.Fit.{announced, EndsInside}
 
 -- ---- the header of each object
 module _ (S : Schema) (m : List ℕ) (ob : Object) (x : ℕ) (r : Header) where
@@ -65,19 +65,14 @@ module _ (g : Header) (start n : ℕ) (small : Small g) (e : g ≡ Hd.Content st
   small-text size f = let h = small-length in omega arith
 
 -- ---- an object by its offset, and in place
--- what a header announces, if it fits
-abbrev announced : Schema → List ℕ → Object → Header → Opened
-announced S m ob (Hd.Refused n) = Op.Refused n
-announced S m ob (Hd.Content start n) = W.fitContent u48 S m ob start n
-
 by-header : (S : Schema) (m : List ℕ) (ob : Object) (x : ℕ)
-    → announced S m ob (headerOf u48 (W.magic S ob) (W.headerSize u48) m x) ≡ W.fitObject u48 S m ob (ByOffset x)
+    → announced u48 S m ob (headerOf u48 (W.magic S ob) (W.headerSize u48) m x) ≡ W.fitObject u48 S m ob (ByOffset x)
 unfolding W.fitObject headerOf
 by-header S m ob x =
     by (leb (W.startSize u48) x && leb (x + W.headerSize u48) (length m)) (eqb (le m x 4) (W.magic S ob))
   where
     by : (t u : Bool)
-        → announced S m ob (pick t (pick u (Hd.Content (x + W.headerSize u48) (le m (x + 4) u48)) (Hd.Refused 7)) (Hd.Refused 6))
+        → announced u48 S m ob (pick t (pick u (Hd.Content (x + W.headerSize u48) (le m (x + 4) u48)) (Hd.Refused 7)) (Hd.Refused 6))
         ≡ pick t (pick u (W.fitContent u48 S m ob (x + W.headerSize u48) (le m (x + 4) u48)) (Op.Refused 7)) (Op.Refused 6)
     by true true = refl
     by true false = refl
@@ -85,18 +80,25 @@ by-header S m ob x =
 
 module _ (S : Schema) (m : List ℕ) (ob : Object) (p : Place) where
   module _ (x : ℕ) (e : p ≡ ByOffset x) (g : Header) (eg : g ≡ headerOf u48 (W.magic S ob) (W.headerSize u48) m x) where
-    announced-is : announced S m ob g ≡ W.fitObject u48 S m ob p
-    announced-is = ap (announced S m ob) eg ∙ by-header S m ob x ∙ ap (W.fitObject u48 S m ob) (sym e)
+    pub announced-is : announced u48 S m ob g ≡ W.fitObject u48 S m ob p
+    announced-is = ap (announced u48 S m ob) eg ∙ by-header S m ob x ∙ ap (W.fitObject u48 S m ob) (sym e)
 
     pub fit-refused : (n : ℕ) → g ≡ Hd.Refused n → Op.Refused n ≡ W.fitObject u48 S m ob p
-    fit-refused n f = sym (ap (announced S m ob) f) ∙ announced-is
+    fit-refused n f = sym (ap (announced u48 S m ob) f) ∙ announced-is
 
     pub fit-offset : (start n : ℕ) (r : Opened) → g ≡ Hd.Content start n → r ≡ W.fitContent u48 S m ob start n → r ≡ W.fitObject u48 S m ob p
-    fit-offset start n r f q = q ∙ sym (ap (announced S m ob) f) ∙ announced-is
+    fit-offset start n r f q = q ∙ sym (ap (announced u48 S m ob) f) ∙ announced-is
 
-  pub fit-inplace : (a n : ℕ) (r : Opened) → p ≡ InPlace a n → r ≡ W.fitContent u48 S m ob a n → r ≡ W.fitObject u48 S m ob p
+  pub announced-inplace : (a n : ℕ) → p ≡ InPlace a n → W.fitContent u48 S m ob a n ≡ W.fitObject u48 S m ob p
   unfolding W.fitObject
-  fit-inplace a n r e q = rw e q
+  announced-inplace a n e = rw e
+
+  module _ (g : Header) (eg : announced u48 S m ob g ≡ W.fitObject u48 S m ob p) where
+    pub placed-refused : (n : ℕ) → g ≡ Hd.Refused n → Op.Refused n ≡ W.fitObject u48 S m ob p
+    placed-refused n f = sym (ap (announced u48 S m ob) f) ∙ eg
+
+    pub placed-fit : (start n : ℕ) (r : Opened) → g ≡ Hd.Content start n → r ≡ W.fitContent u48 S m ob start n → r ≡ W.fitObject u48 S m ob p
+    placed-fit start n r f q = q ∙ sym (ap (announced u48 S m ob) f) ∙ eg
 
 -- a text by its offset
 module _ (S : Schema) (m : List ℕ) (x : ℕ) (g : Header) (eg : g ≡ headerOf u48 0xD812C8F5 10 m x) where
@@ -166,7 +168,7 @@ content-fits S m ob a k start n e = by (leb (a + W.contentSize u48 S ob k) (leng
         subst (λ (x : ℕ). x + W.contentSize u48 S ob n ≤ length m) p (subst (λ (x : ℕ). a + W.contentSize u48 S ob x ≤ length m) q (leb-true _ _ l))
     by false l f = let z : _≡_ {A = ℕ} 0 1 = cc in absurd (omega arith)
 
-announced-fits : (S : Schema) (m : List ℕ) (ob : Object) (start n : ℕ) (g : Header) → announced S m ob g ≡ Op.Content start n
+announced-fits : (S : Schema) (m : List ℕ) (ob : Object) (start n : ℕ) (g : Header) → announced u48 S m ob g ≡ Op.Content start n
     → start + W.contentSize u48 S ob n ≤ length m
 announced-fits S m ob start n (Hd.Refused k) e = let z : _≡_ {A = ℕ} 0 1 = cc in absurd (omega arith)
 announced-fits S m ob start n (Hd.Content a k) e = content-fits S m ob a k start n e

@@ -33,17 +33,26 @@ fn header_of(b: &[u8], dir: &[u16], m: &[u8], ob: Object, at: usize) -> Header
     }
 }
 
+// Where the content of the object at a place starts, and its length: behind its header, or in place. Both ways meet here, so that
+// the compiler makes one piece of what follows.
+fn content_at(b: &[u8], dir: &[u16], m: &[u8], ob: Object, p: Place) -> Header
+    requires { ⌜ (Accepted (now b) (now dir)) × (ObjectSound (P.parse (now b)) ob) × D.PlaceSmall p ⌝ }
+    ensures { λ r. ⌜ (Fs.announced B.u48 (P.parse (now (b .entry))) (now (m .entry)) ob r ≡ W.fitObject B.u48 (P.parse (now (b .entry))) (now (m .entry)) ob p) × Hs.Small r ⌝ }
+{
+    match p {
+        Place::ByOffset(x) => header_of(b, dir, m, ob, x),
+        Place::InPlace(a, n) => Header::Content(a, n),
+    }
+}
+
 // An object at its place: offset and header, magic, content.
 pub fn fit_object(b: &[u8], dir: &[u16], m: &[u8], ob: Object, p: Place) -> Opened
     requires { ⌜ (Accepted (now b) (now dir)) × (ObjectSound (P.parse (now b)) ob) × D.PlaceSmall p ⌝ }
     ensures { λ r. ⌜ r ≡ W.fitObject B.u48 (P.parse (now (b .entry))) (now (m .entry)) ob p ⌝ }
 {
-    match p {
-        Place::ByOffset(x) => match header_of(b, dir, m, ob, x) {
-            Header::Refused(e) => Opened::Refused(e),
-            Header::Content(start, n) => message_header::fit_content(b, dir, m, ob, start, n),
-        },
-        Place::InPlace(a, n) => message_header::fit_content(b, dir, m, ob, a, n),
+    match content_at(b, dir, m, ob, p) {
+        Header::Refused(e) => Opened::Refused(e),
+        Header::Content(start, n) => message_header::fit_content(b, dir, m, ob, start, n),
     }
 }
 
