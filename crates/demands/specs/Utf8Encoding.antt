@@ -42,96 +42,10 @@ pub record Reading (xs : List ℕ) : Type 0 where
   pub scalars : All Scalar values
   pub encodes : encodeAll values ≡ xs
 
--- ---- a scalar value's encoding is a character
-by-less : {P : Type 0} (v k : ℕ) → (v < k → P) → (k ≤ v → P) → P
-by-less {P} v k f g = go (ltb v k) (ltb-true v k) (ltb-false v k)
-  where
-    go : (t : Bool) → (t ≡ true → v < k) → (t ≡ false → k ≤ v) → P
-    go true p q = f (p refl)
-    go false p q = g (q refl)
-
+-- ---- a character is a scalar value's encoding
 in-range : (low high x : ℕ) → low ≤ x → x ≤ high → Within low high x
 in-range low high x h k = record { least = h; most = k }
 
-tail-of : (x : ℕ) → Tail (0x80 + x % 64)
-tail-of x = in-range 0x80 0xBF (0x80 + x % 64) (omega arith) (omega arith)
-
-module _ (v : ℕ) where
-  abbrev ThreeOf : List ℕ
-  ThreeOf = (0xE0 + v / 64 / 64) ∷ (0x80 + v / 64 % 64) ∷ (0x80 + v % 64) ∷ []
-
-  abbrev FourOf : List ℕ
-  FourOf = (0xF0 + v / 64 / 64 / 64) ∷ (0x80 + v / 64 / 64 % 64) ∷ (0x80 + v / 64 % 64) ∷ (0x80 + v % 64) ∷ []
-
-  two-of : 0x80 ≤ v → v < 0x800 → TwoOctets ((0xC0 + v / 64) ∷ (0x80 + v % 64) ∷ [])
-  two-of h k = two (in-range 0xC2 0xDF (0xC0 + v / 64) (omega arith) (omega arith)) (tail-of v)
-
-  three-at-E0 : 0x800 ≤ v → v < 0x1000 → ThreeOctets ThreeOf
-  three-at-E0 h k =
-      let z : v / 64 / 64 ≡ 0 = omega arith in
-      rw z (three-E0 (in-range 0xA0 0xBF (0x80 + v / 64 % 64) (omega arith) (omega arith)) (tail-of v))
-
-  three-at-E1 : 0x1000 ≤ v → v < 0xD000 → ThreeOctets ThreeOf
-  three-at-E1 h k =
-      three-E1 (in-range 0xE1 0xEC (0xE0 + v / 64 / 64) (omega arith) (omega arith)) (tail-of (v / 64)) (tail-of v)
-
-  three-at-ED : 0xD000 ≤ v → v ≤ 0xD7FF → ThreeOctets ThreeOf
-  three-at-ED h k =
-      let z : v / 64 / 64 ≡ 13 = omega arith in
-      rw z (three-ED (in-range 0x80 0x9F (0x80 + v / 64 % 64) (omega arith) (omega arith)) (tail-of v))
-
-  three-at-EE : 0xE000 ≤ v → v < 0x10000 → ThreeOctets ThreeOf
-  three-at-EE h k =
-      three-EE (in-range 0xEE 0xEF (0xE0 + v / 64 / 64) (omega arith) (omega arith)) (tail-of (v / 64)) (tail-of v)
-
-  three-of : Scalar v → 0x800 ≤ v → v < 0x10000 → ThreeOctets ThreeOf
-  three-of (below-surrogates m) h k =
-      by-less v 0x1000 (three-at-E0 h) (λ p. by-less v 0xD000 (three-at-E1 p) (λ q. three-at-ED q m))
-  three-of (above-surrogates l m) h k = three-at-EE l k
-
-  four-at-F0 : 0x10000 ≤ v → v < 0x40000 → FourOctets FourOf
-  four-at-F0 h k =
-      let z : v / 64 / 64 / 64 ≡ 0 = omega arith in
-      rw z
-      (four-F0 (in-range 0x90 0xBF (0x80 + v / 64 / 64 % 64) (omega arith) (omega arith)) (tail-of (v / 64)) (tail-of v))
-
-  four-at-F1 : 0x40000 ≤ v → v < 0x100000 → FourOctets FourOf
-  four-at-F1 h k =
-      four-F1 (in-range 0xF1 0xF3 (0xF0 + v / 64 / 64 / 64) (omega arith) (omega arith)) (tail-of (v / 64 / 64)) (tail-of (v / 64)) (tail-of v)
-
-  four-at-F4 : 0x100000 ≤ v → v ≤ 0x10FFFF → FourOctets FourOf
-  four-at-F4 h k =
-      let z : v / 64 / 64 / 64 ≡ 4 = omega arith in
-      rw z
-      (four-F4 (in-range 0x80 0x8F (0x80 + v / 64 / 64 % 64) (omega arith) (omega arith)) (tail-of (v / 64)) (tail-of v))
-
-  highest : Scalar v → v ≤ 0x10FFFF
-  highest (below-surrogates m) = omega arith
-  highest (above-surrogates l m) = m
-
-  four-of : v ≤ 0x10FFFF → 0x10000 ≤ v → FourOctets FourOf
-  four-of m h = by-less v 0x40000 (four-at-F0 h) (λ p. by-less v 0x100000 (four-at-F1 p) (λ q. four-at-F4 q m))
-
-  encode-character : Scalar v → Character (encode v)
-  unfolding encode
-  encode-character s =
-      pick-holds Character (ltb v 0x80) _ _
-      (λ e. let h = ltb-true v 0x80 e in of-one (one (in-range 0x00 0x7F v (omega arith) (omega arith))))
-      (λ e. pick-holds Character (ltb v 0x800) _ _
-      (λ f. of-two (two-of (ltb-false v 0x80 e) (ltb-true v 0x800 f)))
-      (λ f. pick-holds Character (ltb v 0x10000) _ _
-      (λ g. of-three (three-of s (ltb-false v 0x800 f) (ltb-true v 0x10000 g)))
-      (λ g. of-four (four-of (highest s) (ltb-false v 0x10000 g)))))
-
-encoded-characters : (vs : List ℕ) → All Scalar vs → Characters (encodeAll vs)
-unfolding encodeAll
-encoded-characters [] s = none
-encoded-characters (v ∷ vs) s = more (encode-character v (s .0)) (encoded-characters vs (s .1))
-
-pub reading-characters : (xs : List ℕ) → Reading xs → Characters xs
-reading-characters xs r = subst Characters (r .encodes) (encoded-characters (r .values) (r .scalars))
-
--- ---- a character is a scalar value's encoding
 low-scalar : (v : ℕ) → v ≤ 0xD7FF → Scalar v
 low-scalar v h = below-surrogates h
 
@@ -222,32 +136,28 @@ as-four a b c d r s t u h k =
           (rw (first, second, third) (omega arith)) (rw (first, second, last) (omega arith)) (rw (first, last-2) (omega arith)) (rw last-3 (omega arith));
     }
 
--- one range inside another
-wider : (l m low high x : ℕ) → low ≤ l → m ≤ high → Within l m x → Within low high x
-wider l m low high x h k r = record { least = omega arith; most = omega arith }
-
 three-value : {c : List ℕ} → ThreeOctets c → Value c
 three-value (three-E0 {b} {c} s t) =
-    as-three 0xE0 b c (in-range 0xE0 0xEF 0xE0 (omega arith) (omega arith)) (wider 0xA0 0xBF 0x80 0xBF b (omega arith) (omega arith) s) t
+    as-three 0xE0 b c (in-range 0xE0 0xEF 0xE0 (omega arith) (omega arith)) (in-range 0x80 0xBF b (omega arith) (omega arith)) t
     (omega arith) (low-scalar (threeValue 0xE0 b c) (omega arith))
 three-value (three-E1 {a} {b} {c} r s t) =
-    as-three a b c (wider 0xE1 0xEC 0xE0 0xEF a (omega arith) (omega arith) r) s t
+    as-three a b c (in-range 0xE0 0xEF a (omega arith) (omega arith)) s t
     (omega arith) (low-scalar (threeValue a b c) (omega arith))
 three-value (three-ED {b} {c} s t) =
-    as-three 0xED b c (in-range 0xE0 0xEF 0xED (omega arith) (omega arith)) (wider 0x80 0x9F 0x80 0xBF b (omega arith) (omega arith) s) t
+    as-three 0xED b c (in-range 0xE0 0xEF 0xED (omega arith) (omega arith)) (in-range 0x80 0xBF b (omega arith) (omega arith)) t
     (omega arith) (low-scalar (threeValue 0xED b c) (omega arith))
 three-value (three-EE {a} {b} {c} r s t) =
-    as-three a b c (wider 0xEE 0xEF 0xE0 0xEF a (omega arith) (omega arith) r) s t
+    as-three a b c (in-range 0xE0 0xEF a (omega arith) (omega arith)) s t
     (omega arith) (high-scalar (threeValue a b c) (omega arith) (omega arith))
 
 four-value : {c : List ℕ} → FourOctets c → Value c
 four-value (four-F0 {b} {c} {d} s t u) =
-    as-four 0xF0 b c d (in-range 0xF0 0xF4 0xF0 (omega arith) (omega arith)) (wider 0x90 0xBF 0x80 0xBF b (omega arith) (omega arith) s) t u
+    as-four 0xF0 b c d (in-range 0xF0 0xF4 0xF0 (omega arith) (omega arith)) (in-range 0x80 0xBF b (omega arith) (omega arith)) t u
     (omega arith) (omega arith)
 four-value (four-F1 {a} {b} {c} {d} r s t u) =
-    as-four a b c d (wider 0xF1 0xF3 0xF0 0xF4 a (omega arith) (omega arith) r) s t u (omega arith) (omega arith)
+    as-four a b c d (in-range 0xF0 0xF4 a (omega arith) (omega arith)) s t u (omega arith) (omega arith)
 four-value (four-F4 {b} {c} {d} s t u) =
-    as-four 0xF4 b c d (in-range 0xF0 0xF4 0xF4 (omega arith) (omega arith)) (wider 0x80 0x8F 0x80 0xBF b (omega arith) (omega arith) s) t u
+    as-four 0xF4 b c d (in-range 0xF0 0xF4 0xF4 (omega arith) (omega arith)) (in-range 0x80 0xBF b (omega arith) (omega arith)) t u
     (omega arith) (omega arith)
 
 character-value : {c : List ℕ} → Character c → Value c
@@ -263,6 +173,92 @@ characters-reading (more {c} {rest} h r) =
     let v = character-value h in
     let s = characters-reading r in
     record { values = v .value ∷ s .values; scalars = (v .scalar, s .scalars); encodes = rw (v .encodes, s .encodes) }
+
+-- ---- a scalar value's encoding is a character
+by-less : {P : Type 0} (v k : ℕ) → (v < k → P) → (k ≤ v → P) → P
+by-less {P} v k f g = go (ltb v k) (ltb-true v k) (ltb-false v k)
+  where
+    go : (t : Bool) → (t ≡ true → v < k) → (t ≡ false → k ≤ v) → P
+    go true p q = f (p refl)
+    go false p q = g (q refl)
+
+tail-of : (x : ℕ) → Tail (0x80 + x % 64)
+tail-of x = in-range 0x80 0xBF (0x80 + x % 64) (omega arith) (omega arith)
+
+module _ (v : ℕ) where
+  abbrev ThreeOf : List ℕ
+  ThreeOf = (0xE0 + v / 64 / 64) ∷ (0x80 + v / 64 % 64) ∷ (0x80 + v % 64) ∷ []
+
+  abbrev FourOf : List ℕ
+  FourOf = (0xF0 + v / 64 / 64 / 64) ∷ (0x80 + v / 64 / 64 % 64) ∷ (0x80 + v / 64 % 64) ∷ (0x80 + v % 64) ∷ []
+
+  two-of : 0x80 ≤ v → v < 0x800 → TwoOctets ((0xC0 + v / 64) ∷ (0x80 + v % 64) ∷ [])
+  two-of h k = two (in-range 0xC2 0xDF (0xC0 + v / 64) (omega arith) (omega arith)) (tail-of v)
+
+  three-at-E0 : 0x800 ≤ v → v < 0x1000 → ThreeOctets ThreeOf
+  three-at-E0 h k =
+      let z : v / 64 / 64 ≡ 0 = omega arith in
+      rw z (three-E0 (in-range 0xA0 0xBF (0x80 + v / 64 % 64) (omega arith) (omega arith)) (tail-of v))
+
+  three-at-E1 : 0x1000 ≤ v → v < 0xD000 → ThreeOctets ThreeOf
+  three-at-E1 h k =
+      three-E1 (in-range 0xE1 0xEC (0xE0 + v / 64 / 64) (omega arith) (omega arith)) (tail-of (v / 64)) (tail-of v)
+
+  three-at-ED : 0xD000 ≤ v → v ≤ 0xD7FF → ThreeOctets ThreeOf
+  three-at-ED h k =
+      let z : v / 64 / 64 ≡ 13 = omega arith in
+      rw z (three-ED (in-range 0x80 0x9F (0x80 + v / 64 % 64) (omega arith) (omega arith)) (tail-of v))
+
+  three-at-EE : 0xE000 ≤ v → v < 0x10000 → ThreeOctets ThreeOf
+  three-at-EE h k =
+      three-EE (in-range 0xEE 0xEF (0xE0 + v / 64 / 64) (omega arith) (omega arith)) (tail-of (v / 64)) (tail-of v)
+
+  three-of : Scalar v → 0x800 ≤ v → v < 0x10000 → ThreeOctets ThreeOf
+  three-of (below-surrogates m) h k =
+      by-less v 0x1000 (three-at-E0 h) (λ p. by-less v 0xD000 (three-at-E1 p) (λ q. three-at-ED q m))
+  three-of (above-surrogates l m) h k = three-at-EE l k
+
+  four-at-F0 : 0x10000 ≤ v → v < 0x40000 → FourOctets FourOf
+  four-at-F0 h k =
+      let z : v / 64 / 64 / 64 ≡ 0 = omega arith in
+      rw z
+      (four-F0 (in-range 0x90 0xBF (0x80 + v / 64 / 64 % 64) (omega arith) (omega arith)) (tail-of (v / 64)) (tail-of v))
+
+  four-at-F1 : 0x40000 ≤ v → v < 0x100000 → FourOctets FourOf
+  four-at-F1 h k =
+      four-F1 (in-range 0xF1 0xF3 (0xF0 + v / 64 / 64 / 64) (omega arith) (omega arith)) (tail-of (v / 64 / 64)) (tail-of (v / 64)) (tail-of v)
+
+  four-at-F4 : 0x100000 ≤ v → v ≤ 0x10FFFF → FourOctets FourOf
+  four-at-F4 h k =
+      let z : v / 64 / 64 / 64 ≡ 4 = omega arith in
+      rw z
+      (four-F4 (in-range 0x80 0x8F (0x80 + v / 64 / 64 % 64) (omega arith) (omega arith)) (tail-of (v / 64)) (tail-of v))
+
+  highest : Scalar v → v ≤ 0x10FFFF
+  highest (below-surrogates m) = omega arith
+  highest (above-surrogates l m) = m
+
+  four-of : v ≤ 0x10FFFF → 0x10000 ≤ v → FourOctets FourOf
+  four-of m h = by-less v 0x40000 (four-at-F0 h) (λ p. by-less v 0x100000 (four-at-F1 p) (λ q. four-at-F4 q m))
+
+  encode-character : Scalar v → Character (encode v)
+  unfolding encode
+  encode-character s =
+      pick-holds Character (ltb v 0x80) _ _
+      (λ e. let h = ltb-true v 0x80 e in of-one (one (in-range 0x00 0x7F v (omega arith) (omega arith))))
+      (λ e. pick-holds Character (ltb v 0x800) _ _
+      (λ f. of-two (two-of (ltb-false v 0x80 e) (ltb-true v 0x800 f)))
+      (λ f. pick-holds Character (ltb v 0x10000) _ _
+      (λ g. of-three (three-of s (ltb-false v 0x800 f) (ltb-true v 0x10000 g)))
+      (λ g. of-four (four-of (highest s) (ltb-false v 0x10000 g)))))
+
+encoded-characters : (vs : List ℕ) → All Scalar vs → Characters (encodeAll vs)
+unfolding encodeAll
+encoded-characters [] s = none
+encoded-characters (v ∷ vs) s = more (encode-character v (s .0)) (encoded-characters vs (s .1))
+
+pub reading-characters : (xs : List ℕ) → Reading xs → Characters xs
+reading-characters xs r = subst Characters (r .encodes) (encoded-characters (r .values) (r .scalars))
 
 -- ---- no octets have two readings
 -- the four rows of the table
