@@ -1,5 +1,5 @@
 -- The theorems. A reader's way in: Counter, OlderCoding, Traps, FieldCases, Sheets, Reached, RoundTrip, Appending, NewerAgrees, Fields,
--- Texts, SheetText, ListReader; the other modules are their lemmas.
+-- Texts, SheetText, ListReader, Utf8, Utf8Cases; the other modules are their lemmas.
 pub mod Counter
 pub mod Traps
 pub mod OlderCoding
@@ -58,3 +58,7 @@ pub mod Fields
 pub mod Texts
 pub mod SheetText
 pub mod ListReader
+pub mod Utf8States
+pub mod Utf8Encoding
+pub mod Utf8
+pub mod Utf8Cases
