@@ -28,14 +28,20 @@ unfolding Utf8.isText Utf8.textFrom Utf8.mayEnd Utf8.afterOctet Utf8.afterFirst 
 examples = refl
 
 pub examples-values :
-    map encodeAll ((0x41 ∷ 0x2262 ∷ 0x391 ∷ 0x2E ∷ []) ∷ (0xD55C ∷ 0xAD6D ∷ 0xC5B4 ∷ []) ∷ (0x65E5 ∷ 0x672C ∷ 0x8A9E ∷ []) ∷ (0xFEFF ∷ 0x233B4 ∷ []) ∷ [])
+    map encodeAll
+    ((0x41 ∷ 0x2262 ∷ 0x391 ∷ 0x2E ∷ [])
+    ∷ (0xD55C ∷ 0xAD6D ∷ 0xC5B4 ∷ [])
+    ∷ (0x65E5 ∷ 0x672C ∷ 0x8A9E ∷ [])
+    ∷ (0xFEFF ∷ 0x233B4 ∷ [])
+    ∷ [])
     ≡ notIdentical ∷ korean ∷ japanese ∷ stump ∷ []
 unfolding encodeAll encode
 examples-values = refl
 
 -- ---- the ends of the ranges are text: U+0000, U+007F, U+0080, U+07FF, U+0800, U+D7FF, U+E000, U+FFFF, U+10000, U+10FFFF
 pub ends :
-    map (λ (v : ℕ). Utf8.isText (encode v)) (0x0 ∷ 0x7F ∷ 0x80 ∷ 0x7FF ∷ 0x800 ∷ 0xD7FF ∷ 0xE000 ∷ 0xFFFF ∷ 0x10000 ∷ 0x10FFFF ∷ [])
+    map (λ (v : ℕ). Utf8.isText (encode v))
+    (0x0 ∷ 0x7F ∷ 0x80 ∷ 0x7FF ∷ 0x800 ∷ 0xD7FF ∷ 0xE000 ∷ 0xFFFF ∷ 0x10000 ∷ 0x10FFFF ∷ [])
     ≡ true ∷ true ∷ true ∷ true ∷ true ∷ true ∷ true ∷ true ∷ true ∷ true ∷ []
 unfolding encode Utf8.isText Utf8.textFrom Utf8.mayEnd Utf8.afterOctet Utf8.afterFirst Utf8.within
 ends = refl

@@ -52,6 +52,7 @@ low-scalar v h = below-surrogates h
 high-scalar : (v : ℕ) → 0xE000 ≤ v → v ≤ 0x10FFFF → Scalar v
 high-scalar v h k = above-surrogates h k
 
+-- a scalar value whose encoding is c
 record Value (c : List ℕ) : Type 0 where
   pub value : ℕ
   pub scalar : Scalar value
@@ -133,7 +134,10 @@ as-four a b c d r s t u h k =
       scalar = high-scalar v (omega arith) k;
       encodes =
           encode-four v a b c d h
-          (rw (first, second, third) (omega arith)) (rw (first, second, last) (omega arith)) (rw (first, last-2) (omega arith)) (rw last-3 (omega arith));
+          (rw (first, second, third) (omega arith))
+          (rw (first, second, last) (omega arith))
+          (rw (first, last-2) (omega arith))
+          (rw last-3 (omega arith));
     }
 
 three-value : {c : List ℕ} → ThreeOctets c → Value c
@@ -186,49 +190,51 @@ tail-of : (x : ℕ) → Tail (0x80 + x % 64)
 tail-of x = in-range 0x80 0xBF (0x80 + x % 64) (omega arith) (omega arith)
 
 module _ (v : ℕ) where
-  abbrev ThreeOf : List ℕ
-  ThreeOf = (0xE0 + v / 64 / 64) ∷ (0x80 + v / 64 % 64) ∷ (0x80 + v % 64) ∷ []
+  -- the octets of the table's third row, and of its fourth
+  abbrev threeRow : List ℕ
+  threeRow = (0xE0 + v / 64 / 64) ∷ (0x80 + v / 64 % 64) ∷ (0x80 + v % 64) ∷ []
 
-  abbrev FourOf : List ℕ
-  FourOf = (0xF0 + v / 64 / 64 / 64) ∷ (0x80 + v / 64 / 64 % 64) ∷ (0x80 + v / 64 % 64) ∷ (0x80 + v % 64) ∷ []
+  abbrev fourRow : List ℕ
+  fourRow = (0xF0 + v / 64 / 64 / 64) ∷ (0x80 + v / 64 / 64 % 64) ∷ (0x80 + v / 64 % 64) ∷ (0x80 + v % 64) ∷ []
 
   two-of : 0x80 ≤ v → v < 0x800 → TwoOctets ((0xC0 + v / 64) ∷ (0x80 + v % 64) ∷ [])
   two-of h k = two (in-range 0xC2 0xDF (0xC0 + v / 64) (omega arith) (omega arith)) (tail-of v)
 
-  three-at-E0 : 0x800 ≤ v → v < 0x1000 → ThreeOctets ThreeOf
+  three-at-E0 : 0x800 ≤ v → v < 0x1000 → ThreeOctets threeRow
   three-at-E0 h k =
       let z : v / 64 / 64 ≡ 0 = omega arith in
       rw z (three-E0 (in-range 0xA0 0xBF (0x80 + v / 64 % 64) (omega arith) (omega arith)) (tail-of v))
 
-  three-at-E1 : 0x1000 ≤ v → v < 0xD000 → ThreeOctets ThreeOf
+  three-at-E1 : 0x1000 ≤ v → v < 0xD000 → ThreeOctets threeRow
   three-at-E1 h k =
       three-E1 (in-range 0xE1 0xEC (0xE0 + v / 64 / 64) (omega arith) (omega arith)) (tail-of (v / 64)) (tail-of v)
 
-  three-at-ED : 0xD000 ≤ v → v ≤ 0xD7FF → ThreeOctets ThreeOf
+  three-at-ED : 0xD000 ≤ v → v ≤ 0xD7FF → ThreeOctets threeRow
   three-at-ED h k =
       let z : v / 64 / 64 ≡ 13 = omega arith in
       rw z (three-ED (in-range 0x80 0x9F (0x80 + v / 64 % 64) (omega arith) (omega arith)) (tail-of v))
 
-  three-at-EE : 0xE000 ≤ v → v < 0x10000 → ThreeOctets ThreeOf
+  three-at-EE : 0xE000 ≤ v → v < 0x10000 → ThreeOctets threeRow
   three-at-EE h k =
       three-EE (in-range 0xEE 0xEF (0xE0 + v / 64 / 64) (omega arith) (omega arith)) (tail-of (v / 64)) (tail-of v)
 
-  three-of : Scalar v → 0x800 ≤ v → v < 0x10000 → ThreeOctets ThreeOf
+  three-of : Scalar v → 0x800 ≤ v → v < 0x10000 → ThreeOctets threeRow
   three-of (below-surrogates m) h k =
       by-less v 0x1000 (three-at-E0 h) (λ p. by-less v 0xD000 (three-at-E1 p) (λ q. three-at-ED q m))
   three-of (above-surrogates l m) h k = three-at-EE l k
 
-  four-at-F0 : 0x10000 ≤ v → v < 0x40000 → FourOctets FourOf
+  four-at-F0 : 0x10000 ≤ v → v < 0x40000 → FourOctets fourRow
   four-at-F0 h k =
       let z : v / 64 / 64 / 64 ≡ 0 = omega arith in
       rw z
       (four-F0 (in-range 0x90 0xBF (0x80 + v / 64 / 64 % 64) (omega arith) (omega arith)) (tail-of (v / 64)) (tail-of v))
 
-  four-at-F1 : 0x40000 ≤ v → v < 0x100000 → FourOctets FourOf
+  four-at-F1 : 0x40000 ≤ v → v < 0x100000 → FourOctets fourRow
   four-at-F1 h k =
-      four-F1 (in-range 0xF1 0xF3 (0xF0 + v / 64 / 64 / 64) (omega arith) (omega arith)) (tail-of (v / 64 / 64)) (tail-of (v / 64)) (tail-of v)
+      four-F1 (in-range 0xF1 0xF3 (0xF0 + v / 64 / 64 / 64) (omega arith) (omega arith))
+      (tail-of (v / 64 / 64)) (tail-of (v / 64)) (tail-of v)
 
-  four-at-F4 : 0x100000 ≤ v → v ≤ 0x10FFFF → FourOctets FourOf
+  four-at-F4 : 0x100000 ≤ v → v ≤ 0x10FFFF → FourOctets fourRow
   four-at-F4 h k =
       let z : v / 64 / 64 / 64 ≡ 4 = omega arith in
       rw z
@@ -238,7 +244,7 @@ module _ (v : ℕ) where
   highest (below-surrogates m) = omega arith
   highest (above-surrogates l m) = m
 
-  four-of : v ≤ 0x10FFFF → 0x10000 ≤ v → FourOctets FourOf
+  four-of : v ≤ 0x10FFFF → 0x10000 ≤ v → FourOctets fourRow
   four-of m h = by-less v 0x40000 (four-at-F0 h) (λ p. by-less v 0x100000 (four-at-F1 p) (λ q. four-at-F4 q m))
 
   encode-character : Scalar v → Character (encode v)
@@ -277,6 +283,7 @@ row-of v =
     (λ f. pick-holds (Row v) (ltb v 0x10000) _ _ (λ g. row-three (ltb-false v 0x800 f) (ltb-true v 0x10000 g))
     (λ g. row-four (ltb-false v 0x10000 g))))
 
+-- the same value, and the same after it
 record Same (v w : ℕ) (r s : List ℕ) : Type 0 where
   pub value : v ≡ w
   pub rest : r ≡ s
@@ -284,7 +291,7 @@ record Same (v w : ℕ) (r s : List ℕ) : Type 0 where
 parts : {a b : ℕ} {r s : List ℕ} → (a ∷ r) ≡ (b ∷ s) → Same a b r s
 parts e = record { value = cc; rest = cc }
 
--- what begins with the encodings of two values begins with one
+-- where octets begin with the encodings of two values, these are one value
 row-same : {v w : ℕ} {c d : List ℕ} (r s : List ℕ) → Row v c → Row w d → c ++ r ≡ d ++ s → Same v w r s
 row-same r s (row-one h) (row-one k) e = parts e
 row-same r s (row-one h) (row-two k l) e = let p = parts e in absurd (omega arith)

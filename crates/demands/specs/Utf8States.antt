@@ -177,7 +177,7 @@ module _ (x : ℕ) where
         within-true 0xF1 0xF3 x r,
       )
 
--- a tail where the state is known by what the range's test leads to
+-- the octets behind a character's first, from the state after it: they lead to a boundary
 module _ (rest : List ℕ) where
   then-none : {b : ℕ} → Tail b → textFrom (afterOctet OneTail b) rest ≡ textFrom Boundary rest
   unfolding afterOctet

@@ -1,5 +1,4 @@
--- `utf8::after_block` meets its contract: ASCII leaves the start as it is.
-use Prim.Native.Nat.{_+_}
+-- `utf8::after_block` meets its contract: ASCII leaves the boundary as it is.
 use Rattle.utf8.proofs.StepLaws.{onward-skips}
 use borrow.Author.Needs.{needs}
 use Rattle.utf8.proofs.after_block.Statement.{statement}
@@ -9,7 +8,9 @@ is-ascii-requires : tie.Need-is-ascii-requires
 is-ascii-requires c κs = search needs
 
 returns : tie.Need-returns
-returns c = onward-skips (c .before .before .before .before .args .s .now) (c .before .before .before .before .args .i) (c .before .before .before .before .args .i + c .before .before .before .before .args .k) (c .before .before .before .before .args .w) (c .before .before .if1 .taken) (c .before .before .before .before .pre .0) (c .before .is-ascii .ensures (c .if2 .taken))
+returns c =
+    onward-skips _ _ _ _ (c .before .before .if1 .taken) (c .before .before .before .before .pre .0)
+    (c .before .is-ascii .ensures (c .if2 .taken))
 
 after-bytes-requires : tie.Need-after-bytes-requires
 after-bytes-requires c κs = search needs

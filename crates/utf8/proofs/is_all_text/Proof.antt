@@ -23,7 +23,8 @@ after-block-requires : tie.Need-after-block-requires Inv-loop μ-loop
 after-block-requires c κs = search needs
 
 returns : tie.Need-returns Inv-loop μ-loop
-returns c = no-text _ _ _ _ _ (c .before .before .before .loop .inv .1) (c .before .after-block .ensures) (c .if1 .taken)
+returns c =
+    no-text _ _ _ _ _ (c .before .before .before .loop .inv .1) (c .before .after-block .ensures) (c .if1 .taken)
 
 add-i : tie.Need-add-i Inv-loop μ-loop
 add-i c = search needs
@@ -32,7 +33,8 @@ loop-less : tie.Need-loop-less Inv-loop μ-loop
 loop-less c = search needs
 
 loop-again : tie.Need-loop-again Inv-loop μ-loop
-loop-again c = (search needs, onward-then _ _ _ _ _ _ _ (c .before .before .before .loop .inv .1) (c .before .after-block .ensures))
+loop-again c =
+    (search needs, onward-then _ _ _ _ _ _ _ (c .before .before .before .loop .inv .1) (c .before .after-block .ensures))
 
 past-eights-requires : tie.Need-past-eights-requires Inv-loop μ-loop
 past-eights-requires c κs = search needs
@@ -44,7 +46,10 @@ after-bytes-requires : tie.Need-after-bytes-requires Inv-loop μ-loop
 after-bytes-requires c κs = search needs
 
 returns-2 : tie.Need-returns-2 Inv-loop μ-loop
-returns-2 c = text-end _ _ _ _ (c .before .past-eights .ensures .0) (onward-then _ _ _ _ _ _ _ (c .before .before .before .loop .inv .1) (c .before .past-eights .ensures .1)) (c .after-bytes .ensures)
+returns-2 c =
+    text-end _ _ _ _ (c .before .past-eights .ensures .0)
+    (onward-then _ _ _ _ _ _ _ (c .before .before .before .loop .inv .1) (c .before .past-eights .ensures .1))
+    (c .after-bytes .ensures)
 
 pub is-all-text-spec : {M : Type 1} → statement M
 is-all-text-spec =

@@ -1,4 +1,4 @@
--- `utf8::is_ascii` meets its contract: each byte passed is at most what is gathered, so all are below 128 if that is.
+-- `utf8::is_ascii` meets its contract: each byte passed is at most what is joined, so all are ASCII if that is below 128.
 use Prim.Native.Nat.{_≤_, _-_}
 use borrow.Author.Needs.{needs}
 use native.Mathlib.Omega.{arith}
@@ -28,7 +28,11 @@ loop-less : tie.Need-loop-less Inv-loop μ-loop
 loop-less c = search needs
 
 loop-again : tie.Need-loop-again Inv-loop μ-loop
-loop-again c = (search needs, none-above-more (c .before .before .before .args .s .now) (c .before .before .before .args .i) (c .before .before .loop .j) (c .before .before .loop .joined) (c .before .before .loop .inv .1))
+loop-again c = (
+  search needs,
+  none-above-more (c .before .before .before .args .s .now) (c .before .before .before .args .i)
+      (c .before .before .loop .j) (c .before .before .loop .joined) (c .before .before .loop .inv .1),
+)
 
 returns : tie.Need-returns Inv-loop μ-loop
 returns c = search ascii-done

@@ -21,7 +21,9 @@ is-all-text-requires : tie.Need-is-all-text-requires
 is-all-text-requires c κs = search needs
 
 returns : tie.Need-returns
-returns c = c .is-all-text .ensures ∙ part-is (c .before .before .before .args .m .now) (c .before .before .before .args .start) (c .before .before .before .args .n)
+returns c =
+    c .is-all-text .ensures
+    ∙ part-is (c .before .before .before .args .m .now) (c .before .before .before .args .start) (c .before .before .before .args .n)
 
 pub is-text-spec : {M : Type 1} → statement M
 is-text-spec =

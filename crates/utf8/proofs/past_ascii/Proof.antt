@@ -33,7 +33,9 @@ loop-less : tie.Need-loop-less Inv-loop μ-loop
 loop-less c = search needs
 
 loop-again : tie.Need-loop-again Inv-loop μ-loop
-loop-again c = skips-then _ _ (c .before .before .before .loop .p) _ (c .before .before .before .loop .inv) (c .before .is-ascii .ensures (not-false _ (c .if1 .left)))
+loop-again c =
+    skips-then _ _ (c .before .before .before .loop .p) _ (c .before .before .before .loop .inv)
+    (c .before .is-ascii .ensures (not-false _ (c .if1 .left)))
 
 returns-2 : tie.Need-returns-2 Inv-loop μ-loop
 returns-2 c = c .before .loop .inv

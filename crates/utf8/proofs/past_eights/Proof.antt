@@ -1,4 +1,4 @@
--- `utf8::past_eights` meets its contract: ASCII leaves the start as it is.
+-- `utf8::past_eights` meets its contract: ASCII leaves the boundary as it is.
 use Rattle.utf8.proofs.StepLaws.{onward-skips, onward-stays}
 use borrow.Author.Needs.{needs}
 use Rattle.utf8.proofs.past_eights.Statement.{statement}
