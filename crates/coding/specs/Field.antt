@@ -51,7 +51,8 @@ unfoldable pub arrived : ℕ → ℕ → Schema → List ℕ → Object → Plac
 arrived zero o S m ob p = Fd.Refused (refusal 5 (placed p))
 arrived (suc d) o S m ob p = opened ob (placed p) d (openObject o S m ob p)
 
--- a refusal of part j of the object at `holder`: refusals 8, 9 and 10 of a member or an element are placed at its holder
+-- a refusal of part j of the object at `holder`: refusals 8, 9 and 10 of a member or an element are placed at its holder. The
+-- number j is not answered yet (02, K6).
 unfoldable pub partRefused : ℕ → ℕ → ℕ → Found
 partRefused n holder j = Fd.Refused (refusal n holder)
 
@@ -60,8 +61,8 @@ unfoldable pub chosen : ℕ → ℕ → Schema → List ℕ → ℕ → ℕ → 
 chosen d o S m holder j ob (ByOffset x) = pick (eqb x 0) (partRefused 9 holder j) (arrived d o S m ob (ByOffset x))
 chosen d o S m holder j ob (InPlace a n) = arrived d o S m ob (InPlace a n)
 
--- what the step of part j of a holder finds, with d objects of depth left below the holder: "Only objects and members on the path are
--- judged"
+-- what the step of part j of a holder finds, with d objects of depth left below the holder: "Only objects and members on
+-- the path are judged". A struct's member has no step that refuses.
 unfoldable pub stepped : ℕ → ℕ → Schema → List ℕ → ℕ → ℕ → Kind → Step → Found
 stepped d o S m holder j k (St.Refused n) = partRefused n holder j
 stepped d o S m holder j k St.Absent = Fd.Absent

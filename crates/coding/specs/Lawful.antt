@@ -1,4 +1,5 @@
--- Which bytes are a lawful schema under a coding: all that paper 01 says under "Schema, packed most significant bit first".
+-- Which bytes are a lawful schema under a coding: all that paper 01 says under "Schema, packed most significant bit first",
+-- and what 02, K5 asks under the older coding.
 use Prim.Native.Nat.{ℕ, zero, suc, _+_}
 use mathlib.Core.List.{List}
 use mathlib.Core.Bool.{Bool, true, false, _&&_, not}
@@ -141,8 +142,9 @@ unfoldable pub wellFormed : List ℕ → Bool
 wellFormed b = shapeOk b && rulesOk b
 
 -- ---- the older coding. 02, K5: "a schema with a union not in place, a table in place, a list of unions or a direct list is
--- 1 under this coding". 002 has no union but one whose content is encoded "immediately after the table", no table there, and
--- no unions among its lists' elements. A table that is a case of such a union is no table in place.
+-- 1 under this coding". 002 has no union but one whose content is encoded "immediately after the table", no table member but
+-- by its offset, and no unions among its lists' elements. A table that is a case of such a union is no table in place. A direct
+-- list is lawful under neither coding yet.
 -- a table's member: a union is in place, a table is not
 unfoldable pub olderMember : List ℕ → ℕ → Bool
 olderMember b at =

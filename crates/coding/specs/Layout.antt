@@ -33,7 +33,7 @@ isBool (OfObject ob) = false
 isBool (OfUnion i) = false
 
 -- the bytes of a value: "Text, bytes, list, table: U48 offset"; "Union: 8 bytes as in lists", a U16 choice and an offset;
--- of the others Structs.flatWidth
+-- 02, K5: "U32 offsets and lengths", "unions of a U16 choice and U32 length". Of the others Structs.flatWidth
 unfoldable pub width : ℕ → Schema → Kind → ℕ
 width o S (OfFlat k) = flatWidth (structSize S) k
 width o S (OfObject ob) = o

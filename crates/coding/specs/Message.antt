@@ -1,5 +1,5 @@
 -- The writer: which trees can be written, and the one message of each; and reading to a sheet. `o` is the width of an
--- offset in bytes.
+-- offset in bytes; where a sentence says U48, the older coding has a U32, and a union takes 6 bytes (02, K5).
 use Prim.Native.Nat.{ℕ, zero, suc, _+_}
 use mathlib.Core.List.{List, [], _∷_, _++_}
 use mathlib.Core.Bool.{Bool, true, false, _&&_, not}
@@ -218,8 +218,8 @@ unfoldable pub plan : ℕ → ℕ → Schema → Planner
 plan zero o S ob v = end
 plan (suc d) o S ob v = contentSlots (plan d o S) o S ob v
 
--- the message of a tree. "Start: magic 0xB5C0C4B3, U48 root offset."; "The writer puts the root at 10.": behind the start,
--- which refers to it
+-- the message of a tree. "Start: magic 0xB5C0C4B3, U48 root offset."; "The writer puts the root at 10."; 02, K5: "the writer
+-- puts the root at 8": behind the start, which refers to it
 unfoldable pub messageOf : ℕ → Schema → Value → List ℕ
 messageOf o S v =
     layout o

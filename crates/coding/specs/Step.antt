@@ -1,5 +1,5 @@
 -- What one member or element holds, and where it leads: the step that judging, reading and paths all take.
--- `o` is the width of an offset in bytes.
+-- `o` is the width of an offset in bytes. Where a sentence says U48, the older coding has a U32 (02, K5).
 use Prim.Native.Nat.{ℕ, _+_, _*_, _/_, _%_}
 use mathlib.Core.List.{List}
 use mathlib.Core.Bool.{Bool, true, false, _&&_}
@@ -102,8 +102,8 @@ flagged m start n flag slot here =
     (inside n slot (St.Refused 8) here)
     (inside n slot St.Absent St.Absent))
 
--- what a member of a table whose fixed part has n bytes from `start` holds, by its placement. Its content in place is at
--- start + n: "table offset + 10 + length".
+-- what a member of a table whose fixed part has n bytes from `start` holds, by its placement; a struct is not tested yet. Its
+-- content in place is at start + n: "table offset + 10 + length"; 002's "table.offset+table.length+8" under the older coding.
 unfoldable pub placedStep : ℕ → Schema → List ℕ → ℕ → ℕ → Placement → Member → Step
 placedStep o S m start n p r =
     let slot = p .value in
@@ -120,7 +120,8 @@ memberStep o S m start n c r = structTested S m (placedStep o S m start n (place
 unfoldable pub elementPlace : ℕ → Schema → Kind → ℕ → ℕ → ℕ
 elementPlace o S k start i = pick (isBool k) (start + i / 8) (start + width o S k * i)
 
--- element i of a list whose elements start at `start`; nothing in a list is in place, and "a NaN means no value"
+-- element i of a list whose elements start at `start`; nothing in a list is in place, and "a NaN means no value". No lawful
+-- list holds structs, so that the test finds none.
 unfoldable pub elementStep : ℕ → Schema → List ℕ → Kind → ℕ → ℕ → Step
 elementStep o S m k start i = structTested S m (valueStep o S m k true false 0 (elementPlace o S k start i) (i % 8))
 

@@ -1,5 +1,5 @@
 -- The walk: which objects a message leads to, in which order, and the first refusal.
--- `o` is the width of an offset in bytes.
+-- `o` is the width of an offset in bytes. Where a sentence says U48, the older coding has a U32 (02, K5).
 use Prim.Native.Nat.{ℕ, zero, suc, _+_}
 use mathlib.Core.List.{List, [], _∷_}
 use mathlib.Core.Bool.{Bool, true, _&&_}
@@ -44,12 +44,13 @@ magic S O.Bytes = 0xDCDB_BE10
 magic S (O.List i) = 0x3400_BB46
 magic S (O.Table i) = tableOf S i .id
 
--- the magic and a length, of every object: "Each kind of object owns its own magic and header length", "then U48 length"
+-- the magic and a length, of every object so far: "Each kind of object owns its own magic and header length", "then U48
+-- length"; 02, K5: "8-byte headers"
 unfoldable pub headerSize : ℕ → ℕ
 headerSize o = 4 + o
 
--- the message's start: "magic 0xB5C0C4B3, U48 root offset". An object stands behind it: "An offset under 10 is not lawful
--- where an object is required."
+-- the message's start: "magic 0xB5C0C4B3, U48 root offset"; 02, K5: "an 8-byte message start". An object stands behind it:
+-- "An offset under 10 is not lawful where an object is required."; 02, K5: "Offsets under 8 are unlawful there (6)"
 unfoldable pub startSize : ℕ → ℕ
 startSize o = 4 + o
 
@@ -81,7 +82,8 @@ fitObject o S m ob (ByOffset x) =
     (Op.Refused 6)
 fitObject o S m ob (InPlace a n) = fitContent o S m ob a n
 
--- "text's end byte": the bytes of content that fits; refusal 10, "text end byte not 0"
+-- "text's end byte": the test of an object's bytes once its content fits, of a text its end byte; refusal 10, "text end
+-- byte not 0"
 unfoldable pub bytesTested : List ℕ → Object → Opened → Opened
 bytesTested m ob (Op.Refused n) = Op.Refused n
 bytesTested m ob (Op.Content start n) = pick (endOk m ob start n) (Op.Content start n) (Op.Refused 10)
@@ -108,7 +110,8 @@ andThen (Refused r s) next = Refused r s
 abbrev pub Child : Type 0
 Child = Object → Place → Spent → Walked
 
--- a refusal of part j of the object at `holder`: refusals 8, 9 and 10 of a member or an element are placed at its holder
+-- a refusal of part j of the object at `holder`: refusals 8, 9 and 10 of a member or an element are placed at its holder. The
+-- number j is not answered yet (02, K6).
 unfoldable pub refusePart : ℕ → ℕ → ℕ → Spent → Walked
 refusePart n holder j s = refuse n holder s
 
@@ -226,7 +229,7 @@ spentOf v = spending (v .visits)
 unfoldable pub early : ℕ → Verdict
 early n = atZero n nothing
 
--- whether refusal 2, "message under 10 bytes or over the size", does not arise
+-- whether refusal 2, "message under 10 bytes or over the size", does not arise; 02, K5: "a message under 8 bytes is 2"
 unfoldable pub sizeOk : ℕ → List ℕ → Bool
 sizeOk o m = leb (startSize o) (length m) && leb (length m) largest
 

@@ -52,6 +52,14 @@ unionByOffset = 0 ∷ 0 ∷ 1 ∷ 1 ∷ 0 ∷ 1 ∷ 0x68 ∷ 0 ∷ 0x4C ∷ 0x49
 abbrev unionsInList : List ℕ
 unionsInList = 0 ∷ 1 ∷ 1 ∷ 1 ∷ 0 ∷ 0x88 ∷ 0 ∷ 1 ∷ 0x68 ∷ 0 ∷ 0x4C ∷ 0x49 ∷ 0x43 ∷ 0x45 ∷ 0 ∷ []
 
+-- a union of a second table, which has a U16, in place; a list of texts
+abbrev tableCase : List ℕ
+tableCase =
+    0 ∷ 0 ∷ 1 ∷ 2 ∷ 0 ∷ 1 ∷ 0x80 ∷ 1 ∷ 0x4C ∷ 0x49 ∷ 0x43 ∷ 0x45 ∷ 1 ∷ 0x8A ∷ 0 ∷ 0x53 ∷ 0x45 ∷ 0x41 ∷ 0x54 ∷ 1 ∷ 0x10 ∷ 0 ∷ []
+
+abbrev texts : List ℕ
+texts = 0 ∷ 1 ∷ 0 ∷ 1 ∷ 0 ∷ 0x68 ∷ 0 ∷ 0x4C ∷ 0x49 ∷ 0x43 ∷ 0x45 ∷ 1 ∷ 0x78 ∷ 0 ∷ []
+
 abbrev numbers : List ℕ
 numbers = 0 ∷ 1 ∷ 0 ∷ 1 ∷ 0 ∷ 0x08 ∷ 0 ∷ 0x4C ∷ 0x49 ∷ 0x43 ∷ 0x45 ∷ 1 ∷ 0x78 ∷ 0 ∷ []
 
@@ -104,11 +112,24 @@ cases =
     -- a union: choice 1 as a UInt16, "Next the length of the member is encoded as a UInt32" (002), its text behind the table
     ∷ case (judged Bytes.u32 unionInPlace (rooted 6 (1 ∷ 0 ∷ 2 ∷ 0 ∷ 0 ∷ 0 ∷ 0x61 ∷ 0x62 ∷ 0 ∷ [])))
     (0 ∷ 0 ∷ 2 ∷ 0x40 ∷ 0x00 ∷ 0x40 ∷ 0x00 ∷ 0x00 ∷ 0x00 ∷ 0x98 ∷ 0x58 ∷ 0x80 ∷ [])
-    -- a known choice of length 0 is an empty text, and its zero byte is 1
+    -- a text in place of length 0 is absent: "the special length 0 indicates that we have no value" (002)
+    ∷ case (judged Bytes.u32 textInPlace (rooted 4 (0 ∷ 0 ∷ 0 ∷ 0 ∷ []))) (0 ∷ 0 ∷ 1 ∷ 0x00 ∷ [])
+    -- choice 0 is "no member"; choice 2 is unknown and is not followed
+    ∷ case (judged Bytes.u32 unionInPlace (rooted 6 (0 ∷ 0 ∷ 2 ∷ 0 ∷ 0 ∷ 0 ∷ []))) (0 ∷ 0 ∷ 1 ∷ 0x00 ∷ [])
+    ∷ case (judged Bytes.u32 unionInPlace (rooted 6 (2 ∷ 0 ∷ 2 ∷ 0 ∷ 0 ∷ 0 ∷ []))) (0 ∷ 0 ∷ 1 ∷ 0x80 ∷ 0x00 ∷ 0x80 ∷ [])
+    -- a union in place whose member is a table, with a U16
+    ∷ case (judged Bytes.u32 tableCase (rooted 6 (1 ∷ 0 ∷ 2 ∷ 0 ∷ 0 ∷ 0 ∷ 3 ∷ 0 ∷ [])))
+    (0 ∷ 0 ∷ 2 ∷ 0x40 ∷ 0x00 ∷ 0x50 ∷ 0x00 ∷ 0x30 ∷ [])
+    -- a known choice of length 0 is an empty text, whose zero byte is there or is 1
+    ∷ case (judged Bytes.u32 unionInPlace (rooted 6 (1 ∷ 0 ∷ 0 ∷ 0 ∷ 0 ∷ 0 ∷ 0 ∷ [])))
+    (0 ∷ 0 ∷ 2 ∷ 0x40 ∷ 0x00 ∷ 0x40 ∷ 0x00 ∷ 0x00 ∷ 0x00 ∷ 0x00 ∷ [])
     ∷ case (judged Bytes.u32 unionInPlace (rooted 6 (1 ∷ 0 ∷ 0 ∷ 0 ∷ 0 ∷ 0 ∷ 1 ∷ []))) (10 ∷ 22 ∷ 2 ∷ [])
     -- a list at 20: "the number of elements in the list is encoded as a UInt32" (002)
     ∷ case (judged Bytes.u32 numbers (rooted 4 (20 ∷ 0 ∷ 0 ∷ 0 ∷ 0x46 ∷ 0xBB ∷ 0x00 ∷ 0x34 ∷ 3 ∷ 0 ∷ 0 ∷ 0 ∷ 1 ∷ 2 ∷ 3 ∷ [])))
     (0 ∷ 0 ∷ 2 ∷ 0x40 ∷ 0x00 ∷ 0x00 ∷ 0x00 ∷ 0xC0 ∷ 0x40 ∷ 0x80 ∷ 0xC0 ∷ [])
+    -- a list of texts at 20, whose offsets are four bytes each: none, and "a" at 36
+    ∷ case (judged Bytes.u32 texts (rooted 4 (20 ∷ 0 ∷ 0 ∷ 0 ∷ 0x46 ∷ 0xBB ∷ 0x00 ∷ 0x34 ∷ 2 ∷ 0 ∷ 0 ∷ 0 ∷ 0 ∷ 0 ∷ 0 ∷ 0 ∷ 36 ∷ 0 ∷ 0 ∷ 0 ∷ 0xF5 ∷ 0xC8 ∷ 0x12 ∷ 0xD8 ∷ 1 ∷ 0 ∷ 0 ∷ 0 ∷ 0x61 ∷ 0 ∷ [])))
+    (4 ∷ 36 ∷ 2 ∷ [])
     -- an optional U16: there, and its flag without a value
     ∷ case (judged Bytes.u32 optional (rooted 3 (1 ∷ 5 ∷ 0 ∷ []))) (0 ∷ 0 ∷ 1 ∷ 0x40 ∷ 0x01 ∷ 0x40 ∷ [])
     ∷ case (judged Bytes.u32 optional (rooted 1 (1 ∷ []))) (8 ∷ 8 ∷ 1 ∷ [])
@@ -120,7 +141,9 @@ cases =
     ∷ case (judged Bytes.u48 unionByOffset []) (2 ∷ 0 ∷ 0 ∷ [])
     ∷ case (judged Bytes.u48 tableInPlace []) (2 ∷ 0 ∷ 0 ∷ [])
     ∷ case (judged Bytes.u48 unionsInList []) (2 ∷ 0 ∷ 0 ∷ [])
-    -- there is no third coding
+    -- the root's offset is under 8 too
+    ∷ case (judged Bytes.u32 seat (0xB3 ∷ 0xC4 ∷ 0xC0 ∷ 0xB5 ∷ 7 ∷ 0 ∷ 0 ∷ 0 ∷ [])) (6 ∷ 7 ∷ 1 ∷ [])
+    -- no paper has a third coding: no schema is lawful under one
     ∷ case (judged 5 seat []) (1 ∷ 0 ∷ 0 ∷ [])
     -- "the writer puts the root at 8"
     ∷ case (wrote seat (0x40 ∷ 0x00 ∷ 0xD0 ∷ 0x00 ∷ 0x00 ∷ 0x00 ∷ 0x26 ∷ 0x16 ∷ 0x20 ∷ [])) (0 ∷ seatMessage 6 22)
