@@ -89,7 +89,8 @@ uint32_t scalgo_field(const uint8_t *schema, size_t schema_len,
 
 /* Says where a text or bytes stand: answers 1 where the path leads to such, and the part is
  * the *length bytes from message + *start on, all within the message; a text's end byte is not
- * among them. Otherwise, a refusal among it, answers 0 with *start 0 and *length 0.
+ * among them. Otherwise answers 0 with *start 0 and *length 0, also where the path is refused:
+ * scalgo_field says why.
  *
  * path: as of scalgo_field.
  */
@@ -108,7 +109,8 @@ uint32_t scalgo_text(const uint8_t *schema, size_t schema_len,
  *
  * A step after the last element is refused by 15 at the list. Where there is no such list every
  * step is refused: by the path's own refusal, or by 15 at 0 if it leads to anything else; and the
- * answer is 0.
+ * answer is 0. A refusal is a step's answer like any other: its case SCALGO_CASE_REFUSED, number
+ * and place are written too.
  */
 uint64_t scalgo_list(const uint8_t *schema, size_t schema_len,
                      const uint8_t *message, size_t message_len,

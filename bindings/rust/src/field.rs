@@ -66,6 +66,7 @@ pub fn field(schema: &[u8], message: &[u8], path: &[u32]) -> Answer {
 }
 
 /// A text without its zero byte, or bytes: a part of the message, where the path leads to one.
+/// `None` for anything else, also where the path is refused: [`field`] says why.
 ///
 /// ```
 /// # let schema = b"\x00\x00\x00\x01\x00\x4C\x49\x43\x45\x02\x10\x00\x68\x00";

@@ -39,7 +39,8 @@ pub struct List<'a> {
 }
 
 /// Starts at a path that leads to a list whose elements are texts, bytes, lists, tables or unions.
-/// A refused path gives its own refusal, any other 15 at 0.
+/// A refused path gives its own refusal, any other 15 at 0; then there is nothing to step through,
+/// and every step from that path would be refused so.
 ///
 /// ```
 /// use scalgo::Answer;

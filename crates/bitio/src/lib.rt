@@ -4,7 +4,6 @@ ghost use mathlib.Core.Path.{_≡_};
 ghost use mathlib.Core.List.{_++_};
 ghost use Prim.Native.Nat.{_+_, _-_, _*_, _/_, _%_, _^_, _≤_, _<_};
 ghost use lib.ListN.{length, take, drop, getD, set};
-ghost use Rattle.coding.specs.Lists.{pick};
 ghost use Rattle.coding.specs.Bits.{bitsOf, bits, value, pack};
 ghost use Rattle.coding.specs.Sheet.{blobBits};
 ghost use Rattle.bitio.specs.Splice.{splice};
@@ -185,28 +184,6 @@ pub fn skip_bytes(s: &[u8], pos: usize, n: usize) -> Bytes
 {
     let end = 8 * s.len();
     if n <= (end - pos) >> 3 {
-        return Bytes {
-            whole: true,
-            next: pos + 8 * n,
-        };
-    }
-    Bytes {
-        whole: false,
-        next: pos,
-    }
-}
-
-// As many bytes as dst has, into dst where they are left.
-pub fn take_bytes(s: &[u8], pos: usize, dst: &mut [u8]) -> Bytes
-    requires { ⌜ pos ≤ 8 * length (now s) ⌝ }
-    requires { ⌜ 8 * length (now s) < 2 ^ 64 ⌝ }
-    ensures { λ r. ⌜ TakenBytes (now (s .entry)) pos (length (now (dst .entry))) (r .whole) (r .next) ⌝ }
-    ensures { λ r. ⌜ now (dst .exit) ≡ pick (r .whole) (pack (length (now (dst .entry))) (drop pos (bits (now (s .entry))))) (now (dst .entry)) ⌝ }
-{
-    let n = dst.len();
-    let end = 8 * s.len();
-    if n <= (end - pos) >> 3 {
-        get_bytes(s, pos, dst);
         return Bytes {
             whole: true,
             next: pos + 8 * n,

@@ -2,6 +2,7 @@
 ghost use mathlib.Core.Path.{_≡_};
 ghost use Prim.Native.Nat.{_+_, _-_, _*_, _/_, _%_, _^_, _≤_, _<_};
 ghost use Rattle.bits.specs.Chunk.{Chunk, merged};
+ghost use Rattle.bits.specs.Reversed.{digit, reversed};
 
 // Where in its byte a bit stands.
 pub fn offset(pos: usize) -> usize
@@ -24,6 +25,14 @@ pub fn append(h: u64, n: usize, x: u64) -> u64
     ensures { λ r. ⌜ r ≡ h * 2 ^ n + x % 2 ^ n ⌝ }
 {
     h << n | low(x, n)
+}
+
+// Two numbers of n bits as one, the first one higher.
+pub fn pair(hi: u64, lo: u64, n: usize) -> u64
+    requires { ⌜ (n ≤ 32) × (hi < 2 ^ n) × (lo < 2 ^ n) ⌝ }
+    ensures { λ r. ⌜ (r ≡ hi * 2 ^ n + lo) × (r < 2 ^ (n + n)) ⌝ }
+{
+    hi << n | lo
 }
 
 // The eight low bits of v.
@@ -59,4 +68,36 @@ pub fn chunk(at: usize, left: usize) -> usize
 {
     let room = 8 - offset(at);
     if room < left { room } else { left }
+}
+
+// ---- eight bits reversed. By pairs, fours and eights: in this form the compiler reverses them at once.
+// Bit k.
+fn one_bit(x: u8, k: usize) -> u64
+    requires { ⌜ k < 8 ⌝ }
+    ensures { λ r. ⌜ (r ≡ digit x k) × (r < 2) ⌝ }
+{
+    (x as u64) >> k & 1
+}
+
+// Two bits from bit k on, the first one highest.
+fn two_bits(x: u8, k: usize) -> u64
+    requires { ⌜ k ≤ 6 ⌝ }
+    ensures { λ r. ⌜ (r ≡ digit x k * 2 + digit x (k + 1)) × (r < 2 ^ 2) ⌝ }
+{
+    pair(one_bit(x, k), one_bit(x, k + 1), 1)
+}
+
+// Four bits from bit k on, the first one highest.
+fn four_bits(x: u8, k: usize) -> u64
+    requires { ⌜ k ≤ 4 ⌝ }
+    ensures { λ r. ⌜ (r ≡ digit x k * 8 + digit x (k + 1) * 4 + digit x (k + 2) * 2 + digit x (k + 3)) × (r < 2 ^ 4) ⌝ }
+{
+    pair(two_bits(x, k), two_bits(x, k + 2), 2)
+}
+
+// Eight bits, the lowest of them made the highest: bools stand in a message from the lowest bit on, in a sheet from the highest.
+pub fn reversed(x: u8) -> u8
+    ensures { λ r. ⌜ r ≡ reversed x ⌝ }
+{
+    pair(four_bits(x, 0), four_bits(x, 4), 4) as u8
 }

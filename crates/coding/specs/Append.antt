@@ -76,10 +76,10 @@ pub record SchemaAppends (older newer : Schema) : Type 0 where
   pub unions : Extends (Extends SameObject) (older .unions) (newer .unions)
   pub tables : Extends TableAppends (older .tables) (newer .tables)
 
--- the older and the newer schema as bytes: "Both are lawful."
-pub record Appends (older newer : List ℕ) : Type 0 where
-  pub older-lawful : lawful older ≡ true
-  pub newer-lawful : lawful newer ≡ true
+-- the older and the newer schema as bytes, under one coding: "Both are lawful."
+pub record Appends (o : ℕ) (older newer : List ℕ) : Type 0 where
+  pub older-lawful : lawful o older ≡ true
+  pub newer-lawful : lawful o newer ≡ true
   pub schemas : SchemaAppends (parse older) (parse newer)
 
 -- ---- a newer value without the appended members, by the older schema `S`

@@ -1,7 +1,7 @@
 -- Bytes of a message; past its end they are 0, so that every definition is total.
 use Prim.Native.Nat.{ℕ, zero, suc, _+_, _*_, _/_, _%_, _^_}
 use mathlib.Core.List.{List, [], _∷_}
-use mathlib.Core.Bool.{Bool}
+use mathlib.Core.Bool.{Bool, true}
 use lib.ListN.{getD}
 use lib.Dec.{ltb, eqb}
 use Rattle.coding.specs.Lists.{pick}
@@ -40,6 +40,16 @@ largest = 16777215
 unfoldable pub deepest : ℕ
 deepest = 32
 
--- "U48 is six bytes.": the offset width of this coding. The definitions take it as a parameter.
+-- ---- the width of an offset and of a length, which the definitions take as a parameter `o`. 02, K5: "The caller says which
+-- coding; it is not guessed."
+-- "U48 is six bytes.": the coding of 000
 unfoldable pub u48 : ℕ
 u48 = 6
+
+-- 02, K5: "U32 offsets and lengths": the coding of 002
+unfoldable pub u32 : ℕ
+u32 = 4
+
+-- whether it is the width of one of the two codings
+unfoldable pub widthKnown : ℕ → Bool
+widthKnown o = pick (eqb o u32) true (eqb o u48)

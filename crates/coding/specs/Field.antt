@@ -13,7 +13,7 @@ use Rattle.coding.specs.Lawful.{lawful}
 use Rattle.coding.specs.Structs.{total, structSize}
 use Rattle.coding.specs.Layout.{begin, afterMembers}
 use Rattle.coding.specs.Step.{fieldStep, memberStep, elementStep}
-use Rattle.coding.specs.Walk.{placed, openObject, rootPlace, early, sizeOk, startOk}
+use Rattle.coding.specs.Walk.{placed, refusal, openObject, rootPlace, nothing, verdictAt, early, sizeOk, startOk}
 use Rattle.coding.specs.declared.Flat.{Flat}
 use Rattle.coding.specs.declared.Flat.the-variants as F
 use Rattle.coding.specs.declared.Object.{Object}
@@ -35,10 +35,6 @@ use Rattle.coding.specs.declared.Answer.the-variants as A
 use Rattle.coding.specs.declared.Case.{Case}
 use Rattle.coding.specs.declared.Span.{Span}
 
--- a refusal with "No." and "Place" of the paper's table
-abbrev pub refusal : ℕ → ℕ → Refusal
-refusal n at = record { number = n; place = at }
-
 -- ---- where a path has come
 -- refusal 15: "path step has no such part", at the "last object judged"
 unfoldable pub noPart : ℕ → Found
@@ -55,27 +51,32 @@ unfoldable pub arrived : ℕ → ℕ → Schema → List ℕ → Object → Plac
 arrived zero o S m ob p = Fd.Refused (refusal 5 (placed p))
 arrived (suc d) o S m ob p = opened ob (placed p) d (openObject o S m ob p)
 
--- "unions are passed through without one", a number of the path; refusal 9: "known union choice, not in place, offset 0"
-unfoldable pub chosen : ℕ → ℕ → Schema → List ℕ → ℕ → Object → Place → Found
-chosen d o S m holder ob (ByOffset x) = pick (eqb x 0) (Fd.Refused (refusal 9 holder)) (arrived d o S m ob (ByOffset x))
-chosen d o S m holder ob (InPlace a n) = arrived d o S m ob (InPlace a n)
+-- a refusal of part j of the object at `holder`: refusals 8, 9 and 10 of a member or an element are placed at its holder. The
+-- number j is not answered yet (02, K6).
+unfoldable pub partRefused : ℕ → ℕ → ℕ → Found
+partRefused n holder j = Fd.Refused (refusal n holder)
 
--- what a step of a holder finds, with d objects of depth left below the holder: "Only objects and members on the path are
--- judged"
-unfoldable pub stepped : ℕ → ℕ → Schema → List ℕ → ℕ → Kind → Step → Found
-stepped d o S m holder k (St.Refused n) = Fd.Refused (refusal n holder)
-stepped d o S m holder k St.Absent = Fd.Absent
-stepped d o S m holder k (St.Value x) = Fd.Value k x holder
-stepped d o S m holder k (St.Unknown x) = Fd.Unknown x
-stepped d o S m holder k (St.Struct i at) = Fd.Struct i at holder
-stepped d o S m holder k (St.Object ob p) = arrived d o S m ob p
-stepped d o S m holder k (St.Choice c ob p) = chosen d o S m holder ob p
+-- "unions are passed through without one", a number of the path; refusal 9: "known union choice, not in place, offset 0"
+unfoldable pub chosen : ℕ → ℕ → Schema → List ℕ → ℕ → ℕ → Object → Place → Found
+chosen d o S m holder j ob (ByOffset x) = pick (eqb x 0) (partRefused 9 holder j) (arrived d o S m ob (ByOffset x))
+chosen d o S m holder j ob (InPlace a n) = arrived d o S m ob (InPlace a n)
+
+-- what the step of part j of a holder finds, with d objects of depth left below the holder: "Only objects and members on
+-- the path are judged". A struct's member has no step that refuses.
+unfoldable pub stepped : ℕ → ℕ → Schema → List ℕ → ℕ → ℕ → Kind → Step → Found
+stepped d o S m holder j k (St.Refused n) = partRefused n holder j
+stepped d o S m holder j k St.Absent = Fd.Absent
+stepped d o S m holder j k (St.Value x) = Fd.Value k x holder
+stepped d o S m holder j k (St.Unknown x) = Fd.Unknown x
+stepped d o S m holder j k (St.Struct i at) = Fd.Struct i at holder
+stepped d o S m holder j k (St.Object ob p) = arrived d o S m ob p
+stepped d o S m holder j k (St.Choice c ob p) = chosen d o S m holder j ob p
 
 -- "A path names a member, element or struct member per number": member j of struct i at a place, in the object at `holder`
 unfoldable pub structPart : ℕ → Schema → List ℕ → ℕ → ℕ → ℕ → ℕ → Found
 structPart o S m i at holder j =
     pick (ltb j (length (structOf S i)))
-    (stepped 0 o S m holder (OfFlat (fieldOf S i j)) (fieldStep m (fieldOf S i j) (at + total (structSize S) (take j (structOf S i)))))
+    (stepped 0 o S m holder j (OfFlat (fieldOf S i j)) (fieldStep m (fieldOf S i j) (at + total (structSize S) (take j (structOf S i)))))
     (noPart holder)
 
 -- member or element j of an object at a place. "A holder is judged before 15 is given at it."
@@ -83,10 +84,10 @@ unfoldable pub objectPart : ℕ → Schema → List ℕ → Object → ℕ → �
 objectPart o S m O.Text at start n d j = noPart at
 objectPart o S m O.Bytes at start n d j = noPart at
 objectPart o S m (O.List i) at start n d j =
-    pick (ltb j n) (stepped d o S m at (elementOf S i) (elementStep o S m (elementOf S i) start j)) (noPart at)
+    pick (ltb j n) (stepped d o S m at j (elementOf S i) (elementStep o S m (elementOf S i) start j)) (noPart at)
 objectPart o S m (O.Table i) at start n d j =
     pick (ltb j (length (tableOf S i .members)))
-    (stepped d o S m at (memberOf S i j .kind)
+    (stepped d o S m at j (memberOf S i j .kind)
     (memberStep o S m start n (afterMembers o S (take j (tableOf S i .members)) begin) (memberOf S i j)))
     (noPart at)
 
@@ -153,7 +154,7 @@ answerVerdict (A.Object k at n) = early 0
 answerVerdict (A.Struct at) = early 0
 answerVerdict A.Absent = early 0
 answerVerdict (A.Unknown x) = early 0
-answerVerdict (A.Refused r) = record { number = r .number; place = r .place; visits = 0 }
+answerVerdict (A.Refused r) = verdictAt r nothing
 
 -- a refusal at place 0: "1, 15 for length, 2 and 3 come first"; and "any other answer is 15 at 0" of the list reader
 unfoldable pub before : ℕ → Found
@@ -162,7 +163,7 @@ before n = Fd.Refused (refusal n 0)
 -- "1, 15 for length, 2 and 3 come first"; refusal 15: "path over 96 numbers", at "0 for length"
 unfoldable pub fieldFound : ℕ → List ℕ → List ℕ → List ℕ → Found
 fieldFound o b m path =
-    pick (lawful b)
+    pick (lawful o b)
     (pick (leb (length path) 96)
     (pick (sizeOk o m) (pick (startOk m) (found o (parse b) m path) (before 3)) (before 2))
     (before 15))

@@ -1,10 +1,12 @@
--- Which bytes are a lawful schema: all that paper 01 says under "Schema, packed most significant bit first".
+-- Which bytes are a lawful schema under a coding: all that paper 01 says under "Schema, packed most significant bit first",
+-- and what 02, K5 asks under the older coding.
 use Prim.Native.Nat.{ℕ, zero, suc, _+_}
 use mathlib.Core.List.{List}
 use mathlib.Core.Bool.{Bool, true, false, _&&_, not}
 use lib.ListN.{length}
 use lib.Dec.{ltb, leb, eqb}
 use Rattle.coding.specs.Lists.{pick, every}
+use Rattle.coding.specs.Bytes.{u32, widthKnown}
 use Rattle.coding.specs.Packed.{structCount, listCount, unionCount, tableCount, rootIndex, kindAt, optionalAt, inplaceAt, zeroAt, argumentAt, records, recordPlace, blocks, structPlace, listPlace, unionPlace, tablePlace, idAt, parse}
 use Rattle.coding.specs.Structs.{structSize}
 use Rattle.coding.specs.declared.Role.{Role}
@@ -135,6 +137,32 @@ rulesOk b =
     && (every (unionLawful b) (unionCount b)
     && (every (tableLawful b) (tableCount b) && every (idLawful b) (tableCount b))))
 
--- whether refusal 1, "schema not lawful", does not arise
-unfoldable pub lawful : List ℕ → Bool
-lawful b = shapeOk b && rulesOk b
+-- all that paper 01 says of a schema, whatever the coding
+unfoldable pub wellFormed : List ℕ → Bool
+wellFormed b = shapeOk b && rulesOk b
+
+-- ---- the older coding. 02, K5: "a schema with a union not in place, a table in place, a list of unions or a direct list is
+-- 1 under this coding". 002 has no union but one whose content is encoded "immediately after the table", no table member but
+-- by its offset, and no unions among its lists' elements. A table that is a case of such a union is no table in place. A direct
+-- list is lawful under neither coding yet.
+-- a table's member: a union is in place, a table is not
+unfoldable pub olderMember : List ℕ → ℕ → Bool
+olderMember b at =
+    pick (eqb (kindAt b at) 17) (inplaceAt b at) (pick (eqb (kindAt b at) 16) (not (inplaceAt b at)) true)
+
+-- a list's element is no union
+unfoldable pub olderElement : List ℕ → ℕ → Bool
+olderElement b at = not (eqb (kindAt b at) 17)
+
+-- the members of table i
+unfoldable pub olderTable : List ℕ → ℕ → Bool
+olderTable b i = every (λ j. olderMember b (recordPlace 4 (tablePlace b i) j)) (records b 4 (tablePlace b i))
+
+-- every list and every table
+unfoldable pub olderOk : List ℕ → Bool
+olderOk b = every (λ i. olderElement b (listPlace b i)) (listCount b) && every (olderTable b) (tableCount b)
+
+-- whether refusal 1, "schema not lawful", does not arise under the coding whose offsets have o bytes. There is no coding of
+-- another width than the two, so no schema is lawful under one.
+unfoldable pub lawful : ℕ → List ℕ → Bool
+lawful o b = widthKnown o && (wellFormed b && pick (eqb o u32) (olderOk b) true)

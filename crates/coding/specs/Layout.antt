@@ -15,6 +15,7 @@ use Rattle.coding.specs.declared.Kind.the-variants.{OfFlat, OfObject, Of
 use Rattle.coding.specs.declared.Member.{Member}
 use Rattle.coding.specs.declared.Cursor.{Cursor}
 use Rattle.coding.specs.declared.Slot.{Slot}
+use Rattle.coding.specs.declared.Placement.{Placement}
 
 -- ---- what a kind takes
 -- whether it is a bool, which takes a bit ("A bool takes the next free bit"); all else takes bytes
@@ -32,7 +33,7 @@ isBool (OfObject ob) = false
 isBool (OfUnion i) = false
 
 -- the bytes of a value: "Text, bytes, list, table: U48 offset"; "Union: 8 bytes as in lists", a U16 choice and an offset;
--- of the others Structs.flatWidth
+-- 02, K5: "U32 offsets and lengths", "unions of a U16 choice and U32 length". Of the others Structs.flatWidth
 unfoldable pub width : ℕ → Schema → Kind → ℕ
 width o S (OfFlat k) = flatWidth (structSize S) k
 width o S (OfObject ob) = o
@@ -86,13 +87,14 @@ afterBytes w c = record { end = c .end + w; byte = c .byte; bit = c .bit }
 unfoldable pub afterFlag : Member → Cursor → Cursor
 afterFlag r c = pick (hasFlag r) (afterBit c) c
 
+-- where a bool or a flag stands that comes next: "the next free bit, lowest first, of the last bool byte"
+unfoldable pub bitSlot : Cursor → Slot
+bitSlot c = record { at = bitByte c; bit = bitIndex c; size = 1 }
+
 -- where the value stands that comes next: a bool in "the next free bit", all else behind what is laid out, "without
 -- padding" (000)
 unfoldable pub slotOf : ℕ → Schema → Kind → Cursor → Slot
-slotOf o S k c =
-    pick (isBool k)
-    (record { at = bitByte c; bit = bitIndex c; size = 1 })
-    (record { at = c .end; bit = 0; size = width o S k })
+slotOf o S k c = pick (isBool k) (bitSlot c) (record { at = c .end; bit = 0; size = width o S k })
 
 -- the cursor behind that value: "if none is free a zeroed byte is appended", or as many bytes as it takes
 unfoldable pub afterValue : ℕ → Schema → Kind → Cursor → Cursor
@@ -101,6 +103,10 @@ afterValue o S k c = pick (isBool k) (afterBit c) (afterBytes (width o S k) c)
 -- "a flag bool first, then the value": where a member's value stands
 unfoldable pub memberSlot : ℕ → Schema → Member → Cursor → Slot
 memberSlot o S r c = slotOf o S (r .kind) (afterFlag r c)
+
+-- "a flag bool first, then the value": where a member stands; the flag's slot counts only where there is a flag
+unfoldable pub placementOf : ℕ → Schema → Member → Cursor → Placement
+placementOf o S r c = record { value = memberSlot o S r c; flag = bitSlot c }
 
 -- the cursor behind a member: "a flag bool first, then the value"
 unfoldable pub afterMember : ℕ → Schema → Member → Cursor → Cursor

@@ -4,6 +4,7 @@
 -- words that are left out. A refusal's number names its row in 01's table.
 pub mod Lists
 pub mod Bytes
+pub mod Utf8
 pub mod Schema
 pub mod Structs
 pub mod Packed

@@ -1,5 +1,5 @@
 -- The writer: which trees can be written, and the one message of each; and reading to a sheet. `o` is the width of an
--- offset in bytes.
+-- offset in bytes; where a sentence says U48, the older coding has a U32, and a union takes 6 bytes (02, K5).
 use Prim.Native.Nat.{ℕ, zero, suc, _+_}
 use mathlib.Core.List.{List, [], _∷_, _++_}
 use mathlib.Core.Bool.{Bool, true, false, _&&_, not}
@@ -14,7 +14,7 @@ use Rattle.coding.specs.Structs.{byIndex, structSize}
 use Rattle.coding.specs.Packed.{parse}
 use Rattle.coding.specs.Lawful.{lawful}
 use Rattle.coding.specs.Layout.{hasFlag, fixedSize}
-use Rattle.coding.specs.Walk.{magic, verdict, early}
+use Rattle.coding.specs.Walk.{magic, atZero, spentOf, verdict, early}
 use Rattle.coding.specs.Value.{Value, Values, none, _then_, asNumber, asBlob, asRow, asObject, present, known, first, others, count}
 use Rattle.coding.specs.Read.{messageRead}
 use Rattle.coding.specs.Sheet.{sheetOf, sheetTree}
@@ -218,8 +218,8 @@ unfoldable pub plan : ℕ → ℕ → Schema → Planner
 plan zero o S ob v = end
 plan (suc d) o S ob v = contentSlots (plan d o S) o S ob v
 
--- the message of a tree. "Start: magic 0xB5C0C4B3, U48 root offset."; "The writer puts the root at 10.": behind the start,
--- which refers to it
+-- the message of a tree. "Start: magic 0xB5C0C4B3, U48 root offset."; "The writer puts the root at 10."; 02, K5: "the writer
+-- puts the root at 8": behind the start, which refers to it
 unfoldable pub messageOf : ℕ → Schema → Value → List ℕ
 messageOf o S v =
     layout o
@@ -243,7 +243,7 @@ writtenTree o S (Op.some v) =
 
 -- "Writing tries 1, 11, 12, 13, 14, each over the whole sheet", all but 14
 unfoldable pub written : ℕ → List ℕ → List ℕ → Written
-written o b s = pick (lawful b) (writtenTree o (parse b) (sheetTree (parse b) s)) (refused 1)
+written o b s = pick (lawful o b) (writtenTree o (parse b) (sheetTree (parse b) s)) (refused 1)
 
 -- number and length: "On success a written length is given ...; on refusal the length is 0"; refusal 14: "no room in the
 -- output"
@@ -285,7 +285,7 @@ readAnswer o b m budget out =
     pick (eqb (verdict o b m budget .number) 0)
     (pick (fitsRoom (messageSheet o b m) out)
     (record { verdict = verdict o b m budget; length = length (messageSheet o b m) })
-    (record { verdict = record { number = 14; place = 0; visits = verdict o b m budget .visits }; length = 0 }))
+    (record { verdict = atZero 14 (spentOf (verdict o b m budget)); length = 0 }))
     (record { verdict = verdict o b m budget; length = 0 })
 
 -- what the output holds after the call: "bytes after it keep what they held; on refusal ... the output is unchanged"

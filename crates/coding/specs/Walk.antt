@@ -1,5 +1,5 @@
 -- The walk: which objects a message leads to, in which order, and the first refusal.
--- `o` is the width of an offset in bytes.
+-- `o` is the width of an offset in bytes. Where a sentence says U48, the older coding has a U32 (02, K5).
 use Prim.Native.Nat.{ℕ, zero, suc, _+_}
 use mathlib.Core.List.{List, [], _∷_}
 use mathlib.Core.Bool.{Bool, true, _&&_}
@@ -44,10 +44,15 @@ magic S O.Bytes = 0xDCDB_BE10
 magic S (O.List i) = 0x3400_BB46
 magic S (O.Table i) = tableOf S i .id
 
--- the magic and a length, of every object: "Each kind of object owns its own magic and header length", "then U48 length".
--- The message's start has the same size: "magic 0xB5C0C4B3, U48 root offset".
+-- the magic and a length, of every object so far: "Each kind of object owns its own magic and header length", "then U48
+-- length"; 02, K5: "8-byte headers"
 unfoldable pub headerSize : ℕ → ℕ
 headerSize o = 4 + o
+
+-- the message's start: "magic 0xB5C0C4B3, U48 root offset"; 02, K5: "an 8-byte message start". An object stands behind it:
+-- "An offset under 10 is not lawful where an object is required."; 02, K5: "Offsets under 8 are unlawful there (6)"
+unfoldable pub startSize : ℕ → ℕ
+startSize o = 4 + o
 
 -- the bytes of an object's content, by its length. "Text: length bytes and one zero byte. Bytes: length bytes."; "List:
 -- length elements."; "Table: length bytes of fixed part."; "A text keeps its zero byte unless it is absent.", in place too
@@ -64,27 +69,37 @@ endOk m O.Bytes start n = true
 endOk m (O.List i) start n = true
 endOk m (O.Table i) start n = true
 
--- content of length n at `start`: refusal 6, "content does not fit", then refusal 10, "text end byte not 0"
-unfoldable pub openContent : ℕ → Schema → List ℕ → Object → ℕ → ℕ → Opened
-openContent o S m ob start n =
-    pick (leb (start + contentSize o S ob n) (length m))
-    (pick (endOk m ob start n) (Op.Content start n) (Op.Refused 10))
-    (Op.Refused 6)
+-- "content fit": content of length n at `start`; refusal 6, "content does not fit"
+unfoldable pub fitContent : ℕ → Schema → List ℕ → Object → ℕ → ℕ → Opened
+fitContent o S m ob start n = pick (leb (start + contentSize o S ob n) (length m)) (Op.Content start n) (Op.Refused 6)
 
--- "Judged at an arrival: ... offset and header fit, magic, content fit, text's end byte."; refusals 6 "offset under 10, or
--- header or content does not fit" and 7 "wrong object magic". "An offset under 10 is not lawful where an object is
--- required."; "Offsets count from the message's first byte." In place there is no header.
-unfoldable pub openObject : ℕ → Schema → List ℕ → Object → Place → Opened
-openObject o S m ob (ByOffset x) =
-    pick (leb (headerSize o) x && leb (x + headerSize o) (length m))
-    (pick (eqb (le m x 4) (magic S ob)) (openContent o S m ob (x + headerSize o) (le m (x + 4) o)) (Op.Refused 7))
+-- "offset and header fit, magic, content fit"; refusals 6 "offset under 10, or header or content does not fit" and 7 "wrong
+-- object magic". "Offsets count from the message's first byte." In place there is no header.
+unfoldable pub fitObject : ℕ → Schema → List ℕ → Object → Place → Opened
+fitObject o S m ob (ByOffset x) =
+    pick (leb (startSize o) x && leb (x + headerSize o) (length m))
+    (pick (eqb (le m x 4) (magic S ob)) (fitContent o S m ob (x + headerSize o) (le m (x + 4) o)) (Op.Refused 7))
     (Op.Refused 6)
-openObject o S m ob (InPlace a n) = openContent o S m ob a n
+fitObject o S m ob (InPlace a n) = fitContent o S m ob a n
+
+-- "text's end byte": the test of an object's bytes once its content fits, of a text its end byte; refusal 10, "text end
+-- byte not 0"
+unfoldable pub bytesTested : List ℕ → Object → Opened → Opened
+bytesTested m ob (Op.Refused n) = Op.Refused n
+bytesTested m ob (Op.Content start n) = pick (endOk m ob start n) (Op.Content start n) (Op.Refused 10)
+
+-- "Judged at an arrival: ... offset and header fit, magic, content fit, text's end byte."
+unfoldable pub openObject : ℕ → Schema → List ℕ → Object → Place → Opened
+openObject o S m ob p = bytesTested m ob (fitObject o S m ob p)
 
 -- ---- members, elements and the arrivals that they lead to
+-- a refusal with "No." and "Place" of the paper's table
+abbrev pub refusal : ℕ → ℕ → Refusal
+refusal n at = record { number = n; place = at }
+
 -- a refusal with its number and place, after what was spent: "Judging answers number, place and visits"
 unfoldable pub refuse : ℕ → ℕ → Spent → Walked
-refuse n at s = Refused (record { number = n; place = at }) s
+refuse n at s = Refused (refusal n at) s
 
 -- "The first failure ends the walk."
 unfoldable pub andThen : Walked → (Spent → Walked) → Walked
@@ -95,34 +110,42 @@ andThen (Refused r s) next = Refused r s
 abbrev pub Child : Type 0
 Child = Object → Place → Spent → Walked
 
--- where a union's choice leads; refusal 9: "known union choice, not in place, offset 0", at the "holder"
-unfoldable pub followChoice : Child → ℕ → Object → Place → Spent → Walked
-followChoice child holder ob (ByOffset x) s = pick (eqb x 0) (refuse 9 holder s) (child ob (ByOffset x) s)
-followChoice child holder ob (InPlace a n) s = child ob (InPlace a n) s
+-- a refusal of part j of the object at `holder`: refusals 8, 9 and 10 of a member or an element are placed at its holder. The
+-- number j is not answered yet (02, K6).
+unfoldable pub refusePart : ℕ → ℕ → ℕ → Spent → Walked
+refusePart n holder j s = refuse n holder s
 
--- what a step leads to, for a holder at a place. Refusal 8, "member cut, or flag without value", is at the "table"; refusal
--- 10, "struct boolean not 0 or 1", at the "object" that holds the struct. An unknown enum or choice: "Neither is refused."
-unfoldable pub follow : Child → ℕ → Step → Spent → Walked
-follow child holder (St.Refused n) s = refuse n holder s
-follow child holder St.Absent s = Going s
-follow child holder (St.Value x) s = Going s
-follow child holder (St.Unknown x) s = Going s
-follow child holder (St.Struct i at) s = Going s
-follow child holder (St.Object ob p) s = child ob p s
-follow child holder (St.Choice c ob p) s = followChoice child holder ob p s
+-- where a union's choice leads, of part j of a holder; refusal 9: "known union choice, not in place, offset 0", at the
+-- "holder"
+unfoldable pub followChoice : Child → ℕ → ℕ → Object → Place → Spent → Walked
+followChoice child holder j ob (ByOffset x) s = pick (eqb x 0) (refusePart 9 holder j s) (child ob (ByOffset x) s)
+followChoice child holder j ob (InPlace a n) s = child ob (InPlace a n) s
 
--- "Then each member or element in turn": the members of a table at `holder`, whose fixed part has n bytes from `start`
-unfoldable pub members : Child → ℕ → Schema → List ℕ → ℕ → ℕ → ℕ → Cursor → List Member → Spent → Walked
-members child o S m holder start n c [] s = Going s
-members child o S m holder start n c (r ∷ rs) s =
-    andThen (follow child holder (memberStep o S m start n c r) s)
-    (members child o S m holder start n (afterMember o S r c) rs)
+-- what the step of part j leads to, for a holder at a place. Refusal 8, "member cut, or flag without value", is at the
+-- "table"; refusal 10, "struct boolean not 0 or 1", at the "object" that holds the struct. An unknown enum or choice:
+-- "Neither is refused."
+unfoldable pub follow : Child → ℕ → ℕ → Step → Spent → Walked
+follow child holder j (St.Refused n) s = refusePart n holder j s
+follow child holder j St.Absent s = Going s
+follow child holder j (St.Value x) s = Going s
+follow child holder j (St.Unknown x) s = Going s
+follow child holder j (St.Struct i at) s = Going s
+follow child holder j (St.Object ob p) s = child ob p s
+follow child holder j (St.Choice c ob p) s = followChoice child holder j ob p s
+
+-- "Then each member or element in turn": the members of a table at `holder`, from member j on, whose fixed part has n bytes
+-- from `start`
+unfoldable pub members : Child → ℕ → Schema → List ℕ → ℕ → ℕ → ℕ → Cursor → ℕ → List Member → Spent → Walked
+members child o S m holder start n c j [] s = Going s
+members child o S m holder start n c j (r ∷ rs) s =
+    andThen (follow child holder j (memberStep o S m start n c r) s)
+    (members child o S m holder start n (afterMember o S r c) (j + 1) rs)
 
 -- "Then each member or element in turn": n elements of a list at `holder`, from element i on
 unfoldable pub elements : Child → ℕ → Schema → List ℕ → ℕ → ℕ → Kind → ℕ → ℕ → Spent → Walked
 elements child o S m holder start k zero i s = Going s
 elements child o S m holder start k (suc n) i s =
-    andThen (follow child holder (elementStep o S m k start i) s) (elements child o S m holder start k n (i + 1))
+    andThen (follow child holder i (elementStep o S m k start i) s) (elements child o S m holder start k n (i + 1))
 
 -- "tables lead to lists and unions, and those lead back to tables": what the content of the object at `holder` leads to;
 -- texts and bytes lead to nothing
@@ -130,7 +153,7 @@ unfoldable pub content : Child → ℕ → Schema → List ℕ → Object → �
 content child o S m O.Text holder start n s = Going s
 content child o S m O.Bytes holder start n s = Going s
 content child o S m (O.List i) holder start n s = elements child o S m holder start (elementOf S i) n 0 s
-content child o S m (O.Table i) holder start n s = members child o S m holder start n begin (tableOf S i .members) s
+content child o S m (O.Table i) holder start n s = members child o S m holder start n begin 0 (tableOf S i .members) s
 
 -- what the arrival found at the object at `holder`: a refusal, at the "object", or the content
 unfoldable pub enter : Child → ℕ → Schema → List ℕ → Object → ℕ → Opened → Spent → Walked
@@ -146,11 +169,23 @@ arrive child o S m ob p s = enter child o S m ob (placed p) (openObject o S m ob
 unfoldable pub tooDeep : Child
 tooDeep ob p s = refuse 5 (placed p) s
 
+-- "Budget: any 32-bit unsigned number.": a budget of so many visits
+abbrev pub allowing : ℕ → Budget
+allowing n = record { visits = n }
+
+-- what is spent with so many visits
+abbrev pub spending : ℕ → Spent
+spending n = record { visits = n }
+
+-- what is spent with one arrival more: "Every arrival at an object counts one visit"
+unfoldable pub oneMore : Spent → Spent
+oneMore s = spending (s .visits + 1)
+
 -- "Every arrival at an object counts one visit"; refusal 4: "budget spent", at the "object not visited"; "an arrival refused
 -- by 4 isn't counted"
 unfoldable pub counted : Child → Budget → Child
 counted child b ob p s =
-    pick (ltb (s .visits) (b .visits)) (child ob p (record { visits = s .visits + 1 })) (refuse 4 (placed p) s)
+    pick (ltb (s .visits) (b .visits)) (child ob p (oneMore s)) (refuse 4 (placed p) s)
 
 -- an arrival with d objects of depth left, this one counted: "budget, depth, offset and header fit, magic, content fit,
 -- text's end byte. Then each member or element in turn". "following a reference or entering in-place content adds 1".
@@ -162,25 +197,41 @@ visit (suc d) o S m b = counted (arrive (visit d o S m b) o S m) b
 unfoldable pub rootPlace : ℕ → List ℕ → Place
 rootPlace o m = ByOffset (le m 4 o)
 
+-- before the first arrival nothing is spent
+unfoldable pub nothing : Spent
+nothing = spending 0
+
 -- "From the root, members and elements in order": the arrival at the root table, with nothing spent; "Depth: 32 objects,
 -- the root being 1"
 unfoldable pub walk : ℕ → Schema → List ℕ → Budget → Walked
-walk o S m b = visit deepest o S m b (O.Table (S .root)) (rootPlace o m) (record { visits = 0 })
+walk o S m b = visit deepest o S m b (O.Table (S .root)) (rootPlace o m) nothing
 
 -- ---- the verdict
+-- "Judging answers number, place and visits": of a refusal, after what was spent
+abbrev pub verdictAt : Refusal → Spent → Verdict
+verdictAt r s = record { number = r .number; place = r .place; visits = s .visits }
+
+-- a number at place 0: "accepted", or a refusal at 0, after what was spent
+abbrev pub atZero : ℕ → Spent → Verdict
+atZero n s = verdictAt (refusal n 0) s
+
 -- "Judging answers number, place and visits": of a walk that ended without a refusal, "accepted", 0 at 0
 unfoldable pub verdictOf : Walked → Verdict
-verdictOf (Going s) = record { number = 0; place = 0; visits = s .visits }
-verdictOf (Refused r s) = record { number = r .number; place = r .place; visits = s .visits }
+verdictOf (Going s) = atZero 0 s
+verdictOf (Refused r s) = verdictAt r s
+
+-- what a verdict says was spent: "Judging answers number, place and visits"
+abbrev pub spentOf : Verdict → Spent
+spentOf v = spending (v .visits)
 
 -- a number with place 0 and visits 0: "Before the walk, 1, 2, 3 are tried in order with visits 0." The writer's and the
 -- field's answers at place 0 have the same form.
 unfoldable pub early : ℕ → Verdict
-early n = record { number = n; place = 0; visits = 0 }
+early n = atZero n nothing
 
--- whether refusal 2, "message under 10 bytes or over the size", does not arise
+-- whether refusal 2, "message under 10 bytes or over the size", does not arise; 02, K5: "a message under 8 bytes is 2"
 unfoldable pub sizeOk : ℕ → List ℕ → Bool
-sizeOk o m = leb (headerSize o) (length m) && leb (length m) largest
+sizeOk o m = leb (startSize o) (length m) && leb (length m) largest
 
 -- whether refusal 3, "wrong message magic", does not arise: "magic 0xB5C0C4B3"
 unfoldable pub startOk : List ℕ → Bool
@@ -189,6 +240,6 @@ startOk m = eqb (le m 0 4) 0xB5C0_C4B3
 -- "Before the walk, 1, 2, 3 are tried in order with visits 0."
 unfoldable pub verdict : ℕ → List ℕ → List ℕ → Budget → Verdict
 verdict o b m budget =
-    pick (lawful b)
+    pick (lawful o b)
     (pick (sizeOk o m) (pick (startOk m) (verdictOf (walk o (parse b) m budget)) (early 3)) (early 2))
     (early 1)

@@ -57,6 +57,12 @@ pub struct Slot {
     pub size: usize,
 }
 
+// Where a member stands in its fixed part: its value's slot, and its flag's, which counts only where the member has one.
+pub struct Placement {
+    pub value: Slot,
+    pub flag: Slot,
+}
+
 // ---- the walk
 
 // Where an object stands: its offset; or, in place, where its content starts and the length that its holder gives.

@@ -17,7 +17,7 @@ use Rattle.coding.specs.Structs.{flatWidth}
 use Rattle.coding.specs.Layout.{width, flatIsBool, isBool, begin, afterMember}
 use Rattle.coding.specs.Step.{memberStep, elementStep, elementsSize}
 use Rattle.coding.specs.Walk as W
-use Rattle.coding.specs.Walk.{placed, magic, headerSize, contentSize, endOk, openContent, openObject, refuse, andThen, followChoice, follow, content, enter, arrive, tooDeep, counted, visit, rootPlace, walk, verdictOf, early, sizeOk, startOk, verdict}
+use Rattle.coding.specs.Walk.{placed, magic, headerSize, startSize, contentSize, endOk, fitContent, fitObject, bytesTested, openObject, refuse, refusePart, andThen, followChoice, follow, content, enter, arrive, tooDeep, oneMore, counted, visit, rootPlace, nothing, walk, verdictOf, early, sizeOk, startOk, verdict}
 use Rattle.coding.specs.Value.{count}
 use Rattle.coding.specs.Read as R
 use Rattle.coding.specs.Read.{stepRead, structRead, membersRead, elementsRead, contentRead, placeRead, read, messageRead}
@@ -104,32 +104,32 @@ module _ (S : Schema) (G : Sound S) (m : List ℕ) (small : (i : ℕ) → getD m
   -- ---- members, elements and objects, where the walk and the reading below agree
   module _ (shown : Objects) (child : W.Child) (reader : R.Child)
       (below : (ob : Object) (p : Place) (s : Spent) → Ends (shown ob (reader ob p)) (child ob p s)) where
-    choice-ends : (holder : ℕ) (ob : Object) (p : Place) (s : Spent) → Ends (shown ob (reader ob p)) (followChoice child holder ob p s)
-    unfolding followChoice
-    choice-ends holder ob (ByOffset x) s =
-        pick-holds (Ends (shown ob (reader ob (ByOffset x)))) (eqb x 0) (refuse 9 holder s) (child ob (ByOffset x) s)
+    choice-ends : (holder j : ℕ) (ob : Object) (p : Place) (s : Spent) → Ends (shown ob (reader ob p)) (followChoice child holder j ob p s)
+    unfolding followChoice refusePart
+    choice-ends holder j ob (ByOffset x) s =
+        pick-holds (Ends (shown ob (reader ob (ByOffset x)))) (eqb x 0) (refusePart 9 holder j s) (child ob (ByOffset x) s)
         (λ e. refuse-ends 9 holder s (omega arith)) (λ e. below ob (ByOffset x) s)
-    choice-ends holder ob (InPlace a n) s = below ob (InPlace a n) s
+    choice-ends holder j ob (InPlace a n) s = below ob (InPlace a n) s
 
-    step-ends : {k : Kind} {st : Step} → StepShown S m k st → (holder : ℕ) (s : Spent)
-        → Ends (PartShown shown S k (stepRead (structRead S m) reader st)) (follow child holder st s)
-    unfolding follow stepRead
-    step-ends (step-refused {n} l) holder s = refuse-ends n holder s l
-    step-ends step-absent holder s = goes no-part
-    step-ends (step-value h) holder s = goes (flat h)
-    step-ends (step-unknown h) holder s = goes (flat h)
-    step-ends (step-struct h) holder s = goes (flat h)
-    step-ends (step-object {ob} {p}) holder s = map-ends (λ h. object h) (below ob p s)
-    step-ends (step-choice {i} {c} {p} l u) holder s = map-ends (λ h. choice l u h) (choice-ends holder (caseOf (casesOf S i) c) p s)
-    step-ends (step-unknown-choice l u) holder s = goes (unknown-choice l u)
+    step-ends : {k : Kind} {st : Step} → StepShown S m k st → (holder j : ℕ) (s : Spent)
+        → Ends (PartShown shown S k (stepRead (structRead S m) reader st)) (follow child holder j st s)
+    unfolding follow refusePart stepRead
+    step-ends (step-refused {n} l) holder j s = refuse-ends n holder s l
+    step-ends step-absent holder j s = goes no-part
+    step-ends (step-value h) holder j s = goes (flat h)
+    step-ends (step-unknown h) holder j s = goes (flat h)
+    step-ends (step-struct h) holder j s = goes (flat h)
+    step-ends (step-object {ob} {p}) holder j s = map-ends (λ h. object h) (below ob p s)
+    step-ends (step-choice {i} {c} {p} l u) holder j s = map-ends (λ h. choice l u h) (choice-ends holder j (caseOf (casesOf S i) c) p s)
+    step-ends (step-unknown-choice l u) holder j s = goes (unknown-choice l u)
 
-    members-ends : (rs : List Member) (holder start n : ℕ) (c : Cursor) (s : Spent)
-        → Ends (MembersShown shown S rs (membersRead reader o S m start n c rs)) (W.members child o S m holder start n c rs s)
+    members-ends : (rs : List Member) (holder start n : ℕ) (c : Cursor) (j : ℕ) (s : Spent)
+        → Ends (MembersShown shown S rs (membersRead reader o S m start n c rs)) (W.members child o S m holder start n c j rs s)
     unfolding W.members membersRead
-    members-ends [] holder start n c s = goes no-member
-    members-ends (r ∷ rs) holder start n c s =
+    members-ends [] holder start n c j s = goes no-member
+    members-ends (r ∷ rs) holder start n c j s =
         map-ends (λ h. members (h .0) (h .1))
-        (then-ends (step-ends (member-step S m small G o start n c r) holder s) (members-ends rs holder start n (afterMember o S r c)))
+        (then-ends (step-ends (member-step S m small G o start n c r) holder j s) (members-ends rs holder start n (afterMember o S r c) (j + 1)))
 
     elements-ends : (k : Kind) (holder start n i : ℕ) (s : Spent)
         → Ends (ElementsShown shown S k (elementsRead reader o S m start k n i)) (W.elements child o S m holder start k n i s)
@@ -137,7 +137,7 @@ module _ (S : Schema) (G : Sound S) (m : List ℕ) (small : (i : ℕ) → getD m
     elements-ends k holder start zero i s = goes no-element
     elements-ends k holder start (suc n) i s =
         map-ends (λ h. elements (h .0) (element-present S m small G o reader k start i) (h .1))
-        (then-ends (step-ends (element-step S m small G o k start i) holder s) (elements-ends k holder start n (i + 1)))
+        (then-ends (step-ends (element-step S m small G o k start i) holder i s) (elements-ends k holder start n (i + 1)))
 
     elements-count : (k : Kind) (start n i : ℕ) → count (elementsRead reader o S m start k n i) ≡ n
     unfolding elementsRead count
@@ -153,7 +153,7 @@ module _ (S : Schema) (G : Sound S) (m : List ℕ) (small : (i : ℕ) → getD m
         let few = count-few (elementOf S i) (G .lists i .kind) (G .lists i .scalar) n (omega arith) in
         let vs = elementsRead reader o S m start (elementOf S i) n 0 in
         map-ends (λ h. list {vs = vs} (rw (elements-count (elementOf S i) start n 0) few) h) (elements-ends (elementOf S i) holder start n 0 s)
-    content-ends (O.Table i) holder start n s l = map-ends (λ h. table h) (members-ends (tableOf S i .members) holder start n begin s)
+    content-ends (O.Table i) holder start n s l = map-ends (λ h. table h) (members-ends (tableOf S i .members) holder start n begin 0 s)
 
     -- an arrival that found content of length n at `start`, or a refusal
     Enters : Object → ℕ → ℕ → ℕ → Spent → Opened → Type 0
@@ -168,12 +168,19 @@ module _ (S : Schema) (G : Sound S) (m : List ℕ) (small : (i : ℕ) → getD m
     unfolding Enters enter
     content-enters ob holder start n s l = content-ends ob holder start n s l
 
-    opened-enters : (ob : Object) (holder start n : ℕ) (s : Spent) → Enters ob holder start n s (openContent o S m ob start n)
-    unfolding openContent
-    opened-enters ob holder start n s =
+    -- the same where the bytes are tested yet
+    Fits : Object → ℕ → ℕ → ℕ → Spent → Opened → Type 0
+    Fits ob holder start n s fit = Enters ob holder start n s (bytesTested m ob fit)
+
+    refused-fits : (ob : Object) (holder start n k : ℕ) (s : Spent) → 0 < k → Fits ob holder start n s (Op.Refused k)
+    unfolding Fits bytesTested
+    refused-fits ob holder start n k s l = refused-enters ob holder start n k s l
+
+    content-fits : (ob : Object) (holder start n : ℕ) (s : Spent) → Fits ob holder start n s (fitContent o S m ob start n)
+    unfolding Fits fitContent bytesTested
+    content-fits ob holder start n s =
         let P = Enters ob holder start n s in
-        let inner = pick (endOk m ob start n) (Op.Content start n) (Op.Refused 10) in
-        pick-holds P (leb (start + contentSize o S ob n) (length m)) inner (Op.Refused 6)
+        pick-holds (λ x. P (bytesTested m ob x)) (leb (start + contentSize o S ob n) (length m)) (Op.Content start n) (Op.Refused 6)
         (λ e.
         pick-holds P (endOk m ob start n) (Op.Content start n) (Op.Refused 10)
         (λ t. content-enters ob holder start n s (leb-true (start + contentSize o S ob n) (length m) e))
@@ -181,26 +188,26 @@ module _ (S : Schema) (G : Sound S) (m : List ℕ) (small : (i : ℕ) → getD m
         (λ e. refused-enters ob holder start n 6 s (omega arith))
 
     arrival-ends : (ob : Object) (p : Place) (s : Spent) → Ends (ContentShown shown S ob (placeRead reader o S m ob p)) (arrive child o S m ob p s)
-    unfolding arrive placed openObject placeRead Enters
+    unfolding arrive placed openObject fitObject placeRead Enters Fits
     arrival-ends ob (ByOffset x) s =
         let start = x + headerSize o in
         let n = le m (x + 4) o in
-        let P = Enters ob x start n s in
-        let opened = openContent o S m ob start n in
+        let P = Fits ob x start n s in
+        let opened = fitContent o S m ob start n in
         let inner = pick (eqb (le m x 4) (magic S ob)) opened (Op.Refused 7) in
-        pick-holds P (leb (headerSize o) x && leb start (length m)) inner (Op.Refused 6)
+        pick-holds P (leb (startSize o) x && leb start (length m)) inner (Op.Refused 6)
         (λ e.
-        pick-holds P (eqb (le m x 4) (magic S ob)) opened (Op.Refused 7) (λ t. opened-enters ob x start n s)
-        (λ t. refused-enters ob x start n 7 s (omega arith)))
-        (λ e. refused-enters ob x start n 6 s (omega arith))
-    arrival-ends ob (InPlace a n) s = opened-enters ob a a n s
+        pick-holds P (eqb (le m x 4) (magic S ob)) opened (Op.Refused 7) (λ t. content-fits ob x start n s)
+        (λ t. refused-fits ob x start n 7 s (omega arith)))
+        (λ e. refused-fits ob x start n 6 s (omega arith))
+    arrival-ends ob (InPlace a n) s = content-fits ob a a n s
 
   counted-ends : (P : Type 0) (child : W.Child) (b : Budget) (ob : Object) (p : Place) → ((s : Spent) → Ends P (child ob p s))
       → (s : Spent) → Ends P (counted child b ob p s)
   unfolding counted
   counted-ends P child b ob p h s =
-      pick-holds (Ends P) (ltb (s .visits) (b .visits)) (child ob p (record { visits = s .visits + 1 })) (refuse 4 (placed p) s)
-      (λ e. h (record { visits = s .visits + 1 })) (λ e. refuse-ends 4 (placed p) s (omega arith))
+      pick-holds (Ends P) (ltb (s .visits) (b .visits)) (child ob p (oneMore s)) (refuse 4 (placed p) s)
+      (λ e. h (oneMore s)) (λ e. refuse-ends 4 (placed p) s (omega arith))
 
   pub object-ends : (b : Budget) (d : ℕ) (ob : Object) (p : Place) (s : Spent) → Ends (Shown d S ob (read d o S m ob p)) (visit d o S m b ob p s)
   unfolding visit read tooDeep
@@ -212,7 +219,7 @@ module _ (S : Schema) (G : Sound S) (m : List ℕ) (small : (i : ℕ) → getD m
   -- the values of a message, or a refusal
   pub walk-ends : (b : Budget) → Ends (Shown deepest S (O.Table (S .root)) (messageRead o S m)) (walk o S m b)
   unfolding walk messageRead
-  walk-ends b = object-ends b deepest (O.Table (S .root)) (rootPlace o m) (record { visits = 0 })
+  walk-ends b = object-ends b deepest (O.Table (S .root)) (rootPlace o m) nothing
 
 -- ---- the verdict: number 0 is a lawful schema, a message of a lawful size and start, and a walk to its end
 ends-number : {P : Type 0} {w : Walked} → Ends P w → verdictOf w .number ≡ 0 → P
@@ -221,20 +228,20 @@ ends-number (goes p) e = p
 ends-number (stops n) e = absurd (omega arith)
 
 pub verdict-shows : (P : Type 0) (o : ℕ) (b m : List ℕ) (budget : Budget)
-    → (lawful b ≡ true → length m ≤ largest → Ends P (walk o (parse b) m budget)) → verdict o b m budget .number ≡ 0 → P
+    → (lawful o b ≡ true → length m ≤ largest → Ends P (walk o (parse b) m budget)) → verdict o b m budget .number ≡ 0 → P
 unfolding verdict sizeOk
 verdict-shows P o b m budget h =
     let Q : Verdict → Type 0 = λ v. v .number ≡ 0 → P in
     let walked = verdictOf (walk o (parse b) m budget) in
     let started = pick (startOk m) walked (early 3) in
     let large = leb (length m) largest in
-    let sized = leb (headerSize o) (length m) && large in
-    pick-holds Q (lawful b) (pick sized started (early 2)) (early 1)
+    let sized = leb (startSize o) (length m) && large in
+    pick-holds Q (lawful o b) (pick sized started (early 2)) (early 1)
     (λ e.
     pick-holds Q sized started (early 2)
     (λ f.
     pick-holds Q (startOk m) walked (early 3)
-    (λ g. ends-number (h e (leb-true (length m) largest (both-right (leb (headerSize o) (length m)) large f)))) (λ g. not-early 2))
+    (λ g. ends-number (h e (leb-true (length m) largest (both-right (leb (startSize o) (length m)) large f)))) (λ g. not-early 2))
     (λ f. not-early 1))
     (λ e. not-early 0)
   where

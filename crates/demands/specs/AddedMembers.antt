@@ -5,14 +5,14 @@ use native.Mathlib.Nat.{le-refl}
 use native.Mathlib.Omega.{arith}
 use mathlib.Core.List.{List, [], _∷_}
 use mathlib.Core.Bool.{Bool, true, false, _&&_, not}
-use mathlib.Core.Path.{_≡_, refl, ap₂}
+use mathlib.Core.Path.{_≡_, refl, ap, ap₂, _∙_}
 use lib.Dec.{ltb, leb, eqb}
 use borrow.Author.Tests.{ltb-true, leb-true, leb-false, le-leb, lt-ltb, le-ltb}
 use Rattle.coding.specs.Lists.{pick}
 use Rattle.coding.specs.Bytes.{bitAt}
 use Rattle.coding.specs.Schema.{Schema}
-use Rattle.coding.specs.Layout.{flatIsBool, isBool, flatTakesFlag, takesFlag, hasFlag, bitByte, bitIndex, afterBit, afterBytes, afterFlag, slotOf, afterValue, memberSlot, afterMember, width}
-use Rattle.coding.specs.Step.{flatStep, valueStep, inside, flagged, memberStep}
+use Rattle.coding.specs.Layout.{flatIsBool, isBool, flatTakesFlag, takesFlag, hasFlag, bitByte, bitIndex, afterBit, afterBytes, afterFlag, bitSlot, slotOf, afterValue, memberSlot, placementOf, afterMember, width}
+use Rattle.coding.specs.Step.{flatStep, valueStep, structTested, inside, flagged, placedStep, memberStep}
 use Rattle.coding.specs.Walk.{andThen, follow, members}
 use Rattle.coding.specs.Walk as W
 use Rattle.coding.specs.Value.{Value, absent, number, _then_}
@@ -95,8 +95,8 @@ module _ (m : List ℕ) (start n : ℕ) where
 
   -- a flag that is past the end or 0, before a value that is not cut
   flag-added : (c : Cursor) → Past m start n c → (slot : Slot) (here : Step) → (slot .at < n → slot .at + slot .size ≤ n)
-      → flagged m start n c slot here ≡ St.Absent
-  unfolding flagged inside
+      → flagged m start n (bitSlot c) slot here ≡ St.Absent
+  unfolding flagged inside bitSlot
   flag-added c f slot here g = by (leb n (bitByte c)) refl
     where
       by-end : (t : Bool) → leb n (slot .at) ≡ t
@@ -111,17 +111,23 @@ module _ (m : List ℕ) (start n : ℕ) where
       by true e = refl
       by false e = rw (bit-clear c f (leb-false n (bitByte c) e)) (by-end (leb n (slot .at)) refl)
 
+  -- a bool or no value needs no test
+  tested-added : (S : Schema) (t : Bool) → structTested S m (pick t (St.Value 0) St.Absent) ≡ pick t (St.Value 0) St.Absent
+  unfolding structTested
+  tested-added S true = refl
+  tested-added S false = refl
+
   -- a member that is no bool is absent
   wide-added : (o : ℕ) (S : Schema) (r : Member) (c : Cursor) → isBool (r .kind) ≡ false → Past m start n c
       → memberStep o S m start n c r ≡ St.Absent
-  unfolding memberStep memberSlot
+  unfolding memberStep placedStep placementOf memberSlot
   wide-added o S r c e f =
       let g = flag-past r c f in
-      rw (wide-slot o S (r .kind) (afterFlag r c) e) (by (hasFlag r) _ (g .end))
+      ap (structTested S m) (rw (wide-slot o S (r .kind) (afterFlag r c) e) (by (hasFlag r) _ (g .end))) ∙ tested-added S false
     where
       by : (t : Bool) (here : Step) → n ≤ afterFlag r c .end
           → pick t
-          (flagged m start n c (record { at = afterFlag r c .end; bit = 0; size = width o S (r .kind) }) here)
+          (flagged m start n (bitSlot c) (record { at = afterFlag r c .end; bit = 0; size = width o S (r .kind) }) here)
           (inside n (record { at = afterFlag r c .end; bit = 0; size = width o S (r .kind) }) St.Absent here)
           ≡ St.Absent
       by true here h = flag-added c f _ here (λ l. absurd (omega arith))
@@ -145,8 +151,8 @@ module _ (m : List ℕ) (start n : ℕ) where
   -- a bool is absent, or 0 in a byte that was written
   bool-added : (o : ℕ) (S : Schema) (r : Member) (c : Cursor) → r .kind ≡ OfFlat Boolean → Past m start n c
       → memberStep o S m start n c r ≡ addedStep n c r
-  unfolding memberStep memberSlot hasFlag takesFlag flatTakesFlag afterFlag isBool flatIsBool valueStep flatStep slotOf
-  bool-added o S r c e f = rw e (by (r .optional))
+  unfolding memberStep placedStep placementOf memberSlot hasFlag takesFlag flatTakesFlag afterFlag isBool flatIsBool valueStep flatStep slotOf bitSlot
+  bool-added o S r c e f = ap (structTested S m) (rw e (by (r .optional))) ∙ tested-added S (addedBool n c r)
     where
       slot : Cursor → Slot
       slot d = record { at = bitByte d; bit = bitIndex d; size = 1 }
@@ -156,7 +162,7 @@ module _ (m : List ℕ) (start n : ℕ) where
 
       by : (t : Bool)
           → pick (t && true)
-          (flagged m start n c (slot (pick (t && true) (afterBit c) c)) (here (pick (t && true) (afterBit c) c)))
+          (flagged m start n (slot c) (slot (pick (t && true) (afterBit c) c)) (here (pick (t && true) (afterBit c) c)))
           (inside n (slot (pick (t && true) (afterBit c) c)) St.Absent (here (pick (t && true) (afterBit c) c)))
           ≡ pick (not t && ltb (bitByte c) n) (St.Value 0) St.Absent
       by true = flag-added c f (slot (afterBit c)) (here (afterBit c)) (λ l. omega arith)
@@ -179,18 +185,18 @@ module _ (m : List ℕ) (start n : ℕ) where
       by (OfUnion i) e = wide (rw e)
 
   -- ---- the added members are passed by, and read as they should
-  follow-added : (child : W.Child) (holder : ℕ) (t : Bool) (s : Spent) → follow child holder (pick t (St.Value 0) St.Absent) s ≡ Going s
+  follow-added : (child : W.Child) (holder j : ℕ) (t : Bool) (s : Spent) → follow child holder j (pick t (St.Value 0) St.Absent) s ≡ Going s
   unfolding follow
-  follow-added child holder true s = refl
-  follow-added child holder false s = refl
+  follow-added child holder j true s = refl
+  follow-added child holder j false s = refl
 
-  pub walk-added : (child : W.Child) (o : ℕ) (S : Schema) (holder : ℕ) (rs : List Member) (c : Cursor) (s : Spent) → Past m start n c
-      → members child o S m holder start n c rs s ≡ Going s
+  pub walk-added : (child : W.Child) (o : ℕ) (S : Schema) (holder j : ℕ) (rs : List Member) (c : Cursor) (s : Spent) → Past m start n c
+      → members child o S m holder start n c j rs s ≡ Going s
   unfolding members andThen
-  walk-added child o S holder [] c s f = refl
-  walk-added child o S holder (r ∷ rs) c s f =
-      rw (member-added o S r c f, follow-added child holder (addedBool n c r) s)
-      (walk-added child o S holder rs (afterMember o S r c) s (member-past o S r c f))
+  walk-added child o S holder j [] c s f = refl
+  walk-added child o S holder j (r ∷ rs) c s f =
+      rw (member-added o S r c f, follow-added child holder j (addedBool n c r) s)
+      (walk-added child o S holder (j + 1) rs (afterMember o S r c) s (member-past o S r c f))
 
   read-step : (inner : ℕ → ℕ → Value) (child : Child) (t : Bool)
       → stepRead inner child (pick t (St.Value 0) St.Absent) ≡ pick t (number 0) absent

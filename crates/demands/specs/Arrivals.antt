@@ -119,7 +119,7 @@ pub record Accepted (o : ℕ) (S : Schema) (m : List ℕ) (b : Budget) : Type 0 
 
 -- a message that a schema's bytes and a budget accept
 pub record LawfulMessage (o : ℕ) (b m : List ℕ) (budget : Budget) : Type 0 where
-  pub schema : lawful b ≡ true
+  pub schema : lawful o b ≡ true
   pub size : sizeOk o m ≡ true
   pub start : startOk m ≡ true
   pub objects : Accepted o (parse b) m budget

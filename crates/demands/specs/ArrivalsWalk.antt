@@ -14,7 +14,7 @@ use Rattle.coding.specs.Bytes.{deepest}
 use Rattle.coding.specs.Schema.{Schema, elementOf, tableOf}
 use Rattle.coding.specs.Layout.{begin, afterMember, afterMembers}
 use Rattle.coding.specs.Step.{memberStep, elementStep}
-use Rattle.coding.specs.Walk.{placed, openObject, refuse, andThen, Child, followChoice, follow, members, elements, content, enter, arrive, tooDeep, counted, visit, rootPlace}
+use Rattle.coding.specs.Walk.{placed, openObject, refuse, andThen, Child, refusePart, followChoice, follow, members, elements, content, enter, arrive, tooDeep, oneMore, counted, visit, rootPlace}
 use Rattle.coding.specs.declared.Object.{Object}
 use Rattle.coding.specs.declared.Object.the-variants as Ob
 use Rattle.coding.specs.declared.Kind.{Kind}
@@ -101,35 +101,35 @@ module _ (b : Budget) (P : Object → Place → Type 0) (k : Object → Place �
       → Judged b (PartLawful P st) 0 s (Going s)
   still st l e s h = judged-stay s h (record { step = l; object = λ ob p q. led-to P e q })
 
-  choice-judged : (holder c : ℕ) (ob : Object) (p : Place) (s : Spent) → s .visits ≤ b .visits
-      → Judged b (PartLawful P (St.Choice c ob p)) (k ob p) s (followChoice child holder ob p s)
-  unfolding followChoice
-  choice-judged holder c ob (ByOffset x) s h = by (eqb x 0) refl
+  choice-judged : (holder j c : ℕ) (ob : Object) (p : Place) (s : Spent) → s .visits ≤ b .visits
+      → Judged b (PartLawful P (St.Choice c ob p)) (k ob p) s (followChoice child holder j ob p s)
+  unfolding followChoice refusePart
+  choice-judged holder j c ob (ByOffset x) s h = by (eqb x 0) refl
     where
       by : (t : Bool) → eqb x 0 ≡ t
           → Judged b (PartLawful P (St.Choice c ob (ByOffset x))) (k ob (ByOffset x)) s
-          (pick t (refuse 9 holder s) (child ob (ByOffset x) s))
+          (pick t (refusePart 9 holder j s) (child ob (ByOffset x) s))
       by true e = judged-refuse _ s 9 holder (omega arith) (λ q g. q .step (eqb-true x 0 e))
       by false e =
           judged-as
           (λ q. record { step = eqb-false x 0 e; object = λ ob′ p′ l. led-to P q l })
           (λ q. q .object ob (ByOffset x) by-choice) refl (H ob (ByOffset x) s h)
-  choice-judged holder c ob (InPlace a n) s h =
+  choice-judged holder j c ob (InPlace a n) s h =
       judged-as (λ q. record { step = tt; object = λ ob′ p′ l. led-to P q l })
       (λ q. q .object ob (InPlace a n) by-choice) refl (H ob (InPlace a n) s h)
 
-  follow-judged : (holder : ℕ) (st : Step) → NumberedStep st → (s : Spent) → s .visits ≤ b .visits
-      → Judged b (PartLawful P st) (arrivalsAt k st) s (follow child holder st s)
-  unfolding follow arrivalsAt
-  follow-judged holder (St.Refused n) z s h = judged-refuse 0 s n holder z (λ q g. q .step)
-  follow-judged holder St.Absent z s h = still St.Absent tt tt s h
-  follow-judged holder (St.Value x) z s h = still (St.Value x) tt tt s h
-  follow-judged holder (St.Unknown x) z s h = still (St.Unknown x) tt tt s h
-  follow-judged holder (St.Struct i at) z s h = still (St.Struct i at) tt tt s h
-  follow-judged holder (St.Object ob p) z s h =
+  follow-judged : (holder j : ℕ) (st : Step) → NumberedStep st → (s : Spent) → s .visits ≤ b .visits
+      → Judged b (PartLawful P st) (arrivalsAt k st) s (follow child holder j st s)
+  unfolding follow refusePart arrivalsAt
+  follow-judged holder j (St.Refused n) z s h = judged-refuse 0 s n holder z (λ q g. q .step)
+  follow-judged holder j St.Absent z s h = still St.Absent tt tt s h
+  follow-judged holder j (St.Value x) z s h = still (St.Value x) tt tt s h
+  follow-judged holder j (St.Unknown x) z s h = still (St.Unknown x) tt tt s h
+  follow-judged holder j (St.Struct i at) z s h = still (St.Struct i at) tt tt s h
+  follow-judged holder j (St.Object ob p) z s h =
       judged-as (λ q. record { step = tt; object = λ ob′ p′ l. led-to P q l })
       (λ q. q .object ob p by-reference) refl (H ob p s h)
-  follow-judged holder (St.Choice c ob p) z s h = choice-judged holder c ob p s h
+  follow-judged holder j (St.Choice c ob p) z s h = choice-judged holder j c ob p s h
 
   -- ---- the parts in turn
   EachPart : (ℕ → Step) → ℕ → Type 0
@@ -148,15 +148,15 @@ module _ (b : Budget) (P : Object → Place → Type 0) (k : Object → Place �
       join q (suc j) h = q .1 j (omega arith)
 
   module _ (o : ℕ) (S : Schema) (m : List ℕ) where
-    members-judged : (holder start n : ℕ) (c : Cursor) (rs : List Member) (s : Spent) → s .visits ≤ b .visits
+    members-judged : (holder start n : ℕ) (c : Cursor) (i : ℕ) (rs : List Member) (s : Spent) → s .visits ≤ b .visits
         → Judged b (EachPart (memberAt o S m start n c rs) (length rs))
         (sum (λ j. arrivalsAt k (memberAt o S m start n c rs j)) (length rs)) s
-        (members child o S m holder start n c rs s)
+        (members child o S m holder start n c i rs s)
     unfolding members memberAt afterMembers EachPart sum
-    members-judged holder start n c [] s h = judged-stay s h (λ j l. absurd (omega arith))
-    members-judged holder start n c (r ∷ rs) s h =
-        next-part (memberAt o S m start n c (r ∷ rs)) (length rs) (follow-judged holder (memberStep o S m start n c r) (member-numbered o S m start n c r) s h)
-        (λ t g. members-judged holder start n (afterMember o S r c) rs t g)
+    members-judged holder start n c i [] s h = judged-stay s h (λ j l. absurd (omega arith))
+    members-judged holder start n c i (r ∷ rs) s h =
+        next-part (memberAt o S m start n c (r ∷ rs)) (length rs) (follow-judged holder i (memberStep o S m start n c r) (member-numbered o S m start n c r) s h)
+        (λ t g. members-judged holder start n (afterMember o S r c) (i + 1) rs t g)
 
     elements-judged : (holder start : ℕ) (e : Kind) (n i : ℕ) (f : ℕ → Step) → ((j : ℕ) → f j ≡ elementStep o S m e start (i + j))
         → (s : Spent) → s .visits ≤ b .visits
@@ -165,8 +165,8 @@ module _ (b : Budget) (P : Object → Place → Type 0) (k : Object → Place �
     elements-judged holder start e zero i f q s h = judged-stay s h (λ j l. absurd (omega arith))
     elements-judged holder start e (suc n) i f q s h =
         next-part f n
-        (subst (λ (st : Step). Judged b (PartLawful P (f 0)) (arrivalsAt k (f 0)) s (follow child holder st s))
-        (q 0 ∙ ap (elementStep o S m e start) (add-zero i)) (follow-judged holder (f 0) (subst NumberedStep (sym (q 0)) (element-numbered o S m e start (i + 0))) s h))
+        (subst (λ (st : Step). Judged b (PartLawful P (f 0)) (arrivalsAt k (f 0)) s (follow child holder i st s))
+        (q 0 ∙ ap (elementStep o S m e start) (add-zero i)) (follow-judged holder i (f 0) (subst NumberedStep (sym (q 0)) (element-numbered o S m e start (i + 0))) s h))
         (λ t g. elements-judged holder start e n (i + 1) (λ j. f (suc j))
         (λ j. q (suc j) ∙ ap (elementStep o S m e start) (omega arith)) t g)
 
@@ -180,7 +180,7 @@ module _ (b : Budget) (P : Object → Place → Type 0) (k : Object → Place �
     content-judged (Ob.List i) holder start n s h =
         elements-judged holder start (elementOf S i) n 0 (elementStep o S m (elementOf S i) start)
         (λ j. ap (elementStep o S m (elementOf S i) start) (omega arith)) s h
-    content-judged (Ob.Table i) holder start n s h = members-judged holder start n begin (tableOf S i .members) s h
+    content-judged (Ob.Table i) holder start n s h = members-judged holder start n begin 0 (tableOf S i .members) s h
 
     enter-judged : (ob : Object) (holder : ℕ) (p : Opened) → NumberedOpened p → (s : Spent) → s .visits ≤ b .visits
         → Judged b (ContentLawful P o S m ob p) (arrivalsIn k o S m ob p) s (enter child o S m ob holder p s)
@@ -192,17 +192,17 @@ module _ (b : Budget) (P : Object → Place → Type 0) (k : Object → Place �
 counted-judged : (b : Budget) (P : Type 0) (k : ℕ) (child : Child) (ob : Object) (p : Place)
     → ((s : Spent) → s .visits ≤ b .visits → Judged b P k s (child ob p s))
     → (s : Spent) → s .visits ≤ b .visits → Judged b P (1 + k) s (counted child b ob p s)
-unfolding counted
+unfolding counted oneMore
 counted-judged b P k child ob p H s h = by (ltb (s .visits) (b .visits)) refl
   where
-    from : (w : Walked) → Judged b P k (record { visits = s .visits + 1 }) w → Judged b P (1 + k) s w
+    from : (w : Walked) → Judged b P k (oneMore s) w → Judged b P (1 + k) s w
     from w (goes t e g q) = goes t (omega arith) g q
     from w (stops r t z n) = stops r t z (λ q g. n q (omega arith))
 
     by : (t : Bool) → ltb (s .visits) (b .visits) ≡ t
-        → Judged b P (1 + k) s (pick t (child ob p (record { visits = s .visits + 1 })) (refuse 4 (placed p) s))
+        → Judged b P (1 + k) s (pick t (child ob p (oneMore s)) (refuse 4 (placed p) s))
     by true e =
-        from _ (H (record { visits = s .visits + 1 }) (let l = ltb-true (s .visits) (b .visits) e in omega arith))
+        from _ (H (oneMore s) (let l = ltb-true (s .visits) (b .visits) e in omega arith))
     by false e = judged-refuse (1 + k) s 4 (placed p) (omega arith) (λ q g. let l = ltb-false (s .visits) (b .visits) e in omega arith)
 
 pub visit-judged : (d o : ℕ) (S : Schema) (m : List ℕ) (b : Budget) (ob : Object) (p : Place) (s : Spent) → s .visits ≤ b .visits

@@ -11,7 +11,7 @@ use lib.Dec.{ltb}
 use borrow.Author.Tests.{lt-ltb, le-ltb}
 use lib.ListN.{length, getD}
 use Rattle.coding.specs.Bytes.{le, bitAt}
-use Rattle.coding.specs.Walk.{headerSize}
+use Rattle.coding.specs.Walk.{startSize, headerSize}
 use Rattle.coding.specs.Layout.{begin, bitByte, bitIndex, afterBit, afterBytes}
 use Rattle.coding.specs.Cells.{width, chain, Slots, packBits}
 use Rattle.coding.specs.Cells.Slots.{end, bytes, bit, reference, inPlace}
@@ -141,7 +141,7 @@ module _ (o : ℕ) (m : List ℕ) where
     at-bit x s a = bit-at x s (a .p) (a .l) (a .f) (a .place) (a .free) (a .last) (a .before) (a .ends) (a .holds)
 
     pub at-reference : (k s : Slots) → At o m start c z e (reference k s)
-        → (headerSize o ≤ le m (start + c .end) o)
+        → (startSize o ≤ le m (start + c .end) o)
         × At o m (le m (start + c .end) o) begin (le m (start + c .end) o + width o (packBits 0 k)) (le m (start + c .end) o + width o (packBits 0 k)) k
         × At o m start (afterBytes o c) z e s
     unfolding width packBits afterBytes begin
@@ -150,7 +150,7 @@ module _ (o : ℕ) (m : List ℕ) where
         let h2 = a .ends in
         let x = le m (start + c .end) o in
         let q : le m (a .p) o ≡ x = ap (λ (n : ℕ). le m n o) (a .place) in (
-          subst (λ (n : ℕ). headerSize o ≤ n) q (a .holds .0),
+          subst (λ (n : ℕ). startSize o ≤ n) q (a .holds .0),
           record {
             p = x;
             l = 0;

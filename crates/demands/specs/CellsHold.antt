@@ -6,7 +6,7 @@ use Prim.Native.Nat.{ℕ, _+_, _^_, _≤_, _<_}
 use native.Mathlib.Omega.{arith}
 use lib.ListN.{length, length-append}
 use Rattle.coding.specs.Bytes.{le, leBytes}
-use Rattle.coding.specs.Walk.{headerSize}
+use Rattle.coding.specs.Walk.{startSize, headerSize}
 use Rattle.coding.specs.Cells.{Cells, width, chain, below, widthBytes, chainBytes, belowBytes, layout}
 use Rattle.coding.specs.Cells.Cells.{end, bytes, reference, inPlace}
 use Rattle.laws.specs.Sound.{All}
@@ -19,7 +19,7 @@ abbrev pub CellsHold : ℕ → List ℕ → ℕ → ℕ → Cells → Type 0
 CellsHold o m p e end = p ≤ length m
 CellsHold o m p e (bytes bs c) = Holds m p bs × CellsHold o m (p + length bs) e c
 CellsHold o m p e (reference k c) =
-    (headerSize o ≤ le m p o) × CellsHold o m (le m p o) (le m p o + width o k) k × CellsHold o m (p + o) e c
+    (startSize o ≤ le m p o) × CellsHold o m (le m p o) (le m p o + width o k) k × CellsHold o m (p + o) e c
 CellsHold o m p e (inPlace k c) = CellsHold o m e (e + width o k) k × CellsHold o m p (e + width o k + chain o k) c
 
 -- ---- lengths
@@ -91,7 +91,7 @@ module _ (o : ℕ) where
 
 -- ---- what stands where
 module _ (o : ℕ) (m : List ℕ) (small : length m < 256 ^ o) where
-  pub cells-hold : (p e s : ℕ) (c : Cells) → headerSize o ≤ s → Holds m p (widthBytes o s c) → Holds m e (chainBytes o s c)
+  pub cells-hold : (p e s : ℕ) (c : Cells) → startSize o ≤ s → Holds m p (widthBytes o s c) → Holds m e (chainBytes o s c)
       → Holds m s (belowBytes o s c) → CellsHold o m p e c
   unfolding widthBytes chainBytes belowBytes
   cells-hold p e s end ten w h b = w
@@ -135,7 +135,7 @@ module _ (o : ℕ) (m : List ℕ) (small : length m < 256 ^ o) where
       )
 
 -- the whole of it: a layout holds its cells
-pub layout-holds : (o : ℕ) (c : Cells) → headerSize o ≤ width o c → length (layout o c) < 256 ^ o
+pub layout-holds : (o : ℕ) (c : Cells) → startSize o ≤ width o c → length (layout o c) < 256 ^ o
     → CellsHold o (layout o c) 0 (width o c) c
 unfolding layout
 layout-holds o c ten small =

@@ -15,7 +15,7 @@ use Rattle.coding.specs.Schema.{Schema, structOf, fieldOf, elementOf, tableOf, 
 use Rattle.coding.specs.Structs.{lower, byIndex, total, structSize}
 use Rattle.coding.specs.Layout.{begin, afterMembers}
 use Rattle.coding.specs.Step.{enumStep, fieldStep, memberStep, elementStep}
-use Rattle.coding.specs.Walk.{placed, magic, headerSize, contentSize, endOk, openContent, openObject, refuse, follow, followChoice, members, elements, content, enter, arrive, tooDeep, counted, visit, rootPlace, walk}
+use Rattle.coding.specs.Walk.{placed, refusal, magic, headerSize, startSize, contentSize, endOk, fitContent, fitObject, bytesTested, openObject, refuse, refusePart, follow, followChoice, members, elements, content, enter, arrive, tooDeep, oneMore, counted, visit, rootPlace, nothing, walk}
 use Rattle.coding.specs.Value as Tree
 use Rattle.coding.specs.Read as Read
 use Rattle.coding.specs.Field as Field
@@ -51,7 +51,7 @@ fieldsOf S m i at = Read.fieldsRead (lower Read.noStruct (Read.readBy S m) i) S 
 
 -- what is found is that part of the tree; an object's content fits, and the walk has gone on through it
 pub data Shows (o : ℕ) (S : Schema) (m : List ℕ) (b : Budget) : Found → E.Part → Type 0 where
-  no-part : (at : ℕ) → Shows o S m b (Fd.Refused (Field.refusal 15 at)) E.Part.noPart
+  no-part : (at : ℕ) → Shows o S m b (Fd.Refused (refusal 15 at)) E.Part.noPart
   no-value : Shows o S m b Fd.Absent E.Part.absent
   unknown-number : (x : ℕ) → Shows o S m b (Fd.Unknown x) (E.Part.unknown x)
   bits : (k : Flat) (x holder : ℕ) → Shows o S m b (Fd.Value (OfFlat k) x holder) (E.Part.value k x)
@@ -100,29 +100,35 @@ place-present child o S m ob (InPlace a n) = content-present child o S m ob a n
 module _ (o : ℕ) (S : Schema) (m : List ℕ) (b : Budget) where
   -- ---- an arrival
   module _ (d : ℕ) (ob : Object) (at : ℕ) (s t : Spent) where
-    content-shows : (start n : ℕ) → enter (visit d o S m b) o S m ob at (openContent o S m ob start n) s ≡ Going t
-        → Shows o S m b (Field.opened ob at d (openContent o S m ob start n)) (E.Part.object ob (Read.contentRead (Read.read d o S m) o S m ob start n))
-    unfolding openContent enter Field.opened
-    content-shows start n e = by (leb (start + contentSize o S ob n) (length m)) refl (endOk m ob start n) e
+    content-shows : (start n : ℕ) → enter (visit d o S m b) o S m ob at (bytesTested m ob (fitContent o S m ob start n)) s ≡ Going t
+        → Shows o S m b (Field.opened ob at d (bytesTested m ob (fitContent o S m ob start n))) (E.Part.object ob (Read.contentRead (Read.read d o S m) o S m ob start n))
+    unfolding fitContent bytesTested enter Field.opened
+    content-shows start n e = by (leb (start + contentSize o S ob n) (length m)) refl e
       where
-        by : (f : Bool) → leb (start + contentSize o S ob n) (length m) ≡ f → (g : Bool)
-            → enter (visit d o S m b) o S m ob at (pick f (pick g (Op.Content start n) (Op.Refused 10)) (Op.Refused 6)) s ≡ Going t
-            → Shows o S m b (Field.opened ob at d (pick f (pick g (Op.Content start n) (Op.Refused 10)) (Op.Refused 6)))
+        tested : (g : Bool) → start + contentSize o S ob n ≤ length m
+            → enter (visit d o S m b) o S m ob at (pick g (Op.Content start n) (Op.Refused 10)) s ≡ Going t
+            → Shows o S m b (Field.opened ob at d (pick g (Op.Content start n) (Op.Refused 10)))
             (E.Part.object ob (Read.contentRead (Read.read d o S m) o S m ob start n))
-        by true h true q = within ob at start n d s t q (leb-true _ _ h)
-        by true h false q = absurd (refuse-going _ _ _ _ q)
-        by false h g q = absurd (refuse-going _ _ _ _ q)
+        tested true h q = within ob at start n d s t q h
+        tested false h q = absurd (refuse-going _ _ _ _ q)
+
+        by : (f : Bool) → leb (start + contentSize o S ob n) (length m) ≡ f
+            → enter (visit d o S m b) o S m ob at (bytesTested m ob (pick f (Op.Content start n) (Op.Refused 6))) s ≡ Going t
+            → Shows o S m b (Field.opened ob at d (bytesTested m ob (pick f (Op.Content start n) (Op.Refused 6))))
+            (E.Part.object ob (Read.contentRead (Read.read d o S m) o S m ob start n))
+        by true h q = tested (endOk m ob start n) (leb-true _ _ h) q
+        by false h q = absurd (refuse-going _ _ _ _ q)
 
     open-shows : (p : Place) → enter (visit d o S m b) o S m ob at (openObject o S m ob p) s ≡ Going t
         → Shows o S m b (Field.opened ob at d (openObject o S m ob p)) (E.Part.object ob (Read.placeRead (Read.read d o S m) o S m ob p))
-    unfolding openObject Read.placeRead enter
+    unfolding openObject fitObject bytesTested Read.placeRead enter
     open-shows (InPlace a n) e = content-shows a n e
     open-shows (ByOffset x) e =
-        by (leb (headerSize o) x && leb (x + headerSize o) (length m)) (eqb (le m x 4) (magic S ob)) e
+        by (leb (startSize o) x && leb (x + headerSize o) (length m)) (eqb (le m x 4) (magic S ob)) e
       where
         by : (f g : Bool)
-            → enter (visit d o S m b) o S m ob at (pick f (pick g (openContent o S m ob (x + headerSize o) (le m (x + 4) o)) (Op.Refused 7)) (Op.Refused 6)) s ≡ Going t
-            → Shows o S m b (Field.opened ob at d (pick f (pick g (openContent o S m ob (x + headerSize o) (le m (x + 4) o)) (Op.Refused 7)) (Op.Refused 6)))
+            → enter (visit d o S m b) o S m ob at (bytesTested m ob (pick f (pick g (fitContent o S m ob (x + headerSize o) (le m (x + 4) o)) (Op.Refused 7)) (Op.Refused 6))) s ≡ Going t
+            → Shows o S m b (Field.opened ob at d (bytesTested m ob (pick f (pick g (fitContent o S m ob (x + headerSize o) (le m (x + 4) o)) (Op.Refused 7)) (Op.Refused 6))))
             (E.Part.object ob (Read.contentRead (Read.read d o S m) o S m ob (x + headerSize o) (le m (x + 4) o)))
         by true true q = content-shows (x + headerSize o) (le m (x + 4) o) q
         by true false q = absurd (refuse-going _ _ _ _ q)
@@ -133,7 +139,7 @@ module _ (o : ℕ) (S : Schema) (m : List ℕ) (b : Budget) where
   unfolding visit counted tooDeep
   too-deep ob p s t e = by (ltb (s .visits) (b .visits)) e
     where
-      by : (f : Bool) → pick f (refuse 5 (placed p) (record { visits = s .visits + 1 })) (refuse 4 (placed p) s) ≡ Going t → ⊥
+      by : (f : Bool) → pick f (refuse 5 (placed p) (oneMore s)) (refuse 4 (placed p) s) ≡ Going t → ⊥
       by true q = refuse-going _ _ _ _ q
       by false q = refuse-going _ _ _ _ q
 
@@ -144,9 +150,9 @@ module _ (o : ℕ) (S : Schema) (m : List ℕ) (b : Budget) where
   arrived-shows (suc d) ob p s t e = by (ltb (s .visits) (b .visits)) e
     where
       by : (f : Bool)
-          → pick f (enter (visit d o S m b) o S m ob (placed p) (openObject o S m ob p) (record { visits = s .visits + 1 })) (refuse 4 (placed p) s) ≡ Going t
+          → pick f (enter (visit d o S m b) o S m ob (placed p) (openObject o S m ob p) (oneMore s)) (refuse 4 (placed p) s) ≡ Going t
           → Shows o S m b (Field.opened ob (placed p) d (openObject o S m ob p)) (E.Part.object ob (Read.placeRead (Read.read d o S m) o S m ob p))
-      by true q = open-shows d ob (placed p) (record { visits = s .visits + 1 }) t p q
+      by true q = open-shows d ob (placed p) (oneMore s) t p q
       by false q = absurd (refuse-going _ _ _ _ q)
 
   read-present : (d : ℕ) (ob : Object) (p : Place) (s t : Spent) → visit d o S m b ob p s ≡ Going t
@@ -156,57 +162,57 @@ module _ (o : ℕ) (S : Schema) (m : List ℕ) (b : Budget) where
   read-present (suc d) ob p s t e = place-present (Read.read d o S m) o S m ob p
 
   -- ---- a step
-  choice-shows : (d holder : ℕ) (ob : Object) (p : Place) (s t : Spent)
-      → followChoice (visit d o S m b) holder ob p s ≡ Going t
-      → Shows o S m b (Field.chosen d o S m holder ob p) (E.Part.object ob (Read.read d o S m ob p))
-  unfolding followChoice Field.chosen
-  choice-shows d holder ob (InPlace a n) s t e = arrived-shows d ob (InPlace a n) s t e
-  choice-shows d holder ob (ByOffset x) s t e = by (eqb x 0) e
+  choice-shows : (d holder j : ℕ) (ob : Object) (p : Place) (s t : Spent)
+      → followChoice (visit d o S m b) holder j ob p s ≡ Going t
+      → Shows o S m b (Field.chosen d o S m holder j ob p) (E.Part.object ob (Read.read d o S m ob p))
+  unfolding followChoice refusePart Field.chosen Field.partRefused
+  choice-shows d holder j ob (InPlace a n) s t e = arrived-shows d ob (InPlace a n) s t e
+  choice-shows d holder j ob (ByOffset x) s t e = by (eqb x 0) e
     where
       by : (f : Bool) → pick f (refuse 9 holder s) (visit d o S m b ob (ByOffset x) s) ≡ Going t
-          → Shows o S m b (pick f (Fd.Refused (Field.refusal 9 holder)) (Field.arrived d o S m ob (ByOffset x)))
+          → Shows o S m b (pick f (Fd.Refused (refusal 9 holder)) (Field.arrived d o S m ob (ByOffset x)))
           (E.Part.object ob (Read.read d o S m ob (ByOffset x)))
       by true q = absurd (refuse-going _ _ _ _ q)
       by false q = arrived-shows d ob (ByOffset x) s t q
 
-  step-shows : (d holder : ℕ) {k : Kind} {step : Step} → OfKind S k step → GoesOn (visit d o S m b) holder step
-      → Shows o S m b (Field.stepped d o S m holder k step) (E.partHere S k (Read.stepRead (Read.structRead S m) (Read.read d o S m) step))
-  unfolding Field.stepped Read.stepRead E.partHere E.kindPart Read.structRead byIndex Read.readBy E.flatPart Tree.asRow Tree.asNumber Tree.asObject follow
-  step-shows d holder (refused n) g = absurd (refuse-going _ _ _ _ (g .goes))
-  step-shows d holder absent g = no-value
-  step-shows d holder (unknown x) g = unknown-number x
-  step-shows d holder (value k x h) g =
+  step-shows : (d holder j : ℕ) {k : Kind} {step : Step} → OfKind S k step → GoesOn (visit d o S m b) holder j step
+      → Shows o S m b (Field.stepped d o S m holder j k step) (E.partHere S k (Read.stepRead (Read.structRead S m) (Read.read d o S m) step))
+  unfolding Field.stepped Read.stepRead E.partHere E.kindPart Read.structRead byIndex Read.readBy E.flatPart Tree.asRow Tree.asNumber Tree.asObject follow refusePart Field.partRefused
+  step-shows d holder j (refused n) g = absurd (refuse-going _ _ _ _ (g .goes))
+  step-shows d holder j absent g = no-value
+  step-shows d holder j (unknown x) g = unknown-number x
+  step-shows d holder j (value k x h) g =
       subst (λ (p : E.Part). Shows o S m b (Fd.Value (OfFlat k) x holder) p) (sym (scalar-part k x h)) (bits k x holder)
-  step-shows d holder (struct i at) g = fields i at holder
-  step-shows d holder (object ob p) g =
+  step-shows d holder j (struct i at) g = fields i at holder
+  step-shows d holder j (object ob p) g =
       subst (λ (q : E.Part). Shows o S m b (Field.arrived d o S m ob p) q)
       (sym (here S (OfObject ob) (Read.read d o S m ob p) (read-present d ob p (g .from) (g .to) (g .goes))))
       (arrived-shows d ob p (g .from) (g .to) (g .goes))
-  step-shows d holder (choice i c ob p e) g =
-      subst (λ (q : Object). Shows o S m b (Field.chosen d o S m holder ob p) (E.Part.object q (Read.read d o S m ob p))) e
-      (choice-shows d holder ob p (g .from) (g .to) (g .goes))
+  step-shows d holder j (choice i c ob p e) g =
+      subst (λ (q : Object). Shows o S m b (Field.chosen d o S m holder j ob p) (E.Part.object q (Read.read d o S m ob p))) e
+      (choice-shows d holder j ob p (g .from) (g .to) (g .goes))
 
   -- ---- a struct's member: an inner struct has a lower index, so its own tree stands there
-  field-shows : (i holder : ℕ) (k : Flat) (at : ℕ) → FlatSound i k
-      → Shows o S m b (Field.stepped 0 o S m holder (OfFlat k) (fieldStep m k at))
+  field-shows : (i holder j : ℕ) (k : Flat) (at : ℕ) → FlatSound i k
+      → Shows o S m b (Field.stepped 0 o S m holder j (OfFlat k) (fieldStep m k at))
       (E.partHere S (OfFlat k) (Read.stepRead (lower Read.noStruct (Read.readBy S m) i) Read.noObject (fieldStep m k at)))
   unfolding fieldStep enumStep Field.stepped Read.stepRead E.partHere E.kindPart E.flatPart Tree.asNumber Tree.asRow
-  field-shows i holder F.Boolean at h = bits F.Boolean (getD m at 0) holder
-  field-shows i holder (F.Integer s w) at h = bits (F.Integer s w) (le m at w) holder
-  field-shows i holder (F.Float w) at h = bits (F.Float w) (le m at w) holder
-  field-shows i holder (F.Enumerated n) at h = by (eqb (getD m at 0) 255) (ltb (getD m at 0) n)
+  field-shows i holder j F.Boolean at h = bits F.Boolean (getD m at 0) holder
+  field-shows i holder j (F.Integer s w) at h = bits (F.Integer s w) (le m at w) holder
+  field-shows i holder j (F.Float w) at h = bits (F.Float w) (le m at w) holder
+  field-shows i holder j (F.Enumerated n) at h = by (eqb (getD m at 0) 255) (ltb (getD m at 0) n)
     where
       by : (f g : Bool)
-          → Shows o S m b (Field.stepped 0 o S m holder (OfFlat (F.Enumerated n)) (pick f St.Absent (pick g (St.Value (getD m at 0)) (St.Unknown (getD m at 0)))))
+          → Shows o S m b (Field.stepped 0 o S m holder j (OfFlat (F.Enumerated n)) (pick f St.Absent (pick g (St.Value (getD m at 0)) (St.Unknown (getD m at 0)))))
           (E.partHere S (OfFlat (F.Enumerated n)) (Read.stepRead (lower Read.noStruct (Read.readBy S m) i) Read.noObject
           (pick f St.Absent (pick g (St.Value (getD m at 0)) (St.Unknown (getD m at 0))))))
       by true g = no-value
       by false true = bits (F.Enumerated n) (getD m at 0) holder
       by false false = unknown-number (getD m at 0)
-  field-shows i holder (F.Struct j) at h =
-      subst (λ (v : Tree.Value). Shows o S m b (Fd.Struct j at holder) (E.partHere S (OfFlat (F.Struct j)) v))
-      (inner-tree S m i j at h)
-      (fields j at holder)
+  field-shows i holder j (F.Struct k) at h =
+      subst (λ (v : Tree.Value). Shows o S m b (Fd.Struct k at holder) (E.partHere S (OfFlat (F.Struct k)) v))
+      (inner-tree S m i k at h)
+      (fields k at holder)
 
   -- ---- one number more
   module _ (sound : Sound S) where
@@ -217,22 +223,22 @@ module _ (o : ℕ) (S : Schema) (m : List ℕ) (b : Budget) where
       where
         by : (f : Bool) → ltb j (length (structOf S i)) ≡ f
             → Shows o S m b
-            (pick f (Field.stepped 0 o S m holder (OfFlat (fieldOf S i j)) (fieldStep m (fieldOf S i j) (at + total (structSize S) (take j (structOf S i)))))
+            (pick f (Field.stepped 0 o S m holder j (OfFlat (fieldOf S i j)) (fieldStep m (fieldOf S i j) (at + total (structSize S) (take j (structOf S i)))))
             (Field.noPart holder))
             (pick f (E.partHere S (OfFlat (fieldOf S i j)) (E.valueAt (fieldsOf S m i at) j)) E.Part.noPart)
         by false h = no-part holder
         by true h =
             subst
-            (λ (v : Tree.Value). Shows o S m b (Field.stepped 0 o S m holder (OfFlat (fieldOf S i j)) (fieldStep m (fieldOf S i j) (at + total (structSize S) (take j (structOf S i)))))
+            (λ (v : Tree.Value). Shows o S m b (Field.stepped 0 o S m holder j (OfFlat (fieldOf S i j)) (fieldStep m (fieldOf S i j) (at + total (structSize S) (take j (structOf S i)))))
             (E.partHere S (OfFlat (fieldOf S i j)) v))
             (sym (fields-at (lower Read.noStruct (Read.readBy S m) i) S m (structOf S i) at j (ltb-true _ _ h)))
-            (field-shows i holder (fieldOf S i j) (at + total (structSize S) (take j (structOf S i)))
+            (field-shows i holder j (fieldOf S i j) (at + total (structSize S) (take j (structOf S i)))
             (all-at (FlatSound i) F.Boolean (structOf S i) j (sound .structs i .members) (ltb-true _ _ h)))
 
   list-shows : (i at start n d : ℕ) (s t : Spent)
       → elements (visit d o S m b) o S m at start (elementOf S i) n 0 s ≡ Going t → (j : ℕ)
       → Shows o S m b
-      (pick (ltb j n) (Field.stepped d o S m at (elementOf S i) (elementStep o S m (elementOf S i) start j)) (Field.noPart at))
+      (pick (ltb j n) (Field.stepped d o S m at j (elementOf S i) (elementStep o S m (elementOf S i) start j)) (Field.noPart at))
       (pick (ltb j (Tree.count (Read.elementsRead (Read.read d o S m) o S m start (elementOf S i) n 0)))
       (E.partHere S (elementOf S i) (E.valueAt (Read.elementsRead (Read.read d o S m) o S m start (elementOf S i) n 0) j))
       E.Part.noPart)
@@ -242,19 +248,19 @@ module _ (o : ℕ) (S : Schema) (m : List ℕ) (b : Budget) where
     where
       by : (f : Bool) → ltb j n ≡ f
           → Shows o S m b
-          (pick f (Field.stepped d o S m at (elementOf S i) (elementStep o S m (elementOf S i) start j)) (Field.noPart at))
+          (pick f (Field.stepped d o S m at j (elementOf S i) (elementStep o S m (elementOf S i) start j)) (Field.noPart at))
           (pick f (E.partHere S (elementOf S i) (E.valueAt (Read.elementsRead (Read.read d o S m) o S m start (elementOf S i) n 0) j)) E.Part.noPart)
       by false h = no-part at
       by true h =
           rw (elements-at (Read.read d o S m) o S m start (elementOf S i) n 0 j (ltb-true _ _ h), zero-add j)
-          (step-shows d at (element-kind S o m (elementOf S i) start j)
+          (step-shows d at j (element-kind S o m (elementOf S i) start j)
           (rw zero-add at (elements-going (visit d o S m b) o S m at start n (elementOf S i) n 0 s t e j (ltb-true _ _ h))))
 
   table-shows : (i at start n d : ℕ) (s t : Spent)
-      → members (visit d o S m b) o S m at start n begin (tableOf S i .members) s ≡ Going t → (j : ℕ)
+      → members (visit d o S m b) o S m at start n begin 0 (tableOf S i .members) s ≡ Going t → (j : ℕ)
       → Shows o S m b
       (pick (ltb j (length (tableOf S i .members)))
-      (Field.stepped d o S m at (memberOf S i j .kind)
+      (Field.stepped d o S m at j (memberOf S i j .kind)
       (memberStep o S m start n (afterMembers o S (take j (tableOf S i .members)) begin) (memberOf S i j)))
       (Field.noPart at))
       (pick (ltb j (length (tableOf S i .members)))
@@ -266,7 +272,7 @@ module _ (o : ℕ) (S : Schema) (m : List ℕ) (b : Budget) where
       by : (f : Bool) → ltb j (length (tableOf S i .members)) ≡ f
           → Shows o S m b
           (pick f
-          (Field.stepped d o S m at (memberOf S i j .kind)
+          (Field.stepped d o S m at j (memberOf S i j .kind)
           (memberStep o S m start n (afterMembers o S (take j (tableOf S i .members)) begin) (memberOf S i j)))
           (Field.noPart at))
           (pick f
@@ -275,9 +281,9 @@ module _ (o : ℕ) (S : Schema) (m : List ℕ) (b : Budget) where
       by false h = no-part at
       by true h =
           rw (members-at (Read.read d o S m) o S m start n (tableOf S i .members) begin j (ltb-true _ _ h))
-          (step-shows d at
+          (step-shows d at j
           (member-kind S o m start n (afterMembers o S (take j (tableOf S i .members)) begin) (memberOf S i j))
-          (members-going (visit d o S m b) o S m at start n (tableOf S i .members) begin s t e j (ltb-true _ _ h)))
+          (rw zero-add at (members-going (visit d o S m b) o S m at start n (tableOf S i .members) begin 0 s t e j (ltb-true _ _ h))))
 
   object-shows : (ob : Object) (at start n d : ℕ) (s t : Spent)
       → content (visit d o S m b) o S m ob at start n s ≡ Going t → (j : ℕ)
@@ -378,5 +384,5 @@ pub found-shows : (o : ℕ) (S : Schema) → Sound S → (m : List ℕ) (b : Bud
 unfolding walk Field.found Read.messageRead
 found-shows o S sound m b s e path =
     along-shows o S m b sound
-    (arrived-shows o S m b deepest (O.Table (S .root)) (rootPlace o m) (record { visits = 0 }) s e)
+    (arrived-shows o S m b deepest (O.Table (S .root)) (rootPlace o m) nothing s e)
     path

@@ -8,7 +8,6 @@ use mathlib.Core.Option.{Option}
 use mathlib.Core.Option as Op
 use Prim.Native.Nat.{ℕ, _<_, _≤_}
 use lib.ListN.{length, getD}
-use Rattle.coding.specs.Bytes.{u48}
 use Rattle.coding.specs.Schema.{Schema}
 use Rattle.coding.specs.Packed.{parse}
 use Rattle.coding.specs.Walk.{verdict}
@@ -42,25 +41,25 @@ module _ (o : ℕ) (b : List ℕ) (schema-bytes : (i : ℕ) → getD b i 0 < 256
   pub field-entry : shown (field o b m path) ≡ entryAt (parse b) (O.Table (parse b .root)) (messageRead o (parse b) m) path
   field-entry =
       let w = verdict-walks o b m budget accepted in
-      walked-entry o b m budget path (lawful-sound b schema-bytes (w .schema)) (w .schema) (w .size) (w .start) (w .spent) (w .walks) short
+      walked-entry o b m budget path (lawful-sound o b schema-bytes (w .schema)) (w .schema) (w .size) (w .start) (w .spent) (w .walks) short
 
   -- "texts and bytes can be had as a part of the message": it is the text of the sheet there
   pub field-text : fieldText o b m path ≡ textAt (parse b) (O.Table (parse b .root)) (messageRead o (parse b) m) path
   field-text =
       let w = verdict-walks o b m budget accepted in
-      walked-text o b m budget path (lawful-sound b schema-bytes (w .schema)) (w .schema) (w .size) (w .start) (w .spent) (w .walks) short
+      walked-text o b m budget path (lawful-sound o b schema-bytes (w .schema)) (w .schema) (w .size) (w .start) (w .spent) (w .walks) short
 
   -- no field of an accepted message is refused but by 15
   pub field-refusal : (r : Refusal) → field o b m path ≡ A.Refused r → r .number ≡ 15
   field-refusal =
       let w = verdict-walks o b m budget accepted in
-      walked-refusal o b m budget path (lawful-sound b schema-bytes (w .schema)) (w .schema) (w .size) (w .start) (w .spent) (w .walks) short
+      walked-refusal o b m budget path (lawful-sound o b schema-bytes (w .schema)) (w .schema) (w .size) (w .start) (w .spent) (w .walks) short
 
--- THE CLAIM, of the sheet's bytes: "U48 is six bytes"
-pub sheet-entry : (b m : List ℕ) → ((i : ℕ) → getD b i 0 < 256) → ((i : ℕ) → getD m i 0 < 256) → (budget : Budget)
-    → verdict u48 b m budget .number ≡ 0 → (path : List ℕ) → length path ≤ 96
-    → shown (field u48 b m path) ≡ sheetEntry (parse b) (messageSheet u48 b m) path
+-- THE CLAIM, of the sheet's bytes
+pub sheet-entry : (o : ℕ) (b m : List ℕ) → ((i : ℕ) → getD b i 0 < 256) → ((i : ℕ) → getD m i 0 < 256) → (budget : Budget)
+    → verdict o b m budget .number ≡ 0 → (path : List ℕ) → length path ≤ 96
+    → shown (field o b m path) ≡ sheetEntry (parse b) (messageSheet o b m) path
 unfolding sheetEntry treeEntry
-sheet-entry b m schema-bytes message-bytes budget accepted path short =
-    field-entry u48 b schema-bytes m budget accepted path short
-    ∙ sym (ap (λ (t : Option Value). treeEntry (parse b) t path) (verdict-sheet-tree b m schema-bytes message-bytes budget accepted))
+sheet-entry o b m schema-bytes message-bytes budget accepted path short =
+    field-entry o b schema-bytes m budget accepted path short
+    ∙ sym (ap (λ (t : Option Value). treeEntry (parse b) t path) (verdict-sheet-tree o b m schema-bytes message-bytes budget accepted))

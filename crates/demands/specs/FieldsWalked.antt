@@ -22,7 +22,7 @@ use Rattle.coding.specs.declared.Refusal.{Refusal}
 use Rattle.coding.specs.declared.Found.{Found}
 use Rattle.coding.specs.declared.Walked.the-variants.{Going}
 
-module _ (o : ℕ) (b m : List ℕ) (budget : Budget) (path : List ℕ) (sound : Sound (parse b)) (schema : lawful b ≡ true)
+module _ (o : ℕ) (b m : List ℕ) (budget : Budget) (path : List ℕ) (sound : Sound (parse b)) (schema : lawful o b ≡ true)
     (size : sizeOk o m ≡ true) (start : startOk m ≡ true) (spent : Spent) (walks : walk o (parse b) m budget ≡ Going spent)
     (short : length path ≤ 96) where
   path-found : fieldFound o b m path ≡ found o (parse b) m path

@@ -25,10 +25,10 @@ use Rattle.coding.specs.declared.Walked.{Walked}
 use Rattle.coding.specs.declared.Walked.the-variants.{Going, Refused}
 
 -- the walk goes on from a step, at some point
-pub record GoesOn (child : Child) (holder : ℕ) (step : Step) : Type 0 where
+pub record GoesOn (child : Child) (holder part : ℕ) (step : Step) : Type 0 where
   pub from : Spent
   pub to : Spent
-  pub goes : follow child holder step from ≡ Going to
+  pub goes : follow child holder part step from ≡ Going to
 
 -- ---- what goes on is not refused
 pub refused-going : (r : Refusal) (s t : Spent) → Refused r s ≡ Going t → ⊥
@@ -54,25 +54,27 @@ both (Refused r u) next t e = absurd (refused-going _ _ _ e)
 
 -- ---- the members of a table
 module _ (child : Child) (o : ℕ) (S : Schema) (m : List ℕ) (holder start n : ℕ) where
-  pub members-going : (rs : List Member) (c : Cursor) (s t : Spent) → members child o S m holder start n c rs s ≡ Going t
+  pub members-going : (rs : List Member) (c : Cursor) (i : ℕ) (s t : Spent) → members child o S m holder start n c i rs s ≡ Going t
       → (j : ℕ) → j < length rs
-      → GoesOn child holder (memberStep o S m start n (afterMembers o S (take j rs) c) (getD rs j plainBool))
+      → GoesOn child holder (i + j) (memberStep o S m start n (afterMembers o S (take j rs) c) (getD rs j plainBool))
   unfolding members afterMembers
-  members-going [] c s t e j l = absurd (omega arith)
-  members-going (r ∷ rs) c s t e zero l =
-      let b = both _ _ _ e in record { from = s; to = b .middle; goes = b .first }
-  members-going (r ∷ rs) c s t e (suc j) l =
-      let b = both _ _ _ e in members-going rs (afterMember o S r c) (b .middle) t (b .second) j (omega arith)
+  members-going [] c i s t e j l = absurd (omega arith)
+  members-going (r ∷ rs) c i s t e zero l =
+      let b = both _ _ _ e in record { from = s; to = b .middle; goes = rw add-zero (b .first) }
+  members-going (r ∷ rs) c i s t e (suc j) l =
+      let b = both _ _ _ e in
+      subst (λ (x : ℕ). GoesOn child holder x (memberStep o S m start n (afterMembers o S (take j rs) (afterMember o S r c)) (getD rs j plainBool))) (shift i j)
+      (members-going rs (afterMember o S r c) (i + 1) (b .middle) t (b .second) j (omega arith))
 
   pub elements-going : (k : Kind) (count i : ℕ) (s t : Spent) → elements child o S m holder start k count i s ≡ Going t
-      → (j : ℕ) → j < count → GoesOn child holder (elementStep o S m k start (i + j))
+      → (j : ℕ) → j < count → GoesOn child holder (i + j) (elementStep o S m k start (i + j))
   unfolding elements
   elements-going k zero i s t e j l = absurd (omega arith)
   elements-going k (suc count) i s t e zero l =
       let b = both _ _ _ e in record { from = s; to = b .middle; goes = rw add-zero (b .first) }
   elements-going k (suc count) i s t e (suc j) l =
       let b = both _ _ _ e in
-      subst (λ (x : ℕ). GoesOn child holder (elementStep o S m k start x)) (shift i j)
+      subst (λ (x : ℕ). GoesOn child holder x (elementStep o S m k start x)) (shift i j)
       (elements-going k count (i + 1) (b .middle) t (b .second) j (omega arith))
 
 -- ---- what is read at each

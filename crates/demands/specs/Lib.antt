@@ -1,7 +1,9 @@
--- The theorems. A reader's way in: Counter, Traps, Sheets, Reached, RoundTrip, Appending, NewerAgrees, Fields, Texts, ListReader; the
--- other modules are their lemmas.
+-- The theorems. A reader's way in: Counter, OlderCoding, Traps, FieldCases, Sheets, Reached, RoundTrip, Appending, NewerAgrees, Fields,
+-- Texts, SheetText, ListReader, Utf8, Utf8Cases; the other modules are their lemmas.
 pub mod Counter
 pub mod Traps
+pub mod OlderCoding
+pub mod FieldCases
 pub mod Shown
 pub mod SheetDecode
 pub mod SheetEncode
@@ -54,4 +56,9 @@ pub mod FieldShows
 pub mod FieldsWalked
 pub mod Fields
 pub mod Texts
+pub mod SheetText
 pub mod ListReader
+pub mod Utf8States
+pub mod Utf8Encoding
+pub mod Utf8
+pub mod Utf8Cases

@@ -1,4 +1,4 @@
--- "Each step answers as that element's path would ..; after the last it answers 15 at the list and stays.": a reader that has
+-- "Each step answers as that element's path would ...; after the last it answers 15 at the list and stays.": a reader that has
 -- its list answers from the list alone. A path to an object has at most 31 numbers, since each goes one object deeper, so the
 -- path of an element is never too long.
 -- `o` is the width of an offset in bytes.
@@ -20,7 +20,7 @@ use Rattle.coding.specs.Lawful.{lawful}
 use Rattle.coding.specs.Structs.{total, structSize}
 use Rattle.coding.specs.Layout.{begin, afterMembers}
 use Rattle.coding.specs.Step.{fieldStep, memberStep, elementStep}
-use Rattle.coding.specs.Walk.{placed, openObject, rootPlace, sizeOk, startOk}
+use Rattle.coding.specs.Walk.{placed, refusal, openObject, rootPlace, sizeOk, startOk}
 use Rattle.coding.specs.Field as Field
 use Rattle.coding.specs.declared.Object.{Object}
 use Rattle.coding.specs.declared.Object.the-variants as O
@@ -53,7 +53,7 @@ either : (d : ℕ) (t : Bool) (f g : Found) → depth f ≤ d → depth g ≤ d 
 either d true f g h k = h
 either d false f g h k = k
 
-none : (d n at : ℕ) → depth (Fd.Refused (Field.refusal n at)) ≤ d
+none : (d n at : ℕ) → depth (Fd.Refused (refusal n at)) ≤ d
 unfolding depth
 none d n at = omega arith
 
@@ -68,32 +68,32 @@ module _ (o : ℕ) (S : Schema) (m : List ℕ) where
   arrived-depth zero ob p = none 0 5 (placed p)
   arrived-depth (suc d) ob p = opened-depth d ob (placed p) (openObject o S m ob p)
 
-  chosen-depth : (d holder : ℕ) (ob : Object) (p : Place) → depth (Field.chosen d o S m holder ob p) ≤ d
-  unfolding Field.chosen
-  chosen-depth d holder ob (ByOffset x) =
-      either d (eqb x 0) (Fd.Refused (Field.refusal 9 holder)) (Field.arrived d o S m ob (ByOffset x)) (none d 9 holder)
+  chosen-depth : (d holder j : ℕ) (ob : Object) (p : Place) → depth (Field.chosen d o S m holder j ob p) ≤ d
+  unfolding Field.chosen Field.partRefused
+  chosen-depth d holder j ob (ByOffset x) =
+      either d (eqb x 0) (Fd.Refused (refusal 9 holder)) (Field.arrived d o S m ob (ByOffset x)) (none d 9 holder)
       (arrived-depth d ob (ByOffset x))
-  chosen-depth d holder ob (InPlace a n) = arrived-depth d ob (InPlace a n)
+  chosen-depth d holder j ob (InPlace a n) = arrived-depth d ob (InPlace a n)
 
-  stepped-depth : (d holder : ℕ) (k : Kind) (step : Step) → depth (Field.stepped d o S m holder k step) ≤ d
-  unfolding Field.stepped depth
-  stepped-depth d holder k (St.Refused n) = omega arith
-  stepped-depth d holder k St.Absent = omega arith
-  stepped-depth d holder k (St.Value x) = omega arith
-  stepped-depth d holder k (St.Unknown x) = omega arith
-  stepped-depth d holder k (St.Struct i at) = omega arith
-  stepped-depth d holder k (St.Object ob p) = arrived-depth d ob p
-  stepped-depth d holder k (St.Choice c ob p) = chosen-depth d holder ob p
+  stepped-depth : (d holder j : ℕ) (k : Kind) (step : Step) → depth (Field.stepped d o S m holder j k step) ≤ d
+  unfolding Field.stepped Field.partRefused depth
+  stepped-depth d holder j k (St.Refused n) = omega arith
+  stepped-depth d holder j k St.Absent = omega arith
+  stepped-depth d holder j k (St.Value x) = omega arith
+  stepped-depth d holder j k (St.Unknown x) = omega arith
+  stepped-depth d holder j k (St.Struct i at) = omega arith
+  stepped-depth d holder j k (St.Object ob p) = arrived-depth d ob p
+  stepped-depth d holder j k (St.Choice c ob p) = chosen-depth d holder j ob p
 
   object-depth : (ob : Object) (at start n d j : ℕ) → depth (Field.objectPart o S m ob at start n d j) ≤ d
   unfolding Field.objectPart Field.noPart
   object-depth O.Text at start n d j = none d 15 at
   object-depth O.Bytes at start n d j = none d 15 at
   object-depth (O.List i) at start n d j =
-      either d (ltb j n) _ _ (stepped-depth d at (elementOf S i) (elementStep o S m (elementOf S i) start j)) (none d 15 at)
+      either d (ltb j n) _ _ (stepped-depth d at j (elementOf S i) (elementStep o S m (elementOf S i) start j)) (none d 15 at)
   object-depth (O.Table i) at start n d j =
       either d (ltb j (length (tableOf S i .members))) _ _
-      (stepped-depth d at (memberOf S i j .kind)
+      (stepped-depth d at j (memberOf S i j .kind)
       (memberStep o S m start n (afterMembers o S (take j (tableOf S i .members)) begin) (memberOf S i j)))
       (none d 15 at)
 
@@ -101,7 +101,7 @@ module _ (o : ℕ) (S : Schema) (m : List ℕ) where
   unfolding Field.structPart Field.noPart
   struct-depth i at holder j =
       either 0 (ltb j (length (structOf S i))) _ _
-      (stepped-depth 0 holder (OfFlat (fieldOf S i j)) (fieldStep m (fieldOf S i j) (at + total (structSize S) (take j (structOf S i)))))
+      (stepped-depth 0 holder j (OfFlat (fieldOf S i j)) (fieldStep m (fieldOf S i j) (at + total (structSize S) (take j (structOf S i)))))
       (none 0 15 holder)
 
   -- one number more takes at least one object of depth
@@ -166,7 +166,7 @@ only-refused (Fd.Struct i at holder) r e = cc
 only-refused (Fd.Object ob at start n left) r e = cc
 
 refused-start : (S : Schema) (f : Found) (r : Refusal) → Field.readerOf S f ≡ Fd.Refused r
-    → (Field.answerOf f ≡ A.Refused r) ⊎ (r ≡ Field.refusal 15 0)
+    → (Field.answerOf f ≡ A.Refused r) ⊎ (r ≡ refusal 15 0)
 unfolding Field.readerOf Field.listFound Field.before Field.answerOf
 refused-start S (Fd.Refused q) r e = inl (cc)
 refused-start S Fd.Absent r e = inr (cc)
@@ -178,7 +178,7 @@ refused-start S (Fd.Object O.Bytes at start n d) r e = inr (cc)
 refused-start S (Fd.Object (O.Table i) at start n d) r e = inr (cc)
 refused-start S (Fd.Object (O.List i) at start n d) r e = inr (by (Field.leads (elementOf S i)) e)
   where
-    by : (t : Bool) → pick t (Fd.Object (O.List i) at start n d) (Fd.Refused (Field.refusal 15 0)) ≡ Fd.Refused r → r ≡ Field.refusal 15 0
+    by : (t : Bool) → pick t (Fd.Object (O.List i) at start n d) (Fd.Refused (refusal 15 0)) ≡ Fd.Refused r → r ≡ refusal 15 0
     by true q = cc
     by false q = cc
 
@@ -187,7 +187,7 @@ module _ (o : ℕ) (b m path : List ℕ) (i at start n left : ℕ)
     (has : Field.readerStart o b m path ≡ Fd.Object (O.List i) at start n left) where
   -- the path leads there: the schema is lawful, the path short, the message's size and start as they should be
   record Leads : Type 0 where
-    schema : lawful b ≡ true
+    schema : lawful o b ≡ true
     size : sizeOk o m ≡ true
     begins : startOk m ≡ true
     leads : Field.found o (parse b) m path ≡ Fd.Object (O.List i) at start n left
@@ -205,7 +205,7 @@ module _ (o : ℕ) (b m path : List ℕ) (i at start n left : ℕ)
   same-list (Fd.Object (O.Table k) x y z d) e = cc
   same-list (Fd.Object (O.List k) x y z d) e = by (Field.leads (elementOf (parse b) k)) e
     where
-      by : (t : Bool) → pick t (Fd.Object (O.List k) x y z d) (Fd.Refused (Field.refusal 15 0)) ≡ Fd.Object (O.List i) at start n left
+      by : (t : Bool) → pick t (Fd.Object (O.List k) x y z d) (Fd.Refused (refusal 15 0)) ≡ Fd.Object (O.List i) at start n left
           → Fd.Object (O.List k) x y z d ≡ Fd.Object (O.List i) at start n left
       by true q = q
       by false q = cc
@@ -215,9 +215,9 @@ module _ (o : ℕ) (b m path : List ℕ) (i at start n left : ℕ)
 
   reader-leads : Leads
   unfolding Field.readerStart Field.fieldFound Field.before
-  reader-leads = by (lawful b) (leb (length path) 96) (sizeOk o m) (startOk m) refl refl refl (same-list _ has)
+  reader-leads = by (lawful o b) (leb (length path) 96) (sizeOk o m) (startOk m) refl refl refl (same-list _ has)
     where
-      by : (l s z g : Bool) → lawful b ≡ l → sizeOk o m ≡ z → startOk m ≡ g
+      by : (l s z g : Bool) → lawful o b ≡ l → sizeOk o m ≡ z → startOk m ≡ g
           → pick l (pick s (pick z (pick g (Field.found o (parse b) m path) (Field.before 3)) (Field.before 2)) (Field.before 15)) (Field.before 1)
           ≡ Fd.Object (O.List i) at start n left
           → Leads
@@ -237,7 +237,7 @@ module _ (o : ℕ) (b m path : List ℕ) (i at start n left : ℕ)
       rw (h .schema, le-leb (length (path ++ j ∷ [])) 96 s, h .size, h .begins, found-last o (parse b) m path j, h .leads)
 
   -- "after the last it answers 15 at the list and stays"
-  pub reader-end : (j : ℕ) → n ≤ j → Field.field o b m (path ++ j ∷ []) ≡ A.Refused (Field.refusal 15 at)
+  pub reader-end : (j : ℕ) → n ≤ j → Field.field o b m (path ++ j ∷ []) ≡ A.Refused (refusal 15 at)
   unfolding Field.objectPart Field.noPart Field.answerOf
   reader-end j l = rw (reader-step j, le-ltb j n l)
 
@@ -250,7 +250,7 @@ module _ (o : ℕ) (b m path : List ℕ) (i at start n left : ℕ)
   unfolding Field.readerGives Field.listGives Field.partOf
   gives-path j = ap (λ (f : Found). Field.answerOf (Field.partOf o (parse b) m f j)) has ∙ sym (reader-step j)
 
-  pub gives-end : (j : ℕ) → n ≤ j → Field.readerGives o b m path j ≡ A.Refused (Field.refusal 15 at)
+  pub gives-end : (j : ℕ) → n ≤ j → Field.readerGives o b m path j ≡ A.Refused (refusal 15 at)
   gives-end j l = gives-path j ∙ reader-end j l
 
   pub counts : Field.readerCount o b m path ≡ n
@@ -269,7 +269,7 @@ module _ (o : ℕ) (b m path : List ℕ) where
     unfolding Field.readerStart Field.readerOf Field.listFound Field.leads
     starts-union u k = rw (e, k)
 
-    pub starts-flat : (f : Flat) → elementOf (parse b) i ≡ OfFlat f → Field.readerStart o b m path ≡ Fd.Refused (Field.refusal 15 0)
+    pub starts-flat : (f : Flat) → elementOf (parse b) i ≡ OfFlat f → Field.readerStart o b m path ≡ Fd.Refused (refusal 15 0)
     unfolding Field.readerStart Field.readerOf Field.listFound Field.leads Field.before
     starts-flat f k = rw (e, k)
 
@@ -287,7 +287,7 @@ module _ (o : ℕ) (b m path : List ℕ) where
 
   -- or 15 at 0, and no other
   pub start-refused : (r : Refusal) → Field.readerStart o b m path ≡ Fd.Refused r
-      → (Field.field o b m path ≡ A.Refused r) ⊎ (r ≡ Field.refusal 15 0)
+      → (Field.field o b m path ≡ A.Refused r) ⊎ (r ≡ refusal 15 0)
   unfolding Field.readerStart Field.field
   start-refused r e = refused-start (parse b) (Field.fieldFound o b m path) r e
 
@@ -307,9 +307,9 @@ module _ (o : ℕ) (S : Schema) (m : List ℕ) where
   list-stays (Fd.Object (O.Table i) at start n d) j k h l = refl
   list-stays (Fd.Object (O.List i) at start n d) j k h l = by (Field.leads (elementOf S i)) h
     where
-      by : (t : Bool) → Field.listCount (pick t (Fd.Object (O.List i) at start n d) (Fd.Refused (Field.refusal 15 0))) ≤ j
-          → Field.answerOf (Field.partOf o S m (pick t (Fd.Object (O.List i) at start n d) (Fd.Refused (Field.refusal 15 0))) j)
-          ≡ Field.answerOf (Field.partOf o S m (pick t (Fd.Object (O.List i) at start n d) (Fd.Refused (Field.refusal 15 0))) k)
+      by : (t : Bool) → Field.listCount (pick t (Fd.Object (O.List i) at start n d) (Fd.Refused (refusal 15 0))) ≤ j
+          → Field.answerOf (Field.partOf o S m (pick t (Fd.Object (O.List i) at start n d) (Fd.Refused (refusal 15 0))) j)
+          ≡ Field.answerOf (Field.partOf o S m (pick t (Fd.Object (O.List i) at start n d) (Fd.Refused (refusal 15 0))) k)
       by true h = unfold Field.objectPart in rw (le-ltb j n h, le-ltb k n (omega arith))
       by false h = refl
 

@@ -9,7 +9,7 @@ use Rattle.coding.specs.Lists.{pick}
 use Rattle.coding.specs.Bytes.{le, deepest}
 use Rattle.coding.specs.Schema.{Schema}
 use Rattle.coding.specs.Layout.{begin, afterMember}
-use Rattle.coding.specs.Walk.{placed, magic, headerSize, contentSize, endOk, openContent, openObject, refuse, andThen, Child, followChoice, follow, members, elements, content, enter, arrive, counted, visit, rootPlace, walk}
+use Rattle.coding.specs.Walk.{placed, magic, headerSize, startSize, contentSize, endOk, fitContent, fitObject, bytesTested, openObject, refuse, andThen, Child, refusePart, followChoice, follow, members, elements, content, enter, arrive, oneMore, counted, visit, rootPlace, nothing, walk}
 use Rattle.coding.specs.Append.{Extends, rest, more, KindAppends, MemberAppends, SchemaAppends}
 use Rattle.coding.specs.declared.Object.{Object}
 use Rattle.coding.specs.declared.Object.the-variants as Ob
@@ -41,42 +41,42 @@ then-same {a} {b} next next′ e f = rw e (by a)
 
 module _ (o : ℕ) (O N : Schema) (sound : Sound O) (G : SchemaAppends O N) (m : List ℕ) (P : Objects) (old new : Child)
     (H : (ob : Object) → ObjectSound O ob → (p : Place) → P ob p → (s : Spent) → new ob p s ≡ old ob p s) where
-  choice-same : (ob : Object) → ObjectSound O ob → (holder : ℕ) (p : Place) → P ob p → (s : Spent)
-      → followChoice new holder ob p s ≡ followChoice old holder ob p s
+  choice-same : (ob : Object) → ObjectSound O ob → (holder j : ℕ) (p : Place) → P ob p → (s : Spent)
+      → followChoice new holder j ob p s ≡ followChoice old holder j ob p s
   unfolding followChoice
-  choice-same ob q holder (ByOffset x) h s = rw (H ob q (ByOffset x) h s)
-  choice-same ob q holder (InPlace a n) h s = H ob q (InPlace a n) h s
+  choice-same ob q holder j (ByOffset x) h s = rw (H ob q (ByOffset x) h s)
+  choice-same ob q holder j (InPlace a n) h s = H ob q (InPlace a n) h s
 
-  follow-same : {k : Kind} {a b : Step} → SameStep O k a b → stepPlain P O m a → (holder : ℕ) (s : Spent)
-      → follow new holder b s ≡ follow old holder a s
+  follow-same : {k : Kind} {a b : Step} → SameStep O k a b → stepPlain P O m a → (holder j : ℕ) (s : Spent)
+      → follow new holder j b s ≡ follow old holder j a s
   unfolding follow stepPlain
-  follow-same refused h holder s = refl
-  follow-same no-value h holder s = refl
-  follow-same (value q) h holder s = refl
-  follow-same (enum-value q) h holder s = refl
-  follow-same (enum-appended q) h holder s = absurd h
-  follow-same enum-unknown h holder s = absurd h
-  follow-same (struct-value q) h holder s = refl
-  follow-same (object-value {ob} {p} q) h holder s = H ob q p h s
-  follow-same (choice {ob} {p} l e q) h holder s = choice-same ob q holder p h s
-  follow-same (choice-appended l) h holder s = absurd h
-  follow-same choice-unknown h holder s = absurd h
+  follow-same refused h holder j s = refl
+  follow-same no-value h holder j s = refl
+  follow-same (value q) h holder j s = refl
+  follow-same (enum-value q) h holder j s = refl
+  follow-same (enum-appended q) h holder j s = absurd h
+  follow-same enum-unknown h holder j s = absurd h
+  follow-same (struct-value q) h holder j s = refl
+  follow-same (object-value {ob} {p} q) h holder j s = H ob q p h s
+  follow-same (choice {ob} {p} l e q) h holder j s = choice-same ob q holder j p h s
+  follow-same (choice-appended l) h holder j s = absurd h
+  follow-same choice-unknown h holder j s = absurd h
 
   members-same : {rs rs′ : List Member} → Extends MemberAppends rs rs′ → All (MemberSound O) rs → (holder start n : ℕ) (c : Cursor)
-      → membersPlain P o O m start n c rs → (s : Spent)
-      → members new o N m holder start n c rs′ s ≡ members old o O m holder start n c rs s
+      → membersPlain P o O m start n c rs → (j : ℕ) (s : Spent)
+      → members new o N m holder start n c j rs′ s ≡ members old o O m holder start n c j rs s
   unfolding members membersPlain
-  members-same (rest {ys}) a holder start n c h s = walk-added m start n new o N holder ys c s (full-past m start n h)
-  members-same (more {x} {y} {xs} {ys} q l) a holder start n c h s =
-      then-same _ _ (follow-same (member-step-same O N sound G m o q (a .0) start n c) (h .0) holder s)
-      (λ t. rw (← after-member-same O N sound G o q (a .0) c) (members-same l (a .1) holder start n (afterMember o O x c) (h .1) t))
+  members-same (rest {ys}) a holder start n c h j s = walk-added m start n new o N holder j ys c s (full-past m start n h)
+  members-same (more {x} {y} {xs} {ys} q l) a holder start n c h j s =
+      then-same _ _ (follow-same (member-step-same O N sound G m o q (a .0) start n c) (h .0) holder j s)
+      (λ t. rw (← after-member-same O N sound G o q (a .0) c) (members-same l (a .1) holder start n (afterMember o O x c) (h .1) (j + 1) t))
 
   elements-same : {k k′ : Kind} → KindAppends k k′ → KindSound O k → (holder start n i : ℕ) → elementsPlain P o O m start k n i → (s : Spent)
       → elements new o N m holder start k′ n i s ≡ elements old o O m holder start k n i s
   unfolding elements elementsPlain
   elements-same q a holder start zero i h s = refl
   elements-same q a holder start (suc n) i h s =
-      then-same _ _ (follow-same (element-step-same O N sound G m o q a start i) (h .0) holder s)
+      then-same _ _ (follow-same (element-step-same O N sound G m o q a start i) (h .0) holder i s)
       (λ t. elements-same q a holder start n (i + 1) (h .1) t)
 
   content-same : (ob : Object) → ObjectSound O ob → (holder start n : ℕ) → contentPlain P o O m ob start n → (s : Spent)
@@ -87,35 +87,41 @@ module _ (o : ℕ) (O N : Schema) (sound : Sound O) (G : SchemaAppends O N) (m :
   content-same (Ob.List i) q holder start n h s =
       elements-same (element-same O N sound G i q) (sound .lists i .kind) holder start n 0 h s
   content-same (Ob.Table i) q holder start n h s =
-      members-same (table-same O N sound G i q .members) (sound .tables i .members) holder start n begin h s
+      members-same (table-same O N sound G i q .members) (sound .tables i .members) holder start n begin h 0 s
 
   -- at an arrival, what was opened stands where the plain content does
   content-enters : (ob : Object) → ObjectSound O ob → (holder start n : ℕ) → contentPlain P o O m ob start n → (s : Spent)
-      → enter new o N m ob holder (openContent o O m ob start n) s ≡ enter old o O m ob holder (openContent o O m ob start n) s
-  unfolding enter openContent
-  content-enters ob q holder start n h s = by (leb (start + contentSize o O ob n) (length m)) (endOk m ob start n)
+      → enter new o N m ob holder (bytesTested m ob (fitContent o O m ob start n)) s
+      ≡ enter old o O m ob holder (bytesTested m ob (fitContent o O m ob start n)) s
+  unfolding enter fitContent bytesTested
+  content-enters ob q holder start n h s = by (leb (start + contentSize o O ob n) (length m))
     where
-      by : (t u : Bool)
-          → enter new o N m ob holder (pick t (pick u (Op.Content start n) (Op.Refused 10)) (Op.Refused 6)) s
-          ≡ enter old o O m ob holder (pick t (pick u (Op.Content start n) (Op.Refused 10)) (Op.Refused 6)) s
-      by true true = content-same ob q holder start n h s
-      by true false = refl
-      by false u = refl
+      tested : (u : Bool)
+          → enter new o N m ob holder (pick u (Op.Content start n) (Op.Refused 10)) s
+          ≡ enter old o O m ob holder (pick u (Op.Content start n) (Op.Refused 10)) s
+      tested true = content-same ob q holder start n h s
+      tested false = refl
+
+      by : (t : Bool)
+          → enter new o N m ob holder (bytesTested m ob (pick t (Op.Content start n) (Op.Refused 6))) s
+          ≡ enter old o O m ob holder (bytesTested m ob (pick t (Op.Content start n) (Op.Refused 6))) s
+      by true = tested (endOk m ob start n)
+      by false = refl
 
   place-enters : (ob : Object) → ObjectSound O ob → (p : Place) → placePlain P o O m ob p → (s : Spent)
       → enter new o N m ob (placed p) (openObject o O m ob p) s ≡ enter old o O m ob (placed p) (openObject o O m ob p) s
-  unfolding openObject placePlain placed
-  place-enters ob q (ByOffset x) h s = by (leb (headerSize o) x && leb (x + headerSize o) (length m)) (eqb (le m x 4) (magic O ob))
+  unfolding openObject fitObject placePlain placed
+  place-enters ob q (ByOffset x) h s = by (leb (startSize o) x && leb (x + headerSize o) (length m)) (eqb (le m x 4) (magic O ob))
     where
       opened : Opened
-      opened = openContent o O m ob (x + headerSize o) (le m (x + 4) o)
+      opened = fitContent o O m ob (x + headerSize o) (le m (x + 4) o)
 
       by : (t u : Bool)
-          → enter new o N m ob x (pick t (pick u opened (Op.Refused 7)) (Op.Refused 6)) s
-          ≡ enter old o O m ob x (pick t (pick u opened (Op.Refused 7)) (Op.Refused 6)) s
+          → enter new o N m ob x (bytesTested m ob (pick t (pick u opened (Op.Refused 7)) (Op.Refused 6))) s
+          ≡ enter old o O m ob x (bytesTested m ob (pick t (pick u opened (Op.Refused 7)) (Op.Refused 6))) s
       by true true = content-enters ob q x (x + headerSize o) (le m (x + 4) o) h s
-      by true false = unfold enter in refl
-      by false u = unfold enter in refl
+      by true false = unfold enter bytesTested in refl
+      by false u = unfold enter bytesTested in refl
   place-enters ob q (InPlace a n) h s = content-enters ob q a a n h s
 
   arrive-same : (ob : Object) → ObjectSound O ob → (p : Place) → placePlain P o O m ob p → (s : Spent)
@@ -131,11 +137,11 @@ module _ (o : ℕ) (O N : Schema) (sound : Sound O) (G : SchemaAppends O N) (m :
   visit-same (suc d) ob q p h s =
       ap (λ (w : Walked). pick (ltb (s .visits) (b .visits)) w (refuse 4 (placed p) s))
       (arrive-same o O N sound G m (plain d o O m) (visit d o O m b) (visit d o N m b) (visit-same d) ob q p h
-      (record { visits = s .visits + 1 }))
+      (oneMore s))
 
   -- the newer's walk is the older's
   pub newer-judges : messagePlain o O m → walk o N m b ≡ walk o O m b
   unfolding walk messagePlain
   newer-judges h =
-      subst (λ (r : ℕ). visit deepest o N m b (Ob.Table r) (rootPlace o m) (record { visits = 0 }) ≡ visit deepest o O m b (Ob.Table (O .root)) (rootPlace o m) (record { visits = 0 })) (G .root)
-      (visit-same deepest (Ob.Table (O .root)) (sound .root) (rootPlace o m) h (record { visits = 0 }))
+      subst (λ (r : ℕ). visit deepest o N m b (Ob.Table r) (rootPlace o m) nothing ≡ visit deepest o O m b (Ob.Table (O .root)) (rootPlace o m) nothing) (G .root)
+      (visit-same deepest (Ob.Table (O .root)) (sound .root) (rootPlace o m) h nothing)

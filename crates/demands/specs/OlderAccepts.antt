@@ -5,7 +5,7 @@ use native.Mathlib.Nat.{le-refl, le-trans}
 use native.Mathlib.Omega.{arith}
 use mathlib.Core.List.{List, [], _∷_}
 use mathlib.Core.Bool.{Bool, true, false}
-use mathlib.Core.Path.{_≡_, refl, subst}
+use mathlib.Core.Path.{_≡_, refl, ap, subst}
 use lib.Dec.{ltb, eqb}
 use borrow.Author.Tests.{ltb-true, lt-ltb}
 use Rattle.coding.specs.Lists.{pick}
@@ -13,7 +13,7 @@ use Rattle.coding.specs.Bytes.{le, deepest}
 use Rattle.coding.specs.Schema.{Schema, elementOf, tableOf}
 use Rattle.coding.specs.Layout.{begin, afterMember}
 use Rattle.coding.specs.Step.{memberStep, elementStep}
-use Rattle.coding.specs.Walk.{placed, headerSize, openContent, openObject, refuse, andThen, Child, followChoice, follow, members, elements, content, enter, arrive, tooDeep, counted, visit, rootPlace, walk}
+use Rattle.coding.specs.Walk.{placed, headerSize, fitContent, fitObject, bytesTested, openObject, refuse, andThen, Child, refusePart, followChoice, follow, members, elements, content, enter, arrive, tooDeep, oneMore, counted, visit, rootPlace, nothing, walk}
 use Rattle.coding.specs.Append.{Extends, rest, more, KindAppends, MemberAppends, SchemaAppends}
 use Rattle.coding.specs.declared.Object.{Object}
 use Rattle.coding.specs.declared.Object.the-variants as Ob
@@ -74,40 +74,40 @@ refuse-up n at s = stopped
 
 module _ (child : Child) (U : (ob : Object) (p : Place) (s : Spent) → Within (Going s) (child ob p s)) (o : ℕ) (S : Schema)
     (m : List ℕ) where
-  choice-up : (holder : ℕ) (ob : Object) (p : Place) (s : Spent) → Within (Going s) (followChoice child holder ob p s)
-  unfolding followChoice
-  choice-up holder ob (ByOffset x) s = pick-up (eqb x 0) (refuse-up 9 holder s) (U ob (ByOffset x) s)
-  choice-up holder ob (InPlace a n) s = U ob (InPlace a n) s
+  choice-up : (holder j : ℕ) (ob : Object) (p : Place) (s : Spent) → Within (Going s) (followChoice child holder j ob p s)
+  unfolding followChoice refusePart
+  choice-up holder j ob (ByOffset x) s = pick-up (eqb x 0) (refuse-up 9 holder s) (U ob (ByOffset x) s)
+  choice-up holder j ob (InPlace a n) s = U ob (InPlace a n) s
 
-  follow-up : (holder : ℕ) (st : Step) (s : Spent) → Within (Going s) (follow child holder st s)
-  unfolding follow
-  follow-up holder (St.Refused n) s = refuse-up n holder s
-  follow-up holder St.Absent s = stay
-  follow-up holder (St.Value x) s = stay
-  follow-up holder (St.Unknown x) s = stay
-  follow-up holder (St.Struct i at) s = stay
-  follow-up holder (St.Object ob p) s = U ob p s
-  follow-up holder (St.Choice c ob p) s = choice-up holder ob p s
+  follow-up : (holder j : ℕ) (st : Step) (s : Spent) → Within (Going s) (follow child holder j st s)
+  unfolding follow refusePart
+  follow-up holder j (St.Refused n) s = refuse-up n holder s
+  follow-up holder j St.Absent s = stay
+  follow-up holder j (St.Value x) s = stay
+  follow-up holder j (St.Unknown x) s = stay
+  follow-up holder j (St.Struct i at) s = stay
+  follow-up holder j (St.Object ob p) s = U ob p s
+  follow-up holder j (St.Choice c ob p) s = choice-up holder j ob p s
 
-  members-up : (holder start n : ℕ) (c : Cursor) (rs : List Member) (s : Spent)
-      → Within (Going s) (members child o S m holder start n c rs s)
+  members-up : (holder start n : ℕ) (c : Cursor) (j : ℕ) (rs : List Member) (s : Spent)
+      → Within (Going s) (members child o S m holder start n c j rs s)
   unfolding members
-  members-up holder start n c [] s = stay
-  members-up holder start n c (r ∷ rs) s =
-      then-up (follow-up holder (memberStep o S m start n c r) s) (λ t. members-up holder start n (afterMember o S r c) rs t)
+  members-up holder start n c j [] s = stay
+  members-up holder start n c j (r ∷ rs) s =
+      then-up (follow-up holder j (memberStep o S m start n c r) s) (λ t. members-up holder start n (afterMember o S r c) (j + 1) rs t)
 
   elements-up : (holder start : ℕ) (k : Kind) (n i : ℕ) (s : Spent) → Within (Going s) (elements child o S m holder start k n i s)
   unfolding elements
   elements-up holder start k zero i s = stay
   elements-up holder start k (suc n) i s =
-      then-up (follow-up holder (elementStep o S m k start i) s) (λ t. elements-up holder start k n (i + 1) t)
+      then-up (follow-up holder i (elementStep o S m k start i) s) (λ t. elements-up holder start k n (i + 1) t)
 
   content-up : (ob : Object) (holder start n : ℕ) (s : Spent) → Within (Going s) (content child o S m ob holder start n s)
   unfolding content
   content-up Ob.Text holder start n s = stay
   content-up Ob.Bytes holder start n s = stay
   content-up (Ob.List i) holder start n s = elements-up holder start (elementOf S i) n 0 s
-  content-up (Ob.Table i) holder start n s = members-up holder start n begin (tableOf S i .members) s
+  content-up (Ob.Table i) holder start n s = members-up holder start n begin 0 (tableOf S i .members) s
 
   enter-up : (ob : Object) (holder : ℕ) (p : Opened) (s : Spent) → Within (Going s) (enter child o S m ob holder p s)
   unfolding enter
@@ -120,9 +120,9 @@ module _ (child : Child) (U : (ob : Object) (p : Place) (s : Spent) → Within (
 
 counted-up : (child : Child) → ((ob : Object) (p : Place) (s : Spent) → Within (Going s) (child ob p s))
     → (b : Budget) (ob : Object) (p : Place) (s : Spent) → Within (Going s) (counted child b ob p s)
-unfolding counted
+unfolding counted oneMore
 counted-up child U b ob p s =
-    pick-up (ltb (s .visits) (b .visits)) (from-within (omega arith) (U ob p (record { visits = s .visits + 1 }))) (refuse-up 4 (placed p) s)
+    pick-up (ltb (s .visits) (b .visits)) (from-within (omega arith) (U ob p (oneMore s))) (refuse-up 4 (placed p) s)
 
 too-deep-up : {a : Walked} (ob : Object) (p : Place) (s : Spent) → Within a (tooDeep ob p s)
 unfolding tooDeep
@@ -137,57 +137,61 @@ visit-up (suc d) o S m b ob p s =
 
 -- ---- the older's walk beside the newer's
 module _ (o : ℕ) (O N : Schema) (sound : Sound O) (G : SchemaAppends O N) (m : List ℕ) where
-  open-content-same : (ob : Object) → ObjectSound O ob → (start n : ℕ) → openContent o O m ob start n ≡ openContent o N m ob start n
-  unfolding openContent
-  open-content-same ob h start n = rw (content-size-same O N sound G o ob h n)
+  fit-content-same : (ob : Object) → ObjectSound O ob → (start n : ℕ) → fitContent o O m ob start n ≡ fitContent o N m ob start n
+  unfolding fitContent
+  fit-content-same ob h start n = rw (content-size-same O N sound G o ob h n)
+
+  fit-same : (ob : Object) → ObjectSound O ob → (p : Place) → fitObject o O m ob p ≡ fitObject o N m ob p
+  unfolding fitObject
+  fit-same ob h (ByOffset x) = rw (magic-same O N sound G ob h, fit-content-same ob h (x + headerSize o) (le m (x + 4) o))
+  fit-same ob h (InPlace a n) = fit-content-same ob h a n
 
   pub open-same : (ob : Object) → ObjectSound O ob → (p : Place) → openObject o O m ob p ≡ openObject o N m ob p
   unfolding openObject
-  open-same ob h (ByOffset x) = rw (magic-same O N sound G ob h, open-content-same ob h (x + headerSize o) (le m (x + 4) o))
-  open-same ob h (InPlace a n) = open-content-same ob h a n
+  open-same ob h p = ap (bytesTested m ob) (fit-same ob h p)
 
   module _ (old new : Child) (U : (ob : Object) (p : Place) (s : Spent) → Within (Going s) (new ob p s))
       (H : (ob : Object) → ObjectSound O ob → (p : Place) (s s′ : Spent) → s .visits ≤ s′ .visits
       → Within (old ob p s) (new ob p s′)) where
-    choice-within : (ob : Object) → ObjectSound O ob → (holder : ℕ) (p : Place) (s s′ : Spent) → s .visits ≤ s′ .visits
-        → Within (followChoice old holder ob p s) (followChoice new holder ob p s′)
-    unfolding followChoice
-    choice-within ob q holder (ByOffset x) s s′ h =
+    choice-within : (ob : Object) → ObjectSound O ob → (holder j : ℕ) (p : Place) (s s′ : Spent) → s .visits ≤ s′ .visits
+        → Within (followChoice old holder j ob p s) (followChoice new holder j ob p s′)
+    unfolding followChoice refusePart
+    choice-within ob q holder j (ByOffset x) s s′ h =
         pick-within (eqb x 0) (refuse-up 9 holder s′) (H ob q (ByOffset x) s s′ h)
-    choice-within ob q holder (InPlace a n) s s′ h = H ob q (InPlace a n) s s′ h
+    choice-within ob q holder j (InPlace a n) s s′ h = H ob q (InPlace a n) s s′ h
 
-    follow-within : {k : Kind} {a b : Step} → SameStep O k a b → (holder : ℕ) (s s′ : Spent) → s .visits ≤ s′ .visits
-        → Within (follow old holder a s) (follow new holder b s′)
-    unfolding follow
-    follow-within (refused {n}) holder s s′ h = refuse-up n holder s′
-    follow-within no-value holder s s′ h = going h
-    follow-within (value q) holder s s′ h = going h
-    follow-within (enum-value q) holder s s′ h = going h
-    follow-within (enum-appended q) holder s s′ h = going h
-    follow-within enum-unknown holder s s′ h = going h
-    follow-within (struct-value q) holder s s′ h = going h
-    follow-within (object-value {ob} {p} q) holder s s′ h = H ob q p s s′ h
-    follow-within (choice {ob} {p} l e q) holder s s′ h = choice-within ob q holder p s s′ h
-    follow-within (choice-appended {ob} {p} l) holder s s′ h = from-within h (choice-up new U o N m holder ob p s′)
-    follow-within choice-unknown holder s s′ h = going h
+    follow-within : {k : Kind} {a b : Step} → SameStep O k a b → (holder j : ℕ) (s s′ : Spent) → s .visits ≤ s′ .visits
+        → Within (follow old holder j a s) (follow new holder j b s′)
+    unfolding follow refusePart
+    follow-within (refused {n}) holder j s s′ h = refuse-up n holder s′
+    follow-within no-value holder j s s′ h = going h
+    follow-within (value q) holder j s s′ h = going h
+    follow-within (enum-value q) holder j s s′ h = going h
+    follow-within (enum-appended q) holder j s s′ h = going h
+    follow-within enum-unknown holder j s s′ h = going h
+    follow-within (struct-value q) holder j s s′ h = going h
+    follow-within (object-value {ob} {p} q) holder j s s′ h = H ob q p s s′ h
+    follow-within (choice {ob} {p} l e q) holder j s s′ h = choice-within ob q holder j p s s′ h
+    follow-within (choice-appended {ob} {p} l) holder j s s′ h = from-within h (choice-up new U o N m holder j ob p s′)
+    follow-within choice-unknown holder j s s′ h = going h
 
     members-within : {rs rs′ : List Member} → Extends MemberAppends rs rs′ → All (MemberSound O) rs → (holder start n : ℕ) (c : Cursor)
-        (s s′ : Spent) → s .visits ≤ s′ .visits
-        → Within (members old o O m holder start n c rs s) (members new o N m holder start n c rs′ s′)
+        (j : ℕ) (s s′ : Spent) → s .visits ≤ s′ .visits
+        → Within (members old o O m holder start n c j rs s) (members new o N m holder start n c j rs′ s′)
     unfolding members
-    members-within (rest {ys}) a holder start n c s s′ h = from-within h (members-up new U o N m holder start n c ys s′)
-    members-within (more {x} {y} {xs} {ys} q l) a holder start n c s s′ h =
-        then-within (follow-within (member-step-same O N sound G m o q (a .0) start n c) holder s s′ h)
+    members-within (rest {ys}) a holder start n c j s s′ h = from-within h (members-up new U o N m holder start n c j ys s′)
+    members-within (more {x} {y} {xs} {ys} q l) a holder start n c j s s′ h =
+        then-within (follow-within (member-step-same O N sound G m o q (a .0) start n c) holder j s s′ h)
         (λ t t′ g.
         rw (after-member-same O N sound G o q (a .0) c)
-        (members-within l (a .1) holder start n (afterMember o N y c) t t′ g))
+        (members-within l (a .1) holder start n (afterMember o N y c) (j + 1) t t′ g))
 
     elements-within : {k k′ : Kind} → KindAppends k k′ → KindSound O k → (holder start n i : ℕ) (s s′ : Spent) → s .visits ≤ s′ .visits
         → Within (elements old o O m holder start k n i s) (elements new o N m holder start k′ n i s′)
     unfolding elements
     elements-within q a holder start zero i s s′ h = going h
     elements-within q a holder start (suc n) i s s′ h =
-        then-within (follow-within (element-step-same O N sound G m o q a start i) holder s s′ h)
+        then-within (follow-within (element-step-same O N sound G m o q a start i) holder i s s′ h)
         (λ t t′ g. elements-within q a holder start n (i + 1) t t′ g)
 
     content-within : (ob : Object) → ObjectSound O ob → (holder start n : ℕ) (s s′ : Spent) → s .visits ≤ s′ .visits
@@ -198,7 +202,7 @@ module _ (o : ℕ) (O N : Schema) (sound : Sound O) (G : SchemaAppends O N) (m :
     content-within (Ob.List i) q holder start n s s′ h =
         elements-within (element-same O N sound G i q) (sound .lists i .kind) holder start n 0 s s′ h
     content-within (Ob.Table i) q holder start n s s′ h =
-        members-within (table-same O N sound G i q .members) (sound .tables i .members) holder start n begin s s′ h
+        members-within (table-same O N sound G i q .members) (sound .tables i .members) holder start n begin 0 s s′ h
 
     enter-within : (ob : Object) → ObjectSound O ob → (holder : ℕ) (p : Opened) (s s′ : Spent) → s .visits ≤ s′ .visits
         → Within (enter old o O m ob holder p s) (enter new o N m ob holder p s′)
@@ -215,16 +219,16 @@ module _ (o : ℕ) (O N : Schema) (sound : Sound O) (G : SchemaAppends O N) (m :
 counted-within : (old new : Child) (b : Budget) (ob : Object) (p : Place) (s s′ : Spent) → s .visits ≤ s′ .visits
     → ((t t′ : Spent) → t .visits ≤ t′ .visits → Within (old ob p t) (new ob p t′))
     → Within (counted old b ob p s) (counted new b ob p s′)
-unfolding counted
+unfolding counted oneMore
 counted-within old new b ob p s s′ h H = by (ltb (s′ .visits) (b .visits)) refl
   where
     by : (t : Bool) → ltb (s′ .visits) (b .visits) ≡ t
         → Within
-        (pick (ltb (s .visits) (b .visits)) (old ob p (record { visits = s .visits + 1 })) (refuse 4 (placed p) s))
-        (pick t (new ob p (record { visits = s′ .visits + 1 })) (refuse 4 (placed p) s′))
+        (pick (ltb (s .visits) (b .visits)) (old ob p (oneMore s)) (refuse 4 (placed p) s))
+        (pick t (new ob p (oneMore s′)) (refuse 4 (placed p) s′))
     by true e =
         rw (lt-ltb (s .visits) (b .visits) (omega (arith, ltb-true (s′ .visits) (b .visits) e)))
-        (H (record { visits = s .visits + 1 }) (record { visits = s′ .visits + 1 }) (omega arith))
+        (H (oneMore s) (oneMore s′) (omega arith))
     by false e = refuse-up 4 (placed p) s′
 
 module _ (o : ℕ) (O N : Schema) (sound : Sound O) (G : SchemaAppends O N) (m : List ℕ) (b : Budget) where
@@ -237,10 +241,10 @@ module _ (o : ℕ) (O N : Schema) (sound : Sound O) (G : SchemaAppends O N) (m :
       (λ t t′ g. arrive-within o O N sound G m (visit d o O m b) (visit d o N m b) (visit-up d o N m b) (visit-within d) ob q p t t′ g)
 
   pub walk-within : Within (walk o O m b) (walk o N m b)
-  unfolding walk
+  unfolding walk nothing
   walk-within =
-      subst (λ (r : ℕ). Within (visit deepest o O m b (Ob.Table (O .root)) (rootPlace o m) (record { visits = 0 })) (visit deepest o N m b (Ob.Table r) (rootPlace o m) (record { visits = 0 }))) (G .root)
-      (visit-within deepest (Ob.Table (O .root)) (sound .root) (rootPlace o m) (record { visits = 0 }) (record { visits = 0 }) (le-refl 0))
+      subst (λ (r : ℕ). Within (visit deepest o O m b (Ob.Table (O .root)) (rootPlace o m) nothing) (visit deepest o N m b (Ob.Table r) (rootPlace o m) nothing)) (G .root)
+      (visit-within deepest (Ob.Table (O .root)) (sound .root) (rootPlace o m) nothing nothing (le-refl 0))
 
   -- whatever the newer accepts, the older accepts
   pub older-accepts : (s : Spent) → walk o N m b ≡ Going s → (t : Spent) × (walk o O m b ≡ Going t) × (t .visits ≤ s .visits)

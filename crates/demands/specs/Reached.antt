@@ -1,4 +1,4 @@
--- Demand 2: "a message is accepted exactly when every object reached by its schema is lawful, within depth and budget"; and its
+-- Demand 2: a message is accepted exactly when every object reached by its schema is lawful, within depth and budget; and its
 -- visits are then the arrivals, "shared objects each time". What is reached, lawful and counted is said in Arrivals, apart from
 -- the walk. `o` is the width of an offset in bytes.
 use Prim.Native.Nat.{ℕ, _<_, _≤_}
@@ -12,7 +12,7 @@ use Rattle.coding.specs.Bytes.{deepest}
 use Rattle.coding.specs.Schema.{Schema}
 use Rattle.coding.specs.Packed.{parse}
 use Rattle.coding.specs.Lawful.{lawful}
-use Rattle.coding.specs.Walk.{rootPlace, walk, verdictOf, early, sizeOk, startOk, verdict}
+use Rattle.coding.specs.Walk.{rootPlace, spending, nothing, walk, atZero, verdictOf, early, sizeOk, startOk, verdict}
 use Rattle.coding.specs.declared.Object.the-variants as Ob
 use Rattle.coding.specs.declared.Budget.{Budget}
 use Rattle.coding.specs.declared.Spent.{Spent}
@@ -26,17 +26,18 @@ use Rattle.demands.specs.ArrivalsWalk.{Judged, goes, stops, LawfulDown, 
 -- ---- the walk
 module _ (o : ℕ) (S : Schema) (m : List ℕ) (b : Budget) where
   walk-judged : Judged b (LawfulDown deepest o S m (Ob.Table (S .root)) (rootPlace o m)) (messageArrivals o S m)
-      (record { visits = 0 }) (walk o S m b)
-  unfolding walk messageArrivals
+      nothing (walk o S m b)
+  unfolding walk nothing messageArrivals
   walk-judged =
-      visit-judged deepest o S m b (Ob.Table (S .root)) (rootPlace o m) (record { visits = 0 }) (omega arith)
+      visit-judged deepest o S m b (Ob.Table (S .root)) (rootPlace o m) nothing (omega arith)
 
   -- what the walk accepts is accepted, and it has spent the arrivals
   pub walk-accepts : (s : Spent) → walk o S m b ≡ Going s → Accepted o S m b × (s .visits ≡ messageArrivals o S m)
+  unfolding nothing
   walk-accepts s e = by (walk o S m b) e walk-judged
     where
       by : (w : Walked) → w ≡ Going s
-          → Judged b (LawfulDown deepest o S m (Ob.Table (S .root)) (rootPlace o m)) (messageArrivals o S m) (record { visits = 0 }) w
+          → Judged b (LawfulDown deepest o S m (Ob.Table (S .root)) (rootPlace o m)) (messageArrivals o S m) nothing w
           → Accepted o S m b × (s .visits ≡ messageArrivals o S m)
       by w q (stops r t y n) = let z : _≡_ {A = ℕ} 0 1 = cc in absurd (omega arith)
       by w q (goes t f h x) =
@@ -52,10 +53,11 @@ module _ (o : ℕ) (S : Schema) (m : List ℕ) (b : Budget) where
 
   -- what is accepted the walk accepts, and it has spent the arrivals
   pub accepted-walks : Accepted o S m b → (s : Spent) × (walk o S m b ≡ Going s) × (s .visits ≡ messageArrivals o S m)
+  unfolding nothing
   accepted-walks h = by (walk o S m b) walk-judged
     where
       by : (w : Walked)
-          → Judged b (LawfulDown deepest o S m (Ob.Table (S .root)) (rootPlace o m)) (messageArrivals o S m) (record { visits = 0 }) w
+          → Judged b (LawfulDown deepest o S m (Ob.Table (S .root)) (rootPlace o m)) (messageArrivals o S m) nothing w
           → (s : Spent) × (w ≡ Going s) × (s .visits ≡ messageArrivals o S m)
       by w (goes t f g x) = (t, refl, omega arith)
       by w (stops r t z n) =
@@ -75,7 +77,7 @@ module _ (o : ℕ) (S : Schema) (m : List ℕ) (b : Budget) where
   walk-refuses r t e = by (walk o S m b) e walk-judged
     where
       by : (w : Walked) → w ≡ Refused r t
-          → Judged b (LawfulDown deepest o S m (Ob.Table (S .root)) (rootPlace o m)) (messageArrivals o S m) (record { visits = 0 }) w
+          → Judged b (LawfulDown deepest o S m (Ob.Table (S .root)) (rootPlace o m)) (messageArrivals o S m) nothing w
           → 0 < r .number
       by w q (goes u f g x) = let z : _≡_ {A = ℕ} 0 1 = cc in absurd (omega arith)
       by w q (stops s u z n) = let y : s ≡ r = cc in subst (λ (x : Refusal). 0 < x .number) y z
@@ -83,7 +85,7 @@ module _ (o : ℕ) (S : Schema) (m : List ℕ) (b : Budget) where
 -- ---- the verdict
 -- number 0: the schema is lawful, the message's size and start are, and the walk goes to its end
 pub record Walks (o : ℕ) (b m : List ℕ) (budget : Budget) : Type 0 where
-  pub schema : lawful b ≡ true
+  pub schema : lawful o b ≡ true
   pub size : sizeOk o m ≡ true
   pub start : startOk m ≡ true
   pub spent : Spent
@@ -93,12 +95,12 @@ pub record Walks (o : ℕ) (b m : List ℕ) (budget : Budget) : Type 0 where
 module _ (o : ℕ) (b m : List ℕ) (budget : Budget) where
   pub verdict-walks : verdict o b m budget .number ≡ 0 → Walks o b m budget
   unfolding verdict early verdictOf
-  verdict-walks h = by (lawful b) (sizeOk o m) (startOk m) (walk o (parse b) m budget) refl refl refl refl h
+  verdict-walks h = by (lawful o b) (sizeOk o m) (startOk m) (walk o (parse b) m budget) refl refl refl refl h
     where
       judged : Bool → Bool → Bool → Walked → Verdict
       judged l z g w = pick l (pick z (pick g (verdictOf w) (early 3)) (early 2)) (early 1)
 
-      by : (l z g : Bool) (w : Walked) → lawful b ≡ l → sizeOk o m ≡ z → startOk m ≡ g → walk o (parse b) m budget ≡ w
+      by : (l z g : Bool) (w : Walked) → lawful o b ≡ l → sizeOk o m ≡ z → startOk m ≡ g → walk o (parse b) m budget ≡ w
           → judged l z g w .number ≡ 0 → Walks o b m budget
       by true true true (Going s) e f q x h =
           record { schema = e; size = f; start = q; spent = s; walks = x; answer = rw (e, f, q, x) }
@@ -108,17 +110,17 @@ module _ (o : ℕ) (b m : List ℕ) (budget : Budget) where
       by true false g w e f q x h = absurd (omega arith)
       by false z g w e f q x h = absurd (omega arith)
 
-  pub walks-verdict : lawful b ≡ true → sizeOk o m ≡ true → startOk m ≡ true → (s : Spent) → walk o (parse b) m budget ≡ Going s
+  pub walks-verdict : lawful o b ≡ true → sizeOk o m ≡ true → startOk m ≡ true → (s : Spent) → walk o (parse b) m budget ≡ Going s
       → verdict o b m budget ≡ verdictOf (Going s)
   unfolding verdict
   walks-verdict e f q s x = rw (e, f, q, x)
 
   pub lawful-verdict : LawfulMessage o b m budget
-      → verdict o b m budget ≡ record { number = 0; place = 0; visits = messageArrivals o (parse b) m }
+      → verdict o b m budget ≡ atZero 0 (spending (messageArrivals o (parse b) m))
   unfolding verdictOf
   lawful-verdict h =
       let y = accepted-walks o (parse b) m budget (h .objects) in
-      walks-verdict (h .schema) (h .size) (h .start) (y .0) (y .1) ∙ ap (λ (v : ℕ). record { number = 0; place = 0; visits = v }) (y .2)
+      walks-verdict (h .schema) (h .size) (h .start) (y .0) (y .1) ∙ ap (λ (v : ℕ). atZero 0 (spending v)) (y .2)
 
   verdict-lawful : verdict o b m budget .number ≡ 0 → LawfulMessage o b m budget
   verdict-lawful h =

@@ -9,9 +9,9 @@ use Rattle.coding.specs.Lists.{pick}
 use Rattle.coding.specs.Bytes.{le, bitAt, isNaN}
 use Rattle.coding.specs.Schema.{Schema, casesOf}
 use Rattle.coding.specs.Structs.{structOk}
-use Rattle.coding.specs.Layout.{hasFlag, bitByte, bitIndex, memberSlot}
-use Rattle.coding.specs.Step.{enumStep, floatStep, structStep, objectStep, unionStep, flatStep, valueStep, inside, flagged, memberStep, elementPlace, elementStep}
-use Rattle.coding.specs.Walk.{magic, headerSize, contentSize, endOk, openContent, openObject}
+use Rattle.coding.specs.Layout.{hasFlag, placementOf}
+use Rattle.coding.specs.Step.{enumStep, floatStep, objectStep, unionStep, flatStep, valueStep, structTested, inside, flagged, placedStep, memberStep, elementPlace, elementStep}
+use Rattle.coding.specs.Walk.{magic, headerSize, startSize, contentSize, endOk, fitContent, fitObject, bytesTested, openObject}
 use Rattle.coding.specs.declared.Flat.{Flat}
 use Rattle.coding.specs.declared.Flat.the-variants as F
 use Rattle.coding.specs.declared.Object.{Object}
@@ -48,19 +48,29 @@ pick-has P false h g = g
 pick-step : (t : Bool) (x y : Step) → NumberedStep x → NumberedStep y → NumberedStep (pick t x y)
 pick-step t x y h g = pick-has NumberedStep t {x = x} {y = y} h g
 
-flat-numbered : (S : Schema) (m : List ℕ) (k : Flat) (none : Bool) (at bit : ℕ) → NumberedStep (flatStep S m k none at bit)
-unfolding flatStep floatStep enumStep structStep
-flat-numbered S m F.Boolean none at bit = tt
-flat-numbered S m (F.Integer s w) none at bit = tt
-flat-numbered S m (F.Float w) none at bit = pick-step (none && isNaN w (le m at w)) _ _ tt tt
-flat-numbered S m (F.Enumerated n) none at bit =
+flat-numbered : (m : List ℕ) (k : Flat) (none : Bool) (at bit : ℕ) → NumberedStep (flatStep m k none at bit)
+unfolding flatStep floatStep enumStep
+flat-numbered m F.Boolean none at bit = tt
+flat-numbered m (F.Integer s w) none at bit = tt
+flat-numbered m (F.Float w) none at bit = pick-step (none && isNaN w (le m at w)) _ _ tt tt
+flat-numbered m (F.Enumerated n) none at bit =
     pick-step (eqb (getD m at 0) 255) _ _ tt (pick-step (ltb (getD m at 0) n) _ _ tt tt)
-flat-numbered S m (F.Struct i) none at bit = pick-step (structOk S m i at) _ (St.Refused 10) tt (omega arith)
+flat-numbered m (F.Struct i) none at bit = tt
+
+tested-numbered : (S : Schema) (m : List ℕ) (s : Step) → NumberedStep s → NumberedStep (structTested S m s)
+unfolding structTested
+tested-numbered S m (St.Refused n) h = h
+tested-numbered S m St.Absent h = tt
+tested-numbered S m (St.Value x) h = tt
+tested-numbered S m (St.Unknown x) h = tt
+tested-numbered S m (St.Struct i at) h = pick-step (structOk S m i at) _ (St.Refused 10) tt (omega arith)
+tested-numbered S m (St.Object ob p) h = tt
+tested-numbered S m (St.Choice c ob p) h = tt
 
 value-numbered : (o : ℕ) (S : Schema) (m : List ℕ) (k : Kind) (none inplace : Bool) (tail at bit : ℕ)
     → NumberedStep (valueStep o S m k none inplace tail at bit)
 unfolding valueStep objectStep unionStep
-value-numbered o S m (OfFlat k) none inplace tail at bit = flat-numbered S m k none at bit
+value-numbered o S m (OfFlat k) none inplace tail at bit = flat-numbered m k none at bit
 value-numbered o S m (OfObject ob) none inplace tail at bit = pick-step (eqb (le m at o) 0) _ _ tt tt
 value-numbered o S m (OfUnion i) none inplace tail at bit =
     pick-step (eqb (le m at 2) 0) _ _ tt (pick-step (leb (le m at 2) (length (casesOf S i))) _ _ tt tt)
@@ -70,40 +80,51 @@ unfolding inside
 inside-numbered n slot x y h g =
     pick-step (leb n (slot .at)) x _ h (pick-step (leb (slot .at + slot .size) n) y (St.Refused 8) g (omega arith))
 
-flagged-numbered : (m : List ℕ) (start n : ℕ) (c : Cursor) (slot : Slot) (x : Step) → NumberedStep x
-    → NumberedStep (flagged m start n c slot x)
+flagged-numbered : (m : List ℕ) (start n : ℕ) (flag slot : Slot) (x : Step) → NumberedStep x
+    → NumberedStep (flagged m start n flag slot x)
 unfolding flagged
-flagged-numbered m start n c slot x h =
-    pick-step (leb n (bitByte c)) St.Absent _ tt
-    (pick-step (eqb (bitAt m (start + bitByte c) (bitIndex c)) 1) (inside n slot (St.Refused 8) x) (inside n slot St.Absent St.Absent)
+flagged-numbered m start n flag slot x h =
+    pick-step (leb n (flag .at)) St.Absent _ tt
+    (pick-step (eqb (bitAt m (start + flag .at) (flag .bit)) 1) (inside n slot (St.Refused 8) x) (inside n slot St.Absent St.Absent)
     (inside-numbered n slot (St.Refused 8) x (omega arith) h)
     (inside-numbered n slot St.Absent St.Absent tt tt))
 
 pub member-numbered : (o : ℕ) (S : Schema) (m : List ℕ) (start n : ℕ) (c : Cursor) (r : Member)
     → NumberedStep (memberStep o S m start n c r)
-unfolding memberStep
+unfolding memberStep placedStep
 member-numbered o S m start n c r =
-    let slot = memberSlot o S r c in
+    let p = placementOf o S r c in
+    let slot = p .value in
     let here = valueStep o S m (r .kind) (r .optional) (r .inplace) (start + n) (start + slot .at) (slot .bit) in
     let h : NumberedStep here = value-numbered o S m (r .kind) (r .optional) (r .inplace) (start + n) (start + slot .at) (slot .bit) in
-    pick-step (hasFlag r) (flagged m start n c slot here) (inside n slot St.Absent here)
-    (flagged-numbered m start n c slot here h) (inside-numbered n slot St.Absent here tt h)
+    tested-numbered S m _
+    (pick-step (hasFlag r) (flagged m start n (p .flag) slot here) (inside n slot St.Absent here)
+    (flagged-numbered m start n (p .flag) slot here h) (inside-numbered n slot St.Absent here tt h))
 
 pub element-numbered : (o : ℕ) (S : Schema) (m : List ℕ) (k : Kind) (start i : ℕ) → NumberedStep (elementStep o S m k start i)
 unfolding elementStep
-element-numbered o S m k start i = value-numbered o S m k true false 0 (elementPlace o S k start i) (i % 8)
+element-numbered o S m k start i = tested-numbered S m _ (value-numbered o S m k true false 0 (elementPlace o S k start i) (i % 8))
 
-content-numbered : (o : ℕ) (S : Schema) (m : List ℕ) (ob : Object) (start n : ℕ) → NumberedOpened (openContent o S m ob start n)
-unfolding openContent
+content-numbered : (o : ℕ) (S : Schema) (m : List ℕ) (ob : Object) (start n : ℕ) → NumberedOpened (fitContent o S m ob start n)
+unfolding fitContent
 content-numbered o S m ob start n =
-    pick-has NumberedOpened (leb (start + contentSize o S ob n) (length m)) {y = Op.Refused 6}
-    (pick-has NumberedOpened (endOk m ob start n) {x = Op.Content start n} {y = Op.Refused 10} tt (omega arith)) (omega arith)
+    pick-has NumberedOpened (leb (start + contentSize o S ob n) (length m)) {x = Op.Content start n} {y = Op.Refused 6} tt (omega arith)
+
+fit-numbered : (o : ℕ) (S : Schema) (m : List ℕ) (ob : Object) (p : Place) → NumberedOpened (fitObject o S m ob p)
+unfolding fitObject
+fit-numbered o S m ob (ByOffset x) =
+    pick-has NumberedOpened (leb (startSize o) x && leb (x + headerSize o) (length m)) {y = Op.Refused 6}
+    (pick-has NumberedOpened (eqb (le m x 4) (magic S ob)) {x = fitContent o S m ob (x + headerSize o) (le m (x + 4) o)} {y = Op.Refused 7}
+    (content-numbered o S m ob (x + headerSize o) (le m (x + 4) o)) (omega arith))
+    (omega arith)
+fit-numbered o S m ob (InPlace a n) = content-numbered o S m ob a n
+
+bytes-numbered : (m : List ℕ) (ob : Object) (x : Opened) → NumberedOpened x → NumberedOpened (bytesTested m ob x)
+unfolding bytesTested
+bytes-numbered m ob (Op.Refused n) h = h
+bytes-numbered m ob (Op.Content start n) h =
+    pick-has NumberedOpened (endOk m ob start n) {x = Op.Content start n} {y = Op.Refused 10} tt (omega arith)
 
 pub open-numbered : (o : ℕ) (S : Schema) (m : List ℕ) (ob : Object) (p : Place) → NumberedOpened (openObject o S m ob p)
 unfolding openObject
-open-numbered o S m ob (ByOffset x) =
-    pick-has NumberedOpened (leb (headerSize o) x && leb (x + headerSize o) (length m)) {y = Op.Refused 6}
-    (pick-has NumberedOpened (eqb (le m x 4) (magic S ob)) {x = openContent o S m ob (x + headerSize o) (le m (x + 4) o)} {y = Op.Refused 7}
-    (content-numbered o S m ob (x + headerSize o) (le m (x + 4) o)) (omega arith))
-    (omega arith)
-open-numbered o S m ob (InPlace a n) = content-numbered o S m ob a n
+open-numbered o S m ob p = bytes-numbered m ob _ (fit-numbered o S m ob p)

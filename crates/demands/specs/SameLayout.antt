@@ -8,7 +8,7 @@ use mathlib.Core.Path.{_≡_, refl, ap, ap₂, _∙_}
 use lib.ListN.{length, getD}
 use Rattle.coding.specs.Schema.{Schema, Table, structOf, elementOf, casesOf, tableOf}
 use Rattle.coding.specs.Structs.{flatWidth, total, sizeBy, structSize, flatOk, flatsOk, okBy, always, structOk}
-use Rattle.coding.specs.Layout.{flatIsBool, isBool, width, flatTakesFlag, takesFlag, hasFlag, afterFlag, slotOf, afterValue, memberSlot, afterMember}
+use Rattle.coding.specs.Layout.{bitSlot, flatIsBool, isBool, width, flatTakesFlag, takesFlag, hasFlag, afterFlag, slotOf, afterValue, memberSlot, afterMember}
 use Rattle.coding.specs.Step.{elementPlace, elementsSize}
 use Rattle.coding.specs.Walk.{magic, contentSize}
 use Rattle.coding.specs.Append.{Extends, rest, more, Alike, done, also, FlatAppends, boolean, integer, float, enumerated, struct, KindAppends, flat, object, union, MemberAppends, SameObject, TableAppends, SchemaAppends}
@@ -151,7 +151,7 @@ module _ (O N : Schema) (sound : Sound O) (G : SchemaAppends O N) where
     width-same union s = refl
 
     slot-same : {k k′ : Kind} → KindAppends k k′ → KindSound O k → (c : Cursor) → slotOf o O k c ≡ slotOf o N k′ c
-    unfolding slotOf
+    unfolding slotOf bitSlot
     slot-same r s c = rw (is-bool-same r, width-same r s)
 
     after-value-same : {k k′ : Kind} → KindAppends k k′ → KindSound O k → (c : Cursor) → afterValue o O k c ≡ afterValue o N k′ c

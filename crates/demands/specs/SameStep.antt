@@ -12,8 +12,8 @@ use Rattle.coding.specs.Lists.{pick}
 use Rattle.coding.specs.Bytes.{le, bitAt, isNaN}
 use Rattle.coding.specs.Schema.{Schema, casesOf, caseOf}
 use Rattle.coding.specs.Structs.{structOk}
-use Rattle.coding.specs.Layout.{hasFlag, bitByte, bitIndex, memberSlot}
-use Rattle.coding.specs.Step.{enumStep, floatStep, structStep, placeOf, objectStep, unionStep, flatStep, valueStep, inside, flagged, memberStep, elementStep}
+use Rattle.coding.specs.Layout.{hasFlag, bitSlot, memberSlot, placementOf}
+use Rattle.coding.specs.Step.{enumStep, floatStep, placeOf, objectStep, unionStep, flatStep, valueStep, structTested, inside, flagged, placedStep, memberStep, elementStep}
 use Rattle.coding.specs.Append.{Extends, FlatAppends, boolean, integer, float, enumerated, struct, KindAppends, flat, object, union, MemberAppends, SameObject, same, SchemaAppends}
 use Rattle.coding.specs.declared.Flat.{Flat}
 use Rattle.coding.specs.declared.Flat.the-variants.{Boolean, Integer, Float, Enumerated, Struct}
@@ -62,12 +62,12 @@ module _ {O : Schema} {k : Kind} where
   unfolding inside
   inside-step n slot x y = pick-step (leb n (slot .at)) x (pick-step (leb (slot .at + slot .size) n) y refused)
 
-  flagged-step : {a a′ : Step} (m : List ℕ) (start n : ℕ) (c : Cursor) (slot : Slot) → SameStep O k a a′
-      → SameStep O k (flagged m start n c slot a) (flagged m start n c slot a′)
+  flagged-step : {a a′ : Step} (m : List ℕ) (start n : ℕ) (flag slot : Slot) → SameStep O k a a′
+      → SameStep O k (flagged m start n flag slot a) (flagged m start n flag slot a′)
   unfolding flagged
-  flagged-step m start n c slot s =
-      pick-step (leb n (bitByte c)) no-value
-      (pick-step (eqb (bitAt m (start + bitByte c) (bitIndex c)) 1) (inside-step n slot refused s) (inside-step n slot no-value no-value))
+  flagged-step m start n flag slot s =
+      pick-step (leb n (flag .at)) no-value
+      (pick-step (eqb (bitAt m (start + flag .at) (flag .bit)) 1) (inside-step n slot refused s) (inside-step n slot no-value no-value))
 
 enum-step : (O : Schema) (n n′ x : ℕ) → n ≤ n′ → SameStep O (OfFlat (Enumerated n)) (enumStep n x) (enumStep n′ x)
 unfolding enumStep
@@ -119,19 +119,29 @@ module _ (O N : Schema) (sound : Sound O) (G : SchemaAppends O N) where
       by-none false z = by-cases (leb c (length (casesOf O i))) (leb c (length (casesOf N i))) refl refl z
 
   module _ (m : List ℕ) where
-    struct-step : (i : ℕ) → i < length (O .structs) → (at : ℕ)
-        → SameStep O (OfFlat (Struct i)) (structStep O m i at) (structStep N m i at)
-    unfolding structStep
-    struct-step i h at = rw (struct-ok-same O N sound G m i h at) (pick-step (structOk N m i at) (struct-value h) refused)
+    -- steps that are the same stay so where their structs are tested
+    tested-same : {k : Kind} {a b : Step} → SameStep O k a b → SameStep O k (structTested O m a) (structTested N m b)
+    unfolding structTested
+    tested-same refused = refused
+    tested-same no-value = no-value
+    tested-same (value p) = value p
+    tested-same (enum-value h) = enum-value h
+    tested-same (enum-appended h) = enum-appended h
+    tested-same enum-unknown = enum-unknown
+    tested-same (struct-value {i} {at} h) = rw (struct-ok-same O N sound G m i h at) (pick-step (structOk N m i at) (struct-value h) refused)
+    tested-same (object-value s) = object-value s
+    tested-same (choice u e s) = choice u e s
+    tested-same (choice-appended h) = choice-appended h
+    tested-same choice-unknown = choice-unknown
 
     flat-step : {k k′ : Flat} → FlatAppends k k′ → FlatSound (length (O .structs)) k → (none : Bool) (at bit : ℕ)
-        → SameStep O (OfFlat k) (flatStep O m k none at bit) (flatStep N m k′ none at bit)
+        → SameStep O (OfFlat k) (flatStep m k none at bit) (flatStep m k′ none at bit)
     unfolding flatStep floatStep
     flat-step boolean s none at bit = value plain-boolean
     flat-step integer s none at bit = value plain-integer
     flat-step (float {w}) s none at bit = pick-step (none && isNaN w (le m at w)) no-value (value plain-float)
     flat-step (enumerated {n} {n′} h) s none at bit = enum-step O n n′ (getD m at 0) h
-    flat-step (struct {i}) s none at bit = struct-step i s at
+    flat-step (struct {i}) s none at bit = struct-value s
 
     value-step : (o : ℕ) {k k′ : Kind} → KindAppends k k′ → KindSound O k → (none inplace : Bool) (tail at bit : ℕ)
         → SameStep O k (valueStep o O m k none inplace tail at bit) (valueStep o N m k′ none inplace tail at bit)
@@ -142,10 +152,11 @@ module _ (O N : Schema) (sound : Sound O) (G : SchemaAppends O N) where
 
     pub member-step-same : (o : ℕ) {r r′ : Member} → MemberAppends r r′ → MemberSound O r → (start n : ℕ) (c : Cursor)
         → SameStep O (r .kind) (memberStep o O m start n c r) (memberStep o N m start n c r′)
-    unfolding memberStep
+    unfolding memberStep placedStep placementOf
     member-step-same o {r} {r′} q s start n c =
-        rw (has-flag-same q, member-slot-same O N sound G o q s c, q .optional, q .inplace)
-        (pick-step (hasFlag r′) (flagged-step m start n c (memberSlot o N r′ c) here) (inside-step n (memberSlot o N r′ c) no-value here))
+        tested-same
+        (rw (has-flag-same q, member-slot-same O N sound G o q s c, q .optional, q .inplace)
+        (pick-step (hasFlag r′) (flagged-step m start n (bitSlot c) (memberSlot o N r′ c) here) (inside-step n (memberSlot o N r′ c) no-value here)))
       where
         here : SameStep O (r .kind)
             (valueStep o O m (r .kind) (r′ .optional) (r′ .inplace) (start + n) (start + memberSlot o N r′ c .at) (memberSlot o N r′ c .bit))
@@ -155,4 +166,4 @@ module _ (O N : Schema) (sound : Sound O) (G : SchemaAppends O N) where
     pub element-step-same : (o : ℕ) {k k′ : Kind} → KindAppends k k′ → KindSound O k → (start i : ℕ)
         → SameStep O k (elementStep o O m k start i) (elementStep o N m k′ start i)
     unfolding elementStep
-    element-step-same o r s start i = rw (element-place-same O N sound G o r s start i) (value-step o r s _ _ _ _ _)
+    element-step-same o r s start i = tested-same (rw (element-place-same O N sound G o r s start i) (value-step o r s _ _ _ _ _))

@@ -18,7 +18,7 @@ use Rattle.laws.specs.Sound.{All}
 use Rattle.laws.specs.Bits.{Byte}
 
 -- ---- what leads to no object, and a struct's members. "Present bool 1 bit; numbers at their width (floats as their bits);
--- enum 8 bits"; "A present enum is below its count"; "Unknown ..: the 8-bit .. number, which must truly be unknown": not
+-- enum 8 bits"; "A present enum is below its count"; "Unknown ...: the 8-bit ... number, which must truly be unknown": not
 -- below the count, and not 255, which is no value.
 mutual
   pub data FlatShown (S : Schema) : Flat → Value → Type 0 where
@@ -54,7 +54,7 @@ pub data MembersShown (child : Objects) (S : Schema) : List Member → Values �
   members : {r : Member} {rs : List Member} {v : Value} {vs : Values} → PartShown child S (r .kind) v
       → MembersShown child S rs vs → MembersShown child S (r ∷ rs) (v then vs)
 
--- "Elements .. have a mark too, except bool and integer elements", which are there
+-- "Elements ... have a mark too, except bool and integer elements", which are there
 pub data ElementsShown (child : Objects) (S : Schema) (k : Kind) : Values → Type 0 where
   no-element : ElementsShown child S k none
   elements : {v : Value} {vs : Values} → PartShown child S k v → (unmarked k ≡ true → present v ≡ true)

@@ -6,7 +6,7 @@ use native.Mathlib.Omega.{arith}
 use native.Mathlib.Nat.{div-div-eq-div-mul, pow-suc}
 use lib.ListN.{length, getD}
 use Rattle.coding.specs.Bytes.{le, bitAt}
-use Rattle.coding.specs.Walk.{headerSize}
+use Rattle.coding.specs.Walk.{startSize, headerSize}
 use Rattle.coding.specs.Cells.{width, chain, Slots, gather, packBits}
 use Rattle.coding.specs.Cells.Slots.{end, bytes, bit, reference, inPlace}
 use Rattle.laws.specs.Sound.{All}
@@ -69,7 +69,7 @@ SlotsHold o m e p l f (bytes bs s) = Holds m p bs × SlotsHold o m e (p + length
 SlotsHold o m e p l f (bit x s) =
     (bitAt m (byteOf f p l) (7 - nextFree f) ≡ x) × SlotsHold o m e (nextAt f p) (byteOf f p l) (nextFree f) s
 SlotsHold o m e p l f (reference k s) =
-    (headerSize o ≤ le m p o) × SlotsHold o m (le m p o + width o (packBits 0 k)) (le m p o) 0 0 k × SlotsHold o m e (p + o) l f s
+    (startSize o ≤ le m p o) × SlotsHold o m (le m p o + width o (packBits 0 k)) (le m p o) 0 0 k × SlotsHold o m e (p + o) l f s
 SlotsHold o m e p l f (inPlace k s) =
     SlotsHold o m (e + width o (packBits 0 k)) e 0 0 k × SlotsHold o m (e + width o (packBits 0 k) + chain o (packBits 0 k)) p l f s
 

@@ -10,8 +10,8 @@ use Rattle.coding.specs.Lists.{pick}
 use Rattle.coding.specs.Bytes.{le, bitAt, isNaN}
 use Rattle.coding.specs.Schema.{Schema, casesOf, caseOf}
 use Rattle.coding.specs.Structs.{structOk}
-use Rattle.coding.specs.Layout.{hasFlag, bitByte, bitIndex, memberSlot}
-use Rattle.coding.specs.Step.{enumStep, floatStep, structStep, placeOf, objectStep, unionStep, flatStep, fieldStep, valueStep, inside, flagged, memberStep, elementPlace, elementStep}
+use Rattle.coding.specs.Layout.{hasFlag, placementOf}
+use Rattle.coding.specs.Step.{enumStep, floatStep, placeOf, objectStep, unionStep, flatStep, fieldStep, valueStep, structTested, inside, flagged, placedStep, memberStep, elementPlace, elementStep}
 use Rattle.laws.specs.Sound.{FlatScalar}
 use Rattle.coding.specs.declared.Flat.{Flat}
 use Rattle.coding.specs.declared.Flat.the-variants as F
@@ -48,13 +48,13 @@ module _ (S : Schema) where
   unfolding floatStep
   float-kind none w x = either (none && isNaN w x) _ _ absent (value (F.Float w) x tt)
 
-  flat-kind : (m : List ℕ) (k : Flat) (none : Bool) (at bit : ℕ) → OfKind S (OfFlat k) (flatStep S m k none at bit)
-  unfolding flatStep structStep
+  flat-kind : (m : List ℕ) (k : Flat) (none : Bool) (at bit : ℕ) → OfKind S (OfFlat k) (flatStep m k none at bit)
+  unfolding flatStep
   flat-kind m F.Boolean none at bit = value F.Boolean (bitAt m at bit) tt
   flat-kind m (F.Integer s w) none at bit = value (F.Integer s w) (le m at w) tt
   flat-kind m (F.Float w) none at bit = float-kind none w (le m at w)
   flat-kind m (F.Enumerated n) none at bit = enum-kind n (getD m at 0)
-  flat-kind m (F.Struct i) none at bit = either (structOk S m i at) _ _ (struct i at) (refused 10)
+  flat-kind m (F.Struct i) none at bit = struct i at
 
   pub field-kind : (m : List ℕ) (k : Flat) (at : ℕ) → OfKind S (OfFlat k) (fieldStep m k at)
   unfolding fieldStep
@@ -81,24 +81,36 @@ module _ (S : Schema) where
   unfolding inside
   inside-kind k n slot past here p h = either (leb n (slot .at)) _ _ p (either (leb (slot .at + slot .size) n) _ _ h (refused 8))
 
-  flagged-kind : (k : Kind) (m : List ℕ) (start n : ℕ) (c : Cursor) (slot : Slot) (here : Step) → OfKind S k here
-      → OfKind S k (flagged m start n c slot here)
+  flagged-kind : (k : Kind) (m : List ℕ) (start n : ℕ) (flag slot : Slot) (here : Step) → OfKind S k here
+      → OfKind S k (flagged m start n flag slot here)
   unfolding flagged
-  flagged-kind k m start n c slot here h =
-      either (leb n (bitByte c)) _ _ absent
-      (either (eqb (bitAt m (start + bitByte c) (bitIndex c)) 1) _ _
+  flagged-kind k m start n flag slot here h =
+      either (leb n (flag .at)) _ _ absent
+      (either (eqb (bitAt m (start + flag .at) (flag .bit)) 1) _ _
       (inside-kind k n slot (St.Refused 8) here (refused 8) h)
       (inside-kind k n slot St.Absent St.Absent absent absent))
 
+  -- a struct that was found is tested
+  tested-kind : (m : List ℕ) {k : Kind} {s : Step} → OfKind S k s → OfKind S k (structTested S m s)
+  unfolding structTested
+  tested-kind m (refused n) = refused n
+  tested-kind m absent = absent
+  tested-kind m (unknown x) = unknown x
+  tested-kind m (value k x f) = value k x f
+  tested-kind m (struct i at) = either (structOk S m i at) _ _ (struct i at) (refused 10)
+  tested-kind m (object ob p) = object ob p
+  tested-kind m (choice i c ob p e) = choice i c ob p e
+
   pub member-kind : (o : ℕ) (m : List ℕ) (start n : ℕ) (c : Cursor) (r : Member)
       → OfKind S (r .kind) (memberStep o S m start n c r)
-  unfolding memberStep
+  unfolding memberStep placedStep
   member-kind o m start n c r =
-      let slot = memberSlot o S r c in
+      let p = placementOf o S r c in
+      let slot = p .value in
       let h =
       value-kind o m (r .kind) (r .optional) (r .inplace) (start + n) (start + slot .at) (slot .bit) in
-      either (hasFlag r) _ _ (flagged-kind (r .kind) m start n c slot _ h) (inside-kind (r .kind) n slot _ _ absent h)
+      tested-kind m (either (hasFlag r) _ _ (flagged-kind (r .kind) m start n (p .flag) slot _ h) (inside-kind (r .kind) n slot _ _ absent h))
 
   pub element-kind : (o : ℕ) (m : List ℕ) (k : Kind) (start i : ℕ) → OfKind S k (elementStep o S m k start i)
   unfolding elementStep
-  element-kind o m k start i = value-kind o m k true false 0 (elementPlace o S k start i) (i % 8)
+  element-kind o m k start i = tested-kind m (value-kind o m k true false 0 (elementPlace o S k start i) (i % 8))

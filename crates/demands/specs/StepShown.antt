@@ -12,8 +12,8 @@ use Rattle.coding.specs.Lists.{pick}
 use Rattle.coding.specs.Bytes.{le, bitAt, isNaN}
 use Rattle.coding.specs.Schema.{Schema, structOf, casesOf, caseOf}
 use Rattle.coding.specs.Structs.{flatWidth, structSize, flatOk, flatsOk, okBy, always, structOk}
-use Rattle.coding.specs.Layout.{hasFlag, bitByte, bitIndex, memberSlot}
-use Rattle.coding.specs.Step.{enumStep, floatStep, structStep, placeOf, objectStep, unionStep, flatStep, fieldStep, valueStep, inside, flagged, memberStep, elementPlace, elementStep}
+use Rattle.coding.specs.Layout.{hasFlag, placementOf}
+use Rattle.coding.specs.Step.{enumStep, floatStep, placeOf, objectStep, unionStep, flatStep, fieldStep, valueStep, structTested, inside, flagged, placedStep, memberStep, elementPlace, elementStep}
 use Rattle.coding.specs.Value.{Value, unknown, number, present}
 use Rattle.coding.specs.Read as R
 use Rattle.coding.specs.Read.{stepRead, noObject, fieldsRead, readBy, noStruct, structRead}
@@ -45,8 +45,12 @@ pub data StepShown (S : Schema) (m : List ℕ) : Kind → Step → Type 0 where
   step-choice : {i c : ℕ} {p : Place} → 1 ≤ c → c ≤ length (casesOf S i) → StepShown S m (OfUnion i) (St.Choice c (caseOf (casesOf S i) c) p)
   step-unknown-choice : {i c : ℕ} → length (casesOf S i) < c → c < 2 ^ 16 → StepShown S m (OfUnion i) (St.Unknown c)
 
-pick-shown : {S : Schema} {m : List ℕ} {k : Kind} {a b : Step} (t : Bool) → StepShown S m k a → StepShown S m k b → StepShown S m k (pick t a b)
-pick-shown {S} {m} {k} {a} {b} t p q = pick-holds (StepShown S m k) t a b (λ e. p) (λ e. q)
+-- what a step that was found may be: its struct was not tested yet
+abbrev FoundShown : Schema → List ℕ → Kind → Step → Type 0
+FoundShown S m k s = StepShown S m k (structTested S m s)
+
+pick-shown : (S : Schema) (m : List ℕ) (k : Kind) (t : Bool) (a b : Step) → FoundShown S m k a → FoundShown S m k b → FoundShown S m k (pick t a b)
+pick-shown S m k t a b p q = pick-holds (FoundShown S m k) t a b (λ e. p) (λ e. q)
 
 -- an enum byte: no value, known, or unknown
 enum-holds : (P : Step → Type 0) (n x : ℕ) → x < 256 → P St.Absent → (x < n → P (St.Value x)) → (n ≤ x → x < 255 → P (St.Unknown x)) → P (enumStep n x)
@@ -105,28 +109,28 @@ module _ (S : Schema) (m : List ℕ) (small : (i : ℕ) → getD m i 0 < 256) wh
     unfolding StructRead structOk structRead
     struct-shown i = index-holds₂ StructRead always (okBy S m) noStruct (readBy S m) struct-next i
 
-    struct-step : (i at : ℕ) → StepShown S m (OfFlat (Struct i)) (structStep S m i at)
-    unfolding structStep
+    struct-step : (i at : ℕ) → FoundShown S m (OfFlat (Struct i)) (St.Struct i at)
+    unfolding structTested
     struct-step i at =
         pick-holds (StepShown S m (OfFlat (Struct i))) (structOk S m i at) (St.Struct i at) (St.Refused 10)
         (λ e. step-struct (struct-shown i at e)) (λ e. step-refused (omega arith))
 
     -- ---- a value at a place
-    flat-step : (k : Flat) (no-nan : Bool) (at bit : ℕ) → StepShown S m (OfFlat k) (flatStep S m k no-nan at bit)
-    unfolding flatStep floatStep
+    flat-step : (k : Flat) (no-nan : Bool) (at bit : ℕ) → FoundShown S m (OfFlat k) (flatStep m k no-nan at bit)
+    unfolding flatStep floatStep structTested
     flat-step Boolean no-nan at bit = step-value (boolean {x = bitAt m at bit} (bit-lt at bit))
     flat-step (Integer g w) no-nan at bit = step-value (integer (le-lt w at))
     flat-step (Float w) no-nan at bit =
-        pick-shown (no-nan && isNaN w (le m at w)) step-absent (step-value (float (le-lt w at)))
+        pick-shown S m (OfFlat (Float w)) (no-nan && isNaN w (le m at w)) St.Absent (St.Value (le m at w)) step-absent (step-value (float (le-lt w at)))
     flat-step (Enumerated n) no-nan at bit =
-        enum-holds (StepShown S m (OfFlat (Enumerated n))) n (getD m at 0) (small at) step-absent (λ l. step-value (enum l))
+        enum-holds (FoundShown S m (OfFlat (Enumerated n))) n (getD m at 0) (small at) step-absent (λ l. step-value (enum l))
         (λ l u. step-unknown (unknown-enum l u))
     flat-step (Struct i) no-nan at bit = struct-step i at
 
-    union-step : (i : ℕ) (inplace : Bool) (tail c x : ℕ) → c < 2 ^ 16 → StepShown S m (OfUnion i) (unionStep (casesOf S i) inplace tail c x)
-    unfolding unionStep
+    union-step : (i : ℕ) (inplace : Bool) (tail c x : ℕ) → c < 2 ^ 16 → FoundShown S m (OfUnion i) (unionStep (casesOf S i) inplace tail c x)
+    unfolding unionStep structTested
     union-step i inplace tail c x h =
-        let P = StepShown S m (OfUnion i) in
+        let P = FoundShown S m (OfUnion i) in
         let chosen-step = St.Choice c (caseOf (casesOf S i) c) (placeOf inplace tail x) in
         pick-holds P (eqb c 0) St.Absent (pick (leb c (length (casesOf S i))) chosen-step (St.Unknown c)) (λ e. step-absent)
         (λ e.
@@ -135,26 +139,37 @@ module _ (S : Schema) (m : List ℕ) (small : (i : ℕ) → getD m i 0 < 256) wh
         (λ t. step-choice {c = c} (omega arith) (leb-true c (length (casesOf S i)) t))
         (λ t. step-unknown-choice (leb-false c (length (casesOf S i)) t) h))
 
-    value-step : (o : ℕ) (k : Kind) (no-nan inplace : Bool) (tail at bit : ℕ) → StepShown S m k (valueStep o S m k no-nan inplace tail at bit)
-    unfolding valueStep objectStep
+    value-step : (o : ℕ) (k : Kind) (no-nan inplace : Bool) (tail at bit : ℕ) → FoundShown S m k (valueStep o S m k no-nan inplace tail at bit)
+    unfolding valueStep objectStep structTested
     value-step o (OfFlat k) no-nan inplace tail at bit = flat-step k no-nan at bit
-    value-step o (OfObject ob) no-nan inplace tail at bit = pick-shown (eqb (le m at o) 0) step-absent step-object
+    value-step o (OfObject ob) no-nan inplace tail at bit =
+        pick-shown S m (OfObject ob) (eqb (le m at o) 0) St.Absent (St.Object ob (placeOf inplace tail (le m at o))) step-absent step-object
     value-step o (OfUnion i) no-nan inplace tail at bit = union-step i inplace tail (le m at 2) (le m (at + 2) o) (le-lt 2 at)
 
     -- ---- members and elements
-    inside-shown : {k : Kind} {a b : Step} (n : ℕ) (slot : Slot) → StepShown S m k a → StepShown S m k b → StepShown S m k (inside n slot a b)
-    unfolding inside
-    inside-shown n slot p q = pick-shown (leb n (slot .at)) p (pick-shown (leb (slot .at + slot .size) n) q (step-refused (omega arith)))
+    inside-shown : (k : Kind) (n : ℕ) (slot : Slot) (a b : Step) → FoundShown S m k a → FoundShown S m k b → FoundShown S m k (inside n slot a b)
+    unfolding inside structTested
+    inside-shown k n slot a b p q =
+        pick-shown S m k (leb n (slot .at)) a (pick (leb (slot .at + slot .size) n) b (St.Refused 8)) p
+        (pick-shown S m k (leb (slot .at + slot .size) n) b (St.Refused 8) q (step-refused (omega arith)))
+
+    flagged-shown : (k : Kind) (start n : ℕ) (flag slot : Slot) (here : Step) → FoundShown S m k here → FoundShown S m k (flagged m start n flag slot here)
+    unfolding flagged structTested
+    flagged-shown k start n flag slot here h =
+        pick-shown S m k (leb n (flag .at)) St.Absent _ step-absent
+        (pick-shown S m k (eqb (bitAt m (start + flag .at) (flag .bit)) 1) (inside n slot (St.Refused 8) here) (inside n slot St.Absent St.Absent)
+        (inside-shown k n slot (St.Refused 8) here (step-refused (omega arith)) h)
+        (inside-shown k n slot St.Absent St.Absent step-absent step-absent))
 
     pub member-step : (o start n : ℕ) (c : Cursor) (r : Member) → StepShown S m (r .kind) (memberStep o S m start n c r)
-    unfolding memberStep flagged
+    unfolding memberStep placedStep structTested
     member-step o start n c r =
-        let slot = memberSlot o S r c in
-        let here = value-step o (r .kind) (r .optional) (r .inplace) (start + n) (start + slot .at) (slot .bit) in
-        pick-shown (hasFlag r)
-        (pick-shown (leb n (bitByte c)) step-absent
-        (pick-shown (eqb (bitAt m (start + bitByte c) (bitIndex c)) 1) (inside-shown n slot (step-refused (omega arith)) here) (inside-shown n slot step-absent step-absent)))
-        (inside-shown n slot step-absent here)
+        let p = placementOf o S r c in
+        let slot = p .value in
+        let here = valueStep o S m (r .kind) (r .optional) (r .inplace) (start + n) (start + slot .at) (slot .bit) in
+        let h = value-step o (r .kind) (r .optional) (r .inplace) (start + n) (start + slot .at) (slot .bit) in
+        pick-shown S m (r .kind) (hasFlag r) (flagged m start n (p .flag) slot here) (inside n slot St.Absent here)
+        (flagged-shown (r .kind) start n (p .flag) slot here h) (inside-shown (r .kind) n slot St.Absent here step-absent h)
 
     pub element-step : (o : ℕ) (k : Kind) (start i : ℕ) → StepShown S m k (elementStep o S m k start i)
     unfolding elementStep
@@ -163,7 +178,7 @@ module _ (S : Schema) (m : List ℕ) (small : (i : ℕ) → getD m i 0 < 256) wh
     -- an element that has no mark is there
     pub element-present : (o : ℕ) (child : R.Child) (k : Kind) (start i : ℕ) → unmarked k ≡ true
         → present (stepRead (structRead S m) child (elementStep o S m k start i)) ≡ true
-    unfolding elementStep valueStep flatStep stepRead present unmarked flatUnmarked
+    unfolding elementStep valueStep flatStep structTested stepRead present unmarked flatUnmarked
     element-present o child (OfFlat Boolean) start i e = refl
     element-present o child (OfFlat (Integer g w)) start i e = refl
     element-present o child (OfFlat (Float w)) start i e = absurd (false≢true e)

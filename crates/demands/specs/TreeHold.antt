@@ -10,7 +10,7 @@ use Rattle.coding.specs.Bytes.{le}
 use Rattle.coding.specs.Schema.{Schema, elementOf, casesOf, caseOf, tableOf}
 use Rattle.coding.specs.Layout.{begin, afterMember, fixedSize}
 use Rattle.coding.specs.Step.{memberStep, elementStep, elementsSize}
-use Rattle.coding.specs.Walk.{headerSize, magic}
+use Rattle.coding.specs.Walk.{startSize, headerSize, magic}
 use Rattle.coding.specs.Value.{Value, Values, absent, number, blob, row, chosen, none, _then_, present, count}
 use Rattle.coding.specs.Read.{structRead}
 use Rattle.coding.specs.declared.Flat.{Flat}
@@ -72,7 +72,7 @@ pub data ContentHolds (below : Below) (o : ℕ) (S : Schema) (m : List ℕ) : Ob
       → MembersHold below o S m start n begin (tableOf S i .members) vs → ContentHolds below o S m (O.Table i) (row vs) start n
 
 pub data PlaceHolds (below : Below) (o : ℕ) (S : Schema) (m : List ℕ) : Object → Value → Place → Type 0 where
-  by-offset : {ob : Object} {v : Value} {x : ℕ} → headerSize o ≤ x → x + headerSize o ≤ length m → le m x 4 ≡ magic S ob
+  by-offset : {ob : Object} {v : Value} {x : ℕ} → startSize o ≤ x → x + headerSize o ≤ length m → le m x 4 ≡ magic S ob
       → ContentHolds below o S m ob v (x + headerSize o) (le m (x + 4) o) → PlaceHolds below o S m ob v (ByOffset x)
   in-place : {ob : Object} {v : Value} {a n : ℕ} → ContentHolds below o S m ob v a n → PlaceHolds below o S m ob v (InPlace a n)
 

@@ -6,7 +6,7 @@ use native.Mathlib.Omega.{arith}
 use lib.ListN.{length}
 use Rattle.coding.specs.Bytes.{deepest}
 use Rattle.coding.specs.Schema.{Schema}
-use Rattle.coding.specs.Walk.{walk, rootPlace}
+use Rattle.coding.specs.Walk.{spending, nothing, walk, rootPlace}
 use Rattle.coding.specs.Value.{Value}
 use Rattle.coding.specs.Read.{messageRead}
 use Rattle.coding.specs.Message.{messageOf}
@@ -35,18 +35,18 @@ module _ (o : ℕ) (S : Schema) (sound : Sound S) (v : Value) (w : Writes deepes
 
   -- with a budget of the tree's arrivals or more
   pub written-accepted : (b : Budget) → rootArrivals S v ≤ b .visits
-      → walk o S (messageOf o S v) b ≡ Going (record { visits = rootArrivals S v })
-  unfolding walk
+      → walk o S (messageOf o S v) b ≡ Going (spending (rootArrivals S v))
+  unfolding walk nothing
   written-accepted b h =
       let m = messageOf o S v in
       let p = tree-passes o S m b deepest (O.Table (S .root)) v (rootPlace o m) (message-holds o S sound v w wide small .1) in
       let e : 0 + rootArrivals S v ≡ rootArrivals S v = omega arith in
-      p .enough (record { visits = 0 }) (omega arith) ∙ ap (λ (n : ℕ). Going (record { visits = n })) e
+      p .enough nothing (omega arith) ∙ ap (λ (n : ℕ). Going (spending n)) e
 
   -- with less: 4, at an object that is not visited, with the whole budget counted
   pub written-spent : (b : Budget) → b .visits < rootArrivals S v → OutOfBudget (b .visits) (walk o S (messageOf o S v) b)
-  unfolding walk
+  unfolding walk nothing
   written-spent b h =
       let m = messageOf o S v in
       let p = tree-passes o S m b deepest (O.Table (S .root)) v (rootPlace o m) (message-holds o S sound v w wide small .1) in
-      p .spent (record { visits = 0 }) (omega arith) (omega arith)
+      p .spent nothing (omega arith) (omega arith)

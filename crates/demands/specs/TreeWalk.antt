@@ -13,7 +13,7 @@ use Rattle.coding.specs.Bytes.{le}
 use Rattle.coding.specs.Schema.{Schema}
 use Rattle.coding.specs.Layout.{afterMember}
 use Rattle.coding.specs.Step.{memberStep, elementStep}
-use Rattle.coding.specs.Walk.{Child, placed, magic, headerSize, contentSize, endOk, openContent, openObject, refuse, andThen, followChoice, follow, members, elements, content, enter, arrive, counted, visit}
+use Rattle.coding.specs.Walk.{Child, placed, magic, headerSize, startSize, contentSize, endOk, fitContent, fitObject, bytesTested, openObject, refuse, andThen, followChoice, follow, members, elements, content, enter, arrive, spending, oneMore, counted, visit}
 use Rattle.coding.specs.Value.{Value, Values, absent, asNumber, asRow, asObject, present, first, others, count}
 use Rattle.coding.specs.declared.Object.{Object}
 use Rattle.coding.specs.declared.Kind.{Kind}
@@ -35,18 +35,18 @@ use Rattle.demands.specs.TreeHold as T
 
 -- the budget b is spent: refusal 4, with all of it counted
 abbrev pub OutOfBudget : ℕ → Walked → Type 0
-OutOfBudget b w = (at : ℕ) × (w ≡ refuse 4 at (record { visits = b }))
+OutOfBudget b w = (at : ℕ) × (w ≡ refuse 4 at (spending b))
 
 -- a part of the walk that counts n visits
 pub record Passes (b n : ℕ) (w : Spent → Walked) : Type 0 where
-  pub enough : (s : Spent) → s .visits + n ≤ b → w s ≡ Going (record { visits = s .visits + n })
+  pub enough : (s : Spent) → s .visits + n ≤ b → w s ≡ Going (spending (s .visits + n))
   pub spent : (s : Spent) → s .visits ≤ b → b < s .visits + n → OutOfBudget b (w s)
 
 module _ (b : ℕ) where
   pass-none : Passes b 0 (λ s. Going s)
   pass-none =
       record {
-        enough = λ s h. let e : s .visits ≡ s .visits + 0 = omega arith in ap (λ (n : ℕ). Going (record { visits = n })) e;
+        enough = λ s h. let e : s .visits ≡ s .visits + 0 = omega arith in ap (λ (n : ℕ). Going (spending n)) e;
         spent = λ s h k. absurd (omega arith);
       }
 
@@ -57,7 +57,7 @@ module _ (b : ℕ) where
         enough =
             λ s h.
             let e : s .visits + n + k ≡ s .visits + (n + k) = omega arith in
-            rw (p .enough s (omega arith)) (q .enough (record { visits = s .visits + n }) (omega arith) ∙ ap (λ (x : ℕ). Going (record { visits = x })) e);
+            rw (p .enough s (omega arith)) (q .enough (spending (s .visits + n)) (omega arith) ∙ ap (λ (x : ℕ). Going (spending x)) e);
         spent = λ s h l. by s (ltb b (s .visits + n)) refl h l;
       }
     where
@@ -67,7 +67,7 @@ module _ (b : ℕ) where
           (out .0, rw (out .1))
       by s false e h l =
           let le = ltb-false b (s .visits + n) e in
-          rw (p .enough s le) (q .spent (record { visits = s .visits + n }) le (omega arith))
+          rw (p .enough s le) (q .spent (spending (s .visits + n)) le (omega arith))
 
   pass-same : (n : ℕ) (w u : Spent → Walked) → ((s : Spent) → u s ≡ w s) → Passes b n w → Passes b n u
   pass-same n w u e p =
@@ -82,63 +82,63 @@ module _ (b : ℕ) where
 -- an arrival counts one
 pass-counted : (b : Budget) (n : ℕ) (child : Child) (ob : Object) (p : Place) → Passes (b .visits) n (child ob p)
     → Passes (b .visits) (1 + n) (counted child b ob p)
-unfolding counted
+unfolding counted oneMore
 pass-counted b n child ob p h =
     record {
       enough =
           λ s l.
           let e : s .visits + 1 + n ≡ s .visits + (1 + n) = omega arith in
-          rw (lt-ltb (s .visits) (b .visits) (omega arith)) (h .enough (record { visits = s .visits + 1 }) (omega arith) ∙ ap (λ (x : ℕ). Going (record { visits = x })) e);
+          rw (lt-ltb (s .visits) (b .visits) (omega arith)) (h .enough (oneMore s) (omega arith) ∙ ap (λ (x : ℕ). Going (spending x)) e);
       spent = λ s l k. by s (ltb (s .visits) (b .visits)) refl l k;
     }
   where
     by : (s : Spent) (t : Bool) → ltb (s .visits) (b .visits) ≡ t → s .visits ≤ b .visits → b .visits < s .visits + (1 + n)
-        → OutOfBudget (b .visits) (pick t (child ob p (record { visits = s .visits + 1 })) (refuse 4 (placed p) s))
-    by s true e l k = let lt = ltb-true (s .visits) (b .visits) e in h .spent (record { visits = s .visits + 1 }) (omega arith) (omega arith)
+        → OutOfBudget (b .visits) (pick t (child ob p (oneMore s)) (refuse 4 (placed p) s))
+    by s true e l k = let lt = ltb-true (s .visits) (b .visits) e in h .spent (oneMore s) (omega arith) (omega arith)
     by s false e l k =
         let ge = ltb-false (s .visits) (b .visits) e in
         let q : s .visits ≡ b .visits = omega arith in
-        (placed p, ap (λ (x : ℕ). refuse 4 (placed p) (record { visits = x })) q)
+        (placed p, ap (λ (x : ℕ). refuse 4 (placed p) (spending x)) q)
 
 module _ (below : Below) (o : ℕ) (S : Schema) (m : List ℕ) (b : ℕ) (child : Child) (count' : Counting)
     (inner : (ob : Object) (v : Value) (p : Place) → below ob v p → Passes b (count' ob v) (child ob p)) where
-  follow-choice : (holder : ℕ) (ob : Object) (v : Value) (p : Place) → Somewhere p → below ob v p
-      → Passes b (count' ob v) (followChoice child holder ob p)
+  follow-choice : (holder j : ℕ) (ob : Object) (v : Value) (p : Place) → Somewhere p → below ob v p
+      → Passes b (count' ob v) (followChoice child holder j ob p)
   unfolding followChoice
-  follow-choice holder ob v (ByOffset x) w h =
+  follow-choice holder j ob v (ByOffset x) w h =
       let no : x ≡ 0 → ⊥ = λ e. omega arith in
-      pass-same b (count' ob v) (child ob (ByOffset x)) (followChoice child holder ob (ByOffset x)) (λ s. rw (ne-eqb x 0 no)) (inner ob v (ByOffset x) h)
-  follow-choice holder ob v (InPlace a n) w h = inner ob v (InPlace a n) h
+      pass-same b (count' ob v) (child ob (ByOffset x)) (followChoice child holder j ob (ByOffset x)) (λ s. rw (ne-eqb x 0 no)) (inner ob v (ByOffset x) h)
+  follow-choice holder j ob v (InPlace a n) w h = inner ob v (InPlace a n) h
 
-  step-passes : {k : Kind} {v : Value} {st : Step} (holder : ℕ) → Shows below S m k v st
-      → Passes b (partArrivals count' S k v) (follow child holder st)
+  step-passes : {k : Kind} {v : Value} {st : Step} (holder j : ℕ) → Shows below S m k v st
+      → Passes b (partArrivals count' S k v) (follow child holder j st)
   unfolding follow partArrivals present asNumber asObject
-  step-passes holder (nothing {k = k}) = pass-number b 0 (partArrivals count' S k absent) (λ s. Going s) (no-part k) (pass-none b)
+  step-passes holder j (nothing {k = k}) = pass-number b 0 (partArrivals count' S k absent) (λ s. Going s) (no-part k) (pass-none b)
     where
       no-part : (k : Kind) → 0 ≡ partArrivals count' S k absent
       no-part (OfFlat k) = refl
       no-part (OfObject ob) = refl
       no-part (OfUnion i) = refl
-  step-passes holder scalar = pass-none b
-  step-passes holder (struct h e) = pass-none b
-  step-passes holder (object {ob = ob} {v = v} {p = p} e h) = rw e (inner ob v p h)
-  step-passes holder (choice {i = i} {c = c} {ob = ob} {v = v} {p = p} e l g w h) = rw (← e) (follow-choice holder ob v p w h)
+  step-passes holder j scalar = pass-none b
+  step-passes holder j (struct h e) = pass-none b
+  step-passes holder j (object {ob = ob} {v = v} {p = p} e h) = rw e (inner ob v p h)
+  step-passes holder j (choice {i = i} {c = c} {ob = ob} {v = v} {p = p} e l g w h) = rw (← e) (follow-choice holder j ob v p w h)
 
-  members-pass : {start n : ℕ} {c : Cursor} {rs : List Member} {vs : Values} (holder : ℕ) → MembersHold below o S m start n c rs vs
-      → Passes b (membersArrivals count' S rs vs) (members child o S m holder start n c rs)
+  members-pass : {start n : ℕ} {c : Cursor} {rs : List Member} {vs : Values} (holder j : ℕ) → MembersHold below o S m start n c rs vs
+      → Passes b (membersArrivals count' S rs vs) (members child o S m holder start n c j rs)
   unfolding members membersArrivals first others
-  members-pass holder (no-member f u) = pass-none b
-  members-pass {start} {n} holder (T.members {c = c} {r = r} {rs = rs} {v = v} {vs = vs} h hs) =
-      pass-then b (partArrivals count' S (r .kind) v) (membersArrivals count' S rs vs) (follow child holder (memberStep o S m start n c r))
-      (members child o S m holder start n (afterMember o S r c) rs) (step-passes holder h) (members-pass holder hs)
+  members-pass holder j (no-member f u) = pass-none b
+  members-pass {start} {n} holder j (T.members {c = c} {r = r} {rs = rs} {v = v} {vs = vs} h hs) =
+      pass-then b (partArrivals count' S (r .kind) v) (membersArrivals count' S rs vs) (follow child holder j (memberStep o S m start n c r))
+      (members child o S m holder start n (afterMember o S r c) (j + 1) rs) (step-passes holder j h) (members-pass holder (j + 1) hs)
 
   elements-pass : {start i : ℕ} {k : Kind} {vs : Values} (holder : ℕ) → ElementsHold below o S m start k i vs
       → Passes b (elementsArrivals count' S k vs) (elements child o S m holder start k (count vs) i)
   unfolding elements elementsArrivals count
   elements-pass holder no-element = pass-none b
   elements-pass {start} {k = k} holder (T.elements {i = i} {v = v} {vs = vs} h hs) =
-      pass-then b (partArrivals count' S k v) (elementsArrivals count' S k vs) (follow child holder (elementStep o S m k start i))
-      (elements child o S m holder start k (count vs) (i + 1)) (step-passes holder h) (elements-pass holder hs)
+      pass-then b (partArrivals count' S k v) (elementsArrivals count' S k vs) (follow child holder i (elementStep o S m k start i))
+      (elements child o S m holder start k (count vs) (i + 1)) (step-passes holder i h) (elements-pass holder hs)
 
   content-passes : {ob : Object} {v : Value} {start n : ℕ} (holder : ℕ) → ContentHolds below o S m ob v start n
       → Passes b (contentArrivals count' S ob v) (content child o S m ob holder start n)
@@ -146,22 +146,22 @@ module _ (below : Below) (o : ℕ) (S : Schema) (m : List ℕ) (b : ℕ) (child 
   content-passes holder (text h f e) = pass-none b
   content-passes holder (bytes h f) = pass-none b
   content-passes holder (list e f h) = rw (← e) (elements-pass holder h)
-  content-passes holder (table e f h) = members-pass holder h
+  content-passes holder (table e f h) = members-pass holder 0 h
 
   content-opens : {ob : Object} {v : Value} {start n : ℕ} → ContentHolds below o S m ob v start n
-      → openContent o S m ob start n ≡ Op.Content start n
-  unfolding openContent contentSize endOk
+      → bytesTested m ob (fitContent o S m ob start n) ≡ Op.Content start n
+  unfolding bytesTested fitContent contentSize endOk
   content-opens (text {start = start} {n = n} h f e) = rw (le-leb (start + (n + 1)) (length m) f, eq-eqb (getD m (start + n) 0) 0 e)
   content-opens (bytes {start = start} {n = n} h f) = rw (le-leb (start + n) (length m) f)
   content-opens (list {i = i} {start = start} {n = n} e f h) = rw (le-leb _ (length m) f)
   content-opens (table {start = start} {n = n} e f h) = rw (le-leb (start + n) (length m) f)
 
-  offset-opens : {ob : Object} {v : Value} (x : ℕ) → headerSize o ≤ x → x + headerSize o ≤ length m → le m x 4 ≡ magic S ob
+  offset-opens : {ob : Object} {v : Value} (x : ℕ) → startSize o ≤ x → x + headerSize o ≤ length m → le m x 4 ≡ magic S ob
       → ContentHolds below o S m ob v (x + headerSize o) (le m (x + 4) o)
       → openObject o S m ob (ByOffset x) ≡ Op.Content (x + headerSize o) (le m (x + 4) o)
-  unfolding openObject
+  unfolding openObject fitObject
   offset-opens {ob} x l f e h =
-      rw (le-leb (headerSize o) x l, le-leb (x + headerSize o) (length m) f, eq-eqb (le m x 4) (magic S ob) e) (content-opens h)
+      rw (le-leb (startSize o) x l, le-leb (x + headerSize o) (length m) f, eq-eqb (le m x 4) (magic S ob) e) (content-opens h)
 
   enter-passes : (ob : Object) (v : Value) (p : Place) (start n : ℕ) → openObject o S m ob p ≡ Op.Content start n
       → ContentHolds below o S m ob v start n → Passes b (contentArrivals count' S ob v) (arrive child o S m ob p)
@@ -172,7 +172,7 @@ module _ (below : Below) (o : ℕ) (S : Schema) (m : List ℕ) (b : ℕ) (child 
 
   place-passes : {ob : Object} {v : Value} {p : Place} → PlaceHolds below o S m ob v p
       → Passes b (contentArrivals count' S ob v) (arrive child o S m ob p)
-  unfolding openObject
+  unfolding openObject fitObject
   place-passes (by-offset {ob = ob} {v = v} {x = x} l f e h) =
       enter-passes ob v (ByOffset x) (x + headerSize o) (le m (x + 4) o) (offset-opens x l f e h) h
   place-passes (in-place {ob = ob} {v = v} {a = a} {n = n} h) = enter-passes ob v (InPlace a n) a n (content-opens h) h

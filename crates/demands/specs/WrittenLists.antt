@@ -10,8 +10,8 @@ use lib.Dec.{ltb}
 use borrow.Author.Tests.{ltb-true, ltb-false}
 use Rattle.coding.specs.Schema.{Schema}
 use Rattle.coding.specs.Layout as L
-use Rattle.coding.specs.Layout.{begin, bitByte, bitIndex, afterBit, afterBytes, isBool, flatIsBool, slotOf, afterValue}
-use Rattle.coding.specs.Step.{flatStep, valueStep, elementPlace, elementStep, elementsSize}
+use Rattle.coding.specs.Layout.{bitSlot, begin, bitByte, bitIndex, afterBit, afterBytes, isBool, flatIsBool, slotOf, afterValue}
+use Rattle.coding.specs.Step.{flatStep, valueStep, structTested, elementPlace, elementStep, elementsSize}
 use Rattle.coding.specs.Value.{Value, Values, none, _then_, count}
 use Rattle.coding.specs.Cells.{Slots}
 use Rattle.coding.specs.Message.{Planner, valueSlots, elementsSlots}
@@ -104,7 +104,7 @@ module _ (o : ℕ) (S : Schema) where
   element-slot-by : (k : Kind) (i start : ℕ) (c : Cursor) (t : Bool) → isBool k ≡ t → ElementCursor o S k i c
       → (elementPlace o S k start i ≡ start + slotOf o S k c .at) × ElementCursor o S k (i + 1) (afterValue o S k c)
       × (isBool k ≡ true → slotOf o S k c .bit ≡ i % 8)
-  unfolding elementPlace slotOf afterValue afterBytes
+  unfolding elementPlace slotOf bitSlot afterValue afterBytes
   element-slot-by k i start c true e h =
       let b = bool-slot-by i c (ltb (c .bit) 8) refl (h .bools e) in
       rw e (
@@ -128,7 +128,7 @@ module _ (o : ℕ) (S : Schema) where
 
 -- only a bool has a bit
 module _ (o : ℕ) (S : Schema) (m : List ℕ) where
-  any-bit-flat : (k : Flat) (nan : Bool) (at b d : ℕ) → (flatIsBool k ≡ true → b ≡ d) → flatStep S m k nan at b ≡ flatStep S m k nan at d
+  any-bit-flat : (k : Flat) (nan : Bool) (at b d : ℕ) → (flatIsBool k ≡ true → b ≡ d) → flatStep m k nan at b ≡ flatStep m k nan at d
   unfolding flatIsBool flatStep
   any-bit-flat F.Boolean nan at b d h = rw (h refl)
   any-bit-flat (F.Integer s w) nan at b d h = refl
@@ -167,7 +167,7 @@ module _ (o : ℕ) (S : Schema) (sound : Sound S) (m : List ℕ) (P : Planner) (
         let s = element-slot-by o S k i start c (isBool k) refl q in
         let h = value-step o S sound m P G below inner start z true false c e 0 rest ok (λ f. never f) p a in
         rw (s .0)
-        (subst (λ (st : _). Shows below S m k v st) (any-bit o S m k true false 0 (start + slotOf o S k c .at) (slotOf o S k c .bit) (i % 8) (s .2)) h)
+        (subst (λ (st : _). Shows below S m k v (structTested S m st)) (any-bit o S m k true false 0 (start + slotOf o S k c .at) (slotOf o S k c .bit) (i % 8) (s .2)) h)
 
     pub elements-hold : {vs : Values} (i : ℕ) (c : Cursor) (e : ℕ) → ElementCursor o S k i c → ElementsWrite G o S k vs
         → At o m start c z e (elementsSlots P o S k vs) → ElementsHold below o S m start k i vs

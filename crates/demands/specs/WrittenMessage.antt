@@ -8,7 +8,7 @@ use lib.ListN.{length}
 use Rattle.coding.specs.Bytes.{le, leBytes, deepest}
 use Rattle.coding.specs.Schema.{Schema}
 use Rattle.coding.specs.Layout.{begin, afterBytes}
-use Rattle.coding.specs.Walk.{headerSize, rootPlace}
+use Rattle.coding.specs.Walk.{startSize, rootPlace}
 use Rattle.coding.specs.Value.{Value}
 use Rattle.coding.specs.Cells.{Slots, width, packBits, layout}
 use Rattle.coding.specs.Cells.Slots.{end, bytes, reference}
@@ -30,12 +30,12 @@ use Rattle.demands.specs.WrittenTree.{tree-inner}
 abbrev startSlots : Slots → Slots
 startSlots root = bytes (leBytes 4 0xB5C0_C4B3) (reference root end)
 
-start-width : (o : ℕ) (root : Slots) → width o (packBits 0 (startSlots root)) ≡ headerSize o
-unfolding width packBits headerSize
+start-width : (o : ℕ) (root : Slots) → width o (packBits 0 (startSlots root)) ≡ startSize o
+unfolding width packBits startSize
 start-width o root = omega (arith, length-leBytes 4 0xB5C0_C4B3)
 
 start-at : (o : ℕ) (root : Slots) → SlotsBytes root → length (layout o (packBits 0 (startSlots root))) < 256 ^ o
-    → At o (layout o (packBits 0 (startSlots root))) 0 begin (headerSize o) (headerSize o) (startSlots root)
+    → At o (layout o (packBits 0 (startSlots root))) 0 begin (startSize o) (startSize o) (startSlots root)
 unfolding begin
 start-at o root y small =
     let s = startSlots root in
@@ -56,14 +56,14 @@ start-at o root y small =
       holds = subst (λ (y : ℕ). SlotsHold o m y 0 0 0 s) w h;
     }
 
-start-parts : (o : ℕ) (m : List ℕ) (root : Slots) → At o m 0 begin (headerSize o) (headerSize o) (startSlots root)
-    → (le m 0 4 ≡ 0xB5C0_C4B3) × (headerSize o ≤ le m 4 o)
+start-parts : (o : ℕ) (m : List ℕ) (root : Slots) → At o m 0 begin (startSize o) (startSize o) (startSlots root)
+    → (le m 0 4 ≡ 0xB5C0_C4B3) × (startSize o ≤ le m 4 o)
     × At o m (le m 4 o) begin (le m 4 o + width o (packBits 0 root)) (le m 4 o + width o (packBits 0 root)) root
 unfolding begin afterBytes
 start-parts o m root a =
-    let b = at-bytes o m 0 begin (headerSize o) (headerSize o) (leBytes 4 0xB5C0_C4B3) (reference root end) a in
+    let b = at-bytes o m 0 begin (startSize o) (startSize o) (leBytes 4 0xB5C0_C4B3) (reference root end) a in
     let b1 = rw (length-leBytes 4 0xB5C0_C4B3) at (b .1) in
-    let r = at-reference o m 0 (afterBytes 4 begin) (headerSize o) (headerSize o) root end b1 in
+    let r = at-reference o m 0 (afterBytes 4 begin) (startSize o) (startSize o) root end b1 in
     (holds-le m 4 0 0xB5C0_C4B3 (omega arith) (b .0), r .0, r .1)
 
 module _ (o : ℕ) (S : Schema) (sound : Sound S) (d : ℕ) (v : Value) (w : Writes d o S (O.Table (S .root)) v) where
@@ -79,7 +79,7 @@ module _ (o : ℕ) (S : Schema) (sound : Sound S) (d : ℕ) (v : Value) (w : Wri
   made-bytes : All Byte made
   made-bytes = layout-bytes o (packBits 0 (startSlots rootSlots)) (pack-bytes 0 (startSlots rootSlots) (leBytes-bytes 4 0xB5C0_C4B3, (root-bytes, tt)))
 
-  made-long : headerSize o ≤ length made
+  made-long : startSize o ≤ length made
   made-long = omega (arith, length-layout o (packBits 0 (startSlots rootSlots)), start-width o rootSlots)
 
   made-holds : 0 < o → 8 * length made < 256 ^ o
@@ -95,7 +95,7 @@ module _ (o : ℕ) (S : Schema) (sound : Sound S) (v : Value) (w : Writes deepes
   unfolding messageOf
   message-bytes = made-bytes o S sound deepest v w
 
-  pub message-long : headerSize o ≤ length (messageOf o S v)
+  pub message-long : startSize o ≤ length (messageOf o S v)
   unfolding messageOf
   message-long = made-long o S sound deepest v w
 

@@ -11,7 +11,7 @@ use Rattle.coding.specs.Schema.{Schema, casesOf, caseOf}
 use Rattle.coding.specs.Structs.{flatWidth, structSize}
 use Rattle.coding.specs.Layout as L
 use Rattle.coding.specs.Layout.{begin, afterBytes, isBool, flatIsBool, afterValue}
-use Rattle.coding.specs.Walk.{headerSize}
+use Rattle.coding.specs.Walk.{startSize, headerSize}
 use Rattle.coding.specs.Value.{Value, present, asNumber, asObject}
 use Rattle.coding.specs.Cells.{Slots, width}
 use Rattle.coding.specs.Cells.Slots.{bytes, bit, inPlace}
@@ -39,7 +39,7 @@ after-two o c =
 
 -- what is known of the objects one level down: where their slots stand, they are held
 pub record Inner (o : ℕ) (S : Schema) (m : List ℕ) (P : Planner) (G : Objects) (below : Below) : Type 0 where
-  pub by-offset : (ob : Object) (v : Value) (x z : ℕ) → G ob v → headerSize o ≤ x → At o m x begin z z (objectSlots P o S ob v)
+  pub by-offset : (ob : Object) (v : Value) (x z : ℕ) → G ob v → startSize o ≤ x → At o m x begin z z (objectSlots P o S ob v)
       → below ob v (ByOffset x)
   pub in-place : (ob : Object) (v : Value) (e z : ℕ) → G ob v → At o m e begin z z (P ob v) → below ob v (InPlace e (lengthOf o S ob v))
   pub short : (ob : Object) (v : Value) (e z : ℕ) → G ob v → At o m e begin z z (P ob v) → lengthOf o S ob v < 256 ^ o

@@ -6,7 +6,7 @@ use mathlib.Core.Option.{some, Option·some-injective}
 use mathlib.Core.Path.{_≡_, sym, _∙_, subst}
 use lib.ListN.{length}
 use borrow.Author.Tests.{le-leb}
-use Rattle.coding.specs.Bytes.{u48, deepest, largest}
+use Rattle.coding.specs.Bytes.{deepest, largest}
 use Rattle.coding.specs.Schema.{Schema, elementOf}
 use Rattle.coding.specs.Packed.{parse}
 use Rattle.coding.specs.Walk.{rootPlace}
@@ -129,21 +129,21 @@ tree-plain (suc d) o S m ob v p s h =
     place-plain (HoldsTree d o S m) (plain d o S m) (tree-plain d o S m) o S m s h
 
 -- ---- what the writer made of a sheet
-pub written-plain : (b s m : List ℕ) → AreBytes b → AreBytes s → written u48 b s ≡ message m → messagePlain u48 (parse b) m
+pub written-plain : (o : ℕ) (b s m : List ℕ) → AreBytes b → AreBytes s → written o b s ≡ message m → messagePlain o (parse b) m
 unfolding messagePlain
-written-plain b s m schema-bytes sheet-bytes made =
+written-plain o b s m schema-bytes sheet-bytes made =
     let root = O.Table (parse b .root) in
-    let w = written-as u48 b s m made in
-    let h = written-holds b s m schema-bytes sheet-bytes made in
-    let fit = subst (λ (v : Value). writable deepest u48 (parse b) root v ≡ true) (Option·some-injective (w .tree) (h .0) (sym (w .decoded) ∙ h .1)) (w .fit) in
-    let writes = shown-writes (parse b) (lawful-sound b schema-bytes (w .schema)) u48 deepest root (h .0) (h .2) fit in
-    tree-plain deepest u48 (parse b) m root (h .0) (rootPlace u48 m) (h .3) (writes-known deepest u48 (parse b) root (h .0) writes)
+    let w = written-as o b s m made in
+    let h = written-holds o b s m schema-bytes sheet-bytes made in
+    let fit = subst (λ (v : Value). writable deepest o (parse b) root v ≡ true) (Option·some-injective (w .tree) (h .0) (sym (w .decoded) ∙ h .1)) (w .fit) in
+    let writes = shown-writes (parse b) (lawful-sound o b schema-bytes (w .schema)) o deepest root (h .0) (h .2) fit in
+    tree-plain deepest o (parse b) m root (h .0) (rootPlace o m) (h .3) (writes-known deepest o (parse b) root (h .0) writes)
 
 -- the sheet's tree is what the message reads as
-pub written-tree : (b s m : List ℕ) → AreBytes b → AreBytes s → written u48 b s ≡ message m
-    → treeOf (parse b) s ≡ some (messageRead u48 (parse b) m)
+pub written-tree : (o : ℕ) (b s m : List ℕ) → AreBytes b → AreBytes s → written o b s ≡ message m
+    → treeOf (parse b) s ≡ some (messageRead o (parse b) m)
 unfolding messageRead sheetTree
-written-tree b s m schema-bytes sheet-bytes made =
-    let h = written-holds b s m schema-bytes sheet-bytes made in
-    let e = encode-decode-sized (parse b) (lawful-sound b schema-bytes (written-as u48 b s m made .schema)) s (h .0) sheet-bytes (h .1) in
-    rw (tree-read u48 (parse b) m deepest (O.Table (parse b .root)) (h .0) (rootPlace u48 m) (h .3)) (rw (le-leb (length s) largest (e .2)) at (h .1))
+written-tree o b s m schema-bytes sheet-bytes made =
+    let h = written-holds o b s m schema-bytes sheet-bytes made in
+    let e = encode-decode-sized (parse b) (lawful-sound o b schema-bytes (written-as o b s m made .schema)) s (h .0) sheet-bytes (h .1) in
+    rw (tree-read o (parse b) m deepest (O.Table (parse b .root)) (h .0) (rootPlace o m) (h .3)) (rw (le-leb (length s) largest (e .2)) at (h .1))

@@ -20,7 +20,7 @@ use Rattle.coding.specs.declared.Object.the-variants as O
 
 pub record WrittenAs (o : ℕ) (b s m : List ℕ) : Type 0 where
   pub tree : Value
-  pub schema : lawful b ≡ true
+  pub schema : lawful o b ≡ true
   pub decoded : sheetTree (parse b) s ≡ some tree
   pub fit : writable deepest o (parse b) (O.Table (parse b .root)) tree ≡ true
   pub made : m ≡ messageOf o (parse b) tree
@@ -32,7 +32,7 @@ not-refused n m e = let z : _≡_ {A = ℕ} 0 1 = cc in absurd (omega arith)
 same-message : (l m : List ℕ) → message l ≡ message m → l ≡ m
 same-message l m e = cc
 
-module _ (o : ℕ) (b s m : List ℕ) (good : lawful b ≡ true) where
+module _ (o : ℕ) (b s m : List ℕ) (good : lawful o b ≡ true) where
   sized-as : (v : Value) (t : Bool) → leb (length (messageOf o (parse b) v)) largest ≡ t → sheetTree (parse b) s ≡ some v
       → writable deepest o (parse b) (O.Table (parse b .root)) v ≡ true → pick t (message (messageOf o (parse b) v)) (refused 13) ≡ message m
       → WrittenAs o b s m
@@ -59,11 +59,11 @@ module _ (o : ℕ) (b s m : List ℕ) (good : lawful b ≡ true) where
   tree-as Op.none d e = not-refused 11 m e
   tree-as (Op.some v) d e = writable-as v (writable deepest o (parse b) (O.Table (parse b .root)) v) refl d e
 
-lawful-as : (o : ℕ) (b s m : List ℕ) (t : Bool) → lawful b ≡ t → pick t (writtenTree o (parse b) (sheetTree (parse b) s)) (refused 1) ≡ message m
+lawful-as : (o : ℕ) (b s m : List ℕ) (t : Bool) → lawful o b ≡ t → pick t (writtenTree o (parse b) (sheetTree (parse b) s)) (refused 1) ≡ message m
     → WrittenAs o b s m
 lawful-as o b s m true l e = tree-as o b s m l (sheetTree (parse b) s) refl e
 lawful-as o b s m false l e = not-refused 1 m e
 
 pub written-as : (o : ℕ) (b s m : List ℕ) → written o b s ≡ message m → WrittenAs o b s m
 unfolding written
-written-as o b s m e = lawful-as o b s m (lawful b) refl e
+written-as o b s m e = lawful-as o b s m (lawful o b) refl e

@@ -10,9 +10,11 @@ use lib.ListN.{length}
 use Rattle.coding.specs.Bytes.{le, leBytes, isNaN, noFloat}
 use Rattle.coding.specs.Schema.{Schema, casesOf, caseOf}
 use Rattle.coding.specs.Structs.{structOk}
-use Rattle.coding.specs.Layout.{afterBytes, isBool, flatIsBool, slotOf}
-use Rattle.coding.specs.Step.{enumStep, floatStep, structStep, placeOf, objectStep, unionStep, flatStep, valueStep}
-use Rattle.coding.specs.Walk.{headerSize}
+use Rattle.coding.specs.Layout.{afterBytes, isBool, flatIsBool, bitSlot, slotOf}
+use Rattle.coding.specs.Step.{enumStep, floatStep, placeOf, objectStep, unionStep, flatStep, valueStep, structTested}
+use lib.Dec.{leb, eqb}
+use Rattle.coding.specs.Lists.{pick}
+use Rattle.coding.specs.Walk.{startSize}
 use Rattle.coding.specs.Value.{Value, absent, number, row, chosen, present, asNumber, asObject}
 use Rattle.coding.specs.Cells.{Slots}
 use Rattle.coding.specs.Cells.Slots.{bytes, bit, inPlace}
@@ -39,10 +41,12 @@ use Rattle.demands.specs.WrittenParts.{Inner}
 module _ (o : ℕ) (S : Schema) (sound : Sound S) (m : List ℕ) (P : Planner) (G : Objects) (below : Below) (inner : Inner o S m P G below)
     (start z : ℕ) where
   -- ---- what leads to no object
-  value-shows : {k : Flat} (x y : ℕ) → y ≡ x → Shows below S m (OfFlat k) (number x) (St.Value y)
-  value-shows x y e = rw e scalar
+  value-shows : {k : Flat} (x : ℕ) (st : Step) → st ≡ St.Value x → Shows below S m (OfFlat k) (number x) (structTested S m st)
+  unfolding structTested
+  value-shows x st e = rw e scalar
 
-  nothing-shows : (k : Kind) (st : Step) → st ≡ St.Absent → Shows below S m k absent st
+  nothing-shows : (k : Kind) (st : Step) → st ≡ St.Absent → Shows below S m k absent (structTested S m st)
+  unfolding structTested
   nothing-shows k st e = rw e nothing
 
   float-value : (nan : Bool) (w x y : ℕ) → y ≡ x → (nan && isNaN w x) ≡ false → floatStep nan w y ≡ St.Value x
@@ -69,23 +73,23 @@ module _ (o : ℕ) (S : Schema) (sound : Sound S) (m : List ℕ) (P : Planner) (
   unfolding enumStep
   no-enum-value n y e = rw e
 
-  struct-value : (i at : ℕ) → structOk S m i at ≡ true → structStep S m i at ≡ St.Struct i at
-  unfolding structStep
+  struct-value : (i at : ℕ) → structOk S m i at ≡ true → structTested S m (St.Struct i at) ≡ St.Struct i at
+  unfolding structTested
   struct-value i at e = rw e
 
   flat-step : {k : Flat} {v : Value} (nan : Bool) (c : Cursor) (e : ℕ) (rest : Slots) → FlatSound (length (S .structs)) k
       → FlatWrites S k v → NotNaN nan k v → At o m start c z e (flatSlots S k v rest)
-      → Shows below S m (OfFlat k) v (flatStep S m k nan (start + slotOf o S (OfFlat k) c .at) (slotOf o S (OfFlat k) c .bit))
-  unfolding flatSlots slotOf isBool flatIsBool flatStep asNumber numberOr present
-  flat-step nan c e rest ok (boolean {x = x} h) n a = value-shows x _ (at-bit o m start c z e x rest a .0)
+      → Shows below S m (OfFlat k) v (structTested S m (flatStep m k nan (start + slotOf o S (OfFlat k) c .at) (slotOf o S (OfFlat k) c .bit)))
+  unfolding flatSlots slotOf bitSlot isBool flatIsBool flatStep asNumber numberOr present
+  flat-step nan c e rest ok (boolean {x = x} h) n a = value-shows x _ (ap St.Value (at-bit o m start c z e x rest a .0))
   flat-step nan c e rest ok (integer {w = w} {x = x} h) n a =
-      value-shows x _ (holds-le m w (start + c .end) x h (at-bytes o m start c z e (leBytes w x) rest a .0))
+      value-shows x _ (ap St.Value (holds-le m w (start + c .end) x h (at-bytes o m start c z e (leBytes w x) rest a .0)))
   flat-step nan c e rest ok (float {w = w} {x = x} h) n a =
-      rw (float-value nan w x _ (holds-le m w (start + c .end) x h (at-bytes o m start c z e (leBytes w x) rest a .0)) n) scalar
+      value-shows x _ (float-value nan w x _ (holds-le m w (start + c .end) x h (at-bytes o m start c z e (leBytes w x) rest a .0)) n)
   flat-step nan c e rest ok (no-enum {n = n}) u a =
       nothing-shows _ _ (no-enum-value n _ (at-bytes o m start c z e (255 ∷ []) rest a .0 .0))
   flat-step nan c e rest ok (enum {n = n} {x = x} h) u a =
-      rw (enum-value n x _ (ok .1) h (at-bytes o m start c z e (x ∷ []) rest a .0 .0)) scalar
+      value-shows x _ (enum-value n x _ (ok .1) h (at-bytes o m start c z e (x ∷ []) rest a .0 .0))
   flat-step nan c e rest ok (W.struct {i = i} {vs = vs} h) n a =
       let g = at-bytes o m start c z e (structBytes S i (row vs)) rest a .0 in
       let s = struct-holds S sound m i in
@@ -93,8 +97,8 @@ module _ (o : ℕ) (S : Schema) (sound : Sound S) (m : List ℕ) (P : Planner) (
       (T.struct (s .reads (row vs) (start + c .end) (W.struct h) g) (W.struct h))
 
   no-float-step : (w : ℕ) (c : Cursor) (e : ℕ) (rest : Slots) → (w ≡ 4) ⊎ (w ≡ 8) → At o m start c z e (flatSlots S (F.Float w) absent rest)
-      → Shows below S m (OfFlat (F.Float w)) absent (flatStep S m (F.Float w) true (start + slotOf o S (OfFlat (F.Float w)) c .at) (slotOf o S (OfFlat (F.Float w)) c .bit))
-  unfolding flatSlots slotOf isBool flatIsBool flatStep asNumber numberOr present
+      → Shows below S m (OfFlat (F.Float w)) absent (structTested S m (flatStep m (F.Float w) true (start + slotOf o S (OfFlat (F.Float w)) c .at) (slotOf o S (OfFlat (F.Float w)) c .bit)))
+  unfolding flatSlots slotOf bitSlot isBool flatIsBool flatStep asNumber numberOr present
   no-float-step w c e rest ok a =
       nothing-shows _ _
       (no-float-value w _ ok
@@ -123,7 +127,7 @@ module _ (o : ℕ) (S : Schema) (sound : Sound S) (m : List ℕ) (P : Planner) (
       → At o m start c z e (referSlots P o S inplace ob v rest)
       → below ob v (placeOf inplace tail (le m (start + c .end) o)) × (inplace ≡ false → 0 < le m (start + c .end) o)
       × (inplace ≡ true → le m (start + c .end) o ≡ lengthOf o S ob v)
-  unfolding referSlots placeOf headerSize
+  unfolding referSlots placeOf startSize
   refer-held true ob v c e tail rest same g a =
       let n = lengthOf o S ob v in
       let h = at-bytes o m start c z e (leBytes o n) (inPlace (P ob v) rest) a in
@@ -181,9 +185,24 @@ module _ (o : ℕ) (S : Schema) (sound : Sound S) (m : List ℕ) (P : Planner) (
       (T.choice refl l b (somewhere inplace tail x (subst (λ (y : ℕ). inplace ≡ false → 0 < y) q (k .1)))
       (subst (λ (y : ℕ). below ob v (placeOf inplace tail y)) q (k .0)))
 
+  -- what is no struct needs no test
+  pick-tested : (t : Bool) (a b : Step) → structTested S m a ≡ a → structTested S m b ≡ b → structTested S m (pick t a b) ≡ pick t a b
+  pick-tested true a b h g = h
+  pick-tested false a b h g = g
+
+  object-tested : (ob : Object) (inplace : Bool) (tail x : ℕ) → structTested S m (objectStep ob inplace tail x) ≡ objectStep ob inplace tail x
+  unfolding objectStep structTested
+  object-tested ob inplace tail x = pick-tested (eqb x 0) _ _ refl refl
+
+  union-tested : (cases : List Object) (inplace : Bool) (tail c x : ℕ)
+      → structTested S m (unionStep cases inplace tail c x) ≡ unionStep cases inplace tail c x
+  unfolding unionStep structTested
+  union-tested cases inplace tail c x =
+      pick-tested (eqb c 0) _ _ refl (pick-tested (leb c (length cases)) _ _ refl refl)
+
   pub value-step : {k : Kind} {v : Value} (nan inplace : Bool) (c : Cursor) (e tail : ℕ) (rest : Slots) → KindSound S k
       → (inplace ≡ true → e ≡ tail) → PartWrites G o S false nan inplace k v → At o m start c z e (valueSlots P o S k inplace v rest)
-      → Shows below S m k v (valueStep o S m k nan inplace tail (start + slotOf o S k c .at) (slotOf o S k c .bit))
+      → Shows below S m k v (structTested S m (valueStep o S m k nan inplace tail (start + slotOf o S k c .at) (slotOf o S k c .bit)))
   unfolding valueSlots valueStep present asNumber asObject slotOf isBool
   value-step nan inplace c e tail rest ok same (no-flat f t) a = never f
   value-step nan inplace c e tail rest ok same (no-float {w = w} h) a = rw h (no-float-step w c e rest ok a)
@@ -192,10 +211,10 @@ module _ (o : ℕ) (S : Schema) (sound : Sound S) (m : List ℕ) (P : Planner) (
       nothing-shows _ _
       (object-none ob inplace tail _ (holds-zeros m o o (start + c .end) (omega arith) (at-bytes o m start c z e (zeros o) rest a .0)))
   value-step nan inplace c e tail rest ok same (W.object {ob = ob} {v = v} g p long) a =
-      object-step inplace ob v c e tail rest same g p long (rw p at a)
+      rw (object-tested ob inplace tail _) (object-step inplace ob v c e tail rest same g p long (rw p at a))
   value-step nan inplace c e tail rest ok same (no-union {i = i}) a =
       nothing-shows _ _
       (union-none (casesOf S i) inplace tail _ _
       (holds-zeros m 2 (2 + o) (start + c .end) (omega arith) (at-bytes o m start c z e (zeros (2 + o)) rest a .0)))
   value-step nan inplace c e tail rest ok same (W.choice {i = i} {c = n} {v = v} l b g) a =
-      choice-step inplace i n v c e tail rest same l b g a
+      rw (union-tested (casesOf S i) inplace tail _ _) (choice-step inplace i n v c e tail rest same l b g a)

@@ -13,8 +13,8 @@ use Rattle.coding.specs.Bytes.{bitAt}
 use Rattle.coding.specs.Schema.{Schema}
 use Rattle.coding.specs.Structs.{flatWidth, structSize}
 use Rattle.coding.specs.Layout as L
-use Rattle.coding.specs.Layout.{bitByte, bitIndex, afterBit, afterBytes, isBool, slotOf, afterValue, flatTakesFlag, takesFlag, hasFlag, afterFlag, memberSlot, afterMember, afterMembers}
-use Rattle.coding.specs.Step.{valueStep, inside, flagged, memberStep}
+use Rattle.coding.specs.Layout.{bitSlot, placementOf, bitByte, bitIndex, afterBit, afterBytes, isBool, slotOf, afterValue, flatTakesFlag, takesFlag, hasFlag, afterFlag, memberSlot, afterMember, afterMembers}
+use Rattle.coding.specs.Step.{valueStep, structTested, inside, flagged, placedStep, memberStep}
 use Rattle.coding.specs.Value.{Value, Values, absent, present, first, others}
 use Rattle.coding.specs.Cells.{Slots}
 use Rattle.coding.specs.Cells.Slots.{bit}
@@ -44,12 +44,12 @@ module _ (o : ℕ) (S : Schema) (m : List ℕ) (start n : ℕ) (c : Cursor) (r :
   hereAt d =
       valueStep o S m (r .kind) (r .optional) (r .inplace) (start + n) (start + slotOf o S (r .kind) d .at) (slotOf o S (r .kind) d .bit)
 
-  plain-member : hasFlag r ≡ false → memberStep o S m start n c r ≡ inside n (slotOf o S (r .kind) c) St.Absent (hereAt c)
-  unfolding memberStep memberSlot afterFlag
+  plain-member : hasFlag r ≡ false → memberStep o S m start n c r ≡ structTested S m (inside n (slotOf o S (r .kind) c) St.Absent (hereAt c))
+  unfolding memberStep placedStep placementOf memberSlot afterFlag
   plain-member e = rw e
 
-  flag-member : hasFlag r ≡ true → memberStep o S m start n c r ≡ flagged m start n c (slotOf o S (r .kind) (afterBit c)) (hereAt (afterBit c))
-  unfolding memberStep memberSlot afterFlag
+  flag-member : hasFlag r ≡ true → memberStep o S m start n c r ≡ structTested S m (flagged m start n (bitSlot c) (slotOf o S (r .kind) (afterBit c)) (hereAt (afterBit c)))
+  unfolding memberStep placedStep placementOf memberSlot afterFlag
   flag-member e = rw e
 
 after-plain : (o : ℕ) (S : Schema) (c : Cursor) (r : Member) → hasFlag r ≡ false → afterMember o S r c ≡ afterValue o S (r .kind) c
@@ -66,13 +66,13 @@ unfolding inside
 inside-here n slot past here h k = rw (lt-leb n (slot .at) h, le-leb (slot .at + slot .size) n k)
 
 flagged-set : (m : List ℕ) (start n : ℕ) (c : Cursor) (slot : Slot) (here : Step) → bitByte c < n
-    → bitAt m (start + bitByte c) (bitIndex c) ≡ 1 → slot .at < n → slot .at + slot .size ≤ n → flagged m start n c slot here ≡ here
-unfolding flagged
+    → bitAt m (start + bitByte c) (bitIndex c) ≡ 1 → slot .at < n → slot .at + slot .size ≤ n → flagged m start n (bitSlot c) slot here ≡ here
+unfolding flagged bitSlot
 flagged-set m start n c slot here h e k l = rw (lt-leb n (bitByte c) h, eq-eqb _ 1 e) (inside-here n slot (St.Refused 8) here k l)
 
 flagged-clear : (m : List ℕ) (start n : ℕ) (c : Cursor) (slot : Slot) (here : Step) → bitByte c < n
-    → bitAt m (start + bitByte c) (bitIndex c) ≡ 0 → slot .at < n → slot .at + slot .size ≤ n → flagged m start n c slot here ≡ St.Absent
-unfolding flagged
+    → bitAt m (start + bitByte c) (bitIndex c) ≡ 0 → slot .at < n → slot .at + slot .size ≤ n → flagged m start n (bitSlot c) slot here ≡ St.Absent
+unfolding flagged bitSlot
 flagged-clear m start n c slot here h e k l = rw (lt-leb n (bitByte c) h, e) (inside-here n slot St.Absent St.Absent k l)
 
 -- a bool's byte lies before the cursor behind it
@@ -103,7 +103,7 @@ module _ (o : ℕ) (S : Schema) (sound : Sound S) (wide : 0 < o) where
   -- the slot of a value lies before the cursor behind it
   slot-before-by : (k : Kind) (c : Cursor) (n : ℕ) (t : Bool) → isBool k ≡ t → KindSound S k → Sane c → afterValue o S k c .end ≤ n
       → (slotOf o S k c .at < n) × (slotOf o S k c .at + slotOf o S k c .size ≤ n)
-  unfolding slotOf afterValue afterBytes
+  unfolding slotOf bitSlot afterValue afterBytes
   slot-before-by k c n true e ok s h =
       let b = bit-before c s in
       let l : afterBit c .end ≤ n = rw e at h in
@@ -223,8 +223,8 @@ module _ (o : ℕ) (S : Schema) (sound : Sound S) (wide : 0 < o) (m : List ℕ) 
       by : ((v ≡ absent) × (r .optional ≡ true) × (takesFlag (r .kind) ≡ true)) ⊎ PartWrites G o S false (r .optional) (r .inplace) (r .kind) v
           → bitByte c < n → bitAt m (start + bitByte c) (bitIndex c) ≡ flagOf v → slot .at < n → slot .at + slot .size ≤ n
           → At o m start (afterBit c) (start + n) e (valueSlots P o S (r .kind) (r .inplace) v rest)
-          → Shows below S m (r .kind) v (flagged m start n c slot here)
-      by (inl q) h1 h2 h3 h4 h5 = rw (q .0, flagged-clear m start n c slot here h1 (h2 ∙ flag-absent v (q .0)) h3 h4) nothing
+          → Shows below S m (r .kind) v (structTested S m (flagged m start n (bitSlot c) slot here))
+      by (inl q) h1 h2 h3 h4 h5 = rw (q .0, flagged-clear m start n c slot here h1 (h2 ∙ flag-absent v (q .0)) h3 h4) (unfold structTested in nothing)
       by (inr q) h1 h2 h3 h4 h5 =
           rw (flagged-set m start n c slot here h1 (h2 ∙ flag-there v (there (both-right (r .optional) (takesFlag (r .kind)) f) q)) h3 h4)
           (value-step o S sound m P G below inner start (start + n) (r .optional) (r .inplace) (afterBit c) e (start + n) rest (ok .kind) same q h5)

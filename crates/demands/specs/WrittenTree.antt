@@ -11,7 +11,7 @@ use Rattle.coding.specs.Schema.{Schema, elementOf, tableOf}
 use Rattle.coding.specs.Layout as L
 use Rattle.coding.specs.Layout.{begin, afterBytes, isBool, fixedSize}
 use Rattle.coding.specs.Step.{elementsSize}
-use Rattle.coding.specs.Walk.{headerSize, magic}
+use Rattle.coding.specs.Walk.{startSize, headerSize, magic}
 use Rattle.coding.specs.Value.{Value, asBlob, asRow, count}
 use Rattle.coding.specs.Cells.{width}
 use Rattle.coding.specs.Cells.Slots.{end, bytes}
@@ -106,7 +106,7 @@ module _ (o : ℕ) (S : Schema) (sound : Sound S) (wide : 0 < o) (m : List ℕ) 
       (rw s0 at (b .0), rw s4 at (c .0), rw sh at r)
 
   offset-holds : (P : Planner) (G : Objects) (below : Below) → Inner o S m P G below → (ob : Object) (v : Value) (x z : ℕ) → ContentWrites G o S ob v
-      → headerSize o ≤ x → At o m x begin z z (objectSlots (contentSlots P o S) o S ob v)
+      → startSize o ≤ x → At o m x begin z z (objectSlots (contentSlots P o S) o S ob v)
       → T.PlaceHolds below o S m ob v (ByOffset x)
   unfolding begin
   offset-holds P G below inner ob v x z w far a =

@@ -4,8 +4,29 @@ use coding::Budget;
 use libc::STDOUT_FILENO;
 ghost use Rattle.io.specs.Counts.{Counts};
 
-// How many bytes of the file were read to buf, which holds one more than a file may have; 0 where the file cannot be read or
-// is too long. No bytes are no lawful schema, and no lawful message.
+// How many bytes the open file has, all of them read to the start of buf; 0 where a read fails or buf is filled: then the file
+// is unreadable, or has more bytes than a file may have. Each answer of C's read is tested, since a count alone cannot tell a
+// failure from the file's end.
+fn whole(fd: i32, buf: &mut [u8]) -> usize
+    ensures { λ r. ⌜ Counts r (now (buf .exit)) ⌝ }
+{
+    let mut done = 0;
+    while done < buf.len() {
+        let got = libc::read(fd, &mut buf[done..]);
+        if got < 0 {
+            return 0;
+        }
+        let n = io::count(got, &buf[done..]);
+        if n == 0 {
+            return done;
+        }
+        done += n;
+    }
+    0
+}
+
+// How many bytes of the file were read to buf, which holds one more than a file may have; 0 where the file cannot be read to
+// its end or is too long. No bytes are no lawful schema, and no lawful message.
 fn load(path: &[u8], buf: &mut [u8]) -> usize
     ensures { λ r. ⌜ Counts r (now (buf .exit)) ⌝ }
 {
@@ -13,11 +34,8 @@ fn load(path: &[u8], buf: &mut [u8]) -> usize
     if fd < 0 {
         return 0;
     }
-    let n = io::read_full(fd, buf);
+    let n = whole(fd, buf);
     libc::close(fd);
-    if 65536 < n {
-        return 0;
-    }
     n
 }
 

@@ -1,12 +1,12 @@
 -- The ways out of an answer.
-use mathlib.Core.Path.{_≡_, ap, _∙_, subst}
+use mathlib.Core.Path.{_≡_, refl, ap, _∙_, subst}
 use mathlib.Core.Bool.{Bool, false}
 use mathlib.Core.Logic.{⊎-elim}
 use mathlib.Core.List.{List}
 use Prim.Native.Nat.{ℕ, _*_, _^_, _<_}
 use native.Mathlib.Omega.{arith}
 use lib.Dec.{eqb}
-use Rattle.coding.specs.Bytes.{u48}
+use Rattle.coding.specs.Walk as W
 use Rattle.coding.specs.Schema.{Schema}
 use Rattle.coding.specs.Field as Field
 use Rattle.coding.specs.declared.Flat.{Flat}
@@ -18,6 +18,7 @@ use Rattle.coding.specs.declared.Kind.the-variants.{OfFlat, OfObject, OfUnion}
 use Rattle.coding.specs.declared.Found.{Found}
 use Rattle.coding.specs.declared.Found.the-variants as Fd
 use Rattle.coding.specs.declared.Refusal.{Refusal}
+use Rattle.coding.specs.declared.Verdict.{Verdict}
 use Rattle.coding.specs.declared.Answer.{Answer}
 use Rattle.coding.specs.declared.Answer.the-variants as A
 use Rattle.laws.specs.Sound.{FlatSound, KindSound}
@@ -110,9 +111,49 @@ module _ (f : Found) where
   answer-object ob at start n d e k ek = rw (e, ek)
 
 -- the kind of a value that was found
-pub value-sound : (S : Schema) (m : List ℕ) (f : Found) → FoundWithin S m f → (k : Kind) (x holder : ℕ) → f ≡ Fd.Value k x holder → KindSound S k
-value-sound S m f within k x holder e = subst (FoundWithin S m) e within
+pub value-sound : (o : ℕ) (S : Schema) (m : List ℕ) (f : Found) → FoundWithin o S m f → (k : Kind) (x holder : ℕ) → f ≡ Fd.Value k x holder → KindSound S k
+value-sound o S m f within k x holder e = subst (FoundWithin o S m) e within
 
-pub field-found : (b m path : List ℕ) (g : Found) → g ≡ Field.fieldFound u48 b m path → (r : Answer) → r ≡ Field.answerOf g → r ≡ Field.field u48 b m path
+pub field-found : (o : ℕ) (b m path : List ℕ) (g : Found) → g ≡ Field.fieldFound o b m path → (r : Answer) → r ≡ Field.answerOf g → r ≡ Field.field o b m path
 unfolding Field.field
-field-found b m path g eg r e = e ∙ ap Field.answerOf eg
+field-found o b m path g eg r e = e ∙ ap Field.answerOf eg
+
+-- ---- number, place and visits
+module _ (q : Answer) (r : Verdict) where
+  module _ (f : r ≡ W.verdictAt (W.refusal 0 0) W.nothing) where
+    pub verdict-boolean : (x : Bool) → q ≡ A.Boolean x → r ≡ Field.answerVerdict q
+    unfolding Field.answerVerdict W.early
+    verdict-boolean x e = rw e f
+
+    pub verdict-number : (x w : ℕ) (s : Bool) → q ≡ A.Number x w s → r ≡ Field.answerVerdict q
+    unfolding Field.answerVerdict W.early
+    verdict-number x w s e = rw e f
+
+    pub verdict-float : (x w : ℕ) → q ≡ A.Float x w → r ≡ Field.answerVerdict q
+    unfolding Field.answerVerdict W.early
+    verdict-float x w e = rw e f
+
+    pub verdict-object : (k at n : ℕ) → q ≡ A.Object k at n → r ≡ Field.answerVerdict q
+    unfolding Field.answerVerdict W.early
+    verdict-object k at n e = rw e f
+
+    pub verdict-struct : (at : ℕ) → q ≡ A.Struct at → r ≡ Field.answerVerdict q
+    unfolding Field.answerVerdict W.early
+    verdict-struct at e = rw e f
+
+    pub verdict-absent : q ≡ A.Absent → r ≡ Field.answerVerdict q
+    unfolding Field.answerVerdict W.early
+    verdict-absent e = rw e f
+
+    pub verdict-unknown : (x : ℕ) → q ≡ A.Unknown x → r ≡ Field.answerVerdict q
+    unfolding Field.answerVerdict W.early
+    verdict-unknown x e = rw e f
+
+  pub verdict-refused : (x : Refusal) → q ≡ A.Refused x → r ≡ W.verdictAt (W.refusal (x .number) (x .place)) W.nothing → r ≡ Field.answerVerdict q
+  unfolding Field.answerVerdict
+  verdict-refused x e f = rw e f
+
+-- visits 0
+pub unspent-is : (n at : ℕ) → _≡_ {A = Verdict} (record { number = n; place = at; visits = 0 }) (W.verdictAt (W.refusal n at) W.nothing)
+unfolding W.nothing
+unspent-is n at = refl

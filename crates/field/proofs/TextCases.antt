@@ -6,7 +6,6 @@ use Prim.Native.Nat.{ℕ, _+_, _-_, _≤_}
 use native.Mathlib.Omega.{arith}
 use lib.ListN.{length, take, drop}
 use Rattle.coding.specs.Lists.{pick}
-use Rattle.coding.specs.Bytes.{u48}
 use Rattle.coding.specs.Schema.{Schema}
 use Rattle.coding.specs.Walk as W
 use Rattle.coding.specs.Field as Field
@@ -66,14 +65,14 @@ module _ (f : Found) (r : Span) where
   unfolding Field.foundSpan
   span-object ob at start n d e q = rw e q
 
-pub span-found : (b m path : List ℕ) (f : Found) → f ≡ Field.fieldFound u48 b m path → (r : Span) → r ≡ Field.foundSpan f
-    → r ≡ Field.fieldSpan u48 b m path
+pub span-found : (o : ℕ) (b m path : List ℕ) (f : Found) → f ≡ Field.fieldFound o b m path → (r : Span) → r ≡ Field.foundSpan f
+    → r ≡ Field.fieldSpan o b m path
 unfolding Field.fieldSpan
-span-found b m path f e r q = q ∙ ap Field.foundSpan e
+span-found o b m path f e r q = q ∙ ap Field.foundSpan e
 
 -- it lies within the message
-module _ (S : Schema) (m : List ℕ) where
-  object-inside : (ob : Object) (start n : ℕ) → start + W.contentSize u48 S ob n ≤ length m
+module _ (o : ℕ) (S : Schema) (m : List ℕ) where
+  object-inside : (ob : Object) (start n : ℕ) → start + W.contentSize o S ob n ≤ length m
       → Field.objectSpan ob start n .start + Field.objectSpan ob start n .length ≤ length m
   unfolding Field.objectSpan Field.spanAt Field.noSpan W.contentSize
   object-inside O.Text start n h = omega arith
@@ -81,7 +80,7 @@ module _ (S : Schema) (m : List ℕ) where
   object-inside (O.List i) start n h = omega arith
   object-inside (O.Table i) start n h = omega arith
 
-  found-inside : (f : Found) → FoundWithin S m f → Field.foundSpan f .start + Field.foundSpan f .length ≤ length m
+  found-inside : (f : Found) → FoundWithin o S m f → Field.foundSpan f .start + Field.foundSpan f .length ≤ length m
   unfolding Field.foundSpan Field.noSpan
   found-inside (Fd.Refused r) h = omega arith
   found-inside Fd.Absent h = omega arith
@@ -90,16 +89,16 @@ module _ (S : Schema) (m : List ℕ) where
   found-inside (Fd.Struct i at holder) h = omega arith
   found-inside (Fd.Object ob at start n d) h = object-inside ob start n (h .1)
 
-  pub span-inside : (f : Found) → FoundWithin S m f → (r : Span) → r ≡ Field.foundSpan f → r .start + r .length ≤ length m
+  pub span-inside : (f : Found) → FoundWithin o S m f → (r : Span) → r ≡ Field.foundSpan f → r .start + r .length ≤ length m
   span-inside f h r e = subst (λ (x : Span). x .start + x .length ≤ length m) (sym e) (found-inside f h)
 
 pub part-is : (m : List ℕ) (start n : ℕ) → take (start + n - start) (drop start m) ≡ take n (drop start m)
 part-is m start n = let z : start + n - start ≡ n = omega arith in ap (λ (k : ℕ). take k (drop start m)) z
 
-pub text-is : (b m path : List ℕ) (x : Span) → x ≡ Field.fieldSpan u48 b m path → (r : List ℕ) → r ≡ take (x .length) (drop (x .start) m)
-    → r ≡ Field.fieldText u48 b m path
+pub text-is : (o : ℕ) (b m path : List ℕ) (x : Span) → x ≡ Field.fieldSpan o b m path → (r : List ℕ) → r ≡ take (x .length) (drop (x .start) m)
+    → r ≡ Field.fieldText o b m path
 unfolding Field.fieldText Field.textOf
-text-is b m path x e r q = q ∙ ap (λ (y : Span). take (y .length) (drop (y .start) m)) e
+text-is o b m path x e r q = q ∙ ap (λ (y : Span). take (y .length) (drop (y .start) m)) e
 
 -- ---- case numbers
 pub bit-set : (x : Bool) → x ≡ true → _≡_ {A = ℕ} 1 (pick x 1 0)

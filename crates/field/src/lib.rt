@@ -5,7 +5,9 @@ use coding::Flat;
 use coding::Found;
 use coding::Kind;
 use coding::Object;
+use coding::Refusal;
 use coding::Span;
+use coding::Verdict;
 ghost use mathlib.Core.Path.{_≡_};
 ghost use Prim.Native.Nat.{_+_, _≤_};
 ghost use lib.ListN.{length, take, drop};
@@ -13,10 +15,12 @@ ghost use Rattle.coding.specs.Bytes as B;
 ghost use Rattle.coding.specs.Field as F;
 ghost use Rattle.coding.specs.Lists.{pick};
 ghost use Rattle.coding.specs.Packed as P;
+ghost use Rattle.coding.specs.Walk as W;
 ghost use Rattle.laws.specs.Sound.{FlatSound, KindSound};
-ghost use Rattle.field_arrival.specs.Within.{FoundWithin};
+ghost use Rattle.field_arrival.specs.Within.{FoundIn};
 
 // ---- the answer
+// The answer of a value with bits x, of a kind that leads to no object.
 fn flat_answer(b: &[u8], k: Flat, x: u64) -> Answer
     requires { ⌜ FlatSound (length (P.parse (now b) .structs)) k ⌝ }
     ensures { λ r. ⌜ r ≡ F.flatAnswer k x ⌝ }
@@ -30,6 +34,7 @@ fn flat_answer(b: &[u8], k: Flat, x: u64) -> Answer
     }
 }
 
+// The answer of a value with bits x, of any kind.
 fn value_answer(b: &[u8], k: Kind, x: u64) -> Answer
     requires { ⌜ KindSound (P.parse (now b)) k ⌝ }
     ensures { λ r. ⌜ r ≡ F.valueAnswer k x ⌝ }
@@ -41,6 +46,7 @@ fn value_answer(b: &[u8], k: Kind, x: u64) -> Answer
     }
 }
 
+// The record kind of an object, which an answer gives.
 pub fn record_kind(ob: Object) -> u8
     ensures { λ r. ⌜ r ≡ F.recordKind ob ⌝ }
 {
@@ -52,8 +58,9 @@ pub fn record_kind(ob: Object) -> u8
     }
 }
 
+// The answer for what a path has come to.
 pub fn answer_of(b: &[u8], m: &[u8], f: Found) -> Answer
-    requires { ⌜ FoundWithin (P.parse (now b)) (now m) f ⌝ }
+    requires { ⌜ FoundIn B.u48 (now b) (now m) f ⌝ }
     ensures { λ r. ⌜ r ≡ F.answerOf f ⌝ }
 {
     match f {
@@ -74,7 +81,47 @@ pub fn field(b: &[u8], m: &[u8], path: &[u32]) -> Answer
     answer_of(b, m, found)
 }
 
+// ---- the answer's number, place and visits
+// The refusal n at a place, as an answer.
+pub fn refused(n: u8, at: usize) -> Answer
+    ensures { λ r. ⌜ r ≡ Answer.Refused (W.refusal n at) ⌝ }
+{
+    let why = Refusal {
+        number: n,
+        place: at,
+    };
+    Answer::Refused(why)
+}
+
+// A number and a place without visits: one field is read without budget.
+fn unspent(number: u8, place: usize) -> Verdict
+    ensures { λ r. ⌜ r ≡ W.verdictAt (W.refusal number place) W.nothing ⌝ }
+{
+    Verdict {
+        number,
+        place,
+        visits: 0,
+    }
+}
+
+// Number, place and visits of a field's answer: 0 at 0 for what is no refusal.
+pub fn verdict_of(answer: Answer) -> Verdict
+    ensures { λ r. ⌜ r ≡ F.answerVerdict answer ⌝ }
+{
+    match answer {
+        Answer::Boolean(_) => unspent(0, 0),
+        Answer::Number(_, _, _) => unspent(0, 0),
+        Answer::Float(_, _) => unspent(0, 0),
+        Answer::Object(_, _, _) => unspent(0, 0),
+        Answer::Struct(_) => unspent(0, 0),
+        Answer::Absent => unspent(0, 0),
+        Answer::Unknown(_) => unspent(0, 0),
+        Answer::Refused(why) => unspent(why.number, why.place),
+    }
+}
+
 // ---- the answer as a case number and three numbers
+// 1 for true, 0 for false.
 fn bit(x: bool) -> u64
     ensures { λ r. ⌜ r ≡ pick x 1 0 ⌝ }
 {
@@ -84,6 +131,7 @@ fn bit(x: bool) -> u64
     0
 }
 
+// A case of a number with its three values.
 fn case_with(number: u32, a: u64, b: u64, c: u64) -> Case
     ensures { λ r. ⌜ r ≡ record { case = number; a = a; b = b; c = c } ⌝ }
 {
@@ -95,6 +143,7 @@ fn case_with(number: u32, a: u64, b: u64, c: u64) -> Case
     }
 }
 
+// The case number of an answer and its values, for those who cannot be given an enum.
 pub fn case_of(answer: Answer) -> Case
     ensures { λ r. ⌜ r ≡ F.answerCase answer ⌝ }
 {
@@ -111,6 +160,7 @@ pub fn case_of(answer: Answer) -> Case
 }
 
 // ---- a text or bytes as a part of the message
+// No text and no bytes.
 fn no_span() -> Span
     ensures { λ r. ⌜ r ≡ F.noSpan ⌝ }
 {
@@ -121,6 +171,7 @@ fn no_span() -> Span
     }
 }
 
+// A text or bytes of length n from a place of the message on.
 fn span_at(start: usize, n: usize) -> Span
     ensures { λ r. ⌜ r ≡ F.spanAt start n ⌝ }
 {
@@ -131,6 +182,7 @@ fn span_at(start: usize, n: usize) -> Span
     }
 }
 
+// Where the text or the bytes stand that an object is.
 fn object_span(ob: Object, start: usize, n: usize) -> Span
     ensures { λ r. ⌜ r ≡ F.objectSpan ob start n ⌝ }
 {
@@ -142,6 +194,7 @@ fn object_span(ob: Object, start: usize, n: usize) -> Span
     }
 }
 
+// Where the text or the bytes stand that a path has come to.
 fn span_of(f: Found) -> Span
     ensures { λ r. ⌜ r ≡ F.foundSpan f ⌝ }
 {
@@ -163,6 +216,7 @@ pub fn text_span(b: &[u8], m: &[u8], path: &[u32]) -> Span
     span_of(f)
 }
 
+// The n bytes of the message from a place on.
 fn part_at<'a>(m: &'a [u8], start: usize, n: usize) -> &'a [u8]
     requires { ⌜ start + n ≤ length (now m) ⌝ }
     ensures { λ r. ⌜ now r ≡ take n (drop start (now (m .entry))) ⌝ }

@@ -4,7 +4,6 @@ use mathlib.Core.List.{List}
 use Prim.Native.Nat.{ℕ, zero, suc, _-_}
 use native.Mathlib.Omega.{arith}
 use borrow.Author.Tests.{eq-eqb, ne-eqb}
-use Rattle.coding.specs.Bytes.{u48}
 use Rattle.coding.specs.Schema.{Schema}
 use Rattle.coding.specs.Walk as W
 use Rattle.coding.specs.Field as Field
@@ -23,13 +22,13 @@ use Rattle.message_step.specs.Lead.{PlaceSmall}
 use Rattle.field_arrival.specs.Within.{StepWithin}
 
 -- ---- an arrival
-module _ (d : ℕ) (S : Schema) (m : List ℕ) (ob : Object) (p : Place) (at : ℕ) (e : at ≡ W.placed p) where
-  pub arrive-deep : d ≡ 0 → (r : Found) → r ≡ Fd.Refused (Field.refusal 5 at) → r ≡ Field.arrived d u48 S m ob p
+module _ (o d : ℕ) (S : Schema) (m : List ℕ) (ob : Object) (p : Place) (at : ℕ) (e : at ≡ W.placed p) where
+  pub arrive-deep : d ≡ 0 → (r : Found) → r ≡ Fd.Refused (W.refusal 5 at) → r ≡ Field.arrived d o S m ob p
   unfolding Field.arrived
-  arrive-deep z r f = rw z (f ∙ ap (λ (k : ℕ). Fd.Refused (Field.refusal 5 k)) e)
+  arrive-deep z r f = rw z (f ∙ ap (λ (k : ℕ). Fd.Refused (W.refusal 5 k)) e)
 
-  module _ (l : d ≡ 0 → ⊥) (g : Opened) (eg : g ≡ W.openObject u48 S m ob p) where
-    goes : (k : ℕ) → (k ≡ 0 → ⊥) → Field.opened ob at (k - 1) g ≡ Field.arrived k u48 S m ob p
+  module _ (l : d ≡ 0 → ⊥) (g : Opened) (eg : g ≡ W.openObject o S m ob p) where
+    goes : (k : ℕ) → (k ≡ 0 → ⊥) → Field.opened ob at (k - 1) g ≡ Field.arrived k o S m ob p
     unfolding Field.arrived
     goes zero z = absurd (z refl)
     goes (suc k) z =
@@ -37,57 +36,57 @@ module _ (d : ℕ) (S : Schema) (m : List ℕ) (ob : Object) (p : Place) (at : �
         ap (λ (x : ℕ). Field.opened ob x (suc k - 1) g) e ∙ ap (λ (x : ℕ). Field.opened ob (W.placed p) x g) q
         ∙ ap (Field.opened ob (W.placed p) k) eg
 
-    pub arrive-refused : (n : ℕ) → g ≡ Op.Refused n → (r : Found) → r ≡ Fd.Refused (Field.refusal n at) → r ≡ Field.arrived d u48 S m ob p
+    pub arrive-refused : (n : ℕ) → g ≡ Op.Refused n → (r : Found) → r ≡ Fd.Refused (W.refusal n at) → r ≡ Field.arrived d o S m ob p
     unfolding Field.opened
     arrive-refused n q r f = f ∙ sym (ap (Field.opened ob at (d - 1)) q) ∙ goes d l
 
-    pub arrive-content : (start n : ℕ) → g ≡ Op.Content start n → Fd.Object ob at start n (d - 1) ≡ Field.arrived d u48 S m ob p
+    pub arrive-content : (start n : ℕ) → g ≡ Op.Content start n → Fd.Object ob at start n (d - 1) ≡ Field.arrived d o S m ob p
     unfolding Field.opened
     arrive-content start n q = sym (ap (Field.opened ob at (d - 1)) q) ∙ goes d l
 
-module _ (d : ℕ) (S : Schema) (m : List ℕ) (holder : ℕ) (ob : Object) (p : Place) (r : Found) where
-  pub choose-none : (x : ℕ) → p ≡ ByOffset x → x ≡ 0 → r ≡ Fd.Refused (Field.refusal 9 holder) → r ≡ Field.chosen d u48 S m holder ob p
-  unfolding Field.chosen
+module _ (o d : ℕ) (S : Schema) (m : List ℕ) (holder j : ℕ) (ob : Object) (p : Place) (r : Found) where
+  pub choose-none : (x : ℕ) → p ≡ ByOffset x → x ≡ 0 → r ≡ Fd.Refused (W.refusal 9 holder) → r ≡ Field.chosen d o S m holder j ob p
+  unfolding Field.chosen Field.partRefused
   choose-none x e z f = rw e (simp (eq-eqb _ _ z) f)
 
-  pub choose-offset : (x : ℕ) → p ≡ ByOffset x → (x ≡ 0 → ⊥) → r ≡ Field.arrived d u48 S m ob (ByOffset x) → r ≡ Field.chosen d u48 S m holder ob p
+  pub choose-offset : (x : ℕ) → p ≡ ByOffset x → (x ≡ 0 → ⊥) → r ≡ Field.arrived d o S m ob (ByOffset x) → r ≡ Field.chosen d o S m holder j ob p
   unfolding Field.chosen
   choose-offset x e z f = rw e (simp (ne-eqb _ _ z) f)
 
-  pub choose-inplace : (a n : ℕ) → p ≡ InPlace a n → r ≡ Field.arrived d u48 S m ob (InPlace a n) → r ≡ Field.chosen d u48 S m holder ob p
+  pub choose-inplace : (a n : ℕ) → p ≡ InPlace a n → r ≡ Field.arrived d o S m ob (InPlace a n) → r ≡ Field.chosen d o S m holder j ob p
   unfolding Field.chosen
   choose-inplace a n e f = rw e f
 
 -- ---- what a step finds
-module _ (d : ℕ) (S : Schema) (m : List ℕ) (holder : ℕ) (k : Kind) (step : Step) where
-  pub follow-absent : step ≡ St.Absent → Fd.Absent ≡ Field.stepped d u48 S m holder k step
+module _ (o d : ℕ) (S : Schema) (m : List ℕ) (holder j : ℕ) (k : Kind) (step : Step) where
+  pub follow-absent : step ≡ St.Absent → Fd.Absent ≡ Field.stepped d o S m holder j k step
   unfolding Field.stepped
   follow-absent e = rw e
 
-  pub follow-value : (x : ℕ) → step ≡ St.Value x → Fd.Value k x holder ≡ Field.stepped d u48 S m holder k step
+  pub follow-value : (x : ℕ) → step ≡ St.Value x → Fd.Value k x holder ≡ Field.stepped d o S m holder j k step
   unfolding Field.stepped
   follow-value x e = rw e
 
-  pub follow-unknown : (x : ℕ) → step ≡ St.Unknown x → Fd.Unknown x ≡ Field.stepped d u48 S m holder k step
+  pub follow-unknown : (x : ℕ) → step ≡ St.Unknown x → Fd.Unknown x ≡ Field.stepped d o S m holder j k step
   unfolding Field.stepped
   follow-unknown x e = rw e
 
-  pub follow-struct : (i at : ℕ) → step ≡ St.Struct i at → Fd.Struct i at holder ≡ Field.stepped d u48 S m holder k step
+  pub follow-struct : (i at : ℕ) → step ≡ St.Struct i at → Fd.Struct i at holder ≡ Field.stepped d o S m holder j k step
   unfolding Field.stepped
   follow-struct i at e = rw e
 
   module _ (r : Found) where
-    pub follow-refused : (n : ℕ) → step ≡ St.Refused n → r ≡ Fd.Refused (Field.refusal n holder) → r ≡ Field.stepped d u48 S m holder k step
-    unfolding Field.stepped
+    pub follow-refused : (n : ℕ) → step ≡ St.Refused n → r ≡ Fd.Refused (W.refusal n holder) → r ≡ Field.stepped d o S m holder j k step
+    unfolding Field.stepped Field.partRefused
     follow-refused n e f = rw e f
 
-    pub follow-object : (ob : Object) (p : Place) → step ≡ St.Object ob p → r ≡ Field.arrived d u48 S m ob p
-        → r ≡ Field.stepped d u48 S m holder k step
+    pub follow-object : (ob : Object) (p : Place) → step ≡ St.Object ob p → r ≡ Field.arrived d o S m ob p
+        → r ≡ Field.stepped d o S m holder j k step
     unfolding Field.stepped
     follow-object ob p e f = rw e f
 
-    pub follow-choice : (c : ℕ) (ob : Object) (p : Place) → step ≡ St.Choice c ob p → r ≡ Field.chosen d u48 S m holder ob p
-        → r ≡ Field.stepped d u48 S m holder k step
+    pub follow-choice : (c : ℕ) (ob : Object) (p : Place) → step ≡ St.Choice c ob p → r ≡ Field.chosen d o S m holder j ob p
+        → r ≡ Field.stepped d o S m holder j k step
     unfolding Field.stepped
     follow-choice c ob p e f = rw e f
 

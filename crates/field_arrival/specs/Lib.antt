@@ -1,2 +1,3 @@
--- What is found lies within the message.
+-- What is found lies within the message; what arrivals and parts come to.
 pub mod Within
+pub mod Parts

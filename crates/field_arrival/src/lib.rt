@@ -1,4 +1,4 @@
-// An arrival at an object of the message, and what a step of an object finds.
+// An arrival at an object of the message, and what the step of a part of an object finds.
 use coding::Found;
 use coding::Kind;
 use coding::Object;
@@ -10,14 +10,35 @@ ghost use mathlib.Core.Path.{_≡_};
 ghost use Rattle.coding.specs.Bytes as B;
 ghost use Rattle.coding.specs.Field as F;
 ghost use Rattle.coding.specs.Packed as P;
+ghost use Rattle.coding.specs.Walk as W;
 ghost use Rattle.laws.specs.Sound.{ObjectSound};
 ghost use Rattle.schema.specs.Directory.{Accepted};
 ghost use Rattle.message_step.specs.Lead as D;
-ghost use Rattle.field_arrival.specs.Within.{StepWithin};
+ghost use Rattle.field_arrival.specs.Within.{StepIn};
+ghost use Rattle.field_arrival.specs.Parts.{arrivedBy, chosenBy, steppedBy};
+
+// The content of an object that a path has come to: the object's place, where its content starts, its length, and how many
+// objects of depth are left below it.
+pub struct Content {
+    pub place: usize,
+    pub start: usize,
+    pub length: usize,
+    pub left: usize,
+}
+
+// A part of an object: the place of the object that holds it, its number there, its kind, and how many objects of depth are
+// left below the holder.
+pub struct Part {
+    pub holder: usize,
+    pub number: usize,
+    pub kind: Kind,
+    pub left: usize,
+}
 
 // ---- arrivals
+// The refusal n at a place.
 pub fn refuse(n: u8, at: usize) -> Found
-    ensures { λ r. ⌜ r ≡ Found.Refused (F.refusal n at) ⌝ }
+    ensures { λ r. ⌜ r ≡ Found.Refused (W.refusal n at) ⌝ }
 {
     let why = Refusal {
         number: n,
@@ -29,7 +50,7 @@ pub fn refuse(n: u8, at: usize) -> Found
 // An arrival at an object with d objects of depth left, this one counted.
 pub fn arrive(b: &[u8], dir: &[u16], m: &[u8], d: usize, ob: Object, p: Place) -> Found
     requires { ⌜ (Accepted (now b) (now dir)) × (ObjectSound (P.parse (now b)) ob) × D.PlaceSmall p ⌝ }
-    ensures { λ r. ⌜ r ≡ F.arrived d B.u48 (P.parse (now (b .entry))) (now (m .entry)) ob p ⌝ }
+    ensures { λ r. ⌜ r ≡ arrivedBy B.u48 (now (b .entry)) (now (m .entry)) d ob p ⌝ }
 {
     let at = message_object::placed(p);
     if d == 0 {
@@ -41,43 +62,36 @@ pub fn arrive(b: &[u8], dir: &[u16], m: &[u8], d: usize, ob: Object, p: Place) -
     }
 }
 
-// The object of a union's known choice.
-fn choose(b: &[u8], dir: &[u16], m: &[u8], d: usize, holder: usize, ob: Object, p: Place) -> Found
+// The object of the known choice of a union that is a part.
+fn choose(b: &[u8], dir: &[u16], m: &[u8], part: Part, ob: Object, p: Place) -> Found
     requires { ⌜ (Accepted (now b) (now dir)) × (ObjectSound (P.parse (now b)) ob) × D.PlaceSmall p ⌝ }
-    ensures { λ r. ⌜ r ≡ F.chosen d B.u48 (P.parse (now (b .entry))) (now (m .entry)) holder ob p ⌝ }
+    ensures { λ r. ⌜ r ≡ chosenBy B.u48 (now (b .entry)) (now (m .entry)) part ob p ⌝ }
 {
     match p {
         Place::ByOffset(x) => {
             if x == 0 {
-                return refuse(9, holder);
+                return refuse(9, part.holder);
             }
-            arrive(b, dir, m, d, ob, Place::ByOffset(x))
+            arrive(b, dir, m, part.left, ob, Place::ByOffset(x))
         }
-        Place::InPlace(a, n) => arrive(b, dir, m, d, ob, Place::InPlace(a, n)),
+        Place::InPlace(a, n) => arrive(b, dir, m, part.left, ob, Place::InPlace(a, n)),
     }
 }
 
 // ---- what a step finds
-// What a step of the object at `holder` finds, with d objects of depth left below it.
-pub fn follow(
-    b: &[u8],
-    dir: &[u16],
-    m: &[u8],
-    d: usize,
-    holder: usize,
-    k: Kind,
-    step: Step,
-) -> Found
-    requires { ⌜ (Accepted (now b) (now dir)) × StepWithin (P.parse (now b)) (now m) step ⌝ }
-    ensures { λ r. ⌜ r ≡ F.stepped d B.u48 (P.parse (now (b .entry))) (now (m .entry)) holder k step ⌝ }
+// What the step of a part finds.
+pub fn follow(b: &[u8], dir: &[u16], m: &[u8], part: Part, step: Step) -> Found
+    requires { ⌜ (Accepted (now b) (now dir)) × StepIn (now b) (now m) step ⌝ }
+    ensures { λ r. ⌜ r ≡ steppedBy B.u48 (now (b .entry)) (now (m .entry)) part step ⌝ }
 {
+    let kind = part.kind;
     match step {
-        Step::Refused(e) => refuse(e, holder),
+        Step::Refused(e) => refuse(e, part.holder),
         Step::Absent => Found::Absent,
-        Step::Value(x) => Found::Value(k, x, holder),
+        Step::Value(x) => Found::Value(kind, x, part.holder),
         Step::Unknown(x) => Found::Unknown(x),
-        Step::Struct(i, at) => Found::Struct(i, at, holder),
-        Step::Object(ob, p) => arrive(b, dir, m, d, ob, p),
-        Step::Choice(_, ob, p) => choose(b, dir, m, d, holder, ob, p),
+        Step::Struct(i, at) => Found::Struct(i, at, part.holder),
+        Step::Object(ob, p) => arrive(b, dir, m, part.left, ob, p),
+        Step::Choice(_, ob, p) => choose(b, dir, m, part, ob, p),
     }
 }

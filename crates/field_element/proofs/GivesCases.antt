@@ -31,7 +31,6 @@ use Rattle.coding.specs.declared.Answer.{Answer}
 use Rattle.coding.specs.declared.Answer.the-variants as A
 use Rattle.laws.specs.Lists.{pick-holds}
 use Rattle.laws.specs.Sound.{ObjectSound, KindSound}
-use Rattle.wire.specs.Numbers.{Number}
 use Rattle.schema.specs.Directory.{Accepted, accepted-sound}
 use Rattle.field_element.specs.Listed.{offsetGives}
 use Rattle.field_arrival.specs.Within.{Readable}
@@ -44,7 +43,7 @@ unfolding Field.listFound Field.before
 list-reads S O.Text at start n d = tt
 list-reads S O.Bytes at start n d = tt
 list-reads S (O.List i) at start n d =
-    pick-holds Reads (Field.leads (Sc.elementOf S i)) (Fd.Object (O.List i) at start n d) (Fd.Refused (Field.refusal 15 0)) (λ e. tt) (λ e. tt)
+    pick-holds Reads (Field.leads (Sc.elementOf S i)) (Fd.Object (O.List i) at start n d) (Fd.Refused (W.refusal 15 0)) (λ e. tt) (λ e. tt)
 list-reads S (O.Table i) at start n d = tt
 
 of-reads : (S : Schema) (f : Found) → Reads (Field.readerOf S f)
@@ -56,27 +55,27 @@ of-reads S (Fd.Value k x holder) = tt
 of-reads S (Fd.Struct i at holder) = tt
 of-reads S (Fd.Object ob at start n d) = list-reads S ob at start n d
 
-pub reader-reads : (b m path : List ℕ) (list : Found) → list ≡ Field.readerStart u48 b m path → Reads list
+pub reader-reads : (o : ℕ) (b m path : List ℕ) (list : Found) → list ≡ Field.readerStart o b m path → Reads list
 unfolding Field.readerStart
-reader-reads b m path list e = subst Reads (sym e) (of-reads (P.parse b) (Field.fieldFound u48 b m path))
+reader-reads o b m path list e = subst Reads (sym e) (of-reads (P.parse b) (Field.fieldFound o b m path))
 
 -- ---- an arrival's answer
 module _ (d : ℕ) (S : Schema) (m : List ℕ) (ob : Object) (x : ℕ) where
-  pub answer-deep : d ≡ 0 → (r : Answer) → r ≡ A.Refused (Field.refusal 5 x) → r ≡ Field.answerOf (Field.arrived d u48 S m ob (ByOffset x))
+  pub answer-deep : d ≡ 0 → (r : Answer) → r ≡ A.Refused (W.refusal 5 x) → r ≡ Field.answerOf (Field.arrived d u48 S m ob (ByOffset x))
   unfolding Field.answerOf W.placed
-  answer-deep z r e = e ∙ ap Field.answerOf (arrive-deep d S m ob (ByOffset x) x refl z (Fd.Refused (Field.refusal 5 x)) refl)
+  answer-deep z r e = e ∙ ap Field.answerOf (arrive-deep u48 d S m ob (ByOffset x) x refl z (Fd.Refused (W.refusal 5 x)) refl)
 
   module _ (l : d ≡ 0 → ⊥) (g : Opened) (eg : g ≡ W.openObject u48 S m ob (ByOffset x)) where
-    pub answer-shut : (n : ℕ) → g ≡ Op.Refused n → (r : Answer) → r ≡ A.Refused (Field.refusal n x)
+    pub answer-shut : (n : ℕ) → g ≡ Op.Refused n → (r : Answer) → r ≡ A.Refused (W.refusal n x)
         → r ≡ Field.answerOf (Field.arrived d u48 S m ob (ByOffset x))
     unfolding Field.answerOf W.placed
-    answer-shut n q r e = e ∙ ap Field.answerOf (arrive-refused d S m ob (ByOffset x) x refl l g eg n q (Fd.Refused (Field.refusal n x)) refl)
+    answer-shut n q r e = e ∙ ap Field.answerOf (arrive-refused u48 d S m ob (ByOffset x) x refl l g eg n q (Fd.Refused (W.refusal n x)) refl)
 
     pub answer-open : (start n : ℕ) → g ≡ Op.Content start n → (k : ℕ) → k ≡ Field.recordKind ob
         → A.Object k x n ≡ Field.answerOf (Field.arrived d u48 S m ob (ByOffset x))
     unfolding Field.answerOf W.placed
     answer-open start n q k ek =
-        ap (λ (y : ℕ). A.Object y x n) ek ∙ ap Field.answerOf (arrive-content d S m ob (ByOffset x) x refl l g eg start n q)
+        ap (λ (y : ℕ). A.Object y x n) ek ∙ ap Field.answerOf (arrive-content u48 d S m ob (ByOffset x) x refl l g eg start n q)
 
 -- ---- an offset's
 module _ (d : ℕ) (S : Schema) (m : List ℕ) (ob : Object) (y : ℕ) where
@@ -89,28 +88,26 @@ module _ (d : ℕ) (S : Schema) (m : List ℕ) (ob : Object) (y : ℕ) where
   there-at x ey z r e =
       simp (ne-eqb x 0 (λ w. z (ey ∙ w))) (e ∙ ap (λ (q : ℕ). Field.answerOf (Field.arrived d u48 S m ob (ByOffset q))) ey)
 
-  pub offset-none : (at : ℕ) → Number m at 6 y → y ≡ 0 → A.Absent ≡ offsetGives d u48 S m ob (le m at u48)
-  unfolding u48
-  offset-none at num z = none-at (le m at u48) (num .is) z
+  pub offset-none : (at : ℕ) → y ≡ le m at u48 → y ≡ 0 → A.Absent ≡ offsetGives d u48 S m ob (le m at u48)
+  offset-none at num z = none-at (le m at u48) num z
 
-  pub offset-there : (at : ℕ) → Number m at 6 y → (y ≡ 0 → ⊥) → (r : Answer) → r ≡ Field.answerOf (Field.arrived d u48 S m ob (ByOffset y))
+  pub offset-there : (at : ℕ) → y ≡ le m at u48 → (y ≡ 0 → ⊥) → (r : Answer) → r ≡ Field.answerOf (Field.arrived d u48 S m ob (ByOffset y))
       → r ≡ offsetGives d u48 S m ob (le m at u48)
-  unfolding u48
-  offset-there at num z r e = there-at (le m at u48) (num .is) z r e
+  offset-there at num z r e = there-at (le m at u48) num z r e
 
 -- ---- an element's
 module _ (S : Schema) (m : List ℕ) (i at start n d j : ℕ) (r : Answer) where
-  pub element-none : n ≤ j → r ≡ A.Refused (Field.refusal 15 at) → r ≡ Field.answerOf (Field.objectPart u48 S m (O.List i) at start n d j)
+  pub element-none : n ≤ j → r ≡ A.Refused (W.refusal 15 at) → r ≡ Field.answerOf (Field.objectPart u48 S m (O.List i) at start n d j)
   unfolding Field.objectPart Field.noPart Field.answerOf
   element-none h e = simp (le-ltb _ _ h) e
 
   offset-answers : (ob : Object) (x : ℕ)
-      → offsetGives d u48 S m ob x ≡ Field.answerOf (Field.stepped d u48 S m at (OfObject ob) (T.objectStep ob false 0 x))
-  unfolding offsetGives T.objectStep T.placeOf Field.stepped Field.answerOf
+      → offsetGives d u48 S m ob x ≡ Field.answerOf (Field.stepped d u48 S m at j (OfObject ob) (T.structTested S m (T.objectStep ob false 0 x)))
+  unfolding offsetGives T.objectStep T.placeOf T.structTested Field.stepped Field.answerOf
   offset-answers ob x = by (eqb x 0)
     where
       by : (t : Bool) → pick t A.Absent (Field.answerOf (Field.arrived d u48 S m ob (ByOffset x)))
-          ≡ Field.answerOf (Field.stepped d u48 S m at (OfObject ob) (pick t St.Absent (St.Object ob (ByOffset x))))
+          ≡ Field.answerOf (Field.stepped d u48 S m at j (OfObject ob) (T.structTested S m (pick t St.Absent (St.Object ob (ByOffset x)))))
       by true = refl
       by false = refl
 

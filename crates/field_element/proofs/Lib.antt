@@ -1,2 +1,3 @@
 pub mod ReaderCases
 pub mod GivesCases
+pub mod StepCases

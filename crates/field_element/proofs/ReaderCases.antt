@@ -2,17 +2,11 @@
 use mathlib.Core.Path.{_≡_, refl, sym, ap, _∙_, subst}
 use mathlib.Core.Bool.{Bool, true, false}
 use mathlib.Core.List.{List}
-use Prim.Native.Nat.{ℕ, _<_}
-use lib.ListN.{length}
-use lib.Dec.{leb}
-use borrow.Author.Tests.{lt-leb}
-use mathlib.Core.Bool.{and-false}
-use Rattle.coding.specs.Lists.{pick}
-use Rattle.coding.specs.Bytes.{u48, largest}
+use Prim.Native.Nat.{ℕ}
+use Rattle.coding.specs.Bytes.{u48}
 use Rattle.coding.specs.Schema as Sc
 use Rattle.coding.specs.Schema.{Schema}
 use Rattle.coding.specs.Packed as P
-use Rattle.coding.specs.Lawful.{lawful}
 use Rattle.coding.specs.Walk as W
 use Rattle.coding.specs.Field as Field
 use Rattle.coding.specs.declared.Flat.{Flat}
@@ -46,7 +40,7 @@ module _ (k : Kind) where
 
 -- ---- the list
 module _ (S : Schema) (ob : Object) (at start n d : ℕ) where
-  module _ (r : Found) (er : r ≡ Fd.Refused (Field.refusal 15 0)) where
+  module _ (r : Found) (er : r ≡ Fd.Refused (W.refusal 15 0)) where
     pub list-text : ob ≡ O.Text → r ≡ Field.listFound S ob at start n d
     unfolding Field.listFound Field.before
     list-text e = rw e er
@@ -78,19 +72,19 @@ module _ (S : Schema) (f : Found) where
   from-refused x e = rw e
 
   module _ (r : Found) where
-    pub from-absent : f ≡ Fd.Absent → r ≡ Fd.Refused (Field.refusal 15 0) → r ≡ Field.readerOf S f
+    pub from-absent : f ≡ Fd.Absent → r ≡ Fd.Refused (W.refusal 15 0) → r ≡ Field.readerOf S f
     unfolding Field.readerOf Field.before
     from-absent e q = rw e q
 
-    pub from-unknown : (x : ℕ) → f ≡ Fd.Unknown x → r ≡ Fd.Refused (Field.refusal 15 0) → r ≡ Field.readerOf S f
+    pub from-unknown : (x : ℕ) → f ≡ Fd.Unknown x → r ≡ Fd.Refused (W.refusal 15 0) → r ≡ Field.readerOf S f
     unfolding Field.readerOf Field.before
     from-unknown x e q = rw e q
 
-    pub from-value : (k : Kind) (x holder : ℕ) → f ≡ Fd.Value k x holder → r ≡ Fd.Refused (Field.refusal 15 0) → r ≡ Field.readerOf S f
+    pub from-value : (k : Kind) (x holder : ℕ) → f ≡ Fd.Value k x holder → r ≡ Fd.Refused (W.refusal 15 0) → r ≡ Field.readerOf S f
     unfolding Field.readerOf Field.before
     from-value k x holder e q = rw e q
 
-    pub from-struct : (i at holder : ℕ) → f ≡ Fd.Struct i at holder → r ≡ Fd.Refused (Field.refusal 15 0) → r ≡ Field.readerOf S f
+    pub from-struct : (i at holder : ℕ) → f ≡ Fd.Struct i at holder → r ≡ Fd.Refused (W.refusal 15 0) → r ≡ Field.readerOf S f
     unfolding Field.readerOf Field.before
     from-struct i at holder e q = rw e q
 
@@ -98,57 +92,36 @@ module _ (S : Schema) (f : Found) where
     unfolding Field.readerOf
     from-object ob at start n d e q = rw e q
 
-list-within : (S : Schema) (m : List ℕ) (ob : Object) (at start n d : ℕ) → FoundWithin S m (Fd.Object ob at start n d)
-    → FoundWithin S m (Field.listFound S ob at start n d)
+list-within : (o : ℕ) (S : Schema) (m : List ℕ) (ob : Object) (at start n d : ℕ) → FoundWithin o S m (Fd.Object ob at start n d)
+    → FoundWithin o S m (Field.listFound S ob at start n d)
 unfolding Field.listFound Field.before
-list-within S m O.Text at start n d h = tt
-list-within S m O.Bytes at start n d h = tt
-list-within S m (O.List i) at start n d h =
-    pick-holds (FoundWithin S m) (Field.leads (Sc.elementOf S i)) (Fd.Object (O.List i) at start n d) (Fd.Refused (Field.refusal 15 0)) (λ e. h) (λ e. tt)
-list-within S m (O.Table i) at start n d h = tt
+list-within o S m O.Text at start n d h = tt
+list-within o S m O.Bytes at start n d h = tt
+list-within o S m (O.List i) at start n d h =
+    pick-holds (FoundWithin o S m) (Field.leads (Sc.elementOf S i)) (Fd.Object (O.List i) at start n d) (Fd.Refused (W.refusal 15 0)) (λ e. h) (λ e. tt)
+list-within o S m (O.Table i) at start n d h = tt
 
-pub object-list-within : (S : Schema) (m : List ℕ) (f : Found) → FoundWithin S m f → (ob : Object) (at start n d : ℕ) → f ≡ Fd.Object ob at start n d
-    → (r : Found) → r ≡ Field.listFound S ob at start n d → FoundWithin S m r
-object-list-within S m f h ob at start n d e r er = rw er (list-within S m ob at start n d (subst (FoundWithin S m) e h))
+pub object-list-within : (o : ℕ) (S : Schema) (m : List ℕ) (f : Found) → FoundWithin o S m f → (ob : Object) (at start n d : ℕ) → f ≡ Fd.Object ob at start n d
+    → (r : Found) → r ≡ Field.listFound S ob at start n d → FoundWithin o S m r
+object-list-within o S m f h ob at start n d e r er = rw er (list-within o S m ob at start n d (subst (FoundWithin o S m) e h))
 
-pub reader-found : (b m path : List ℕ) (f : Found) → f ≡ Field.fieldFound u48 b m path → (r : Found) → r ≡ Field.readerOf (P.parse b) f
-    → r ≡ Field.readerStart u48 b m path
+pub reader-found : (o : ℕ) (b m path : List ℕ) (f : Found) → f ≡ Field.fieldFound o b m path → (r : Found) → r ≡ Field.readerOf (P.parse b) f
+    → r ≡ Field.readerStart o b m path
 unfolding Field.readerStart
-reader-found b m path f e r q = q ∙ ap (Field.readerOf (P.parse b)) e
+reader-found o b m path f e r q = q ∙ ap (Field.readerOf (P.parse b)) e
 
 -- ---- an unlawful schema
 module _ (b dir m path : List ℕ) (t : Bool) (j : Judged b dir t) (f : t ≡ false) where
-  pub start-unlawful : Field.readerStart u48 b m path ≡ Fd.Refused (Field.refusal 1 0)
+  pub start-unlawful : Field.readerStart u48 b m path ≡ Fd.Refused (W.refusal 1 0)
   unfolding Field.readerStart Field.readerOf
   start-unlawful = ap (Field.readerOf (P.parse b)) (unlawful b dir m path t j f)
 
-  pub reader-unlawful : (r : Found) → r ≡ Fd.Refused (Field.refusal 1 0) → r ≡ Field.readerStart u48 b m path
-  reader-unlawful r e = e ∙ sym start-unlawful
-
-  pub gives-unlawful : (i : ℕ) → A.Refused (Field.refusal 1 0) ≡ readerGives u48 b m path i
+  pub gives-unlawful : (i : ℕ) → A.Refused (W.refusal 1 0) ≡ readerGives u48 b m path i
   unfolding readerGives listGives Field.partOf Field.answerOf
   gives-unlawful i = sym (ap (λ (g : Found). Field.answerOf (Field.partOf u48 (P.parse b) m g i)) start-unlawful)
 
 -- ---- a step
-module _ (b m path : List ℕ) (list : Found) (el : list ≡ Field.readerStart u48 b m path) (i : ℕ) (r : Answer) where
-  pub gives-step : r ≡ listGives u48 (P.parse b) m list i → r ≡ readerGives u48 b m path i
+module _ (o : ℕ) (b m path : List ℕ) (list : Found) (el : list ≡ Field.readerStart o b m path) (i : ℕ) (r : Answer) where
+  pub gives-step : r ≡ listGives o (P.parse b) m list i → r ≡ readerGives o b m path i
   unfolding readerGives
-  gives-step e = e ∙ ap (λ (g : Found). listGives u48 (P.parse b) m g i) el
-
-  -- a message over the size has no list: its refusal stays
-  refused-stays : 16777215 < length m
-      → Field.partOf u48 (P.parse b) m (Field.readerStart u48 b m path) i ≡ Field.readerStart u48 b m path
-  unfolding Field.readerStart Field.fieldFound Field.readerOf Field.before Field.partOf W.sizeOk largest
-  refused-stays h =
-      simp (lt-leb _ _ h, and-false) (by (lawful b) (leb (length path) 96))
-    where
-      by : (s t : Bool)
-          → Field.partOf u48 (P.parse b) m (Field.readerOf (P.parse b) (pick s (pick t (Field.before 2) (Field.before 15)) (Field.before 1))) i
-          ≡ Field.readerOf (P.parse b) (pick s (pick t (Field.before 2) (Field.before 15)) (Field.before 1))
-      by true true = refl
-      by true false = refl
-      by false t = refl
-
-  pub gives-long : 16777215 < length m → r ≡ Field.answerOf list → r ≡ readerGives u48 b m path i
-  unfolding readerGives listGives
-  gives-long h e = e ∙ ap Field.answerOf (el ∙ sym (refused-stays h))
+  gives-step e = e ∙ ap (λ (g : Found). listGives o (P.parse b) m g i) el

@@ -5,7 +5,7 @@ use coding::Kind;
 use coding::Object;
 use coding::Opened;
 use coding::Place;
-use coding::Refusal;
+use field_arrival::Content;
 ghost use mathlib.Core.Path.{_≡_};
 ghost use Prim.Native.Nat.{_+_, _<_, _≤_, _^_};
 ghost use lib.ListN.{length};
@@ -17,8 +17,10 @@ ghost use Rattle.coding.specs.Step as T;
 ghost use Rattle.coding.specs.Walk as W;
 ghost use Rattle.laws.specs.Sound.{ObjectSound};
 ghost use Rattle.schema.specs.Directory.{Accepted};
-ghost use Rattle.field_arrival.specs.Within.{Readable, FoundWithin};
+ghost use Rattle.field_arrival.specs.Within.{Readable, FoundIn};
+ghost use Rattle.field_arrival.specs.Parts.{arrivedBy, objectPartBy};
 ghost use Rattle.field_element.specs.Listed.{Listed, Reads, offsetGives};
+ghost use Rattle.wire.specs.Sizes.{HasOffset};
 
 // ---- the list
 // Whether elements of a kind lead to objects.
@@ -32,16 +34,17 @@ fn leads(k: Kind) -> bool
     }
 }
 
-fn list_of(b: &[u8], dir: &[u16], ob: Object, at: usize, start: usize, n: usize, d: usize) -> Found
+// The object, if it is a list whose elements lead to objects; otherwise the refusal 15 at 0.
+fn list_of(b: &[u8], dir: &[u16], ob: Object, c: Content) -> Found
     requires { ⌜ (Accepted (now b) (now dir)) × ObjectSound (P.parse (now b)) ob ⌝ }
-    ensures { λ r. ⌜ r ≡ F.listFound (P.parse (now (b .entry))) ob at start n d ⌝ }
+    ensures { λ r. ⌜ r ≡ F.listFound (P.parse (now (b .entry))) ob (c .place) (c .start) (c .length) (c .left) ⌝ }
 {
     match ob {
         Object::Text => field_arrival::refuse(15, 0),
         Object::Bytes => field_arrival::refuse(15, 0),
         Object::List(i) => {
             if leads(schema::element(b, dir, wire::index(i))) {
-                return Found::Object(Object::List(i), at, start, n, d);
+                return Found::Object(Object::List(i), c.place, c.start, c.length, c.left);
             }
             field_arrival::refuse(15, 0)
         }
@@ -49,9 +52,10 @@ fn list_of(b: &[u8], dir: &[u16], ob: Object, at: usize, start: usize, n: usize,
     }
 }
 
+// What a reader starts from, by what its path comes to.
 fn reader_of(b: &[u8], dir: &[u16], m: &[u8], f: Found) -> Found
-    requires { ⌜ (Accepted (now b) (now dir)) × FoundWithin (P.parse (now b)) (now m) f ⌝ }
-    ensures { λ r. ⌜ (r ≡ F.readerOf (P.parse (now (b .entry))) f) × FoundWithin (P.parse (now (b .entry))) (now (m .entry)) r ⌝ }
+    requires { ⌜ (Accepted (now b) (now dir)) × FoundIn B.u48 (now b) (now m) f ⌝ }
+    ensures { λ r. ⌜ (r ≡ F.readerOf (P.parse (now (b .entry))) f) × FoundIn B.u48 (now (b .entry)) (now (m .entry)) r ⌝ }
 {
     match f {
         Found::Refused(x) => Found::Refused(x),
@@ -59,141 +63,97 @@ fn reader_of(b: &[u8], dir: &[u16], m: &[u8], f: Found) -> Found
         Found::Unknown(_) => field_arrival::refuse(15, 0),
         Found::Value(_, _, _) => field_arrival::refuse(15, 0),
         Found::Struct(_, _, _) => field_arrival::refuse(15, 0),
-        Found::Object(ob, at, start, n, d) => list_of(b, dir, ob, at, start, n, d),
+        Found::Object(ob, place, start, length, left) => {
+            let c = Content {
+                place,
+                start,
+                length,
+                left,
+            };
+            list_of(b, dir, ob, c)
+        }
     }
 }
 
 // The list that a reader goes over, or why there is none, by a schema that was judged before.
 pub fn reader_by(b: &[u8], dir: &[u16], m: &[u8], path: &[u32]) -> Found
     requires { ⌜ Accepted (now b) (now dir) ⌝ }
-    ensures { λ r. ⌜ (r ≡ F.readerStart B.u48 (now (b .entry)) (now (m .entry)) (now (path .entry))) × FoundWithin (P.parse (now (b .entry))) (now (m .entry)) r ⌝ }
+    ensures { λ r. ⌜ (r ≡ F.readerStart B.u48 (now (b .entry)) (now (m .entry)) (now (path .entry))) × (FoundIn B.u48 (now (b .entry)) (now (m .entry)) r) × Reads r ⌝ }
 {
     let f = field_path::found_by(b, dir, m, path);
     reader_of(b, dir, m, f)
 }
 
-// The same, of any message by any schema.
-pub fn reader_start(b: &[u8], m: &[u8], path: &[u32]) -> Found
-    ensures { λ r. ⌜ (r ≡ F.readerStart B.u48 (now (b .entry)) (now (m .entry)) (now (path .entry))) × FoundWithin (P.parse (now (b .entry))) (now (m .entry)) r ⌝ }
-{
-    let mut dir: [u16; 384] = [0; 384];
-    if schema_lawful::judge_schema(b, &mut dir) {
-        return reader_by(b, &dir, m, path);
-    }
-    field_arrival::refuse(1, 0)
-}
-
 // ---- the answer at an element
-// The refusal of a step.
-fn refused(n: u8, at: usize) -> Answer
-    ensures { λ r. ⌜ r ≡ Answer.Refused (F.refusal n at) ⌝ }
-{
-    let why = Refusal {
-        number: n,
-        place: at,
-    };
-    Answer::Refused(why)
-}
-
 // The answer of an arrival at an object by its offset, with d objects of depth left, this one counted.
 fn arrive_answer(b: &[u8], dir: &[u16], m: &[u8], d: usize, ob: Object, x: usize) -> Answer
     requires { ⌜ (Accepted (now b) (now dir)) × (ObjectSound (P.parse (now b)) ob) × (x < 2 ^ 48) ⌝ }
-    ensures { λ r. ⌜ r ≡ F.answerOf (F.arrived d B.u48 (P.parse (now (b .entry))) (now (m .entry)) ob (Place.ByOffset x)) ⌝ }
+    ensures { λ r. ⌜ r ≡ F.answerOf (arrivedBy B.u48 (now (b .entry)) (now (m .entry)) d ob (Place.ByOffset x)) ⌝ }
 {
     if d == 0 {
-        return refused(5, x);
+        return field::refused(5, x);
     }
     match message_object::open_object(b, dir, m, ob, Place::ByOffset(x)) {
-        Opened::Refused(e) => refused(e, x),
+        Opened::Refused(e) => field::refused(e, x),
         Opened::Content(_, n) => Answer::Object(field::record_kind(ob), x, n),
     }
 }
 
-// The answer of an element that is the offset at a place.
+// The answer of an element that is the offset at a place of the message.
 fn offset_answer(b: &[u8], dir: &[u16], m: &[u8], d: usize, ob: Object, at: usize) -> Answer
-    requires { ⌜ (Accepted (now b) (now dir)) × (ObjectSound (P.parse (now b)) ob) × (Readable (now m)) × (at + 6 ≤ length (now m)) ⌝ }
+    requires { ⌜ (Accepted (now b) (now dir)) × (ObjectSound (P.parse (now b)) ob) × (Readable (now m)) × (HasOffset (now m) at) ⌝ }
     ensures { λ r. ⌜ r ≡ offsetGives d B.u48 (P.parse (now (b .entry))) (now (m .entry)) ob (B.le (now (m .entry)) at B.u48) ⌝ }
 {
-    let x = wire::u48_in(m, at) as usize;
+    let x = wire::offset_in(m, at);
     if x == 0 {
         return Answer::Absent;
     }
     arrive_answer(b, dir, m, d, ob, x)
 }
 
-// The answer of an element of any kind.
-fn part_answer(
-    b: &[u8],
-    dir: &[u16],
-    m: &[u8],
-    i: usize,
-    at: usize,
-    start: usize,
-    n: usize,
-    d: usize,
-    j: usize,
-) -> Answer
+// The answer of element j of a list, whatever its kind is.
+fn part_answer(b: &[u8], dir: &[u16], m: &[u8], i: usize, c: Content, j: usize) -> Answer
     requires { ⌜ (Accepted (now b) (now dir)) × (Readable (now m)) × (i < P.listCount (now b)) ⌝ }
-    requires { ⌜ start + T.elementsSize B.u48 (P.parse (now b)) (Sc.elementOf (P.parse (now b)) i) n ≤ length (now m) ⌝ }
-    ensures { λ r. ⌜ r ≡ F.answerOf (F.objectPart B.u48 (P.parse (now (b .entry))) (now (m .entry)) (Object.List i) at start n d j) ⌝ }
+    requires { ⌜ c .start + T.elementsSize B.u48 (P.parse (now b)) (Sc.elementOf (P.parse (now b)) i) (c .length) ≤ length (now m) ⌝ }
+    ensures { λ r. ⌜ r ≡ F.answerOf (objectPartBy B.u48 (now (b .entry)) (now (m .entry)) (Object.List i) c j) ⌝ }
 {
-    let f = field_part::list_part(b, dir, m, i, at, start, n, d, j);
+    let f = field_part::list_part(b, dir, m, i, c, j);
     field::answer_of(b, m, f)
 }
 
-// The answer of element j of a list; an offset is followed at once.
-fn element_answer(
-    b: &[u8],
-    dir: &[u16],
-    m: &[u8],
-    i: usize,
-    at: usize,
-    start: usize,
-    n: usize,
-    d: usize,
-    j: usize,
-) -> Answer
+// The answer of element j of a list of index i in the schema; an offset is followed at once.
+fn element_answer(b: &[u8], dir: &[u16], m: &[u8], i: usize, c: Content, j: usize) -> Answer
     requires { ⌜ (Accepted (now b) (now dir)) × (Readable (now m)) × (i < P.listCount (now b)) ⌝ }
-    requires { ⌜ start + T.elementsSize B.u48 (P.parse (now b)) (Sc.elementOf (P.parse (now b)) i) n ≤ length (now m) ⌝ }
-    ensures { λ r. ⌜ r ≡ F.answerOf (F.objectPart B.u48 (P.parse (now (b .entry))) (now (m .entry)) (Object.List i) at start n d j) ⌝ }
+    requires { ⌜ c .start + T.elementsSize B.u48 (P.parse (now b)) (Sc.elementOf (P.parse (now b)) i) (c .length) ≤ length (now m) ⌝ }
+    ensures { λ r. ⌜ r ≡ F.answerOf (objectPartBy B.u48 (now (b .entry)) (now (m .entry)) (Object.List i) c j) ⌝ }
 {
-    if n <= j {
-        return refused(15, at);
+    if c.length <= j {
+        return field::refused(15, c.place);
     }
     match schema::element(b, dir, i) {
-        Kind::OfFlat(_) => part_answer(b, dir, m, i, at, start, n, d, j),
-        Kind::OfObject(ob) => offset_answer(b, dir, m, d, ob, start + 6 * j),
-        Kind::OfUnion(_) => part_answer(b, dir, m, i, at, start, n, d, j),
+        Kind::OfFlat(_) => part_answer(b, dir, m, i, c, j),
+        Kind::OfObject(ob) => { offset_answer(b, dir, m, c.left, ob, c.start + wire::OFFSET * j) }
+        Kind::OfUnion(_) => part_answer(b, dir, m, i, c, j),
     }
 }
 
 // The answer of the step at element j of an object that is a list.
-fn list_answer(
-    b: &[u8],
-    dir: &[u16],
-    m: &[u8],
-    ob: Object,
-    at: usize,
-    start: usize,
-    n: usize,
-    d: usize,
-    j: usize,
-) -> Answer
+fn list_answer(b: &[u8], dir: &[u16], m: &[u8], ob: Object, c: Content, j: usize) -> Answer
     requires { ⌜ (Accepted (now b) (now dir)) × (Readable (now m)) × (ObjectSound (P.parse (now b)) ob) × (Listed ob) ⌝ }
-    requires { ⌜ start + W.contentSize B.u48 (P.parse (now b)) ob n ≤ length (now m) ⌝ }
-    ensures { λ r. ⌜ r ≡ F.answerOf (F.objectPart B.u48 (P.parse (now (b .entry))) (now (m .entry)) ob at start n d j) ⌝ }
+    requires { ⌜ c .start + W.contentSize B.u48 (P.parse (now b)) ob (c .length) ≤ length (now m) ⌝ }
+    ensures { λ r. ⌜ r ≡ F.answerOf (objectPartBy B.u48 (now (b .entry)) (now (m .entry)) ob c j) ⌝ }
 {
     match ob {
         Object::Text => Answer::Absent,
         Object::Bytes => Answer::Absent,
-        Object::List(i) => element_answer(b, dir, m, wire::index(i), at, start, n, d, j),
+        Object::List(i) => element_answer(b, dir, m, wire::index(i), c, j),
         Object::Table(_) => Answer::Absent,
     }
 }
 
-// The answer of the step at element j of the list that was found.
-pub fn reader_step(b: &[u8], dir: &[u16], m: &[u8], list: Found, j: usize) -> Answer
-    requires { ⌜ (Accepted (now b) (now dir)) × (Readable (now m)) × (FoundWithin (P.parse (now b)) (now m) list) × (Reads list) ⌝ }
+// The answer of the step at element j of the list that a reader goes over, or the refusal that stands for it.
+pub fn step_answer(b: &[u8], dir: &[u16], m: &[u8], list: Found, j: usize) -> Answer
+    requires { ⌜ (Accepted (now b) (now dir)) × (FoundIn B.u48 (now b) (now m) list) × (Reads list) ⌝ }
     ensures { λ r. ⌜ r ≡ F.listGives B.u48 (P.parse (now (b .entry))) (now (m .entry)) list j ⌝ }
 {
     match list {
@@ -202,32 +162,73 @@ pub fn reader_step(b: &[u8], dir: &[u16], m: &[u8], list: Found, j: usize) -> An
         Found::Unknown(x) => Answer::Unknown(x),
         Found::Value(_, _, _) => Answer::Absent,
         Found::Struct(_, _, _) => Answer::Absent,
-        Found::Object(ob, at, start, n, d) => list_answer(b, dir, m, ob, at, start, n, d, j),
+        Found::Object(ob, place, start, length, left) => {
+            let c = Content {
+                place,
+                start,
+                length,
+                left,
+            };
+            list_answer(b, dir, m, ob, c, j)
+        }
     }
 }
 
-fn reader_at(b: &[u8], dir: &[u16], m: &[u8], path: &[u32], j: usize) -> Answer
+// ---- a step: the answer, and where the reader stands then
+// A step of a list reader: its answer, and the element at which the next step answers.
+pub struct ListStep {
+    pub answer: Answer,
+    pub next: usize,
+}
+
+// How many elements a reader's list has; none where there is no list.
+pub fn list_count(list: Found) -> usize
+    ensures { λ r. ⌜ r ≡ F.listCount list ⌝ }
+{
+    match list {
+        Found::Refused(_) => 0,
+        Found::Absent => 0,
+        Found::Unknown(_) => 0,
+        Found::Value(_, _, _) => 0,
+        Found::Struct(_, _, _) => 0,
+        Found::Object(_, _, _, n, _) => n,
+    }
+}
+
+// Where the reader of a list of n elements stands after the step at element j: at the next element, or where it was if that
+// step was after the last.
+pub fn reader_next(n: usize, j: usize) -> usize
+    ensures { λ r. ⌜ r ≡ F.readerNext n j ⌝ }
+{
+    if j < n {
+        return j + 1;
+    }
+    j
+}
+
+// The step at element j, by a schema that was judged before.
+fn step_by(b: &[u8], dir: &[u16], m: &[u8], path: &[u32], j: usize) -> ListStep
     requires { ⌜ Accepted (now b) (now dir) ⌝ }
-    ensures { λ r. ⌜ r ≡ F.readerGives B.u48 (now (b .entry)) (now (m .entry)) (now (path .entry)) j ⌝ }
+    ensures { λ r. ⌜ (r .answer ≡ F.readerGives B.u48 (now (b .entry)) (now (m .entry)) (now (path .entry)) j) × (r .next ≡ F.readerNext (F.readerCount B.u48 (now (b .entry)) (now (m .entry)) (now (path .entry))) j) ⌝ }
 {
     let list = reader_by(b, dir, m, path);
-    if 16777215 < m.len() {
-        return field::answer_of(b, m, list);
+    ListStep {
+        answer: step_answer(b, dir, m, list, j),
+        next: reader_next(list_count(list), j),
     }
-    reader_step(b, dir, m, list, j)
 }
 
-// The answer of the step at element j, of any message by any schema.
-pub fn reader_answer(b: &[u8], m: &[u8], path: &[u32], j: usize) -> Answer
-    ensures { λ r. ⌜ r ≡ F.readerGives B.u48 (now (b .entry)) (now (m .entry)) (now (path .entry)) j ⌝ }
+// The step at element j of the list that a path leads to, of any message by any schema. The reader moves on, refused or not; after
+// the last element, and where there is no list, it stays.
+pub fn step(b: &[u8], m: &[u8], path: &[u32], j: usize) -> ListStep
+    ensures { λ r. ⌜ (r .answer ≡ F.readerGives B.u48 (now (b .entry)) (now (m .entry)) (now (path .entry)) j) × (r .next ≡ F.readerNext (F.readerCount B.u48 (now (b .entry)) (now (m .entry)) (now (path .entry))) j) ⌝ }
 {
     let mut dir: [u16; 384] = [0; 384];
     if schema_lawful::judge_schema(b, &mut dir) {
-        return reader_at(b, &dir, m, path, j);
+        return step_by(b, &dir, m, path, j);
     }
-    let why = Refusal {
-        number: 1,
-        place: 0,
-    };
-    Answer::Refused(why)
+    ListStep {
+        answer: field::refused(1, 0),
+        next: j,
+    }
 }

@@ -1,72 +1,24 @@
 -- The ways out of many steps of a list reader: what the loop stores, and what a refused reader gives.
 use mathlib.Core.Path.{_≡_, refl, sym, ap, _∙_}
-use mathlib.Core.Bool.{Bool, true, false, and-false}
+use mathlib.Core.Bool.{Bool, false}
 use mathlib.Core.List.{List, [], _∷_, _++_, append-assoc}
 use Prim.Native.Nat.{ℕ, zero, suc, _+_, _*_, _-_, _/_, _<_, _≤_}
 use native.Mathlib.Omega.{arith}
-use borrow.Author.Tests.{lt-leb, lt-ltb, le-ltb}
 use lib.ListN.{length, set, take, drop, length-append, take-append-drop}
 use lib.Seq.{length-take-le, take-at, drop-append-add, drop-drop, sets-eq}
-use lib.Dec.{leb}
-use Rattle.coding.specs.Lists.{pick}
-use Rattle.coding.specs.Bytes.{u48, largest}
-use Rattle.coding.specs.Lawful.{lawful}
-use Rattle.coding.specs.Walk as W
+use Rattle.coding.specs.Bytes.{u48}
 use Rattle.coding.specs.Packed as P
+use Rattle.coding.specs.Walk as W
 use Rattle.coding.specs.Field as Field
 use Rattle.coding.specs.Field.{caseNumbers, answerCase, stepNumbers, stepsOver, readerNext}
-use Rattle.coding.specs.declared.Object.{Object}
-use Rattle.coding.specs.declared.Kind.{Kind}
 use Rattle.coding.specs.declared.Found.{Found}
-use Rattle.coding.specs.declared.Found.the-variants as Fd
-use Rattle.coding.specs.declared.Refusal.{Refusal}
 use Rattle.coding.specs.declared.Answer.{Answer}
 use Rattle.coding.specs.declared.Case.{Case}
 use Rattle.coding.specs.declared.Answer.the-variants as A
 use Rattle.schema.specs.Directory.{Judged}
 use Rattle.field_list.specs.Stepping.{always, stepsLeft}
-use Rattle.field_element.proofs.ReaderCases.{start-unlawful, gives-unlawful, gives-long}
-
--- ---- the number of elements
-module _ (f : Found) where
-  pub count-refused : (x : Refusal) → f ≡ Fd.Refused x → 0 ≡ Field.listCount f
-  unfolding Field.listCount
-  count-refused x e = rw e
-
-  pub count-absent : f ≡ Fd.Absent → 0 ≡ Field.listCount f
-  unfolding Field.listCount
-  count-absent e = rw e
-
-  pub count-unknown : (x : ℕ) → f ≡ Fd.Unknown x → 0 ≡ Field.listCount f
-  unfolding Field.listCount
-  count-unknown x e = rw e
-
-  pub count-value : (k : Kind) (x holder : ℕ) → f ≡ Fd.Value k x holder → 0 ≡ Field.listCount f
-  unfolding Field.listCount
-  count-value k x holder e = rw e
-
-  pub count-struct : (i at holder : ℕ) → f ≡ Fd.Struct i at holder → 0 ≡ Field.listCount f
-  unfolding Field.listCount
-  count-struct i at holder e = rw e
-
-  pub count-object : (ob : Object) (at start n d : ℕ) → f ≡ Fd.Object ob at start n d → n ≡ Field.listCount f
-  unfolding Field.listCount
-  count-object ob at start n d e = rw e
-
--- of an unlawful schema
-pub count-unlawful : (b dir m path : List ℕ) (t : Bool) → Judged b dir t → t ≡ false → 0 ≡ Field.readerCount u48 b m path
-unfolding Field.readerCount Field.listCount
-count-unlawful b dir m path t j f = sym (ap Field.listCount (start-unlawful b dir m path t j f))
-
--- a message over the size has no list
-pub count-long : (b m path : List ℕ) → 16777215 < length m → 0 ≡ Field.readerCount u48 b m path
-unfolding Field.readerCount Field.readerStart Field.fieldFound Field.readerOf Field.before Field.listCount W.sizeOk largest
-count-long b m path h = simp (lt-leb _ _ h, and-false) (by (lawful b) (leb (length path) 96))
-  where
-    by : (s t : Bool) → 0 ≡ Field.listCount (Field.readerOf (P.parse b) (pick s (pick t (Field.before 2) (Field.before 15)) (Field.before 1)))
-    by true true = refl
-    by true false = refl
-    by false t = refl
+use Rattle.field_element.proofs.ReaderCases.{gives-unlawful}
+use Rattle.field_element.proofs.StepCases.{count-unlawful, next-none}
 
 -- ---- the loop
 -- what stands before a store's end and behind it
@@ -154,54 +106,32 @@ put-four out at h x =
 -- ---- a refused reader
 -- where a step at the first element gives q, and the reader does not move, every step does
 module _ (gives : ℕ → Answer) (q : Answer) (j : ℕ) (e : q ≡ gives j) where
-  stays : j ≡ readerNext 0 j
-  unfolding readerNext
-  stays = simp (le-ltb j 0 (omega arith))
-
   same-steps : (k : ℕ) → stepNumbers (always q) 0 0 k ≡ stepNumbers gives 0 j k
   unfolding stepNumbers always readerNext
   same-steps zero = refl
   same-steps (suc k) =
       ap (λ (y : Answer). caseNumbers (answerCase y) ++ stepNumbers (always q) 0 0 k) e
       ∙ ap (λ (t : List ℕ). caseNumbers (answerCase (gives j)) ++ t) (same-steps k)
-      ∙ ap (λ (x : ℕ). caseNumbers (answerCase (gives j)) ++ stepNumbers gives 0 x k) stays
+      ∙ ap (λ (x : ℕ). caseNumbers (answerCase (gives j)) ++ stepNumbers gives 0 x k) (next-none j)
 
   pub same-over : (out : List ℕ) → stepsOver (always q) 0 0 out ≡ stepsOver gives 0 j out
   unfolding stepsOver
   same-over out = ap (λ (t : List ℕ). t ++ drop (4 * (length out / 4)) out) (same-steps (length out / 4))
 
-over-refused : (b m path : List ℕ) (q : Answer) (j : ℕ) → q ≡ Field.readerGives u48 b m path j → 0 ≡ Field.readerCount u48 b m path
-    → (out : List ℕ) → stepsOver (always q) 0 0 out ≡ Field.readerOver u48 b m path j out
+over-refused : (o : ℕ) (b m path : List ℕ) (q : Answer) (j : ℕ) → q ≡ Field.readerGives o b m path j → 0 ≡ Field.readerCount o b m path
+    → (out : List ℕ) → stepsOver (always q) 0 0 out ≡ Field.readerOver o b m path j out
 unfolding Field.readerOver
-over-refused b m path q j e none out =
-    same-over (Field.readerGives u48 b m path) q j e out ∙ ap (λ (n : ℕ). stepsOver (Field.readerGives u48 b m path) n j out) none
+over-refused o b m path q j e none out =
+    same-over (Field.readerGives o b m path) q j e out ∙ ap (λ (n : ℕ). stepsOver (Field.readerGives o b m path) n j out) none
 
-pub over-unlawful : (b dir m path : List ℕ) (t : Bool) → Judged b dir t → t ≡ false → (j : ℕ) (out out′ : List ℕ)
-    → out′ ≡ stepsOver (always (A.Refused (Field.refusal 1 0))) 0 0 out → out′ ≡ Field.readerOver u48 b m path j out
-over-unlawful b dir m path t u f j out out′ h =
-    h ∙ over-refused b m path _ j (gives-unlawful b dir m path t u f j) (count-unlawful b dir m path t u f) out
+pub over-unlawful : (b dir m path : List ℕ) (t : Bool) → Judged b dir t → t ≡ false → (j : ℕ) (out out′ : List ℕ) (q : Answer)
+    → q ≡ A.Refused (W.refusal 1 0) → out′ ≡ stepsOver (always q) 0 0 out → out′ ≡ Field.readerOver u48 b m path j out
+over-unlawful b dir m path t u f j out out′ q eq h =
+    h ∙ over-refused u48 b m path q j (eq ∙ gives-unlawful b dir m path t u f j) (count-unlawful b dir m path t u f) out
 
 -- a reader that has its list, or a refusal that its steps give
-module _ (b m path : List ℕ) (list : Found) (el : list ≡ Field.readerStart u48 b m path) where
-  pub count-found : (r : ℕ) → r ≡ Field.listCount list → r ≡ Field.readerCount u48 b m path
-  unfolding Field.readerCount
-  count-found r e = e ∙ ap Field.listCount el
-
-  pub over-found : (j : ℕ) (out out′ : List ℕ) → out′ ≡ stepsOver (Field.listGives u48 (P.parse b) m list) (Field.listCount list) j out
-      → out′ ≡ Field.readerOver u48 b m path j out
+module _ (o : ℕ) (b m path : List ℕ) (list : Found) (el : list ≡ Field.readerStart o b m path) where
+  pub over-found : (j : ℕ) (out out′ : List ℕ) → out′ ≡ stepsOver (Field.listGives o (P.parse b) m list) (Field.listCount list) j out
+      → out′ ≡ Field.readerOver o b m path j out
   unfolding Field.readerOver Field.readerGives Field.readerCount
-  over-found j out out′ h = h ∙ ap (λ (f : Found). stepsOver (Field.listGives u48 (P.parse b) m f) (Field.listCount f) j out) el
-
-  -- a message over the size
-  pub over-long : 16777215 < length m → (q : Answer) → q ≡ Field.answerOf list → (j : ℕ) (out out′ : List ℕ)
-      → out′ ≡ stepsOver (always q) 0 0 out → out′ ≡ Field.readerOver u48 b m path j out
-  over-long h q e j out out′ x = x ∙ over-refused b m path q j (gives-long b m path list el j q h e) (count-long b m path h) out
-
--- ---- moving on
-pub next-more : (n j : ℕ) → j < n → j + 1 ≡ Field.readerNext n j
-unfolding Field.readerNext
-next-more n j h = simp (lt-ltb _ _ h)
-
-pub next-stays : (n j : ℕ) → n ≤ j → j ≡ Field.readerNext n j
-unfolding Field.readerNext
-next-stays n j h = simp (le-ltb _ _ h)
+  over-found j out out′ h = h ∙ ap (λ (f : Found). stepsOver (Field.listGives o (P.parse b) m f) (Field.listCount f) j out) el

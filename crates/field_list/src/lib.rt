@@ -2,7 +2,6 @@
 use coding::Answer;
 use coding::Case;
 use coding::Found;
-use coding::Refusal;
 ghost use mathlib.Core.Path.{_≡_};
 ghost use Prim.Native.Nat.{_+_, _≤_};
 ghost use lib.ListN.{length, take, drop};
@@ -11,33 +10,11 @@ ghost use Rattle.coding.specs.Bytes as B;
 ghost use Rattle.coding.specs.Field as F;
 ghost use Rattle.coding.specs.Packed as P;
 ghost use Rattle.schema.specs.Directory.{Accepted};
-ghost use Rattle.field_arrival.specs.Within.{Readable, FoundWithin};
+ghost use Rattle.field_arrival.specs.Within.{FoundIn};
 ghost use Rattle.field_element.specs.Listed.{Reads};
 ghost use Rattle.field_list.specs.Stepping as St;
 
-// Where the reader of a list of n elements stands after the step at element j.
-pub fn reader_next(n: usize, j: usize) -> usize
-    ensures { λ r. ⌜ r ≡ F.readerNext n j ⌝ }
-{
-    if j < n {
-        return j + 1;
-    }
-    j
-}
-
-fn list_count(list: Found) -> usize
-    ensures { λ r. ⌜ r ≡ F.listCount list ⌝ }
-{
-    match list {
-        Found::Refused(_) => 0,
-        Found::Absent => 0,
-        Found::Unknown(_) => 0,
-        Found::Value(_, _, _) => 0,
-        Found::Struct(_, _, _) => 0,
-        Found::Object(_, _, _, n, _) => n,
-    }
-}
-
+// The four numbers of a case, stored at a place of the output.
 fn put_case(out: &mut [u64], at: usize, x: Case)
     requires { ⌜ at + 4 ≤ length (now out) ⌝ }
     ensures { λ _. ⌜ now (out .exit) ≡ take at (now (out .entry)) ++ (F.caseNumbers x ++ drop (at + 4) (now (out .entry))) ⌝ }
@@ -63,34 +40,30 @@ fn put_same(out: &mut [u64], answer: Answer)
 
 // As many steps as the output has room for, from an element on, of the list that was found.
 fn put_steps(b: &[u8], dir: &[u16], m: &[u8], list: Found, from: usize, out: &mut [u64])
-    requires { ⌜ (Accepted (now b) (now dir)) × (Readable (now m)) × (FoundWithin (P.parse (now b)) (now m) list) × (Reads list) ⌝ }
+    requires { ⌜ (Accepted (now b) (now dir)) × (FoundIn B.u48 (now b) (now m) list) × (Reads list) ⌝ }
     ensures { λ _. ⌜ now (out .exit) ≡ F.stepsOver (F.listGives B.u48 (P.parse (now (b .entry))) (now (m .entry)) list) (F.listCount list) from (now (out .entry)) ⌝ }
 {
-    let n = list_count(list);
+    let n = field_element::list_count(list);
     let steps = out.len() / 4;
     let mut j = from;
     let mut i: usize = 0;
     while i < steps {
-        let answer = field_element::reader_step(b, dir, m, list, j);
+        let answer = field_element::step_answer(b, dir, m, list, j);
         put_case(out, 4 * i, field::case_of(answer));
-        j = reader_next(n, j);
+        j = field_element::reader_next(n, j);
         i += 1;
     }
 }
 
-// By a schema that was judged before.
+// Many steps of a list reader, by a schema that was judged before.
 fn list_by(b: &[u8], dir: &[u16], m: &[u8], path: &[u32], from: usize, out: &mut [u64]) -> usize
     requires { ⌜ Accepted (now b) (now dir) ⌝ }
     ensures { λ r. ⌜ r ≡ F.readerCount B.u48 (now (b .entry)) (now (m .entry)) (now (path .entry)) ⌝ }
     ensures { λ _. ⌜ now (out .exit) ≡ F.readerOver B.u48 (now (b .entry)) (now (m .entry)) (now (path .entry)) from (now (out .entry)) ⌝ }
 {
     let list = field_element::reader_by(b, dir, m, path);
-    if 16777215 < m.len() {
-        put_same(out, field::answer_of(b, m, list));
-        return 0;
-    }
     put_steps(b, dir, m, list, from, out);
-    list_count(list)
+    field_element::list_count(list)
 }
 
 // Many steps of a list reader, of any message by any schema: from an element on, the case and the three numbers of each step,
@@ -103,10 +76,6 @@ pub fn read_list(b: &[u8], m: &[u8], path: &[u32], from: usize, out: &mut [u64])
     if schema_lawful::judge_schema(b, &mut dir) {
         return list_by(b, &dir, m, path, from, out);
     }
-    let why = Refusal {
-        number: 1,
-        place: 0,
-    };
-    put_same(out, Answer::Refused(why));
+    put_same(out, field::refused(1, 0));
     0
 }

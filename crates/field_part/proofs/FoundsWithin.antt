@@ -34,77 +34,77 @@ use Rattle.schema.specs.Directory.{Accepted, accepted-sound}
 use Rattle.field_arrival.specs.Within.{Readable, StepWithin, FoundWithin}
 use Rattle.field_part.proofs.StepsWithin.{member-within, element-within, field-within, field-sound}
 
-module _ (S : Schema) (m : List ℕ) where
+module _ (S : Schema) (m : List ℕ) (size : length m ≤ 16777215) where
   opened-within : (ob : Object) (at d : ℕ) (w : Opened) → ObjectSound S ob
-      → ((start n : ℕ) → w ≡ Op.Content start n → start + W.contentSize u48 S ob n ≤ length m) → FoundWithin S m (Field.opened ob at d w)
+      → ((start n : ℕ) → w ≡ Op.Content start n → start + W.contentSize u48 S ob n ≤ length m) → FoundWithin u48 S m (Field.opened ob at d w)
   unfolding Field.opened
   opened-within ob at d (Op.Refused n) s h = tt
-  opened-within ob at d (Op.Content start n) s h = (s, h start n refl)
+  opened-within ob at d (Op.Content start n) s h = (s, h start n refl, size)
 
-  arrived-within : (d : ℕ) (ob : Object) (p : Place) → ObjectSound S ob → FoundWithin S m (Field.arrived d u48 S m ob p)
+  arrived-within : (d : ℕ) (ob : Object) (p : Place) → ObjectSound S ob → FoundWithin u48 S m (Field.arrived d u48 S m ob p)
   unfolding Field.arrived
   arrived-within zero ob p s = tt
   arrived-within (suc d) ob p s =
       opened-within ob (W.placed p) d (W.openObject u48 S m ob p) s (λ start n e. opened-fits S m ob p (W.openObject u48 S m ob p) start n refl e)
 
-  chosen-within : (d holder : ℕ) (ob : Object) (p : Place) → ObjectSound S ob → FoundWithin S m (Field.chosen d u48 S m holder ob p)
-  unfolding Field.chosen
-  chosen-within d holder ob (ByOffset x) s =
-      pick-holds (FoundWithin S m) (eqb x 0) (Fd.Refused (Field.refusal 9 holder)) (Field.arrived d u48 S m ob (ByOffset x)) (λ e. tt)
+  chosen-within : (d holder j : ℕ) (ob : Object) (p : Place) → ObjectSound S ob → FoundWithin u48 S m (Field.chosen d u48 S m holder j ob p)
+  unfolding Field.chosen Field.partRefused
+  chosen-within d holder j ob (ByOffset x) s =
+      pick-holds (FoundWithin u48 S m) (eqb x 0) (Fd.Refused (W.refusal 9 holder)) (Field.arrived d u48 S m ob (ByOffset x)) (λ e. tt)
       (λ e. arrived-within d ob (ByOffset x) s)
-  chosen-within d holder ob (InPlace a n) s = arrived-within d ob (InPlace a n) s
+  chosen-within d holder j ob (InPlace a n) s = arrived-within d ob (InPlace a n) s
 
-  stepped-within : (d holder : ℕ) (k : Kind) → KindSound S k → (step : Step) → StepWithin S m step
-      → FoundWithin S m (Field.stepped d u48 S m holder k step)
-  unfolding Field.stepped
-  stepped-within d holder k s (St.Refused n) h = tt
-  stepped-within d holder k s St.Absent h = tt
-  stepped-within d holder k s (St.Value x) h = s
-  stepped-within d holder k s (St.Unknown x) h = tt
-  stepped-within d holder k s (St.Struct i at) h = h
-  stepped-within d holder k s (St.Object ob p) h = arrived-within d ob p (h .0)
-  stepped-within d holder k s (St.Choice c ob p) h = chosen-within d holder ob p (h .0)
+  stepped-within : (d holder j : ℕ) (k : Kind) → KindSound S k → (step : Step) → StepWithin S m step
+      → FoundWithin u48 S m (Field.stepped d u48 S m holder j k step)
+  unfolding Field.stepped Field.partRefused
+  stepped-within d holder j k s (St.Refused n) h = tt
+  stepped-within d holder j k s St.Absent h = tt
+  stepped-within d holder j k s (St.Value x) h = s
+  stepped-within d holder j k s (St.Unknown x) h = tt
+  stepped-within d holder j k s (St.Struct i at) h = h
+  stepped-within d holder j k s (St.Object ob p) h = arrived-within d ob p (h .0)
+  stepped-within d holder j k s (St.Choice c ob p) h = chosen-within d holder j ob p (h .0)
 
 module _ (S : Schema) (sound : Sound S) (m : List ℕ) (readable : Readable m) where
-  struct-within : (i at holder j : ℕ) → i < length (S .structs) → at + structSize S i ≤ length m → FoundWithin S m (Field.structPart u48 S m i at holder j)
+  struct-within : (i at holder j : ℕ) → i < length (S .structs) → at + structSize S i ≤ length m → FoundWithin u48 S m (Field.structPart u48 S m i at holder j)
   unfolding Field.structPart Field.noPart
   struct-within i at holder j l h =
-      pick-holds (FoundWithin S m) (ltb j (length (Sc.structOf S i)))
-      (Field.stepped 0 u48 S m holder (OfFlat (Sc.fieldOf S i j))
+      pick-holds (FoundWithin u48 S m) (ltb j (length (Sc.structOf S i)))
+      (Field.stepped 0 u48 S m holder j (OfFlat (Sc.fieldOf S i j))
       (T.fieldStep m (Sc.fieldOf S i j) (at + total (structSize S) (take j (Sc.structOf S i)))))
-      (Fd.Refused (Field.refusal 15 holder))
+      (Fd.Refused (W.refusal 15 holder))
       (λ e. let g = ltb-true j (length (Sc.structOf S i)) e in
-      stepped-within S m 0 holder (OfFlat (Sc.fieldOf S i j)) (field-sound S sound m readable i j l g) _ (field-within S sound m readable i at j l h g))
+      stepped-within S m (readable .size) 0 holder j (OfFlat (Sc.fieldOf S i j)) (field-sound S sound m readable i j l g) _ (field-within S sound m readable i at j l h g))
       (λ e. tt)
 
   list-within : (i at start n d j : ℕ) → start + T.elementsSize u48 S (Sc.elementOf S i) n ≤ length m
-      → FoundWithin S m (Field.objectPart u48 S m (O.List i) at start n d j)
+      → FoundWithin u48 S m (Field.objectPart u48 S m (O.List i) at start n d j)
   unfolding Field.objectPart Field.noPart
   list-within i at start n d j h =
-      pick-holds (FoundWithin S m) (ltb j n)
-      (Field.stepped d u48 S m at (Sc.elementOf S i) (T.elementStep u48 S m (Sc.elementOf S i) start j))
-      (Fd.Refused (Field.refusal 15 at))
-      (λ e. stepped-within S m d at (Sc.elementOf S i) (sound .lists i .kind) _
+      pick-holds (FoundWithin u48 S m) (ltb j n)
+      (Field.stepped d u48 S m at j (Sc.elementOf S i) (T.elementStep u48 S m (Sc.elementOf S i) start j))
+      (Fd.Refused (W.refusal 15 at))
+      (λ e. stepped-within S m (readable .size) d at j (Sc.elementOf S i) (sound .lists i .kind) _
       (element-within S sound m readable (Sc.elementOf S i) (sound .lists i .kind) start n j h (ltb-true j n e)))
       (λ e. tt)
 
   object-within : (ob : Object) (at start n d j : ℕ) → ObjectSound S ob → start + W.contentSize u48 S ob n ≤ length m
-      → FoundWithin S m (Field.objectPart u48 S m ob at start n d j)
+      → FoundWithin u48 S m (Field.objectPart u48 S m ob at start n d j)
   unfolding Field.objectPart Field.noPart W.contentSize
   object-within O.Text at start n d j s h = tt
   object-within O.Bytes at start n d j s h = tt
   object-within (O.List i) at start n d j s h = list-within i at start n d j h
   object-within (O.Table i) at start n d j s h =
-      pick-holds (FoundWithin S m) (ltb j (length (Sc.tableOf S i .members)))
-      (Field.stepped d u48 S m at (Sc.memberOf S i j .kind)
+      pick-holds (FoundWithin u48 S m) (ltb j (length (Sc.tableOf S i .members)))
+      (Field.stepped d u48 S m at j (Sc.memberOf S i j .kind)
       (T.memberStep u48 S m start n (L.afterMembers u48 S (take j (Sc.tableOf S i .members)) L.begin) (Sc.memberOf S i j)))
-      (Fd.Refused (Field.refusal 15 at))
+      (Fd.Refused (W.refusal 15 at))
       (λ e. let g = member-sound-at S sound i j (ltb-true j (length (Sc.tableOf S i .members)) e) in
-      stepped-within S m d at (Sc.memberOf S i j .kind) (g .kind) _
+      stepped-within S m (readable .size) d at j (Sc.memberOf S i j .kind) (g .kind) _
       (member-within S sound m readable (Sc.memberOf S i j) g start n (L.afterMembers u48 S (take j (Sc.tableOf S i .members)) L.begin) h))
       (λ e. tt)
 
-  part-within : (f : Found) (j : ℕ) → FoundWithin S m f → FoundWithin S m (Field.partOf u48 S m f j)
+  part-within : (f : Found) (j : ℕ) → FoundWithin u48 S m f → FoundWithin u48 S m (Field.partOf u48 S m f j)
   unfolding Field.partOf Field.noPart
   part-within (Fd.Refused r) j h = tt
   part-within Fd.Absent j h = tt
@@ -114,15 +114,15 @@ module _ (S : Schema) (sound : Sound S) (m : List ℕ) (readable : Readable m) w
   part-within (Fd.Object ob at start n d) j h = object-within ob at start n d j (h .0) (h .1)
 
 -- ---- as the code has it
-pub arrival-within : (b : List ℕ) (m : List ℕ) (d : ℕ) (ob : Object) (p : Place) (f : Found) → ObjectSound (P.parse b) ob
-    → f ≡ Field.arrived d u48 (P.parse b) m ob p → FoundWithin (P.parse b) m f
-arrival-within b m d ob p f s e = rw e (arrived-within (P.parse b) m d ob p s)
+pub arrival-within : (b : List ℕ) (m : List ℕ) → Readable m → (d : ℕ) (ob : Object) (p : Place) (f : Found) → ObjectSound (P.parse b) ob
+    → f ≡ Field.arrived d u48 (P.parse b) m ob p → FoundWithin u48 (P.parse b) m f
+arrival-within b m r d ob p f s e = rw e (arrived-within (P.parse b) m (r .size) d ob p s)
 
-pub next-within : (b dir m : List ℕ) → Accepted b dir → Readable m → (f : Found) → FoundWithin (P.parse b) m f → (j : ℕ) (g : Found)
-    → g ≡ Field.partOf u48 (P.parse b) m f j → FoundWithin (P.parse b) m g
+pub next-within : (b dir m : List ℕ) → Accepted b dir → Readable m → (f : Found) → FoundWithin u48 (P.parse b) m f → (j : ℕ) (g : Found)
+    → g ≡ Field.partOf u48 (P.parse b) m f j → FoundWithin u48 (P.parse b) m g
 next-within b dir m a r f h j g e = rw e (part-within (P.parse b) (accepted-sound b dir a) m r f j h)
 
 pub element-found-within : (b dir m : List ℕ) → Accepted b dir → Readable m → (i at start n d j : ℕ)
     → start + T.elementsSize u48 (P.parse b) (Sc.elementOf (P.parse b) i) n ≤ length m → (g : Found)
-    → g ≡ Field.objectPart u48 (P.parse b) m (O.List i) at start n d j → FoundWithin (P.parse b) m g
+    → g ≡ Field.objectPart u48 (P.parse b) m (O.List i) at start n d j → FoundWithin u48 (P.parse b) m g
 element-found-within b dir m a r i at start n d j h g e = rw e (list-within (P.parse b) (accepted-sound b dir a) m r i at start n d j h)

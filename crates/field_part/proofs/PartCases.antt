@@ -111,57 +111,57 @@ field-at-within b dir m a r s at j l h g k ek size ez step e =
     ∙ ap (λ (x : ℕ). T.fieldStep m (Sc.fieldOf (P.parse b) s j) (at + x)) ez))
     (field-within (P.parse b) (accepted-sound b dir a) m r s at j (omega (arith, structs-length b)) h g)
 
-module _ (S : Schema) (m : List ℕ) (s at holder j n : ℕ) (en : n ≡ length (Sc.structOf S s)) (r : Found) where
-  pub struct-none : n ≤ j → r ≡ Fd.Refused (Field.refusal 15 holder) → r ≡ Field.structPart u48 S m s at holder j
+module _ (o : ℕ) (S : Schema) (m : List ℕ) (s at holder j n : ℕ) (en : n ≡ length (Sc.structOf S s)) (r : Found) where
+  pub struct-none : n ≤ j → r ≡ Fd.Refused (W.refusal 15 holder) → r ≡ Field.structPart o S m s at holder j
   unfolding Field.structPart Field.noPart
   struct-none h e = simp (← en, le-ltb _ _ h) e
 
   pub struct-there : j < n → (k : Flat) → k ≡ Sc.fieldOf S s j → (step : Step)
       → step ≡ T.fieldStep m k (at + total (structSize S) (take j (Sc.structOf S s)))
-      → r ≡ Field.stepped 0 u48 S m holder (OfFlat k) step → r ≡ Field.structPart u48 S m s at holder j
+      → r ≡ Field.stepped 0 o S m holder j (OfFlat k) step → r ≡ Field.structPart o S m s at holder j
   unfolding Field.structPart
   struct-there h k ek step et e = simp (← en, lt-ltb _ _ h, ← ek, ← et) e
 
 -- ---- the cursor at a member
-module _ (S : Schema) (t : ℕ) where
-  after-append : (rs qs : List Member) (c : Cursor) → L.afterMembers u48 S (rs ++ qs) c ≡ L.afterMembers u48 S qs (L.afterMembers u48 S rs c)
+module _ (o : ℕ) (S : Schema) (t : ℕ) where
+  after-append : (rs qs : List Member) (c : Cursor) → L.afterMembers o S (rs ++ qs) c ≡ L.afterMembers o S qs (L.afterMembers o S rs c)
   unfolding L.afterMembers
   after-append [] qs c = refl
-  after-append (r ∷ rs) qs c = after-append rs qs (L.afterMember u48 S r c)
+  after-append (r ∷ rs) qs c = after-append rs qs (L.afterMember o S r c)
 
-  pub cursor-start : (c : Cursor) → c ≡ L.begin → c ≡ L.afterMembers u48 S (take 0 (Sc.tableOf S t .members)) L.begin
+  pub cursor-start : (c : Cursor) → c ≡ L.begin → c ≡ L.afterMembers o S (take 0 (Sc.tableOf S t .members)) L.begin
   unfolding L.afterMembers
   cursor-start c e = e
 
-  pub cursor-turn : (c : Cursor) (i : ℕ) → c ≡ L.afterMembers u48 S (take i (Sc.tableOf S t .members)) L.begin → (j : ℕ) → i < j
-      → j < length (Sc.tableOf S t .members) → (q : Cursor) → q ≡ L.afterMember u48 S (Sc.memberOf S t i) c
-      → q ≡ L.afterMembers u48 S (take (i + 1) (Sc.tableOf S t .members)) L.begin
+  pub cursor-turn : (c : Cursor) (i : ℕ) → c ≡ L.afterMembers o S (take i (Sc.tableOf S t .members)) L.begin → (j : ℕ) → i < j
+      → j < length (Sc.tableOf S t .members) → (q : Cursor) → q ≡ L.afterMember o S (Sc.memberOf S t i) c
+      → q ≡ L.afterMembers o S (take (i + 1) (Sc.tableOf S t .members)) L.begin
   unfolding L.afterMembers Sc.memberOf
   cursor-turn c i e j l h q eq =
       let rs = Sc.tableOf S t .members in
       let p : take (i + 1) rs ≡ take i rs ++ Sc.memberOf S t i ∷ [] = ap (λ (x : ℕ). take x rs) (add-one i) ∙ take-suc rs i Sc.plainBool (omega arith) in
-      eq ∙ ap (L.afterMember u48 S (Sc.memberOf S t i)) e
-      ∙ sym (ap (λ (xs : List Member). L.afterMembers u48 S xs L.begin) p ∙ after-append (take i rs) (Sc.memberOf S t i ∷ []) L.begin)
+      eq ∙ ap (L.afterMember o S (Sc.memberOf S t i)) e
+      ∙ sym (ap (λ (xs : List Member). L.afterMembers o S xs L.begin) p ∙ after-append (take i rs) (Sc.memberOf S t i ∷ []) L.begin)
 
-module _ (S : Schema) (t i : ℕ) (c : Cursor) (r : Member) (er : r ≡ Sc.memberOf S t i) (s : Slot) (next : Cursor)
-    (h : Stands (L.memberSlot u48 S r c) (L.afterMember u48 S r c) (c .end + 1) s next) where
-  pub after-is : next ≡ L.afterMember u48 S (Sc.memberOf S t i) c
-  after-is = h .next-is ∙ ap (λ (x : Member). L.afterMember u48 S x c) er
+module _ (o : ℕ) (S : Schema) (t i : ℕ) (c : Cursor) (r : Member) (er : r ≡ Sc.memberOf S t i) (s : Slot) (next : Cursor)
+    (h : Stands (L.memberSlot o S r c) (L.afterMember o S r c) (c .end + 1) s next) where
+  pub after-is : next ≡ L.afterMember o S (Sc.memberOf S t i) c
+  after-is = h .next-is ∙ ap (λ (x : Member). L.afterMember o S x c) er
 
-pub after-laid : (S : Schema) (i : ℕ) (c : Cursor) → Laid (4097 * i) c → (r : Member) (s : Slot) (next : Cursor)
-    → Stands (L.memberSlot u48 S r c) (L.afterMember u48 S r c) (c .end + 1) s next → Laid (4097 * (i + 1)) next
-after-laid S i c l r s next h =
+pub after-laid : (o : ℕ) (S : Schema) (i : ℕ) (c : Cursor) → Laid (4097 * i) c → (r : Member) (s : Slot) (next : Cursor)
+    → Stands (L.memberSlot o S r c) (L.afterMember o S r c) (c .end + 1) s next → Laid (4097 * (i + 1)) next
+after-laid o S i c l r s next h =
     let p = l .end in
     let q = h .laid in
     let g = q .end in
     record { end = omega arith; byte = q .byte; bit = q .bit }
 
 -- ---- a table's member
-module _ (S : Schema) (m : List ℕ) (t start n j : ℕ) (x : Member) (c : Cursor)
-    (ec : c ≡ L.afterMembers u48 S (take j (Sc.tableOf S t .members)) L.begin) (step : Step) (next : Cursor)
-    (h : Stepped (T.memberStep u48 S m start n c x) (L.afterMember u48 S x c) (c .end) step next) where
-  pub member-at-is : step ≡ T.memberStep u48 S m start n (L.afterMembers u48 S (take j (Sc.tableOf S t .members)) L.begin) x
-  member-at-is = h .step-is ∙ ap (λ (k : Cursor). T.memberStep u48 S m start n k x) ec
+module _ (o : ℕ) (S : Schema) (m : List ℕ) (t start n j : ℕ) (x : Member) (c : Cursor)
+    (ec : c ≡ L.afterMembers o S (take j (Sc.tableOf S t .members)) L.begin) (step : Step) (next : Cursor)
+    (h : Stepped (T.memberStep o S m start n c x) (L.afterMember o S x c) (c .end) step next) where
+  pub member-at-is : step ≡ T.memberStep o S m start n (L.afterMembers o S (take j (Sc.tableOf S t .members)) L.begin) x
+  member-at-is = h .step-is ∙ ap (λ (k : Cursor). T.memberStep o S m start n k x) ec
 
 pub member-at-within : (b dir m : List ℕ) → Accepted b dir → Readable m → (t start n j : ℕ) → start + n ≤ length m
     → j < length (Sc.tableOf (P.parse b) t .members) → (x : Member) → x ≡ Sc.memberOf (P.parse b) t j
@@ -174,25 +174,25 @@ member-at-within b dir m a r t start n j h g x ex c step next q =
 pub cursor-low : (c : Cursor) (j : ℕ) → Laid (4097 * j) c → j < 256 → c .end < 2 ^ 58
 cursor-low c j l h = omega (arith, l .end)
 
-module _ (S : Schema) (m : List ℕ) (t at start n d j count : ℕ) (ec : count ≡ length (Sc.tableOf S t .members)) (r : Found) where
-  pub table-none : count ≤ j → r ≡ Fd.Refused (Field.refusal 15 at) → r ≡ Field.objectPart u48 S m (O.Table t) at start n d j
+module _ (o : ℕ) (S : Schema) (m : List ℕ) (t at start n d j count : ℕ) (ec : count ≡ length (Sc.tableOf S t .members)) (r : Found) where
+  pub table-none : count ≤ j → r ≡ Fd.Refused (W.refusal 15 at) → r ≡ Field.objectPart o S m (O.Table t) at start n d j
   unfolding Field.objectPart Field.noPart
   table-none h e = simp (← ec, le-ltb _ _ h) e
 
   pub table-there : j < count → (x : Member) → x ≡ Sc.memberOf S t j → (step : Step)
-      → step ≡ T.memberStep u48 S m start n (L.afterMembers u48 S (take j (Sc.tableOf S t .members)) L.begin) x
-      → r ≡ Field.stepped d u48 S m at (x .kind) step → r ≡ Field.objectPart u48 S m (O.Table t) at start n d j
+      → step ≡ T.memberStep o S m start n (L.afterMembers o S (take j (Sc.tableOf S t .members)) L.begin) x
+      → r ≡ Field.stepped d o S m at j (x .kind) step → r ≡ Field.objectPart o S m (O.Table t) at start n d j
   unfolding Field.objectPart
   table-there h x ex step es e = simp (← ec, lt-ltb _ _ h, ← ex, ← es) e
 
 -- ---- a list's element
-module _ (S : Schema) (m : List ℕ) (i at start n d j : ℕ) (r : Found) where
-  pub list-none : n ≤ j → r ≡ Fd.Refused (Field.refusal 15 at) → r ≡ Field.objectPart u48 S m (O.List i) at start n d j
+module _ (o : ℕ) (S : Schema) (m : List ℕ) (i at start n d j : ℕ) (r : Found) where
+  pub list-none : n ≤ j → r ≡ Fd.Refused (W.refusal 15 at) → r ≡ Field.objectPart o S m (O.List i) at start n d j
   unfolding Field.objectPart Field.noPart
   list-none h e = simp (le-ltb _ _ h) e
 
-  pub list-there : j < n → (k : Kind) → k ≡ Sc.elementOf S i → (step : Step) → step ≡ T.elementStep u48 S m k start j
-      → r ≡ Field.stepped d u48 S m at k step → r ≡ Field.objectPart u48 S m (O.List i) at start n d j
+  pub list-there : j < n → (k : Kind) → k ≡ Sc.elementOf S i → (step : Step) → step ≡ T.elementStep o S m k start j
+      → r ≡ Field.stepped d o S m at j k step → r ≡ Field.objectPart o S m (O.List i) at start n d j
   unfolding Field.objectPart
   list-there h k ek step es e = simp (lt-ltb _ _ h, ← ek, ← es) e
 
@@ -204,75 +204,78 @@ element-step-within b dir m a r i start n j h l k ek step e =
     (element-within (P.parse b) (accepted-sound b dir a) m r (Sc.elementOf (P.parse b) i) (accepted-sound b dir a .lists i .kind) start n j h l)
 
 -- ---- an object's part
-module _ (S : Schema) (m : List ℕ) (ob : Object) (at start n d j : ℕ) (r : Found) where
-  pub part-text : ob ≡ O.Text → r ≡ Fd.Refused (Field.refusal 15 at) → r ≡ Field.objectPart u48 S m ob at start n d j
+module _ (o : ℕ) (S : Schema) (m : List ℕ) (ob : Object) (at start n d j : ℕ) (r : Found) where
+  pub part-text : ob ≡ O.Text → r ≡ Fd.Refused (W.refusal 15 at) → r ≡ Field.objectPart o S m ob at start n d j
   unfolding Field.objectPart Field.noPart
   part-text e f = rw e f
 
-  pub part-bytes : ob ≡ O.Bytes → r ≡ Fd.Refused (Field.refusal 15 at) → r ≡ Field.objectPart u48 S m ob at start n d j
+  pub part-bytes : ob ≡ O.Bytes → r ≡ Fd.Refused (W.refusal 15 at) → r ≡ Field.objectPart o S m ob at start n d j
   unfolding Field.objectPart Field.noPart
   part-bytes e f = rw e f
 
-  pub part-list : (i x : ℕ) → ob ≡ O.List i → x ≡ i → r ≡ Field.objectPart u48 S m (O.List x) at start n d j
-      → r ≡ Field.objectPart u48 S m ob at start n d j
-  part-list i x e ex f = f ∙ ap (λ (q : Object). Field.objectPart u48 S m q at start n d j) (ap O.List ex ∙ sym e)
+  pub part-list : (i x : ℕ) → ob ≡ O.List i → x ≡ i → r ≡ Field.objectPart o S m (O.List x) at start n d j
+      → r ≡ Field.objectPart o S m ob at start n d j
+  part-list i x e ex f = f ∙ ap (λ (q : Object). Field.objectPart o S m q at start n d j) (ap O.List ex ∙ sym e)
 
-  pub part-table : (i x : ℕ) → ob ≡ O.Table i → x ≡ i → r ≡ Field.objectPart u48 S m (O.Table x) at start n d j
-      → r ≡ Field.objectPart u48 S m ob at start n d j
-  part-table i x e ex f = f ∙ ap (λ (q : Object). Field.objectPart u48 S m q at start n d j) (ap O.Table ex ∙ sym e)
+  pub part-table : (i x : ℕ) → ob ≡ O.Table i → x ≡ i → r ≡ Field.objectPart o S m (O.Table x) at start n d j
+      → r ≡ Field.objectPart o S m ob at start n d j
+  part-table i x e ex f = f ∙ ap (λ (q : Object). Field.objectPart o S m q at start n d j) (ap O.Table ex ∙ sym e)
 
 -- ---- one number more
-module _ (S : Schema) (m : List ℕ) (f : Found) (j : ℕ) where
-  pub of-refused : (x : Refusal) → f ≡ Fd.Refused x → Fd.Refused x ≡ Field.partOf u48 S m f j
+module _ (o : ℕ) (S : Schema) (m : List ℕ) (f : Found) (j : ℕ) where
+  pub of-refused : (x : Refusal) → f ≡ Fd.Refused x → Fd.Refused x ≡ Field.partOf o S m f j
   unfolding Field.partOf
   of-refused x e = rw e
 
-  pub of-absent : f ≡ Fd.Absent → Fd.Absent ≡ Field.partOf u48 S m f j
+  pub of-absent : f ≡ Fd.Absent → Fd.Absent ≡ Field.partOf o S m f j
   unfolding Field.partOf
   of-absent e = rw e
 
-  pub of-unknown : (x : ℕ) → f ≡ Fd.Unknown x → Fd.Unknown x ≡ Field.partOf u48 S m f j
+  pub of-unknown : (x : ℕ) → f ≡ Fd.Unknown x → Fd.Unknown x ≡ Field.partOf o S m f j
   unfolding Field.partOf
   of-unknown x e = rw e
 
   module _ (r : Found) where
-    pub of-value : (k : Kind) (x holder : ℕ) → f ≡ Fd.Value k x holder → r ≡ Fd.Refused (Field.refusal 15 holder) → r ≡ Field.partOf u48 S m f j
+    pub of-value : (k : Kind) (x holder : ℕ) → f ≡ Fd.Value k x holder → r ≡ Fd.Refused (W.refusal 15 holder) → r ≡ Field.partOf o S m f j
     unfolding Field.partOf Field.noPart
     of-value k x holder e q = rw e q
 
-    pub of-struct : (i at holder s : ℕ) → f ≡ Fd.Struct i at holder → s ≡ i → r ≡ Field.structPart u48 S m s at holder j → r ≡ Field.partOf u48 S m f j
+    pub of-struct : (i at holder s : ℕ) → f ≡ Fd.Struct i at holder → s ≡ i → r ≡ Field.structPart o S m s at holder j → r ≡ Field.partOf o S m f j
     unfolding Field.partOf
-    of-struct i at holder s e es q = rw e (q ∙ ap (λ (x : ℕ). Field.structPart u48 S m x at holder j) es)
+    of-struct i at holder s e es q = rw e (q ∙ ap (λ (x : ℕ). Field.structPart o S m x at holder j) es)
 
-    pub of-object : (ob : Object) (at start n d : ℕ) → f ≡ Fd.Object ob at start n d → r ≡ Field.objectPart u48 S m ob at start n d j
-        → r ≡ Field.partOf u48 S m f j
+    pub of-object : (ob : Object) (at start n d : ℕ) → f ≡ Fd.Object ob at start n d → r ≡ Field.objectPart o S m ob at start n d j
+        → r ≡ Field.partOf o S m f j
     unfolding Field.partOf
     of-object ob at start n d e q = rw e q
 
 -- what it needs of what was found
-module _ (S : Schema) (m : List ℕ) (f : Found) (within : FoundWithin S m f) where
+module _ (o : ℕ) (S : Schema) (m : List ℕ) (f : Found) (within : FoundWithin o S m f) where
   pub struct-fits : (i at holder s : ℕ) → f ≡ Fd.Struct i at holder → s ≡ i → at + structSize S s ≤ length m
-  struct-fits i at holder s e es = rw es (subst (FoundWithin S m) e within .1)
+  struct-fits i at holder s e es = rw es (subst (FoundWithin o S m) e within .1)
 
   pub object-index : (ob : Object) (at start n d : ℕ) → f ≡ Fd.Object ob at start n d → ObjectSound S ob
-  object-index ob at start n d e = subst (FoundWithin S m) e within .0
+  object-index ob at start n d e = subst (FoundWithin o S m) e within .0
 
-  pub object-fits : (ob : Object) (at start n d : ℕ) → f ≡ Fd.Object ob at start n d → start + W.contentSize u48 S ob n ≤ length m
-  object-fits ob at start n d e = subst (FoundWithin S m) e within .1
+  pub object-fits : (ob : Object) (at start n d : ℕ) → f ≡ Fd.Object ob at start n d → start + W.contentSize o S ob n ≤ length m
+  object-fits ob at start n d e = subst (FoundWithin o S m) e within .1
+
+  pub object-size : (ob : Object) (at start n d : ℕ) → f ≡ Fd.Object ob at start n d → length m ≤ 16777215
+  object-size ob at start n d e = subst (FoundWithin o S m) e within .2
 
 -- ---- all members before member j
 pub size-done : (S : Schema) (s size i j : ℕ) → size ≡ total (structSize S) (take i (Sc.structOf S s)) → i ≤ j → j ≤ i
     → size ≡ total (structSize S) (take j (Sc.structOf S s))
 size-done S s size i j e h l = let z : i ≡ j = omega arith in e ∙ ap (λ (x : ℕ). total (structSize S) (take x (Sc.structOf S s))) z
 
-pub cursor-done : (S : Schema) (t : ℕ) (c : Cursor) (i j : ℕ) → c ≡ L.afterMembers u48 S (take i (Sc.tableOf S t .members)) L.begin → i ≤ j → j ≤ i
-    → c ≡ L.afterMembers u48 S (take j (Sc.tableOf S t .members)) L.begin
-cursor-done S t c i j e h l =
-    let z : i ≡ j = omega arith in e ∙ ap (λ (x : ℕ). L.afterMembers u48 S (take x (Sc.tableOf S t .members)) L.begin) z
+pub cursor-done : (o : ℕ) (S : Schema) (t : ℕ) (c : Cursor) (i j : ℕ) → c ≡ L.afterMembers o S (take i (Sc.tableOf S t .members)) L.begin → i ≤ j → j ≤ i
+    → c ≡ L.afterMembers o S (take j (Sc.tableOf S t .members)) L.begin
+cursor-done o S t c i j e h l =
+    let z : i ≡ j = omega arith in e ∙ ap (λ (x : ℕ). L.afterMembers o S (take x (Sc.tableOf S t .members)) L.begin) z
 
 pub laid-done : (c : Cursor) (i j : ℕ) → Laid (4097 * i) c → i ≤ j → j ≤ i → Laid (4097 * j) c
 laid-done c i j h l g = let z : i ≡ j = omega arith in subst (λ (x : ℕ). Laid (4097 * x) c) z h
 
-pub struct-counted-of : (b m : List ℕ) (f : Found) → FoundWithin (P.parse b) m f → (i at holder s : ℕ) → f ≡ Fd.Struct i at holder → s ≡ i
+pub struct-counted-of : (o : ℕ) (b m : List ℕ) (f : Found) → FoundWithin o (P.parse b) m f → (i at holder s : ℕ) → f ≡ Fd.Struct i at holder → s ≡ i
     → s < P.structCount b
-struct-counted-of b m f within i at holder s e es = rw es (struct-index b i (subst (FoundWithin (P.parse b) m) e within .0))
+struct-counted-of o b m f within i at holder s e es = rw es (struct-index b i (subst (FoundWithin o (P.parse b) m) e within .0))

@@ -52,16 +52,26 @@ module _ (S : Schema) (sound : Sound S) (m : List ℕ) (readable : Readable m) w
   offset-small at = le-small m (readable .bytes) at 6
 
   flat-within : (k : Flat) → FlatSound (length (S .structs)) k → (none : Bool) (at bit : ℕ) → at + flatWidth (structSize S) k ≤ length m
-      → StepWithin S m (T.flatStep S m k none at bit)
-  unfolding T.flatStep T.floatStep T.enumStep T.structStep flatWidth
+      → StepWithin S m (T.flatStep m k none at bit)
+  unfolding T.flatStep T.floatStep T.enumStep flatWidth
   flat-within F.Boolean s none at bit h = tt
   flat-within (F.Integer g w) s none at bit h = tt
   flat-within (F.Float w) s none at bit h = pick-holds (StepWithin S m) (none && isNaN w (le m at w)) St.Absent (St.Value (le m at w)) (λ e. tt) (λ e. tt)
   flat-within (F.Enumerated n) s none at bit h =
       pick-holds (StepWithin S m) (eqb (getD m at 0) 255) St.Absent (pick (ltb (getD m at 0) n) (St.Value (getD m at 0)) (St.Unknown (getD m at 0))) (λ e. tt)
       (λ e. pick-holds (StepWithin S m) (ltb (getD m at 0) n) (St.Value (getD m at 0)) (St.Unknown (getD m at 0)) (λ e. tt) (λ e. tt))
-  flat-within (F.Struct i) s none at bit h =
-      pick-holds (StepWithin S m) (structOk S m i at) (St.Struct i at) (St.Refused 10) (λ e. (s, h)) (λ e. tt)
+  flat-within (F.Struct i) s none at bit h = (s, h)
+
+  tested-within : (step : Step) → StepWithin S m step → StepWithin S m (T.structTested S m step)
+  unfolding T.structTested
+  tested-within (St.Refused n) h = tt
+  tested-within St.Absent h = tt
+  tested-within (St.Value x) h = tt
+  tested-within (St.Unknown x) h = tt
+  tested-within (St.Struct i at) h =
+      pick-holds (StepWithin S m) (structOk S m i at) (St.Struct i at) (St.Refused 10) (λ e. h) (λ e. tt)
+  tested-within (St.Object ob p) h = h
+  tested-within (St.Choice c ob p) h = h
 
   object-within : (ob : Object) → ObjectSound S ob → (inplace : Bool) (tail x : ℕ) → tail < 2 ^ 48 → x < 2 ^ 48
       → StepWithin S m (T.objectStep ob inplace tail x)
@@ -95,17 +105,21 @@ module _ (S : Schema) (sound : Sound S) (m : List ℕ) (readable : Readable m) w
 
   pub member-within : (r : Member) → MemberSound S r → (start n : ℕ) (c : Cursor) → start + n ≤ length m
       → StepWithin S m (T.memberStep u48 S m start n c r)
-  unfolding T.memberStep T.flagged L.memberSlot
+  unfolding T.memberStep T.placedStep T.flagged L.placementOf L.memberSlot
   member-within r s start n c h =
-      pick-holds (StepWithin S m) (L.hasFlag r) (T.flagged m start n c slot here) (T.inside n slot St.Absent here)
-      (λ e. pick-holds (StepWithin S m) (leb n (L.bitByte c)) St.Absent
-      (pick (eqb (bitAt m (start + L.bitByte c) (L.bitIndex c)) 1) (T.inside n slot (St.Refused 8) here) (T.inside n slot St.Absent St.Absent)) (λ f. tt)
-      (λ f. pick-holds (StepWithin S m) (eqb (bitAt m (start + L.bitByte c) (L.bitIndex c)) 1) (T.inside n slot (St.Refused 8) here) (T.inside n slot St.Absent St.Absent)
+      tested-within (T.placedStep u48 S m start n (L.placementOf u48 S r c) r)
+      (pick-holds (StepWithin S m) (L.hasFlag r) (T.flagged m start n flag slot here) (T.inside n slot St.Absent here)
+      (λ e. pick-holds (StepWithin S m) (leb n (flag .at)) St.Absent
+      (pick (eqb (bitAt m (start + flag .at) (flag .bit)) 1) (T.inside n slot (St.Refused 8) here) (T.inside n slot St.Absent St.Absent)) (λ f. tt)
+      (λ f. pick-holds (StepWithin S m) (eqb (bitAt m (start + flag .at) (flag .bit)) 1) (T.inside n slot (St.Refused 8) here) (T.inside n slot St.Absent St.Absent)
       (λ g. inside-within n slot (St.Refused 8) here tt there) (λ g. inside-within n slot St.Absent St.Absent tt (λ l. tt))))
-      (λ e. inside-within n slot St.Absent here tt there)
+      (λ e. inside-within n slot St.Absent here tt there))
     where
       slot : Slot
       slot = L.memberSlot u48 S r c
+
+      flag : Slot
+      flag = L.placementOf u48 S r c .flag
 
       here : Step
       here = T.valueStep u48 S m (r .kind) (r .optional) (r .inplace) (start + n) (start + slot .at) (slot .bit)
@@ -120,7 +134,8 @@ module _ (S : Schema) (sound : Sound S) (m : List ℕ) (readable : Readable m) w
       → StepWithin S m (T.elementStep u48 S m k start i)
   unfolding T.elementStep
   element-within k s start n i h l =
-      value-within k s true false 0 (T.elementPlace u48 S k start i) (i % 8) (omega arith) (omega (arith, element-inside S k start n i l))
+      tested-within (T.valueStep u48 S m k true false 0 (T.elementPlace u48 S k start i) (i % 8))
+      (value-within k s true false 0 (T.elementPlace u48 S k start i) (i % 8) (omega arith) (omega (arith, element-inside S k start n i l)))
 
   -- ---- a struct's member
   before-and-here : (i j : ℕ) → j < length (Sc.structOf S i)

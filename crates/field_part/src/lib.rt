@@ -6,9 +6,11 @@ use coding::Kind;
 use coding::Member;
 use coding::Object;
 use coding::Step;
+use field_arrival::Content;
+use field_arrival::Part;
 ghost use mathlib.Core.Path.{_≡_};
 ghost use Prim.Native.Nat.{_+_, _*_, _<_, _≤_, _^_};
-ghost use lib.ListN.{length, take};
+ghost use lib.ListN.{length};
 ghost use Rattle.coding.specs.Bytes as B;
 ghost use Rattle.coding.specs.Field as F;
 ghost use Rattle.coding.specs.Layout as L;
@@ -20,10 +22,18 @@ ghost use Rattle.coding.specs.Walk as W;
 ghost use Rattle.laws.specs.Sound.{FlatSound, ObjectSound};
 ghost use Rattle.message_layout.specs.Bounds.{Laid};
 ghost use Rattle.schema.specs.Directory.{Accepted};
-ghost use Rattle.field_arrival.specs.Within.{Readable, StepWithin, FoundWithin};
+ghost use Rattle.field_arrival.specs.Within.{Readable, StepIn, FoundIn};
+ghost use Rattle.field_arrival.specs.Parts.{objectPartBy};
+ghost use Rattle.field_part.specs.Before.{fieldPlace, cursorAt};
 
 // ---- a struct's members
-// What stands at a struct's member.
+// Where a struct of an index stands.
+pub struct StructAt {
+    pub index: usize,
+    pub place: usize,
+}
+
+// What stands at a struct's member of kind k.
 fn field_step(b: &[u8], m: &[u8], k: Flat, at: usize) -> Step
     requires { ⌜ (FlatSound (length (P.parse (now b) .structs)) k) × (at < 2 ^ 60) ⌝ }
     ensures { λ r. ⌜ r ≡ T.fieldStep (now (m .entry)) k at ⌝ }
@@ -40,7 +50,7 @@ fn field_step(b: &[u8], m: &[u8], k: Flat, at: usize) -> Step
 // The bytes of the members before member j of struct s.
 fn fields_size(b: &[u8], dir: &[u16], s: usize, j: usize) -> usize
     requires { ⌜ (Accepted (now b) (now dir)) × (s < P.structCount (now b)) × (j < length (Sc.structOf (P.parse (now b)) s)) × (j < 256) ⌝ }
-    ensures { λ r. ⌜ (r ≡ S.total (S.structSize (P.parse (now (b .entry)))) (take j (Sc.structOf (P.parse (now (b .entry))) s))) × (r ≤ 4096 * j) ⌝ }
+    ensures { λ r. ⌜ (r ≡ fieldPlace (now (b .entry)) s j) × (r ≤ 4096 * j) ⌝ }
 {
     let mut size: usize = 0;
     let mut i: usize = 0;
@@ -52,35 +62,33 @@ fn fields_size(b: &[u8], dir: &[u16], s: usize, j: usize) -> usize
     size
 }
 
-// What stands at member j, of kind k, of the struct s at a place.
-fn field_at(b: &[u8], dir: &[u16], m: &[u8], s: usize, at: usize, j: usize, k: Flat) -> Step
-    requires { ⌜ (Accepted (now b) (now dir)) × (Readable (now m)) × (s < P.structCount (now b)) × (at + S.structSize (P.parse (now b)) s ≤ length (now m)) ⌝ }
-    requires { ⌜ (j < length (Sc.structOf (P.parse (now b)) s)) × (j < 256) × (k ≡ Sc.fieldOf (P.parse (now b)) s j) ⌝ }
-    ensures { λ r. ⌜ (r ≡ T.fieldStep (now (m .entry)) k (at + S.total (S.structSize (P.parse (now (b .entry)))) (take j (Sc.structOf (P.parse (now (b .entry))) s)))) × StepWithin (P.parse (now (b .entry))) (now (m .entry)) r ⌝ }
+// What stands at member j, of kind k, of a struct.
+fn field_at(b: &[u8], dir: &[u16], m: &[u8], s: StructAt, j: usize, k: Flat) -> Step
+    requires { ⌜ (Accepted (now b) (now dir)) × (Readable (now m)) × (s .index < P.structCount (now b)) × (s .place + S.structSize (P.parse (now b)) (s .index) ≤ length (now m)) ⌝ }
+    requires { ⌜ (j < length (Sc.structOf (P.parse (now b)) (s .index))) × (j < 256) × (k ≡ Sc.fieldOf (P.parse (now b)) (s .index) j) ⌝ }
+    ensures { λ r. ⌜ (r ≡ T.fieldStep (now (m .entry)) k (s .place + fieldPlace (now (b .entry)) (s .index) j)) × StepIn (now (b .entry)) (now (m .entry)) r ⌝ }
 {
-    let size = fields_size(b, dir, s, j);
-    field_step(b, m, k, at + size)
+    let size = fields_size(b, dir, s.index, j);
+    field_step(b, m, k, s.place + size)
 }
 
-// Member j of the struct s at a place.
-fn struct_part(
-    b: &[u8],
-    dir: &[u16],
-    m: &[u8],
-    s: usize,
-    at: usize,
-    holder: usize,
-    j: usize,
-) -> Found
-    requires { ⌜ (Accepted (now b) (now dir)) × (Readable (now m)) × (s < P.structCount (now b)) × (at + S.structSize (P.parse (now b)) s ≤ length (now m)) ⌝ }
-    ensures { λ r. ⌜ r ≡ F.structPart B.u48 (P.parse (now (b .entry))) (now (m .entry)) s at holder j ⌝ }
+// Member j of a struct that is held by the object at `holder`.
+fn struct_part(b: &[u8], dir: &[u16], m: &[u8], s: StructAt, holder: usize, j: usize) -> Found
+    requires { ⌜ (Accepted (now b) (now dir)) × (Readable (now m)) × (s .index < P.structCount (now b)) × (s .place + S.structSize (P.parse (now b)) (s .index) ≤ length (now m)) ⌝ }
+    ensures { λ r. ⌜ r ≡ F.structPart B.u48 (P.parse (now (b .entry))) (now (m .entry)) (s .index) (s .place) holder j ⌝ }
 {
-    if schema::field_count(b, dir, s) <= j {
+    if schema::field_count(b, dir, s.index) <= j {
         return field_arrival::refuse(15, holder);
     }
-    let k = schema::field(b, dir, s, j);
-    let step = field_at(b, dir, m, s, at, j, k);
-    field_arrival::follow(b, dir, m, 0, holder, Kind::OfFlat(k), step)
+    let k = schema::field(b, dir, s.index, j);
+    let step = field_at(b, dir, m, s, j, k);
+    let part = Part {
+        holder,
+        number: j,
+        kind: Kind::OfFlat(k),
+        left: 0,
+    };
+    field_arrival::follow(b, dir, m, part, step)
 }
 
 // ---- members and elements
@@ -97,7 +105,7 @@ fn after_member(b: &[u8], dir: &[u16], t: usize, i: usize, c: Cursor) -> Cursor
 // The cursor at member j of table t.
 fn cursor_at(b: &[u8], dir: &[u16], t: usize, j: usize) -> Cursor
     requires { ⌜ (Accepted (now b) (now dir)) × (t < P.tableCount (now b)) × (j < length (Sc.tableOf (P.parse (now b)) t .members)) × (j < 256) ⌝ }
-    ensures { λ r. ⌜ (r ≡ L.afterMembers B.u48 (P.parse (now (b .entry))) (take j (Sc.tableOf (P.parse (now (b .entry))) t .members)) L.begin) × Laid (4097 * j) r ⌝ }
+    ensures { λ r. ⌜ (r ≡ cursorAt B.u48 (now (b .entry)) t j) × Laid (4097 * j) r ⌝ }
 {
     let mut c = message_layout::begin();
     let mut i: usize = 0;
@@ -108,102 +116,75 @@ fn cursor_at(b: &[u8], dir: &[u16], t: usize, j: usize) -> Cursor
     c
 }
 
-// What member j, which is r, of table t holds. The fixed part has n bytes from `start`.
-fn member_at(
-    b: &[u8],
-    dir: &[u16],
-    m: &[u8],
-    t: usize,
-    start: usize,
-    n: usize,
-    j: usize,
-    r: Member,
-) -> Step
-    requires { ⌜ (Accepted (now b) (now dir)) × (Readable (now m)) × (t < P.tableCount (now b)) × (start + n ≤ length (now m)) ⌝ }
+// What member j, which is r, of table t holds.
+fn member_at(b: &[u8], dir: &[u16], m: &[u8], t: usize, c: Content, j: usize, r: Member) -> Step
+    requires { ⌜ (Accepted (now b) (now dir)) × (Readable (now m)) × (t < P.tableCount (now b)) × (c .start + c .length ≤ length (now m)) ⌝ }
     requires { ⌜ (j < length (Sc.tableOf (P.parse (now b)) t .members)) × (j < 256) × (r ≡ Sc.memberOf (P.parse (now b)) t j) ⌝ }
-    ensures { λ q. ⌜ (q ≡ T.memberStep B.u48 (P.parse (now (b .entry))) (now (m .entry)) start n (L.afterMembers B.u48 (P.parse (now (b .entry))) (take j (Sc.tableOf (P.parse (now (b .entry))) t .members)) L.begin) r) × StepWithin (P.parse (now (b .entry))) (now (m .entry)) q ⌝ }
+    ensures { λ q. ⌜ (q ≡ T.memberStep B.u48 (P.parse (now (b .entry))) (now (m .entry)) (c .start) (c .length) (cursorAt B.u48 (now (b .entry)) t j) r) × StepIn (now (b .entry)) (now (m .entry)) q ⌝ }
 {
-    let c = cursor_at(b, dir, t, j);
-    let q = message_step::member_step(b, dir, m, start, n, c, r);
+    let at = cursor_at(b, dir, t, j);
+    let q = message_step::member_step(b, dir, m, c.start, c.length, at, r);
     q.step
 }
 
 // Member j of table t.
-fn table_part(
-    b: &[u8],
-    dir: &[u16],
-    m: &[u8],
-    t: usize,
-    at: usize,
-    start: usize,
-    n: usize,
-    d: usize,
-    j: usize,
-) -> Found
-    requires { ⌜ (Accepted (now b) (now dir)) × (Readable (now m)) × (t < P.tableCount (now b)) × (start + n ≤ length (now m)) ⌝ }
-    ensures { λ r. ⌜ r ≡ F.objectPart B.u48 (P.parse (now (b .entry))) (now (m .entry)) (Object.Table t) at start n d j ⌝ }
+fn table_part(b: &[u8], dir: &[u16], m: &[u8], t: usize, c: Content, j: usize) -> Found
+    requires { ⌜ (Accepted (now b) (now dir)) × (Readable (now m)) × (t < P.tableCount (now b)) × (c .start + c .length ≤ length (now m)) ⌝ }
+    ensures { λ r. ⌜ r ≡ objectPartBy B.u48 (now (b .entry)) (now (m .entry)) (Object.Table t) c j ⌝ }
 {
     if schema::member_count(b, dir, t) <= j {
-        return field_arrival::refuse(15, at);
+        return field_arrival::refuse(15, c.place);
     }
     let r = schema::member(b, dir, t, j);
-    let step = member_at(b, dir, m, t, start, n, j, r);
-    let k = r.kind;
-    field_arrival::follow(b, dir, m, d, at, k, step)
+    let step = member_at(b, dir, m, t, c, j, r);
+    let kind = r.kind;
+    let part = Part {
+        holder: c.place,
+        number: j,
+        kind,
+        left: c.left,
+    };
+    field_arrival::follow(b, dir, m, part, step)
 }
 
-// Element j of a list of n elements that start at `start`.
-pub fn list_part(
-    b: &[u8],
-    dir: &[u16],
-    m: &[u8],
-    i: usize,
-    at: usize,
-    start: usize,
-    n: usize,
-    d: usize,
-    j: usize,
-) -> Found
+// Element j of a list that is of index i in the schema.
+pub fn list_part(b: &[u8], dir: &[u16], m: &[u8], i: usize, c: Content, j: usize) -> Found
     requires { ⌜ (Accepted (now b) (now dir)) × (Readable (now m)) × (i < P.listCount (now b)) ⌝ }
-    requires { ⌜ start + T.elementsSize B.u48 (P.parse (now b)) (Sc.elementOf (P.parse (now b)) i) n ≤ length (now m) ⌝ }
-    ensures { λ r. ⌜ r ≡ F.objectPart B.u48 (P.parse (now (b .entry))) (now (m .entry)) (Object.List i) at start n d j ⌝ }
+    requires { ⌜ c .start + T.elementsSize B.u48 (P.parse (now b)) (Sc.elementOf (P.parse (now b)) i) (c .length) ≤ length (now m) ⌝ }
+    ensures { λ r. ⌜ r ≡ objectPartBy B.u48 (now (b .entry)) (now (m .entry)) (Object.List i) c j ⌝ }
 {
-    if n <= j {
-        return field_arrival::refuse(15, at);
+    if c.length <= j {
+        return field_arrival::refuse(15, c.place);
     }
-    let k = schema::element(b, dir, i);
-    let step = message_step::element_step(b, dir, m, k, start, n, j);
-    field_arrival::follow(b, dir, m, d, at, k, step)
+    let kind = schema::element(b, dir, i);
+    let step = message_step::element_step(b, dir, m, kind, c.start, c.length, j);
+    let part = Part {
+        holder: c.place,
+        number: j,
+        kind,
+        left: c.left,
+    };
+    field_arrival::follow(b, dir, m, part, step)
 }
 
-// Part j of an object.
-fn object_part(
-    b: &[u8],
-    dir: &[u16],
-    m: &[u8],
-    ob: Object,
-    at: usize,
-    start: usize,
-    n: usize,
-    d: usize,
-    j: usize,
-) -> Found
+// Part j of an object: a text and bytes have none.
+fn object_part(b: &[u8], dir: &[u16], m: &[u8], ob: Object, c: Content, j: usize) -> Found
     requires { ⌜ (Accepted (now b) (now dir)) × (Readable (now m)) × (ObjectSound (P.parse (now b)) ob) ⌝ }
-    requires { ⌜ start + W.contentSize B.u48 (P.parse (now b)) ob n ≤ length (now m) ⌝ }
-    ensures { λ r. ⌜ r ≡ F.objectPart B.u48 (P.parse (now (b .entry))) (now (m .entry)) ob at start n d j ⌝ }
+    requires { ⌜ c .start + W.contentSize B.u48 (P.parse (now b)) ob (c .length) ≤ length (now m) ⌝ }
+    ensures { λ r. ⌜ r ≡ objectPartBy B.u48 (now (b .entry)) (now (m .entry)) ob c j ⌝ }
 {
     match ob {
-        Object::Text => field_arrival::refuse(15, at),
-        Object::Bytes => field_arrival::refuse(15, at),
-        Object::List(i) => list_part(b, dir, m, wire::index(i), at, start, n, d, j),
-        Object::Table(t) => table_part(b, dir, m, wire::index(t), at, start, n, d, j),
+        Object::Text => field_arrival::refuse(15, c.place),
+        Object::Bytes => field_arrival::refuse(15, c.place),
+        Object::List(i) => list_part(b, dir, m, wire::index(i), c, j),
+        Object::Table(t) => table_part(b, dir, m, wire::index(t), c, j),
     }
 }
 
 // ---- one number of a path
-// One number more.
+// What a path has come to with one number more, from what was found before.
 pub fn part_of(b: &[u8], dir: &[u16], m: &[u8], f: Found, j: usize) -> Found
-    requires { ⌜ (Accepted (now b) (now dir)) × (Readable (now m)) × (FoundWithin (P.parse (now b)) (now m) f) ⌝ }
+    requires { ⌜ (Accepted (now b) (now dir)) × (Readable (now m)) × (FoundIn B.u48 (now b) (now m) f) ⌝ }
     ensures { λ r. ⌜ r ≡ F.partOf B.u48 (P.parse (now (b .entry))) (now (m .entry)) f j ⌝ }
 {
     match f {
@@ -211,7 +192,21 @@ pub fn part_of(b: &[u8], dir: &[u16], m: &[u8], f: Found, j: usize) -> Found
         Found::Absent => Found::Absent,
         Found::Unknown(x) => Found::Unknown(x),
         Found::Value(_, _, holder) => field_arrival::refuse(15, holder),
-        Found::Struct(i, at, holder) => struct_part(b, dir, m, wire::index(i), at, holder, j),
-        Found::Object(ob, at, start, n, d) => object_part(b, dir, m, ob, at, start, n, d, j),
+        Found::Struct(i, place, holder) => {
+            let s = StructAt {
+                index: wire::index(i),
+                place,
+            };
+            struct_part(b, dir, m, s, holder, j)
+        }
+        Found::Object(ob, place, start, length, left) => {
+            let c = Content {
+                place,
+                start,
+                length,
+                left,
+            };
+            object_part(b, dir, m, ob, c, j)
+        }
     }
 }

@@ -1,12 +1,13 @@
 -- The ways out of a path, number by number, and of what comes before it.
 use mathlib.Core.Path.{_≡_, sym, ap, _∙_}
-use mathlib.Core.Bool.{Bool, true, false}
+use mathlib.Core.Bool.{Bool, true, false, _&&_}
 use mathlib.Core.List.{List}
 use Prim.Native.Nat.{ℕ, suc, _+_, _<_, _≤_}
 use native.Mathlib.Numerals.{add-one}
 use lib.ListN.{length, getD, drop, drop-of-length-le}
 use lib.Seq.{drop-cons}
-use borrow.Author.Tests.{le-leb, lt-leb}
+use lib.Dec.{leb}
+use borrow.Author.Tests.{le-leb, lt-leb, leb-true}
 use Rattle.coding.specs.Bytes.{u48, largest, deepest}
 use Rattle.coding.specs.Schema.{Schema}
 use Rattle.coding.specs.Packed as P
@@ -17,65 +18,75 @@ use Rattle.coding.specs.declared.Object.the-variants as O
 use Rattle.coding.specs.declared.Place.{Place}
 use Rattle.coding.specs.declared.Found.{Found}
 use Rattle.coding.specs.declared.Found.the-variants as Fd
+use Rattle.laws.specs.Lists.{both-left, both-right}
 use Rattle.schema.specs.Directory.{Accepted, Judged}
 use Rattle.field_arrival.specs.Within.{FoundWithin}
 
 -- ---- the numbers of a path, from number i on
-module _ (S : Schema) (m : List ℕ) (from : Found) (path : List ℕ) where
-  module _ (f : Found) (i : ℕ) (inv : Field.along u48 S m from path ≡ Field.along u48 S m f (drop i path)) where
-    pub along-done : length path ≤ i → f ≡ Field.along u48 S m from path
+module _ (o : ℕ) (S : Schema) (m : List ℕ) (from : Found) (path : List ℕ) where
+  module _ (f : Found) (i : ℕ) (inv : Field.along o S m from path ≡ Field.along o S m f (drop i path)) where
+    pub along-done : length path ≤ i → f ≡ Field.along o S m from path
     unfolding Field.along
-    along-done h = sym (inv ∙ ap (Field.along u48 S m f) (drop-of-length-le path h))
+    along-done h = sym (inv ∙ ap (Field.along o S m f) (drop-of-length-le path h))
 
-    pub along-turn : i < length path → (g : Found) → g ≡ Field.partOf u48 S m f (getD path i 0)
-        → Field.along u48 S m from path ≡ Field.along u48 S m g (drop (i + 1) path)
+    pub along-turn : i < length path → (g : Found) → g ≡ Field.partOf o S m f (getD path i 0)
+        → Field.along o S m from path ≡ Field.along o S m g (drop (i + 1) path)
     unfolding Field.along
     along-turn h g e =
-        inv ∙ ap (Field.along u48 S m f) (drop-cons path i 0 h)
-        ∙ ap (λ (q : Found). Field.along u48 S m q (drop (suc i) path)) (sym e)
-        ∙ ap (λ (k : ℕ). Field.along u48 S m g (drop k path)) (sym (add-one i))
+        inv ∙ ap (Field.along o S m f) (drop-cons path i 0 h)
+        ∙ ap (λ (q : Found). Field.along o S m q (drop (suc i) path)) (sym e)
+        ∙ ap (λ (k : ℕ). Field.along o S m g (drop k path)) (sym (add-one i))
 
-pub root-found : (S : Schema) (m path : List ℕ) (ob : Object) (p : Place) → ob ≡ O.Table (S .root) → p ≡ W.rootPlace u48 m → (f : Found)
-    → f ≡ Field.arrived 32 u48 S m ob p → (r : Found) → r ≡ Field.along u48 S m f path → r ≡ Field.found u48 S m path
+pub root-found : (o : ℕ) (S : Schema) (m path : List ℕ) (ob : Object) (p : Place) → ob ≡ O.Table (S .root) → p ≡ W.rootPlace o m → (f : Found)
+    → f ≡ Field.arrived 32 o S m ob p → (r : Found) → r ≡ Field.along o S m f path → r ≡ Field.found o S m path
 unfolding Field.found deepest
-root-found S m path ob p eo ep f ef r e =
+root-found o S m path ob p eo ep f ef r e =
     e
-    ∙ ap (λ (q : Found). Field.along u48 S m q path)
-    (ef ∙ ap (λ (q : Object). Field.arrived 32 u48 S m q p) eo ∙ ap (Field.arrived 32 u48 S m (O.Table (S .root))) ep)
+    ∙ ap (λ (q : Found). Field.along o S m q path)
+    (ef ∙ ap (λ (q : Object). Field.arrived 32 o S m q p) eo ∙ ap (Field.arrived 32 o S m (O.Table (S .root))) ep)
 
 -- ---- what comes first
 module _ (b dir m path : List ℕ) (a : Accepted b dir) (r : Found) where
-  pub found-far : 96 < length path → r ≡ Fd.Refused (Field.refusal 15 0) → r ≡ Field.fieldFound u48 b m path
+  pub found-far : 96 < length path → r ≡ Fd.Refused (W.refusal 15 0) → r ≡ Field.fieldFound u48 b m path
   unfolding Field.fieldFound Field.before
   found-far h e = simp (a .lawful, lt-leb _ _ h) e
 
-  module _ (h : length path ≤ 96) where
-    pub found-short : length m < 10 → r ≡ Fd.Refused (Field.refusal 2 0) → r ≡ Field.fieldFound u48 b m path
-    unfolding Field.fieldFound Field.before W.sizeOk W.headerSize u48
-    found-short l e = simp (a .lawful, le-leb _ _ h, lt-leb _ _ l) e
+  module _ (h : length path ≤ 96) (s : Bool) (es : s ≡ W.sizeOk u48 m) where
+    pub found-size : s ≡ false → r ≡ Fd.Refused (W.refusal 2 0) → r ≡ Field.fieldFound u48 b m path
+    unfolding Field.fieldFound Field.before
+    found-size f e = simp (a .lawful, le-leb _ _ h, ← es, f) e
 
-    module _ (l : 10 ≤ length m) where
-      pub found-long : 16777215 < length m → r ≡ Fd.Refused (Field.refusal 2 0) → r ≡ Field.fieldFound u48 b m path
-      unfolding Field.fieldFound Field.before W.sizeOk W.headerSize u48 largest
-      found-long g e = simp (a .lawful, le-leb _ _ h, le-leb _ _ l, lt-leb _ _ g) e
+    module _ (g : s ≡ true) (t : Bool) (et : t ≡ W.startOk m) where
+      pub found-there : t ≡ true → r ≡ Field.found u48 (P.parse b) m path → r ≡ Field.fieldFound u48 b m path
+      unfolding Field.fieldFound
+      found-there f e = simp (a .lawful, le-leb _ _ h, ← es, g, ← et, f) e
 
-      module _ (g : length m ≤ 16777215) (t : Bool) (et : t ≡ W.startOk m) where
-        pub found-there : t ≡ true → r ≡ Field.found u48 (P.parse b) m path → r ≡ Field.fieldFound u48 b m path
-        unfolding Field.fieldFound W.sizeOk W.headerSize u48 largest
-        found-there f e = simp (a .lawful, le-leb _ _ h, le-leb _ _ l, le-leb _ _ g, ← et, f) e
+      pub found-other : t ≡ false → r ≡ Fd.Refused (W.refusal 3 0) → r ≡ Field.fieldFound u48 b m path
+      unfolding Field.fieldFound Field.before
+      found-other f e = simp (a .lawful, le-leb _ _ h, ← es, g, ← et, f) e
 
-        pub found-other : t ≡ false → r ≡ Fd.Refused (Field.refusal 3 0) → r ≡ Field.fieldFound u48 b m path
-        unfolding Field.fieldFound Field.before W.sizeOk W.headerSize u48 largest
-        found-other f e = simp (a .lawful, le-leb _ _ h, le-leb _ _ l, le-leb _ _ g, ← et, f) e
+-- a message of a right size has its start, and is within the size
+module _ (m : List ℕ) (s : Bool) (es : s ≡ W.sizeOk u48 m) (g : s ≡ true) where
+  both : (10 ≤ length m) × (length m ≤ 16777215)
+  unfolding W.sizeOk W.startSize u48 largest
+  both =
+      let e : (leb 10 (length m) && leb (length m) 16777215) ≡ true = sym es ∙ g in
+      (leb-true _ _ (both-left (leb 10 (length m)) (leb (length m) 16777215) e), leb-true _ _ (both-right (leb 10 (length m)) (leb (length m) 16777215) e))
 
-pub refused-within : (S : Schema) (m : List ℕ) (n at : ℕ) (r : Found) → r ≡ Fd.Refused (Field.refusal n at) → FoundWithin S m r
-refused-within S m n at r e = rw e tt
+  pub size-start : 10 ≤ length m
+  size-start = both .0
+
+  pub size-most : length m ≤ 16777215
+  size-most = both .1
+
+pub refused-within : (o : ℕ) (S : Schema) (m : List ℕ) (n at : ℕ) (r : Found) → r ≡ Fd.Refused (W.refusal n at) → FoundWithin o S m r
+refused-within o S m n at r e = rw e tt
 
 -- ---- the schema
-pub unlawful : (b dir m path : List ℕ) (t : Bool) → Judged b dir t → t ≡ false → Field.fieldFound u48 b m path ≡ Fd.Refused (Field.refusal 1 0)
+pub unlawful : (b dir m path : List ℕ) (t : Bool) → Judged b dir t → t ≡ false → Field.fieldFound u48 b m path ≡ Fd.Refused (W.refusal 1 0)
 unfolding Field.fieldFound Field.before
 unlawful b dir m path t j f = simp (← (j .is), f)
 
-pub found-unlawful : (b dir m path : List ℕ) (t : Bool) → Judged b dir t → t ≡ false → (r : Found) → r ≡ Fd.Refused (Field.refusal 1 0)
+pub found-unlawful : (b dir m path : List ℕ) (t : Bool) → Judged b dir t → t ≡ false → (r : Found) → r ≡ Fd.Refused (W.refusal 1 0)
     → r ≡ Field.fieldFound u48 b m path
 found-unlawful b dir m path t j f r e = e ∙ sym (unlawful b dir m path t j f)

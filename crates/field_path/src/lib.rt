@@ -2,17 +2,23 @@
 use coding::Found;
 ghost use mathlib.Core.Path.{_≡_};
 ghost use Prim.Native.Nat.{_≤_};
-ghost use lib.ListN.{length};
 ghost use Rattle.coding.specs.Bytes as B;
 ghost use Rattle.coding.specs.Field as F;
 ghost use Rattle.coding.specs.Packed as P;
 ghost use Rattle.schema.specs.Directory.{Accepted};
-ghost use Rattle.field_arrival.specs.Within.{Readable, FoundWithin};
+ghost use Rattle.field_arrival.specs.Within.{Readable, FoundIn};
+ghost use Rattle.wire.specs.Sizes.{HasStart};
 
-// All numbers of a path, from what was found before.
+// The most numbers that a path may have.
+pub const LONGEST_PATH: usize = 96;
+
+// How many objects deep a message may go, the root counted.
+const DEEPEST: usize = 32;
+
+// What all numbers of a path lead to, one after the other, from what was found before.
 fn along(b: &[u8], dir: &[u16], m: &[u8], from: Found, path: &[u32]) -> Found
-    requires { ⌜ (Accepted (now b) (now dir)) × (Readable (now m)) × (FoundWithin (P.parse (now b)) (now m) from) ⌝ }
-    ensures { λ r. ⌜ (r ≡ F.along B.u48 (P.parse (now (b .entry))) (now (m .entry)) from (now (path .entry))) × FoundWithin (P.parse (now (b .entry))) (now (m .entry)) r ⌝ }
+    requires { ⌜ (Accepted (now b) (now dir)) × (Readable (now m)) × (FoundIn B.u48 (now b) (now m) from) ⌝ }
+    ensures { λ r. ⌜ (r ≡ F.along B.u48 (P.parse (now (b .entry))) (now (m .entry)) from (now (path .entry))) × FoundIn B.u48 (now (b .entry)) (now (m .entry)) r ⌝ }
 {
     let mut f = from;
     let mut i: usize = 0;
@@ -23,40 +29,37 @@ fn along(b: &[u8], dir: &[u16], m: &[u8], from: Found, path: &[u32]) -> Found
     f
 }
 
-// From the root.
+// What a path comes to from the root, in a message that has its start.
 fn from_root(b: &[u8], dir: &[u16], m: &[u8], path: &[u32]) -> Found
-    requires { ⌜ (Accepted (now b) (now dir)) × (Readable (now m)) × (10 ≤ length (now m)) ⌝ }
-    ensures { λ r. ⌜ (r ≡ F.found B.u48 (P.parse (now (b .entry))) (now (m .entry)) (now (path .entry))) × FoundWithin (P.parse (now (b .entry))) (now (m .entry)) r ⌝ }
+    requires { ⌜ (Accepted (now b) (now dir)) × (Readable (now m)) × (HasStart (now m)) ⌝ }
+    ensures { λ r. ⌜ (r ≡ F.found B.u48 (P.parse (now (b .entry))) (now (m .entry)) (now (path .entry))) × FoundIn B.u48 (now (b .entry)) (now (m .entry)) r ⌝ }
 {
-    let ob = message_object::root_object(b, dir);
-    let p = message_object::root_place(m);
-    let f = field_arrival::arrive(b, dir, m, 32, ob, p);
+    let ob = message_start::root_object(b, dir);
+    let p = message_start::root_place(m);
+    let f = field_arrival::arrive(b, dir, m, DEEPEST, ob, p);
     along(b, dir, m, f, path)
 }
 
 // What a path comes to, by a schema that was judged before.
 pub fn found_by(b: &[u8], dir: &[u16], m: &[u8], path: &[u32]) -> Found
     requires { ⌜ Accepted (now b) (now dir) ⌝ }
-    ensures { λ r. ⌜ (r ≡ F.fieldFound B.u48 (now (b .entry)) (now (m .entry)) (now (path .entry))) × FoundWithin (P.parse (now (b .entry))) (now (m .entry)) r ⌝ }
+    ensures { λ r. ⌜ (r ≡ F.fieldFound B.u48 (now (b .entry)) (now (m .entry)) (now (path .entry))) × FoundIn B.u48 (now (b .entry)) (now (m .entry)) r ⌝ }
 {
-    if 96 < path.len() {
+    if LONGEST_PATH < path.len() {
         return field_arrival::refuse(15, 0);
     }
-    if m.len() < 10 {
-        return field_arrival::refuse(2, 0);
+    if message_start::size_ok(m) {
+        if message_start::start_ok(m) {
+            return from_root(b, dir, m, path);
+        }
+        return field_arrival::refuse(3, 0);
     }
-    if 16777215 < m.len() {
-        return field_arrival::refuse(2, 0);
-    }
-    if message_object::start_ok(m) {
-        return from_root(b, dir, m, path);
-    }
-    field_arrival::refuse(3, 0)
+    field_arrival::refuse(2, 0)
 }
 
 // What a path comes to, of any message by any schema.
 pub fn field_found(b: &[u8], m: &[u8], path: &[u32]) -> Found
-    ensures { λ r. ⌜ (r ≡ F.fieldFound B.u48 (now (b .entry)) (now (m .entry)) (now (path .entry))) × FoundWithin (P.parse (now (b .entry))) (now (m .entry)) r ⌝ }
+    ensures { λ r. ⌜ (r ≡ F.fieldFound B.u48 (now (b .entry)) (now (m .entry)) (now (path .entry))) × FoundIn B.u48 (now (b .entry)) (now (m .entry)) r ⌝ }
 {
     let mut dir: [u16; 384] = [0; 384];
     if schema_lawful::judge_schema(b, &mut dir) {

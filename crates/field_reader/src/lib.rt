@@ -3,7 +3,7 @@
 use coding::Answer;
 ghost use mathlib.Core.Path.{_≡_};
 ghost use Rattle.coding.specs.Bytes as B;
-ghost use Rattle.coding.specs.Field as F;
+ghost use Rattle.field_reader.specs.Reading.{gives, after};
 
 pub struct ListReader<'a, 'b, 'c> {
     pub schema: &'a [u8],
@@ -28,11 +28,14 @@ pub fn new<'a, 'b, 'c>(
     }
 }
 
-// The answer of the step at the reader's element.
-pub fn answer<'a, 'b, 'c>(r: ListReader<'a, 'b, 'c>) -> Answer
-    ensures { λ q. ⌜ q ≡ F.readerGives B.u48 (now (r .entry .schema)) (now (r .entry .message)) (now (r .entry .path)) (r .entry .element) ⌝ }
+// A step: the answer at the reader's element. The reader moves on, refused or not; after the list's last element, and where there is
+// no list, it stays.
+pub fn step<'s, 'a, 'b, 'c>(r: &'s mut ListReader<'a, 'b, 'c>) -> Answer
+    ensures { λ q. ⌜ (q ≡ gives B.u48 (now (r .entry))) × (now (r .exit) ≡ after B.u48 (now (r .entry))) ⌝ }
 {
-    field_element::reader_answer(r.schema, r.message, r.path, r.element)
+    let s = field_element::step(r.schema, r.message, r.path, r.element);
+    r.element = s.next;
+    s.answer
 }
 
 // The reader at another element.

@@ -22,6 +22,7 @@ use Rattle.coding.specs.declared.Kind.the-variants.{OfFlat, OfObject, OfUnion}
 use Rattle.coding.specs.declared.Member.{Member}
 use Rattle.coding.specs.declared.Cursor.{Cursor}
 use Rattle.coding.specs.declared.Slot.{Slot}
+use Rattle.coding.specs.declared.Placement.{Placement}
 use Rattle.coding.specs.declared.Place.{Place}
 use Rattle.coding.specs.declared.Place.the-variants.{ByOffset, InPlace}
 use Rattle.coding.specs.declared.Step.{Step}
@@ -53,52 +54,60 @@ OpenNumber (Op.Content start n) = Unit {0}
 
 -- ---- opening
 module _ (S : Schema) (m : List ℕ) (ob : Object) where
-  content-number : (start n : ℕ) → OpenNumber (W.openContent u48 S m ob start n)
-  unfolding W.openContent
-  content-number start n = by (leb (start + W.contentSize u48 S ob n) (length m)) (W.endOk m ob start n)
+  content-number : (start n : ℕ) → OpenNumber (W.fitContent u48 S m ob start n)
+  unfolding W.fitContent
+  content-number start n = by (leb (start + W.contentSize u48 S ob n) (length m))
     where
-      by : (t u : Bool) → OpenNumber (pick t (pick u (Op.Content start n) (Op.Refused 10)) (Op.Refused 6))
-      by true true = tt
-      by true false = omega arith
-      by false u = omega arith
+      by : (t : Bool) → OpenNumber (pick t (Op.Content start n) (Op.Refused 6))
+      by true = tt
+      by false = omega arith
 
-  open-number : (p : Place) → OpenNumber (W.openObject u48 S m ob p)
-  unfolding W.openObject
-  open-number (ByOffset x) =
-      by (leb (W.headerSize u48) x && leb (x + W.headerSize u48) (length m)) (eqb (le m x 4) (W.magic S ob))
-      (W.openContent u48 S m ob (x + W.headerSize u48) (le m (x + 4) u48)) (content-number (x + W.headerSize u48) (le m (x + 4) u48))
+  fit-number : (p : Place) → OpenNumber (W.fitObject u48 S m ob p)
+  unfolding W.fitObject
+  fit-number (ByOffset x) =
+      by (leb (W.startSize u48) x && leb (x + W.headerSize u48) (length m)) (eqb (le m x 4) (W.magic S ob))
+      (W.fitContent u48 S m ob (x + W.headerSize u48) (le m (x + 4) u48)) (content-number (x + W.headerSize u48) (le m (x + 4) u48))
     where
       by : (t u : Bool) (g : Opened) → OpenNumber g → OpenNumber (pick t (pick u g (Op.Refused 7)) (Op.Refused 6))
       by true true g h = h
       by true false g h = omega arith
       by false u g h = omega arith
-  open-number (InPlace a n) = content-number a n
+  fit-number (InPlace a n) = content-number a n
+
+  bytes-number : (g : Opened) → OpenNumber g → OpenNumber (W.bytesTested m ob g)
+  unfolding W.bytesTested
+  bytes-number (Op.Refused n) h = h
+  bytes-number (Op.Content start n) h = by (W.endOk m ob start n)
+    where
+      by : (t : Bool) → OpenNumber (pick t (Op.Content start n) (Op.Refused 10))
+      by true = tt
+      by false = omega arith
+
+  open-number : (p : Place) → OpenNumber (W.openObject u48 S m ob p)
+  unfolding W.openObject
+  open-number p = bytes-number (W.fitObject u48 S m ob p) (fit-number p)
 
 -- ---- steps
-flat-number : (S : Schema) (m : List ℕ) (k : Flat) (none : Bool) (at bit : ℕ) → StepNumber (T.flatStep S m k none at bit)
-unfolding T.flatStep T.floatStep T.enumStep T.structStep
-flat-number S m F.Boolean none at bit = tt
-flat-number S m (F.Integer s w) none at bit = tt
-flat-number S m (F.Float w) none at bit = by (none && isNaN w (le m at w))
+flat-number : (m : List ℕ) (k : Flat) (none : Bool) (at bit : ℕ) → StepNumber (T.flatStep m k none at bit)
+unfolding T.flatStep T.floatStep T.enumStep
+flat-number m F.Boolean none at bit = tt
+flat-number m (F.Integer s w) none at bit = tt
+flat-number m (F.Float w) none at bit = by (none && isNaN w (le m at w))
   where
     by : (t : Bool) → StepNumber (pick t St.Absent (St.Value (le m at w)))
     by true = tt
     by false = tt
-flat-number S m (F.Enumerated n) none at bit = by (eqb (getD m at 0) 255) (ltb (getD m at 0) n)
+flat-number m (F.Enumerated n) none at bit = by (eqb (getD m at 0) 255) (ltb (getD m at 0) n)
   where
     by : (t u : Bool) → StepNumber (pick t St.Absent (pick u (St.Value (getD m at 0)) (St.Unknown (getD m at 0))))
     by true u = tt
     by false true = tt
     by false false = tt
-flat-number S m (F.Struct i) none at bit = by (structOk S m i at)
-  where
-    by : (t : Bool) → StepNumber (pick t (St.Struct i at) (St.Refused 10))
-    by true = tt
-    by false = omega arith
+flat-number m (F.Struct i) none at bit = tt
 
 value-number : (S : Schema) (m : List ℕ) (k : Kind) (none inplace : Bool) (tail at bit : ℕ) → StepNumber (T.valueStep u48 S m k none inplace tail at bit)
 unfolding T.valueStep T.objectStep T.unionStep
-value-number S m (OfFlat k) none inplace tail at bit = flat-number S m k none at bit
+value-number S m (OfFlat k) none inplace tail at bit = flat-number m k none at bit
 value-number S m (OfObject ob) none inplace tail at bit = by (eqb (le m at u48) 0) (T.placeOf inplace tail (le m at u48))
   where
     by : (t : Bool) (p : Place) → StepNumber (pick t St.Absent (St.Object ob p))
@@ -111,6 +120,20 @@ value-number S m (OfUnion i) none inplace tail at bit =
     by true u c ob p = tt
     by false true c ob p = tt
     by false false c ob p = tt
+
+struct-number : (S : Schema) (m : List ℕ) (step : Step) → StepNumber step → StepNumber (T.structTested S m step)
+unfolding T.structTested
+struct-number S m (St.Refused n) h = h
+struct-number S m St.Absent h = tt
+struct-number S m (St.Value x) h = tt
+struct-number S m (St.Unknown x) h = tt
+struct-number S m (St.Struct i at) h = by (structOk S m i at)
+  where
+    by : (t : Bool) → StepNumber (pick t (St.Struct i at) (St.Refused 10))
+    by true = tt
+    by false = omega arith
+struct-number S m (St.Object ob p) h = tt
+struct-number S m (St.Choice c ob p) h = tt
 
 inside-number : (n : ℕ) (slot : Slot) (past here : Step) → StepNumber past → StepNumber here → StepNumber (T.inside n slot past here)
 unfolding T.inside
@@ -126,26 +149,34 @@ among true u x y f g = tt
 among false true x y f g = f
 among false false x y f g = g
 
-member-number : (S : Schema) (m : List ℕ) (start n : ℕ) (c : Cursor) (r : Member) → StepNumber (T.memberStep u48 S m start n c r)
-unfolding T.memberStep T.flagged
-member-number S m start n c r =
-    by (L.hasFlag r) (L.memberSlot u48 S r c) _
-    (value-number S m (r .kind) (r .optional) (r .inplace) (start + n) (start + L.memberSlot u48 S r c .at) (L.memberSlot u48 S r c .bit))
+placed-number : (S : Schema) (m : List ℕ) (start n : ℕ) (p : Placement) (r : Member) → StepNumber (T.placedStep u48 S m start n p r)
+unfolding T.placedStep T.flagged
+placed-number S m start n p r =
+    by (L.hasFlag r) (p .flag) (p .value) _ (value-number S m (r .kind) (r .optional) (r .inplace) (start + n) (start + p .value .at) (p .value .bit))
   where
-    by : (f : Bool) (slot : Slot) (here : Step) → StepNumber here → StepNumber (pick f (T.flagged m start n c slot here) (T.inside n slot St.Absent here))
-    by true slot here h =
-        among (leb n (L.bitByte c)) (eqb (bitAt m (start + L.bitByte c) (L.bitIndex c)) 1) (T.inside n slot (St.Refused 8) here) (T.inside n slot St.Absent St.Absent)
+    by : (f : Bool) (flag slot : Slot) (here : Step) → StepNumber here → StepNumber (pick f (T.flagged m start n flag slot here) (T.inside n slot St.Absent here))
+    by true flag slot here h =
+        among (leb n (flag .at)) (eqb (bitAt m (start + flag .at) (flag .bit)) 1) (T.inside n slot (St.Refused 8) here) (T.inside n slot St.Absent St.Absent)
         (inside-number n slot (St.Refused 8) here (omega arith) h) (inside-number n slot St.Absent St.Absent tt tt)
-    by false slot here h = inside-number n slot St.Absent here tt h
+    by false flag slot here h = inside-number n slot St.Absent here tt h
+
+member-number : (S : Schema) (m : List ℕ) (start n : ℕ) (c : Cursor) (r : Member) → StepNumber (T.memberStep u48 S m start n c r)
+unfolding T.memberStep
+member-number S m start n c r = struct-number S m (T.placedStep u48 S m start n (L.placementOf u48 S r c) r) (placed-number S m start n (L.placementOf u48 S r c) r)
 
 element-number : (S : Schema) (m : List ℕ) (k : Kind) (start i : ℕ) → StepNumber (T.elementStep u48 S m k start i)
 unfolding T.elementStep
-element-number S m k start i = value-number S m k true false 0 (T.elementPlace u48 S k start i) (i % 8)
+element-number S m k start i =
+    struct-number S m (T.valueStep u48 S m k true false 0 (T.elementPlace u48 S k start i) (i % 8)) (value-number S m k true false 0 (T.elementPlace u48 S k start i) (i % 8))
 
 -- ---- the walk
 refuse-small : (n at : ℕ) (s : Spent) → n < 256 → NumberSmall (W.refuse n at s)
 unfolding W.refuse
 refuse-small n at s h = h
+
+part-small : (n holder j : ℕ) (s : Spent) → n < 256 → NumberSmall (W.refusePart n holder j s)
+unfolding W.refusePart
+part-small n holder j s h = refuse-small n holder s h
 
 then-small : (w : Walked) (next : Spent → Walked) → NumberSmall w → ((s : Spent) → NumberSmall (next s)) → NumberSmall (W.andThen w next)
 unfolding W.andThen
@@ -153,43 +184,43 @@ then-small (Going s) next h f = f s
 then-small (Refused x s) next h f = h
 
 module _ (child : W.Child) (small : (ob : Object) (p : Place) (s : Spent) → NumberSmall (child ob p s)) where
-  choice-small : (holder : ℕ) (ob : Object) (p : Place) (s : Spent) → NumberSmall (W.followChoice child holder ob p s)
+  choice-small : (holder j : ℕ) (ob : Object) (p : Place) (s : Spent) → NumberSmall (W.followChoice child holder j ob p s)
   unfolding W.followChoice
-  choice-small holder ob (ByOffset x) s =
-      pick-holds NumberSmall (eqb x 0) (W.refuse 9 holder s) (child ob (ByOffset x) s) (λ _. refuse-small 9 holder s (omega arith)) (λ _. small ob (ByOffset x) s)
-  choice-small holder ob (InPlace a n) s = small ob (InPlace a n) s
+  choice-small holder j ob (ByOffset x) s =
+      pick-holds NumberSmall (eqb x 0) (W.refusePart 9 holder j s) (child ob (ByOffset x) s) (λ _. part-small 9 holder j s (omega arith)) (λ _. small ob (ByOffset x) s)
+  choice-small holder j ob (InPlace a n) s = small ob (InPlace a n) s
 
-  follow-small : (holder : ℕ) (step : Step) (s : Spent) → StepNumber step → NumberSmall (W.follow child holder step s)
+  follow-small : (holder j : ℕ) (step : Step) (s : Spent) → StepNumber step → NumberSmall (W.follow child holder j step s)
   unfolding W.follow
-  follow-small holder (St.Refused n) s h = refuse-small n holder s h
-  follow-small holder St.Absent s h = tt
-  follow-small holder (St.Value x) s h = tt
-  follow-small holder (St.Unknown x) s h = tt
-  follow-small holder (St.Struct i at) s h = tt
-  follow-small holder (St.Object ob p) s h = small ob p s
-  follow-small holder (St.Choice c ob p) s h = choice-small holder ob p s
+  follow-small holder j (St.Refused n) s h = part-small n holder j s h
+  follow-small holder j St.Absent s h = tt
+  follow-small holder j (St.Value x) s h = tt
+  follow-small holder j (St.Unknown x) s h = tt
+  follow-small holder j (St.Struct i at) s h = tt
+  follow-small holder j (St.Object ob p) s h = small ob p s
+  follow-small holder j (St.Choice c ob p) s h = choice-small holder j ob p s
 
-  members-small : (S : Schema) (m : List ℕ) (holder start n : ℕ) (c : Cursor) (rs : List Member) (s : Spent)
-      → NumberSmall (W.members child u48 S m holder start n c rs s)
+  members-small : (S : Schema) (m : List ℕ) (holder start n : ℕ) (c : Cursor) (j : ℕ) (rs : List Member) (s : Spent)
+      → NumberSmall (W.members child u48 S m holder start n c j rs s)
   unfolding W.members
-  members-small S m holder start n c [] s = tt
-  members-small S m holder start n c (r ∷ rs) s =
-      then-small (W.follow child holder (T.memberStep u48 S m start n c r) s) (W.members child u48 S m holder start n (L.afterMember u48 S r c) rs)
-      (follow-small holder (T.memberStep u48 S m start n c r) s (member-number S m start n c r)) (λ v. members-small S m holder start n (L.afterMember u48 S r c) rs v)
+  members-small S m holder start n c j [] s = tt
+  members-small S m holder start n c j (r ∷ rs) s =
+      then-small (W.follow child holder j (T.memberStep u48 S m start n c r) s) (W.members child u48 S m holder start n (L.afterMember u48 S r c) (j + 1) rs)
+      (follow-small holder j (T.memberStep u48 S m start n c r) s (member-number S m start n c r)) (λ v. members-small S m holder start n (L.afterMember u48 S r c) (j + 1) rs v)
 
   elements-small : (S : Schema) (m : List ℕ) (holder start : ℕ) (k : Kind) (n i : ℕ) (s : Spent) → NumberSmall (W.elements child u48 S m holder start k n i s)
   unfolding W.elements
   elements-small S m holder start k zero i s = tt
   elements-small S m holder start k (suc n) i s =
-      then-small (W.follow child holder (T.elementStep u48 S m k start i) s) (W.elements child u48 S m holder start k n (i + 1))
-      (follow-small holder (T.elementStep u48 S m k start i) s (element-number S m k start i)) (λ v. elements-small S m holder start k n (i + 1) v)
+      then-small (W.follow child holder i (T.elementStep u48 S m k start i) s) (W.elements child u48 S m holder start k n (i + 1))
+      (follow-small holder i (T.elementStep u48 S m k start i) s (element-number S m k start i)) (λ v. elements-small S m holder start k n (i + 1) v)
 
   content-small : (S : Schema) (m : List ℕ) (ob : Object) (holder start n : ℕ) (s : Spent) → NumberSmall (W.content child u48 S m ob holder start n s)
   unfolding W.content
   content-small S m O.Text holder start n s = tt
   content-small S m O.Bytes holder start n s = tt
   content-small S m (O.List i) holder start n s = elements-small S m holder start (Sc.elementOf S i) n 0 s
-  content-small S m (O.Table i) holder start n s = members-small S m holder start n L.begin (Sc.tableOf S i .members) s
+  content-small S m (O.Table i) holder start n s = members-small S m holder start n L.begin 0 (Sc.tableOf S i .members) s
 
   enter-small : (S : Schema) (m : List ℕ) (ob : Object) (holder : ℕ) (g : Opened) (s : Spent) → OpenNumber g → NumberSmall (W.enter child u48 S m ob holder g s)
   unfolding W.enter
@@ -203,8 +234,8 @@ module _ (child : W.Child) (small : (ob : Object) (p : Place) (s : Spent) → Nu
   counted-small : (b : Budget) (ob : Object) (p : Place) (s : Spent) → NumberSmall (W.counted child b ob p s)
   unfolding W.counted
   counted-small b ob p s =
-      pick-holds NumberSmall (ltb (s .visits) (b .visits)) (child ob p (record { visits = s .visits + 1 })) (W.refuse 4 (W.placed p) s)
-      (λ _. small ob p (record { visits = s .visits + 1 })) (λ _. refuse-small 4 (W.placed p) s (omega arith))
+      pick-holds NumberSmall (ltb (s .visits) (b .visits)) (child ob p (W.oneMore s)) (W.refuse 4 (W.placed p) s)
+      (λ _. small ob p (W.oneMore s)) (λ _. refuse-small 4 (W.placed p) s (omega arith))
 
 deep-small : (ob : Object) (p : Place) (s : Spent) → NumberSmall (W.tooDeep ob p s)
 unfolding W.tooDeep
@@ -217,4 +248,4 @@ visit-small (suc d) S m b ob p s = counted-small (W.arrive (W.visit d u48 S m b)
 
 pub walk-small : (S : Schema) (m : List ℕ) (b : Budget) → NumberSmall (W.walk u48 S m b)
 unfolding W.walk
-walk-small S m b = visit-small deepest S m b (O.Table (S .root)) (W.rootPlace u48 m) (record { visits = 0 })
+walk-small S m b = visit-small deepest S m b (O.Table (S .root)) (W.rootPlace u48 m) W.nothing

@@ -5,10 +5,11 @@ use mathlib.Core.List.{List}
 use Prim.Native.Nat.{ℕ, _-_, _<_, _≤_}
 use native.Mathlib.Omega.{arith}
 use lib.ListN.{length}
-use lib.Dec.{eqb}
-use borrow.Author.Tests.{le-leb, lt-leb, eq-eqb, ne-eqb, eqb-true}
+use lib.Dec.{eqb, leb}
+use borrow.Author.Tests.{leb-true, eq-eqb, ne-eqb, eqb-true}
 use Rattle.coding.specs.Lists.{pick}
 use Rattle.coding.specs.Bytes.{u48, largest, deepest}
+use Rattle.laws.specs.Lists.{both-left, both-right}
 use Rattle.coding.specs.Schema.{Schema}
 use Rattle.coding.specs.Packed as P
 use Rattle.coding.specs.Walk as W
@@ -20,35 +21,40 @@ use Rattle.coding.specs.declared.Verdict.{Verdict}
 use Rattle.coding.specs.declared.Walked.{Walked}
 use Rattle.coding.specs.declared.Walked.the-variants.{Going, Refused}
 use Rattle.schema.specs.Directory.{Accepted, Judged}
-use Rattle.judge_text.specs.declared.Outcome.{Outcome}
-use Rattle.judge_text.specs.Answers.{walkedOf}
+use Rattle.outcome.specs.declared.Outcome.{Outcome}
+use Rattle.outcome.specs.Answers.{walkedOf}
 use Rattle.judge.proofs.NumberCases.{NumberSmall, walk-small}
 
 pub walk-is : (b m : List ℕ) (budget : Budget) (ob : Object) (p : Place) → ob ≡ O.Table (P.parse b .root) → p ≡ W.rootPlace u48 m → (r : Walked)
     → r ≡ W.visit 32 u48 (P.parse b) m budget ob p (record { visits = 0 }) → r ≡ W.walk u48 (P.parse b) m budget
-unfolding W.walk deepest
+unfolding W.walk W.nothing deepest
 walk-is b m budget ob p eo ep r e =
     e ∙ ap (λ (q : Object). W.visit 32 u48 (P.parse b) m budget q p (record { visits = 0 })) eo
     ∙ ap (λ (q : Place). W.visit 32 u48 (P.parse b) m budget (O.Table (P.parse b .root)) q (record { visits = 0 })) ep
 
-module _ (b dir m : List ℕ) (a : Accepted b dir) (budget : Budget) (r : Verdict) where
-  pub verdict-short : length m < 10 → r ≡ W.early 2 → r ≡ W.verdict u48 b m budget
-  unfolding W.verdict W.sizeOk W.headerSize u48
-  verdict-short h e = simp (a .lawful, lt-leb _ _ h) e
+-- a message within the size
+module _ (m : List ℕ) (t : Bool) (et : t ≡ W.sizeOk u48 m) (f : t ≡ true) where
+  pub size-start : 10 ≤ length m
+  unfolding W.sizeOk W.startSize u48
+  size-start = leb-true 10 (length m) (both-left (leb 10 (length m)) (leb (length m) largest) (sym et ∙ f))
 
-  module _ (h : 10 ≤ length m) where
-    pub verdict-long : 16777215 < length m → r ≡ W.early 2 → r ≡ W.verdict u48 b m budget
-    unfolding W.verdict W.sizeOk W.headerSize u48 largest
-    verdict-long l e = simp (a .lawful, le-leb _ _ h, lt-leb _ _ l) e
+  pub size-largest : length m ≤ 16777215
+  unfolding W.sizeOk W.startSize u48 largest
+  size-largest = leb-true (length m) 16777215 (both-right (leb 10 (length m)) (leb (length m) 16777215) (sym et ∙ f))
 
-    module _ (l : length m ≤ 16777215) (t : Bool) (et : t ≡ W.startOk m) where
-      pub verdict-walk : t ≡ true → (w : Walked) → w ≡ W.walk u48 (P.parse b) m budget → r ≡ W.verdictOf w → r ≡ W.verdict u48 b m budget
-      unfolding W.verdict W.sizeOk W.headerSize u48 largest
-      verdict-walk f w ew e = simp (a .lawful, le-leb _ _ h, le-leb _ _ l, ← et, f, ← ew) e
+module _ (b dir m : List ℕ) (a : Accepted b dir) (budget : Budget) (r : Verdict) (q : Bool) (eq : q ≡ W.sizeOk u48 m) where
+  pub verdict-size : q ≡ false → r ≡ W.early 2 → r ≡ W.verdict u48 b m budget
+  unfolding W.verdict
+  verdict-size h e = simp (a .lawful, ← eq, h) e
 
-      pub verdict-other : t ≡ false → r ≡ W.early 3 → r ≡ W.verdict u48 b m budget
-      unfolding W.verdict W.sizeOk W.headerSize u48 largest
-      verdict-other f e = simp (a .lawful, le-leb _ _ h, le-leb _ _ l, ← et, f) e
+  module _ (h : q ≡ true) (t : Bool) (et : t ≡ W.startOk m) where
+    pub verdict-walk : t ≡ true → (w : Walked) → w ≡ W.walk u48 (P.parse b) m budget → r ≡ W.verdictOf w → r ≡ W.verdict u48 b m budget
+    unfolding W.verdict
+    verdict-walk f w ew e = simp (a .lawful, ← eq, h, ← et, f, ← ew) e
+
+    pub verdict-other : t ≡ false → r ≡ W.early 3 → r ≡ W.verdict u48 b m budget
+    unfolding W.verdict
+    verdict-other f e = simp (a .lawful, ← eq, h, ← et, f) e
 
 pub verdict-unlawful : (b dir m : List ℕ) (budget : Budget) (t : Bool) → Judged b dir t → t ≡ false → (r : Verdict) → r ≡ W.early 1 → r ≡ W.verdict u48 b m budget
 unfolding W.verdict

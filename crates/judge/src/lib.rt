@@ -2,16 +2,18 @@
 use coding::Budget;
 use coding::Spent;
 use coding::Verdict;
-use judge_text::Outcome;
+use outcome::Limits;
+use outcome::Outcome;
 ghost use mathlib.Core.Path.{_≡_};
 ghost use Prim.Native.Nat.{_≤_};
-ghost use lib.ListN.{length};
 ghost use Rattle.coding.specs.Bytes as B;
 ghost use Rattle.coding.specs.Packed as P;
 ghost use Rattle.coding.specs.Walk as W;
 ghost use Rattle.schema.specs.Directory.{Accepted};
-ghost use Rattle.judge_text.specs.Answers as As;
+ghost use Rattle.outcome.specs.Answers as As;
+ghost use Rattle.wire.specs.Sizes.{WithinSize, HasStart};
 
+// The verdict of a walk that has ended.
 fn verdict_of(w: Outcome) -> Verdict
     requires { ⌜ w .code ≤ 256 ⌝ }
     ensures { λ r. ⌜ r ≡ W.verdictOf (As.walkedOf w) ⌝ }
@@ -44,29 +46,30 @@ fn early(n: u8) -> Verdict
 
 // The walk from the root.
 fn walk_from_root(b: &[u8], dir: &[u16], m: &[u8], budget: Budget) -> Outcome
-    requires { ⌜ (Accepted (now b) (now dir)) × (length (now m) ≤ 16777215) × (10 ≤ length (now m)) ⌝ }
+    requires { ⌜ (Accepted (now b) (now dir)) × (WithinSize (now m)) × (HasStart (now m)) ⌝ }
     ensures { λ r. ⌜ As.walkedOf r ≡ W.walk B.u48 (P.parse (now (b .entry))) (now (m .entry)) budget ⌝ }
 {
-    let ob = message_object::root_object(b, dir);
-    let p = message_object::root_place(m);
-    judge_walk::visit(b, dir, m, budget, 32, ob, p, Spent { visits: 0 })
+    let ob = message_start::root_object(b, dir);
+    let p = message_start::root_place(m);
+    let l = Limits {
+        budget,
+        depth: outcome::DEEPEST,
+    };
+    judge_walk::visit(b, dir, m, l, ob, p, Spent { visits: 0 })
 }
 
-// The verdict by a schema that was judged before.
+// The verdict by a schema that was judged before: internal, since no user can show that it was.
 pub fn judged(b: &[u8], dir: &[u16], m: &[u8], budget: Budget) -> Verdict
     requires { ⌜ Accepted (now b) (now dir) ⌝ }
     ensures { λ r. ⌜ r ≡ W.verdict B.u48 (now (b .entry)) (now (m .entry)) budget ⌝ }
 {
-    if m.len() < 10 {
-        return early(2);
+    if message_start::size_ok(m) {
+        if message_start::start_ok(m) {
+            return verdict_of(walk_from_root(b, dir, m, budget));
+        }
+        return early(3);
     }
-    if 16777215 < m.len() {
-        return early(2);
-    }
-    if message_object::start_ok(m) {
-        return verdict_of(walk_from_root(b, dir, m, budget));
-    }
-    early(3)
+    early(2)
 }
 
 // Judges a message by a packed schema: number, place and visits.

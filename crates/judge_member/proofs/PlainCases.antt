@@ -8,7 +8,6 @@ use lib.ListN.{length, getD}
 use lib.Dec.{ltb, eqb}
 use borrow.Author.Tests.{ne-eqb, eq-eqb, eqb-true, eqb-false, lt-ltb, le-leb, lt-leb}
 use Rattle.coding.specs.Lists.{pick}
-use Rattle.coding.specs.Bytes.{u48}
 use Rattle.coding.specs.Schema as Sc
 use Rattle.coding.specs.Schema.{Schema}
 use Rattle.coding.specs.Packed as P
@@ -28,7 +27,8 @@ use Rattle.laws.specs.Sound.{FlatScalar}
 use Rattle.schema.specs.Records.{record-member}
 use Rattle.message_layout.specs.Bounds.{Laid}
 use Rattle.message_step.specs.Lead.{leadOf, StepSmall, Stepped}
-use Rattle.judge_member.specs.Records.{Plain, plainWidth, Led}
+use Rattle.outcome.specs.declared.Content.{Content}
+use Rattle.judge_member.specs.Records.{Plain, plainWidth, LedAt, Led}
 use Rattle.message_header.proofs.SizeCases.{element-flat}
 
 -- ---- the width by the kind
@@ -75,7 +75,6 @@ plain-member f = record { kind = OfFlat f; optional = false; inplace = false }
 member-is : (b : List ℕ) (at h : ℕ) → h ≡ getD b at 0 → Plain h → P.memberAt b at ≡ plain-member (P.flatOf (h / 8) (P.argumentAt b at))
 unfolding P.memberAt P.optionalAt P.inplaceAt P.kindAt
 member-is b at h e p =
-    let l = p .low in
     let g = p .high in
     let f = p .flags in
     let k : h / 8 < 13 = omega arith in
@@ -87,101 +86,98 @@ member-is b at h e p =
     ∙ ap (λ (x : Bool). record { kind = OfFlat (P.flatOf (h / 8) (P.argumentAt b at)); optional = false; inplace = x }) i
 
 -- ---- its step and the cursor behind it
-nowhere : (S : Schema) (m : List ℕ) (f : Flat) (at bit : ℕ) → FlatScalar f → leadOf (T.flatStep S m f false at bit) ≡ St.Absent
-unfolding T.flatStep T.floatStep T.enumStep leadOf
+nowhere : (S : Schema) (m : List ℕ) (f : Flat) (at bit : ℕ) → FlatScalar f → leadOf (T.structTested S m (T.flatStep m f false at bit)) ≡ St.Absent
+unfolding T.flatStep T.floatStep T.enumStep T.structTested leadOf
 nowhere S m F.Boolean at bit h = refl
 nowhere S m (F.Integer s w) at bit h = refl
 nowhere S m (F.Float w) at bit h = refl
 nowhere S m (F.Enumerated n) at bit h = by (eqb (getD m at 0) 255) (ltb (getD m at 0) n)
   where
-    by : (t u : Bool) → leadOf (pick t St.Absent (pick u (St.Value (getD m at 0)) (St.Unknown (getD m at 0)))) ≡ St.Absent
+    by : (t u : Bool) → leadOf (T.structTested S m (pick t St.Absent (pick u (St.Value (getD m at 0)) (St.Unknown (getD m at 0))))) ≡ St.Absent
     by true u = refl
     by false true = refl
     by false false = refl
 nowhere S m (F.Struct i) at bit h = absurd h
 
-module _ (S : Schema) (m : List ℕ) (start n : ℕ) (c : Cursor) (w : ℕ) (f : Flat) (num : Number S w f) where
+module _ (o : ℕ) (S : Schema) (m : List ℕ) (start n : ℕ) (c : Cursor) (w : ℕ) (f : Flat) (num : Number S w f) where
   slot : Slot
   slot = record { at = c .end; bit = 0; size = w }
 
-  slot-is : L.memberSlot u48 S (plain-member f) c ≡ slot
+  slot-is : L.memberSlot o S (plain-member f) c ≡ slot
   unfolding slot L.memberSlot L.slotOf L.afterFlag L.hasFlag L.isBool L.width
   slot-is = simp (num .no-bool, ← (num .wide))
 
-  behind : record { end = c .end + w; byte = c .byte; bit = c .bit } ≡ L.afterMember u48 S (plain-member f) c
+  behind : L.afterBytes w c ≡ L.afterMember o S (plain-member f) c
   unfolding L.afterMember L.afterValue L.afterFlag L.hasFlag L.isBool L.width L.afterBytes
   behind = simp (num .no-bool, ← (num .wide))
 
-  step-is : T.memberStep u48 S m start n c (plain-member f) ≡ T.inside n slot St.Absent (T.flatStep S m f false (start + c .end) 0)
-  unfolding T.memberStep L.hasFlag T.valueStep slot
-  step-is = ap (λ (s : Slot). T.inside n s St.Absent (T.flatStep S m f false (start + s .at) (s .bit))) slot-is
+  step-is : T.memberStep o S m start n c (plain-member f) ≡ T.structTested S m (T.inside n slot St.Absent (T.flatStep m f false (start + c .end) 0))
+  unfolding T.memberStep T.placedStep L.placementOf L.hasFlag T.valueStep slot
+  step-is = ap (λ (s : Slot). T.structTested S m (T.inside n s St.Absent (T.flatStep m f false (start + s .at) (s .bit)))) slot-is
 
-  past : n ≤ c .end → leadOf (T.memberStep u48 S m start n c (plain-member f)) ≡ St.Absent
-  unfolding T.inside slot leadOf
+  past : n ≤ c .end → leadOf (T.memberStep o S m start n c (plain-member f)) ≡ St.Absent
+  unfolding T.inside T.structTested slot leadOf
   past h = ap leadOf step-is ∙ simp (le-leb _ _ h)
 
-  here : c .end < n → c .end + w ≤ n → leadOf (T.memberStep u48 S m start n c (plain-member f)) ≡ St.Absent
+  here : c .end < n → c .end + w ≤ n → leadOf (T.memberStep o S m start n c (plain-member f)) ≡ St.Absent
   unfolding T.inside slot
   here h l = ap leadOf step-is ∙ simp (lt-leb _ _ h, le-leb _ _ l) (nowhere S m f (start + c .end) 0 (num .scalar))
 
-  cut : c .end < n → n < c .end + w → leadOf (T.memberStep u48 S m start n c (plain-member f)) ≡ St.Refused 8
-  unfolding T.inside slot leadOf
+  cut : c .end < n → n < c .end + w → leadOf (T.memberStep o S m start n c (plain-member f)) ≡ St.Refused 8
+  unfolding T.inside T.structTested slot leadOf
   cut h l = ap leadOf step-is ∙ simp (lt-leb _ _ h, lt-leb _ _ l)
 
-module _ (b m : List ℕ) (at start n : ℕ) (c : Cursor) (h : ℕ) (eh : h ≡ getD b at 0) (p : Plain h) (k : ℕ) (ek : k ≡ h / 8) (w : ℕ) (ew : w ≡ plainWidth k) (lw : w < 256)
-    (byte : c .byte ≤ c .end) (bit : c .bit ≤ 8) where
+module _ (o : ℕ) (b m : List ℕ) (at : ℕ) (x : Content) (c : Cursor) (h : ℕ) (eh : h ≡ getD b at 0) (p : Plain h) (k : ℕ) (ek : k ≡ h / 8) (w : ℕ) (ew : w ≡ plainWidth k)
+    (lw : w < 256) (next : Cursor) (en : next ≡ L.afterBytes w c) (laid : Laid (c .end + w) next) where
   abbrev value : Flat
   value = P.flatOf (h / 8) (P.argumentAt b at)
 
   num : Number (P.parse b) w value
-  num =
-      let l = p .low in
-      let g = p .high in
-      let x : 0 < h / 8 = omega arith in
-      let y : h / 8 < 12 = omega arith in
-      subst (λ (q : ℕ). Number (P.parse b) q value) (sym (ew ∙ ap plainWidth ek)) (number-is (P.parse b) (h / 8) (P.argumentAt b at) x y)
+  num = subst (λ (q : ℕ). Number (P.parse b) q value) (sym (ew ∙ ap plainWidth ek)) (number-is (P.parse b) (h / 8) (P.argumentAt b at) (p .low) (p .high))
 
-  stepped : (s : Step) → leadOf (T.memberStep u48 (P.parse b) m start n c (plain-member value)) ≡ s
-      → Stepped (leadOf (T.memberStep u48 (P.parse b) m start n c (P.memberAt b at))) (L.afterMember u48 (P.parse b) (P.memberAt b at) c) (c .end) s
-      (record { end = c .end + w; byte = c .byte; bit = c .bit })
-  stepped s e =
+  led-at : (s : Step) → leadOf (T.memberStep o (P.parse b) m (x .start) (x .length) c (plain-member value)) ≡ s → StepSmall (P.parse b) s → LedAt o b m at x c s next
+  led-at s e small =
+      let l = laid .end in
       record {
-        step-is = sym e ∙ ap (λ (r : Member). leadOf (T.memberStep u48 (P.parse b) m start n c r)) (sym (member-is b at h eh p));
-        next-is = behind (P.parse b) m start n c w value num ∙ ap (λ (r : Member). L.afterMember u48 (P.parse b) r c) (sym (member-is b at h eh p));
-        laid = record { end = omega arith; byte = omega arith; bit = bit };
+        stepped =
+            record {
+              step-is = sym e ∙ ap (λ (r : Member). leadOf (T.memberStep o (P.parse b) m (x .start) (x .length) c r)) (sym (member-is b at h eh p));
+              next-is = en ∙ behind o (P.parse b) m (x .start) (x .length) c w value num ∙ ap (λ (r : Member). L.afterMember o (P.parse b) r c) (sym (member-is b at h eh p));
+              laid = record { end = omega arith; byte = laid .byte; bit = laid .bit };
+            };
+        small = small;
       }
 
-  pub number-past : n ≤ c .end
-      → Stepped (leadOf (T.memberStep u48 (P.parse b) m start n c (P.memberAt b at))) (L.afterMember u48 (P.parse b) (P.memberAt b at) c) (c .end) St.Absent
-      (record { end = c .end + w; byte = c .byte; bit = c .bit })
-  number-past l = stepped St.Absent (past (P.parse b) m start n c w value num l)
+  pub number-past : x .length ≤ c .end → LedAt o b m at x c St.Absent next
+  number-past l = led-at St.Absent (past o (P.parse b) m (x .start) (x .length) c w value num l) tt
 
-  pub number-here : c .end < n → c .end + w ≤ n
-      → Stepped (leadOf (T.memberStep u48 (P.parse b) m start n c (P.memberAt b at))) (L.afterMember u48 (P.parse b) (P.memberAt b at) c) (c .end) St.Absent
-      (record { end = c .end + w; byte = c .byte; bit = c .bit })
-  number-here l g = stepped St.Absent (here (P.parse b) m start n c w value num l g)
+  module _ (l : c .end < x .length) where
+    next-end : next .end ≡ c .end + w
+    unfolding L.afterBytes
+    next-end = ap (λ (q : Cursor). q .end) en
 
-  pub number-cut : c .end < n → n < c .end + w
-      → Stepped (leadOf (T.memberStep u48 (P.parse b) m start n c (P.memberAt b at))) (L.afterMember u48 (P.parse b) (P.memberAt b at) c) (c .end) (St.Refused 8)
-      (record { end = c .end + w; byte = c .byte; bit = c .bit })
-  number-cut l g = stepped (St.Refused 8) (cut (P.parse b) m start n c w value num l g)
+    pub number-here : next .end ≤ x .length → LedAt o b m at x c St.Absent next
+    number-here g = let e = next-end in led-at St.Absent (here o (P.parse b) m (x .start) (x .length) c w value num l (omega arith)) tt
+
+    pub number-cut : x .length < next .end → LedAt o b m at x c (St.Refused 8) next
+    number-cut g = let e = next-end in led-at (St.Refused 8) (cut o (P.parse b) m (x .start) (x .length) c w value num l (omega arith)) tt
 
 -- ---- member j of a table, from its record
-pub led-is : (S : Schema) (m : List ℕ) (t j start n : ℕ) (c : Cursor) (r : Member) → r ≡ Sc.memberOf S t j → Laid (4097 * j) c → (step : Step) (next : Cursor)
-    → Stepped (leadOf (T.memberStep u48 S m start n c r)) (L.afterMember u48 S r c) (c .end) step next → StepSmall S step → Led S m t j start n c step next
-led-is S m t j start n c r e laid step next h small =
+pub led-is : (o : ℕ) (S : Schema) (m : List ℕ) (t j : ℕ) (x : Content) (c : Cursor) (r : Member) → r ≡ Sc.memberOf S t j → Laid (4097 * j) c → (step : Step) (next : Cursor)
+    → Stepped (leadOf (T.memberStep o S m (x .start) (x .length) c r)) (L.afterMember o S r c) (c .end) step next → StepSmall S step → Led o S m t j x c step next
+led-is o S m t j x c r e laid step next h small =
     let p = laid .end in
     let q = h .laid in
     let l = q .end in
     record {
-      step-is = h .step-is ∙ ap (λ (k : Member). leadOf (T.memberStep u48 S m start n c k)) e;
-      next-is = h .next-is ∙ ap (λ (k : Member). L.afterMember u48 S k c) e;
+      step-is = h .step-is ∙ ap (λ (k : Member). leadOf (T.memberStep o S m (x .start) (x .length) c k)) e;
+      next-is = h .next-is ∙ ap (λ (k : Member). L.afterMember o S k c) e;
       laid = record { end = omega arith; byte = q .byte; bit = q .bit };
       small = small;
     }
 
-module _ (b : List ℕ) (t j p : ℕ) (l : t < P.tableCount b) (h : j < length (Sc.tableOf (P.parse b) t .members)) (ep : p ≡ P.tablePlace b t) where
-  pub number-led : (m : List ℕ) (start n : ℕ) (c : Cursor) → Laid (4097 * j) c → (at : ℕ) → at ≡ P.recordPlace 4 p j → (step : Step) (next : Cursor)
-      → Stepped (leadOf (T.memberStep u48 (P.parse b) m start n c (P.memberAt b at))) (L.afterMember u48 (P.parse b) (P.memberAt b at) c) (c .end) step next
-      → StepSmall (P.parse b) step → Led (P.parse b) m t j start n c step next
-  number-led m start n c laid at e step next g small = led-is (P.parse b) m t j start n c (P.memberAt b at) (record-member b t j p l h ep at e) laid step next g small
+module _ (o : ℕ) (b : List ℕ) (t j p : ℕ) (l : t < P.tableCount b) (h : j < length (Sc.tableOf (P.parse b) t .members)) (ep : p ≡ P.tablePlace b t) where
+  pub number-led : (m : List ℕ) (x : Content) (c : Cursor) → Laid (4097 * j) c → (at : ℕ) → at ≡ P.recordPlace 4 p j → (step : Step) (next : Cursor)
+      → LedAt o b m at x c step next → Led o (P.parse b) m t j x c step next
+  number-led m x c laid at e step next g =
+      led-is o (P.parse b) m t j x c (P.memberAt b at) (record-member b t j p l h ep at e) laid step next (g .stepped) (g .small)

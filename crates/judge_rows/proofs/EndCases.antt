@@ -7,7 +7,6 @@ use native.Mathlib.Omega.{arith}
 use lib.Dec.{ltb}
 use borrow.Author.Tests.{le-leb}
 use Rattle.coding.specs.Lists.{pick}
-use Rattle.coding.specs.Bytes.{u48}
 use Rattle.coding.specs.Schema.{Schema}
 use Rattle.coding.specs.Layout as L
 use Rattle.coding.specs.Step as T
@@ -44,31 +43,31 @@ ended-bytes n w c e = record { end = omega (arith, e .end); byte = by (ltb (c .b
     by true h = h
     by false h = omega (arith, e .end)
 
-module _ (S : Schema) (n : ℕ) (c : Cursor) (r : Member) (e : Ended n c) where
-  ended-member : Ended n (L.afterMember u48 S r c)
+module _ (o : ℕ) (S : Schema) (n : ℕ) (c : Cursor) (r : Member) (e : Ended n c) where
+  ended-member : Ended n (L.afterMember o S r c)
   unfolding L.afterMember L.afterFlag L.afterValue
   ended-member =
       let f : Ended n (pick (L.hasFlag r) (L.afterBit c) c) = pick-holds (Ended n) (L.hasFlag r) (L.afterBit c) c (λ _. ended-bit n c e) (λ _. e) in
       pick-holds (Ended n) (L.isBool (r .kind)) _ _ (λ _. ended-bit n _ f) (λ _. ended-bytes n _ _ f)
 
   -- without a flag, the value starts past the end
-  starts-past : L.hasFlag r ≡ false → n ≤ L.memberSlot u48 S r c .at
-  unfolding L.memberSlot L.afterFlag L.slotOf
+  starts-past : L.hasFlag r ≡ false → n ≤ L.memberSlot o S r c .at
+  unfolding L.memberSlot L.afterFlag L.slotOf L.bitSlot
   starts-past q = rw q (pick-holds (λ (s : Slot). n ≤ s .at) (L.isBool (r .kind)) _ _ (λ _. e .byte) (λ _. e .end))
 
-  absent : (m : List ℕ) (start : ℕ) → T.memberStep u48 S m start n c r ≡ St.Absent
-  unfolding T.memberStep T.flagged T.inside
-  absent m start = by (L.hasFlag r) (L.memberSlot u48 S r c) _ starts-past
+  absent : (m : List ℕ) (start : ℕ) → T.memberStep o S m start n c r ≡ St.Absent
+  unfolding T.memberStep T.placedStep L.placementOf L.bitSlot T.structTested T.flagged T.inside
+  absent m start = by (L.hasFlag r) (L.memberSlot o S r c) _ starts-past
     where
       by : (f : Bool) (slot : Slot) (here : Step) → (f ≡ false → n ≤ slot .at)
-          → pick f (T.flagged m start n c slot here) (T.inside n slot St.Absent here) ≡ St.Absent
+          → T.structTested S m (pick f (T.flagged m start n (L.bitSlot c) slot here) (T.inside n slot St.Absent here)) ≡ St.Absent
       by true slot here h = simp (le-leb _ _ (e .byte))
       by false slot here h = simp (le-leb _ _ (h refl))
 
-pub members-past : (child : W.Child) (S : Schema) (m : List ℕ) (holder start n : ℕ) (c : Cursor) (rs : List Member) (v : Spent) → Ended n c
-    → W.members child u48 S m holder start n c rs v ≡ Going v
+pub members-past : (child : W.Child) (o : ℕ) (S : Schema) (m : List ℕ) (holder start n : ℕ) (c : Cursor) (j : ℕ) (rs : List Member) (v : Spent) → Ended n c
+    → W.members child o S m holder start n c j rs v ≡ Going v
 unfolding W.members W.andThen W.follow
-members-past child S m holder start n c [] v e = refl
-members-past child S m holder start n c (r ∷ rs) v e =
-    ap (λ (q : Step). W.andThen (W.follow child holder q v) (W.members child u48 S m holder start n (L.afterMember u48 S r c) rs)) (absent S n c r e m start)
-    ∙ members-past child S m holder start n (L.afterMember u48 S r c) rs v (ended-member S n c r e)
+members-past child o S m holder start n c j [] v e = refl
+members-past child o S m holder start n c j (r ∷ rs) v e =
+    ap (λ (q : Step). W.andThen (W.follow child holder j q v) (W.members child o S m holder start n (L.afterMember o S r c) (j + 1) rs)) (absent o S n c r e m start)
+    ∙ members-past child o S m holder start n (L.afterMember o S r c) (j + 1) rs v (ended-member o S n c r e)

@@ -1,80 +1,69 @@
 // Row tables, which have only numbers, floats, enums and texts, none optional or in place: no walker needs them.
-use coding::Budget;
 use coding::Kind;
 use coding::Object;
 use coding::Opened;
 use coding::Place;
 use coding::Spent;
-use judge_text::Outcome;
+use judge_member::Rows;
+use outcome::Content;
+use outcome::Limits;
+use outcome::Outcome;
+use outcome::Part;
 ghost use mathlib.Core.Path.{_≡_};
-ghost use mathlib.Core.Bool.{false};
 ghost use Prim.Native.Nat.{_+_, _*_, _<_, _≤_, _^_};
 ghost use lib.ListN.{length, getD};
 ghost use Rattle.coding.specs.Bytes as B;
-ghost use Rattle.coding.specs.Layout as L;
 ghost use Rattle.coding.specs.Packed as P;
-ghost use Rattle.coding.specs.Schema as Sc;
-ghost use Rattle.coding.specs.Step as T;
-ghost use Rattle.coding.specs.Walk as W;
 ghost use Rattle.laws.specs.Sound.{ObjectSound};
 ghost use Rattle.schema.specs.Directory.{Accepted};
-ghost use Rattle.judge_text.specs.Answers as As;
+ghost use Rattle.outcome.specs.Answers as As;
 ghost use Rattle.judge_member.specs.Records as Rs;
+ghost use Rattle.wire.specs.Sizes.{WithinSize, HasOffsets};
 
-// The member of the record at `at`, of a fixed part that ends behind its first byte: it may be cut, and a text is arrived at.
+// Member j of a row table, of the record at `at`. The fixed part ends behind the member's first byte, which stands at `end`
+// in it: the member may be cut, and a text is arrived at.
 fn row_member(
     b: &[u8],
     m: &[u8],
-    budget: Budget,
-    d: usize,
+    l: Limits,
     at: usize,
-    holder: usize,
-    start: usize,
-    n: usize,
+    j: usize,
+    x: Content,
     end: usize,
     s: Spent,
 ) -> Outcome
     requires { ⌜ (at < length (now b)) × (Rs.RowMember (getD (now b) at 0)) ⌝ }
-    requires { ⌜ (length (now m) ≤ 16777215) × (start + n ≤ length (now m)) × (end < n) ⌝ }
-    ensures { λ r. ⌜ As.walkedOf r ≡ W.follow (W.visit d B.u48 (P.parse (now (b .entry))) (now (m .entry)) budget) holder (T.memberStep B.u48 (P.parse (now (b .entry))) (now (m .entry)) start n (Rs.noBool end) (P.memberAt (now (b .entry)) at)) s ⌝ }
+    requires { ⌜ (WithinSize (now m)) × (x .start + x .length ≤ length (now m)) × (end < x .length) ⌝ }
+    ensures { λ r. ⌜ As.walkedOf r ≡ As.followBy B.u48 (now (b .entry)) (now (m .entry)) l (As.partOf x j) (As.memberBy B.u48 (now (b .entry)) (now (m .entry)) x (Rs.noBool end) (P.memberAt (now (b .entry)) at)) s ⌝ }
 {
     let h = wire::index(wire::byte_in(b, at));
-    if n < end + judge_member::row_width(h) {
-        return judge_text::refuse(8, holder, s);
+    if x.length < end + judge_member::row_width(h) {
+        let part = Part {
+            holder: x.holder,
+            number: j,
+        };
+        return outcome::refuse_part(8, part, s);
     }
-    if h == 104 {
-        let x = wire::u48_in(m, start + end) as usize;
-        return judge_text::refer_text(b, m, budget, d, holder, x, s);
+    if judge_member::is_text_reference(h) {
+        return judge_text::refer_text(b, m, l, wire::offset_in(m, x.start + end), s);
     }
-    judge_text::going(s)
+    outcome::going(s)
 }
 
-// The members of row table t.
-fn row_members(
-    b: &[u8],
-    m: &[u8],
-    budget: Budget,
-    d: usize,
-    t: u8,
-    first: usize,
-    count: usize,
-    holder: usize,
-    start: usize,
-    n: usize,
-    s: Spent,
-) -> Outcome
-    requires { ⌜ (Rs.RowTable (now b) t first count) × (length (now m) ≤ 16777215) × (start + n ≤ length (now m)) ⌝ }
-    ensures { λ r. ⌜ As.walkedOf r ≡ W.members (W.visit d B.u48 (P.parse (now (b .entry))) (now (m .entry)) budget) B.u48 (P.parse (now (b .entry))) (now (m .entry)) holder start n L.begin (Sc.tableOf (P.parse (now (b .entry))) t .members) s ⌝ }
+// The members of a row table.
+fn row_members(b: &[u8], m: &[u8], l: Limits, k: Rows, x: Content, s: Spent) -> Outcome
+    requires { ⌜ (Rs.RowTable (now b) k) × (WithinSize (now m)) × (x .start + x .length ≤ length (now m)) ⌝ }
+    ensures { λ r. ⌜ As.walkedOf r ≡ As.membersBy B.u48 (now (b .entry)) (now (m .entry)) l (k .table) x s ⌝ }
 {
     let mut end: usize = 0;
     let mut v = s;
     let mut j: usize = 0;
-    while j < count {
-        if n <= end {
-            return judge_text::going(v);
+    while j < k.count {
+        if x.length <= end {
+            return outcome::going(v);
         }
-        let at = schema::record_place(4, first, j);
-        let g = row_member(b, m, budget, d, at, holder, start, n, end, v);
+        let at = schema::record_place(4, k.first, j);
+        let g = row_member(b, m, l, at, j, x, end, v);
         if g.code != 0 {
             return g;
         }
@@ -82,134 +71,80 @@ fn row_members(
         end += judge_member::row_width(wire::index(wire::byte_in(b, at)));
         j += 1;
     }
-    judge_text::going(v)
+    outcome::going(v)
 }
 
-// An arrival at row table t at an offset.
-fn visit_row(
-    b: &[u8],
-    m: &[u8],
-    budget: Budget,
-    d: usize,
-    t: u8,
-    id: u64,
-    first: usize,
-    count: usize,
-    x: usize,
-    s: Spent,
-) -> Outcome
-    requires { ⌜ (Rs.RowTable (now b) t first count) × (length (now m) ≤ 16777215) × (x < 2 ^ 48) × (id ≡ Sc.tableOf (P.parse (now b)) t .id) ⌝ }
-    ensures { λ r. ⌜ As.walkedOf r ≡ W.visit d B.u48 (P.parse (now (b .entry))) (now (m .entry)) budget (Object.Table t) (Place.ByOffset x) s ⌝ }
+// An arrival at a row table at offset x.
+fn visit_row(b: &[u8], m: &[u8], l: Limits, k: Rows, x: usize, s: Spent) -> Outcome
+    requires { ⌜ (Rs.RowTable (now b) k) × (WithinSize (now m)) × (x < 2 ^ 48) ⌝ }
+    ensures { λ r. ⌜ As.walkedOf r ≡ As.visitBy B.u48 (now (b .entry)) (now (m .entry)) l (Object.Table (k .table)) (Place.ByOffset x) s ⌝ }
 {
-    let spent = s.visits;
-    if budget.visits <= spent {
-        return judge_text::refuse(4, x, s);
+    let g = outcome::charge(l, x, s);
+    if g.code != 0 {
+        return g;
     }
-    let v = Spent { visits: spent + 1 };
-    if d == 0 {
-        return judge_text::refuse(5, x, v);
-    }
-    match message_object::open_table(b, m, t, id, x) {
-        Opened::Refused(e) => judge_text::refuse(e, x, v),
-        Opened::Content(start, n) => row_members(
-            b,
-            m,
-            budget,
-            d - 1,
-            t,
-            first,
-            count,
-            x,
-            start,
-            n,
-            v,
-        ),
+    let t = g.spent;
+    match message_object::open_table(b, m, k.table, k.id, x) {
+        Opened::Refused(e) => outcome::refuse(e, x, t),
+        Opened::Content(start, n) => {
+            let y = Content {
+                holder: x,
+                start,
+                length: n,
+            };
+            row_members(b, m, outcome::below(l), k, y, t)
+        }
     }
 }
 
-// What an offset in a list of row table t leads to.
-fn refer_row(
-    b: &[u8],
-    m: &[u8],
-    budget: Budget,
-    d: usize,
-    t: u8,
-    id: u64,
-    first: usize,
-    count: usize,
-    holder: usize,
-    x: usize,
-    s: Spent,
-) -> Outcome
-    requires { ⌜ (Rs.RowTable (now b) t first count) × (length (now m) ≤ 16777215) × (x < 2 ^ 48) × (id ≡ Sc.tableOf (P.parse (now b)) t .id) ⌝ }
-    ensures { λ r. ⌜ As.walkedOf r ≡ W.follow (W.visit d B.u48 (P.parse (now (b .entry))) (now (m .entry)) budget) holder (T.objectStep (Object.Table t) false 0 x) s ⌝ }
+// What offset x leads to where a row table is meant: nothing, or an arrival.
+fn refer_row(b: &[u8], m: &[u8], l: Limits, k: Rows, x: usize, s: Spent) -> Outcome
+    requires { ⌜ (Rs.RowTable (now b) k) × (WithinSize (now m)) × (x < 2 ^ 48) ⌝ }
+    ensures { λ r. ⌜ As.walkedOf r ≡ As.referred (As.visitBy B.u48 (now (b .entry)) (now (m .entry)) l) (Object.Table (k .table)) x s ⌝ }
 {
     if x == 0 {
-        return judge_text::going(s);
+        return outcome::going(s);
     }
-    visit_row(b, m, budget, d, t, id, first, count, x, s)
+    visit_row(b, m, l, k, x, s)
 }
 
-// The n tables of a list of row table t, whose offsets start at `start`.
-fn row_tables(
-    b: &[u8],
-    m: &[u8],
-    budget: Budget,
-    d: usize,
-    t: u8,
-    id: u64,
-    first: usize,
-    count: usize,
-    holder: usize,
-    start: usize,
-    n: usize,
-    s: Spent,
-) -> Outcome
-    requires { ⌜ (Rs.RowTable (now b) t first count) × (id ≡ Sc.tableOf (P.parse (now b)) t .id) × (length (now m) ≤ 16777215) × (start + 6 * n ≤ length (now m)) ⌝ }
-    ensures { λ r. ⌜ As.walkedOf r ≡ W.elements (W.visit d B.u48 (P.parse (now (b .entry))) (now (m .entry)) budget) B.u48 (P.parse (now (b .entry))) (now (m .entry)) holder start (Kind.OfObject (Object.Table t)) n 0 s ⌝ }
+// The tables of a list of a row table, by their offsets.
+fn row_tables(b: &[u8], m: &[u8], l: Limits, k: Rows, x: Content, s: Spent) -> Outcome
+    requires { ⌜ (Rs.RowTable (now b) k) × (WithinSize (now m)) × (HasOffsets (now m) (x .start) (x .length)) ⌝ }
+    ensures { λ r. ⌜ As.walkedOf r ≡ As.elementsBy B.u48 (now (b .entry)) (now (m .entry)) l (Kind.OfObject (Object.Table (k .table))) x s ⌝ }
 {
     let mut v = s;
-    let mut at = start;
+    let mut at = x.start;
     let mut j: usize = 0;
-    while j < n {
-        let x = wire::u48_in(m, at) as usize;
-        let g = refer_row(b, m, budget, d, t, id, first, count, holder, x, v);
+    while j < x.length {
+        let g = refer_row(b, m, l, k, wire::offset_in(m, at), v);
         if g.code != 0 {
             return g;
         }
         v = g.spent;
-        at += 6;
+        at += wire::OFFSET;
         j += 1;
     }
-    judge_text::going(v)
+    outcome::going(v)
 }
 
-// The n objects of a list of a row table.
+// The objects of a list, where they are row tables.
 pub fn row_references(
     b: &[u8],
     dir: &[u16],
     m: &[u8],
-    budget: Budget,
-    d: usize,
+    l: Limits,
     ob: Object,
-    holder: usize,
-    start: usize,
-    n: usize,
+    x: Content,
     s: Spent,
 ) -> Outcome
-    requires { ⌜ (Accepted (now b) (now dir)) × (length (now m) ≤ 16777215) × (ObjectSound (P.parse (now b)) ob) × (start + 6 * n ≤ length (now m)) × (Rs.RowObject (now b) ob) ⌝ }
-    ensures { λ r. ⌜ As.walkedOf r ≡ W.elements (W.visit d B.u48 (P.parse (now (b .entry))) (now (m .entry)) budget) B.u48 (P.parse (now (b .entry))) (now (m .entry)) holder start (Kind.OfObject ob) n 0 s ⌝ }
+    requires { ⌜ (Accepted (now b) (now dir)) × (WithinSize (now m)) × (ObjectSound (P.parse (now b)) ob) × (HasOffsets (now m) (x .start) (x .length)) × (Rs.RowObject (now b) ob) ⌝ }
+    ensures { λ r. ⌜ As.walkedOf r ≡ As.elementsBy B.u48 (now (b .entry)) (now (m .entry)) l (Kind.OfObject ob) x s ⌝ }
 {
     match ob {
-        Object::Text => judge_text::going(s),
-        Object::Bytes => judge_text::going(s),
-        Object::List(_) => judge_text::going(s),
-        Object::Table(t) => {
-            let i = wire::index(t);
-            let first = schema::table_place(b, dir, i);
-            let count = schema::records(b, 4, first);
-            let id = schema::table_id(b, dir, i);
-            row_tables(b, m, budget, d, t, id, first, count, holder, start, n, s)
-        }
+        Object::Text => outcome::going(s),
+        Object::Bytes => outcome::going(s),
+        Object::List(_) => outcome::going(s),
+        Object::Table(t) => row_tables(b, m, l, judge_member::rows_of(b, dir, t), x, s),
     }
 }

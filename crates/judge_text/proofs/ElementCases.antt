@@ -1,10 +1,12 @@
 -- The elements of a list, from one of them on.
-use mathlib.Core.Path.{_≡_, sym, ap, _∙_}
-use mathlib.Core.Bool.{false}
+use mathlib.Core.Path.{_≡_, refl, sym, ap, _∙_}
+use mathlib.Core.Bool.{Bool, true, false}
 use mathlib.Core.List.{List}
 use Prim.Native.Nat.{ℕ, suc, _+_, _-_, _*_, _<_, _≤_}
 use native.Mathlib.Omega.{arith}
+use lib.Dec.{eqb}
 use borrow.Author.Tests.{eq-eqb, ne-eqb}
+use Rattle.coding.specs.Lists.{pick}
 use Rattle.coding.specs.Bytes.{u48, le}
 use Rattle.coding.specs.Schema.{Schema}
 use Rattle.coding.specs.Layout as L
@@ -15,68 +17,78 @@ use Rattle.coding.specs.declared.Kind.{Kind}
 use Rattle.coding.specs.declared.Kind.the-variants.{OfObject}
 use Rattle.coding.specs.declared.Place.the-variants.{ByOffset}
 use Rattle.coding.specs.declared.Step.{Step}
+use Rattle.coding.specs.declared.Step.the-variants as St
 use Rattle.coding.specs.declared.Spent.{Spent}
 use Rattle.coding.specs.declared.Walked.{Walked}
 use Rattle.coding.specs.declared.Walked.the-variants.{Going}
-use Rattle.wire.specs.Numbers.{Number}
-use Rattle.judge_text.specs.declared.Outcome.{Outcome}
-use Rattle.judge_text.specs.Answers.{walkedOf}
-use Rattle.judge_text.proofs.VisitCases.{goes, stops}
+use Rattle.outcome.specs.declared.Outcome.{Outcome}
+use Rattle.outcome.specs.Answers.{walkedOf, referred}
+use Rattle.outcome.proofs.AnswerCases.{goes, stops}
 
 -- ---- from element j on
-module _ (child : W.Child) (S : Schema) (m : List ℕ) (holder start : ℕ) (k : Kind) (n : ℕ) (s : Spent) where
-  pub elements-start : W.elements child u48 S m holder start k n 0 s ≡ W.elements child u48 S m holder start k (n - 0) 0 s
+module _ (child : W.Child) (o : ℕ) (S : Schema) (m : List ℕ) (holder start : ℕ) (k : Kind) (n : ℕ) (s : Spent) where
+  pub elements-start : W.elements child o S m holder start k n 0 s ≡ W.elements child o S m holder start k (n - 0) 0 s
   elements-start =
       let z : n ≡ n - 0 = omega arith in
-      ap (λ (l : ℕ). W.elements child u48 S m holder start k l 0 s) z
+      ap (λ (l : ℕ). W.elements child o S m holder start k l 0 s) z
 
-  module _ (j : ℕ) (v : Spent) (inv : W.elements child u48 S m holder start k n 0 s ≡ W.elements child u48 S m holder start k (n - j) j v) where
-    pub elements-done : n ≤ j → (r : Walked) → r ≡ Going v → r ≡ W.elements child u48 S m holder start k n 0 s
+  module _ (j : ℕ) (v : Spent) (inv : W.elements child o S m holder start k n 0 s ≡ W.elements child o S m holder start k (n - j) j v) where
+    pub elements-done : n ≤ j → (r : Walked) → r ≡ Going v → r ≡ W.elements child o S m holder start k n 0 s
     unfolding W.elements
     elements-done h r f =
         let z : n - j ≡ 0 = omega arith in
-        f ∙ sym (inv ∙ ap (λ (l : ℕ). W.elements child u48 S m holder start k l j v) z)
+        f ∙ sym (inv ∙ ap (λ (l : ℕ). W.elements child o S m holder start k l j v) z)
 
-    module _ (h : j < n) (g : Outcome) (eg : walkedOf g ≡ W.follow child holder (T.elementStep u48 S m k start j) v) where
+    module _ (h : j < n) (g : Outcome) (eg : walkedOf g ≡ W.follow child holder j (T.elementStep o S m k start j) v) where
       abbrev rest : Spent → Walked
-      rest = W.elements child u48 S m holder start k (n - (j + 1)) (j + 1)
+      rest = W.elements child o S m holder start k (n - (j + 1)) (j + 1)
 
-      turned : W.elements child u48 S m holder start k n 0 s ≡ W.andThen (walkedOf g) rest
+      turned : W.elements child o S m holder start k n 0 s ≡ W.andThen (walkedOf g) rest
       unfolding W.elements
       turned =
           let z : n - j ≡ suc (n - (j + 1)) = omega arith in
-          inv ∙ ap (λ (l : ℕ). W.elements child u48 S m holder start k l j v) z ∙ ap (λ (w : Walked). W.andThen w rest) (sym eg)
+          inv ∙ ap (λ (l : ℕ). W.elements child o S m holder start k l j v) z ∙ ap (λ (w : Walked). W.andThen w rest) (sym eg)
 
-      pub elements-stopped : (g .code ≡ 0 → ⊥) → walkedOf g ≡ W.elements child u48 S m holder start k n 0 s
+      pub elements-stopped : (g .code ≡ 0 → ⊥) → walkedOf g ≡ W.elements child o S m holder start k n 0 s
       elements-stopped f = sym (turned ∙ stops g rest f)
 
-      pub elements-turn : g .code ≡ 0 → W.elements child u48 S m holder start k n 0 s ≡ W.elements child u48 S m holder start k (n - (j + 1)) (j + 1) (g .spent)
+      pub elements-turn : g .code ≡ 0 → W.elements child o S m holder start k n 0 s ≡ W.elements child o S m holder start k (n - (j + 1)) (j + 1) (g .spent)
       elements-turn f = turned ∙ goes g rest f
 
 -- ---- the offsets of a list
-offset-step : (S : Schema) (m : List ℕ) (ob : Object) (start j at x : ℕ) → at ≡ start + 6 * j → Number m at 6 x
-    → T.objectStep ob false 0 x ≡ T.elementStep u48 S m (OfObject ob) start j
+module _ (child : W.Child) (ob : Object) (x : ℕ) (s : Spent) (r : Walked) where
+  pub refer-none : x ≡ 0 → r ≡ Going s → r ≡ referred child ob x s
+  unfolding referred
+  refer-none h f = simp (eq-eqb _ _ h) f
+
+  pub refer-object : (x ≡ 0 → ⊥) → r ≡ child ob (ByOffset x) s → r ≡ referred child ob x s
+  unfolding referred
+  refer-object h f = simp (ne-eqb _ _ h) f
+
+-- whichever part holds the offset
+pub follow-offset : (child : W.Child) (S : Schema) (m : List ℕ) (holder j : ℕ) (ob : Object) (x : ℕ) (s : Spent)
+    → referred child ob x s ≡ W.follow child holder j (T.structTested S m (T.objectStep ob false 0 x)) s
+unfolding referred T.objectStep T.placeOf T.structTested W.follow
+follow-offset child S m holder j ob x s = by (eqb x 0)
+  where
+    by : (t : Bool) → pick t (Going s) (child ob (ByOffset x) s) ≡ W.follow child holder j (T.structTested S m (pick t St.Absent (St.Object ob (ByOffset x)))) s
+    by true = refl
+    by false = refl
+
+offset-step : (S : Schema) (m : List ℕ) (ob : Object) (start j at x : ℕ) → at ≡ start + 6 * j → x ≡ le m at u48
+    → T.structTested S m (T.objectStep ob false 0 x) ≡ T.elementStep u48 S m (OfObject ob) start j
 unfolding T.elementStep T.valueStep T.elementPlace L.isBool L.width u48
-offset-step S m ob start j at x ea nx = ap (T.objectStep ob false 0) (nx .is ∙ ap (λ (q : ℕ). le m q 6) ea)
+offset-step S m ob start j at x ea ex = ap (λ (q : ℕ). T.structTested S m (T.objectStep ob false 0 q)) (ex ∙ ap (λ (q : ℕ). le m q 6) ea)
 
 module _ (child : W.Child) (S : Schema) (m : List ℕ) (holder start : ℕ) (ob : Object) (n : ℕ) (s : Spent) (j : ℕ) (v : Spent)
     (inv : W.elements child u48 S m holder start (OfObject ob) n 0 s ≡ W.elements child u48 S m holder start (OfObject ob) (n - j) j v) (h : j < n) (at : ℕ)
-    (ea : at ≡ start + 6 * j) (x : ℕ) (nx : Number m at 6 x) (g : Outcome) (eg : walkedOf g ≡ W.follow child holder (T.objectStep ob false 0 x) v) where
-  by-step : walkedOf g ≡ W.follow child holder (T.elementStep u48 S m (OfObject ob) start j) v
-  by-step = eg ∙ ap (λ (q : Step). W.follow child holder q v) (offset-step S m ob start j at x ea nx)
+    (ea : at ≡ start + 6 * j) (x : ℕ) (ex : x ≡ le m at u48) (g : Outcome) (eg : walkedOf g ≡ referred child ob x v) where
+  by-step : walkedOf g ≡ W.follow child holder j (T.elementStep u48 S m (OfObject ob) start j) v
+  by-step = eg ∙ follow-offset child S m holder j ob x v ∙ ap (λ (q : Step). W.follow child holder j q v) (offset-step S m ob start j at x ea ex)
 
   pub references-stopped : (g .code ≡ 0 → ⊥) → walkedOf g ≡ W.elements child u48 S m holder start (OfObject ob) n 0 s
-  references-stopped f = elements-stopped child S m holder start (OfObject ob) n s j v inv h g by-step f
+  references-stopped f = elements-stopped child u48 S m holder start (OfObject ob) n s j v inv h g by-step f
 
   pub references-turn : g .code ≡ 0
       → W.elements child u48 S m holder start (OfObject ob) n 0 s ≡ W.elements child u48 S m holder start (OfObject ob) (n - (j + 1)) (j + 1) (g .spent)
-  references-turn f = elements-turn child S m holder start (OfObject ob) n s j v inv h g by-step f
-
-module _ (child : W.Child) (holder : ℕ) (ob : Object) (x : ℕ) (s : Spent) where
-  pub refer-none : x ≡ 0 → (r : Walked) → r ≡ Going s → r ≡ W.follow child holder (T.objectStep ob false 0 x) s
-  unfolding T.objectStep W.follow
-  refer-none h r f = simp (eq-eqb _ _ h) f
-
-  pub refer-object : (x ≡ 0 → ⊥) → (r : Walked) → r ≡ child ob (ByOffset x) s → r ≡ W.follow child holder (T.objectStep ob false 0 x) s
-  unfolding T.objectStep T.placeOf W.follow
-  refer-object h r f = simp (ne-eqb _ _ h) f
+  references-turn f = elements-turn child u48 S m holder start (OfObject ob) n s j v inv h g by-step f

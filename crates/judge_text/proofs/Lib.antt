@@ -1,3 +1,2 @@
 pub mod TextCases
-pub mod VisitCases
 pub mod ElementCases

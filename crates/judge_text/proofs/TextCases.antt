@@ -5,7 +5,7 @@ use Prim.Native.Nat.{ℕ}
 use native.Mathlib.Omega.{arith}
 use Rattle.coding.specs.declared.Object.{Object}
 use Rattle.coding.specs.declared.Object.the-variants as O
-use Rattle.judge_text.specs.Answers.{isText}
+use Rattle.judge_text.specs.Texts.{isText}
 
 pub text-only : (ob : Object) (t : Bool) → t ≡ isText ob → t ≡ true → ob ≡ O.Text
 unfolding isText

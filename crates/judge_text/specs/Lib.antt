@@ -1,2 +1,1 @@
--- What the code of texts answers.
-pub mod Answers
+pub mod Texts

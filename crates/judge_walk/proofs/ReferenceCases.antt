@@ -29,9 +29,11 @@ use Rattle.laws.specs.Sound.{ObjectSound, MemberSound}
 use Rattle.message_layout.specs.Bounds.{Laid}
 use Rattle.schema.specs.Directory.{Accepted, Block}
 use Rattle.message_step.specs.Lead.{leadOf}
-use Rattle.wire.specs.Numbers.{Number}
-use Rattle.judge_text.specs.declared.Outcome.{Outcome}
-use Rattle.judge_text.specs.Answers.{walkedOf, isText}
+use Rattle.outcome.specs.declared.Content.{Content}
+use Rattle.outcome.specs.declared.Outcome.{Outcome}
+use Rattle.outcome.specs.Answers.{walkedOf, referred}
+use Rattle.judge_text.specs.Texts.{isText}
+use Rattle.judge_text.proofs.ElementCases.{follow-offset}
 use Rattle.judge_member.specs.Records.{Refers}
 use Rattle.message_header.proofs.SizeCases.{element-object}
 use Rattle.message_object.proofs.OpenCases.{member-sound-of}
@@ -45,22 +47,18 @@ reference-member ob = record { kind = OfObject ob; optional = false; inplace = f
 reference-is : (b : List ℕ) (at : ℕ) → Refers (getD b at 0) → P.memberAt b at ≡ reference-member (P.objectAt b at)
 unfolding P.memberAt P.optionalAt P.inplaceAt P.kindAt
 reference-is b at p =
-    let l = p .low in
-    let g = p .high in
     let f = p .flags in
-    let x : 13 ≤ getD b at 0 / 8 = omega arith in
-    let y : getD b at 0 / 8 < 17 = omega arith in
     let o : eqb (getD b at 0 / 4 % 2) 1 ≡ false = ne-eqb (getD b at 0 / 4 % 2) 1 (λ (z : getD b at 0 / 4 % 2 ≡ 1). absurd (omega arith)) in
     let i : eqb (getD b at 0 / 2 % 2) 1 ≡ false = ne-eqb (getD b at 0 / 2 % 2) 1 (λ (z : getD b at 0 / 2 % 2 ≡ 1). absurd (omega arith)) in
-    let q : P.elementAt b at ≡ OfObject (P.objectAt b at) = element-object b at (getD b at 0 / 8) refl x y (P.objectAt b at) refl in
+    let q : P.elementAt b at ≡ OfObject (P.objectAt b at) = element-object b at (getD b at 0 / 8) refl (p .low) (p .high) (P.objectAt b at) refl in
     ap (λ (k : Kind). record { kind = k; optional = eqb (getD b at 0 / 4 % 2) 1; inplace = eqb (getD b at 0 / 2 % 2) 1 }) q
     ∙ ap (λ (k : Bool). record { kind = OfObject (P.objectAt b at); optional = k; inplace = eqb (getD b at 0 / 2 % 2) 1 }) o
     ∙ ap (λ (k : Bool). record { kind = OfObject (P.objectAt b at); optional = false; inplace = k }) i
 
 reference-step : (S : Schema) (m : List ℕ) (start n : ℕ) (c : Cursor) (ob : Object)
     → T.memberStep u48 S m start n c (reference-member ob)
-    ≡ T.inside n (record { at = c .end; bit = 0; size = 6 }) St.Absent (T.objectStep ob false 0 (le m (start + c .end) 6))
-unfolding T.memberStep L.memberSlot L.slotOf L.afterFlag L.hasFlag L.isBool L.width T.valueStep T.objectStep T.placeOf u48
+    ≡ T.structTested S m (T.inside n (record { at = c .end; bit = 0; size = 6 }) St.Absent (T.objectStep ob false 0 (le m (start + c .end) 6)))
+unfolding T.memberStep T.placedStep L.placementOf L.memberSlot L.slotOf L.afterFlag L.hasFlag L.isBool L.width T.valueStep T.objectStep T.placeOf u48
 reference-step S m start n c ob = refl
 
 reference-next : (S : Schema) (c : Cursor) (ob : Object) → L.afterBytes 6 c ≡ L.afterMember u48 S (reference-member ob) c
@@ -68,34 +66,37 @@ unfolding L.afterMember L.afterValue L.afterFlag L.hasFlag L.isBool L.width u48
 reference-next S c ob = refl
 
 -- ---- the ways out
-module _ (child : W.Child) (b m : List ℕ) (holder at start n : ℕ) (c : Cursor) (s : Spent) (p : Refers (getD b at 0)) (r : Walked) where
-  by-step : (q : Step) → T.inside n (record { at = c .end; bit = 0; size = 6 }) St.Absent (T.objectStep (P.objectAt b at) false 0 (le m (start + c .end) 6)) ≡ q
-      → r ≡ W.follow child holder q s → r ≡ W.follow child holder (T.memberStep u48 (P.parse b) m start n c (P.memberAt b at)) s
+module _ (child : W.Child) (b m : List ℕ) (at j : ℕ) (x : Content) (c : Cursor) (s : Spent) (p : Refers (getD b at 0)) (r : Walked) where
+  by-step : (q : Step)
+      → T.structTested (P.parse b) m (T.inside (x .length) (record { at = c .end; bit = 0; size = 6 }) St.Absent (T.objectStep (P.objectAt b at) false 0 (le m (x .start + c .end) 6))) ≡ q
+      → r ≡ W.follow child (x .holder) j q s → r ≡ W.follow child (x .holder) j (T.memberStep u48 (P.parse b) m (x .start) (x .length) c (P.memberAt b at)) s
   by-step q f g =
-      g ∙ ap (λ (k : Step). W.follow child holder k s)
-      (sym (ap (T.memberStep u48 (P.parse b) m start n c) (reference-is b at p) ∙ reference-step (P.parse b) m start n c (P.objectAt b at) ∙ f))
+      g ∙ ap (λ (k : Step). W.follow child (x .holder) j k s)
+      (sym (ap (T.memberStep u48 (P.parse b) m (x .start) (x .length) c) (reference-is b at p) ∙ reference-step (P.parse b) m (x .start) (x .length) c (P.objectAt b at) ∙ f))
 
-  pub reference-past : n ≤ c .end → r ≡ Going s → r ≡ W.follow child holder (T.memberStep u48 (P.parse b) m start n c (P.memberAt b at)) s
-  unfolding W.follow T.inside
+  pub reference-past : x .length ≤ c .end → r ≡ Going s
+      → r ≡ W.follow child (x .holder) j (T.memberStep u48 (P.parse b) m (x .start) (x .length) c (P.memberAt b at)) s
+  unfolding W.follow T.inside T.structTested
   reference-past h f = by-step St.Absent (simp (le-leb _ _ h)) f
 
-  module _ (l : c .end < n) where
-    pub reference-cut : n < c .end + 6 → r ≡ W.refuse 8 holder s → r ≡ W.follow child holder (T.memberStep u48 (P.parse b) m start n c (P.memberAt b at)) s
-    unfolding W.follow T.inside
+  module _ (l : c .end < x .length) where
+    pub reference-cut : x .length < c .end + 6 → r ≡ W.refusePart 8 (x .holder) j s
+        → r ≡ W.follow child (x .holder) j (T.memberStep u48 (P.parse b) m (x .start) (x .length) c (P.memberAt b at)) s
+    unfolding W.follow T.inside T.structTested
     reference-cut h f = by-step (St.Refused 8) (simp (lt-leb _ _ l, lt-leb _ _ h)) f
 
-    module _ (h : c .end + 6 ≤ n) (x : ℕ) (nx : Number m (start + c .end) 6 x) (ob : Object) (eo : ob ≡ P.objectAt b at) where
-      pub reference-here : r ≡ W.follow child holder (T.objectStep ob false 0 x) s
-          → r ≡ W.follow child holder (T.memberStep u48 (P.parse b) m start n c (P.memberAt b at)) s
-      unfolding T.inside
+    module _ (h : c .end + 6 ≤ x .length) (y : ℕ) (ey : y ≡ le m (x .start + c .end) u48) (ob : Object) (eo : ob ≡ P.objectAt b at) where
+      pub reference-here : r ≡ referred child ob y s
+          → r ≡ W.follow child (x .holder) j (T.memberStep u48 (P.parse b) m (x .start) (x .length) c (P.memberAt b at)) s
+      unfolding T.inside u48
       reference-here f =
-          by-step (T.objectStep (P.objectAt b at) false 0 (le m (start + c .end) 6)) (simp (lt-leb _ _ l, le-leb _ _ h))
-          (f ∙ ap (λ (q : ℕ). W.follow child holder (T.objectStep ob false 0 q) s) (nx .is)
-          ∙ ap (λ (q : Object). W.follow child holder (T.objectStep q false 0 (le m (start + c .end) 6)) s) eo)
+          by-step (T.structTested (P.parse b) m (T.objectStep (P.objectAt b at) false 0 (le m (x .start + c .end) 6))) (simp (lt-leb _ _ l, le-leb _ _ h))
+          (f ∙ ap (λ (q : ℕ). referred child ob q s) ey ∙ ap (λ (q : Object). referred child q (le m (x .start + c .end) 6) s) eo
+          ∙ follow-offset child (P.parse b) m (x .holder) j (P.objectAt b at) (le m (x .start + c .end) 6) s)
 
-      pub reference-text : (t : Bool) → t ≡ isText ob → t ≡ true → r ≡ W.follow child holder (T.objectStep O.Text false 0 x) s
-          → r ≡ W.follow child holder (T.memberStep u48 (P.parse b) m start n c (P.memberAt b at)) s
-      reference-text t et e f = reference-here (f ∙ ap (λ (q : Object). W.follow child holder (T.objectStep q false 0 x) s) (sym (text-only ob t et e)))
+      pub reference-text : (t : Bool) → t ≡ isText ob → t ≡ true → r ≡ referred child O.Text y s
+          → r ≡ W.follow child (x .holder) j (T.memberStep u48 (P.parse b) m (x .start) (x .length) c (P.memberAt b at)) s
+      reference-text t et e f = reference-here (f ∙ ap (λ (q : Object). referred child q y s) (sym (text-only ob t et e)))
 
 -- ---- member j of a table
 module _ (b : List ℕ) (t j : ℕ) (l : t < P.tableCount b) (count : ℕ) (ec : count ≡ length (Sc.tableOf (P.parse b) t .members)) (h : j < count) (first : ℕ)
@@ -110,28 +111,28 @@ module _ (b : List ℕ) (t j : ℕ) (l : t < P.tableCount b) (count : ℕ) (ec :
 
 -- ---- the members of a table, from such a member j on
 module _ (child : W.Child) (b m : List ℕ) (holder start n t : ℕ) (s : Spent) (c : Cursor) (j : ℕ) (v : Spent)
-    (inv : W.members child u48 (P.parse b) m holder start n L.begin (Sc.tableOf (P.parse b) t .members) s
-    ≡ W.members child u48 (P.parse b) m holder start n c (drop j (Sc.tableOf (P.parse b) t .members)) v) (count : ℕ)
+    (inv : W.members child u48 (P.parse b) m holder start n L.begin 0 (Sc.tableOf (P.parse b) t .members) s
+    ≡ W.members child u48 (P.parse b) m holder start n c j (drop j (Sc.tableOf (P.parse b) t .members)) v) (count : ℕ)
     (ec : count ≡ length (Sc.tableOf (P.parse b) t .members)) (h : j < count) (l : t < P.tableCount b) (first : ℕ) (bl : Block b 4 (P.tablePlace b t) first) (at : ℕ)
-    (ea : at ≡ P.recordPlace 4 first j) (g : Outcome) (eg : walkedOf g ≡ W.follow child holder (T.memberStep u48 (P.parse b) m start n c (P.memberAt b at)) v) where
+    (ea : at ≡ P.recordPlace 4 first j) (g : Outcome) (eg : walkedOf g ≡ W.follow child holder j (T.memberStep u48 (P.parse b) m start n c (P.memberAt b at)) v) where
   is-member : P.memberAt b at ≡ Sc.memberOf (P.parse b) t j
   is-member = record-member b t j first l (subst (λ (k : ℕ). j < k) ec h) (bl .is) at ea
 
-  led : walkedOf g ≡ W.follow child holder (leadOf (T.memberStep u48 (P.parse b) m start n c (Sc.memberOf (P.parse b) t j))) v
+  led : walkedOf g ≡ W.follow child holder j (leadOf (T.memberStep u48 (P.parse b) m start n c (Sc.memberOf (P.parse b) t j))) v
   led =
-      eg ∙ ap (λ (r : Member). W.follow child holder (T.memberStep u48 (P.parse b) m start n c r) v) is-member
-      ∙ sym (lead-follows child holder (T.memberStep u48 (P.parse b) m start n c (Sc.memberOf (P.parse b) t j)) v)
+      eg ∙ ap (λ (r : Member). W.follow child holder j (T.memberStep u48 (P.parse b) m start n c r) v) is-member
+      ∙ sym (lead-follows child holder j (T.memberStep u48 (P.parse b) m start n c (Sc.memberOf (P.parse b) t j)) v)
 
-  pub reference-stopped : (g .code ≡ 0 → ⊥) → walkedOf g ≡ W.members child u48 (P.parse b) m holder start n L.begin (Sc.tableOf (P.parse b) t .members) s
+  pub reference-stopped : (g .code ≡ 0 → ⊥) → walkedOf g ≡ W.members child u48 (P.parse b) m holder start n L.begin 0 (Sc.tableOf (P.parse b) t .members) s
   reference-stopped f =
-      members-stopped child (P.parse b) m holder start n t s c j v inv count ec h
+      members-stopped child u48 (P.parse b) m holder start n t s c j v inv count ec h
       (leadOf (T.memberStep u48 (P.parse b) m start n c (Sc.memberOf (P.parse b) t j))) refl g led f
 
   pub reference-turn : g .code ≡ 0 → Refers (getD b at 0) → (next : Cursor) → next ≡ L.afterBytes 6 c
-      → W.members child u48 (P.parse b) m holder start n L.begin (Sc.tableOf (P.parse b) t .members) s
-      ≡ W.members child u48 (P.parse b) m holder start n next (drop (j + 1) (Sc.tableOf (P.parse b) t .members)) (g .spent)
+      → W.members child u48 (P.parse b) m holder start n L.begin 0 (Sc.tableOf (P.parse b) t .members) s
+      ≡ W.members child u48 (P.parse b) m holder start n next (j + 1) (drop (j + 1) (Sc.tableOf (P.parse b) t .members)) (g .spent)
   reference-turn f p next en =
-      members-turn child (P.parse b) m holder start n t s c j v inv count ec h
+      members-turn child u48 (P.parse b) m holder start n t s c j v inv count ec h
       (leadOf (T.memberStep u48 (P.parse b) m start n c (Sc.memberOf (P.parse b) t j))) refl g led f next
       (en ∙ reference-next (P.parse b) c (P.objectAt b at) ∙ ap (λ (r : Member). L.afterMember u48 (P.parse b) r c) (sym (reference-is b at p) ∙ is-member))
 

@@ -4,7 +4,6 @@ use mathlib.Core.Bool.{Bool, true}
 use mathlib.Core.List.{List}
 use Prim.Native.Nat.{ℕ}
 use borrow.Author.Tests.{eq-eqb, ne-eqb}
-use Rattle.coding.specs.Bytes.{u48}
 use Rattle.coding.specs.Schema as Sc
 use Rattle.coding.specs.Schema.{Schema}
 use Rattle.coding.specs.Layout as L
@@ -21,83 +20,83 @@ use Rattle.coding.specs.declared.Walked.{Walked}
 use Rattle.coding.specs.declared.Walked.the-variants.{Going}
 use Rattle.laws.specs.Sound.{ObjectSound}
 use Rattle.message_step.specs.Lead.{PlaceSmall, StepSmall}
-use Rattle.judge_text.specs.Answers.{isText}
+use Rattle.judge_text.specs.Texts.{isText}
 use Rattle.judge_text.proofs.TextCases.{text-only}
 
 -- ---- an arrival by its place
-module _ (d : ℕ) (S : Schema) (m : List ℕ) (b : Budget) (ob : Object) (p : Place) (s : Spent) (r : Walked) where
-  pub arrive-text : (x : ℕ) → p ≡ ByOffset x → (t : Bool) → t ≡ isText ob → t ≡ true → r ≡ W.visit d u48 S m b O.Text (ByOffset x) s
-      → r ≡ W.visit d u48 S m b ob p s
-  arrive-text x e t et h f = rw e (f ∙ ap (λ (q : Object). W.visit d u48 S m b q (ByOffset x) s) (sym (text-only ob t et h)))
+module _ (o d : ℕ) (S : Schema) (m : List ℕ) (b : Budget) (ob : Object) (p : Place) (s : Spent) (r : Walked) where
+  pub arrive-text : (x : ℕ) → p ≡ ByOffset x → (t : Bool) → t ≡ isText ob → t ≡ true → r ≡ W.visit d o S m b O.Text (ByOffset x) s
+      → r ≡ W.visit d o S m b ob p s
+  arrive-text x e t et h f = rw e (f ∙ ap (λ (q : Object). W.visit d o S m b q (ByOffset x) s) (sym (text-only ob t et h)))
 
-  pub arrive-offset : (x : ℕ) → p ≡ ByOffset x → r ≡ W.visit d u48 S m b ob (ByOffset x) s → r ≡ W.visit d u48 S m b ob p s
+  pub arrive-offset : (x : ℕ) → p ≡ ByOffset x → r ≡ W.visit d o S m b ob (ByOffset x) s → r ≡ W.visit d o S m b ob p s
   arrive-offset x e f = rw e f
 
-  pub arrive-inplace : (a n : ℕ) → p ≡ InPlace a n → r ≡ W.visit d u48 S m b ob (InPlace a n) s → r ≡ W.visit d u48 S m b ob p s
+  pub arrive-inplace : (a n : ℕ) → p ≡ InPlace a n → r ≡ W.visit d o S m b ob (InPlace a n) s → r ≡ W.visit d o S m b ob p s
   arrive-inplace a n e f = rw e f
 
 -- ---- content by the object
-module _ (child : W.Child) (S : Schema) (m : List ℕ) (ob : Object) (holder start n : ℕ) (s : Spent) where
-  pub content-text : ob ≡ O.Text → (r : Walked) → r ≡ Going s → r ≡ W.content child u48 S m ob holder start n s
+module _ (child : W.Child) (o : ℕ) (S : Schema) (m : List ℕ) (ob : Object) (holder start n : ℕ) (s : Spent) where
+  pub content-text : ob ≡ O.Text → (r : Walked) → r ≡ Going s → r ≡ W.content child o S m ob holder start n s
   unfolding W.content
   content-text e r f = rw e f
 
-  pub content-bytes : ob ≡ O.Bytes → (r : Walked) → r ≡ Going s → r ≡ W.content child u48 S m ob holder start n s
+  pub content-bytes : ob ≡ O.Bytes → (r : Walked) → r ≡ Going s → r ≡ W.content child o S m ob holder start n s
   unfolding W.content
   content-bytes e r f = rw e f
 
   module _ (r : Walked) (i j : ℕ) (ej : j ≡ i) where
-    pub content-list : ob ≡ O.List i → r ≡ W.elements child u48 S m holder start (Sc.elementOf S j) n 0 s → r ≡ W.content child u48 S m ob holder start n s
+    pub content-list : ob ≡ O.List i → r ≡ W.elements child o S m holder start (Sc.elementOf S j) n 0 s → r ≡ W.content child o S m ob holder start n s
     unfolding W.content
-    content-list e f = rw e (f ∙ ap (λ (k : ℕ). W.elements child u48 S m holder start (Sc.elementOf S k) n 0 s) ej)
+    content-list e f = rw e (f ∙ ap (λ (k : ℕ). W.elements child o S m holder start (Sc.elementOf S k) n 0 s) ej)
 
-    pub content-table : ob ≡ O.Table i → r ≡ W.members child u48 S m holder start n L.begin (Sc.tableOf S j .members) s
-        → r ≡ W.content child u48 S m ob holder start n s
+    pub content-table : ob ≡ O.Table i → r ≡ W.members child o S m holder start n L.begin 0 (Sc.tableOf S j .members) s
+        → r ≡ W.content child o S m ob holder start n s
     unfolding W.content
-    content-table e f = rw e (f ∙ ap (λ (k : ℕ). W.members child u48 S m holder start n L.begin (Sc.tableOf S k .members) s) ej)
+    content-table e f = rw e (f ∙ ap (λ (k : ℕ). W.members child o S m holder start n L.begin 0 (Sc.tableOf S k .members) s) ej)
 
 -- ---- what a step leads to
-module _ (child : W.Child) (holder : ℕ) (step : Step) (s : Spent) where
+module _ (child : W.Child) (holder j : ℕ) (step : Step) (s : Spent) where
   module _ (r : Walked) where
-    pub follow-absent : step ≡ St.Absent → r ≡ Going s → r ≡ W.follow child holder step s
+    pub follow-absent : step ≡ St.Absent → r ≡ Going s → r ≡ W.follow child holder j step s
     unfolding W.follow
     follow-absent e f = rw e f
 
-    pub follow-value : (x : ℕ) → step ≡ St.Value x → r ≡ Going s → r ≡ W.follow child holder step s
+    pub follow-value : (x : ℕ) → step ≡ St.Value x → r ≡ Going s → r ≡ W.follow child holder j step s
     unfolding W.follow
     follow-value x e f = rw e f
 
-    pub follow-unknown : (x : ℕ) → step ≡ St.Unknown x → r ≡ Going s → r ≡ W.follow child holder step s
+    pub follow-unknown : (x : ℕ) → step ≡ St.Unknown x → r ≡ Going s → r ≡ W.follow child holder j step s
     unfolding W.follow
     follow-unknown x e f = rw e f
 
-    pub follow-struct : (i at : ℕ) → step ≡ St.Struct i at → r ≡ Going s → r ≡ W.follow child holder step s
+    pub follow-struct : (i at : ℕ) → step ≡ St.Struct i at → r ≡ Going s → r ≡ W.follow child holder j step s
     unfolding W.follow
     follow-struct i at e f = rw e f
 
-    pub follow-refused : (n : ℕ) → step ≡ St.Refused n → r ≡ W.refuse n holder s → r ≡ W.follow child holder step s
+    pub follow-refused : (n : ℕ) → step ≡ St.Refused n → r ≡ W.refusePart n holder j s → r ≡ W.follow child holder j step s
     unfolding W.follow
     follow-refused n e f = rw e f
 
-    pub follow-object : (ob : Object) (p : Place) → step ≡ St.Object ob p → r ≡ child ob p s → r ≡ W.follow child holder step s
+    pub follow-object : (ob : Object) (p : Place) → step ≡ St.Object ob p → r ≡ child ob p s → r ≡ W.follow child holder j step s
     unfolding W.follow
     follow-object ob p e f = rw e f
 
-    pub follow-choice : (c : ℕ) (ob : Object) (p : Place) → step ≡ St.Choice c ob p → r ≡ W.followChoice child holder ob p s
-        → r ≡ W.follow child holder step s
+    pub follow-choice : (c : ℕ) (ob : Object) (p : Place) → step ≡ St.Choice c ob p → r ≡ W.followChoice child holder j ob p s
+        → r ≡ W.follow child holder j step s
     unfolding W.follow
     follow-choice c ob p e f = rw e f
 
-module _ (child : W.Child) (holder : ℕ) (ob : Object) (p : Place) (s : Spent) (r : Walked) where
-  pub union-none : (x : ℕ) → p ≡ ByOffset x → x ≡ 0 → r ≡ W.refuse 9 holder s → r ≡ W.followChoice child holder ob p s
+module _ (child : W.Child) (holder j : ℕ) (ob : Object) (p : Place) (s : Spent) (r : Walked) where
+  pub union-none : (x : ℕ) → p ≡ ByOffset x → x ≡ 0 → r ≡ W.refusePart 9 holder j s → r ≡ W.followChoice child holder j ob p s
   unfolding W.followChoice
   union-none x e z f = rw e (simp (eq-eqb _ _ z) f)
 
-  pub union-offset : (x : ℕ) → p ≡ ByOffset x → (x ≡ 0 → ⊥) → r ≡ child ob (ByOffset x) s → r ≡ W.followChoice child holder ob p s
+  pub union-offset : (x : ℕ) → p ≡ ByOffset x → (x ≡ 0 → ⊥) → r ≡ child ob (ByOffset x) s → r ≡ W.followChoice child holder j ob p s
   unfolding W.followChoice
   union-offset x e z f = rw e (simp (ne-eqb _ _ z) f)
 
-  pub union-inplace : (a n : ℕ) → p ≡ InPlace a n → r ≡ child ob (InPlace a n) s → r ≡ W.followChoice child holder ob p s
+  pub union-inplace : (a n : ℕ) → p ≡ InPlace a n → r ≡ child ob (InPlace a n) s → r ≡ W.followChoice child holder j ob p s
   unfolding W.followChoice
   union-inplace a n e f = rw e f
 

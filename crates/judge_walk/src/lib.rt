@@ -1,5 +1,4 @@
 // The walkers of tables, lists and unions, which call each other in a cycle.
-use coding::Budget;
 use coding::Cursor;
 use coding::Kind;
 use coding::Object;
@@ -7,13 +6,15 @@ use coding::Opened;
 use coding::Place;
 use coding::Spent;
 use coding::Step;
-use judge_text::Outcome;
+use outcome::Content;
+use outcome::Limits;
+use outcome::Outcome;
+use outcome::Part;
 ghost use mathlib.Core.Path.{_≡_};
 ghost use mathlib.Core.Bool.{true, false};
 ghost use Prim.Native.Nat.{_+_, _*_, _<_, _≤_, _^_};
 ghost use lib.ListN.{length, getD};
 ghost use Rattle.coding.specs.Bytes as B;
-ghost use Rattle.coding.specs.Layout as L;
 ghost use Rattle.coding.specs.Packed as P;
 ghost use Rattle.coding.specs.Schema as Sc;
 ghost use Rattle.coding.specs.Step as T;
@@ -21,8 +22,17 @@ ghost use Rattle.coding.specs.Walk as W;
 ghost use Rattle.laws.specs.Sound.{ObjectSound};
 ghost use Rattle.schema.specs.Directory.{Accepted};
 ghost use Rattle.message_step.specs.Lead as D;
-ghost use Rattle.judge_text.specs.Answers as As;
+ghost use Rattle.outcome.specs.Answers as As;
 ghost use Rattle.judge_member.specs.Records as Rs;
+ghost use Rattle.wire.specs.Sizes.{WithinSize, HasUnion, HasOffsets, HasUnions};
+
+// Where the walk stands in a table: the number of the member that comes next, the place of its record in the schema, and the
+// cursor before it.
+struct Standing {
+    number: usize,
+    record: usize,
+    cursor: Cursor,
+}
 
 // Whether a step leads to no object and is no refusal.
 fn leads_nowhere(step: Step) -> bool
@@ -39,75 +49,48 @@ fn leads_nowhere(step: Step) -> bool
     }
 }
 
-// An arrival at an object with d objects of depth left, this one counted.
-pub fn visit(
-    b: &[u8],
-    dir: &[u16],
-    m: &[u8],
-    budget: Budget,
-    d: usize,
-    ob: Object,
-    p: Place,
-    s: Spent,
-) -> Outcome
-    requires { ⌜ (Accepted (now b) (now dir)) × (length (now m) ≤ 16777215) × (ObjectSound (P.parse (now b)) ob) × D.PlaceSmall p ⌝ }
-    ensures { λ r. ⌜ As.walkedOf r ≡ W.visit d B.u48 (P.parse (now (b .entry))) (now (m .entry)) budget ob p s ⌝ }
+// An arrival at an object, with this one counted in the depth that is left.
+pub fn visit(b: &[u8], dir: &[u16], m: &[u8], l: Limits, ob: Object, p: Place, s: Spent) -> Outcome
+    requires { ⌜ (Accepted (now b) (now dir)) × (WithinSize (now m)) × (ObjectSound (P.parse (now b)) ob) × D.PlaceSmall p ⌝ }
+    ensures { λ r. ⌜ As.walkedOf r ≡ As.visitBy B.u48 (now (b .entry)) (now (m .entry)) l ob p s ⌝ }
 {
     let at = message_object::placed(p);
-    let spent = s.visits;
-    if budget.visits <= spent {
-        return judge_text::refuse(4, at, s);
+    let g = outcome::charge(l, at, s);
+    if g.code != 0 {
+        return g;
     }
-    let t = Spent { visits: spent + 1 };
-    if d == 0 {
-        return judge_text::refuse(5, at, t);
-    }
+    let t = g.spent;
     match message_object::open_object(b, dir, m, ob, p) {
-        Opened::Refused(e) => judge_text::refuse(e, at, t),
-        Opened::Content(start, n) => content(b, dir, m, budget, d - 1, ob, at, start, n, t),
+        Opened::Refused(e) => outcome::refuse(e, at, t),
+        Opened::Content(start, n) => {
+            let x = Content {
+                holder: at,
+                start,
+                length: n,
+            };
+            content(b, dir, m, outcome::below(l), ob, x, t)
+        }
     }
 }
 
-// An object's content.
-fn content(
-    b: &[u8],
-    dir: &[u16],
-    m: &[u8],
-    budget: Budget,
-    d: usize,
-    ob: Object,
-    holder: usize,
-    start: usize,
-    n: usize,
-    s: Spent,
-) -> Outcome
-    requires { ⌜ (Accepted (now b) (now dir)) × (length (now m) ≤ 16777215) × (ObjectSound (P.parse (now b)) ob) ⌝ }
-    requires { ⌜ start + W.contentSize B.u48 (P.parse (now b)) ob n ≤ length (now m) ⌝ }
-    ensures { λ r. ⌜ As.walkedOf r ≡ W.content (W.visit d B.u48 (P.parse (now (b .entry))) (now (m .entry)) budget) B.u48 (P.parse (now (b .entry))) (now (m .entry)) ob holder start n s ⌝ }
+// An object's content. Texts and bytes have no parts.
+fn content(b: &[u8], dir: &[u16], m: &[u8], l: Limits, ob: Object, x: Content, s: Spent) -> Outcome
+    requires { ⌜ (Accepted (now b) (now dir)) × (WithinSize (now m)) × (ObjectSound (P.parse (now b)) ob) ⌝ }
+    requires { ⌜ x .start + W.contentSize B.u48 (P.parse (now b)) ob (x .length) ≤ length (now m) ⌝ }
+    ensures { λ r. ⌜ As.walkedOf r ≡ As.contentBy B.u48 (now (b .entry)) (now (m .entry)) l ob x s ⌝ }
 {
     match ob {
-        Object::Text => judge_text::going(s),
-        Object::Bytes => judge_text::going(s),
-        Object::List(i) => list(b, dir, m, budget, d, wire::index(i), holder, start, n, s),
-        Object::Table(t) => table(b, dir, m, budget, d, wire::index(t), holder, start, n, s),
+        Object::Text => outcome::going(s),
+        Object::Bytes => outcome::going(s),
+        Object::List(i) => list(b, dir, m, l, wire::index(i), x, s),
+        Object::Table(t) => table(b, dir, m, l, wire::index(t), x, s),
     }
 }
 
-// The members of table t, whose fixed part has n bytes from `start`.
-fn table(
-    b: &[u8],
-    dir: &[u16],
-    m: &[u8],
-    budget: Budget,
-    d: usize,
-    t: usize,
-    holder: usize,
-    start: usize,
-    n: usize,
-    s: Spent,
-) -> Outcome
-    requires { ⌜ (Accepted (now b) (now dir)) × (length (now m) ≤ 16777215) × (t < P.tableCount (now b)) × (start + n ≤ length (now m)) ⌝ }
-    ensures { λ r. ⌜ As.walkedOf r ≡ W.members (W.visit d B.u48 (P.parse (now (b .entry))) (now (m .entry)) budget) B.u48 (P.parse (now (b .entry))) (now (m .entry)) holder start n L.begin (Sc.tableOf (P.parse (now (b .entry))) t .members) s ⌝ }
+// The members of table t, whose fixed part is the content.
+fn table(b: &[u8], dir: &[u16], m: &[u8], l: Limits, t: usize, x: Content, s: Spent) -> Outcome
+    requires { ⌜ (Accepted (now b) (now dir)) × (WithinSize (now m)) × (t < P.tableCount (now b)) × (x .start + x .length ≤ length (now m)) ⌝ }
+    ensures { λ r. ⌜ As.walkedOf r ≡ As.membersBy B.u48 (now (b .entry)) (now (m .entry)) l t x s ⌝ }
 {
     let count = schema::member_count(b, dir, t);
     let first = schema::table_place(b, dir, t);
@@ -115,28 +98,37 @@ fn table(
     let mut v = s;
     let mut j: usize = 0;
     while j < count {
-        if n <= message_layout::bit_byte(c) {
-            return judge_text::going(v);
+        if x.length <= message_layout::bit_byte(c) {
+            return outcome::going(v);
         }
         let at = schema::record_place(4, first, j);
         if judge_member::refers(b, at) {
-            let g = reference(b, dir, m, budget, d, at, holder, start, n, c, v);
+            let k = Standing {
+                number: j,
+                record: at,
+                cursor: c,
+            };
+            let g = reference(b, dir, m, l, x, k, v);
             if g.code != 0 {
                 return g;
             }
             v = g.spent;
-            c = judge_member::behind_reference(c);
+            c = message_layout::after_bytes(c, wire::OFFSET);
             j += 1;
             continue;
         }
-        let q = judge_member::lead_member(b, dir, m, t, j, start, n, c);
+        let q = judge_member::lead_member(b, dir, m, t, j, x, c);
         let step = q.step;
         if leads_nowhere(step) {
             c = q.next;
             j += 1;
             continue;
         }
-        let g = follow(b, dir, m, budget, d, holder, step, v);
+        let part = Part {
+            holder: x.holder,
+            number: j,
+        };
+        let g = follow(b, dir, m, l, part, step, v);
         if g.code != 0 {
             return g;
         }
@@ -144,261 +136,208 @@ fn table(
         c = q.next;
         j += 1;
     }
-    judge_text::going(v)
+    outcome::going(v)
 }
 
-// The object by its offset of the member of the record at `at`, where the cursor stands.
+// The object by its offset of the member that comes next.
 fn reference(
     b: &[u8],
     dir: &[u16],
     m: &[u8],
-    budget: Budget,
-    d: usize,
-    at: usize,
-    holder: usize,
-    start: usize,
-    n: usize,
-    c: Cursor,
+    l: Limits,
+    x: Content,
+    k: Standing,
     s: Spent,
 ) -> Outcome
-    requires { ⌜ (Accepted (now b) (now dir)) × (length (now m) ≤ 16777215) × (at + 1 < length (now b)) × (Rs.Refers (getD (now b) at 0)) ⌝ }
-    requires { ⌜ (ObjectSound (P.parse (now b)) (P.objectAt (now b) at)) × (start + n ≤ length (now m)) × (c .end < 2 ^ 58) ⌝ }
-    ensures { λ r. ⌜ As.walkedOf r ≡ W.follow (W.visit d B.u48 (P.parse (now (b .entry))) (now (m .entry)) budget) holder (T.memberStep B.u48 (P.parse (now (b .entry))) (now (m .entry)) start n c (P.memberAt (now (b .entry)) at)) s ⌝ }
+    requires { ⌜ (Accepted (now b) (now dir)) × (WithinSize (now m)) × (k .record + 1 < length (now b)) × (Rs.Refers (getD (now b) (k .record) 0)) ⌝ }
+    requires { ⌜ (ObjectSound (P.parse (now b)) (P.objectAt (now b) (k .record))) × (x .start + x .length ≤ length (now m)) × (k .cursor .end < 2 ^ 58) ⌝ }
+    ensures { λ r. ⌜ As.walkedOf r ≡ As.followBy B.u48 (now (b .entry)) (now (m .entry)) l (As.partOf x (k .number)) (As.memberBy B.u48 (now (b .entry)) (now (m .entry)) x (k .cursor) (P.memberAt (now (b .entry)) (k .record))) s ⌝ }
 {
+    let c = k.cursor;
     let end = c.end;
-    if n <= end {
-        return judge_text::going(s);
+    if x.length <= end {
+        return outcome::going(s);
     }
-    if n < end + 6 {
-        return judge_text::refuse(8, holder, s);
+    if x.length < end + wire::OFFSET {
+        let part = Part {
+            holder: x.holder,
+            number: k.number,
+        };
+        return outcome::refuse_part(8, part, s);
     }
-    let x = wire::u48_in(m, start + end) as usize;
-    let ob = schema::object_at(b, at);
+    let y = wire::offset_in(m, x.start + end);
+    let ob = schema::object_at(b, k.record);
     if judge_text::is_text(ob) {
-        return judge_text::refer_text(b, m, budget, d, holder, x, s);
+        return judge_text::refer_text(b, m, l, y, s);
     }
-    refer(b, dir, m, budget, d, ob, holder, x, s)
+    refer(b, dir, m, l, ob, y, s)
 }
 
-// The n elements of list i, which start at `start`.
-fn list(
-    b: &[u8],
-    dir: &[u16],
-    m: &[u8],
-    budget: Budget,
-    d: usize,
-    i: usize,
-    holder: usize,
-    start: usize,
-    n: usize,
-    s: Spent,
-) -> Outcome
-    requires { ⌜ (Accepted (now b) (now dir)) × (length (now m) ≤ 16777215) × (i < P.listCount (now b)) ⌝ }
-    requires { ⌜ start + T.elementsSize B.u48 (P.parse (now b)) (Sc.elementOf (P.parse (now b)) i) n ≤ length (now m) ⌝ }
-    ensures { λ r. ⌜ As.walkedOf r ≡ W.elements (W.visit d B.u48 (P.parse (now (b .entry))) (now (m .entry)) budget) B.u48 (P.parse (now (b .entry))) (now (m .entry)) holder start (Sc.elementOf (P.parse (now (b .entry))) i) n 0 s ⌝ }
+// The elements of list i.
+fn list(b: &[u8], dir: &[u16], m: &[u8], l: Limits, i: usize, x: Content, s: Spent) -> Outcome
+    requires { ⌜ (Accepted (now b) (now dir)) × (WithinSize (now m)) × (i < P.listCount (now b)) ⌝ }
+    requires { ⌜ x .start + T.elementsSize B.u48 (P.parse (now b)) (Sc.elementOf (P.parse (now b)) i) (x .length) ≤ length (now m) ⌝ }
+    ensures { λ r. ⌜ As.walkedOf r ≡ As.elementsBy B.u48 (now (b .entry)) (now (m .entry)) l (Sc.elementOf (P.parse (now (b .entry))) i) x s ⌝ }
 {
     let at = schema::list_place(b, dir, i);
     let k = schema::kind_at(b, at);
-    if k < 13 {
-        return judge_text::going(s);
+    if schema::is_flat_kind(k) {
+        return outcome::going(s);
     }
-    if k < 17 {
-        let ob = schema::object_at(b, at);
-        return references(b, dir, m, budget, d, ob, holder, start, n, s);
+    if schema::is_object_kind(k) {
+        return references(b, dir, m, l, schema::object_at(b, at), x, s);
     }
-    let u = wire::index(schema::argument_at(b, at));
-    choices(b, dir, m, budget, d, u, holder, start, n, s)
+    choices(b, dir, m, l, wire::index(schema::argument_at(b, at)), x, s)
 }
 
-// The n objects of a list, whose offsets start at `start`.
+// The objects of a list, by their offsets.
 fn references(
     b: &[u8],
     dir: &[u16],
     m: &[u8],
-    budget: Budget,
-    d: usize,
+    l: Limits,
     ob: Object,
-    holder: usize,
-    start: usize,
-    n: usize,
+    x: Content,
     s: Spent,
 ) -> Outcome
-    requires { ⌜ (Accepted (now b) (now dir)) × (length (now m) ≤ 16777215) × (ObjectSound (P.parse (now b)) ob) × (start + 6 * n ≤ length (now m)) ⌝ }
-    ensures { λ r. ⌜ As.walkedOf r ≡ W.elements (W.visit d B.u48 (P.parse (now (b .entry))) (now (m .entry)) budget) B.u48 (P.parse (now (b .entry))) (now (m .entry)) holder start (Kind.OfObject ob) n 0 s ⌝ }
+    requires { ⌜ (Accepted (now b) (now dir)) × (WithinSize (now m)) × (ObjectSound (P.parse (now b)) ob) × (HasOffsets (now m) (x .start) (x .length)) ⌝ }
+    ensures { λ r. ⌜ As.walkedOf r ≡ As.elementsBy B.u48 (now (b .entry)) (now (m .entry)) l (Kind.OfObject ob) x s ⌝ }
 {
     if judge_text::is_text(ob) {
-        return judge_text::texts(b, m, budget, d, holder, start, n, s);
+        return judge_text::texts(b, m, l, x, s);
     }
     if judge_member::is_row_table(b, dir, ob) {
-        return judge_rows::row_references(b, dir, m, budget, d, ob, holder, start, n, s);
+        return judge_rows::row_references(b, dir, m, l, ob, x, s);
     }
     let mut v = s;
-    let mut at = start;
+    let mut at = x.start;
     let mut j: usize = 0;
-    while j < n {
-        let x = wire::u48_in(m, at) as usize;
-        let g = refer(b, dir, m, budget, d, ob, holder, x, v);
+    while j < x.length {
+        let g = refer(b, dir, m, l, ob, wire::offset_in(m, at), v);
         if g.code != 0 {
             return g;
         }
         v = g.spent;
-        at += 6;
+        at += wire::OFFSET;
         j += 1;
     }
-    judge_text::going(v)
+    outcome::going(v)
 }
 
-// What an offset in a list leads to.
-fn refer(
-    b: &[u8],
-    dir: &[u16],
-    m: &[u8],
-    budget: Budget,
-    d: usize,
-    ob: Object,
-    holder: usize,
-    x: usize,
-    s: Spent,
-) -> Outcome
-    requires { ⌜ (Accepted (now b) (now dir)) × (length (now m) ≤ 16777215) × (ObjectSound (P.parse (now b)) ob) × (x < 2 ^ 48) ⌝ }
-    ensures { λ r. ⌜ As.walkedOf r ≡ W.follow (W.visit d B.u48 (P.parse (now (b .entry))) (now (m .entry)) budget) holder (T.objectStep ob false 0 x) s ⌝ }
+// What offset x leads to: nothing, or an arrival.
+fn refer(b: &[u8], dir: &[u16], m: &[u8], l: Limits, ob: Object, x: usize, s: Spent) -> Outcome
+    requires { ⌜ (Accepted (now b) (now dir)) × (WithinSize (now m)) × (ObjectSound (P.parse (now b)) ob) × (x < 2 ^ 48) ⌝ }
+    ensures { λ r. ⌜ As.walkedOf r ≡ As.referred (As.visitBy B.u48 (now (b .entry)) (now (m .entry)) l) ob x s ⌝ }
 {
     if x == 0 {
-        return judge_text::going(s);
+        return outcome::going(s);
     }
-    visit(b, dir, m, budget, d, ob, Place::ByOffset(x), s)
+    visit(b, dir, m, l, ob, Place::ByOffset(x), s)
 }
 
-// The n choices of a list of union i, which start at `start`.
-fn choices(
-    b: &[u8],
-    dir: &[u16],
-    m: &[u8],
-    budget: Budget,
-    d: usize,
-    i: usize,
-    holder: usize,
-    start: usize,
-    n: usize,
-    s: Spent,
-) -> Outcome
-    requires { ⌜ (Accepted (now b) (now dir)) × (length (now m) ≤ 16777215) × (i < P.unionCount (now b)) × (start + 8 * n ≤ length (now m)) ⌝ }
-    ensures { λ r. ⌜ As.walkedOf r ≡ W.elements (W.visit d B.u48 (P.parse (now (b .entry))) (now (m .entry)) budget) B.u48 (P.parse (now (b .entry))) (now (m .entry)) holder start (Kind.OfUnion i) n 0 s ⌝ }
+// The choices of a list of union i.
+fn choices(b: &[u8], dir: &[u16], m: &[u8], l: Limits, i: usize, x: Content, s: Spent) -> Outcome
+    requires { ⌜ (Accepted (now b) (now dir)) × (WithinSize (now m)) × (i < P.unionCount (now b)) × (HasUnions (now m) (x .start) (x .length)) ⌝ }
+    ensures { λ r. ⌜ As.walkedOf r ≡ As.elementsBy B.u48 (now (b .entry)) (now (m .entry)) l (Kind.OfUnion i) x s ⌝ }
 {
     let mut v = s;
-    let mut at = start;
+    let mut at = x.start;
     let mut j: usize = 0;
-    while j < n {
-        let g = choice(b, dir, m, budget, d, i, holder, at, v);
+    while j < x.length {
+        let part = Part {
+            holder: x.holder,
+            number: j,
+        };
+        let g = choice(b, dir, m, l, i, part, at, v);
         if g.code != 0 {
             return g;
         }
         v = g.spent;
-        at += 8;
+        at += wire::UNION;
         j += 1;
     }
-    judge_text::going(v)
+    outcome::going(v)
 }
 
-// What a choice of union i in a list leads to.
+// What the choice of union i at `at` leads to, an element of a list.
 fn choice(
     b: &[u8],
     dir: &[u16],
     m: &[u8],
-    budget: Budget,
-    d: usize,
+    l: Limits,
     i: usize,
-    holder: usize,
+    part: Part,
     at: usize,
     s: Spent,
 ) -> Outcome
-    requires { ⌜ (Accepted (now b) (now dir)) × (length (now m) ≤ 16777215) × (i < P.unionCount (now b)) × (at + 8 ≤ length (now m)) ⌝ }
-    ensures { λ r. ⌜ As.walkedOf r ≡ W.follow (W.visit d B.u48 (P.parse (now (b .entry))) (now (m .entry)) budget) holder (T.unionStep (Sc.casesOf (P.parse (now (b .entry))) i) false 0 (B.le (now (m .entry)) at 2) (B.le (now (m .entry)) (at + 2) 6)) s ⌝ }
+    requires { ⌜ (Accepted (now b) (now dir)) × (WithinSize (now m)) × (i < P.unionCount (now b)) × (HasUnion (now m) at) ⌝ }
+    ensures { λ r. ⌜ As.walkedOf r ≡ As.followBy B.u48 (now (b .entry)) (now (m .entry)) l part (T.unionStep (Sc.casesOf (P.parse (now (b .entry))) i) false 0 (B.le (now (m .entry)) at 2) (B.le (now (m .entry)) (at + 2) B.u48)) s ⌝ }
 {
     let c = wire::u16_in(m, at) as usize;
     if c == 0 {
-        return judge_text::going(s);
+        return outcome::going(s);
     }
     if schema::case_count(b, dir, i) < c {
-        return judge_text::going(s);
+        return outcome::going(s);
     }
     let ob = schema::union_case(b, dir, i, c);
-    let x = wire::u48_in(m, at + 2) as usize;
-    union(b, dir, m, budget, d, holder, ob, Place::ByOffset(x), s)
+    let x = wire::offset_in(m, at + 2);
+    union(b, dir, m, l, part, ob, Place::ByOffset(x), s)
 }
 
-// What a step of the object at `holder` leads to.
-fn follow(
-    b: &[u8],
-    dir: &[u16],
-    m: &[u8],
-    budget: Budget,
-    d: usize,
-    holder: usize,
-    step: Step,
-    s: Spent,
-) -> Outcome
-    requires { ⌜ (Accepted (now b) (now dir)) × (length (now m) ≤ 16777215) × D.StepSmall (P.parse (now b)) step ⌝ }
-    ensures { λ r. ⌜ As.walkedOf r ≡ W.follow (W.visit d B.u48 (P.parse (now (b .entry))) (now (m .entry)) budget) holder step s ⌝ }
+// What the step of a part leads to.
+fn follow(b: &[u8], dir: &[u16], m: &[u8], l: Limits, part: Part, step: Step, s: Spent) -> Outcome
+    requires { ⌜ (Accepted (now b) (now dir)) × (WithinSize (now m)) × D.StepSmall (P.parse (now b)) step ⌝ }
+    ensures { λ r. ⌜ As.walkedOf r ≡ As.followBy B.u48 (now (b .entry)) (now (m .entry)) l part step s ⌝ }
 {
     match step {
-        Step::Refused(e) => judge_text::refuse(e, holder, s),
-        Step::Absent => judge_text::going(s),
-        Step::Value(_) => judge_text::going(s),
-        Step::Unknown(_) => judge_text::going(s),
-        Step::Struct(_, _) => judge_text::going(s),
-        Step::Object(ob, p) => arrive(b, dir, m, budget, d, ob, p, s),
-        Step::Choice(_, ob, p) => union(b, dir, m, budget, d, holder, ob, p, s),
+        Step::Refused(e) => outcome::refuse_part(e, part, s),
+        Step::Absent => outcome::going(s),
+        Step::Value(_) => outcome::going(s),
+        Step::Unknown(_) => outcome::going(s),
+        Step::Struct(_, _) => outcome::going(s),
+        Step::Object(ob, p) => arrive(b, dir, m, l, ob, p, s),
+        Step::Choice(_, ob, p) => union(b, dir, m, l, part, ob, p, s),
     }
 }
 
-// An arrival at an object, a text by its offset at once.
-fn arrive(
-    b: &[u8],
-    dir: &[u16],
-    m: &[u8],
-    budget: Budget,
-    d: usize,
-    ob: Object,
-    p: Place,
-    s: Spent,
-) -> Outcome
-    requires { ⌜ (Accepted (now b) (now dir)) × (length (now m) ≤ 16777215) × (ObjectSound (P.parse (now b)) ob) × D.PlaceSmall p ⌝ }
-    ensures { λ r. ⌜ As.walkedOf r ≡ W.visit d B.u48 (P.parse (now (b .entry))) (now (m .entry)) budget ob p s ⌝ }
+// An arrival at an object, at a text by its offset without the walker.
+fn arrive(b: &[u8], dir: &[u16], m: &[u8], l: Limits, ob: Object, p: Place, s: Spent) -> Outcome
+    requires { ⌜ (Accepted (now b) (now dir)) × (WithinSize (now m)) × (ObjectSound (P.parse (now b)) ob) × D.PlaceSmall p ⌝ }
+    ensures { λ r. ⌜ As.walkedOf r ≡ As.visitBy B.u48 (now (b .entry)) (now (m .entry)) l ob p s ⌝ }
 {
     match p {
         Place::ByOffset(x) => {
             if judge_text::is_text(ob) {
-                return judge_text::visit_text(b, m, budget, d, x, s);
+                return judge_text::visit_text(b, m, l, x, s);
             }
-            visit(b, dir, m, budget, d, ob, Place::ByOffset(x), s)
+            visit(b, dir, m, l, ob, Place::ByOffset(x), s)
         }
-        Place::InPlace(a, n) => visit(b, dir, m, budget, d, ob, Place::InPlace(a, n), s),
+        Place::InPlace(a, n) => visit(b, dir, m, l, ob, Place::InPlace(a, n), s),
     }
 }
 
-// The object of a union's known choice.
+// The object of a union's known choice, a part of its holder.
 fn union(
     b: &[u8],
     dir: &[u16],
     m: &[u8],
-    budget: Budget,
-    d: usize,
-    holder: usize,
+    l: Limits,
+    part: Part,
     ob: Object,
     p: Place,
     s: Spent,
 ) -> Outcome
-    requires { ⌜ (Accepted (now b) (now dir)) × (length (now m) ≤ 16777215) × (ObjectSound (P.parse (now b)) ob) × D.PlaceSmall p ⌝ }
-    ensures { λ r. ⌜ As.walkedOf r ≡ W.followChoice (W.visit d B.u48 (P.parse (now (b .entry))) (now (m .entry)) budget) holder ob p s ⌝ }
+    requires { ⌜ (Accepted (now b) (now dir)) × (WithinSize (now m)) × (ObjectSound (P.parse (now b)) ob) × D.PlaceSmall p ⌝ }
+    ensures { λ r. ⌜ As.walkedOf r ≡ As.chooseBy B.u48 (now (b .entry)) (now (m .entry)) l part ob p s ⌝ }
 {
     match p {
         Place::ByOffset(x) => {
             if x == 0 {
-                return judge_text::refuse(9, holder, s);
+                return outcome::refuse_part(9, part, s);
             }
-            visit(b, dir, m, budget, d, ob, Place::ByOffset(x), s)
+            visit(b, dir, m, l, ob, Place::ByOffset(x), s)
         }
-        Place::InPlace(a, n) => visit(b, dir, m, budget, d, ob, Place::InPlace(a, n), s),
+        Place::InPlace(a, n) => visit(b, dir, m, l, ob, Place::InPlace(a, n), s),
     }
 }

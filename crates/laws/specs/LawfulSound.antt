@@ -60,7 +60,7 @@ either {A} i n f g = by (ltb i n) refl
     by true e = f (ltb-true i n e)
     by false e = g (ltb-false i n e)
 
-module _ (b : List ℕ) (bytes : (i : ℕ) → getD b i 0 < 256) (e : L.lawful b ≡ true) where
+module _ (b : List ℕ) (bytes : (i : ℕ) → getD b i 0 < 256) (e : L.wellFormed b ≡ true) where
   -- ---- structs
   fields-in : (i : ℕ) → i < P.structCount b → All (FlatSound i) (Sc.structOf (P.parse b) i)
   fields-in i l =
@@ -147,8 +147,8 @@ module _ (b : List ℕ) (bytes : (i : ℕ) → getD b i 0 < 256) (e : L.lawful b
   unfolding P.parse
   root-in = omega (arith, R.lawful-counts b e .root, Pa.tables-length b)
 
-  pub lawful-sound : Sound (P.parse b)
-  lawful-sound =
+  pub formed-sound : Sound (P.parse b)
+  formed-sound =
       record {
         root = root-in;
         fewTables = omega (arith, R.lawful-counts b e .tables, Pa.tables-length b);
@@ -157,3 +157,6 @@ module _ (b : List ℕ) (bytes : (i : ℕ) → getD b i 0 < 256) (e : L.lawful b
         unions = λ i. either i (P.unionCount b) (union-in i) (union-past i);
         tables = λ i. either i (P.tableCount b) (table-in i) (table-past i);
       }
+
+pub lawful-sound : (o : ℕ) (b : List ℕ) → ((i : ℕ) → getD b i 0 < 256) → L.lawful o b ≡ true → Sound (P.parse b)
+lawful-sound o b bytes e = formed-sound b bytes (R.lawful-formed o b e)

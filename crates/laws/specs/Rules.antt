@@ -1,12 +1,15 @@
 -- `lawful` taken apart: each rule as a fact of its own.
-use mathlib.Core.Path.{_≡_}
-use mathlib.Core.Bool.{true, _&&_}
+use mathlib.Core.Path.{_≡_, refl}
+use mathlib.Core.Bool.{Bool, true, false, _&&_}
+use mathlib.Core.Logic.{_⊎_, inl, inr}
 use mathlib.Core.List.{List}
 use Prim.Native.Nat.{ℕ, _<_, _≤_}
 use lib.ListN.{length}
+use native.Mathlib.Omega.{arith}
 use lib.Dec.{eqb, leb}
 use borrow.Author.Tests.{leb-true, ltb-true, eqb-true}
-use Rattle.coding.specs.Lists.{every}
+use Rattle.coding.specs.Lists.{pick, every}
+use Rattle.coding.specs.Bytes as B
 use Rattle.coding.specs.Packed as P
 use Rattle.coding.specs.Lawful as L
 use Rattle.coding.specs.Structs as S
@@ -73,10 +76,40 @@ unfolding L.recordsOk L.firstOk
 record-of-block b role head at j h l =
     every-at (λ i. L.recordOk b role (P.recordPlace head at i)) (P.records b head at) j h l
 
--- ---- a lawful schema
-module _ (b : List ℕ) (e : L.lawful b ≡ true) where
+-- ---- a lawful schema under a coding
+pub lawful-formed : (o : ℕ) (b : List ℕ) → L.lawful o b ≡ true → L.wellFormed b ≡ true
+unfolding L.lawful
+lawful-formed o b e = both-left (L.wellFormed b) _ (both-right (B.widthKnown o) _ e)
+
+-- its width is one of the two
+pub lawful-width : (o : ℕ) (b : List ℕ) → L.lawful o b ≡ true → (o ≡ 4) ⊎ (o ≡ 6)
+unfolding L.lawful B.widthKnown B.u32 B.u48
+lawful-width o b e = by (eqb o 4) refl (both-left _ (L.wellFormed b && pick (eqb o 4) (L.olderOk b) true) e)
+  where
+    by : (t : Bool) → eqb o 4 ≡ t → pick t true (eqb o 6) ≡ true → (o ≡ 4) ⊎ (o ≡ 6)
+    by true h q = inl (eqb-true o 4 h)
+    by false h q = inr (eqb-true o 6 q)
+
+-- under the coding of 000 nothing is asked beyond that
+pub lawful-48 : (b : List ℕ) → L.lawful B.u48 b ≡ L.wellFormed b
+unfolding L.lawful B.widthKnown B.u32 B.u48
+lawful-48 b = by (L.wellFormed b)
+  where
+    by : (t : Bool) → (t && true) ≡ t
+    by true = refl
+    by false = refl
+
+pub lawful-wide : (o : ℕ) (b : List ℕ) → L.lawful o b ≡ true → 0 < o
+lawful-wide o b e = by (lawful-width o b e)
+  where
+    by : (o ≡ 4) ⊎ (o ≡ 6) → 0 < o
+    by (inl h) = omega arith
+    by (inr h) = omega arith
+
+-- ---- what holds of it under both
+module _ (b : List ℕ) (e : L.wellFormed b ≡ true) where
   lawful-shape : L.shapeOk b ≡ true
-  unfolding L.lawful
+  unfolding L.wellFormed
   lawful-shape = both-left (L.shapeOk b) (L.rulesOk b) e
 
   pub lawful-counts : Counts b
@@ -117,7 +150,7 @@ module _ (b : List ℕ) (e : L.lawful b ≡ true) where
 
   -- ---- the rules
   lawful-rules : L.rulesOk b ≡ true
-  unfolding L.lawful
+  unfolding L.wellFormed
   lawful-rules = both-right (L.shapeOk b) (L.rulesOk b) e
 
   rules₁ : (every (L.listLawful b) (P.listCount b)

@@ -1,10 +1,11 @@
--- The ways out of opening content.
+-- The ways out of fitting content, and of testing its bytes.
 use mathlib.Core.Path.{_≡_, ap, _∙_, subst}
+use mathlib.Core.Bool.{Bool, true}
 use mathlib.Core.List.{List}
-use Prim.Native.Nat.{ℕ, _+_, _*_, _^_, _<_, _≤_}
-use native.Mathlib.Nat.{mul-le-mul, le-of-lt}
+use Prim.Native.Nat.{ℕ, _+_, _<_, _≤_}
 use lib.ListN.{length, getD}
-use borrow.Author.Tests.{eq-eqb, ne-eqb, le-leb, lt-leb}
+use lib.Dec.{eqb}
+use borrow.Author.Tests.{le-leb, lt-leb}
 use Rattle.coding.specs.Bytes.{u48}
 use Rattle.coding.specs.Schema as Sc
 use Rattle.coding.specs.Schema.{Schema}
@@ -16,11 +17,10 @@ use Rattle.coding.specs.declared.Object.the-variants as O
 use Rattle.coding.specs.declared.Kind.{Kind}
 use Rattle.coding.specs.declared.Opened.{Opened}
 use Rattle.coding.specs.declared.Opened.the-variants as Op
-use Rattle.laws.specs.Sound.{NoStruct, ObjectSound}
+use Rattle.laws.specs.Sound.{ObjectSound, KindSound}
 use Rattle.laws.specs.SoundAt.{list-index}
-use Rattle.schema.specs.Directory.{Accepted}
-use Rattle.message_header.specs.Headers.{fitted}
-use Rattle.message_header.proofs.SizeCases.{list-kind, element-scalar}
+use Rattle.schema.specs.Directory.{Accepted, accepted-sound}
+use Rattle.message_header.specs.Headers.{fitted, EndInside}
 
 -- ---- content that fits, or not
 module _ (m : List ℕ) (start size n : ℕ) where
@@ -32,58 +32,58 @@ module _ (m : List ℕ) (start size n : ℕ) where
   unfolding fitted
   fit-no h = simp (lt-leb _ _ h)
 
--- ---- content of each object
-module _ (S : Schema) (m : List ℕ) (start n : ℕ) where
-  pub text-short : length m < start + (n + 1) → Op.Refused 6 ≡ W.openContent u48 S m O.Text start n
-  unfolding W.openContent W.contentSize
-  text-short h = simp (lt-leb _ _ h)
+  pub fit-is : (S : Schema) (ob : Object) → size ≡ W.contentSize u48 S ob n → (r : Opened) → r ≡ fitted m start size n → r ≡ W.fitContent u48 S m ob start n
+  unfolding W.fitContent fitted
+  fit-is S ob e r f = f ∙ ap (λ (k : ℕ). fitted m start k n) e
 
-  module _ (h : start + (n + 1) ≤ length m) (x : ℕ) (e : x ≡ getD m (start + n) 0) where
-    pub text-good : x ≡ 0 → Op.Content start n ≡ W.openContent u48 S m O.Text start n
-    unfolding W.openContent W.contentSize W.endOk
-    text-good z = simp (le-leb _ _ h, ← e, eq-eqb _ _ z)
+-- ---- the bytes of each object's content
+module _ (S : Schema) (ob : Object) (n : ℕ) where
+  pub size-text : ob ≡ O.Text → (x : ℕ) → x ≡ n + 1 → x ≡ W.contentSize u48 S ob n
+  unfolding W.contentSize
+  size-text e x f = rw e f
 
-    pub text-bad : (x ≡ 0 → ⊥) → Op.Refused 10 ≡ W.openContent u48 S m O.Text start n
-    unfolding W.openContent W.contentSize W.endOk
-    text-bad z = simp (le-leb _ _ h, ← e, ne-eqb _ _ z)
+  pub size-bytes : ob ≡ O.Bytes → n ≡ W.contentSize u48 S ob n
+  unfolding W.contentSize
+  size-bytes e = rw e
 
-  module _ (r : Opened) where
-    pub bytes-fit : r ≡ fitted m start n n → r ≡ W.openContent u48 S m O.Bytes start n
-    unfolding W.openContent W.contentSize W.endOk fitted
-    bytes-fit e = e
+  pub size-list : (i j : ℕ) → ob ≡ O.List i → j ≡ i → (k : Kind) → k ≡ Sc.elementOf S j → (x : ℕ) → x ≡ T.elementsSize u48 S k n → x ≡ W.contentSize u48 S ob n
+  unfolding W.contentSize
+  size-list i j e ej k ek x ex = rw e (ex ∙ ap (λ (q : Kind). T.elementsSize u48 S q n) (ek ∙ ap (Sc.elementOf S) ej))
 
-    pub table-fit : (i : ℕ) → r ≡ fitted m start n n → r ≡ W.openContent u48 S m (O.Table i) start n
-    unfolding W.openContent W.contentSize W.endOk fitted
-    table-fit i e = e
+  pub size-table : (i : ℕ) → ob ≡ O.Table i → n ≡ W.contentSize u48 S ob n
+  unfolding W.contentSize
+  size-table i e = rw e
 
-    module _ (ob : Object) where
-      pub content-of-text : ob ≡ O.Text → r ≡ W.openContent u48 S m O.Text start n → r ≡ W.openContent u48 S m ob start n
-      content-of-text e f = rw e f
-
-      pub content-of-bytes : ob ≡ O.Bytes → r ≡ W.openContent u48 S m O.Bytes start n → r ≡ W.openContent u48 S m ob start n
-      content-of-bytes e f = rw e f
-
-      pub content-of-list : (i : ℕ) → ob ≡ O.List i → r ≡ W.openContent u48 S m (O.List i) start n → r ≡ W.openContent u48 S m ob start n
-      content-of-list i e f = rw e f
-
-      pub content-of-table : (i : ℕ) → ob ≡ O.Table i → r ≡ W.openContent u48 S m (O.Table i) start n → r ≡ W.openContent u48 S m ob start n
-      content-of-table i e f = rw e f
-
--- ---- a list by the place of its element
+-- ---- a list's element
 pub list-counted : (b : List ℕ) (i j : ℕ) → ObjectSound (P.parse b) (O.List i) → j ≡ i → j < P.listCount b
 list-counted b i j h e = rw e (list-index b i h)
 
-pub list-fit : (b m : List ℕ) (start n : ℕ) (r : Opened) (i j : ℕ) → j ≡ i → ObjectSound (P.parse b) (O.List i) → (at : ℕ) → at ≡ P.listPlace b j → (size : ℕ)
-    → size ≡ T.elementsSize u48 (P.parse b) (P.elementAt b at) n → r ≡ fitted m start size n → r ≡ W.openContent u48 (P.parse b) m (O.List i) start n
-unfolding W.openContent W.contentSize W.endOk fitted
-list-fit b m start n r i j ej h at ea size es e =
-    e ∙ ap (λ (q : ℕ). fitted m start q n) (es ∙ ap (λ (k : Kind). T.elementsSize u48 (P.parse b) k n) (list-kind b j at (list-counted b i j h ej) ea ∙ ap (Sc.elementOf (P.parse b)) ej))
+pub list-there : (b : List ℕ) (ob : Object) (i j : ℕ) → ObjectSound (P.parse b) ob → ob ≡ O.List i → j ≡ i → j < P.listCount b
+list-there b ob i j h e f = list-counted b i j (subst (ObjectSound (P.parse b)) e h) f
 
-pub scalar-of : (b dir : List ℕ) → Accepted b dir → (i j : ℕ) → j ≡ i → ObjectSound (P.parse b) (O.List i) → (at : ℕ) → at ≡ P.listPlace b j → NoStruct (P.elementAt b at)
-scalar-of b dir a i j ej h at ea = element-scalar b dir a j at (list-counted b i j h ej) ea
+pub element-sound : (b dir : List ℕ) → Accepted b dir → (i : ℕ) (k : Kind) → k ≡ Sc.elementOf (P.parse b) i → KindSound (P.parse b) k
+element-sound b dir a i k e = rw e (accepted-sound b dir a .lists i .kind)
 
-pub size-times : (w n : ℕ) → w ≤ 4096 → n < 2 ^ 48 → w * n ≤ 4096 * 2 ^ 48
-size-times w n h l = mul-le-mul h (le-of-lt l)
+-- ---- the bytes of content that fits
+pub text-end : (m : List ℕ) (start n x : ℕ) → x ≡ getD m (start + n) 0 → (r : Bool) → r ≡ eqb x 0 → r ≡ W.endOk m O.Text start n
+unfolding W.endOk
+text-end m start n x e r f = f ∙ ap (λ (y : ℕ). eqb y 0) e
 
-pub object-list : (S : Schema) (ob : Object) (i : ℕ) → ObjectSound S ob → ob ≡ O.List i → ObjectSound S (O.List i)
-object-list S ob i h e = subst (ObjectSound S) e h
+module _ (m : List ℕ) (ob : Object) (start n : ℕ) where
+  pub text-inside : EndInside m ob start n → ob ≡ O.Text → start + n < length m
+  text-inside h e = subst (λ (q : Object). EndInside m q start n) e h
+
+  pub end-text : ob ≡ O.Text → (r : Bool) → r ≡ W.endOk m O.Text start n → r ≡ W.endOk m ob start n
+  end-text e r f = rw e f
+
+  pub end-bytes : ob ≡ O.Bytes → true ≡ W.endOk m ob start n
+  unfolding W.endOk
+  end-bytes e = rw e
+
+  pub end-list : (i : ℕ) → ob ≡ O.List i → true ≡ W.endOk m ob start n
+  unfolding W.endOk
+  end-list i e = rw e
+
+  pub end-table : (i : ℕ) → ob ≡ O.Table i → true ≡ W.endOk m ob start n
+  unfolding W.endOk
+  end-table i e = rw e

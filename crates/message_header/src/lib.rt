@@ -1,4 +1,5 @@
-// Header readers of each object type, and the content that a header announces.
+// The header of each object type: its magic, its size, and the length that it gives; the content that a header announces, and
+// the test of its bytes.
 use coding::Object;
 use coding::Opened;
 ghost use mathlib.Core.Path.{_≡_};
@@ -6,34 +7,33 @@ ghost use Prim.Native.Nat.{_+_, _*_, _<_, _≤_, _^_};
 ghost use lib.ListN.{length};
 ghost use Rattle.coding.specs.Bytes as B;
 ghost use Rattle.coding.specs.Packed as P;
-ghost use Rattle.coding.specs.Step as T;
 ghost use Rattle.coding.specs.Walk as W;
-ghost use Rattle.laws.specs.Sound.{NoStruct, ObjectSound};
+ghost use Rattle.laws.specs.Sound.{ObjectSound};
 ghost use Rattle.schema.specs.Directory.{Accepted};
 ghost use Rattle.message_header.specs.Headers as Hs;
 
 // ---- headers
-// What a header reader finds: a refusal's number, or the length that the header gives.
+// What a header reader finds: a refusal's number, or where the content starts, and the length that the header gives.
 pub enum Header {
     Refused(u8),
-    Length(usize),
+    Content(usize, usize),
 }
 
-// A header of ten bytes: a magic and a length of six.
-fn read_header(m: &[u8], at: usize, magic: u64) -> Header
-    requires { ⌜ at < 2 ^ 48 ⌝ }
-    ensures { λ r. ⌜ (r ≡ Hs.headerOf B.u48 (now (m .entry)) magic at) × Hs.Small r ⌝ }
+// A header of `size` bytes: a magic, and behind it a length.
+fn read_header(m: &[u8], at: usize, magic: u64, size: usize) -> Header
+    requires { ⌜ (at < 2 ^ 48) × (10 ≤ size) × (size < 2 ^ 16) ⌝ }
+    ensures { λ r. ⌜ (r ≡ Hs.headerOf B.u48 magic size (now (m .entry)) at) × Hs.Small r ⌝ }
 {
-    if at < 10 {
+    if at < wire::START {
         return Header::Refused(6);
     }
-    if m.len() < at + 10 {
+    if m.len() < at + size {
         return Header::Refused(6);
     }
     if wire::u32_in(m, at) != magic {
         return Header::Refused(7);
     }
-    Header::Length(wire::u48_in(m, at + 4) as usize)
+    Header::Content(at + size, wire::offset_in(m, at + wire::MAGIC))
 }
 
 // Text: length bytes and one zero byte.
@@ -48,9 +48,9 @@ impl TextObject {
 
     pub fn header(m: &[u8], at: usize) -> Header
         requires { ⌜ at < 2 ^ 48 ⌝ }
-        ensures { λ r. ⌜ (r ≡ Hs.headerOf B.u48 (now (m .entry)) 0xD812C8F5 at) × Hs.Small r ⌝ }
+        ensures { λ r. ⌜ (r ≡ Hs.headerOf B.u48 0xD812C8F5 10 (now (m .entry)) at) × Hs.Small r ⌝ }
     {
-        read_header(m, at, TextObject::MAGIC)
+        read_header(m, at, TextObject::MAGIC, TextObject::HEADER)
     }
 }
 
@@ -66,9 +66,9 @@ impl BytesObject {
 
     pub fn header(m: &[u8], at: usize) -> Header
         requires { ⌜ at < 2 ^ 48 ⌝ }
-        ensures { λ r. ⌜ (r ≡ Hs.headerOf B.u48 (now (m .entry)) 0xDCDBBE10 at) × Hs.Small r ⌝ }
+        ensures { λ r. ⌜ (r ≡ Hs.headerOf B.u48 0xDCDBBE10 10 (now (m .entry)) at) × Hs.Small r ⌝ }
     {
-        read_header(m, at, BytesObject::MAGIC)
+        read_header(m, at, BytesObject::MAGIC, BytesObject::HEADER)
     }
 }
 
@@ -84,9 +84,9 @@ impl ListObject {
 
     pub fn header(m: &[u8], at: usize) -> Header
         requires { ⌜ at < 2 ^ 48 ⌝ }
-        ensures { λ r. ⌜ (r ≡ Hs.headerOf B.u48 (now (m .entry)) 0x3400BB46 at) × Hs.Small r ⌝ }
+        ensures { λ r. ⌜ (r ≡ Hs.headerOf B.u48 0x3400BB46 10 (now (m .entry)) at) × Hs.Small r ⌝ }
     {
-        read_header(m, at, ListObject::MAGIC)
+        read_header(m, at, ListObject::MAGIC, ListObject::HEADER)
     }
 }
 
@@ -100,15 +100,39 @@ impl TableObject {
 
     pub fn header(m: &[u8], at: usize, id: u64) -> Header
         requires { ⌜ at < 2 ^ 48 ⌝ }
-        ensures { λ r. ⌜ (r ≡ Hs.headerOf B.u48 (now (m .entry)) id at) × Hs.Small r ⌝ }
+        ensures { λ r. ⌜ (r ≡ Hs.headerOf B.u48 id 10 (now (m .entry)) at) × Hs.Small r ⌝ }
     {
-        read_header(m, at, id)
+        read_header(m, at, id, TableObject::HEADER)
     }
 }
 
 // ---- content
-// Content of `size` bytes and length n at `start`.
-fn fits(m: &[u8], start: usize, size: usize, n: usize) -> Opened
+// The bytes of a text's content: one zero byte stands behind it.
+pub fn text_size(n: usize) -> usize
+    requires { ⌜ n < 2 ^ 48 ⌝ }
+    ensures { λ r. ⌜ r ≡ n + 1 ⌝ }
+{
+    n + 1
+}
+
+// The bytes of an object's content of length n.
+fn content_size(b: &[u8], dir: &[u16], ob: Object, n: usize) -> usize
+    requires { ⌜ (Accepted (now b) (now dir)) × (ObjectSound (P.parse (now b)) ob) × (n < 2 ^ 48) ⌝ }
+    ensures { λ r. ⌜ (r ≡ W.contentSize B.u48 (P.parse (now (b .entry))) ob n) × (r < 2 ^ 61) ⌝ }
+{
+    match ob {
+        Object::Text => text_size(n),
+        Object::Bytes => n,
+        Object::List(i) => {
+            let k = schema::element(b, dir, wire::index(i));
+            message_layout::elements_size(b, dir, k, n)
+        }
+        Object::Table(_) => n,
+    }
+}
+
+// Content of `size` bytes and length n at `start`, if it fits.
+pub fn fits(m: &[u8], start: usize, size: usize, n: usize) -> Opened
     requires { ⌜ (start < 2 ^ 60) × (size < 2 ^ 61) ⌝ }
     ensures { λ r. ⌜ r ≡ Hs.fitted (now (m .entry)) start size n ⌝ }
 {
@@ -118,79 +142,32 @@ fn fits(m: &[u8], start: usize, size: usize, n: usize) -> Opened
     Opened::Refused(6)
 }
 
-pub fn text_content(b: &[u8], m: &[u8], start: usize, n: usize) -> Opened
-    requires { ⌜ (start < 2 ^ 60) × (n < 2 ^ 48) ⌝ }
-    ensures { λ r. ⌜ r ≡ W.openContent B.u48 (P.parse (now (b .entry))) (now (m .entry)) Object.Text start n ⌝ }
-{
-    if m.len() < start + (n + 1) {
-        return Opened::Refused(6);
-    }
-    if wire::byte_in(m, start + n) == 0 {
-        return Opened::Content(start, n);
-    }
-    Opened::Refused(10)
-}
-
-fn bytes_content(b: &[u8], m: &[u8], start: usize, n: usize) -> Opened
-    requires { ⌜ (start < 2 ^ 60) × (n < 2 ^ 48) ⌝ }
-    ensures { λ r. ⌜ r ≡ W.openContent B.u48 (P.parse (now (b .entry))) (now (m .entry)) Object.Bytes start n ⌝ }
-{
-    fits(m, start, n, n)
-}
-
-pub fn table_content(b: &[u8], m: &[u8], t: u8, start: usize, n: usize) -> Opened
-    requires { ⌜ (start < 2 ^ 60) × (n < 2 ^ 48) ⌝ }
-    ensures { λ r. ⌜ r ≡ W.openContent B.u48 (P.parse (now (b .entry))) (now (m .entry)) (Object.Table t) start n ⌝ }
-{
-    fits(m, start, n, n)
-}
-
-// The bytes of n elements of width w.
-fn times(w: usize, n: usize) -> usize
-    requires { ⌜ (w ≤ 4096) × (n < 2 ^ 48) ⌝ }
-    ensures { λ r. ⌜ (r ≡ w * n) × (r ≤ 4096 * 2 ^ 48) ⌝ }
-{
-    w * n
-}
-
-// The bytes of n elements of the record at `at`.
-fn elements_size(b: &[u8], at: usize, n: usize) -> usize
-    requires { ⌜ (at + 1 < length (now b)) × (NoStruct (P.elementAt (now b) at)) × (n < 2 ^ 48) ⌝ }
-    ensures { λ r. ⌜ (r ≡ T.elementsSize B.u48 (P.parse (now (b .entry))) (P.elementAt (now (b .entry)) at) n) × (r < 2 ^ 61) ⌝ }
-{
-    let k = schema::kind_at(b, at);
-    if k == 0 {
-        return (n + 7) / 8;
-    }
-    if k < 11 {
-        return times(wire::index(schema::width_of(k)), n);
-    }
-    if k == 11 {
-        return n;
-    }
-    if k < 17 {
-        return times(6, n);
-    }
-    times(8, n)
-}
-
-fn list_content(b: &[u8], dir: &[u16], m: &[u8], i: u8, start: usize, n: usize) -> Opened
-    requires { ⌜ (Accepted (now b) (now dir)) × (ObjectSound (P.parse (now b)) (Object.List i)) × (start < 2 ^ 60) × (n < 2 ^ 48) ⌝ }
-    ensures { λ r. ⌜ r ≡ W.openContent B.u48 (P.parse (now (b .entry))) (now (m .entry)) (Object.List i) start n ⌝ }
-{
-    let at = schema::list_place(b, dir, wire::index(i));
-    fits(m, start, elements_size(b, at, n), n)
-}
-
-// Content of length n at `start`.
-pub fn open_content(b: &[u8], dir: &[u16], m: &[u8], ob: Object, start: usize, n: usize) -> Opened
+// An object's content of length n at `start`, if it fits.
+pub fn fit_content(b: &[u8], dir: &[u16], m: &[u8], ob: Object, start: usize, n: usize) -> Opened
     requires { ⌜ (Accepted (now b) (now dir)) × (ObjectSound (P.parse (now b)) ob) × (start < 2 ^ 60) × (n < 2 ^ 48) ⌝ }
-    ensures { λ r. ⌜ r ≡ W.openContent B.u48 (P.parse (now (b .entry))) (now (m .entry)) ob start n ⌝ }
+    ensures { λ r. ⌜ r ≡ W.fitContent B.u48 (P.parse (now (b .entry))) (now (m .entry)) ob start n ⌝ }
+{
+    fits(m, start, content_size(b, dir, ob, n), n)
+}
+
+// ---- the bytes of content that fits
+// Whether a text of n bytes at `start` ends with its zero byte.
+fn text_ends(m: &[u8], start: usize, n: usize) -> bool
+    requires { ⌜ start + n < length (now m) ⌝ }
+    ensures { λ r. ⌜ r ≡ W.endOk (now (m .entry)) Object.Text start n ⌝ }
+{
+    wire::byte_in(m, start + n) == 0
+}
+
+// Whether the bytes of an object's content are right.
+pub fn end_ok(m: &[u8], ob: Object, start: usize, n: usize) -> bool
+    requires { ⌜ Hs.EndInside (now m) ob start n ⌝ }
+    ensures { λ r. ⌜ r ≡ W.endOk (now (m .entry)) ob start n ⌝ }
 {
     match ob {
-        Object::Text => text_content(b, m, start, n),
-        Object::Bytes => bytes_content(b, m, start, n),
-        Object::List(i) => list_content(b, dir, m, i, start, n),
-        Object::Table(t) => table_content(b, m, t, start, n),
+        Object::Text => text_ends(m, start, n),
+        Object::Bytes => true,
+        Object::List(_) => true,
+        Object::Table(_) => true,
     }
 }

@@ -1,5 +1,5 @@
 -- Where a value stands: the ways out.
-use mathlib.Core.Path.{_≡_, refl, sym, ap, _∙_}
+use mathlib.Core.Path.{_≡_, refl, sym, ap, ap₂, _∙_}
 use mathlib.Core.Bool.{Bool, true, false}
 use Prim.Native.Nat.{ℕ, _+_, _<_, _≤_}
 use native.Mathlib.Omega.{arith}
@@ -16,14 +16,25 @@ use Rattle.message_layout.specs.Bounds.{Laid, Stands}
 pub flag-first : (flag : Bool) (c r : Cursor) → flag ≡ true → r ≡ L.afterBit c → r ≡ pick flag (L.afterBit c) c
 flag-first flag c r e f = simp e f
 
+pub bit-slot-is : (c : Cursor) (at bit : ℕ) → at ≡ L.bitByte c → bit ≡ L.bitIndex c → record { at = at; bit = bit; size = 1 } ≡ L.bitSlot c
+unfolding L.bitSlot
+bit-slot-is c at bit ea eb = simp (ea, eb)
+
+module _ (c : Cursor) (w : ℕ) where
+  pub behind-bytes : record { end = c .end + w; byte = c .byte; bit = c .bit } ≡ L.afterBytes w c
+  unfolding L.afterBytes
+  behind-bytes = refl
+
+  pub behind-laid : c .byte ≤ c .end → c .bit ≤ 8 → Laid (c .end + w) (record { end = c .end + w; byte = c .byte; bit = c .bit })
+  behind-laid l h = record { end = omega arith; byte = omega arith; bit = h }
+
 module _ (S : Schema) (k : Kind) (c : Cursor) (t : Bool) (et : t ≡ L.isBool k) where
-  pub bool-stands : t ≡ true → (at bit : ℕ) (next : Cursor) → at ≡ L.bitByte c → at ≤ c .end → bit ≡ L.bitIndex c → bit < 8 → next ≡ L.afterBit c
-      → Laid (c .end + 1) next
-      → Stands (L.slotOf u48 S k c) (L.afterValue u48 S k c) (c .end) (record { at = at; bit = bit; size = 1 }) next
+  pub bool-stands : t ≡ true → (slot : Slot) (next : Cursor) → slot ≡ L.bitSlot c → slot .at ≤ c .end → slot .bit < 8 → slot .size ≡ 1 → next ≡ L.afterBit c
+      → Laid (c .end + 1) next → Stands (L.slotOf u48 S k c) (L.afterValue u48 S k c) (c .end) slot next
   unfolding L.slotOf L.afterValue
-  bool-stands f at bit next ea la eb lb en laid =
+  bool-stands f slot next es la lb ls en laid =
       record {
-        slot-is = simp (← et, f, ← ea, ← eb);
+        slot-is = simp (← et, f) es;
         next-is = simp (← et, f) en;
         at = la;
         bit = lb;
@@ -32,19 +43,18 @@ module _ (S : Schema) (k : Kind) (c : Cursor) (t : Bool) (et : t ≡ L.isBool k)
         laid = record { end = omega arith; byte = laid .byte; bit = laid .bit };
       }
 
-  pub bytes-stand : t ≡ false → (w : ℕ) → w ≡ L.width u48 S k → 0 < w → w ≤ 4096 → c .byte ≤ c .end → c .bit ≤ 8
-      → Stands (L.slotOf u48 S k c) (L.afterValue u48 S k c) (c .end) (record { at = c .end; bit = 0; size = w })
-      (record { end = c .end + w; byte = c .byte; bit = c .bit })
-  unfolding L.slotOf L.afterValue L.afterBytes
-  bytes-stand f w ew some small lb li =
+  pub bytes-stand : t ≡ false → (w : ℕ) → w ≡ L.width u48 S k → 0 < w → w ≤ 4096 → (next : Cursor) → next ≡ L.afterBytes w c → Laid (c .end + w) next
+      → Stands (L.slotOf u48 S k c) (L.afterValue u48 S k c) (c .end) (record { at = c .end; bit = 0; size = w }) next
+  unfolding L.slotOf L.afterValue
+  bytes-stand f w ew some small next en laid =
       record {
         slot-is = simp (← et, f, ← ew);
-        next-is = simp (← et, f, ← ew);
+        next-is = simp (← et, f, ← ew) en;
         at = omega arith;
         bit = omega arith;
         some = some;
         size = small;
-        laid = record { end = omega arith; byte = omega arith; bit = li };
+        laid = record { end = omega arith; byte = laid .byte; bit = laid .bit };
       }
 
 -- a member's value behind its flag
@@ -66,3 +76,12 @@ member-stands S r c f t et ef laid s n h =
       size = h .size;
       laid = record { end = omega arith; byte = q .byte; bit = q .bit };
     }
+
+-- a member's value and its flag
+pub placement-is : (S : Schema) (r : Member) (c f : Cursor) (t : Bool) → t ≡ L.hasFlag r → f ≡ pick t (L.afterBit c) c → (value flag : Slot) (n : Cursor)
+    → Stands (L.slotOf u48 S (r .kind) f) (L.afterValue u48 S (r .kind) f) (f .end) value n → flag ≡ L.bitSlot c
+    → record { value = value; flag = flag } ≡ L.placementOf u48 S r c
+unfolding L.placementOf L.memberSlot L.afterFlag
+placement-is S r c f t et ef value flag n h eg =
+    let e : f ≡ pick (L.hasFlag r) (L.afterBit c) c = ef ∙ ap (λ (u : Bool). pick u (L.afterBit c) c) et in
+    ap₂ (λ (x y : Slot). record { value = x; flag = y }) (h .slot-is ∙ ap (L.slotOf u48 S (r .kind)) e) eg

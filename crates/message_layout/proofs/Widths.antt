@@ -3,7 +3,8 @@ use mathlib.Core.Path.{_≡_, refl, sym, ap, _∙_, subst}
 use mathlib.Core.Bool.{Bool, true, false}
 use mathlib.Core.List.{List}
 use mathlib.Core.Logic.{_⊎_, ⊎-elim}
-use Prim.Native.Nat.{ℕ, _<_, _≤_}
+use Prim.Native.Nat.{ℕ, _+_, _*_, _/_, _<_, _≤_}
+use native.Mathlib.Nat.{mul-le-mul-right}
 use native.Mathlib.Omega.{arith}
 use lib.ListN.{length}
 use Rattle.coding.specs.Bytes.{u48}
@@ -11,6 +12,7 @@ use Rattle.coding.specs.Schema.{Schema}
 use Rattle.coding.specs.Structs.{flatWidth, structSize}
 use Rattle.coding.specs.Packed as P
 use Rattle.coding.specs.Layout as L
+use Rattle.coding.specs.Step as T
 use Rattle.coding.specs.declared.Flat.{Flat}
 use Rattle.coding.specs.declared.Flat.the-variants.{Boolean, Integer, Float, Enumerated, Struct}
 use Rattle.coding.specs.declared.Object.{Object}
@@ -86,3 +88,16 @@ module _ (S : Schema) (k : Kind) where
 
 pub member-kind : (S : Schema) (r : Member) → MemberSound S r → KindSound S (r .kind)
 member-kind S r h = h .kind
+
+-- ---- elements
+pub times-small : (w n : ℕ) → w ≤ 4096 → w * n ≤ 4096 * n
+times-small w n h = mul-le-mul-right n h
+
+module _ (S : Schema) (k : Kind) (n : ℕ) (t : Bool) (et : t ≡ L.isBool k) where
+  pub size-bool : t ≡ true → (n + 7) / 8 ≡ T.elementsSize u48 S k n
+  unfolding T.elementsSize
+  size-bool f = simp (← et, f)
+
+  pub size-other : t ≡ false → (w : ℕ) → w ≡ L.width u48 S k → (x : ℕ) → x ≡ w * n → x ≡ T.elementsSize u48 S k n
+  unfolding T.elementsSize
+  size-other f w ew x ex = simp (← et, f, ← ew) ex

@@ -3,6 +3,7 @@ use coding::Cursor;
 use coding::Flat;
 use coding::Kind;
 use coding::Member;
+use coding::Placement;
 use coding::Slot;
 ghost use mathlib.Core.Path.{_≡_};
 ghost use Prim.Native.Nat.{ℕ, _+_, _-_, _*_, _<_, _≤_, _^_};
@@ -11,6 +12,7 @@ ghost use Rattle.coding.specs.Bytes as B;
 ghost use Rattle.coding.specs.Layout as L;
 ghost use Rattle.coding.specs.Lists.{pick};
 ghost use Rattle.coding.specs.Packed as P;
+ghost use Rattle.coding.specs.Step as T;
 ghost use Rattle.coding.specs.Structs as S;
 ghost use Rattle.laws.specs.Sound.{FlatSound, KindSound, MemberSound};
 ghost use Rattle.message_layout.specs.Bounds.{Laid, Stands};
@@ -37,12 +39,24 @@ pub fn bit_byte(c: Cursor) -> usize
     if c.bit < 8 { byte } else { end }
 }
 
-// Its bit there.
+// The bit of that byte that the next bool takes.
 pub fn bit_index(c: Cursor) -> usize
     ensures { λ r. ⌜ (r ≡ L.bitIndex c) × (r < 8) ⌝ }
 {
     let bit = c.bit;
     if bit < 8 { bit } else { 0 }
+}
+
+// Where the next bool stands, or the next flag.
+pub fn bit_slot(c: Cursor) -> Slot
+    requires { ⌜ c .byte ≤ c .end ⌝ }
+    ensures { λ r. ⌜ (r ≡ L.bitSlot c) × (r .at ≤ c .end) × (r .bit < 8) × (r .size ≡ 1) ⌝ }
+{
+    Slot {
+        at: bit_byte(c),
+        bit: bit_index(c),
+        size: 1,
+    }
 }
 
 // Behind the next bool.
@@ -68,6 +82,19 @@ pub fn after_bit(c: Cursor) -> Cursor
     }
 }
 
+// Behind w bytes more; the last bool byte stays the same.
+pub fn after_bytes(c: Cursor, w: usize) -> Cursor
+    requires { ⌜ (c .byte ≤ c .end) × (c .bit ≤ 8) × (c .end < 2 ^ 60) × (w ≤ 4096) ⌝ }
+    ensures { λ r. ⌜ (r ≡ L.afterBytes w c) × Laid (c .end + w) r ⌝ }
+{
+    let end = c.end;
+    Cursor {
+        end: end + w,
+        byte: c.byte,
+        bit: c.bit,
+    }
+}
+
 // Whether the kind is a bool, which takes a bit and no bytes of its own.
 pub fn is_bool(k: Kind) -> bool
     ensures { λ r. ⌜ r ≡ L.isBool k ⌝ }
@@ -85,6 +112,7 @@ pub fn is_bool(k: Kind) -> bool
     }
 }
 
+// Whether an optional member of the kind has a flag.
 fn takes_flag(k: Kind) -> bool
     ensures { λ r. ⌜ r ≡ L.takesFlag k ⌝ }
 {
@@ -134,15 +162,40 @@ pub fn width(b: &[u8], dir: &[u16], k: Kind) -> usize
 {
     match k {
         Kind::OfFlat(f) => flat_width(b, dir, f),
-        Kind::OfObject(_) => 6,
-        Kind::OfUnion(_) => 8,
+        Kind::OfObject(_) => wire::OFFSET,
+        Kind::OfUnion(_) => wire::UNION,
     }
+}
+
+// The bytes of n values of w bytes each.
+pub fn times(w: usize, n: usize) -> usize
+    requires { ⌜ (w ≤ 4096) × (n < 2 ^ 48) ⌝ }
+    ensures { λ r. ⌜ (r ≡ w * n) × (r ≤ 4096 * n) ⌝ }
+{
+    w * n
+}
+
+// The bytes of a list's n elements of kind k.
+pub fn elements_size(b: &[u8], dir: &[u16], k: Kind, n: usize) -> usize
+    requires { ⌜ (Accepted (now b) (now dir)) × (KindSound (P.parse (now b)) k) × (n < 2 ^ 48) ⌝ }
+    ensures { λ r. ⌜ (r ≡ T.elementsSize B.u48 (P.parse (now (b .entry))) k n) × (r ≤ 4096 * n) ⌝ }
+{
+    if is_bool(k) {
+        return (n + 7) / 8;
+    }
+    times(width(b, dir, k), n)
 }
 
 // ---- members
 // Where a value stands in its fixed part, and the cursor behind it.
-pub struct Placement {
-    pub slot: Slot,
+struct PlacedValue {
+    slot: Slot,
+    next: Cursor,
+}
+
+// Where a member stands in its fixed part, and the cursor behind it.
+pub struct Placed {
+    pub placement: Placement,
     pub next: Cursor,
 }
 
@@ -157,48 +210,45 @@ fn after_flag(flag: bool, c: Cursor) -> Cursor
     c
 }
 
-// A value that comes next.
-fn place_value(b: &[u8], dir: &[u16], k: Kind, c: Cursor) -> Placement
+// The value that comes next.
+fn place_value(b: &[u8], dir: &[u16], k: Kind, c: Cursor) -> PlacedValue
     requires { ⌜ (Accepted (now b) (now dir)) × KindSound (P.parse (now b)) k ⌝ }
     requires { ⌜ (c .byte ≤ c .end) × (c .bit ≤ 8) × (c .end < 2 ^ 59) ⌝ }
     ensures { λ r. ⌜ Stands (L.slotOf B.u48 (P.parse (now (b .entry))) k c) (L.afterValue B.u48 (P.parse (now (b .entry))) k c) (c .end) (r .slot) (r .next) ⌝ }
 {
     if is_bool(k) {
         let next = after_bit(c);
-        let slot = Slot {
-            at: bit_byte(c),
-            bit: bit_index(c),
-            size: 1,
-        };
-        return Placement { slot, next };
+        let slot = bit_slot(c);
+        return PlacedValue { slot, next };
     }
     let w = width(b, dir, k);
-    let end = c.end;
     let slot = Slot {
-        at: end,
+        at: c.end,
         bit: 0,
         size: w,
     };
-    let next = Cursor {
-        end: end + w,
-        byte: c.byte,
-        bit: c.bit,
-    };
-    Placement { slot, next }
+    let next = after_bytes(c, w);
+    PlacedValue { slot, next }
 }
 
-// A member: its flag, if it has one, and then its value.
-pub fn place_member(b: &[u8], dir: &[u16], r: Member, c: Cursor) -> Placement
+// The member that comes next: its flag, if it has one, and then its value.
+pub fn place_member(b: &[u8], dir: &[u16], r: Member, c: Cursor) -> Placed
     requires { ⌜ (Accepted (now b) (now dir)) × MemberSound (P.parse (now b)) r ⌝ }
     requires { ⌜ (c .byte ≤ c .end) × (c .bit ≤ 8) × (c .end < 2 ^ 58) ⌝ }
-    ensures { λ q. ⌜ Stands (L.memberSlot B.u48 (P.parse (now (b .entry))) r c) (L.afterMember B.u48 (P.parse (now (b .entry))) r c) (c .end + 1) (q .slot) (q .next) ⌝ }
+    ensures { λ q. ⌜ (q .placement ≡ L.placementOf B.u48 (P.parse (now (b .entry))) r c) × (Stands (L.memberSlot B.u48 (P.parse (now (b .entry))) r c) (L.afterMember B.u48 (P.parse (now (b .entry))) r c) (c .end + 1) (q .placement .value) (q .next)) × (q .placement .flag .at ≤ c .end) × (q .placement .flag .bit < 8) ⌝ }
 {
     let k = r.kind;
+    let flag = bit_slot(c);
     let f = after_flag(has_flag(r), c);
-    place_value(b, dir, k, f)
+    let v = place_value(b, dir, k, f);
+    let value = v.slot;
+    let next = v.next;
+    let placement = Placement { value, flag };
+    Placed { placement, next }
 }
 
 // ---- struct booleans, by recursion on the struct index, which falls at every inner struct
+// Whether each bool of a struct's member at a place is a byte 0 or 1.
 fn field_ok(b: &[u8], dir: &[u16], m: &[u8], i: usize, k: Flat, at: usize) -> bool
     requires { ⌜ (Accepted (now b) (now dir)) × (FlatSound i k) × (i < P.structCount (now b)) ⌝ }
     requires { ⌜ at + S.flatWidth (S.structSize (P.parse (now b))) k ≤ length (now m) ⌝ }
@@ -220,7 +270,7 @@ pub fn struct_ok(b: &[u8], dir: &[u16], m: &[u8], i: usize, at: usize) -> bool
     ensures { λ r. ⌜ r ≡ S.structOk (P.parse (now (b .entry))) (now (m .entry)) i at ⌝ }
 {
     let s = schema::representative(b, dir, i);
-    if s == 65535 {
+    if s == schema::NO_BOOL {
         return true;
     }
     let n = schema::field_count(b, dir, s);

@@ -1,2 +1,2 @@
+-- Lemmas for the proofs of this crate.
 pub mod OpenCases
-pub mod StartCases

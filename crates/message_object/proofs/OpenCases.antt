@@ -1,4 +1,4 @@
--- The ways out of opening an object: its header, and its content.
+-- The ways out of opening an object: its header, its content, and the test of its bytes.
 use mathlib.Core.Path.{_≡_, refl, sym, ap, _∙_, subst}
 use mathlib.Core.Bool.{Bool, true, false, _&&_}
 use mathlib.Core.List.{List}
@@ -27,113 +27,189 @@ use Rattle.message_step.specs.Lead.{PlaceSmall}
 use Rattle.coding.specs.declared.Member.{Member}
 use Rattle.message_header.specs.declared.Header.{Header}
 use Rattle.message_header.specs.declared.Header.the-variants as Hd
-use Rattle.message_header.specs.Headers.{headerOf, Small}
-use Rattle.message_header.proofs.ContentCases.{list-counted}
+use Rattle.message_header.specs.Headers.{headerOf, fitted, Small, EndInside}
+use Rattle.message_header.proofs.ContentCases.{list-there, fit-is, size-text, size-table}
+use Rattle.message_object.specs.Fit.{announced, EndsInside}
 
 -- ---- the header of each object
 module _ (S : Schema) (m : List ℕ) (ob : Object) (x : ℕ) (r : Header) where
-  pub header-text : ob ≡ O.Text → r ≡ headerOf u48 m 0xD812C8F5 x → r ≡ headerOf u48 m (W.magic S ob) x
-  unfolding W.magic
+  pub header-text : ob ≡ O.Text → r ≡ headerOf u48 0xD812C8F5 10 m x → r ≡ headerOf u48 (W.magic S ob) (W.headerSize u48) m x
+  unfolding W.magic W.headerSize u48
   header-text e f = rw e f
 
-  pub header-bytes : ob ≡ O.Bytes → r ≡ headerOf u48 m 0xDCDBBE10 x → r ≡ headerOf u48 m (W.magic S ob) x
-  unfolding W.magic
+  pub header-bytes : ob ≡ O.Bytes → r ≡ headerOf u48 0xDCDBBE10 10 m x → r ≡ headerOf u48 (W.magic S ob) (W.headerSize u48) m x
+  unfolding W.magic W.headerSize u48
   header-bytes e f = rw e f
 
-  pub header-list : (i : ℕ) → ob ≡ O.List i → r ≡ headerOf u48 m 0x3400BB46 x → r ≡ headerOf u48 m (W.magic S ob) x
-  unfolding W.magic
+  pub header-list : (i : ℕ) → ob ≡ O.List i → r ≡ headerOf u48 0x3400BB46 10 m x → r ≡ headerOf u48 (W.magic S ob) (W.headerSize u48) m x
+  unfolding W.magic W.headerSize u48
   header-list i e f = rw e f
 
-  pub header-table : (i j id : ℕ) → ob ≡ O.Table i → j ≡ i → id ≡ Sc.tableOf S j .id → r ≡ headerOf u48 m id x → r ≡ headerOf u48 m (W.magic S ob) x
-  unfolding W.magic
-  header-table i j id e ej q f = f ∙ ap (λ (k : ℕ). headerOf u48 m k x) (q ∙ ap (λ (k : ℕ). Sc.tableOf S k .id) ej) ∙ ap (λ (o : Object). headerOf u48 m (W.magic S o) x) (sym e)
+  pub header-table : (i j id : ℕ) → ob ≡ O.Table i → j ≡ i → id ≡ Sc.tableOf S j .id → r ≡ headerOf u48 id 10 m x
+      → r ≡ headerOf u48 (W.magic S ob) (W.headerSize u48) m x
+  unfolding W.magic W.headerSize u48
+  header-table i j id e ej q f =
+      f ∙ ap (λ (k : ℕ). headerOf u48 k 10 m x) (q ∙ ap (λ (k : ℕ). Sc.tableOf S k .id) ej) ∙ ap (λ (o : Object). headerOf u48 (W.magic S o) 10 m x) (sym e)
 
-pub small-length : (g : Header) (n : ℕ) → Small g → g ≡ Hd.Length n → n < 2 ^ 48
-small-length (Hd.Refused k) n s e = let z : _≡_ {A = ℕ} 0 1 = cc in absurd (omega arith)
-small-length (Hd.Length k) n s e = let q : k ≡ n = cc in omega arith
+module _ (g : Header) (start n : ℕ) (small : Small g) (e : g ≡ Hd.Content start n) where
+  pub small-start : start < 2 ^ 60
+  small-start = subst Small e small .0
+
+  pub small-length : n < 2 ^ 48
+  small-length = subst Small e small .1
+
+  pub small-size : n < 2 ^ 61
+  small-size = let h = small-length in omega arith
+
+  pub small-text : (size : ℕ) → size ≡ n + 1 → size < 2 ^ 61
+  small-text size f = let h = small-length in omega arith
 
 -- ---- an object by its offset, and in place
--- what a header opens
-abbrev opens : Schema → List ℕ → Object → ℕ → Header → Opened
-opens S m ob x (Hd.Refused n) = Op.Refused n
-opens S m ob x (Hd.Length n) = W.openContent u48 S m ob (x + W.headerSize u48) n
-
-by-header : (S : Schema) (m : List ℕ) (ob : Object) (x : ℕ) → opens S m ob x (headerOf u48 m (W.magic S ob) x) ≡ W.openObject u48 S m ob (ByOffset x)
-unfolding W.openObject headerOf
+by-header : (S : Schema) (m : List ℕ) (ob : Object) (x : ℕ)
+    → announced u48 S m ob (headerOf u48 (W.magic S ob) (W.headerSize u48) m x) ≡ W.fitObject u48 S m ob (ByOffset x)
+unfolding W.fitObject headerOf
 by-header S m ob x =
-    by (leb (W.headerSize u48) x && leb (x + W.headerSize u48) (length m)) (eqb (le m x 4) (W.magic S ob))
+    by (leb (W.startSize u48) x && leb (x + W.headerSize u48) (length m)) (eqb (le m x 4) (W.magic S ob))
   where
     by : (t u : Bool)
-        → opens S m ob x (pick t (pick u (Hd.Length (le m (x + 4) u48)) (Hd.Refused 7)) (Hd.Refused 6))
-        ≡ pick t (pick u (W.openContent u48 S m ob (x + W.headerSize u48) (le m (x + 4) u48)) (Op.Refused 7)) (Op.Refused 6)
+        → announced u48 S m ob (pick t (pick u (Hd.Content (x + W.headerSize u48) (le m (x + 4) u48)) (Hd.Refused 7)) (Hd.Refused 6))
+        ≡ pick t (pick u (W.fitContent u48 S m ob (x + W.headerSize u48) (le m (x + 4) u48)) (Op.Refused 7)) (Op.Refused 6)
     by true true = refl
     by true false = refl
     by false u = refl
 
-ten : (x : ℕ) → x + W.headerSize u48 ≡ x + 10
-unfolding W.headerSize u48
-ten x = refl
-
 module _ (S : Schema) (m : List ℕ) (ob : Object) (p : Place) where
-  module _ (x : ℕ) (e : p ≡ ByOffset x) (g : Header) (eg : g ≡ headerOf u48 m (W.magic S ob) x) where
-    pub open-refused : (n : ℕ) → g ≡ Hd.Refused n → Op.Refused n ≡ W.openObject u48 S m ob p
-    open-refused n f = sym (ap (opens S m ob x) f) ∙ ap (opens S m ob x) eg ∙ by-header S m ob x ∙ ap (W.openObject u48 S m ob) (sym e)
+  module _ (x : ℕ) (e : p ≡ ByOffset x) (g : Header) (eg : g ≡ headerOf u48 (W.magic S ob) (W.headerSize u48) m x) where
+    pub announced-is : announced u48 S m ob g ≡ W.fitObject u48 S m ob p
+    announced-is = ap (announced u48 S m ob) eg ∙ by-header S m ob x ∙ ap (W.fitObject u48 S m ob) (sym e)
 
-    pub open-offset : (n : ℕ) (r : Opened) → g ≡ Hd.Length n → r ≡ W.openContent u48 S m ob (x + 10) n → r ≡ W.openObject u48 S m ob p
-    open-offset n r f q =
-        q ∙ ap (λ (k : ℕ). W.openContent u48 S m ob k n) (sym (ten x))
-        ∙ sym (ap (opens S m ob x) f) ∙ ap (opens S m ob x) eg ∙ by-header S m ob x ∙ ap (W.openObject u48 S m ob) (sym e)
+    pub fit-refused : (n : ℕ) → g ≡ Hd.Refused n → Op.Refused n ≡ W.fitObject u48 S m ob p
+    fit-refused n f = sym (ap (announced u48 S m ob) f) ∙ announced-is
 
-  pub open-inplace : (a n : ℕ) (r : Opened) → p ≡ InPlace a n → r ≡ W.openContent u48 S m ob a n → r ≡ W.openObject u48 S m ob p
-  unfolding W.openObject
-  open-inplace a n r e q = rw e q
+    pub fit-offset : (start n : ℕ) (r : Opened) → g ≡ Hd.Content start n → r ≡ W.fitContent u48 S m ob start n → r ≡ W.fitObject u48 S m ob p
+    fit-offset start n r f q = q ∙ sym (ap (announced u48 S m ob) f) ∙ announced-is
+
+  pub announced-inplace : (a n : ℕ) → p ≡ InPlace a n → W.fitContent u48 S m ob a n ≡ W.fitObject u48 S m ob p
+  unfolding W.fitObject
+  announced-inplace a n e = rw e
+
+  module _ (g : Header) (eg : announced u48 S m ob g ≡ W.fitObject u48 S m ob p) where
+    pub placed-refused : (n : ℕ) → g ≡ Hd.Refused n → Op.Refused n ≡ W.fitObject u48 S m ob p
+    placed-refused n f = sym (ap (announced u48 S m ob) f) ∙ eg
+
+    pub placed-fit : (start n : ℕ) (r : Opened) → g ≡ Hd.Content start n → r ≡ W.fitContent u48 S m ob start n → r ≡ W.fitObject u48 S m ob p
+    placed-fit start n r f q = q ∙ sym (ap (announced u48 S m ob) f) ∙ eg
 
 -- a text by its offset
-module _ (S : Schema) (m : List ℕ) (x : ℕ) (g : Header) (eg : g ≡ headerOf u48 m 0xD812C8F5 x) where
-  pub text-header-refused : (n : ℕ) → g ≡ Hd.Refused n → Op.Refused n ≡ W.openObject u48 S m O.Text (ByOffset x)
-  text-header-refused n f = open-refused S m O.Text (ByOffset x) x refl g (header-text S m O.Text x g refl eg) n f
+module _ (S : Schema) (m : List ℕ) (x : ℕ) (g : Header) (eg : g ≡ headerOf u48 0xD812C8F5 10 m x) where
+  pub text-header-refused : (n : ℕ) → g ≡ Hd.Refused n → Op.Refused n ≡ W.fitObject u48 S m O.Text (ByOffset x)
+  text-header-refused n f = fit-refused S m O.Text (ByOffset x) x refl g (header-text S m O.Text x g refl eg) n f
 
-  pub text-header-length : (n : ℕ) (r : Opened) → g ≡ Hd.Length n → r ≡ W.openContent u48 S m O.Text (x + 10) n → r ≡ W.openObject u48 S m O.Text (ByOffset x)
-  text-header-length n r f q = open-offset S m O.Text (ByOffset x) x refl g (header-text S m O.Text x g refl eg) n r f q
+  pub text-header-fit : (start n size : ℕ) (r : Opened) → g ≡ Hd.Content start n → size ≡ n + 1 → r ≡ fitted m start size n
+      → r ≡ W.fitObject u48 S m O.Text (ByOffset x)
+  text-header-fit start n size r f e q =
+      fit-offset S m O.Text (ByOffset x) x refl g (header-text S m O.Text x g refl eg) start n r f
+      (fit-is m start size n S O.Text (size-text S O.Text n refl size e) r q)
 
 -- a table by its offset
-module _ (S : Schema) (m : List ℕ) (t id x : ℕ) (ei : id ≡ Sc.tableOf S t .id) (g : Header) (eg : g ≡ headerOf u48 m id x) where
-  pub table-header-refused : (n : ℕ) → g ≡ Hd.Refused n → Op.Refused n ≡ W.openObject u48 S m (O.Table t) (ByOffset x)
-  table-header-refused n f = open-refused S m (O.Table t) (ByOffset x) x refl g (header-table S m (O.Table t) x g t t id refl refl ei eg) n f
+module _ (S : Schema) (m : List ℕ) (t id x : ℕ) (ei : id ≡ Sc.tableOf S t .id) (g : Header) (eg : g ≡ headerOf u48 id 10 m x) where
+  pub table-header-refused : (n : ℕ) → g ≡ Hd.Refused n → Op.Refused n ≡ W.fitObject u48 S m (O.Table t) (ByOffset x)
+  table-header-refused n f = fit-refused S m (O.Table t) (ByOffset x) x refl g (header-table S m (O.Table t) x g t t id refl refl ei eg) n f
 
-  pub table-header-length : (n : ℕ) (r : Opened) → g ≡ Hd.Length n → r ≡ W.openContent u48 S m (O.Table t) (x + 10) n
-      → r ≡ W.openObject u48 S m (O.Table t) (ByOffset x)
-  table-header-length n r f q = open-offset S m (O.Table t) (ByOffset x) x refl g (header-table S m (O.Table t) x g t t id refl refl ei eg) n r f q
+  pub table-header-fit : (start n : ℕ) (r : Opened) → g ≡ Hd.Content start n → r ≡ fitted m start n n → r ≡ W.fitObject u48 S m (O.Table t) (ByOffset x)
+  table-header-fit start n r f q =
+      fit-offset S m (O.Table t) (ByOffset x) x refl g (header-table S m (O.Table t) x g t t id refl refl ei eg) start n r f
+      (fit-is m start n n S (O.Table t) (size-table S (O.Table t) n t refl) r q)
 
--- ---- content that is opened lies within the message
-content-fits : (S : Schema) (m : List ℕ) (ob : Object) (a k start n : ℕ) → W.openContent u48 S m ob a k ≡ Op.Content start n
-    → (start + W.contentSize u48 S ob n ≤ length m) × (n ≡ k)
-unfolding W.openContent
-content-fits S m ob a k start n e = by (leb (a + W.contentSize u48 S ob k) (length m)) (W.endOk m ob a k) refl e
+-- ---- the bytes of content that fits
+module _ (m : List ℕ) (ob : Object) (fit : Opened) where
+  pub tested-refused : (n : ℕ) → fit ≡ Op.Refused n → Op.Refused n ≡ W.bytesTested m ob fit
+  unfolding W.bytesTested
+  tested-refused n e = rw e
+
+  module _ (start n : ℕ) (e : fit ≡ Op.Content start n) (t : Bool) (et : t ≡ W.endOk m ob start n) where
+    pub tested-good : t ≡ true → Op.Content start n ≡ W.bytesTested m ob fit
+    unfolding W.bytesTested
+    tested-good f = rw e (simp (← et, f))
+
+    pub tested-bad : t ≡ false → Op.Refused 10 ≡ W.bytesTested m ob fit
+    unfolding W.bytesTested
+    tested-bad f = rw e (simp (← et, f))
+
+  pub end-inside : (start n : ℕ) → EndsInside m ob fit → fit ≡ Op.Content start n → EndInside m ob start n
+  end-inside start n h e = subst (EndsInside m ob) e h
+
+pub opened-is : (S : Schema) (m : List ℕ) (ob : Object) (p : Place) (fit r : Opened) → fit ≡ W.fitObject u48 S m ob p → r ≡ W.bytesTested m ob fit
+    → r ≡ W.openObject u48 S m ob p
+unfolding W.openObject
+opened-is S m ob p fit r e f = f ∙ ap (W.bytesTested m ob) e
+
+-- of a table's bytes nothing is tested
+table-untested : (m : List ℕ) (t : ℕ) (fit : Opened) → W.bytesTested m (O.Table t) fit ≡ fit
+unfolding W.bytesTested W.endOk
+table-untested m t (Op.Refused n) = refl
+table-untested m t (Op.Content start n) = refl
+
+pub table-opened-is : (S : Schema) (m : List ℕ) (t x : ℕ) (r : Opened) → r ≡ W.fitObject u48 S m (O.Table t) (ByOffset x)
+    → r ≡ W.openObject u48 S m (O.Table t) (ByOffset x)
+table-opened-is S m t x r e = opened-is S m (O.Table t) (ByOffset x) r r e (sym (table-untested m t r))
+
+-- ---- content that fits lies within the message
+content-fits : (S : Schema) (m : List ℕ) (ob : Object) (a k start n : ℕ) → W.fitContent u48 S m ob a k ≡ Op.Content start n
+    → start + W.contentSize u48 S ob n ≤ length m
+unfolding W.fitContent
+content-fits S m ob a k start n e = by (leb (a + W.contentSize u48 S ob k) (length m)) refl e
   where
-    by : (t u : Bool) → leb (a + W.contentSize u48 S ob k) (length m) ≡ t → pick t (pick u (Op.Content a k) (Op.Refused 10)) (Op.Refused 6) ≡ Op.Content start n
-        → (start + W.contentSize u48 S ob n ≤ length m) × (n ≡ k)
-    by true true l f =
+    by : (t : Bool) → leb (a + W.contentSize u48 S ob k) (length m) ≡ t → pick t (Op.Content a k) (Op.Refused 6) ≡ Op.Content start n
+        → start + W.contentSize u48 S ob n ≤ length m
+    by true l f =
         let p : a ≡ start = cc in
         let q : k ≡ n = cc in
-        (subst (λ (x : ℕ). x + W.contentSize u48 S ob n ≤ length m) p (subst (λ (x : ℕ). a + W.contentSize u48 S ob x ≤ length m) q (leb-true _ _ l)), sym q)
-    by true false l f = let z : _≡_ {A = ℕ} 0 1 = cc in absurd (omega arith)
-    by false u l f = let z : _≡_ {A = ℕ} 0 1 = cc in absurd (omega arith)
+        subst (λ (x : ℕ). x + W.contentSize u48 S ob n ≤ length m) p (subst (λ (x : ℕ). a + W.contentSize u48 S ob x ≤ length m) q (leb-true _ _ l))
+    by false l f = let z : _≡_ {A = ℕ} 0 1 = cc in absurd (omega arith)
 
-opens-fits : (S : Schema) (m : List ℕ) (ob : Object) (x start n : ℕ) (g : Header) → opens S m ob x g ≡ Op.Content start n
+announced-fits : (S : Schema) (m : List ℕ) (ob : Object) (start n : ℕ) (g : Header) → announced u48 S m ob g ≡ Op.Content start n
     → start + W.contentSize u48 S ob n ≤ length m
-opens-fits S m ob x start n (Hd.Refused k) e = let z : _≡_ {A = ℕ} 0 1 = cc in absurd (omega arith)
-opens-fits S m ob x start n (Hd.Length k) e = content-fits S m ob (x + W.headerSize u48) k start n e .0
+announced-fits S m ob start n (Hd.Refused k) e = let z : _≡_ {A = ℕ} 0 1 = cc in absurd (omega arith)
+announced-fits S m ob start n (Hd.Content a k) e = content-fits S m ob a k start n e
 
-object-fits : (S : Schema) (m : List ℕ) (ob : Object) (p : Place) (start n : ℕ) → W.openObject u48 S m ob p ≡ Op.Content start n
+object-fits : (S : Schema) (m : List ℕ) (ob : Object) (p : Place) (start n : ℕ) → W.fitObject u48 S m ob p ≡ Op.Content start n
     → start + W.contentSize u48 S ob n ≤ length m
-unfolding W.openObject
-object-fits S m ob (ByOffset x) start n e = opens-fits S m ob x start n (headerOf u48 m (W.magic S ob) x) (by-header S m ob x ∙ e)
-object-fits S m ob (InPlace a k) start n e = content-fits S m ob a k start n e .0
+unfolding W.fitObject
+object-fits S m ob (ByOffset x) start n e =
+    announced-fits S m ob start n (headerOf u48 (W.magic S ob) (W.headerSize u48) m x) (by-header S m ob x ∙ e)
+object-fits S m ob (InPlace a k) start n e = content-fits S m ob a k start n e
+
+pub fit-fits : (S : Schema) (m : List ℕ) (ob : Object) (p : Place) (g : Opened) (start n : ℕ) → g ≡ W.fitObject u48 S m ob p → g ≡ Op.Content start n
+    → start + W.contentSize u48 S ob n ≤ length m
+fit-fits S m ob p g start n eg e = object-fits S m ob p start n (sym eg ∙ e)
+
+-- the end byte of a text is there
+ends-inside : (S : Schema) (m : List ℕ) (ob : Object) (start n : ℕ) → start + W.contentSize u48 S ob n ≤ length m → EndInside m ob start n
+unfolding W.contentSize
+ends-inside S m O.Text start n h = omega arith
+ends-inside S m O.Bytes start n h = tt
+ends-inside S m (O.List i) start n h = tt
+ends-inside S m (O.Table i) start n h = tt
+
+pub fit-ends : (S : Schema) (m : List ℕ) (ob : Object) (p : Place) (g : Opened) → g ≡ W.fitObject u48 S m ob p → EndsInside m ob g
+fit-ends S m ob p (Op.Refused k) e = tt
+fit-ends S m ob p (Op.Content start n) e = ends-inside S m ob start n (object-fits S m ob p start n (sym e))
+
+-- ---- content that is opened fits
+tested-same : (m : List ℕ) (ob : Object) (fit : Opened) (start n : ℕ) → W.bytesTested m ob fit ≡ Op.Content start n → fit ≡ Op.Content start n
+unfolding W.bytesTested
+tested-same m ob (Op.Refused k) start n e = e
+tested-same m ob (Op.Content a k) start n e = by (W.endOk m ob a k) e
+  where
+    by : (t : Bool) → pick t (Op.Content a k) (Op.Refused 10) ≡ Op.Content start n → Op.Content a k ≡ Op.Content start n
+    by true f = f
+    by false f = let z : _≡_ {A = ℕ} 0 1 = cc in absurd (omega arith)
 
 pub opened-fits : (S : Schema) (m : List ℕ) (ob : Object) (p : Place) (g : Opened) (start n : ℕ) → g ≡ W.openObject u48 S m ob p → g ≡ Op.Content start n
     → start + W.contentSize u48 S ob n ≤ length m
-opened-fits S m ob p g start n eg e = object-fits S m ob p start n (sym eg ∙ e)
+unfolding W.openObject
+opened-fits S m ob p g start n eg e = object-fits S m ob p start n (tested-same m ob (W.fitObject u48 S m ob p) start n (sym eg ∙ e))
 
 pub table-opened : (S : Schema) (m : List ℕ) (t x : ℕ) (g : Opened) (start n : ℕ) → g ≡ W.openObject u48 S m (O.Table t) (ByOffset x) → g ≡ Op.Content start n → start + n ≤ length m
 unfolding W.contentSize
@@ -160,7 +236,7 @@ member-sound-of b dir a t j r e h = rw e (member-sound-at (P.parse b) (accepted-
 
 -- ---- indices and places in range
 pub list-counted-of : (b : List ℕ) (ob : Object) (i j : ℕ) → ObjectSound (P.parse b) ob → ob ≡ O.List i → j ≡ i → j < P.listCount b
-list-counted-of b ob i j h f e = list-counted b i j (subst (ObjectSound (P.parse b)) f h) e
+list-counted-of b ob i j h f e = list-there b ob i j h f e
 
 pub table-counted-of : (b : List ℕ) (ob : Object) (i j : ℕ) → ObjectSound (P.parse b) ob → ob ≡ O.Table i → j ≡ i → j < P.tableCount b
 table-counted-of b ob i j h f e = rw e (table-index b i (subst (ObjectSound (P.parse b)) f h))
@@ -168,12 +244,6 @@ table-counted-of b ob i j h f e = rw e (table-index b i (subst (ObjectSound (P.p
 module _ (p : Place) (small : PlaceSmall p) where
   pub offset-small : (x : ℕ) → p ≡ ByOffset x → x < 2 ^ 48
   offset-small x e = subst PlaceSmall e small
-
-  pub offset-ten : (x : ℕ) → p ≡ ByOffset x → x + 10 < 2 ^ 60
-  offset-ten x e = omega (arith, offset-small x e)
-
-  pub offset-word : (x : ℕ) → p ≡ ByOffset x → x + 10 < 2 ^ 64
-  offset-word x e = omega (arith, offset-small x e)
 
   pub inplace-start : (a n : ℕ) → p ≡ InPlace a n → a < 2 ^ 60
   inplace-start a n e = let h = subst PlaceSmall e small in omega arith

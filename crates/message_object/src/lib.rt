@@ -1,4 +1,4 @@
-// Opening an object at its place, and the message's start.
+// Opening an object at its place: offset and header, magic and content fit; then the content's bytes are tested.
 use coding::Object;
 use coding::Opened;
 use coding::Place;
@@ -8,8 +8,7 @@ use message_header::ListObject;
 use message_header::TableObject;
 use message_header::TextObject;
 ghost use mathlib.Core.Path.{_≡_};
-ghost use Prim.Native.Nat.{_<_, _≤_, _^_};
-ghost use lib.ListN.{length};
+ghost use Prim.Native.Nat.{_<_, _^_};
 ghost use Rattle.coding.specs.Bytes as B;
 ghost use Rattle.coding.specs.Packed as P;
 ghost use Rattle.coding.specs.Schema as Sc;
@@ -18,12 +17,13 @@ ghost use Rattle.laws.specs.Sound.{ObjectSound};
 ghost use Rattle.schema.specs.Directory.{Accepted};
 ghost use Rattle.message_step.specs.Lead as D;
 ghost use Rattle.message_header.specs.Headers as Hs;
+ghost use Rattle.message_object.specs.Fit as Fs;
 
-// ---- objects
+// ---- what an object's header announces fits
 // The header of the object at an offset.
 fn header_of(b: &[u8], dir: &[u16], m: &[u8], ob: Object, at: usize) -> Header
     requires { ⌜ (Accepted (now b) (now dir)) × (ObjectSound (P.parse (now b)) ob) × (at < 2 ^ 48) ⌝ }
-    ensures { λ r. ⌜ (r ≡ Hs.headerOf B.u48 (now (m .entry)) (W.magic (P.parse (now (b .entry))) ob) at) × Hs.Small r ⌝ }
+    ensures { λ r. ⌜ (r ≡ Hs.headerOf B.u48 (W.magic (P.parse (now (b .entry))) ob) (W.headerSize B.u48) (now (m .entry)) at) × Hs.Small r ⌝ }
 {
     match ob {
         Object::Text => TextObject::header(m, at),
@@ -33,43 +33,101 @@ fn header_of(b: &[u8], dir: &[u16], m: &[u8], ob: Object, at: usize) -> Header
     }
 }
 
-// An object at its place: offset and header, magic, content, end byte.
-pub fn open_object(b: &[u8], dir: &[u16], m: &[u8], ob: Object, p: Place) -> Opened
+// Where the content of the object at a place starts, and its length: behind its header, or in place. Both ways meet here, so that
+// the compiler makes one piece of what follows.
+fn content_at(b: &[u8], dir: &[u16], m: &[u8], ob: Object, p: Place) -> Header
     requires { ⌜ (Accepted (now b) (now dir)) × (ObjectSound (P.parse (now b)) ob) × D.PlaceSmall p ⌝ }
-    ensures { λ r. ⌜ r ≡ W.openObject B.u48 (P.parse (now (b .entry))) (now (m .entry)) ob p ⌝ }
+    ensures { λ r. ⌜ (Fs.announced B.u48 (P.parse (now (b .entry))) (now (m .entry)) ob r ≡ W.fitObject B.u48 (P.parse (now (b .entry))) (now (m .entry)) ob p) × Hs.Small r ⌝ }
 {
     match p {
-        Place::ByOffset(x) => match header_of(b, dir, m, ob, x) {
-            Header::Refused(e) => Opened::Refused(e),
-            Header::Length(n) => message_header::open_content(b, dir, m, ob, x + 10, n),
-        },
-        Place::InPlace(a, n) => message_header::open_content(b, dir, m, ob, a, n),
+        Place::ByOffset(x) => header_of(b, dir, m, ob, x),
+        Place::InPlace(a, n) => Header::Content(a, n),
+    }
+}
+
+// An object at its place: offset and header, magic, content.
+pub fn fit_object(b: &[u8], dir: &[u16], m: &[u8], ob: Object, p: Place) -> Opened
+    requires { ⌜ (Accepted (now b) (now dir)) × (ObjectSound (P.parse (now b)) ob) × D.PlaceSmall p ⌝ }
+    ensures { λ r. ⌜ r ≡ W.fitObject B.u48 (P.parse (now (b .entry))) (now (m .entry)) ob p ⌝ }
+{
+    match content_at(b, dir, m, ob, p) {
+        Header::Refused(e) => Opened::Refused(e),
+        Header::Content(start, n) => message_header::fit_content(b, dir, m, ob, start, n),
     }
 }
 
 // The text at an offset.
-pub fn open_text(b: &[u8], m: &[u8], x: usize) -> Opened
+pub fn fit_text(b: &[u8], m: &[u8], x: usize) -> Opened
     requires { ⌜ x < 2 ^ 48 ⌝ }
-    ensures { λ r. ⌜ r ≡ W.openObject B.u48 (P.parse (now (b .entry))) (now (m .entry)) Object.Text (Place.ByOffset x) ⌝ }
+    ensures { λ r. ⌜ r ≡ W.fitObject B.u48 (P.parse (now (b .entry))) (now (m .entry)) Object.Text (Place.ByOffset x) ⌝ }
 {
     match TextObject::header(m, x) {
         Header::Refused(e) => Opened::Refused(e),
-        Header::Length(n) => message_header::text_content(b, m, x + 10, n),
+        Header::Content(start, n) => message_header::fits(
+            m,
+            start,
+            message_header::text_size(n),
+            n,
+        ),
     }
 }
 
 // Table t with its id, at an offset.
+pub fn fit_table(b: &[u8], m: &[u8], t: u8, id: u64, x: usize) -> Opened
+    requires { ⌜ (x < 2 ^ 48) × (id ≡ Sc.tableOf (P.parse (now b)) t .id) ⌝ }
+    ensures { λ r. ⌜ r ≡ W.fitObject B.u48 (P.parse (now (b .entry))) (now (m .entry)) (Object.Table t) (Place.ByOffset x) ⌝ }
+{
+    match TableObject::header(m, x, id) {
+        Header::Refused(e) => Opened::Refused(e),
+        Header::Content(start, n) => message_header::fits(m, start, n, n),
+    }
+}
+
+// ---- then its bytes are tested
+// Content that fits, if its bytes are right.
+pub fn bytes_tested(m: &[u8], ob: Object, fit: Opened) -> Opened
+    requires { ⌜ Fs.EndsInside (now m) ob fit ⌝ }
+    ensures { λ r. ⌜ r ≡ W.bytesTested (now (m .entry)) ob fit ⌝ }
+{
+    match fit {
+        Opened::Refused(e) => Opened::Refused(e),
+        Opened::Content(start, n) => {
+            if message_header::end_ok(m, ob, start, n) {
+                return Opened::Content(start, n);
+            }
+            Opened::Refused(10)
+        }
+    }
+}
+
+// An object at its place, opened.
+pub fn open_object(b: &[u8], dir: &[u16], m: &[u8], ob: Object, p: Place) -> Opened
+    requires { ⌜ (Accepted (now b) (now dir)) × (ObjectSound (P.parse (now b)) ob) × D.PlaceSmall p ⌝ }
+    ensures { λ r. ⌜ r ≡ W.openObject B.u48 (P.parse (now (b .entry))) (now (m .entry)) ob p ⌝ }
+{
+    let fit = fit_object(b, dir, m, ob, p);
+    bytes_tested(m, ob, fit)
+}
+
+// The text at an offset, opened.
+pub fn open_text(b: &[u8], m: &[u8], x: usize) -> Opened
+    requires { ⌜ x < 2 ^ 48 ⌝ }
+    ensures { λ r. ⌜ r ≡ W.openObject B.u48 (P.parse (now (b .entry))) (now (m .entry)) Object.Text (Place.ByOffset x) ⌝ }
+{
+    let fit = fit_text(b, m, x);
+    bytes_tested(m, Object::Text, fit)
+}
+
+// Table t with its id, at an offset, opened: of its bytes nothing is tested.
 pub fn open_table(b: &[u8], m: &[u8], t: u8, id: u64, x: usize) -> Opened
     requires { ⌜ (x < 2 ^ 48) × (id ≡ Sc.tableOf (P.parse (now b)) t .id) ⌝ }
     ensures { λ r. ⌜ r ≡ W.openObject B.u48 (P.parse (now (b .entry))) (now (m .entry)) (Object.Table t) (Place.ByOffset x) ⌝ }
 {
-    match TableObject::header(m, x, id) {
-        Header::Refused(e) => Opened::Refused(e),
-        Header::Length(n) => message_header::table_content(b, m, t, x + 10, n),
-    }
+    fit_table(b, m, t, id, x)
 }
 
-// An object's place.
+// ---- places
+// Where an object stands.
 pub fn placed(p: Place) -> usize
     ensures { λ r. ⌜ r ≡ W.placed p ⌝ }
 {
@@ -77,39 +135,4 @@ pub fn placed(p: Place) -> usize
         Place::ByOffset(x) => x,
         Place::InPlace(a, _) => a,
     }
-}
-
-// ---- the message's start
-// Whether the message has its start and is within the size.
-pub fn size_ok(m: &[u8]) -> bool
-    ensures { λ r. ⌜ r ≡ W.sizeOk B.u48 (now (m .entry)) ⌝ }
-{
-    if m.len() < 10 {
-        return false;
-    }
-    m.len() <= 16777215
-}
-
-// Whether it starts with the message's magic.
-pub fn start_ok(m: &[u8]) -> bool
-    requires { ⌜ 10 ≤ length (now m) ⌝ }
-    ensures { λ r. ⌜ r ≡ W.startOk (now (m .entry)) ⌝ }
-{
-    wire::u32_in(m, 0) == 0xB5C0_C4B3
-}
-
-// The root table.
-pub fn root_object(b: &[u8], dir: &[u16]) -> Object
-    requires { ⌜ Accepted (now b) (now dir) ⌝ }
-    ensures { λ r. ⌜ (r ≡ Object.Table (P.parse (now (b .entry)) .root)) × ObjectSound (P.parse (now (b .entry))) r ⌝ }
-{
-    Object::Table(schema::root(b) as u8)
-}
-
-// Where the message's start says that it stands.
-pub fn root_place(m: &[u8]) -> Place
-    requires { ⌜ 10 ≤ length (now m) ⌝ }
-    ensures { λ r. ⌜ (r ≡ W.rootPlace B.u48 (now (m .entry))) × D.PlaceSmall r ⌝ }
-{
-    Place::ByOffset(wire::u48_in(m, 4) as usize)
 }

@@ -5,7 +5,7 @@ use mathlib.Core.List.{List}
 use mathlib.Core.Logic.{_⊎_, ⊎-elim}
 use Prim.Native.Nat.{ℕ, suc, _+_, _*_, _/_, _^_, _<_, _≤_}
 use native.Mathlib.Omega.{arith}
-use native.Mathlib.Nat.{mul-le-mul, le-of-lt}
+use native.Mathlib.Nat.{mul-le-mul}
 use lib.ListN.{length}
 use Rattle.coding.specs.Lists.{pick}
 use Rattle.coding.specs.Bytes.{u48}
@@ -19,7 +19,8 @@ use Rattle.coding.specs.declared.Flat.the-variants as F
 use Rattle.coding.specs.declared.Object.{Object}
 use Rattle.coding.specs.declared.Kind.{Kind}
 use Rattle.coding.specs.declared.Kind.the-variants.{OfFlat, OfObject, OfUnion}
-use Rattle.laws.specs.Sound.{Sound, FlatSound, ObjectSound, KindSound}
+use Rattle.coding.specs.declared.Member.{Member}
+use Rattle.laws.specs.Sound.{Sound, FlatSound, ObjectSound, KindSound, MemberSound}
 use Rattle.laws.specs.SoundAt.{struct-index, union-index}
 use Rattle.schema.specs.Directory.{Accepted, accepted-sound}
 
@@ -114,5 +115,5 @@ pub index-small : (b dir : List ℕ) → Accepted b dir → (k : Kind) → KindS
     → start + T.elementsSize u48 (P.parse b) k n ≤ c → c ≤ 16777215 → i < n → i < 2 ^ 40
 index-small b dir a k sound start n c i h l m = omega (arith, elements-few (P.parse b) (accepted-sound b dir a) k sound start n c h)
 
-pub place-times : (w i : ℕ) → w ≤ 4096 → i < 2 ^ 40 → w * i ≤ 4096 * 2 ^ 40
-place-times w i h l = mul-le-mul h (le-of-lt l)
+pub member-kind : (S : Schema) (r : Member) → MemberSound S r → KindSound S (r .kind)
+member-kind S r h = h .kind

@@ -3,3 +3,4 @@ pub mod StepCases
 pub mod LeadCases
 pub mod Inside
 pub mod MemberCases
+pub mod StructCases

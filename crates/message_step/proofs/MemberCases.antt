@@ -1,8 +1,8 @@
--- A member's step by its reach, with the cursor behind it.
+-- A member's step by its reach; then its struct is tested, and the cursor stands behind it.
 use mathlib.Core.Path.{_≡_, refl, sym, ap, _∙_, subst}
 use mathlib.Core.Bool.{Bool, true, false}
 use mathlib.Core.List.{List}
-use Prim.Native.Nat.{ℕ, _+_, _<_, _≤_}
+use Prim.Native.Nat.{ℕ, _+_, _^_, _<_, _≤_}
 use native.Mathlib.Omega.{arith}
 use lib.ListN.{length}
 use Rattle.coding.specs.Bytes.{u48}
@@ -12,29 +12,80 @@ use Rattle.coding.specs.Step as T
 use Rattle.coding.specs.declared.Kind.{Kind}
 use Rattle.coding.specs.declared.Member.{Member}
 use Rattle.coding.specs.declared.Cursor.{Cursor}
+use Rattle.coding.specs.declared.Placement.{Placement}
 use Rattle.coding.specs.declared.Slot.{Slot}
 use Rattle.coding.specs.declared.Step.{Step}
 use Rattle.coding.specs.declared.Step.the-variants as St
 use Rattle.message_layout.specs.Bounds.{Laid, Stands}
 use Rattle.message_step.specs.declared.Reach.{Reach}
 use Rattle.message_step.specs.declared.Reach.the-variants.{Cut, Past, Here}
-use Rattle.message_step.specs.Lead.{leadOf, reachOf, reached, Stepped}
+use Rattle.message_step.specs.Lead.{leadOf, withoutValue, valueLead, reachOf, reached, Sits, Stepped}
 use Rattle.message_step.proofs.ReachCases.{step-reached, slot-size, here-inside}
+use Rattle.message_step.proofs.LeadCases.{value-led, lead-tested}
 
-module _ (S : Schema) (m : List ℕ) (start n : ℕ) (c : Cursor) (r : Member) (slot : Slot) (next : Cursor)
-    (stands : Stands (L.memberSlot u48 S r c) (L.afterMember u48 S r c) (c .end + 1) slot next) (flag : Bool) (ef : flag ≡ L.hasFlag r)
-    (g : Reach) (eg : g ≡ reachOf m start n c slot flag) where
-  here : Step
-  here = T.valueStep u48 S m (r .kind) (r .optional) (r .inplace) (start + n) (start + L.memberSlot u48 S r c .at) (L.memberSlot u48 S r c .bit)
+-- ---- by its placement
+module _ (S : Schema) (m : List ℕ) (start n : ℕ) (p : Placement) (r : Member) (flag : Bool) (ef : flag ≡ L.hasFlag r)
+    (g : Reach) (eg : g ≡ reachOf m start n p flag) where
+  abbrev here : Step
+  here = T.valueStep u48 S m (r .kind) (r .optional) (r .inplace) (start + n) (start + p .value .at) (p .value .bit)
 
   -- the definition's step by the code's reach
-  reached-is : T.memberStep u48 S m start n c r ≡ reached g here
-  unfolding here
-  reached-is =
-      step-reached u48 S m start n c r
-      ∙ sym
-      (ap (λ (q : Reach). reached q here)
-      (eg ∙ ap (λ (s : Slot). reachOf m start n c s flag) (stands .slot-is) ∙ ap (reachOf m start n c (L.memberSlot u48 S r c)) ef))
+  reached-is : T.placedStep u48 S m start n p r ≡ reached g here
+  reached-is = step-reached u48 S m start n p r ∙ sym (ap (λ (q : Reach). reached q here) (eg ∙ ap (reachOf m start n p) ef))
+
+  module _ (e : g ≡ Cut) where
+    pub step-cut : St.Refused 8 ≡ T.placedStep u48 S m start n p r
+    unfolding reached
+    step-cut = sym (reached-is ∙ ap (λ (q : Reach). reached q here) e)
+
+    pub lead-cut : St.Refused 8 ≡ withoutValue (T.placedStep u48 S m start n p r)
+    unfolding withoutValue
+    lead-cut = ap withoutValue step-cut
+
+  module _ (e : g ≡ Past) where
+    pub step-past : St.Absent ≡ T.placedStep u48 S m start n p r
+    unfolding reached
+    step-past = sym (reached-is ∙ ap (λ (q : Reach). reached q here) e)
+
+    pub lead-past : St.Absent ≡ withoutValue (T.placedStep u48 S m start n p r)
+    unfolding withoutValue
+    lead-past = ap withoutValue step-past
+
+  module _ (e : g ≡ Here) where
+    here-is : here ≡ T.placedStep u48 S m start n p r
+    unfolding reached
+    here-is = sym (reached-is ∙ ap (λ (q : Reach). reached q here) e)
+
+    pub step-here : (s : Step) → s ≡ T.valueStep u48 S m (r .kind) (r .optional) (r .inplace) (start + n) (start + p .value .at) (p .value .bit)
+        → s ≡ T.placedStep u48 S m start n p r
+    step-here s q = q ∙ here-is
+
+    pub lead-here : (s : Step) → s ≡ valueLead u48 S m (r .kind) (r .inplace) (start + n) (start + p .value .at)
+        → s ≡ withoutValue (T.placedStep u48 S m start n p r)
+    lead-here s q =
+        q ∙ sym (value-led S m (r .kind) (r .optional) (r .inplace) (start + n) (start + p .value .at) (p .value .bit)) ∙ ap withoutValue here-is
+
+    -- it lies within the message
+    pub value-inside : Sits (L.width u48 S (r .kind)) p → start + n ≤ length m → start + p .value .at + L.width u48 S (r .kind) ≤ length m
+    value-inside sits h = omega (arith, sits .size, here-inside m start n p flag g eg e)
+
+    pub value-low : Sits (L.width u48 S (r .kind)) p → start + n ≤ length m → length m ≤ 16777215 → start + p .value .at < 2 ^ 60
+    value-low sits h l = omega (arith, value-inside sits h)
+
+-- content in place stands within the message
+pub tail-small : (m : List ℕ) (start n : ℕ) → start + n ≤ length m → length m ≤ 16777215 → start + n < 2 ^ 48
+tail-small m start n h l = omega arith
+
+-- ---- where the cursor stands
+module _ (S : Schema) (m : List ℕ) (start n : ℕ) (c : Cursor) (r : Member) (q : Placement) (next : Cursor)
+    (stands : Stands (L.memberSlot u48 S r c) (L.afterMember u48 S r c) (c .end + 1) (q .value) next) where
+  pub sits : c .end < 2 ^ 58 → q .flag .bit < 8 → Sits (L.width u48 S (r .kind)) q
+  unfolding L.memberSlot
+  sits h l =
+      let z : q .value .size ≡ L.width u48 S (r .kind) = ap (λ (s : Slot). s .size) (stands .slot-is) ∙ slot-size u48 S (r .kind) (L.afterFlag r c) in
+      let y = stands .at in
+      let x = stands .size in
+      record { at = omega arith; size = z; small = omega arith; bit = stands .bit; flag = l }
 
   laid-more : Laid (c .end + 4097) next
   laid-more =
@@ -42,55 +93,25 @@ module _ (S : Schema) (m : List ℕ) (start n : ℕ) (c : Cursor) (r : Member) (
       let l = h .end in
       record { end = omega arith; byte = h .byte; bit = h .bit }
 
-  stepped : (f : Step → Step) (s : Step) → s ≡ f (reached g here) → Stepped (f (T.memberStep u48 S m start n c r)) (L.afterMember u48 S r c) (c .end) s next
-  stepped f s e = record { step-is = e ∙ sym (ap f reached-is); next-is = stands .next-is; laid = laid-more }
-
-  module _ (e : g ≡ Cut) where
-    cut-is : reached g here ≡ St.Refused 8
-    unfolding reached
-    cut-is = ap (λ (q : Reach). reached q here) e
-
-    pub step-cut : Stepped (T.memberStep u48 S m start n c r) (L.afterMember u48 S r c) (c .end) (St.Refused 8) next
-    step-cut = stepped (λ (s : Step). s) (St.Refused 8) (sym cut-is)
-
-    pub lead-cut : Stepped (leadOf (T.memberStep u48 S m start n c r)) (L.afterMember u48 S r c) (c .end) (St.Refused 8) next
-    unfolding leadOf
-    lead-cut = stepped leadOf (St.Refused 8) (sym (ap leadOf cut-is))
-
-  module _ (e : g ≡ Past) where
-    past-is : reached g here ≡ St.Absent
-    unfolding reached
-    past-is = ap (λ (q : Reach). reached q here) e
-
-    pub step-past : Stepped (T.memberStep u48 S m start n c r) (L.afterMember u48 S r c) (c .end) St.Absent next
-    step-past = stepped (λ (s : Step). s) St.Absent (sym past-is)
-
-    pub lead-past : Stepped (leadOf (T.memberStep u48 S m start n c r)) (L.afterMember u48 S r c) (c .end) St.Absent next
-    unfolding leadOf
-    lead-past = stepped leadOf St.Absent (sym (ap leadOf past-is))
-
-  module _ (e : g ≡ Here) where
-    here-is : reached g here ≡ here
-    unfolding reached
-    here-is = ap (λ (q : Reach). reached q here) e
-
-    -- the code's place of the value
-    here-at : here ≡ T.valueStep u48 S m (r .kind) (r .optional) (r .inplace) (start + n) (start + slot .at) (slot .bit)
-    unfolding here
-    here-at =
-        ap (λ (s : Slot). T.valueStep u48 S m (r .kind) (r .optional) (r .inplace) (start + n) (start + s .at) (s .bit)) (sym (stands .slot-is))
-
-    pub step-here : (s : Step) → s ≡ T.valueStep u48 S m (r .kind) (r .optional) (r .inplace) (start + n) (start + slot .at) (slot .bit)
+  module _ (eq : q ≡ L.placementOf u48 S r c) (found s : Step) where
+    pub member-stepped : found ≡ T.placedStep u48 S m start n q r → s ≡ T.structTested S m found
         → Stepped (T.memberStep u48 S m start n c r) (L.afterMember u48 S r c) (c .end) s next
-    step-here s q = stepped (λ (s : Step). s) s (q ∙ sym here-at ∙ sym here-is)
+    unfolding T.memberStep
+    member-stepped e f =
+        record {
+          step-is = f ∙ ap (T.structTested S m) (e ∙ ap (λ (y : Placement). T.placedStep u48 S m start n y r) eq);
+          next-is = stands .next-is;
+          laid = laid-more;
+        }
 
-    pub lead-here : (s : Step) → s ≡ leadOf (T.valueStep u48 S m (r .kind) (r .optional) (r .inplace) (start + n) (start + slot .at) (slot .bit))
+    pub member-led : found ≡ withoutValue (T.placedStep u48 S m start n q r) → s ≡ leadOf (T.structTested S m found)
         → Stepped (leadOf (T.memberStep u48 S m start n c r)) (L.afterMember u48 S r c) (c .end) s next
-    lead-here s q = stepped leadOf s (q ∙ ap leadOf (sym here-at ∙ sym here-is))
-
-    -- it lies within the message
-    pub value-inside : start + n ≤ length m → start + slot .at + L.width u48 S (r .kind) ≤ length m
-    unfolding L.memberSlot
-    value-inside h =
-        let z : slot .size ≡ L.width u48 S (r .kind) = ap (λ (s : Slot). s .size) (stands .slot-is) ∙ slot-size u48 S (r .kind) (L.afterFlag r c) in
-        omega (arith, here-inside m start n c slot flag g eg e)
+    unfolding T.memberStep
+    member-led e f =
+        record {
+          step-is =
+              f ∙ ap (λ (x : Step). leadOf (T.structTested S m x)) (e ∙ ap (λ (y : Placement). withoutValue (T.placedStep u48 S m start n y r)) eq)
+              ∙ lead-tested S m (T.placedStep u48 S m start n (L.placementOf u48 S r c) r);
+          next-is = stands .next-is;
+          laid = laid-more;
+        }

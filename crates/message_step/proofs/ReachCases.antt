@@ -20,6 +20,7 @@ use Rattle.coding.specs.declared.Kind.the-variants.{OfFlat, OfObject, OfUnion}
 use Rattle.coding.specs.declared.Member.{Member}
 use Rattle.coding.specs.declared.Cursor.{Cursor}
 use Rattle.coding.specs.declared.Slot.{Slot}
+use Rattle.coding.specs.declared.Placement.{Placement}
 use Rattle.coding.specs.declared.Step.{Step}
 use Rattle.coding.specs.declared.Step.the-variants as St
 use Rattle.message_step.specs.declared.Reach.{Reach}
@@ -40,26 +41,25 @@ module _ (n : ℕ) (slot : Slot) (past here : Reach) where
     unfolding reachIn
     in-cut l = simp (lt-leb _ _ h, lt-leb _ _ l)
 
-pub flag-past : (m : List ℕ) (start n : ℕ) (c : Cursor) (slot : Slot) (at : ℕ) → at ≡ L.bitByte c → n ≤ at → Past ≡ reachFlagged m start n c slot
+pub flag-past : (m : List ℕ) (start n : ℕ) (flag slot : Slot) → n ≤ flag .at → Past ≡ reachFlagged m start n flag slot
 unfolding reachFlagged
-flag-past m start n c slot at ea h = simp (← ea, le-leb _ _ h)
+flag-past m start n flag slot h = simp (le-leb _ _ h)
 
-module _ (m : List ℕ) (start n : ℕ) (c : Cursor) (slot : Slot) (r : Reach) (at : ℕ) (ea : at ≡ L.bitByte c) where
-  module _ (h : at < n) (k : ℕ) (ek : k ≡ L.bitIndex c) (t : Bool) (et : t ≡ eqb (bitAt m (start + at) k) 1) where
-    pub flag-set : t ≡ true → r ≡ reachIn n slot Cut Here → r ≡ reachFlagged m start n c slot
-    unfolding reachFlagged
-    flag-set f e = simp (← ea, lt-leb _ _ h, ← ek, ← et, f) e
+module _ (m : List ℕ) (start n : ℕ) (flag slot : Slot) (r : Reach) (h : flag .at < n) (t : Bool) (et : t ≡ eqb (bitAt m (start + flag .at) (flag .bit)) 1) where
+  pub flag-set : t ≡ true → r ≡ reachIn n slot Cut Here → r ≡ reachFlagged m start n flag slot
+  unfolding reachFlagged
+  flag-set f e = simp (lt-leb _ _ h, ← et, f) e
 
-    pub flag-clear : t ≡ false → r ≡ reachIn n slot Past Past → r ≡ reachFlagged m start n c slot
-    unfolding reachFlagged
-    flag-clear f e = simp (← ea, lt-leb _ _ h, ← ek, ← et, f) e
+  pub flag-clear : t ≡ false → r ≡ reachIn n slot Past Past → r ≡ reachFlagged m start n flag slot
+  unfolding reachFlagged
+  flag-clear f e = simp (lt-leb _ _ h, ← et, f) e
 
-module _ (m : List ℕ) (start n : ℕ) (c : Cursor) (slot : Slot) (flag : Bool) (r : Reach) where
-  pub reach-flag : flag ≡ true → r ≡ reachFlagged m start n c slot → r ≡ reachOf m start n c slot flag
+module _ (m : List ℕ) (start n : ℕ) (p : Placement) (flagged : Bool) (r : Reach) where
+  pub reach-flag : flagged ≡ true → r ≡ reachFlagged m start n (p .flag) (p .value) → r ≡ reachOf m start n p flagged
   unfolding reachOf
   reach-flag f e = simp f e
 
-  pub reach-plain : flag ≡ false → r ≡ reachIn n slot Past Here → r ≡ reachOf m start n c slot flag
+  pub reach-plain : flagged ≡ false → r ≡ reachIn n (p .value) Past Here → r ≡ reachOf m start n p flagged
   unfolding reachOf
   reach-plain f e = simp f e
 
@@ -79,23 +79,23 @@ cut-here f = let z : _≡_ {A = ℕ} 0 1 = cc in omega arith
 past-here : Past ≡ Here → ⊥
 past-here f = let z : _≡_ {A = ℕ} 0 1 = cc in omega arith
 
-flagged-inside : (m : List ℕ) (start n : ℕ) (c : Cursor) (slot : Slot) → reachFlagged m start n c slot ≡ Here → slot .at + slot .size ≤ n
+flagged-inside : (m : List ℕ) (start n : ℕ) (flag slot : Slot) → reachFlagged m start n flag slot ≡ Here → slot .at + slot .size ≤ n
 unfolding reachFlagged
-flagged-inside m start n c slot e = by (leb n (L.bitByte c)) (eqb (bitAt m (start + L.bitByte c) (L.bitIndex c)) 1) e
+flagged-inside m start n flag slot e = by (leb n (flag .at)) (eqb (bitAt m (start + flag .at) (flag .bit)) 1) e
   where
     by : (t u : Bool) → pick t Past (pick u (reachIn n slot Cut Here) (reachIn n slot Past Past)) ≡ Here → slot .at + slot .size ≤ n
     by true u f = absurd (past-here f)
     by false true f = in-inside n slot Cut cut-here Here f
     by false false f = in-inside n slot Past past-here Past f
 
-pub here-inside : (m : List ℕ) (start n : ℕ) (c : Cursor) (slot : Slot) (flag : Bool) (g : Reach) → g ≡ reachOf m start n c slot flag → g ≡ Here
-    → slot .at + slot .size ≤ n
+pub here-inside : (m : List ℕ) (start n : ℕ) (p : Placement) (flagged : Bool) (g : Reach) → g ≡ reachOf m start n p flagged → g ≡ Here
+    → p .value .at + p .value .size ≤ n
 unfolding reachOf
-here-inside m start n c slot flag g eg e = by flag (sym eg ∙ e)
+here-inside m start n p flagged g eg e = by flagged (sym eg ∙ e)
   where
-    by : (t : Bool) → pick t (reachFlagged m start n c slot) (reachIn n slot Past Here) ≡ Here → slot .at + slot .size ≤ n
-    by true f = flagged-inside m start n c slot f
-    by false f = in-inside n slot Past past-here Here f
+    by : (t : Bool) → pick t (reachFlagged m start n (p .flag) (p .value)) (reachIn n (p .value) Past Here) ≡ Here → p .value .at + p .value .size ≤ n
+    by true f = flagged-inside m start n (p .flag) (p .value) f
+    by false f = in-inside n (p .value) Past past-here Here f
 
 -- a value's slot has the size of its kind: a bool's bit stands in one byte
 pub bool-one : (o : ℕ) (S : Schema) (k : Kind) → L.isBool k ≡ true → L.width o S k ≡ 1
@@ -109,25 +109,25 @@ bool-one o S (OfObject ob) e = let z : _≡_ {A = ℕ} 0 1 = cc in absurd (omega
 bool-one o S (OfUnion i) e = let z : _≡_ {A = ℕ} 0 1 = cc in absurd (omega arith)
 
 pub slot-size : (o : ℕ) (S : Schema) (k : Kind) (c : Cursor) → L.slotOf o S k c .size ≡ L.width o S k
-unfolding L.slotOf
+unfolding L.slotOf L.bitSlot
 slot-size o S k c = by (L.isBool k) refl
   where
     by : (t : Bool) → L.isBool k ≡ t
-        → pick {A = Slot} t (record { at = L.bitByte c; bit = L.bitIndex c; size = 1 }) (record { at = c .end; bit = 0; size = L.width o S k }) .size ≡ L.width o S k
+        → pick {A = Slot} t (L.bitSlot c) (record { at = c .end; bit = 0; size = L.width o S k }) .size ≡ L.width o S k
     by true e = sym (bool-one o S k e)
     by false e = refl
 
 -- ---- a member's step by its reach
-pub step-reached : (o : ℕ) (S : Schema) (m : List ℕ) (start n : ℕ) (c : Cursor) (r : Member)
-    → T.memberStep o S m start n c r
-    ≡ reached (reachOf m start n c (L.memberSlot o S r c) (L.hasFlag r))
-    (T.valueStep o S m (r .kind) (r .optional) (r .inplace) (start + n) (start + L.memberSlot o S r c .at) (L.memberSlot o S r c .bit))
-unfolding T.memberStep T.flagged T.inside reached reachOf reachFlagged reachIn
-step-reached o S m start n c r =
-    by (L.hasFlag r) (leb n (L.bitByte c)) (eqb (bitAt m (start + L.bitByte c) (L.bitIndex c)) 1) (leb n (slot .at)) (leb (slot .at + slot .size) n)
+pub step-reached : (o : ℕ) (S : Schema) (m : List ℕ) (start n : ℕ) (p : Placement) (r : Member)
+    → T.placedStep o S m start n p r
+    ≡ reached (reachOf m start n p (L.hasFlag r))
+    (T.valueStep o S m (r .kind) (r .optional) (r .inplace) (start + n) (start + p .value .at) (p .value .bit))
+unfolding T.placedStep T.flagged T.inside reached reachOf reachFlagged reachIn
+step-reached o S m start n p r =
+    by (L.hasFlag r) (leb n (p .flag .at)) (eqb (bitAt m (start + p .flag .at) (p .flag .bit)) 1) (leb n (slot .at)) (leb (slot .at + slot .size) n)
   where
     slot : Slot
-    slot = L.memberSlot o S r c
+    slot = p .value
 
     here : Step
     here = T.valueStep o S m (r .kind) (r .optional) (r .inplace) (start + n) (start + slot .at) (slot .bit)

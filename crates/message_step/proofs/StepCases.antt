@@ -25,7 +25,6 @@ use Rattle.coding.specs.declared.Place.the-variants.{ByOffset, InPlace}
 use Rattle.coding.specs.declared.Step.{Step}
 use Rattle.coding.specs.declared.Step.the-variants as St
 use Rattle.wire.specs.Numbers.{Number}
-use Rattle.message_step.specs.Lead.{leadOf}
 use Rattle.message_step.proofs.ReachCases.{bool-one}
 
 -- ---- references
@@ -43,9 +42,13 @@ module _ (inplace : Bool) (tail x : ℕ) where
     unfolding T.objectStep
     object-none h = simp (eq-eqb _ _ h)
 
-    pub object-there : (x ≡ 0 → ⊥) → (p : Place) → p ≡ T.placeOf inplace tail x → St.Object ob p ≡ T.objectStep ob inplace tail x
-    unfolding T.objectStep
-    object-there h p e = simp (ne-eqb _ _ h, ← e)
+    pub object-inplace : (x ≡ 0 → ⊥) → inplace ≡ true → St.Object ob (InPlace tail x) ≡ T.objectStep ob inplace tail x
+    unfolding T.objectStep T.placeOf
+    object-inplace h e = simp (ne-eqb _ _ h, e)
+
+    pub object-offset : (x ≡ 0 → ⊥) → inplace ≡ false → St.Object ob (ByOffset x) ≡ T.objectStep ob inplace tail x
+    unfolding T.objectStep T.placeOf
+    object-offset h e = simp (ne-eqb _ _ h, e)
 
   module _ (cases : List Object) (c : ℕ) where
     pub union-none : c ≡ 0 → St.Absent ≡ T.unionStep cases inplace tail c x
@@ -92,51 +95,51 @@ module _ (none : Bool) (w x : ℕ) where
     float-value f = simp (e, ← et, f)
 
 module _ (S : Schema) (m : List ℕ) (i j at : ℕ) (ej : j ≡ i) (t : Bool) (et : t ≡ structOk S m j at) where
-  pub struct-good : t ≡ true → St.Struct i at ≡ T.structStep S m i at
-  unfolding T.structStep
+  pub struct-good : t ≡ true → St.Struct i at ≡ T.structTested S m (St.Struct i at)
+  unfolding T.structTested
   struct-good f = simp (← ej, ← et, f)
 
-  pub struct-bad : t ≡ false → St.Refused 10 ≡ T.structStep S m i at
-  unfolding T.structStep
+  pub struct-bad : t ≡ false → St.Refused 10 ≡ T.structTested S m (St.Struct i at)
+  unfolding T.structTested
   struct-bad f = simp (← ej, ← et, f)
 
 -- ---- by the kind
-module _ (S : Schema) (m : List ℕ) (k : Flat) (none : Bool) (at bit : ℕ) where
-  pub flat-boolean : k ≡ F.Boolean → (x y : ℕ) → y ≡ getD m at 0 → x ≡ y / 2 ^ bit % 2 → St.Value x ≡ T.flatStep S m k none at bit
+module _ (m : List ℕ) (k : Flat) (none : Bool) (at bit : ℕ) where
+  pub flat-boolean : k ≡ F.Boolean → (x y : ℕ) → y ≡ getD m at 0 → x ≡ y / 2 ^ bit % 2 → St.Value x ≡ T.flatStep m k none at bit
   unfolding T.flatStep bitAt
   flat-boolean e x y ey ex = rw e (simp (ex, ey))
 
-  pub flat-integer : (s : Bool) (w : ℕ) → k ≡ F.Integer s w → (v x : ℕ) → v ≡ w → Number m at v x → St.Value x ≡ T.flatStep S m k none at bit
+  pub flat-integer : (s : Bool) (w : ℕ) → k ≡ F.Integer s w → (v x : ℕ) → v ≡ w → Number m at v x → St.Value x ≡ T.flatStep m k none at bit
   unfolding T.flatStep
   flat-integer s w e v x ev n = rw e (simp (← ev, ← (n .is)))
 
-module _ (S : Schema) (m : List ℕ) (k : Flat) (none : Bool) (at bit : ℕ) (r : Step) where
-  pub flat-float : (w : ℕ) → k ≡ F.Float w → (v x : ℕ) → v ≡ w → Number m at v x → r ≡ T.floatStep none w x → r ≡ T.flatStep S m k none at bit
+  pub flat-struct : (i : ℕ) → k ≡ F.Struct i → St.Struct i at ≡ T.flatStep m k none at bit
+  unfolding T.flatStep
+  flat-struct i e = rw e
+
+module _ (m : List ℕ) (k : Flat) (none : Bool) (at bit : ℕ) (r : Step) where
+  pub flat-float : (w : ℕ) → k ≡ F.Float w → (v x : ℕ) → v ≡ w → Number m at v x → r ≡ T.floatStep none w x → r ≡ T.flatStep m k none at bit
   unfolding T.flatStep
   flat-float w e v x ev n f = rw e (f ∙ ap (T.floatStep none w) (n .is ∙ ap (le m at) ev))
 
-  pub flat-enum : (n : ℕ) → k ≡ F.Enumerated n → (x : ℕ) → x ≡ getD m at 0 → r ≡ T.enumStep n x → r ≡ T.flatStep S m k none at bit
+  pub flat-enum : (n : ℕ) → k ≡ F.Enumerated n → (x : ℕ) → x ≡ getD m at 0 → r ≡ T.enumStep n x → r ≡ T.flatStep m k none at bit
   unfolding T.flatStep
   flat-enum n e x ex f = rw e (rw ex at f)
 
-  pub flat-struct : (i : ℕ) → k ≡ F.Struct i → r ≡ T.structStep S m i at → r ≡ T.flatStep S m k none at bit
-  unfolding T.flatStep
-  flat-struct i e f = rw e f
-
 module _ (S : Schema) (m : List ℕ) (k : Kind) (none inplace : Bool) (tail at bit : ℕ) (r : Step) where
-  pub value-flat : (f : Flat) → k ≡ OfFlat f → r ≡ T.flatStep S m f none at bit → r ≡ T.valueStep u48 S m k none inplace tail at bit
+  pub value-flat : (f : Flat) → k ≡ OfFlat f → r ≡ T.flatStep m f none at bit → r ≡ T.valueStep u48 S m k none inplace tail at bit
   unfolding T.valueStep
   value-flat f e q = rw e q
 
-  pub value-object : (ob : Object) → k ≡ OfObject ob → (x : ℕ) → Number m at 6 x → r ≡ T.objectStep ob inplace tail x
+  pub value-object : (ob : Object) → k ≡ OfObject ob → (x : ℕ) → x ≡ le m at u48 → r ≡ T.objectStep ob inplace tail x
       → r ≡ T.valueStep u48 S m k none inplace tail at bit
-  unfolding T.valueStep u48
-  value-object ob e x n q = rw e (q ∙ ap (T.objectStep ob inplace tail) (n .is))
+  unfolding T.valueStep
+  value-object ob e x ex q = rw e (q ∙ ap (T.objectStep ob inplace tail) ex)
 
-  pub value-union : (u i : ℕ) → k ≡ OfUnion u → i ≡ u → (c x : ℕ) → Number m at 2 c → Number m (at + 2) 6 x
+  pub value-union : (u i : ℕ) → k ≡ OfUnion u → i ≡ u → (c x : ℕ) → Number m at 2 c → x ≡ le m (at + 2) u48
       → r ≡ T.unionStep (Sc.casesOf S i) inplace tail c x → r ≡ T.valueStep u48 S m k none inplace tail at bit
-  unfolding T.valueStep u48
-  value-union u i e ei c x nc nx q = rw e (simp (← ei, ← (nc .is), ← (nx .is)) q)
+  unfolding T.valueStep
+  value-union u i e ei c x nc ex q = rw e (simp (← ei, ← (nc .is), ← ex) q)
 
 -- the widths of references
 pub object-width : (S : Schema) (k : Kind) (ob : Object) → k ≡ OfObject ob → L.width u48 S k ≡ 6
@@ -181,16 +184,6 @@ element-inside S k start n i h = by (L.isBool k) refl
     by true e = omega (arith, bool-one u48 S k e, bool-inside i n h)
     by false e = omega (arith, other-inside (L.width u48 S k) i n h)
 
--- ---- NaN
-module _ (w x : ℕ) (r : Bool) where
-  pub nan-four : w ≡ 4 → r ≡ ltb 0x7F80_0000 (x % 0x8000_0000) → r ≡ isNaN w x
-  unfolding isNaN
-  nan-four h e = simp (eq-eqb _ _ h) e
-
-  pub nan-eight : (w ≡ 4 → ⊥) → r ≡ ltb 0x7FF0_0000_0000_0000 (x % 0x8000_0000_0000_0000) → r ≡ isNaN w x
-  unfolding isNaN
-  nan-eight h e = simp (ne-eqb _ _ h) e
-
 -- ---- an element's value, where the code reads it
 module _ (S : Schema) (m : List ℕ) (k : Kind) (start n i at : ℕ) (ea : at ≡ T.elementPlace u48 S k start i) where
   pub element-there : (c : ℕ) → start + T.elementsSize u48 S k n ≤ c → i < n → at + L.width u48 S k ≤ c
@@ -199,11 +192,36 @@ module _ (S : Schema) (m : List ℕ) (k : Kind) (start n i at : ℕ) (ea : at �
   pub element-low : (c : ℕ) → start + T.elementsSize u48 S k n ≤ c → i < n → c ≤ 16777215 → at < 2 ^ 60
   element-low c h l z = omega (arith, element-inside S k start n i l)
 
-module _ (S : Schema) (m : List ℕ) (k : Kind) (start i at : ℕ) (ea : at ≡ T.elementPlace u48 S k start i) (bit : ℕ) (eb : bit ≡ i % 8) (r : Step) where
-  pub element-value : r ≡ T.valueStep u48 S m k true false 0 at bit → r ≡ T.elementStep u48 S m k start i
-  unfolding T.elementStep
-  element-value e = simp (← ea, ← eb) e
+pub element-value : (S : Schema) (m : List ℕ) (k : Kind) (start i at : ℕ) → at ≡ T.elementPlace u48 S k start i → (bit : ℕ) → bit ≡ i % 8 → (s r : Step)
+    → s ≡ T.valueStep u48 S m k true false 0 at bit → r ≡ T.structTested S m s → r ≡ T.elementStep u48 S m k start i
+unfolding T.elementStep
+element-value S m k start i at ea bit eb s r e f = simp (← ea, ← eb) (f ∙ ap (T.structTested S m) e)
 
-  pub element-leads : r ≡ leadOf (T.valueStep u48 S m k true false 0 at bit) → r ≡ leadOf (T.elementStep u48 S m k start i)
-  unfolding T.elementStep
-  element-leads e = simp (← ea, ← eb) e
+-- ---- the test of a struct, by the step
+module _ (S : Schema) (m : List ℕ) (s : Step) where
+  pub tested-refused : (n : ℕ) → s ≡ St.Refused n → St.Refused n ≡ T.structTested S m s
+  unfolding T.structTested
+  tested-refused n e = rw e
+
+  pub tested-absent : s ≡ St.Absent → St.Absent ≡ T.structTested S m s
+  unfolding T.structTested
+  tested-absent e = rw e
+
+  pub tested-value : (x : ℕ) → s ≡ St.Value x → St.Value x ≡ T.structTested S m s
+  unfolding T.structTested
+  tested-value x e = rw e
+
+  pub tested-unknown : (x : ℕ) → s ≡ St.Unknown x → St.Unknown x ≡ T.structTested S m s
+  unfolding T.structTested
+  tested-unknown x e = rw e
+
+  pub tested-struct : (i at : ℕ) (r : Step) → s ≡ St.Struct i at → r ≡ T.structTested S m (St.Struct i at) → r ≡ T.structTested S m s
+  tested-struct i at r e f = rw e f
+
+  pub tested-object : (ob : Object) (p : Place) → s ≡ St.Object ob p → St.Object ob p ≡ T.structTested S m s
+  unfolding T.structTested
+  tested-object ob p e = rw e
+
+  pub tested-choice : (c : ℕ) (ob : Object) (p : Place) → s ≡ St.Choice c ob p → St.Choice c ob p ≡ T.structTested S m s
+  unfolding T.structTested
+  tested-choice c ob p e = rw e

@@ -5,6 +5,7 @@ use coding::Kind;
 use coding::Member;
 use coding::Object;
 use coding::Place;
+use coding::Placement;
 use coding::Slot;
 use coding::Step;
 ghost use mathlib.Core.Path.{_≡_};
@@ -20,6 +21,7 @@ ghost use Rattle.coding.specs.Structs as S;
 ghost use Rattle.laws.specs.Sound.{FlatSound, ObjectSound, KindSound, MemberSound};
 ghost use Rattle.schema.specs.Directory.{Accepted};
 ghost use Rattle.message_step.specs.Lead as D;
+ghost use Rattle.wire.specs.Sizes.{WithinSize};
 
 // ---- whether a value is there
 // Cut by the end of the fixed part; past it, or without its flag; or here.
@@ -29,6 +31,7 @@ pub enum Reach {
     Here,
 }
 
+// A slot against a fixed part of n bytes: past its end, here, or cut.
 fn reach_in(n: usize, slot: Slot, past: Reach, here: Reach) -> Reach
     requires { ⌜ (slot .at < 2 ^ 60) × (slot .size < 2 ^ 60) ⌝ }
     ensures { λ r. ⌜ r ≡ D.reachIn n slot past here ⌝ }
@@ -43,33 +46,36 @@ fn reach_in(n: usize, slot: Slot, past: Reach, here: Reach) -> Reach
     Reach::Cut
 }
 
-// With the flag at the cursor.
-fn reach_flagged(m: &[u8], start: usize, n: usize, c: Cursor, slot: Slot) -> Reach
-    requires { ⌜ (start + n ≤ length (now m)) × (slot .at < 2 ^ 60) × (slot .size < 2 ^ 60) × (c .byte ≤ c .end) ⌝ }
-    ensures { λ r. ⌜ r ≡ D.reachFlagged (now (m .entry)) start n c slot ⌝ }
+// A value's slot whose flag stands at another.
+fn reach_flagged(m: &[u8], start: usize, n: usize, flag: Slot, slot: Slot) -> Reach
+    requires { ⌜ (start + n ≤ length (now m)) × (slot .at < 2 ^ 60) × (slot .size < 2 ^ 60) × (flag .bit < 8) ⌝ }
+    ensures { λ r. ⌜ r ≡ D.reachFlagged (now (m .entry)) start n flag slot ⌝ }
 {
-    let at = message_layout::bit_byte(c);
+    let at = flag.at;
     if n <= at {
         return Reach::Past;
     }
-    if wire::bit_in(m, start + at, message_layout::bit_index(c)) {
+    if wire::bit_in(m, start + at, flag.bit) {
         return reach_in(n, slot, Reach::Cut, Reach::Here);
     }
     reach_in(n, slot, Reach::Past, Reach::Past)
 }
 
-// The member's slot against a fixed part of n bytes from `start`; `flag` says that a flag stands at the cursor.
-pub fn reach_of(m: &[u8], start: usize, n: usize, c: Cursor, slot: Slot, flag: bool) -> Reach
-    requires { ⌜ (start + n ≤ length (now m)) × (slot .at < 2 ^ 60) × (slot .size < 2 ^ 60) × (c .byte ≤ c .end) ⌝ }
-    ensures { λ r. ⌜ r ≡ D.reachOf (now (m .entry)) start n c slot flag ⌝ }
+// A member's placement against a fixed part of n bytes from `start`; `flagged` says that the member has a flag.
+pub fn reach_of(m: &[u8], start: usize, n: usize, p: Placement, flagged: bool) -> Reach
+    requires { ⌜ (start + n ≤ length (now m)) × (p .value .at < 2 ^ 60) × (p .value .size < 2 ^ 60) × (p .flag .bit < 8) ⌝ }
+    ensures { λ r. ⌜ r ≡ D.reachOf (now (m .entry)) start n p flagged ⌝ }
 {
-    if flag {
-        return reach_flagged(m, start, n, c, slot);
+    let slot = p.value;
+    let flag = p.flag;
+    if flagged {
+        return reach_flagged(m, start, n, flag, slot);
     }
     reach_in(n, slot, Reach::Past, Reach::Here)
 }
 
 // ---- references
+// Where the object of a reference x stands, or in place that of a length x.
 pub fn place_of(inplace: bool, tail: usize, x: usize) -> Place
     ensures { λ r. ⌜ r ≡ T.placeOf inplace tail x ⌝ }
 {
@@ -79,15 +85,21 @@ pub fn place_of(inplace: bool, tail: usize, x: usize) -> Place
     Place::ByOffset(x)
 }
 
-fn object_step(ob: Object, inplace: bool, tail: usize, x: usize) -> Step
-    ensures { λ r. ⌜ r ≡ T.objectStep ob inplace tail x ⌝ }
+// A text, bytes, a list or a table.
+fn object_step(b: &[u8], ob: Object, inplace: bool, tail: usize, x: usize) -> Step
+    requires { ⌜ (ObjectSound (P.parse (now b)) ob) × (tail < 2 ^ 48) × (x < 2 ^ 48) ⌝ }
+    ensures { λ r. ⌜ (r ≡ T.objectStep ob inplace tail x) × D.StepSmall (P.parse (now (b .entry))) r ⌝ }
 {
     if x == 0 {
         return Step::Absent;
     }
-    Step::Object(ob, place_of(inplace, tail, x))
+    if inplace {
+        return Step::Object(ob, Place::InPlace(tail, x));
+    }
+    Step::Object(ob, Place::ByOffset(x))
 }
 
+// A union's choice c and its reference.
 fn union_step(b: &[u8], dir: &[u16], u: usize, inplace: bool, tail: usize, c: u16, x: usize) -> Step
     requires { ⌜ (Accepted (now b) (now dir)) × (u < P.unionCount (now b)) ⌝ }
     ensures { λ r. ⌜ r ≡ T.unionStep (Sc.casesOf (P.parse (now (b .entry))) u) inplace tail c x ⌝ }
@@ -107,6 +119,7 @@ fn union_step(b: &[u8], dir: &[u16], u: usize, inplace: bool, tail: usize, c: u1
 }
 
 // ---- values
+// An enum of n values whose byte is x.
 pub fn enum_step(n: u8, x: u8) -> Step
     ensures { λ r. ⌜ r ≡ T.enumStep n x ⌝ }
 {
@@ -119,20 +132,12 @@ pub fn enum_step(n: u8, x: u8) -> Step
     Step::Unknown(x as u16)
 }
 
-pub fn is_nan(w: u8, x: u64) -> bool
-    ensures { λ r. ⌜ r ≡ B.isNaN w x ⌝ }
-{
-    if w == 4 {
-        return 0x7F80_0000 < x % 0x8000_0000;
-    }
-    0x7FF0_0000_0000_0000 < x % 0x8000_0000_0000_0000
-}
-
+// A float of w bytes. `none`: a NaN is no value.
 fn float_step(none: bool, w: u8, x: u64) -> Step
     ensures { λ r. ⌜ r ≡ T.floatStep none w x ⌝ }
 {
     if none {
-        if is_nan(w, x) {
+        if wire::is_nan(w, x) {
             return Step::Absent;
         }
         return Step::Value(x);
@@ -140,31 +145,22 @@ fn float_step(none: bool, w: u8, x: u64) -> Step
     Step::Value(x)
 }
 
-fn struct_step(b: &[u8], dir: &[u16], m: &[u8], i: u8, at: usize) -> Step
-    requires { ⌜ (Accepted (now b) (now dir)) × (i < P.structCount (now b)) × (at + S.structSize (P.parse (now b)) i ≤ length (now m)) ⌝ }
-    ensures { λ r. ⌜ r ≡ T.structStep (P.parse (now (b .entry))) (now (m .entry)) i at ⌝ }
-{
-    if message_layout::struct_ok(b, dir, m, wire::index(i), at) {
-        return Step::Struct(i, at);
-    }
-    Step::Refused(10)
-}
-
-fn flat_step(b: &[u8], dir: &[u16], m: &[u8], k: Flat, none: bool, at: usize, bit: usize) -> Step
-    requires { ⌜ (Accepted (now b) (now dir)) × (FlatSound (length (P.parse (now b) .structs)) k) ⌝ }
+// What leads to no object. A struct is not tested.
+fn flat_step(b: &[u8], m: &[u8], k: Flat, none: bool, at: usize, bit: usize) -> Step
+    requires { ⌜ FlatSound (length (P.parse (now b) .structs)) k ⌝ }
     requires { ⌜ (at + S.flatWidth (S.structSize (P.parse (now b))) k ≤ length (now m)) × (bit < 8) × (at < 2 ^ 60) ⌝ }
-    ensures { λ r. ⌜ r ≡ T.flatStep (P.parse (now (b .entry))) (now (m .entry)) k none at bit ⌝ }
+    ensures { λ r. ⌜ r ≡ T.flatStep (now (m .entry)) k none at bit ⌝ }
 {
     match k {
         Flat::Boolean => Step::Value(wire::bit_value(wire::byte_in(m, at), bit)),
         Flat::Integer(_, w) => Step::Value(wire::number(m, at, wire::index(w))),
         Flat::Float(w) => float_step(none, w, wire::number(m, at, wire::index(w))),
         Flat::Enumerated(n) => enum_step(n, wire::byte_in(m, at)),
-        Flat::Struct(i) => struct_step(b, dir, m, i, at),
+        Flat::Struct(i) => Step::Struct(i, at),
     }
 }
 
-// What stands at a place of the message (and a bit of it, for a bool). `none`: a NaN is no value.
+// What stands at a place of the message (and a bit of it, for a bool). `none`: a NaN is no value. A struct is not tested.
 fn value_step(
     b: &[u8],
     dir: &[u16],
@@ -176,13 +172,13 @@ fn value_step(
     at: usize,
     bit: usize,
 ) -> Step
-    requires { ⌜ (Accepted (now b) (now dir)) × (KindSound (P.parse (now b)) k) ⌝ }
+    requires { ⌜ (Accepted (now b) (now dir)) × (KindSound (P.parse (now b)) k) × (tail < 2 ^ 48) ⌝ }
     requires { ⌜ (at + L.width B.u48 (P.parse (now b)) k ≤ length (now m)) × (bit < 8) × (at < 2 ^ 60) ⌝ }
     ensures { λ r. ⌜ r ≡ T.valueStep B.u48 (P.parse (now (b .entry))) (now (m .entry)) k none inplace tail at bit ⌝ }
 {
     match k {
-        Kind::OfFlat(f) => flat_step(b, dir, m, f, none, at, bit),
-        Kind::OfObject(ob) => object_step(ob, inplace, tail, wire::u48_in(m, at) as usize),
+        Kind::OfFlat(f) => flat_step(b, m, f, none, at, bit),
+        Kind::OfObject(ob) => object_step(b, ob, inplace, tail, wire::offset_in(m, at)),
         Kind::OfUnion(u) => union_step(
             b,
             dir,
@@ -190,44 +186,26 @@ fn value_step(
             inplace,
             tail,
             wire::u16_in(m, at) as u16,
-            wire::u48_in(m, at + 2) as usize,
+            wire::offset_in(m, at + 2),
         ),
     }
 }
 
-// ---- where a step leads, without reading a value
-fn flat_lead(b: &[u8], dir: &[u16], m: &[u8], k: Flat, none: bool, at: usize, bit: usize) -> Step
-    requires { ⌜ (Accepted (now b) (now dir)) × (FlatSound (length (P.parse (now b) .structs)) k) ⌝ }
-    requires { ⌜ at + S.flatWidth (S.structSize (P.parse (now b))) k ≤ length (now m) ⌝ }
-    ensures { λ r. ⌜ (r ≡ D.leadOf (T.flatStep (P.parse (now (b .entry))) (now (m .entry)) k none at bit)) × D.StepSmall (P.parse (now (b .entry))) r ⌝ }
+// ---- where a value leads: like its step, but no value is read
+// What leads to no object: a struct at its place, or nothing.
+fn flat_lead(k: Flat, at: usize) -> Step
+    ensures { λ r. ⌜ r ≡ D.flatLead k at ⌝ }
 {
     match k {
         Flat::Boolean => Step::Absent,
         Flat::Integer(_, _) => Step::Absent,
         Flat::Float(_) => Step::Absent,
         Flat::Enumerated(_) => Step::Absent,
-        Flat::Struct(i) => {
-            if message_layout::struct_ok(b, dir, m, wire::index(i), at) {
-                return Step::Absent;
-            }
-            Step::Refused(10)
-        }
+        Flat::Struct(i) => Step::Struct(i, at),
     }
 }
 
-fn object_lead(b: &[u8], ob: Object, inplace: bool, tail: usize, x: usize) -> Step
-    requires { ⌜ (ObjectSound (P.parse (now b)) ob) × (tail < 2 ^ 48) × (x < 2 ^ 48) ⌝ }
-    ensures { λ r. ⌜ (r ≡ D.leadOf (T.objectStep ob inplace tail x)) × D.StepSmall (P.parse (now (b .entry))) r ⌝ }
-{
-    if x == 0 {
-        return Step::Absent;
-    }
-    if inplace {
-        return Step::Object(ob, Place::InPlace(tail, x));
-    }
-    Step::Object(ob, Place::ByOffset(x))
-}
-
+// A union's choice c and its reference; an unknown choice leads nowhere.
 fn union_lead(
     b: &[u8],
     dir: &[u16],
@@ -238,7 +216,7 @@ fn union_lead(
     x: usize,
 ) -> Step
     requires { ⌜ (Accepted (now b) (now dir)) × (u < P.unionCount (now b)) × (tail < 2 ^ 48) × (x < 2 ^ 48) × (c < 2 ^ 16) ⌝ }
-    ensures { λ r. ⌜ (r ≡ D.leadOf (T.unionStep (Sc.casesOf (P.parse (now (b .entry))) u) inplace tail c x)) × D.StepSmall (P.parse (now (b .entry))) r ⌝ }
+    ensures { λ r. ⌜ (r ≡ D.withoutValue (T.unionStep (Sc.casesOf (P.parse (now (b .entry))) u) inplace tail c x)) × D.StepSmall (P.parse (now (b .entry))) r ⌝ }
 {
     if c == 0 {
         return Step::Absent;
@@ -253,24 +231,23 @@ fn union_lead(
     Step::Choice(c as u16, ob, Place::ByOffset(x))
 }
 
+// Where the value at a place of the message leads.
 fn value_lead(
     b: &[u8],
     dir: &[u16],
     m: &[u8],
     k: Kind,
-    none: bool,
     inplace: bool,
     tail: usize,
     at: usize,
-    bit: usize,
 ) -> Step
     requires { ⌜ (Accepted (now b) (now dir)) × (KindSound (P.parse (now b)) k) × (tail < 2 ^ 48) ⌝ }
     requires { ⌜ (at + L.width B.u48 (P.parse (now b)) k ≤ length (now m)) × (at < 2 ^ 60) ⌝ }
-    ensures { λ r. ⌜ (r ≡ D.leadOf (T.valueStep B.u48 (P.parse (now (b .entry))) (now (m .entry)) k none inplace tail at bit)) × D.StepSmall (P.parse (now (b .entry))) r ⌝ }
+    ensures { λ r. ⌜ (r ≡ D.valueLead B.u48 (P.parse (now (b .entry))) (now (m .entry)) k inplace tail at) × D.StepSmall (P.parse (now (b .entry))) r ⌝ }
 {
     match k {
-        Kind::OfFlat(f) => flat_lead(b, dir, m, f, none, at, bit),
-        Kind::OfObject(ob) => object_lead(b, ob, inplace, tail, wire::u48_in(m, at) as usize),
+        Kind::OfFlat(f) => flat_lead(f, at),
+        Kind::OfObject(ob) => object_step(b, ob, inplace, tail, wire::offset_in(m, at)),
         Kind::OfUnion(u) => union_lead(
             b,
             dir,
@@ -278,19 +255,125 @@ fn value_lead(
             inplace,
             tail,
             wire::u16_in(m, at) as usize,
-            wire::u48_in(m, at + 2) as usize,
+            wire::offset_in(m, at + 2),
         ),
     }
 }
 
-// ---- members
+// ---- members by their placement, in a table whose fixed part has n bytes from `start`; a struct is not tested
+// What member r holds.
+pub fn placed_step(
+    b: &[u8],
+    dir: &[u16],
+    m: &[u8],
+    start: usize,
+    n: usize,
+    p: Placement,
+    r: Member,
+) -> Step
+    requires { ⌜ (Accepted (now b) (now dir)) × (MemberSound (P.parse (now b)) r) × (start + n ≤ length (now m)) × (WithinSize (now m)) ⌝ }
+    requires { ⌜ D.Sits (L.width B.u48 (P.parse (now b)) (r .kind)) p ⌝ }
+    ensures { λ q. ⌜ q ≡ T.placedStep B.u48 (P.parse (now (b .entry))) (now (m .entry)) start n p r ⌝ }
+{
+    let k = r.kind;
+    let slot = p.value;
+    match reach_of(m, start, n, p, message_layout::has_flag(r)) {
+        Reach::Cut => Step::Refused(8),
+        Reach::Past => Step::Absent,
+        Reach::Here => value_step(
+            b,
+            dir,
+            m,
+            k,
+            r.optional,
+            r.inplace,
+            start + n,
+            start + slot.at,
+            slot.bit,
+        ),
+    }
+}
+
+// Where member r leads.
+pub fn placed_lead(
+    b: &[u8],
+    dir: &[u16],
+    m: &[u8],
+    start: usize,
+    n: usize,
+    p: Placement,
+    r: Member,
+) -> Step
+    requires { ⌜ (Accepted (now b) (now dir)) × (MemberSound (P.parse (now b)) r) × (start + n ≤ length (now m)) × (WithinSize (now m)) ⌝ }
+    requires { ⌜ D.Sits (L.width B.u48 (P.parse (now b)) (r .kind)) p ⌝ }
+    ensures { λ q. ⌜ (q ≡ D.withoutValue (T.placedStep B.u48 (P.parse (now (b .entry))) (now (m .entry)) start n p r)) × D.StepSmall (P.parse (now (b .entry))) q ⌝ }
+{
+    let k = r.kind;
+    let slot = p.value;
+    match reach_of(m, start, n, p, message_layout::has_flag(r)) {
+        Reach::Cut => Step::Refused(8),
+        Reach::Past => Step::Absent,
+        Reach::Here => value_lead(b, dir, m, k, r.inplace, start + n, start + slot.at),
+    }
+}
+
+// ---- the test of a struct that a step has found
+// Struct i at a place, or a refusal.
+fn struct_found(b: &[u8], dir: &[u16], m: &[u8], i: u8, at: usize) -> Step
+    requires { ⌜ (Accepted (now b) (now dir)) × (i < P.structCount (now b)) × (at + S.structSize (P.parse (now b)) i ≤ length (now m)) ⌝ }
+    ensures { λ r. ⌜ r ≡ T.structTested (P.parse (now (b .entry))) (now (m .entry)) (Step.Struct i at) ⌝ }
+{
+    if message_layout::struct_ok(b, dir, m, wire::index(i), at) {
+        return Step::Struct(i, at);
+    }
+    Step::Refused(10)
+}
+
+// A step whose struct, if it has found one, is tested.
+pub fn struct_tested(b: &[u8], dir: &[u16], m: &[u8], s: Step) -> Step
+    requires { ⌜ (Accepted (now b) (now dir)) × D.StructInside (now b) (now m) s ⌝ }
+    ensures { λ r. ⌜ r ≡ T.structTested (P.parse (now (b .entry))) (now (m .entry)) s ⌝ }
+{
+    match s {
+        Step::Refused(e) => Step::Refused(e),
+        Step::Absent => Step::Absent,
+        Step::Value(x) => Step::Value(x),
+        Step::Unknown(x) => Step::Unknown(x),
+        Step::Struct(i, at) => struct_found(b, dir, m, i, at),
+        Step::Object(ob, p) => Step::Object(ob, p),
+        Step::Choice(c, ob, p) => Step::Choice(c, ob, p),
+    }
+}
+
+// The same of a step that says where a member leads: a struct that is right leads nowhere.
+pub fn struct_lead(b: &[u8], dir: &[u16], m: &[u8], s: Step) -> Step
+    requires { ⌜ (Accepted (now b) (now dir)) × (D.StructInside (now b) (now m) s) × (D.StepSmall (P.parse (now b)) s) ⌝ }
+    ensures { λ r. ⌜ (r ≡ D.leadOf (T.structTested (P.parse (now (b .entry))) (now (m .entry)) s)) × D.StepSmall (P.parse (now (b .entry))) r ⌝ }
+{
+    match s {
+        Step::Refused(e) => Step::Refused(e),
+        Step::Absent => Step::Absent,
+        Step::Value(_) => Step::Absent,
+        Step::Unknown(_) => Step::Absent,
+        Step::Struct(i, at) => {
+            if message_layout::struct_ok(b, dir, m, wire::index(i), at) {
+                return Step::Absent;
+            }
+            Step::Refused(10)
+        }
+        Step::Object(ob, p) => Step::Object(ob, p),
+        Step::Choice(c, ob, p) => Step::Choice(c, ob, p),
+    }
+}
+
+// ---- members that come next, where the cursor stands
 // A member's step, and the cursor behind the member.
 pub struct SteppedMember {
     pub step: Step,
     pub next: Cursor,
 }
 
-// What member r holds, where the cursor stands, of a table whose fixed part has n bytes from `start`.
+// What member r holds, of a table whose fixed part has n bytes from `start`.
 pub fn member_step(
     b: &[u8],
     dir: &[u16],
@@ -300,41 +383,19 @@ pub fn member_step(
     c: Cursor,
     r: Member,
 ) -> SteppedMember
-    requires { ⌜ (Accepted (now b) (now dir)) × (MemberSound (P.parse (now b)) r) × (start + n ≤ length (now m)) × (length (now m) ≤ 16777215) ⌝ }
+    requires { ⌜ (Accepted (now b) (now dir)) × (MemberSound (P.parse (now b)) r) × (start + n ≤ length (now m)) × (WithinSize (now m)) ⌝ }
     requires { ⌜ (c .byte ≤ c .end) × (c .bit ≤ 8) × (c .end < 2 ^ 58) ⌝ }
     ensures { λ q. ⌜ D.Stepped (T.memberStep B.u48 (P.parse (now (b .entry))) (now (m .entry)) start n c r) (L.afterMember B.u48 (P.parse (now (b .entry))) r c) (c .end) (q .step) (q .next) ⌝ }
 {
-    let p = message_layout::place_member(b, dir, r, c);
-    let slot = p.slot;
-    let next = p.next;
-    let k = r.kind;
-    match reach_of(m, start, n, c, slot, message_layout::has_flag(r)) {
-        Reach::Cut => SteppedMember {
-            step: Step::Refused(8),
-            next,
-        },
-        Reach::Past => SteppedMember {
-            step: Step::Absent,
-            next,
-        },
-        Reach::Here => {
-            let step = value_step(
-                b,
-                dir,
-                m,
-                k,
-                r.optional,
-                r.inplace,
-                start + n,
-                start + slot.at,
-                slot.bit,
-            );
-            SteppedMember { step, next }
-        }
-    }
+    let q = message_layout::place_member(b, dir, r, c);
+    let p = q.placement;
+    let next = q.next;
+    let found = placed_step(b, dir, m, start, n, p, r);
+    let step = struct_tested(b, dir, m, found);
+    SteppedMember { step, next }
 }
 
-// Where it leads.
+// Where member r leads.
 pub fn member_lead(
     b: &[u8],
     dir: &[u16],
@@ -344,57 +405,28 @@ pub fn member_lead(
     c: Cursor,
     r: Member,
 ) -> SteppedMember
-    requires { ⌜ (Accepted (now b) (now dir)) × (MemberSound (P.parse (now b)) r) × (start + n ≤ length (now m)) × (length (now m) ≤ 16777215) ⌝ }
+    requires { ⌜ (Accepted (now b) (now dir)) × (MemberSound (P.parse (now b)) r) × (start + n ≤ length (now m)) × (WithinSize (now m)) ⌝ }
     requires { ⌜ (c .byte ≤ c .end) × (c .bit ≤ 8) × (c .end < 2 ^ 58) ⌝ }
     ensures { λ q. ⌜ (D.Stepped (D.leadOf (T.memberStep B.u48 (P.parse (now (b .entry))) (now (m .entry)) start n c r)) (L.afterMember B.u48 (P.parse (now (b .entry))) r c) (c .end) (q .step) (q .next)) × D.StepSmall (P.parse (now (b .entry))) (q .step) ⌝ }
 {
-    let p = message_layout::place_member(b, dir, r, c);
-    let slot = p.slot;
-    let next = p.next;
-    let k = r.kind;
-    match reach_of(m, start, n, c, slot, message_layout::has_flag(r)) {
-        Reach::Cut => SteppedMember {
-            step: Step::Refused(8),
-            next,
-        },
-        Reach::Past => SteppedMember {
-            step: Step::Absent,
-            next,
-        },
-        Reach::Here => {
-            let step = value_lead(
-                b,
-                dir,
-                m,
-                k,
-                r.optional,
-                r.inplace,
-                start + n,
-                start + slot.at,
-                slot.bit,
-            );
-            SteppedMember { step, next }
-        }
-    }
+    let q = message_layout::place_member(b, dir, r, c);
+    let p = q.placement;
+    let next = q.next;
+    let found = placed_lead(b, dir, m, start, n, p, r);
+    let step = struct_lead(b, dir, m, found);
+    SteppedMember { step, next }
 }
 
 // ---- elements
-// The bytes of i elements of width w.
-fn times(w: usize, i: usize) -> usize
-    requires { ⌜ (w ≤ 4096) × (i < 2 ^ 40) ⌝ }
-    ensures { λ r. ⌜ (r ≡ w * i) × (r ≤ 4096 * 2 ^ 40) ⌝ }
-{
-    w * i
-}
-
-pub fn element_place(b: &[u8], dir: &[u16], k: Kind, start: usize, i: usize) -> usize
+// Where element i of a list stands whose elements start at `start`; for a bool the byte.
+fn element_place(b: &[u8], dir: &[u16], k: Kind, start: usize, i: usize) -> usize
     requires { ⌜ (Accepted (now b) (now dir)) × (KindSound (P.parse (now b)) k) × (start < 2 ^ 59) × (i < 2 ^ 40) ⌝ }
     ensures { λ r. ⌜ r ≡ T.elementPlace B.u48 (P.parse (now (b .entry))) k start i ⌝ }
 {
     if message_layout::is_bool(k) {
         return start + wire::eighth(i);
     }
-    start + times(message_layout::width(b, dir, k), i)
+    start + message_layout::times(message_layout::width(b, dir, k), i)
 }
 
 // Element i of a list of n elements that start at `start`.
@@ -407,28 +439,11 @@ pub fn element_step(
     n: usize,
     i: usize,
 ) -> Step
-    requires { ⌜ (Accepted (now b) (now dir)) × (KindSound (P.parse (now b)) k) × (length (now m) ≤ 16777215) ⌝ }
+    requires { ⌜ (Accepted (now b) (now dir)) × (KindSound (P.parse (now b)) k) × (WithinSize (now m)) ⌝ }
     requires { ⌜ (start + T.elementsSize B.u48 (P.parse (now b)) k n ≤ length (now m)) × (i < n) ⌝ }
     ensures { λ r. ⌜ r ≡ T.elementStep B.u48 (P.parse (now (b .entry))) (now (m .entry)) k start i ⌝ }
 {
     let at = element_place(b, dir, k, start, i);
-    value_step(b, dir, m, k, true, false, 0, at, wire::low_three(i))
-}
-
-// Where it leads.
-pub fn element_lead(
-    b: &[u8],
-    dir: &[u16],
-    m: &[u8],
-    k: Kind,
-    start: usize,
-    n: usize,
-    i: usize,
-) -> Step
-    requires { ⌜ (Accepted (now b) (now dir)) × (KindSound (P.parse (now b)) k) × (length (now m) ≤ 16777215) ⌝ }
-    requires { ⌜ (start + T.elementsSize B.u48 (P.parse (now b)) k n ≤ length (now m)) × (i < n) ⌝ }
-    ensures { λ r. ⌜ (r ≡ D.leadOf (T.elementStep B.u48 (P.parse (now (b .entry))) (now (m .entry)) k start i)) × D.StepSmall (P.parse (now (b .entry))) r ⌝ }
-{
-    let at = element_place(b, dir, k, start, i);
-    value_lead(b, dir, m, k, true, false, 0, at, wire::low_three(i))
+    let found = value_step(b, dir, m, k, true, false, 0, at, wire::low_three(i));
+    struct_tested(b, dir, m, found)
 }

@@ -1,5 +1,5 @@
 -- What the answer of reading to a sheet says: number 0 is an accepted message whose sheet was handed out.
-use mathlib.Core.Path.{_≡_, refl, sym, ap, _∙_, subst}
+use mathlib.Core.Path.{_≡_, refl, sym, ap, _∙_}
 use mathlib.Core.Bool.{Bool, true, false, _&&_}
 use mathlib.Core.List.{List, _++_}
 use mathlib.Core.Logic.{_⊎_, inl, inr}
@@ -11,11 +11,12 @@ use lib.Dec.{leb, eqb}
 use borrow.Author.Tests.{eqb-true, eqb-false, eq-eqb, leb-true, le-leb, lt-leb}
 use Rattle.coding.specs.Lists.{pick}
 use Rattle.coding.specs.Bytes.{u48, largest}
-use Rattle.coding.specs.Walk.{verdict}
+use Rattle.coding.specs.Walk.{spending, atZero, spentOf, verdict}
 use Rattle.coding.specs.Message.{messageSheet, fitsRoom, readAnswer, readOut}
 use Rattle.coding.specs.declared.Budget.{Budget}
 use Rattle.coding.specs.declared.ReadAnswer.{ReadAnswer}
 use Rattle.coding.specs.declared.Verdict.{Verdict}
+use Rattle.promises.specs.Words.{NoRoom, HandsOut, KeepsOnRefusal}
 
 -- the sheet of an accepted message stands in the output
 pub record Handed (b m : List ℕ) (budget : Budget) (a : ReadAnswer) (out : List ℕ) : Type 0 where
@@ -56,7 +57,7 @@ module _ (b m : List ℕ) (budget : Budget) (out : List ℕ) where
       pick s
       (pick t
       (record { verdict = judged; length = length sheet })
-      (record { verdict = record { number = 14; place = 0; visits = judged .visits }; length = 0 }))
+      (record { verdict = atZero 14 (spentOf judged); length = 0 }))
       (record { verdict = judged; length = 0 })
 
   abbrev outBy : Bool → Bool → List ℕ
@@ -76,18 +77,22 @@ module _ (b m : List ℕ) (budget : Budget) (out : List ℕ) where
   handed a out′ ea eo h =
       rw (ea, eo) (handed-by _ _ refl refl (ap (λ (x : ReadAnswer). x .verdict .number) (sym ea) ∙ h))
 
-  room-by : (s t : Bool) → eqb (judged .number) 0 ≡ s → judged .number ≡ 0 → (answerBy s t .verdict .number ≡ 14 → ⊥) → answerBy s t .verdict .number ≡ 0
-  room-by true true e h room = h
-  room-by true false e h room = absurd (room refl)
-  room-by false t e h room = h
+  -- what is handed out is the sheet of the rules
+  pub hands-out : (a : ReadAnswer) (out′ : List ℕ) → a ≡ readAnswer u48 b m budget out → out′ ≡ readOut u48 b m budget out
+      → HandsOut a out′ (messageSheet u48 b m)
+  hands-out a out′ ea eo h = handed a out′ ea eo h .sheet
 
-  -- an accepted message is read, or there is no room
-  pub given-room : (a : ReadAnswer) → a ≡ readAnswer u48 b m budget out → judged .number ≡ 0 → (a .verdict .number ≡ 14 → ⊥)
-      → a .verdict .number ≡ 0
+  read-by : (s t : Bool) → eqb (judged .number) 0 ≡ s → judged .number ≡ 0
+      → ((answerBy s t .verdict .number ≡ 0) ⊎ (answerBy s t .verdict .number ≡ 14)) × (answerBy s t .verdict .visits ≡ judged .visits)
+  read-by true true e h = (inl h, refl)
+  read-by true false e h = (inr refl, refl)
+  read-by false t e h = (inl h, refl)
+
+  -- an accepted message is read, or there is no room; either way with the full visits
+  pub read-or-room : (a : ReadAnswer) → a ≡ readAnswer u48 b m budget out → judged .number ≡ 0
+      → ((a .verdict .number ≡ 0) ⊎ (a .verdict .number ≡ 14)) × (a .verdict .visits ≡ judged .visits)
   unfolding readAnswer
-  given-room a ea h room =
-      ap (λ (x : ReadAnswer). x .verdict .number) ea
-      ∙ room-by _ (fitsRoom sheet out) refl h (λ z. room (ap (λ (x : ReadAnswer). x .verdict .number) ea ∙ z))
+  read-or-room a ea h = rw ea (read-by _ (fitsRoom sheet out) refl h)
 
   -- where its sheet fits, it is read
   pub fits-read : (a : ReadAnswer) → a ≡ readAnswer u48 b m budget out → judged .number ≡ 0 → length sheet ≤ largest → length sheet ≤ length out
@@ -111,8 +116,8 @@ module _ (b m : List ℕ) (budget : Budget) (out : List ℕ) where
   read-fits a ea h = fits-by _ _ refl refl (ap (λ (x : ReadAnswer). x .verdict .number) (sym ea) ∙ h)
 
   -- "then 14 with the full visits"
-  pub no-room : (n : ℕ) (a : ReadAnswer) → a ≡ readAnswer u48 b m budget out → judged ≡ record { number = 0; place = 0; visits = n }
-      → (largest < length sheet) ⊎ (length out < length sheet) → a ≡ record { verdict = record { number = 14; place = 0; visits = n }; length = 0 }
+  pub no-room : (n : ℕ) (a : ReadAnswer) → a ≡ readAnswer u48 b m budget out → judged ≡ atZero 0 (spending n)
+      → NoRoom sheet out → a ≡ record { verdict = atZero 14 (spending n); length = 0 }
   unfolding readAnswer
   no-room n a ea h x = ea ∙ rw (h, not-fits sheet out x)
 
@@ -124,7 +129,7 @@ module _ (b m : List ℕ) (budget : Budget) (out : List ℕ) where
 
   -- "on refusal the length is 0 and the output is unchanged"
   pub refused-kept : (a : ReadAnswer) (out′ : List ℕ) → a ≡ readAnswer u48 b m budget out → out′ ≡ readOut u48 b m budget out
-      → (a .verdict .number ≡ 0 → ⊥) → (a .length ≡ 0) × (out′ ≡ out)
+      → KeepsOnRefusal (a .verdict .number) (a .length) out out′
   unfolding readAnswer readOut
   refused-kept a out′ ea eo h =
       rw (ea, eo) (kept-by _ (fitsRoom sheet out) refl (λ z. h (ap (λ (x : ReadAnswer). x .verdict .number) ea ∙ z)))

@@ -1,41 +1,36 @@
 -- The demands of writing, of what the writer and then the reader answer.
-use mathlib.Core.Path.{_≡_, refl, sym, ap, _∙_}
-use mathlib.Core.Bool.{true, false}
+use mathlib.Core.Path.{_≡_, sym, ap, _∙_}
 use mathlib.Core.List.{List, _++_}
-use mathlib.Core.Option.{some}
+use mathlib.Core.Logic.{_⊎_}
 use Prim.Native.Nat.{ℕ, _<_, _≤_}
 use lib.ListN.{length, take, drop}
 use borrow.Author.Tests.{le-leb}
-use Rattle.coding.specs.Bytes.{u48, deepest, largest}
+use Rattle.coding.specs.Bytes.{u48}
 use Rattle.coding.specs.Packed.{parse}
-use Rattle.coding.specs.Lawful.{lawful}
-use Rattle.coding.specs.Walk.{verdict}
+use Rattle.coding.specs.Walk.{refusal, spending, verdictAt, atZero, verdict}
 use Rattle.coding.specs.Value.{Value}
-use Rattle.coding.specs.Sheet.{sheetTree}
-use Rattle.coding.specs.Message.{message, writable, messageOf, written, writeRoom, writeOver, writeAnswer, writeOut, readAnswer, readOut}
+use Rattle.coding.specs.Message.{message, messageOf, messageSheet, written, writeRoom, writeOver, writeAnswer, writeOut, readAnswer, readOut}
 use Rattle.coding.specs.Append.{Appends, sheetWith}
-use Rattle.coding.specs.declared.Object.the-variants as O
 use Rattle.coding.specs.declared.Budget.{Budget}
 use Rattle.coding.specs.declared.Verdict.{Verdict}
 use Rattle.coding.specs.declared.ReadAnswer.{ReadAnswer}
 use Rattle.coding.specs.declared.WriteAnswer.{WriteAnswer}
 use Rattle.demands.specs.Appending.{AreBytes}
-use Rattle.demands.specs.RoundTrip.{enough, written-layout, written-verdict, written-too-little, written-answer, written-out}
+use Rattle.demands.specs.RoundTrip.{enough, written-layout, written-verdict, written-sheet, written-too-little, written-answer, written-out}
 use Rattle.demands.specs.NewerAgrees.{newer-agrees}
 use Rattle.demands.specs.WrittenSheet.{WrittenAs, written-as}
-use Rattle.promises.proofs.Reading.{handed, given-room}
+use Rattle.promises.specs.Words.{Fits, HandsOut, Writable, layoutOf}
+use Rattle.promises.proofs.Reading.{hands-out, read-or-room}
 use Rattle.promises.proofs.Writing.{made}
 
 -- ---- writing
 pub lays-out : (b s out : List ℕ) (a : WriteAnswer) → a ≡ writeAnswer u48 b s out → (out′ : List ℕ) → out′ ≡ writeOut u48 b s out → (v : Value)
-    → lawful b ≡ true → sheetTree (parse b) s ≡ some v → writable deepest u48 (parse b) (O.Table (parse b .root)) v ≡ true
-    → length (messageOf u48 (parse b) v) ≤ largest → length (messageOf u48 (parse b) v) ≤ length out
-    → (a ≡ record { number = 0; length = length (messageOf u48 (parse b) v) })
-    × (out′ ≡ messageOf u48 (parse b) v ++ drop (length (messageOf u48 (parse b) v)) out)
+    → Writable u48 b s v → Fits (layoutOf u48 b v) out
+    → (a ≡ record { number = 0; length = length (layoutOf u48 b v) }) × (out′ ≡ layoutOf u48 b v ++ drop (length (layoutOf u48 b v)) out)
 unfolding writeAnswer writeOut writeRoom writeOver
-lays-out b s out a ea out′ eo v l d w z r =
-    let e = written-layout u48 b s v l d w .0 z in
-    let f = le-leb (length (messageOf u48 (parse b) v)) (length out) r in
+lays-out b s out a ea out′ eo v w z =
+    let e = written-layout u48 b s v (w .0) (w .1) (w .2) .0 (z .0) in
+    let f = le-leb (length (messageOf u48 (parse b) v)) (length out) (z .1) in
     (ea ∙ rw (e, f), eo ∙ rw (e, f))
 
 pub lays-out-only : (b s out : List ℕ) (a : WriteAnswer) → a ≡ writeAnswer u48 b s out → (out′ : List ℕ) → out′ ≡ writeOut u48 b s out
@@ -44,40 +39,50 @@ lays-out-only b s out a ea out′ eo h = written-as u48 b s (take (a .length) ou
 
 -- ---- writing, then reading
 module _ (b s : List ℕ) (schema-bytes : AreBytes b) (sheet-bytes : AreBytes s) (room room′ : List ℕ) (w : WriteAnswer)
-    (ew : w ≡ writeAnswer u48 b s room) (er : room′ ≡ writeOut u48 b s room) (h : w .number ≡ 0) (budget : Budget) where
+    (ew : w ≡ writeAnswer u48 b s room) (er : room′ ≡ writeOut u48 b s room) (h : w .number ≡ 0) where
   is-made : written u48 b s ≡ message (take (w .length) room′)
   is-made = made b s room w ew room′ er h
 
-  module _ (out out′ : List ℕ) (a : ReadAnswer) (ea : a ≡ readAnswer u48 b (take (w .length) room′) budget out)
+  -- the rules give the sheet of which the message was made
+  pub trip-sheet : messageSheet u48 b (take (w .length) room′) ≡ s
+  trip-sheet = written-sheet u48 b s (take (w .length) room′) schema-bytes sheet-bytes is-made
+
+  module _ (budget : Budget) (out out′ : List ℕ) (a : ReadAnswer) (ea : a ≡ readAnswer u48 b (take (w .length) room′) budget out)
       (eo : out′ ≡ readOut u48 b (take (w .length) room′) budget out) where
     pub reads-back : enough b s ≤ budget .visits → length s ≤ length out
-        → (a ≡ record { verdict = record { number = 0; place = 0; visits = enough b s }; length = length s }) × (out′ ≡ s ++ drop (length s) out)
+        → (a ≡ record { verdict = atZero 0 (spending (enough b s)); length = length s }) × (out′ ≡ s ++ drop (length s) out)
     reads-back l r = (
-      ea ∙ written-answer b s (take (w .length) room′) schema-bytes sheet-bytes is-made budget out l r,
-      eo ∙ written-out b s (take (w .length) room′) schema-bytes sheet-bytes is-made budget out l r,
+      ea ∙ written-answer u48 b s (take (w .length) room′) schema-bytes sheet-bytes is-made budget out l r,
+      eo ∙ written-out u48 b s (take (w .length) room′) schema-bytes sheet-bytes is-made budget out l r,
     )
 
     pub spends-all : budget .visits < enough b s
-        → (at : ℕ) × (a ≡ record { verdict = record { number = 4; place = at; visits = budget .visits }; length = 0 }) × (out′ ≡ out)
+        → (at : ℕ) × (a ≡ record { verdict = verdictAt (refusal 4 at) (spending (budget .visits)); length = 0 }) × (out′ ≡ out)
     unfolding readAnswer readOut
     spends-all l =
-        let t = written-too-little b s (take (w .length) room′) schema-bytes sheet-bytes is-made budget l in
+        let t = written-too-little u48 b s (take (w .length) room′) schema-bytes sheet-bytes is-made budget l in
         (t .0, ea ∙ rw (t .1), eo ∙ rw (t .1))
 
   -- ---- writing under the older schema, then reading by the newer
-  module _ (newer : List ℕ) (appends : Appends b newer) where
-    pub same-verdict : (r q : Verdict) → r ≡ verdict u48 b (take (w .length) room′) budget → q ≡ verdict u48 newer (take (w .length) room′) budget
+  module _ (newer : List ℕ) (appends : Appends u48 b newer) where
+    pub same-verdict : (budget : Budget) (r q : Verdict) → r ≡ verdict u48 b (take (w .length) room′) budget → q ≡ verdict u48 newer (take (w .length) room′) budget
         → q ≡ r
-    same-verdict r q e f =
-        f ∙ newer-agrees b newer s (take (w .length) room′) schema-bytes sheet-bytes appends is-made .verdicts budget ∙ sym e
+    same-verdict budget r q e f =
+        f ∙ newer-agrees u48 b newer s (take (w .length) room′) schema-bytes sheet-bytes appends is-made .verdicts budget ∙ sym e
 
-    pub reads-added : (out out′ : List ℕ) (a : ReadAnswer) → a ≡ readAnswer u48 newer (take (w .length) room′) budget out
-        → out′ ≡ readOut u48 newer (take (w .length) room′) budget out → enough b s ≤ budget .visits → (a .verdict .number ≡ 14 → ⊥)
-        → (a .verdict .number ≡ 0) × (a .verdict .visits ≡ enough b s) × (take (a .length) out′ ≡ sheetWith u48 b newer s)
-    reads-added out out′ a ea eo l free =
-        let m = take (w .length) room′ in
-        let agrees = newer-agrees b newer s m schema-bytes sheet-bytes appends is-made in
-        let v = agrees .verdicts budget ∙ written-verdict b s m schema-bytes sheet-bytes is-made budget l in
-        let n = given-room newer m budget out a ea (ap (λ (x : Verdict). x .number) v) free in
-        let got = handed newer m budget out a out′ ea eo n in
-        (n, got .visits ∙ ap (λ (x : Verdict). x .visits) v, got .sheet ∙ agrees .newer-sheet)
+    pub added-sheet : messageSheet u48 newer (take (w .length) room′) ≡ sheetWith u48 b newer s
+    added-sheet = newer-agrees u48 b newer s (take (w .length) room′) schema-bytes sheet-bytes appends is-made .newer-sheet
+
+    module _ (budget : Budget) (out out′ : List ℕ) (a : ReadAnswer) (ea : a ≡ readAnswer u48 newer (take (w .length) room′) budget out)
+        (eo : out′ ≡ readOut u48 newer (take (w .length) room′) budget out) where
+      pub reads-added : enough b s ≤ budget .visits
+          → ((a .verdict .number ≡ 0) ⊎ (a .verdict .number ≡ 14)) × (a .verdict .visits ≡ enough b s)
+      reads-added l =
+          let m = take (w .length) room′ in
+          let agrees = newer-agrees u48 b newer s m schema-bytes sheet-bytes appends is-made in
+          let v = agrees .verdicts budget ∙ written-verdict u48 b s m schema-bytes sheet-bytes is-made budget l in
+          let y = read-or-room newer m budget out a ea (ap (λ (x : Verdict). x .number) v) in
+          (y .0, y .1 ∙ ap (λ (x : Verdict). x .visits) v)
+
+      pub hands-added : HandsOut a out′ (sheetWith u48 b newer s)
+      hands-added h = hands-out newer (take (w .length) room′) budget out a out′ ea eo h ∙ added-sheet

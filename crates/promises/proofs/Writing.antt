@@ -19,6 +19,7 @@ use Rattle.coding.specs.Sheet.{sheetTree}
 use Rattle.coding.specs.Message.{Written, refused, message, writable, messageOf, writtenTree, written, writeRoom, writeOver, writeAnswer, writeOut}
 use Rattle.coding.specs.declared.Object.the-variants as O
 use Rattle.coding.specs.declared.WriteAnswer.{WriteAnswer}
+use Rattle.promises.specs.Words.{KeepsOnRefusal}
 
 -- ---- the writer refuses by 1, 11, 12 or 13, and never by 0
 abbrev Refuses : Written → Type 0
@@ -37,7 +38,7 @@ tree-refuses S (Op.some v) = by (writable deepest u48 S (O.Table (S .root)) v) (
 
 writes-or-refuses : (b s : List ℕ) → Refuses (written u48 b s)
 unfolding written
-writes-or-refuses b s = by (lawful b)
+writes-or-refuses b s = by (lawful u48 b)
   where
     by : (t : Bool) → Refuses (pick t (writtenTree u48 (parse b) (sheetTree (parse b) s)) (refused 1))
     by true = tree-refuses (parse b) (sheetTree (parse b) s)
@@ -96,6 +97,6 @@ module _ (b s out : List ℕ) (a : WriteAnswer) (ea : a ≡ writeAnswer u48 b s 
       rw (ea, eo) (room-made (written u48 b s) (writes-or-refuses b s) out (ap (λ (x : WriteAnswer). x .number) (sym ea) ∙ h))
 
   -- "on refusal the length is 0 and the output is unchanged"
-  pub kept : (out′ : List ℕ) → out′ ≡ writeOut u48 b s out → (a .number ≡ 0 → ⊥) → (a .length ≡ 0) × (out′ ≡ out)
+  pub kept : (out′ : List ℕ) → out′ ≡ writeOut u48 b s out → KeepsOnRefusal (a .number) (a .length) out out′
   unfolding writeAnswer writeOut
   kept out′ eo h = rw (ea, eo) (room-kept (written u48 b s) out (λ z. h (ap (λ (x : WriteAnswer). x .number) ea ∙ z)))

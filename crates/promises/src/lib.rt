@@ -2,46 +2,43 @@
 // the demand itself, in the words of `coding` and `demands`: it follows from the contracts of what is called and a theorem.
 use coding::Answer;
 use coding::Budget;
-use coding::Found;
-use coding::Object;
 use coding::ReadAnswer;
 use coding::Refusal;
 use coding::Span;
 use coding::Verdict;
 use coding::WriteAnswer;
+use field_element::ListStep;
+use field_reader::ListReader;
 ghost use mathlib.Core.Path.{_≡_};
-ghost use mathlib.Core.List.{List, [], _∷_, _++_};
+ghost use mathlib.Core.List.{[], _∷_, _++_};
 ghost use mathlib.Core.Logic.{_↔_, _⊎_};
 ghost use mathlib.Core.Option.{some};
 ghost use mathlib.Core.Bool.{true};
-ghost use Prim.Native.Nat.{ℕ, _+_, _*_, _/_, _<_, _≤_};
+ghost use Prim.Native.Nat.{ℕ, _+_, _/_, _<_, _≤_};
 ghost use lib.ListN.{length, take, drop};
 ghost use Rattle.coding.specs.Append as Ap;
 ghost use Rattle.coding.specs.Bytes as B;
 ghost use Rattle.coding.specs.Field as F;
-ghost use Rattle.coding.specs.Lawful.{lawful};
 ghost use Rattle.coding.specs.Message as M;
-ghost use Rattle.coding.specs.Packed as P;
-ghost use Rattle.coding.specs.Read as Rd;
-ghost use Rattle.coding.specs.Schema.{elementOf};
-ghost use Rattle.coding.specs.Sheet as S;
 ghost use Rattle.coding.specs.Value.{Value};
 ghost use Rattle.coding.specs.Walk as W;
-ghost use Rattle.demands.specs.Arrivals.{LawfulMessage, messageArrivals};
-ghost use Rattle.demands.specs.FieldEntries.{shown, textAt};
-ghost use Rattle.demands.specs.Fields.{sheetEntry};
+ghost use Rattle.demands.specs.Arrivals.{LawfulMessage};
+ghost use Rattle.demands.specs.FieldEntries.{shown};
 ghost use Rattle.demands.specs.RoundTrip.{enough};
 ghost use Rattle.demands.specs.Texts.{IsText};
 ghost use Rattle.demands.specs.WrittenSheet.{WrittenAs};
+ghost use Rattle.promises.specs.Reader.{Stepped};
+ghost use Rattle.promises.specs.Words.{given, after, Accepts, arrivals, values, treeOf, Fits, NoRoom, HandsOut, KeepsOnRefusal};
+ghost use Rattle.promises.specs.Words.{entryAt, textAt, LeadsToList, HoldsAnswers, Writable, layoutOf};
 
 // Judging a message.
 pub fn judged(schema: &[u8], message: &[u8], budget: Budget) -> Verdict
     // "Judging answers number, place and visits", as the walk gives them, of refusals too
-    ensures whole { λ r. ⌜ r ≡ W.verdict B.u48 (now (schema .entry)) (now (message .entry)) budget ⌝ }
-    // "a message is accepted exactly when every object reached by its schema is lawful, within depth and budget"
-    ensures exactly { λ r. ⌜ (r .number ≡ 0) ↔ LawfulMessage B.u48 (now (schema .entry)) (now (message .entry)) budget ⌝ }
+    ensures whole { λ r. ⌜ r ≡ W.verdict B.u48 (given schema) (given message) budget ⌝ }
+    // a message is accepted exactly when every object reached by its schema is lawful, within depth and budget
+    ensures exactly { λ r. ⌜ (r .number ≡ 0) ↔ LawfulMessage B.u48 (given schema) (given message) budget ⌝ }
     // "visits in the verdict equal the arrivals of the walk's definition, shared objects counted each time"
-    ensures arrivals { λ r. ⌜ (r .number ≡ 0 → r .visits ≡ messageArrivals B.u48 (P.parse (now (schema .entry))) (now (message .entry))) ⌝ }
+    ensures arrivals { λ r. ⌜ (r .number ≡ 0 → r .visits ≡ arrivals B.u48 (given schema) (given message)) ⌝ }
 {
     judge::judge(schema, message, budget)
 }
@@ -49,19 +46,21 @@ pub fn judged(schema: &[u8], message: &[u8], budget: Budget) -> Verdict
 // Reading a message to a sheet.
 pub fn read(schema: &[u8], message: &[u8], budget: Budget, out: &mut [u8]) -> ReadAnswer
     // the answer and the output are the definition's, of refusals too
-    ensures whole { λ r. ⌜ r ≡ M.readAnswer B.u48 (now (schema .entry)) (now (message .entry)) budget (now (out .entry)) ⌝ }
-    ensures output { λ _. ⌜ now (out .exit) ≡ M.readOut B.u48 (now (schema .entry)) (now (message .entry)) budget (now (out .entry)) ⌝ }
-    // "a message is accepted exactly when every object reached by its schema is lawful, within depth and budget": number 0 comes
+    ensures whole { λ r. ⌜ r ≡ M.readAnswer B.u48 (given schema) (given message) budget (given out) ⌝ }
+    ensures output { λ _. ⌜ after out ≡ M.readOut B.u48 (given schema) (given message) budget (given out) ⌝ }
+    // a message is accepted exactly when every object reached by its schema is lawful, within depth and budget: number 0 comes
     // exactly then, if the sheet is within the size and the room
-    ensures exactly { λ r. ⌜ (r .verdict .number ≡ 0) ↔ ((LawfulMessage B.u48 (now (schema .entry)) (now (message .entry)) budget) × (length (M.messageSheet B.u48 (now (schema .entry)) (now (message .entry))) ≤ B.largest) × (length (M.messageSheet B.u48 (now (schema .entry)) (now (message .entry))) ≤ length (now (out .entry)))) ⌝ }
+    ensures exactly { λ r. ⌜ (r .verdict .number ≡ 0) ↔ ((LawfulMessage B.u48 (given schema) (given message) budget) × (Fits (M.messageSheet B.u48 (given schema) (given message)) (given out))) ⌝ }
     // "visits in the verdict equal the arrivals of the walk's definition, shared objects counted each time"
-    ensures arrivals { λ r. ⌜ (r .verdict .number ≡ 0 → r .verdict .visits ≡ messageArrivals B.u48 (P.parse (now (schema .entry))) (now (message .entry))) ⌝ }
+    ensures arrivals { λ r. ⌜ (r .verdict .number ≡ 0 → r .verdict .visits ≡ arrivals B.u48 (given schema) (given message)) ⌝ }
     // "then 14 with the full visits"
-    ensures room { λ r. ⌜ (LawfulMessage B.u48 (now (schema .entry)) (now (message .entry)) budget → (B.largest < length (M.messageSheet B.u48 (now (schema .entry)) (now (message .entry)))) ⊎ (length (now (out .entry)) < length (M.messageSheet B.u48 (now (schema .entry)) (now (message .entry)))) → r ≡ record { verdict = record { number = 14; place = 0; visits = messageArrivals B.u48 (P.parse (now (schema .entry))) (now (message .entry)) }; length = 0 }) ⌝ }
+    ensures room { λ r. ⌜ (LawfulMessage B.u48 (given schema) (given message) budget → NoRoom (M.messageSheet B.u48 (given schema) (given message)) (given out) → r ≡ record { verdict = W.atZero 14 (W.spending (arrivals B.u48 (given schema) (given message))); length = 0 }) ⌝ }
     // "on refusal the length is 0 and the output is unchanged"
-    ensures kept { λ r. ⌜ ((r .verdict .number ≡ 0 → ⊥) → (r .length ≡ 0) × (now (out .exit) ≡ now (out .entry))) ⌝ }
-    // "the sheet of an accepted message is lawful": what is handed out decodes to the values that the message holds
-    ensures lawful { λ r. ⌜ (r .verdict .number ≡ 0 → S.sheetTree (P.parse (now (schema .entry))) (take (r .length) (now (out .exit))) ≡ some (Rd.messageRead B.u48 (P.parse (now (schema .entry))) (now (message .entry)))) ⌝ }
+    ensures kept { λ r. ⌜ KeepsOnRefusal (r .verdict .number) (r .length) (given out) (after out) ⌝ }
+    // what is handed out is the sheet of the rules
+    ensures sheet { λ r. ⌜ HandsOut r (after out) (M.messageSheet B.u48 (given schema) (given message)) ⌝ }
+    // the sheet of an accepted message is lawful: what is handed out decodes to the values that the message holds
+    ensures lawful { λ r. ⌜ (r .verdict .number ≡ 0 → treeOf (given schema) (take (r .length) (after out)) ≡ some (values B.u48 (given schema) (given message))) ⌝ }
 {
     sheet::read(schema, message, budget, out)
 }
@@ -72,9 +71,13 @@ pub struct Verdicts {
     pub newer: Verdict,
 }
 
-// "whatever bytes the newer accepts with a budget, the older accepts with the same budget"
+// Judging one message by two schemas.
 pub fn judged_by_both(older: &[u8], newer: &[u8], message: &[u8], budget: Budget) -> Verdicts
-    ensures { λ r. ⌜ (Ap.Appends (now (older .entry)) (now (newer .entry)) → r .newer .number ≡ 0 → (r .older .number ≡ 0) × (r .older .visits ≤ r .newer .visits)) ⌝ }
+    // each verdict is the definition's
+    ensures by_older { λ r. ⌜ r .older ≡ W.verdict B.u48 (given older) (given message) budget ⌝ }
+    ensures by_newer { λ r. ⌜ r .newer ≡ W.verdict B.u48 (given newer) (given message) budget ⌝ }
+    // whatever bytes the newer accepts with a budget, the older accepts with the same budget
+    ensures accepts { λ r. ⌜ (Ap.Appends B.u48 (given older) (given newer) → r .newer .number ≡ 0 → (r .older .number ≡ 0) × (r .older .visits ≤ r .newer .visits)) ⌝ }
 {
     let by_older = judge::judge(older, message, budget);
     let by_newer = judge::judge(newer, message, budget);
@@ -90,7 +93,7 @@ pub struct Sheets {
     pub newer: ReadAnswer,
 }
 
-// "the older's sheet is the newer's sheet without the appended members, as bytes", given room: wherever 14 is not the answer.
+// Reading one message to its sheets by two schemas.
 pub fn read_by_both(
     older: &[u8],
     newer: &[u8],
@@ -99,7 +102,18 @@ pub fn read_by_both(
     first: &mut [u8],
     second: &mut [u8],
 ) -> Sheets
-    ensures { λ r. ⌜ (Ap.Appends (now (older .entry)) (now (newer .entry)) → r .newer .verdict .number ≡ 0 → (r .older .verdict .number ≡ 14 → ⊥) → (r .older .verdict .number ≡ 0) × (take (r .older .length) (now (first .exit)) ≡ Ap.sheetWithout (now (older .entry)) (now (newer .entry)) (take (r .newer .length) (now (second .exit))))) ⌝ }
+    // each answer and each output is the definition's
+    ensures by_older { λ r. ⌜ r .older ≡ M.readAnswer B.u48 (given older) (given message) budget (given first) ⌝ }
+    ensures older_out { λ _. ⌜ after first ≡ M.readOut B.u48 (given older) (given message) budget (given first) ⌝ }
+    ensures by_newer { λ r. ⌜ r .newer ≡ M.readAnswer B.u48 (given newer) (given message) budget (given second) ⌝ }
+    ensures newer_out { λ _. ⌜ after second ≡ M.readOut B.u48 (given newer) (given message) budget (given second) ⌝ }
+    // what the newer accepts, its sheet having room or not, the older reads if the older's sheet has room
+    ensures accepts { λ r. ⌜ (Ap.Appends B.u48 (given older) (given newer) → Accepts B.u48 (given newer) (given message) budget → (r .older .verdict .number ≡ 0) ⊎ (r .older .verdict .number ≡ 14)) ⌝ }
+    // the older's sheet is the newer's sheet without the appended members, as bytes; "the rules give a sheet over the size too",
+    // so the newer's sheet is the one of the rules, handed out or not
+    ensures without { λ r. ⌜ (Ap.Appends B.u48 (given older) (given newer) → Accepts B.u48 (given newer) (given message) budget → HandsOut (r .older) (after first) (Ap.sheetWithout (given older) (given newer) (M.messageSheet B.u48 (given newer) (given message)))) ⌝ }
+    // and where it is handed out, it stands in the second output
+    ensures handed { λ r. ⌜ HandsOut (r .newer) (after second) (M.messageSheet B.u48 (given newer) (given message)) ⌝ }
 {
     let by_older = sheet::read(older, message, budget, first);
     let by_newer = sheet::read(newer, message, budget, second);
@@ -123,12 +137,16 @@ pub fn field_and_sheet(
     path: &[u32],
     out: &mut [u8],
 ) -> FieldAndSheet
-    // the answer is the definition's at every path
-    ensures whole { λ r. ⌜ r .field ≡ F.field B.u48 (now (schema .entry)) (now (message .entry)) (now (path .entry)) ⌝ }
-    // "On an accepted message it equals the sheet's entry."
-    ensures entry { λ r. ⌜ (r .sheet .verdict .number ≡ 0 → length (now (path .entry)) ≤ 96 → shown (r .field) ≡ sheetEntry (P.parse (now (schema .entry))) (take (r .sheet .length) (now (out .exit))) (now (path .entry))) ⌝ }
-    // and no refusal but 15 comes there
-    ensures refused { λ r. ⌜ (r .sheet .verdict .number ≡ 0 → length (now (path .entry)) ≤ 96 → (q : Refusal) → r .field ≡ Answer.Refused q → q .number ≡ 15) ⌝ }
+    // the field, the sheet's answer and the output are the definition's, at every path and of refusals too
+    ensures field { λ r. ⌜ r .field ≡ F.field B.u48 (given schema) (given message) (given path) ⌝ }
+    ensures sheet { λ r. ⌜ r .sheet ≡ M.readAnswer B.u48 (given schema) (given message) budget (given out) ⌝ }
+    ensures output { λ _. ⌜ after out ≡ M.readOut B.u48 (given schema) (given message) budget (given out) ⌝ }
+    // "On an accepted message it equals the sheet's entry.": of the sheet that the rules give, handed out or not
+    ensures entry { λ r. ⌜ (Accepts B.u48 (given schema) (given message) budget → length (given path) ≤ 96 → shown (r .field) ≡ entryAt (given schema) (M.messageSheet B.u48 (given schema) (given message)) (given path)) ⌝ }
+    // and where it is handed out, it stands in the output
+    ensures handed { λ r. ⌜ HandsOut (r .sheet) (after out) (M.messageSheet B.u48 (given schema) (given message)) ⌝ }
+    // on an accepted message no refusal comes but 15
+    ensures refused { λ r. ⌜ (Accepts B.u48 (given schema) (given message) budget → length (given path) ≤ 96 → (q : Refusal) → r .field ≡ Answer.Refused q → q .number ≡ 15) ⌝ }
 {
     let answer = field::field(schema, message, path);
     let read = sheet::read(schema, message, budget, out);
@@ -152,16 +170,20 @@ pub fn text_and_sheet(
     path: &[u32],
     out: &mut [u8],
 ) -> TextAndSheet
-    // the part is the definition's at every path
-    ensures whole { λ r. ⌜ r .text ≡ F.fieldSpan B.u48 (now (schema .entry)) (now (message .entry)) (now (path .entry)) ⌝ }
-    // it lies in the message
-    ensures within { λ r. ⌜ r .text .start + r .text .length ≤ length (now (message .entry)) ⌝ }
+    // the part, the sheet's answer and the output are the definition's, at every path and of refusals too
+    ensures part { λ r. ⌜ r .text ≡ F.fieldSpan B.u48 (given schema) (given message) (given path) ⌝ }
+    ensures sheet { λ r. ⌜ r .sheet ≡ M.readAnswer B.u48 (given schema) (given message) budget (given out) ⌝ }
+    ensures output { λ _. ⌜ after out ≡ M.readOut B.u48 (given schema) (given message) budget (given out) ⌝ }
+    // the part lies in the message
+    ensures within { λ r. ⌜ r .text .start + r .text .length ≤ length (given message) ⌝ }
     // "texts and bytes can be had as a part of the message": there is a part exactly where the field's answer is a text or bytes
-    ensures exactly { λ r. ⌜ (r .text .there ≡ true) ↔ ((k at n : ℕ) × (F.field B.u48 (now (schema .entry)) (now (message .entry)) (now (path .entry)) ≡ Answer.Object k at n) × IsText k) ⌝ }
+    ensures exactly { λ r. ⌜ (r .text .there ≡ true) ↔ ((k at n : ℕ) × (F.field B.u48 (given schema) (given message) (given path) ≡ Answer.Object k at n) × IsText k) ⌝ }
     // and it has the answer's length
-    ensures long { λ r. ⌜ ((k at n : ℕ) → F.field B.u48 (now (schema .entry)) (now (message .entry)) (now (path .entry)) ≡ Answer.Object k at n → IsText k → r .text .length ≡ n) ⌝ }
-    // on an accepted message it is the text of the sheet there
-    ensures text { λ r. ⌜ (r .sheet .verdict .number ≡ 0 → length (now (path .entry)) ≤ 96 → (v : Value) → S.treeOf (P.parse (now (schema .entry))) (take (r .sheet .length) (now (out .exit))) ≡ some v → F.textOf (now (message .entry)) (r .text) ≡ textAt (P.parse (now (schema .entry))) (Object.Table (P.parse (now (schema .entry)) .root)) v (now (path .entry))) ⌝ }
+    ensures long { λ r. ⌜ ((k at n : ℕ) → F.field B.u48 (given schema) (given message) (given path) ≡ Answer.Object k at n → IsText k → r .text .length ≡ n) ⌝ }
+    // "On an accepted message it equals the sheet's entry.": it is the text of the sheet that the rules give, handed out or not
+    ensures text { λ r. ⌜ (Accepts B.u48 (given schema) (given message) budget → length (given path) ≤ 96 → F.textOf (given message) (r .text) ≡ textAt (given schema) (M.messageSheet B.u48 (given schema) (given message)) (given path)) ⌝ }
+    // and where the sheet is handed out, it stands in the output
+    ensures handed { λ r. ⌜ HandsOut (r .sheet) (after out) (M.messageSheet B.u48 (given schema) (given message)) ⌝ }
 {
     let text = field::text_span(schema, message, path);
     let read = sheet::read(schema, message, budget, out);
@@ -170,7 +192,7 @@ pub fn text_and_sheet(
 
 // A step of the list reader and the field at the element's path, which is given whole.
 pub struct StepAndField {
-    pub step: Answer,
+    pub step: ListStep,
     pub field: Answer,
 }
 
@@ -182,19 +204,20 @@ pub fn step_and_field(
     element: usize,
     whole: &[u32],
 ) -> StepAndField
-    // the step and the field are the definition's
-    ensures step { λ r. ⌜ r .step ≡ F.readerGives B.u48 (now (schema .entry)) (now (message .entry)) (now (path .entry)) element ⌝ }
-    ensures field { λ r. ⌜ r .field ≡ F.field B.u48 (now (schema .entry)) (now (message .entry)) (now (whole .entry)) ⌝ }
-    // "Each step answers as that element's path would"
-    ensures same { λ r. ⌜ ((i at start n left : ℕ) → F.fieldFound B.u48 (now (schema .entry)) (now (message .entry)) (now (path .entry)) ≡ Found.Object (Object.List i) at start n left → F.leads (elementOf (P.parse (now (schema .entry))) i) ≡ true → now (whole .entry) ≡ now (path .entry) ++ element ∷ [] → r .step ≡ r .field) ⌝ }
+    // the step's answer, where the reader goes and the field are the definition's
+    ensures step { λ r. ⌜ r .step .answer ≡ F.readerGives B.u48 (given schema) (given message) (given path) element ⌝ }
+    ensures next { λ r. ⌜ r .step .next ≡ F.readerNext (F.readerCount B.u48 (given schema) (given message) (given path)) element ⌝ }
+    ensures field { λ r. ⌜ r .field ≡ F.field B.u48 (given schema) (given message) (given whole) ⌝ }
+    // "Each step answers as that element's path would and moves on, refused or not"
+    ensures same { λ r. ⌜ ((i at start n left : ℕ) → LeadsToList B.u48 (given schema) (given message) (given path) i at start n left → (given whole ≡ given path ++ element ∷ [] → r .step .answer ≡ r .field) × (element < n → r .step .next ≡ element + 1)) ⌝ }
     // "after the last it answers 15 at the list and stays"
-    ensures end { λ r. ⌜ ((i at start n left : ℕ) → F.fieldFound B.u48 (now (schema .entry)) (now (message .entry)) (now (path .entry)) ≡ Found.Object (Object.List i) at start n left → F.leads (elementOf (P.parse (now (schema .entry))) i) ≡ true → n ≤ element → r .step ≡ Answer.Refused (F.refusal 15 at)) ⌝ }
+    ensures end { λ r. ⌜ ((i at start n left : ℕ) → LeadsToList B.u48 (given schema) (given message) (given path) i at start n left → n ≤ element → r .step ≡ record { answer = Answer.Refused (W.refusal 15 at); next = element }) ⌝ }
     // "a refused path gives its own refusal"
-    ensures own { λ r. ⌜ ((q : Refusal) → F.field B.u48 (now (schema .entry)) (now (message .entry)) (now (path .entry)) ≡ Answer.Refused q → r .step ≡ Answer.Refused q) ⌝ }
+    ensures own { λ r. ⌜ ((q : Refusal) → F.field B.u48 (given schema) (given message) (given path) ≡ Answer.Refused q → r .step ≡ record { answer = Answer.Refused q; next = element }) ⌝ }
     // "any other answer is 15 at 0"
-    ensures other { λ r. ⌜ (((q : Refusal) → F.field B.u48 (now (schema .entry)) (now (message .entry)) (now (path .entry)) ≡ Answer.Refused q → ⊥) → ((i at start n left : ℕ) → F.fieldFound B.u48 (now (schema .entry)) (now (message .entry)) (now (path .entry)) ≡ Found.Object (Object.List i) at start n left → F.leads (elementOf (P.parse (now (schema .entry))) i) ≡ true → ⊥) → r .step ≡ Answer.Refused (F.refusal 15 0)) ⌝ }
+    ensures other { λ r. ⌜ (((q : Refusal) → F.field B.u48 (given schema) (given message) (given path) ≡ Answer.Refused q → ⊥) → ((i at start n left : ℕ) → LeadsToList B.u48 (given schema) (given message) (given path) i at start n left → ⊥) → r .step ≡ record { answer = Answer.Refused (W.refusal 15 0); next = element }) ⌝ }
 {
-    let step = field_element::reader_answer(schema, message, path, element);
+    let step = field_element::step(schema, message, path, element);
     let answer = field::field(schema, message, whole);
     StepAndField {
         step,
@@ -202,17 +225,24 @@ pub fn step_and_field(
     }
 }
 
+// The list reader that "keeps the message and its present place together": a step of it, of which `Stepped` says what is demanded.
+pub fn reader_step<'s, 'a, 'b, 'c>(r: &'s mut ListReader<'a, 'b, 'c>) -> Answer
+    ensures { λ q. ⌜ Stepped (given r) q (after r) ⌝ }
+{
+    field_reader::step(r)
+}
+
 // Many steps of the list reader at once.
 pub fn steps(schema: &[u8], message: &[u8], path: &[u32], from: usize, out: &mut [u64]) -> usize
     // the count and the output are the definition's
-    ensures whole { λ r. ⌜ r ≡ F.readerCount B.u48 (now (schema .entry)) (now (message .entry)) (now (path .entry)) ⌝ }
-    ensures output { λ _. ⌜ now (out .exit) ≡ F.readerOver B.u48 (now (schema .entry)) (now (message .entry)) (now (path .entry)) from (now (out .entry)) ⌝ }
+    ensures whole { λ r. ⌜ r ≡ F.readerCount B.u48 (given schema) (given message) (given path) ⌝ }
+    ensures output { λ _. ⌜ after out ≡ F.readerOver B.u48 (given schema) (given message) (given path) from (given out) ⌝ }
     // the count is the list's, and each step has the numbers of the answer at the element's path
-    ensures each { λ r. ⌜ ((i at start n left : ℕ) → F.fieldFound B.u48 (now (schema .entry)) (now (message .entry)) (now (path .entry)) ≡ Found.Object (Object.List i) at start n left → F.leads (elementOf (P.parse (now (schema .entry))) i) ≡ true → (r ≡ n) × ((k : ℕ) → k < length (now (out .entry)) / 4 → take 4 (drop (4 * k) (now (out .exit))) ≡ F.caseNumbers (F.answerCase (F.field B.u48 (now (schema .entry)) (now (message .entry)) (now (path .entry) ++ (from + k) ∷ []))))) ⌝ }
+    ensures each { λ r. ⌜ ((i at start n left : ℕ) → LeadsToList B.u48 (given schema) (given message) (given path) i at start n left → (r ≡ n) × (HoldsAnswers (after out) (length (given out) / 4) (λ k. F.field B.u48 (given schema) (given message) (given path ++ (from + k) ∷ [])))) ⌝ }
     // "a refused path gives its own refusal": each step has its numbers, and the count is 0
-    ensures own { λ r. ⌜ ((q : Refusal) → F.field B.u48 (now (schema .entry)) (now (message .entry)) (now (path .entry)) ≡ Answer.Refused q → (r ≡ 0) × ((k : ℕ) → k < length (now (out .entry)) / 4 → take 4 (drop (4 * k) (now (out .exit))) ≡ F.caseNumbers (F.answerCase (Answer.Refused q)))) ⌝ }
+    ensures own { λ r. ⌜ ((q : Refusal) → F.field B.u48 (given schema) (given message) (given path) ≡ Answer.Refused q → (r ≡ 0) × (HoldsAnswers (after out) (length (given out) / 4) (λ _. Answer.Refused q))) ⌝ }
     // "any other answer is 15 at 0": the same
-    ensures other { λ r. ⌜ (((q : Refusal) → F.field B.u48 (now (schema .entry)) (now (message .entry)) (now (path .entry)) ≡ Answer.Refused q → ⊥) → ((i at start n left : ℕ) → F.fieldFound B.u48 (now (schema .entry)) (now (message .entry)) (now (path .entry)) ≡ Found.Object (Object.List i) at start n left → F.leads (elementOf (P.parse (now (schema .entry))) i) ≡ true → ⊥) → (r ≡ 0) × ((k : ℕ) → k < length (now (out .entry)) / 4 → take 4 (drop (4 * k) (now (out .exit))) ≡ F.caseNumbers (F.answerCase (Answer.Refused (F.refusal 15 0))))) ⌝ }
+    ensures other { λ r. ⌜ (((q : Refusal) → F.field B.u48 (given schema) (given message) (given path) ≡ Answer.Refused q → ⊥) → ((i at start n left : ℕ) → LeadsToList B.u48 (given schema) (given message) (given path) i at start n left → ⊥) → (r ≡ 0) × (HoldsAnswers (after out) (length (given out) / 4) (λ _. Answer.Refused (W.refusal 15 0)))) ⌝ }
 {
     field_list::read_list(schema, message, path, from, out)
 }
@@ -220,14 +250,14 @@ pub fn steps(schema: &[u8], message: &[u8], path: &[u32], from: usize, out: &mut
 // Writing a message of a sheet.
 pub fn written(schema: &[u8], sheet: &[u8], out: &mut [u8]) -> WriteAnswer
     // the answer and the output are the definition's, of refusals too
-    ensures whole { λ r. ⌜ r ≡ M.writeAnswer B.u48 (now (schema .entry)) (now (sheet .entry)) (now (out .entry)) ⌝ }
-    ensures output { λ _. ⌜ now (out .exit) ≡ M.writeOut B.u48 (now (schema .entry)) (now (sheet .entry)) (now (out .entry)) ⌝ }
-    // "every writable sheet becomes the one message of the stated layout", within the size and given room
-    ensures every { λ r. ⌜ ((v : Value) → lawful (now (schema .entry)) ≡ true → S.sheetTree (P.parse (now (schema .entry))) (now (sheet .entry)) ≡ some v → M.writable B.deepest B.u48 (P.parse (now (schema .entry))) (Object.Table (P.parse (now (schema .entry)) .root)) v ≡ true → length (M.messageOf B.u48 (P.parse (now (schema .entry))) v) ≤ B.largest → length (M.messageOf B.u48 (P.parse (now (schema .entry))) v) ≤ length (now (out .entry)) → (r ≡ record { number = 0; length = length (M.messageOf B.u48 (P.parse (now (schema .entry))) v) }) × (now (out .exit) ≡ M.messageOf B.u48 (P.parse (now (schema .entry))) v ++ drop (length (M.messageOf B.u48 (P.parse (now (schema .entry))) v)) (now (out .entry)))) ⌝ }
+    ensures whole { λ r. ⌜ r ≡ M.writeAnswer B.u48 (given schema) (given sheet) (given out) ⌝ }
+    ensures output { λ _. ⌜ after out ≡ M.writeOut B.u48 (given schema) (given sheet) (given out) ⌝ }
+    // every writable sheet becomes the one message of the stated layout, within the size and given room
+    ensures every { λ r. ⌜ ((v : Value) → Writable B.u48 (given schema) (given sheet) v → Fits (layoutOf B.u48 (given schema) v) (given out) → (r ≡ record { number = 0; length = length (layoutOf B.u48 (given schema) v) }) × (after out ≡ layoutOf B.u48 (given schema) v ++ drop (length (layoutOf B.u48 (given schema) v)) (given out))) ⌝ }
     // and nothing else is written
-    ensures only { λ r. ⌜ (r .number ≡ 0 → WrittenAs B.u48 (now (schema .entry)) (now (sheet .entry)) (take (r .length) (now (out .exit)))) ⌝ }
+    ensures only { λ r. ⌜ (r .number ≡ 0 → WrittenAs B.u48 (given schema) (given sheet) (take (r .length) (after out))) ⌝ }
     // "on refusal the length is 0 and the output is unchanged"
-    ensures kept { λ r. ⌜ ((r .number ≡ 0 → ⊥) → (r .length ≡ 0) × (now (out .exit) ≡ now (out .entry))) ⌝ }
+    ensures kept { λ r. ⌜ KeepsOnRefusal (r .number) (r .length) (given out) (after out) ⌝ }
 {
     write::write(schema, sheet, out)
 }
@@ -238,7 +268,7 @@ pub struct Trip {
     pub read: ReadAnswer,
 }
 
-// "reading that message with enough budget gives the same sheet"; with less the answer is 4, and the whole budget is spent.
+// Writing a sheet's message into a room, and reading that message to its sheet.
 pub fn write_then_read(
     schema: &[u8],
     sheet: &[u8],
@@ -246,8 +276,17 @@ pub fn write_then_read(
     budget: Budget,
     out: &mut [u8],
 ) -> Trip
-    ensures same { λ r. ⌜ (r .written .number ≡ 0 → enough (now (schema .entry)) (now (sheet .entry)) ≤ budget .visits → length (now (sheet .entry)) ≤ length (now (out .entry)) → (r .read ≡ record { verdict = record { number = 0; place = 0; visits = enough (now (schema .entry)) (now (sheet .entry)) }; length = length (now (sheet .entry)) }) × (now (out .exit) ≡ now (sheet .entry) ++ drop (length (now (sheet .entry))) (now (out .entry)))) ⌝ }
-    ensures less { λ r. ⌜ (r .written .number ≡ 0 → budget .visits < enough (now (schema .entry)) (now (sheet .entry)) → (at : ℕ) × (r .read ≡ record { verdict = record { number = 4; place = at; visits = budget .visits }; length = 0 }) × (now (out .exit) ≡ now (out .entry))) ⌝ }
+    // the answers, the room and the output are the definition's, of refusals too; what is read is what was written in the room
+    ensures written { λ r. ⌜ r .written ≡ M.writeAnswer B.u48 (given schema) (given sheet) (given room) ⌝ }
+    ensures message { λ _. ⌜ after room ≡ M.writeOut B.u48 (given schema) (given sheet) (given room) ⌝ }
+    ensures read { λ r. ⌜ r .read ≡ M.readAnswer B.u48 (given schema) (take (r .written .length) (after room)) budget (given out) ⌝ }
+    ensures output { λ r. ⌜ after out ≡ M.readOut B.u48 (given schema) (take (r .written .length) (after room)) budget (given out) ⌝ }
+    // reading that message with enough budget gives the same sheet
+    ensures same { λ r. ⌜ (r .written .number ≡ 0 → enough (given schema) (given sheet) ≤ budget .visits → length (given sheet) ≤ length (given out) → (r .read ≡ record { verdict = W.atZero 0 (W.spending (enough (given schema) (given sheet))); length = length (given sheet) }) × (after out ≡ given sheet ++ drop (length (given sheet)) (given out))) ⌝ }
+    // the rules give that sheet of the message, with any budget and any room
+    ensures sheet { λ r. ⌜ (r .written .number ≡ 0 → M.messageSheet B.u48 (given schema) (take (r .written .length) (after room)) ≡ given sheet) ⌝ }
+    // with less the answer is 4, and the whole budget is spent
+    ensures less { λ r. ⌜ (r .written .number ≡ 0 → budget .visits < enough (given schema) (given sheet) → (at : ℕ) × (r .read ≡ record { verdict = W.verdictAt (W.refusal 4 at) (W.spending (budget .visits)); length = 0 }) × (after out ≡ given out)) ⌝ }
 {
     let written = write::write(schema, sheet, room);
     let n = written.length;
@@ -255,7 +294,7 @@ pub fn write_then_read(
     Trip { written, read }
 }
 
-// "the newer's sheet is the older's with the added members, as bytes", given room, of a message that was written under the older.
+// Writing a sheet's message under the older schema into a room, and reading that message to its sheet by the newer.
 pub fn write_then_read_newer(
     older: &[u8],
     newer: &[u8],
@@ -264,7 +303,17 @@ pub fn write_then_read_newer(
     budget: Budget,
     out: &mut [u8],
 ) -> Trip
-    ensures { λ r. ⌜ (Ap.Appends (now (older .entry)) (now (newer .entry)) → r .written .number ≡ 0 → enough (now (older .entry)) (now (sheet .entry)) ≤ budget .visits → (r .read .verdict .number ≡ 14 → ⊥) → (r .read .verdict .number ≡ 0) × (r .read .verdict .visits ≡ enough (now (older .entry)) (now (sheet .entry))) × (take (r .read .length) (now (out .exit)) ≡ Ap.sheetWith B.u48 (now (older .entry)) (now (newer .entry)) (now (sheet .entry)))) ⌝ }
+    // the answers, the room and the output are the definition's, of refusals too; what is read is what was written in the room
+    ensures written { λ r. ⌜ r .written ≡ M.writeAnswer B.u48 (given older) (given sheet) (given room) ⌝ }
+    ensures message { λ _. ⌜ after room ≡ M.writeOut B.u48 (given older) (given sheet) (given room) ⌝ }
+    ensures read { λ r. ⌜ r .read ≡ M.readAnswer B.u48 (given newer) (take (r .written .length) (after room)) budget (given out) ⌝ }
+    ensures output { λ r. ⌜ after out ≡ M.readOut B.u48 (given newer) (take (r .written .length) (after room)) budget (given out) ⌝ }
+    // the newer reads the message with as many visits as the older, if its sheet has room
+    ensures accepts { λ r. ⌜ (Ap.Appends B.u48 (given older) (given newer) → r .written .number ≡ 0 → enough (given older) (given sheet) ≤ budget .visits → ((r .read .verdict .number ≡ 0) ⊎ (r .read .verdict .number ≡ 14)) × (r .read .verdict .visits ≡ enough (given older) (given sheet))) ⌝ }
+    // the newer's sheet is the older's with the added members, as bytes: what is handed out
+    ensures added { λ r. ⌜ (Ap.Appends B.u48 (given older) (given newer) → r .written .number ≡ 0 → HandsOut (r .read) (after out) (Ap.sheetWith B.u48 (given older) (given newer) (given sheet))) ⌝ }
+    // and what the rules give of the message, with any budget and any room
+    ensures sheet { λ r. ⌜ (Ap.Appends B.u48 (given older) (given newer) → r .written .number ≡ 0 → M.messageSheet B.u48 (given newer) (take (r .written .length) (after room)) ≡ Ap.sheetWith B.u48 (given older) (given newer) (given sheet)) ⌝ }
 {
     let written = write::write(older, sheet, room);
     let n = written.length;
@@ -279,8 +328,7 @@ pub struct Judgements {
     pub newer: Verdict,
 }
 
-// "whatever message the writer made under the older schema, the newer accepts with every budget with which the older does (and
-// gives the same visits)": the whole verdict is the same.
+// Writing a sheet's message under the older schema into a room, and judging that message by both.
 pub fn write_then_judge(
     older: &[u8],
     newer: &[u8],
@@ -288,7 +336,14 @@ pub fn write_then_judge(
     room: &mut [u8],
     budget: Budget,
 ) -> Judgements
-    ensures { λ r. ⌜ (Ap.Appends (now (older .entry)) (now (newer .entry)) → r .written .number ≡ 0 → r .newer ≡ r .older) ⌝ }
+    // the answer, the room and the verdicts are the definition's, of refusals too; what is judged is what was written in the room
+    ensures written { λ r. ⌜ r .written ≡ M.writeAnswer B.u48 (given older) (given sheet) (given room) ⌝ }
+    ensures message { λ _. ⌜ after room ≡ M.writeOut B.u48 (given older) (given sheet) (given room) ⌝ }
+    ensures by_older { λ r. ⌜ r .older ≡ W.verdict B.u48 (given older) (take (r .written .length) (after room)) budget ⌝ }
+    ensures by_newer { λ r. ⌜ r .newer ≡ W.verdict B.u48 (given newer) (take (r .written .length) (after room)) budget ⌝ }
+    // whatever message the writer made under the older schema, the newer accepts with every budget with which the older does (and
+    // gives the same visits): the whole verdict is the same
+    ensures same { λ r. ⌜ (Ap.Appends B.u48 (given older) (given newer) → r .written .number ≡ 0 → r .newer ≡ r .older) ⌝ }
 {
     let written = write::write(older, sheet, room);
     let n = written.length;

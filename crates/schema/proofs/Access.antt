@@ -1,5 +1,5 @@
 -- What stands at the directory's places is what the typed schema has there.
-use mathlib.Core.Path.{_≡_, sym, ap, _∙_, subst}
+use mathlib.Core.Path.{_≡_, refl, sym, ap, _∙_, subst}
 use mathlib.Core.List.{List}
 use Prim.Native.Nat.{ℕ, _+_, _-_, _*_, _<_, _≤_}
 use native.Mathlib.Omega.{arith}
@@ -13,7 +13,9 @@ use Rattle.coding.specs.declared.Kind.{Kind}
 use Rattle.coding.specs.declared.Member.{Member}
 use Rattle.laws.specs.Parsed as Pa
 use Rattle.laws.specs.Rules.{struct-small}
-use Rattle.schema.specs.Directory.{Block, Accepted}
+use Rattle.laws.specs.Sound.{MemberSound}
+use Rattle.laws.specs.SoundAt.{member-sound-at}
+use Rattle.schema.specs.Directory.{Block, Accepted, accepted-sound, accepted-formed}
 use Rattle.schema.specs.Representatives.{Represents}
 
 module _ (b : List ℕ) (i at : ℕ) where
@@ -84,7 +86,16 @@ module _ (b dir : List ℕ) (s r : ℕ) (A : Accepted b dir) (l : s < P.structCo
   size-is e = e ∙ A .sizes s l
 
   pub size-small : r ≡ getD dir (256 + s) 0 → r ≤ 4096
-  size-small e = let q : r ≡ S.structSize (P.parse b) s = size-is e in omega (arith, struct-small b (A .lawful) s l)
+  size-small e = let q : r ≡ S.structSize (P.parse b) s = size-is e in omega (arith, struct-small b (accepted-formed b dir A) s l)
 
   pub representative-is : r ≡ getD dir (320 + s) 0 → Represents (P.parse b) s r
   representative-is e = subst (Represents (P.parse b) s) (sym e) (A .representatives s l)
+
+-- ---- the record of a member
+module _ (b : List ℕ) (t j first r : ℕ) (l : t < P.tableCount b) (B : Block b 4 (P.tablePlace b t) first) (m : j < length (Sc.tableOf (P.parse b) t .members))
+    (e : r ≡ P.recordPlace 4 first j) where
+  pub record-is : P.memberAt b r ≡ Sc.memberOf (P.parse b) t j
+  record-is = member-is b t first l B j r m (P.memberAt b r) e refl
+
+  pub record-stands : (dir : List ℕ) → Accepted b dir → MemberSound (P.parse b) (P.memberAt b r)
+  record-stands dir a = rw record-is (member-sound-at (P.parse b) (accepted-sound b dir a) t j m)

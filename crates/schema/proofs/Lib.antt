@@ -1,3 +1,4 @@
 pub mod RecordCases
 pub mod Inside
 pub mod Access
+pub mod KindCases

@@ -6,10 +6,12 @@ use mathlib.Core.Bool.{Bool, true}
 use lib.ListN.{getD, length}
 use Rattle.coding.specs.Lists.{pick, every}
 use Rattle.coding.specs.Packed.{structCount, listCount, unionCount, tableCount, structPlace, unionPlace, tablePlace, blocks, records, parse}
-use Rattle.coding.specs.Lawful.{blocksOk, structLawful, lawful}
+use Rattle.coding.specs.Bytes.{u48}
+use Rattle.coding.specs.Lawful.{blocksOk, structLawful, wellFormed, lawful}
 use Rattle.coding.specs.Structs.{structSize}
 use Rattle.laws.specs.Sound.{Sound}
 use Rattle.laws.specs.LawfulSound.{lawful-sound}
+use Rattle.laws.specs.Rules.{lawful-formed}
 use Rattle.schema.specs.Representatives.{Representatives}
 
 -- n blocks were gone over, and their places stored from `base` on
@@ -68,12 +70,15 @@ pub record Accepted (b dir : List ℕ) : Type 0 where
   pub sizes : Sizes b dir (structCount b)
   pub representatives : Representatives b dir (structCount b)
   pub bytes : (i : ℕ) → getD b i 0 < 256
-  pub lawful : lawful b ≡ true
+  pub lawful : lawful u48 b ≡ true
 
 pub accepted-sound : (b dir : List ℕ) → Accepted b dir → Sound (parse b)
-accepted-sound b dir a = lawful-sound b (a .bytes) (a .lawful)
+accepted-sound b dir a = lawful-sound u48 b (a .bytes) (a .lawful)
+
+pub accepted-formed : (b dir : List ℕ) → Accepted b dir → wellFormed b ≡ true
+accepted-formed b dir a = lawful-formed u48 b (a .lawful)
 
 -- the whole answer
 pub record Judged (b dir : List ℕ) (r : Bool) : Type 0 where
-  pub is : r ≡ Rattle.coding.specs.Lawful.lawful b
+  pub is : r ≡ Rattle.coding.specs.Lawful.lawful u48 b
   pub right : r ≡ true → Accepted b dir

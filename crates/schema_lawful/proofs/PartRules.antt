@@ -11,7 +11,9 @@ use Rattle.coding.specs.Packed as P
 use Rattle.coding.specs.Lawful as L
 use Rattle.laws.specs.Lists.{every-none, every-more, every-fail, never}
 use Rattle.laws.specs.Sound.{Sound}
+use Rattle.coding.specs.Bytes.{u48}
 use Rattle.laws.specs.LawfulSound.{lawful-sound}
+use Rattle.laws.specs.Rules.{lawful-48}
 use Rattle.schema_lawful.specs.declared.Part.{Part}
 use Rattle.schema_lawful.specs.declared.Part.the-variants.{Lists, Unions, Tables, Ids}
 use Rattle.schema.specs.Directory.{Directory, Placed, Block, StructsJudged, Represented, Judged}
@@ -124,9 +126,9 @@ module _ (b : List ℕ) (r₁ : Bool) (e₁ : r₁ ≡ Pa.partsLawful b Lists) w
       rules-4 h r e = simp (← e₁, not-false r₁ h₁, ← e₂, not-false r₂ h₂, ← e₃, not-false r₃ h) e
 
 -- ---- the whole
-parts-of : (b : List ℕ) → L.lawful b ≡ (L.shapeOk b && (every (L.structLawful b) (P.structCount b) && Pa.restLawful b))
-unfolding L.lawful L.rulesOk Pa.restLawful Pa.partsLawful Pa.partLawful Pa.partCount
-parts-of b = refl
+parts-of : (b : List ℕ) → L.lawful u48 b ≡ (L.shapeOk b && (every (L.structLawful b) (P.structCount b) && Pa.restLawful b))
+unfolding L.wellFormed L.rulesOk Pa.restLawful Pa.partsLawful Pa.partLawful Pa.partCount
+parts-of b = lawful-48 b
 
 module _ (b dir : List ℕ) (g : Bool) (s : Placed b dir (L.shapeOk b) g) where
   pub judged-1 : not g ≡ true → Judged b dir false
@@ -141,18 +143,18 @@ module _ (b dir : List ℕ) (g : Bool) (s : Placed b dir (L.shapeOk b) g) where
       judged-2 q = record { is = rw (parts-of b) (simp (← (s .is), not-false g h, ← (z .is), not-true r q)); right = never }
 
       module _ (q : not r ≡ false) (t : Bool) (e : t ≡ Pa.restLawful b) where
-        is : t ≡ L.lawful b
+        is : t ≡ L.lawful u48 b
         is = rw (parts-of b) (simp (← (s .is), not-false g h, ← (z .is), not-false r q) e)
 
         pub judged-3 : not t ≡ true → Judged b d false
         judged-3 w = record { is = sym (not-true t w) ∙ is; right = never }
 
         module _ (w : not t ≡ false) (bytes : (i : ℕ) → getD b i 0 < 256) where
-          lawful : L.lawful b ≡ true
+          lawful : L.lawful u48 b ≡ true
           lawful = sym is ∙ not-false t w
 
           pub judged-sound : Sound (P.parse b)
-          judged-sound = lawful-sound b bytes lawful
+          judged-sound = lawful-sound u48 b bytes lawful
 
           pub judged-4 : (d′ : List ℕ) → Represented b d′ → Judged b d′ true
           judged-4 d′ R =

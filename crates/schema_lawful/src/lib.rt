@@ -8,6 +8,7 @@ ghost use Rattle.schema.specs.Directory.{Directory, Judged};
 ghost use Rattle.schema_lawful.specs.Parts as Pa;
 
 // ---- the rules of ids, and of all parts
+// Whether no table before table i has its id.
 fn id_ok(b: &[u8], dir: &[u16], i: usize) -> bool
     requires { ⌜ (Directory (now b) (now dir)) × (i < P.tableCount (now b)) ⌝ }
     ensures { λ r. ⌜ r ≡ L.idLawful (now (b .entry)) i ⌝ }
@@ -31,17 +32,19 @@ enum Part {
     Ids,
 }
 
+// How many there are of a part.
 fn part_count(b: &[u8], part: Part) -> usize
     ensures { λ r. ⌜ (r ≡ Pa.partCount (now (b .entry)) part) × (r < 256) ⌝ }
 {
     match part {
-        Part::Lists => schema::count(b, 1),
-        Part::Unions => schema::count(b, 2),
-        Part::Tables => schema::count(b, 3),
-        Part::Ids => schema::count(b, 3),
+        Part::Lists => schema::count(b, schema::LISTS),
+        Part::Unions => schema::count(b, schema::UNIONS),
+        Part::Tables => schema::count(b, schema::TABLES),
+        Part::Ids => schema::count(b, schema::TABLES),
     }
 }
 
+// Whether number i of a part is right.
 fn part_ok(b: &[u8], dir: &[u16], part: Part, i: usize) -> bool
     requires { ⌜ (Directory (now b) (now dir)) × (i < Pa.partCount (now b) part) ⌝ }
     ensures { λ r. ⌜ r ≡ Pa.partLawful (now (b .entry)) part i ⌝ }
@@ -54,6 +57,7 @@ fn part_ok(b: &[u8], dir: &[u16], part: Part, i: usize) -> bool
     }
 }
 
+// Whether all of a part are right.
 fn parts_ok(b: &[u8], dir: &[u16], part: Part) -> bool
     requires { ⌜ Directory (now b) (now dir) ⌝ }
     ensures { λ r. ⌜ r ≡ Pa.partsLawful (now (b .entry)) part ⌝ }
@@ -69,6 +73,7 @@ fn parts_ok(b: &[u8], dir: &[u16], part: Part) -> bool
     true
 }
 
+// Whether all lists, unions, tables and ids are right.
 fn rules(b: &[u8], dir: &[u16]) -> bool
     requires { ⌜ Directory (now b) (now dir) ⌝ }
     ensures { λ r. ⌜ r ≡ Pa.restLawful (now (b .entry)) ⌝ }
@@ -102,12 +107,4 @@ pub fn judge_schema(b: &[u8], dir: &mut [u16]) -> bool
     }
     schema_structs::store_representatives(b, dir);
     true
-}
-
-// The same with a directory of its own.
-pub fn is_lawful(b: &[u8]) -> bool
-    ensures { λ r. ⌜ r ≡ L.lawful (now (b .entry)) ⌝ }
-{
-    let mut dir: [u16; 384] = [0; 384];
-    judge_schema(b, &mut dir)
 }

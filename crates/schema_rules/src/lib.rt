@@ -10,44 +10,59 @@ ghost use Rattle.coding.specs.Lists as Li;
 ghost use Rattle.schema.specs.Directory.{Directory};
 
 // ---- the rules of a record
+// Whether the argument a is right for the kind k.
 fn argument_ok(b: &[u8], k: usize, a: usize) -> bool
     ensures { λ r. ⌜ r ≡ L.argumentOk (now (b .entry)) k a ⌝ }
 {
-    if k < 11 {
+    if k < schema::KIND_ENUM {
         return a == 0;
     }
-    if k == 11 {
+    if k == schema::KIND_ENUM {
         return 0 < a;
     }
-    if k == 12 {
-        return a < schema::count(b, 0);
+    if k == schema::KIND_STRUCT {
+        return a < schema::count(b, schema::STRUCTS);
     }
-    if k < 15 {
+    if k < schema::KIND_LIST {
         return a == 0;
     }
-    if k == 15 {
-        return a < schema::count(b, 1);
+    if k == schema::KIND_LIST {
+        return a < schema::count(b, schema::LISTS);
     }
-    if k == 16 {
-        return a < schema::count(b, 3);
+    if k == schema::KIND_TABLE {
+        return a < schema::count(b, schema::TABLES);
     }
-    if k == 17 {
-        return a < schema::count(b, 2);
+    if k == schema::KIND_UNION {
+        return a < schema::count(b, schema::UNIONS);
     }
     false
 }
 
+// Whether the kind may stand there; a is its argument.
 fn kind_ok(role: Role, k: usize, a: usize) -> bool
     ensures { λ r. ⌜ r ≡ L.kindOk role k a ⌝ }
 {
     match role {
-        Role::InStruct(i) => { if k == 12 { a < i } else { k < 12 } }
-        Role::InList => k != 12,
-        Role::InUnion => { if 13 <= k { k <= 16 } else { false } }
+        Role::InStruct(i) => {
+            if k == schema::KIND_STRUCT {
+                a < i
+            } else {
+                k < schema::KIND_STRUCT
+            }
+        }
+        Role::InList => k != schema::KIND_STRUCT,
+        Role::InUnion => {
+            if schema::KIND_TEXT <= k {
+                k <= schema::KIND_TABLE
+            } else {
+                false
+            }
+        }
         Role::InTable => true,
     }
 }
 
+// Whether a record there may say optional.
 fn optional_ok(role: Role, k: usize) -> bool
     ensures { λ r. ⌜ r ≡ L.optionalOk role k ⌝ }
 {
@@ -55,10 +70,17 @@ fn optional_ok(role: Role, k: usize) -> bool
         Role::InStruct(_) => false,
         Role::InList => false,
         Role::InUnion => false,
-        Role::InTable => { if k == 12 { true } else { k < 11 } }
+        Role::InTable => {
+            if k == schema::KIND_STRUCT {
+                true
+            } else {
+                k < schema::KIND_ENUM
+            }
+        }
     }
 }
 
+// Whether a record there may say in place.
 fn inplace_ok(role: Role, k: usize) -> bool
     ensures { λ r. ⌜ r ≡ L.inplaceOk role k ⌝ }
 {
@@ -66,10 +88,11 @@ fn inplace_ok(role: Role, k: usize) -> bool
         Role::InStruct(_) => false,
         Role::InList => false,
         Role::InUnion => false,
-        Role::InTable => 12 < k,
+        Role::InTable => schema::KIND_STRUCT < k,
     }
 }
 
+// Whether a flag is set only where it may be.
 fn flag_ok(set: bool, may: bool) -> bool
     ensures { λ r. ⌜ r ≡ Li.pick set may true ⌝ }
 {
@@ -79,6 +102,7 @@ fn flag_ok(set: bool, may: bool) -> bool
     true
 }
 
+// Whether the record at `at`, of kind k, may have its flags.
 fn flags_ok(b: &[u8], role: Role, k: usize, at: usize) -> bool
     requires { ⌜ (k ≡ P.kindAt (now b) at) × (at + 1 < length (now b)) ⌝ }
     ensures { λ r. ⌜ r ≡ L.flagsOk (now (b .entry)) role at ⌝ }
@@ -89,6 +113,7 @@ fn flags_ok(b: &[u8], role: Role, k: usize, at: usize) -> bool
     flag_ok(schema::inplace_at(b, at), inplace_ok(role, k))
 }
 
+// Whether the record at `at` is right.
 fn record_ok(b: &[u8], role: Role, at: usize) -> bool
     requires { ⌜ at + 1 < length (now b) ⌝ }
     ensures { λ r. ⌜ r ≡ L.recordOk (now (b .entry)) role at ⌝ }
@@ -108,6 +133,7 @@ fn record_ok(b: &[u8], role: Role, at: usize) -> bool
 }
 
 // ---- the rules of a block
+// Whether all records of the block at `at` are right.
 pub fn records_ok(b: &[u8], role: Role, head: usize, at: usize) -> bool
     requires { ⌜ (head ≤ 4) × (at < 65536) × (at + head + 1 + 2 * P.records (now b) head at ≤ length (now b)) ⌝ }
     ensures { λ r. ⌜ r ≡ L.recordsOk (now (b .entry)) role head at ⌝ }
@@ -123,6 +149,9 @@ pub fn records_ok(b: &[u8], role: Role, head: usize, at: usize) -> bool
     true
 }
 
+// The first byte of an enum's record without a flag: below it stand bools, numbers and floats.
+const FIRST_ENUM: usize = 88;
+
 // Whether the record at `at` is a bool, a number or a float, optional or not, with the argument 0 and no other flag: most
 // records of a table are, and no more is asked of them there.
 fn is_number(b: &[u8], at: usize) -> bool
@@ -130,7 +159,7 @@ fn is_number(b: &[u8], at: usize) -> bool
     ensures { λ r. ⌜ (r ≡ true → L.recordOk (now (b .entry)) Role.InTable at ≡ true) ⌝ }
 {
     let h = wire::index(wire::byte_in(b, at));
-    if 88 <= h {
+    if FIRST_ENUM <= h {
         return false;
     }
     if h & 3 != 0 {
@@ -139,15 +168,15 @@ fn is_number(b: &[u8], at: usize) -> bool
     schema::argument_at(b, at) == 0
 }
 
-// The records of the table at `at`.
+// Whether all records of the table at `at` are right.
 fn members_ok(b: &[u8], at: usize) -> bool
     requires { ⌜ (at < 65536) × (at + 4 + 1 + 2 * P.records (now b) 4 at ≤ length (now b)) ⌝ }
     ensures { λ r. ⌜ r ≡ L.recordsOk (now (b .entry)) Role.InTable 4 at ⌝ }
 {
-    let n = schema::records(b, 4, at);
+    let n = schema::records(b, schema::TABLE_HEAD, at);
     let mut j: usize = 0;
     while j < n {
-        let p = schema::record_place(4, at, j);
+        let p = schema::record_place(schema::TABLE_HEAD, at, j);
         if !is_number(b, p) {
             if !record_ok(b, Role::InTable, p) {
                 return false;
@@ -158,6 +187,7 @@ fn members_ok(b: &[u8], at: usize) -> bool
     true
 }
 
+// 1 for a yes.
 fn one_if(t: bool) -> usize
     ensures { λ r. ⌜ (r ≡ Li.pick t 1 0) × (r ≤ 1) ⌝ }
 {
@@ -169,17 +199,18 @@ fn inplaces(b: &[u8], at: usize) -> usize
     requires { ⌜ (at < 65536) × (at + 4 + 1 + 2 * P.records (now b) 4 at ≤ length (now b)) ⌝ }
     ensures { λ r. ⌜ r ≡ L.inplaces (now (b .entry)) at (P.records (now (b .entry)) 4 at) ⌝ }
 {
-    let n = schema::records(b, 4, at);
+    let n = schema::records(b, schema::TABLE_HEAD, at);
     let mut sum: usize = 0;
     let mut j: usize = 0;
     while j < n {
-        sum += one_if(schema::inplace_at(b, schema::record_place(4, at, j)));
+        sum += one_if(schema::inplace_at(b, schema::record_place(schema::TABLE_HEAD, at, j)));
         j += 1;
     }
     sum
 }
 
 // ---- the rules of lists, unions and tables
+// Whether list i is right.
 pub fn list_ok(b: &[u8], dir: &[u16], i: usize) -> bool
     requires { ⌜ (Directory (now b) (now dir)) × (i < P.listCount (now b)) ⌝ }
     ensures { λ r. ⌜ r ≡ L.listLawful (now (b .entry)) i ⌝ }
@@ -187,6 +218,7 @@ pub fn list_ok(b: &[u8], dir: &[u16], i: usize) -> bool
     record_ok(b, Role::InList, schema::list_place(b, dir, i))
 }
 
+// Whether union i is right.
 pub fn union_ok(b: &[u8], dir: &[u16], i: usize) -> bool
     requires { ⌜ (Directory (now b) (now dir)) × (i < P.unionCount (now b)) ⌝ }
     ensures { λ r. ⌜ r ≡ L.unionLawful (now (b .entry)) i ⌝ }
@@ -194,6 +226,7 @@ pub fn union_ok(b: &[u8], dir: &[u16], i: usize) -> bool
     records_ok(b, Role::InUnion, 0, schema::union_place(b, dir, i))
 }
 
+// Whether table i is right, and has at most one member in place.
 pub fn table_ok(b: &[u8], dir: &[u16], i: usize) -> bool
     requires { ⌜ (Directory (now b) (now dir)) × (i < P.tableCount (now b)) ⌝ }
     ensures { λ r. ⌜ r ≡ L.tableLawful (now (b .entry)) i ⌝ }

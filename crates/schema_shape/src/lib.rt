@@ -6,7 +6,7 @@ ghost use Rattle.coding.specs.Packed as P;
 ghost use Rattle.coding.specs.Lawful as L;
 ghost use Rattle.schema.specs.Directory.{Stored, Placed};
 
-// ---- the shape: counts, places, and the end
+// Stores a number in the directory.
 pub fn put(dir: &mut [u16], i: usize, x: usize)
     requires { ⌜ (i < length (now dir)) × (x < 65536) ⌝ }
     ensures { λ _. ⌜ now (dir .exit) ≡ set (now (dir .entry)) i x ⌝ }
@@ -45,51 +45,80 @@ fn blocks(
     at
 }
 
+// Whether ns structs, nl lists, nu unions and nt tables stand one behind another to the schema's end; their places are stored.
 fn places(b: &[u8], dir: &mut [u16], ns: usize, nl: usize, nu: usize, nt: usize) -> bool
     requires { ⌜ (length (now dir) ≡ 384) × (ns ≡ P.structCount (now b)) × (nl ≡ P.listCount (now b)) × (nu ≡ P.unionCount (now b)) × (nt ≡ P.tableCount (now b)) ⌝ }
     requires { ⌜ (ns ≤ 64) × (nl ≤ 64) × (nu ≤ 64) × (nt ≤ 64) ⌝ }
     ensures { λ r. ⌜ Placed (now (b .entry)) (now (dir .exit)) (L.placesOk (now (b .entry))) r ⌝ }
 {
-    let p = blocks(b, dir, 0, ns, 0, 1, 32, 5);
+    let p = blocks(
+        b,
+        dir,
+        schema::STRUCT_PLACES,
+        ns,
+        0,
+        1,
+        schema::MOST_FIELDS,
+        schema::FIRST,
+    );
     if p == 0 {
         return false;
     }
-    put(dir, 64, p);
-    let q = blocks(b, dir, 128, nu, 0, 1, 32, p + 2 * nl);
+    put(dir, schema::LIST_PLACE, p);
+    let q = blocks(
+        b,
+        dir,
+        schema::UNION_PLACES,
+        nu,
+        0,
+        1,
+        schema::MOST_FIELDS,
+        p + 2 * nl,
+    );
     if q == 0 {
         return false;
     }
-    let e = blocks(b, dir, 192, nt, 4, 0, 64, q);
+    let e = blocks(
+        b,
+        dir,
+        schema::TABLE_PLACES,
+        nt,
+        schema::TABLE_HEAD,
+        0,
+        schema::MOST,
+        q,
+    );
     if e == 0 {
         return false;
     }
     e == b.len()
 }
 
+// Whether the bytes have the shape of a schema; where they do, the directory says where everything stands.
 pub fn shape(b: &[u8], dir: &mut [u16]) -> bool
     requires { ⌜ length (now dir) ≡ 384 ⌝ }
     ensures { λ r. ⌜ Placed (now (b .entry)) (now (dir .exit)) (L.shapeOk (now (b .entry))) r ⌝ }
 {
-    let ns = schema::count(b, 0);
-    let nl = schema::count(b, 1);
-    let nu = schema::count(b, 2);
-    let nt = schema::count(b, 3);
-    if 64 < ns {
+    let ns = schema::count(b, schema::STRUCTS);
+    let nl = schema::count(b, schema::LISTS);
+    let nu = schema::count(b, schema::UNIONS);
+    let nt = schema::count(b, schema::TABLES);
+    if schema::MOST < ns {
         return false;
     }
-    if 64 < nl {
+    if schema::MOST < nl {
         return false;
     }
-    if 64 < nu {
+    if schema::MOST < nu {
         return false;
     }
     if nt < 1 {
         return false;
     }
-    if 64 < nt {
+    if schema::MOST < nt {
         return false;
     }
-    if nt <= schema::count(b, 4) {
+    if nt <= schema::count(b, schema::ROOT) {
         return false;
     }
     places(b, dir, ns, nl, nu, nt)

@@ -14,6 +14,7 @@ ghost use Rattle.schema.specs.Representatives.{Represents, Representatives, Fie
 
 // ---- struct sizes, by recursion on the struct index, which falls at every inner struct. The sizes of the first `known`
 // structs are taken from the directory, so that a chain of structs is gone over once.
+// The bytes of a member of struct s.
 fn field_size(b: &[u8], dir: &[u16], known: usize, s: usize, f: Flat) -> usize
     requires { ⌜ (Directory (now b) (now dir)) × (Sizes (now b) (now dir) known) × (s < P.structCount (now b)) × SmallBelow (now b) s ⌝ }
     ensures { λ r. ⌜ (r ≡ S.flatWidth (S.lower 0 (S.sizeBy (P.parse (now (b .entry)))) s) f) × (r ≤ 4096) ⌝ }
@@ -34,12 +35,13 @@ fn field_size(b: &[u8], dir: &[u16], known: usize, s: usize, f: Flat) -> usize
     }
 }
 
+// The bytes of struct s.
 fn struct_size(b: &[u8], dir: &[u16], known: usize, s: usize) -> usize
     requires { ⌜ (Directory (now b) (now dir)) × (Sizes (now b) (now dir) known) × (s < P.structCount (now b)) × SmallBelow (now b) s ⌝ }
     ensures { λ r. ⌜ (r ≡ S.structSize (P.parse (now (b .entry))) s) × (r ≤ 1048576) ⌝ }
 {
     if s < known {
-        return schema::entry(dir, 256, s);
+        return schema::entry(dir, schema::STRUCT_SIZES, s);
     }
     let n = schema::field_count(b, dir, s);
     let mut size: usize = 0;
@@ -52,6 +54,7 @@ fn struct_size(b: &[u8], dir: &[u16], known: usize, s: usize) -> usize
 }
 
 // ---- the rules of the structs, whose sizes are stored on the way
+// Whether the members of struct i are right.
 fn fields_ok(b: &[u8], dir: &[u16], i: usize) -> bool
     requires { ⌜ (Directory (now b) (now dir)) × (i < P.structCount (now b)) ⌝ }
     ensures { λ r. ⌜ r ≡ L.recordsOk (now (b .entry)) (Role.InStruct i) 0 (P.structPlace (now (b .entry)) i) ⌝ }
@@ -59,21 +62,22 @@ fn fields_ok(b: &[u8], dir: &[u16], i: usize) -> bool
     schema_rules::records_ok(b, Role::InStruct(i), 0, schema::struct_place(b, dir, i))
 }
 
+// Whether all structs are right; their sizes are stored in the directory.
 pub fn structs_ok(b: &[u8], dir: &mut [u16]) -> bool
     requires { ⌜ Directory (now b) (now dir) ⌝ }
     ensures { λ r. ⌜ StructsJudged (now (b .entry)) (now (dir .exit)) r ⌝ }
 {
-    let n = schema::count(b, 0);
+    let n = schema::count(b, schema::STRUCTS);
     let mut i: usize = 0;
     while i < n {
         if !fields_ok(b, dir, i) {
             return false;
         }
         let size = struct_size(b, dir, i, i);
-        if 4096 < size {
+        if schema::LARGEST_STRUCT < size {
             return false;
         }
-        schema_shape::put(dir, 256 + i, size);
+        schema_shape::put(dir, schema::STRUCT_SIZES + i, size);
         i += 1;
     }
     true
@@ -81,7 +85,8 @@ pub fn structs_ok(b: &[u8], dir: &mut [u16]) -> bool
 
 // ---- representatives: the struct by which the booleans of a struct are judged. A struct whose one member is a struct has
 // the representative of that member, so that a chain of such structs is gone over once for the whole schema and not for
-// every value; 65535 stands for a struct without a bool.
+// every value; NO_BOOL stands for a struct without a bool.
+// Whether a member of struct i has no bool.
 fn field_free(b: &[u8], dir: &[u16], i: usize, k: Flat) -> bool
     requires { ⌜ (Directory (now b) (now dir)) × (Representatives (now b) (now dir) i) × (i < P.structCount (now b)) ⌝ }
     ensures { λ r. ⌜ FieldFree (P.parse (now (b .entry))) k r ⌝ }
@@ -94,7 +99,7 @@ fn field_free(b: &[u8], dir: &[u16], i: usize, k: Flat) -> bool
         Flat::Struct(a) => {
             let s = wire::index(a);
             if s < i {
-                schema::entry(dir, 320, s) == 65535
+                schema::entry(dir, schema::REPRESENTATIVES, s) == schema::NO_BOOL
             } else {
                 false
             }
@@ -102,6 +107,7 @@ fn field_free(b: &[u8], dir: &[u16], i: usize, k: Flat) -> bool
     }
 }
 
+// Whether struct i has no bool.
 fn fields_free(b: &[u8], dir: &[u16], i: usize) -> bool
     requires { ⌜ (Directory (now b) (now dir)) × (Representatives (now b) (now dir) i) × (i < P.structCount (now b)) × Sound (P.parse (now b)) ⌝ }
     ensures { λ r. ⌜ StructFree (P.parse (now (b .entry))) i r ⌝ }
@@ -117,7 +123,7 @@ fn fields_free(b: &[u8], dir: &[u16], i: usize) -> bool
     true
 }
 
-// The representative of a struct with one member.
+// The representative of struct i, whose one member is k.
 fn of_one(b: &[u8], dir: &[u16], i: usize, k: Flat) -> usize
     requires { ⌜ (Directory (now b) (now dir)) × (Representatives (now b) (now dir) i) × (i < P.structCount (now b)) × Sound (P.parse (now b)) ⌝ }
     requires { ⌜ (length (Sc.structOf (P.parse (now b)) i) ≡ 1) × (k ≡ Sc.fieldOf (P.parse (now b)) i 0) ⌝ }
@@ -130,17 +136,22 @@ fn of_one(b: &[u8], dir: &[u16], i: usize, k: Flat) -> usize
         Flat::Enumerated(_) => i,
         Flat::Struct(a) => {
             let s = wire::index(a);
-            if s < i { schema::entry(dir, 320, s) } else { i }
+            if s < i {
+                schema::entry(dir, schema::REPRESENTATIVES, s)
+            } else {
+                i
+            }
         }
     }
 }
 
+// The representative of struct i.
 fn find_representative(b: &[u8], dir: &[u16], i: usize) -> usize
     requires { ⌜ (Directory (now b) (now dir)) × (Representatives (now b) (now dir) i) × (i < P.structCount (now b)) × Sound (P.parse (now b)) ⌝ }
     ensures { λ r. ⌜ (Represents (P.parse (now (b .entry))) i r) × (r < 65536) ⌝ }
 {
     if fields_free(b, dir, i) {
-        return 65535;
+        return schema::NO_BOOL;
     }
     if schema::field_count(b, dir, i) == 1 {
         return of_one(b, dir, i, schema::field(b, dir, i, 0));
@@ -148,15 +159,16 @@ fn find_representative(b: &[u8], dir: &[u16], i: usize) -> usize
     i
 }
 
+// Stores the representatives of all structs in the directory.
 pub fn store_representatives(b: &[u8], dir: &mut [u16])
     requires { ⌜ (Directory (now b) (now dir)) × (Sizes (now b) (now dir) (P.structCount (now b))) × Sound (P.parse (now b)) ⌝ }
     ensures { λ _. ⌜ Represented (now (b .entry)) (now (dir .exit)) ⌝ }
 {
-    let n = schema::count(b, 0);
+    let n = schema::count(b, schema::STRUCTS);
     let mut i: usize = 0;
     while i < n {
         let r = find_representative(b, dir, i);
-        schema_shape::put(dir, 320 + i, r);
+        schema_shape::put(dir, schema::REPRESENTATIVES + i, r);
         i += 1;
     }
 }

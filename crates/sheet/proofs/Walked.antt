@@ -8,7 +8,7 @@ use lib.ListN.{length, getD}
 use lib.Dec.{eqb, leb, ltb}
 use borrow.Author.Tests.{leb-true, eqb-false}
 use Rattle.coding.specs.Lists.{pick}
-use Rattle.coding.specs.Bytes.{u48, le, isNaN}
+use Rattle.coding.specs.Bytes.{le, isNaN}
 use Rattle.coding.specs.Schema as Sc
 use Rattle.coding.specs.Schema.{Schema}
 use Rattle.coding.specs.Structs.{flatWidth, structSize, structOk}
@@ -23,6 +23,7 @@ use Rattle.coding.specs.declared.Kind.{Kind}
 use Rattle.coding.specs.declared.Kind.the-variants.{OfFlat, OfObject, OfUnion}
 use Rattle.coding.specs.declared.Member.{Member}
 use Rattle.coding.specs.declared.Cursor.{Cursor}
+use Rattle.coding.specs.declared.Placement.{Placement}
 use Rattle.coding.specs.declared.Place.{Place}
 use Rattle.coding.specs.declared.Place.the-variants.{ByOffset, InPlace}
 use Rattle.coding.specs.declared.Step.{Step}
@@ -51,12 +52,14 @@ Inside S m (St.Struct i at) = (i < length (S .structs)) × (at + structSize S i 
 Inside S m (St.Object ob p) = ObjectSound S ob
 Inside S m (St.Choice c ob p) = ObjectSound S ob
 
-module _ (S : Schema) (sound : Sound S) (m : List ℕ) where
-  float-inside : (x : ℕ) (t : Bool) → Inside S m (pick t St.Absent (St.Value x))
+module _ (o : ℕ) (S : Schema) (sound : Sound S) (m : List ℕ) where
+  float-inside : (x : ℕ) (t : Bool) → Inside S m (T.structTested S m (pick t St.Absent (St.Value x)))
+  unfolding T.structTested
   float-inside x true = tt
   float-inside x false = tt
 
-  enum-inside : (x : ℕ) (t u : Bool) → Inside S m (pick t St.Absent (pick u (St.Value x) (St.Unknown x)))
+  enum-inside : (x : ℕ) (t u : Bool) → Inside S m (T.structTested S m (pick t St.Absent (pick u (St.Value x) (St.Unknown x))))
+  unfolding T.structTested
   enum-inside x true u = tt
   enum-inside x false true = tt
   enum-inside x false false = tt
@@ -66,57 +69,60 @@ module _ (S : Schema) (sound : Sound S) (m : List ℕ) where
   struct-inside i at false l h = λ e. omega arith
 
   flat-inside : (k : Flat) (none : Bool) (at bit : ℕ) → FlatSound (length (S .structs)) k
-      → ((i : ℕ) → k ≡ F.Struct i → at + structSize S i ≤ length m) → Inside S m (T.flatStep S m k none at bit)
-  unfolding T.flatStep T.floatStep T.enumStep T.structStep
+      → ((i : ℕ) → k ≡ F.Struct i → at + structSize S i ≤ length m) → Inside S m (T.structTested S m (T.flatStep m k none at bit))
+  unfolding T.flatStep T.floatStep T.enumStep T.structTested
   flat-inside F.Boolean none at bit l h = tt
   flat-inside (F.Integer s w) none at bit l h = tt
   flat-inside (F.Float w) none at bit l h = float-inside (le m at w) (none && isNaN w (le m at w))
   flat-inside (F.Enumerated n) none at bit l h = enum-inside (getD m at 0) (eqb (getD m at 0) 255) (ltb (getD m at 0) n)
   flat-inside (F.Struct i) none at bit l h = struct-inside i at (structOk S m i at) l (h i refl)
 
-  object-inside : (ob : Object) (p : Place) (t : Bool) → ObjectSound S ob → Inside S m (pick t St.Absent (St.Object ob p))
+  object-inside : (ob : Object) (p : Place) (t : Bool) → ObjectSound S ob → Inside S m (T.structTested S m (pick t St.Absent (St.Object ob p)))
+  unfolding T.structTested
   object-inside ob p true l = tt
   object-inside ob p false l = l
 
   union-inside : (i c : ℕ) (p : Place) (t u : Bool) → eqb c 0 ≡ t → leb c (length (Sc.casesOf S i)) ≡ u
-      → Inside S m (pick t St.Absent (pick u (St.Choice c (Sc.caseOf (Sc.casesOf S i) c) p) (St.Unknown c)))
+      → Inside S m (T.structTested S m (pick t St.Absent (pick u (St.Choice c (Sc.caseOf (Sc.casesOf S i) c) p) (St.Unknown c))))
+  unfolding T.structTested
   union-inside i c p true u e f = tt
   union-inside i c p false true e f = let z = eqb-false c 0 e in case-sound-at S sound i c (omega arith) (leb-true c (length (Sc.casesOf S i)) f)
   union-inside i c p false false e f = tt
 
   value-inside : (k : Kind) (none inplace : Bool) (tail at bit : ℕ) → KindSound S k
-      → ((i : ℕ) → k ≡ OfFlat (F.Struct i) → at + structSize S i ≤ length m) → Inside S m (T.valueStep u48 S m k none inplace tail at bit)
+      → ((i : ℕ) → k ≡ OfFlat (F.Struct i) → at + structSize S i ≤ length m) → Inside S m (T.structTested S m (T.valueStep o S m k none inplace tail at bit))
   unfolding T.valueStep T.objectStep T.unionStep
   value-inside (OfFlat k) none inplace tail at bit l h = flat-inside k none at bit l (λ i e. h i (ap OfFlat e))
-  value-inside (OfObject ob) none inplace tail at bit l h = object-inside ob (T.placeOf inplace tail (le m at u48)) (eqb (le m at u48) 0) l
+  value-inside (OfObject ob) none inplace tail at bit l h = object-inside ob (T.placeOf inplace tail (le m at o)) (eqb (le m at o) 0) l
   value-inside (OfUnion i) none inplace tail at bit l h =
-      union-inside i (le m at 2) (T.placeOf inplace tail (le m (at + 2) u48)) (eqb (le m at 2) 0) (leb (le m at 2) (length (Sc.casesOf S i))) refl refl
+      union-inside i (le m at 2) (T.placeOf inplace tail (le m (at + 2) o)) (eqb (le m at 2) 0) (leb (le m at 2) (length (Sc.casesOf S i))) refl refl
 
-  reached-inside : (g : Reach) (s : Step) → (g ≡ Here → Inside S m s) → Inside S m (reached g s)
-  unfolding reached
+  reached-inside : (g : Reach) (s : Step) → (g ≡ Here → Inside S m (T.structTested S m s)) → Inside S m (T.structTested S m (reached g s))
+  unfolding T.structTested reached
   reached-inside Cut s h = λ e. omega arith
   reached-inside Past s h = tt
   reached-inside Here s h = h refl
 
-  struct-wide : (k : Kind) (i at n c : ℕ) → k ≡ OfFlat (F.Struct i) → at + L.width u48 S k ≤ n → c + n ≤ length m → c + at + structSize S i ≤ length m
+  struct-wide : (k : Kind) (i at n c : ℕ) → k ≡ OfFlat (F.Struct i) → at + L.width o S k ≤ n → c + n ≤ length m → c + at + structSize S i ≤ length m
   unfolding L.width flatWidth
-  struct-wide k i at n c e h l = let q = subst (λ (x : Kind). at + L.width u48 S x ≤ n) e h in omega arith
+  struct-wide k i at n c e h l = let q = subst (λ (x : Kind). at + L.width o S x ≤ n) e h in omega arith
 
-  member-inside : (start n : ℕ) (c : Cursor) (r : Member) → MemberSound S r → start + n ≤ length m → Inside S m (T.memberStep u48 S m start n c r)
-  unfolding L.memberSlot
+  member-inside : (start n : ℕ) (c : Cursor) (r : Member) → MemberSound S r → start + n ≤ length m → Inside S m (T.memberStep o S m start n c r)
+  unfolding T.memberStep L.placementOf L.memberSlot
   member-inside start n c r l h =
-      subst (Inside S m) (sym (step-reached u48 S m start n c r))
-      (reached-inside (reachOf m start n c (L.memberSlot u48 S r c) (L.hasFlag r))
-      (T.valueStep u48 S m (r .kind) (r .optional) (r .inplace) (start + n) (start + L.memberSlot u48 S r c .at) (L.memberSlot u48 S r c .bit))
+      let p : Placement = L.placementOf o S r c in
+      subst (λ (s : Step). Inside S m (T.structTested S m s)) (sym (step-reached o S m start n p r))
+      (reached-inside (reachOf m start n p (L.hasFlag r))
+      (T.valueStep o S m (r .kind) (r .optional) (r .inplace) (start + n) (start + p .value .at) (p .value .bit))
       (λ e.
-      let f = here-inside m start n c (L.memberSlot u48 S r c) (L.hasFlag r) (reachOf m start n c (L.memberSlot u48 S r c) (L.hasFlag r)) refl e in
-      let z : L.memberSlot u48 S r c .size ≡ L.width u48 S (r .kind) = slot-size u48 S (r .kind) (L.afterFlag r c) in
-      value-inside (r .kind) (r .optional) (r .inplace) (start + n) (start + L.memberSlot u48 S r c .at) (L.memberSlot u48 S r c .bit) (l .kind)
-      (λ i q. struct-wide (r .kind) i (L.memberSlot u48 S r c .at) n start q (subst (λ (x : ℕ). L.memberSlot u48 S r c .at + x ≤ n) z f) h)))
+      let f = here-inside m start n p (L.hasFlag r) (reachOf m start n p (L.hasFlag r)) refl e in
+      let z : p .value .size ≡ L.width o S (r .kind) = slot-size o S (r .kind) (L.afterFlag r c) in
+      value-inside (r .kind) (r .optional) (r .inplace) (start + n) (start + p .value .at) (p .value .bit) (l .kind)
+      (λ i q. struct-wide (r .kind) i (p .value .at) n start q (subst (λ (x : ℕ). p .value .at + x ≤ n) z f) h)))
 
-  element-inside : (k : Kind) (start i : ℕ) → KindSound S k → NoStruct k → Inside S m (T.elementStep u48 S m k start i)
+  element-inside : (k : Kind) (start i : ℕ) → KindSound S k → NoStruct k → Inside S m (T.elementStep o S m k start i)
   unfolding T.elementStep
-  element-inside k start i l n = value-inside k true false 0 (T.elementPlace u48 S k start i) (i % 8) l (λ j e. absurd (subst NoStruct e n))
+  element-inside k start i l n = value-inside k true false 0 (T.elementPlace o S k start i) (i % 8) l (λ j e. absurd (subst NoStruct e n))
 
 -- ---- what a walk says: P where it goes on, and a number where it is refused
 abbrev pub Says : Type 0 → Walked → Type 0
@@ -141,96 +147,102 @@ pick-says : (P : Type 0) (t : Bool) (v w : Walked) → (t ≡ true → Says P v)
 pick-says P true v w h k = h refl
 pick-says P false v w h k = k
 
-module _ (S : Schema) (sound : Sound S) (m : List ℕ) (child : W.Child) (good : D.Child)
+module _ (o : ℕ) (S : Schema) (sound : Sound S) (m : List ℕ) (child : W.Child) (good : D.Child)
     (says : (ob : Object) (p : Place) (s : Spent) → ObjectSound S ob → Says (good ob p) (child ob p s)) where
-  choice-says : (holder : ℕ) (ob : Object) (p : Place) (s : Spent) → ObjectSound S ob → Says (good ob p) (W.followChoice child holder ob p s)
-  unfolding W.followChoice
-  choice-says holder ob (ByOffset x) s l = by (eqb x 0)
+  choice-says : (holder j : ℕ) (ob : Object) (p : Place) (s : Spent) → ObjectSound S ob → Says (good ob p) (W.followChoice child holder j ob p s)
+  unfolding W.followChoice W.refusePart
+  choice-says holder j ob (ByOffset x) s l = by (eqb x 0)
     where
       by : (t : Bool) → Says (good ob (ByOffset x)) (pick t (W.refuse 9 holder s) (child ob (ByOffset x) s))
       by true = refuse-says (good ob (ByOffset x)) 9 holder s (λ e. omega arith)
       by false = says ob (ByOffset x) s l
-  choice-says holder ob (InPlace a n) s l = says ob (InPlace a n) s l
+  choice-says holder j ob (InPlace a n) s l = says ob (InPlace a n) s l
 
-  follow-says : (holder : ℕ) (step : Step) (s : Spent) → Inside S m step → Says (D.StepReadable good S m step) (W.follow child holder step s)
-  unfolding W.follow D.StepReadable
-  follow-says holder (St.Refused n) s h = refuse-says ⊥ n holder s h
-  follow-says holder St.Absent s h = tt
-  follow-says holder (St.Value x) s h = tt
-  follow-says holder (St.Unknown x) s h = tt
-  follow-says holder (St.Struct i at) s h = h
-  follow-says holder (St.Object ob p) s h = says ob p s h
-  follow-says holder (St.Choice c ob p) s h = choice-says holder ob p s h
+  follow-says : (holder j : ℕ) (step : Step) (s : Spent) → Inside S m step → Says (D.StepReadable good S m step) (W.follow child holder j step s)
+  unfolding W.follow W.refusePart D.StepReadable
+  follow-says holder j (St.Refused n) s h = refuse-says ⊥ n holder s h
+  follow-says holder j St.Absent s h = tt
+  follow-says holder j (St.Value x) s h = tt
+  follow-says holder j (St.Unknown x) s h = tt
+  follow-says holder j (St.Struct i at) s h = h
+  follow-says holder j (St.Object ob p) s h = says ob p s h
+  follow-says holder j (St.Choice c ob p) s h = choice-says holder j ob p s h
 
-  members-say : (holder start n : ℕ) (c : Cursor) (rs : List Member) (s : Spent) → All (MemberSound S) rs → start + n ≤ length m
-      → Says (D.MembersReadable good S m start n c rs) (W.members child u48 S m holder start n c rs s)
+  members-say : (holder start n : ℕ) (c : Cursor) (j : ℕ) (rs : List Member) (s : Spent) → All (MemberSound S) rs → start + n ≤ length m
+      → Says (D.MembersReadable o good S m start n c rs) (W.members child o S m holder start n c j rs s)
   unfolding W.members D.MembersReadable
-  members-say holder start n c [] s l h = tt
-  members-say holder start n c (r ∷ rs) s l h =
-      says-then (D.StepReadable good S m (T.memberStep u48 S m start n c r)) (D.MembersReadable good S m start n (L.afterMember u48 S r c) rs)
-      (W.follow child holder (T.memberStep u48 S m start n c r) s) (W.members child u48 S m holder start n (L.afterMember u48 S r c) rs)
-      (follow-says holder (T.memberStep u48 S m start n c r) s (member-inside S sound m start n c r (l .0) h))
-      (λ v. members-say holder start n (L.afterMember u48 S r c) rs v (l .1) h)
+  members-say holder start n c j [] s l h = tt
+  members-say holder start n c j (r ∷ rs) s l h =
+      says-then (D.StepReadable good S m (T.memberStep o S m start n c r)) (D.MembersReadable o good S m start n (L.afterMember o S r c) rs)
+      (W.follow child holder j (T.memberStep o S m start n c r) s) (W.members child o S m holder start n (L.afterMember o S r c) (j + 1) rs)
+      (follow-says holder j (T.memberStep o S m start n c r) s (member-inside o S sound m start n c r (l .0) h))
+      (λ v. members-say holder start n (L.afterMember o S r c) (j + 1) rs v (l .1) h)
 
   elements-say : (holder start : ℕ) (k : Kind) (n i : ℕ) (s : Spent) → KindSound S k → NoStruct k
-      → Says (D.ElementsReadable good S m k start n i) (W.elements child u48 S m holder start k n i s)
+      → Says (D.ElementsReadable o good S m k start n i) (W.elements child o S m holder start k n i s)
   unfolding W.elements D.ElementsReadable
   elements-say holder start k zero i s l h = tt
   elements-say holder start k (suc n) i s l h =
-      says-then (D.StepReadable good S m (T.elementStep u48 S m k start i)) (D.ElementsReadable good S m k start n (i + 1))
-      (W.follow child holder (T.elementStep u48 S m k start i) s) (W.elements child u48 S m holder start k n (i + 1))
-      (follow-says holder (T.elementStep u48 S m k start i) s (element-inside S sound m k start i l h))
+      says-then (D.StepReadable good S m (T.elementStep o S m k start i)) (D.ElementsReadable o good S m k start n (i + 1))
+      (W.follow child holder i (T.elementStep o S m k start i) s) (W.elements child o S m holder start k n (i + 1))
+      (follow-says holder i (T.elementStep o S m k start i) s (element-inside o S sound m k start i l h))
       (λ v. elements-say holder start k n (i + 1) v l h)
 
-  content-says : (ob : Object) (holder start n : ℕ) (s : Spent) → ObjectSound S ob → start + W.contentSize u48 S ob n ≤ length m
-      → Says (D.ContentReadable good S m ob start n) (W.content child u48 S m ob holder start n s)
+  content-says : (ob : Object) (holder start n : ℕ) (s : Spent) → ObjectSound S ob → start + W.contentSize o S ob n ≤ length m
+      → Says (D.ContentReadable o good S m ob start n) (W.content child o S m ob holder start n s)
   unfolding W.content D.ContentReadable W.contentSize
   content-says O.Text holder start n s l h = tt
   content-says O.Bytes holder start n s l h = tt
   content-says (O.List i) holder start n s l h = elements-say holder start (Sc.elementOf S i) n 0 s (sound .lists i .kind) (sound .lists i .scalar)
-  content-says (O.Table i) holder start n s l h = members-say holder start n L.begin (Sc.tableOf S i .members) s (sound .tables i .members) h
+  content-says (O.Table i) holder start n s l h = members-say holder start n L.begin 0 (Sc.tableOf S i .members) s (sound .tables i .members) h
 
   open-says : (ob : Object) (holder start n : ℕ) (s : Spent) → ObjectSound S ob
-      → Says (D.Entered good S m ob start n) (W.enter child u48 S m ob holder (W.openContent u48 S m ob start n) s)
-  unfolding W.enter W.openContent
-  open-says ob holder start n s l = by (leb (start + W.contentSize u48 S ob n) (length m)) (W.endOk m ob start n) refl
+      → Says (D.Entered o good S m ob start n) (W.enter child o S m ob holder (W.bytesTested m ob (W.fitContent o S m ob start n)) s)
+  unfolding W.enter W.bytesTested W.fitContent
+  open-says ob holder start n s l = by (leb (start + W.contentSize o S ob n) (length m)) refl
     where
-      by : (t u : Bool) → leb (start + W.contentSize u48 S ob n) (length m) ≡ t
-          → Says (D.Entered good S m ob start n) (W.enter child u48 S m ob holder (pick t (pick u (Op.Content start n) (Op.Refused 10)) (Op.Refused 6)) s)
-      by true true e =
-          let h = leb-true _ _ e in
-          says-map (D.ContentReadable good S m ob start n) (D.Entered good S m ob start n) (λ q. record { sound = l; inside = h; parts = q })
-          (W.content child u48 S m ob holder start n s) (content-says ob holder start n s l h)
-      by true false e = refuse-says (D.Entered good S m ob start n) 10 holder s (λ z. omega arith)
-      by false u e = refuse-says (D.Entered good S m ob start n) 6 holder s (λ z. omega arith)
+      tested : (t : Bool) → start + W.contentSize o S ob n ≤ length m
+          → Says (D.Entered o good S m ob start n) (W.enter child o S m ob holder (pick t (Op.Content start n) (Op.Refused 10)) s)
+      tested true h =
+          says-map (D.ContentReadable o good S m ob start n) (D.Entered o good S m ob start n) (λ q. record { sound = l; inside = h; parts = q })
+          (W.content child o S m ob holder start n s) (content-says ob holder start n s l h)
+      tested false h = refuse-says (D.Entered o good S m ob start n) 10 holder s (λ z. omega arith)
+
+      by : (t : Bool) → leb (start + W.contentSize o S ob n) (length m) ≡ t
+          → Says (D.Entered o good S m ob start n) (W.enter child o S m ob holder (W.bytesTested m ob (pick t (Op.Content start n) (Op.Refused 6))) s)
+      by true e = tested (W.endOk m ob start n) (leb-true _ _ e)
+      by false e = refuse-says (D.Entered o good S m ob start n) 6 holder s (λ z. omega arith)
 
   arrive-says : (ob : Object) (p : Place) (s : Spent) → ObjectSound S ob
-      → Says (D.HeaderInside m p × D.Entered good S m ob (D.startOf p) (D.lengthOf m p)) (W.arrive child u48 S m ob p s)
-  unfolding W.arrive W.openObject W.enter D.HeaderInside D.startOf D.lengthOf W.headerSize u48 W.placed
-  arrive-says ob (ByOffset x) s l = by (leb 10 x) (leb (x + 10) (length m)) (eqb (le m x 4) (W.magic S ob)) refl
+      → Says (D.HeaderInside o m p × D.Entered o good S m ob (D.startOf o p) (D.lengthOf o m p)) (W.arrive child o S m ob p s)
+  unfolding W.arrive W.openObject W.fitObject W.bytesTested W.enter D.HeaderInside D.startOf D.lengthOf W.placed
+  arrive-says ob (ByOffset x) s l = by (leb (W.startSize o) x) (leb (x + W.headerSize o) (length m)) (eqb (le m x 4) (W.magic S ob)) refl
     where
-      by : (t u v : Bool) → leb (x + 10) (length m) ≡ u
-          → Says ((x + 10 ≤ length m) × D.Entered good S m ob (x + 10) (le m (x + 4) 6))
-          (W.enter child 6 S m ob x (pick (t && u) (pick v (W.openContent 6 S m ob (x + 10) (le m (x + 4) 6)) (Op.Refused 7)) (Op.Refused 6)) s)
+      by : (t u v : Bool) → leb (x + W.headerSize o) (length m) ≡ u
+          → Says ((x + W.headerSize o ≤ length m) × D.Entered o good S m ob (x + W.headerSize o) (le m (x + 4) o))
+          (W.enter child o S m ob x
+          (W.bytesTested m ob (pick (t && u) (pick v (W.fitContent o S m ob (x + W.headerSize o) (le m (x + 4) o)) (Op.Refused 7)) (Op.Refused 6))) s)
       by true true true e =
           let h = leb-true _ _ e in
-          says-map (D.Entered good S m ob (x + 10) (le m (x + 4) 6)) ((x + 10 ≤ length m) × D.Entered good S m ob (x + 10) (le m (x + 4) 6)) (λ q. (h, q))
-          (W.enter child 6 S m ob x (W.openContent 6 S m ob (x + 10) (le m (x + 4) 6)) s) (open-says ob x (x + 10) (le m (x + 4) 6) s l)
+          says-map (D.Entered o good S m ob (x + W.headerSize o) (le m (x + 4) o))
+          ((x + W.headerSize o ≤ length m) × D.Entered o good S m ob (x + W.headerSize o) (le m (x + 4) o)) (λ q. (h, q))
+          (W.enter child o S m ob x (W.bytesTested m ob (W.fitContent o S m ob (x + W.headerSize o) (le m (x + 4) o))) s)
+          (open-says ob x (x + W.headerSize o) (le m (x + 4) o) s l)
       by true true false e = refuse-says _ 7 x s (λ z. omega arith)
       by true false v e = refuse-says _ 6 x s (λ z. omega arith)
       by false u v e = refuse-says _ 6 x s (λ z. omega arith)
   arrive-says ob (InPlace a n) s l =
-      says-map (D.Entered good S m ob a n) (Unit {0} × D.Entered good S m ob a n) (λ q. (tt, q))
-      (W.enter child 6 S m ob a (W.openContent 6 S m ob a n) s) (open-says ob a a n s l)
+      says-map (D.Entered o good S m ob a n) (Unit {0} × D.Entered o good S m ob a n) (λ q. (tt, q))
+      (W.enter child o S m ob a (W.bytesTested m ob (W.fitContent o S m ob a n)) s) (open-says ob a a n s l)
 
-pub visit-says : (S : Schema) → Sound S → (m : List ℕ) (b : Budget) (d : ℕ) (ob : Object) (p : Place) (s : Spent) → ObjectSound S ob
-    → Says (D.ObjectReadable d S m ob p) (W.visit d u48 S m b ob p s)
+pub visit-says : (o : ℕ) (S : Schema) → Sound S → (m : List ℕ) (b : Budget) (d : ℕ) (ob : Object) (p : Place) (s : Spent) → ObjectSound S ob
+    → Says (D.ObjectReadable o d S m ob p) (W.visit d o S m b ob p s)
 unfolding W.visit W.counted W.tooDeep D.ObjectReadable
-visit-says S sound m b zero ob p s l =
-    pick-says ⊥ (ltb (s .visits) (b .visits)) (W.refuse 5 (W.placed p) (record { visits = s .visits + 1 })) (W.refuse 4 (W.placed p) s)
-    (λ _. refuse-says ⊥ 5 (W.placed p) (record { visits = s .visits + 1 }) (λ e. omega arith)) (refuse-says ⊥ 4 (W.placed p) s (λ e. omega arith))
-visit-says S sound m b (suc d) ob p s l =
-    pick-says (D.HeaderInside m p × D.Entered (D.ObjectReadable d S m) S m ob (D.startOf p) (D.lengthOf m p)) (ltb (s .visits) (b .visits))
-    (W.arrive (W.visit d u48 S m b) u48 S m ob p (record { visits = s .visits + 1 })) (W.refuse 4 (W.placed p) s)
-    (λ _. arrive-says S sound m (W.visit d u48 S m b) (D.ObjectReadable d S m) (λ ob′ p′ s′ l′. visit-says S sound m b d ob′ p′ s′ l′) ob p (record { visits = s .visits + 1 }) l)
+visit-says o S sound m b zero ob p s l =
+    pick-says ⊥ (ltb (s .visits) (b .visits)) (W.refuse 5 (W.placed p) (W.oneMore s)) (W.refuse 4 (W.placed p) s)
+    (λ _. refuse-says ⊥ 5 (W.placed p) (W.oneMore s) (λ e. omega arith)) (refuse-says ⊥ 4 (W.placed p) s (λ e. omega arith))
+visit-says o S sound m b (suc d) ob p s l =
+    pick-says (D.HeaderInside o m p × D.Entered o (D.ObjectReadable o d S m) S m ob (D.startOf o p) (D.lengthOf o m p)) (ltb (s .visits) (b .visits))
+    (W.arrive (W.visit d o S m b) o S m ob p (W.oneMore s)) (W.refuse 4 (W.placed p) s)
+    (λ _. arrive-says o S sound m (W.visit d o S m b) (D.ObjectReadable o d S m) (λ ob′ p′ s′ l′. visit-says o S sound m b d ob′ p′ s′ l′) ob p (W.oneMore s) l)
     (refuse-says _ 4 (W.placed p) s (λ e. omega arith))

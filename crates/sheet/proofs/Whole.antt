@@ -39,33 +39,33 @@ unfolding W.verdictOf
 says-number Q (Going s) h e = h
 says-number Q (Refused r s) h e = absurd (h e)
 
-sizes : (m : List ℕ) → W.sizeOk u48 m ≡ true → (10 ≤ length m) × (length m ≤ 16777215)
-unfolding W.sizeOk W.headerSize u48 largest
+sizes : (m : List ℕ) → W.sizeOk u48 m ≡ true → (W.startSize u48 ≤ length m) × (length m ≤ 16777215)
+unfolding W.sizeOk W.startSize u48 largest
 sizes m e = (
   leb-true 10 (length m) (both-left (leb 10 (length m)) (leb (length m) 16777215) e),
   leb-true (length m) 16777215 (both-right (leb 10 (length m)) (leb (length m) 16777215) e),
 )
 
 rooted : (b dir m : List ℕ) → Accepted b dir → (budget : Budget) → W.verdictOf (W.walk u48 (P.parse b) m budget) .number ≡ 0
-    → D.ObjectReadable deepest (P.parse b) m (O.Table (P.parse b .root)) (W.rootPlace u48 m)
+    → D.ObjectReadable u48 deepest (P.parse b) m (O.Table (P.parse b .root)) (W.rootPlace u48 m)
 unfolding W.walk
 rooted b dir m a budget q =
-    says-number (D.ObjectReadable deepest (P.parse b) m (O.Table (P.parse b .root)) (W.rootPlace u48 m))
-    (W.visit deepest u48 (P.parse b) m budget (O.Table (P.parse b .root)) (W.rootPlace u48 m) (record { visits = 0 }))
-    (visit-says (P.parse b) (accepted-sound b dir a) m budget deepest (O.Table (P.parse b .root)) (W.rootPlace u48 m) (record { visits = 0 }) (accepted-sound b dir a .root))
+    says-number (D.ObjectReadable u48 deepest (P.parse b) m (O.Table (P.parse b .root)) (W.rootPlace u48 m))
+    (W.visit deepest u48 (P.parse b) m budget (O.Table (P.parse b .root)) (W.rootPlace u48 m) W.nothing)
+    (visit-says u48 (P.parse b) (accepted-sound b dir a) m budget deepest (O.Table (P.parse b .root)) (W.rootPlace u48 m) W.nothing (accepted-sound b dir a .root))
     q
 
-pub message-readable : (b dir m : List ℕ) → Accepted b dir → (budget : Budget) (v : Verdict) → v ≡ W.verdict u48 b m budget → v .number ≡ 0 → D.MessageReadable (P.parse b) m
-unfolding W.verdict W.early
+pub message-readable : (b dir m : List ℕ) → Accepted b dir → (budget : Budget) (v : Verdict) → v ≡ W.verdict u48 b m budget → v .number ≡ 0 → D.MessageReadable u48 (P.parse b) m
+unfolding W.verdict W.early W.nothing
 message-readable b dir m a budget v ev h =
     by (W.sizeOk u48 m) (W.startOk m) refl
     (subst (λ (x : Verdict). x .number ≡ 0)
     (ev ∙ ap (λ (t : Bool). pick t (pick (W.sizeOk u48 m) (pick (W.startOk m) (W.verdictOf (W.walk u48 (P.parse b) m budget)) (W.early 3)) (W.early 2)) (W.early 1)) (a .lawful)) h)
   where
-    sized : W.sizeOk u48 m ≡ true → (10 ≤ length m) × (length m ≤ 16777215)
+    sized : W.sizeOk u48 m ≡ true → (W.startSize u48 ≤ length m) × (length m ≤ 16777215)
     sized e = sizes m e
 
-    by : (t u : Bool) → W.sizeOk u48 m ≡ t → pick t (pick u (W.verdictOf (W.walk u48 (P.parse b) m budget)) (W.early 3)) (W.early 2) .number ≡ 0 → D.MessageReadable (P.parse b) m
+    by : (t u : Bool) → W.sizeOk u48 m ≡ t → pick t (pick u (W.verdictOf (W.walk u48 (P.parse b) m budget)) (W.early 3)) (W.early 2) .number ≡ 0 → D.MessageReadable u48 (P.parse b) m
     by true true e q = record { long = sized e .0; short = sized e .1; root = rooted b dir m a budget q }
     by true false e q = absurd (let z : 3 ≡ 0 = q in omega arith)
     by false u e q = absurd (let z : 2 ≡ 0 = q in omega arith)
@@ -179,11 +179,11 @@ module _ (xs : List ℕ) (v : Verdict) (o o₁ : List ℕ) (n : ℕ) (e : n ≡ 
 -- ---- the answers of the reader
 module _ (b m o : List ℕ) (budget : Budget) (v : Verdict) (ev : v ≡ W.verdict u48 b m budget) where
   module _ (h : v .number ≡ 0) where
-    pub read-answer : (r : ReadAnswer) → r ≡ sheetAnswer (A.rootAt (P.parse b) m) v o → r ≡ M.readAnswer u48 b m budget o
+    pub read-answer : (r : ReadAnswer) → r ≡ sheetAnswer (A.rootAt u48 (P.parse b) m) v o → r ≡ M.readAnswer u48 b m budget o
     unfolding M.readAnswer M.messageSheet E.sheetOf sheetAnswer noRoom A.rootAt
     read-answer r er = er ∙ simp (← ev, eq-eqb _ _ h)
 
-    pub read-over : (o₁ : List ℕ) → o₁ ≡ sheetOver (A.rootAt (P.parse b) m) o → o₁ ≡ M.readOut u48 b m budget o
+    pub read-over : (o₁ : List ℕ) → o₁ ≡ sheetOver (A.rootAt u48 (P.parse b) m) o → o₁ ≡ M.readOut u48 b m budget o
     unfolding M.readOut M.messageSheet E.sheetOf sheetOver A.rootAt
     read-over o₁ er = er ∙ simp (← ev, eq-eqb _ _ h)
 
@@ -201,7 +201,7 @@ pub schema-accepted : (b dir : List ℕ) (t : Bool) → Judged b dir t → t ≡
 schema-accepted b dir t j e = j .right e
 
 unlawful : (b dir m : List ℕ) (budget : Budget) (t : Bool) → Judged b dir t → t ≡ false → W.verdict u48 b m budget ≡ record { number = 1; place = 0; visits = 0 }
-unfolding W.verdict W.early
+unfolding W.verdict W.early W.nothing
 unlawful b dir m budget t j f = simp (← (j .is), f)
 
 module _ (b dir m o : List ℕ) (budget : Budget) (t : Bool) (j : Judged b dir t) (f : t ≡ false) where

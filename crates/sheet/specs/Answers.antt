@@ -4,13 +4,14 @@ use mathlib.Core.List.{List, _++_}
 use lib.ListN.{length, drop}
 use Rattle.coding.specs.Lists.{pick}
 use Rattle.coding.specs.Bits.{packed}
+use Rattle.coding.specs.Walk.{atZero, spentOf}
 use Rattle.coding.specs.Message.{fitsRoom}
 use Rattle.coding.specs.declared.Verdict.{Verdict}
 use Rattle.coding.specs.declared.ReadAnswer.{ReadAnswer}
 
 -- refusal 14, with the verdict's visits
 unfoldable pub noRoom : Verdict → ReadAnswer
-noRoom v = record { verdict = record { number = 14; place = 0; visits = v .visits }; length = 0 }
+noRoom v = record { verdict = atZero 14 (spentOf v); length = 0 }
 
 unfoldable pub sheetAnswer : List ℕ → Verdict → List ℕ → ReadAnswer
 sheetAnswer xs v out = pick (fitsRoom (packed xs) out) (record { verdict = v; length = length (packed xs) }) (noRoom v)

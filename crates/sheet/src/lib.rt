@@ -8,17 +8,15 @@ ghost use lib.ListN.{length};
 ghost use Rattle.coding.specs.Bytes as B;
 ghost use Rattle.coding.specs.Bits.{packed, byteCount};
 ghost use Rattle.coding.specs.Message as M;
-ghost use Rattle.coding.specs.Packed as P;
 ghost use Rattle.schema.specs.Directory.{Accepted};
 ghost use Rattle.bitio.specs.Puts.{saturated};
-ghost use Rattle.sheet_walk.specs.MessageBits as Bt;
-ghost use Rattle.sheet_walk.specs.Readable as D;
+ghost use Rattle.sheet_walk.specs.Contracts as C;
 ghost use Rattle.sheet.specs.Answers as An;
 
-// How many bits, or one more than a sheet may have; nothing is written.
+// How many bits the sheet has, or one more than a sheet may have; nothing is written.
 fn count_bits(b: &[u8], dir: &[u16], m: &[u8], out: &mut [u8]) -> usize
-    requires { ⌜ (Accepted (now b) (now dir)) × (D.MessageReadable (P.parse (now b)) (now m)) ⌝ }
-    ensures { λ r. ⌜ r ≡ saturated (length (Bt.rootAt (P.parse (now (b .entry))) (now (m .entry)))) ⌝ }
+    requires { ⌜ (Accepted (now b) (now dir)) × (C.MessageReadable (now b) (now m)) ⌝ }
+    ensures { λ r. ⌜ r ≡ saturated (length (C.rootBits (now (b .entry)) (now (m .entry)))) ⌝ }
     ensures { λ _. ⌜ now (out .exit) ≡ now (out .entry) ⌝ }
 {
     sheet_walk::put_root(b, dir, m, &mut out[..0])
@@ -26,10 +24,10 @@ fn count_bits(b: &[u8], dir: &[u16], m: &[u8], out: &mut [u8]) -> usize
 
 // The sheet, into a buffer of its size.
 fn fill(b: &[u8], dir: &[u16], m: &[u8], out: &mut [u8])
-    requires { ⌜ (Accepted (now b) (now dir)) × (D.MessageReadable (P.parse (now b)) (now m)) ⌝ }
-    requires { ⌜ length (now out) ≡ byteCount (Bt.rootAt (P.parse (now b)) (now m)) ⌝ }
+    requires { ⌜ (Accepted (now b) (now dir)) × (C.MessageReadable (now b) (now m)) ⌝ }
+    requires { ⌜ length (now out) ≡ byteCount (C.rootBits (now b) (now m)) ⌝ }
     requires { ⌜ length (now out) ≤ 16777215 ⌝ }
-    ensures { λ _. ⌜ now (out .exit) ≡ packed (Bt.rootAt (P.parse (now (b .entry))) (now (m .entry))) ⌝ }
+    ensures { λ _. ⌜ now (out .exit) ≡ packed (C.rootBits (now (b .entry)) (now (m .entry))) ⌝ }
 {
     bitio::clear_last(out);
     sheet_walk::put_root(b, dir, m, out);
@@ -52,12 +50,12 @@ fn no_room(v: Verdict) -> ReadAnswer
 
 // The sheet of an accepted message, whose verdict is v.
 fn read_accepted(b: &[u8], dir: &[u16], m: &[u8], v: Verdict, out: &mut [u8]) -> ReadAnswer
-    requires { ⌜ (Accepted (now b) (now dir)) × (D.MessageReadable (P.parse (now b)) (now m)) ⌝ }
-    ensures { λ r. ⌜ r ≡ An.sheetAnswer (Bt.rootAt (P.parse (now (b .entry))) (now (m .entry))) v (now (out .entry)) ⌝ }
-    ensures { λ _. ⌜ now (out .exit) ≡ An.sheetOver (Bt.rootAt (P.parse (now (b .entry))) (now (m .entry))) (now (out .entry)) ⌝ }
+    requires { ⌜ (Accepted (now b) (now dir)) × (C.MessageReadable (now b) (now m)) ⌝ }
+    ensures { λ r. ⌜ r ≡ An.sheetAnswer (C.rootBits (now (b .entry)) (now (m .entry))) v (now (out .entry)) ⌝ }
+    ensures { λ _. ⌜ now (out .exit) ≡ An.sheetOver (C.rootBits (now (b .entry)) (now (m .entry))) (now (out .entry)) ⌝ }
 {
     let n = count_bits(b, dir, m, out);
-    if 134217720 < n {
+    if sheet_values::MOST < n {
         return no_room(v);
     }
     let k = (n + 7) / 8;
@@ -71,7 +69,7 @@ fn read_accepted(b: &[u8], dir: &[u16], m: &[u8], v: Verdict, out: &mut [u8]) ->
     }
 }
 
-// By a schema that was judged before.
+// Reads a message by a schema that was found lawful.
 fn read_judged(b: &[u8], dir: &[u16], m: &[u8], budget: Budget, out: &mut [u8]) -> ReadAnswer
     requires { ⌜ Accepted (now b) (now dir) ⌝ }
     ensures { λ r. ⌜ r ≡ M.readAnswer B.u48 (now (b .entry)) (now (m .entry)) budget (now (out .entry)) ⌝ }

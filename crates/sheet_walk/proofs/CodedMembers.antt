@@ -8,7 +8,7 @@ use lib.ListN.{length, getD}
 use lib.Dec.{leb, ltb, eqb}
 use borrow.Author.Tests.{leb-true, leb-false, lt-leb, ltb-true, ltb-false, lt-ltb, le-ltb, eq-eqb, eqb-false, ne-eqb}
 use Rattle.coding.specs.Lists.{pick}
-use Rattle.coding.specs.Bytes.{u48, le, bitAt, isNaN}
+use Rattle.coding.specs.Bytes.{le, bitAt, isNaN}
 use Rattle.coding.specs.Schema as Sc
 use Rattle.coding.specs.Schema.{Schema}
 use Rattle.coding.specs.Packed as P
@@ -58,9 +58,9 @@ among v true u = refl
 among v false true = refl
 among v false false = refl
 
-number-flat : (k a : ℕ) → (k ≡ 0 → ⊥) → k ≤ 10 → NumberOf (P.flatOf k a) (P.widthOf k)
+number-flat : (k a : ℕ) → (k ≡ 0 → ⊥) → k < 11 → NumberOf (P.flatOf k a) (P.widthOf k)
 unfolding P.flatOf
-number-flat k a h l = let g : k < 11 = omega arith in simp (ne-eqb k 0 h, lt-ltb _ _ g) (among (P.widthOf k) (ltb k 5) (ltb k 9))
+number-flat k a h l = simp (ne-eqb k 0 h, lt-ltb _ _ l) (among (P.widthOf k) (ltb k 5) (ltb k 9))
 
 signed : (v : ℕ) (t : Bool) → IntegerOf (pick t (F.Integer false v) (F.Integer true v)) v
 unfolding IntegerOf
@@ -75,12 +75,11 @@ bool-flat : (k a : ℕ) → k ≡ 0 → P.flatOf k a ≡ F.Boolean
 unfolding P.flatOf
 bool-flat k a h = simp (eq-eqb _ _ h)
 
-float-flat : (k a : ℕ) → 9 ≤ k → k ≤ 10 → P.flatOf k a ≡ F.Float (P.widthOf k)
+float-flat : (k a : ℕ) → 9 ≤ k → k < 11 → P.flatOf k a ≡ F.Float (P.widthOf k)
 unfolding P.flatOf
 float-flat k a h l =
-    let g : k < 11 = omega arith in
     let i : 5 ≤ k = omega arith in
-    simp (ne-eqb k 0 (λ e. omega (arith, e, h)), le-ltb _ _ i, le-ltb _ _ h, lt-ltb _ _ g)
+    simp (ne-eqb k 0 (λ e. omega (arith, e, h)), le-ltb _ _ i, le-ltb _ _ h, lt-ltb _ _ l)
 
 member-at : (b : List ℕ) (at k : ℕ) → k ≡ P.kindAt b at → k ≤ 11 → (o v : Bool) → o ≡ P.optionalAt b at → o ≡ v
     → P.memberAt b at ≡ record { kind = OfFlat (P.flatOf k (P.argumentAt b at)); optional = v; inplace = P.inplaceAt b at }
@@ -111,27 +110,27 @@ module _ (q : ℕ) (A : Type 0) (x y z : A) where
   code-optional h l = simp (le-ltb _ _ h, lt-ltb _ _ l)
 
 -- ---- the bits of a member's step
-module _ (d : ℕ) (S : Schema) (m : List ℕ) (k : Kind) where
-  refused-bits : A.stepAt d S m k (St.Refused 8) ≡ bitsOf 2 0
-  unfolding A.stepAt
+module _ (o d : ℕ) (S : Schema) (m : List ℕ) (k : Kind) where
+  refused-bits : A.stepAt o d S m k (T.structTested S m (St.Refused 8)) ≡ bitsOf 2 0
+  unfolding T.structTested A.stepAt
   refused-bits = refl
 
-  no-bits : A.stepAt d S m k St.Absent ≡ bitsOf 2 0
-  unfolding A.stepAt
+  no-bits : A.stepAt o d S m k (T.structTested S m St.Absent) ≡ bitsOf 2 0
+  unfolding T.structTested A.stepAt
   no-bits = refl
 
-  absent-bits : (t u : Bool) → A.stepAt d S m k (pick t St.Absent (pick u St.Absent (St.Refused 8))) ≡ bitsOf 2 0
-  unfolding A.stepAt
+  absent-bits : (t u : Bool) → A.stepAt o d S m k (T.structTested S m (pick t St.Absent (pick u St.Absent (St.Refused 8)))) ≡ bitsOf 2 0
+  unfolding T.structTested A.stepAt
   absent-bits true u = refl
   absent-bits false true = refl
   absent-bits false false = refl
 
-  placed-bits : (w n e x : ℕ) (past : Step) → A.stepAt d S m k past ≡ bitsOf 2 0 → 0 < w → 8 * w ≡ A.valueWidth k
-      → A.stepAt d S m k (pick (leb n e) past (pick (leb (e + w) n) (St.Value x) (St.Refused 8))) ≡ pick (leb (e + w) n) (K.marked 1 (8 * w) x) (bitsOf 2 0)
-  unfolding A.stepAt
+  placed-bits : (w n e x : ℕ) (past : Step) → A.stepAt o d S m k (T.structTested S m past) ≡ bitsOf 2 0 → 0 < w → 8 * w ≡ A.valueWidth k
+      → A.stepAt o d S m k (T.structTested S m (pick (leb n e) past (pick (leb (e + w) n) (St.Value x) (St.Refused 8)))) ≡ pick (leb (e + w) n) (K.marked 1 (8 * w) x) (bitsOf 2 0)
+  unfolding T.structTested A.stepAt
   placed-bits w n e x past ep some ew = by (leb n e) (leb (e + w) n) refl refl
     where
-      by : (t u : Bool) → leb n e ≡ t → leb (e + w) n ≡ u → A.stepAt d S m k (pick t past (pick u (St.Value x) (St.Refused 8))) ≡ pick u (K.marked 1 (8 * w) x) (bitsOf 2 0)
+      by : (t u : Bool) → leb n e ≡ t → leb (e + w) n ≡ u → A.stepAt o d S m k (T.structTested S m (pick t past (pick u (St.Value x) (St.Refused 8)))) ≡ pick u (K.marked 1 (8 * w) x) (bitsOf 2 0)
       by true true et eu = let a = leb-true n e et in let b = leb-true (e + w) n eu in absurd (let z : ⊥ = omega arith in z)
       by true false et eu = ep
       by false true et eu = ap (λ (i : ℕ). K.marked 1 i x) (sym ew)
@@ -139,28 +138,28 @@ module _ (d : ℕ) (S : Schema) (m : List ℕ) (k : Kind) where
 
 -- ---- a number that is not optional
 module _ (place : Bool) (w : ℕ) where
-  number-next : (S : Schema) (c : Cursor) (f : Flat) → NumberOf f w → L.afterMember u48 S (flatMember f false place) c ≡ L.afterBytes w c
+  number-next : (o : ℕ) (S : Schema) (c : Cursor) (f : Flat) → NumberOf f w → L.afterMember o S (flatMember f false place) c ≡ L.afterBytes w c
   unfolding L.afterMember L.afterValue L.afterFlag L.hasFlag L.isBool L.flatIsBool L.width flatWidth NumberOf
-  number-next S c F.Boolean e = absurd e
-  number-next S c (F.Integer s v) e = ap (λ (x : ℕ). L.afterBytes x c) e
-  number-next S c (F.Float v) e = ap (λ (x : ℕ). L.afterBytes x c) e
-  number-next S c (F.Enumerated n) e = absurd e
-  number-next S c (F.Struct i) e = absurd e
+  number-next o S c F.Boolean e = absurd e
+  number-next o S c (F.Integer s v) e = ap (λ (x : ℕ). L.afterBytes x c) e
+  number-next o S c (F.Float v) e = ap (λ (x : ℕ). L.afterBytes x c) e
+  number-next o S c (F.Enumerated n) e = absurd e
+  number-next o S c (F.Struct i) e = absurd e
 
-  number-bits : (d : ℕ) (S : Schema) (m : List ℕ) (start n : ℕ) (c : Cursor) → 0 < w → (f : Flat) → NumberOf f w
-      → A.stepAt d S m (OfFlat f) (T.memberStep u48 S m start n c (flatMember f false place)) ≡ K.plainAt m w start n (c .end)
-  unfolding T.memberStep T.inside T.valueStep T.flatStep T.floatStep L.memberSlot L.slotOf L.afterFlag L.hasFlag L.isBool L.flatIsBool L.width flatWidth NumberOf K.plainAt A.valueWidth A.flatValue
-  number-bits d S m start n c some F.Boolean e = absurd e
-  number-bits d S m start n c some (F.Integer s v) e =
-      placed-bits d S m (OfFlat (F.Integer s v)) v n (c .end) (le m (start + c .end) v) St.Absent (no-bits d S m (OfFlat (F.Integer s v)))
+  number-bits : (o d : ℕ) (S : Schema) (m : List ℕ) (start n : ℕ) (c : Cursor) → 0 < w → (f : Flat) → NumberOf f w
+      → A.stepAt o d S m (OfFlat f) (T.memberStep o S m start n c (flatMember f false place)) ≡ K.plainAt m w start n (c .end)
+  unfolding T.memberStep T.structTested T.placedStep L.placementOf L.bitSlot T.inside T.valueStep T.flatStep T.floatStep L.memberSlot L.slotOf L.afterFlag L.hasFlag L.isBool L.flatIsBool L.width flatWidth NumberOf K.plainAt A.valueWidth A.flatValue
+  number-bits o d S m start n c some F.Boolean e = absurd e
+  number-bits o d S m start n c some (F.Integer s v) e =
+      placed-bits o d S m (OfFlat (F.Integer s v)) v n (c .end) (le m (start + c .end) v) St.Absent (no-bits o d S m (OfFlat (F.Integer s v)))
       (subst (λ (x : ℕ). 0 < x) (sym e) some) refl
       ∙ ap (λ (x : ℕ). K.plainAt m x start n (c .end)) e
-  number-bits d S m start n c some (F.Float v) e =
-      placed-bits d S m (OfFlat (F.Float v)) v n (c .end) (le m (start + c .end) v) St.Absent (no-bits d S m (OfFlat (F.Float v)))
+  number-bits o d S m start n c some (F.Float v) e =
+      placed-bits o d S m (OfFlat (F.Float v)) v n (c .end) (le m (start + c .end) v) St.Absent (no-bits o d S m (OfFlat (F.Float v)))
       (subst (λ (x : ℕ). 0 < x) (sym e) some) refl
       ∙ ap (λ (x : ℕ). K.plainAt m x start n (c .end)) e
-  number-bits d S m start n c some (F.Enumerated k) e = absurd e
-  number-bits d S m start n c some (F.Struct i) e = absurd e
+  number-bits o d S m start n c some (F.Enumerated k) e = absurd e
+  number-bits o d S m start n c some (F.Struct i) e = absurd e
 
   number-coded : (f : Flat) → NumberOf f w → 0 < w → w ≤ 8 → Coded (flatMember f false place) w
   unfolding behind A.codedAt A.codedWidth A.codedEnd
@@ -168,25 +167,25 @@ module _ (place : Bool) (w : ℕ) where
       let h : w < 16 = omega arith in
       let l : w < 32 = omega arith in
       record {
-        next-is = λ S c.
-            number-next S c f e ∙ sym (code-number w Cursor (L.afterBytes w c) (L.afterBytes (w - 16) (L.afterBit c)) (behindOther w c) h);
-        bits-are = λ d S m start n c. number-bits d S m start n c some f e ∙ simp (lt-ltb _ _ h, lt-ltb _ _ l);
+        next-is = λ o S c.
+            number-next o S c f e ∙ sym (code-number w Cursor (L.afterBytes w c) (L.afterBytes (w - 16) (L.afterBit c)) (behindOther w c) h);
+        bits-are = λ o d S m start n c. number-bits o d S m start n c some f e ∙ simp (lt-ltb _ _ h, lt-ltb _ _ l);
       }
 
   -- ---- an optional integer
-  optional-next : (S : Schema) (c : Cursor) (f : Flat) → IntegerOf f w → L.afterMember u48 S (flatMember f true place) c ≡ L.afterBytes w (L.afterBit c)
+  optional-next : (o : ℕ) (S : Schema) (c : Cursor) (f : Flat) → IntegerOf f w → L.afterMember o S (flatMember f true place) c ≡ L.afterBytes w (L.afterBit c)
   unfolding L.afterMember L.afterValue L.afterFlag L.hasFlag L.takesFlag L.flatTakesFlag L.isBool L.flatIsBool L.width flatWidth IntegerOf
-  optional-next S c F.Boolean e = absurd e
-  optional-next S c (F.Integer s v) e = ap (λ (x : ℕ). L.afterBytes x (L.afterBit c)) e
-  optional-next S c (F.Float v) e = absurd e
-  optional-next S c (F.Enumerated n) e = absurd e
-  optional-next S c (F.Struct i) e = absurd e
+  optional-next o S c F.Boolean e = absurd e
+  optional-next o S c (F.Integer s v) e = ap (λ (x : ℕ). L.afterBytes x (L.afterBit c)) e
+  optional-next o S c (F.Float v) e = absurd e
+  optional-next o S c (F.Enumerated n) e = absurd e
+  optional-next o S c (F.Struct i) e = absurd e
 
-  optional-bits : (d : ℕ) (S : Schema) (m : List ℕ) (start n : ℕ) (c : Cursor) → 0 < w → (f : Flat) → IntegerOf f w
-      → A.stepAt d S m (OfFlat f) (T.memberStep u48 S m start n c (flatMember f true place)) ≡ K.plainAt m w start n (A.optionalEnd m start n c)
-  unfolding T.memberStep T.flagged T.inside T.valueStep T.flatStep L.memberSlot L.slotOf L.afterFlag L.hasFlag L.takesFlag L.flatTakesFlag L.isBool L.flatIsBool L.width flatWidth IntegerOf K.plainAt A.optionalEnd A.valueWidth A.flatValue
-  optional-bits d S m start n c some F.Boolean e = absurd e
-  optional-bits d S m start n c some (F.Integer s v) e =
+  optional-bits : (o d : ℕ) (S : Schema) (m : List ℕ) (start n : ℕ) (c : Cursor) → 0 < w → (f : Flat) → IntegerOf f w
+      → A.stepAt o d S m (OfFlat f) (T.memberStep o S m start n c (flatMember f true place)) ≡ K.plainAt m w start n (A.optionalEnd m start n c)
+  unfolding T.memberStep T.structTested T.placedStep L.placementOf L.bitSlot T.flagged T.inside T.valueStep T.flatStep L.memberSlot L.slotOf L.afterFlag L.hasFlag L.takesFlag L.flatTakesFlag L.isBool L.flatIsBool L.width flatWidth IntegerOf K.plainAt A.optionalEnd A.valueWidth A.flatValue
+  optional-bits o d S m start n c some F.Boolean e = absurd e
+  optional-bits o d S m start n c some (F.Integer s v) e =
       by (L.afterBit c .end) (leb n (L.bitByte c)) (eqb (bitAt m (start + L.bitByte c) (L.bitIndex c)) 1)
       ∙ ap (λ (x : ℕ). K.plainAt m x start n (A.optionalEnd m start n c)) e
     where
@@ -194,19 +193,19 @@ module _ (place : Bool) (w : ℕ) where
       past = let h : n < n + v = let z = subst (λ (i : ℕ). 0 < i) (sym e) some in omega arith in simp (lt-leb _ _ h)
 
       by : (a : ℕ) (t u : Bool)
-          → A.stepAt d S m (OfFlat (F.Integer s v))
-          (pick t St.Absent
+          → A.stepAt o d S m (OfFlat (F.Integer s v))
+          (T.structTested S m (pick t St.Absent
           (pick u (pick (leb n a) (St.Refused 8) (pick (leb (a + v) n) (St.Value (le m (start + a) v)) (St.Refused 8)))
-          (pick (leb n a) St.Absent (pick (leb (a + v) n) St.Absent (St.Refused 8)))))
+          (pick (leb n a) St.Absent (pick (leb (a + v) n) St.Absent (St.Refused 8))))))
           ≡ K.plainAt m v start n (pick t n (pick u a n))
-      by a true u = no-bits d S m (OfFlat (F.Integer s v)) ∙ past
+      by a true u = no-bits o d S m (OfFlat (F.Integer s v)) ∙ past
       by a false true =
-          placed-bits d S m (OfFlat (F.Integer s v)) v n a (le m (start + a) v) (St.Refused 8) (refused-bits d S m (OfFlat (F.Integer s v)))
+          placed-bits o d S m (OfFlat (F.Integer s v)) v n a (le m (start + a) v) (St.Refused 8) (refused-bits o d S m (OfFlat (F.Integer s v)))
           (subst (λ (i : ℕ). 0 < i) (sym e) some) refl
-      by a false false = absent-bits d S m (OfFlat (F.Integer s v)) (leb n a) (leb (a + v) n) ∙ past
-  optional-bits d S m start n c some (F.Float v) e = absurd e
-  optional-bits d S m start n c some (F.Enumerated k) e = absurd e
-  optional-bits d S m start n c some (F.Struct i) e = absurd e
+      by a false false = absent-bits o d S m (OfFlat (F.Integer s v)) (leb n a) (leb (a + v) n) ∙ past
+  optional-bits o d S m start n c some (F.Float v) e = absurd e
+  optional-bits o d S m start n c some (F.Enumerated k) e = absurd e
+  optional-bits o d S m start n c some (F.Struct i) e = absurd e
 
   optional-coded : (f : Flat) → IntegerOf f w → 0 < w → w ≤ 8 → Coded (flatMember f true place) (16 + w)
   unfolding behind A.codedAt A.codedWidth A.codedEnd
@@ -215,26 +214,26 @@ module _ (place : Bool) (w : ℕ) where
       let l : 16 + w < 32 = omega arith in
       let z : w ≡ 16 + w - 16 = omega arith in
       record {
-        next-is = λ S c.
-            optional-next S c f e ∙ ap (λ (i : ℕ). L.afterBytes i (L.afterBit c)) z
+        next-is = λ o S c.
+            optional-next o S c f e ∙ ap (λ (i : ℕ). L.afterBytes i (L.afterBit c)) z
             ∙ sym (code-optional (16 + w) Cursor (L.afterBytes (16 + w) c) (L.afterBytes (16 + w - 16) (L.afterBit c)) (behindOther (16 + w) c) h l);
-        bits-are = λ d S m start n c.
-            optional-bits d S m start n c some f e ∙ ap (λ (i : ℕ). K.plainAt m i start n (A.optionalEnd m start n c)) z
+        bits-are = λ o d S m start n c.
+            optional-bits o d S m start n c some f e ∙ ap (λ (i : ℕ). K.plainAt m i start n (A.optionalEnd m start n c)) z
             ∙ simp (le-ltb _ _ h, lt-ltb _ _ l);
       }
 
   -- ---- an optional float, which has no flag
-  float-next : (S : Schema) (c : Cursor) → L.afterMember u48 S (flatMember (F.Float w) true place) c ≡ L.afterBytes w c
+  float-next : (o : ℕ) (S : Schema) (c : Cursor) → L.afterMember o S (flatMember (F.Float w) true place) c ≡ L.afterBytes w c
   unfolding L.afterMember L.afterValue L.afterFlag L.hasFlag L.takesFlag L.flatTakesFlag L.isBool L.flatIsBool L.width flatWidth
-  float-next S c = refl
+  float-next o S c = refl
 
-  float-bits : (d : ℕ) (S : Schema) (m : List ℕ) (start n : ℕ) (c : Cursor) → 0 < w
-      → A.stepAt d S m (OfFlat (F.Float w)) (T.memberStep u48 S m start n c (flatMember (F.Float w) true place)) ≡ A.optionalFloatAt m w start n c
-  unfolding T.memberStep T.inside T.valueStep T.flatStep T.floatStep L.memberSlot L.slotOf L.afterFlag L.hasFlag L.takesFlag L.flatTakesFlag L.isBool L.flatIsBool L.width flatWidth K.floatAt A.optionalFloatAt A.stepAt A.valueWidth A.flatValue
-  float-bits d S m start n c some = by (le m (start + c .end) w) (leb n (c .end)) (leb (c .end + w) n) (isNaN w (le m (start + c .end) w)) refl refl
+  float-bits : (o d : ℕ) (S : Schema) (m : List ℕ) (start n : ℕ) (c : Cursor) → 0 < w
+      → A.stepAt o d S m (OfFlat (F.Float w)) (T.memberStep o S m start n c (flatMember (F.Float w) true place)) ≡ A.optionalFloatAt m w start n c
+  unfolding T.memberStep T.structTested T.placedStep L.placementOf L.bitSlot T.inside T.valueStep T.flatStep T.floatStep L.memberSlot L.slotOf L.afterFlag L.hasFlag L.takesFlag L.flatTakesFlag L.isBool L.flatIsBool L.width flatWidth K.floatAt A.optionalFloatAt A.stepAt A.valueWidth A.flatValue
+  float-bits o d S m start n c some = by (le m (start + c .end) w) (leb n (c .end)) (leb (c .end + w) n) (isNaN w (le m (start + c .end) w)) refl refl
     where
       by : (x : ℕ) (t u v : Bool) → leb n (c .end) ≡ t → leb (c .end + w) n ≡ u
-          → A.stepAt d S m (OfFlat (F.Float w)) (pick t St.Absent (pick u (pick v St.Absent (St.Value x)) (St.Refused 8)))
+          → A.stepAt o d S m (OfFlat (F.Float w)) (T.structTested S m (pick t St.Absent (pick u (pick v St.Absent (St.Value x)) (St.Refused 8))))
           ≡ pick u (pick v (bitsOf 2 0) (K.marked 1 (8 * w) x)) (bitsOf 2 0)
       by x true true v et eu = let a = leb-true n (c .end) et in let b = leb-true (c .end + w) n eu in absurd (let z : ⊥ = omega arith in z)
       by x true false v et eu = refl
@@ -251,47 +250,47 @@ module _ (place : Bool) (w : ℕ) where
       let l : 48 + w < 64 = omega arith in
       let z : w ≡ 48 + w - 48 = omega arith in
       record {
-        next-is = λ S c.
-            float-next S c ∙ ap (λ (i : ℕ). L.afterBytes i c) z ∙ simp (le-ltb _ _ g, le-ltb _ _ h, lt-leb _ _ i, lt-ltb _ _ l);
-        bits-are = λ d S m start n c.
-            float-bits d S m start n c some ∙ ap (λ (i : ℕ). A.optionalFloatAt m i start n c) z
+        next-is = λ o S c.
+            float-next o S c ∙ ap (λ (i : ℕ). L.afterBytes i c) z ∙ simp (le-ltb _ _ g, le-ltb _ _ h, lt-leb _ _ i, lt-ltb _ _ l);
+        bits-are = λ o d S m start n c.
+            float-bits o d S m start n c some ∙ ap (λ (i : ℕ). A.optionalFloatAt m i start n c) z
             ∙ simp (le-ltb _ _ h, lt-leb _ _ i, lt-ltb _ _ l);
       }
 
 -- ---- a bool that is not optional
-bool-bits : (place : Bool) (d : ℕ) (S : Schema) (m : List ℕ) (start n : ℕ) (c : Cursor)
-    → A.stepAt d S m (OfFlat F.Boolean) (T.memberStep u48 S m start n c (flatMember F.Boolean false place)) ≡ A.boolAt m start n c
-unfolding T.memberStep T.inside T.valueStep T.flatStep L.memberSlot L.slotOf L.afterFlag L.hasFlag L.isBool L.flatIsBool A.boolAt A.stepAt A.valueWidth A.flatValue
-bool-bits place d S m start n c = by (L.bitByte c) (bitAt m (start + L.bitByte c) (L.bitIndex c)) (leb n (L.bitByte c)) (leb (L.bitByte c + 1) n) refl refl
+bool-bits : (place : Bool) (o d : ℕ) (S : Schema) (m : List ℕ) (start n : ℕ) (c : Cursor)
+    → A.stepAt o d S m (OfFlat F.Boolean) (T.memberStep o S m start n c (flatMember F.Boolean false place)) ≡ A.boolAt m start n c
+unfolding T.memberStep T.structTested T.placedStep L.placementOf L.bitSlot T.inside T.valueStep T.flatStep L.memberSlot L.slotOf L.afterFlag L.hasFlag L.isBool L.flatIsBool A.boolAt A.stepAt A.valueWidth A.flatValue
+bool-bits place o d S m start n c = by (L.bitByte c) (bitAt m (start + L.bitByte c) (L.bitIndex c)) (leb n (L.bitByte c)) (leb (L.bitByte c + 1) n) refl refl
   where
     by : (a x : ℕ) (t u : Bool) → leb n a ≡ t → leb (a + 1) n ≡ u
-        → A.stepAt d S m (OfFlat F.Boolean) (pick t St.Absent (pick u (St.Value x) (St.Refused 8))) ≡ pick t (bitsOf 2 0) (K.marked 1 1 x)
+        → A.stepAt o d S m (OfFlat F.Boolean) (T.structTested S m (pick t St.Absent (pick u (St.Value x) (St.Refused 8)))) ≡ pick t (bitsOf 2 0) (K.marked 1 1 x)
     by a x true u et eu = refl
     by a x false true et eu = refl
     by a x false false et eu = let g = leb-false n a et in let l = leb-false (a + 1) n eu in absurd (let z : ⊥ = omega arith in z)
 
-bool-next : (place : Bool) (S : Schema) (c : Cursor) → L.afterMember u48 S (flatMember F.Boolean false place) c ≡ L.afterBit c
+bool-next : (place : Bool) (o : ℕ) (S : Schema) (c : Cursor) → L.afterMember o S (flatMember F.Boolean false place) c ≡ L.afterBit c
 unfolding L.afterMember L.afterValue L.afterFlag L.hasFlag L.isBool L.flatIsBool
-bool-next place S c = refl
+bool-next place o S c = refl
 
 bool-coded : (place : Bool) → Coded (flatMember F.Boolean false place) 32
 unfolding behind behindOther A.codedAt A.otherAt
-bool-coded place = record { next-is = λ S c. bool-next place S c; bits-are = λ d S m start n c. bool-bits place d S m start n c }
+bool-coded place = record { next-is = λ o S c. bool-next place o S c; bits-are = λ o d S m start n c. bool-bits place o d S m start n c }
 
 -- ---- an enum
-enum-next : (place o : Bool) (k : ℕ) (S : Schema) (c : Cursor) → L.afterMember u48 S (flatMember (F.Enumerated k) o place) c ≡ L.afterBytes 1 c
+enum-next : (place opt : Bool) (k o : ℕ) (S : Schema) (c : Cursor) → L.afterMember o S (flatMember (F.Enumerated k) opt place) c ≡ L.afterBytes 1 c
 unfolding L.afterMember L.afterValue L.afterFlag L.hasFlag L.takesFlag L.flatTakesFlag L.isBool L.flatIsBool L.width flatWidth
-enum-next place true k S c = refl
-enum-next place false k S c = refl
+enum-next place true k o S c = refl
+enum-next place false k o S c = refl
 
-enum-step : (k d : ℕ) (S : Schema) (m : List ℕ) (n a x : ℕ)
-    → A.stepAt d S m (OfFlat (F.Enumerated k)) (pick (leb n a) St.Absent (pick (leb (a + 1) n) (T.enumStep k x) (St.Refused 8)))
+enum-step : (k o d : ℕ) (S : Schema) (m : List ℕ) (n a x : ℕ)
+    → A.stepAt o d S m (OfFlat (F.Enumerated k)) (T.structTested S m (pick (leb n a) St.Absent (pick (leb (a + 1) n) (T.enumStep k x) (St.Refused 8))))
     ≡ pick (leb n a) (bitsOf 2 0) (K.enumAt k x)
-unfolding A.stepAt A.valueWidth A.flatValue E.unknownWidth E.flatUnknown T.enumStep K.enumAt
-enum-step k d S m n a x = by (leb n a) (leb (a + 1) n) (eqb x 255) (ltb x k) refl refl
+unfolding T.structTested A.stepAt A.valueWidth A.flatValue E.unknownWidth E.flatUnknown T.enumStep K.enumAt
+enum-step k o d S m n a x = by (leb n a) (leb (a + 1) n) (eqb x 255) (ltb x k) refl refl
   where
     by : (t u v w : Bool) → leb n a ≡ t → leb (a + 1) n ≡ u
-        → A.stepAt d S m (OfFlat (F.Enumerated k)) (pick t St.Absent (pick u (pick v St.Absent (pick w (St.Value x) (St.Unknown x))) (St.Refused 8)))
+        → A.stepAt o d S m (OfFlat (F.Enumerated k)) (T.structTested S m (pick t St.Absent (pick u (pick v St.Absent (pick w (St.Value x) (St.Unknown x))) (St.Refused 8))))
         ≡ pick t (bitsOf 2 0) (pick v (bitsOf 2 0) (pick w (K.marked 1 8 x) (K.marked 2 8 x)))
     by true u v w et eu = refl
     by false true true w et eu = refl
@@ -299,24 +298,24 @@ enum-step k d S m n a x = by (leb n a) (leb (a + 1) n) (eqb x 255) (ltb x k) ref
     by false true false false et eu = refl
     by false false v w et eu = let g = leb-false n a et in let l = leb-false (a + 1) n eu in absurd (let z : ⊥ = omega arith in z)
 
-enum-bits : (place o : Bool) (k d : ℕ) (S : Schema) (m : List ℕ) (start n : ℕ) (c : Cursor)
-    → A.stepAt d S m (OfFlat (F.Enumerated k)) (T.memberStep u48 S m start n c (flatMember (F.Enumerated k) o place)) ≡ A.enumeratedAt m k start n c
-unfolding T.memberStep T.inside T.valueStep T.flatStep L.memberSlot L.slotOf L.afterFlag L.hasFlag L.takesFlag L.flatTakesFlag L.isBool L.flatIsBool L.width flatWidth A.enumeratedAt
-enum-bits place true k d S m start n c = enum-step k d S m n (c .end) (getD m (start + c .end) 0)
-enum-bits place false k d S m start n c = enum-step k d S m n (c .end) (getD m (start + c .end) 0)
+enum-bits : (place opt : Bool) (k o d : ℕ) (S : Schema) (m : List ℕ) (start n : ℕ) (c : Cursor)
+    → A.stepAt o d S m (OfFlat (F.Enumerated k)) (T.memberStep o S m start n c (flatMember (F.Enumerated k) opt place)) ≡ A.enumeratedAt m k start n c
+unfolding T.memberStep T.structTested T.placedStep L.placementOf L.bitSlot T.inside T.valueStep T.flatStep L.memberSlot L.slotOf L.afterFlag L.hasFlag L.takesFlag L.flatTakesFlag L.isBool L.flatIsBool L.width flatWidth A.enumeratedAt
+enum-bits place true k o d S m start n c = enum-step k o d S m n (c .end) (getD m (start + c .end) 0)
+enum-bits place false k o d S m start n c = enum-step k o d S m n (c .end) (getD m (start + c .end) 0)
 
-enum-coded : (place o : Bool) (k : ℕ) → Coded (flatMember (F.Enumerated k) o place) (64 + k)
+enum-coded : (place opt : Bool) (k : ℕ) → Coded (flatMember (F.Enumerated k) opt place) (64 + k)
 unfolding behind behindOther A.codedAt A.otherAt
-enum-coded place o k =
+enum-coded place opt k =
     let g : 16 ≤ 64 + k = omega arith in
     let h : 32 ≤ 64 + k = omega arith in
     let i : 32 < 64 + k = omega arith in
     let l : 64 ≤ 64 + k = omega arith in
     let z : k ≡ 64 + k - 64 = omega arith in
     record {
-      next-is = λ S c. enum-next place o k S c ∙ simp (le-ltb _ _ g, le-ltb _ _ h, lt-leb _ _ i, le-ltb _ _ l);
-      bits-are = λ d S m start n c.
-          enum-bits place o k d S m start n c ∙ ap (λ (i : ℕ). A.enumeratedAt m i start n c) z
+      next-is = λ o S c. enum-next place opt k o S c ∙ simp (le-ltb _ _ g, le-ltb _ _ h, lt-leb _ _ i, le-ltb _ _ l);
+      bits-are = λ o d S m start n c.
+          enum-bits place opt k o d S m start n c ∙ ap (λ (i : ℕ). A.enumeratedAt m i start n c) z
           ∙ simp (le-ltb _ _ h, lt-leb _ _ i, le-ltb _ _ l);
     }
 
@@ -333,7 +332,7 @@ enum-at b at k ek h a w ea ew =
     (enum-coded (P.inplaceAt b at) (P.optionalAt b at) w)
 
 -- ---- the code of a record
-module _ (b : List ℕ) (at k : ℕ) (ek : k ≡ P.kindAt b at) (l : k ≤ 10) (o : Bool) (eo : o ≡ P.optionalAt b at) where
+module _ (b : List ℕ) (at k : ℕ) (ek : k ≡ P.kindAt b at) (l : k < 11) (o : Bool) (eo : o ≡ P.optionalAt b at) where
   pub number-at : o ≡ false → (k ≡ 0 → ⊥) → (w : ℕ) → w ≡ P.widthOf k → 0 < w → w ≤ 8 → Coded (P.memberAt b at) w
   number-at f h w ew some few =
       subst (λ (r : Member). Coded r w) (sym (member-at b at k ek (let g : k ≤ 11 = omega arith in g) o false eo f))

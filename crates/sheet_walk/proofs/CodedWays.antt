@@ -75,17 +75,14 @@ small-enum w h =
       low = omega arith;
     }
 
-pub small-code : (k : ℕ) → k ≤ 10 → (q : ℕ) → q ≡ A.optionalCode k → Small q
+pub small-code : (k : ℕ) → k < 11 → (q : ℕ) → q ≡ A.optionalCode k → Small q
 unfolding A.optionalCode
 small-code k l q e = subst Small (sym e) (by (eqb k 0) (ltb k 9))
   where
-    h : k < 11
-    h = omega arith
-
     by : (t u : Bool) → Small (pick t 0 (pick u (16 + P.widthOf k) (48 + P.widthOf k)))
     by true u = small-none
-    by false true = small-optional (P.widthOf k) (width-range k h .1)
-    by false false = small-float (P.widthOf k) (width-range k h .1)
+    by false true = small-optional (P.widthOf k) (width-range k l .1)
+    by false false = small-float (P.widthOf k) (width-range k l .1)
 
 module _ (q : ℕ) (s : Small q) where
   pub number-eight : q < 16 → q ≤ 8

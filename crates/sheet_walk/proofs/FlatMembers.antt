@@ -25,6 +25,7 @@ use Rattle.coding.specs.declared.Object.{Object}
 use Rattle.coding.specs.declared.Kind.{Kind}
 use Rattle.coding.specs.declared.Kind.the-variants.{OfFlat, OfObject, OfUnion}
 use Rattle.coding.specs.declared.Step.the-variants as St
+use Rattle.schema.specs.Kinds.{flatInteger, integerWidth}
 use Rattle.schema.specs.Directory.{Accepted, accepted-sound}
 use Rattle.bitio.specs.Puts.{Room, Puts}
 use Rattle.bitio.specs.PutsLaws.{puts-same}
@@ -35,33 +36,33 @@ use Rattle.sheet_values.proofs.Remaining.{Remaining, remaining-all, remaining-t
 
 -- ---- widths
 module _ (k : Kind) (f : Flat) (e : k ≡ OfFlat f) where
-  pub integer-boolean : f ≡ F.Boolean → 0 ≡ A.integerWidth k
-  unfolding A.integerWidth A.flatInteger
+  pub integer-boolean : f ≡ F.Boolean → 0 ≡ integerWidth k
+  unfolding integerWidth flatInteger
   integer-boolean h = rw (e, h)
 
-  pub integer-integer : (s : Bool) (w v : ℕ) → f ≡ F.Integer s w → v ≡ w → v ≡ A.integerWidth k
-  unfolding A.integerWidth A.flatInteger
+  pub integer-integer : (s : Bool) (w v : ℕ) → f ≡ F.Integer s w → v ≡ w → v ≡ integerWidth k
+  unfolding integerWidth flatInteger
   integer-integer s w v h q = rw (e, h) q
 
-  pub integer-float : (w : ℕ) → f ≡ F.Float w → 0 ≡ A.integerWidth k
-  unfolding A.integerWidth A.flatInteger
+  pub integer-float : (w : ℕ) → f ≡ F.Float w → 0 ≡ integerWidth k
+  unfolding integerWidth flatInteger
   integer-float w h = rw (e, h)
 
-  pub integer-enum : (n : ℕ) → f ≡ F.Enumerated n → 0 ≡ A.integerWidth k
-  unfolding A.integerWidth A.flatInteger
+  pub integer-enum : (n : ℕ) → f ≡ F.Enumerated n → 0 ≡ integerWidth k
+  unfolding integerWidth flatInteger
   integer-enum n h = rw (e, h)
 
-  pub integer-struct : (i : ℕ) → f ≡ F.Struct i → 0 ≡ A.integerWidth k
-  unfolding A.integerWidth A.flatInteger
+  pub integer-struct : (i : ℕ) → f ≡ F.Struct i → 0 ≡ integerWidth k
+  unfolding integerWidth flatInteger
   integer-struct i h = rw (e, h)
 
 module _ (k : Kind) where
-  pub integer-object : (ob : Object) → k ≡ OfObject ob → 0 ≡ A.integerWidth k
-  unfolding A.integerWidth
+  pub integer-object : (ob : Object) → k ≡ OfObject ob → 0 ≡ integerWidth k
+  unfolding integerWidth
   integer-object ob e = rw e
 
-  pub integer-union : (i : ℕ) → k ≡ OfUnion i → 0 ≡ A.integerWidth k
-  unfolding A.integerWidth
+  pub integer-union : (i : ℕ) → k ≡ OfUnion i → 0 ≡ integerWidth k
+  unfolding integerWidth
   integer-union i e = rw e
 
 -- ---- a struct's member

@@ -6,7 +6,7 @@ pub mod Root
 pub mod StructInside
 pub mod Flats
 pub mod Values
-pub mod FlatMemberCases
+pub mod Blobs
 pub mod References
 pub mod Runs
 pub mod CodedMembers

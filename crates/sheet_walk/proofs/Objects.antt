@@ -6,7 +6,7 @@ use Prim.Native.Nat.{ℕ, zero, suc, _+_, _-_, _*_, _<_, _≤_}
 use native.Mathlib.Omega.{arith}
 use native.Mathlib.Numerals.{sub-one}
 use lib.ListN.{length, take, drop}
-use Rattle.coding.specs.Bytes.{u48}
+use Rattle.coding.specs.Bytes.{u48, le}
 use Rattle.coding.specs.Schema as Sc
 use Rattle.coding.specs.Schema.{Schema}
 use Rattle.coding.specs.Packed as P
@@ -22,6 +22,7 @@ use Rattle.coding.specs.declared.Object.the-variants as O
 use Rattle.coding.specs.declared.Kind.{Kind}
 use Rattle.coding.specs.declared.Member.{Member}
 use Rattle.coding.specs.declared.Cursor.{Cursor}
+use Rattle.coding.specs.declared.Placement.{Placement}
 use Rattle.coding.specs.declared.Slot.{Slot}
 use Rattle.coding.specs.declared.Place.{Place}
 use Rattle.coding.specs.declared.Place.the-variants.{ByOffset, InPlace}
@@ -34,9 +35,7 @@ use Rattle.message_layout.specs.Bounds.{Laid, Stands}
 use Rattle.message_step.specs.Lead.{reached, reachOf}
 use Rattle.message_step.specs.declared.Reach.{Reach}
 use Rattle.message_step.specs.declared.Reach.the-variants.{Cut, Past, Here}
-use Rattle.message_step.proofs.ReachCases.{step-reached}
-use Rattle.message_step.proofs.MemberCases.{value-inside}
-use Rattle.wire.specs.Numbers.{Number}
+use Rattle.message_step.proofs.ReachCases.{step-reached, here-inside, slot-size}
 use Rattle.bitio.specs.Puts.{Room, Puts}
 use Rattle.bitio.specs.PutsLaws.{puts-none, puts-then, puts-same}
 use Rattle.sheet_values.specs.Marks as K
@@ -45,26 +44,31 @@ use Rattle.sheet_walk.specs.Readable as D
 use Rattle.sheet_walk.specs.Stepping.{MemberAt, isHere}
 
 -- ---- places
+pub header-ten : 10 ≡ W.headerSize u48
+unfolding W.headerSize u48
+header-ten = refl
+
 module _ (m : List ℕ) (p : Place) where
-  pub start-offset : (x : ℕ) → p ≡ ByOffset x → x + 10 ≡ D.startOf p
-  unfolding D.startOf
-  start-offset x e = rw e
+  module _ (o : ℕ) where
+    pub start-offset : (x h : ℕ) → p ≡ ByOffset x → h ≡ W.headerSize o → x + h ≡ D.startOf o p
+    unfolding D.startOf
+    start-offset x h e eh = rw e (ap (λ (i : ℕ). x + i) eh)
 
-  pub start-inplace : (a n : ℕ) → p ≡ InPlace a n → a ≡ D.startOf p
-  unfolding D.startOf
-  start-inplace a n e = rw e
+    pub start-inplace : (a n : ℕ) → p ≡ InPlace a n → a ≡ D.startOf o p
+    unfolding D.startOf
+    start-inplace a n e = rw e
 
-  pub length-offset : (x r : ℕ) → p ≡ ByOffset x → Number m (x + 4) 6 r → r ≡ D.lengthOf m p
-  unfolding D.lengthOf
-  length-offset x r e h = rw e (h .is)
+    pub length-offset : (x r : ℕ) → p ≡ ByOffset x → r ≡ le m (x + 4) o → r ≡ D.lengthOf o m p
+    unfolding D.lengthOf
+    length-offset x r e h = rw e h
 
-  pub length-inplace : (a n : ℕ) → p ≡ InPlace a n → n ≡ D.lengthOf m p
-  unfolding D.lengthOf
-  length-inplace a n e = rw e
+    pub length-inplace : (a n : ℕ) → p ≡ InPlace a n → n ≡ D.lengthOf o m p
+    unfolding D.lengthOf
+    length-inplace a n e = rw e
 
-  pub header-inside : (x : ℕ) → p ≡ ByOffset x → D.HeaderInside m p → x + 10 ≤ length m
-  unfolding D.HeaderInside
-  header-inside x e h = subst (D.HeaderInside m) e h
+  pub header-inside : (x : ℕ) → p ≡ ByOffset x → D.HeaderInside u48 m p → x + 10 ≤ length m
+  unfolding D.HeaderInside W.headerSize u48
+  header-inside x e h = subst (D.HeaderInside u48 m) e h
 
 -- ---- one member
 here-true : (g : Reach) → isHere g ≡ true → g ≡ Here
@@ -87,25 +91,30 @@ module _ (g : Reach) where
   here-here e = rw e
 
 pub member-is : (b dir : List ℕ) → Accepted b dir → (m : List ℕ) (t j start n : ℕ) (c : Cursor) (r : Member) → r ≡ Sc.memberOf (P.parse b) t j
-    → j < length (Sc.tableOf (P.parse b) t .members) → j < 256 → start + n ≤ length m → length m ≤ 16777215 → Laid (4097 * j) c → (slot : Slot) (next : Cursor)
-    → Stands (L.memberSlot u48 (P.parse b) r c) (L.afterMember u48 (P.parse b) r c) (c .end + 1) slot next
-    → (flag : Bool) → flag ≡ L.hasFlag r → (g : Reach) → g ≡ reachOf m start n c slot flag → (here : Bool) → here ≡ isHere g
-    → MemberAt (P.parse b) m t j start n c (r .kind) (r .optional) (r .inplace) here (start + slot .at) (slot .bit) next
-member-is b dir a m t j start n c r e h few fits short laid slot next stands flag ef g eg here eh =
-    let p = laid .end in
+    → j < length (Sc.tableOf (P.parse b) t .members) → j < 256 → start + n ≤ length m → length m ≤ 16777215 → Laid (4097 * j) c → (p : Placement) (next : Cursor)
+    → p ≡ L.placementOf u48 (P.parse b) r c → Stands (L.memberSlot u48 (P.parse b) r c) (L.afterMember u48 (P.parse b) r c) (c .end + 1) (p .value) next
+    → (flag : Bool) → flag ≡ L.hasFlag r → (g : Reach) → g ≡ reachOf m start n p flag → (here : Bool) → here ≡ isHere g
+    → MemberAt u48 (P.parse b) m t j start n c (r .kind) (r .optional) (r .inplace) here (start + p .value .at) (p .value .bit) next
+unfolding T.memberStep L.memberSlot
+member-is b dir a m t j start n c r e h few fits short laid p next ep stands flag ef g eg here eh =
+    let x = laid .end in
     let q = stands .laid in
     let l = q .end in
     let z = stands .at in
+    let wide : p .value .size ≡ L.width u48 (P.parse b) (r .kind) =
+    ap (λ (i : Slot). i .size) (stands .slot-is) ∙ slot-size u48 (P.parse b) (r .kind) (L.afterFlag r c) in
     let s : MemberSound (P.parse b) (Sc.memberOf (P.parse b) t j) = member-sound-at (P.parse b) (accepted-sound b dir a) t j h in
     record {
       reach = g;
       here-is = eh;
       kind-is = ap (λ (k : Member). k .kind) e;
-      step-is = ap (λ (k : Member). T.memberStep u48 (P.parse b) m start n c k) (sym e) ∙ step-reached u48 (P.parse b) m start n c r
-          ∙ ap₂ (λ (k : Reach) (i : Slot). reached k (T.valueStep u48 (P.parse b) m (r .kind) (r .optional) (r .inplace) (start + n) (start + i .at) (i .bit)))
-          (sym (eg ∙ ap (λ (i : Slot). reachOf m start n c i flag) (stands .slot-is) ∙ ap (reachOf m start n c (L.memberSlot u48 (P.parse b) r c)) ef))
-          (sym (stands .slot-is));
-      inside = λ v. value-inside (P.parse b) m start n c r slot next stands flag ef g eg (here-true g (sym eh ∙ v)) fits;
+      step-is = ap (λ (k : Member). T.memberStep u48 (P.parse b) m start n c k) (sym e)
+          ∙ ap (λ (y : Placement). T.structTested (P.parse b) m (T.placedStep u48 (P.parse b) m start n y r)) (sym ep)
+          ∙ ap (T.structTested (P.parse b) m)
+          (step-reached u48 (P.parse b) m start n p r
+          ∙ ap (λ (k : Reach). reached k (T.valueStep u48 (P.parse b) m (r .kind) (r .optional) (r .inplace) (start + n) (start + p .value .at) (p .value .bit)))
+          (sym (eg ∙ ap (reachOf m start n p) ef)));
+      inside = λ v. omega (arith, wide, here-inside m start n p flag g eg (here-true g (sym eh ∙ v)), fits);
       low = omega arith;
       bit-low = stands .bit;
       next-is = stands .next-is ∙ ap (λ (k : Member). L.afterMember u48 (P.parse b) k c) e;
@@ -118,136 +127,136 @@ pub member-sound-of : (b dir : List ℕ) → Accepted b dir → (t j : ℕ) (r :
 member-sound-of b dir a t j r e h = rw e (member-sound-at (P.parse b) (accepted-sound b dir a) t j h)
 
 -- ---- a step
-module _ (d : ℕ) (S : Schema) (m : List ℕ) (k : Kind) (o o₁ : List ℕ) (p q : ℕ) (step : Step) where
-  pub step-absent : step ≡ St.Absent → Puts o p (bitsOf 2 0) o₁ q → Puts o p (A.stepAt d S m k step) o₁ q
+module _ (o d : ℕ) (S : Schema) (m : List ℕ) (k : Kind) (out out₁ : List ℕ) (p q : ℕ) (step : Step) where
+  pub step-absent : step ≡ St.Absent → Puts out p (bitsOf 2 0) out₁ q → Puts out p (A.stepAt o d S m k step) out₁ q
   unfolding A.stepAt
   step-absent e h = rw e h
 
-  pub step-unknown : (x y w : ℕ) → step ≡ St.Unknown x → w ≡ E.unknownWidth k → y ≡ x → Puts o p (K.marked 2 w y) o₁ q → Puts o p (A.stepAt d S m k step) o₁ q
+  pub step-unknown : (x y w : ℕ) → step ≡ St.Unknown x → w ≡ E.unknownWidth k → y ≡ x → Puts out p (K.marked 2 w y) out₁ q → Puts out p (A.stepAt o d S m k step) out₁ q
   unfolding A.stepAt
   step-unknown x y w e ew ey h =
-      rw e (subst (λ (v : ℕ). Puts o p (K.marked 2 v x) o₁ q) ew (subst (λ (v : ℕ). Puts o p (K.marked 2 w v) o₁ q) ey h))
+      rw e (subst (λ (v : ℕ). Puts out p (K.marked 2 v x) out₁ q) ew (subst (λ (v : ℕ). Puts out p (K.marked 2 w v) out₁ q) ey h))
 
-  module _ (g : Room o p) (o₂ : List ℕ) (r : ℕ) where
-    pub step-object : (ob : Object) (place : Place) → step ≡ St.Object ob place → Puts o p (bitsOf 2 1) o₁ q → Puts o₁ q (A.objectAt d S m ob place) o₂ r
-        → Puts o p (A.stepAt d S m k step) o₂ r
+  module _ (g : Room out p) (out₂ : List ℕ) (r : ℕ) where
+    pub step-object : (ob : Object) (place : Place) → step ≡ St.Object ob place → Puts out p (bitsOf 2 1) out₁ q → Puts out₁ q (A.objectAt o d S m ob place) out₂ r
+        → Puts out p (A.stepAt o d S m k step) out₂ r
     unfolding A.stepAt
-    step-object ob place e h l = rw e (puts-then o o₁ o₂ p q r (bitsOf 2 1) (A.objectAt d S m ob place) (g .short) h l)
+    step-object ob place e h l = rw e (puts-then out out₁ out₂ p q r (bitsOf 2 1) (A.objectAt o d S m ob place) (g .short) h l)
 
-    pub step-choice : (c x : ℕ) (ob : Object) (place : Place) → step ≡ St.Choice c ob place → x ≡ c → Puts o p (K.marked 1 16 x) o₁ q
-        → Puts o₁ q (A.objectAt d S m ob place) o₂ r → Puts o p (A.stepAt d S m k step) o₂ r
+    pub step-choice : (c x : ℕ) (ob : Object) (place : Place) → step ≡ St.Choice c ob place → x ≡ c → Puts out p (K.marked 1 16 x) out₁ q
+        → Puts out₁ q (A.objectAt o d S m ob place) out₂ r → Puts out p (A.stepAt o d S m k step) out₂ r
     unfolding A.stepAt
     step-choice c x ob place e ex h l =
         rw e
-        (puts-then o o₁ o₂ p q r (K.marked 1 16 c) (A.objectAt d S m ob place) (g .short) (subst (λ (v : ℕ). Puts o p (K.marked 1 16 v) o₁ q) ex h) l)
+        (puts-then out out₁ out₂ p q r (K.marked 1 16 c) (A.objectAt o d S m ob place) (g .short) (subst (λ (v : ℕ). Puts out p (K.marked 1 16 v) out₁ q) ex h) l)
 
-module _ (d : ℕ) (S : Schema) (m : List ℕ) (step : Step) (h : D.StepReadable (D.ObjectReadable d S m) S m step) where
-  pub object-readable : (ob : Object) (p : Place) → step ≡ St.Object ob p → D.ObjectReadable d S m ob p
+module _ (o d : ℕ) (S : Schema) (m : List ℕ) (step : Step) (h : D.StepReadable (D.ObjectReadable o d S m) S m step) where
+  pub object-readable : (ob : Object) (p : Place) → step ≡ St.Object ob p → D.ObjectReadable o d S m ob p
   unfolding D.StepReadable
-  object-readable ob p e = subst (D.StepReadable (D.ObjectReadable d S m) S m) e h
+  object-readable ob p e = subst (D.StepReadable (D.ObjectReadable o d S m) S m) e h
 
-  pub choice-readable : (c : ℕ) (ob : Object) (p : Place) → step ≡ St.Choice c ob p → D.ObjectReadable d S m ob p
+  pub choice-readable : (c : ℕ) (ob : Object) (p : Place) → step ≡ St.Choice c ob p → D.ObjectReadable o d S m ob p
   unfolding D.StepReadable
-  choice-readable c ob p e = subst (D.StepReadable (D.ObjectReadable d S m) S m) e h
+  choice-readable c ob p e = subst (D.StepReadable (D.ObjectReadable o d S m) S m) e h
 
 -- ---- an object
-pub object-none : (d : ℕ) (S : Schema) (m : List ℕ) (ob : Object) (place : Place) (o : List ℕ) (p : ℕ) → d ≡ 0 → Room o p → Puts o p (A.objectAt d S m ob place) o p
+pub object-none : (o d : ℕ) (S : Schema) (m : List ℕ) (ob : Object) (place : Place) (out : List ℕ) (p : ℕ) → d ≡ 0 → Room out p → Puts out p (A.objectAt o d S m ob place) out p
 unfolding A.objectAt E.encode
-object-none d S m ob place o p e g = rw e (puts-none o p (g .most))
+object-none o d S m ob place out p e g = rw e (puts-none out p (g .most))
 
-module _ (d : ℕ) (S : Schema) (m : List ℕ) (ob : Object) (place : Place) (h : D.ObjectReadable d S m ob place) (l : d ≡ 0 → ⊥) where
-  pub header-there : D.HeaderInside m place
+module _ (o d : ℕ) (S : Schema) (m : List ℕ) (ob : Object) (place : Place) (h : D.ObjectReadable o d S m ob place) (l : d ≡ 0 → ⊥) where
+  pub header-there : D.HeaderInside o m place
   unfolding D.ObjectReadable
   header-there = by d h l
     where
-      by : (k : ℕ) → D.ObjectReadable k S m ob place → (k ≡ 0 → ⊥) → D.HeaderInside m place
+      by : (k : ℕ) → D.ObjectReadable o k S m ob place → (k ≡ 0 → ⊥) → D.HeaderInside o m place
       by zero q f = absurd (f refl)
       by (suc k) q f = q .0
 
-  pub content-readable : (start n : ℕ) → start ≡ D.startOf place → n ≡ D.lengthOf m place → D.Entered (D.ObjectReadable (d - 1) S m) S m ob start n
+  pub content-readable : (start n : ℕ) → start ≡ D.startOf o place → n ≡ D.lengthOf o m place → D.Entered o (D.ObjectReadable o (d - 1) S m) S m ob start n
   unfolding D.ObjectReadable
   content-readable start n es en = by d h l
     where
-      by : (k : ℕ) → D.ObjectReadable k S m ob place → (k ≡ 0 → ⊥) → D.Entered (D.ObjectReadable (k - 1) S m) S m ob start n
+      by : (k : ℕ) → D.ObjectReadable o k S m ob place → (k ≡ 0 → ⊥) → D.Entered o (D.ObjectReadable o (k - 1) S m) S m ob start n
       by zero q f = absurd (f refl)
       by (suc k) q f = rw (sub-one, es, en) (q .1)
 
-pub object-same : (d : ℕ) (S : Schema) (m : List ℕ) (ob : Object) (place : Place) (start n : ℕ) → (d ≡ 0 → ⊥) → start ≡ D.startOf place → n ≡ D.lengthOf m place
-    → A.contentAt (d - 1) S m ob start n ≡ A.objectAt d S m ob place
-unfolding A.contentAt A.objectAt E.encode R.read R.placeRead D.startOf D.lengthOf W.headerSize u48
-object-same zero S m ob place start n f es en = absurd (f refl)
-object-same (suc d) S m ob place start n f es en =
-    ap (λ (k : ℕ). A.contentAt k S m ob start n) (sub-one (suc d)) ∙ ap₂ (λ (a c : ℕ). A.contentAt d S m ob a c) es en ∙ by place
+pub object-same : (o d : ℕ) (S : Schema) (m : List ℕ) (ob : Object) (place : Place) (start n : ℕ) → (d ≡ 0 → ⊥) → start ≡ D.startOf o place → n ≡ D.lengthOf o m place
+    → A.contentAt o (d - 1) S m ob start n ≡ A.objectAt o d S m ob place
+unfolding A.contentAt A.objectAt E.encode R.read R.placeRead D.startOf D.lengthOf
+object-same o zero S m ob place start n f es en = absurd (f refl)
+object-same o (suc d) S m ob place start n f es en =
+    ap (λ (k : ℕ). A.contentAt o k S m ob start n) (sub-one (suc d)) ∙ ap₂ (λ (a c : ℕ). A.contentAt o d S m ob a c) es en ∙ by place
   where
-    by : (pl : Place) → A.contentAt d S m ob (D.startOf pl) (D.lengthOf m pl) ≡ A.objectAt (suc d) S m ob pl
+    by : (pl : Place) → A.contentAt o d S m ob (D.startOf o pl) (D.lengthOf o m pl) ≡ A.objectAt o (suc d) S m ob pl
     by (ByOffset x) = refl
     by (InPlace a c) = refl
 
-pub object-content : (d : ℕ) (S : Schema) (m : List ℕ) (ob : Object) (place : Place) (o o₁ : List ℕ) (p q start n : ℕ) → (d ≡ 0 → ⊥) → start ≡ D.startOf place
-    → n ≡ D.lengthOf m place → Puts o p (A.contentAt (d - 1) S m ob start n) o₁ q → Puts o p (A.objectAt d S m ob place) o₁ q
-object-content d S m ob place o o₁ p q start n f es en h =
-    puts-same o o₁ p q (A.contentAt (d - 1) S m ob start n) (A.objectAt d S m ob place) (object-same d S m ob place start n f es en) h
+pub object-content : (o d : ℕ) (S : Schema) (m : List ℕ) (ob : Object) (place : Place) (out out₁ : List ℕ) (p q start n : ℕ) → (d ≡ 0 → ⊥) → start ≡ D.startOf o place
+    → n ≡ D.lengthOf o m place → Puts out p (A.contentAt o (d - 1) S m ob start n) out₁ q → Puts out p (A.objectAt o d S m ob place) out₁ q
+object-content o d S m ob place out out₁ p q start n f es en h =
+    puts-same out out₁ p q (A.contentAt o (d - 1) S m ob start n) (A.objectAt o d S m ob place) (object-same o d S m ob place start n f es en) h
 
 -- ---- content by the object
-elements-count : (child : R.Child) (S : Schema) (m : List ℕ) (start : ℕ) (k : Kind) (n i : ℕ) → Tree.count (R.elementsRead child u48 S m start k n i) ≡ n
+elements-count : (o : ℕ) (child : R.Child) (S : Schema) (m : List ℕ) (start : ℕ) (k : Kind) (n i : ℕ) → Tree.count (R.elementsRead child o S m start k n i) ≡ n
 unfolding Tree.count R.elementsRead
-elements-count child S m start k zero i = refl
-elements-count child S m start k (suc n) i = ap suc (elements-count child S m start k n (i + 1))
+elements-count o child S m start k zero i = refl
+elements-count o child S m start k (suc n) i = ap suc (elements-count o child S m start k n (i + 1))
 
-module _ (d : ℕ) (S : Schema) (m : List ℕ) (ob : Object) (start n : ℕ) (o o₁ : List ℕ) (p q : ℕ) where
-  pub content-text : ob ≡ O.Text → Puts o p (E.blobBits (take n (drop start m))) o₁ q → Puts o p (A.contentAt d S m ob start n) o₁ q
+module _ (o d : ℕ) (S : Schema) (m : List ℕ) (ob : Object) (start n : ℕ) (out out₁ : List ℕ) (p q : ℕ) where
+  pub content-text : ob ≡ O.Text → Puts out p (E.blobBits (take n (drop start m))) out₁ q → Puts out p (A.contentAt o d S m ob start n) out₁ q
   unfolding A.contentAt E.contentBits R.contentRead Tree.asBlob
   content-text e h = rw e h
 
-  pub content-bytes : ob ≡ O.Bytes → Puts o p (E.blobBits (take n (drop start m))) o₁ q → Puts o p (A.contentAt d S m ob start n) o₁ q
+  pub content-bytes : ob ≡ O.Bytes → Puts out p (E.blobBits (take n (drop start m))) out₁ q → Puts out p (A.contentAt o d S m ob start n) out₁ q
   unfolding A.contentAt E.contentBits R.contentRead Tree.asBlob
   content-bytes e h = rw e h
 
   module _ (i j : ℕ) (ej : j ≡ i) where
-    pub content-table : ob ≡ O.Table i → Puts o p (A.membersAt d S m start n L.begin (Sc.tableOf S j .members)) o₁ q → Puts o p (A.contentAt d S m ob start n) o₁ q
+    pub content-table : ob ≡ O.Table i → Puts out p (A.membersAt o d S m start n L.begin (Sc.tableOf S j .members)) out₁ q → Puts out p (A.contentAt o d S m ob start n) out₁ q
     unfolding A.contentAt E.contentBits R.contentRead Tree.asRow A.membersAt
     content-table e h =
         rw e
-        (subst (λ (v : ℕ). Puts o p (E.membersBits (E.encode d S) S (Sc.tableOf S v .members) (R.membersRead (R.read d u48 S m) u48 S m start n L.begin (Sc.tableOf S v .members))) o₁ q) ej h)
+        (subst (λ (v : ℕ). Puts out p (E.membersBits (E.encode d S) S (Sc.tableOf S v .members) (R.membersRead (R.read d o S m) o S m start n L.begin (Sc.tableOf S v .members))) out₁ q) ej h)
 
-    list-same : A.listAt d S m (Sc.elementOf S i) start n ≡ A.contentAt d S m (O.List i) start n
+    list-same : A.listAt o d S m (Sc.elementOf S i) start n ≡ A.contentAt o d S m (O.List i) start n
     unfolding A.contentAt E.contentBits R.contentRead Tree.asRow A.listAt A.elementsAt
     list-same =
-        ap (λ (v : ℕ). bitsOf 32 v ++ E.elementsBits (E.encode d S) S (Sc.elementOf S i) (R.elementsRead (R.read d u48 S m) u48 S m start (Sc.elementOf S i) n 0))
-        (sym (elements-count (R.read d u48 S m) S m start (Sc.elementOf S i) n 0))
+        ap (λ (v : ℕ). bitsOf 32 v ++ E.elementsBits (E.encode d S) S (Sc.elementOf S i) (R.elementsRead (R.read d o S m) o S m start (Sc.elementOf S i) n 0))
+        (sym (elements-count o (R.read d o S m) S m start (Sc.elementOf S i) n 0))
 
-    pub content-list : ob ≡ O.List i → Puts o p (A.listAt d S m (Sc.elementOf S j) start n) o₁ q → Puts o p (A.contentAt d S m ob start n) o₁ q
+    pub content-list : ob ≡ O.List i → Puts out p (A.listAt o d S m (Sc.elementOf S j) start n) out₁ q → Puts out p (A.contentAt o d S m ob start n) out₁ q
     content-list e h =
-        subst (λ (v : Object). Puts o p (A.contentAt d S m v start n) o₁ q) (sym e)
-        (puts-same o o₁ p q (A.listAt d S m (Sc.elementOf S i) start n) (A.contentAt d S m (O.List i) start n) list-same
-        (subst (λ (v : ℕ). Puts o p (A.listAt d S m (Sc.elementOf S v) start n) o₁ q) ej h))
+        subst (λ (v : Object). Puts out p (A.contentAt o d S m v start n) out₁ q) (sym e)
+        (puts-same out out₁ p q (A.listAt o d S m (Sc.elementOf S i) start n) (A.contentAt o d S m (O.List i) start n) list-same
+        (subst (λ (v : ℕ). Puts out p (A.listAt o d S m (Sc.elementOf S v) start n) out₁ q) ej h))
 
 -- what an object's content gives to its list or table
-module _ (child : D.Child) (b m : List ℕ) (ob : Object) (start n : ℕ) (h : D.Entered child (P.parse b) m ob start n) (i j : ℕ) (ej : j ≡ i) where
+module _ (o : ℕ) (child : D.Child) (b m : List ℕ) (ob : Object) (start n : ℕ) (h : D.Entered o child (P.parse b) m ob start n) (i j : ℕ) (ej : j ≡ i) where
   pub table-counted : ob ≡ O.Table i → j < P.tableCount b
   table-counted e = rw ej (table-index b i (subst (ObjectSound (P.parse b)) e (h .sound)))
 
   pub table-inside : ob ≡ O.Table i → start + n ≤ length m
   unfolding W.contentSize
-  table-inside e = subst (λ (v : Object). start + W.contentSize u48 (P.parse b) v n ≤ length m) e (h .inside)
+  table-inside e = subst (λ (v : Object). start + W.contentSize o (P.parse b) v n ≤ length m) e (h .inside)
 
-  pub table-readable : ob ≡ O.Table i → D.MembersReadable child (P.parse b) m start n L.begin (Sc.tableOf (P.parse b) j .members)
+  pub table-readable : ob ≡ O.Table i → D.MembersReadable o child (P.parse b) m start n L.begin (Sc.tableOf (P.parse b) j .members)
   unfolding D.ContentReadable
   table-readable e =
-      subst (λ (v : ℕ). D.MembersReadable child (P.parse b) m start n L.begin (Sc.tableOf (P.parse b) v .members)) (sym ej)
-      (subst (λ (v : Object). D.ContentReadable child (P.parse b) m v start n) e (h .parts))
+      subst (λ (v : ℕ). D.MembersReadable o child (P.parse b) m start n L.begin (Sc.tableOf (P.parse b) v .members)) (sym ej)
+      (subst (λ (v : Object). D.ContentReadable o child (P.parse b) m v start n) e (h .parts))
 
   pub list-counted : ob ≡ O.List i → j < P.listCount b
   list-counted e = rw ej (list-index b i (subst (ObjectSound (P.parse b)) e (h .sound)))
 
-  pub list-inside : ob ≡ O.List i → start + T.elementsSize u48 (P.parse b) (Sc.elementOf (P.parse b) j) n ≤ length m
+  pub list-inside : ob ≡ O.List i → start + T.elementsSize o (P.parse b) (Sc.elementOf (P.parse b) j) n ≤ length m
   unfolding W.contentSize
   list-inside e =
-      subst (λ (v : ℕ). start + T.elementsSize u48 (P.parse b) (Sc.elementOf (P.parse b) v) n ≤ length m) (sym ej)
-      (subst (λ (v : Object). start + W.contentSize u48 (P.parse b) v n ≤ length m) e (h .inside))
+      subst (λ (v : ℕ). start + T.elementsSize o (P.parse b) (Sc.elementOf (P.parse b) v) n ≤ length m) (sym ej)
+      (subst (λ (v : Object). start + W.contentSize o (P.parse b) v n ≤ length m) e (h .inside))
 
-  pub list-readable : ob ≡ O.List i → D.ElementsReadable child (P.parse b) m (Sc.elementOf (P.parse b) j) start n 0
+  pub list-readable : ob ≡ O.List i → D.ElementsReadable o child (P.parse b) m (Sc.elementOf (P.parse b) j) start n 0
   unfolding D.ContentReadable
   list-readable e =
-      subst (λ (v : ℕ). D.ElementsReadable child (P.parse b) m (Sc.elementOf (P.parse b) v) start n 0) (sym ej)
-      (subst (λ (v : Object). D.ContentReadable child (P.parse b) m v start n) e (h .parts))
+      subst (λ (v : ℕ). D.ElementsReadable o child (P.parse b) m (Sc.elementOf (P.parse b) v) start n 0) (sym ej)
+      (subst (λ (v : Object). D.ContentReadable o child (P.parse b) m v start n) e (h .parts))

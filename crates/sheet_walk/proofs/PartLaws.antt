@@ -7,7 +7,7 @@ use Prim.Native.Nat.{ℕ, zero, suc, _+_, _%_, _<_}
 use lib.ListN.{length, getD}
 use lib.Dec.{eqb, leb, ltb}
 use Rattle.coding.specs.Lists.{pick}
-use Rattle.coding.specs.Bytes.{u48, le, isNaN}
+use Rattle.coding.specs.Bytes.{le, isNaN}
 use Rattle.coding.specs.Schema.{Schema, structOf, casesOf, caseOf}
 use Rattle.coding.specs.Structs.{lower, byIndex, flatWidth, structSize, structOk}
 use Rattle.coding.specs.Layout as L
@@ -24,6 +24,7 @@ use Rattle.coding.specs.declared.Kind.{Kind}
 use Rattle.coding.specs.declared.Kind.the-variants.{OfFlat, OfObject, OfUnion}
 use Rattle.coding.specs.declared.Member.{Member}
 use Rattle.coding.specs.declared.Cursor.{Cursor}
+use Rattle.coding.specs.declared.Placement.{Placement}
 use Rattle.coding.specs.declared.Place.{Place}
 use Rattle.coding.specs.declared.Place.the-variants.{ByOffset, InPlace}
 use Rattle.coding.specs.declared.Step.{Step}
@@ -76,36 +77,36 @@ struct-mark : (S : Schema) (m : List ℕ) (i at w : ℕ) (body : Value → List 
 unfolding R.structRead byIndex R.readBy E.markBits
 struct-mark S m i at w body = refl
 
-content-mark : (child : R.Child) (S : Schema) (m : List ℕ) (ob : Object) (start n w : ℕ) (body : Value → List ℕ)
-    → E.markBits w body (R.contentRead child u48 S m ob start n) ≡ bitsOf 2 1 ++ body (R.contentRead child u48 S m ob start n)
+content-mark : (o : ℕ) (child : R.Child) (S : Schema) (m : List ℕ) (ob : Object) (start n w : ℕ) (body : Value → List ℕ)
+    → E.markBits w body (R.contentRead child o S m ob start n) ≡ bitsOf 2 1 ++ body (R.contentRead child o S m ob start n)
 unfolding R.contentRead E.markBits
-content-mark child S m O.Text start n w body = refl
-content-mark child S m O.Bytes start n w body = refl
-content-mark child S m (O.List i) start n w body = refl
-content-mark child S m (O.Table i) start n w body = refl
+content-mark o child S m O.Text start n w body = refl
+content-mark o child S m O.Bytes start n w body = refl
+content-mark o child S m (O.List i) start n w body = refl
+content-mark o child S m (O.Table i) start n w body = refl
 
-object-mark : (d : ℕ) (S : Schema) (m : List ℕ) (ob : Object) (p : Place) → ObjectReadable d S m ob p → (w : ℕ) (body : Value → List ℕ)
-    → E.markBits w body (R.read d u48 S m ob p) ≡ bitsOf 2 1 ++ body (R.read d u48 S m ob p)
+object-mark : (o d : ℕ) (S : Schema) (m : List ℕ) (ob : Object) (p : Place) → ObjectReadable o d S m ob p → (w : ℕ) (body : Value → List ℕ)
+    → E.markBits w body (R.read d o S m ob p) ≡ bitsOf 2 1 ++ body (R.read d o S m ob p)
 unfolding R.read R.placeRead ObjectReadable
-object-mark zero S m ob p h w body = absurd h
-object-mark (suc d) S m ob (ByOffset x) h w body = content-mark (R.read d u48 S m) S m ob (x + Rattle.coding.specs.Walk.headerSize u48) (le m (x + 4) u48) w body
-object-mark (suc d) S m ob (InPlace a n) h w body = content-mark (R.read d u48 S m) S m ob a n w body
+object-mark o zero S m ob p h w body = absurd h
+object-mark o (suc d) S m ob (ByOffset x) h w body = content-mark o (R.read d o S m) S m ob (x + Rattle.coding.specs.Walk.headerSize o) (le m (x + 4) o) w body
+object-mark o (suc d) S m ob (InPlace a n) h w body = content-mark o (R.read d o S m) S m ob a n w body
 
 -- ---- steps
-module _ (d : ℕ) (S : Schema) (m : List ℕ) where
+module _ (o d : ℕ) (S : Schema) (m : List ℕ) where
   -- the bits of a step of a kind are the encoding of what it reads as
   abbrev Part : Kind → Step → Type 0
   Part k s =
-      StepReadable (ObjectReadable d S m) S m s
-      → E.partBits (E.encode d S) S k (R.stepRead (R.structRead S m) (R.read d u48 S m) s) ≡ stepAt d S m k s
+      StepReadable (ObjectReadable o d S m) S m s
+      → E.partBits (E.encode d S) S k (R.stepRead (R.structRead S m) (R.read d o S m) s) ≡ stepAt o d S m k s
 
-  float-part : (w x : ℕ) (t : Bool) → Part (OfFlat (F.Float w)) (pick t St.Absent (St.Value x))
-  unfolding E.partBits E.markBits E.bodyBits E.flatBits E.unknownWidth E.flatUnknown R.stepRead asNumber stepAt marked valueWidth flatValue
+  float-part : (w x : ℕ) (t : Bool) → Part (OfFlat (F.Float w)) (T.structTested S m (pick t St.Absent (St.Value x)))
+  unfolding T.structTested E.partBits E.markBits E.bodyBits E.flatBits E.unknownWidth E.flatUnknown R.stepRead asNumber stepAt marked valueWidth flatValue
   float-part w x true h = refl
   float-part w x false h = refl
 
-  enum-part : (n x : ℕ) (t u : Bool) → Part (OfFlat (F.Enumerated n)) (pick t St.Absent (pick u (St.Value x) (St.Unknown x)))
-  unfolding E.partBits E.markBits E.bodyBits E.flatBits E.unknownWidth E.flatUnknown R.stepRead asNumber stepAt marked valueWidth flatValue
+  enum-part : (n x : ℕ) (t u : Bool) → Part (OfFlat (F.Enumerated n)) (T.structTested S m (pick t St.Absent (pick u (St.Value x) (St.Unknown x))))
+  unfolding T.structTested E.partBits E.markBits E.bodyBits E.flatBits E.unknownWidth E.flatUnknown R.stepRead asNumber stepAt marked valueWidth flatValue
   enum-part n x true u h = refl
   enum-part n x false true h = refl
   enum-part n x false false h = refl
@@ -115,46 +116,48 @@ module _ (d : ℕ) (S : Schema) (m : List ℕ) where
   struct-part i at true h = struct-mark S m i at 0 (λ v. E.structBits S i v)
   struct-part i at false h = refl
 
-  flat-part : (k : Flat) (nan : Bool) (at bit : ℕ) → Part (OfFlat k) (T.flatStep S m k nan at bit)
-  unfolding T.flatStep T.floatStep T.enumStep T.structStep E.partBits E.markBits E.bodyBits E.flatBits R.stepRead asNumber stepAt marked valueWidth flatValue
+  flat-part : (k : Flat) (nan : Bool) (at bit : ℕ) → Part (OfFlat k) (T.structTested S m (T.flatStep m k nan at bit))
+  unfolding T.flatStep T.floatStep T.enumStep T.structTested E.partBits E.markBits E.bodyBits E.flatBits R.stepRead asNumber stepAt marked valueWidth flatValue
   flat-part F.Boolean nan at bit h = refl
   flat-part (F.Integer s w) nan at bit h = refl
   flat-part (F.Float w) nan at bit h = float-part w (le m at w) (nan && isNaN w (le m at w)) h
   flat-part (F.Enumerated n) nan at bit h = enum-part n (getD m at 0) (eqb (getD m at 0) 255) (ltb (getD m at 0) n) h
   flat-part (F.Struct i) nan at bit h = struct-part i at (structOk S m i at) h
 
-  object-part : (ob : Object) (p : Place) (t : Bool) → Part (OfObject ob) (pick t St.Absent (St.Object ob p))
-  unfolding E.partBits E.markBits E.bodyBits R.stepRead stepAt objectAt StepReadable E.unknownWidth
+  object-part : (ob : Object) (p : Place) (t : Bool) → Part (OfObject ob) (T.structTested S m (pick t St.Absent (St.Object ob p)))
+  unfolding T.structTested E.partBits E.markBits E.bodyBits R.stepRead stepAt objectAt StepReadable E.unknownWidth
   object-part ob p true h = refl
-  object-part ob p false h = object-mark d S m ob p h 0 (λ v. E.encode d S ob v)
+  object-part ob p false h = object-mark o d S m ob p h 0 (λ v. E.encode d S ob v)
 
-  union-part : (i c : ℕ) (p : Place) (t u : Bool) → Part (OfUnion i) (pick t St.Absent (pick u (St.Choice c (caseOf (casesOf S i) c) p) (St.Unknown c)))
-  unfolding E.partBits E.markBits E.bodyBits E.unknownWidth R.stepRead stepAt objectAt marked asNumber asObject
+  union-part : (i c : ℕ) (p : Place) (t u : Bool) → Part (OfUnion i) (T.structTested S m (pick t St.Absent (pick u (St.Choice c (caseOf (casesOf S i) c) p) (St.Unknown c))))
+  unfolding T.structTested E.partBits E.markBits E.bodyBits E.unknownWidth R.stepRead stepAt objectAt marked asNumber asObject
   union-part i c p true u h = refl
   union-part i c p false true h =
-      sym (append-assoc (bitsOf 2 1) (bitsOf 16 c) (E.encode d S (caseOf (casesOf S i) c) (R.read d u48 S m (caseOf (casesOf S i) c) p)))
+      sym (append-assoc (bitsOf 2 1) (bitsOf 16 c) (E.encode d S (caseOf (casesOf S i) c) (R.read d o S m (caseOf (casesOf S i) c) p)))
   union-part i c p false false h = refl
 
-  value-part : (k : Kind) (nan inplace : Bool) (tail at bit : ℕ) → Part k (T.valueStep u48 S m k nan inplace tail at bit)
+  value-part : (k : Kind) (nan inplace : Bool) (tail at bit : ℕ) → Part k (T.structTested S m (T.valueStep o S m k nan inplace tail at bit))
   unfolding T.valueStep T.objectStep T.unionStep
   value-part (OfFlat k) nan inplace tail at bit h = flat-part k nan at bit h
-  value-part (OfObject ob) nan inplace tail at bit h = object-part ob (T.placeOf inplace tail (le m at u48)) (eqb (le m at u48) 0) h
+  value-part (OfObject ob) nan inplace tail at bit h = object-part ob (T.placeOf inplace tail (le m at o)) (eqb (le m at o) 0) h
   value-part (OfUnion i) nan inplace tail at bit h =
-      union-part i (le m at 2) (T.placeOf inplace tail (le m (at + 2) u48)) (eqb (le m at 2) 0) (leb (le m at 2) (length (casesOf S i))) h
+      union-part i (le m at 2) (T.placeOf inplace tail (le m (at + 2) o)) (eqb (le m at 2) 0) (leb (le m at 2) (length (casesOf S i))) h
 
-  reached-part : (k : Kind) (g : Reach) (s : Step) → Part k s → Part k (reached g s)
-  unfolding reached E.partBits E.markBits R.stepRead stepAt
+  reached-part : (k : Kind) (g : Reach) (s : Step) → Part k (T.structTested S m s) → Part k (T.structTested S m (reached g s))
+  unfolding T.structTested reached E.partBits E.markBits R.stepRead stepAt
   reached-part k Cut s p h = refl
   reached-part k Past s p h = refl
   reached-part k Here s p h = p h
 
-  pub member-part : (start n : ℕ) (c : Cursor) (r : Member) → Part (r .kind) (T.memberStep u48 S m start n c r)
+  pub member-part : (start n : ℕ) (c : Cursor) (r : Member) → Part (r .kind) (T.memberStep o S m start n c r)
+  unfolding T.memberStep
   member-part start n c r =
-      subst (Part (r .kind)) (sym (step-reached u48 S m start n c r))
-      (reached-part (r .kind) (reachOf m start n c (L.memberSlot u48 S r c) (L.hasFlag r))
-      (T.valueStep u48 S m (r .kind) (r .optional) (r .inplace) (start + n) (start + L.memberSlot u48 S r c .at) (L.memberSlot u48 S r c .bit))
-      (value-part (r .kind) (r .optional) (r .inplace) (start + n) (start + L.memberSlot u48 S r c .at) (L.memberSlot u48 S r c .bit)))
+      let p : Placement = L.placementOf o S r c in
+      subst (λ (s : Step). Part (r .kind) (T.structTested S m s)) (sym (step-reached o S m start n p r))
+      (reached-part (r .kind) (reachOf m start n p (L.hasFlag r))
+      (T.valueStep o S m (r .kind) (r .optional) (r .inplace) (start + n) (start + p .value .at) (p .value .bit))
+      (value-part (r .kind) (r .optional) (r .inplace) (start + n) (start + p .value .at) (p .value .bit)))
 
-  pub element-part : (k : Kind) (start i : ℕ) → Part k (T.elementStep u48 S m k start i)
+  pub element-part : (k : Kind) (start i : ℕ) → Part k (T.elementStep o S m k start i)
   unfolding T.elementStep
-  element-part k start i = value-part k true false 0 (T.elementPlace u48 S k start i) (i % 8)
+  element-part k start i = value-part k true false 0 (T.elementPlace o S k start i) (i % 8)

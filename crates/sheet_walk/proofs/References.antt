@@ -1,9 +1,9 @@
 -- The objects of a list by their offsets, and its unions by their choices, turn by turn.
-use mathlib.Core.Path.{_≡_, refl, sym, ap, _∙_, subst}
-use mathlib.Core.Bool.{true, false}
+use mathlib.Core.Path.{_≡_, refl, sym, ap, ap₂, _∙_, subst}
+use mathlib.Core.Bool.{false}
 use mathlib.Core.List.{List}
-use Prim.Native.Nat.{ℕ, _+_, _-_, _*_, _%_, _<_, _≤_}
-use Rattle.coding.specs.Bytes.{u48}
+use Prim.Native.Nat.{ℕ, _+_, _-_, _*_, _<_, _≤_}
+use Rattle.coding.specs.Bytes.{u48, le}
 use Rattle.coding.specs.Schema as Sc
 use Rattle.coding.specs.Schema.{Schema}
 use Rattle.coding.specs.Layout as L
@@ -18,30 +18,32 @@ use Rattle.bitio.specs.Puts.{Room, Puts}
 use Rattle.sheet_walk.specs.MessageBits as A
 use Rattle.sheet_walk.specs.Readable as D
 use Rattle.sheet_values.proofs.Remaining.{Remaining}
+use Rattle.sheet_walk.proofs.Values.{tested-object, tested-union}
 use Rattle.sheet_walk.proofs.Parts.{element-readable, elements-turn, list-elements}
-use Rattle.sheet_walk.proofs.Values.{value-object, value-union, object-given, union-given}
 
-offset-place : (S : Schema) (ob : Object) (start j : ℕ) → start + 6 * j ≡ T.elementPlace u48 S (OfObject ob) start j
-unfolding T.elementPlace L.isBool L.width u48
-offset-place S ob start j = refl
+offset-step : (S : Schema) (m : List ℕ) (ob : Object) (start j at x : ℕ) → at ≡ start + 6 * j → x ≡ le m at u48
+    → T.objectStep ob false 0 x ≡ T.elementStep u48 S m (OfObject ob) start j
+unfolding T.elementStep T.valueStep T.elementPlace L.isBool L.width u48
+offset-step S m ob start j at x ea ex =
+    tested-object S m ob false 0 x ∙ ap (λ (i : ℕ). T.structTested S m (T.objectStep ob false 0 i)) (ex ∙ ap (λ (i : ℕ). le m i u48) ea)
 
 offset-marked : (ob : Object) → E.unmarked (OfObject ob) ≡ false
 unfolding E.unmarked
 offset-marked ob = refl
 
 module _ (d : ℕ) (S : Schema) (m : List ℕ) (ob : Object) (start n j : ℕ) (h : j < n)
-    (good : D.ElementsReadable (D.ObjectReadable d S m) S m (OfObject ob) start (n - j) j) (at x : ℕ) (ea : at ≡ start + 6 * j) (nx : Number m at 6 x) where
-  pub offset-readable : D.StepReadable (D.ObjectReadable d S m) S m (T.objectStep ob false 0 x)
+    (good : D.ElementsReadable u48 (D.ObjectReadable u48 d S m) S m (OfObject ob) start (n - j) j) (at x : ℕ) (ea : at ≡ start + 6 * j) (ex : x ≡ le m at u48) where
+  pub offset-readable : D.StepReadable (D.ObjectReadable u48 d S m) S m (T.objectStep ob false 0 x)
   offset-readable =
-      object-given d S m (OfObject ob) true true false 0 at (j % 8)
-      (element-readable d S m (OfObject ob) start n j h good at (j % 8) (ea ∙ offset-place S ob start j) refl) refl ob refl x nx
+      element-readable u48 d S m (OfObject ob) start n j h good (T.objectStep ob false 0 x) (offset-step S m ob start j at x ea ex)
 
-  pub offsets-turn : (whole o₀ o o₁ : List ℕ) (p₀ p p₁ : ℕ) → Remaining o₀ p₀ whole o p (A.elementsAt d S m (OfObject ob) start (n - j) j) → Room o p
-      → Puts o p (A.referenceAt d S m ob false 0 x) o₁ p₁
-      → Remaining o₀ p₀ whole o₁ p₁ (A.elementsAt d S m (OfObject ob) start (n - (j + 1)) (j + 1))
-  offsets-turn whole o₀ o o₁ p₀ p p₁ inv g put =
-      elements-turn d S m (OfObject ob) start n j h good at (j % 8) (ea ∙ offset-place S ob start j) refl (offset-marked ob) whole o₀ o o₁ p₀ p p₁ inv g
-      (value-object d S m (OfObject ob) true true false 0 at (j % 8) o o₁ p p₁ refl ob refl x nx put)
+  pub offsets-turn : (whole out₀ out out₁ : List ℕ) (p₀ p p₁ : ℕ) → Remaining out₀ p₀ whole out p (A.elementsAt u48 d S m (OfObject ob) start (n - j) j) → Room out p
+      → Puts out p (A.referenceAt u48 d S m ob false 0 x) out₁ p₁
+      → Remaining out₀ p₀ whole out₁ p₁ (A.elementsAt u48 d S m (OfObject ob) start (n - (j + 1)) (j + 1))
+  unfolding A.referenceAt
+  offsets-turn whole out₀ out out₁ p₀ p p₁ inv g put =
+      elements-turn u48 d S m (OfObject ob) start n j h good (T.objectStep ob false 0 x) (offset-step S m ob start j at x ea ex) (offset-marked ob)
+      whole out₀ out out₁ p₀ p p₁ inv g put
 
 -- ---- a list of them
 module _ (S : Schema) (k : Kind) (ob : Object) (e : k ≡ OfObject ob) where
@@ -49,36 +51,39 @@ module _ (S : Schema) (k : Kind) (ob : Object) (e : k ≡ OfObject ob) where
   unfolding T.elementsSize L.isBool L.width u48
   offsets-inside start n c h = subst (λ (q : Kind). start + T.elementsSize u48 S q n ≤ c) e h
 
-  pub offsets-given : (child : D.Child) (m : List ℕ) (start n : ℕ) → D.ElementsReadable child S m k start n 0 → D.ElementsReadable child S m (OfObject ob) start n 0
-  offsets-given child m start n h = subst (λ (q : Kind). D.ElementsReadable child S m q start n 0) e h
+  pub offsets-given : (child : D.Child) (m : List ℕ) (start n : ℕ) → D.ElementsReadable u48 child S m k start n 0 → D.ElementsReadable u48 child S m (OfObject ob) start n 0
+  offsets-given child m start n h = subst (λ (q : Kind). D.ElementsReadable u48 child S m q start n 0) e h
 
-pub list-offsets : (d : ℕ) (S : Schema) (m : List ℕ) (i start n x : ℕ) (k : Kind) → k ≡ Sc.elementOf S i → x ≡ n → (o o₁ o₂ : List ℕ) (p q r : ℕ) → Room o p
-    → Puts o p (bitsOf 32 x) o₁ q → (ob : Object) → k ≡ OfObject ob → Puts o₁ q (A.elementsAt d S m (OfObject ob) start n 0) o₂ r
-    → Puts o p (A.listAt d S m (Sc.elementOf S i) start n) o₂ r
-list-offsets d S m i start n x k e ex o o₁ o₂ p q r g h ob ek l =
-    list-elements d S m i start n x k e ex o o₁ o₂ p q r g h (subst (λ (v : Kind). Puts o₁ q (A.elementsAt d S m v start n 0) o₂ r) (sym ek) l)
+pub list-offsets : (o d : ℕ) (S : Schema) (m : List ℕ) (i start n x : ℕ) (k : Kind) → k ≡ Sc.elementOf S i → x ≡ n → (out out₁ out₂ : List ℕ) (p q r : ℕ) → Room out p
+    → Puts out p (bitsOf 32 x) out₁ q → (ob : Object) → k ≡ OfObject ob → Puts out₁ q (A.elementsAt o d S m (OfObject ob) start n 0) out₂ r
+    → Puts out p (A.listAt o d S m (Sc.elementOf S i) start n) out₂ r
+list-offsets o d S m i start n x k e ex out out₁ out₂ p q r g h ob ek l =
+    list-elements o d S m i start n x k e ex out out₁ out₂ p q r g h (subst (λ (v : Kind). Puts out₁ q (A.elementsAt o d S m v start n 0) out₂ r) (sym ek) l)
 
 -- ---- unions
-choice-place : (S : Schema) (u start j : ℕ) → start + 8 * j ≡ T.elementPlace u48 S (OfUnion u) start j
-unfolding T.elementPlace L.isBool L.width u48
-choice-place S u start j = refl
+choice-step : (S : Schema) (m : List ℕ) (u start j at c x : ℕ) → at ≡ start + 8 * j → c ≡ le m at 2 → x ≡ le m (at + 2) u48
+    → T.unionStep (Sc.casesOf S u) false 0 c x ≡ T.elementStep u48 S m (OfUnion u) start j
+unfolding T.elementStep T.valueStep T.elementPlace L.isBool L.width u48
+choice-step S m u start j at c x ea ec ex =
+    tested-union S m (Sc.casesOf S u) false 0 c x
+    ∙ ap₂ (λ (i k : ℕ). T.structTested S m (T.unionStep (Sc.casesOf S u) false 0 i k)) (ec ∙ ap (λ (i : ℕ). le m i 2) ea) (ex ∙ ap (λ (i : ℕ). le m (i + 2) u48) ea)
 
 choice-marked : (u : ℕ) → E.unmarked (OfUnion u) ≡ false
 unfolding E.unmarked
 choice-marked u = refl
 
-module _ (d : ℕ) (S : Schema) (m : List ℕ) (u start n j : ℕ) (h : j < n) (good : D.ElementsReadable (D.ObjectReadable d S m) S m (OfUnion u) start (n - j) j)
-    (at c x : ℕ) (ea : at ≡ start + 8 * j) (nc : Number m at 2 c) (nx : Number m (at + 2) 6 x) where
-  pub chosen-readable : D.StepReadable (D.ObjectReadable d S m) S m (T.unionStep (Sc.casesOf S u) false 0 c x)
+module _ (d : ℕ) (S : Schema) (m : List ℕ) (u start n j : ℕ) (h : j < n) (good : D.ElementsReadable u48 (D.ObjectReadable u48 d S m) S m (OfUnion u) start (n - j) j)
+    (at c x : ℕ) (ea : at ≡ start + 8 * j) (nc : Number m at 2 c) (ex : x ≡ le m (at + 2) u48) where
+  pub chosen-readable : D.StepReadable (D.ObjectReadable u48 d S m) S m (T.unionStep (Sc.casesOf S u) false 0 c x)
   chosen-readable =
-      union-given d S m (OfUnion u) true true false 0 at (j % 8)
-      (element-readable d S m (OfUnion u) start n j h good at (j % 8) (ea ∙ choice-place S u start j) refl) refl u u refl refl c x nc nx
+      element-readable u48 d S m (OfUnion u) start n j h good (T.unionStep (Sc.casesOf S u) false 0 c x) (choice-step S m u start j at c x ea (nc .is) ex)
 
-  pub choices-turn : (whole o₀ o o₁ : List ℕ) (p₀ p p₁ : ℕ) → Remaining o₀ p₀ whole o p (A.elementsAt d S m (OfUnion u) start (n - j) j) → Room o p
-      → Puts o p (A.choiceAt d S m u false 0 c x) o₁ p₁ → Remaining o₀ p₀ whole o₁ p₁ (A.elementsAt d S m (OfUnion u) start (n - (j + 1)) (j + 1))
-  choices-turn whole o₀ o o₁ p₀ p p₁ inv g put =
-      elements-turn d S m (OfUnion u) start n j h good at (j % 8) (ea ∙ choice-place S u start j) refl (choice-marked u) whole o₀ o o₁ p₀ p p₁ inv g
-      (value-union d S m (OfUnion u) true true false 0 at (j % 8) o o₁ p p₁ refl u u refl refl c x nc nx put)
+  pub choices-turn : (whole out₀ out out₁ : List ℕ) (p₀ p p₁ : ℕ) → Remaining out₀ p₀ whole out p (A.elementsAt u48 d S m (OfUnion u) start (n - j) j) → Room out p
+      → Puts out p (A.choiceAt u48 d S m u false 0 c x) out₁ p₁ → Remaining out₀ p₀ whole out₁ p₁ (A.elementsAt u48 d S m (OfUnion u) start (n - (j + 1)) (j + 1))
+  unfolding A.choiceAt
+  choices-turn whole out₀ out out₁ p₀ p p₁ inv g put =
+      elements-turn u48 d S m (OfUnion u) start n j h good (T.unionStep (Sc.casesOf S u) false 0 c x) (choice-step S m u start j at c x ea (nc .is) ex)
+      (choice-marked u) whole out₀ out out₁ p₀ p p₁ inv g put
 
 -- ---- a list of them
 module _ (S : Schema) (k : Kind) (u i : ℕ) (e : k ≡ OfUnion u) (ei : i ≡ u) where
@@ -89,11 +94,11 @@ module _ (S : Schema) (k : Kind) (u i : ℕ) (e : k ≡ OfUnion u) (ei : i ≡ u
   unfolding T.elementsSize L.isBool L.width u48
   choices-inside start n c h = subst (λ (q : Kind). start + T.elementsSize u48 S q n ≤ c) union-is h
 
-  pub choices-given : (child : D.Child) (m : List ℕ) (start n : ℕ) → D.ElementsReadable child S m k start n 0 → D.ElementsReadable child S m (OfUnion i) start n 0
-  choices-given child m start n h = subst (λ (q : Kind). D.ElementsReadable child S m q start n 0) union-is h
+  pub choices-given : (child : D.Child) (m : List ℕ) (start n : ℕ) → D.ElementsReadable u48 child S m k start n 0 → D.ElementsReadable u48 child S m (OfUnion i) start n 0
+  choices-given child m start n h = subst (λ (q : Kind). D.ElementsReadable u48 child S m q start n 0) union-is h
 
-pub list-choices : (d : ℕ) (S : Schema) (m : List ℕ) (i start n x : ℕ) (k : Kind) → k ≡ Sc.elementOf S i → x ≡ n → (o o₁ o₂ : List ℕ) (p q r : ℕ) → Room o p
-    → Puts o p (bitsOf 32 x) o₁ q → (u v : ℕ) → k ≡ OfUnion u → v ≡ u → Puts o₁ q (A.elementsAt d S m (OfUnion v) start n 0) o₂ r
-    → Puts o p (A.listAt d S m (Sc.elementOf S i) start n) o₂ r
-list-choices d S m i start n x k e ex o o₁ o₂ p q r g h u v ek ev l =
-    list-elements d S m i start n x k e ex o o₁ o₂ p q r g h (subst (λ (w : Kind). Puts o₁ q (A.elementsAt d S m w start n 0) o₂ r) (sym (union-is S k u v ek ev)) l)
+pub list-choices : (d : ℕ) (S : Schema) (m : List ℕ) (i start n x : ℕ) (k : Kind) → k ≡ Sc.elementOf S i → x ≡ n → (out out₁ out₂ : List ℕ) (p q r : ℕ) → Room out p
+    → Puts out p (bitsOf 32 x) out₁ q → (u v : ℕ) → k ≡ OfUnion u → v ≡ u → Puts out₁ q (A.elementsAt u48 d S m (OfUnion v) start n 0) out₂ r
+    → Puts out p (A.listAt u48 d S m (Sc.elementOf S i) start n) out₂ r
+list-choices d S m i start n x k e ex out out₁ out₂ p q r g h u v ek ev l =
+    list-elements u48 d S m i start n x k e ex out out₁ out₂ p q r g h (subst (λ (w : Kind). Puts out₁ q (A.elementsAt u48 d S m w start n 0) out₂ r) (sym (union-is S k u v ek ev)) l)

@@ -1,20 +1,22 @@
 -- The sheet's bits of what stands in a message: encode of read, part by part, as the code goes over it.
+-- `o` is the width of an offset in bytes.
 use Prim.Native.Nat.{ℕ, _+_, _-_, _*_}
 use mathlib.Core.Bool.{Bool, true}
 use mathlib.Core.List.{List, [], _++_}
 use lib.ListN.{getD}
 use lib.Dec.{leb, ltb, eqb}
 use Rattle.coding.specs.Lists.{pick}
-use Rattle.coding.specs.Bytes.{u48, le, bitAt}
+use Rattle.coding.specs.Bytes.{le, bitAt}
 use Rattle.coding.specs.Schema.{Schema, casesOf}
 use Rattle.coding.specs.Packed.{widthOf}
 use Rattle.coding.specs.Structs.{structOk}
 use Rattle.coding.specs.Bits.{bitsOf}
 use Rattle.coding.specs.Layout.{bitByte, bitIndex, afterBit}
-use Rattle.sheet_values.specs.Marks.{marked, enumAt, floatAt, floatsAt, enumsAt, plainAt}
+use Rattle.sheet_values.specs.Marks.{marked, enumAt, floatAt, plainAt, blobAt}
+use Rattle.sheet_lists.specs.Elements.{floatsAt, enumsAt}
 use Rattle.coding.specs.Read as R
 use Rattle.coding.specs.Sheet as E
-use Rattle.coding.specs.Step.{fieldStep, objectStep, unionStep}
+use Rattle.coding.specs.Step.{fieldStep, placeOf, objectStep, unionStep}
 use Rattle.coding.specs.declared.Flat.{Flat}
 use Rattle.coding.specs.declared.Flat.the-variants as F
 use Rattle.coding.specs.declared.Object.{Object}
@@ -25,6 +27,7 @@ use Rattle.coding.specs.declared.Cursor.{Cursor}
 use Rattle.coding.specs.declared.Place.{Place}
 use Rattle.coding.specs.declared.Step.{Step}
 use Rattle.coding.specs.declared.Step.the-variants as St
+use Rattle.sheet_walk.specs.Readable.{startOf, lengthOf}
 
 -- ---- structs
 unfoldable pub structAt : Schema → List ℕ → ℕ → ℕ → List ℕ
@@ -37,18 +40,18 @@ unfoldable pub fieldsAt : Schema → List ℕ → List Flat → ℕ → List ℕ
 fieldsAt S m ks at = E.fieldsBits (E.structBits S) ks (R.fieldsRead (R.structRead S m) S m ks at)
 
 -- ---- objects, with d objects of depth left
-unfoldable pub objectAt : ℕ → Schema → List ℕ → Object → Place → List ℕ
-objectAt d S m ob p = E.encode d S ob (R.read d u48 S m ob p)
+unfoldable pub objectAt : ℕ → ℕ → Schema → List ℕ → Object → Place → List ℕ
+objectAt o d S m ob p = E.encode d S ob (R.read d o S m ob p)
 
-unfoldable pub contentAt : ℕ → Schema → List ℕ → Object → ℕ → ℕ → List ℕ
-contentAt d S m ob start n = E.contentBits (E.encode d S) S ob (R.contentRead (R.read d u48 S m) u48 S m ob start n)
+unfoldable pub contentAt : ℕ → ℕ → Schema → List ℕ → Object → ℕ → ℕ → List ℕ
+contentAt o d S m ob start n = E.contentBits (E.encode d S) S ob (R.contentRead (R.read d o S m) o S m ob start n)
 
-unfoldable pub membersAt : ℕ → Schema → List ℕ → ℕ → ℕ → Cursor → List Member → List ℕ
-membersAt d S m start n c rs = E.membersBits (E.encode d S) S rs (R.membersRead (R.read d u48 S m) u48 S m start n c rs)
+unfoldable pub membersAt : ℕ → ℕ → Schema → List ℕ → ℕ → ℕ → Cursor → List Member → List ℕ
+membersAt o d S m start n c rs = E.membersBits (E.encode d S) S rs (R.membersRead (R.read d o S m) o S m start n c rs)
 
 -- n elements from element i on
-unfoldable pub elementsAt : ℕ → Schema → List ℕ → Kind → ℕ → ℕ → ℕ → List ℕ
-elementsAt d S m k start n i = E.elementsBits (E.encode d S) S k (R.elementsRead (R.read d u48 S m) u48 S m start k n i)
+unfoldable pub elementsAt : ℕ → ℕ → Schema → List ℕ → Kind → ℕ → ℕ → ℕ → List ℕ
+elementsAt o d S m k start n i = E.elementsBits (E.encode d S) S k (R.elementsRead (R.read d o S m) o S m start k n i)
 
 -- ---- a member's or element's mark, and what follows it
 -- the bits of a value that leads nowhere
@@ -65,14 +68,14 @@ valueWidth (OfObject ob) = 0
 valueWidth (OfUnion i) = 0
 
 -- the bits of what a member or an element of a kind holds
-unfoldable pub stepAt : ℕ → Schema → List ℕ → Kind → Step → List ℕ
-stepAt d S m k (St.Refused n) = bitsOf 2 0
-stepAt d S m k St.Absent = bitsOf 2 0
-stepAt d S m k (St.Value x) = marked 1 (valueWidth k) x
-stepAt d S m k (St.Unknown x) = marked 2 (E.unknownWidth k) x
-stepAt d S m k (St.Struct i at) = bitsOf 2 1 ++ structAt S m i at
-stepAt d S m k (St.Object ob p) = bitsOf 2 1 ++ objectAt d S m ob p
-stepAt d S m k (St.Choice c ob p) = marked 1 16 c ++ objectAt d S m ob p
+unfoldable pub stepAt : ℕ → ℕ → Schema → List ℕ → Kind → Step → List ℕ
+stepAt o d S m k (St.Refused n) = bitsOf 2 0
+stepAt o d S m k St.Absent = bitsOf 2 0
+stepAt o d S m k (St.Value x) = marked 1 (valueWidth k) x
+stepAt o d S m k (St.Unknown x) = marked 2 (E.unknownWidth k) x
+stepAt o d S m k (St.Struct i at) = bitsOf 2 1 ++ structAt S m i at
+stepAt o d S m k (St.Object ob p) = bitsOf 2 1 ++ objectAt o d S m ob p
+stepAt o d S m k (St.Choice c ob p) = marked 1 16 c ++ objectAt o d S m ob p
 
 -- a struct, if its booleans are 0 or 1
 unfoldable pub wholeAt : Schema → List ℕ → ℕ → ℕ → List ℕ
@@ -85,17 +88,28 @@ flatAt S m (F.Float w) none at bit = floatAt none w (le m at w)
 flatAt S m (F.Enumerated n) none at bit = enumAt n (getD m at 0)
 flatAt S m (F.Struct i) none at bit = wholeAt S m i at
 
+-- a value of a kind that leads to no object
+unfoldable pub valueAt : Schema → List ℕ → Kind → Bool → ℕ → ℕ → List ℕ
+valueAt S m (OfFlat f) none at bit = flatAt S m f none at bit
+valueAt S m (OfObject ob) none at bit = []
+valueAt S m (OfUnion u) none at bit = []
+
+-- the same, if it is there
+unfoldable pub memberAt : Schema → List ℕ → Kind → Bool → Bool → ℕ → ℕ → List ℕ
+memberAt S m k none here at bit = pick here (valueAt S m k none at bit) (bitsOf 2 0)
+
 -- a reference or, in place, a length x
-unfoldable pub referenceAt : ℕ → Schema → List ℕ → Object → Bool → ℕ → ℕ → List ℕ
-referenceAt d S m ob inplace tail x = stepAt d S m (OfObject ob) (objectStep ob inplace tail x)
+unfoldable pub referenceAt : ℕ → ℕ → Schema → List ℕ → Object → Bool → ℕ → ℕ → List ℕ
+referenceAt o d S m ob inplace tail x = stepAt o d S m (OfObject ob) (objectStep ob inplace tail x)
 
 -- choice c of union u
-unfoldable pub choiceAt : ℕ → Schema → List ℕ → ℕ → Bool → ℕ → ℕ → ℕ → List ℕ
-choiceAt d S m u inplace tail c x = stepAt d S m (OfUnion u) (unionStep (casesOf S u) inplace tail c x)
+unfoldable pub choiceAt : ℕ → ℕ → Schema → List ℕ → ℕ → Bool → ℕ → ℕ → ℕ → List ℕ
+choiceAt o d S m u inplace tail c x = stepAt o d S m (OfUnion u) (unionStep (casesOf S u) inplace tail c x)
 
--- a value, if it is there; a member that is cut has the bits of an absent one
-unfoldable pub placed : Bool → Step → Step
-placed here v = pick here v St.Absent
+-- a text or bytes, by its reference or, in place, its length x
+unfoldable pub blobReferenceAt : ℕ → List ℕ → Bool → ℕ → ℕ → List ℕ
+blobReferenceAt o m inplace tail x =
+    pick (eqb x 0) (bitsOf 2 0) (blobAt m (startOf o (placeOf inplace tail x)) (lengthOf o m (placeOf inplace tail x)))
 
 -- ---- members by their records, where the cursor stands in a fixed part that has n bytes from `start`
 -- where an optional integer stands behind its flag; at the fixed part's end, if the flag says that there is none
@@ -135,21 +149,8 @@ unfoldable pub codedAt : List ℕ → ℕ → ℕ → ℕ → Cursor → List �
 codedAt m q start n c = pick (ltb q 32) (plainAt m (codedWidth q) start n (codedEnd m q start n c)) (otherAt m q start n c)
 
 -- the bytes of a member that leads to an object, by its kind: a union has a choice before the reference
-unfoldable pub leadWidth : ℕ → ℕ
-leadWidth k = pick (eqb k 17) 8 6
-
--- the width of an integer kind in bytes, or 0
-unfoldable pub flatInteger : Flat → ℕ
-flatInteger F.Boolean = 0
-flatInteger (F.Integer s w) = w
-flatInteger (F.Float w) = 0
-flatInteger (F.Enumerated n) = 0
-flatInteger (F.Struct i) = 0
-
-unfoldable pub integerWidth : Kind → ℕ
-integerWidth (OfFlat k) = flatInteger k
-integerWidth (OfObject ob) = 0
-integerWidth (OfUnion i) = 0
+unfoldable pub leadWidth : ℕ → ℕ → ℕ
+leadWidth o k = pick (eqb k 17) (2 + o) o
 
 -- n floats or enums; the other flat elements have no mark
 unfoldable pub flatsAt : List ℕ → Flat → ℕ → ℕ → List ℕ
@@ -160,9 +161,9 @@ flatsAt m (F.Enumerated k) n at = enumsAt m k n at
 flatsAt m (F.Struct i) n at = []
 
 -- a list's count and its n elements
-unfoldable pub listAt : ℕ → Schema → List ℕ → Kind → ℕ → ℕ → List ℕ
-listAt d S m k start n = bitsOf 32 n ++ elementsAt d S m k start n 0
+unfoldable pub listAt : ℕ → ℕ → Schema → List ℕ → Kind → ℕ → ℕ → List ℕ
+listAt o d S m k start n = bitsOf 32 n ++ elementsAt o d S m k start n 0
 
 -- ---- the whole sheet
-unfoldable pub rootAt : Schema → List ℕ → List ℕ
-rootAt S m = E.sheetBits S (R.messageRead u48 S m)
+unfoldable pub rootAt : ℕ → Schema → List ℕ → List ℕ
+rootAt o S m = E.sheetBits S (R.messageRead o S m)

@@ -1,21 +1,22 @@
 -- What an accepted message gives to those who read it: every place that is read lies within the message, and a struct's
--- booleans are 0 or 1.
+-- booleans are 0 or 1. `o` is the width of an offset in bytes.
 use mathlib.Core.Path.{_≡_}
 use mathlib.Core.Bool.{true}
 use Prim.Native.Nat.{ℕ, zero, suc, _+_, _<_, _≤_}
 use mathlib.Core.List.{List, [], _∷_}
 use lib.ListN.{length}
-use Rattle.coding.specs.Bytes.{u48, le, deepest}
+use Rattle.coding.specs.Bytes.{le, deepest}
 use Rattle.coding.specs.Schema.{Schema, elementOf, tableOf}
 use Rattle.coding.specs.Structs.{structSize, structOk}
 use Rattle.coding.specs.Layout.{begin, afterMember}
 use Rattle.coding.specs.Step.{memberStep, elementStep}
-use Rattle.coding.specs.Walk.{contentSize, rootPlace}
+use Rattle.coding.specs.Walk.{headerSize, startSize, contentSize, rootPlace}
 use Rattle.coding.specs.declared.Flat.{Flat}
 use Rattle.coding.specs.declared.Flat.the-variants as F
 use Rattle.coding.specs.declared.Object.{Object}
 use Rattle.coding.specs.declared.Object.the-variants as O
 use Rattle.coding.specs.declared.Kind.{Kind}
+use Rattle.coding.specs.declared.Kind.the-variants.{OfFlat, OfObject, OfUnion}
 use Rattle.coding.specs.declared.Member.{Member}
 use Rattle.coding.specs.declared.Cursor.{Cursor}
 use Rattle.coding.specs.declared.Place.{Place}
@@ -25,18 +26,22 @@ use Rattle.coding.specs.declared.Step.the-variants as St
 use Rattle.laws.specs.Sound.{ObjectSound}
 
 -- ---- an object's content by its place
-unfoldable pub startOf : Place → ℕ
-startOf (ByOffset x) = x + 10
-startOf (InPlace a n) = a
+unfoldable pub startOf : ℕ → Place → ℕ
+startOf o (ByOffset x) = x + headerSize o
+startOf o (InPlace a n) = a
 
-unfoldable pub lengthOf : List ℕ → Place → ℕ
-lengthOf m (ByOffset x) = le m (x + 4) 6
-lengthOf m (InPlace a n) = n
+unfoldable pub lengthOf : ℕ → List ℕ → Place → ℕ
+lengthOf o m (ByOffset x) = le m (x + 4) o
+lengthOf o m (InPlace a n) = n
 
 -- the header lies within the message
-unfoldable pub HeaderInside : List ℕ → Place → Type 0
-HeaderInside m (ByOffset x) = x + 10 ≤ length m
-HeaderInside m (InPlace a n) = Unit {0}
+unfoldable pub HeaderInside : ℕ → List ℕ → Place → Type 0
+HeaderInside o m (ByOffset x) = x + headerSize o ≤ length m
+HeaderInside o m (InPlace a n) = Unit {0}
+
+-- a text or bytes lies within it too, with its header
+unfoldable pub BlobInside : ℕ → List ℕ → Place → Type 0
+BlobInside o m p = HeaderInside o m p × (startOf o p + lengthOf o m p ≤ length m)
 
 -- ---- by the step
 abbrev pub Child : Type 1
@@ -59,35 +64,41 @@ FlatReadable S m (F.Float w) at = Unit {0}
 FlatReadable S m (F.Enumerated n) at = Unit {0}
 FlatReadable S m (F.Struct i) at = structOk S m i at ≡ true
 
-unfoldable pub MembersReadable : Child → Schema → List ℕ → ℕ → ℕ → Cursor → List Member → Type 0
-MembersReadable child S m start n c [] = Unit {0}
-MembersReadable child S m start n c (r ∷ rs) =
-    StepReadable child S m (memberStep u48 S m start n c r) × MembersReadable child S m start n (afterMember u48 S r c) rs
+unfoldable pub ValueReadable : Schema → List ℕ → Kind → ℕ → Type 0
+ValueReadable S m (OfFlat f) at = FlatReadable S m f at
+ValueReadable S m (OfObject ob) at = Unit {0}
+ValueReadable S m (OfUnion u) at = Unit {0}
 
-unfoldable pub ElementsReadable : Child → Schema → List ℕ → Kind → ℕ → ℕ → ℕ → Type 0
-ElementsReadable child S m k start zero i = Unit {0}
-ElementsReadable child S m k start (suc n) i =
-    StepReadable child S m (elementStep u48 S m k start i) × ElementsReadable child S m k start n (i + 1)
+unfoldable pub MembersReadable : ℕ → Child → Schema → List ℕ → ℕ → ℕ → Cursor → List Member → Type 0
+MembersReadable o child S m start n c [] = Unit {0}
+MembersReadable o child S m start n c (r ∷ rs) =
+    StepReadable child S m (memberStep o S m start n c r) × MembersReadable o child S m start n (afterMember o S r c) rs
 
-unfoldable pub ContentReadable : Child → Schema → List ℕ → Object → ℕ → ℕ → Type 0
-ContentReadable child S m O.Text start n = Unit {0}
-ContentReadable child S m O.Bytes start n = Unit {0}
-ContentReadable child S m (O.List i) start n = ElementsReadable child S m (elementOf S i) start n 0
-ContentReadable child S m (O.Table i) start n = MembersReadable child S m start n begin (tableOf S i .members)
+unfoldable pub ElementsReadable : ℕ → Child → Schema → List ℕ → Kind → ℕ → ℕ → ℕ → Type 0
+ElementsReadable o child S m k start zero i = Unit {0}
+ElementsReadable o child S m k start (suc n) i =
+    StepReadable child S m (elementStep o S m k start i) × ElementsReadable o child S m k start n (i + 1)
+
+unfoldable pub ContentReadable : ℕ → Child → Schema → List ℕ → Object → ℕ → ℕ → Type 0
+ContentReadable o child S m O.Text start n = Unit {0}
+ContentReadable o child S m O.Bytes start n = Unit {0}
+ContentReadable o child S m (O.List i) start n = ElementsReadable o child S m (elementOf S i) start n 0
+ContentReadable o child S m (O.Table i) start n = MembersReadable o child S m start n begin (tableOf S i .members)
 
 -- an object with its content
-pub record Entered (child : Child) (S : Schema) (m : List ℕ) (ob : Object) (start n : ℕ) : Type 0 where
+pub record Entered (o : ℕ) (child : Child) (S : Schema) (m : List ℕ) (ob : Object) (start n : ℕ) : Type 0 where
   pub sound : ObjectSound S ob
-  pub inside : start + contentSize u48 S ob n ≤ length m
-  pub parts : ContentReadable child S m ob start n
+  pub inside : start + contentSize o S ob n ≤ length m
+  pub parts : ContentReadable o child S m ob start n
 
 -- an object with d objects of depth left
-unfoldable pub ObjectReadable : ℕ → Schema → List ℕ → Child
-ObjectReadable zero S m ob p = ⊥
-ObjectReadable (suc d) S m ob p = HeaderInside m p × Entered (ObjectReadable d S m) S m ob (startOf p) (lengthOf m p)
+unfoldable pub ObjectReadable : ℕ → ℕ → Schema → List ℕ → Child
+ObjectReadable o zero S m ob p = ⊥
+ObjectReadable o (suc d) S m ob p =
+    HeaderInside o m p × Entered o (ObjectReadable o d S m) S m ob (startOf o p) (lengthOf o m p)
 
 -- the whole message: its start, and the root table
-pub record MessageReadable (S : Schema) (m : List ℕ) : Type 0 where
-  pub long : 10 ≤ length m
+pub record MessageReadable (o : ℕ) (S : Schema) (m : List ℕ) : Type 0 where
+  pub long : startSize o ≤ length m
   pub short : length m ≤ 16777215
-  pub root : ObjectReadable deepest S m (O.Table (S .root)) (rootPlace u48 m)
+  pub root : ObjectReadable o deepest S m (O.Table (S .root)) (rootPlace o m)

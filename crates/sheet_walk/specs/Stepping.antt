@@ -1,4 +1,4 @@
--- One member of a table, as the code goes over the members.
+-- One member of a table, as the code goes over the members. `o` is the width of an offset in bytes.
 use mathlib.Core.Path.{_≡_}
 use mathlib.Core.Bool.{Bool, true, false}
 use Prim.Native.Nat.{ℕ, _+_, _-_, _*_, _^_, _<_, _≤_}
@@ -6,14 +6,10 @@ use mathlib.Core.List.{List}
 use lib.ListN.{length}
 use lib.Dec.{leb, ltb}
 use Rattle.coding.specs.Lists.{pick}
-use Rattle.coding.specs.Bytes.{u48}
 use Rattle.coding.specs.Schema.{Schema, memberOf}
 use Rattle.coding.specs.Layout.{width, afterMember, afterBit, afterBytes}
-use Rattle.coding.specs.Step.{memberStep, valueStep}
+use Rattle.coding.specs.Step.{memberStep, valueStep, structTested}
 use Rattle.coding.specs.declared.Kind.{Kind}
-use Rattle.coding.specs.declared.Kind.the-variants.{OfFlat, OfObject, OfUnion}
-use Rattle.coding.specs.declared.Object.{Object}
-use Rattle.coding.specs.declared.Object.the-variants as O
 use Rattle.coding.specs.declared.Member.{Member}
 use Rattle.coding.specs.declared.Cursor.{Cursor}
 use Rattle.laws.specs.Sound.{KindSound}
@@ -28,19 +24,6 @@ isHere Cut = false
 isHere Past = false
 isHere Here = true
 
--- an object that needs no walker
-unfoldable pub isBlob : Object → Bool
-isBlob O.Text = true
-isBlob O.Bytes = true
-isBlob (O.List i) = false
-isBlob (O.Table i) = false
-
--- a kind that leads to no object
-unfoldable pub isFlat : Kind → Bool
-isFlat (OfFlat f) = true
-isFlat (OfObject ob) = false
-isFlat (OfUnion u) = false
-
 -- a member that is written by its record alone, with the code q: how the cursor moves, and its bits
 unfoldable pub behindOther : ℕ → Cursor → Cursor
 behindOther q c = pick (leb q 32) (afterBit c) (pick (ltb q 64) (afterBytes (q - 48) c) (afterBytes 1 c))
@@ -49,8 +32,9 @@ unfoldable pub behind : ℕ → Cursor → Cursor
 behind q c = pick (ltb q 16) (afterBytes q c) (pick (ltb q 32) (afterBytes (q - 16) (afterBit c)) (behindOther q c))
 
 pub record Coded (r : Member) (q : ℕ) : Type 0 where
-  pub next-is : (S : Schema) (c : Cursor) → afterMember u48 S r c ≡ behind q c
-  pub bits-are : (d : ℕ) (S : Schema) (m : List ℕ) (start n : ℕ) (c : Cursor) → stepAt d S m (r .kind) (memberStep u48 S m start n c r) ≡ codedAt m q start n c
+  pub next-is : (o : ℕ) (S : Schema) (c : Cursor) → afterMember o S r c ≡ behind q c
+  pub bits-are : (o d : ℕ) (S : Schema) (m : List ℕ) (start n : ℕ) (c : Cursor)
+      → stepAt o d S m (r .kind) (memberStep o S m start n c r) ≡ codedAt m q start n c
 
 -- what a code keeps to: a number of at most 8 bytes, an enum of at most 255 values
 pub record Small (q : ℕ) : Type 0 where
@@ -61,14 +45,14 @@ pub record Small (q : ℕ) : Type 0 where
   pub low : q < 320
 
 -- member j of table t, where the cursor stands: its kind, whether and where its value stands, and the cursor behind it
-pub record MemberAt (S : Schema) (m : List ℕ) (t j start n : ℕ) (c : Cursor) (k : Kind) (none inplace here : Bool) (at bit : ℕ) (next : Cursor) : Type 0 where
+pub record MemberAt (o : ℕ) (S : Schema) (m : List ℕ) (t j start n : ℕ) (c : Cursor) (k : Kind) (none inplace here : Bool) (at bit : ℕ) (next : Cursor) : Type 0 where
   pub reach : Reach
   pub here-is : here ≡ isHere reach
   pub kind-is : k ≡ memberOf S t j .kind
-  pub step-is : memberStep u48 S m start n c (memberOf S t j) ≡ reached reach (valueStep u48 S m k none inplace (start + n) at bit)
-  pub inside : here ≡ true → at + width u48 S k ≤ length m
+  pub step-is : memberStep o S m start n c (memberOf S t j) ≡ structTested S m (reached reach (valueStep o S m k none inplace (start + n) at bit))
+  pub inside : here ≡ true → at + width o S k ≤ length m
   pub low : at < 2 ^ 60
   pub bit-low : bit < 8
-  pub next-is : next ≡ afterMember u48 S (memberOf S t j) c
+  pub next-is : next ≡ afterMember o S (memberOf S t j) c
   pub laid : Laid (4097 * (j + 1)) next
   pub sound : KindSound S k

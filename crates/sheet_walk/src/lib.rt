@@ -14,32 +14,19 @@ ghost use Rattle.coding.specs.Packed as P;
 ghost use Rattle.coding.specs.Schema as Sc;
 ghost use Rattle.coding.specs.Step as T;
 ghost use Rattle.coding.specs.Structs as S;
+ghost use Rattle.coding.specs.Walk as W;
 ghost use Rattle.laws.specs.Sound.{FlatSound, KindSound};
 ghost use Rattle.message_layout.specs.Bounds.{Laid};
 ghost use Rattle.schema.specs.Directory.{Accepted};
 ghost use Rattle.bitio.specs.Puts.{Room, Puts};
 ghost use Rattle.sheet_walk.specs.MessageBits as Bt;
 ghost use Rattle.sheet_walk.specs.Readable as D;
-ghost use Rattle.sheet_walk.specs.Stepping.{MemberAt, Coded, Small, behind, isHere, isBlob, isFlat};
-
-// The bytes of an integer kind, or 0.
-fn integer_width(k: Kind) -> usize
-    ensures { λ r. ⌜ r ≡ Bt.integerWidth k ⌝ }
-{
-    match k {
-        Kind::OfFlat(f) => match f {
-            Flat::Boolean => 0,
-            Flat::Integer(_, w) => wire::index(w),
-            Flat::Float(_) => 0,
-            Flat::Enumerated(_) => 0,
-            Flat::Struct(_) => 0,
-        },
-        Kind::OfObject(_) => 0,
-        Kind::OfUnion(_) => 0,
-    }
-}
+ghost use Rattle.sheet_walk.specs.Contracts as C;
+ghost use Rattle.sheet_walk.specs.Stepping.{MemberAt, Coded, Small, behind, isHere};
+ghost use Rattle.wire.specs.Sizes.{WithinSize, HasOffsets, HasUnions};
 
 // ---- structs, by recursion on the struct index, which falls at every inner struct
+// A member of struct i, which stands at `at`.
 fn put_field(
     b: &[u8],
     dir: &[u16],
@@ -51,9 +38,9 @@ fn put_field(
     pos: usize,
 ) -> usize
     requires { ⌜ Room (now out) pos ⌝ }
-    requires { ⌜ (Accepted (now b) (now dir)) × (FlatSound i k) × (i < P.structCount (now b)) × (length (now m) ≤ 16777215) ⌝ }
+    requires { ⌜ (Accepted (now b) (now dir)) × (FlatSound i k) × (i < P.structCount (now b)) × (WithinSize (now m)) ⌝ }
     requires { ⌜ at + S.flatWidth (S.structSize (P.parse (now b))) k ≤ length (now m) ⌝ }
-    ensures { λ r. ⌜ Puts (now (out .entry)) pos (Bt.fieldAt (P.parse (now (b .entry))) (now (m .entry)) k at) (now (out .exit)) r ⌝ }
+    ensures { λ r. ⌜ Puts (now (out .entry)) pos (C.fieldBits (now (b .entry)) (now (m .entry)) k at) (now (out .exit)) r ⌝ }
 {
     match k {
         Flat::Boolean => bitio::write(out, pos, 1, wire::wide(wire::byte(m, at))),
@@ -64,7 +51,7 @@ fn put_field(
     }
 }
 
-// The struct i at a place.
+// The members of struct i, which stands at `at`, without a mark.
 fn put_struct(
     b: &[u8],
     dir: &[u16],
@@ -75,9 +62,9 @@ fn put_struct(
     pos: usize,
 ) -> usize
     requires { ⌜ Room (now out) pos ⌝ }
-    requires { ⌜ (Accepted (now b) (now dir)) × (i < P.structCount (now b)) × (length (now m) ≤ 16777215) ⌝ }
+    requires { ⌜ (Accepted (now b) (now dir)) × (i < P.structCount (now b)) × (WithinSize (now m)) ⌝ }
     requires { ⌜ at + S.structSize (P.parse (now b)) i ≤ length (now m) ⌝ }
-    ensures { λ r. ⌜ Puts (now (out .entry)) pos (Bt.structAt (P.parse (now (b .entry))) (now (m .entry)) i at) (now (out .exit)) r ⌝ }
+    ensures { λ r. ⌜ Puts (now (out .entry)) pos (C.structBits (now (b .entry)) (now (m .entry)) i at) (now (out .exit)) r ⌝ }
 {
     let n = schema::field_count(b, dir, i);
     let mut p = pos;
@@ -93,28 +80,41 @@ fn put_struct(
 }
 
 // ---- objects
-// Where an object's content starts, and the length that its header or its holder gives.
-fn start_of(m: &[u8], p: Place) -> usize
-    requires { ⌜ (D.HeaderInside (now m) p) × (length (now m) ≤ 16777215) ⌝ }
-    ensures { λ r. ⌜ r ≡ D.startOf p ⌝ }
+// An object's content: where it starts, and the length that its header or its holder gives, which counts the elements of a
+// list and the bytes of anything else.
+pub struct Content {
+    pub start: usize,
+    pub length: usize,
+}
+
+// The bytes of an object's header.
+fn header_size(ob: Object) -> usize
+    ensures { λ r. ⌜ r ≡ W.headerSize B.u48 ⌝ }
 {
-    match p {
-        Place::ByOffset(x) => x + 10,
-        Place::InPlace(a, _) => a,
+    match ob {
+        Object::Text => message_header::TextObject::HEADER,
+        Object::Bytes => message_header::BytesObject::HEADER,
+        Object::List(_) => message_header::ListObject::HEADER,
+        Object::Table(_) => message_header::TableObject::HEADER,
     }
 }
 
-fn length_of(m: &[u8], p: Place) -> usize
-    requires { ⌜ (D.HeaderInside (now m) p) × (length (now m) ≤ 16777215) ⌝ }
-    ensures { λ r. ⌜ r ≡ D.lengthOf (now (m .entry)) p ⌝ }
+// The content of an object at its place.
+fn content_of(m: &[u8], ob: Object, p: Place) -> Content
+    requires { ⌜ (D.HeaderInside B.u48 (now m) p) × (WithinSize (now m)) ⌝ }
+    ensures { λ r. ⌜ (r .start ≡ D.startOf B.u48 p) × (r .length ≡ D.lengthOf B.u48 (now (m .entry)) p) ⌝ }
 {
     match p {
-        Place::ByOffset(x) => wire::u48_in(m, x + 4) as usize,
-        Place::InPlace(_, n) => n,
+        Place::ByOffset(x) => Content {
+            start: x + header_size(ob),
+            length: wire::offset_in(m, x + wire::MAGIC),
+        },
+        Place::InPlace(start, length) => Content { start, length },
     }
 }
 
-// A value that leads to no object: its mark, and what follows it. The struct i, which is lawful in an accepted message.
+// ---- values that lead to no object
+// Struct i with its mark; its booleans are 0 or 1 in an accepted message.
 fn put_whole(
     b: &[u8],
     dir: &[u16],
@@ -125,15 +125,16 @@ fn put_whole(
     pos: usize,
 ) -> usize
     requires { ⌜ Room (now out) pos ⌝ }
-    requires { ⌜ (Accepted (now b) (now dir)) × (i < P.structCount (now b)) × (length (now m) ≤ 16777215) ⌝ }
+    requires { ⌜ (Accepted (now b) (now dir)) × (i < P.structCount (now b)) × (WithinSize (now m)) ⌝ }
     requires { ⌜ at + S.structSize (P.parse (now b)) i ≤ length (now m) ⌝ }
     requires { ⌜ S.structOk (P.parse (now b)) (now m) i at ≡ true ⌝ }
-    ensures { λ r. ⌜ Puts (now (out .entry)) pos (Bt.wholeAt (P.parse (now (b .entry))) (now (m .entry)) i at) (now (out .exit)) r ⌝ }
+    ensures { λ r. ⌜ Puts (now (out .entry)) pos (C.wholeBits (now (b .entry)) (now (m .entry)) i at) (now (out .exit)) r ⌝ }
 {
     let p = bitio::write(out, pos, 2, 1);
     put_struct(b, dir, m, out, i, at, p)
 }
 
+// A value that stands at `at`, and a bool at its bit there: its mark, and what follows it. With `none` a NaN is no value.
 fn put_flat(
     b: &[u8],
     dir: &[u16],
@@ -146,10 +147,10 @@ fn put_flat(
     pos: usize,
 ) -> usize
     requires { ⌜ Room (now out) pos ⌝ }
-    requires { ⌜ (Accepted (now b) (now dir)) × (FlatSound (length (P.parse (now b) .structs)) k) × (length (now m) ≤ 16777215) ⌝ }
+    requires { ⌜ (Accepted (now b) (now dir)) × (FlatSound (length (P.parse (now b) .structs)) k) × (WithinSize (now m)) ⌝ }
     requires { ⌜ (at + S.flatWidth (S.structSize (P.parse (now b))) k ≤ length (now m)) × (bit < 8) × (at < 2 ^ 60) ⌝ }
     requires { ⌜ D.FlatReadable (P.parse (now b)) (now m) k at ⌝ }
-    ensures { λ r. ⌜ Puts (now (out .entry)) pos (Bt.flatAt (P.parse (now (b .entry))) (now (m .entry)) k none at bit) (now (out .exit)) r ⌝ }
+    ensures { λ r. ⌜ Puts (now (out .entry)) pos (C.flatBits (now (b .entry)) (now (m .entry)) k none at bit) (now (out .exit)) r ⌝ }
 {
     match k {
         Flat::Boolean => sheet_values::put_marked(
@@ -187,18 +188,16 @@ fn put_flats(m: &[u8], out: &mut [u8], f: Flat, at: usize, n: usize, pos: usize)
     match f {
         Flat::Boolean => pos,
         Flat::Integer(_, _) => pos,
-        Flat::Float(w) => sheet_values::put_floats(m, out, pos, w, at, n),
-        Flat::Enumerated(k) => sheet_values::put_enums(m, out, pos, k, at, n),
+        Flat::Float(w) => sheet_lists::put_floats(m, out, pos, w, at, n),
+        Flat::Enumerated(k) => sheet_lists::put_enums(m, out, pos, k, at, n),
         Flat::Struct(_) => pos,
     }
 }
 
-// What a reference x, or in place a length x, to a text or bytes leads to.
-fn refer_blob(
-    b: &[u8],
+// The text or bytes that a reference x, or in place a length x, leads to, with its mark.
+fn put_blob_reference(
     m: &[u8],
     out: &mut [u8],
-    d: usize,
     ob: Object,
     inplace: bool,
     tail: usize,
@@ -206,32 +205,18 @@ fn refer_blob(
     pos: usize,
 ) -> usize
     requires { ⌜ Room (now out) pos ⌝ }
-    requires { ⌜ (length (now m) ≤ 16777215) × (isBlob ob ≡ true) ⌝ }
-    requires { ⌜ D.StepReadable (D.ObjectReadable d (P.parse (now b)) (now m)) (P.parse (now b)) (now m) (T.objectStep ob inplace tail x) ⌝ }
-    ensures { λ r. ⌜ Puts (now (out .entry)) pos (Bt.referenceAt d (P.parse (now (b .entry))) (now (m .entry)) ob inplace tail x) (now (out .exit)) r ⌝ }
+    requires { ⌜ WithinSize (now m) ⌝ }
+    requires { ⌜ ((x ≡ 0 → ⊥) → D.BlobInside B.u48 (now m) (T.placeOf inplace tail x)) ⌝ }
+    ensures { λ r. ⌜ Puts (now (out .entry)) pos (Bt.blobReferenceAt B.u48 (now (m .entry)) inplace tail x) (now (out .exit)) r ⌝ }
 {
     if x == 0 {
         return bitio::write(out, pos, 2, 0);
     }
-    let place = message_step::place_of(inplace, tail, x);
-    let start = start_of(m, place);
-    let n = length_of(m, place);
-    sheet_values::put_blob(m, out, pos, start, n)
+    let c = content_of(m, ob, message_step::place_of(inplace, tail, x));
+    sheet_values::put_blob(m, out, pos, c.start, c.length)
 }
 
-// Whether the object needs no walker.
-fn is_blob(ob: Object) -> bool
-    ensures { λ r. ⌜ r ≡ isBlob ob ⌝ }
-{
-    match ob {
-        Object::Text => true,
-        Object::Bytes => true,
-        Object::List(_) => false,
-        Object::Table(_) => false,
-    }
-}
-
-// A member's kind, whether and where its value stands, and the cursor behind it.
+// A member's kind, whether and where its value stands, and the cursor behind it. With `none` a NaN is no value.
 pub struct PlacedMember {
     pub kind: Kind,
     pub none: bool,
@@ -242,22 +227,20 @@ pub struct PlacedMember {
     pub next: Cursor,
 }
 
-// What a member that leads to no object holds, where its value is there: its mark, and what follows it.
+// A member that leads to no object: its mark and what follows it, if its value is there.
 fn put_flat_member(
     b: &[u8],
     dir: &[u16],
     m: &[u8],
     out: &mut [u8],
-    d: usize,
     q: PlacedMember,
-    tail: usize,
     pos: usize,
 ) -> usize
     requires { ⌜ Room (now out) pos ⌝ }
-    requires { ⌜ (Accepted (now b) (now dir)) × (length (now m) ≤ 16777215) × (KindSound (P.parse (now b)) (q .kind)) × (isFlat (q .kind) ≡ true) ⌝ }
+    requires { ⌜ (Accepted (now b) (now dir)) × (WithinSize (now m)) × (KindSound (P.parse (now b)) (q .kind)) ⌝ }
     requires { ⌜ (q .here ≡ true → q .at + L.width B.u48 (P.parse (now b)) (q .kind) ≤ length (now m)) × (q .bit < 8) × (q .at < 2 ^ 60) ⌝ }
-    requires { ⌜ D.StepReadable (D.ObjectReadable d (P.parse (now b)) (now m)) (P.parse (now b)) (now m) (Bt.placed (q .here) (T.valueStep B.u48 (P.parse (now b)) (now m) (q .kind) (q .none) (q .inplace) tail (q .at) (q .bit))) ⌝ }
-    ensures { λ r. ⌜ Puts (now (out .entry)) pos (Bt.stepAt d (P.parse (now (b .entry))) (now (m .entry)) (q .kind) (Bt.placed (q .here) (T.valueStep B.u48 (P.parse (now (b .entry))) (now (m .entry)) (q .kind) (q .none) (q .inplace) tail (q .at) (q .bit)))) (now (out .exit)) r ⌝ }
+    requires { ⌜ (q .here ≡ true → D.ValueReadable (P.parse (now b)) (now m) (q .kind) (q .at)) ⌝ }
+    ensures { λ r. ⌜ Puts (now (out .entry)) pos (C.memberBits (now (b .entry)) (now (m .entry)) (q .kind) (q .none) (q .here) (q .at) (q .bit)) (now (out .exit)) r ⌝ }
 {
     if !q.here {
         return bitio::write(out, pos, 2, 0);
@@ -288,21 +271,22 @@ fn member_at(
     m: &[u8],
     t: usize,
     j: usize,
-    start: usize,
-    n: usize,
+    part: Content,
     c: Cursor,
 ) -> PlacedMember
     requires { ⌜ (Accepted (now b) (now dir)) × (t < P.tableCount (now b)) × (j < length (Sc.tableOf (P.parse (now b)) t .members)) × (j < 256) ⌝ }
-    requires { ⌜ (start + n ≤ length (now m)) × (length (now m) ≤ 16777215) × (Laid (4097 * j) c) ⌝ }
-    ensures { λ q. ⌜ MemberAt (P.parse (now (b .entry))) (now (m .entry)) t j start n c (q .kind) (q .none) (q .inplace) (q .here) (q .at) (q .bit) (q .next) ⌝ }
+    requires { ⌜ (part .start + part .length ≤ length (now m)) × (WithinSize (now m)) × (Laid (4097 * j) c) ⌝ }
+    ensures { λ q. ⌜ MemberAt B.u48 (P.parse (now (b .entry))) (now (m .entry)) t j (part .start) (part .length) c (q .kind) (q .none) (q .inplace) (q .here) (q .at) (q .bit) (q .next) ⌝ }
 {
     let r = schema::member(b, dir, t, j);
     let k = r.kind;
-    let p = message_layout::place_member(b, dir, r, c);
-    let slot = p.slot;
-    let next = p.next;
-    let at = start + slot.at;
-    let here = is_here(message_step::reach_of(m, start, n, c, slot, message_layout::has_flag(r)));
+    let placed = message_layout::place_member(b, dir, r, c);
+    let p = placed.placement;
+    let slot = p.value;
+    let next = placed.next;
+    let at = part.start + slot.at;
+    let flag = message_layout::has_flag(r);
+    let here = is_here(message_step::reach_of(m, part.start, part.length, p, flag));
     PlacedMember {
         kind: k,
         none: r.optional,
@@ -315,6 +299,7 @@ fn member_at(
 }
 
 // ---- members by their records
+// The bytes of an integer or a float of kind k.
 fn plain_bytes(k: usize) -> usize
     requires { ⌜ k < 11 ⌝ }
     ensures { λ r. ⌜ (r ≡ P.widthOf k) × (0 < r) × (r ≤ 8) ⌝ }
@@ -330,62 +315,63 @@ fn code_at(b: &[u8], at: usize) -> usize
     ensures { λ r. ⌜ (0 < r → Coded (P.memberAt (now (b .entry)) at) r) × (Small r) ⌝ }
 {
     let k = schema::kind_at(b, at);
-    if k == 11 {
+    if k == schema::KIND_ENUM {
         return 64 + wire::index(schema::argument_at(b, at));
     }
-    if 10 < k {
+    if schema::KIND_ENUM <= k {
         return 0;
     }
     if schema::optional_at(b, at) {
         return optional_code(k);
     }
-    if k == 0 {
+    if k == schema::KIND_BOOL {
         return 32;
     }
     plain_bytes(k)
 }
 
-// The same for an optional bool, integer or float of kind k.
+// How an optional bool, integer or float of kind k is written by its record alone; 0 for a bool.
 fn optional_code(k: usize) -> usize
     requires { ⌜ k < 11 ⌝ }
     ensures { λ r. ⌜ r ≡ Bt.optionalCode k ⌝ }
 {
-    if k == 0 {
+    if k == schema::KIND_BOOL {
         return 0;
     }
-    if k < 9 {
+    if k < schema::KIND_FLOAT {
         return 16 + plain_bytes(k);
     }
     48 + plain_bytes(k)
 }
 
 // Where an optional integer stands in the fixed part; at its end, if the flag says that there is none.
-fn optional_end(m: &[u8], start: usize, n: usize, c: Cursor) -> usize
-    requires { ⌜ (start + n ≤ length (now m)) × (length (now m) ≤ 16777215) × (c .end < 2 ^ 57) × (c .byte ≤ c .end) × (c .bit ≤ 8) ⌝ }
-    ensures { λ r. ⌜ (r ≡ Bt.optionalEnd (now (m .entry)) start n c) × (r < 2 ^ 58) ⌝ }
+fn optional_end(m: &[u8], part: Content, c: Cursor) -> usize
+    requires { ⌜ (part .start + part .length ≤ length (now m)) × (WithinSize (now m)) × (c .end < 2 ^ 57) × (c .byte ≤ c .end) × (c .bit ≤ 8) ⌝ }
+    ensures { λ r. ⌜ (r ≡ Bt.optionalEnd (now (m .entry)) (part .start) (part .length) c) × (r < 2 ^ 58) ⌝ }
 {
     let at = message_layout::bit_byte(c);
-    if n <= at {
-        return n;
+    if part.length <= at {
+        return part.length;
     }
-    if wire::bit_in(m, start + at, message_layout::bit_index(c)) {
+    if wire::bit_in(m, part.start + at, message_layout::bit_index(c)) {
         let next = message_layout::after_bit(c);
         return next.end;
     }
-    n
+    part.length
 }
 
-// Where a number stands that has the code q, and its bytes.
-fn coded_end(m: &[u8], q: usize, start: usize, n: usize, c: Cursor) -> usize
-    requires { ⌜ (start + n ≤ length (now m)) × (length (now m) ≤ 16777215) × (c .end < 2 ^ 57) × (c .byte ≤ c .end) × (c .bit ≤ 8) ⌝ }
-    ensures { λ r. ⌜ (r ≡ Bt.codedEnd (now (m .entry)) q start n c) × (r < 2 ^ 58) ⌝ }
+// Where a number stands that has the code q.
+fn coded_end(m: &[u8], q: usize, part: Content, c: Cursor) -> usize
+    requires { ⌜ (part .start + part .length ≤ length (now m)) × (WithinSize (now m)) × (c .end < 2 ^ 57) × (c .byte ≤ c .end) × (c .bit ≤ 8) ⌝ }
+    ensures { λ r. ⌜ (r ≡ Bt.codedEnd (now (m .entry)) q (part .start) (part .length) c) × (r < 2 ^ 58) ⌝ }
 {
     if q < 16 {
         return c.end;
     }
-    optional_end(m, start, n, c)
+    optional_end(m, part, c)
 }
 
+// The bytes of a number that has the code q.
 fn coded_width(q: usize) -> usize
     requires { ⌜ q < 32 ⌝ }
     ensures { λ r. ⌜ r ≡ Bt.codedWidth q ⌝ }
@@ -396,17 +382,17 @@ fn coded_width(q: usize) -> usize
     q - 16
 }
 
-// A bool that is not optional.
-fn put_bool(m: &[u8], out: &mut [u8], start: usize, n: usize, c: Cursor, pos: usize) -> usize
+// A bool that is not optional, where the cursor stands.
+fn put_bool(m: &[u8], out: &mut [u8], part: Content, c: Cursor, pos: usize) -> usize
     requires { ⌜ Room (now out) pos ⌝ }
-    requires { ⌜ (start + n ≤ length (now m)) × (length (now m) ≤ 16777215) × (c .byte ≤ c .end) ⌝ }
-    ensures { λ r. ⌜ Puts (now (out .entry)) pos (Bt.boolAt (now (m .entry)) start n c) (now (out .exit)) r ⌝ }
+    requires { ⌜ (part .start + part .length ≤ length (now m)) × (WithinSize (now m)) × (c .byte ≤ c .end) ⌝ }
+    ensures { λ r. ⌜ Puts (now (out .entry)) pos (Bt.boolAt (now (m .entry)) (part .start) (part .length) c) (now (out .exit)) r ⌝ }
 {
     let at = message_layout::bit_byte(c);
-    if n <= at {
+    if part.length <= at {
         return bitio::write(out, pos, 2, 0);
     }
-    let x = wire::byte_in(m, start + at);
+    let x = wire::byte_in(m, part.start + at);
     sheet_values::put_marked(
         out,
         pos,
@@ -416,113 +402,99 @@ fn put_bool(m: &[u8], out: &mut [u8], start: usize, n: usize, c: Cursor, pos: us
     )
 }
 
-// An optional float of w bytes.
+// An optional float of w bytes, where the cursor stands.
 fn put_optional_float(
     m: &[u8],
     out: &mut [u8],
     w: usize,
-    start: usize,
-    n: usize,
+    part: Content,
     c: Cursor,
     pos: usize,
 ) -> usize
     requires { ⌜ Room (now out) pos ⌝ }
-    requires { ⌜ (start + n ≤ length (now m)) × (length (now m) ≤ 16777215) × (c .end < 2 ^ 57) × (w ≤ 8) ⌝ }
-    ensures { λ r. ⌜ Puts (now (out .entry)) pos (Bt.optionalFloatAt (now (m .entry)) w start n c) (now (out .exit)) r ⌝ }
+    requires { ⌜ (part .start + part .length ≤ length (now m)) × (WithinSize (now m)) × (c .end < 2 ^ 57) × (w ≤ 8) ⌝ }
+    ensures { λ r. ⌜ Puts (now (out .entry)) pos (Bt.optionalFloatAt (now (m .entry)) w (part .start) (part .length) c) (now (out .exit)) r ⌝ }
 {
-    if n < c.end + w {
+    if part.length < c.end + w {
         return bitio::write(out, pos, 2, 0);
     }
-    sheet_values::put_float(out, pos, true, w as u8, wire::number(m, start + c.end, w))
+    sheet_values::put_float(
+        out,
+        pos,
+        true,
+        w as u8,
+        wire::number(m, part.start + c.end, w),
+    )
 }
 
-// A bool, an optional float or an enum.
-fn put_other(
-    m: &[u8],
-    out: &mut [u8],
-    q: usize,
-    start: usize,
-    n: usize,
-    c: Cursor,
-    pos: usize,
-) -> usize
+// A member whose code q says that it is a bool, an optional float or an enum.
+fn put_other(m: &[u8], out: &mut [u8], q: usize, part: Content, c: Cursor, pos: usize) -> usize
     requires { ⌜ Room (now out) pos ⌝ }
-    requires { ⌜ (start + n ≤ length (now m)) × (length (now m) ≤ 16777215) × (c .end < 2 ^ 57) × (c .byte ≤ c .end) × (Small q) ⌝ }
-    ensures { λ r. ⌜ Puts (now (out .entry)) pos (Bt.otherAt (now (m .entry)) q start n c) (now (out .exit)) r ⌝ }
+    requires { ⌜ (part .start + part .length ≤ length (now m)) × (WithinSize (now m)) × (c .end < 2 ^ 57) × (c .byte ≤ c .end) × (Small q) ⌝ }
+    ensures { λ r. ⌜ Puts (now (out .entry)) pos (Bt.otherAt (now (m .entry)) q (part .start) (part .length) c) (now (out .exit)) r ⌝ }
 {
     if q <= 32 {
-        return put_bool(m, out, start, n, c, pos);
+        return put_bool(m, out, part, c, pos);
     }
     if q < 64 {
-        return put_optional_float(m, out, q - 48, start, n, c, pos);
+        return put_optional_float(m, out, q - 48, part, c, pos);
     }
-    if n <= c.end {
+    if part.length <= c.end {
         return bitio::write(out, pos, 2, 0);
     }
-    sheet_values::put_enum(out, pos, (q - 64) as u8, wire::byte_in(m, start + c.end))
+    sheet_values::put_enum(
+        out,
+        pos,
+        (q - 64) as u8,
+        wire::byte_in(m, part.start + c.end),
+    )
 }
 
-// The bits of such a member.
-fn put_coded(
-    m: &[u8],
-    out: &mut [u8],
-    q: usize,
-    start: usize,
-    n: usize,
-    c: Cursor,
-    pos: usize,
-) -> usize
+// A member that has the code q.
+fn put_coded(m: &[u8], out: &mut [u8], q: usize, part: Content, c: Cursor, pos: usize) -> usize
     requires { ⌜ Room (now out) pos ⌝ }
-    requires { ⌜ (start + n ≤ length (now m)) × (length (now m) ≤ 16777215) × (c .end < 2 ^ 57) × (c .byte ≤ c .end) × (c .bit ≤ 8) × (Small q) ⌝ }
-    ensures { λ r. ⌜ Puts (now (out .entry)) pos (Bt.codedAt (now (m .entry)) q start n c) (now (out .exit)) r ⌝ }
+    requires { ⌜ (part .start + part .length ≤ length (now m)) × (WithinSize (now m)) × (c .end < 2 ^ 57) × (c .byte ≤ c .end) × (c .bit ≤ 8) × (Small q) ⌝ }
+    ensures { λ r. ⌜ Puts (now (out .entry)) pos (Bt.codedAt (now (m .entry)) q (part .start) (part .length) c) (now (out .exit)) r ⌝ }
 {
     if 32 <= q {
-        return put_other(m, out, q, start, n, c, pos);
+        return put_other(m, out, q, part, c, pos);
     }
-    let end = coded_end(m, q, start, n, c);
-    sheet_values::put_plain(m, out, coded_width(q), start, n, end, pos)
+    let end = coded_end(m, q, part, c);
+    sheet_values::put_plain(m, out, coded_width(q), part.start, part.length, end, pos)
 }
 
-// The cursor w bytes further.
-fn behind_plain(c: Cursor, w: usize) -> Cursor
-    requires { ⌜ (c .end < 2 ^ 58) × (w ≤ 8) ⌝ }
-    ensures { λ r. ⌜ r ≡ L.afterBytes w c ⌝ }
-{
-    Cursor {
-        end: c.end + w,
-        byte: c.byte,
-        bit: c.bit,
-    }
-}
-
-// The cursor behind such a member.
+// The cursor behind a member that has the code q.
 fn behind_coded(c: Cursor, q: usize) -> Cursor
     requires { ⌜ (c .end < 2 ^ 57) × (c .byte ≤ c .end) × (c .bit ≤ 8) × (Small q) ⌝ }
     ensures { λ r. ⌜ r ≡ behind q c ⌝ }
 {
     if q < 16 {
-        return behind_plain(c, q);
+        return message_layout::after_bytes(c, q);
     }
     if q < 32 {
-        return behind_plain(message_layout::after_bit(c), q - 16);
+        return message_layout::after_bytes(message_layout::after_bit(c), q - 16);
     }
     if q <= 32 {
         return message_layout::after_bit(c);
     }
     if q < 64 {
-        return behind_plain(c, q - 48);
+        return message_layout::after_bytes(c, q - 48);
     }
-    behind_plain(c, 1)
+    message_layout::after_bytes(c, 1)
 }
 
 // The bytes of a member that leads to an object, by its kind.
 fn lead_width(k: usize) -> usize
-    ensures { λ r. ⌜ (r ≡ Bt.leadWidth k) × (r ≤ 8) ⌝ }
+    ensures { λ r. ⌜ (r ≡ Bt.leadWidth B.u48 k) × (0 < r) × (r ≤ 8) ⌝ }
 {
-    if k == 17 { 8 } else { 6 }
+    if schema::is_union_kind(k) {
+        wire::UNION
+    } else {
+        wire::OFFSET
+    }
 }
 
-// The object or the choice of the member of the record at `at`, where the cursor stands.
+// The object or the choice that the member of the record at `at` leads to, where the cursor stands.
 fn put_lead(
     b: &[u8],
     dir: &[u16],
@@ -530,39 +502,40 @@ fn put_lead(
     out: &mut [u8],
     d: usize,
     at: usize,
-    start: usize,
-    n: usize,
+    part: Content,
     c: Cursor,
     pos: usize,
 ) -> usize
     requires { ⌜ Room (now out) pos ⌝ }
-    requires { ⌜ (Accepted (now b) (now dir)) × (length (now m) ≤ 16777215) × (at + 1 < length (now b)) × (KindSound (P.parse (now b)) (P.memberAt (now b) at .kind)) ⌝ }
-    requires { ⌜ (start + n ≤ length (now m)) × (12 < P.kindAt (now b) at) × (P.kindAt (now b) at < 18) × (c .end < 2 ^ 58) ⌝ }
-    requires { ⌜ D.StepReadable (D.ObjectReadable d (P.parse (now b)) (now m)) (P.parse (now b)) (now m) (T.memberStep B.u48 (P.parse (now b)) (now m) start n c (P.memberAt (now b) at)) ⌝ }
-    ensures { λ r. ⌜ Puts (now (out .entry)) pos (Bt.stepAt d (P.parse (now (b .entry))) (now (m .entry)) (P.memberAt (now (b .entry)) at .kind) (T.memberStep B.u48 (P.parse (now (b .entry))) (now (m .entry)) start n c (P.memberAt (now (b .entry)) at))) (now (out .exit)) r ⌝ }
+    requires { ⌜ (Accepted (now b) (now dir)) × (WithinSize (now m)) × (at + 1 < length (now b)) × (KindSound (P.parse (now b)) (P.memberAt (now b) at .kind)) ⌝ }
+    requires { ⌜ (part .start + part .length ≤ length (now m)) × (12 < P.kindAt (now b) at) × (P.kindAt (now b) at < 18) × (c .end < 2 ^ 58) ⌝ }
+    requires { ⌜ C.LeadReadable d (now b) (now m) at (part .start) (part .length) c ⌝ }
+    ensures { λ r. ⌜ Puts (now (out .entry)) pos (C.leadBits d (now (b .entry)) (now (m .entry)) at (part .start) (part .length) c) (now (out .exit)) r ⌝ }
 {
     let end = c.end;
+    let tail = part.start + part.length;
     let k = schema::kind_at(b, at);
-    if n < end + lead_width(k) {
+    if part.length < end + lead_width(k) {
         return bitio::write(out, pos, 2, 0);
     }
     let inplace = schema::inplace_at(b, at);
-    let from = start + end;
-    if k == 17 {
+    let from = part.start + end;
+    if schema::is_union_kind(k) {
         let u = wire::index(schema::argument_at(b, at));
         let i = wire::u16_in(m, from) as usize;
-        let x = wire::u48_in(m, from + 2) as usize;
-        return put_union(b, dir, m, out, d, u, inplace, start + n, i, x, pos);
+        let x = wire::offset_in(m, from + 2);
+        return put_union(b, dir, m, out, d, u, inplace, tail, i, x, pos);
     }
-    let x = wire::u48_in(m, from) as usize;
+    let x = wire::offset_in(m, from);
     let ob = schema::object_at(b, at);
-    if is_blob(ob) {
-        return refer_blob(b, m, out, d, ob, inplace, start + n, x, pos);
+    if schema::is_blob(ob) {
+        return put_blob_reference(m, out, ob, inplace, tail, x, pos);
     }
-    put_reference(b, dir, m, out, d, ob, inplace, start + n, x, pos)
+    put_reference(b, dir, m, out, d, ob, inplace, tail, x, pos)
 }
 
-// What a reference x, or in place a length x, leads to.
+// ---- objects by their places
+// The object that a reference x, or in place a length x, leads to, with its mark.
 fn put_reference(
     b: &[u8],
     dir: &[u16],
@@ -576,9 +549,9 @@ fn put_reference(
     pos: usize,
 ) -> usize
     requires { ⌜ Room (now out) pos ⌝ }
-    requires { ⌜ (Accepted (now b) (now dir)) × (length (now m) ≤ 16777215) ⌝ }
-    requires { ⌜ D.StepReadable (D.ObjectReadable d (P.parse (now b)) (now m)) (P.parse (now b)) (now m) (T.objectStep ob inplace tail x) ⌝ }
-    ensures { λ r. ⌜ Puts (now (out .entry)) pos (Bt.referenceAt d (P.parse (now (b .entry))) (now (m .entry)) ob inplace tail x) (now (out .exit)) r ⌝ }
+    requires { ⌜ (Accepted (now b) (now dir)) × (WithinSize (now m)) ⌝ }
+    requires { ⌜ C.StepReadable d (now b) (now m) (T.objectStep ob inplace tail x) ⌝ }
+    ensures { λ r. ⌜ Puts (now (out .entry)) pos (C.referenceBits d (now (b .entry)) (now (m .entry)) ob inplace tail x) (now (out .exit)) r ⌝ }
 {
     if x == 0 {
         return bitio::write(out, pos, 2, 0);
@@ -588,7 +561,7 @@ fn put_reference(
     put_object(b, dir, m, out, d, ob, place, p)
 }
 
-// What choice c of union u, with the reference or length x, leads to.
+// What choice c of union u, with the reference or length x, leads to, with its mark.
 fn put_union(
     b: &[u8],
     dir: &[u16],
@@ -603,9 +576,9 @@ fn put_union(
     pos: usize,
 ) -> usize
     requires { ⌜ Room (now out) pos ⌝ }
-    requires { ⌜ (Accepted (now b) (now dir)) × (length (now m) ≤ 16777215) × (u < P.unionCount (now b)) ⌝ }
-    requires { ⌜ D.StepReadable (D.ObjectReadable d (P.parse (now b)) (now m)) (P.parse (now b)) (now m) (T.unionStep (Sc.casesOf (P.parse (now b)) u) inplace tail c x) ⌝ }
-    ensures { λ r. ⌜ Puts (now (out .entry)) pos (Bt.choiceAt d (P.parse (now (b .entry))) (now (m .entry)) u inplace tail c x) (now (out .exit)) r ⌝ }
+    requires { ⌜ (Accepted (now b) (now dir)) × (WithinSize (now m)) × (u < P.unionCount (now b)) ⌝ }
+    requires { ⌜ C.StepReadable d (now b) (now m) (T.unionStep (Sc.casesOf (P.parse (now b)) u) inplace tail c x) ⌝ }
+    ensures { λ r. ⌜ Puts (now (out .entry)) pos (C.choiceBits d (now (b .entry)) (now (m .entry)) u inplace tail c x) (now (out .exit)) r ⌝ }
 {
     if c == 0 {
         return bitio::write(out, pos, 2, 0);
@@ -619,7 +592,7 @@ fn put_union(
     put_object(b, dir, m, out, d, ob, place, p)
 }
 
-// An object with d objects of depth left, this one counted.
+// The object at a place, with d objects of depth left, this one counted.
 fn put_object(
     b: &[u8],
     dir: &[u16],
@@ -631,19 +604,17 @@ fn put_object(
     pos: usize,
 ) -> usize
     requires { ⌜ Room (now out) pos ⌝ }
-    requires { ⌜ (Accepted (now b) (now dir)) × (length (now m) ≤ 16777215) ⌝ }
-    requires { ⌜ D.ObjectReadable d (P.parse (now b)) (now m) ob place ⌝ }
-    ensures { λ r. ⌜ Puts (now (out .entry)) pos (Bt.objectAt d (P.parse (now (b .entry))) (now (m .entry)) ob place) (now (out .exit)) r ⌝ }
+    requires { ⌜ (Accepted (now b) (now dir)) × (WithinSize (now m)) ⌝ }
+    requires { ⌜ C.ObjectReadable d (now b) (now m) ob place ⌝ }
+    ensures { λ r. ⌜ Puts (now (out .entry)) pos (C.objectBits d (now (b .entry)) (now (m .entry)) ob place) (now (out .exit)) r ⌝ }
 {
     if d == 0 {
         return pos;
     }
-    let start = start_of(m, place);
-    let n = length_of(m, place);
-    put_content(b, dir, m, out, d - 1, ob, start, n, pos)
+    put_content(b, dir, m, out, d - 1, ob, content_of(m, ob, place), pos)
 }
 
-// An object's content.
+// An object's content; d objects of depth are left below it.
 fn put_content(
     b: &[u8],
     dir: &[u16],
@@ -651,24 +622,23 @@ fn put_content(
     out: &mut [u8],
     d: usize,
     ob: Object,
-    start: usize,
-    n: usize,
+    part: Content,
     pos: usize,
 ) -> usize
     requires { ⌜ Room (now out) pos ⌝ }
-    requires { ⌜ (Accepted (now b) (now dir)) × (length (now m) ≤ 16777215) ⌝ }
-    requires { ⌜ D.Entered (D.ObjectReadable d (P.parse (now b)) (now m)) (P.parse (now b)) (now m) ob start n ⌝ }
-    ensures { λ r. ⌜ Puts (now (out .entry)) pos (Bt.contentAt d (P.parse (now (b .entry))) (now (m .entry)) ob start n) (now (out .exit)) r ⌝ }
+    requires { ⌜ (Accepted (now b) (now dir)) × (WithinSize (now m)) ⌝ }
+    requires { ⌜ C.ContentReadable d (now b) (now m) ob (part .start) (part .length) ⌝ }
+    ensures { λ r. ⌜ Puts (now (out .entry)) pos (C.contentBits d (now (b .entry)) (now (m .entry)) ob (part .start) (part .length)) (now (out .exit)) r ⌝ }
 {
     match ob {
-        Object::Text => bitio::write_blob(m, out, pos, start, n),
-        Object::Bytes => bitio::write_blob(m, out, pos, start, n),
-        Object::List(i) => put_list(b, dir, m, out, d, wire::index(i), start, n, pos),
-        Object::Table(t) => put_table(b, dir, m, out, d, wire::index(t), start, n, pos),
+        Object::Text => bitio::write_blob(m, out, pos, part.start, part.length),
+        Object::Bytes => bitio::write_blob(m, out, pos, part.start, part.length),
+        Object::List(i) => put_list(b, dir, m, out, d, wire::index(i), part, pos),
+        Object::Table(t) => put_table(b, dir, m, out, d, wire::index(t), part, pos),
     }
 }
 
-// The members of table t, whose fixed part has n bytes from `start`.
+// The members of table t, which has this fixed part.
 fn put_table(
     b: &[u8],
     dir: &[u16],
@@ -676,14 +646,13 @@ fn put_table(
     out: &mut [u8],
     d: usize,
     t: usize,
-    start: usize,
-    n: usize,
+    part: Content,
     pos: usize,
 ) -> usize
     requires { ⌜ Room (now out) pos ⌝ }
-    requires { ⌜ (Accepted (now b) (now dir)) × (length (now m) ≤ 16777215) × (t < P.tableCount (now b)) × (start + n ≤ length (now m)) ⌝ }
-    requires { ⌜ D.MembersReadable (D.ObjectReadable d (P.parse (now b)) (now m)) (P.parse (now b)) (now m) start n L.begin (Sc.tableOf (P.parse (now b)) t .members) ⌝ }
-    ensures { λ r. ⌜ Puts (now (out .entry)) pos (Bt.membersAt d (P.parse (now (b .entry))) (now (m .entry)) start n L.begin (Sc.tableOf (P.parse (now (b .entry))) t .members)) (now (out .exit)) r ⌝ }
+    requires { ⌜ (Accepted (now b) (now dir)) × (WithinSize (now m)) × (t < P.tableCount (now b)) × (part .start + part .length ≤ length (now m)) ⌝ }
+    requires { ⌜ C.TableReadable d (now b) (now m) t (part .start) (part .length) ⌝ }
+    ensures { λ r. ⌜ Puts (now (out .entry)) pos (C.tableBits d (now (b .entry)) (now (m .entry)) t (part .start) (part .length)) (now (out .exit)) r ⌝ }
 {
     let count = schema::member_count(b, dir, t);
     let first = schema::table_place(b, dir, t);
@@ -691,33 +660,33 @@ fn put_table(
     let mut p = pos;
     let mut j: usize = 0;
     while j < count {
-        if 134217720 < p {
+        if sheet_values::MOST < p {
             return p;
         }
         let at = schema::record_place(4, first, j);
-        let q = code_at(b, at);
-        if 0 < q {
-            p = put_coded(m, out, q, start, n, c, p);
-            c = behind_coded(c, q);
+        let code = code_at(b, at);
+        if 0 < code {
+            p = put_coded(m, out, code, part, c, p);
+            c = behind_coded(c, code);
             j += 1;
             continue;
         }
         let k = schema::kind_at(b, at);
-        if 12 < k {
-            p = put_lead(b, dir, m, out, d, at, start, n, c, p);
-            c = behind_plain(c, lead_width(k));
+        if !schema::is_flat_kind(k) {
+            p = put_lead(b, dir, m, out, d, at, part, c, p);
+            c = message_layout::after_bytes(c, lead_width(k));
             j += 1;
             continue;
         }
-        let r = member_at(b, dir, m, t, j, start, n, c);
-        c = r.next;
-        p = put_flat_member(b, dir, m, out, d, r, start + n, p);
+        let q = member_at(b, dir, m, t, j, part, c);
+        c = q.next;
+        p = put_flat_member(b, dir, m, out, q, p);
         j += 1;
     }
     p
 }
 
-// The n elements of list i, which start at `start`, behind their count.
+// The elements of list i, behind their count.
 fn put_list(
     b: &[u8],
     dir: &[u16],
@@ -725,36 +694,37 @@ fn put_list(
     out: &mut [u8],
     d: usize,
     i: usize,
-    start: usize,
-    n: usize,
+    part: Content,
     pos: usize,
 ) -> usize
     requires { ⌜ Room (now out) pos ⌝ }
-    requires { ⌜ (Accepted (now b) (now dir)) × (length (now m) ≤ 16777215) × (i < P.listCount (now b)) ⌝ }
-    requires { ⌜ start + T.elementsSize B.u48 (P.parse (now b)) (Sc.elementOf (P.parse (now b)) i) n ≤ length (now m) ⌝ }
-    requires { ⌜ D.ElementsReadable (D.ObjectReadable d (P.parse (now b)) (now m)) (P.parse (now b)) (now m) (Sc.elementOf (P.parse (now b)) i) start n 0 ⌝ }
-    ensures { λ r. ⌜ Puts (now (out .entry)) pos (Bt.listAt d (P.parse (now (b .entry))) (now (m .entry)) (Sc.elementOf (P.parse (now (b .entry))) i) start n) (now (out .exit)) r ⌝ }
+    requires { ⌜ (Accepted (now b) (now dir)) × (WithinSize (now m)) × (i < P.listCount (now b)) ⌝ }
+    requires { ⌜ C.ListInside (now b) (now m) i (part .start) (part .length) ⌝ }
+    requires { ⌜ C.ListReadable d (now b) (now m) i (part .start) (part .length) ⌝ }
+    ensures { λ r. ⌜ Puts (now (out .entry)) pos (C.listBits d (now (b .entry)) (now (m .entry)) i (part .start) (part .length)) (now (out .exit)) r ⌝ }
 {
+    let start = part.start;
+    let n = part.length;
     let k = schema::element(b, dir, i);
-    let w = integer_width(k);
+    let w = schema::integer_width(k);
     if w == 1 {
         return bitio::write_blob(m, out, pos, start, n);
     }
     let p = bitio::write(out, pos, 32, sheet_values::number64(n));
     if message_layout::is_bool(k) {
-        return sheet_values::put_bools(m, out, p, start, n);
+        return sheet_lists::put_bools(m, out, p, start, n);
     }
     if 0 < w {
-        return sheet_values::put_numbers(m, out, p, w, start, n);
+        return sheet_lists::put_numbers(m, out, p, w, start, n);
     }
     match k {
         Kind::OfFlat(f) => put_flats(m, out, f, start, n, p),
-        Kind::OfObject(ob) => put_references(b, dir, m, out, d, ob, start, n, p),
-        Kind::OfUnion(u) => put_choices(b, dir, m, out, d, wire::index(u), start, n, p),
+        Kind::OfObject(ob) => put_references(b, dir, m, out, d, ob, part, p),
+        Kind::OfUnion(u) => put_choices(b, dir, m, out, d, wire::index(u), part, p),
     }
 }
 
-// The n objects of a list, whose offsets start at `start`.
+// The objects of a list, by their offsets.
 fn put_references(
     b: &[u8],
     dir: &[u16],
@@ -762,31 +732,31 @@ fn put_references(
     out: &mut [u8],
     d: usize,
     ob: Object,
-    start: usize,
-    n: usize,
+    part: Content,
     pos: usize,
 ) -> usize
     requires { ⌜ Room (now out) pos ⌝ }
-    requires { ⌜ (Accepted (now b) (now dir)) × (length (now m) ≤ 16777215) × (start + 6 * n ≤ length (now m)) ⌝ }
-    requires { ⌜ D.ElementsReadable (D.ObjectReadable d (P.parse (now b)) (now m)) (P.parse (now b)) (now m) (Kind.OfObject ob) start n 0 ⌝ }
-    ensures { λ r. ⌜ Puts (now (out .entry)) pos (Bt.elementsAt d (P.parse (now (b .entry))) (now (m .entry)) (Kind.OfObject ob) start n 0) (now (out .exit)) r ⌝ }
+    requires { ⌜ (Accepted (now b) (now dir)) × (WithinSize (now m)) × (HasOffsets (now m) (part .start) (part .length)) ⌝ }
+    requires { ⌜ C.ElementsReadable d (now b) (now m) (Kind.OfObject ob) (part .start) (part .length) ⌝ }
+    ensures { λ r. ⌜ Puts (now (out .entry)) pos (C.elementsBits d (now (b .entry)) (now (m .entry)) (Kind.OfObject ob) (part .start) (part .length)) (now (out .exit)) r ⌝ }
 {
+    let n = part.length;
     let mut p = pos;
-    let mut at = start;
+    let mut at = part.start;
     let mut j: usize = 0;
     while j < n {
-        if 134217720 < p {
+        if sheet_values::MOST < p {
             return p;
         }
-        let x = wire::u48_in(m, at) as usize;
+        let x = wire::offset_in(m, at);
         p = put_reference(b, dir, m, out, d, ob, false, 0, x, p);
-        at += 6;
+        at += wire::OFFSET;
         j += 1;
     }
     p
 }
 
-// The n choices of a list of union u, which start at `start`.
+// The choices of a list of union u.
 fn put_choices(
     b: &[u8],
     dir: &[u16],
@@ -794,26 +764,26 @@ fn put_choices(
     out: &mut [u8],
     d: usize,
     u: usize,
-    start: usize,
-    n: usize,
+    part: Content,
     pos: usize,
 ) -> usize
     requires { ⌜ Room (now out) pos ⌝ }
-    requires { ⌜ (Accepted (now b) (now dir)) × (length (now m) ≤ 16777215) × (u < P.unionCount (now b)) × (start + 8 * n ≤ length (now m)) ⌝ }
-    requires { ⌜ D.ElementsReadable (D.ObjectReadable d (P.parse (now b)) (now m)) (P.parse (now b)) (now m) (Kind.OfUnion u) start n 0 ⌝ }
-    ensures { λ r. ⌜ Puts (now (out .entry)) pos (Bt.elementsAt d (P.parse (now (b .entry))) (now (m .entry)) (Kind.OfUnion u) start n 0) (now (out .exit)) r ⌝ }
+    requires { ⌜ (Accepted (now b) (now dir)) × (WithinSize (now m)) × (u < P.unionCount (now b)) × (HasUnions (now m) (part .start) (part .length)) ⌝ }
+    requires { ⌜ C.ElementsReadable d (now b) (now m) (Kind.OfUnion u) (part .start) (part .length) ⌝ }
+    ensures { λ r. ⌜ Puts (now (out .entry)) pos (C.elementsBits d (now (b .entry)) (now (m .entry)) (Kind.OfUnion u) (part .start) (part .length)) (now (out .exit)) r ⌝ }
 {
+    let n = part.length;
     let mut p = pos;
-    let mut at = start;
+    let mut at = part.start;
     let mut j: usize = 0;
     while j < n {
-        if 134217720 < p {
+        if sheet_values::MOST < p {
             return p;
         }
         let c = wire::u16_in(m, at) as usize;
-        let x = wire::u48_in(m, at + 2) as usize;
+        let x = wire::offset_in(m, at + 2);
         p = put_union(b, dir, m, out, d, u, false, 0, c, x, p);
-        at += 8;
+        at += wire::UNION;
         j += 1;
     }
     p
@@ -823,10 +793,10 @@ fn put_choices(
 // The root's bits, where there is room, and where they end.
 pub fn put_root(b: &[u8], dir: &[u16], m: &[u8], out: &mut [u8]) -> usize
     requires { ⌜ Room (now out) 0 ⌝ }
-    requires { ⌜ (Accepted (now b) (now dir)) × (D.MessageReadable (P.parse (now b)) (now m)) ⌝ }
-    ensures { λ r. ⌜ Puts (now (out .entry)) 0 (Bt.rootAt (P.parse (now (b .entry))) (now (m .entry))) (now (out .exit)) r ⌝ }
+    requires { ⌜ (Accepted (now b) (now dir)) × (C.MessageReadable (now b) (now m)) ⌝ }
+    ensures { λ r. ⌜ Puts (now (out .entry)) 0 (C.rootBits (now (b .entry)) (now (m .entry))) (now (out .exit)) r ⌝ }
 {
-    let ob = message_object::root_object(b, dir);
-    let p = message_object::root_place(m);
+    let ob = message_start::root_object(b, dir);
+    let p = message_start::root_place(m);
     put_object(b, dir, m, out, 32, ob, p, 0)
 }

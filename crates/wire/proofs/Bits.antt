@@ -7,7 +7,7 @@ use mathlib.Core.List.{List}
 use lib.ListN.{getD}
 use lib.Dec.{eqb}
 use lib.Bits.{bitAnd, bitOr, and-mask, mask-lt}
-use Rattle.coding.specs.Bytes.{bitAt}
+use Rattle.coding.specs.Bytes.{le, bitAt, u48}
 use Rattle.wire.specs.Numbers.{Number, number-none, number-push}
 
 pub bit-is : (x k w : ℕ) → w ≡ x → bitAnd (w / 2 ^ k) 1 ≡ x / 2 ^ k % 2
@@ -38,3 +38,12 @@ number-all m at w i v l n =
 
 pub number-at : (m : List ℕ) (at w n r : ℕ) → w ≡ n → Number m at n r → Number m at w r
 number-at m at w n r e h = rw e h
+
+-- an offset is a number of six bytes
+module _ (m : List ℕ) (at r : ℕ) (n : Number m at 6 r) where
+  pub offset-is : r ≡ le m at u48
+  unfolding u48
+  offset-is = n .is
+
+  pub offset-small : r < 2 ^ 48
+  offset-small = n .small

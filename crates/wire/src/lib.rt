@@ -1,11 +1,28 @@
-// Numbers and bits of a message. The `_in` forms require that the bytes are there and test nothing; the others read 0 past
-// the end.
+// Numbers and bits of a message, and the sizes that the coding fixes. The `_in` forms require that the bytes are there and
+// test nothing; the others read 0 past the end.
 ghost use mathlib.Core.Path.{_≡_};
 ghost use Prim.Native.Nat.{_+_, _*_, _/_, _%_, _^_, _≤_, _<_};
 ghost use lib.ListN.{length, getD};
 ghost use lib.Dec.{eqb};
 ghost use Rattle.coding.specs.Bytes as B;
 ghost use Rattle.wire.specs.Numbers.{Number};
+ghost use Rattle.wire.specs.Sizes.{HasOffset};
+
+// ---- sizes of the coding
+// The bytes of an offset, and of a length.
+pub const OFFSET: usize = 6;
+
+// The bytes of a magic.
+pub const MAGIC: usize = 4;
+
+// The bytes of a union: a choice of two bytes and an offset.
+pub const UNION: usize = 8;
+
+// The bytes of the message's start. No offset is less.
+pub const START: usize = 10;
+
+// The bytes of the largest message, and of the largest sheet.
+pub const LARGEST: usize = 16777215;
 
 // ---- bytes
 pub fn byte(m: &[u8], at: usize) -> u8
@@ -62,6 +79,14 @@ pub fn u48_in(m: &[u8], at: usize) -> u64
     u32_in(m, at) | u16_in(m, at + 4) << 32
 }
 
+// An offset or a length whose bytes are there.
+pub fn offset_in(m: &[u8], at: usize) -> usize
+    requires { ⌜ HasOffset (now m) at ⌝ }
+    ensures { λ r. ⌜ (r ≡ B.le (now (m .entry)) at B.u48) × (r < 2 ^ 48) ⌝ }
+{
+    u48_in(m, at) as usize
+}
+
 pub fn u64_in(m: &[u8], at: usize) -> u64
     requires { ⌜ at + 8 ≤ length (now m) ⌝ }
     ensures { λ r. ⌜ Number (now (m .entry)) at 8 r ⌝ }
@@ -103,6 +128,17 @@ pub fn number(m: &[u8], at: usize, w: usize) -> u64
         return u8_in(m, at);
     }
     bytes_of(m, at, w)
+}
+
+// ---- floats
+// Whether the bits of a float of w bytes, 4 or 8, are a NaN.
+pub fn is_nan(w: u8, x: u64) -> bool
+    ensures { λ r. ⌜ r ≡ B.isNaN w x ⌝ }
+{
+    if w == 4 {
+        return 0x7F80_0000 < x % 0x8000_0000;
+    }
+    0x7FF0_0000_0000_0000 < x % 0x8000_0000_0000_0000
 }
 
 // ---- bits, the lowest being 0

@@ -108,16 +108,16 @@ module _ (s : List ℕ) (pos left : ℕ) (el : left ≡ 8 * length s - pos) wher
       er ∙ ap (λ (n : ℕ). eqb n 0) (run .number ∙ ap value whole) ∙ zero-is (drop pos (bits s))
       ∙ sym (simp (lt-ltb (length (drop pos (bits s))) 8 q))
 
-pub size-is : (x : Extent) → 20 + (x .width + x .chain) + x .below ≡ messageSize x
-unfolding messageSize
-size-is x = refl
+pub size-is : (x : Extent) → 10 + 10 + (x .width + x .chain) + x .below ≡ messageSize u48 x
+unfolding messageSize headerSize u48
+size-is x = omega arith
 
-pub sheet-short : (b s : List ℕ) (x : Extent) → LawfulSheet b s x → length s ≤ 16777215
+pub sheet-short : (b s : List ℕ) (x : Extent) → LawfulSheet u48 b s x → length s ≤ 16777215
 unfolding largest
 sheet-short b s x k = k .short
 
 -- the sizes of the root table are those of the survey
-pub sheet-measured : (b s : List ℕ) (x : Extent) → LawfulSheet b s x → Measured false (survey deepest u48 (parse b) (O.Table (parse b .root)) (bits s)) x
+pub sheet-measured : (b s : List ℕ) (x : Extent) → LawfulSheet u48 b s x → Measured false (survey deepest u48 (parse b) (O.Table (parse b .root)) (bits s)) x
 sheet-measured b s x k = record { is = rw (k .sheet) (record { length = refl; width = refl; chain = λ e. refl }); small = k .small }
 
 -- ---- the sheet is too long
@@ -168,19 +168,15 @@ module _ (b dir s o : List ℕ) (a : Accepted b dir) (short : length s ≤ 16777
       pub open-out : o ≡ M.writeOut u48 b s o
       open-out = unchanged b s o 11 open-refused
 
-    pub sheet-lawful : not t ≡ false → LawfulSheet b s x
+    pub sheet-lawful : not t ≡ false → LawfulSheet u48 b s x
     unfolding largest
     sheet-lawful f = record { short = short; rest = drop next (bits s); sheet = sheet-got; end = sym et ∙ not-false t f; small = v .small }
 
 -- ---- a lawful sheet
-module _ (b dir s o : List ℕ) (a : Accepted b dir) (x : Extent) (k : LawfulSheet b s x) where
+module _ (b dir s o : List ℕ) (a : Accepted b dir) (x : Extent) (k : LawfulSheet u48 b s x) where
   ended : (ltb (length (k .rest)) 8 && allZero (k .rest)) ≡ true
   unfolding onlyEnd
   ended = k .end
-
-  size-of : Wl.sizeOf u48 (parse b) (accepted-sound b dir a) x ≡ messageSize x
-  unfolding Wl.sizeOf messageSize headerSize u48
-  size-of = omega arith
 
   module _ (h : not (x .writable) ≡ true) where
     not-refused : M.written u48 b s ≡ M.refused 12
@@ -192,12 +188,12 @@ module _ (b dir s o : List ℕ) (a : Accepted b dir) (x : Extent) (k : LawfulShe
     pub not-out : o ≡ M.writeOut u48 b s o
     not-out = unchanged b s o 12 not-refused
 
-  module _ (h : not (x .writable) ≡ false) (n : ℕ) (en : n ≡ messageSize x) where
+  module _ (h : not (x .writable) ≡ false) (n : ℕ) (en : n ≡ messageSize u48 x) where
     module _ (l : 16777215 < n) where
       over-refused : M.written u48 b s ≡ M.refused 13
       over-refused =
           Wl.written-over u48 b s (a .lawful) (accepted-sound b dir a) (k .short) x (k .rest) (k .sheet) ended (not-false (x .writable) h)
-          (unfold largest in omega (arith, size-of))
+          (unfold largest in omega arith)
 
       pub over-answer : (r : WriteAnswer) → r .number ≡ 13 → r .length ≡ 0 → r ≡ M.writeAnswer u48 b s o
       over-answer r er el = answered b s o 13 over-refused r er el
@@ -206,16 +202,16 @@ module _ (b dir s o : List ℕ) (a : Accepted b dir) (x : Extent) (k : LawfulShe
       over-out = unchanged b s o 13 over-refused
 
     module _ (l : n ≤ 16777215) where
-      small : Wl.sizeOf u48 (parse b) (accepted-sound b dir a) x ≤ largest
+      small : messageSize u48 x ≤ largest
       unfolding largest
-      small = omega (arith, size-of)
+      small = omega arith
 
-      whole : (m : List ℕ) × (M.written u48 b s ≡ M.message m) × (length m ≡ Wl.sizeOf u48 (parse b) (accepted-sound b dir a) x)
-          × ((out : List ℕ) (st : State) (zs : List ℕ) → length out ≡ Wl.sizeOf u48 (parse b) (accepted-sound b dir a) x → emitMessage u48 (parse b) out (bits s) ≡ got st zs → st .out ≡ m)
+      whole : (m : List ℕ) × (M.written u48 b s ≡ M.message m) × (length m ≡ messageSize u48 x)
+          × ((out : List ℕ) (st : State) (zs : List ℕ) → length out ≡ messageSize u48 x → emitMessage u48 (parse b) out (bits s) ≡ got st zs → st .out ≡ m)
       whole = Wl.written-message u48 b s (a .lawful) (accepted-sound b dir a) (k .short) x (k .rest) (k .sheet) ended (not-false (x .writable) h) small
 
       m-length : length (whole .0) ≡ n
-      m-length = whole .2 ∙ size-of ∙ sym en
+      m-length = whole .2 ∙ sym en
 
       module _ (f : length o < n) where
         pub full-answer : (r : WriteAnswer) → r .number ≡ 14 → r .length ≡ 0 → r ≡ M.writeAnswer u48 b s o
@@ -243,7 +239,7 @@ module _ (b dir s o : List ℕ) (a : Accepted b dir) (x : Extent) (k : LawfulShe
               by : (u : Bool) → got (Wl.message-got u48 b s (a .lawful) (accepted-sound b dir a) (k .short) x (k .rest) (k .sheet) (take n o) .0) (k .rest) ≡ pick u (got (stateOf c o₁) (drop z (bits s))) fail
                   → emitMessage u48 (parse b) (take n o) (bits s) ≡ pick u (got (stateOf c o₁) (drop z (bits s))) fail → o₁ ≡ whole .0
               by true e g =
-                  whole .3 (take n o) (stateOf c o₁) (drop z (bits s)) (length-take-le n o f ∙ en ∙ sym size-of) g
+                  whole .3 (take n o) (stateOf c o₁) (drop z (bits s)) (length-take-le n o f ∙ en) g
               by false e g = never (sym (ap is-got e))
 
           pub done-out : (w : List ℕ) → w ≡ o₁ ++ drop n o → w ≡ M.writeOut u48 b s o

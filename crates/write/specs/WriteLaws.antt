@@ -36,6 +36,7 @@ use Rattle.write_pass.specs.EmitSheet.{emit, emitMessage}
 use Rattle.write_pass.specs.EmitParts.{refer-emitted}
 use Rattle.write_pass.specs.EmitObjects.{is-got, mapped-fail-is, emit-is}
 use Rattle.write_measure.specs.declared.Extent.{Extent}
+use Rattle.write.specs.Writing.{messageSize}
 
 -- ---- what was got, through a function
 abbrev got-first : {A : Type 0} → A → Parsed A → A
@@ -68,10 +69,6 @@ module _ (o : ℕ) (S : Schema) (sound : Sound S) where
       (putNumber 4 0xB5C0_C4B3 (messageState out)) xs
 
   -- ---- the message's length
-  -- by an extent of the root table
-  unfoldable pub sizeOf : Extent → ℕ
-  sizeOf x = headerSize o + (headerSize o + x .width + x .chain + x .below)
-
   module _ (v : Value) where
     abbrev root : Extent
     root = extentOf o S sound deepest (O.Table (S .root)) v
@@ -96,8 +93,8 @@ module _ (o : ℕ) (S : Schema) (sound : Sound S) where
         omega (arith, length-leBytes 4 0xB5C0_C4B3, length-leBytes 4 (magic S (O.Table (S .root))), length-leBytes o (lengthOf o S (O.Table (S .root)) v)))
 
     -- the sizes are cut only where the message is over the size
-    size-in : sizeOf root ≤ largest → sizeOf root ≡ whole
-    unfolding sizeOf extentOf whole
+    size-in : messageSize o root ≤ largest → messageSize o root ≡ whole
+    unfolding messageSize extentOf whole
     size-in h =
         let c = chain o (packBits 0 (plan deepest o S (O.Table (S .root)) v)) in
         let b = below o (packBits 0 (plan deepest o S (O.Table (S .root)) v)) in
@@ -115,8 +112,8 @@ module _ (o : ℕ) (S : Schema) (sound : Sound S) where
                 let z = capped-over n k in
                 absurd (let y : ⊥ = omega arith in y)
 
-    size-over : largest < sizeOf root → largest < whole
-    unfolding sizeOf extentOf whole
+    size-over : largest < messageSize o root → largest < whole
+    unfolding messageSize extentOf whole
     size-over h =
         let c = chain o (packBits 0 (plan deepest o S (O.Table (S .root)) v)) in
         let b = below o (packBits 0 (plan deepest o S (O.Table (S .root)) v)) in
@@ -141,7 +138,7 @@ module _ (o : ℕ) (S : Schema) (sound : Sound S) where
         ∙ emit-layout o out (messageSlots v) (e ∙ sym message-length) (omega arith)
 
 -- ---- the answers, each over the whole sheet
-module _ (o : ℕ) (b s : List ℕ) (right : lawful b ≡ true) (sound : Sound (parse b)) where
+module _ (o : ℕ) (b s : List ℕ) (right : lawful o b ≡ true) (sound : Sound (parse b)) where
   abbrev S : Schema
   S = parse b
 
@@ -198,29 +195,29 @@ module _ (o : ℕ) (b s : List ℕ) (right : lawful b ≡ true) (sound : Sound (
         written-not f = by-tree (Op.some (found .0)) tree-is ∙ rw (fine-is false f)
 
         module _ (f : x .writable ≡ true) where
-          pub written-over : largest < sizeOf o S sound x → written o b s ≡ refused 13
+          pub written-over : largest < messageSize o x → written o b s ≡ refused 13
           unfolding writtenTree
           written-over l =
               let v = found .0 in
-              let k : largest < sizeOf o S sound (extentOf o S sound deepest (O.Table (S .root)) v) = subst (λ (y : Extent). largest < sizeOf o S sound y) (sym (found .2)) l in
+              let k : largest < messageSize o (extentOf o S sound deepest (O.Table (S .root)) v) = subst (λ (y : Extent). largest < messageSize o y) (sym (found .2)) l in
               let n = size-over o S sound v k in
               let m = message-length o S sound v in
               let q : largest < length (messageOf o S v) = omega arith in
               by-tree (Op.some v) tree-is ∙ rw (fine-is true f, lt-leb (length (messageOf o S v)) largest q)
 
-          module _ (l : sizeOf o S sound x ≤ largest) where
-            size-is : sizeOf o S sound x ≡ length (messageOf o S (found .0))
+          module _ (l : messageSize o x ≤ largest) where
+            size-is : messageSize o x ≡ length (messageOf o S (found .0))
             size-is =
                 let v = found .0 in
-                let e1 = ap (sizeOf o S sound) (found .2) in
-                let k : sizeOf o S sound (extentOf o S sound deepest (O.Table (S .root)) v) ≤ largest = omega arith in
+                let e1 = ap (messageSize o) (found .2) in
+                let k : messageSize o (extentOf o S sound deepest (O.Table (S .root)) v) ≤ largest = omega arith in
                 let n = size-in o S sound v k in
                 let m = message-length o S sound v in
                 omega arith
 
             -- the message, which is as long as the survey says; the pass leaves it in a buffer of that length
-            pub written-message : (m : List ℕ) × (written o b s ≡ message m) × (length m ≡ sizeOf o S sound x)
-                × ((out : List ℕ) (st : State) (zs : List ℕ) → length out ≡ sizeOf o S sound x → emitMessage o S out (bits s) ≡ got st zs → st .out ≡ m)
+            pub written-message : (m : List ℕ) × (written o b s ≡ message m) × (length m ≡ messageSize o x)
+                × ((out : List ℕ) (st : State) (zs : List ℕ) → length out ≡ messageSize o x → emitMessage o S out (bits s) ≡ got st zs → st .out ≡ m)
             written-message = (messageOf o S (found .0), is, sym size-is, stores)
               where
                 is : written o b s ≡ message (messageOf o S (found .0))
@@ -229,7 +226,7 @@ module _ (o : ℕ) (b s : List ℕ) (right : lawful b ≡ true) (sound : Sound (
                     let q : length (messageOf o S (found .0)) ≤ largest = let z = size-is in omega arith in
                     by-tree (Op.some (found .0)) tree-is ∙ rw (fine-is true f, le-leb (length (messageOf o S (found .0))) largest q)
 
-                stores : (out : List ℕ) (st : State) (zs : List ℕ) → length out ≡ sizeOf o S sound x → emitMessage o S out (bits s) ≡ got st zs → st .out ≡ messageOf o S (found .0)
+                stores : (out : List ℕ) (st : State) (zs : List ℕ) → length out ≡ messageSize o x → emitMessage o S out (bits s) ≡ got st zs → st .out ≡ messageOf o S (found .0)
                 stores out st zs e1 e2 =
                     let v = found .0 in
                     let z = size-is in

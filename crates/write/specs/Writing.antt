@@ -5,10 +5,11 @@ use mathlib.Core.List.{List}
 use mathlib.Core.Bool.{Bool, true, _&&_}
 use lib.Dec.{ltb}
 use lib.ListN.{length}
-use Rattle.coding.specs.Bytes.{u48, largest, deepest}
+use Rattle.coding.specs.Bytes.{largest, deepest}
 use Rattle.coding.specs.Packed.{parse}
 use Rattle.coding.specs.Bits.{bits, allZero}
 use Rattle.coding.specs.Sheet.{got}
+use Rattle.coding.specs.Walk.{headerSize}
 use Rattle.coding.specs.declared.Object.the-variants as O
 use Rattle.write_measure.specs.Survey.{survey}
 use Rattle.write_measure.specs.Surveyed.{Small}
@@ -19,13 +20,13 @@ unfoldable pub onlyEnd : List ℕ → Bool
 onlyEnd xs = ltb (length xs) 8 && allZero xs
 
 -- the length of the message whose root table takes x: the message's start, the root's header, and what it takes
-unfoldable pub messageSize : Extent → ℕ
-messageSize x = 20 + (x .width + x .chain) + x .below
+unfoldable pub messageSize : ℕ → Extent → ℕ
+messageSize o x = headerSize o + (headerSize o + x .width + x .chain + x .below)
 
 -- the sheet s is lawful, and its root table takes x
-pub record LawfulSheet (b s : List ℕ) (x : Extent) : Type 0 where
+pub record LawfulSheet (o : ℕ) (b s : List ℕ) (x : Extent) : Type 0 where
   pub short : length s ≤ largest
   pub rest : List ℕ
-  pub sheet : survey deepest u48 (parse b) (O.Table (parse b .root)) (bits s) ≡ got x rest
+  pub sheet : survey deepest o (parse b) (O.Table (parse b .root)) (bits s) ≡ got x rest
   pub end : onlyEnd rest ≡ true
   pub small : Small x

@@ -1,5 +1,7 @@
 // Writing a message from a value sheet: the sheet is surveyed first, and then one pass over it stores the message.
+use coding::Verdict;
 use coding::WriteAnswer;
+use message_header::TableObject;
 use write_measure::Extent;
 ghost use mathlib.Core.Path.{_≡_};
 ghost use Prim.Native.Nat.{ℕ, _+_, _*_, _≤_};
@@ -9,8 +11,10 @@ ghost use Rattle.coding.specs.Bits.{bits};
 ghost use Rattle.coding.specs.Message as M;
 ghost use Rattle.schema.specs.Directory.{Accepted};
 ghost use Rattle.write_measure.specs.Surveyed.{Small};
+ghost use Rattle.write_measure.specs.SurveyBy.{Inside};
 ghost use Rattle.write.specs.Writing as Wr;
 
+// The answer of a refusal, by its number.
 fn refused(number: u8) -> WriteAnswer
     ensures { λ r. ⌜ (r .number ≡ number) × (r .length ≡ 0) ⌝ }
 {
@@ -19,7 +23,7 @@ fn refused(number: u8) -> WriteAnswer
 
 // Whether less than a byte of the sheet is left, and zero bits only.
 fn closed(s: &[u8], pos: usize) -> bool
-    requires { ⌜ (length (now s) ≤ 16777215) × (pos ≤ 8 * length (now s)) ⌝ }
+    requires { ⌜ Inside (now s) pos ⌝ }
     ensures { λ r. ⌜ r ≡ Wr.onlyEnd (drop pos (bits (now (s .entry)))) ⌝ }
 {
     let left = 8 * s.len() - pos;
@@ -29,18 +33,18 @@ fn closed(s: &[u8], pos: usize) -> bool
     bitio::get(s, pos, left) == 0
 }
 
-// The length of the message whose root table takes e.
+// The length of the message whose root table takes e: the message's start, the table's header, and what it takes.
 fn message_size(e: Extent) -> usize
     requires { ⌜ Small e ⌝ }
-    ensures { λ r. ⌜ r ≡ Wr.messageSize e ⌝ }
+    ensures { λ r. ⌜ r ≡ Wr.messageSize B.u48 e ⌝ }
 {
     let content = e.width + e.chain;
-    20 + content + e.below
+    wire::START + TableObject::HEADER + content + e.below
 }
 
-// A sheet that is lawful, whose root table takes e.
+// Writes a lawful sheet, whose root table takes e: 12, 13 or 14, or else the message.
 fn write_lawful(b: &[u8], dir: &[u16], s: &[u8], e: Extent, out: &mut [u8]) -> WriteAnswer
-    requires { ⌜ (Accepted (now b) (now dir)) × Wr.LawfulSheet (now b) (now s) e ⌝ }
+    requires { ⌜ (Accepted (now b) (now dir)) × Wr.LawfulSheet B.u48 (now b) (now s) e ⌝ }
     ensures { λ r. ⌜ r ≡ M.writeAnswer B.u48 (now (b .entry)) (now (s .entry)) (now (out .entry)) ⌝ }
     ensures { λ _. ⌜ now (out .exit) ≡ M.writeOut B.u48 (now (b .entry)) (now (s .entry)) (now (out .entry)) ⌝ }
 {
@@ -48,7 +52,7 @@ fn write_lawful(b: &[u8], dir: &[u16], s: &[u8], e: Extent, out: &mut [u8]) -> W
         return refused(12);
     }
     let n = message_size(e);
-    if 16777215 < n {
+    if wire::LARGEST < n {
         return refused(13);
     }
     if out.len() < n {
@@ -61,16 +65,16 @@ fn write_lawful(b: &[u8], dir: &[u16], s: &[u8], e: Extent, out: &mut [u8]) -> W
     }
 }
 
-// By a schema that was judged before.
+// Writes a sheet by a schema that was found lawful: 11, or as a lawful sheet.
 fn write_judged(b: &[u8], dir: &[u16], s: &[u8], out: &mut [u8]) -> WriteAnswer
     requires { ⌜ Accepted (now b) (now dir) ⌝ }
     ensures { λ r. ⌜ r ≡ M.writeAnswer B.u48 (now (b .entry)) (now (s .entry)) (now (out .entry)) ⌝ }
     ensures { λ _. ⌜ now (out .exit) ≡ M.writeOut B.u48 (now (b .entry)) (now (s .entry)) (now (out .entry)) ⌝ }
 {
-    if 16777215 < s.len() {
+    if wire::LARGEST < s.len() {
         return refused(11);
     }
-    let ob = message_object::root_object(b, dir);
+    let ob = message_start::root_object(b, dir);
     let x = write_measure::object(b, dir, s, 32, ob, 0);
     if !x.whole {
         return refused(11);
@@ -92,4 +96,15 @@ pub fn write(b: &[u8], s: &[u8], out: &mut [u8]) -> WriteAnswer
         return write_judged(b, &dir, s, out);
     }
     refused(1)
+}
+
+// Number, place and visits of a writer's answer: 0 or the refusal's number, at 0, with no visits.
+pub fn verdict_of(answer: WriteAnswer) -> Verdict
+    ensures { λ r. ⌜ r ≡ M.writeVerdict answer ⌝ }
+{
+    Verdict {
+        number: answer.number,
+        place: 0,
+        visits: 0,
+    }
 }

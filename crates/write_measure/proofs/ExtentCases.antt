@@ -1,15 +1,13 @@
 -- The ways out of what counts extents and sizes, one lemma for each, in the words of the survey.
-use mathlib.Core.Path.{_≡_, refl, sym, ap, ap₂, _∙_, subst}
-use mathlib.Core.Bool.{Bool, true, false, _&&_, not}
-use mathlib.Core.List.{List, [], _∷_}
-use mathlib.Core.Logic.{_⊎_, ⊎-elim}
-use Prim.Native.Nat.{ℕ, zero, suc, _+_, _-_, _*_, _/_, _^_, _<_, _≤_}
+use mathlib.Core.Path.{_≡_, refl, sym, ap, ap₂, _∙_}
+use mathlib.Core.Bool.{Bool, true, false, _&&_}
+use mathlib.Core.List.{List}
+use Prim.Native.Nat.{ℕ, suc, _+_, _-_, _*_, _^_, _<_, _≤_}
 use native.Mathlib.Omega.{arith}
-use native.Mathlib.Nat.{mul-le-mul, le-of-lt}
 use native.Mathlib.Numerals.{add-one}
 use lib.ListN.{length, drop, drop-of-length-le}
 use lib.Seq.{drop-cons}
-use lib.Dec.{ltb, leb, eqb}
+use lib.Dec.{ltb, leb}
 use borrow.Author.Tests.{le-leb, lt-leb, lt-ltb, le-ltb, leb-true, leb-false}
 use Rattle.coding.specs.Lists.{pick}
 use Rattle.coding.specs.Bytes.{u48, largest}
@@ -17,9 +15,7 @@ use Rattle.coding.specs.Schema as Sc
 use Rattle.coding.specs.Schema.{Schema}
 use Rattle.coding.specs.Packed as P
 use Rattle.coding.specs.Layout as L
-use Rattle.coding.specs.Step as T
 use Rattle.coding.specs.Walk.{headerSize}
-use Rattle.coding.specs.declared.Kind.{Kind}
 use Rattle.coding.specs.declared.Member.{Member}
 use Rattle.coding.specs.declared.Cursor.{Cursor}
 use Rattle.coding.specs.declared.Slot.{Slot}
@@ -102,10 +98,10 @@ module _ (may : Bool) (n : ℕ) (fine : Bool) where
   fine-none e h = rw e (simp (le-ltb 0 n h))
 
 module _ (inplace may : Bool) (e : Extent) (small : Small e) where
-  pub referred-in : inplace ≡ true → (t : Bool) → t ≡ (pick may true (ltb 0 (e .length)) && e .writable) → (c : ℕ) → c ≡ capped (e .width + e .chain)
-      → c ≤ 16777216 → Fits (referred u48 inplace may e) (record { writable = t; length = 0; width = 0; chain = c; below = e .below })
+  pub referred-in : (o : ℕ) → inplace ≡ true → (t : Bool) → t ≡ (pick may true (ltb 0 (e .length)) && e .writable) → (c : ℕ) → c ≡ capped (e .width + e .chain)
+      → c ≤ 16777216 → Fits (referred o inplace may e) (record { writable = t; length = 0; width = 0; chain = c; below = e .below })
   unfolding referred
-  referred-in i t et c ec lc =
+  referred-in o i t et c ec lc =
       rw i (record {
         is = extent-same t (pick may true (ltb 0 (e .length)) && e .writable) 0 0 c (capped (e .width + e .chain)) (e .below) (e .below) et ec refl;
         small = record { length = omega arith; width = omega arith; chain = lc; below = small .below };
@@ -121,44 +117,35 @@ module _ (inplace may : Bool) (e : Extent) (small : Small e) where
         small = record { length = omega arith; width = omega arith; chain = omega arith; below = lb };
       })
 
--- ---- the size of a list's elements
-pub size-times : (w n : ℕ) → w ≤ 4096 → n < 2 ^ 32 → w * n ≤ 4096 * 2 ^ 32
-size-times w n h l = mul-le-mul h (le-of-lt l)
-
-module _ (S : Schema) (k : Kind) (n : ℕ) (t : Bool) (et : t ≡ L.isBool k) where
-  pub size-bool : t ≡ true → (n + 7) / 8 ≡ T.elementsSize u48 S k n
-  unfolding T.elementsSize
-  size-bool f = simp (← et, f)
-
-  pub size-other : t ≡ false → (w : ℕ) → w ≡ L.width u48 S k → (x : ℕ) → x ≡ w * n → x ≡ T.elementsSize u48 S k n
-  unfolding T.elementsSize
-  size-other f w ew x ex = simp (← et, f, ← ew) ex
+-- the elements of a list take few bytes
+pub size-short : (n r : ℕ) → r ≤ 4096 * n → n < 2 ^ 32 → r < 2 ^ 48
+size-short n r h l = omega arith
 
 -- ---- a table's full fixed part, from member j on
 pub member-sound-of : (b dir : List ℕ) → Accepted b dir → (t j : ℕ) (r : Member) → r ≡ Sc.memberOf (P.parse b) t j → (count : ℕ) → count ≡ length (Sc.tableOf (P.parse b) t .members)
     → j < count → MemberSound (P.parse b) r
 member-sound-of b dir a t j r e count ec h = rw e (member-sound-at (P.parse b) (accepted-sound b dir a) t j (omega arith))
 
-module _ (S : Schema) (t : ℕ) where
-  pub fixed-start : (c : Cursor) → c ≡ L.begin → L.afterMembers u48 S (Sc.tableOf S t .members) L.begin ≡ L.afterMembers u48 S (drop 0 (Sc.tableOf S t .members)) c
-  fixed-start c e = ap (L.afterMembers u48 S (Sc.tableOf S t .members)) (sym e)
+module _ (o : ℕ) (S : Schema) (t : ℕ) where
+  pub fixed-start : (c : Cursor) → c ≡ L.begin → L.afterMembers o S (Sc.tableOf S t .members) L.begin ≡ L.afterMembers o S (drop 0 (Sc.tableOf S t .members)) c
+  fixed-start c e = ap (L.afterMembers o S (Sc.tableOf S t .members)) (sym e)
 
   module _ (c : Cursor) (j count : ℕ) (ec : count ≡ length (Sc.tableOf S t .members))
-      (inv : L.afterMembers u48 S (Sc.tableOf S t .members) L.begin ≡ L.afterMembers u48 S (drop j (Sc.tableOf S t .members)) c) where
-    pub fixed-done : count ≤ j → c .end ≡ L.fixedSize u48 S (Sc.tableOf S t .members)
+      (inv : L.afterMembers o S (Sc.tableOf S t .members) L.begin ≡ L.afterMembers o S (drop j (Sc.tableOf S t .members)) c) where
+    pub fixed-done : count ≤ j → c .end ≡ L.fixedSize o S (Sc.tableOf S t .members)
     unfolding L.fixedSize L.afterMembers
     fixed-done h =
         let l : length (Sc.tableOf S t .members) ≤ j = omega arith in
-        sym (ap (λ (k : Cursor). k .end) (inv ∙ ap (λ (ms : List Member). L.afterMembers u48 S ms c) (drop-of-length-le (Sc.tableOf S t .members) l)))
+        sym (ap (λ (k : Cursor). k .end) (inv ∙ ap (λ (ms : List Member). L.afterMembers o S ms c) (drop-of-length-le (Sc.tableOf S t .members) l)))
 
-    pub fixed-turn : j < count → (next : Cursor) → next ≡ L.afterMember u48 S (Sc.memberOf S t j) c
-        → L.afterMembers u48 S (Sc.tableOf S t .members) L.begin ≡ L.afterMembers u48 S (drop (j + 1) (Sc.tableOf S t .members)) next
+    pub fixed-turn : j < count → (next : Cursor) → next ≡ L.afterMember o S (Sc.memberOf S t j) c
+        → L.afterMembers o S (Sc.tableOf S t .members) L.begin ≡ L.afterMembers o S (drop (j + 1) (Sc.tableOf S t .members)) next
     unfolding L.afterMembers Sc.memberOf
     fixed-turn h next en =
         let l : j < length (Sc.tableOf S t .members) = omega arith in
-        inv ∙ ap (λ (ms : List Member). L.afterMembers u48 S ms c) (drop-cons (Sc.tableOf S t .members) j Sc.plainBool l)
-        ∙ ap (L.afterMembers u48 S (drop (suc j) (Sc.tableOf S t .members))) (sym en)
-        ∙ ap (λ (k : ℕ). L.afterMembers u48 S (drop k (Sc.tableOf S t .members)) next) (sym (add-one j))
+        inv ∙ ap (λ (ms : List Member). L.afterMembers o S ms c) (drop-cons (Sc.tableOf S t .members) j Sc.plainBool l)
+        ∙ ap (L.afterMembers o S (drop (suc j) (Sc.tableOf S t .members))) (sym en)
+        ∙ ap (λ (k : ℕ). L.afterMembers o S (drop k (Sc.tableOf S t .members)) next) (sym (add-one j))
 
 pub laid-next : (c next : Cursor) (j : ℕ) (x : Slot) (y : Cursor) (slot : Slot) → Laid (4097 * j) c → Stands x y (c .end + 1) slot next → Laid (4097 * (j + 1)) next
 laid-next c next j x y slot l st =

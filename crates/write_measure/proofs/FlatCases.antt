@@ -1,8 +1,8 @@
 -- The ways out of the tests of what leads to no object, one lemma for each, in the words of the survey.
 use mathlib.Core.Path.{_≡_, refl, sym, ap, _∙_, subst}
 use mathlib.Core.Bool.{Bool, true, false, _&&_, not}
-use mathlib.Core.List.{List, [], _∷_}
-use Prim.Native.Nat.{ℕ, zero, suc, _+_, _-_, _*_, _%_, _^_, _<_, _≤_}
+use mathlib.Core.List.{List}
+use Prim.Native.Nat.{ℕ, suc, _+_, _-_, _*_, _<_, _≤_}
 use native.Mathlib.Omega.{arith}
 use native.Mathlib.Numerals.{add-one}
 use lib.ListN.{length, take, drop, length-drop, drop-of-length-le}
@@ -18,9 +18,8 @@ use Rattle.coding.specs.Packed as P
 use Rattle.coding.specs.Sheet.{Parsed, fail, got, bind, takeNumber, unknownEnum}
 use Rattle.coding.specs.declared.Flat.{Flat}
 use Rattle.coding.specs.declared.Flat.the-variants.{Boolean, Integer, Float, Enumerated, Struct}
-use Rattle.laws.specs.Sound.{All, FlatSound, Sound}
+use Rattle.laws.specs.Sound.{FlatSound}
 use Rattle.laws.specs.Lists.{all-at}
-use Rattle.laws.specs.Parsed.{structs-length}
 use Rattle.laws.specs.Bits.{bits-length}
 use Rattle.schema.specs.Directory.{Accepted, accepted-sound}
 use Rattle.bitio.specs.Taken.{TakenNumber}
@@ -28,15 +27,6 @@ use Rattle.write_measure.specs.Survey.{testNumber, testIf, surveyMark, a
 use Rattle.write_measure.specs.Surveyed.{TestedAt, struct-is}
 
 -- ---- tests of a number
-module _ (w x : ℕ) (r : Bool) where
-  pub nan-four : w ≡ 4 → r ≡ ltb 0x7F80_0000 (x % 0x8000_0000) → r ≡ isNaN w x
-  unfolding isNaN
-  nan-four h e = simp (eq-eqb _ _ h) e
-
-  pub nan-eight : (w ≡ 4 → ⊥) → r ≡ ltb 0x7FF0_0000_0000_0000 (x % 0x8000_0000_0000_0000) → r ≡ isNaN w x
-  unfolding isNaN
-  nan-eight h e = simp (ne-eqb _ _ h) e
-
 pub float-optional : (w x : ℕ) (optional : Bool) → optional ≡ true → (t r : Bool) → t ≡ isNaN w x → r ≡ not t → r ≡ floatFine optional w x
 unfolding floatFine
 float-optional w x optional e t r et er = rw (e, ← et) er
@@ -113,9 +103,9 @@ pub known-tested : (s : List ℕ) (pos : ℕ) (whole : Bool) (x next : ℕ) → 
 known-tested s pos whole x next taken n k ek t et w′ f′ n′ e1 e2 e3 =
     if-tested s pos 8 whole x next taken (belowCount n) true t (et ∙ ap (ltb x) ek) w′ f′ n′ e1 e2 e3
 
-pub lost-tested : (s : List ℕ) (pos : ℕ) (whole : Bool) (x next : ℕ) → TakenNumber s pos 8 whole x next → (n : ℕ) (t : Bool) → t ≡ unknownEnum n x
+pub unknown-tested : (s : List ℕ) (pos : ℕ) (whole : Bool) (x next : ℕ) → TakenNumber s pos 8 whole x next → (n : ℕ) (t : Bool) → t ≡ unknownEnum n x
     → (w′ f′ : Bool) (n′ : ℕ) → w′ ≡ (whole && t) → f′ ≡ false → n′ ≡ next → TestedAt s (testIf 8 (unknownEnum n) false (drop pos (bits s))) w′ f′ n′
-lost-tested s pos whole x next taken n t et w′ f′ n′ e1 e2 e3 =
+unknown-tested s pos whole x next taken n t et w′ f′ n′ e1 e2 e3 =
     if-tested s pos 8 whole x next taken (unknownEnum n) false t et w′ f′ n′ e1 e2 e3
 
 -- ---- an enum's mark
@@ -135,9 +125,9 @@ module _ (s : List ℕ) (pos n : ℕ) (whole : Bool) (x next : ℕ) (taken : Tak
       mark-known e t = record { is = rw (taken .number, not-false whole h) (simp (ne-eqb x 0 h0, eq-eqb x 1 e) (t .is)); inside = t .inside }
 
       module _ (h1 : x ≡ 1 → ⊥) where
-        pub mark-lost : x ≡ 2 → TestedAt s (testIf 8 (unknownEnum n) false (drop next (bits s))) w′ f′ n′ → TestedAt s (enumField n (drop pos (bits s))) w′ f′ n′
+        pub mark-unknown : x ≡ 2 → TestedAt s (testIf 8 (unknownEnum n) false (drop next (bits s))) w′ f′ n′ → TestedAt s (enumField n (drop pos (bits s))) w′ f′ n′
         unfolding enumField surveyMark bind
-        mark-lost e t = record { is = rw (taken .number, not-false whole h) (simp (ne-eqb x 0 h0, ne-eqb x 1 h1, eq-eqb x 2 e) (t .is)); inside = t .inside }
+        mark-unknown e t = record { is = rw (taken .number, not-false whole h) (simp (ne-eqb x 0 h0, ne-eqb x 1 h1, eq-eqb x 2 e) (t .is)); inside = t .inside }
 
         pub mark-bad : pos ≤ 8 * length s → (x ≡ 2 → ⊥) → w′ ≡ false → n′ ≡ pos → TestedAt s (enumField n (drop pos (bits s))) w′ f′ n′
         unfolding enumField surveyMark bind

@@ -1,8 +1,8 @@
 -- The ways out of the survey of members and elements, one lemma for each.
 use mathlib.Core.Path.{_≡_, refl, sym, ap, _∙_, subst}
 use mathlib.Core.Bool.{Bool, true, false, _&&_, not}
-use mathlib.Core.List.{List, [], _∷_}
-use Prim.Native.Nat.{ℕ, zero, suc, _+_, _-_, _*_, _^_, _<_, _≤_}
+use mathlib.Core.List.{List}
+use Prim.Native.Nat.{ℕ, zero, suc, _+_, _-_, _*_, _<_, _≤_}
 use native.Mathlib.Omega.{arith}
 use native.Mathlib.Nat.{mul-comm}
 use lib.ListN.{length, drop, length-drop}
@@ -10,12 +10,11 @@ use lib.Seq.{drop-drop}
 use lib.Dec.{ltb, leb, eqb}
 use borrow.Author.Tests.{eq-eqb, ne-eqb, le-leb, lt-leb, not-true, not-false}
 use Rattle.coding.specs.Lists.{pick}
-use Rattle.coding.specs.Bytes.{u48}
 use Rattle.coding.specs.Bits.{bits}
 use Rattle.coding.specs.Schema as Sc
 use Rattle.coding.specs.Schema.{Schema}
 use Rattle.coding.specs.Packed as P
-use Rattle.coding.specs.Sheet.{Parsed, fail, got, bind, takeNumber, takeBytes, unknownEnum, unmarked}
+use Rattle.coding.specs.Sheet.{Parsed, fail, got, bind, unknownEnum}
 use Rattle.coding.specs.declared.Flat.{Flat}
 use Rattle.coding.specs.declared.Flat.the-variants.{Boolean, Integer, Float, Enumerated, Struct}
 use Rattle.coding.specs.declared.Object.{Object}
@@ -26,7 +25,7 @@ use Rattle.laws.specs.Sound.{FlatSound, ObjectSound, KindSound}
 use Rattle.laws.specs.SoundAt.{case-sound-at, struct-index, union-index}
 use Rattle.schema.specs.Directory.{Accepted, accepted-sound}
 use Rattle.bitio.specs.Taken.{TakenNumber, TakenBytes}
-use Rattle.write_measure.specs.Survey.{testNumber, testIf, anyNumber, floatFine, belowCount, aboveCount, surveyMark, surveyFlat, surveyStruct, surveyLostFlat, plain, opened, referred, Surveyor, plainOf, surveyObject, surveyChoice, surveyBody, surveyLost, mayLack, surveyPart, surveyBlob, survey}
+use Rattle.write_measure.specs.Survey.{testNumber, testIf, anyNumber, floatFine, belowCount, aboveCount, surveyMark, surveyFlat, surveyStruct, surveyUnknownFlat, plain, opened, referred, Surveyor, plainOf, surveyObject, surveyChoice, surveyBody, surveyUnknown, mayLack, surveyPart, surveyBlob, survey}
 use Rattle.laws.specs.Bits.{bits-length}
 use Rattle.write_measure.specs.UnmarkedElements.{unmarkedBits, flatUnmarkedBits, passed}
 use Rattle.write_measure.specs.BlobReferred.{BlobEnd, blobReferred, blob-is}
@@ -65,32 +64,32 @@ struct-counted b k i j e ej h = rw ej (struct-index b i (subst (FlatSound (lengt
 
 module _ (s : List ℕ) (k : Flat) (pos : ℕ) (w′ f′ : Bool) (n′ : ℕ) where
   module _ (l : pos ≤ 8 * length s) (e1 : w′ ≡ false) (e2 : n′ ≡ pos) where
-    pub lost-boolean : k ≡ Boolean → TestedAt s (surveyLostFlat k (drop pos (bits s))) w′ f′ n′
-    unfolding surveyLostFlat
-    lost-boolean e = rw (e, e1) (record { is = refl; inside = rw e2 l })
+    pub unknown-boolean : k ≡ Boolean → TestedAt s (surveyUnknownFlat k (drop pos (bits s))) w′ f′ n′
+    unfolding surveyUnknownFlat
+    unknown-boolean e = rw (e, e1) (record { is = refl; inside = rw e2 l })
 
-    pub lost-integer : (g : Bool) (w : ℕ) → k ≡ Integer g w → TestedAt s (surveyLostFlat k (drop pos (bits s))) w′ f′ n′
-    unfolding surveyLostFlat
-    lost-integer g w e = rw (e, e1) (record { is = refl; inside = rw e2 l })
+    pub unknown-integer : (g : Bool) (w : ℕ) → k ≡ Integer g w → TestedAt s (surveyUnknownFlat k (drop pos (bits s))) w′ f′ n′
+    unfolding surveyUnknownFlat
+    unknown-integer g w e = rw (e, e1) (record { is = refl; inside = rw e2 l })
 
-    pub lost-float : (w : ℕ) → k ≡ Float w → TestedAt s (surveyLostFlat k (drop pos (bits s))) w′ f′ n′
-    unfolding surveyLostFlat
-    lost-float w e = rw (e, e1) (record { is = refl; inside = rw e2 l })
+    pub unknown-float : (w : ℕ) → k ≡ Float w → TestedAt s (surveyUnknownFlat k (drop pos (bits s))) w′ f′ n′
+    unfolding surveyUnknownFlat
+    unknown-float w e = rw (e, e1) (record { is = refl; inside = rw e2 l })
 
-    pub lost-struct : (i : ℕ) → k ≡ Struct i → TestedAt s (surveyLostFlat k (drop pos (bits s))) w′ f′ n′
-    unfolding surveyLostFlat
-    lost-struct i e = rw (e, e1) (record { is = refl; inside = rw e2 l })
+    pub unknown-struct : (i : ℕ) → k ≡ Struct i → TestedAt s (surveyUnknownFlat k (drop pos (bits s))) w′ f′ n′
+    unfolding surveyUnknownFlat
+    unknown-struct i e = rw (e, e1) (record { is = refl; inside = rw e2 l })
 
-  pub lost-enum : (n : ℕ) → k ≡ Enumerated n → TestedAt s (testIf 8 (unknownEnum n) false (drop pos (bits s))) w′ f′ n′
-      → TestedAt s (surveyLostFlat k (drop pos (bits s))) w′ f′ n′
-  unfolding surveyLostFlat
-  lost-enum n e t = rw e t
+  pub unknown-enum : (n : ℕ) → k ≡ Enumerated n → TestedAt s (testIf 8 (unknownEnum n) false (drop pos (bits s))) w′ f′ n′
+      → TestedAt s (surveyUnknownFlat k (drop pos (bits s))) w′ f′ n′
+  unfolding surveyUnknownFlat
+  unknown-enum n e t = rw e t
 
-pub choice-lost-tested : (S : Schema) (s : List ℕ) (pos u : ℕ) (whole : Bool) (x next : ℕ) → TakenNumber s pos 16 whole x next → (n : ℕ) → n ≡ length (Sc.casesOf S u)
+pub choice-unknown-tested : (S : Schema) (s : List ℕ) (pos u : ℕ) (whole : Bool) (x next : ℕ) → TakenNumber s pos 16 whole x next → (n : ℕ) → n ≡ length (Sc.casesOf S u)
     → (t : Bool) → t ≡ ltb n x → (w′ f′ : Bool) (n′ : ℕ) → w′ ≡ (whole && t) → f′ ≡ false → n′ ≡ next
     → TestedAt s (testIf 16 (aboveCount (length (Sc.casesOf S u))) false (drop pos (bits s))) w′ f′ n′
 unfolding testIf bind
-choice-lost-tested S s pos u whole x next taken n en t et w′ f′ n′ e1 e2 e3 =
+choice-unknown-tested S s pos u whole x next taken n en t et w′ f′ n′ e1 e2 e3 =
     record {
       is = ap (λ p. bind p (λ y ys. pick (ltb (length (Sc.casesOf S u)) y) (got false ys) fail)) (taken .number) ∙ by whole
           ∙ sym (rw (e1, e2, e3));
@@ -124,20 +123,20 @@ failed s p pos h l w e n ew en sm = record { is = h ∙ sym (rw ew); inside = rw
 
 module _ (S : Schema) (s : List ℕ) (k : Kind) (pos : ℕ) (w : Bool) (e : Extent) (n : ℕ) where
   module _ (tw tf : Bool) (tn : ℕ) (ew : w ≡ tw) (en : n ≡ tn) (fit : Fits (plain tf) e) where
-    pub lost-flat : (f : Flat) → k ≡ OfFlat f → TestedAt s (surveyLostFlat f (drop pos (bits s))) tw tf tn → SurveyedAt s (surveyLost S k (drop pos (bits s))) w e n
-    unfolding surveyLost
-    lost-flat f q t = rw q (plain-surveyed s (surveyLostFlat f (drop pos (bits s))) tw tf tn t w e n ew en fit)
+    pub unknown-flat : (f : Flat) → k ≡ OfFlat f → TestedAt s (surveyUnknownFlat f (drop pos (bits s))) tw tf tn → SurveyedAt s (surveyUnknown S k (drop pos (bits s))) w e n
+    unfolding surveyUnknown
+    unknown-flat f q t = rw q (plain-surveyed s (surveyUnknownFlat f (drop pos (bits s))) tw tf tn t w e n ew en fit)
 
-    pub lost-union : (u j : ℕ) → k ≡ OfUnion u → j ≡ u → TestedAt s (testIf 16 (aboveCount (length (Sc.casesOf S j))) false (drop pos (bits s))) tw tf tn
-        → SurveyedAt s (surveyLost S k (drop pos (bits s))) w e n
-    unfolding surveyLost
-    lost-union u j q ej t =
+    pub unknown-union : (u j : ℕ) → k ≡ OfUnion u → j ≡ u → TestedAt s (testIf 16 (aboveCount (length (Sc.casesOf S j))) false (drop pos (bits s))) tw tf tn
+        → SurveyedAt s (surveyUnknown S k (drop pos (bits s))) w e n
+    unfolding surveyUnknown
+    unknown-union u j q ej t =
         rw q (plain-surveyed s (testIf 16 (aboveCount (length (Sc.casesOf S u))) false (drop pos (bits s))) tw tf tn
         (subst (λ (a : ℕ). TestedAt s (testIf 16 (aboveCount (length (Sc.casesOf S a))) false (drop pos (bits s))) tw tf tn) ej t) w e n ew en fit)
 
-  pub lost-object : (ob : Object) → k ≡ OfObject ob → pos ≤ 8 * length s → w ≡ false → n ≡ pos → Small e → SurveyedAt s (surveyLost S k (drop pos (bits s))) w e n
-  unfolding surveyLost
-  lost-object ob q l ew en sm = rw q (failed s fail pos refl l w e n ew en sm)
+  pub unknown-object : (ob : Object) → k ≡ OfObject ob → pos ≤ 8 * length s → w ≡ false → n ≡ pos → Small e → SurveyedAt s (surveyUnknown S k (drop pos (bits s))) w e n
+  unfolding surveyUnknown
+  unknown-object ob q l ew en sm = rw q (failed s fail pos refl l w e n ew en sm)
 
 pub union-counted : (b : List ℕ) (k : Kind) (u j : ℕ) → k ≡ OfUnion u → j ≡ u → KindSound (P.parse b) k → j < P.unionCount b
 union-counted b k u j e ej h = rw ej (union-index b u (subst (KindSound (P.parse b)) e h))
@@ -167,15 +166,15 @@ module _ (s : List ℕ) (pos more : ℕ) (whole : Bool) (x next : ℕ) (taken : 
       by false = refl
 
 -- ---- an object, and a union
-pub refer-surveyed : (child : Surveyor) (s : List ℕ) (inplace may : Bool) (ob : Object) (pos : ℕ) (whole : Bool) (x : Extent) (next : ℕ)
-    → SurveyedAt s (child ob (drop pos (bits s))) whole x next → (e : Extent) → Fits (referred u48 inplace may x) e
-    → SurveyedAt s (surveyObject child u48 inplace may ob (drop pos (bits s))) whole e next
+pub refer-surveyed : (o : ℕ) (child : Surveyor) (s : List ℕ) (inplace may : Bool) (ob : Object) (pos : ℕ) (whole : Bool) (x : Extent) (next : ℕ)
+    → SurveyedAt s (child ob (drop pos (bits s))) whole x next → (e : Extent) → Fits (referred o inplace may x) e
+    → SurveyedAt s (surveyObject child o inplace may ob (drop pos (bits s))) whole e next
 unfolding surveyObject bind
-refer-surveyed child s inplace may ob pos whole x next t e f =
-    record { is = ap (λ p. bind p (λ a ys. got (referred u48 inplace may a) ys)) (t .is) ∙ by whole ∙ sym (rw (f .is)); inside = t .inside; small = f .small }
+refer-surveyed o child s inplace may ob pos whole x next t e f =
+    record { is = ap (λ p. bind p (λ a ys. got (referred o inplace may a) ys)) (t .is) ∙ by whole ∙ sym (rw (f .is)); inside = t .inside; small = f .small }
   where
-    by : (u : Bool) → bind (pick u (got x (drop next (bits s))) fail) (λ a ys. got (referred u48 inplace may a) ys)
-        ≡ pick u (got (referred u48 inplace may x) (drop next (bits s))) fail
+    by : (u : Bool) → bind (pick u (got x (drop next (bits s))) fail) (λ a ys. got (referred o inplace may a) ys)
+        ≡ pick u (got (referred o inplace may x) (drop next (bits s))) fail
     by true = refl
     by false = refl
 
@@ -189,37 +188,37 @@ end-bytes ob e = record { bytes = λ h. e; text = λ h. absurd (let z : ⊥ = om
 pub end-other : (ob : Object) → BlobEnd ob 2
 end-other ob = record { bytes = λ h. absurd (let z : ⊥ = omega arith in z); text = λ h. absurd (let z : ⊥ = omega arith in z) }
 
-module _ (s : List ℕ) (d more : ℕ) (inplace may : Bool) (pos : ℕ) where
+module _ (o : ℕ) (s : List ℕ) (d more : ℕ) (inplace may : Bool) (pos : ℕ) where
   pub blob-deep : d ≡ 0 → pos ≤ 8 * length s → (w : Bool) (e : Extent) (n : ℕ) → w ≡ false → n ≡ pos → Small e
-      → SurveyedAt s (blobReferred d u48 inplace may more (drop pos (bits s))) w e n
+      → SurveyedAt s (blobReferred d o inplace may more (drop pos (bits s))) w e n
   unfolding blobReferred
   blob-deep z l w e n ew en sm = rw z (failed s fail pos refl l w e n ew en sm)
 
   pub blob-referred : (d ≡ 0 → ⊥) → (whole : Bool) (x : Extent) (next : ℕ) → SurveyedAt s (surveyBlob more (drop pos (bits s))) whole x next → (e : Extent)
-      → Fits (referred u48 inplace may x) e → SurveyedAt s (blobReferred d u48 inplace may more (drop pos (bits s))) whole e next
+      → Fits (referred o inplace may x) e → SurveyedAt s (blobReferred d o inplace may more (drop pos (bits s))) whole e next
   unfolding blobReferred surveyObject
   blob-referred h whole x next t e f = by d h
     where
-      by : (k : ℕ) → (k ≡ 0 → ⊥) → SurveyedAt s (blobReferred k u48 inplace may more (drop pos (bits s))) whole e next
+      by : (k : ℕ) → (k ≡ 0 → ⊥) → SurveyedAt s (blobReferred k o inplace may more (drop pos (bits s))) whole e next
       by zero g = absurd (g refl)
-      by (suc k) g = refer-surveyed (λ ob xs. surveyBlob more xs) s inplace may O.Text pos whole x next t e f
+      by (suc k) g = refer-surveyed o (λ ob xs. surveyBlob more xs) s inplace may O.Text pos whole x next t e f
 
-pub refer-blob : (d : ℕ) (S : Schema) (s : List ℕ) (inplace may : Bool) (ob : Object) (pos more : ℕ) → BlobEnd ob more → more < 2 → (w : Bool) (e : Extent) (n : ℕ)
-    → SurveyedAt s (blobReferred d u48 inplace may more (drop pos (bits s))) w e n
-    → SurveyedAt s (surveyObject (survey d u48 S) u48 inplace may ob (drop pos (bits s))) w e n
-refer-blob d S s inplace may ob pos more b h w e n q =
-    record { is = blob-is u48 S inplace may (drop pos (bits s)) d ob more b h ∙ q .is; inside = q .inside; small = q .small }
+pub refer-blob : (o : ℕ) (d : ℕ) (S : Schema) (s : List ℕ) (inplace may : Bool) (ob : Object) (pos more : ℕ) → BlobEnd ob more → more < 2 → (w : Bool) (e : Extent) (n : ℕ)
+    → SurveyedAt s (blobReferred d o inplace may more (drop pos (bits s))) w e n
+    → SurveyedAt s (surveyObject (survey d o S) o inplace may ob (drop pos (bits s))) w e n
+refer-blob o d S s inplace may ob pos more b h w e n q =
+    record { is = blob-is o S inplace may (drop pos (bits s)) d ob more b h ∙ q .is; inside = q .inside; small = q .small }
 
-module _ (child : Surveyor) (S : Schema) (s : List ℕ) (inplace : Bool) (u pos : ℕ) (whole : Bool) (x next : ℕ) (taken : TakenNumber s pos 16 whole x next)
+module _ (o : ℕ) (child : Surveyor) (S : Schema) (s : List ℕ) (inplace : Bool) (u pos : ℕ) (whole : Bool) (x next : ℕ) (taken : TakenNumber s pos 16 whole x next)
     (w : Bool) (e : Extent) (n : ℕ) where
   pub choice-cut : pos ≤ 8 * length s → not whole ≡ true → w ≡ false → n ≡ pos → Small e
-      → SurveyedAt s (surveyChoice child u48 inplace (Sc.casesOf S u) (drop pos (bits s))) w e n
+      → SurveyedAt s (surveyChoice child o inplace (Sc.casesOf S u) (drop pos (bits s))) w e n
   unfolding surveyChoice bind
   choice-cut l h ew en sm = failed s _ pos (rw (taken .number, not-true whole h)) l w e n ew en sm
 
   module _ (h : not whole ≡ false) where
     pub choice-zero : pos ≤ 8 * length s → x ≡ 0 → w ≡ false → n ≡ pos → Small e
-        → SurveyedAt s (surveyChoice child u48 inplace (Sc.casesOf S u) (drop pos (bits s))) w e n
+        → SurveyedAt s (surveyChoice child o inplace (Sc.casesOf S u) (drop pos (bits s))) w e n
     unfolding surveyChoice bind
     choice-zero l z ew en sm =
         let lt : x < 1 = omega arith in
@@ -227,7 +226,7 @@ module _ (child : Surveyor) (S : Schema) (s : List ℕ) (inplace : Bool) (u pos 
 
     module _ (h0 : x ≡ 0 → ⊥) (c : ℕ) (ec : c ≡ length (Sc.casesOf S u)) where
       pub choice-above : pos ≤ 8 * length s → c < x → w ≡ false → n ≡ pos → Small e
-          → SurveyedAt s (surveyChoice child u48 inplace (Sc.casesOf S u) (drop pos (bits s))) w e n
+          → SurveyedAt s (surveyChoice child o inplace (Sc.casesOf S u) (drop pos (bits s))) w e n
       unfolding surveyChoice bind
       choice-above l g ew en sm =
           let one : 1 ≤ x = by x h0 in
@@ -238,15 +237,15 @@ module _ (child : Surveyor) (S : Schema) (s : List ℕ) (inplace : Bool) (u pos 
           by zero f = absurd (f refl)
           by (suc y) f = omega arith
 
-      pub choice-known : x ≤ c → (ob : Object) → ob ≡ Sc.caseOf (Sc.casesOf S u) x → SurveyedAt s (surveyObject child u48 inplace true ob (drop next (bits s))) w e n
-          → SurveyedAt s (surveyChoice child u48 inplace (Sc.casesOf S u) (drop pos (bits s))) w e n
+      pub choice-known : x ≤ c → (ob : Object) → ob ≡ Sc.caseOf (Sc.casesOf S u) x → SurveyedAt s (surveyObject child o inplace true ob (drop next (bits s))) w e n
+          → SurveyedAt s (surveyChoice child o inplace (Sc.casesOf S u) (drop pos (bits s))) w e n
       unfolding surveyChoice bind
       choice-known g ob eo t =
           let one : 1 ≤ x = by x h0 in
           let le : x ≤ length (Sc.casesOf S u) = omega arith in
           record {
             is = rw (taken .number, not-false whole h) (simp (le-leb 1 x one, le-leb x (length (Sc.casesOf S u)) le)
-                (ap (λ (q : Object). surveyObject child u48 inplace true q (drop next (bits s))) (sym eo) ∙ t .is));
+                (ap (λ (q : Object). surveyObject child o inplace true q (drop next (bits s))) (sym eo) ∙ t .is));
             inside = t .inside;
             small = t .small;
           }
@@ -264,33 +263,33 @@ pub case-counted : (S : Schema) (u x c : ℕ) → c ≡ length (Sc.casesOf S u) 
 case-counted S u x c e l = omega arith
 
 -- ---- what is there
-module _ (child : Surveyor) (S : Schema) (s : List ℕ) (k : Kind) (optional inplace : Bool) (pos : ℕ) (w : Bool) (e : Extent) (n : ℕ) where
+module _ (o : ℕ) (child : Surveyor) (S : Schema) (s : List ℕ) (k : Kind) (optional inplace : Bool) (pos : ℕ) (w : Bool) (e : Extent) (n : ℕ) where
   pub body-flat : (f : Flat) → k ≡ OfFlat f → (tw tf : Bool) (tn : ℕ) → TestedAt s (surveyFlat (surveyStruct S) optional f (drop pos (bits s))) tw tf tn
-      → w ≡ tw → n ≡ tn → Fits (plain tf) e → SurveyedAt s (surveyBody child u48 S k optional inplace (drop pos (bits s))) w e n
+      → w ≡ tw → n ≡ tn → Fits (plain tf) e → SurveyedAt s (surveyBody child o S k optional inplace (drop pos (bits s))) w e n
   unfolding surveyBody
   body-flat f q tw tf tn t ew en fit = rw q (plain-surveyed s (surveyFlat (surveyStruct S) optional f (drop pos (bits s))) tw tf tn t w e n ew en fit)
 
-  pub body-object : (ob : Object) → k ≡ OfObject ob → SurveyedAt s (surveyObject child u48 inplace false ob (drop pos (bits s))) w e n
-      → SurveyedAt s (surveyBody child u48 S k optional inplace (drop pos (bits s))) w e n
+  pub body-object : (ob : Object) → k ≡ OfObject ob → SurveyedAt s (surveyObject child o inplace false ob (drop pos (bits s))) w e n
+      → SurveyedAt s (surveyBody child o S k optional inplace (drop pos (bits s))) w e n
   unfolding surveyBody
   body-object ob q t = rw q t
 
-  pub body-union : (u j : ℕ) → k ≡ OfUnion u → j ≡ u → SurveyedAt s (surveyChoice child u48 inplace (Sc.casesOf S j) (drop pos (bits s))) w e n
-      → SurveyedAt s (surveyBody child u48 S k optional inplace (drop pos (bits s))) w e n
+  pub body-union : (u j : ℕ) → k ≡ OfUnion u → j ≡ u → SurveyedAt s (surveyChoice child o inplace (Sc.casesOf S j) (drop pos (bits s))) w e n
+      → SurveyedAt s (surveyBody child o S k optional inplace (drop pos (bits s))) w e n
   unfolding surveyBody
-  body-union u j q ej t = rw q (subst (λ (a : ℕ). SurveyedAt s (surveyChoice child u48 inplace (Sc.casesOf S a) (drop pos (bits s))) w e n) ej t)
+  body-union u j q ej t = rw q (subst (λ (a : ℕ). SurveyedAt s (surveyChoice child o inplace (Sc.casesOf S a) (drop pos (bits s))) w e n) ej t)
 
 -- ---- with its mark
-module _ (child : Surveyor) (S : Schema) (s : List ℕ) (k : Kind) (optional inplace : Bool) (pos : ℕ) (whole : Bool) (x next : ℕ)
+module _ (o : ℕ) (child : Surveyor) (S : Schema) (s : List ℕ) (k : Kind) (optional inplace : Bool) (pos : ℕ) (whole : Bool) (x next : ℕ)
     (taken : TakenNumber s pos 2 whole x next) where
   pub part-cut : pos ≤ 8 * length s → not whole ≡ true → (w : Bool) (e : Extent) (n : ℕ) → w ≡ false → n ≡ pos → Small e
-      → SurveyedAt s (surveyPart child u48 S k optional inplace (drop pos (bits s))) w e n
+      → SurveyedAt s (surveyPart child o S k optional inplace (drop pos (bits s))) w e n
   unfolding surveyPart surveyMark bind
   part-cut l h w e n ew en sm = failed s _ pos (rw (taken .number, not-true whole h)) l w e n ew en sm
 
   module _ (h : not whole ≡ false) where
     pub part-none : x ≡ 0 → (t : Bool) → t ≡ mayLack optional k → (e : Extent) → Fits (plain t) e
-        → SurveyedAt s (surveyPart child u48 S k optional inplace (drop pos (bits s))) true e next
+        → SurveyedAt s (surveyPart child o S k optional inplace (drop pos (bits s))) true e next
     unfolding surveyPart surveyMark bind
     part-none z t et e f =
         record {
@@ -300,40 +299,40 @@ module _ (child : Surveyor) (S : Schema) (s : List ℕ) (k : Kind) (optional inp
         }
 
     module _ (h0 : x ≡ 0 → ⊥) (w : Bool) (e : Extent) (n : ℕ) where
-      pub part-there : x ≡ 1 → SurveyedAt s (surveyBody child u48 S k optional inplace (drop next (bits s))) w e n
-          → SurveyedAt s (surveyPart child u48 S k optional inplace (drop pos (bits s))) w e n
+      pub part-there : x ≡ 1 → SurveyedAt s (surveyBody child o S k optional inplace (drop next (bits s))) w e n
+          → SurveyedAt s (surveyPart child o S k optional inplace (drop pos (bits s))) w e n
       unfolding surveyPart surveyMark bind
       part-there z t = record { is = rw (taken .number, not-false whole h) (simp (ne-eqb x 0 h0, eq-eqb x 1 z) (t .is)); inside = t .inside; small = t .small }
 
       module _ (h1 : x ≡ 1 → ⊥) where
-        pub part-lost : x ≡ 2 → SurveyedAt s (surveyLost S k (drop next (bits s))) w e n
-            → SurveyedAt s (surveyPart child u48 S k optional inplace (drop pos (bits s))) w e n
+        pub part-unknown : x ≡ 2 → SurveyedAt s (surveyUnknown S k (drop next (bits s))) w e n
+            → SurveyedAt s (surveyPart child o S k optional inplace (drop pos (bits s))) w e n
         unfolding surveyPart surveyMark bind
-        part-lost z t =
+        part-unknown z t =
             record { is = rw (taken .number, not-false whole h) (simp (ne-eqb x 0 h0, ne-eqb x 1 h1, eq-eqb x 2 z) (t .is)); inside = t .inside; small = t .small }
 
         pub part-bad : pos ≤ 8 * length s → (x ≡ 2 → ⊥) → w ≡ false → n ≡ pos → Small e
-            → SurveyedAt s (surveyPart child u48 S k optional inplace (drop pos (bits s))) w e n
+            → SurveyedAt s (surveyPart child o S k optional inplace (drop pos (bits s))) w e n
         unfolding surveyPart surveyMark bind
         part-bad l h2 ew en sm =
             failed s _ pos (rw (taken .number, not-false whole h) (simp (ne-eqb x 0 h0, ne-eqb x 1 h1, ne-eqb x 2 h2))) l w e n ew en sm
 
 -- ---- an object with its mark
-module _ (child : Surveyor) (S : Schema) (s : List ℕ) (ob : Object) (optional inplace : Bool) (pos : ℕ) (whole : Bool) (x next : ℕ)
+module _ (o : ℕ) (child : Surveyor) (S : Schema) (s : List ℕ) (ob : Object) (optional inplace : Bool) (pos : ℕ) (whole : Bool) (x next : ℕ)
     (taken : TakenNumber s pos 2 whole x next) (h : not whole ≡ false) where
-  pub object-none : x ≡ 0 → (e : Extent) → Fits (plain true) e → SurveyedAt s (surveyPart child u48 S (OfObject ob) optional inplace (drop pos (bits s))) true e next
-  object-none z e f = part-none child S s (OfObject ob) optional inplace pos whole x next taken h z true (unfold mayLack in refl) e f
+  pub object-none : x ≡ 0 → (e : Extent) → Fits (plain true) e → SurveyedAt s (surveyPart child o S (OfObject ob) optional inplace (drop pos (bits s))) true e next
+  object-none z e f = part-none o child S s (OfObject ob) optional inplace pos whole x next taken h z true (unfold mayLack in refl) e f
 
   module _ (h0 : x ≡ 0 → ⊥) (w : Bool) (e : Extent) (n : ℕ) where
-    pub object-there : x ≡ 1 → SurveyedAt s (surveyObject child u48 inplace false ob (drop next (bits s))) w e n
-        → SurveyedAt s (surveyPart child u48 S (OfObject ob) optional inplace (drop pos (bits s))) w e n
+    pub object-there : x ≡ 1 → SurveyedAt s (surveyObject child o inplace false ob (drop next (bits s))) w e n
+        → SurveyedAt s (surveyPart child o S (OfObject ob) optional inplace (drop pos (bits s))) w e n
     object-there z t =
-        part-there child S s (OfObject ob) optional inplace pos whole x next taken h h0 w e n z
-        (body-object child S s (OfObject ob) optional inplace next w e n ob refl t)
+        part-there o child S s (OfObject ob) optional inplace pos whole x next taken h h0 w e n z
+        (body-object o child S s (OfObject ob) optional inplace next w e n ob refl t)
 
     pub object-bad : (x ≡ 1 → ⊥) → pos ≤ 8 * length s → w ≡ false → n ≡ pos → Small e
-        → SurveyedAt s (surveyPart child u48 S (OfObject ob) optional inplace (drop pos (bits s))) w e n
-    unfolding surveyPart surveyMark bind surveyLost
+        → SurveyedAt s (surveyPart child o S (OfObject ob) optional inplace (drop pos (bits s))) w e n
+    unfolding surveyPart surveyMark bind surveyUnknown
     object-bad h1 l ew en sm =
         failed s _ pos (rw (taken .number, not-false whole h) (simp (ne-eqb x 0 h0, ne-eqb x 1 h1) (by (eqb x 2)))) l w e n ew en sm
       where

@@ -28,11 +28,9 @@ use Rattle.coding.specs.declared.Kind.{Kind}
 use Rattle.coding.specs.declared.Kind.the-variants.{OfFlat, OfObject, OfUnion}
 use Rattle.coding.specs.declared.Member.{Member}
 use Rattle.laws.specs.Sound.{FlatSound, MemberSound}
-use Rattle.laws.specs.SoundAt.{member-sound-at}
-use Rattle.schema.specs.Directory.{Accepted, Block, accepted-sound}
-use Rattle.schema.proofs.Access.{member-is}
+use Rattle.laws.specs.RecordSound.{width-range}
 use Rattle.bitio.specs.Taken.{TakenNumber, TakenBytes}
-use Rattle.write_measure.specs.Survey.{testNumber, testIf, anyNumber, floatFine, belowCount, surveyMark, surveyFlat, surveyStruct, surveyLostFlat, flatMayLack, mayLack, plain, opened, joined, referred, Surveyor, plainOf, surveyBlob, surveyBody, surveyPart, surveyMembers, surveyContent, survey}
+use Rattle.write_measure.specs.Survey.{testNumber, testIf, anyNumber, floatFine, belowCount, surveyMark, surveyFlat, surveyStruct, surveyUnknownFlat, flatMayLack, mayLack, plain, opened, joined, referred, Surveyor, plainOf, surveyBlob, surveyBody, surveyPart, surveyMembers, surveyContent, survey}
 use Rattle.write_measure.specs.Surveyed.{TestedAt, Small, Fits, SurveyedAt}
 use Rattle.write_measure.specs.BlobReferred.{BlobEnd, blobReferred}
 use Rattle.write_measure.specs.SimpleMembers.{flatPart, joinedPart, LeftAt, WholeBytes, flat-part-is, members-joined}
@@ -40,6 +38,10 @@ use Rattle.write_measure.specs.declared.Extent.{Extent}
 use Rattle.write_measure.proofs.FlatCases.{integer-short, float-short}
 use Rattle.write_measure.proofs.PartCases.{flat-boolean, flat-integer, flat-float, flat-enum, flat-struct, struct-counted, kind-flat, refer-blob, object-there, blob-there, blob-referred}
 use Rattle.write_measure.proofs.ObjectCases.{members-done, members-stopped, members-turn}
+
+no-flag : (t : Bool) → (t && false) ≡ false
+no-flag true = refl
+no-flag false = refl
 
 -- ---- what stands at a record, by its kind
 module _ (b : List ℕ) (at k : ℕ) (ek : k ≡ P.kindAt b at) where
@@ -74,9 +76,9 @@ module _ (b : List ℕ) (at k : ℕ) (ek : k ≡ P.kindAt b at) where
   unfolding flatMayLack
   lack-enum e = sym (ap (flatMayLack (P.optionalAt b at)) (enum-at e))
 
-  pub lack-other : (k ≡ 11 → ⊥) → (o : Bool) → o ≡ P.optionalAt b at → o ≡ flatMayLack (P.optionalAt b at) (P.flatAt b at)
+  pub lack-other : (k ≡ 11 → ⊥) → (may : Bool) → may ≡ P.optionalAt b at → may ≡ flatMayLack (P.optionalAt b at) (P.flatAt b at)
   unfolding P.flatAt P.flatOf flatMayLack
-  lack-other h o eo = eo ∙ simp (← ek, ne-eqb _ _ h) (by (eqb k 0) (ltb k 5) (ltb k 9) (ltb k 11))
+  lack-other h may e = e ∙ simp (← ek, ne-eqb _ _ h) (by (eqb k 0) (ltb k 5) (ltb k 9) (ltb k 11))
     where
       by : (t u v w : Bool)
           → P.optionalAt b at
@@ -99,12 +101,12 @@ module _ (b : List ℕ) (at k : ℕ) (ek : k ≡ P.kindAt b at) where
       body-integer l j ej t =
           flat-integer (P.parse b) s (P.optionalAt b at) (P.flatAt b at) pos w′ f′ n′ (not (ltb k 5)) (P.widthOf k) j (integer-at h l) ej t
 
-      pub body-float : 9 ≤ k → k < 11 → (v : ℕ) → v ≡ P.widthOf k → (o : Bool) → o ≡ P.optionalAt b at
-          → TestedAt s (testNumber (8 * v) (floatFine o v) (drop pos (bits s))) w′ f′ n′
+      pub body-float : 9 ≤ k → k < 11 → (v : ℕ) → v ≡ P.widthOf k → (may : Bool) → may ≡ P.optionalAt b at
+          → TestedAt s (testNumber (8 * v) (floatFine may v) (drop pos (bits s))) w′ f′ n′
           → TestedAt s (surveyFlat (surveyStruct (P.parse b)) (P.optionalAt b at) (P.flatAt b at) (drop pos (bits s))) w′ f′ n′
-      body-float g l v ev o eo t =
+      body-float g l v ev may em t =
           flat-float (P.parse b) s (P.optionalAt b at) (P.flatAt b at) pos w′ f′ n′ v (float-at h g l ∙ ap Float (sym ev))
-          (subst (λ (q : Bool). TestedAt s (testNumber (8 * v) (floatFine q v) (drop pos (bits s))) w′ f′ n′) eo t)
+          (subst (λ (q : Bool). TestedAt s (testNumber (8 * v) (floatFine q v) (drop pos (bits s))) w′ f′ n′) em t)
 
       module _ (n : ℕ) (en : n ≡ P.argumentAt b at) where
         pub body-struct : 11 ≤ k → (k ≡ 11 → ⊥) → TestedAt s (surveyStruct (P.parse b) n (drop pos (bits s))) w′ f′ n′
@@ -141,49 +143,46 @@ module _ (b : List ℕ) (at k : ℕ) (ek : k ≡ P.kindAt b at) where
   union-kind g = let m : 13 ≤ k = omega arith in simp (← ek, le-ltb _ _ m, le-ltb _ _ g)
 
   -- the bytes that a member takes
-  module _ (S : Schema) where
-    member-bytes : (q : Kind) → P.elementAt b at ≡ q → (P.optionalAt b at && L.takesFlag q) ≡ false → L.isBool q ≡ false → (w : ℕ) → L.width u48 S q ≡ w
-        → WholeBytes S (P.memberAt b at) w
+  module _ (o : ℕ) (S : Schema) where
+    member-bytes : (q : Kind) → P.elementAt b at ≡ q → (P.optionalAt b at && L.takesFlag q) ≡ false → L.isBool q ≡ false → (w : ℕ) → L.width o S q ≡ w
+        → WholeBytes o S (P.memberAt b at) w
     unfolding P.memberAt L.afterMember L.afterValue L.afterFlag L.hasFlag
     member-bytes q e f g w h =
         record {
           next = λ c.
-              ap (λ (y : Kind). pick (L.isBool y) (L.afterBit (pick (P.optionalAt b at && L.takesFlag y) (L.afterBit c) c)) (L.afterBytes (L.width u48 S y) (pick (P.optionalAt b at && L.takesFlag y) (L.afterBit c) c))) e
-              ∙ ap (λ (u : Bool). pick (L.isBool q) (L.afterBit (pick u (L.afterBit c) c)) (L.afterBytes (L.width u48 S q) (pick u (L.afterBit c) c))) f
-              ∙ ap (λ (u : Bool). pick u (L.afterBit c) (L.afterBytes (L.width u48 S q) c)) g
+              ap (λ (y : Kind). pick (L.isBool y) (L.afterBit (pick (P.optionalAt b at && L.takesFlag y) (L.afterBit c) c)) (L.afterBytes (L.width o S y) (pick (P.optionalAt b at && L.takesFlag y) (L.afterBit c) c))) e
+              ∙ ap (λ (u : Bool). pick (L.isBool q) (L.afterBit (pick u (L.afterBit c) c)) (L.afterBytes (L.width o S q) (pick u (L.afterBit c) c))) f
+              ∙ ap (λ (u : Bool). pick u (L.afterBit c) (L.afterBytes (L.width o S q) c)) g
               ∙ ap (λ (n : ℕ). L.afterBytes n c) h;
         }
 
-    no-flag : (o : Bool) → (o && false) ≡ false
-    no-flag true = refl
-    no-flag false = refl
-
-    pub number-bytes : (k ≡ 0 → ⊥) → k < 9 → (o : Bool) → o ≡ P.optionalAt b at → o ≡ false → (w : ℕ) → w ≡ P.widthOf k → WholeBytes S (P.memberAt b at) w
+    pub number-bytes : (k ≡ 0 → ⊥) → k < 9 → (may : Bool) → may ≡ P.optionalAt b at → may ≡ false → (w : ℕ) → w ≡ P.widthOf k → WholeBytes o S (P.memberAt b at) w
     unfolding L.isBool L.flatIsBool L.width flatWidth
-    number-bytes h l o eo f w ew =
+    number-bytes h l may em f w ew =
         let m : k < 13 = omega arith in
         member-bytes (OfFlat (Integer (not (ltb k 5)) (P.widthOf k))) (flat-kind m ∙ ap OfFlat (integer-at h l))
-        (ap (λ (u : Bool). u && L.takesFlag (OfFlat (Integer (not (ltb k 5)) (P.widthOf k)))) (sym eo ∙ f)) refl w (sym ew)
+        (ap (λ (u : Bool). u && L.takesFlag (OfFlat (Integer (not (ltb k 5)) (P.widthOf k)))) (sym em ∙ f)) refl w (sym ew)
 
-    pub float-bytes : (k ≡ 0 → ⊥) → 9 ≤ k → k < 11 → (w : ℕ) → w ≡ P.widthOf k → WholeBytes S (P.memberAt b at) w
+    pub float-bytes : (k ≡ 0 → ⊥) → 9 ≤ k → k < 11 → (w : ℕ) → w ≡ P.widthOf k → WholeBytes o S (P.memberAt b at) w
     unfolding L.isBool L.flatIsBool L.width flatWidth L.takesFlag L.flatTakesFlag
     float-bytes h g l w ew =
         let m : k < 13 = omega arith in
         member-bytes (OfFlat (Float (P.widthOf k))) (flat-kind m ∙ ap OfFlat (float-at h g l)) (no-flag (P.optionalAt b at)) refl w (sym ew)
 
-    pub enum-bytes : k ≡ 11 → WholeBytes S (P.memberAt b at) 1
+    pub enum-bytes : k ≡ 11 → WholeBytes o S (P.memberAt b at) 1
     unfolding L.isBool L.flatIsBool L.width flatWidth L.takesFlag L.flatTakesFlag
     enum-bytes e =
         let m : k < 13 = omega arith in
         member-bytes (OfFlat (Enumerated (P.argumentAt b at))) (flat-kind m ∙ ap OfFlat (enum-at e)) (no-flag (P.optionalAt b at)) refl 1 refl
 
-    pub object-bytes : 13 ≤ k → k < 17 → WholeBytes S (P.memberAt b at) 6
+  module _ (S : Schema) where
+    pub object-bytes : 13 ≤ k → k < 17 → WholeBytes u48 S (P.memberAt b at) 6
     unfolding L.isBool L.width L.takesFlag u48
-    object-bytes g l = member-bytes (OfObject (P.objectAt b at)) (object-kind g l) (no-flag (P.optionalAt b at)) refl 6 refl
+    object-bytes g l = member-bytes u48 S (OfObject (P.objectAt b at)) (object-kind g l) (no-flag (P.optionalAt b at)) refl 6 refl
 
-    pub union-bytes : 17 ≤ k → WholeBytes S (P.memberAt b at) 8
+    pub union-bytes : 17 ≤ k → WholeBytes u48 S (P.memberAt b at) 8
     unfolding L.isBool L.width L.takesFlag u48
-    union-bytes g = member-bytes (OfUnion (P.argumentAt b at)) (union-kind g) (no-flag (P.optionalAt b at)) refl 8 refl
+    union-bytes g = member-bytes u48 S (OfUnion (P.argumentAt b at)) (union-kind g) (no-flag (P.optionalAt b at)) refl 8 refl
 
   blob-kind : 13 ≤ k → k < 15 → BlobEnd (P.objectAt b at) (14 - k)
   unfolding P.objectAt P.objectOf
@@ -198,15 +197,15 @@ module _ (b : List ℕ) (at k : ℕ) (ek : k ≡ P.kindAt b at) where
   flat-sound l m = kind-flat (P.parse b) (P.elementAt b at) (P.flatAt b at) (flat-kind l) (m .kind)
 
   -- ---- a member, with what stands before it
-  module _ (child : Surveyor) (s : List ℕ) (a : Extent) (pos : ℕ) where
+  module _ (o : ℕ) (child : Surveyor) (s : List ℕ) (a : Extent) (pos : ℕ) where
     pub simple-member-flat : k < 13 → (tw tf : Bool) (tn : ℕ)
         → TestedAt s (flatPart (surveyStruct (P.parse b)) (P.optionalAt b at) (P.flatAt b at) (drop pos (bits s))) tw tf tn → (e : Extent) → Fits (joined a (plain tf)) e
-        → SurveyedAt s (joinedPart child u48 (P.parse b) (P.memberAt b at) a (drop pos (bits s))) tw e tn
+        → SurveyedAt s (joinedPart child o (P.parse b) (P.memberAt b at) a (drop pos (bits s))) tw e tn
     unfolding joinedPart P.memberAt plainOf bind
     simple-member-flat l tw tf tn t e f =
         record {
-          is = ap (λ (q : Kind). bind (surveyPart child u48 (P.parse b) q (P.optionalAt b at) (P.inplaceAt b at) (drop pos (bits s))) (λ x ys. got (joined a x) ys)) (flat-kind l)
-              ∙ ap (λ p. bind p (λ x ys. got (joined a x) ys)) (flat-part-is child u48 (P.parse b) (P.flatAt b at) (P.optionalAt b at) (P.inplaceAt b at) (drop pos (bits s)))
+          is = ap (λ (q : Kind). bind (surveyPart child o (P.parse b) q (P.optionalAt b at) (P.inplaceAt b at) (drop pos (bits s))) (λ x ys. got (joined a x) ys)) (flat-kind l)
+              ∙ ap (λ p. bind p (λ x ys. got (joined a x) ys)) (flat-part-is child o (P.parse b) (P.flatAt b at) (P.optionalAt b at) (P.inplaceAt b at) (drop pos (bits s)))
               ∙ ap (λ p. bind (plainOf p) (λ x ys. got (joined a x) ys)) (t .is) ∙ by tw
               ∙ ap (λ (y : Extent). pick tw (got y (drop tn (bits s))) fail) (sym (f .is));
           inside = t .inside;
@@ -218,39 +217,39 @@ module _ (b : List ℕ) (at k : ℕ) (ek : k ≡ P.kindAt b at) where
         by false = refl
 
     pub simple-member-blob : 13 ≤ k → P.kindAt b at < 15 → (w : Bool) (x : Extent) (n : ℕ)
-        → SurveyedAt s (surveyPart child u48 (P.parse b) (OfObject (P.objectAt b at)) false (P.inplaceAt b at) (drop pos (bits s))) w x n
-        → (e : Extent) → Fits (joined a x) e → SurveyedAt s (joinedPart child u48 (P.parse b) (P.memberAt b at) a (drop pos (bits s))) w e n
+        → SurveyedAt s (surveyPart child o (P.parse b) (OfObject (P.objectAt b at)) false (P.inplaceAt b at) (drop pos (bits s))) w x n
+        → (e : Extent) → Fits (joined a x) e → SurveyedAt s (joinedPart child o (P.parse b) (P.memberAt b at) a (drop pos (bits s))) w e n
     unfolding joinedPart P.memberAt bind
     simple-member-blob g l w x n t e f =
         let m : k < 17 = omega arith in
         record {
-          is = ap (λ (q : Kind). bind (surveyPart child u48 (P.parse b) q (P.optionalAt b at) (P.inplaceAt b at) (drop pos (bits s))) (λ x ys. got (joined a x) ys)) (object-kind g m)
+          is = ap (λ (q : Kind). bind (surveyPart child o (P.parse b) q (P.optionalAt b at) (P.inplaceAt b at) (drop pos (bits s))) (λ x ys. got (joined a x) ys)) (object-kind g m)
               ∙ ap (λ p. bind p (λ x ys. got (joined a x) ys)) (same (P.optionalAt b at) ∙ t .is) ∙ by w
               ∙ ap (λ (y : Extent). pick w (got y (drop n (bits s))) fail) (sym (f .is));
           inside = t .inside;
           small = f .small;
         }
       where
-        same : (o : Bool) → surveyPart child u48 (P.parse b) (OfObject (P.objectAt b at)) o (P.inplaceAt b at) (drop pos (bits s))
-            ≡ surveyPart child u48 (P.parse b) (OfObject (P.objectAt b at)) false (P.inplaceAt b at) (drop pos (bits s))
-        same o = unfold surveyPart surveyMark surveyBody mayLack in refl
+        same : (may : Bool) → surveyPart child o (P.parse b) (OfObject (P.objectAt b at)) may (P.inplaceAt b at) (drop pos (bits s))
+            ≡ surveyPart child o (P.parse b) (OfObject (P.objectAt b at)) false (P.inplaceAt b at) (drop pos (bits s))
+        same may = unfold surveyPart surveyMark surveyBody mayLack in refl
 
         by : (u : Bool) → bind (pick u (got x (drop n (bits s))) fail) (λ y ys. got (joined a y) ys) ≡ pick u (got (joined a x) (drop n (bits s))) fail
         by true = refl
         by false = refl
 
   -- a text or bytes with its mark
-  pub marked-blob : 13 ≤ P.kindAt b at → P.kindAt b at < 15 → (d : ℕ) (s : List ℕ) (pos : ℕ) (whole : Bool) (x next : ℕ) → TakenNumber s pos 2 whole x next → not whole ≡ false
+  pub marked-blob : (o : ℕ) → 13 ≤ P.kindAt b at → P.kindAt b at < 15 → (d : ℕ) (s : List ℕ) (pos : ℕ) (whole : Bool) (x next : ℕ) → TakenNumber s pos 2 whole x next → not whole ≡ false
       → (x ≡ 0 → ⊥) → x ≡ 1 → (i : Bool) → i ≡ P.inplaceAt b at → (w : Bool) (e : Extent) (n : ℕ)
-      → SurveyedAt s (blobReferred d u48 i false (14 - k) (drop next (bits s))) w e n
-      → SurveyedAt s (surveyPart (survey d u48 (P.parse b)) u48 (P.parse b) (OfObject (P.objectAt b at)) false (P.inplaceAt b at) (drop pos (bits s))) w e n
-  marked-blob g l d s pos whole x next taken h h0 h1 i ei w e n q =
+      → SurveyedAt s (blobReferred d o i false (14 - k) (drop next (bits s))) w e n
+      → SurveyedAt s (surveyPart (survey d o (P.parse b)) o (P.parse b) (OfObject (P.objectAt b at)) false (P.inplaceAt b at) (drop pos (bits s))) w e n
+  marked-blob o g l d s pos whole x next taken h h0 h1 i ei w e n q =
       let u : 13 ≤ k = omega arith in
       let v : k < 15 = omega arith in
       let m : 14 - k < 2 = omega arith in
-      object-there (survey d u48 (P.parse b)) (P.parse b) s (P.objectAt b at) false (P.inplaceAt b at) pos whole x next taken h h0 w e n h1
-      (refer-blob d (P.parse b) s (P.inplaceAt b at) false (P.objectAt b at) next (14 - k) (blob-kind u v) m w e n
-      (subst (λ (y : Bool). SurveyedAt s (blobReferred d u48 y false (14 - k) (drop next (bits s))) w e n) ei q))
+      object-there o (survey d o (P.parse b)) (P.parse b) s (P.objectAt b at) false (P.inplaceAt b at) pos whole x next taken h h0 w e n h1
+      (refer-blob o d (P.parse b) s (P.inplaceAt b at) false (P.objectAt b at) next (14 - k) (blob-kind u v) m w e n
+      (subst (λ (y : Bool). SurveyedAt s (blobReferred d o y false (14 - k) (drop next (bits s))) w e n) ei q))
 
 -- ---- what leads to no object, with its mark
 module _ (S : Schema) (s : List ℕ) (optional : Bool) (k : Flat) (pos : ℕ) (whole : Bool) (x next : ℕ) (taken : TakenNumber s pos 2 whole x next) where
@@ -272,13 +271,13 @@ module _ (S : Schema) (s : List ℕ) (optional : Bool) (k : Flat) (pos : ℕ) (w
       flat-there e t = record { is = rw (taken .number, not-false whole h) (simp (ne-eqb x 0 h0, eq-eqb x 1 e) (t .is)); inside = t .inside }
 
       module _ (h1 : x ≡ 1 → ⊥) where
-        pub flat-unknown : x ≡ 2 → (g : Flat) → g ≡ k → TestedAt s (surveyLostFlat g (drop next (bits s))) w f n
+        pub flat-unknown : x ≡ 2 → (g : Flat) → g ≡ k → TestedAt s (surveyUnknownFlat g (drop next (bits s))) w f n
             → TestedAt s (flatPart (surveyStruct S) optional k (drop pos (bits s))) w f n
         unfolding flatPart surveyMark bind
         flat-unknown e g eg t =
             record {
               is = rw (taken .number, not-false whole h) (simp (ne-eqb x 0 h0, ne-eqb x 1 h1, eq-eqb x 2 e)
-                  (ap (λ (q : Flat). surveyLostFlat q (drop next (bits s))) (sym eg) ∙ t .is));
+                  (ap (λ (q : Flat). surveyUnknownFlat q (drop next (bits s))) (sym eg) ∙ t .is));
               inside = t .inside;
             }
 
@@ -287,82 +286,70 @@ module _ (S : Schema) (s : List ℕ) (optional : Bool) (k : Flat) (pos : ℕ) (w
         flat-bad l h2 ew en =
             record { is = rw (taken .number, not-false whole h) (simp (ne-eqb x 0 h0, ne-eqb x 1 h1, ne-eqb x 2 h2, ew)); inside = rw en l }
 
--- ---- the record of member j
-pub record-sound : (b dir : List ℕ) → Accepted b dir → (t j : ℕ) → j < length (Sc.tableOf (P.parse b) t .members) → (r : ℕ)
-    → P.memberAt b r ≡ Sc.memberOf (P.parse b) t j → MemberSound (P.parse b) (P.memberAt b r)
-record-sound b dir a t j h r e = rw e (member-sound-at (P.parse b) (accepted-sound b dir a) t j h)
-
-pub record-is : (b : List ℕ) (t j first r : ℕ) → t < P.tableCount b → Block b 4 (P.tablePlace b t) first → j < length (Sc.tableOf (P.parse b) t .members)
-    → r ≡ P.recordPlace 4 first j → P.memberAt b r ≡ Sc.memberOf (P.parse b) t j
-record-is b t j first r l bl h e = member-is b t first l bl j r h (P.memberAt b r) e refl
-
-pub record-stands : (b dir : List ℕ) → Accepted b dir → (t j first r : ℕ) → t < P.tableCount b → Block b 4 (P.tablePlace b t) first
-    → j < length (Sc.tableOf (P.parse b) t .members) → r ≡ P.recordPlace 4 first j → MemberSound (P.parse b) (P.memberAt b r)
-record-stands b dir a t j first r l bl h e = record-sound b dir a t j h r (record-is b t j first r l bl h e)
-
-pub simple-member-counted : (b : List ℕ) (r k : ℕ) → k ≡ P.kindAt b r → k ≤ 14 → P.kindAt b r < 15
+-- ---- the record of a simple member
+pub simple-member-counted : (b : List ℕ) (r k : ℕ) → k ≡ P.kindAt b r → k < 15 → P.kindAt b r < 15
 simple-member-counted b r k e l = omega arith
 
 -- ---- the members from j on
-module _ (child : Surveyor) (S : Schema) (t : ℕ) (s : List ℕ) (p : Parsed Extent) (a : Extent) (pos j : ℕ)
-    (inv : p ≡ surveyMembers child u48 S (drop j (Sc.tableOf S t .members)) a (drop pos (bits s))) (count : ℕ) (ec : count ≡ length (Sc.tableOf S t .members)) where
-  pub left-here : j ≤ count → (from : ℕ) → from ≤ j → pos ≤ 8 * length s → Small a → LeftAt child S (Sc.tableOf S t .members) s from p true j a pos
+module _ (o : ℕ) (child : Surveyor) (S : Schema) (t : ℕ) (s : List ℕ) (p : Parsed Extent) (a : Extent) (pos j : ℕ)
+    (inv : p ≡ surveyMembers child o S (drop j (Sc.tableOf S t .members)) a (drop pos (bits s))) (count : ℕ) (ec : count ≡ length (Sc.tableOf S t .members)) where
+  pub left-here : j ≤ count → (from : ℕ) → from ≤ j → pos ≤ 8 * length s → Small a → LeftAt child o S (Sc.tableOf S t .members) s from p true j a pos
   left-here h from g l sm = record { is = inv; on = g; few = omega arith; inside = l; small = sm }
 
   module _ (h : j < count) (m : Member) (em : m ≡ Sc.memberOf S t j) (whole : Bool) (x : Extent) (next : ℕ)
-      (q : SurveyedAt s (joinedPart child u48 S m a (drop pos (bits s))) whole x next) where
+      (q : SurveyedAt s (joinedPart child o S m a (drop pos (bits s))) whole x next) where
     abbrev rest : Parsed Extent → Parsed Extent
-    rest r = bind r (λ e ys. surveyMembers child u48 S (drop (suc j) (Sc.tableOf S t .members)) e ys)
+    rest r = bind r (λ e ys. surveyMembers child o S (drop (suc j) (Sc.tableOf S t .members)) e ys)
 
     turned : p ≡ rest (pick whole (got x (drop next (bits s))) fail)
     unfolding Sc.memberOf
     turned =
         let l : j < length (Sc.tableOf S t .members) = omega arith in
-        inv ∙ ap (λ (ms : List Member). surveyMembers child u48 S ms a (drop pos (bits s))) (drop-cons (Sc.tableOf S t .members) j Sc.plainBool l)
-        ∙ members-joined child u48 S (Sc.memberOf S t j) (drop (suc j) (Sc.tableOf S t .members)) a (drop pos (bits s))
-        ∙ ap rest (ap (λ (r : Member). joinedPart child u48 S r a (drop pos (bits s))) (sym em) ∙ q .is)
+        inv ∙ ap (λ (ms : List Member). surveyMembers child o S ms a (drop pos (bits s))) (drop-cons (Sc.tableOf S t .members) j Sc.plainBool l)
+        ∙ members-joined child o S (Sc.memberOf S t j) (drop (suc j) (Sc.tableOf S t .members)) a (drop pos (bits s))
+        ∙ ap rest (ap (λ (r : Member). joinedPart child o S r a (drop pos (bits s))) (sym em) ∙ q .is)
 
     pub left-cut : not whole ≡ true → (from : ℕ) → from ≤ length (Sc.tableOf S t .members) → (e : Extent) → Small e → (at : ℕ) → at ≤ 8 * length s
-        → LeftAt child S (Sc.tableOf S t .members) s from p false from e at
+        → LeftAt child o S (Sc.tableOf S t .members) s from p false from e at
     unfolding bind
     left-cut f from g e sm at l =
         record { is = turned ∙ ap (λ (u : Bool). rest (pick u (got x (drop next (bits s))) fail)) (not-true whole f); on = omega arith; few = g; inside = l; small = sm }
 
-    pub left-turn : not whole ≡ false → p ≡ surveyMembers child u48 S (drop (j + 1) (Sc.tableOf S t .members)) x (drop next (bits s))
+    pub left-turn : not whole ≡ false → p ≡ surveyMembers child o S (drop (j + 1) (Sc.tableOf S t .members)) x (drop next (bits s))
     unfolding bind
     left-turn f =
         turned ∙ ap (λ (u : Bool). rest (pick u (got x (drop next (bits s))) fail)) (not-false whole f)
-        ∙ ap (λ (n : ℕ). surveyMembers child u48 S (drop n (Sc.tableOf S t .members)) x (drop next (bits s))) (sym (add-one j))
+        ∙ ap (λ (n : ℕ). surveyMembers child o S (drop n (Sc.tableOf S t .members)) x (drop next (bits s))) (sym (add-one j))
 
 pub members-few : (S : Schema) (t j count : ℕ) → count ≡ length (Sc.tableOf S t .members) → j ≤ count → j ≤ length (Sc.tableOf S t .members)
 members-few S t j count e h = omega arith
 
 -- ---- a table's content, once its members are gone over up to member i
-module _ (child : Surveyor) (S : Schema) (s : List ℕ) (t at : ℕ) (a : Extent) (pos j : ℕ)
-    (inv : surveyContent child u48 S (O.Table t) (drop at (bits s)) ≡ surveyMembers child u48 S (drop j (Sc.tableOf S t .members)) a (drop pos (bits s)))
+module _ (o : ℕ) (child : Surveyor) (S : Schema) (s : List ℕ) (t at : ℕ) (a : Extent) (pos j : ℕ)
+    (inv : surveyContent child o S (O.Table t) (drop at (bits s)) ≡ surveyMembers child o S (drop j (Sc.tableOf S t .members)) a (drop pos (bits s)))
     (whole : Bool) (i : ℕ) (e : Extent) (next : ℕ)
-    (left : LeftAt child S (Sc.tableOf S t .members) s j (surveyMembers child u48 S (drop j (Sc.tableOf S t .members)) a (drop pos (bits s))) whole i e next) where
+    (left : LeftAt child o S (Sc.tableOf S t .members) s j (surveyMembers child o S (drop j (Sc.tableOf S t .members)) a (drop pos (bits s))) whole i e next) where
   gone : (u : Bool) → whole ≡ u
-      → surveyContent child u48 S (O.Table t) (drop at (bits s)) ≡ pick u (surveyMembers child u48 S (drop i (Sc.tableOf S t .members)) e (drop next (bits s))) fail
-  gone u h = inv ∙ left .is ∙ ap (λ (v : Bool). pick v (surveyMembers child u48 S (drop i (Sc.tableOf S t .members)) e (drop next (bits s))) fail) h
+      → surveyContent child o S (O.Table t) (drop at (bits s)) ≡ pick u (surveyMembers child o S (drop i (Sc.tableOf S t .members)) e (drop next (bits s))) fail
+  gone u h = inv ∙ left .is ∙ ap (λ (v : Bool). pick v (surveyMembers child o S (drop i (Sc.tableOf S t .members)) e (drop next (bits s))) fail) h
 
   pub table-cut : at ≤ 8 * length s → not whole ≡ true → (w : Bool) (x : Extent) (n : ℕ) → w ≡ false → n ≡ at → Small x
-      → SurveyedAt s (surveyContent child u48 S (O.Table t) (drop at (bits s))) w x n
+      → SurveyedAt s (surveyContent child o S (O.Table t) (drop at (bits s))) w x n
   table-cut l h w x n ew en sm = record { is = gone false (not-true whole h) ∙ sym (rw ew); inside = rw en l; small = sm }
 
   module _ (h : not whole ≡ false) (count : ℕ) (ec : count ≡ length (Sc.tableOf S t .members)) where
-    pub table-ended : count ≤ i → SurveyedAt s (surveyContent child u48 S (O.Table t) (drop at (bits s))) true e next
-    table-ended l = members-done child S s t at e next i (gone true (not-false whole h)) count ec l (left .inside) (left .small)
+    pub table-ended : count ≤ i → SurveyedAt s (surveyContent child o S (O.Table t) (drop at (bits s))) true e next
+    table-ended l = members-done o child S s t at e next i (gone true (not-false whole h)) count ec l (left .inside) (left .small)
 
     module _ (l : i < count) (r : Member) (er : r ≡ Sc.memberOf S t i) (u : Bool) (x : Extent) (after : ℕ)
-        (q : SurveyedAt s (surveyPart child u48 S (r .kind) (r .optional) (r .inplace) (drop next (bits s))) u x after) where
+        (q : SurveyedAt s (surveyPart child o S (r .kind) (r .optional) (r .inplace) (drop next (bits s))) u x after) where
       pub table-stopped : at ≤ 8 * length s → not u ≡ true → (w : Bool) (y : Extent) (n : ℕ) → w ≡ false → n ≡ at → Small y
-          → SurveyedAt s (surveyContent child u48 S (O.Table t) (drop at (bits s))) w y n
-      table-stopped = members-stopped child S s t at e next i (gone true (not-false whole h)) count ec l r er u x after q
+          → SurveyedAt s (surveyContent child o S (O.Table t) (drop at (bits s))) w y n
+      table-stopped = members-stopped o child S s t at e next i (gone true (not-false whole h)) count ec l r er u x after q
 
       pub table-turn : not u ≡ false → (g : Extent) → Fits (joined e x) g
-          → surveyContent child u48 S (O.Table t) (drop at (bits s)) ≡ surveyMembers child u48 S (drop (i + 1) (Sc.tableOf S t .members)) g (drop after (bits s))
-      table-turn = members-turn child S s t at e next i (gone true (not-false whole h)) count ec l r er u x after q
+          → surveyContent child o S (O.Table t) (drop at (bits s)) ≡ surveyMembers child o S (drop (i + 1) (Sc.tableOf S t .members)) g (drop after (bits s))
+      table-turn = members-turn o child S s t at e next i (gone true (not-false whole h)) count ec l r er u x after q
 
 -- ---- a struct by its number
 pub struct-index-same : (b : List ℕ) (n i : ℕ) → i ≡ n → n < P.structCount b → i < P.structCount b
@@ -376,56 +363,44 @@ struct-same S s pos n i e w f m t = subst (λ (a : ℕ). TestedAt s (surveyStruc
 pub no-bytes : {A : Type 0} → 0 < 0 → A
 no-bytes h = absurd (omega arith)
 
-module _ (S : Schema) (t j : ℕ) (c : Cursor) where
-  pub behind-bytes : (m : Member) → m ≡ Sc.memberOf S t j → (w : ℕ) → (0 < w → WholeBytes S m w) → 0 < w
-      → _≡_ {A = Cursor} (record { end = c .end + w; byte = c .byte; bit = c .bit }) (L.afterMember u48 S (Sc.memberOf S t j) c)
-  unfolding L.afterBytes
-  behind-bytes m em w f h = sym (f h .next c) ∙ ap (λ (r : Member). L.afterMember u48 S r c) em
+module _ (o : ℕ) (S : Schema) (t j : ℕ) (c : Cursor) where
+  pub behind-bytes : (m : Member) → m ≡ Sc.memberOf S t j → (w : ℕ) → (0 < w → WholeBytes o S m w) → 0 < w → (r : Cursor) → r ≡ L.afterBytes w c
+      → r ≡ L.afterMember o S (Sc.memberOf S t j) c
+  behind-bytes m em w f h r er = er ∙ sym (f h .next c) ∙ ap (λ (q : Member). L.afterMember o S q c) em
 
   pub behind-placed : (r : Member) → r ≡ Sc.memberOf S t j → (e : ℕ) (slot : Slot) (next : Cursor)
-      → Stands (L.memberSlot u48 S r c) (L.afterMember u48 S r c) e slot next → next ≡ L.afterMember u48 S (Sc.memberOf S t j) c
-  behind-placed r er e slot next st = st .next-is ∙ ap (λ (q : Member). L.afterMember u48 S q c) er
+      → Stands (L.memberSlot o S r c) (L.afterMember o S r c) e slot next → next ≡ L.afterMember o S (Sc.memberOf S t j) c
+  behind-placed r er e slot next st = st .next-is ∙ ap (λ (q : Member). L.afterMember o S q c) er
 
-pub behind-laid : (j : ℕ) (c : Cursor) (w : ℕ) → w < 256 → Laid (4097 * j) c → Laid (4097 * (j + 1)) (record { end = c .end + w; byte = c .byte; bit = c .bit })
-behind-laid j c w h l =
+pub behind-laid : (j : ℕ) (c : Cursor) (w : ℕ) → w < 256 → Laid (4097 * j) c → (r : Cursor) → Laid (c .end + w) r → Laid (4097 * (j + 1)) r
+behind-laid j c w h l r q =
     let p = l .end in
-    let q = l .byte in
-    record { end = omega arith; byte = omega arith; bit = l .bit }
+    let e = q .end in
+    record { end = omega arith; byte = q .byte; bit = q .bit }
 
 -- ---- the bytes of an integer or a float
-pub width-is : (k j w : ℕ) → k ≡ j → w ≡ P.widthOf j → w ≡ P.widthOf k
-width-is k j w e h = rw e h
+module _ (k w r : ℕ) (er : r ≡ w) (ew : w ≡ P.widthOf k) where
+  pub width-found : r ≡ P.widthOf k
+  width-found = er ∙ ew
 
-more : (k n : ℕ) → n ≤ k → (k ≡ n → ⊥) → suc n ≤ k
-more k n l h = omega arith
-
-only : (k n : ℕ) → n ≤ k → k < suc n → k ≡ n
-only k n l h = omega arith
-
-pub width-last : (k : ℕ) → 0 < k → k < 11 → (k ≡ 1 → ⊥) → (k ≡ 2 → ⊥) → (k ≡ 3 → ⊥) → (k ≡ 4 → ⊥) → (k ≡ 5 → ⊥) → (k ≡ 6 → ⊥) → (k ≡ 7 → ⊥) → (k ≡ 8 → ⊥) → (k ≡ 9 → ⊥)
-    → 8 ≡ P.widthOf k
-width-last k g l a b c d e f h i j =
-    width-is k 10 8 (only k 10 (more k 9 (more k 8 (more k 7 (more k 6 (more k 5 (more k 4 (more k 3 (more k 2 (more k 1 g a) b) c) d) e) f) h) i) j) l) (unfold P.widthOf in refl)
-
-pub number-kind : (k : ℕ) → (k ≡ 0 → ⊥) → 0 < k
-number-kind zero h = absurd (h refl)
-number-kind (suc k) h = omega arith
+  pub width-small : k < 11 → r ≤ 8
+  width-small h = let l = width-range k h .1 in rw (er, ew) l
 
 -- ---- a text or bytes that is there
-module _ (s : List ℕ) (d more : ℕ) (inplace may : Bool) (pos : ℕ) (h : d ≡ 0 → ⊥) (whole : Bool) (x next : ℕ) (taken : TakenNumber s pos 32 whole x next) where
+module _ (o : ℕ) (s : List ℕ) (d more : ℕ) (inplace may : Bool) (pos : ℕ) (h : d ≡ 0 → ⊥) (whole : Bool) (x next : ℕ) (taken : TakenNumber s pos 32 whole x next) where
   blob-fails : not whole ≡ true → surveyBlob more (drop pos (bits s)) ≡ fail
   unfolding surveyBlob bind
   blob-fails f = rw (taken .number, not-true whole f)
 
   pub there-cut : pos ≤ 8 * length s → not whole ≡ true → (w : Bool) (e : Extent) (n : ℕ) → w ≡ false → n ≡ pos → Small e
-      → SurveyedAt s (blobReferred d u48 inplace may more (drop pos (bits s))) w e n
+      → SurveyedAt s (blobReferred d o inplace may more (drop pos (bits s))) w e n
   unfolding blobReferred bind
   there-cut l f w e n ew en sm = by d h
     where
-      by : (k : ℕ) → (k ≡ 0 → ⊥) → SurveyedAt s (blobReferred k u48 inplace may more (drop pos (bits s))) w e n
+      by : (k : ℕ) → (k ≡ 0 → ⊥) → SurveyedAt s (blobReferred k o inplace may more (drop pos (bits s))) w e n
       by zero g = absurd (g refl)
-      by (suc k) g = record { is = ap (λ p. bind p (λ y ys. got (referred u48 inplace may y) ys)) (blob-fails f) ∙ sym (rw ew); inside = rw en l; small = sm }
+      by (suc k) g = record { is = ap (λ p. bind p (λ y ys. got (referred o inplace may y) ys)) (blob-fails f) ∙ sym (rw ew); inside = rw en l; small = sm }
 
-  pub there-whole : not whole ≡ false → (w : Bool) (n : ℕ) → TakenBytes s next x w n → (o : Extent) → Fits (opened x (x + more)) o
-      → (e : Extent) → Fits (referred u48 inplace may o) e → SurveyedAt s (blobReferred d u48 inplace may more (drop pos (bits s))) w e n
-  there-whole f w n t o fo e fe = blob-referred s d more inplace may pos h w o n (blob-there s pos more whole x next taken f w n t o fo) e fe
+  pub there-whole : not whole ≡ false → (w : Bool) (n : ℕ) → TakenBytes s next x w n → (y : Extent) → Fits (opened x (x + more)) y
+      → (e : Extent) → Fits (referred o inplace may y) e → SurveyedAt s (blobReferred d o inplace may more (drop pos (bits s))) w e n
+  there-whole f w n t y fy e fe = blob-referred o s d more inplace may pos h w y n (blob-there s pos more whole x next taken f w n t y fy) e fe

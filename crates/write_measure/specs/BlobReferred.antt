@@ -1,5 +1,5 @@
 -- A text or bytes that is referred to, or stands in place: the survey of such an object without the walk to it.
-use mathlib.Core.Path.{_≡_, refl, ap, _∙_, subst}
+use mathlib.Core.Path.{_≡_, refl, ap, _∙_}
 use mathlib.Core.Bool.{Bool}
 use mathlib.Core.List.{List}
 use Prim.Native.Nat.{ℕ, zero, suc, _<_}
@@ -11,7 +11,7 @@ use Rattle.coding.specs.declared.Object.the-variants as O
 use Rattle.write_measure.specs.Survey.{referred, surveyObject, surveyBlob, surveyContent, survey}
 use Rattle.write_measure.specs.declared.Extent.{Extent}
 
--- d objects deep, with `more` bytes behind its own
+-- a text or bytes with `more` bytes behind its own, where d objects may stand below each other, this one counted
 unfoldable pub blobReferred : ℕ → ℕ → Bool → Bool → ℕ → List ℕ → Parsed Extent
 blobReferred zero o inplace may more xs = fail
 blobReferred (suc d) o inplace may more xs = bind (surveyBlob more xs) (λ e ys. got (referred o inplace may e) ys)

@@ -11,3 +11,4 @@ pub mod Surveyed
 pub mod UnmarkedElements
 pub mod BlobReferred
 pub mod SimpleMembers
+pub mod SurveyBy

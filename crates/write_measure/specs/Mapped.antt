@@ -61,16 +61,16 @@ seq (got v ys) e rest go f h = h v ys ∙ close (rest ys)
     close (got vs zs) = refl
 
 -- a mark, and what it says to do
-pub mark-mapped : {A : Type 0} (f : Value → A) (none : A) (lost body : List ℕ → Parsed A) (lost′ body′ : List ℕ → Parsed Value) → none ≡ f absent
-    → ((ys : List ℕ) → lost ys ≡ mapped f (lost′ ys)) → ((ys : List ℕ) → body ys ≡ mapped f (body′ ys)) → (xs : List ℕ)
-    → surveyMark none lost body xs ≡ mapped f (takeMark lost′ body′ xs)
+pub mark-mapped : {A : Type 0} (f : Value → A) (none : A) (unknown body : List ℕ → Parsed A) (unknown′ body′ : List ℕ → Parsed Value) → none ≡ f absent
+    → ((ys : List ℕ) → unknown ys ≡ mapped f (unknown′ ys)) → ((ys : List ℕ) → body ys ≡ mapped f (body′ ys)) → (xs : List ℕ)
+    → surveyMark none unknown body xs ≡ mapped f (takeMark unknown′ body′ xs)
 unfolding surveyMark takeMark
-mark-mapped f none lost body lost′ body′ e l b xs =
+mark-mapped f none unknown body unknown′ body′ e l b xs =
     bind-mapped f (takeNumber 2 xs) _ _ (λ mark ys. by ys (eqb mark 0) (eqb mark 1) (eqb mark 2))
   where
     by : (ys : List ℕ) (t u w : Bool)
-        → pick t (got none ys) (pick u (body ys) (pick w (lost ys) fail))
-        ≡ mapped f (pick t (got absent ys) (pick u (body′ ys) (pick w (lost′ ys) fail)))
+        → pick t (got none ys) (pick u (body ys) (pick w (unknown ys) fail))
+        ≡ mapped f (pick t (got absent ys) (pick u (body′ ys) (pick w (unknown′ ys) fail)))
     by ys true u w = ap (λ x. got x ys) e
     by ys false true w = b ys
     by ys false false true = l ys

@@ -1,6 +1,5 @@
 -- How many bytes stand in place behind a sequence of slots, and below it, part by part. Bits make no difference there.
-use mathlib.Core.Path.{_≡_, refl, sym, ap, ap₂, _∙_}
-use mathlib.Core.List.{List}
+use mathlib.Core.Path.{_≡_, refl, sym, ap, _∙_}
 use mathlib.Core.Bool.{Bool, true, false}
 use Prim.Native.Nat.{ℕ, zero, suc, _+_, _/_}
 use native.Mathlib.Omega.{arith}
@@ -11,7 +10,7 @@ use Rattle.coding.specs.Schema.{Schema, casesOf, caseOf}
 use Rattle.coding.specs.Layout.{hasFlag}
 use Rattle.coding.specs.Walk.{headerSize, magic}
 use Rattle.coding.specs.Value.{Value, present, asNumber, asObject}
-use Rattle.coding.specs.Cells.{width, chain, below, Slots, gather, packBits}
+use Rattle.coding.specs.Cells.{width, chain, below, Slots, packBits}
 use Rattle.coding.specs.Cells.Slots.{end, bytes, bit, reference, inPlace}
 use Rattle.coding.specs.Message.{lengthOf, zeros, flatSlots, Planner, objectSlots, referSlots, valueSlots, flagOf, memberSlots}
 use Rattle.coding.specs.declared.Flat.{Flat}
@@ -141,7 +140,7 @@ module _ (o : ℕ) where
         by true ob = refer-below f inplace ob (asObject v) rest
         by false ob = omega (arith, pack-below f rest)
 
-    -- with its flag, if there is one
+    -- a member with its flag, if it has one
     pub member-chain : (r : Member) (v : Value) (rest : Slots)
         → chain o (packBits 0 (memberSlots P o S r v rest)) ≡ valueChain (r .kind) (r .inplace) v + chain o (packBits 0 rest)
     unfolding memberSlots

@@ -35,13 +35,13 @@ testNumber w test xs = bind (takeNumber w xs) (λ x ys. got (test x) ys)
 unfoldable pub testIf : ℕ → (ℕ → Bool) → Bool → List ℕ → Parsed Bool
 testIf w ok answer xs = bind (takeNumber w xs) (λ x ys. pick (ok x) (got answer ys) fail)
 
--- what a mark says to do; `none` where there is no value
+-- a mark, and what it says comes next: the answer `none` where there is no value, an unknown number, or the value's body
 unfoldable pub surveyMark : {A : Type 0} → A → (List ℕ → Parsed A) → (List ℕ → Parsed A) → List ℕ → Parsed A
-surveyMark none lost body xs =
+surveyMark none unknown body xs =
     bind (takeNumber 2 xs)
-    (λ mark ys. pick (eqb mark 0) (got none ys) (pick (eqb mark 1) (body ys) (pick (eqb mark 2) (lost ys) fail)))
+    (λ mark ys. pick (eqb mark 0) (got none ys) (pick (eqb mark 1) (body ys) (pick (eqb mark 2) (unknown ys) fail)))
 
--- ---- what leads to no object: whether it can be written
+-- ---- flat values (bools, numbers, enums and structs, which lead to no object): whether they can be written
 abbrev pub anyNumber : ℕ → Bool
 anyNumber x = true
 
@@ -52,6 +52,7 @@ floatFine optional w x = not (optional && isNaN w x)
 abbrev pub belowCount : ℕ → ℕ → Bool
 belowCount n x = ltb x n
 
+-- a flat value of a member or an element, present, behind its mark; `inner` surveys a struct by its number
 unfoldable pub surveyFlat : (ℕ → List ℕ → Parsed Bool) → Bool → Flat → List ℕ → Parsed Bool
 surveyFlat inner optional Boolean xs = testNumber 1 anyNumber xs
 surveyFlat inner optional (Integer s w) xs = testNumber (8 * w) anyNumber xs
@@ -59,10 +60,11 @@ surveyFlat inner optional (Float w) xs = testNumber (8 * w) (floatFine optional 
 surveyFlat inner optional (Enumerated n) xs = testIf 8 (belowCount n) true xs
 surveyFlat inner optional (Struct i) xs = inner i xs
 
--- an enum of a struct, with its mark
+-- an enum of a struct: its mark, and its number if there is one
 unfoldable pub enumField : ℕ → List ℕ → Parsed Bool
 enumField n xs = surveyMark true (testIf 8 (unknownEnum n) false) (testIf 8 (belowCount n) true) xs
 
+-- a member of a struct
 unfoldable pub surveyField : (ℕ → List ℕ → Parsed Bool) → Flat → List ℕ → Parsed Bool
 surveyField inner Boolean xs = surveyFlat inner false Boolean xs
 surveyField inner (Integer s w) xs = surveyFlat inner false (Integer s w) xs
@@ -70,7 +72,7 @@ surveyField inner (Float w) xs = surveyFlat inner false (Float w) xs
 surveyField inner (Enumerated n) xs = enumField n xs
 surveyField inner (Struct i) xs = surveyFlat inner false (Struct i) xs
 
--- `fine`: the members before can be written
+-- the members of a struct in turn; `fine`: those before can be written
 unfoldable pub surveyFields : (ℕ → List ℕ → Parsed Bool) → List Flat → Bool → List ℕ → Parsed Bool
 surveyFields inner [] fine xs = got fine xs
 surveyFields inner (k ∷ ks) fine xs = bind (surveyField inner k xs) (λ t ys. surveyFields inner ks (fine && t) ys)
@@ -85,7 +87,7 @@ unfoldable pub surveyStruct : Schema → ℕ → List ℕ → Parsed Bool
 surveyStruct S i = byIndex surveyNothing (surveyBy S) i
 
 -- ---- extents
--- nothing behind, and nothing below
+-- the extent of a flat value: nothing stands in place behind it, and nothing below
 unfoldable pub plain : Bool → Extent
 plain fine = record { writable = fine; length = 0; width = 0; chain = 0; below = 0 }
 
@@ -93,7 +95,7 @@ plain fine = record { writable = fine; length = 0; width = 0; chain = 0; below =
 unfoldable pub opened : ℕ → ℕ → Extent
 opened n w = record { writable = true; length = n; width = w; chain = 0; below = 0 }
 
--- with one more part
+-- what stands before, and one part more
 unfoldable pub joined : Extent → Extent → Extent
 joined a e =
     record {
@@ -128,40 +130,44 @@ referred o inplace may e =
 abbrev pub Surveyor : Type 0
 Surveyor = Object → List ℕ → Parsed Extent
 
+-- a flat value as a part of an object
 unfoldable pub plainOf : Parsed Bool → Parsed Extent
 plainOf p = bind p (λ t ys. got (plain t) ys)
 
+-- an object, with what it adds to its holder
 unfoldable pub surveyObject : Surveyor → ℕ → Bool → Bool → Object → List ℕ → Parsed Extent
 surveyObject child o inplace may ob xs = bind (child ob xs) (λ e ys. got (referred o inplace may e) ys)
 
+-- a union's known choice, and the object of that case
 unfoldable pub surveyChoice : Surveyor → ℕ → Bool → List Object → List ℕ → Parsed Extent
 surveyChoice child o inplace cases xs =
     bind (takeNumber 16 xs)
     (λ c ys. pick (leb 1 c && leb c (length cases)) (surveyObject child o inplace true (caseOf cases c) ys) fail)
 
--- what is there
+-- a member or an element, present, behind its mark
 unfoldable pub surveyBody : Surveyor → ℕ → Schema → Kind → Bool → Bool → List ℕ → Parsed Extent
 surveyBody child o S (OfFlat k) optional inplace xs = plainOf (surveyFlat (surveyStruct S) optional k xs)
 surveyBody child o S (OfObject ob) optional inplace xs = surveyObject child o inplace false ob xs
 surveyBody child o S (OfUnion i) optional inplace xs = surveyChoice child o inplace (casesOf S i) xs
 
--- no known value
-unfoldable pub surveyLostFlat : Flat → List ℕ → Parsed Bool
-surveyLostFlat Boolean xs = fail
-surveyLostFlat (Integer s w) xs = fail
-surveyLostFlat (Float w) xs = fail
-surveyLostFlat (Enumerated n) xs = testIf 8 (unknownEnum n) false xs
-surveyLostFlat (Struct i) xs = fail
+-- the unknown number of a flat value, which only an enum can have
+unfoldable pub surveyUnknownFlat : Flat → List ℕ → Parsed Bool
+surveyUnknownFlat Boolean xs = fail
+surveyUnknownFlat (Integer s w) xs = fail
+surveyUnknownFlat (Float w) xs = fail
+surveyUnknownFlat (Enumerated n) xs = testIf 8 (unknownEnum n) false xs
+surveyUnknownFlat (Struct i) xs = fail
 
 abbrev pub aboveCount : ℕ → ℕ → Bool
 aboveCount n c = ltb n c
 
-unfoldable pub surveyLost : Schema → Kind → List ℕ → Parsed Extent
-surveyLost S (OfFlat k) xs = plainOf (surveyLostFlat k xs)
-surveyLost S (OfObject ob) xs = fail
-surveyLost S (OfUnion i) xs = plainOf (testIf 16 (aboveCount (length (casesOf S i))) false xs)
+-- the unknown number of a member or an element: an enum's, or a union's choice
+unfoldable pub surveyUnknown : Schema → Kind → List ℕ → Parsed Extent
+surveyUnknown S (OfFlat k) xs = plainOf (surveyUnknownFlat k xs)
+surveyUnknown S (OfObject ob) xs = fail
+surveyUnknown S (OfUnion i) xs = plainOf (testIf 16 (aboveCount (length (casesOf S i))) false xs)
 
--- whether there may be no value
+-- whether a member or an element may have no value
 unfoldable pub flatMayLack : Bool → Flat → Bool
 flatMayLack optional Boolean = optional
 flatMayLack optional (Integer s w) = optional
@@ -174,14 +180,16 @@ mayLack optional (OfFlat k) = flatMayLack optional k
 mayLack optional (OfObject ob) = true
 mayLack optional (OfUnion i) = true
 
+-- a member or an element: its mark, and what the mark says comes next
 unfoldable pub surveyPart : Surveyor → ℕ → Schema → Kind → Bool → Bool → List ℕ → Parsed Extent
 surveyPart child o S k optional inplace xs =
-    surveyMark (plain (mayLack optional k)) (surveyLost S k) (surveyBody child o S k optional inplace) xs
+    surveyMark (plain (mayLack optional k)) (surveyUnknown S k) (surveyBody child o S k optional inplace) xs
 
+-- an element, with its mark if it has one
 unfoldable pub surveyElement : Surveyor → ℕ → Schema → Kind → List ℕ → Parsed Extent
 surveyElement child o S k xs = pick (unmarked k) (surveyBody child o S k true false xs) (surveyPart child o S k true false xs)
 
--- `a`: what stands before
+-- members, and elements, in turn; `a` is the extent of what stands before them
 unfoldable pub surveyMembers : Surveyor → ℕ → Schema → List Member → Extent → List ℕ → Parsed Extent
 surveyMembers child o S [] a xs = got a xs
 surveyMembers child o S (r ∷ rs) a xs =
@@ -192,7 +200,7 @@ surveyElements child o S k zero a xs = got a xs
 surveyElements child o S k (suc n) a xs =
     bind (surveyElement child o S k xs) (λ e ys. surveyElements child o S k n (joined a e) ys)
 
--- a text has `more` bytes behind its own
+-- the content of a text or bytes, with `more` bytes behind its own: 1 of a text, 0 of bytes
 unfoldable pub surveyBlob : ℕ → List ℕ → Parsed Extent
 surveyBlob more xs = bind (takeNumber 32 xs) (λ n ys. bind (takeBytes n ys) (λ l zs. got (opened n (n + more)) zs))
 
@@ -206,7 +214,7 @@ surveyContent child o S (O.Table i) xs =
     surveyMembers child o S (tableOf S i .members)
     (opened (fixedSize o S (tableOf S i .members)) (fixedSize o S (tableOf S i .members))) xs
 
--- an object, d objects deep
+-- an object's content, where d objects may stand below each other, this one counted
 unfoldable pub survey : ℕ → ℕ → Schema → Object → List ℕ → Parsed Extent
 survey zero o S ob xs = fail
 survey (suc d) o S ob xs = surveyContent (survey d o S) o S ob xs

@@ -1,19 +1,18 @@
 -- The survey of what leads to no object is what decode gives, tested.
 use mathlib.Core.Path.{_≡_, refl, sym, ap, _∙_}
 use mathlib.Core.List.{List, [], _∷_}
-use mathlib.Core.Bool.{Bool, true, false, _&&_, not, and-true, and-assoc}
+use mathlib.Core.Bool.{Bool, true, false, _&&_, and-true, and-assoc}
 use Prim.Native.Nat.{ℕ, _*_, _<_}
-use lib.ListN.{length}
 use Rattle.coding.specs.Lists.{pick}
 use Rattle.coding.specs.Schema.{Schema, structOf}
-use Rattle.coding.specs.Value.{Value, Values, absent, unknown, number, row, none, _then_, present, known, asNumber, asRow, first, others}
-use Rattle.coding.specs.Sheet.{Parsed, fail, got, bind, takeNumber, takeValue, takeIf, takeMark, unknownEnum, takeUnknownEnum, takeEnum, takeFlat, takeField, takeFields, takeBy, takeNothing, takeStruct, takeUnknownFlat}
+use Rattle.coding.specs.Value.{Value, Values, unknown, number, row, present, known, asNumber, asRow, first, others}
+use Rattle.coding.specs.Sheet.{Parsed, fail, got, bind, takeNumber, takeValue, takeIf, unknownEnum, takeUnknownEnum, takeEnum, takeFlat, takeField, takeFields, takeBy, takeNothing, takeStruct, takeUnknownFlat}
 use Rattle.coding.specs.Message.{flatKnown, flatsKnown, knownBy, allKnown, structKnown, flatWritable}
 use Rattle.coding.specs.declared.Flat.{Flat}
 use Rattle.coding.specs.declared.Flat.the-variants.{Boolean, Integer, Float, Enumerated, Struct}
 use Rattle.laws.specs.Sound.{All, FlatSound, Sound}
 use Rattle.laws.specs.Structs.{index-holds₃}
-use Rattle.write_measure.specs.Survey.{testNumber, testIf, surveyMark, anyNumber, floatFine, belowCount, surveyFlat, enumField, surveyField, surveyFields, surveyBy, surveyNothing, surveyStruct, surveyLostFlat}
+use Rattle.write_measure.specs.Survey.{testNumber, testIf, anyNumber, floatFine, belowCount, surveyFlat, enumField, surveyField, surveyFields, surveyBy, surveyNothing, surveyStruct, surveyUnknownFlat}
 use Rattle.write_measure.specs.Mapped.{mapped, Has, mapped-same, bind-mapped, bind-has, seq, mark-mapped}
 
 -- a value that is there
@@ -120,10 +119,10 @@ module _ (S : Schema) (sound : Sound S) where
   flat-there (Enumerated n) xs = unfold takeEnum in if-there 8 (belowCount n) xs
   flat-there (Struct i) xs = struct-surveyed i .there xs
 
-  pub lost-surveyed : (optional : Bool) (k : Flat) (xs : List ℕ) → surveyLostFlat k xs ≡ mapped (flatWritable S optional k) (takeUnknownFlat k xs)
-  unfolding surveyLostFlat takeUnknownFlat flatWritable takeUnknownEnum known
-  lost-surveyed optional Boolean xs = refl
-  lost-surveyed optional (Integer s w) xs = refl
-  lost-surveyed optional (Float w) xs = refl
-  lost-surveyed optional (Enumerated n) xs = if-tested _ 8 (unknownEnum n) unknown false (λ x. refl) xs
-  lost-surveyed optional (Struct i) xs = refl
+  pub unknown-surveyed : (optional : Bool) (k : Flat) (xs : List ℕ) → surveyUnknownFlat k xs ≡ mapped (flatWritable S optional k) (takeUnknownFlat k xs)
+  unfolding surveyUnknownFlat takeUnknownFlat flatWritable takeUnknownEnum known
+  unknown-surveyed optional Boolean xs = refl
+  unknown-surveyed optional (Integer s w) xs = refl
+  unknown-surveyed optional (Float w) xs = refl
+  unknown-surveyed optional (Enumerated n) xs = if-tested _ 8 (unknownEnum n) unknown false (λ x. refl) xs
+  unknown-surveyed optional (Struct i) xs = refl

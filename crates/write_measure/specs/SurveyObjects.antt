@@ -1,9 +1,8 @@
 -- The survey of an object is what decode gives, with the writer's tests and sizes.
 use mathlib.Core.Path.{_≡_, refl, sym, ap, ap₂, _∙_}
-use mathlib.Core.List.{List, [], _∷_}
-use mathlib.Core.Bool.{Bool, true, false, _&&_}
+use mathlib.Core.List.{List}
+use mathlib.Core.Bool.{Bool, true, false}
 use Prim.Native.Nat.{ℕ, zero, suc, _+_, _*_}
-use native.Mathlib.Omega.{arith}
 use native.Mathlib.Nat.{zero-add}
 use lib.ListN.{length, drop}
 use lib.Dec.{leb}
@@ -11,7 +10,7 @@ use Rattle.coding.specs.Lists.{pick}
 use Rattle.coding.specs.Schema.{Schema, elementOf, tableOf}
 use Rattle.coding.specs.Layout.{fixedSize}
 use Rattle.coding.specs.Step.{elementsSize}
-use Rattle.coding.specs.Value.{Value, Values, absent, blob, row, none, _then_, present, asBlob, asRow, count}
+use Rattle.coding.specs.Value.{Value, Values, blob, row, _then_, present, asBlob, asRow, count}
 use Rattle.coding.specs.Bits.{pack}
 use Rattle.coding.specs.Cells.{width, chain, below, packBits}
 use Rattle.coding.specs.Sheet.{Parsed, fail, got, bind, takeNumber, takeBytes, Decoder, takeElement, takeElements, takeMembers, takeBlob, takeContent, decode}
@@ -22,10 +21,10 @@ use Rattle.coding.specs.declared.Kind.{Kind}
 use Rattle.laws.specs.Bits.{pack-length}
 use Rattle.laws.specs.Sound.{Sound}
 use Rattle.write_measure.specs.Survey.{opened, Surveyor, surveyMembers, surveyElements, surveyBlob, surveyContent, survey}
-use Rattle.write_measure.specs.Mapped.{mapped, Has, mapped-same, bind-mapped, bind-has}
+use Rattle.write_measure.specs.Mapped.{mapped, Has, bind-mapped, bind-has}
 use Rattle.write_measure.specs.Summed.{summed, opened-summed}
 use Rattle.write_measure.specs.SurveyFlats.{Present}
-use Rattle.write_measure.specs.SurveyParts.{objectExtent, ObjectSurveyed, membersExtent, members-surveyed, elementsExtent, elements-surveyed}
+use Rattle.write_measure.specs.SurveyParts.{ObjectSurveyed, membersExtent, members-surveyed, elementsExtent, elements-surveyed}
 use Rattle.write_measure.specs.Widths.{members-wide, elements-wide}
 use Rattle.write_measure.specs.declared.Extent.{Extent}
 

@@ -9,10 +9,10 @@ use lib.ListN.{length}
 use lib.Dec.{ltb, leb}
 use Rattle.coding.specs.Lists.{pick}
 use Rattle.coding.specs.Schema.{Schema, casesOf, caseOf}
-use Rattle.coding.specs.Value.{Value, Values, absent, unknown, number, row, chosen, none, _then_, present, known, asNumber, asObject, first, others}
+use Rattle.coding.specs.Value.{Value, Values, absent, unknown, chosen, _then_, present, known, asNumber, asObject, first, others}
 use Rattle.coding.specs.Cells.{width, chain, below, packBits}
 use Rattle.coding.specs.Sheet.{Parsed, fail, got, bind, takeNumber, takeIf, takeFlat, takeStruct, Decoder, takeChoice, takeBody, takeUnknownFlat, takeUnknown, takePart, unmarked, takeElement, takeMembers, takeElements}
-use Rattle.coding.specs.Message.{lengthOf, flatWritable, Test, valueWritable, membersWritable, elementsWritable, Planner, valueSlots, membersSlots, elementsSlots}
+use Rattle.coding.specs.Message.{lengthOf, flatWritable, Test, valueWritable, membersWritable, elementsWritable, Planner, membersSlots, elementsSlots}
 use Rattle.coding.specs.declared.Flat.{Flat}
 use Rattle.coding.specs.declared.Flat.the-variants as F
 use Rattle.coding.specs.declared.Object.{Object}
@@ -20,11 +20,11 @@ use Rattle.coding.specs.declared.Kind.{Kind}
 use Rattle.coding.specs.declared.Kind.the-variants.{OfFlat, OfObject, OfUnion}
 use Rattle.coding.specs.declared.Member.{Member}
 use Rattle.laws.specs.Sound.{Sound}
-use Rattle.write_measure.specs.Survey.{testIf, plain, joined, referred, Surveyor, plainOf, surveyFlat, surveyStruct, surveyObject, surveyChoice, surveyBody, surveyLostFlat, aboveCount, surveyLost, flatMayLack, mayLack, surveyPart, surveyElement, surveyMembers, surveyElements}
+use Rattle.write_measure.specs.Survey.{testIf, plain, joined, referred, Surveyor, plainOf, surveyObject, surveyChoice, surveyBody, aboveCount, surveyUnknown, flatMayLack, mayLack, surveyPart, surveyElement, surveyMembers, surveyElements}
 use Rattle.write_measure.specs.Mapped.{mapped, Has, mapped-same, bind-mapped, mapped-got, seq, mark-mapped}
 use Rattle.write_measure.specs.Summed.{summed, plain-summed, joined-summed, referFine, referred-summed}
 use Rattle.write_measure.specs.SlotSizes.{objectChain, objectBelow, valueChain, valueBelow, value-chain, value-below, member-chain, member-below}
-use Rattle.write_measure.specs.SurveyFlats.{Present, flat-surveyed, flat-there, lost-surveyed}
+use Rattle.write_measure.specs.SurveyFlats.{Present, flat-surveyed, unknown-surveyed}
 use Rattle.write_measure.specs.declared.Extent.{Extent}
 
 has-all : {A : Type 0} (P : A → Type 0) → ((a : A) → P a) → (p : Parsed A) → Has P p
@@ -141,15 +141,15 @@ module _ (o : ℕ) (S : Schema) (sound : Sound S) (child : Surveyor) (decoder : 
         object-there inplace false ob (partExtent (OfObject ob) optional inplace) xs (λ v g. object-part optional inplace ob v g)
     body-surveyed (OfUnion i) optional inplace xs = choice-surveyed optional inplace i xs
 
-    lost-part : (k : Kind) (optional inplace : Bool) (xs : List ℕ)
-        → surveyLost S k xs ≡ mapped (partExtent k optional inplace) (takeUnknown S k xs)
-    unfolding surveyLost takeUnknown plainOf valueWritable present known
-    lost-part (OfFlat k) optional inplace xs =
-        ap (λ p. bind p (λ t ys. got (plain t) ys)) (lost-surveyed S sound optional k xs)
+    unknown-part : (k : Kind) (optional inplace : Bool) (xs : List ℕ)
+        → surveyUnknown S k xs ≡ mapped (partExtent k optional inplace) (takeUnknown S k xs)
+    unfolding surveyUnknown takeUnknown plainOf valueWritable present known
+    unknown-part (OfFlat k) optional inplace xs =
+        ap (λ p. bind p (λ t ys. got (plain t) ys)) (unknown-surveyed S sound optional k xs)
         ∙ mapped-got (flatWritable S optional k) plain (partExtent (OfFlat k) optional inplace) (takeUnknownFlat k xs)
         (has-all _ (λ v. plain-summed (flatWritable S optional k v)) (takeUnknownFlat k xs))
-    lost-part (OfObject ob) optional inplace xs = refl
-    lost-part (OfUnion i) optional inplace xs =
+    unknown-part (OfObject ob) optional inplace xs = refl
+    unknown-part (OfUnion i) optional inplace xs =
         if-plain (partExtent (OfUnion i) optional inplace) 16 (aboveCount (length (casesOf S i))) unknown false (λ x. plain-summed false) xs
 
     none-flat : (k : Flat) (optional : Bool) → flatMayLack optional k ≡ flatWritable S optional k absent
@@ -170,8 +170,8 @@ module _ (o : ℕ) (S : Schema) (sound : Sound S) (child : Surveyor) (decoder : 
         → surveyPart child o S k optional inplace xs ≡ mapped (partExtent k optional inplace) (takePart decoder S k xs)
     unfolding surveyPart takePart
     part-surveyed k optional inplace xs =
-        mark-mapped (partExtent k optional inplace) (plain (mayLack optional k)) (surveyLost S k) (surveyBody child o S k optional inplace)
-        (takeUnknown S k) (takeBody decoder S k) (none-part k optional inplace) (λ ys. lost-part k optional inplace ys)
+        mark-mapped (partExtent k optional inplace) (plain (mayLack optional k)) (surveyUnknown S k) (surveyBody child o S k optional inplace)
+        (takeUnknown S k) (takeBody decoder S k) (none-part k optional inplace) (λ ys. unknown-part k optional inplace ys)
         (λ ys. body-surveyed k optional inplace ys) xs
 
     element-surveyed : (k : Kind) (xs : List ℕ) → surveyElement child o S k xs ≡ mapped (partExtent k true false) (takeElement decoder S k xs)

@@ -1,9 +1,9 @@
 -- What the survey's code answers, against the definitions: whether a part of the sheet is lawful, what it says, and where
 -- the sheet goes on.
-use Prim.Native.Nat.{ℕ, suc, _*_, _^_, _≤_, _<_}
-use mathlib.Core.Path.{_≡_, refl, ap, ap₂, _∙_, subst}
+use Prim.Native.Nat.{ℕ, _*_, _^_, _≤_, _<_}
+use mathlib.Core.Path.{_≡_, refl, ap, _∙_}
 use mathlib.Core.List.{List, [], _∷_}
-use mathlib.Core.Bool.{Bool, true, false, _&&_}
+use mathlib.Core.Bool.{Bool, true, _&&_}
 use lib.ListN.{length, drop}
 use Rattle.coding.specs.Lists.{pick}
 use Rattle.coding.specs.Bits.{bits}

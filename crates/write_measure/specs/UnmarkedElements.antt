@@ -34,7 +34,7 @@ unmarkedBits (OfFlat k) = flatUnmarkedBits k
 unmarkedBits (OfObject ob) = 0
 unmarkedBits (OfUnion i) = 0
 
--- m bits passed over
+-- m bits passed over; the answer is a
 unfoldable pub passed : ℕ → Extent → List ℕ → Parsed Extent
 passed m a xs = pick (leb m (length xs)) (got a (drop m xs)) fail
 
@@ -42,7 +42,7 @@ module _ (child : Surveyor) (o : ℕ) (S : Schema) where
   false-true : false ≡ true → ⊥
   false-true e = let z : _≡_ {A = ℕ} 0 1 = cc in absurd (omega arith)
 
-  -- one element
+  -- one element without a mark is its number, whatever it is
   unmarked-element : (k : Kind) → unmarked k ≡ true → (xs : List ℕ) → surveyElement child o S k xs ≡ plainOf (testNumber (unmarkedBits k) anyNumber xs)
   unfolding surveyElement surveyBody surveyFlat unmarked flatUnmarked unmarkedBits flatUnmarkedBits
   unmarked-element (OfFlat Boolean) e xs = refl
@@ -62,14 +62,14 @@ any-number w xs = by (leb w (length xs))
     by true = refl
     by false = refl
 
--- it adds nothing
+-- an element without a mark adds nothing to its list's extent
 joined-plain : (n z : ℕ) → joined (opened n z) (plain true) ≡ opened n z
 unfolding joined opened plain
 joined-plain n z =
     let c : capped 0 ≡ 0 = capped-in 0 (unfold largest in omega arith) in
     ap (λ (x : ℕ). record { writable = true; length = n; width = z; chain = x; below = x }) c
 
--- no bits
+-- no bits passed over
 passed-none : (a : Extent) (xs : List ℕ) (m : ℕ) → m ≡ 0 → passed m a xs ≡ got a xs
 unfolding passed
 passed-none a xs m e = rw e (simp (le-leb 0 (length xs) (omega arith)))
@@ -113,7 +113,7 @@ passed-more w m a e xs = by (leb w (length xs)) refl
         let z : length xs < w + m = omega arith in
         simp (lt-leb (w + m) (length xs) z)
 
--- n elements
+-- n elements without a mark are their bits passed over
 pub unmarked-elements : (child : Surveyor) (o : ℕ) (S : Schema) (k : Kind) → unmarked k ≡ true → (n l z : ℕ) (xs : List ℕ)
     → surveyElements child o S k n (opened l z) xs ≡ passed (n * unmarkedBits k) (opened l z) xs
 unfolding surveyElements

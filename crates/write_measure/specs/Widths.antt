@@ -1,7 +1,7 @@
 -- The bytes of an object's content, as the writer lays it out, are those of its length: a full fixed part, or the bytes of
 -- so many elements.
-use mathlib.Core.Path.{_≡_, refl, sym, ap, ap₂, _∙_}
-use mathlib.Core.List.{List, [], _∷_, _++_}
+use mathlib.Core.Path.{_≡_, refl, ap, ap₂, _∙_}
+use mathlib.Core.List.{List, [], _∷_}
 use mathlib.Core.Bool.{Bool, true, false}
 use Prim.Native.Nat.{ℕ, zero, suc, _+_, _*_, _-_, _/_, _<_, _≤_}
 use native.Mathlib.Omega.{arith}
@@ -12,14 +12,14 @@ use borrow.Author.Tests.{ltb-true, ltb-false}
 use Rattle.coding.specs.Lists.{pick}
 use Rattle.coding.specs.Bytes.{leBytes, noFloat}
 use Rattle.coding.specs.Schema.{Schema, structOf, casesOf, caseOf}
-use Rattle.coding.specs.Structs.{byIndex, flatWidth, total, sizeBy, structSize}
+use Rattle.coding.specs.Structs.{flatWidth, total, sizeBy, structSize}
 use Rattle.coding.specs.Layout as L
 use Rattle.coding.specs.Layout.{flatIsBool, isBool, hasFlag, begin, afterBit, afterBytes, afterFlag, afterValue, afterMember, afterMembers, fixedSize}
 use Rattle.coding.specs.Step.{elementsSize}
 use Rattle.coding.specs.Value.{Value, Values, none, _then_, present, asNumber, asRow, asObject, first, others, count}
-use Rattle.coding.specs.Cells.{width, Slots, gather, packBits}
-use Rattle.coding.specs.Cells.Slots.{end, bytes, bit, reference, inPlace}
-use Rattle.coding.specs.Message.{lengthOf, numberOr, flatBytes, flatsBytes, bytesBy, noBytes, structBytes, zeros, flatSlots, Planner, objectSlots, referSlots, valueSlots, flagOf, memberSlots, membersSlots, elementsSlots}
+use Rattle.coding.specs.Cells.{width, Slots, packBits}
+use Rattle.coding.specs.Cells.Slots.{end, bytes, bit}
+use Rattle.coding.specs.Message.{lengthOf, numberOr, flatBytes, flatsBytes, bytesBy, noBytes, structBytes, zeros, flatSlots, Planner, referSlots, valueSlots, flagOf, memberSlots, membersSlots, elementsSlots}
 use Rattle.coding.specs.declared.Flat.{Flat}
 use Rattle.coding.specs.declared.Flat.the-variants as F
 use Rattle.coding.specs.declared.Object.{Object}

@@ -3,7 +3,9 @@
 use coding::Cursor;
 use coding::Flat;
 use coding::Kind;
+use coding::Member;
 use coding::Object;
+use message_header::TableObject;
 ghost use mathlib.Core.Path.{_≡_};
 ghost use mathlib.Core.Bool.{Bool, true, false, _&&_};
 ghost use Prim.Native.Nat.{ℕ, _+_, _-_, _*_, _%_, _<_, _≤_, _^_};
@@ -22,10 +24,11 @@ ghost use Rattle.laws.specs.Sound.{FlatSound, ObjectSound, KindSound, MemberSou
 ghost use Rattle.message_layout.specs.Bounds.{Laid};
 ghost use Rattle.schema.specs.Directory.{Accepted};
 ghost use Rattle.write_measure.specs.Survey as Sv;
-ghost use Rattle.write_measure.specs.UnmarkedElements as Ba;
+ghost use Rattle.write_measure.specs.SurveyBy as By;
+ghost use Rattle.write_measure.specs.UnmarkedElements.{unmarkedBits, passed};
 ghost use Rattle.write_measure.specs.BlobReferred.{BlobEnd, blobReferred};
-ghost use Rattle.write_measure.specs.Surveyed.{TestedAt, Small, Fits, SurveyedAt};
-ghost use Rattle.write_measure.specs.SimpleMembers.{flatPart, joinedPart, LeftAt, WholeBytes};
+ghost use Rattle.write_measure.specs.Surveyed.{Small, Fits};
+ghost use Rattle.write_measure.specs.SimpleMembers.{WholeBytes};
 
 // What an object of the sheet takes: whether it can be written; the length that its header gives; the bytes of its content
 // (width), of the contents in place behind it (chain), and of the objects that these refer to (below). The last two count to
@@ -39,14 +42,15 @@ pub struct Extent {
     pub writable: bool,
 }
 
-// ---- what leads to no object
-// Whether it is lawful; if so, whether it can be written, and where the sheet goes on, in bits.
+// ---- flat values: bools, numbers, enums and structs, which lead to no object
+// Whether a part of the sheet is lawful; if so, whether it can be written, and where the sheet goes on, in bits.
 pub struct Tested {
     pub next: usize,
     pub whole: bool,
     pub fine: bool,
 }
 
+// The answer where the sheet is not lawful.
 fn not_lawful(pos: usize) -> Tested
     ensures { λ r. ⌜ (r .whole ≡ false) × (r .next ≡ pos) ⌝ }
 {
@@ -57,7 +61,7 @@ fn not_lawful(pos: usize) -> Tested
     }
 }
 
-// The answer of a number that must pass a test.
+// The answer for a number that must pass a test.
 fn tested_if(whole: bool, ok: bool, answer: bool, next: usize) -> Tested
     ensures { λ r. ⌜ (r .whole ≡ (whole && ok)) × (r .fine ≡ answer) × (r .next ≡ next) ⌝ }
 {
@@ -75,25 +79,18 @@ fn tested_if(whole: bool, ok: bool, answer: bool, next: usize) -> Tested
     }
 }
 
-fn is_nan(w: u8, x: u64) -> bool
-    ensures { λ r. ⌜ r ≡ B.isNaN w x ⌝ }
-{
-    if w == 4 {
-        return 0x7F80_0000 < x % 0x8000_0000;
-    }
-    0x7FF0_0000_0000_0000 < x % 0x8000_0000_0000_0000
-}
-
+// Whether a float of w bytes can be written: where it is optional, a NaN cannot, for it means no value.
 fn float_fine(optional: bool, w: u8, x: u64) -> bool
     ensures { λ r. ⌜ r ≡ Sv.floatFine optional w x ⌝ }
 {
     if optional {
-        return !is_nan(w, x);
+        return !wire::is_nan(w, x);
     }
     true
 }
 
-pub fn unknown_enum(n: u8, x: u64) -> bool
+// Whether an enum of n values does not know x, and x does not mean that there is no value.
+pub fn is_unknown_enum(n: u8, x: u64) -> bool
     ensures { λ r. ⌜ r ≡ Sh.unknownEnum n x ⌝ }
 {
     if wire::wide(n) <= x {
@@ -104,8 +101,8 @@ pub fn unknown_enum(n: u8, x: u64) -> bool
 
 // Any number of w bits, passed over.
 fn any_number(s: &[u8], pos: usize, w: usize) -> Tested
-    requires { ⌜ (length (now s) ≤ 16777215) × (pos ≤ 8 * length (now s)) × (w ≤ 64) ⌝ }
-    ensures { λ r. ⌜ TestedAt (now (s .entry)) (Sv.testNumber w Sv.anyNumber (drop pos (bits (now (s .entry))))) (r .whole) (r .fine) (r .next) ⌝ }
+    requires { ⌜ (By.Inside (now s) pos) × (w ≤ 64) ⌝ }
+    ensures { λ r. ⌜ By.Tests (now (s .entry)) pos (Sv.testNumber w Sv.anyNumber) r ⌝ }
 {
     if w <= 8 * s.len() - pos {
         return Tested {
@@ -117,9 +114,10 @@ fn any_number(s: &[u8], pos: usize, w: usize) -> Tested
     not_lawful(pos)
 }
 
+// A float of w bytes.
 fn float_number(s: &[u8], pos: usize, optional: bool, w: u8) -> Tested
-    requires { ⌜ (length (now s) ≤ 16777215) × (pos ≤ 8 * length (now s)) × (w ≤ 8) ⌝ }
-    ensures { λ r. ⌜ TestedAt (now (s .entry)) (Sv.testNumber (8 * w) (Sv.floatFine optional w) (drop pos (bits (now (s .entry))))) (r .whole) (r .fine) (r .next) ⌝ }
+    requires { ⌜ (By.Inside (now s) pos) × (w ≤ 8) ⌝ }
+    ensures { λ r. ⌜ By.Tests (now (s .entry)) pos (Sv.testNumber (8 * w) (Sv.floatFine optional w)) r ⌝ }
 {
     let x = bitio::take_number(s, pos, 8 * wire::index(w));
     let v = x.value;
@@ -132,8 +130,8 @@ fn float_number(s: &[u8], pos: usize, optional: bool, w: u8) -> Tested
 
 // An enum's number below its count.
 fn enum_known(s: &[u8], pos: usize, n: u8) -> Tested
-    requires { ⌜ (length (now s) ≤ 16777215) × (pos ≤ 8 * length (now s)) ⌝ }
-    ensures { λ r. ⌜ TestedAt (now (s .entry)) (Sv.testIf 8 (Sv.belowCount n) true (drop pos (bits (now (s .entry))))) (r .whole) (r .fine) (r .next) ⌝ }
+    requires { ⌜ By.Inside (now s) pos ⌝ }
+    ensures { λ r. ⌜ By.Tests (now (s .entry)) pos (Sv.testIf 8 (Sv.belowCount n) true) r ⌝ }
 {
     let x = bitio::take_number(s, pos, 8);
     let ok = x.value < wire::wide(n);
@@ -141,20 +139,20 @@ fn enum_known(s: &[u8], pos: usize, n: u8) -> Tested
 }
 
 // An enum's unknown number.
-fn enum_lost(s: &[u8], pos: usize, n: u8) -> Tested
-    requires { ⌜ (length (now s) ≤ 16777215) × (pos ≤ 8 * length (now s)) ⌝ }
-    ensures { λ r. ⌜ TestedAt (now (s .entry)) (Sv.testIf 8 (Sh.unknownEnum n) false (drop pos (bits (now (s .entry))))) (r .whole) (r .fine) (r .next) ⌝ }
+fn enum_unknown(s: &[u8], pos: usize, n: u8) -> Tested
+    requires { ⌜ By.Inside (now s) pos ⌝ }
+    ensures { λ r. ⌜ By.Tests (now (s .entry)) pos (Sv.testIf 8 (Sh.unknownEnum n) false) r ⌝ }
 {
     let x = bitio::take_number(s, pos, 8);
     let v = x.value;
-    let ok = unknown_enum(n, v);
+    let ok = is_unknown_enum(n, v);
     tested_if(x.whole, ok, false, x.next)
 }
 
-// A struct's enum, with its mark.
+// A struct's enum: its mark, and its number if there is one.
 fn enum_field(s: &[u8], pos: usize, n: u8) -> Tested
-    requires { ⌜ (length (now s) ≤ 16777215) × (pos ≤ 8 * length (now s)) ⌝ }
-    ensures { λ r. ⌜ TestedAt (now (s .entry)) (Sv.enumField n (drop pos (bits (now (s .entry))))) (r .whole) (r .fine) (r .next) ⌝ }
+    requires { ⌜ By.Inside (now s) pos ⌝ }
+    ensures { λ r. ⌜ By.Tests (now (s .entry)) pos (Sv.enumField n) r ⌝ }
 {
     let x = bitio::take_number(s, pos, 2);
     if !x.whole {
@@ -173,15 +171,16 @@ fn enum_field(s: &[u8], pos: usize, n: u8) -> Tested
         return enum_known(s, next, n);
     }
     if mark == 2 {
-        return enum_lost(s, next, n);
+        return enum_unknown(s, next, n);
     }
     not_lawful(pos)
 }
 
 // ---- structs, by recursion on the struct index, which falls at every inner struct
+// A member of struct i, of kind k.
 fn field_test(b: &[u8], dir: &[u16], s: &[u8], i: usize, k: Flat, pos: usize) -> Tested
-    requires { ⌜ (Accepted (now b) (now dir)) × (FlatSound i k) × (i < P.structCount (now b)) × (length (now s) ≤ 16777215) × (pos ≤ 8 * length (now s)) ⌝ }
-    ensures { λ r. ⌜ TestedAt (now (s .entry)) (Sv.surveyField (Sv.surveyStruct (P.parse (now (b .entry)))) k (drop pos (bits (now (s .entry))))) (r .whole) (r .fine) (r .next) ⌝ }
+    requires { ⌜ (Accepted (now b) (now dir)) × (FlatSound i k) × (i < P.structCount (now b)) × By.Inside (now s) pos ⌝ }
+    ensures { λ r. ⌜ By.Tests (now (s .entry)) pos (By.field (now (b .entry)) k) r ⌝ }
 {
     match k {
         Flat::Boolean => any_number(s, pos, 1),
@@ -192,10 +191,10 @@ fn field_test(b: &[u8], dir: &[u16], s: &[u8], i: usize, k: Flat, pos: usize) ->
     }
 }
 
-// Whether a struct has no unknown enum.
+// The members of struct i in turn. Only an unknown enum keeps a struct from being written.
 fn struct_test(b: &[u8], dir: &[u16], s: &[u8], i: usize, at: usize) -> Tested
-    requires { ⌜ (Accepted (now b) (now dir)) × (i < P.structCount (now b)) × (length (now s) ≤ 16777215) × (at ≤ 8 * length (now s)) ⌝ }
-    ensures { λ r. ⌜ TestedAt (now (s .entry)) (Sv.surveyStruct (P.parse (now (b .entry))) i (drop at (bits (now (s .entry))))) (r .whole) (r .fine) (r .next) ⌝ }
+    requires { ⌜ (Accepted (now b) (now dir)) × (i < P.structCount (now b)) × By.Inside (now s) at ⌝ }
+    ensures { λ r. ⌜ By.Tests (now (s .entry)) at (By.struct (now (b .entry)) i) r ⌝ }
 {
     let n = schema::field_count(b, dir, i);
     let mut pos = at;
@@ -224,10 +223,10 @@ fn both(a: bool, b: bool) -> bool
     if a { b } else { false }
 }
 
-// What leads to no object, as a member or an element.
+// A flat value of a member or an element, present, behind its mark.
 fn flat_test(b: &[u8], dir: &[u16], s: &[u8], pos: usize, optional: bool, k: Flat) -> Tested
-    requires { ⌜ (Accepted (now b) (now dir)) × (FlatSound (length (P.parse (now b) .structs)) k) × (length (now s) ≤ 16777215) × (pos ≤ 8 * length (now s)) ⌝ }
-    ensures { λ r. ⌜ TestedAt (now (s .entry)) (Sv.surveyFlat (Sv.surveyStruct (P.parse (now (b .entry)))) optional k (drop pos (bits (now (s .entry))))) (r .whole) (r .fine) (r .next) ⌝ }
+    requires { ⌜ (Accepted (now b) (now dir)) × (FlatSound (length (P.parse (now b) .structs)) k) × By.Inside (now s) pos ⌝ }
+    ensures { λ r. ⌜ By.Tests (now (s .entry)) pos (By.flat (now (b .entry)) optional k) r ⌝ }
 {
     match k {
         Flat::Boolean => any_number(s, pos, 1),
@@ -238,59 +237,35 @@ fn flat_test(b: &[u8], dir: &[u16], s: &[u8], pos: usize, optional: bool, k: Fla
     }
 }
 
-// Its unknown number, of an enum only.
-fn flat_lost(s: &[u8], pos: usize, k: Flat) -> Tested
-    requires { ⌜ (length (now s) ≤ 16777215) × (pos ≤ 8 * length (now s)) ⌝ }
-    ensures { λ r. ⌜ TestedAt (now (s .entry)) (Sv.surveyLostFlat k (drop pos (bits (now (s .entry))))) (r .whole) (r .fine) (r .next) ⌝ }
+// The unknown number of a flat value, which only an enum can have.
+fn flat_unknown(s: &[u8], pos: usize, k: Flat) -> Tested
+    requires { ⌜ By.Inside (now s) pos ⌝ }
+    ensures { λ r. ⌜ By.Tests (now (s .entry)) pos (Sv.surveyUnknownFlat k) r ⌝ }
 {
     match k {
         Flat::Boolean => not_lawful(pos),
         Flat::Integer(_, _) => not_lawful(pos),
         Flat::Float(_) => not_lawful(pos),
-        Flat::Enumerated(n) => enum_lost(s, pos, n),
+        Flat::Enumerated(n) => enum_unknown(s, pos, n),
         Flat::Struct(_) => not_lawful(pos),
     }
 }
 
-// ---- by the record of a member
+// ---- a flat member by its record in the schema
 // The bytes of an integer or a float by its kind.
 fn number_width(k: usize) -> usize
-    requires { ⌜ (0 < k) × (k < 11) ⌝ }
+    requires { ⌜ k < 11 ⌝ }
     ensures { λ r. ⌜ (r ≡ P.widthOf k) × (r ≤ 8) ⌝ }
 {
-    if k == 1 {
-        return 1;
-    }
-    if k == 2 {
-        return 2;
-    }
-    if k == 3 {
-        return 4;
-    }
-    if k == 4 {
-        return 8;
-    }
-    if k == 5 {
-        return 1;
-    }
-    if k == 6 {
-        return 2;
-    }
-    if k == 7 {
-        return 4;
-    }
-    if k == 8 {
-        return 8;
-    }
-    if k == 9 { 4 } else { 8 }
+    wire::index(schema::width_of(k))
 }
 
-// Whether there may be no value.
+// Whether the flat member of the record at `at` may have no value: an optional one may, and any enum.
 fn may_lack_at(b: &[u8], at: usize) -> bool
     requires { ⌜ at + 1 < length (now b) ⌝ }
     ensures { λ r. ⌜ r ≡ Sv.flatMayLack (P.optionalAt (now (b .entry)) at) (P.flatAt (now (b .entry)) at) ⌝ }
 {
-    if schema::kind_at(b, at) == 11 {
+    if schema::kind_at(b, at) == schema::KIND_ENUM {
         return true;
     }
     schema::optional_at(b, at)
@@ -298,38 +273,38 @@ fn may_lack_at(b: &[u8], at: usize) -> bool
 
 // A struct by its number. It is apart for speed: the slices are stored for the call only where there is a struct.
 fn struct_at(b: &[u8], dir: &[u16], s: &[u8], n: u8, pos: usize) -> Tested
-    requires { ⌜ (Accepted (now b) (now dir)) × (n < P.structCount (now b)) × (length (now s) ≤ 16777215) × (pos ≤ 8 * length (now s)) ⌝ }
-    ensures { λ r. ⌜ TestedAt (now (s .entry)) (Sv.surveyStruct (P.parse (now (b .entry))) n (drop pos (bits (now (s .entry))))) (r .whole) (r .fine) (r .next) ⌝ }
+    requires { ⌜ (Accepted (now b) (now dir)) × (n < P.structCount (now b)) × By.Inside (now s) pos ⌝ }
+    ensures { λ r. ⌜ By.Tests (now (s .entry)) pos (By.struct (now (b .entry)) n) r ⌝ }
 {
     struct_test(b, dir, s, wire::index(n), pos)
 }
 
-// What is there.
+// The flat member of the record at `at`, present, behind its mark.
 fn flat_body(b: &[u8], dir: &[u16], s: &[u8], at: usize, pos: usize) -> Tested
-    requires { ⌜ (Accepted (now b) (now dir)) × (at + 1 < length (now b)) × (FlatSound (length (P.parse (now b) .structs)) (P.flatAt (now b) at)) × (length (now s) ≤ 16777215) × (pos ≤ 8 * length (now s)) ⌝ }
-    ensures { λ r. ⌜ TestedAt (now (s .entry)) (Sv.surveyFlat (Sv.surveyStruct (P.parse (now (b .entry)))) (P.optionalAt (now (b .entry)) at) (P.flatAt (now (b .entry)) at) (drop pos (bits (now (s .entry))))) (r .whole) (r .fine) (r .next) ⌝ }
+    requires { ⌜ (Accepted (now b) (now dir)) × (at + 1 < length (now b)) × (FlatSound (length (P.parse (now b) .structs)) (P.flatAt (now b) at)) × By.Inside (now s) pos ⌝ }
+    ensures { λ r. ⌜ By.Tests (now (s .entry)) pos (By.flatBody (now (b .entry)) at) r ⌝ }
 {
     let k = schema::kind_at(b, at);
-    if k == 0 {
+    if k == schema::KIND_BOOL {
         return any_number(s, pos, 1);
     }
-    if k < 9 {
+    if k < schema::KIND_FLOAT {
         return any_number(s, pos, 8 * number_width(k));
     }
-    if k < 11 {
+    if k < schema::KIND_ENUM {
         return float_number(s, pos, schema::optional_at(b, at), schema::width_of(k));
     }
     let n = schema::argument_at(b, at);
-    if k == 11 {
+    if k == schema::KIND_ENUM {
         return enum_known(s, pos, n);
     }
     struct_at(b, dir, s, n, pos)
 }
 
-// With its mark.
+// The flat member of the record at `at`: its mark, and what the mark says comes next.
 fn flat_part(b: &[u8], dir: &[u16], s: &[u8], at: usize, pos: usize) -> Tested
-    requires { ⌜ (Accepted (now b) (now dir)) × (at + 1 < length (now b)) × (FlatSound (length (P.parse (now b) .structs)) (P.flatAt (now b) at)) × (length (now s) ≤ 16777215) × (pos ≤ 8 * length (now s)) ⌝ }
-    ensures { λ r. ⌜ TestedAt (now (s .entry)) (flatPart (Sv.surveyStruct (P.parse (now (b .entry)))) (P.optionalAt (now (b .entry)) at) (P.flatAt (now (b .entry)) at) (drop pos (bits (now (s .entry))))) (r .whole) (r .fine) (r .next) ⌝ }
+    requires { ⌜ (Accepted (now b) (now dir)) × (at + 1 < length (now b)) × (FlatSound (length (P.parse (now b) .structs)) (P.flatAt (now b) at)) × By.Inside (now s) pos ⌝ }
+    ensures { λ r. ⌜ By.Tests (now (s .entry)) pos (By.flatMarked (now (b .entry)) at) r ⌝ }
 {
     let x = bitio::take_number(s, pos, 2);
     if !x.whole {
@@ -348,20 +323,20 @@ fn flat_part(b: &[u8], dir: &[u16], s: &[u8], at: usize, pos: usize) -> Tested
         return flat_body(b, dir, s, at, next);
     }
     if mark == 2 {
-        return flat_lost(s, next, schema::flat_at(b, at));
+        return flat_unknown(s, next, schema::flat_at(b, at));
     }
     not_lawful(pos)
 }
 
-// A union's unknown choice.
-fn choice_lost(b: &[u8], dir: &[u16], s: &[u8], pos: usize, u: usize) -> Tested
-    requires { ⌜ (Accepted (now b) (now dir)) × (u < P.unionCount (now b)) × (length (now s) ≤ 16777215) × (pos ≤ 8 * length (now s)) ⌝ }
-    ensures { λ r. ⌜ TestedAt (now (s .entry)) (Sv.testIf 16 (Sv.aboveCount (length (Sc.casesOf (P.parse (now (b .entry))) u))) false (drop pos (bits (now (s .entry))))) (r .whole) (r .fine) (r .next) ⌝ }
+// The unknown choice of union u: a number above its count of cases.
+fn choice_unknown(b: &[u8], dir: &[u16], s: &[u8], pos: usize, u: usize) -> Tested
+    requires { ⌜ (Accepted (now b) (now dir)) × (u < P.unionCount (now b)) × By.Inside (now s) pos ⌝ }
+    ensures { λ r. ⌜ By.Tests (now (s .entry)) pos (By.unknownChoice (now (b .entry)) u) r ⌝ }
 {
     let n = schema::case_count(b, dir, u);
     let x = bitio::take_number(s, pos, 16);
-    let ok = (n as u64) < x.value;
-    tested_if(x.whole, ok, false, x.next)
+    let above = (n as u64) < x.value;
+    tested_if(x.whole, above, false, x.next)
 }
 
 // ---- extents
@@ -372,6 +347,7 @@ pub struct Surveyed {
     pub whole: bool,
 }
 
+// The extent of a flat value, which adds nothing behind or below its table.
 fn plain(fine: bool) -> Extent
     ensures { λ r. ⌜ Fits (Sv.plain fine) r ⌝ }
 {
@@ -384,6 +360,7 @@ fn plain(fine: bool) -> Extent
     }
 }
 
+// The extent of an object of length n and width w, before its parts are gone over.
 pub fn opened(n: usize, w: usize) -> Extent
     requires { ⌜ (n < 2 ^ 40) × (w < 2 ^ 48) ⌝ }
     ensures { λ r. ⌜ Fits (Sv.opened n w) r ⌝ }
@@ -397,6 +374,7 @@ pub fn opened(n: usize, w: usize) -> Extent
     }
 }
 
+// The answer for a part that is not lawful.
 fn unlawful(pos: usize) -> Surveyed
     ensures { λ r. ⌜ (r .whole ≡ false) × (r .next ≡ pos) × Small (r .extent) ⌝ }
 {
@@ -407,6 +385,7 @@ fn unlawful(pos: usize) -> Surveyed
     }
 }
 
+// The answer for a flat value.
 fn plain_of(t: Tested) -> Surveyed
     ensures { λ r. ⌜ (r .whole ≡ t .whole) × (r .next ≡ t .next) × Fits (Sv.plain (t .fine)) (r .extent) ⌝ }
 {
@@ -423,9 +402,14 @@ fn plain_of(t: Tested) -> Surveyed
 pub fn capped(n: usize) -> usize
     ensures { λ r. ⌜ (r ≡ Sv.capped n) × (r ≤ 16777216) ⌝ }
 {
-    if n <= 16777215 { n } else { 16777216 }
+    if n <= wire::LARGEST {
+        n
+    } else {
+        wire::LARGEST + 1
+    }
 }
 
+// What stands before, and one part more.
 fn joined(a: Extent, e: Extent) -> Extent
     requires { ⌜ Small a × Small e ⌝ }
     ensures { λ r. ⌜ Fits (Sv.joined a e) r ⌝ }
@@ -443,7 +427,7 @@ fn joined(a: Extent, e: Extent) -> Extent
     }
 }
 
-// With what leads to no object.
+// What stands before, and one flat value more: only whether it can be written may change.
 fn joined_plain(a: Extent, fine: bool) -> Extent
     requires { ⌜ Small a ⌝ }
     ensures { λ r. ⌜ Fits (Sv.joined a (Sv.plain fine)) r ⌝ }
@@ -461,7 +445,7 @@ fn joined_plain(a: Extent, fine: bool) -> Extent
     }
 }
 
-// In place: of some length, unless it may be of length 0.
+// Whether an object in place can be written: it must have some length, unless it may be of length 0.
 fn in_place_fine(may: bool, n: usize, fine: bool) -> bool
     ensures { λ r. ⌜ r ≡ (pick may true (ltb 0 n) && fine) ⌝ }
 {
@@ -471,6 +455,7 @@ fn in_place_fine(may: bool, n: usize, fine: bool) -> bool
     if 0 < n { fine } else { false }
 }
 
+// What an object adds to the one that refers to it, or in which it stands. All types of objects have headers of one size.
 fn referred(inplace: bool, may: bool, e: Extent) -> Extent
     requires { ⌜ Small e ⌝ }
     ensures { λ r. ⌜ Fits (Sv.referred B.u48 inplace may e) r ⌝ }
@@ -492,62 +477,40 @@ fn referred(inplace: bool, may: bool, e: Extent) -> Extent
         length: 0,
         width: 0,
         chain: 0,
-        below: capped(10 + size + below),
+        below: capped(TableObject::HEADER + size + below),
     }
 }
 
 // ---- sizes
-// The bytes of n elements of width w.
-fn times(w: usize, n: usize) -> usize
-    requires { ⌜ (w ≤ 4096) × (n < 2 ^ 32) ⌝ }
-    ensures { λ r. ⌜ (r ≡ w * n) × (r ≤ 4096 * 2 ^ 32) ⌝ }
-{
-    w * n
-}
-
-pub fn elements_size(b: &[u8], dir: &[u16], k: Kind, n: usize) -> usize
-    requires { ⌜ (Accepted (now b) (now dir)) × (KindSound (P.parse (now b)) k) × (n < 2 ^ 32) ⌝ }
-    ensures { λ r. ⌜ (r ≡ T.elementsSize B.u48 (P.parse (now (b .entry))) k n) × (r < 2 ^ 48) ⌝ }
-{
-    if message_layout::is_bool(k) {
-        return (n + 7) / 8;
-    }
-    times(message_layout::width(b, dir, k), n)
-}
-
-// Where the record of member j of table t stands.
-fn record_of(b: &[u8], dir: &[u16], t: usize, j: usize) -> usize
-    requires { ⌜ (Accepted (now b) (now dir)) × (t < P.tableCount (now b)) × (j < length (Sc.tableOf (P.parse (now b)) t .members)) × (j < 256) ⌝ }
-    ensures { λ r. ⌜ (r + 1 < length (now (b .entry))) × (P.memberAt (now (b .entry)) r ≡ Sc.memberOf (P.parse (now (b .entry))) t j) × MemberSound (P.parse (now (b .entry))) (P.memberAt (now (b .entry)) r) ⌝ }
-{
-    schema::record_place(4, schema::table_place(b, dir, t), j)
-}
-
 // The bytes of the member of the record at `at` where it takes no bit; 0 where it may take one, and of a struct.
 fn whole_bytes(b: &[u8], at: usize) -> usize
     requires { ⌜ at + 1 < length (now b) ⌝ }
-    ensures { λ r. ⌜ (r < 256) × (0 < r → WholeBytes (P.parse (now (b .entry))) (P.memberAt (now (b .entry)) at) r) ⌝ }
+    ensures { λ r. ⌜ (r < 256) × (0 < r → WholeBytes B.u48 (P.parse (now (b .entry))) (P.memberAt (now (b .entry)) at) r) ⌝ }
 {
     let k = schema::kind_at(b, at);
-    if k == 0 {
+    if k == schema::KIND_BOOL {
         return 0;
     }
-    if k < 9 {
+    if k < schema::KIND_FLOAT {
         if schema::optional_at(b, at) {
             return 0;
         }
         return number_width(k);
     }
-    if k < 11 {
+    if k < schema::KIND_ENUM {
         return number_width(k);
     }
-    if k == 11 {
+    if k == schema::KIND_ENUM {
         return 1;
     }
-    if k < 13 {
+    if k < schema::KIND_TEXT {
         return 0;
     }
-    if k < 17 { 6 } else { 8 }
+    if k < schema::KIND_UNION {
+        wire::OFFSET
+    } else {
+        wire::UNION
+    }
 }
 
 // The cursor behind member j of table t.
@@ -555,14 +518,9 @@ fn behind(b: &[u8], dir: &[u16], t: usize, j: usize, c: Cursor) -> Cursor
     requires { ⌜ (Accepted (now b) (now dir)) × (t < P.tableCount (now b)) × (j < length (Sc.tableOf (P.parse (now b)) t .members)) × (j < 256) × Laid (4097 * j) c ⌝ }
     ensures { λ r. ⌜ (r ≡ L.afterMember B.u48 (P.parse (now (b .entry))) (Sc.memberOf (P.parse (now (b .entry))) t j) c) × Laid (4097 * (j + 1)) r ⌝ }
 {
-    let w = whole_bytes(b, record_of(b, dir, t, j));
+    let w = whole_bytes(b, schema::record_of(b, dir, t, j));
     if 0 < w {
-        let end = c.end + w;
-        return Cursor {
-            end: end,
-            byte: c.byte,
-            bit: c.bit,
-        };
+        return message_layout::after_bytes(c, w);
     }
     let r = schema::member(b, dir, t, j);
     let q = message_layout::place_member(b, dir, r, c);
@@ -570,10 +528,10 @@ fn behind(b: &[u8], dir: &[u16], t: usize, j: usize, c: Cursor) -> Cursor
     next
 }
 
-// A table's full fixed part.
+// The size of table t's full fixed part.
 pub fn fixed_size(b: &[u8], dir: &[u16], t: usize) -> usize
     requires { ⌜ (Accepted (now b) (now dir)) × (t < P.tableCount (now b)) ⌝ }
-    ensures { λ r. ⌜ (r ≡ L.fixedSize B.u48 (P.parse (now (b .entry))) (Sc.tableOf (P.parse (now (b .entry))) t .members)) × (r < 2 ^ 40) ⌝ }
+    ensures { λ r. ⌜ (r ≡ By.fixed B.u48 (now (b .entry)) t) × (r < 2 ^ 40) ⌝ }
 {
     let count = schema::member_count(b, dir, t);
     let mut c = message_layout::begin();
@@ -586,7 +544,7 @@ pub fn fixed_size(b: &[u8], dir: &[u16], t: usize) -> usize
 }
 
 // ---- members, elements and objects
-// Whether there may be no value.
+// Whether a member or an element may have no value.
 fn may_lack(optional: bool, k: Kind) -> bool
     ensures { λ r. ⌜ r ≡ Sv.mayLack optional k ⌝ }
 {
@@ -603,7 +561,7 @@ fn may_lack(optional: bool, k: Kind) -> bool
     }
 }
 
-// Elements without a mark.
+// Whether elements of kind k stand in a sheet without a mark: bools and integers do.
 pub fn unmarked(k: Kind) -> bool
     ensures { λ r. ⌜ r ≡ Sh.unmarked k ⌝ }
 {
@@ -620,7 +578,7 @@ pub fn unmarked(k: Kind) -> bool
     }
 }
 
-// The table that is referred to, or 256.
+// The number of the table that elements of kind k refer to; 256 where they refer to none.
 fn table_in(k: Kind) -> usize
     ensures { λ r. ⌜ (r < 256 → k ≡ Kind.OfObject (Object.Table r)) ⌝ }
 {
@@ -636,9 +594,9 @@ fn table_in(k: Kind) -> usize
     }
 }
 
-// The bits of an element without a mark.
+// The bits of an element of kind k that has no mark; 0 of one that has.
 fn unmarked_bits(k: Kind) -> usize
-    ensures { λ r. ⌜ (r ≡ Ba.unmarkedBits k) × (r ≤ 2040) ⌝ }
+    ensures { λ r. ⌜ (r ≡ unmarkedBits k) × (r ≤ 2040) ⌝ }
 {
     match k {
         Kind::OfFlat(f) => match f {
@@ -653,12 +611,12 @@ fn unmarked_bits(k: Kind) -> usize
     }
 }
 
-// n elements of w bits, passed over: any number will do.
+// n elements of w bits each, passed over: any number will do.
 fn pass(s: &[u8], pos: usize, w: usize, n: usize, a: Extent) -> Surveyed
-    requires { ⌜ (length (now s) ≤ 16777215) × (pos ≤ 8 * length (now s)) × (w ≤ 2040) × (n < 2 ^ 32) × Small a ⌝ }
-    ensures { λ r. ⌜ SurveyedAt (now (s .entry)) (Ba.passed (n * w) a (drop pos (bits (now (s .entry))))) (r .whole) (r .extent) (r .next) ⌝ }
+    requires { ⌜ (By.Inside (now s) pos) × (w ≤ 2040) × (n < 2 ^ 32) × Small a ⌝ }
+    ensures { λ r. ⌜ By.Surveys (now (s .entry)) pos (passed (n * w) a) r ⌝ }
 {
-    let size = times(w, n);
+    let size = message_layout::times(w, n);
     if size <= 8 * s.len() - pos {
         return Surveyed {
             whole: true,
@@ -669,10 +627,10 @@ fn pass(s: &[u8], pos: usize, w: usize, n: usize, a: Extent) -> Surveyed
     unlawful(pos)
 }
 
-// A text or bytes; a text has a byte more behind its own.
+// The content of a text or bytes, with `more` bytes behind its own: 1 of a text, 0 of bytes.
 fn blob(s: &[u8], pos: usize, more: usize) -> Surveyed
-    requires { ⌜ (length (now s) ≤ 16777215) × (pos ≤ 8 * length (now s)) × (more ≤ 1) ⌝ }
-    ensures { λ r. ⌜ SurveyedAt (now (s .entry)) (Sv.surveyBlob more (drop pos (bits (now (s .entry))))) (r .whole) (r .extent) (r .next) ⌝ }
+    requires { ⌜ (By.Inside (now s) pos) × (more ≤ 1) ⌝ }
+    ensures { λ r. ⌜ By.Surveys (now (s .entry)) pos (Sv.surveyBlob more) r ⌝ }
 {
     let x = bitio::take_number(s, pos, 32);
     if !x.whole {
@@ -689,7 +647,7 @@ fn blob(s: &[u8], pos: usize, more: usize) -> Surveyed
     }
 }
 
-// The bytes behind its own: 1 of a text, 0 of bytes; 2 of what is neither.
+// The bytes that an object has behind its own: 1 of a text, 0 of bytes; 2 where it is neither.
 fn blob_end(ob: Object) -> usize
     ensures { λ r. ⌜ BlobEnd ob r × (r ≤ 2) ⌝ }
 {
@@ -703,8 +661,8 @@ fn blob_end(ob: Object) -> usize
 
 // A text or bytes that is referred to, or stands in place.
 fn refer_blob(s: &[u8], d: usize, more: usize, inplace: bool, may: bool, pos: usize) -> Surveyed
-    requires { ⌜ (length (now s) ≤ 16777215) × (pos ≤ 8 * length (now s)) × (more ≤ 1) ⌝ }
-    ensures { λ r. ⌜ SurveyedAt (now (s .entry)) (blobReferred d B.u48 inplace may more (drop pos (bits (now (s .entry))))) (r .whole) (r .extent) (r .next) ⌝ }
+    requires { ⌜ (By.Inside (now s) pos) × (more ≤ 1) ⌝ }
+    ensures { λ r. ⌜ By.Surveys (now (s .entry)) pos (blobReferred d B.u48 inplace may more) r ⌝ }
 {
     if d == 0 {
         return unlawful(pos);
@@ -719,11 +677,11 @@ fn refer_blob(s: &[u8], d: usize, more: usize, inplace: bool, may: bool, pos: us
     }
 }
 
-// ---- members that lead to no object but a text or bytes
+// ---- simple members: flat values, texts and bytes. Nothing in them has parts, so that no walk to other objects is needed.
 // A text or bytes that is there. It says what `refer_blob` says, and calls nothing but the cursor, for speed.
 fn blob_there(s: &[u8], d: usize, more: usize, inplace: bool, pos: usize) -> Surveyed
-    requires { ⌜ (length (now s) ≤ 16777215) × (pos ≤ 8 * length (now s)) × (more ≤ 1) ⌝ }
-    ensures { λ r. ⌜ SurveyedAt (now (s .entry)) (blobReferred d B.u48 inplace false more (drop pos (bits (now (s .entry))))) (r .whole) (r .extent) (r .next) ⌝ }
+    requires { ⌜ (By.Inside (now s) pos) × (more ≤ 1) ⌝ }
+    ensures { λ r. ⌜ By.Surveys (now (s .entry)) pos (blobReferred d B.u48 inplace false more) r ⌝ }
 {
     if d == 0 {
         return unlawful(pos);
@@ -744,10 +702,10 @@ fn blob_there(s: &[u8], d: usize, more: usize, inplace: bool, pos: usize) -> Sur
     }
 }
 
-// The text or bytes of the record at `at`, with its mark.
+// The text or bytes of the record at `at`: its mark, and its content if it is present.
 fn blob_part(b: &[u8], s: &[u8], d: usize, at: usize, pos: usize) -> Surveyed
-    requires { ⌜ (at + 1 < length (now b)) × (13 ≤ P.kindAt (now b) at) × (P.kindAt (now b) at < 15) × (length (now s) ≤ 16777215) × (pos ≤ 8 * length (now s)) ⌝ }
-    ensures { λ r. ⌜ SurveyedAt (now (s .entry)) (Sv.surveyPart (Sv.survey d B.u48 (P.parse (now (b .entry)))) B.u48 (P.parse (now (b .entry))) (Kind.OfObject (P.objectAt (now (b .entry)) at)) false (P.inplaceAt (now (b .entry)) at) (drop pos (bits (now (s .entry))))) (r .whole) (r .extent) (r .next) ⌝ }
+    requires { ⌜ (at + 1 < length (now b)) × (13 ≤ P.kindAt (now b) at) × (P.kindAt (now b) at < 15) × By.Inside (now s) pos ⌝ }
+    ensures { λ r. ⌜ By.Surveys (now (s .entry)) pos (By.blobMember B.u48 d (now (b .entry)) at) r ⌝ }
 {
     let x = bitio::take_number(s, pos, 2);
     if !x.whole {
@@ -763,13 +721,13 @@ fn blob_part(b: &[u8], s: &[u8], d: usize, at: usize, pos: usize) -> Surveyed
         };
     }
     if mark == 1 {
-        let more = 14 - schema::kind_at(b, at);
+        let more = schema::KIND_BYTES - schema::kind_at(b, at);
         return blob_there(s, d, more, schema::inplace_at(b, at), next);
     }
     unlawful(pos)
 }
 
-// The member of the record at `at`, with what stands before it.
+// The simple member of the record at `at`, joined to the extent of what stands before it.
 fn simple_member(
     b: &[u8],
     dir: &[u16],
@@ -779,10 +737,10 @@ fn simple_member(
     a: Extent,
     pos: usize,
 ) -> Surveyed
-    requires { ⌜ (Accepted (now b) (now dir)) × (at + 1 < length (now b)) × (MemberSound (P.parse (now b)) (P.memberAt (now b) at)) × (P.kindAt (now b) at < 15) × (length (now s) ≤ 16777215) × (pos ≤ 8 * length (now s)) × Small a ⌝ }
-    ensures { λ r. ⌜ SurveyedAt (now (s .entry)) (joinedPart (Sv.survey d B.u48 (P.parse (now (b .entry)))) B.u48 (P.parse (now (b .entry))) (P.memberAt (now (b .entry)) at) a (drop pos (bits (now (s .entry))))) (r .whole) (r .extent) (r .next) ⌝ }
+    requires { ⌜ (Accepted (now b) (now dir)) × (at + 1 < length (now b)) × (MemberSound (P.parse (now b)) (P.memberAt (now b) at)) × (P.kindAt (now b) at < 15) × (By.Inside (now s) pos) × Small a ⌝ }
+    ensures { λ r. ⌜ By.Surveys (now (s .entry)) pos (By.member B.u48 d (now (b .entry)) at a) r ⌝ }
 {
-    if schema::kind_at(b, at) < 13 {
+    if schema::kind_at(b, at) < schema::KIND_TEXT {
         let x = flat_part(b, dir, s, at, pos);
         let whole = x.whole;
         let next = x.next;
@@ -821,16 +779,16 @@ fn simple_members(
     e: Extent,
     at: usize,
 ) -> Left
-    requires { ⌜ (Accepted (now b) (now dir)) × (t < P.tableCount (now b)) × (from ≤ length (Sc.tableOf (P.parse (now b)) t .members)) × (length (now s) ≤ 16777215) × (at ≤ 8 * length (now s)) × Small e ⌝ }
-    ensures { λ r. ⌜ LeftAt (Sv.survey d B.u48 (P.parse (now (b .entry)))) (P.parse (now (b .entry))) (Sc.tableOf (P.parse (now (b .entry))) t .members) (now (s .entry)) from (Sv.surveyMembers (Sv.survey d B.u48 (P.parse (now (b .entry)))) B.u48 (P.parse (now (b .entry))) (drop from (Sc.tableOf (P.parse (now (b .entry))) t .members)) e (drop at (bits (now (s .entry))))) (r .whole) (r .index) (r .extent) (r .next) ⌝ }
+    requires { ⌜ (Accepted (now b) (now dir)) × (t < P.tableCount (now b)) × (from ≤ length (Sc.tableOf (P.parse (now b)) t .members)) × (By.Inside (now s) at) × Small e ⌝ }
+    ensures { λ r. ⌜ By.Leaves B.u48 d (now (b .entry)) t from e (now (s .entry)) at r ⌝ }
 {
     let count = schema::member_count(b, dir, t);
     let mut a = e;
     let mut pos = at;
     let mut j = from;
     while j < count {
-        let r = record_of(b, dir, t, j);
-        if 14 < schema::kind_at(b, r) {
+        let r = schema::record_of(b, dir, t, j);
+        if schema::KIND_LIST <= schema::kind_at(b, r) {
             return Left {
                 extent: a,
                 next: pos,
@@ -859,19 +817,19 @@ fn simple_members(
     }
 }
 
-// No known value.
-fn lost(b: &[u8], dir: &[u16], s: &[u8], pos: usize, k: Kind) -> Surveyed
-    requires { ⌜ (Accepted (now b) (now dir)) × (KindSound (P.parse (now b)) k) × (length (now s) ≤ 16777215) × (pos ≤ 8 * length (now s)) ⌝ }
-    ensures { λ r. ⌜ SurveyedAt (now (s .entry)) (Sv.surveyLost (P.parse (now (b .entry))) k (drop pos (bits (now (s .entry))))) (r .whole) (r .extent) (r .next) ⌝ }
+// The unknown number of a member or an element: an enum's, or a union's choice.
+fn unknown(b: &[u8], dir: &[u16], s: &[u8], pos: usize, k: Kind) -> Surveyed
+    requires { ⌜ (Accepted (now b) (now dir)) × (KindSound (P.parse (now b)) k) × By.Inside (now s) pos ⌝ }
+    ensures { λ r. ⌜ By.Surveys (now (s .entry)) pos (By.unknown (now (b .entry)) k) r ⌝ }
 {
     match k {
-        Kind::OfFlat(f) => plain_of(flat_lost(s, pos, f)),
+        Kind::OfFlat(f) => plain_of(flat_unknown(s, pos, f)),
         Kind::OfObject(_) => unlawful(pos),
-        Kind::OfUnion(u) => plain_of(choice_lost(b, dir, s, pos, wire::index(u))),
+        Kind::OfUnion(u) => plain_of(choice_unknown(b, dir, s, pos, wire::index(u))),
     }
 }
 
-// An object that is referred to, or stands in place.
+// An object that is referred to, or stands in place, with what it adds to its holder.
 fn refer(
     b: &[u8],
     dir: &[u16],
@@ -882,8 +840,8 @@ fn refer(
     may: bool,
     pos: usize,
 ) -> Surveyed
-    requires { ⌜ (Accepted (now b) (now dir)) × (ObjectSound (P.parse (now b)) ob) × (length (now s) ≤ 16777215) × (pos ≤ 8 * length (now s)) ⌝ }
-    ensures { λ r. ⌜ SurveyedAt (now (s .entry)) (Sv.surveyObject (Sv.survey d B.u48 (P.parse (now (b .entry)))) B.u48 inplace may ob (drop pos (bits (now (s .entry))))) (r .whole) (r .extent) (r .next) ⌝ }
+    requires { ⌜ (Accepted (now b) (now dir)) × (ObjectSound (P.parse (now b)) ob) × By.Inside (now s) pos ⌝ }
+    ensures { λ r. ⌜ By.Surveys (now (s .entry)) pos (By.held B.u48 d (now (b .entry)) inplace may ob) r ⌝ }
 {
     let more = blob_end(ob);
     if more < 2 {
@@ -899,7 +857,7 @@ fn refer(
     }
 }
 
-// A union's known choice.
+// The known choice of union u, and the object of that case.
 fn choice(
     b: &[u8],
     dir: &[u16],
@@ -909,8 +867,8 @@ fn choice(
     inplace: bool,
     pos: usize,
 ) -> Surveyed
-    requires { ⌜ (Accepted (now b) (now dir)) × (u < P.unionCount (now b)) × (length (now s) ≤ 16777215) × (pos ≤ 8 * length (now s)) ⌝ }
-    ensures { λ r. ⌜ SurveyedAt (now (s .entry)) (Sv.surveyChoice (Sv.survey d B.u48 (P.parse (now (b .entry)))) B.u48 inplace (Sc.casesOf (P.parse (now (b .entry))) u) (drop pos (bits (now (s .entry))))) (r .whole) (r .extent) (r .next) ⌝ }
+    requires { ⌜ (Accepted (now b) (now dir)) × (u < P.unionCount (now b)) × By.Inside (now s) pos ⌝ }
+    ensures { λ r. ⌜ By.Surveys (now (s .entry)) pos (By.choice B.u48 d (now (b .entry)) inplace u) r ⌝ }
 {
     let n = schema::case_count(b, dir, u);
     let x = bitio::take_number(s, pos, 16);
@@ -928,7 +886,7 @@ fn choice(
     refer(b, dir, s, d, ob, inplace, true, x.next)
 }
 
-// What is there.
+// A member or an element, present, behind its mark.
 fn body(
     b: &[u8],
     dir: &[u16],
@@ -939,8 +897,8 @@ fn body(
     inplace: bool,
     pos: usize,
 ) -> Surveyed
-    requires { ⌜ (Accepted (now b) (now dir)) × (KindSound (P.parse (now b)) k) × (length (now s) ≤ 16777215) × (pos ≤ 8 * length (now s)) ⌝ }
-    ensures { λ r. ⌜ SurveyedAt (now (s .entry)) (Sv.surveyBody (Sv.survey d B.u48 (P.parse (now (b .entry)))) B.u48 (P.parse (now (b .entry))) k optional inplace (drop pos (bits (now (s .entry))))) (r .whole) (r .extent) (r .next) ⌝ }
+    requires { ⌜ (Accepted (now b) (now dir)) × (KindSound (P.parse (now b)) k) × By.Inside (now s) pos ⌝ }
+    ensures { λ r. ⌜ By.Surveys (now (s .entry)) pos (By.body B.u48 d (now (b .entry)) k optional inplace) r ⌝ }
 {
     match k {
         Kind::OfFlat(f) => plain_of(flat_test(b, dir, s, pos, optional, f)),
@@ -949,7 +907,7 @@ fn body(
     }
 }
 
-// A member or an element with its mark.
+// A member or an element: its mark, and what the mark says comes next.
 fn part(
     b: &[u8],
     dir: &[u16],
@@ -960,8 +918,8 @@ fn part(
     inplace: bool,
     pos: usize,
 ) -> Surveyed
-    requires { ⌜ (Accepted (now b) (now dir)) × (KindSound (P.parse (now b)) k) × (length (now s) ≤ 16777215) × (pos ≤ 8 * length (now s)) ⌝ }
-    ensures { λ r. ⌜ SurveyedAt (now (s .entry)) (Sv.surveyPart (Sv.survey d B.u48 (P.parse (now (b .entry)))) B.u48 (P.parse (now (b .entry))) k optional inplace (drop pos (bits (now (s .entry))))) (r .whole) (r .extent) (r .next) ⌝ }
+    requires { ⌜ (Accepted (now b) (now dir)) × (KindSound (P.parse (now b)) k) × By.Inside (now s) pos ⌝ }
+    ensures { λ r. ⌜ By.Surveys (now (s .entry)) pos (By.part B.u48 d (now (b .entry)) k optional inplace) r ⌝ }
 {
     let x = bitio::take_number(s, pos, 2);
     if !x.whole {
@@ -980,32 +938,24 @@ fn part(
         return body(b, dir, s, d, k, optional, inplace, next);
     }
     if mark == 2 {
-        return lost(b, dir, s, next, k);
+        return unknown(b, dir, s, next, k);
     }
     unlawful(pos)
 }
 
-// A member with its mark. It is apart for speed: a table's slices are stored for the call only where there is such a member.
-fn member_part(
-    b: &[u8],
-    dir: &[u16],
-    s: &[u8],
-    d: usize,
-    k: Kind,
-    optional: bool,
-    inplace: bool,
-    pos: usize,
-) -> Surveyed
-    requires { ⌜ (Accepted (now b) (now dir)) × (KindSound (P.parse (now b)) k) × (length (now s) ≤ 16777215) × (pos ≤ 8 * length (now s)) ⌝ }
-    ensures { λ r. ⌜ SurveyedAt (now (s .entry)) (Sv.surveyPart (Sv.survey d B.u48 (P.parse (now (b .entry)))) B.u48 (P.parse (now (b .entry))) k optional inplace (drop pos (bits (now (s .entry))))) (r .whole) (r .extent) (r .next) ⌝ }
+// `part` of a table's member. It is apart for speed: a table's slices are stored for the call only where there is such a member.
+fn member_part(b: &[u8], dir: &[u16], s: &[u8], d: usize, r: Member, pos: usize) -> Surveyed
+    requires { ⌜ (Accepted (now b) (now dir)) × (KindSound (P.parse (now b)) (r .kind)) × By.Inside (now s) pos ⌝ }
+    ensures { λ q. ⌜ By.Surveys (now (s .entry)) pos (By.part B.u48 d (now (b .entry)) (r .kind) (r .optional) (r .inplace)) q ⌝ }
 {
-    part(b, dir, s, d, k, optional, inplace, pos)
+    let k = r.kind;
+    part(b, dir, s, d, k, r.optional, r.inplace, pos)
 }
 
-// A table's content; `size` is that of its full fixed part.
+// The content of table t; `size` is that of its full fixed part.
 fn table(b: &[u8], dir: &[u16], s: &[u8], d: usize, t: usize, size: usize, at: usize) -> Surveyed
-    requires { ⌜ (Accepted (now b) (now dir)) × (t < P.tableCount (now b)) × (length (now s) ≤ 16777215) × (at ≤ 8 * length (now s)) × (size ≡ L.fixedSize B.u48 (P.parse (now b)) (Sc.tableOf (P.parse (now b)) t .members)) × (size < 2 ^ 40) ⌝ }
-    ensures { λ r. ⌜ SurveyedAt (now (s .entry)) (Sv.surveyContent (Sv.survey d B.u48 (P.parse (now (b .entry)))) B.u48 (P.parse (now (b .entry))) (Object.Table t) (drop at (bits (now (s .entry))))) (r .whole) (r .extent) (r .next) ⌝ }
+    requires { ⌜ (Accepted (now b) (now dir)) × (t < P.tableCount (now b)) × (By.Inside (now s) at) × (size ≡ By.fixed B.u48 (now b) t) × (size < 2 ^ 40) ⌝ }
+    ensures { λ r. ⌜ By.Surveys (now (s .entry)) at (By.content B.u48 d (now (b .entry)) (Object.Table t)) r ⌝ }
 {
     let count = schema::member_count(b, dir, t);
     let mut a = opened(size, size);
@@ -1027,8 +977,7 @@ fn table(b: &[u8], dir: &[u16], s: &[u8], d: usize, t: usize, size: usize, at: u
             };
         }
         let r = schema::member(b, dir, t, i);
-        let k = r.kind;
-        let x = member_part(b, dir, s, d, k, r.optional, r.inplace, g.next);
+        let x = member_part(b, dir, s, d, r, g.next);
         if !x.whole {
             return unlawful(at);
         }
@@ -1043,19 +992,20 @@ fn table(b: &[u8], dir: &[u16], s: &[u8], d: usize, t: usize, size: usize, at: u
     }
 }
 
-// A table's content, with the size of its fixed part looked up.
+// The content of table t, with the size of its fixed part found first.
 fn table_found(b: &[u8], dir: &[u16], s: &[u8], d: usize, t: usize, at: usize) -> Surveyed
-    requires { ⌜ (Accepted (now b) (now dir)) × (t < P.tableCount (now b)) × (length (now s) ≤ 16777215) × (at ≤ 8 * length (now s)) ⌝ }
-    ensures { λ r. ⌜ SurveyedAt (now (s .entry)) (Sv.surveyContent (Sv.survey d B.u48 (P.parse (now (b .entry)))) B.u48 (P.parse (now (b .entry))) (Object.Table t) (drop at (bits (now (s .entry))))) (r .whole) (r .extent) (r .next) ⌝ }
+    requires { ⌜ (Accepted (now b) (now dir)) × (t < P.tableCount (now b)) × By.Inside (now s) at ⌝ }
+    ensures { λ r. ⌜ By.Surveys (now (s .entry)) at (By.content B.u48 d (now (b .entry)) (Object.Table t)) r ⌝ }
 {
     let size = fixed_size(b, dir, t);
     table(b, dir, s, d, t, size, at)
 }
 
 // ---- a list of tables, whose fixed parts all have one size
+// Table t that an element refers to; `size` is that of its full fixed part.
 fn row(b: &[u8], dir: &[u16], s: &[u8], d: usize, t: usize, size: usize, pos: usize) -> Surveyed
-    requires { ⌜ (Accepted (now b) (now dir)) × (t < P.tableCount (now b)) × (length (now s) ≤ 16777215) × (pos ≤ 8 * length (now s)) × (size ≡ L.fixedSize B.u48 (P.parse (now b)) (Sc.tableOf (P.parse (now b)) t .members)) × (size < 2 ^ 40) ⌝ }
-    ensures { λ r. ⌜ SurveyedAt (now (s .entry)) (Sv.surveyObject (Sv.survey d B.u48 (P.parse (now (b .entry)))) B.u48 false false (Object.Table t) (drop pos (bits (now (s .entry))))) (r .whole) (r .extent) (r .next) ⌝ }
+    requires { ⌜ (Accepted (now b) (now dir)) × (t < P.tableCount (now b)) × (By.Inside (now s) pos) × (size ≡ By.fixed B.u48 (now b) t) × (size < 2 ^ 40) ⌝ }
+    ensures { λ r. ⌜ By.Surveys (now (s .entry)) pos (By.held B.u48 d (now (b .entry)) false false (Object.Table t)) r ⌝ }
 {
     if d == 0 {
         return unlawful(pos);
@@ -1070,7 +1020,7 @@ fn row(b: &[u8], dir: &[u16], s: &[u8], d: usize, t: usize, size: usize, pos: us
     }
 }
 
-// With its mark.
+// An element that refers to table t: its mark, and the table if it is present.
 fn marked_row(
     b: &[u8],
     dir: &[u16],
@@ -1080,8 +1030,8 @@ fn marked_row(
     size: usize,
     pos: usize,
 ) -> Surveyed
-    requires { ⌜ (Accepted (now b) (now dir)) × (t < P.tableCount (now b)) × (length (now s) ≤ 16777215) × (pos ≤ 8 * length (now s)) × (size ≡ L.fixedSize B.u48 (P.parse (now b)) (Sc.tableOf (P.parse (now b)) t .members)) × (size < 2 ^ 40) ⌝ }
-    ensures { λ r. ⌜ SurveyedAt (now (s .entry)) (Sv.surveyPart (Sv.survey d B.u48 (P.parse (now (b .entry)))) B.u48 (P.parse (now (b .entry))) (Kind.OfObject (Object.Table t)) true false (drop pos (bits (now (s .entry))))) (r .whole) (r .extent) (r .next) ⌝ }
+    requires { ⌜ (Accepted (now b) (now dir)) × (t < P.tableCount (now b)) × (By.Inside (now s) pos) × (size ≡ By.fixed B.u48 (now b) t) × (size < 2 ^ 40) ⌝ }
+    ensures { λ r. ⌜ By.Surveys (now (s .entry)) pos (By.part B.u48 d (now (b .entry)) (Kind.OfObject (Object.Table t)) true false) r ⌝ }
 {
     let x = bitio::take_number(s, pos, 2);
     if !x.whole {
@@ -1102,7 +1052,7 @@ fn marked_row(
     unlawful(pos)
 }
 
-// n of them.
+// The n elements of a list that refer to table t, and take `total` bytes in the list.
 fn rows(
     b: &[u8],
     dir: &[u16],
@@ -1113,8 +1063,8 @@ fn rows(
     total: usize,
     at: usize,
 ) -> Surveyed
-    requires { ⌜ (Accepted (now b) (now dir)) × (t < P.tableCount (now b)) × (length (now s) ≤ 16777215) × (at ≤ 8 * length (now s)) × (n < 2 ^ 32) × (total < 2 ^ 48) ⌝ }
-    ensures { λ r. ⌜ SurveyedAt (now (s .entry)) (Sv.surveyElements (Sv.survey d B.u48 (P.parse (now (b .entry)))) B.u48 (P.parse (now (b .entry))) (Kind.OfObject (Object.Table t)) n (Sv.opened n total) (drop at (bits (now (s .entry))))) (r .whole) (r .extent) (r .next) ⌝ }
+    requires { ⌜ (Accepted (now b) (now dir)) × (t < P.tableCount (now b)) × (By.Inside (now s) at) × (n < 2 ^ 32) × (total < 2 ^ 48) ⌝ }
+    ensures { λ r. ⌜ By.Surveys (now (s .entry)) at (By.elements B.u48 d (now (b .entry)) (Kind.OfObject (Object.Table t)) n (Sv.opened n total)) r ⌝ }
 {
     let size = fixed_size(b, dir, t);
     let mut a = opened(n, total);
@@ -1136,10 +1086,10 @@ fn rows(
     }
 }
 
-// A list's content.
+// The content of list i.
 fn list(b: &[u8], dir: &[u16], s: &[u8], d: usize, i: usize, at: usize) -> Surveyed
-    requires { ⌜ (Accepted (now b) (now dir)) × (i < P.listCount (now b)) × (length (now s) ≤ 16777215) × (at ≤ 8 * length (now s)) ⌝ }
-    ensures { λ r. ⌜ SurveyedAt (now (s .entry)) (Sv.surveyContent (Sv.survey d B.u48 (P.parse (now (b .entry)))) B.u48 (P.parse (now (b .entry))) (Object.List i) (drop at (bits (now (s .entry))))) (r .whole) (r .extent) (r .next) ⌝ }
+    requires { ⌜ (Accepted (now b) (now dir)) × (i < P.listCount (now b)) × By.Inside (now s) at ⌝ }
+    ensures { λ r. ⌜ By.Surveys (now (s .entry)) at (By.content B.u48 d (now (b .entry)) (Object.List i)) r ⌝ }
 {
     let y = bitio::take_number(s, at, 32);
     if !y.whole {
@@ -1147,7 +1097,7 @@ fn list(b: &[u8], dir: &[u16], s: &[u8], d: usize, i: usize, at: usize) -> Surve
     }
     let n = y.value as usize;
     let k = schema::element(b, dir, i);
-    let total = elements_size(b, dir, k, n);
+    let total = message_layout::elements_size(b, dir, k, n);
     let t = table_in(k);
     if t < 256 {
         return rows(b, dir, s, d, t, n, total, y.next);
@@ -1175,10 +1125,10 @@ fn list(b: &[u8], dir: &[u16], s: &[u8], d: usize, i: usize, at: usize) -> Surve
     }
 }
 
-// An object, d objects deep.
+// An object's content, where d objects may stand below each other, this one counted.
 pub fn object(b: &[u8], dir: &[u16], s: &[u8], d: usize, ob: Object, pos: usize) -> Surveyed
-    requires { ⌜ (Accepted (now b) (now dir)) × (ObjectSound (P.parse (now b)) ob) × (length (now s) ≤ 16777215) × (pos ≤ 8 * length (now s)) ⌝ }
-    ensures { λ r. ⌜ SurveyedAt (now (s .entry)) (Sv.survey d B.u48 (P.parse (now (b .entry))) ob (drop pos (bits (now (s .entry))))) (r .whole) (r .extent) (r .next) ⌝ }
+    requires { ⌜ (Accepted (now b) (now dir)) × (ObjectSound (P.parse (now b)) ob) × By.Inside (now s) pos ⌝ }
+    ensures { λ r. ⌜ By.Surveys (now (s .entry)) pos (By.object B.u48 d (now (b .entry)) ob) r ⌝ }
 {
     if d == 0 {
         return unlawful(pos);

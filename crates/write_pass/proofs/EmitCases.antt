@@ -117,9 +117,9 @@ module _ (s : List ℕ) (pos : ℕ) (c : Places) (room : Room s pos c) (whole : 
 -- the number is not stored
 module _ (s : List ℕ) (pos : ℕ) (c : Places) (room : Room s pos c) (whole : Bool) (x next : ℕ) (h : not whole ≡ false) (p : Places) (o : List ℕ) (t : Bool) (n : ℕ) where
   module _ (et : t ≡ true) (ep : p ≡ c) (en : n ≡ next) where
-    pub lost-there : (k : ℕ) → TakenNumber s pos 8 whole x next → (y : Bool) → y ≡ unknownEnum k x → y ≡ true
+    pub unknown-there : (k : ℕ) → TakenNumber s pos 8 whole x next → (y : Bool) → y ≡ unknownEnum k x → y ≡ true
         → EmittedAt s (emitIf 8 (unknownEnum k) putNothing (stateOf c o) (drop pos (bits s))) pos c 0 t p o n
-    lost-there k taken y ey e =
+    unknown-there k taken y ey e =
         if-reached s pos 8 c room whole x next taken p o t n h c (room-taken s pos 8 c room whole x next taken h) (omega arith) et ep en
         (unknownEnum k) putNothing (stateOf c o) (sym ey ∙ e) refl
 
@@ -134,9 +134,9 @@ module _ (s : List ℕ) (pos : ℕ) (c : Places) (room : Room s pos c) (whole : 
         → EmittedAt s (emitIf 8 (belowCount k) putByte (stateOf c o) (drop pos (bits s))) pos c 0 t p o n
     enum-fails k m taken em l = if-fails s pos 8 c room whole x next taken p o t n h (belowCount k) putByte (stateOf c o) (le-ltb x k (rw (← em) l)) et ep en
 
-    pub lost-fails : (k : ℕ) → TakenNumber s pos 8 whole x next → (y : Bool) → y ≡ unknownEnum k x → y ≡ false
+    pub unknown-fails : (k : ℕ) → TakenNumber s pos 8 whole x next → (y : Bool) → y ≡ unknownEnum k x → y ≡ false
         → EmittedAt s (emitIf 8 (unknownEnum k) putNothing (stateOf c o) (drop pos (bits s))) pos c 0 t p o n
-    lost-fails k taken y ey e = if-fails s pos 8 c room whole x next taken p o t n h (unknownEnum k) putNothing (stateOf c o) (sym ey ∙ e) et ep en
+    unknown-fails k taken y ey e = if-fails s pos 8 c room whole x next taken p o t n h (unknownEnum k) putNothing (stateOf c o) (sym ey ∙ e) et ep en
 
     pub choice-fails : (S : Schema) (u m : ℕ) → m ≡ length (Sc.casesOf S u) → TakenNumber s pos 16 whole x next → x ≤ m
         → EmittedAt s (emitIf 16 (aboveCount (length (Sc.casesOf S u))) putNothing (stateOf c o) (drop pos (bits s))) pos c 0 t p o n
@@ -186,10 +186,10 @@ module _ (s : List ℕ) (pos k : ℕ) (c : Places) (room : Room s pos c) (whole 
           (subst (λ d. EmittedAt s d next c 0 t p out n) (sym (chosen ∙ simp (ne-eqb x 0 h0, eq-eqb x 1 e))) u)
 
       module _ (h1 : x ≡ 1 → ⊥) where
-        pub mark-lost : x ≡ 2 → (q : Places) (o₁ : List ℕ) → Stood 1 (putByte 255 (stateOf c o)) (stateOf q o₁) c q
+        pub mark-unknown : x ≡ 2 → (q : Places) (o₁ : List ℕ) → Stood 1 (putByte 255 (stateOf c o)) (stateOf q o₁) c q
             → EmittedAt s (emitIf 8 (unknownEnum k) putNothing (stateOf q o₁) (drop next (bits s))) next q 0 t p out n
             → EmittedAt s (emitMarkedEnum k (stateOf c o) (drop pos (bits s))) pos c 0 t p out n
-        mark-lost e q o₁ v u =
+        mark-unknown e q o₁ v u =
             let a = v .at in
             behind-mark s pos c room whole x next taken h _ q (omega arith) t p out n
             (subst (λ d. EmittedAt s d next q 0 t p out n)
@@ -519,10 +519,10 @@ module _ (S : Schema) (k : Kind) (c r : Places) (o o₁ : List ℕ) where
   unfolding lack
   lacks-flat f e u = rw e u
 
-  pub lacks-object : (ob : Object) → k ≡ OfObject ob → HeldOk c → Stood 6 (putNumber 6 0 (stateOf c o)) (stateOf r o₁) c r
+  pub lacks-object : (ob : Object) → k ≡ OfObject ob → HeldOk c → Stood u48 (putNumber u48 0 (stateOf c o)) (stateOf r o₁) c r
       → Lacks (lack u48 S k (stateOf c o)) (stateOf r o₁) c r
   unfolding lack u48 putNumber leBytes
-  lacks-object ob e ok u = rw e (stood-lacks 6 (omega arith) _ _ c r ok u)
+  lacks-object ob e ok u = rw e (stood-lacks u48 (omega arith) _ _ c r ok u)
 
   pub lacks-union : (i : ℕ) → k ≡ OfUnion i → HeldOk c → Stood 8 (putNumber 8 0 (stateOf c o)) (stateOf r o₁) c r
       → Lacks (lack u48 S k (stateOf c o)) (stateOf r o₁) c r

@@ -41,7 +41,7 @@ message-room s l put now p t =
 
 pub message-done : (S : Schema) (s : List ℕ) (ob : Object) → ob ≡ O.Table (S .root) → (o : List ℕ) (p : Places) (o₁ : List ℕ)
     → Stood 4 (putNumber 4 0xB5C0_C4B3 (stateOf start o)) (stateOf p o₁) start p → (w : Bool) (q : Places) (o₂ : List ℕ) (n : ℕ)
-    → EmittedAt s (emitRefer (emit 32 u48 S) (survey 32 u48 S) u48 S false ob (stateOf p o₁) (drop 0 (bits s))) 0 p 6 w q o₂ n
+    → EmittedAt s (emitRefer (emit 32 u48 S) (survey 32 u48 S) u48 S false ob (stateOf p o₁) (drop 0 (bits s))) 0 p u48 w q o₂ n
     → MessageAt s (emitMessage u48 S o (bits s)) w q o₂ n
 unfolding emitMessage deepest headerSize u48
 message-done S s ob eo o p o₁ st w q o₂ n t =

@@ -29,11 +29,12 @@ use Rattle.write_measure.specs.Survey.{Surveyor, survey}
 use Rattle.write_measure.specs.declared.Extent.{Extent}
 use Rattle.write_store.specs.State.{State}
 use Rattle.write_pass.specs.EmitSheet.{Emitter, emitRefer, emitElement, emitMembers, emitElements, emitBlob, emitContent, emit}
-use Rattle.write_pass.specs.EmitObjects.{emit-lost}
+use Rattle.write_pass.specs.EmitObjects.{emit-fails}
 use Rattle.write_pass.specs.EmitRun.{emitFlats, flats-run}
 use Rattle.write_pass.specs.Measure.{Measured}
 use Rattle.write_store.specs.Storing.{stateOf, Stood}
-use Rattle.write_pass.specs.Emitting.{closed, referred, opened, emitMember, Room, EmittedAt, Opens, emitUnflagged, isBlob, isTerminal}
+use Rattle.schema.specs.Kinds.{isBlob}
+use Rattle.write_pass.specs.Emitting.{closed, referred, opened, emitMember, Room, EmittedAt, Opens, emitUnflagged, isTerminal}
 use Rattle.write_store.specs.declared.Places.{Places}
 use Rattle.write_pass.proofs.OpenCases.{not-list, not-table}
 use Rattle.write_pass.proofs.EmitRoom.{taken-at, refused}
@@ -43,21 +44,21 @@ use Rattle.write_pass.proofs.EmitPartCases.{refer-unlawful, refer-close
 -- ---- an object that is referred to: its content goes forward in the sheet
 module _ (d : ℕ) (b dir : List ℕ) (a : Accepted b dir) (s : List ℕ) (inplace : Bool) (ob : Object) (c : Places) (o : List ℕ) (pos : ℕ) (room : Room s pos c)
     (x : Extent) (m : Measured inplace (survey d u48 (parse b) ob (drop pos (bits s))) x)
-    (p : Places) (o₁ : List ℕ) (st : Stood 6 (referred inplace x (stateOf c o)) (stateOf p o₁) c p)
-    (q : Places) (o₂ : List ℕ) (op : Opens (opened (parse b) ob inplace x (stateOf p o₁)) (stateOf q o₂) q)
+    (p : Places) (o₁ : List ℕ) (st : Stood u48 (referred u48 inplace x (stateOf c o)) (stateOf p o₁) c p)
+    (q : Places) (o₂ : List ℕ) (op : Opens u48 (opened u48 (parse b) ob inplace x (stateOf p o₁)) (stateOf q o₂) q)
     (yw : Bool) (y : Places) (o₃ : List ℕ) (yn : ℕ) (em : EmittedAt s (emit d u48 (parse b) ob (stateOf q o₂) (drop pos (bits s))) pos q 0 yw y o₃ yn) where
-  lost : (u : State) → survey d u48 (parse b) ob (drop pos (bits s)) ≡ fail → emit d u48 (parse b) ob u (drop pos (bits s)) ≡ fail
-  lost u e = emit-lost u48 (parse b) (accepted-sound b dir a) d ob u (drop pos (bits s)) e
+  fails : (u : State) → survey d u48 (parse b) ob (drop pos (bits s)) ≡ fail → emit d u48 (parse b) ob u (drop pos (bits s)) ≡ fail
+  fails u e = emit-fails u48 (parse b) (accepted-sound b dir a) d ob u (drop pos (bits s)) e
 
   pub refer-cut : not yw ≡ true → (w : Bool) (r : Places) (n : ℕ) → w ≡ false → r ≡ c → n ≡ pos
-      → EmittedAt s (emitRefer (emit d u48 (parse b)) (survey d u48 (parse b)) u48 (parse b) inplace ob (stateOf c o) (drop pos (bits s))) pos c 6 w r o₃ n
+      → EmittedAt s (emitRefer (emit d u48 (parse b)) (survey d u48 (parse b)) u48 (parse b) inplace ob (stateOf c o) (drop pos (bits s))) pos c u48 w r o₃ n
   refer-cut f w r n ew er en =
-      refer-unlawful (emit d u48 (parse b)) (survey d u48 (parse b)) (parse b) s inplace ob c o pos room x m lost p o₁ st q o₂ op yw y o₃ yn em f w r n ew er en
+      refer-unlawful (emit d u48 (parse b)) (survey d u48 (parse b)) (parse b) s inplace ob c o pos room x m fails p o₁ st q o₂ op yw y o₃ yn em f w r n ew er en
 
   pub refer-done : not yw ≡ false → (k : Places) → k ≡ closed inplace p y → (w : Bool) (r : Places) (n : ℕ) → w ≡ true → r ≡ k → n ≡ yn
-      → EmittedAt s (emitRefer (emit d u48 (parse b)) (survey d u48 (parse b)) u48 (parse b) inplace ob (stateOf c o) (drop pos (bits s))) pos c 6 w r o₃ n
+      → EmittedAt s (emitRefer (emit d u48 (parse b)) (survey d u48 (parse b)) u48 (parse b) inplace ob (stateOf c o) (drop pos (bits s))) pos c u48 w r o₃ n
   refer-done f k ek w r n ew er en =
-      refer-closed (emit d u48 (parse b)) (survey d u48 (parse b)) (parse b) s inplace ob c o pos room x m lost p o₁ st q o₂ op yw y o₃ yn em
+      refer-closed (emit d u48 (parse b)) (survey d u48 (parse b)) (parse b) s inplace ob c o pos room x m fails p o₁ st q o₂ op yw y o₃ yn em
       (emitted-on d u48 (parse b) s ob (stateOf q o₂) pos q 0 yw y o₃ yn em (room .here) f) f k ek w r n ew er en
 
 -- ---- the members of a table, from member j on

@@ -30,7 +30,8 @@ use Rattle.write_store.specs.State.{State, enterObject, leaveObject, enterConte
 use Rattle.write_pass.specs.EmitSheet.{Emitter, emitFlat, lack, pass, openObject, emitObject, emitContentAt, emitRefer, emitChoice, emitBody, emitPart, emitElement, flagged}
 use Rattle.write_pass.specs.Measure.{Sizes, Measured}
 use Rattle.write_store.specs.Storing.{stateOf, HeldOk, leftObject, leftContent, Stood, BitPut}
-use Rattle.write_pass.specs.Emitting.{closed, referred, opened, emitMember, Room, EmittedAt, Lacks, Opens, extra, emitMarkedFlat, emitUnflagged, refers, isBlob, isTerminal}
+use Rattle.schema.specs.Kinds.{isBlob}
+use Rattle.write_pass.specs.Emitting.{closed, referred, opened, emitMember, Room, EmittedAt, Lacks, Opens, extra, emitMarkedFlat, emitUnflagged, refers, isTerminal}
 use Rattle.write_store.specs.declared.Places.{Places}
 use Rattle.write_measure.proofs.ObjectCases.{object-marked}
 use Rattle.write_pass.proofs.OpenCases.{flag-none}
@@ -44,22 +45,22 @@ module _ (child : Emitter) (S : Schema) (inplace : Bool) (ob : Object) (st : Sta
   within z u = bind (child ob u xs) (λ inner zs. got (pick inplace (leaveContent z inner) (leaveObject z inner)) zs)
 
   surveyed : (measure : Surveyor) (x : Extent) (ys : List ℕ) → measure ob xs ≡ got x ys
-      → emitRefer child measure u48 S inplace ob st xs ≡ within (referred inplace x st) (opened S ob inplace x (referred inplace x st))
+      → emitRefer child measure u48 S inplace ob st xs ≡ within (referred u48 inplace x st) (opened u48 S ob inplace x (referred u48 inplace x st))
   unfolding within
   surveyed measure x ys e = by inplace
     where
       by : (i : Bool) → emitRefer child measure u48 S i ob st xs
-          ≡ bind (child ob (opened S ob i x (referred i x st)) xs) (λ inner zs. got (pick i (leaveContent (referred i x st) inner) (leaveObject (referred i x st) inner)) zs)
+          ≡ bind (child ob (opened u48 S ob i x (referred u48 i x st)) xs) (λ inner zs. got (pick i (leaveContent (referred u48 i x st) inner) (leaveObject (referred u48 i x st) inner)) zs)
       by true = unfold emitRefer emitObject emitContentAt opened referred bind in rw e
       by false = unfold emitRefer emitObject emitContentAt opened referred bind in rw e
 
   module _ (r x : Extent) where
-    same-referred : (i : Bool) → Sizes i r x → referred i x st ≡ referred i r st
+    same-referred : (i : Bool) → Sizes i r x → referred u48 i x st ≡ referred u48 i r st
     unfolding referred
     same-referred true s = ap (λ (n : ℕ). putNumber u48 n st) (sym (s .length))
     same-referred false s = refl
 
-    same-opened : (i : Bool) → Sizes i r x → (z : State) → opened S ob i x z ≡ opened S ob i r z
+    same-opened : (i : Bool) → Sizes i r x → (z : State) → opened u48 S ob i x z ≡ opened u48 S ob i r z
     unfolding opened openObject
     same-opened true s z = ap (λ (n : ℕ). enterContent n z) (sym (s .width))
     same-opened false s z =
@@ -68,24 +69,24 @@ module _ (child : Emitter) (S : Schema) (inplace : Bool) (ob : Object) (st : Sta
 
   -- by sizes that are right where the survey gives something; where it does not, the content's pass fails
   refer-is : (measure : Surveyor) (r : Extent) → Has (Sizes inplace r) (measure ob xs) → ((u : State) → measure ob xs ≡ fail → child ob u xs ≡ fail)
-      → emitRefer child measure u48 S inplace ob st xs ≡ within (referred inplace r st) (opened S ob inplace r (referred inplace r st))
+      → emitRefer child measure u48 S inplace ob st xs ≡ within (referred u48 inplace r st) (opened u48 S ob inplace r (referred u48 inplace r st))
   unfolding within bind
-  refer-is measure r m lost = by (measure ob xs) refl m
+  refer-is measure r m fails = by (measure ob xs) refl m
     where
       by : (p : Parsed Extent) → measure ob xs ≡ p → Has (Sizes inplace r) p
-          → emitRefer child measure u48 S inplace ob st xs ≡ within (referred inplace r st) (opened S ob inplace r (referred inplace r st))
+          → emitRefer child measure u48 S inplace ob st xs ≡ within (referred u48 inplace r st) (opened u48 S ob inplace r (referred u48 inplace r st))
       by fail e h =
           let g : emitRefer child measure u48 S inplace ob st xs ≡ fail = unfold emitRefer in rw e in
-          g ∙ sym (ap (λ (p : Parsed State). bind p (λ inner zs. got (pick inplace (leaveContent (referred inplace r st) inner) (leaveObject (referred inplace r st) inner)) zs))
-          (lost (opened S ob inplace r (referred inplace r st)) e))
+          g ∙ sym (ap (λ (p : Parsed State). bind p (λ inner zs. got (pick inplace (leaveContent (referred u48 inplace r st) inner) (leaveObject (referred u48 inplace r st) inner)) zs))
+          (fails (opened u48 S ob inplace r (referred u48 inplace r st)) e))
       by (got x ys) e h =
-          surveyed measure x ys e ∙ ap (within (referred inplace x st)) (same-opened r x inplace h (referred inplace x st))
-          ∙ ap (λ (z : State). within z (opened S ob inplace r z)) (same-referred r x inplace h)
+          surveyed measure x ys e ∙ ap (within (referred u48 inplace x st)) (same-opened r x inplace h (referred u48 inplace x st))
+          ∙ ap (λ (z : State). within z (opened u48 S ob inplace r z)) (same-referred r x inplace h)
 
 module _ (child : Emitter) (measure : Surveyor) (S : Schema) (s : List ℕ) (inplace : Bool) (ob : Object) (c : Places) (o : List ℕ) (pos : ℕ) (room : Room s pos c)
-    (x : Extent) (m : Measured inplace (measure ob (drop pos (bits s))) x) (lost : (u : State) → measure ob (drop pos (bits s)) ≡ fail → child ob u (drop pos (bits s)) ≡ fail) where
-  module _ (p : Places) (o₁ : List ℕ) (st : Stood 6 (referred inplace x (stateOf c o)) (stateOf p o₁) c p)
-      (q : Places) (o₂ : List ℕ) (op : Opens (opened S ob inplace x (stateOf p o₁)) (stateOf q o₂) q)
+    (x : Extent) (m : Measured inplace (measure ob (drop pos (bits s))) x) (fails : (u : State) → measure ob (drop pos (bits s)) ≡ fail → child ob u (drop pos (bits s)) ≡ fail) where
+  module _ (p : Places) (o₁ : List ℕ) (st : Stood u48 (referred u48 inplace x (stateOf c o)) (stateOf p o₁) c p)
+      (q : Places) (o₂ : List ℕ) (op : Opens u48 (opened u48 S ob inplace x (stateOf p o₁)) (stateOf q o₂) q)
       (yw : Bool) (y : Places) (o₃ : List ℕ) (yn : ℕ) (em : EmittedAt s (child ob (stateOf q o₂) (drop pos (bits s))) pos q 0 yw y o₃ yn) where
     abbrev back : Parsed State → Parsed State
     back r = bind r (λ inner zs. got (pick inplace (leaveContent (stateOf p o₁) inner) (leaveObject (stateOf p o₁) inner)) zs)
@@ -93,15 +94,15 @@ module _ (child : Emitter) (measure : Surveyor) (S : Schema) (s : List ℕ) (inp
     referred-is : emitRefer child measure u48 S inplace ob (stateOf c o) (drop pos (bits s)) ≡ back (pick yw (got (stateOf y o₃) (drop yn (bits s))) fail)
     unfolding within
     referred-is =
-        refer-is child S inplace ob (stateOf c o) (drop pos (bits s)) measure x (m .is) lost
-        ∙ ap (λ (z : State). bind (child ob (opened S ob inplace x z) (drop pos (bits s))) (λ inner zs. got (pick inplace (leaveContent z inner) (leaveObject z inner)) zs)) (sym (st .is))
+        refer-is child S inplace ob (stateOf c o) (drop pos (bits s)) measure x (m .is) fails
+        ∙ ap (λ (z : State). bind (child ob (opened u48 S ob inplace x z) (drop pos (bits s))) (λ inner zs. got (pick inplace (leaveContent z inner) (leaveObject z inner)) zs)) (sym (st .is))
         ∙ ap (λ (z : State). back (child ob z (drop pos (bits s)))) (sym (op .is)) ∙ ap back (em .is)
 
     pub refer-unlawful : not yw ≡ true → (w : Bool) (r : Places) (n : ℕ) → w ≡ false → r ≡ c → n ≡ pos
-        → EmittedAt s (emitRefer child measure u48 S inplace ob (stateOf c o) (drop pos (bits s))) pos c 6 w r o₃ n
+        → EmittedAt s (emitRefer child measure u48 S inplace ob (stateOf c o) (drop pos (bits s))) pos c u48 w r o₃ n
     unfolding bind
     refer-unlawful f w r n ew er en =
-        refused s _ pos c 6 (referred-is ∙ ap (λ (u : Bool). back (pick u (got (stateOf y o₃) (drop yn (bits s))) fail)) (not-true yw f)) room w r o₃ n ew er en
+        refused s _ pos c u48 (referred-is ∙ ap (λ (u : Bool). back (pick u (got (stateOf y o₃) (drop yn (bits s))) fail)) (not-true yw f)) room w r o₃ n ew er en
 
     shut : (i : Bool)
         → pick i (leaveContent (stateOf p o₁) (stateOf y o₃)) (leaveObject (stateOf p o₁) (stateOf y o₃)) ≡ stateOf (closed i p y) o₃
@@ -130,12 +131,12 @@ module _ (child : Emitter) (measure : Surveyor) (S : Schema) (s : List ℕ) (inp
     shut-next false a = a
 
     pub refer-closed : pos ≤ yn → not yw ≡ false → (k : Places) → k ≡ closed inplace p y → (w : Bool) (r : Places) (n : ℕ) → w ≡ true → r ≡ k → n ≡ yn
-        → EmittedAt s (emitRefer child measure u48 S inplace ob (stateOf c o) (drop pos (bits s))) pos c 6 w r o₃ n
+        → EmittedAt s (emitRefer child measure u48 S inplace ob (stateOf c o) (drop pos (bits s))) pos c u48 w r o₃ n
     unfolding bind
     refer-closed on f k ek w r n ew er en =
         let a = shut-at inplace in
         let b = st .at in
-        let g : closed inplace p y .at + 8192 * pos ≤ c .at + 6 + 8192 * yn = omega arith in
+        let g : closed inplace p y .at + 8192 * pos ≤ c .at + u48 + 8192 * yn = omega arith in
         rw (ew, er, en, ek)
         (record {
           is = referred-is ∙ ap (λ (u : Bool). back (pick u (got (stateOf y o₃) (drop yn (bits s))) fail)) (not-false yw f)
@@ -155,30 +156,30 @@ positive (suc y) f = omega arith
 module _ (child : Emitter) (measure : Surveyor) (S : Schema) (s : List ℕ) (inplace : Bool) (u : ℕ) (c : Places) (o : List ℕ) (pos : ℕ) (room : Room s pos c)
     (whole : Bool) (x next : ℕ) (taken : TakenNumber s pos 16 whole x next) where
   pub choice-cut : not whole ≡ true → (w : Bool) (q : Places) (n : ℕ) → w ≡ false → q ≡ c → n ≡ pos
-      → EmittedAt s (emitChoice child measure u48 S inplace (Sc.casesOf S u) (stateOf c o) (drop pos (bits s))) pos c 6 w q o n
+      → EmittedAt s (emitChoice child measure u48 S inplace (Sc.casesOf S u) (stateOf c o) (drop pos (bits s))) pos c u48 w q o n
   unfolding emitChoice bind
-  choice-cut h w q n ew eq en = refused s _ pos c 6 (rw (taken .number, not-true whole h)) room w q o n ew eq en
+  choice-cut h w q n ew eq en = refused s _ pos c u48 (rw (taken .number, not-true whole h)) room w q o n ew eq en
 
   module _ (h : not whole ≡ false) where
     pub choice-zero : x ≡ 0 → (w : Bool) (q : Places) (n : ℕ) → w ≡ false → q ≡ c → n ≡ pos
-        → EmittedAt s (emitChoice child measure u48 S inplace (Sc.casesOf S u) (stateOf c o) (drop pos (bits s))) pos c 6 w q o n
+        → EmittedAt s (emitChoice child measure u48 S inplace (Sc.casesOf S u) (stateOf c o) (drop pos (bits s))) pos c u48 w q o n
     unfolding emitChoice bind
     choice-zero z w q n ew eq en =
         let lt : x < 1 = omega arith in
-        refused s _ pos c 6 (rw (taken .number, not-false whole h) (simp (lt-leb 1 x lt))) room w q o n ew eq en
+        refused s _ pos c u48 (rw (taken .number, not-false whole h) (simp (lt-leb 1 x lt))) room w q o n ew eq en
 
     module _ (h0 : x ≡ 0 → ⊥) (m : ℕ) (em : m ≡ length (Sc.casesOf S u)) where
       pub choice-above : m < x → (w : Bool) (q : Places) (n : ℕ) → w ≡ false → q ≡ c → n ≡ pos
-          → EmittedAt s (emitChoice child measure u48 S inplace (Sc.casesOf S u) (stateOf c o) (drop pos (bits s))) pos c 6 w q o n
+          → EmittedAt s (emitChoice child measure u48 S inplace (Sc.casesOf S u) (stateOf c o) (drop pos (bits s))) pos c u48 w q o n
       unfolding emitChoice bind
       choice-above g w q n ew eq en =
           let one : 1 ≤ x = positive x h0 in
           let lt : length (Sc.casesOf S u) < x = omega arith in
-          refused s _ pos c 6 (rw (taken .number, not-false whole h) (simp (le-leb 1 x one, lt-leb x (length (Sc.casesOf S u)) lt))) room w q o n ew eq en
+          refused s _ pos c u48 (rw (taken .number, not-false whole h) (simp (le-leb 1 x one, lt-leb x (length (Sc.casesOf S u)) lt))) room w q o n ew eq en
 
       pub choice-known : x ≤ m → (ob : Object) → ob ≡ Sc.caseOf (Sc.casesOf S u) x → (p : Places) (o₁ : List ℕ) → Stood 2 (putNumber 2 x (stateOf c o)) (stateOf p o₁) c p
-          → (w : Bool) (q : Places) (o₂ : List ℕ) (n : ℕ) → EmittedAt s (emitRefer child measure u48 S inplace ob (stateOf p o₁) (drop next (bits s))) next p 6 w q o₂ n
-          → EmittedAt s (emitChoice child measure u48 S inplace (Sc.casesOf S u) (stateOf c o) (drop pos (bits s))) pos c 6 w q o₂ n
+          → (w : Bool) (q : Places) (o₂ : List ℕ) (n : ℕ) → EmittedAt s (emitRefer child measure u48 S inplace ob (stateOf p o₁) (drop next (bits s))) next p u48 w q o₂ n
+          → EmittedAt s (emitChoice child measure u48 S inplace (Sc.casesOf S u) (stateOf c o) (drop pos (bits s))) pos c u48 w q o₂ n
       unfolding emitChoice bind
       choice-known g ob eo p o₁ st w q o₂ n t =
           let one : 1 ≤ x = positive x h0 in
@@ -200,19 +201,19 @@ module _ (child : Emitter) (measure : Surveyor) (S : Schema) (s : List ℕ) (inp
 -- ---- what is there
 module _ (child : Emitter) (measure : Surveyor) (S : Schema) (s : List ℕ) (k : Kind) (inplace : Bool) (c : Places) (o : List ℕ) (pos : ℕ) (w : Bool) (q : Places) (o₁ : List ℕ) (n : ℕ) where
   pub body-flat : (f : Flat) → k ≡ OfFlat f → EmittedAt s (emitFlat S f (stateOf c o) (drop pos (bits s))) pos c 0 w q o₁ n
-      → EmittedAt s (emitBody child measure u48 S k inplace (stateOf c o) (drop pos (bits s))) pos c (extra k) w q o₁ n
+      → EmittedAt s (emitBody child measure u48 S k inplace (stateOf c o) (drop pos (bits s))) pos c (extra u48 k) w q o₁ n
   unfolding emitBody extra
   body-flat f e t = rw e t
 
-  pub body-object : (ob : Object) → k ≡ OfObject ob → EmittedAt s (emitRefer child measure u48 S inplace ob (stateOf c o) (drop pos (bits s))) pos c 6 w q o₁ n
-      → EmittedAt s (emitBody child measure u48 S k inplace (stateOf c o) (drop pos (bits s))) pos c (extra k) w q o₁ n
+  pub body-object : (ob : Object) → k ≡ OfObject ob → EmittedAt s (emitRefer child measure u48 S inplace ob (stateOf c o) (drop pos (bits s))) pos c u48 w q o₁ n
+      → EmittedAt s (emitBody child measure u48 S k inplace (stateOf c o) (drop pos (bits s))) pos c (extra u48 k) w q o₁ n
   unfolding emitBody extra
   body-object ob e t = rw e t
 
-  pub body-union : (u j : ℕ) → k ≡ OfUnion u → j ≡ u → EmittedAt s (emitChoice child measure u48 S inplace (Sc.casesOf S j) (stateOf c o) (drop pos (bits s))) pos c 6 w q o₁ n
-      → EmittedAt s (emitBody child measure u48 S k inplace (stateOf c o) (drop pos (bits s))) pos c (extra k) w q o₁ n
+  pub body-union : (u j : ℕ) → k ≡ OfUnion u → j ≡ u → EmittedAt s (emitChoice child measure u48 S inplace (Sc.casesOf S j) (stateOf c o) (drop pos (bits s))) pos c u48 w q o₁ n
+      → EmittedAt s (emitBody child measure u48 S k inplace (stateOf c o) (drop pos (bits s))) pos c (extra u48 k) w q o₁ n
   unfolding emitBody extra
-  body-union u j e ej t = rw e (subst (λ (a : ℕ). EmittedAt s (emitChoice child measure u48 S inplace (Sc.casesOf S a) (stateOf c o) (drop pos (bits s))) pos c 6 w q o₁ n) ej t)
+  body-union u j e ej t = rw e (subst (λ (a : ℕ). EmittedAt s (emitChoice child measure u48 S inplace (Sc.casesOf S a) (stateOf c o) (drop pos (bits s))) pos c u48 w q o₁ n) ej t)
 
 -- ---- with its mark
 module _ (child : Emitter) (measure : Surveyor) (S : Schema) (s : List ℕ) (r : Member) (c : Places) (o : List ℕ) (pos : ℕ) (room : Room s pos c)
@@ -224,7 +225,7 @@ module _ (child : Emitter) (measure : Surveyor) (S : Schema) (s : List ℕ) (r :
 
   module _ (h : not whole ≡ false) where
     pub part-there : x ≡ 1 → (p : Places) (o₁ : List ℕ) → BitPut (flagged r 1 (stateOf c o)) (stateOf p o₁) c p
-        → (w : Bool) (q : Places) (o₂ : List ℕ) (n : ℕ) → EmittedAt s (emitBody child measure u48 S (r .kind) (r .inplace) (stateOf p o₁) (drop next (bits s))) next p (extra (r .kind)) w q o₂ n
+        → (w : Bool) (q : Places) (o₂ : List ℕ) (n : ℕ) → EmittedAt s (emitBody child measure u48 S (r .kind) (r .inplace) (stateOf p o₁) (drop next (bits s))) next p (extra u48 (r .kind)) w q o₂ n
         → EmittedAt s (emitMember child measure u48 S r (stateOf c o) (drop pos (bits s))) pos c 0 w q o₂ n
     unfolding emitMember emitPart surveyMark bind
     part-there z p o₁ b w q o₂ n t =
@@ -328,13 +329,13 @@ module _ (child : Emitter) (measure : Surveyor) (S : Schema) (s : List ℕ) (ob 
   marked-cut h w q n ew eq en = as-element w q o n (part-cut child measure S s plainObject c o pos room whole x next taken h w q n ew eq en)
 
   module _ (h : not whole ≡ false) where
-    pub marked-there : x ≡ 1 → (w : Bool) (q : Places) (o₂ : List ℕ) (n : ℕ) → EmittedAt s (emitRefer child measure u48 S false ob (stateOf c o) (drop next (bits s))) next c 6 w q o₂ n
+    pub marked-there : x ≡ 1 → (w : Bool) (q : Places) (o₂ : List ℕ) (n : ℕ) → EmittedAt s (emitRefer child measure u48 S false ob (stateOf c o) (drop next (bits s))) next c u48 w q o₂ n
         → EmittedAt s (emitElement child measure u48 S (OfObject ob) (stateOf c o) (drop pos (bits s))) pos c 0 w q o₂ n
     marked-there z w q o₂ n t =
         as-element w q o₂ n (part-there child measure S s plainObject c o pos room whole x next taken h z c o (unflagged 1) w q o₂ n
         (body-object child measure S s (OfObject ob) false c o next w q o₂ n ob refl t))
 
-    pub marked-none : x ≡ 0 → (p : Places) (o₁ : List ℕ) → Stood 6 (putNumber 6 0 (stateOf c o)) (stateOf p o₁) c p → (w : Bool) (y : Places) (n : ℕ) → w ≡ true → y ≡ p → n ≡ next
+    pub marked-none : x ≡ 0 → (p : Places) (o₁ : List ℕ) → Stood u48 (putNumber u48 0 (stateOf c o)) (stateOf p o₁) c p → (w : Bool) (y : Places) (n : ℕ) → w ≡ true → y ≡ p → n ≡ next
         → EmittedAt s (emitElement child measure u48 S (OfObject ob) (stateOf c o) (drop pos (bits s))) pos c 0 w y o₁ n
     marked-none z p o₁ u w y n ew ey en =
         as-element w y o₁ n (part-none child measure S s plainObject c o pos room whole x next taken h (λ e. (let v : ⊥ = omega arith in v)) (λ e. (let v : ⊥ = omega arith in v)) c o (unflagged 0) p o₁
@@ -385,20 +386,20 @@ terminal-blob k inplace ob e h = by inplace (subst (λ (q : Kind). isTerminal q 
 
 -- ---- what is there
 module _ (child : Emitter) (measure : Surveyor) (S : Schema) (s : List ℕ) (k : Kind) (inplace : Bool) (c : Places) (o : List ℕ) (pos : ℕ) (w : Bool) (q : Places) (o₁ : List ℕ) (n : ℕ) where
-  pub body-terminal : (ob : Object) → k ≡ OfObject ob → isTerminal k inplace ≡ true → EmittedAt s (emitRefer child measure u48 S false ob (stateOf c o) (drop pos (bits s))) pos c 6 w q o₁ n
-      → EmittedAt s (emitBody child measure u48 S k inplace (stateOf c o) (drop pos (bits s))) pos c (extra k) w q o₁ n
+  pub body-terminal : (ob : Object) → k ≡ OfObject ob → isTerminal k inplace ≡ true → EmittedAt s (emitRefer child measure u48 S false ob (stateOf c o) (drop pos (bits s))) pos c u48 w q o₁ n
+      → EmittedAt s (emitBody child measure u48 S k inplace (stateOf c o) (drop pos (bits s))) pos c (extra u48 k) w q o₁ n
   unfolding isTerminal
   body-terminal ob e h t = by inplace (subst (λ (q : Kind). isTerminal q inplace ≡ true) e h)
     where
-      by : (i : Bool) → (not i && isBlob ob) ≡ true → EmittedAt s (emitBody child measure u48 S k i (stateOf c o) (drop pos (bits s))) pos c (extra k) w q o₁ n
+      by : (i : Bool) → (not i && isBlob ob) ≡ true → EmittedAt s (emitBody child measure u48 S k i (stateOf c o) (drop pos (bits s))) pos c (extra u48 k) w q o₁ n
       by true g = never g
       by false g = body-object child measure S s k false c o pos w q o₁ n ob e t
 
-  pub body-no-terminal : (i : ℕ) → k ≡ OfUnion i → isTerminal k inplace ≡ true → EmittedAt s (emitBody child measure u48 S k inplace (stateOf c o) (drop pos (bits s))) pos c (extra k) w q o₁ n
+  pub body-no-terminal : (i : ℕ) → k ≡ OfUnion i → isTerminal k inplace ≡ true → EmittedAt s (emitBody child measure u48 S k inplace (stateOf c o) (drop pos (bits s))) pos c (extra u48 k) w q o₁ n
   unfolding isTerminal
   body-no-terminal i e h = never (subst (λ (q : Kind). isTerminal q inplace ≡ true) e h)
 
-  pub body-no-flat : (f : Flat) → k ≡ OfFlat f → refers k ≡ true → EmittedAt s (emitBody child measure u48 S k inplace (stateOf c o) (drop pos (bits s))) pos c (extra k) w q o₁ n
+  pub body-no-flat : (f : Flat) → k ≡ OfFlat f → refers k ≡ true → EmittedAt s (emitBody child measure u48 S k inplace (stateOf c o) (drop pos (bits s))) pos c (extra u48 k) w q o₁ n
   unfolding refers
   body-no-flat f e h = never (subst (λ (q : Kind). refers q ≡ true) e h)
 
@@ -422,7 +423,7 @@ module _ (child : Emitter) (measure : Surveyor) (S : Schema) (s : List ℕ) (k :
   unflagged-cut h w q n ew eq en = as-unflagged w q o n (part-cut child measure S s plainPart c o pos room whole x next taken h w q n ew eq en)
 
   module _ (h : not whole ≡ false) where
-    pub unflagged-there : x ≡ 1 → (w : Bool) (q : Places) (o₂ : List ℕ) (n : ℕ) → EmittedAt s (emitBody child measure u48 S k inplace (stateOf c o) (drop next (bits s))) next c (extra k) w q o₂ n
+    pub unflagged-there : x ≡ 1 → (w : Bool) (q : Places) (o₂ : List ℕ) (n : ℕ) → EmittedAt s (emitBody child measure u48 S k inplace (stateOf c o) (drop next (bits s))) next c (extra u48 k) w q o₂ n
         → EmittedAt s (emitUnflagged child measure u48 S k inplace (stateOf c o) (drop pos (bits s))) pos c 0 w q o₂ n
     unflagged-there z w q o₂ n t = as-unflagged w q o₂ n (part-there child measure S s plainPart c o pos room whole x next taken h z c o (no-bit 1) w q o₂ n t)
 

@@ -70,10 +70,10 @@ emit-if-left : (w : ℕ) (ok : ℕ → Bool) (put : ℕ → State → State) (st
 unfolding emitIf left
 emit-if-left w ok put st xs n l = bind-left n (takeNumber w xs) _ (number-left w xs n l) (λ a ys h. pick-left n (ok a) _ _ h (omega arith))
 
-mark-left : (none : State) (lost body : List ℕ → Parsed State) (n : ℕ) → ((ys : List ℕ) → length ys ≤ n → left (lost ys) ≤ n) → ((ys : List ℕ) → length ys ≤ n → left (body ys) ≤ n)
-    → (xs : List ℕ) → length xs ≤ n → left (surveyMark none lost body xs) ≤ n
+mark-left : (none : State) (unknown body : List ℕ → Parsed State) (n : ℕ) → ((ys : List ℕ) → length ys ≤ n → left (unknown ys) ≤ n) → ((ys : List ℕ) → length ys ≤ n → left (body ys) ≤ n)
+    → (xs : List ℕ) → length xs ≤ n → left (surveyMark none unknown body xs) ≤ n
 unfolding surveyMark left
-mark-left none lost body n f g xs l =
+mark-left none unknown body n f g xs l =
     bind-left n (takeNumber 2 xs) _ (number-left 2 xs n l)
     (λ a ys h. pick-left n (eqb a 0) _ _ h (pick-left n (eqb a 1) _ _ (g ys h) (pick-left n (eqb a 2) _ _ (f ys h) (omega arith))))
 

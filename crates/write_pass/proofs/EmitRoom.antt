@@ -8,6 +8,8 @@ use lib.ListN.{length, take, drop, length-drop}
 use lib.Dec.{leb}
 use borrow.Author.Tests.{leb-true, not-false}
 use Rattle.coding.specs.Lists.{pick}
+use Rattle.coding.specs.Bytes.{u48}
+use Rattle.coding.specs.Walk.{headerSize}
 use Rattle.coding.specs.Bits.{bits, value}
 use Rattle.coding.specs.Sheet.{Parsed, fail, got, takeNumber}
 use Rattle.coding.specs.declared.Kind.{Kind}
@@ -111,7 +113,8 @@ module _ (s : List ℕ) (pos : ℕ) (c : Places) (room : Room s pos c) (whole : 
       }
 
 -- in a content that was opened
-pub room-open : (s : List ℕ) (pos : ℕ) (c : Places) → Room s pos c → (put now : State) (q : Places) → Opens put now q → Room s pos q
+pub room-open : (s : List ℕ) (pos : ℕ) (c : Places) → Room s pos c → (put now : State) (q : Places) → Opens u48 put now q → Room s pos q
+unfolding headerSize u48
 room-open s pos c room put now q t =
     let a = room .short in
     let f = t .at in
@@ -151,8 +154,8 @@ refused s p pos c e h room w q out n ew eq en =
       next = rw eq (room .next);
     }
 
-pub extra-most : (k : Kind) → extra k ≤ 6
-unfolding extra
+pub extra-most : (k : Kind) → extra u48 k ≤ 6
+unfolding extra u48
 extra-most (OfFlat f) = omega arith
 extra-most (OfObject ob) = omega arith
 extra-most (OfUnion i) = omega arith

@@ -1,14 +1,13 @@
 -- The ways out of what measures an object, one lemma for each.
-use mathlib.Core.Path.{_≡_, refl, sym, ap, ap₂, _∙_, subst}
+use mathlib.Core.Path.{_≡_, refl, sym, ap, _∙_, subst}
 use mathlib.Core.Bool.{Bool, true, false, not, _&&_}
-use mathlib.Core.List.{List, [], _∷_}
+use mathlib.Core.List.{List}
 use Prim.Native.Nat.{ℕ, suc, _+_, _^_, _<_, _≤_}
 use native.Mathlib.Omega.{arith}
 use native.Mathlib.Numerals.{add-one}
 use lib.ListN.{length, drop, drop-of-length-le}
 use lib.Seq.{drop-cons}
 use Rattle.coding.specs.Lists.{pick}
-use Rattle.coding.specs.Bytes.{u48}
 use Rattle.coding.specs.Bits.{bits}
 use Rattle.coding.specs.Schema as Sc
 use Rattle.coding.specs.Schema.{Schema}
@@ -25,10 +24,10 @@ use Rattle.write_measure.proofs.ObjectCases.{table-counted}
 use Rattle.bitio.specs.Taken.{TakenNumber}
 use Rattle.write_measure.specs.Survey.{Surveyor, opened, surveyElements, surveyBlob, surveyContent, survey}
 use Rattle.write_measure.specs.Mapped.{Has, bind-has}
-use Rattle.write_measure.specs.Surveyed.{Small, Fits, SurveyedAt}
+use Rattle.write_measure.specs.Surveyed.{Fits, SurveyedAt}
 use Rattle.write_measure.specs.declared.Extent.{Extent}
 use Rattle.write_pass.proofs.OpenCases.{not-list, not-table}
-use Rattle.write_pass.specs.Emitting.{isBlob}
+use Rattle.schema.specs.Kinds.{isBlob}
 use Rattle.write_pass.specs.Measure.{Sizes, Measured, MeasuredContent, KnownSize, anyInPlace, list-sizes, table-sizes, measured-deep, measured-content}
 
 -- ---- whether a table has an in-place member, from member j on
@@ -76,25 +75,25 @@ module _ (s : List ℕ) (pos : ℕ) (whole : Bool) (n next : ℕ) (taken : Taken
           rw e (bind-has (Sizes false (opened n (n + more))) (takeBytes n (drop next (bits s))) _ (λ l zs. record { length = refl; width = refl; chain = λ g. refl }))
       is false e = unfold surveyBlob bind in rw e tt
 
-  pub list-measured : (S : Schema) (i : ℕ) (k : Kind) → k ≡ Sc.elementOf S i → (w : ℕ) → w ≡ elementsSize u48 S k n → (r : Extent) → Fits (opened n w) r
-      → MeasuredContent S (O.List i) (drop pos (bits s)) r
-  list-measured S i k ek w ew r f = record { is = λ child. is child whole (taken .number); small = f .small }
+  pub list-measured : (o : ℕ) (S : Schema) (i : ℕ) (k : Kind) → k ≡ Sc.elementOf S i → (w : ℕ) → w ≡ elementsSize o S k n → (r : Extent) → Fits (opened n w) r
+      → MeasuredContent o S (O.List i) (drop pos (bits s)) r
+  list-measured o S i k ek w ew r f = record { is = λ child. is child whole (taken .number); small = f .small }
     where
-      same : opened n (elementsSize u48 S (Sc.elementOf S i) n) ≡ r
-      same = sym (f .is ∙ ap (opened n) (ew ∙ ap (λ (q : Kind). elementsSize u48 S q n) ek))
+      same : opened n (elementsSize o S (Sc.elementOf S i) n) ≡ r
+      same = sym (f .is ∙ ap (opened n) (ew ∙ ap (λ (q : Kind). elementsSize o S q n) ek))
 
-      is : (child : Surveyor) (t : Bool) → takeNumber 32 (drop pos (bits s)) ≡ pick t (got n (drop next (bits s))) fail → Has (Sizes false r) (surveyContent child u48 S (O.List i) (drop pos (bits s)))
+      is : (child : Surveyor) (t : Bool) → takeNumber 32 (drop pos (bits s)) ≡ pick t (got n (drop next (bits s))) fail → Has (Sizes false r) (surveyContent child o S (O.List i) (drop pos (bits s)))
       is child true e =
           unfold surveyContent bind in
-          rw e (subst (λ (x : Extent). Has (Sizes false x) (surveyElements child u48 S (Sc.elementOf S i) n (opened n (elementsSize u48 S (Sc.elementOf S i) n)) (drop next (bits s)))) same (list-sizes child S i n (drop next (bits s))))
+          rw e (subst (λ (x : Extent). Has (Sizes false x) (surveyElements child o S (Sc.elementOf S i) n (opened n (elementsSize o S (Sc.elementOf S i) n)) (drop next (bits s)))) same (list-sizes child o S i n (drop next (bits s))))
       is child false e = unfold surveyContent bind in rw e tt
 
 -- ---- tables
-module _ (d : ℕ) (S : Schema) (inplace : Bool) (xs : List ℕ) (t i : ℕ) (ei : i ≡ t) (far : Bool) (ef : far ≡ (not inplace && anyInPlace (Sc.tableOf S i .members))) where
-  pub table-measured : far ≡ false → (n : ℕ) → n ≡ fixedSize u48 S (Sc.tableOf S i .members) → (r : Extent) → Fits (opened n n) r → Measured inplace (survey d u48 S (O.Table t) xs) r
+module _ (d o : ℕ) (S : Schema) (inplace : Bool) (xs : List ℕ) (t i : ℕ) (ei : i ≡ t) (far : Bool) (ef : far ≡ (not inplace && anyInPlace (Sc.tableOf S i .members))) where
+  pub table-measured : far ≡ false → (n : ℕ) → n ≡ fixedSize o S (Sc.tableOf S i .members) → (r : Extent) → Fits (opened n n) r → Measured inplace (survey d o S (O.Table t) xs) r
   table-measured h n en r f =
       record {
-        is = rw (← ei, f .is, en) (measured-deep d S inplace (O.Table i) xs _ (λ child. table-sizes child S inplace i free xs));
+        is = rw (← ei, f .is, en) (measured-deep d o S inplace (O.Table i) xs _ (λ child. table-sizes child o S inplace i free xs));
         small = f .small;
       }
     where
@@ -109,20 +108,20 @@ surveyed-measured inplace s p whole r next v = record { is = subst (Has (Sizes i
     by false = tt
 
 -- ---- objects
-module _ (d : ℕ) (S : Schema) (ob : Object) (inplace : Bool) (xs : List ℕ) (r : Extent) where
-  pub measured-text : ob ≡ O.Text → Measured false (surveyBlob 1 xs) r → Measured inplace (survey d u48 S ob xs) r
+module _ (d o : ℕ) (S : Schema) (ob : Object) (inplace : Bool) (xs : List ℕ) (r : Extent) where
+  pub measured-text : ob ≡ O.Text → Measured false (surveyBlob 1 xs) r → Measured inplace (survey d o S ob xs) r
   unfolding surveyContent
-  measured-text e m = measured-content d S inplace ob xs r (rw e (record { is = λ child. m .is; small = m .small }))
+  measured-text e m = measured-content d o S inplace ob xs r (rw e (record { is = λ child. m .is; small = m .small }))
 
-  pub measured-bytes : ob ≡ O.Bytes → Measured false (surveyBlob 0 xs) r → Measured inplace (survey d u48 S ob xs) r
+  pub measured-bytes : ob ≡ O.Bytes → Measured false (surveyBlob 0 xs) r → Measured inplace (survey d o S ob xs) r
   unfolding surveyContent
-  measured-bytes e m = measured-content d S inplace ob xs r (rw e (record { is = λ child. m .is; small = m .small }))
+  measured-bytes e m = measured-content d o S inplace ob xs r (rw e (record { is = λ child. m .is; small = m .small }))
 
-  pub measured-list : (i j : ℕ) → ob ≡ O.List i → j ≡ i → MeasuredContent S (O.List j) xs r → Measured inplace (survey d u48 S ob xs) r
-  measured-list i j e ej m = measured-content d S inplace ob xs r (subst (λ (q : Object). MeasuredContent S q xs r) (ap O.List ej ∙ sym e) m)
+  pub measured-list : (i j : ℕ) → ob ≡ O.List i → j ≡ i → MeasuredContent o S (O.List j) xs r → Measured inplace (survey d o S ob xs) r
+  measured-list i j e ej m = measured-content d o S inplace ob xs r (subst (λ (q : Object). MeasuredContent o S q xs r) (ap O.List ej ∙ sym e) m)
 
-  pub measured-table : (i : ℕ) → ob ≡ O.Table i → Measured inplace (survey d u48 S (O.Table i) xs) r → Measured inplace (survey d u48 S ob xs) r
-  measured-table i e m = subst (λ (q : Object). Measured inplace (survey d u48 S q xs) r) (sym e) m
+  pub measured-table : (i : ℕ) → ob ≡ O.Table i → Measured inplace (survey d o S (O.Table i) xs) r → Measured inplace (survey d o S ob xs) r
+  measured-table i e m = subst (λ (q : Object). Measured inplace (survey d o S q xs) r) (sym e) m
 
 pub table-sound : (S : Schema) (ob : Object) (i : ℕ) → ObjectSound S ob → ob ≡ O.Table i → ObjectSound S (O.Table i)
 table-sound S ob i h e = subst (ObjectSound S) e h
@@ -131,27 +130,27 @@ pub table-known : (b : List ℕ) (i j : ℕ) → ObjectSound (P.parse b) (O.Tabl
 table-known b i j h e = table-counted b (O.Table i) i j h refl e
 
 -- ---- known sizes
-pub known-none : (S : Schema) (ob : Object) → KnownSize S ob 0
-known-none S ob = record { is = λ h d xs. absurd (let y : ⊥ = omega arith in y); small = omega arith }
+pub known-none : (o : ℕ) (S : Schema) (ob : Object) → KnownSize o S ob 0
+known-none o S ob = record { is = λ h d xs. absurd (let y : ⊥ = omega arith in y); small = omega arith }
 
-pub known-fixed : (S : Schema) (t n : ℕ) → n ≡ fixedSize u48 S (Sc.tableOf S t .members) → n < 2 ^ 40 → (r : Bool) → r ≡ anyInPlace (Sc.tableOf S t .members) → r ≡ false
-    → KnownSize S (O.Table t) n
-known-fixed S t n en l r er h =
-    record { is = λ g d xs. rw en (measured-deep d S false (O.Table t) xs _ (λ child. table-sizes child S false t (λ e. sym er ∙ h) xs)); small = l }
+pub known-fixed : (o : ℕ) (S : Schema) (t n : ℕ) → n ≡ fixedSize o S (Sc.tableOf S t .members) → n < 2 ^ 40 → (r : Bool) → r ≡ anyInPlace (Sc.tableOf S t .members) → r ≡ false
+    → KnownSize o S (O.Table t) n
+known-fixed o S t n en l r er h =
+    record { is = λ g d xs. rw en (measured-deep d o S false (O.Table t) xs _ (λ child. table-sizes child o S false t (λ e. sym er ∙ h) xs)); small = l }
 
-pub known-table : (S : Schema) (ob : Object) (i j n : ℕ) → ob ≡ O.Table i → j ≡ i → KnownSize S (O.Table j) n → KnownSize S ob n
-known-table S ob i j n e ej k = subst (λ (q : Object). KnownSize S q n) (ap O.Table ej ∙ sym e) k
+pub known-table : (o : ℕ) (S : Schema) (ob : Object) (i j n : ℕ) → ob ≡ O.Table i → j ≡ i → KnownSize o S (O.Table j) n → KnownSize o S ob n
+known-table o S ob i j n e ej k = subst (λ (q : Object). KnownSize o S q n) (ap O.Table ej ∙ sym e) k
 
-pub known-small : (S : Schema) (ob : Object) (n : ℕ) → KnownSize S ob n → (n < 2 ^ 40) × (n < 2 ^ 48)
-known-small S ob n k = let l = k .small in (l, omega arith)
+pub known-small : (o : ℕ) (S : Schema) (ob : Object) (n : ℕ) → KnownSize o S ob n → (n < 2 ^ 40) × (n < 2 ^ 48)
+known-small o S ob n k = let l = k .small in (l, omega arith)
 
-pub known-measured : (d : ℕ) (S : Schema) (ob : Object) (n : ℕ) (xs : List ℕ) → KnownSize S ob n → 0 < n → (r : Extent) → Fits (opened n n) r → Measured false (survey d u48 S ob xs) r
-known-measured d S ob n xs k h r f = record { is = subst (λ (x : Extent). Has (Sizes false x) (survey d u48 S ob xs)) (sym (f .is)) (k .is h d xs); small = f .small }
+pub known-measured : (d o : ℕ) (S : Schema) (ob : Object) (n : ℕ) (xs : List ℕ) → KnownSize o S ob n → 0 < n → (r : Extent) → Fits (opened n n) r → Measured false (survey d o S ob xs) r
+known-measured d o S ob n xs k h r f = record { is = subst (λ (x : Extent). Has (Sizes false x) (survey d o S ob xs)) (sym (f .is)) (k .is h d xs); small = f .small }
 
 -- ---- texts and bytes by their offset
-module _ (d : ℕ) (S : Schema) (ob : Object) (h : isBlob ob ≡ true) (xs : List ℕ) (r : Extent) where
-  pub measured-no-list : (i : ℕ) → ob ≡ O.List i → Measured false (survey d u48 S ob xs) r
+module _ (d o : ℕ) (S : Schema) (ob : Object) (h : isBlob ob ≡ true) (xs : List ℕ) (r : Extent) where
+  pub measured-no-list : (i : ℕ) → ob ≡ O.List i → Measured false (survey d o S ob xs) r
   measured-no-list i e = absurd (not-list ob h i e)
 
-  pub measured-no-table : (i : ℕ) → ob ≡ O.Table i → Measured false (survey d u48 S ob xs) r
+  pub measured-no-table : (i : ℕ) → ob ≡ O.Table i → Measured false (survey d o S ob xs) r
   measured-no-table i e = absurd (not-table ob h i e)

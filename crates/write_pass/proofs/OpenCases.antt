@@ -1,5 +1,5 @@
 -- Flags, magics, references, and the start of an object's content.
-use mathlib.Core.Path.{_≡_, refl, ap, ap₂, _∙_, subst}
+use mathlib.Core.Path.{_≡_, refl, ap, _∙_, subst}
 use mathlib.Core.Bool.{Bool, true, false}
 use mathlib.Core.List.{List}
 use Prim.Native.Nat.{ℕ, _+_, _^_, _<_, _≤_}
@@ -18,7 +18,8 @@ use Rattle.write_measure.specs.declared.Extent.{Extent}
 use Rattle.write_store.specs.State.{State, putBit, enterObject, enterContent, putNumber}
 use Rattle.write_pass.specs.EmitSheet.{openObject, flagged}
 use Rattle.write_store.specs.Storing.{stateOf, enteredObject, enteredContent, leftObject, leftContent, HeldOk, Stood, BitPut}
-use Rattle.write_pass.specs.Emitting.{closed, referred, opened, Opens, isBlob}
+use Rattle.schema.specs.Kinds.{isBlob}
+use Rattle.write_pass.specs.Emitting.{closed, referred, opened, Opens, headed}
 use Rattle.write_store.specs.declared.Places.{Places}
 
 module _ (inplace : Bool) (c i r : Places) where
@@ -60,12 +61,12 @@ module _ (S : Schema) (ob : Object) where
 
 -- ---- references
 module _ (inplace : Bool) (x : Extent) (c r : Places) (o o₁ : List ℕ) where
-  pub referred-content : inplace ≡ true → Stood 6 (putNumber 6 (x .length) (stateOf c o)) (stateOf r o₁) c r → Stood 6 (referred inplace x (stateOf c o)) (stateOf r o₁) c r
-  unfolding referred u48
+  pub referred-content : inplace ≡ true → Stood u48 (putNumber u48 (x .length) (stateOf c o)) (stateOf r o₁) c r → Stood u48 (referred u48 inplace x (stateOf c o)) (stateOf r o₁) c r
+  unfolding referred
   referred-content e t = rw e t
 
-  pub referred-object : inplace ≡ false → Stood 6 (putNumber 6 (c .next) (stateOf c o)) (stateOf r o₁) c r → Stood 6 (referred inplace x (stateOf c o)) (stateOf r o₁) c r
-  unfolding referred u48
+  pub referred-object : inplace ≡ false → Stood u48 (putNumber u48 (c .next) (stateOf c o)) (stateOf r o₁) c r → Stood u48 (referred u48 inplace x (stateOf c o)) (stateOf r o₁) c r
+  unfolding referred
   referred-object e t = rw e t
 
 -- ---- contents
@@ -81,11 +82,11 @@ module _ (c q : Places) (w chain : ℕ) (eq : q ≡ enteredObject w chain c) (l 
   unfolding enteredObject
   entered-header put now h t = let e = ap (λ (p : Places). p .at) eq in let f = t .at in omega arith
 
-pub object-opened : (S : Schema) (ob : Object) (x : Extent) (c q h r : Places) (o o₁ o₂ : List ℕ) (mg : ℕ) → mg ≡ magic S ob → c .next ≤ 16777216
+pub header-put : (mg : ℕ) (x : Extent) (c q h r : Places) (o o₁ o₂ : List ℕ) → c .next ≤ 16777216
     → q ≡ enteredObject (10 + x .width) (x .chain) c → Stood 4 (putNumber 4 mg (stateOf q o)) (stateOf h o₁) q h
-    → Stood 6 (putNumber 6 (x .length) (stateOf h o₁)) (stateOf r o₂) h r → Opens (openObject u48 S ob x (stateOf c o)) (stateOf r o₂) r
-unfolding openObject enterObject enteredObject headerSize u48 largest
-object-opened S ob x c q h r o o₁ o₂ mg em l eq t u =
+    → Stood u48 (putNumber u48 (x .length) (stateOf h o₁)) (stateOf r o₂) h r → Opens u48 (headed u48 mg x (stateOf c o)) (stateOf r o₂) r
+unfolding headed enterObject enteredObject headerSize u48 largest
+header-put mg x c q h r o o₁ o₂ l eq t u =
     let ea = ap (λ (p : Places). p .at) eq in
     let et = ap (λ (p : Places). p .tail) eq in
     let en = ap (λ (p : Places). p .next) eq in
@@ -98,16 +99,21 @@ object-opened S ob x c q h r o o₁ o₂ mg em l eq t u =
     let rt = u .tail in
     let rn = u .next in
     record {
-      is = u .is ∙ ap (putNumber 6 (x .length)) (t .is ∙ ap₂ (λ (m : ℕ) (p : Places). putNumber 4 m (stateOf p o)) em eq);
+      is = u .is ∙ ap (putNumber u48 (x .length)) (t .is ∙ ap (λ (p : Places). putNumber 4 mg (stateOf p o)) eq);
       bool = held-none r (u .free ∙ t .free ∙ ap (λ (p : Places). p .free) eq) (u .held ∙ t .held ∙ ap (λ (p : Places). p .held) eq);
       at = omega arith;
       tail = omega arith;
       next = omega arith;
     }
 
+pub object-opened : (S : Schema) (ob : Object) (x : Extent) (c r : Places) (o o₁ : List ℕ) (mg : ℕ) → mg ≡ magic S ob
+    → Opens u48 (headed u48 mg x (stateOf c o)) (stateOf r o₁) r → Opens u48 (openObject u48 S ob x (stateOf c o)) (stateOf r o₁) r
+unfolding headed openObject
+object-opened S ob x c r o o₁ mg em t = subst (λ (m : ℕ). Opens u48 (headed u48 m x (stateOf c o)) (stateOf r o₁) r) em t
+
 module _ (S : Schema) (ob : Object) (inplace : Bool) (x : Extent) (c r : Places) where
   pub opened-content : inplace ≡ true → c .tail ≤ 16777216 → c .next ≤ 16777216 → r ≡ enteredContent (x .width) c → (o : List ℕ)
-      → Opens (opened S ob inplace x (stateOf c o)) (stateOf r o) r
+      → Opens u48 (opened u48 S ob inplace x (stateOf c o)) (stateOf r o) r
   unfolding opened enterContent enteredContent largest
   opened-content e lt ln er o =
       let ea = ap (λ (p : Places). p .at) er in
@@ -122,8 +128,8 @@ module _ (S : Schema) (ob : Object) (inplace : Bool) (x : Extent) (c r : Places)
         next = omega arith;
       })
 
-  pub opened-object : inplace ≡ false → (o o₁ : List ℕ) → Opens (openObject u48 S ob x (stateOf c o)) (stateOf r o₁) r
-      → Opens (opened S ob inplace x (stateOf c o)) (stateOf r o₁) r
+  pub opened-object : inplace ≡ false → (o o₁ : List ℕ) → Opens u48 (openObject u48 S ob x (stateOf c o)) (stateOf r o₁) r
+      → Opens u48 (opened u48 S ob inplace x (stateOf c o)) (stateOf r o₁) r
   unfolding opened
   opened-object e o o₁ t = rw e t
 
@@ -143,7 +149,6 @@ module _ (ob : Object) (h : isBlob ob ≡ true) where
   pub magic-no-table : (S : Schema) (i : ℕ) → ob ≡ O.Table i → 0 ≡ magic S ob
   magic-no-table S i e = absurd (not-table i e)
 
-pub terminal-opened : (S : Schema) (ob : Object) (x : Extent) (c q h r : Places) (o o₁ o₂ : List ℕ) (mg : ℕ) → mg ≡ magic S ob → c .next ≤ 16777216
-    → q ≡ enteredObject (10 + x .width) (x .chain) c → Stood 4 (putNumber 4 mg (stateOf q o)) (stateOf h o₁) q h
-    → Stood 6 (putNumber 6 (x .length) (stateOf h o₁)) (stateOf r o₂) h r → Opens (opened S ob false x (stateOf c o)) (stateOf r o₂) r
-terminal-opened S ob x c q h r o o₁ o₂ mg em l eq t u = opened-object S ob false x c r refl o o₂ (object-opened S ob x c q h r o o₁ o₂ mg em l eq t u)
+pub terminal-opened : (S : Schema) (ob : Object) (x : Extent) (c r : Places) (o o₁ : List ℕ) (mg : ℕ) → mg ≡ magic S ob
+    → Opens u48 (headed u48 mg x (stateOf c o)) (stateOf r o₁) r → Opens u48 (opened u48 S ob false x (stateOf c o)) (stateOf r o₁) r
+terminal-opened S ob x c r o o₁ mg em t = opened-object S ob false x c r refl o o₁ (object-opened S ob x c r o o₁ mg em t)

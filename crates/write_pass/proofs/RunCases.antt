@@ -26,9 +26,11 @@ use Rattle.schema.specs.Directory.{Accepted}
 use Rattle.write_measure.proofs.ObjectCases.{element-sound}
 use Rattle.bitio.specs.Taken.{TakenNumber}
 use Rattle.write_measure.specs.Survey.{Surveyor}
-use Rattle.write_store.specs.State.{State, putBit, putNumber, putOctet, reversed}
+use Rattle.bits.specs.Reversed.{reversed}
+use Rattle.schema.specs.Kinds.{flatInteger, integerWidth}
+use Rattle.write_store.specs.State.{State, putBit, putNumber, putOctet}
 use Rattle.write_pass.specs.EmitSheet.{Emitter, emitNumber, emitElements, emitBlob, emitContent}
-use Rattle.write_pass.specs.EmitRun.{emitRun, flatIntegerWidth, integerWidth, emitUnmarked, unmarked-run, octet-run, octets-blob, emitFlats}
+use Rattle.write_pass.specs.EmitRun.{emitRun, emitUnmarked, unmarked-run, octet-run, octets-blob, emitFlats}
 use Rattle.write_store.specs.Storing.{stateOf, forward, Stood, BitPut}
 use Rattle.write_pass.specs.Emitting.{Room, EmittedAt, emitMarkedFlat}
 use Rattle.write_store.specs.declared.Places.{Places}
@@ -259,11 +261,11 @@ module _ (k : Kind) (w : ℕ) (ew : w ≡ integerWidth k) where
   integer-wide b dir a i e = rw ew (by (parse b) k (element-sound b dir a i k e))
     where
       by : (S : Schema) (j : Kind) → KindSound S j → integerWidth j ≤ 8
-      by S (OfFlat Boolean) g = unfold integerWidth flatIntegerWidth in omega arith
-      by S (OfFlat (Integer s v)) g = unfold integerWidth flatIntegerWidth in let l = g .1 in omega arith
-      by S (OfFlat (Float v)) g = unfold integerWidth flatIntegerWidth in omega arith
-      by S (OfFlat (Enumerated n)) g = unfold integerWidth flatIntegerWidth in omega arith
-      by S (OfFlat (Struct a)) g = unfold integerWidth flatIntegerWidth in omega arith
+      by S (OfFlat Boolean) g = unfold integerWidth flatInteger in omega arith
+      by S (OfFlat (Integer s v)) g = unfold integerWidth flatInteger in let l = g .1 in omega arith
+      by S (OfFlat (Float v)) g = unfold integerWidth flatInteger in omega arith
+      by S (OfFlat (Enumerated n)) g = unfold integerWidth flatInteger in omega arith
+      by S (OfFlat (Struct a)) g = unfold integerWidth flatInteger in omega arith
       by S (OfObject ob) g = unfold integerWidth in omega arith
       by S (OfUnion u) g = unfold integerWidth in omega arith
 

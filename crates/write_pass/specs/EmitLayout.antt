@@ -1,10 +1,10 @@
 -- What the pass leaves in the buffer is the layout, where the message is no longer than the size.
 use mathlib.Core.Path.{_≡_, refl, sym, ap, subst, _∙_}
-use mathlib.Core.List.{List, [], _∷_, _++_}
+use mathlib.Core.List.{List, _++_}
 use Prim.Native.Nat.{ℕ, suc, zero, _+_, _*_, _-_, _^_, _≤_, _<_}
 use native.Mathlib.Omega.{arith}
 use native.Mathlib.Nat.{pow-suc}
-use lib.ListN.{length, getD, take, set, length-set, length-append}
+use lib.ListN.{length, getD, take, set, length-set}
 use lib.Seq.{sets, length-sets, getD-set-same, getD-set-other, take-all}
 use Rattle.coding.specs.Bytes.{leBytes, largest}
 use Rattle.coding.specs.Cells.{width, chain, below, widthBytes, chainBytes, belowBytes, layout, Slots, gather, packBits}

@@ -37,7 +37,7 @@ module _ (o : ℕ) (S : Schema) (sound : Sound S) where
       (λ ob′ ys. object-surveyed o S sound d ob′ ys) (λ ob′ st′ ys. emit-is d ob′ st′ ys) ob st xs
 
   -- where the survey finds what is not lawful, so does the pass
-  pub emit-lost : (d : ℕ) (ob : Object) (st : State) (xs : List ℕ) → survey d o S ob xs ≡ fail → emit d o S ob st xs ≡ fail
-  emit-lost d ob st xs h =
+  pub emit-fails : (d : ℕ) (ob : Object) (st : State) (xs : List ℕ) → survey d o S ob xs ≡ fail → emit d o S ob st xs ≡ fail
+  emit-fails d ob st xs h =
       emit-is d ob st xs
       ∙ ap (mapped (λ v. emitSlots o st (plan d o S ob v))) (mapped-fail-is (extentOf o S sound d ob) (decode d S ob xs) (sym (survey-is o S sound d ob xs) ∙ h))

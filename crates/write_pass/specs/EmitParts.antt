@@ -11,10 +11,10 @@ use Rattle.coding.specs.Bytes.{leBytes}
 use Rattle.coding.specs.Schema.{Schema, elementOf, casesOf, caseOf, tableOf}
 use Rattle.coding.specs.Layout.{hasFlag}
 use Rattle.coding.specs.Walk.{headerSize, magic}
-use Rattle.coding.specs.Value.{Value, Values, absent, unknown, number, blob, row, chosen, none, _then_, present, asNumber, asBlob, asRow, asObject, first, others}
-use Rattle.coding.specs.Cells.{width, chain, below, Slots, packBits}
+use Rattle.coding.specs.Value.{Value, Values, absent, unknown, blob, row, chosen, present, asNumber, asBlob, asRow, asObject, first, others}
+use Rattle.coding.specs.Cells.{width, chain, Slots, packBits}
 use Rattle.coding.specs.Cells.Slots.{end, bytes, bit, reference, inPlace}
-use Rattle.coding.specs.Sheet.{Parsed, fail, got, bind, takeNumber, takeBytes, takeIf, unknownEnum, takeUnknownEnum, takeFlat, takeStruct, Decoder, takeChoice, takeBody, takeUnknownFlat, takeUnknown, takePart, unmarked, takeElement, takeMembers, takeElements, takeBlob, takeContent}
+use Rattle.coding.specs.Sheet.{Parsed, fail, got, bind, takeNumber, takeBytes, unknownEnum, takeUnknownEnum, Decoder, takeChoice, takeBody, takeUnknownFlat, takeUnknown, takePart, unmarked, takeElement, takeMembers, takeElements, takeBlob, takeContent}
 use Rattle.coding.specs.Message.{lengthOf, Test, zeros, numberOr, flatSlots, Planner, objectSlots, referSlots, valueSlots, flagOf, memberSlots, membersSlots, elementsSlots, contentSlots}
 use Rattle.coding.specs.declared.Flat.{Flat}
 use Rattle.coding.specs.declared.Flat.the-variants as F
@@ -24,16 +24,15 @@ use Rattle.coding.specs.declared.Kind.{Kind}
 use Rattle.coding.specs.declared.Kind.the-variants.{OfFlat, OfObject, OfUnion}
 use Rattle.coding.specs.declared.Member.{Member}
 use Rattle.laws.specs.Sound.{Sound}
-use Rattle.write_measure.specs.Survey.{capped, aboveCount, surveyMark, Surveyor}
+use Rattle.write_measure.specs.Survey.{capped, aboveCount, Surveyor}
 use Rattle.write_measure.specs.Mapped.{mapped, Has, mapped-same, bind-mapped, bind-has, seq, mark-mapped}
 use Rattle.write_measure.specs.SlotSizes.{length-leBytes}
 use Rattle.write_measure.specs.SurveyFlats.{Present, flat-there}
 use Rattle.write_measure.specs.SurveyParts.{objectExtent, ObjectSurveyed}
 use Rattle.write_store.specs.State.{State, putBytes, putBit, enterObject, leaveObject, enterContent, leaveContent, putByte, putNumber}
 use Rattle.write_pass.specs.Emit.{emitSlots}
-use Rattle.write_pass.specs.EmitSheet.{emitIf, putNothing, emitFlat, lackFlat, lack, passFlat, pass, Emitter, openObject, emitObject, emitContentAt, emitRefer, emitChoice, emitBody, emitPart, emitElement, flagged, emitMembers, emitElements, emitBlob, emitContent}
+use Rattle.write_pass.specs.EmitSheet.{putNothing, lackFlat, lack, passFlat, pass, Emitter, openObject, emitObject, emitContentAt, emitRefer, emitChoice, emitBody, emitPart, emitElement, flagged, emitMembers, emitElements, emitBlob, emitContent}
 use Rattle.write_pass.specs.EmitFlats.{put-none, if-emitted, flat-emitted, lack-emitted}
-use Rattle.write_measure.specs.declared.Extent.{Extent}
 
 has-all : {A : Type 0} (P : A → Type 0) → ((a : A) → P a) → (p : Parsed A) → Has P p
 has-all P h fail = tt
@@ -172,21 +171,21 @@ module _ (o : ℕ) (S : Schema) (sound : Sound S) (child : Emitter) (measure : S
       by c ys false = tt
 
   -- ---- with its mark
-  lost-flat : (k : Flat) (inplace : Bool) (st0 st1 : State) (xs : List ℕ)
+  unknown-flat : (k : Flat) (inplace : Bool) (st0 st1 : State) (xs : List ℕ)
       → passFlat k (lackFlat S k st0) xs ≡ mapped (λ v. valueState o S P (OfFlat k) inplace (pick (present v) st1 st0) v) (takeUnknownFlat k xs)
   unfolding passFlat lackFlat takeUnknownFlat takeUnknownEnum valueSlots flatSlots emitSlots putByte numberOr present
-  lost-flat F.Boolean inplace st0 st1 xs = refl
-  lost-flat (F.Integer s w) inplace st0 st1 xs = refl
-  lost-flat (F.Float w) inplace st0 st1 xs = refl
-  lost-flat (F.Enumerated n) inplace st0 st1 xs = if-emitted _ 8 (unknownEnum n) unknown putNothing (putByte 255 st0) (λ x. refl) xs
-  lost-flat (F.Struct i) inplace st0 st1 xs = refl
+  unknown-flat F.Boolean inplace st0 st1 xs = refl
+  unknown-flat (F.Integer s w) inplace st0 st1 xs = refl
+  unknown-flat (F.Float w) inplace st0 st1 xs = refl
+  unknown-flat (F.Enumerated n) inplace st0 st1 xs = if-emitted _ 8 (unknownEnum n) unknown putNothing (putByte 255 st0) (λ x. refl) xs
+  unknown-flat (F.Struct i) inplace st0 st1 xs = refl
 
-  lost-emitted : (k : Kind) (inplace : Bool) (st0 st1 : State) (xs : List ℕ)
+  unknown-emitted : (k : Kind) (inplace : Bool) (st0 st1 : State) (xs : List ℕ)
       → pass S k (lack o S k st0) xs ≡ mapped (λ v. valueState o S P k inplace (pick (present v) st1 st0) v) (takeUnknown S k xs)
   unfolding pass lack takeUnknown
-  lost-emitted (OfFlat k) inplace st0 st1 xs = lost-flat k inplace st0 st1 xs
-  lost-emitted (OfObject ob) inplace st0 st1 xs = refl
-  lost-emitted (OfUnion i) inplace st0 st1 xs =
+  unknown-emitted (OfFlat k) inplace st0 st1 xs = unknown-flat k inplace st0 st1 xs
+  unknown-emitted (OfObject ob) inplace st0 st1 xs = refl
+  unknown-emitted (OfUnion i) inplace st0 st1 xs =
       if-emitted (λ v. valueState o S P (OfUnion i) inplace (pick (present v) st1 st0) v) 16 (aboveCount (length (casesOf S i))) unknown putNothing (putBytes (zeros (2 + o)) st0) (λ x. one x) xs
     where
       one : (x : ℕ) → putBytes (zeros (2 + o)) st0 ≡ valueState o S P (OfUnion i) inplace (pick (present (unknown x)) st1 st0) (unknown x)
@@ -203,7 +202,7 @@ module _ (o : ℕ) (S : Schema) (sound : Sound S) (child : Emitter) (measure : S
   unfolding emitPart takePart
   part-emitted k inplace st0 st1 xs =
       mark-mapped (λ v. valueState o S P k inplace (pick (present v) st1 st0) v) (lack o S k st0) (pass S k (lack o S k st0)) (emitBody child measure o S k inplace st1)
-      (takeUnknown S k) (takeBody decoder S k) (none-emitted k inplace st0 st1) (λ ys. lost-emitted k inplace st0 st1 ys)
+      (takeUnknown S k) (takeBody decoder S k) (none-emitted k inplace st0 st1) (λ ys. unknown-emitted k inplace st0 st1 ys)
       (λ ys. body-emitted k inplace st1 ys ∙ mapped-same _ _ (takeBody decoder S k ys) (all (takeBody decoder S k ys) (body-there k ys))) xs
     where
       all : (p : Parsed Value) → Has Present p → Has (λ v. valueState o S P k inplace st1 v ≡ valueState o S P k inplace (pick (present v) st1 st0) v) p

@@ -27,7 +27,9 @@ use Rattle.laws.specs.All.{all-drop}
 use Rattle.laws.specs.Bits.{Bit, front-lt}
 use Rattle.write_measure.specs.Survey.{Surveyor, surveyMark}
 use Rattle.write_measure.specs.Mapped.{bind-same}
-use Rattle.write_store.specs.State.{State, putBytes, putBit, putNumber, putOctet, reversed}
+use Rattle.bits.specs.Reversed.{digit, reversed}
+use Rattle.schema.specs.Kinds.{flatInteger, integerWidth}
+use Rattle.write_store.specs.State.{State, putBytes, putBit, putNumber, putOctet}
 use Rattle.write_store.specs.Octets.{octet-bits}
 use Rattle.write_pass.specs.EmitSheet.{Emitter, emitNumber, emitFlat, lack, pass, emitBody, emitPart, emitElement, emitElements, emitBlob, emitContent}
 use Rattle.write_pass.specs.EmitFlats.{put-none, put-append}
@@ -37,19 +39,6 @@ use Rattle.write_pass.specs.Emitting.{emitMarkedFlat}
 unfoldable pub emitRun : ℕ → (ℕ → State → State) → ℕ → State → List ℕ → Parsed State
 emitRun w put zero st xs = got st xs
 emitRun w put (suc n) st xs = bind (emitNumber w put st xs) (λ next ys. emitRun w put n next ys)
-
--- the bytes of an integer; 0 for what is none
-unfoldable pub flatIntegerWidth : Flat → ℕ
-flatIntegerWidth Boolean = 0
-flatIntegerWidth (Integer s w) = w
-flatIntegerWidth (Float w) = 0
-flatIntegerWidth (Enumerated n) = 0
-flatIntegerWidth (Struct i) = 0
-
-unfoldable pub integerWidth : Kind → ℕ
-integerWidth (OfFlat k) = flatIntegerWidth k
-integerWidth (OfObject ob) = 0
-integerWidth (OfUnion i) = 0
 
 -- n elements without a mark: integers of w bytes, or bools where w is 0
 unfoldable pub emitUnmarked : ℕ → ℕ → State → List ℕ → Parsed State
@@ -69,7 +58,7 @@ module _ (child : Emitter) (measure : Surveyor) (o : ℕ) (S : Schema) where
 
   pub unmarked-run : (k : Kind) → KindSound S k → unmarked k ≡ true → (n : ℕ) (st : State) (xs : List ℕ)
       → emitElements child measure o S k n st xs ≡ emitUnmarked (integerWidth k) n st xs
-  unfolding integerWidth flatIntegerWidth unmarked flatUnmarked emitUnmarked
+  unfolding integerWidth flatInteger unmarked flatUnmarked emitUnmarked
   unmarked-run (OfFlat Boolean) g h n st xs = bools-run n st xs
   unmarked-run (OfFlat (Integer s w)) g h n st xs =
       let z : w ≡ 0 → ⊥ = λ e. (let l = g .0 in let y : ⊥ = omega arith in y) in
@@ -89,7 +78,7 @@ bit-run n st b ys =
     (le-leb 1 (length (b ∷ ys)) (omega arith))
     ∙ ap (λ (x : ℕ). emitRun 1 putBit n (putBit x st) ys) z
 
--- too few bits
+-- a run of bools that has too few bits fails
 run-short : (m : ℕ) (st : State) (xs : List ℕ) → length xs < m → emitRun 1 putBit m st xs ≡ fail
 unfolding emitRun emitNumber takeNumber bind
 run-short zero st xs h = absurd (let z : ⊥ = omega arith in z)
@@ -97,8 +86,8 @@ run-short (suc m) st [] h = refl
 run-short (suc m) st (b ∷ ys) h = bit-run m st b ys ∙ run-short m (putBit b st) ys (omega arith)
 
 -- eight bits as a number, and the number reversed
-digit : (k x n b r : ℕ) → x ≡ (n * 2 + b) * 2 ^ k + r → r < 2 ^ k → b < 2 → b ≡ x / 2 ^ k % 2
-digit k x n b r e h l =
+digit-is : (k x n b r : ℕ) → x ≡ (n * 2 + b) * 2 ^ k + r → r < 2 ^ k → b < 2 → b ≡ x / 2 ^ k % 2
+digit-is k x n b r e h l =
     let z : (n * 2 + b) % 2 ≡ b = omega arith in
     sym (ap (λ (y : ℕ). y / 2 ^ k % 2) e ∙ ap (λ (y : ℕ). y % 2) (high (n * 2 + b) k h) ∙ z)
 
@@ -115,17 +104,17 @@ module _ (a b c d e f g h : ℕ) (ha : a < 2) (hb : b < 2) (hc : c < 2) (hd : d 
   number-is = omega arith
 
   digits : a + b * 2 + c * 4 + d * 8 + e * 16 + f * 32 + g * 64 + h * 128 ≡ reversed number
-  unfolding reversed
+  unfolding reversed digit
   digits =
       grouped a b c d e f g h _ _ _ _ _ _ _ _
-      (digit 7 number 0 a (b * 64 + c * 32 + d * 16 + e * 8 + f * 4 + g * 2 + h) (omega (arith, number-is)) (omega arith) ha)
-      (digit 6 number a b (c * 32 + d * 16 + e * 8 + f * 4 + g * 2 + h) (omega (arith, number-is)) (omega arith) hb)
-      (digit 5 number (a * 2 + b) c (d * 16 + e * 8 + f * 4 + g * 2 + h) (omega (arith, number-is)) (omega arith) hc)
-      (digit 4 number (a * 4 + b * 2 + c) d (e * 8 + f * 4 + g * 2 + h) (omega (arith, number-is)) (omega arith) hd)
-      (digit 3 number (a * 8 + b * 4 + c * 2 + d) e (f * 4 + g * 2 + h) (omega (arith, number-is)) (omega arith) he)
-      (digit 2 number (a * 16 + b * 8 + c * 4 + d * 2 + e) f (g * 2 + h) (omega (arith, number-is)) (omega arith) hf)
-      (digit 1 number (a * 32 + b * 16 + c * 8 + d * 4 + e * 2 + f) g h (omega (arith, number-is)) (omega arith) hg)
-      (digit 0 number (a * 64 + b * 32 + c * 16 + d * 8 + e * 4 + f * 2 + g) h 0 (omega (arith, number-is)) (omega arith) hh)
+      (digit-is 7 number 0 a (b * 64 + c * 32 + d * 16 + e * 8 + f * 4 + g * 2 + h) (omega (arith, number-is)) (omega arith) ha)
+      (digit-is 6 number a b (c * 32 + d * 16 + e * 8 + f * 4 + g * 2 + h) (omega (arith, number-is)) (omega arith) hb)
+      (digit-is 5 number (a * 2 + b) c (d * 16 + e * 8 + f * 4 + g * 2 + h) (omega (arith, number-is)) (omega arith) hc)
+      (digit-is 4 number (a * 4 + b * 2 + c) d (e * 8 + f * 4 + g * 2 + h) (omega (arith, number-is)) (omega arith) hd)
+      (digit-is 3 number (a * 8 + b * 4 + c * 2 + d) e (f * 4 + g * 2 + h) (omega (arith, number-is)) (omega arith) he)
+      (digit-is 2 number (a * 16 + b * 8 + c * 4 + d * 2 + e) f (g * 2 + h) (omega (arith, number-is)) (omega arith) hf)
+      (digit-is 1 number (a * 32 + b * 16 + c * 8 + d * 4 + e * 2 + f) g h (omega (arith, number-is)) (omega arith) hg)
+      (digit-is 0 number (a * 64 + b * 32 + c * 16 + d * 8 + e * 4 + f * 2 + g) h 0 (omega (arith, number-is)) (omega arith) hh)
 
 -- eight bools that fill a byte of their own
 octet-long : (n : ℕ) (st : State) (xs : List ℕ) → st .free ≡ 0 → All Bit xs → 8 ≤ length xs
@@ -199,7 +188,7 @@ bytes-run (suc n) st xs h =
 
 module _ (child : Emitter) (measure : Surveyor) (o : ℕ) (S : Schema) where
   octets-run : (k : Kind) → integerWidth k ≡ 1 → (n : ℕ) (st : State) (xs : List ℕ) → emitElements child measure o S k n st xs ≡ emitRun 8 (putNumber 1) n st xs
-  unfolding integerWidth flatIntegerWidth
+  unfolding integerWidth flatInteger
   octets-run (OfFlat Boolean) e n st xs = absurd (let y : ⊥ = omega arith in y)
   octets-run (OfFlat (Integer s w)) e n st xs = integers-run child measure o S s w n st xs ∙ ap (λ (v : ℕ). emitRun (8 * v) (putNumber v) n st xs) e
   octets-run (OfFlat (Float w)) e n st xs = absurd (let y : ⊥ = omega arith in y)
@@ -208,7 +197,7 @@ module _ (child : Emitter) (measure : Surveyor) (o : ℕ) (S : Schema) where
   octets-run (OfObject ob) e n st xs = absurd (let y : ⊥ = omega arith in y)
   octets-run (OfUnion i) e n st xs = absurd (let y : ⊥ = omega arith in y)
 
-  -- a list of them is stored as bytes are
+  -- a list of integers of one byte is stored as bytes are
   pub octets-blob : (i : ℕ) → integerWidth (elementOf S i) ≡ 1 → (st : State) (xs : List ℕ) → All Bit xs → emitContent child measure o S (O.List i) st xs ≡ emitBlob [] st xs
   unfolding emitContent emitBlob takeNumber bind
   octets-blob i w st xs h = by (leb 32 (length xs))
@@ -226,7 +215,7 @@ module _ (child : Emitter) (measure : Surveyor) (o : ℕ) (S : Schema) where
       by true = run (value (take 32 xs)) (drop 32 xs) (all-drop Bit 32 xs h)
 
 -- ---- elements with a mark
--- n of them
+-- n floats or enums, each with its mark
 unfoldable pub emitFlats : Schema → Flat → ℕ → State → List ℕ → Parsed State
 emitFlats S f zero st xs = got st xs
 emitFlats S f (suc n) st xs = bind (emitMarkedFlat S f st xs) (λ next ys. emitFlats S f n next ys)

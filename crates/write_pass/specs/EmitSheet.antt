@@ -37,6 +37,7 @@ abbrev pub putNothing : ℕ → State → State
 putNothing x st = st
 
 -- ---- structs
+-- a member; `inner` stores a struct by its number
 unfoldable pub emitField : (ℕ → State → List ℕ → Parsed State) → Flat → State → List ℕ → Parsed State
 emitField inner Boolean st xs = emitNumber 1 putByte st xs
 emitField inner (Integer s w) st xs = emitNumber (8 * w) (putNumber w) st xs
@@ -45,6 +46,7 @@ emitField inner (Enumerated n) st xs =
     surveyMark (putByte 255 st) (emitIf 8 (unknownEnum n) putNothing (putByte 255 st)) (emitIf 8 (belowCount n) putByte st) xs
 emitField inner (Struct i) st xs = inner i st xs
 
+-- the members of a struct in turn
 unfoldable pub emitFields : (ℕ → State → List ℕ → Parsed State) → List Flat → State → List ℕ → Parsed State
 emitFields inner [] st xs = got st xs
 emitFields inner (k ∷ ks) st xs = bind (emitField inner k st xs) (λ next ys. emitFields inner ks next ys)
@@ -58,7 +60,8 @@ emitNothing st xs = fail
 unfoldable pub emitStruct : Schema → ℕ → State → List ℕ → Parsed State
 emitStruct S i = byIndex emitNothing (emitBy S) i
 
--- ---- what leads to no object
+-- ---- flat values: bools, numbers, enums and structs, which lead to no object
+-- of a member or an element, present, behind its mark
 unfoldable pub emitFlat : Schema → Flat → State → List ℕ → Parsed State
 emitFlat S Boolean st xs = emitNumber 1 putBit st xs
 emitFlat S (Integer s w) st xs = emitNumber (8 * w) (putNumber w) st xs
@@ -66,7 +69,7 @@ emitFlat S (Float w) st xs = emitNumber (8 * w) (putNumber w) st xs
 emitFlat S (Enumerated n) st xs = emitIf 8 (belowCount n) putByte st xs
 emitFlat S (Struct i) st xs = emitStruct S i st xs
 
--- what stands for no value
+-- what stands for a flat value that is absent
 unfoldable pub lackFlat : Schema → Flat → State → State
 lackFlat S Boolean st = putBit 0 st
 lackFlat S (Integer s w) st = putNumber w 0 st
@@ -74,12 +77,13 @@ lackFlat S (Float w) st = putNumber w (noFloat w) st
 lackFlat S (Enumerated n) st = putByte 255 st
 lackFlat S (Struct i) st = putBytes (zeros (structSize S i)) st
 
+-- what stands for a member or an element that is absent
 unfoldable pub lack : ℕ → Schema → Kind → State → State
 lack o S (OfFlat k) st = lackFlat S k st
 lack o S (OfObject ob) st = putBytes (zeros o) st
 lack o S (OfUnion i) st = putBytes (zeros (2 + o)) st
 
--- an unknown number is passed over; no writable sheet has one
+-- the unknown number of a flat value is passed over; no writable sheet has one
 unfoldable pub passFlat : Flat → State → List ℕ → Parsed State
 passFlat Boolean st xs = fail
 passFlat (Integer s w) st xs = fail
@@ -87,6 +91,7 @@ passFlat (Float w) st xs = fail
 passFlat (Enumerated n) st xs = emitIf 8 (unknownEnum n) putNothing st xs
 passFlat (Struct i) st xs = fail
 
+-- the unknown number of a member or an element: an enum's, or a union's choice
 unfoldable pub pass : Schema → Kind → State → List ℕ → Parsed State
 pass S (OfFlat k) st xs = passFlat k st xs
 pass S (OfObject ob) st xs = fail
@@ -108,11 +113,12 @@ unfoldable pub emitContentAt : Emitter → ℕ → Object → Extent → State �
 emitContentAt child o ob x st xs =
     bind (child ob (enterContent (x .width) (putNumber o (x .length) st)) xs) (λ inner ys. got (leaveContent (putNumber o (x .length) st) inner) ys)
 
--- by offset or in place, once its extent is known
+-- an object by its offset or in place, by the extent that its survey gives
 unfoldable pub emitRefer : Emitter → Surveyor → ℕ → Schema → Bool → Object → State → List ℕ → Parsed State
 emitRefer child measure o S inplace ob st xs =
     bind (measure ob xs) (λ x ys. pick inplace (emitContentAt child o ob x st xs) (emitObject child o S ob x st xs))
 
+-- a union's known choice, and the object of that case
 unfoldable pub emitChoice : Emitter → Surveyor → ℕ → Schema → Bool → List Object → State → List ℕ → Parsed State
 emitChoice child measure o S inplace cases st xs =
     bind (takeNumber 16 xs)
@@ -120,23 +126,27 @@ emitChoice child measure o S inplace cases st xs =
     pick (leb 1 c && leb c (length cases)) (emitRefer child measure o S inplace (caseOf cases c) (putNumber 2 c st) ys) fail)
 
 -- ---- members and elements
+-- one that is present, behind its mark
 unfoldable pub emitBody : Emitter → Surveyor → ℕ → Schema → Kind → Bool → State → List ℕ → Parsed State
 emitBody child measure o S (OfFlat k) inplace st xs = emitFlat S k st xs
 emitBody child measure o S (OfObject ob) inplace st xs = emitRefer child measure o S inplace ob st xs
 emitBody child measure o S (OfUnion i) inplace st xs = emitChoice child measure o S inplace (casesOf S i) st xs
 
--- behind the flag of a value that is not there, and of one that is
+-- one with its mark, where st0 is behind the flag of an absent value, and st1 behind that of a present one
 unfoldable pub emitPart : Emitter → Surveyor → ℕ → Schema → Kind → Bool → State → State → List ℕ → Parsed State
 emitPart child measure o S k inplace st0 st1 xs =
     surveyMark (lack o S k st0) (pass S k (lack o S k st0)) (emitBody child measure o S k inplace st1) xs
 
+-- an element, with its mark if it has one
 unfoldable pub emitElement : Emitter → Surveyor → ℕ → Schema → Kind → State → List ℕ → Parsed State
 emitElement child measure o S k st xs =
     pick (unmarked k) (emitBody child measure o S k false st xs) (emitPart child measure o S k false st st xs)
 
+-- behind a member's flag x, if it has a flag
 unfoldable pub flagged : Member → ℕ → State → State
 flagged r x st = pick (hasFlag r) (putBit x st) st
 
+-- members, and elements, in turn
 unfoldable pub emitMembers : Emitter → Surveyor → ℕ → Schema → List Member → State → List ℕ → Parsed State
 emitMembers child measure o S [] st xs = got st xs
 emitMembers child measure o S (r ∷ rs) st xs =
@@ -147,6 +157,7 @@ emitElements child measure o S k zero st xs = got st xs
 emitElements child measure o S k (suc n) st xs =
     bind (emitElement child measure o S k st xs) (λ next ys. emitElements child measure o S k n next ys)
 
+-- the content of a text or bytes, with the bytes `more` behind its own
 unfoldable pub emitBlob : List ℕ → State → List ℕ → Parsed State
 emitBlob more st xs = bind (takeNumber 32 xs) (λ n ys. bind (takeBytes n ys) (λ l zs. got (putBytes more (putBytes l st)) zs))
 
@@ -157,7 +168,7 @@ emitContent child measure o S (O.List i) st xs =
     bind (takeNumber 32 xs) (λ n ys. emitElements child measure o S (elementOf S i) n st ys)
 emitContent child measure o S (O.Table i) st xs = emitMembers child measure o S (tableOf S i .members) st xs
 
--- an object's content, d objects deep
+-- an object's content, where d objects may stand below each other, this one counted
 unfoldable pub emit : ℕ → ℕ → Schema → Object → State → List ℕ → Parsed State
 emit zero o S ob st xs = fail
 emit (suc d) o S ob st xs = emitContent (emit d o S) (survey d o S) o S ob st xs

@@ -4,7 +4,7 @@ use mathlib.Core.Path.{_≡_, refl, ap, _∙_}
 use mathlib.Core.List.{List, [], _∷_}
 use Rattle.coding.specs.Schema.{Schema, structOf}
 use Rattle.coding.specs.Structs.{lower, byIndex}
-use Rattle.coding.specs.Sheet.{Parsed, fail, got, bind}
+use Rattle.coding.specs.Sheet.{Parsed, bind}
 use Rattle.coding.specs.declared.Flat.{Flat}
 use Rattle.coding.specs.declared.Flat.the-variants.{Boolean, Integer, Float, Enumerated, Struct}
 use Rattle.laws.specs.Structs.{lower-is}

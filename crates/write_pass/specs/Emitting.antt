@@ -6,19 +6,20 @@ use mathlib.Core.List.{List, []}
 use mathlib.Core.Bool.{Bool, true, false, _&&_, not}
 use lib.ListN.{length, drop}
 use Rattle.coding.specs.Lists.{pick}
-use Rattle.coding.specs.Bytes.{u48, noFloat}
+use Rattle.coding.specs.Bytes.{noFloat}
 use Rattle.coding.specs.Bits.{bits}
 use Rattle.coding.specs.Schema.{Schema}
+use Rattle.coding.specs.Walk.{headerSize}
 use Rattle.coding.specs.Sheet.{Parsed, fail, got, unknownEnum}
 use Rattle.coding.specs.declared.Object.{Object}
 use Rattle.coding.specs.declared.Flat.{Flat}
-use Rattle.coding.specs.declared.Object.the-variants as O
 use Rattle.coding.specs.declared.Kind.{Kind}
 use Rattle.coding.specs.declared.Kind.the-variants.{OfFlat, OfObject, OfUnion}
 use Rattle.coding.specs.declared.Member.{Member}
+use Rattle.schema.specs.Kinds.{isBlob}
 use Rattle.write_measure.specs.Survey.{belowCount, surveyMark, Surveyor}
 use Rattle.write_measure.specs.declared.Extent.{Extent}
-use Rattle.write_store.specs.State.{State, enterContent, putByte, putNumber}
+use Rattle.write_store.specs.State.{State, enterObject, enterContent, putByte, putNumber}
 use Rattle.write_pass.specs.EmitSheet.{Emitter, putNothing, emitIf, openObject, emitPart, flagged, emitNumber, lackFlat, passFlat, emitFlat, emitBlob}
 use Rattle.write_store.specs.Storing.{stateOf, leftObject, leftContent, HeldOk, forward}
 use Rattle.write_store.specs.declared.Places.{Places}
@@ -28,48 +29,47 @@ unfoldable pub closed : Bool → Places → Places → Places
 closed inplace c inner = pick inplace (leftContent c inner) (leftObject c inner)
 
 -- ---- parts of the pass that the code has functions of their own for
--- a struct's enum, with its mark
+-- an enum of a struct or of a list, with its mark
 unfoldable pub emitMarkedEnum : ℕ → State → List ℕ → Parsed State
 emitMarkedEnum n st xs =
     surveyMark (putByte 255 st) (emitIf 8 (unknownEnum n) putNothing (putByte 255 st)) (emitIf 8 (belowCount n) putByte st) xs
 
--- a float with its mark, and whatever leads to no object
+-- a list's float, and any flat value, with its mark
 unfoldable pub emitMarkedFloat : ℕ → State → List ℕ → Parsed State
 emitMarkedFloat w st xs = surveyMark (putNumber w (noFloat w) st) (λ ys. fail) (emitNumber (8 * w) (putNumber w) st) xs
 
 unfoldable pub emitMarkedFlat : Schema → Flat → State → List ℕ → Parsed State
 emitMarkedFlat S f st xs = surveyMark (lackFlat S f st) (passFlat f (lackFlat S f st)) (emitFlat S f st) xs
 
--- what refers to an object, and where its content is written
-unfoldable pub referred : Bool → Extent → State → State
-referred inplace x st = pick inplace (putNumber u48 (x .length) st) (putNumber u48 (st .next) st)
+-- what refers to an object: its offset, or its length in place
+unfoldable pub referred : ℕ → Bool → Extent → State → State
+referred o inplace x st = pick inplace (putNumber o (x .length) st) (putNumber o (st .next) st)
 
-unfoldable pub opened : Schema → Object → Bool → Extent → State → State
-opened S ob inplace x st = pick inplace (enterContent (x .width) st) (openObject u48 S ob x st)
+-- an object's header by its magic, at the next object's place
+unfoldable pub headed : ℕ → ℕ → Extent → State → State
+headed o mg x st = putNumber o (x .length) (putNumber 4 mg (enterObject (headerSize o + x .width) (x .chain) st))
 
+-- where an object's content is stored: behind its header, or in place
+unfoldable pub opened : ℕ → Schema → Object → Bool → Extent → State → State
+opened o S ob inplace x st = pick inplace (enterContent (x .width) st) (openObject o S ob x st)
+
+-- a member with its flag, if it has one, and its mark
 unfoldable pub emitMember : Emitter → Surveyor → ℕ → Schema → Member → State → List ℕ → Parsed State
 emitMember child measure o S r st xs =
     emitPart child measure o S (r .kind) (r .inplace) (flagged r 0 st) (flagged r 1 st) xs
 
--- without a flag
+-- a member or an element that has no flag, with its mark
 unfoldable pub emitUnflagged : Emitter → Surveyor → ℕ → Schema → Kind → Bool → State → List ℕ → Parsed State
 emitUnflagged child measure o S k inplace st xs = emitPart child measure o S k inplace st st xs
 
 -- ---- kinds
--- whether it leads to an object
+-- whether a kind leads to an object
 unfoldable pub refers : Kind → Bool
 refers (OfFlat k) = false
 refers (OfObject ob) = true
 refers (OfUnion i) = true
 
--- a text or bytes
-unfoldable pub isBlob : Object → Bool
-isBlob O.Text = true
-isBlob O.Bytes = true
-isBlob (O.List i) = false
-isBlob (O.Table i) = false
-
--- whether no objects stand below: what leads to no object, and a text or bytes by its offset
+-- terminal: a flat value, or a text or bytes by its offset. No object stands below it or in place behind it
 unfoldable pub isTerminal : Kind → Bool → Bool
 isTerminal (OfFlat k) inplace = true
 isTerminal (OfObject ob) inplace = not inplace && isBlob ob
@@ -86,10 +86,10 @@ pub record Room (s : List ℕ) (pos : ℕ) (c : Places) : Type 0 where
   pub next : c .next ≤ 16777216
 
 -- the bytes that a part of the message may take beyond what its bits pay for: an offset or a length
-unfoldable pub extra : Kind → ℕ
-extra (OfFlat k) = 0
-extra (OfObject ob) = 6
-extra (OfUnion i) = 6
+unfoldable pub extra : ℕ → Kind → ℕ
+extra o (OfFlat k) = 0
+extra o (OfObject ob) = o
+extra o (OfUnion i) = o
 
 -- ---- answers
 -- p is what the definition gives from `pos` and the places `from` on; e is what may be taken beyond what the bits pay for
@@ -120,9 +120,9 @@ pub record Lacks (put now : State) (c r : Places) : Type 0 where
   pub next : r .next ≡ c .next
 
 -- the content of an object is stored from the places r on
-pub record Opens (put now : State) (r : Places) : Type 0 where
+pub record Opens (o : ℕ) (put now : State) (r : Places) : Type 0 where
   pub is : now ≡ put
   pub bool : HeldOk r
-  pub at : r .at ≤ 16777226
+  pub at : r .at ≤ 16777216 + headerSize o
   pub tail : r .tail ≤ 16777216
   pub next : r .next ≤ 16777216

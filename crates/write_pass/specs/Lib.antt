@@ -10,3 +10,4 @@ pub mod Measure
 pub mod EmitRun
 pub mod Emitting
 pub mod EmitStructs
+pub mod EmitBy

@@ -8,18 +8,17 @@ use native.Mathlib.Omega.{arith}
 use lib.Dec.{leb, eqb}
 use lib.ListN.{length}
 use Rattle.coding.specs.Lists.{pick}
-use Rattle.coding.specs.Bytes.{u48}
 use Rattle.coding.specs.Schema.{Schema, elementOf, casesOf, caseOf, tableOf}
 use Rattle.coding.specs.Layout.{fixedSize}
 use Rattle.coding.specs.Step.{elementsSize}
-use Rattle.coding.specs.Sheet.{Parsed, fail, got, bind, takeNumber, takeBytes, unmarked}
+use Rattle.coding.specs.Sheet.{Parsed, fail, got, bind, takeNumber, unmarked}
 use Rattle.coding.specs.declared.Object.{Object}
 use Rattle.coding.specs.declared.Object.the-variants as O
 use Rattle.coding.specs.declared.Kind.{Kind}
 use Rattle.coding.specs.declared.Kind.the-variants.{OfFlat, OfObject, OfUnion}
 use Rattle.coding.specs.declared.Member.{Member}
 use Rattle.laws.specs.Lists.{never}
-use Rattle.write_measure.specs.Survey.{capped, surveyMark, plain, opened, joined, referred, mayLack, Surveyor, plainOf, surveyObject, surveyChoice, surveyFlat, surveyStruct, surveyBody, surveyLostFlat, surveyLost, surveyPart, surveyElement, surveyMembers, surveyElements, surveyBlob, surveyContent, survey}
+use Rattle.write_measure.specs.Survey.{capped, surveyMark, plain, opened, joined, referred, mayLack, Surveyor, plainOf, surveyObject, surveyChoice, surveyFlat, surveyStruct, surveyBody, surveyUnknownFlat, surveyUnknown, surveyPart, surveyElement, surveyMembers, surveyElements, surveyContent, survey}
 use Rattle.write_measure.specs.Surveyed.{Small}
 use Rattle.write_measure.specs.Mapped.{Has, bind-has}
 use Rattle.write_measure.specs.Summed.{capped-in}
@@ -37,13 +36,13 @@ pub record Measured (inplace : Bool) (p : Parsed Extent) (r : Extent) : Type 0 w
   pub small : Small r
 
 -- of an object's content, whatever the survey of the objects below says
-pub record MeasuredContent (S : Schema) (ob : Object) (xs : List ℕ) (r : Extent) : Type 0 where
-  pub is : (child : Surveyor) → Has (Sizes false r) (surveyContent child u48 S ob xs)
+pub record MeasuredContent (o : ℕ) (S : Schema) (ob : Object) (xs : List ℕ) (r : Extent) : Type 0 where
+  pub is : (child : Surveyor) → Has (Sizes false r) (surveyContent child o S ob xs)
   pub small : Small r
 
 -- where it is not 0, n is the length and the width of the object, whatever its sheet is, and nothing stands in place behind it
-pub record KnownSize (S : Schema) (ob : Object) (n : ℕ) : Type 0 where
-  pub is : 0 < n → (d : ℕ) (xs : List ℕ) → Has (Sizes false (opened n n)) (survey d u48 S ob xs)
+pub record KnownSize (o : ℕ) (S : Schema) (ob : Object) (n : ℕ) : Type 0 where
+  pub is : 0 < n → (d : ℕ) (xs : List ℕ) → Has (Sizes false (opened n n)) (survey d o S ob xs)
   pub small : n < 2 ^ 40
 
 unfoldable pub anyInPlace : List Member → Bool
@@ -65,13 +64,13 @@ unfolding bind
 bind-on P Q fail next g h = tt
 bind-on P Q (got a xs) next g h = h a xs g
 
-mark-has : {A : Type 0} (P : A → Type 0) (none : A) (lost body : List ℕ → Parsed A) → P none → ((ys : List ℕ) → Has P (lost ys)) → ((ys : List ℕ) → Has P (body ys))
-    → (xs : List ℕ) → Has P (surveyMark none lost body xs)
+mark-has : {A : Type 0} (P : A → Type 0) (none : A) (unknown body : List ℕ → Parsed A) → P none → ((ys : List ℕ) → Has P (unknown ys)) → ((ys : List ℕ) → Has P (body ys))
+    → (xs : List ℕ) → Has P (surveyMark none unknown body xs)
 unfolding surveyMark
-mark-has P none lost body n l b xs =
+mark-has P none unknown body n l b xs =
     bind-has P (takeNumber 2 xs) _ (λ mark ys. by ys (eqb mark 0) (eqb mark 1) (eqb mark 2))
   where
-    by : (ys : List ℕ) (t u w : Bool) → Has P (pick t (got none ys) (pick u (body ys) (pick w (lost ys) fail)))
+    by : (ys : List ℕ) (t u w : Bool) → Has P (pick t (got none ys) (pick u (body ys) (pick w (unknown ys) fail)))
     by ys true u w = n
     by ys false true w = b ys
     by ys false false true = l ys
@@ -108,17 +107,17 @@ module _ (child : Surveyor) (o : ℕ) (S : Schema) where
       by c ys true = object-unchained true (caseOf (casesOf S i) c) ys
       by c ys false = tt
 
-  lost-unchained : (k : Kind) (xs : List ℕ) → Has Unchained (surveyLost S k xs)
-  unfolding surveyLost
-  lost-unchained (OfFlat k) xs = plain-unchained (surveyLostFlat k xs)
-  lost-unchained (OfObject ob) xs = tt
-  lost-unchained (OfUnion i) xs = plain-unchained _
+  unknown-unchained : (k : Kind) (xs : List ℕ) → Has Unchained (surveyUnknown S k xs)
+  unfolding surveyUnknown
+  unknown-unchained (OfFlat k) xs = plain-unchained (surveyUnknownFlat k xs)
+  unknown-unchained (OfObject ob) xs = tt
+  unknown-unchained (OfUnion i) xs = plain-unchained _
 
   part-unchained : (k : Kind) (optional : Bool) (xs : List ℕ) → Has Unchained (surveyPart child o S k optional false xs)
   unfolding surveyPart
   part-unchained k optional xs =
-      mark-has Unchained (plain (mayLack optional k)) (surveyLost S k) (surveyBody child o S k optional false) (unfold plain in refl)
-      (λ ys. lost-unchained k ys) (λ ys. body-unchained k optional ys) xs
+      mark-has Unchained (plain (mayLack optional k)) (surveyUnknown S k) (surveyBody child o S k optional false) (unfold plain in refl)
+      (λ ys. unknown-unchained k ys) (λ ys. body-unchained k optional ys) xs
 
   element-unchained : (k : Kind) (xs : List ℕ) → Has Unchained (surveyElement child o S k xs)
   unfolding surveyElement
@@ -170,47 +169,47 @@ sizes-of inplace n w x s c = record { length = sym (s .0); width = sym (s .1); c
 pub sizes-on : (inplace : Bool) (r x : Extent) → Sizes false r x → Sizes inplace r x
 sizes-on inplace r x s = record { length = s .length; width = s .width; chain = λ e. s .chain refl }
 
-pub list-sizes : (child : Surveyor) (S : Schema) (i m : ℕ) (xs : List ℕ)
-    → Has (Sizes false (opened m (elementsSize u48 S (elementOf S i) m))) (surveyElements child u48 S (elementOf S i) m (opened m (elementsSize u48 S (elementOf S i) m)) xs)
-list-sizes child S i m xs =
+pub list-sizes : (child : Surveyor) (o : ℕ) (S : Schema) (i m : ℕ) (xs : List ℕ)
+    → Has (Sizes false (opened m (elementsSize o S (elementOf S i) m))) (surveyElements child o S (elementOf S i) m (opened m (elementsSize o S (elementOf S i) m)) xs)
+list-sizes child o S i m xs =
     let k = elementOf S i in
-    let w = elementsSize u48 S k m in
-    has-both (Sized m w) Unchained (Sizes false (opened m w)) (surveyElements child u48 S k m (opened m w) xs)
-    (elements-sized child u48 S m w k m (opened m w) (unfold opened in refl) (unfold opened in refl) xs)
-    (elements-unchained child u48 S k m (opened m w) (unfold opened in refl) xs)
+    let w = elementsSize o S k m in
+    has-both (Sized m w) Unchained (Sizes false (opened m w)) (surveyElements child o S k m (opened m w) xs)
+    (elements-sized child o S m w k m (opened m w) (unfold opened in refl) (unfold opened in refl) xs)
+    (elements-unchained child o S k m (opened m w) (unfold opened in refl) xs)
     (λ x s c. sizes-of false m w x s (λ e. c))
 
-pub table-sizes : (child : Surveyor) (S : Schema) (inplace : Bool) (t : ℕ) → (inplace ≡ false → anyInPlace (tableOf S t .members) ≡ false) → (xs : List ℕ)
-    → Has (Sizes inplace (opened (fixedSize u48 S (tableOf S t .members)) (fixedSize u48 S (tableOf S t .members)))) (surveyContent child u48 S (O.Table t) xs)
+pub table-sizes : (child : Surveyor) (o : ℕ) (S : Schema) (inplace : Bool) (t : ℕ) → (inplace ≡ false → anyInPlace (tableOf S t .members) ≡ false) → (xs : List ℕ)
+    → Has (Sizes inplace (opened (fixedSize o S (tableOf S t .members)) (fixedSize o S (tableOf S t .members)))) (surveyContent child o S (O.Table t) xs)
 unfolding surveyContent
-table-sizes child S inplace t h xs = by inplace h
+table-sizes child o S inplace t h xs = by inplace h
   where
     by : (i : Bool) → (i ≡ false → anyInPlace (tableOf S t .members) ≡ false)
-        → Has (Sizes i (opened (fixedSize u48 S (tableOf S t .members)) (fixedSize u48 S (tableOf S t .members)))) (surveyContent child u48 S (O.Table t) xs)
+        → Has (Sizes i (opened (fixedSize o S (tableOf S t .members)) (fixedSize o S (tableOf S t .members)))) (surveyContent child o S (O.Table t) xs)
     by true g =
         let rs = tableOf S t .members in
-        let n = fixedSize u48 S rs in
-        has-on (Sized n n) (Sizes true (opened n n)) (surveyMembers child u48 S rs (opened n n) xs)
-        (members-sized child u48 S n n rs (opened n n) (unfold opened in refl) (unfold opened in refl) xs)
+        let n = fixedSize o S rs in
+        has-on (Sized n n) (Sizes true (opened n n)) (surveyMembers child o S rs (opened n n) xs)
+        (members-sized child o S n n rs (opened n n) (unfold opened in refl) (unfold opened in refl) xs)
         (λ x s. sizes-of true n n x s (λ e. never (sym e)))
     by false g =
         let rs = tableOf S t .members in
-        let n = fixedSize u48 S rs in
-        has-both (Sized n n) Unchained (Sizes false (opened n n)) (surveyMembers child u48 S rs (opened n n) xs)
-        (members-sized child u48 S n n rs (opened n n) (unfold opened in refl) (unfold opened in refl) xs)
-        (members-unchained child u48 S rs (g refl) (opened n n) (unfold opened in refl) xs)
+        let n = fixedSize o S rs in
+        has-both (Sized n n) Unchained (Sizes false (opened n n)) (surveyMembers child o S rs (opened n n) xs)
+        (members-sized child o S n n rs (opened n n) (unfold opened in refl) (unfold opened in refl) xs)
+        (members-unchained child o S rs (g refl) (opened n n) (unfold opened in refl) xs)
         (λ x s c. sizes-of false n n x s (λ e. c))
 
--- d objects deep
-pub measured-deep : (d : ℕ) (S : Schema) (inplace : Bool) (ob : Object) (xs : List ℕ) (r : Extent)
-    → ((child : Surveyor) → Has (Sizes inplace r) (surveyContent child u48 S ob xs)) → Has (Sizes inplace r) (survey d u48 S ob xs)
+-- what holds of a content whatever stands below it, holds of the object with d objects of depth left
+pub measured-deep : (d o : ℕ) (S : Schema) (inplace : Bool) (ob : Object) (xs : List ℕ) (r : Extent)
+    → ((child : Surveyor) → Has (Sizes inplace r) (surveyContent child o S ob xs)) → Has (Sizes inplace r) (survey d o S ob xs)
 unfolding survey
-measured-deep zero S inplace ob xs r h = tt
-measured-deep (suc d) S inplace ob xs r h = h (survey d u48 S)
+measured-deep zero o S inplace ob xs r h = tt
+measured-deep (suc d) o S inplace ob xs r h = h (survey d o S)
 
-pub measured-content : (d : ℕ) (S : Schema) (inplace : Bool) (ob : Object) (xs : List ℕ) (r : Extent) → MeasuredContent S ob xs r → Measured inplace (survey d u48 S ob xs) r
-measured-content d S inplace ob xs r m =
+pub measured-content : (d o : ℕ) (S : Schema) (inplace : Bool) (ob : Object) (xs : List ℕ) (r : Extent) → MeasuredContent o S ob xs r → Measured inplace (survey d o S ob xs) r
+measured-content d o S inplace ob xs r m =
     record {
-      is = measured-deep d S inplace ob xs r (λ child. has-on (Sizes false r) (Sizes inplace r) (surveyContent child u48 S ob xs) (m .is child) (λ x s. sizes-on inplace r x s));
+      is = measured-deep d o S inplace ob xs r (λ child. has-on (Sizes false r) (Sizes inplace r) (surveyContent child o S ob xs) (m .is child) (λ x s. sizes-on inplace r x s));
       small = m .small;
     }

@@ -5,6 +5,7 @@ use coding::Member;
 use coding::Object;
 use message_header::BytesObject;
 use message_header::ListObject;
+use message_header::TableObject;
 use message_header::TextObject;
 use write_measure::Extent;
 use write_store::Places;
@@ -27,11 +28,15 @@ ghost use Rattle.write_store.specs.State as St;
 ghost use Rattle.write_store.specs.Storing.{stateOf, HeldOk, BitPut, Stood};
 ghost use Rattle.write_pass.specs.EmitSheet as Es;
 ghost use Rattle.write_pass.specs.Measure.{Measured, MeasuredContent, anyInPlace, KnownSize};
-ghost use Rattle.write_pass.specs.EmitRun.{emitRun, emitUnmarked, emitFlats, integerWidth};
+ghost use Rattle.write_pass.specs.EmitRun.{emitRun, emitUnmarked, emitFlats};
+ghost use Rattle.schema.specs.Kinds.{isBlob};
+ghost use Rattle.write_measure.specs.SurveyBy.{Inside};
+ghost use Rattle.write_pass.specs.EmitBy as By;
 ghost use Rattle.write_pass.specs.Emitting as Eg;
 ghost use Rattle.write_pass.specs.Emitting.{Room, EmittedAt};
+ghost use Rattle.wire.specs.Sizes.{WithinSize};
 
-// ---- what leads to no object
+// ---- flat values: bools, numbers, enums and structs, which lead to no object
 // Whether a part of the sheet is lawful; if so, where the message goes on behind it, and where the sheet does. The bool stands
 // last for speed: behind its padding the places are copied slowly.
 pub struct Emitted {
@@ -40,6 +45,7 @@ pub struct Emitted {
     pub whole: bool,
 }
 
+// The answer where something was stored: the message goes on at c, the sheet at `next`.
 fn stored(c: Places, next: usize) -> Emitted
     ensures { λ r. ⌜ (r .whole ≡ true) × (r .places ≡ c) × (r .next ≡ next) ⌝ }
 {
@@ -50,6 +56,7 @@ fn stored(c: Places, next: usize) -> Emitted
     }
 }
 
+// The answer where the sheet is not lawful.
 fn not_lawful(c: Places, pos: usize) -> Emitted
     ensures { λ r. ⌜ (r .whole ≡ false) × (r .places ≡ c) × (r .next ≡ pos) ⌝ }
 {
@@ -64,7 +71,7 @@ fn not_lawful(c: Places, pos: usize) -> Emitted
 fn emit_number(s: &[u8], out: &mut [u8], w: usize, c: Places, pos: usize) -> Emitted
     requires { ⌜ w ≤ 8 ⌝ }
     requires { ⌜ Room (now s) pos c ⌝ }
-    ensures { λ r. ⌜ EmittedAt (now (s .entry)) (Es.emitNumber (8 * w) (St.putNumber w) (stateOf c (now (out .entry))) (drop pos (bits (now (s .entry))))) pos c 0 (r .whole) (r .places) (now (out .exit)) (r .next) ⌝ }
+    ensures { λ r. ⌜ By.Emits (now (s .entry)) pos (Es.emitNumber (8 * w) (St.putNumber w)) c (now (out .entry)) 0 r (now (out .exit)) ⌝ }
 {
     let x = bitio::take_number(s, pos, 8 * w);
     if !x.whole {
@@ -78,7 +85,7 @@ fn emit_number(s: &[u8], out: &mut [u8], w: usize, c: Places, pos: usize) -> Emi
 // A bool into the next free bit.
 fn emit_bit(s: &[u8], out: &mut [u8], c: Places, pos: usize) -> Emitted
     requires { ⌜ Room (now s) pos c ⌝ }
-    ensures { λ r. ⌜ EmittedAt (now (s .entry)) (Es.emitNumber 1 St.putBit (stateOf c (now (out .entry))) (drop pos (bits (now (s .entry))))) pos c 0 (r .whole) (r .places) (now (out .exit)) (r .next) ⌝ }
+    ensures { λ r. ⌜ By.Emits (now (s .entry)) pos (Es.emitNumber 1 St.putBit) c (now (out .entry)) 0 r (now (out .exit)) ⌝ }
 {
     let x = bitio::take_number(s, pos, 1);
     if !x.whole {
@@ -92,7 +99,7 @@ fn emit_bit(s: &[u8], out: &mut [u8], c: Places, pos: usize) -> Emitted
 // A struct's bool: a byte.
 fn emit_bool(s: &[u8], out: &mut [u8], c: Places, pos: usize) -> Emitted
     requires { ⌜ Room (now s) pos c ⌝ }
-    ensures { λ r. ⌜ EmittedAt (now (s .entry)) (Es.emitNumber 1 St.putByte (stateOf c (now (out .entry))) (drop pos (bits (now (s .entry))))) pos c 0 (r .whole) (r .places) (now (out .exit)) (r .next) ⌝ }
+    ensures { λ r. ⌜ By.Emits (now (s .entry)) pos (Es.emitNumber 1 St.putByte) c (now (out .entry)) 0 r (now (out .exit)) ⌝ }
 {
     let x = bitio::take_number(s, pos, 1);
     if !x.whole {
@@ -106,7 +113,7 @@ fn emit_bool(s: &[u8], out: &mut [u8], c: Places, pos: usize) -> Emitted
 // An enum's number below its count.
 fn emit_enum(s: &[u8], out: &mut [u8], n: u8, c: Places, pos: usize) -> Emitted
     requires { ⌜ Room (now s) pos c ⌝ }
-    ensures { λ r. ⌜ EmittedAt (now (s .entry)) (Es.emitIf 8 (Sv.belowCount n) St.putByte (stateOf c (now (out .entry))) (drop pos (bits (now (s .entry))))) pos c 0 (r .whole) (r .places) (now (out .exit)) (r .next) ⌝ }
+    ensures { λ r. ⌜ By.Emits (now (s .entry)) pos (Es.emitIf 8 (Sv.belowCount n) St.putByte) c (now (out .entry)) 0 r (now (out .exit)) ⌝ }
 {
     let x = bitio::take_number(s, pos, 8);
     if !x.whole {
@@ -124,23 +131,23 @@ fn emit_enum(s: &[u8], out: &mut [u8], n: u8, c: Places, pos: usize) -> Emitted
 // An enum's unknown number, passed over.
 fn pass_enum(s: &[u8], out: &mut [u8], n: u8, c: Places, pos: usize) -> Emitted
     requires { ⌜ Room (now s) pos c ⌝ }
-    ensures { λ r. ⌜ EmittedAt (now (s .entry)) (Es.emitIf 8 (Sh.unknownEnum n) Es.putNothing (stateOf c (now (out .entry))) (drop pos (bits (now (s .entry))))) pos c 0 (r .whole) (r .places) (now (out .exit)) (r .next) ⌝ }
+    ensures { λ r. ⌜ By.Emits (now (s .entry)) pos (Es.emitIf 8 (Sh.unknownEnum n) Es.putNothing) c (now (out .entry)) 0 r (now (out .exit)) ⌝ }
 {
     let x = bitio::take_number(s, pos, 8);
     if !x.whole {
         return not_lawful(c, pos);
     }
     let v = x.value;
-    if write_measure::unknown_enum(n, v) {
+    if write_measure::is_unknown_enum(n, v) {
         return stored(c, x.next);
     }
     not_lawful(c, pos)
 }
 
-// A struct's enum, with its mark.
+// An enum of a struct or of a list: its mark, and its number; 255 where there is no known one.
 fn emit_marked_enum(s: &[u8], out: &mut [u8], n: u8, c: Places, pos: usize) -> Emitted
     requires { ⌜ Room (now s) pos c ⌝ }
-    ensures { λ r. ⌜ EmittedAt (now (s .entry)) (Eg.emitMarkedEnum n (stateOf c (now (out .entry))) (drop pos (bits (now (s .entry))))) pos c 0 (r .whole) (r .places) (now (out .exit)) (r .next) ⌝ }
+    ensures { λ r. ⌜ By.Emits (now (s .entry)) pos (Eg.emitMarkedEnum n) c (now (out .entry)) 0 r (now (out .exit)) ⌝ }
 {
     let x = bitio::take_number(s, pos, 2);
     if !x.whole {
@@ -163,6 +170,7 @@ fn emit_marked_enum(s: &[u8], out: &mut [u8], n: u8, c: Places, pos: usize) -> E
 }
 
 // ---- structs, by recursion on the struct index, which falls at every inner struct
+// A member of struct i, of kind k.
 fn emit_field(
     b: &[u8],
     dir: &[u16],
@@ -175,7 +183,7 @@ fn emit_field(
 ) -> Emitted
     requires { ⌜ (Accepted (now b) (now dir)) × (FlatSound i k) × (i < P.structCount (now b)) ⌝ }
     requires { ⌜ Room (now s) pos c ⌝ }
-    ensures { λ r. ⌜ EmittedAt (now (s .entry)) (Es.emitField (Es.emitStruct (P.parse (now (b .entry)))) k (stateOf c (now (out .entry))) (drop pos (bits (now (s .entry))))) pos c 0 (r .whole) (r .places) (now (out .exit)) (r .next) ⌝ }
+    ensures { λ r. ⌜ By.Emits (now (s .entry)) pos (By.field (now (b .entry)) k) c (now (out .entry)) 0 r (now (out .exit)) ⌝ }
 {
     match k {
         Flat::Boolean => emit_bool(s, out, c, pos),
@@ -186,6 +194,7 @@ fn emit_field(
     }
 }
 
+// Struct i: its members joined.
 fn emit_struct(
     b: &[u8],
     dir: &[u16],
@@ -197,7 +206,7 @@ fn emit_struct(
 ) -> Emitted
     requires { ⌜ (Accepted (now b) (now dir)) × (i < P.structCount (now b)) ⌝ }
     requires { ⌜ Room (now s) pos c ⌝ }
-    ensures { λ r. ⌜ EmittedAt (now (s .entry)) (Es.emitStruct (P.parse (now (b .entry))) i (stateOf c (now (out .entry))) (drop pos (bits (now (s .entry))))) pos c 0 (r .whole) (r .places) (now (out .exit)) (r .next) ⌝ }
+    ensures { λ r. ⌜ By.Emits (now (s .entry)) pos (By.struct (now (b .entry)) i) c (now (out .entry)) 0 r (now (out .exit)) ⌝ }
 {
     let n = schema::field_count(b, dir, i);
     let mut p = c;
@@ -216,7 +225,7 @@ fn emit_struct(
     stored(p, at)
 }
 
-// What leads to no object, as a member or an element.
+// A flat value of a member or an element, present, behind its mark.
 fn emit_flat(
     b: &[u8],
     dir: &[u16],
@@ -228,7 +237,7 @@ fn emit_flat(
 ) -> Emitted
     requires { ⌜ (Accepted (now b) (now dir)) × (FlatSound (length (P.parse (now b) .structs)) k) ⌝ }
     requires { ⌜ Room (now s) pos c ⌝ }
-    ensures { λ r. ⌜ EmittedAt (now (s .entry)) (Es.emitFlat (P.parse (now (b .entry))) k (stateOf c (now (out .entry))) (drop pos (bits (now (s .entry))))) pos c 0 (r .whole) (r .places) (now (out .exit)) (r .next) ⌝ }
+    ensures { λ r. ⌜ By.Emits (now (s .entry)) pos (By.flat (now (b .entry)) k) c (now (out .entry)) 0 r (now (out .exit)) ⌝ }
 {
     match k {
         Flat::Boolean => emit_bit(s, out, c, pos),
@@ -250,6 +259,7 @@ fn no_float(w: u8) -> u64
     0x7FF8_0000_0000_0000
 }
 
+// What stands for a flat value that is absent: 255 for an enum, a NaN for a float, else zeros.
 fn lack_flat(b: &[u8], dir: &[u16], out: &mut [u8], k: Flat, c: Places) -> Places
     requires { ⌜ (Accepted (now b) (now dir)) × (FlatSound (length (P.parse (now b) .structs)) k) × HeldOk c × (c .at < 2 ^ 61) ⌝ }
     ensures { λ r. ⌜ Eg.Lacks (Es.lackFlat (P.parse (now (b .entry))) k (stateOf c (now (out .entry)))) (stateOf r (now (out .exit))) c r ⌝ }
@@ -267,22 +277,22 @@ fn lack_flat(b: &[u8], dir: &[u16], out: &mut [u8], k: Flat, c: Places) -> Place
     }
 }
 
-// What stands for no value.
+// What stands for a member or an element that is absent.
 fn lack(b: &[u8], dir: &[u16], out: &mut [u8], k: Kind, c: Places) -> Places
     requires { ⌜ (Accepted (now b) (now dir)) × (KindSound (P.parse (now b)) k) × HeldOk c × (c .at < 2 ^ 61) ⌝ }
     ensures { λ r. ⌜ Eg.Lacks (Es.lack B.u48 (P.parse (now (b .entry))) k (stateOf c (now (out .entry)))) (stateOf r (now (out .exit))) c r ⌝ }
 {
     match k {
         Kind::OfFlat(f) => lack_flat(b, dir, out, f, c),
-        Kind::OfObject(_) => write_store::put_number(out, c, 6, 0),
-        Kind::OfUnion(_) => write_store::put_number(out, c, 8, 0),
+        Kind::OfObject(_) => write_store::put_offset(out, c, 0),
+        Kind::OfUnion(_) => write_store::put_number(out, c, wire::UNION, 0),
     }
 }
 
-// An unknown number, of an enum only, is passed over.
+// The unknown number of a flat value, which only an enum can have, passed over.
 fn pass_flat(s: &[u8], out: &mut [u8], k: Flat, c: Places, pos: usize) -> Emitted
     requires { ⌜ Room (now s) pos c ⌝ }
-    ensures { λ r. ⌜ EmittedAt (now (s .entry)) (Es.passFlat k (stateOf c (now (out .entry))) (drop pos (bits (now (s .entry))))) pos c 0 (r .whole) (r .places) (now (out .exit)) (r .next) ⌝ }
+    ensures { λ r. ⌜ By.Emits (now (s .entry)) pos (Es.passFlat k) c (now (out .entry)) 0 r (now (out .exit)) ⌝ }
 {
     match k {
         Flat::Boolean => not_lawful(c, pos),
@@ -293,7 +303,7 @@ fn pass_flat(s: &[u8], out: &mut [u8], k: Flat, c: Places, pos: usize) -> Emitte
     }
 }
 
-// A union's unknown choice.
+// The unknown choice of union u, passed over.
 fn pass_choice(
     b: &[u8],
     dir: &[u16],
@@ -305,7 +315,7 @@ fn pass_choice(
 ) -> Emitted
     requires { ⌜ (Accepted (now b) (now dir)) × (u < P.unionCount (now b)) ⌝ }
     requires { ⌜ Room (now s) pos c ⌝ }
-    ensures { λ r. ⌜ EmittedAt (now (s .entry)) (Es.emitIf 16 (Sv.aboveCount (length (Sc.casesOf (P.parse (now (b .entry))) u))) Es.putNothing (stateOf c (now (out .entry))) (drop pos (bits (now (s .entry))))) pos c 0 (r .whole) (r .places) (now (out .exit)) (r .next) ⌝ }
+    ensures { λ r. ⌜ By.Emits (now (s .entry)) pos (By.unknownChoice (now (b .entry)) u) c (now (out .entry)) 0 r (now (out .exit)) ⌝ }
 {
     let n = schema::case_count(b, dir, u);
     let x = bitio::take_number(s, pos, 16);
@@ -318,10 +328,11 @@ fn pass_choice(
     not_lawful(c, pos)
 }
 
+// The unknown number of a member or an element, passed over: an enum's, or a union's choice.
 fn pass(b: &[u8], dir: &[u16], s: &[u8], out: &mut [u8], k: Kind, c: Places, pos: usize) -> Emitted
     requires { ⌜ (Accepted (now b) (now dir)) × (KindSound (P.parse (now b)) k) ⌝ }
     requires { ⌜ Room (now s) pos c ⌝ }
-    ensures { λ r. ⌜ EmittedAt (now (s .entry)) (Es.pass (P.parse (now (b .entry))) k (stateOf c (now (out .entry))) (drop pos (bits (now (s .entry))))) pos c 0 (r .whole) (r .places) (now (out .exit)) (r .next) ⌝ }
+    ensures { λ r. ⌜ By.Emits (now (s .entry)) pos (By.unknown (now (b .entry)) k) c (now (out .entry)) 0 r (now (out .exit)) ⌝ }
 {
     match k {
         Kind::OfFlat(f) => pass_flat(s, out, f, c, pos),
@@ -331,11 +342,11 @@ fn pass(b: &[u8], dir: &[u16], s: &[u8], out: &mut [u8], k: Kind, c: Places, pos
 }
 
 // ---- elements with a mark that lead to no object
-// A float.
+// A list's float of w bytes: its mark, and its number; a NaN where there is none.
 fn emit_marked_float(s: &[u8], out: &mut [u8], w: u8, c: Places, pos: usize) -> Emitted
     requires { ⌜ w ≤ 8 ⌝ }
     requires { ⌜ Room (now s) pos c ⌝ }
-    ensures { λ r. ⌜ EmittedAt (now (s .entry)) (Eg.emitMarkedFloat w (stateOf c (now (out .entry))) (drop pos (bits (now (s .entry))))) pos c 0 (r .whole) (r .places) (now (out .exit)) (r .next) ⌝ }
+    ensures { λ r. ⌜ By.Emits (now (s .entry)) pos (Eg.emitMarkedFloat w) c (now (out .entry)) 0 r (now (out .exit)) ⌝ }
 {
     let x = bitio::take_number(s, pos, 2);
     if !x.whole {
@@ -353,11 +364,11 @@ fn emit_marked_float(s: &[u8], out: &mut [u8], w: u8, c: Places, pos: usize) -> 
     not_lawful(c, pos)
 }
 
-// A float or an enum: no other has a mark.
+// An element that is a float or an enum, with its mark: no other flat element has one.
 fn emit_marked_flat(b: &[u8], s: &[u8], out: &mut [u8], k: Flat, c: Places, pos: usize) -> Emitted
     requires { ⌜ (FlatSound (length (P.parse (now b) .structs)) k) × (FlatScalar k) × (Sh.flatUnmarked k ≡ false) ⌝ }
     requires { ⌜ Room (now s) pos c ⌝ }
-    ensures { λ r. ⌜ EmittedAt (now (s .entry)) (Eg.emitMarkedFlat (P.parse (now (b .entry))) k (stateOf c (now (out .entry))) (drop pos (bits (now (s .entry))))) pos c 0 (r .whole) (r .places) (now (out .exit)) (r .next) ⌝ }
+    ensures { λ r. ⌜ By.Emits (now (s .entry)) pos (Eg.emitMarkedFlat (P.parse (now (b .entry))) k) c (now (out .entry)) 0 r (now (out .exit)) ⌝ }
 {
     match k {
         Flat::Boolean => not_lawful(c, pos),
@@ -368,7 +379,7 @@ fn emit_marked_flat(b: &[u8], s: &[u8], out: &mut [u8], k: Flat, c: Places, pos:
     }
 }
 
-// n of them.
+// n elements that are floats or enums, with their marks.
 fn emit_flats(
     b: &[u8],
     s: &[u8],
@@ -380,7 +391,7 @@ fn emit_flats(
 ) -> Emitted
     requires { ⌜ (FlatSound (length (P.parse (now b) .structs)) k) × (FlatScalar k) × (Sh.flatUnmarked k ≡ false) ⌝ }
     requires { ⌜ Room (now s) pos c ⌝ }
-    ensures { λ r. ⌜ EmittedAt (now (s .entry)) (emitFlats (P.parse (now (b .entry))) k n (stateOf c (now (out .entry))) (drop pos (bits (now (s .entry))))) pos c 0 (r .whole) (r .places) (now (out .exit)) (r .next) ⌝ }
+    ensures { λ r. ⌜ By.Emits (now (s .entry)) pos (emitFlats (P.parse (now (b .entry))) k n) c (now (out .entry)) 0 r (now (out .exit)) ⌝ }
 {
     let mut p = c;
     let mut at = pos;
@@ -398,28 +409,11 @@ fn emit_flats(
 }
 
 // ---- elements without a mark
-// The bytes of an integer; 0 for what is none.
-fn integer_width(k: Kind) -> usize
-    ensures { λ r. ⌜ r ≡ integerWidth k ⌝ }
-{
-    match k {
-        Kind::OfFlat(f) => match f {
-            Flat::Boolean => 0,
-            Flat::Integer(_, w) => wire::index(w),
-            Flat::Float(_) => 0,
-            Flat::Enumerated(_) => 0,
-            Flat::Struct(_) => 0,
-        },
-        Kind::OfObject(_) => 0,
-        Kind::OfUnion(_) => 0,
-    }
-}
-
 // n numbers of w bytes each.
 fn emit_run(s: &[u8], out: &mut [u8], w: usize, n: usize, c: Places, pos: usize) -> Emitted
     requires { ⌜ w ≤ 8 ⌝ }
     requires { ⌜ Room (now s) pos c ⌝ }
-    ensures { λ r. ⌜ EmittedAt (now (s .entry)) (emitRun (8 * w) (St.putNumber w) n (stateOf c (now (out .entry))) (drop pos (bits (now (s .entry))))) pos c 0 (r .whole) (r .places) (now (out .exit)) (r .next) ⌝ }
+    ensures { λ r. ⌜ By.Emits (now (s .entry)) pos (emitRun (8 * w) (St.putNumber w) n) c (now (out .entry)) 0 r (now (out .exit)) ⌝ }
 {
     let mut done: usize = 0;
     let mut at = pos;
@@ -440,7 +434,7 @@ fn emit_run(s: &[u8], out: &mut [u8], w: usize, n: usize, c: Places, pos: usize)
 // n bools, each into the next free bit; eight at once where they fill a byte.
 fn emit_bits(s: &[u8], out: &mut [u8], n: usize, c: Places, pos: usize) -> Emitted
     requires { ⌜ Room (now s) pos c ⌝ }
-    ensures { λ r. ⌜ EmittedAt (now (s .entry)) (emitRun 1 St.putBit n (stateOf c (now (out .entry))) (drop pos (bits (now (s .entry))))) pos c 0 (r .whole) (r .places) (now (out .exit)) (r .next) ⌝ }
+    ensures { λ r. ⌜ By.Emits (now (s .entry)) pos (emitRun 1 St.putBit n) c (now (out .entry)) 0 r (now (out .exit)) ⌝ }
 {
     let mut p = c;
     let mut at = pos;
@@ -450,7 +444,7 @@ fn emit_bits(s: &[u8], out: &mut [u8], n: usize, c: Places, pos: usize) -> Emitt
             if p.free == 0 {
                 let y = bitio::take_number(s, at, 8);
                 if y.whole {
-                    p = write_store::put_octet(out, p, write_store::reversed(y.value as u8));
+                    p = write_store::put_octet(out, p, bits::reversed(y.value as u8));
                     at = y.next;
                     left -= 8;
                     continue;
@@ -472,7 +466,7 @@ fn emit_bits(s: &[u8], out: &mut [u8], n: usize, c: Places, pos: usize) -> Emitt
 fn emit_unmarked(s: &[u8], out: &mut [u8], w: usize, n: usize, c: Places, pos: usize) -> Emitted
     requires { ⌜ w ≤ 8 ⌝ }
     requires { ⌜ Room (now s) pos c ⌝ }
-    ensures { λ r. ⌜ EmittedAt (now (s .entry)) (emitUnmarked w n (stateOf c (now (out .entry))) (drop pos (bits (now (s .entry))))) pos c 0 (r .whole) (r .places) (now (out .exit)) (r .next) ⌝ }
+    ensures { λ r. ⌜ By.Emits (now (s .entry)) pos (emitUnmarked w n) c (now (out .entry)) 0 r (now (out .exit)) ⌝ }
 {
     if w == 0 {
         return emit_bits(s, out, n, c, pos);
@@ -488,9 +482,9 @@ pub struct Copied {
     pub whole: bool,
 }
 
-// A length and the bytes, which are stored from `to` on.
+// The length of a text or bytes, and its own bytes, which are stored from `to` on.
 fn copy_blob(s: &[u8], out: &mut [u8], to: usize, pos: usize) -> Copied
-    requires { ⌜ (length (now s) ≤ 16777215) × (pos ≤ 8 * length (now s)) × (to < 2 ^ 61) ⌝ }
+    requires { ⌜ (Inside (now s) pos) × (to < 2 ^ 61) ⌝ }
     ensures { λ r. ⌜ Eg.CopiedAt (now (s .entry)) (now (out .entry)) pos to (r .whole) (r .length) (r .next) (now (out .exit)) ⌝ }
 {
     let x = bitio::take_number(s, pos, 32);
@@ -520,10 +514,10 @@ fn copy_blob(s: &[u8], out: &mut [u8], to: usize, pos: usize) -> Copied
     }
 }
 
-// Bytes.
+// The content of bytes.
 fn emit_bytes(s: &[u8], out: &mut [u8], c: Places, pos: usize) -> Emitted
     requires { ⌜ Room (now s) pos c ⌝ }
-    ensures { λ r. ⌜ EmittedAt (now (s .entry)) (Es.emitBlob [] (stateOf c (now (out .entry))) (drop pos (bits (now (s .entry))))) pos c 0 (r .whole) (r .places) (now (out .exit)) (r .next) ⌝ }
+    ensures { λ r. ⌜ By.Emits (now (s .entry)) pos (Es.emitBlob []) c (now (out .entry)) 0 r (now (out .exit)) ⌝ }
 {
     let x = copy_blob(s, out, c.at, pos);
     if !x.whole {
@@ -533,10 +527,10 @@ fn emit_bytes(s: &[u8], out: &mut [u8], c: Places, pos: usize) -> Emitted
     stored(write_store::forward(c, x.length), next)
 }
 
-// A text has a zero byte behind its own.
+// The content of a text, which has a zero byte behind its own.
 fn emit_text(s: &[u8], out: &mut [u8], c: Places, pos: usize) -> Emitted
     requires { ⌜ Room (now s) pos c ⌝ }
-    ensures { λ r. ⌜ EmittedAt (now (s .entry)) (Es.emitBlob (0 ∷ []) (stateOf c (now (out .entry))) (drop pos (bits (now (s .entry))))) pos c 0 (r .whole) (r .places) (now (out .exit)) (r .next) ⌝ }
+    ensures { λ r. ⌜ By.Emits (now (s .entry)) pos (Es.emitBlob (0 ∷ [])) c (now (out .entry)) 0 r (now (out .exit)) ⌝ }
 {
     let x = copy_blob(s, out, c.at, pos);
     if !x.whole {
@@ -548,7 +542,7 @@ fn emit_text(s: &[u8], out: &mut [u8], c: Places, pos: usize) -> Emitted
     stored(q, next)
 }
 
-// The flag of a member that has one.
+// The flag x of a member, if it has a flag.
 fn flag(out: &mut [u8], r: Member, x: usize, c: Places) -> Places
     requires { ⌜ (x < 2) × HeldOk c × (c .at < 2 ^ 61) ⌝ }
     ensures { λ q. ⌜ BitPut (Es.flagged r x (stateOf c (now (out .entry)))) (stateOf q (now (out .exit))) c q ⌝ }
@@ -575,24 +569,32 @@ fn object_magic(b: &[u8], dir: &[u16], ob: Object) -> u64
 // What refers to an object: its offset, or its length in place.
 fn put_reference(out: &mut [u8], inplace: bool, e: Extent, c: Places) -> Places
     requires { ⌜ c .at < 2 ^ 61 ⌝ }
-    ensures { λ r. ⌜ Stood 6 (Eg.referred inplace e (stateOf c (now (out .entry)))) (stateOf r (now (out .exit))) c r ⌝ }
+    ensures { λ r. ⌜ Stood B.u48 (Eg.referred B.u48 inplace e (stateOf c (now (out .entry)))) (stateOf r (now (out .exit))) c r ⌝ }
 {
     if inplace {
-        return write_store::put_number(out, c, 6, e.length as u64);
+        return write_store::put_offset(out, c, e.length as u64);
     }
     let x = c.next as u64;
-    write_store::put_number(out, c, 6, x)
+    write_store::put_offset(out, c, x)
+}
+
+// A header at the next object's place, by the object's magic and extent; behind it the content goes on. All types of objects
+// have headers of one size.
+fn put_header(out: &mut [u8], magic: u64, e: Extent, c: Places) -> Places
+    requires { ⌜ (Small e) × (c .next ≤ 16777216) ⌝ }
+    ensures { λ r. ⌜ Eg.Opens B.u48 (Eg.headed B.u48 magic e (stateOf c (now (out .entry)))) (stateOf r (now (out .exit))) r ⌝ }
+{
+    let q = write_store::enter_object(c, TableObject::HEADER + e.width, e.chain);
+    let h = write_store::put_number(out, q, 4, magic);
+    write_store::put_offset(out, h, e.length as u64)
 }
 
 // An object's header, at the next object's place; behind it the content goes on.
 fn open_object(b: &[u8], dir: &[u16], out: &mut [u8], ob: Object, e: Extent, c: Places) -> Places
     requires { ⌜ (Accepted (now b) (now dir)) × (ObjectSound (P.parse (now b)) ob) × (Small e) × (c .next ≤ 16777216) ⌝ }
-    ensures { λ r. ⌜ Eg.Opens (Es.openObject B.u48 (P.parse (now (b .entry))) ob e (stateOf c (now (out .entry)))) (stateOf r (now (out .exit))) r ⌝ }
+    ensures { λ r. ⌜ Eg.Opens B.u48 (Es.openObject B.u48 (P.parse (now (b .entry))) ob e (stateOf c (now (out .entry)))) (stateOf r (now (out .exit))) r ⌝ }
 {
-    let magic = object_magic(b, dir, ob);
-    let q = write_store::enter_object(c, 10 + e.width, e.chain);
-    let h = write_store::put_number(out, q, 4, magic);
-    write_store::put_number(out, h, 6, e.length as u64)
+    put_header(out, object_magic(b, dir, ob), e, c)
 }
 
 // Where the content is stored: c is behind what refers to it.
@@ -606,7 +608,7 @@ fn open(
     c: Places,
 ) -> Places
     requires { ⌜ (Accepted (now b) (now dir)) × (ObjectSound (P.parse (now b)) ob) × (Small e) × (c .next ≤ 16777216) × (c .tail ≤ 16777216) ⌝ }
-    ensures { λ r. ⌜ Eg.Opens (Eg.opened (P.parse (now (b .entry))) ob inplace e (stateOf c (now (out .entry)))) (stateOf r (now (out .exit))) r ⌝ }
+    ensures { λ r. ⌜ Eg.Opens B.u48 (Eg.opened B.u48 (P.parse (now (b .entry))) ob inplace e (stateOf c (now (out .entry)))) (stateOf r (now (out .exit))) r ⌝ }
 {
     if inplace {
         return write_store::enter_content(c, e.width);
@@ -653,9 +655,9 @@ fn chained(b: &[u8], dir: &[u16], t: usize, inplace: bool) -> bool
     any_in_place(b, dir, t)
 }
 
-// A text or bytes; a text has a byte more behind its own.
+// The extent of a text or bytes, with `more` bytes behind its own: 1 of a text, 0 of bytes.
 fn measure_blob(s: &[u8], pos: usize, more: usize) -> Extent
-    requires { ⌜ (length (now s) ≤ 16777215) × (pos ≤ 8 * length (now s)) × (more ≤ 1) ⌝ }
+    requires { ⌜ (Inside (now s) pos) × (more ≤ 1) ⌝ }
     ensures { λ r. ⌜ Measured false (Sv.surveyBlob more (drop pos (bits (now (s .entry))))) r ⌝ }
 {
     let x = bitio::take_number(s, pos, 32);
@@ -663,16 +665,18 @@ fn measure_blob(s: &[u8], pos: usize, more: usize) -> Extent
     write_measure::opened(n, n + more)
 }
 
+// The extent of list i.
 fn measure_list(b: &[u8], dir: &[u16], s: &[u8], i: usize, pos: usize) -> Extent
-    requires { ⌜ (Accepted (now b) (now dir)) × (i < P.listCount (now b)) × (length (now s) ≤ 16777215) × (pos ≤ 8 * length (now s)) ⌝ }
-    ensures { λ r. ⌜ MeasuredContent (P.parse (now (b .entry))) (Object.List i) (drop pos (bits (now (s .entry)))) r ⌝ }
+    requires { ⌜ (Accepted (now b) (now dir)) × (i < P.listCount (now b)) × Inside (now s) pos ⌝ }
+    ensures { λ r. ⌜ MeasuredContent B.u48 (P.parse (now (b .entry))) (Object.List i) (drop pos (bits (now (s .entry)))) r ⌝ }
 {
     let x = bitio::take_number(s, pos, 32);
     let n = x.value as usize;
     let k = schema::element(b, dir, i);
-    write_measure::opened(n, write_measure::elements_size(b, dir, k, n))
+    write_measure::opened(n, message_layout::elements_size(b, dir, k, n))
 }
 
+// The extent of table t. Only where something may stand in place behind it is its content surveyed.
 fn measure_table(
     b: &[u8],
     dir: &[u16],
@@ -682,8 +686,8 @@ fn measure_table(
     inplace: bool,
     pos: usize,
 ) -> Extent
-    requires { ⌜ (Accepted (now b) (now dir)) × (ObjectSound (P.parse (now b)) (Object.Table t)) × (length (now s) ≤ 16777215) × (pos ≤ 8 * length (now s)) ⌝ }
-    ensures { λ r. ⌜ Measured inplace (Sv.survey d B.u48 (P.parse (now (b .entry))) (Object.Table t) (drop pos (bits (now (s .entry))))) r ⌝ }
+    requires { ⌜ (Accepted (now b) (now dir)) × (ObjectSound (P.parse (now b)) (Object.Table t)) × Inside (now s) pos ⌝ }
+    ensures { λ r. ⌜ By.Measures B.u48 d (now (b .entry)) inplace (Object.Table t) (now (s .entry)) pos r ⌝ }
 {
     let i = wire::index(t);
     if chained(b, dir, i, inplace) {
@@ -705,8 +709,8 @@ fn measure(
     inplace: bool,
     pos: usize,
 ) -> Extent
-    requires { ⌜ (Accepted (now b) (now dir)) × (ObjectSound (P.parse (now b)) ob) × (length (now s) ≤ 16777215) × (pos ≤ 8 * length (now s)) ⌝ }
-    ensures { λ r. ⌜ Measured inplace (Sv.survey d B.u48 (P.parse (now (b .entry))) ob (drop pos (bits (now (s .entry))))) r ⌝ }
+    requires { ⌜ (Accepted (now b) (now dir)) × (ObjectSound (P.parse (now b)) ob) × Inside (now s) pos ⌝ }
+    ensures { λ r. ⌜ By.Measures B.u48 d (now (b .entry)) inplace ob (now (s .entry)) pos r ⌝ }
 {
     match ob {
         Object::Text => measure_blob(s, pos, 1),
@@ -718,9 +722,10 @@ fn measure(
 
 // ---- the size of an object's content where it is known before its sheet, that of a table behind which nothing stands in place;
 // 0 where it is not
+// The known size of table t, or 0.
 fn known_table(b: &[u8], dir: &[u16], t: usize) -> usize
     requires { ⌜ (Accepted (now b) (now dir)) × (t < P.tableCount (now b)) ⌝ }
-    ensures { λ r. ⌜ KnownSize (P.parse (now (b .entry))) (Object.Table t) r ⌝ }
+    ensures { λ r. ⌜ KnownSize B.u48 (P.parse (now (b .entry))) (Object.Table t) r ⌝ }
 {
     if any_in_place(b, dir, t) {
         return 0;
@@ -728,9 +733,10 @@ fn known_table(b: &[u8], dir: &[u16], t: usize) -> usize
     write_measure::fixed_size(b, dir, t)
 }
 
+// The known size of an object, or 0.
 fn known_size(b: &[u8], dir: &[u16], ob: Object) -> usize
     requires { ⌜ (Accepted (now b) (now dir)) × (ObjectSound (P.parse (now b)) ob) ⌝ }
-    ensures { λ r. ⌜ KnownSize (P.parse (now (b .entry))) ob r ⌝ }
+    ensures { λ r. ⌜ KnownSize B.u48 (P.parse (now (b .entry))) ob r ⌝ }
 {
     match ob {
         Object::Text => 0,
@@ -740,10 +746,10 @@ fn known_size(b: &[u8], dir: &[u16], ob: Object) -> usize
     }
 }
 
-// By its known size n, or else measured.
+// The extent of an object by its known size n, or measured where that is 0.
 fn measure_by(b: &[u8], dir: &[u16], s: &[u8], d: usize, ob: Object, n: usize, pos: usize) -> Extent
-    requires { ⌜ (Accepted (now b) (now dir)) × (ObjectSound (P.parse (now b)) ob) × (KnownSize (P.parse (now b)) ob n) × (length (now s) ≤ 16777215) × (pos ≤ 8 * length (now s)) ⌝ }
-    ensures { λ r. ⌜ Measured false (Sv.survey d B.u48 (P.parse (now (b .entry))) ob (drop pos (bits (now (s .entry))))) r ⌝ }
+    requires { ⌜ (Accepted (now b) (now dir)) × (ObjectSound (P.parse (now b)) ob) × (KnownSize B.u48 (P.parse (now b)) ob n) × Inside (now s) pos ⌝ }
+    ensures { λ r. ⌜ By.Measures B.u48 d (now (b .entry)) false ob (now (s .entry)) pos r ⌝ }
 {
     if 0 < n {
         return write_measure::opened(n, n);
@@ -751,28 +757,19 @@ fn measure_by(b: &[u8], dir: &[u16], s: &[u8], d: usize, ob: Object, n: usize, p
     measure(b, dir, s, d, ob, false, pos)
 }
 
-// ---- members without objects below: what leads to no object, and texts and bytes by their offset. They stand apart from the
-// cycle, so that the compiler keeps the places in registers.
-fn is_blob(ob: Object) -> bool
-    ensures { λ r. ⌜ r ≡ Eg.isBlob ob ⌝ }
-{
-    match ob {
-        Object::Text => true,
-        Object::Bytes => true,
-        Object::List(_) => false,
-        Object::Table(_) => false,
-    }
-}
-
+// ---- terminal members: a flat value, or a text or bytes by its offset. No other object stands below or in place behind them,
+// so that they are stored outside the cycle, where the compiler keeps the places in registers.
+// Whether an object that stands by its offset is a text or bytes.
 fn by_offset(ob: Object, inplace: bool) -> bool
-    ensures { λ r. ⌜ r ≡ (not inplace && Eg.isBlob ob) ⌝ }
+    ensures { λ r. ⌜ r ≡ (not inplace && isBlob ob) ⌝ }
 {
     if inplace {
         return false;
     }
-    is_blob(ob)
+    schema::is_blob(ob)
 }
 
+// Whether a member is terminal.
 fn is_terminal(k: Kind, inplace: bool) -> bool
     ensures { λ r. ⌜ r ≡ Eg.isTerminal k inplace ⌝ }
 {
@@ -783,9 +780,10 @@ fn is_terminal(k: Kind, inplace: bool) -> bool
     }
 }
 
+// The extent of a text or bytes.
 fn measure_terminal(b: &[u8], s: &[u8], d: usize, ob: Object, pos: usize) -> Extent
-    requires { ⌜ (Eg.isBlob ob ≡ true) × (length (now s) ≤ 16777215) × (pos ≤ 8 * length (now s)) ⌝ }
-    ensures { λ r. ⌜ Measured false (Sv.survey d B.u48 (P.parse (now (b .entry))) ob (drop pos (bits (now (s .entry))))) r ⌝ }
+    requires { ⌜ (isBlob ob ≡ true) × Inside (now s) pos ⌝ }
+    ensures { λ r. ⌜ By.Measures B.u48 d (now (b .entry)) false ob (now (s .entry)) pos r ⌝ }
 {
     match ob {
         Object::Text => measure_blob(s, pos, 1),
@@ -795,8 +793,9 @@ fn measure_terminal(b: &[u8], s: &[u8], d: usize, ob: Object, pos: usize) -> Ext
     }
 }
 
+// The magic of a text or bytes.
 fn terminal_magic(b: &[u8], ob: Object) -> u64
-    requires { ⌜ Eg.isBlob ob ≡ true ⌝ }
+    requires { ⌜ isBlob ob ≡ true ⌝ }
     ensures { λ r. ⌜ r ≡ W.magic (P.parse (now (b .entry))) ob ⌝ }
 {
     match ob {
@@ -807,17 +806,15 @@ fn terminal_magic(b: &[u8], ob: Object) -> u64
     }
 }
 
+// The header of a text or bytes, at the next object's place.
 fn open_terminal(b: &[u8], out: &mut [u8], ob: Object, e: Extent, c: Places) -> Places
-    requires { ⌜ (Eg.isBlob ob ≡ true) × (Small e) × (c .next ≤ 16777216) ⌝ }
-    ensures { λ r. ⌜ Eg.Opens (Eg.opened (P.parse (now (b .entry))) ob false e (stateOf c (now (out .entry)))) (stateOf r (now (out .exit))) r ⌝ }
+    requires { ⌜ (isBlob ob ≡ true) × (Small e) × (c .next ≤ 16777216) ⌝ }
+    ensures { λ r. ⌜ Eg.Opens B.u48 (Eg.opened B.u48 (P.parse (now (b .entry))) ob false e (stateOf c (now (out .entry)))) (stateOf r (now (out .exit))) r ⌝ }
 {
-    let magic = terminal_magic(b, ob);
-    let q = write_store::enter_object(c, 10 + e.width, e.chain);
-    let h = write_store::put_number(out, q, 4, magic);
-    write_store::put_number(out, h, 6, e.length as u64)
+    put_header(out, terminal_magic(b, ob), e, c)
 }
 
-// Its content, d objects deep.
+// The content of a text or bytes, where d objects may stand below each other, this one counted.
 fn terminal_content(
     b: &[u8],
     s: &[u8],
@@ -827,9 +824,9 @@ fn terminal_content(
     c: Places,
     pos: usize,
 ) -> Emitted
-    requires { ⌜ Eg.isBlob ob ≡ true ⌝ }
+    requires { ⌜ isBlob ob ≡ true ⌝ }
     requires { ⌜ Room (now s) pos c ⌝ }
-    ensures { λ r. ⌜ EmittedAt (now (s .entry)) (Es.emit d B.u48 (P.parse (now (b .entry))) ob (stateOf c (now (out .entry))) (drop pos (bits (now (s .entry))))) pos c 0 (r .whole) (r .places) (now (out .exit)) (r .next) ⌝ }
+    ensures { λ r. ⌜ By.Emits (now (s .entry)) pos (By.object B.u48 d (now (b .entry)) ob) c (now (out .entry)) 0 r (now (out .exit)) ⌝ }
 {
     if d == 0 {
         return not_lawful(c, pos);
@@ -842,6 +839,7 @@ fn terminal_content(
     }
 }
 
+// A text or bytes by its offset: the offset, and the object at the next object's place.
 fn refer_terminal(
     b: &[u8],
     dir: &[u16],
@@ -852,9 +850,9 @@ fn refer_terminal(
     c: Places,
     pos: usize,
 ) -> Emitted
-    requires { ⌜ (Accepted (now b) (now dir)) × (Eg.isBlob ob ≡ true) ⌝ }
+    requires { ⌜ (Accepted (now b) (now dir)) × (isBlob ob ≡ true) ⌝ }
     requires { ⌜ Room (now s) pos c ⌝ }
-    ensures { λ r. ⌜ EmittedAt (now (s .entry)) (Es.emitRefer (Es.emit d B.u48 (P.parse (now (b .entry)))) (Sv.survey d B.u48 (P.parse (now (b .entry)))) B.u48 (P.parse (now (b .entry))) false ob (stateOf c (now (out .entry))) (drop pos (bits (now (s .entry))))) pos c 6 (r .whole) (r .places) (now (out .exit)) (r .next) ⌝ }
+    ensures { λ r. ⌜ By.Emits (now (s .entry)) pos (By.held B.u48 d (now (b .entry)) false ob) c (now (out .entry)) B.u48 r (now (out .exit)) ⌝ }
 {
     let e = measure_terminal(b, s, d, ob, pos);
     let p = put_reference(out, false, e, c);
@@ -867,7 +865,7 @@ fn refer_terminal(
     stored(close(false, p, y.places), next)
 }
 
-// What is there.
+// A terminal member, present, behind its mark and its flag.
 fn terminal_body(
     b: &[u8],
     dir: &[u16],
@@ -881,7 +879,7 @@ fn terminal_body(
 ) -> Emitted
     requires { ⌜ (Accepted (now b) (now dir)) × (KindSound (P.parse (now b)) k) × (Eg.isTerminal k inplace ≡ true) ⌝ }
     requires { ⌜ Room (now s) pos c ⌝ }
-    ensures { λ r. ⌜ EmittedAt (now (s .entry)) (Es.emitBody (Es.emit d B.u48 (P.parse (now (b .entry)))) (Sv.survey d B.u48 (P.parse (now (b .entry)))) B.u48 (P.parse (now (b .entry))) k inplace (stateOf c (now (out .entry))) (drop pos (bits (now (s .entry))))) pos c (Eg.extra k) (r .whole) (r .places) (now (out .exit)) (r .next) ⌝ }
+    ensures { λ r. ⌜ By.Emits (now (s .entry)) pos (By.body B.u48 d (now (b .entry)) k inplace) c (now (out .entry)) (Eg.extra B.u48 k) r (now (out .exit)) ⌝ }
 {
     match k {
         Kind::OfFlat(f) => emit_flat(b, dir, s, out, f, c, pos),
@@ -890,7 +888,7 @@ fn terminal_body(
     }
 }
 
-// With its mark.
+// A terminal member: its mark, its flag if it has one, and its value or what stands for none.
 fn emit_terminal(
     b: &[u8],
     dir: &[u16],
@@ -903,7 +901,7 @@ fn emit_terminal(
 ) -> Emitted
     requires { ⌜ (Accepted (now b) (now dir)) × (KindSound (P.parse (now b)) (r .kind)) × (Eg.isTerminal (r .kind) (r .inplace) ≡ true) ⌝ }
     requires { ⌜ Room (now s) pos c ⌝ }
-    ensures { λ q. ⌜ EmittedAt (now (s .entry)) (Eg.emitMember (Es.emit d B.u48 (P.parse (now (b .entry)))) (Sv.survey d B.u48 (P.parse (now (b .entry)))) B.u48 (P.parse (now (b .entry))) r (stateOf c (now (out .entry))) (drop pos (bits (now (s .entry))))) pos c 0 (q .whole) (q .places) (now (out .exit)) (q .next) ⌝ }
+    ensures { λ q. ⌜ By.Emits (now (s .entry)) pos (By.member B.u48 d (now (b .entry)) r) c (now (out .entry)) 0 q (now (out .exit)) ⌝ }
 {
     let x = bitio::take_number(s, pos, 2);
     if !x.whole {
@@ -928,7 +926,7 @@ fn emit_terminal(
 }
 
 // ---- members, elements and objects
-// An object that is referred to, or stands in place.
+// An object by its offset or in place: measured, and then what refers to it and the object itself.
 fn emit_refer(
     b: &[u8],
     dir: &[u16],
@@ -942,13 +940,13 @@ fn emit_refer(
 ) -> Emitted
     requires { ⌜ (Accepted (now b) (now dir)) × (ObjectSound (P.parse (now b)) ob) ⌝ }
     requires { ⌜ Room (now s) pos c ⌝ }
-    ensures { λ r. ⌜ EmittedAt (now (s .entry)) (Es.emitRefer (Es.emit d B.u48 (P.parse (now (b .entry)))) (Sv.survey d B.u48 (P.parse (now (b .entry)))) B.u48 (P.parse (now (b .entry))) inplace ob (stateOf c (now (out .entry))) (drop pos (bits (now (s .entry))))) pos c 6 (r .whole) (r .places) (now (out .exit)) (r .next) ⌝ }
+    ensures { λ r. ⌜ By.Emits (now (s .entry)) pos (By.held B.u48 d (now (b .entry)) inplace ob) c (now (out .entry)) B.u48 r (now (out .exit)) ⌝ }
 {
     let e = measure(b, dir, s, d, ob, inplace, pos);
     emit_measured(b, dir, s, out, d, ob, inplace, e, c, pos)
 }
 
-// The same, once its extent is known.
+// An object by its offset or in place, whose extent e is known.
 fn emit_measured(
     b: &[u8],
     dir: &[u16],
@@ -961,9 +959,9 @@ fn emit_measured(
     c: Places,
     pos: usize,
 ) -> Emitted
-    requires { ⌜ (Accepted (now b) (now dir)) × (ObjectSound (P.parse (now b)) ob) × (Measured inplace (Sv.survey d B.u48 (P.parse (now b)) ob (drop pos (bits (now s)))) e) ⌝ }
+    requires { ⌜ (Accepted (now b) (now dir)) × (ObjectSound (P.parse (now b)) ob) × (By.Measures B.u48 d (now b) inplace ob (now s) pos e) ⌝ }
     requires { ⌜ Room (now s) pos c ⌝ }
-    ensures { λ r. ⌜ EmittedAt (now (s .entry)) (Es.emitRefer (Es.emit d B.u48 (P.parse (now (b .entry)))) (Sv.survey d B.u48 (P.parse (now (b .entry)))) B.u48 (P.parse (now (b .entry))) inplace ob (stateOf c (now (out .entry))) (drop pos (bits (now (s .entry))))) pos c 6 (r .whole) (r .places) (now (out .exit)) (r .next) ⌝ }
+    ensures { λ r. ⌜ By.Emits (now (s .entry)) pos (By.held B.u48 d (now (b .entry)) inplace ob) c (now (out .entry)) B.u48 r (now (out .exit)) ⌝ }
 {
     let p = put_reference(out, inplace, e, c);
     let q = open(b, dir, out, ob, inplace, e, p);
@@ -975,7 +973,7 @@ fn emit_measured(
     stored(close(inplace, p, y.places), next)
 }
 
-// A union's known choice.
+// The known choice of union u, and the object of that case.
 fn emit_choice(
     b: &[u8],
     dir: &[u16],
@@ -989,7 +987,7 @@ fn emit_choice(
 ) -> Emitted
     requires { ⌜ (Accepted (now b) (now dir)) × (u < P.unionCount (now b)) ⌝ }
     requires { ⌜ Room (now s) pos c ⌝ }
-    ensures { λ r. ⌜ EmittedAt (now (s .entry)) (Es.emitChoice (Es.emit d B.u48 (P.parse (now (b .entry)))) (Sv.survey d B.u48 (P.parse (now (b .entry)))) B.u48 (P.parse (now (b .entry))) inplace (Sc.casesOf (P.parse (now (b .entry))) u) (stateOf c (now (out .entry))) (drop pos (bits (now (s .entry))))) pos c 6 (r .whole) (r .places) (now (out .exit)) (r .next) ⌝ }
+    ensures { λ r. ⌜ By.Emits (now (s .entry)) pos (By.choice B.u48 d (now (b .entry)) inplace u) c (now (out .entry)) B.u48 r (now (out .exit)) ⌝ }
 {
     let n = schema::case_count(b, dir, u);
     let x = bitio::take_number(s, pos, 16);
@@ -1009,7 +1007,7 @@ fn emit_choice(
     emit_refer(b, dir, s, out, d, ob, inplace, p, next)
 }
 
-// What is there, where it leads to an object.
+// A member or an element that leads to an object, present, behind its mark.
 fn emit_body(
     b: &[u8],
     dir: &[u16],
@@ -1023,7 +1021,7 @@ fn emit_body(
 ) -> Emitted
     requires { ⌜ (Accepted (now b) (now dir)) × (KindSound (P.parse (now b)) k) × (Eg.refers k ≡ true) ⌝ }
     requires { ⌜ Room (now s) pos c ⌝ }
-    ensures { λ r. ⌜ EmittedAt (now (s .entry)) (Es.emitBody (Es.emit d B.u48 (P.parse (now (b .entry)))) (Sv.survey d B.u48 (P.parse (now (b .entry)))) B.u48 (P.parse (now (b .entry))) k inplace (stateOf c (now (out .entry))) (drop pos (bits (now (s .entry))))) pos c (Eg.extra k) (r .whole) (r .places) (now (out .exit)) (r .next) ⌝ }
+    ensures { λ r. ⌜ By.Emits (now (s .entry)) pos (By.body B.u48 d (now (b .entry)) k inplace) c (now (out .entry)) (Eg.extra B.u48 k) r (now (out .exit)) ⌝ }
 {
     match k {
         Kind::OfFlat(_) => not_lawful(c, pos),
@@ -1032,7 +1030,7 @@ fn emit_body(
     }
 }
 
-// A member or an element that leads to an object, with its mark.
+// A member or an element that leads to an object: its mark, and what the mark says comes next.
 fn emit_part(
     b: &[u8],
     dir: &[u16],
@@ -1046,7 +1044,7 @@ fn emit_part(
 ) -> Emitted
     requires { ⌜ (Accepted (now b) (now dir)) × (KindSound (P.parse (now b)) k) × (Eg.refers k ≡ true) ⌝ }
     requires { ⌜ Room (now s) pos c ⌝ }
-    ensures { λ r. ⌜ EmittedAt (now (s .entry)) (Eg.emitUnflagged (Es.emit d B.u48 (P.parse (now (b .entry)))) (Sv.survey d B.u48 (P.parse (now (b .entry)))) B.u48 (P.parse (now (b .entry))) k inplace (stateOf c (now (out .entry))) (drop pos (bits (now (s .entry))))) pos c 0 (r .whole) (r .places) (now (out .exit)) (r .next) ⌝ }
+    ensures { λ r. ⌜ By.Emits (now (s .entry)) pos (By.part B.u48 d (now (b .entry)) k inplace) c (now (out .entry)) 0 r (now (out .exit)) ⌝ }
 {
     let x = bitio::take_number(s, pos, 2);
     if !x.whole {
@@ -1080,7 +1078,7 @@ fn emit_element(
 ) -> Emitted
     requires { ⌜ (Accepted (now b) (now dir)) × (KindSound (P.parse (now b)) k) × (NoStruct k) × (Sh.unmarked k ≡ false) ⌝ }
     requires { ⌜ Room (now s) pos c ⌝ }
-    ensures { λ r. ⌜ EmittedAt (now (s .entry)) (Es.emitElement (Es.emit d B.u48 (P.parse (now (b .entry)))) (Sv.survey d B.u48 (P.parse (now (b .entry)))) B.u48 (P.parse (now (b .entry))) k (stateOf c (now (out .entry))) (drop pos (bits (now (s .entry))))) pos c 0 (r .whole) (r .places) (now (out .exit)) (r .next) ⌝ }
+    ensures { λ r. ⌜ By.Emits (now (s .entry)) pos (By.element B.u48 d (now (b .entry)) k) c (now (out .entry)) 0 r (now (out .exit)) ⌝ }
 {
     match k {
         Kind::OfFlat(f) => emit_marked_flat(b, s, out, f, c, pos),
@@ -1089,7 +1087,7 @@ fn emit_element(
     }
 }
 
-// A table's content.
+// The content of table t.
 fn emit_table(
     b: &[u8],
     dir: &[u16],
@@ -1102,7 +1100,7 @@ fn emit_table(
 ) -> Emitted
     requires { ⌜ (Accepted (now b) (now dir)) × (t < P.tableCount (now b)) ⌝ }
     requires { ⌜ Room (now s) pos c ⌝ }
-    ensures { λ r. ⌜ EmittedAt (now (s .entry)) (Es.emitContent (Es.emit d B.u48 (P.parse (now (b .entry)))) (Sv.survey d B.u48 (P.parse (now (b .entry)))) B.u48 (P.parse (now (b .entry))) (Object.Table t) (stateOf c (now (out .entry))) (drop pos (bits (now (s .entry))))) pos c 0 (r .whole) (r .places) (now (out .exit)) (r .next) ⌝ }
+    ensures { λ r. ⌜ By.Emits (now (s .entry)) pos (By.content B.u48 d (now (b .entry)) (Object.Table t)) c (now (out .entry)) 0 r (now (out .exit)) ⌝ }
 {
     let n = schema::member_count(b, dir, t);
     let mut p = c;
@@ -1145,9 +1143,9 @@ fn emit_marked(
     c: Places,
     pos: usize,
 ) -> Emitted
-    requires { ⌜ (Accepted (now b) (now dir)) × (ObjectSound (P.parse (now b)) ob) × (KnownSize (P.parse (now b)) ob n) ⌝ }
+    requires { ⌜ (Accepted (now b) (now dir)) × (ObjectSound (P.parse (now b)) ob) × (KnownSize B.u48 (P.parse (now b)) ob n) ⌝ }
     requires { ⌜ Room (now s) pos c ⌝ }
-    ensures { λ r. ⌜ EmittedAt (now (s .entry)) (Es.emitElement (Es.emit d B.u48 (P.parse (now (b .entry)))) (Sv.survey d B.u48 (P.parse (now (b .entry)))) B.u48 (P.parse (now (b .entry))) (Kind.OfObject ob) (stateOf c (now (out .entry))) (drop pos (bits (now (s .entry))))) pos c 0 (r .whole) (r .places) (now (out .exit)) (r .next) ⌝ }
+    ensures { λ r. ⌜ By.Emits (now (s .entry)) pos (By.element B.u48 d (now (b .entry)) (Kind.OfObject ob)) c (now (out .entry)) 0 r (now (out .exit)) ⌝ }
 {
     let x = bitio::take_number(s, pos, 2);
     if !x.whole {
@@ -1160,7 +1158,7 @@ fn emit_marked(
         return emit_measured(b, dir, s, out, d, ob, false, e, c, next);
     }
     if mark == 0 {
-        let p = write_store::put_number(out, c, 6, 0);
+        let p = write_store::put_offset(out, c, 0);
         return stored(p, next);
     }
     not_lawful(c, pos)
@@ -1180,7 +1178,7 @@ fn emit_objects(
 ) -> Emitted
     requires { ⌜ (Accepted (now b) (now dir)) × (ObjectSound (P.parse (now b)) ob) × (n < 2 ^ 32) ⌝ }
     requires { ⌜ Room (now s) pos c ⌝ }
-    ensures { λ r. ⌜ EmittedAt (now (s .entry)) (Es.emitElements (Es.emit d B.u48 (P.parse (now (b .entry)))) (Sv.survey d B.u48 (P.parse (now (b .entry)))) B.u48 (P.parse (now (b .entry))) (Kind.OfObject ob) n (stateOf c (now (out .entry))) (drop pos (bits (now (s .entry))))) pos c 0 (r .whole) (r .places) (now (out .exit)) (r .next) ⌝ }
+    ensures { λ r. ⌜ By.Emits (now (s .entry)) pos (By.elements B.u48 d (now (b .entry)) (Kind.OfObject ob) n) c (now (out .entry)) 0 r (now (out .exit)) ⌝ }
 {
     let size = known_size(b, dir, ob);
     let mut p = c;
@@ -1212,7 +1210,7 @@ fn emit_elements(
 ) -> Emitted
     requires { ⌜ (Accepted (now b) (now dir)) × (KindSound (P.parse (now b)) k) × (NoStruct k) × (Sh.unmarked k ≡ false) × (n < 2 ^ 32) ⌝ }
     requires { ⌜ Room (now s) pos c ⌝ }
-    ensures { λ r. ⌜ EmittedAt (now (s .entry)) (Es.emitElements (Es.emit d B.u48 (P.parse (now (b .entry)))) (Sv.survey d B.u48 (P.parse (now (b .entry)))) B.u48 (P.parse (now (b .entry))) k n (stateOf c (now (out .entry))) (drop pos (bits (now (s .entry))))) pos c 0 (r .whole) (r .places) (now (out .exit)) (r .next) ⌝ }
+    ensures { λ r. ⌜ By.Emits (now (s .entry)) pos (By.elements B.u48 d (now (b .entry)) k n) c (now (out .entry)) 0 r (now (out .exit)) ⌝ }
 {
     let mut p = c;
     let mut at = pos;
@@ -1229,7 +1227,7 @@ fn emit_elements(
     stored(p, at)
 }
 
-// A list's content. Integers of one byte are stored as bytes are.
+// The content of list i. Integers of one byte are stored as bytes are.
 fn emit_list(
     b: &[u8],
     dir: &[u16],
@@ -1242,10 +1240,10 @@ fn emit_list(
 ) -> Emitted
     requires { ⌜ (Accepted (now b) (now dir)) × (i < P.listCount (now b)) ⌝ }
     requires { ⌜ Room (now s) pos c ⌝ }
-    ensures { λ r. ⌜ EmittedAt (now (s .entry)) (Es.emitContent (Es.emit d B.u48 (P.parse (now (b .entry)))) (Sv.survey d B.u48 (P.parse (now (b .entry)))) B.u48 (P.parse (now (b .entry))) (Object.List i) (stateOf c (now (out .entry))) (drop pos (bits (now (s .entry))))) pos c 0 (r .whole) (r .places) (now (out .exit)) (r .next) ⌝ }
+    ensures { λ r. ⌜ By.Emits (now (s .entry)) pos (By.content B.u48 d (now (b .entry)) (Object.List i)) c (now (out .entry)) 0 r (now (out .exit)) ⌝ }
 {
     let k = schema::element(b, dir, i);
-    if integer_width(k) == 1 {
+    if schema::integer_width(k) == 1 {
         return emit_bytes(s, out, c, pos);
     }
     let y = bitio::take_number(s, pos, 32);
@@ -1254,7 +1252,7 @@ fn emit_list(
     }
     let n = y.value as usize;
     if write_measure::unmarked(k) {
-        return emit_unmarked(s, out, integer_width(k), n, c, y.next);
+        return emit_unmarked(s, out, schema::integer_width(k), n, c, y.next);
     }
     match k {
         Kind::OfFlat(f) => emit_flats(b, s, out, f, n, c, y.next),
@@ -1263,7 +1261,7 @@ fn emit_list(
     }
 }
 
-// An object's content, d objects deep.
+// An object's content, where d objects may stand below each other, this one counted.
 fn emit_content(
     b: &[u8],
     dir: &[u16],
@@ -1276,7 +1274,7 @@ fn emit_content(
 ) -> Emitted
     requires { ⌜ (Accepted (now b) (now dir)) × (ObjectSound (P.parse (now b)) ob) ⌝ }
     requires { ⌜ Room (now s) pos c ⌝ }
-    ensures { λ r. ⌜ EmittedAt (now (s .entry)) (Es.emit d B.u48 (P.parse (now (b .entry))) ob (stateOf c (now (out .entry))) (drop pos (bits (now (s .entry))))) pos c 0 (r .whole) (r .places) (now (out .exit)) (r .next) ⌝ }
+    ensures { λ r. ⌜ By.Emits (now (s .entry)) pos (By.object B.u48 d (now (b .entry)) ob) c (now (out .entry)) 0 r (now (out .exit)) ⌝ }
 {
     if d == 0 {
         return not_lawful(c, pos);
@@ -1292,7 +1290,7 @@ fn emit_content(
 // ---- the whole message
 // The message's start and the root table, which takes e, into a buffer of the message's length.
 pub fn emit_message(b: &[u8], dir: &[u16], s: &[u8], e: Extent, out: &mut [u8]) -> Emitted
-    requires { ⌜ (Accepted (now b) (now dir)) × (length (now s) ≤ 16777215) × (Measured false (Sv.survey B.deepest B.u48 (P.parse (now b)) (Object.Table (P.parse (now b) .root)) (bits (now s))) e) ⌝ }
+    requires { ⌜ (Accepted (now b) (now dir)) × (WithinSize (now s)) × (Measured false (Sv.survey B.deepest B.u48 (P.parse (now b)) (Object.Table (P.parse (now b) .root)) (bits (now s))) e) ⌝ }
     ensures { λ r. ⌜ Eg.MessageAt (now (s .entry)) (Es.emitMessage B.u48 (P.parse (now (b .entry))) (now (out .entry)) (bits (now (s .entry)))) (r .whole) (r .places) (now (out .exit)) (r .next) ⌝ }
 {
     let start = Places {
@@ -1300,10 +1298,10 @@ pub fn emit_message(b: &[u8], dir: &[u16], s: &[u8], e: Extent, out: &mut [u8]) 
         last: 0,
         free: 0,
         held: 0,
-        tail: 10,
-        next: 10,
+        tail: wire::START,
+        next: wire::START,
     };
-    let ob = message_object::root_object(b, dir);
+    let ob = message_start::root_object(b, dir);
     let p = write_store::put_number(out, start, 4, 0xB5C0_C4B3);
     emit_measured(b, dir, s, out, 32, ob, false, e, p, 0)
 }

@@ -1,6 +1,6 @@
 -- Where a message goes on and what its buffer holds, and what a store of bytes or of a bit makes of it. Each bit is added to the
 -- last bool byte as it comes.
-use Prim.Native.Nat.{ℕ, zero, suc, _+_, _*_, _/_, _%_, _-_, _^_}
+use Prim.Native.Nat.{ℕ, zero, suc, _+_, _*_, _-_, _^_}
 use mathlib.Core.List.{List, [], _∷_}
 use lib.ListN.{length, set}
 use lib.Seq.{sets}
@@ -37,7 +37,7 @@ putByte x st = putBytes (x ∷ []) st
 unfoldable pub putNumber : ℕ → ℕ → State → State
 putNumber w x st = putBytes (leBytes w x) st
 
--- into a new byte, or into the last bool byte
+-- a bit into a new byte, or into the last bool byte
 unfoldable pub putBitAt : ℕ → ℕ → State → State
 putBitAt x zero st =
     record { at = st .at + 1; last = st .at; free = 7; held = x; tail = st .tail; next = st .next; out = set (st .out) (st .at) x }
@@ -58,12 +58,6 @@ putBit x st = putBitAt x (st .free) st
 -- eight bits that fill a new byte
 unfoldable pub putOctet : ℕ → State → State
 putOctet y st = record { at = st .at + 1; last = st .at; free = 0; held = y; tail = st .tail; next = st .next; out = set (st .out) (st .at) y }
-
--- a number of eight bits, its highest bit made the lowest
-unfoldable pub reversed : ℕ → ℕ
-reversed x =
-    x / 2 ^ 7 % 2 + x / 2 ^ 6 % 2 * 2 + (x / 2 ^ 5 % 2 * 4 + x / 2 ^ 4 % 2 * 8)
-    + (x / 2 ^ 3 % 2 * 16 + x / 2 ^ 2 % 2 * 32 + (x / 2 ^ 1 % 2 * 64 + x / 2 ^ 0 % 2 * 128))
 
 -- an object of w bytes with c bytes in place behind it; and back where it is referred to. Places count to one past the size.
 unfoldable pub enterObject : ℕ → ℕ → State → State

@@ -22,12 +22,14 @@ pub struct Places {
 }
 
 // ---- stores into the message; what lies past the buffer is not stored
+// The lowest byte of a number.
 fn low_byte(x: u64) -> u8
     ensures { λ r. ⌜ r ≡ x % 256 ⌝ }
 {
     (x & 255) as u8
 }
 
+// One byte.
 fn store_byte(out: &mut [u8], i: usize, x: u8)
     ensures { λ _. ⌜ now (out .exit) ≡ set (now (out .entry)) i x ⌝ }
 {
@@ -52,7 +54,7 @@ fn store_each(out: &mut [u8], at: usize, w: usize, x: u64)
     }
 }
 
-// Bytes of a number that all stand in the buffer. In this form the compiler makes one store of them.
+// ---- two, four, six and eight bytes of a number that all stand in the buffer. In this form the compiler makes one store of them.
 fn store_two(out: &mut [u8], at: usize, x: u64)
     requires { ⌜ (at < 2 ^ 63) × (at + 2 ≤ length (now out)) ⌝ }
     ensures { λ _. ⌜ now (out .exit) ≡ sets (now (out .entry)) at (B.leBytes 2 x) ⌝ }
@@ -144,7 +146,7 @@ fn clear(dst: &mut [u8])
     }
 }
 
-// n zero bytes.
+// n zero bytes, at once where they all stand in the buffer.
 fn store_zeros(out: &mut [u8], at: usize, n: usize)
     requires { ⌜ (at < 2 ^ 61) × (n < 2 ^ 40) ⌝ }
     ensures { λ _. ⌜ now (out .exit) ≡ sets (now (out .entry)) at (replicate n 0) ⌝ }
@@ -181,7 +183,7 @@ fn copy_each(s: &[u8], pos: usize, out: &mut [u8], at: usize, n: usize)
     }
 }
 
-// n bytes of the sheet.
+// n bytes of the sheet, at once where they all stand in the buffer.
 pub fn store_copy(s: &[u8], pos: usize, out: &mut [u8], at: usize, n: usize)
     requires { ⌜ (length (now s) ≤ 16777215) × (pos + 8 * n ≤ 8 * length (now s)) × (at < 2 ^ 61) ⌝ }
     ensures { λ _. ⌜ now (out .exit) ≡ sets (now (out .entry)) at (pack n (drop pos (bits (now (s .entry))))) ⌝ }
@@ -194,7 +196,7 @@ pub fn store_copy(s: &[u8], pos: usize, out: &mut [u8], at: usize, n: usize)
     bitio::get_bytes(s, pos, &mut out[at..end]);
 }
 
-// A bit at its place in a bool byte.
+// The bit x at place k of a bool byte.
 fn bit_at(x: usize, k: usize) -> usize
     requires { ⌜ (x < 2) × (k < 8) ⌝ }
     ensures { λ r. ⌜ (r ≡ x * 2 ^ k) × (r ≤ 2 ^ k) ⌝ }
@@ -235,18 +237,7 @@ pub fn put_bit(out: &mut [u8], c: Places, x: usize) -> Places
     }
 }
 
-// Eight bits, the highest of them made the lowest: bools stand in a message from the lowest bit on, in a sheet from the highest.
-pub fn reversed(x: u8) -> u8
-    ensures { λ r. ⌜ r ≡ St.reversed x ⌝ }
-{
-    let a = wire::bit_value(x, 7) + wire::bit_value(x, 6) * 2;
-    let b = wire::bit_value(x, 5) * 4 + wire::bit_value(x, 4) * 8;
-    let c = wire::bit_value(x, 3) * 16 + wire::bit_value(x, 2) * 32;
-    let d = wire::bit_value(x, 1) * 64 + wire::bit_value(x, 0) * 128;
-    (a + b + (c + d)) as u8
-}
-
-// A whole byte of bools.
+// Eight bools that fill a new byte.
 pub fn put_octet(out: &mut [u8], c: Places, y: u8) -> Places
     requires { ⌜ c .at < 2 ^ 61 ⌝ }
     ensures { λ r. ⌜ BitPut (St.putOctet y (stateOf c (now (out .entry)))) (stateOf r (now (out .exit))) c r ⌝ }
@@ -381,7 +372,7 @@ pub fn leave_content(c: Places, inner: Places) -> Places
     }
 }
 
-// ---- numbers
+// ---- what is put behind the places
 // The w bytes of a number.
 pub fn put_number(out: &mut [u8], c: Places, w: usize, x: u64) -> Places
     requires { ⌜ (c .at < 2 ^ 61) × (w ≤ 8) ⌝ }
@@ -391,6 +382,15 @@ pub fn put_number(out: &mut [u8], c: Places, w: usize, x: u64) -> Places
     forward(c, w)
 }
 
+// An offset, or the length that stands in its place: as wide as an offset.
+pub fn put_offset(out: &mut [u8], c: Places, x: u64) -> Places
+    requires { ⌜ c .at < 2 ^ 61 ⌝ }
+    ensures { λ r. ⌜ Stood B.u48 (St.putNumber B.u48 x (stateOf c (now (out .entry)))) (stateOf r (now (out .exit))) c r ⌝ }
+{
+    put_number(out, c, wire::OFFSET, x)
+}
+
+// One byte.
 pub fn put_byte(out: &mut [u8], c: Places, x: u8) -> Places
     requires { ⌜ c .at < 2 ^ 61 ⌝ }
     ensures { λ r. ⌜ Stood 1 (St.putByte x (stateOf c (now (out .entry)))) (stateOf r (now (out .exit))) c r ⌝ }
@@ -399,6 +399,7 @@ pub fn put_byte(out: &mut [u8], c: Places, x: u8) -> Places
     forward(c, 1)
 }
 
+// n zero bytes.
 pub fn put_zeros(out: &mut [u8], c: Places, n: usize) -> Places
     requires { ⌜ (c .at < 2 ^ 61) × (n ≤ 4096) ⌝ }
     ensures { λ r. ⌜ Stood n (St.putBytes (M.zeros n) (stateOf c (now (out .entry)))) (stateOf r (now (out .exit))) c r ⌝ }

@@ -20,6 +20,9 @@ use std::time::{Duration, Instant};
 use tasks::{Task, SUMMED};
 use timing::Plan;
 
+/// The coding that is timed: that of document 000.
+const CODING: u32 = 48;
+
 fn ours(case: &Case) -> Verdict {
     let verdict = scalgo::judge(&case.schema, &case.message, case.budget);
     Verdict {
@@ -30,7 +33,7 @@ fn ours(case: &Case) -> Verdict {
 }
 
 fn second(case: &Case) -> Verdict {
-    reference::judge(&case.schema, &case.message, case.budget)
+    reference::judge(crate::CODING, &case.schema, &case.message, case.budget)
 }
 
 /// What is wrong with the verdicts, if anything is.
@@ -185,7 +188,13 @@ fn stacks() -> bool {
                 black_box(scalgo::read(&case.schema, &case.message, 100, &mut sheet));
             }),
             stack::touched(&|| {
-                black_box(reference::read(&case.schema, &case.message, 100, 1 << 16));
+                black_box(reference::read(
+                    48,
+                    &case.schema,
+                    &case.message,
+                    100,
+                    1 << 16,
+                ));
             }),
         ];
         let [ours, second, sheet, second_sheet] = bytes;

@@ -163,8 +163,12 @@ fn field(name: &str, schema: Vec<u8>, message: Vec<u8>, path: Vec<u32>, expected
         scalgo::Answer::Number { bits, .. } => numbers(&[u64::from(bits != expected), bits]),
         other => panic!("{other:?}"),
     };
-    let second = move || match reference::field(&same_schema, &same_message, black_box(&same_path))
-    {
+    let second = move || match reference::field(
+        crate::CODING,
+        &same_schema,
+        &same_message,
+        black_box(&same_path),
+    ) {
         reference::Answer::Number { bits, .. } => numbers(&[u64::from(bits != expected), bits]),
         other => panic!("{other:?}"),
     };
@@ -196,7 +200,12 @@ fn text_at_depth_5() -> Task {
         Some(text) => numbers(&[0, text.len() as u64, u64::from(text[0])]),
         None => panic!("no text"),
     };
-    let second = move || match reference::text(&same_schema, &same_message, black_box(&same_path)) {
+    let second = move || match reference::text(
+        crate::CODING,
+        &same_schema,
+        &same_message,
+        black_box(&same_path),
+    ) {
         Some((at, length)) => numbers(&[0, length as u64, u64::from(same_message[at])]),
         None => panic!("no text"),
     };
@@ -222,7 +231,7 @@ fn list_of_tables() -> Task {
     };
     let second = move || {
         let path = [0];
-        let reader = reference::ListReader::new(&case.schema, &case.message, &path);
+        let reader = reference::ListReader::new(crate::CODING, &case.schema, &case.message, &path);
         let mut reader = reader.unwrap_or_else(|refusal| panic!("{refusal:?}"));
         let mut sum = 0;
         while let reference::Answer::Object { place, .. } = reader.step() {
@@ -254,7 +263,13 @@ fn outcome(numbers: &[u64], bytes: &[u8]) -> Outcome {
 /// A message to its sheet. The library is lent its output; the second program makes its own.
 fn read(case: Case) -> Task {
     const ROOM: usize = 16_777_215;
-    let (_, sheet) = reference::read(&case.schema, &case.message, case.budget, ROOM);
+    let (_, sheet) = reference::read(
+        crate::CODING,
+        &case.schema,
+        &case.message,
+        case.budget,
+        ROOM,
+    );
     let output = RefCell::new(vec![0; sheet.len() + 100]);
     let room = sheet.len() + 100;
     let (schema, message) = (case.schema.clone(), case.message.clone());
@@ -267,7 +282,8 @@ fn read(case: Case) -> Task {
     let bytes = case.message.len() + sheet.len();
     let name = format!("reading {}", case.name);
     let second = move || {
-        let (verdict, sheet) = reference::read(&case.schema, &case.message, u32::MAX, room);
+        let (verdict, sheet) =
+            reference::read(crate::CODING, &case.schema, &case.message, u32::MAX, room);
         outcome(&[u64::from(verdict.number), sheet.len() as u64], &sheet)
     };
     Task {
@@ -281,7 +297,13 @@ fn read(case: Case) -> Task {
 /// A sheet to its message, outputs as in `read`.
 fn write(case: Case) -> Task {
     const ROOM: usize = 16_777_215;
-    let (_, sheet) = reference::read(&case.schema, &case.message, case.budget, ROOM);
+    let (_, sheet) = reference::read(
+        crate::CODING,
+        &case.schema,
+        &case.message,
+        case.budget,
+        ROOM,
+    );
     let room = case.message.len() + 100;
     let output = RefCell::new(vec![0; room]);
     let (schema, same_sheet) = (case.schema.clone(), sheet.clone());
@@ -293,7 +315,7 @@ fn write(case: Case) -> Task {
         outcome(&[number, answer.length as u64], &output[..answer.length])
     };
     let second = move || {
-        let (number, message) = reference::write(&case.schema, &same_sheet, room);
+        let (number, message) = reference::write(crate::CODING, &case.schema, &same_sheet, room);
         outcome(&[u64::from(number), message.len() as u64], &message)
     };
     Task {

@@ -30,3 +30,6 @@ pub mod subjects;
 pub mod tally;
 pub mod value;
 pub mod value_gen;
+
+/// The coding that the library runs under: that of document 000. The second program knows both.
+pub const CODING: u32 = 48;

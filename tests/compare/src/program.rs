@@ -186,30 +186,30 @@ impl Judge for Second {
     }
 
     fn judge(&self, schema: &[u8], message: &[u8], budget: u32) -> Verdict {
-        reference::judge(schema, message, budget)
+        reference::judge(crate::CODING, schema, message, budget)
     }
 
     fn judge_unpacked(&self, schema: &[u8], message: &[u8], budget: u32) -> Option<Verdict> {
-        let schema = reference::Schema::parse(schema)?;
+        let schema = reference::Schema::parse(crate::CODING, schema)?;
         Some(reference::judge_parsed(&schema, message, budget))
     }
 }
 
 impl Program for Second {
     fn read(&self, schema: &[u8], message: &[u8], budget: u32, room: usize) -> (Verdict, Vec<u8>) {
-        reference::read(schema, message, budget, room)
+        reference::read(crate::CODING, schema, message, budget, room)
     }
 
     fn write(&self, schema: &[u8], sheet: &[u8], room: usize) -> (u32, Vec<u8>) {
-        reference::write(schema, sheet, room)
+        reference::write(crate::CODING, schema, sheet, room)
     }
 
     fn field(&self, schema: &[u8], message: &[u8], path: &[u32]) -> Answer {
-        reference::field(schema, message, path)
+        reference::field(crate::CODING, schema, message, path)
     }
 
     fn text(&self, schema: &[u8], message: &[u8], path: &[u32]) -> Option<Vec<u8>> {
-        let (start, length) = reference::text(schema, message, path)?;
+        let (start, length) = reference::text(crate::CODING, schema, message, path)?;
         Some(message[start..start + length].to_vec())
     }
 
@@ -220,25 +220,25 @@ impl Program for Second {
         path: &[u32],
         steps: usize,
     ) -> Result<Vec<Answer>, Answer> {
-        let mut reader = reference::ListReader::new(schema, message, path)?;
+        let mut reader = reference::ListReader::new(crate::CODING, schema, message, path)?;
         Ok((0..steps).map(|_| reader.step()).collect())
     }
 }
 
 impl Relations for Second {
     fn lawful(&self, schema: &[u8]) -> bool {
-        reference::lawful(schema)
+        reference::lawful(crate::CODING, schema)
     }
 
     fn appends(&self, older: &[u8], newer: &[u8]) -> bool {
-        reference::appends(older, newer)
+        reference::appends(crate::CODING, older, newer)
     }
 
     fn without_appended(&self, older: &[u8], newer: &[u8], sheet: &[u8]) -> Option<Vec<u8>> {
-        reference::without_appended(older, newer, sheet)
+        reference::without_appended(crate::CODING, older, newer, sheet)
     }
 
     fn with_added(&self, older: &[u8], newer: &[u8], sheet: &[u8]) -> Option<Vec<u8>> {
-        reference::with_added(older, newer, sheet)
+        reference::with_added(crate::CODING, older, newer, sheet)
     }
 }

@@ -2,9 +2,10 @@
 
 mod common;
 
-use common::{folder, run_in};
+use common::{folder, printed_by, program_in, run_in};
 use std::fs;
 use std::path::Path;
+use std::process::Command;
 
 /// A table with a U16 and a text, and a message of it.
 const SCHEMA: &[u8] = b"\x00\x00\x00\x01\x00\x4C\x49\x43\x45\x02\x10\x00\x68\x00";
@@ -172,4 +173,40 @@ fn unreadable_files() {
     fs::create_dir(other.join("schema.bin")).expect("a folder of that name");
     fs::write(other.join("message.bin"), MESSAGE).expect("message.bin is written");
     assert_eq!(run(&other), "1 0 0\n");
+}
+
+/// A shared object in which `read` gives seven bytes a call and one call fails.
+fn failing_read() -> &'static str {
+    let source = concat!(env!("CARGO_MANIFEST_DIR"), "/c/failing_read.c");
+    let object = concat!(env!("CARGO_TARGET_TMPDIR"), "/failing_read.so");
+    let mut compiler = Command::new("cc");
+    compiler.args([
+        "-std=c99", "-Wall", "-Wextra", "-Werror", "-shared", "-fPIC",
+    ]);
+    let compiled = compiler.args([source, "-o", object]).status();
+    assert!(compiled.expect("cc runs").success());
+    object
+}
+
+/// A file is unreadable where any one read of it fails: the first, one in the
+/// middle, and the one that would have told of its end. The schema takes three
+/// reads of seven bytes, its end among them, and the message seven.
+#[test]
+fn files_that_fail_while_they_are_read() {
+    let object = failing_read();
+    let folder = folder();
+    fs::write(folder.join("schema.bin"), SCHEMA).expect("schema.bin is written");
+    fs::write(folder.join("message.bin"), MESSAGE).expect("message.bin is written");
+    for failing in 0..12 {
+        let mut desk = program_in(&folder, "desk");
+        desk.env("LD_PRELOAD", object);
+        desk.env("FAILING_READ", failing.to_string());
+        let expected = match failing {
+            0..3 => "1 0 0\n",
+            3..10 => "2 0 0\n",
+            _ => "0 0 2\n",
+        };
+        assert_eq!(printed_by(&mut desk), expected, "read {failing} fails");
+    }
+    fs::remove_dir_all(folder).expect("the folder goes away");
 }

@@ -5,31 +5,32 @@ use crate::plan::{plan, Plan};
 use crate::schema::{Kind, Member, Record, Schema, Table, Target};
 use crate::sheet::{ABSENT, PRESENT, UNKNOWN};
 
-/// Both lawful, and the newer appends to the older.
-pub fn appends(older: &[u8], newer: &[u8]) -> bool {
-    parse_both(older, newer).is_some()
+/// Both lawful under the coding, and the newer appends to the older. "no claim
+/// joins the two" codings.
+pub fn appends(coding: u32, older: &[u8], newer: &[u8]) -> bool {
+    parse_both(coding, older, newer).is_some()
 }
 
 /// The newer sheet without the appended members, from that sheet and the two
 /// schemas alone. None unless the newer appends to the older and the sheet is
 /// a lawful sheet under the newer. Its length is not judged.
-pub fn without_appended(older: &[u8], newer: &[u8], sheet: &[u8]) -> Option<Vec<u8>> {
-    let (older, newer) = parse_both(older, newer)?;
+pub fn without_appended(coding: u32, older: &[u8], newer: &[u8], sheet: &[u8]) -> Option<Vec<u8>> {
+    let (older, newer) = parse_both(coding, older, newer)?;
     Transfer::run(&newer, &older, sheet)
 }
 
 /// The older sheet with the added members. None unless the newer appends to
 /// the older and the sheet is a lawful sheet under the older. Its length is
 /// not judged.
-pub fn with_added(older: &[u8], newer: &[u8], sheet: &[u8]) -> Option<Vec<u8>> {
-    let (older, newer) = parse_both(older, newer)?;
+pub fn with_added(coding: u32, older: &[u8], newer: &[u8], sheet: &[u8]) -> Option<Vec<u8>> {
+    let (older, newer) = parse_both(coding, older, newer)?;
     Transfer::run(&older, &newer, sheet)
 }
 
 /// Both schemas, where both are lawful and the newer appends to the older.
-fn parse_both(older: &[u8], newer: &[u8]) -> Option<(Schema, Schema)> {
-    let older = Schema::parse(older)?;
-    let newer = Schema::parse(newer)?;
+fn parse_both(coding: u32, older: &[u8], newer: &[u8]) -> Option<(Schema, Schema)> {
+    let older = Schema::parse(coding, older)?;
+    let newer = Schema::parse(coding, newer)?;
     schema_appends(&older, &newer).then_some((older, newer))
 }
 

@@ -66,8 +66,8 @@ impl From<Object> for Answer {
 }
 
 /// Reads one field.
-pub fn field(schema: &[u8], message: &[u8], path: &[u32]) -> Answer {
-    match end_of(schema, message, path) {
+pub fn field(coding: u32, schema: &[u8], message: &[u8], path: &[u32]) -> Answer {
+    match end_of(coding, schema, message, path) {
         Ok(End::Object(object, _)) => object.into(),
         Ok(End::Other(answer)) => answer,
         Err(refusal) => refusal.into(),
@@ -76,8 +76,8 @@ pub fn field(schema: &[u8], message: &[u8], path: &[u32]) -> Answer {
 
 /// "texts and bytes can be had as a part of the message": where the part starts
 /// and its length, where the path leads to a text or bytes.
-pub fn text(schema: &[u8], message: &[u8], path: &[u32]) -> Option<(usize, usize)> {
-    match end_of(schema, message, path) {
+pub fn text(coding: u32, schema: &[u8], message: &[u8], path: &[u32]) -> Option<(usize, usize)> {
+    match end_of(coding, schema, message, path) {
         Ok(End::Object(object, _)) => match object.target {
             Target::Text | Target::Bytes => Some((object.start, object.length)),
             Target::List(_) | Target::Table(_) => None,
@@ -86,8 +86,8 @@ pub fn text(schema: &[u8], message: &[u8], path: &[u32]) -> Option<(usize, usize
     }
 }
 
-fn end_of(schema: &[u8], message: &[u8], path: &[u32]) -> Result<End, Refusal> {
-    let schema = Schema::parse(schema).ok_or(Refusal::new(1, 0))?;
+fn end_of(coding: u32, schema: &[u8], message: &[u8], path: &[u32]) -> Result<End, Refusal> {
+    let schema = Schema::parse(coding, schema).ok_or(Refusal::new(1, 0))?;
     let followed = Path {
         schema: &schema,
         message,
@@ -191,8 +191,14 @@ impl Path<'_> {
                 let bit = self.message[list.start + (step >> 3)] >> (step & 7) & 1;
                 Ok(Part::Value(Answer::Boolean(bit == 1)))
             }
-            kind @ Kind::Object(_) => self.reference(list, kind, list.start + step * 6, depth),
-            kind @ Kind::Union(_) => self.reference(list, kind, list.start + step * 8, depth),
+            kind @ Kind::Object(_) => {
+                let size = self.schema.coding.offset();
+                self.reference(list, kind, list.start + step * size, depth)
+            }
+            kind @ Kind::Union(_) => {
+                let size = self.schema.coding.union();
+                self.reference(list, kind, list.start + step * size, depth)
+            }
             kind @ (Kind::Integer { bytes, .. } | Kind::Float { bytes }) => {
                 Ok(self.scalar(kind, list.start + step * usize::from(bytes), true))
             }
@@ -293,11 +299,12 @@ impl<'a> ListReader<'a> {
     /// "It starts from a path to a list whose elements are of kinds 13 to 17;
     /// a refused path gives its own refusal, any other answer is 15 at 0."
     pub fn new(
+        coding: u32,
         schema: &'a [u8],
         message: &'a [u8],
         path: &[u32],
     ) -> Result<ListReader<'a>, Answer> {
-        let schema = Schema::parse(schema).ok_or(Answer::from(Refusal::new(1, 0)))?;
+        let schema = Schema::parse(coding, schema).ok_or(Answer::from(Refusal::new(1, 0)))?;
         let followed = Path {
             schema: &schema,
             message,

@@ -2,9 +2,12 @@
 //!
 //! It judges a message by a packed schema, reads one field, turns a message
 //! into a value sheet and a value sheet into a message, and carries sheets
-//! between two schemas of which one appends to the other.
+//! between two schemas of which one appends to the other. Every function takes
+//! the number of its coding first, 48 or 32; under any other number no schema is
+//! lawful.
 //!
 //! The modules, from the bottom up:
+//! - `coding`: the two codings, and which sentences decide about the older;
 //! - `bits`: the bit-packed sheet, written and read;
 //! - `schema`: the packed schema, its lawfulness and the layout of its tables;
 //! - `message`: what a single arrival judges, and where a member or element leads;
@@ -19,6 +22,7 @@
 
 mod append;
 mod bits;
+mod coding;
 mod field;
 mod message;
 mod plan;
@@ -34,7 +38,7 @@ pub use sheet::read;
 pub use walk::{judge, judge_parsed, Verdict};
 pub use write::write;
 
-/// Is the schema lawful?
-pub fn lawful(schema: &[u8]) -> bool {
-    Schema::parse(schema).is_some()
+/// Is the schema lawful under this coding?
+pub fn lawful(coding: u32, schema: &[u8]) -> bool {
+    Schema::parse(coding, schema).is_some()
 }

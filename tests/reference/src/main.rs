@@ -7,7 +7,7 @@ use std::process::ExitCode;
 use reference::{appends, field, judge, read, with_added, without_appended, write, Answer};
 
 const USAGE: &str = "\
-usage:
+usage: reference [--coding 32] COMMAND; without it the coding is 48
   reference judge SCHEMA MESSAGE BUDGET      prints number, place, visits
   reference read SCHEMA MESSAGE BUDGET OUT   the same, and on 0 the sheet to OUT
   reference write SCHEMA SHEET OUT           prints number, and on 0 the message to OUT
@@ -35,20 +35,33 @@ fn main() -> ExitCode {
 /// Runs one command and answers the line it prints.
 fn run(words: &[&str]) -> Result<String, String> {
     match words {
+        ["--coding", coding, words @ ..] => command(number(coding)?, words),
+        _ => command(48, words),
+    }
+}
+
+/// A command under the coding of this number.
+fn command(coding: u32, words: &[&str]) -> Result<String, String> {
+    match words {
         ["judge", schema, message, budget] => {
             let (schema, message) = (load(schema)?, load(message)?);
-            Ok(verdict_line(judge(&schema, &message, number(budget)?)))
+            Ok(verdict_line(judge(
+                coding,
+                &schema,
+                &message,
+                number(budget)?,
+            )))
         }
         ["read", schema, message, budget, out] => {
             let (schema, message) = (load(schema)?, load(message)?);
-            let (verdict, sheet) = read(&schema, &message, number(budget)?, usize::MAX);
+            let (verdict, sheet) = read(coding, &schema, &message, number(budget)?, usize::MAX);
             if verdict.number == 0 {
                 save(out, &sheet)?;
             }
             Ok(verdict_line(verdict))
         }
         ["write", schema, sheet, out] => {
-            let (number, message) = write(&load(schema)?, &load(sheet)?, usize::MAX);
+            let (number, message) = write(coding, &load(schema)?, &load(sheet)?, usize::MAX);
             if number == 0 {
                 save(out, &message)?;
             }
@@ -56,19 +69,25 @@ fn run(words: &[&str]) -> Result<String, String> {
         }
         ["field", schema, message, path @ ..] => {
             let path: Result<Vec<u32>, String> = path.iter().map(|word| number(word)).collect();
-            Ok(answer_line(field(&load(schema)?, &load(message)?, &path?)))
+            Ok(answer_line(field(
+                coding,
+                &load(schema)?,
+                &load(message)?,
+                &path?,
+            )))
         }
         ["appends", old, new] => {
-            let yes = appends(&load(old)?, &load(new)?);
+            let yes = appends(coding, &load(old)?, &load(new)?);
             Ok(String::from(if yes { "yes" } else { "no" }))
         }
         ["without", old, new, sheet, out] => carried(
-            without_appended(&load(old)?, &load(new)?, &load(sheet)?),
+            without_appended(coding, &load(old)?, &load(new)?, &load(sheet)?),
             out,
         ),
-        ["with", old, new, sheet, out] => {
-            carried(with_added(&load(old)?, &load(new)?, &load(sheet)?), out)
-        }
+        ["with", old, new, sheet, out] => carried(
+            with_added(coding, &load(old)?, &load(new)?, &load(sheet)?),
+            out,
+        ),
         _ => Err(String::from(USAGE)),
     }
 }

@@ -1,14 +1,13 @@
 //! The message's bytes: what one arrival judges, and where a member or an
 //! element leads.
 
+use crate::coding::Coding;
 use crate::schema::{Kind, Member, Schema, Slot, Target};
 
 /// "Message and sheet: at most 16,777,215 bytes each."
 pub const SIZE: usize = 16_777_215;
 /// "Depth: 32 objects, the root being 1".
 pub const DEPTH: u32 = 32;
-/// A magic of four bytes and a U48 length.
-pub const HEADER: usize = 10;
 
 pub const MESSAGE_MAGIC: u32 = 0xB5C0_C4B3;
 const TEXT_MAGIC: u32 = 0xD812_C8F5;
@@ -112,11 +111,16 @@ pub fn u32_at(message: &[u8], at: usize) -> u32 {
     u32::from_le_bytes(bytes_at(message, at))
 }
 
-/// "U48 is six bytes."
+/// An offset or a length: "U48 is six bytes", and a U32 is four.
 #[inline]
-pub fn u48_at(message: &[u8], at: usize) -> u64 {
-    let [a, b, c, d, e, f] = bytes_at(message, at);
-    u64::from_le_bytes([a, b, c, d, e, f, 0, 0])
+pub fn offset_at(coding: Coding, message: &[u8], at: usize) -> u64 {
+    match coding {
+        Coding::Bits48 => {
+            let [a, b, c, d, e, f] = bytes_at(message, at);
+            u64::from_le_bytes([a, b, c, d, e, f, 0, 0])
+        }
+        Coding::Bits32 => u64::from(u32_at(message, at)),
+    }
 }
 
 /// A NaN by its bits: the exponent all ones, the rest not zero.
@@ -139,42 +143,44 @@ pub fn magic(schema: &Schema, target: Target) -> u32 {
 }
 
 /// The bytes of a list's elements.
-pub fn list_bytes(element: Kind, count: u64) -> u64 {
+pub fn list_bytes(coding: Coding, element: Kind, count: u64) -> u64 {
     match element {
         Kind::Bool => count.div_ceil(8),
-        _ => count * element_size(element),
+        _ => count * element_size(coding, element),
     }
 }
 
 /// The bytes of one element; bools are packed.
-fn element_size(element: Kind) -> u64 {
+fn element_size(coding: Coding, element: Kind) -> u64 {
     match element {
         Kind::Bool | Kind::Struct(_) => 0,
         Kind::Integer { bytes, .. } | Kind::Float { bytes } => u64::from(bytes),
         Kind::Enum { .. } => 1,
-        Kind::Object(_) => 6,
-        Kind::Union(_) => 8,
+        Kind::Object(_) => coding.offset() as u64,
+        Kind::Union(_) => coding.union() as u64,
     }
 }
 
-/// The bytes of an object's content. A U48 length keeps this far below 2^64.
+/// The bytes of an object's content. A length of 48 bits keeps this far below
+/// 2^64.
 pub fn content_bytes(schema: &Schema, target: Target, length: u64) -> u64 {
     match target {
         Target::Text => length + 1,
         Target::Bytes | Target::Table(_) => length,
-        Target::List(index) => list_bytes(schema.element(index), length),
+        Target::List(index) => list_bytes(schema.coding, schema.element(index), length),
     }
 }
 
-/// "Before the walk, 1, 2, 3 are tried in order": 2 and 3. Answers the root.
+/// "Before the walk, 1, 2, 3 are tried in order": 2, for a message under its
+/// start of 10 bytes, or 8, and 3. Answers the root.
 pub fn open_message(schema: &Schema, message: &[u8]) -> Result<(Target, Spot), Refusal> {
-    if message.len() < HEADER || message.len() > SIZE {
+    if message.len() < schema.coding.header() || message.len() > SIZE {
         return Err(Refusal::new(2, 0));
     }
     if u32_at(message, 0) != MESSAGE_MAGIC {
         return Err(Refusal::new(3, 0));
     }
-    let spot = Spot::Offset(u48_at(message, 4));
+    let spot = Spot::Offset(offset_at(schema.coding, message, 4));
     Ok((Target::Table(schema.root), spot))
 }
 
@@ -212,23 +218,25 @@ pub fn open(
     })
 }
 
-/// "An offset under 10 is not lawful where an object is required." Answers
-/// where the content starts and the length.
+/// "An offset under 10 is not lawful where an object is required." "Offsets
+/// under 8 are unlawful there", in the older coding. Answers where the content
+/// starts and the length.
 fn open_header(
     schema: &Schema,
     message: &[u8],
     target: Target,
     offset: u64,
 ) -> Result<(usize, u64), Refusal> {
-    let last = (message.len() - HEADER) as u64;
-    if offset < HEADER as u64 || offset > last {
+    let header = schema.coding.header();
+    let last = (message.len() - header) as u64;
+    if offset < header as u64 || offset > last {
         return Err(Refusal::new(6, offset));
     }
     let at = offset as usize;
     if u32_at(message, at) != magic(schema, target) {
         return Err(Refusal::new(7, offset));
     }
-    Ok((at + HEADER, u48_at(message, at + 4)))
+    Ok((at + header, offset_at(schema.coding, message, at + 4)))
 }
 
 /// Where a table member's value stands in the message, if it has one there.
@@ -290,16 +298,17 @@ pub fn lead(
     at: usize,
     behind: Option<usize>,
 ) -> Result<Lead, Refusal> {
+    let coding = schema.coding;
     let (choice, target, number) = match kind {
         // "0 means none"; in place "Length 0 means no value".
-        Kind::Object(target) => match u48_at(message, at) {
+        Kind::Object(target) => match offset_at(coding, message, at) {
             0 => return Ok(Lead::Absent),
             number => (None, target, number),
         },
         Kind::Union(index) => match u16_at(message, at) {
             0 => return Ok(Lead::Absent),
             choice => match schema.case(index, u64::from(choice)) {
-                Some(target) => (Some(choice), target, u48_at(message, at + 2)),
+                Some(target) => (Some(choice), target, offset_at(coding, message, at + 2)),
                 None => return Ok(Lead::Unknown(choice)),
             },
         },

@@ -1,7 +1,7 @@
 //! What a value sheet is: lawful, writable, and how large its message is.
 
 use crate::bits::BitReader;
-use crate::message::{is_nan, list_bytes, DEPTH, HEADER, SIZE};
+use crate::message::{is_nan, list_bytes, DEPTH, SIZE};
 use crate::schema::{Kind, Schema, Target};
 use crate::sheet::{ABSENT, PRESENT, UNKNOWN};
 
@@ -31,7 +31,7 @@ struct Content {
 /// The sheet's own length is not judged here.
 pub fn plan<'a>(schema: &'a Schema, sheet: &'a [u8]) -> Option<Plan<'a>> {
     let mut plan = Plan::at(schema, BitReader::new(sheet));
-    plan.size = HEADER as u64;
+    plan.size = schema.coding.header() as u64;
     plan.head(Target::Table(schema.root), 1)?;
     plan.sheet.is_finished().then_some(plan)
 }
@@ -56,7 +56,7 @@ impl<'a> Plan<'a> {
             self.blocks.push(0);
         }
         let content = self.content(target, depth)?;
-        let bytes = HEADER as u64 + content.bytes;
+        let bytes = self.schema.coding.header() as u64 + content.bytes;
         self.size = self.size.saturating_add(bytes);
         if kept {
             self.blocks[number] = usize::try_from(bytes).unwrap_or(usize::MAX);
@@ -78,7 +78,8 @@ impl<'a> Plan<'a> {
             Target::List(index) => {
                 let count = self.sheet.take(32)?;
                 self.elements(index, count, depth)?;
-                (count, list_bytes(self.schema.element(index), count))
+                let element = self.schema.element(index);
+                (count, list_bytes(self.schema.coding, element, count))
             }
             Target::Table(index) => {
                 let size = self.schema.table(index).size as u64;

@@ -1,5 +1,7 @@
 //! The packed schema: parsed, judged lawful, and its structs and tables laid out.
 
+use crate::coding::Coding;
+
 /// "No struct is over 4,096 bytes."
 const STRUCT_SIZE: usize = 4096;
 
@@ -79,6 +81,8 @@ pub struct Table {
 
 /// A lawful schema, parsed.
 pub struct Schema {
+    /// The coding under which it is lawful.
+    pub(crate) coding: Coding,
     pub(crate) structs: Vec<Struct>,
     /// Each list's element.
     pub(crate) lists: Vec<Kind>,
@@ -89,8 +93,10 @@ pub struct Schema {
 }
 
 impl Schema {
-    /// The schema, where it is lawful.
-    pub fn parse(packed: &[u8]) -> Option<Schema> {
+    /// The schema, where it is lawful under the coding of this number: none
+    /// is under a number but 48 and 32.
+    pub fn parse(coding: u32, packed: &[u8]) -> Option<Schema> {
+        let coding = Coding::of(coding)?;
         let mut packed = Packed { rest: packed };
         let counts = Counts::parse(&mut packed)?;
         let root = packed.byte()?;
@@ -98,6 +104,7 @@ impl Schema {
             return None;
         }
         let mut schema = Schema {
+            coding,
             structs: Vec::with_capacity(usize::from(counts.structs)),
             lists: Vec::with_capacity(usize::from(counts.lists)),
             unions: Vec::with_capacity(usize::from(counts.unions)),
@@ -109,13 +116,15 @@ impl Schema {
             schema.structs.push(one);
         }
         for _ in 0..counts.lists {
-            schema.lists.push(parse_element(&mut packed, &counts)?);
+            schema
+                .lists
+                .push(parse_element(coding, &mut packed, &counts)?);
         }
         for _ in 0..counts.unions {
             schema.unions.push(parse_union(&mut packed, &counts)?);
         }
         for _ in 0..counts.tables {
-            let one = parse_table(&mut packed, &counts, &schema.structs)?;
+            let one = parse_table(&mut packed, &counts, &schema)?;
             // "Table ids differ."
             if schema.tables.iter().any(|table| table.id == one.id) {
                 return None;
@@ -141,6 +150,16 @@ impl Schema {
 
     pub(crate) fn table(&self, index: u8) -> &Table {
         &self.tables[usize::from(index)]
+    }
+
+    /// The bytes of a list's element that is a reference or a union; none of
+    /// any other.
+    pub(crate) fn reference_size(&self, element: Kind) -> Option<usize> {
+        match element {
+            Kind::Object(_) => Some(self.coding.offset()),
+            Kind::Union(_) => Some(self.coding.union()),
+            _ => None,
+        }
     }
 
     /// The case a union's choice names: "choice 0 none, cases from 1".
@@ -267,7 +286,8 @@ fn parse_struct(packed: &mut Packed, counts: &Counts, lower: &[Struct]) -> Optio
             _ => {}
         }
         one.members.push(StructMember { kind, offset });
-        one.size += value_size(kind, lower);
+        // No reference is in a struct, so the coding is no matter.
+        one.size += value_size(Coding::Bits48, kind, lower);
         if one.size > STRUCT_SIZE {
             return None;
         }
@@ -275,9 +295,16 @@ fn parse_struct(packed: &mut Packed, counts: &Counts, lower: &[Struct]) -> Optio
     Some(one)
 }
 
-/// "List elements: 0 to 11 and 13 to 17."
-fn parse_element(packed: &mut Packed, counts: &Counts) -> Option<Kind> {
-    parse_plain(packed, counts).filter(|kind| !matches!(kind, Kind::Struct(_)))
+/// "List elements: 0 to 11 and 13 to 17"; "a list of unions" is not lawful in
+/// the older coding.
+fn parse_element(coding: Coding, packed: &mut Packed, counts: &Counts) -> Option<Kind> {
+    let kind = parse_plain(packed, counts)?;
+    let lawful = match kind {
+        Kind::Struct(_) => false,
+        Kind::Union(_) => coding == Coding::Bits48,
+        _ => true,
+    };
+    lawful.then_some(kind)
 }
 
 /// "union: 8-bit case count 1 to 32, records"; "Union cases: 13 to 16."
@@ -291,7 +318,7 @@ fn parse_union(packed: &mut Packed, counts: &Counts) -> Option<Vec<Target>> {
 }
 
 /// "table: 32-bit id, 8-bit member count 0 to 64, records."
-fn parse_table(packed: &mut Packed, counts: &Counts, structs: &[Struct]) -> Option<Table> {
+fn parse_table(packed: &mut Packed, counts: &Counts, schema: &Schema) -> Option<Table> {
     let id = packed.id()?;
     let count = packed.count(0, 64)?;
     let mut layout = Layout::default();
@@ -306,8 +333,11 @@ fn parse_table(packed: &mut Packed, counts: &Counts, structs: &[Struct]) -> Opti
         if record.optional && (refers || is_enum) || record.in_place && !refers {
             return None;
         }
+        if schema.coding == Coding::Bits32 && !of_older_coding(&record) {
+            return None;
+        }
         in_place += u32::from(record.in_place);
-        let slot = layout.place(&record, structs);
+        let slot = layout.place(&record, schema);
         members.push(Member { record, slot });
     }
     (in_place <= 1).then_some(Table {
@@ -317,14 +347,23 @@ fn parse_table(packed: &mut Packed, counts: &Counts, structs: &[Struct]) -> Opti
     })
 }
 
+/// "a union not in place, a table in place" are not lawful in the older coding.
+fn of_older_coding(member: &Record) -> bool {
+    match member.kind {
+        Kind::Union(_) => member.in_place,
+        Kind::Object(Target::Table(_)) => !member.in_place,
+        _ => true,
+    }
+}
+
 /// The bytes of a value in a struct or in a table's fixed part.
-fn value_size(kind: Kind, structs: &[Struct]) -> usize {
+fn value_size(coding: Coding, kind: Kind, structs: &[Struct]) -> usize {
     match kind {
         Kind::Bool | Kind::Enum { .. } => 1,
         Kind::Integer { bytes, .. } | Kind::Float { bytes } => usize::from(bytes),
         Kind::Struct(index) => structs[usize::from(index)].size,
-        Kind::Object(_) => 6,
-        Kind::Union(_) => 8,
+        Kind::Object(_) => coding.offset(),
+        Kind::Union(_) => coding.union(),
     }
 }
 
@@ -354,10 +393,10 @@ impl Layout {
 
     /// "Optional bool, integer or struct: a flag bool first, then the value.
     /// Optional float: NaN is no value."
-    fn place(&mut self, record: &Record, structs: &[Struct]) -> Slot {
+    fn place(&mut self, record: &Record, schema: &Schema) -> Slot {
         let is_float = matches!(record.kind, Kind::Float { .. });
         let flag = (record.optional && !is_float).then(|| self.bool());
-        let size = value_size(record.kind, structs);
+        let size = value_size(schema.coding, record.kind, &schema.structs);
         let (offset, bit) = match record.kind {
             Kind::Bool => {
                 let value = self.bool();
@@ -388,7 +427,7 @@ mod tests {
         for record in records {
             packed.extend_from_slice(&record.to_be_bytes());
         }
-        Schema::parse(&packed).unwrap()
+        Schema::parse(48, &packed).unwrap()
     }
 
     /// Case 12: "Bools 7 then an optional bool: flag bit 7 of byte 0, value

@@ -16,8 +16,14 @@ pub const UNKNOWN: u64 = 2;
 /// Reads a message to its value sheet: the verdict and, where it is 0, the
 /// sheet. "Reading to a sheet gives the verdict's refusal first, then 14 with
 /// the full visits", where the sheet is over the size or over `room`.
-pub fn read(schema: &[u8], message: &[u8], budget: u32, room: usize) -> (Verdict, Vec<u8>) {
-    let Some(schema) = Schema::parse(schema) else {
+pub fn read(
+    coding: u32,
+    schema: &[u8],
+    message: &[u8],
+    budget: u32,
+    room: usize,
+) -> (Verdict, Vec<u8>) {
+    let Some(schema) = Schema::parse(coding, schema) else {
         return (Verdict::new(Refusal::new(1, 0), 0), Vec::new());
     };
     let verdict = judge_parsed(&schema, message, budget);
@@ -201,8 +207,8 @@ impl Sheet<'_> {
                     self.enumeration(at, count)?;
                 }
             }
-            Kind::Object(_) => self.references(kind, 6, list, depth)?,
-            Kind::Union(_) => self.references(kind, 8, list, depth)?,
+            Kind::Object(_) => self.references(kind, self.schema.coding.offset(), list, depth)?,
+            Kind::Union(_) => self.references(kind, self.schema.coding.union(), list, depth)?,
             // A lawful list has no structs.
             Kind::Struct(_) => {}
         }

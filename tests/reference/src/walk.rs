@@ -24,8 +24,8 @@ impl Verdict {
 }
 
 /// Judges a message by a packed schema. Numbers 0 to 10.
-pub fn judge(schema: &[u8], message: &[u8], budget: u32) -> Verdict {
-    match Schema::parse(schema) {
+pub fn judge(coding: u32, schema: &[u8], message: &[u8], budget: u32) -> Verdict {
+    match Schema::parse(coding, schema) {
         Some(schema) => judge_parsed(&schema, message, budget),
         None => Verdict::new(Refusal::new(1, 0), 0),
     }
@@ -89,10 +89,8 @@ impl Walk<'_> {
     /// Only references and unions lead anywhere; the rest needs no judging.
     fn list(&mut self, index: u8, list: &Object, depth: u32) -> Result<(), Refusal> {
         let kind = self.schema.element(index);
-        let step = match kind {
-            Kind::Object(_) => 6,
-            Kind::Union(_) => 8,
-            _ => return Ok(()),
+        let Some(step) = self.schema.reference_size(kind) else {
+            return Ok(());
         };
         for number in 0..list.length {
             let at = list.start + number * step;

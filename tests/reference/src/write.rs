@@ -1,22 +1,22 @@
 //! A value sheet to its message.
 
 use crate::bits::BitReader;
-use crate::message::{magic, HEADER, MESSAGE_MAGIC, NO_ENUM, SIZE};
+use crate::message::{magic, MESSAGE_MAGIC, NO_ENUM, SIZE};
 use crate::plan::plan;
 use crate::schema::{Kind, Member, Schema, Target};
 use crate::sheet::PRESENT;
 
 /// Writes a sheet as a message. Number 0, 1, 11, 12, 13 or 14; the message
 /// where it is 0. "Writing tries 1, 11, 12, 13, 14, each over the whole sheet".
-pub fn write(schema: &[u8], sheet: &[u8], room: usize) -> (u32, Vec<u8>) {
-    match try_write(schema, sheet, room) {
+pub fn write(coding: u32, schema: &[u8], sheet: &[u8], room: usize) -> (u32, Vec<u8>) {
+    match try_write(coding, schema, sheet, room) {
         Ok(message) => (0, message),
         Err(number) => (number, Vec::new()),
     }
 }
 
-fn try_write(schema: &[u8], sheet: &[u8], room: usize) -> Result<Vec<u8>, u32> {
-    let schema = Schema::parse(schema).ok_or(1u32)?;
+fn try_write(coding: u32, schema: &[u8], sheet: &[u8], room: usize) -> Result<Vec<u8>, u32> {
+    let schema = Schema::parse(coding, schema).ok_or(1u32)?;
     if sheet.len() > SIZE {
         return Err(11);
     }
@@ -36,7 +36,7 @@ fn try_write(schema: &[u8], sheet: &[u8], room: usize) -> Result<Vec<u8>, u32> {
         sheet: BitReader::new(sheet),
         out: vec![0; size],
         blocks: plan.blocks.iter(),
-        free: HEADER,
+        free: schema.coding.header(),
     };
     // The plan has read the whole sheet, so nothing is missing in it.
     writer.message().ok_or(11u32)?;
@@ -55,17 +55,22 @@ struct Writer<'a> {
 }
 
 impl Writer<'_> {
-    /// "The writer puts the root at 10."
+    /// "The writer puts the root at 10", or "at 8" in the older coding.
     fn message(&mut self) -> Option<()> {
         self.put(0, u64::from(MESSAGE_MAGIC), 4);
         let root = self.head(Target::Table(self.schema.root))?;
-        self.put(4, root as u64, 6);
+        self.put_offset(4, root as u64);
         Some(())
     }
 
     /// A little-endian number.
     fn put(&mut self, at: usize, value: u64, bytes: usize) {
         self.out[at..at + bytes].copy_from_slice(&value.to_le_bytes()[..bytes]);
+    }
+
+    /// An offset or a length, as wide as the coding has them.
+    fn put_offset(&mut self, at: usize, value: u64) {
+        self.put(at, value, self.schema.coding.offset());
     }
 
     /// "An object is written with its chain of in-place contents behind it;
@@ -75,9 +80,9 @@ impl Writer<'_> {
     fn head(&mut self, target: Target) -> Option<usize> {
         let place = self.free;
         self.free += self.blocks.next()?;
-        let length = self.content(target, place + HEADER)?;
+        let length = self.content(target, place + self.schema.coding.header())?;
         self.put(place, u64::from(magic(self.schema, target)), 4);
-        self.put(place + 4, length, 6);
+        self.put_offset(place + 4, length);
         Some(place)
     }
 
@@ -158,13 +163,13 @@ impl Writer<'_> {
         Some(())
     }
 
-    /// The U48 of an object: its offset, or its length in place.
+    /// What stands for an object: its offset, or its length in place.
     fn reference(&mut self, target: Target, at: usize, behind: Option<usize>) -> Option<()> {
         let number = match behind {
             Some(start) => self.content(target, start)?,
             None => self.head(target)? as u64,
         };
-        self.put(at, number, 6);
+        self.put_offset(at, number);
         Some(())
     }
 
@@ -193,10 +198,10 @@ impl Writer<'_> {
             Kind::Integer { bytes, .. } => (usize::from(bytes), false),
             Kind::Float { bytes } => (usize::from(bytes), true),
             Kind::Enum { .. } => (1, true),
-            Kind::Object(_) => (6, true),
-            Kind::Union(_) => (8, true),
             // A lawful list has no structs.
-            Kind::Struct(_) => return None,
+            Kind::Object(_) | Kind::Union(_) | Kind::Struct(_) => {
+                (self.schema.reference_size(kind)?, true)
+            }
         };
         for number in 0..count {
             let at = start + number * step;

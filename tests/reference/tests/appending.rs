@@ -29,9 +29,9 @@ fn what_appends() {
     let old = older().pack();
     let yes = |change: &dyn Fn(&mut Parts)| {
         let new = changed(change);
-        assert!(appends(&old, &new));
+        assert!(appends(48, &old, &new));
         // Not the other way about, unless nothing has changed.
-        assert_eq!(appends(&new, &old), new == old);
+        assert_eq!(appends(48, &new, &old), new == old);
     };
     yes(&|_| {});
     yes(&|parts| parts.unions[0].push(BYTES));
@@ -55,7 +55,7 @@ fn what_does_not_append() {
     let old = older().pack();
     let no = |change: &dyn Fn(&mut Parts)| {
         let new = changed(change);
-        assert!(!appends(&old, &new));
+        assert!(!appends(48, &old, &new));
     };
     no(&|parts| parts.root = 1);
     no(&|parts| parts.tables[0].0 ^= 1);
@@ -89,10 +89,11 @@ fn what_does_not_append() {
 #[test]
 fn an_unlawful_schema_does_not_append() {
     let old = older().pack();
-    assert!(!appends(&old, &[]));
-    assert!(!appends(&[], &old));
-    assert!(!appends(&[], &[]));
+    assert!(!appends(48, &old, &[]));
+    assert!(!appends(48, &[], &old));
+    assert!(!appends(48, &[], &[]));
     assert!(!appends(
+        48,
         &old,
         &changed(|parts| parts.lists[0] = enumeration(0))
     ));
@@ -115,7 +116,7 @@ fn newer() -> Parts {
 #[test]
 fn a_newer_sheet_without_the_appended_members() {
     let (old, new) = (older().pack(), newer().pack());
-    assert!(appends(&old, &new));
+    assert!(appends(48, &old, &new));
     // U8, a union with its new case, an enum of the new count in a struct and
     // others in a list.
     let sheet = Sheet::new().here().put(200, 8);
@@ -134,15 +135,15 @@ fn a_newer_sheet_without_the_appended_members() {
     let expected = expected.here().put(4, 32).here().put(1, 8);
     let expected = expected.unknown(2, 8).absent().unknown(3, 8);
     assert_eq!(
-        without_appended(&old, &new, &sheet.done()),
+        without_appended(48, &old, &new, &sheet.done()),
         Some(expected.done())
     );
     // A sheet that is not lawful under the newer, and schemas the wrong way.
     let mut more = sheet.done();
     more.push(0);
-    assert_eq!(without_appended(&old, &new, &more), None);
-    assert_eq!(without_appended(&new, &old, &sheet.done()), None);
-    assert_eq!(without_appended(&old, &new, &[]), None);
+    assert_eq!(without_appended(48, &old, &new, &more), None);
+    assert_eq!(without_appended(48, &new, &old, &sheet.done()), None);
+    assert_eq!(without_appended(48, &old, &new, &[]), None);
 }
 
 /// Tables inside lists and unions lose their entries too; what both know stays.
@@ -170,7 +171,7 @@ fn inner_tables_lose_the_entries() {
     let newer_sheet = build(&new_entries, &|sheet| sheet.here().put(3, 16).text("no"));
     let older_sheet = build(&old_entries, &|sheet| sheet.unknown(3, 16));
     assert_eq!(
-        without_appended(&old, &new, &newer_sheet.done()),
+        without_appended(48, &old, &new, &newer_sheet.done()),
         Some(older_sheet.done())
     );
 }
@@ -204,14 +205,17 @@ fn an_older_sheet_with_the_added_members() {
     let expected = sheet.clone().put(0b010, 3).absent().absent().absent();
     let expected = expected.put(0b010, 3).put(0b010, 3).absent();
     let expected = expected.absent().absent().absent().absent().absent();
-    assert_eq!(with_added(&old, &new, &sheet.done()), Some(expected.done()));
+    assert_eq!(
+        with_added(48, &old, &new, &sheet.done()),
+        Some(expected.done())
+    );
     // It is what the newer reads from what the older writes.
-    let (number, message) = write(&old, &sheet.done(), usize::MAX);
+    let (number, message) = write(48, &old, &sheet.done(), usize::MAX);
     assert_eq!(number, 0);
-    let (verdict, read_back) = read(&new, &message, 1, usize::MAX);
+    let (verdict, read_back) = read(48, &new, &message, 1, usize::MAX);
     assert_eq!((verdict.number, read_back), (0, expected.done()));
-    assert_eq!(with_added(&new, &old, &sheet.done()), None);
-    assert_eq!(with_added(&old, &new, &[0xFF, 0xFF]), None);
+    assert_eq!(with_added(48, &new, &old, &sheet.done()), None);
+    assert_eq!(with_added(48, &old, &new, &[0xFF, 0xFF]), None);
 }
 
 /// A table without a bool byte: an added bool takes a new byte and is absent.
@@ -221,7 +225,7 @@ fn an_added_bool_in_a_new_byte_is_absent() {
     let new = one_table(&[U8, BOOL]);
     let sheet = Sheet::new().here().put(3, 8);
     assert_eq!(
-        with_added(&old, &new, &sheet.done()),
+        with_added(48, &old, &new, &sheet.done()),
         Some(sheet.clone().absent().done())
     );
     // Eight bools fill their byte.
@@ -229,14 +233,14 @@ fn an_added_bool_in_a_new_byte_is_absent() {
     let new = one_table(&[BOOL; 9]);
     let sheet = Sheet::new().put(0o33333333, 24);
     assert_eq!(
-        with_added(&old, &new, &sheet.done()),
+        with_added(48, &old, &new, &sheet.done()),
         Some(sheet.absent().done())
     );
     let old = one_table(&[BOOL; 7]);
     let new = one_table(&[BOOL; 9]);
     let sheet = Sheet::new().put(0o3333333, 21);
     assert_eq!(
-        with_added(&old, &new, &sheet.done()),
+        with_added(48, &old, &new, &sheet.done()),
         Some(sheet.put(0b010, 3).absent().done())
     );
 }
@@ -250,7 +254,10 @@ fn inner_tables_get_the_entries() {
     let sheet = sheet.here().put(2, 8).unknown(3, 8);
     let sheet = sheet.here().put(2, 32).unknown(2, 8).here().put(1, 8);
     let expected = sheet.clone().absent().absent().absent();
-    assert_eq!(with_added(&old, &new, &sheet.done()), Some(expected.done()));
+    assert_eq!(
+        with_added(48, &old, &new, &sheet.done()),
+        Some(expected.done())
+    );
     let mut before = older();
     before.tables[0].1 = vec![list(2), in_place(table(1))];
     let mut after = before.clone();
@@ -264,7 +271,7 @@ fn inner_tables_get_the_entries() {
     let expected = expected.here().put(0b011, 3).here().put(6, 16);
     let expected = expected.put(0b010, 3).absent();
     assert_eq!(
-        with_added(&before.pack(), &after.pack(), &sheet.done()),
+        with_added(48, &before.pack(), &after.pack(), &sheet.done()),
         Some(expected.done())
     );
 }
@@ -277,8 +284,8 @@ fn the_same_schema() {
     let sheet = sheet.here().put(1, 8).absent().absent();
     let sheet = sheet.absent().absent().absent().done();
     assert_eq!(
-        without_appended(&schema, &schema, &sheet),
+        without_appended(48, &schema, &schema, &sheet),
         Some(sheet.clone())
     );
-    assert_eq!(with_added(&schema, &schema, &sheet), Some(sheet));
+    assert_eq!(with_added(48, &schema, &schema, &sheet), Some(sheet));
 }

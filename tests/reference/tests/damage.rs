@@ -97,33 +97,33 @@ fn rich_sheet() -> Sheet {
 fn the_rich_sheet_comes_back() {
     let schema = rich().pack();
     let sheet = rich_sheet().done();
-    let (number, message) = write(&schema, &sheet, usize::MAX);
+    let (number, message) = write(48, &schema, &sheet, usize::MAX);
     assert_eq!(number, 0);
-    assert_eq!(read(&schema, &message, 99, usize::MAX).1, sheet);
+    assert_eq!(read(48, &schema, &message, 99, usize::MAX).1, sheet);
 }
 
 /// What must hold of a message and a schema, whatever they are.
 fn hold(schema: &[u8], message: &[u8], random: &mut Random) -> bool {
-    let verdict = judge(schema, message, 500);
+    let verdict = judge(48, schema, message, 500);
     assert!(verdict.visits <= 500 && verdict.number <= 10);
-    let (answer, sheet) = read(schema, message, 500, 100_000);
+    let (answer, sheet) = read(48, schema, message, 500, 100_000);
     if verdict.number != 0 {
         assert_eq!((answer, sheet.len()), (verdict, 0));
     } else if answer.number == 0 {
         // Its sheet is lawful; where it can be written it comes back.
-        let (number, written) = write(schema, &sheet, usize::MAX);
+        let (number, written) = write(48, schema, &sheet, usize::MAX);
         assert!(number == 0 || number == 12);
         if number == 0 {
-            assert_eq!(read(schema, &written, 500, usize::MAX).1, sheet);
+            assert_eq!(read(48, schema, &written, 500, usize::MAX).1, sheet);
         }
     }
     let path: Vec<u32> = (0..random.below(5))
         .map(|_| random.below(17) as u32)
         .collect();
-    if let Answer::Refused { number, .. } = field(schema, message, &path) {
+    if let Answer::Refused { number, .. } = field(48, schema, message, &path) {
         assert!(verdict.number != 0 || number == 15);
     }
-    if let Ok(mut reader) = ListReader::new(schema, message, &path) {
+    if let Ok(mut reader) = ListReader::new(48, schema, message, &path) {
         for _ in 0..5 {
             reader.step();
         }
@@ -134,7 +134,7 @@ fn hold(schema: &[u8], message: &[u8], random: &mut Random) -> bool {
 #[test]
 fn damaged_messages() {
     let schema = rich().pack();
-    let message = write(&schema, &rich_sheet().done(), usize::MAX).1;
+    let message = write(48, &schema, &rich_sheet().done(), usize::MAX).1;
     let mut random = Random(1);
     let mut accepted = 0;
     for _ in 0..60_000 {
@@ -148,17 +148,20 @@ fn damaged_messages() {
 #[test]
 fn damaged_schemas() {
     let schema = rich().pack();
-    let message = write(&schema, &rich_sheet().done(), usize::MAX).1;
+    let message = write(48, &schema, &rich_sheet().done(), usize::MAX).1;
     let mut random = Random(2);
     let mut kept = 0;
     for _ in 0..60_000 {
         let mut damaged = schema.clone();
         random.damage(&mut damaged);
-        kept += u32::from(lawful(&damaged));
+        kept += u32::from(lawful(48, &damaged));
         hold(&damaged, &message, &mut random);
-        let appended = appends(&schema, &damaged);
+        let appended = appends(48, &schema, &damaged);
         let sheet = rich_sheet().done();
-        assert_eq!(with_added(&schema, &damaged, &sheet).is_some(), appended);
+        assert_eq!(
+            with_added(48, &schema, &damaged, &sheet).is_some(),
+            appended
+        );
     }
     assert!(kept > 6_000, "{kept}");
 }
@@ -176,16 +179,16 @@ fn damaged_sheets() {
     for _ in 0..60_000 {
         let mut damaged = sheet.clone();
         random.damage(&mut damaged);
-        let (number, message) = write(&schema, &damaged, 1_000_000);
+        let (number, message) = write(48, &schema, &damaged, 1_000_000);
         numbers[number as usize] += 1;
         if number == 0 {
-            assert_eq!(read(&schema, &message, 500, usize::MAX).1, damaged);
+            assert_eq!(read(48, &schema, &message, 500, usize::MAX).1, damaged);
         }
         // Adding the new members and leaving them out again changes nothing.
-        let added = with_added(&schema, &newer, &damaged);
+        let added = with_added(48, &schema, &newer, &damaged);
         assert_eq!(added.is_some(), number != 11);
         if let Some(added) = added {
-            let back = without_appended(&schema, &newer, &added);
+            let back = without_appended(48, &schema, &newer, &added);
             assert_eq!(back, Some(damaged));
         }
     }

@@ -48,8 +48,8 @@ fn the_empty_path_is_the_root() {
         place: 12,
         length: 3,
     };
-    assert_eq!(field(&schema, &message.bytes, &[]), root);
-    assert_eq!(field(&schema, &message.bytes, &[1]), refused(15, 12));
+    assert_eq!(field(48, &schema, &message.bytes, &[]), root);
+    assert_eq!(field(48, &schema, &message.bytes, &[1]), refused(15, 12));
 }
 
 /// "1, 15 for length, 2 and 3 come first".
@@ -58,14 +58,17 @@ fn the_first_refusals() {
     let schema = one_table(&[U8]);
     let mut message = Message::new(10);
     message.table(ID, 1).raw(&[1]);
-    assert_eq!(field(&[], &[], &[0; 97]), refused(1, 0));
-    assert_eq!(field(&schema, &[], &[0; 97]), refused(15, 0));
-    assert_eq!(field(&schema, &[], &[0; 96]), refused(2, 0));
-    assert_eq!(field(&schema, &[0; 10], &[0; 96]), refused(3, 0));
-    assert_eq!(field(&schema, &message.bytes, &[0; 96]), refused(15, 10));
-    assert_eq!(field(&schema, &message.bytes, &[0]), unsigned(1, 8));
+    assert_eq!(field(48, &[], &[], &[0; 97]), refused(1, 0));
+    assert_eq!(field(48, &schema, &[], &[0; 97]), refused(15, 0));
+    assert_eq!(field(48, &schema, &[], &[0; 96]), refused(2, 0));
+    assert_eq!(field(48, &schema, &[0; 10], &[0; 96]), refused(3, 0));
+    assert_eq!(
+        field(48, &schema, &message.bytes, &[0; 96]),
+        refused(15, 10)
+    );
+    assert_eq!(field(48, &schema, &message.bytes, &[0]), unsigned(1, 8));
     message.bytes.resize(16_777_216, 0);
-    assert_eq!(field(&schema, &message.bytes, &[0]), refused(2, 0));
+    assert_eq!(field(48, &schema, &message.bytes, &[0]), refused(2, 0));
 }
 
 /// Two bools, I16, two floats that are NaN, three enums, an optional U8.
@@ -84,7 +87,7 @@ fn scalars() -> (Vec<u8>, Message) {
 #[test]
 fn scalars_in_a_table() {
     let (schema, message) = scalars();
-    let at = |path: &[u32]| field(&schema, &message.bytes, path);
+    let at = |path: &[u32]| field(48, &schema, &message.bytes, path);
     assert_eq!(at(&[0]), Answer::Boolean(true));
     assert_eq!(at(&[1]), Answer::Boolean(true));
     let minus_two = Answer::Number {
@@ -109,7 +112,7 @@ fn scalars_in_a_table() {
 #[test]
 fn steps_beyond_scalars() {
     let (schema, message) = scalars();
-    let at = |path: &[u32]| field(&schema, &message.bytes, path);
+    let at = |path: &[u32]| field(48, &schema, &message.bytes, path);
     for number in [4, 6, 7, 8] {
         assert_eq!(at(&[number, 5, 6]), at(&[number]));
     }
@@ -127,7 +130,7 @@ fn what_is_not_on_the_path_is_not_judged() {
     let mut message = Message::new(10);
     message.table(ID, 15).u48(3).raw(&[1, 0]);
     message.raw(&[2, 0, 0, 0, 0, 0]).raw(&[0]);
-    let at = |path: &[u32]| field(&schema, &message.bytes, path);
+    let at = |path: &[u32]| field(48, &schema, &message.bytes, path);
     assert_eq!(at(&[0]), refused(6, 3));
     assert_eq!(at(&[1]), unsigned(1, 16));
     assert_eq!(at(&[2]), refused(10, 10));
@@ -145,7 +148,7 @@ fn structs() {
     message.table(ID, 15);
     message.raw(&[5, 1, 1, 0, 0, 0xC0, 0xFF]).raw(&[1]);
     message.raw(&[6, 0, 9, 1, 2, 3, 4]);
-    let at = |message: &Message, path: &[u32]| field(&schema, &message.bytes, path);
+    let at = |message: &Message, path: &[u32]| field(48, &schema, &message.bytes, path);
     assert_eq!(at(&message, &[0]), Answer::Struct { place: 20 });
     assert_eq!(at(&message, &[0, 0]), unsigned(5, 8));
     assert_eq!(at(&message, &[0, 1]), Answer::Struct { place: 21 });
@@ -189,7 +192,7 @@ fn objects() {
         .raw(&[1, 2, 3, 4])
         .table(1, 1)
         .raw(&[8]);
-    let at = |path: &[u32]| field(&schema, &message.bytes, path);
+    let at = |path: &[u32]| field(48, &schema, &message.bytes, path);
     let object = |kind, place, length| Answer::Object {
         kind,
         place,
@@ -228,7 +231,7 @@ fn texts_and_bytes_as_a_part() {
     message.text("ab").bytes_head(2).raw(b"cd");
     message.list_head(2).u48(61).u48(108).raw(&[0; 5]);
     message.text_head(0).raw(&[1]);
-    let at = |path: &[u32]| text(&schema, &message.bytes, path);
+    let at = |path: &[u32]| text(48, &schema, &message.bytes, path);
     assert_eq!(at(&[0]), Some((59, 1)));
     assert_eq!(at(&[1]), Some((71, 2)));
     assert_eq!(at(&[2]), Some((84, 2)));
@@ -237,9 +240,9 @@ fn texts_and_bytes_as_a_part() {
     for path in [&[3][..], &[3, 1], &[4], &[5], &[6], &[7], &[1, 0], &[]] {
         assert_eq!(at(path), None);
     }
-    assert_eq!(text(&[], &message.bytes, &[1]), None);
-    assert_eq!(text(&schema, &message.bytes[..9], &[1]), None);
-    assert_eq!(text(&schema, &message.bytes, &[1; 97]), None);
+    assert_eq!(text(48, &[], &message.bytes, &[1]), None);
+    assert_eq!(text(48, &schema, &message.bytes[..9], &[1]), None);
+    assert_eq!(text(48, &schema, &message.bytes, &[1; 97]), None);
 }
 
 /// "A holder is judged before 15 is given at it."
@@ -249,14 +252,14 @@ fn a_holder_is_judged_first() {
     let mut message = Message::new(10);
     message.table(ID, 12).u48(32).u48(43);
     message.text_head(0).raw(&[1]).list_head(9);
-    let at = |path: &[u32]| field(&schema, &message.bytes, path);
+    let at = |path: &[u32]| field(48, &schema, &message.bytes, path);
     assert_eq!(at(&[0, 0]), refused(10, 32));
     assert_eq!(at(&[1, 99]), refused(6, 43));
     assert_eq!(at(&[1]), refused(6, 43));
     assert_eq!(at(&[2]), refused(15, 10));
     let mut message = Message::new(10);
     message.table(ID ^ 1, 0);
-    assert_eq!(field(&schema, &message.bytes, &[7]), refused(7, 10));
+    assert_eq!(field(48, &schema, &message.bytes, &[7]), refused(7, 10));
 }
 
 #[test]
@@ -267,7 +270,7 @@ fn scalar_elements() {
     message.list_head(2).raw(&[0, 0, 0, 0, 0, 0, 0xF0, 0x7F]);
     message.raw(&[1, 0, 0, 0, 0, 0, 0xF0, 0x7F]);
     message.list_head(3).raw(&[1, 3, 255]);
-    let at = |path: &[u32]| field(&schema, &message.bytes, path);
+    let at = |path: &[u32]| field(48, &schema, &message.bytes, path);
     let infinity = Answer::Float {
         bits: 0x7FF0_0000_0000_0000,
         width: 64,
@@ -291,7 +294,7 @@ fn unions() {
     message.table(ID, 40).choice(2, 62).choice(1, 1);
     message.choice(0, 5).choice(4, 5).choice(3, 0);
     message.raw(b"x\0").table(1, 1).raw(&[44]);
-    let at = |path: &[u32]| field(&schema, &message.bytes, path);
+    let at = |path: &[u32]| field(48, &schema, &message.bytes, path);
     let object = |kind, place, length| Answer::Object {
         kind,
         place,
@@ -321,10 +324,10 @@ fn a_path_of_33_objects() {
         place: 10,
         length: 6,
     };
-    assert_eq!(field(&schema, &message.bytes, &[0; 31]), root);
-    assert_eq!(field(&schema, &message.bytes, &[0; 32]), refused(5, 10));
-    assert_eq!(field(&schema, &message.bytes, &[0; 96]), refused(5, 10));
-    assert_eq!(field(&schema, &message.bytes, &[0; 97]), refused(15, 0));
+    assert_eq!(field(48, &schema, &message.bytes, &[0; 31]), root);
+    assert_eq!(field(48, &schema, &message.bytes, &[0; 32]), refused(5, 10));
+    assert_eq!(field(48, &schema, &message.bytes, &[0; 96]), refused(5, 10));
+    assert_eq!(field(48, &schema, &message.bytes, &[0; 97]), refused(15, 0));
 }
 
 /// The longest path: 31 steps to a table at depth 32, one to a struct, and 64
@@ -347,20 +350,22 @@ fn a_path_of_96_numbers() {
     path.push(1);
     path.extend([0; 64]);
     assert_eq!(path.len(), 96);
-    assert_eq!(field(&schema, &message.bytes, &path), unsigned(77, 8));
+    assert_eq!(field(48, &schema, &message.bytes, &path), unsigned(77, 8));
     path.pop();
     let inner = Answer::Struct { place: 26 };
-    assert_eq!(field(&schema, &message.bytes, &path), inner);
+    assert_eq!(field(48, &schema, &message.bytes, &path), inner);
 }
 
 /// All answers of a list reader, and the element's own paths beside them.
 fn steps(schema: &[u8], message: &Message, path: &[u32], count: u32) -> Vec<Answer> {
-    let mut reader = ListReader::new(schema, &message.bytes, path).ok().unwrap();
+    let mut reader = ListReader::new(48, schema, &message.bytes, path)
+        .ok()
+        .unwrap();
     let answers: Vec<Answer> = (0..count).map(|_| reader.step()).collect();
     for (number, answer) in answers.iter().enumerate() {
         let mut element = path.to_vec();
         element.push(number as u32);
-        assert_eq!(field(schema, &message.bytes, &element), *answer);
+        assert_eq!(field(48, schema, &message.bytes, &element), *answer);
     }
     // It stays at its end.
     let last = reader.step();
@@ -421,7 +426,7 @@ fn where_the_list_reader_does_not_start() {
     message.table(ID, 45).u48(65).u48(65).u48(65).u48(65);
     message.u48(75).choice(9, 0).u48(0).raw(&[1]);
     message.list_head(0).text("");
-    let start = |path: &[u32]| ListReader::new(&schema, &message.bytes, path).err();
+    let start = |path: &[u32]| ListReader::new(48, &schema, &message.bytes, path).err();
     for number in 0..8 {
         assert_eq!(start(&[number]), Some(refused(15, 0)), "{number}");
     }
@@ -430,11 +435,11 @@ fn where_the_list_reader_does_not_start() {
     assert_eq!(start(&[4, 0]), Some(refused(15, 75)));
     assert_eq!(start(&[0; 97]), Some(refused(15, 0)));
     assert_eq!(
-        ListReader::new(&schema, &[], &[6]).err(),
+        ListReader::new(48, &schema, &[], &[6]).err(),
         Some(refused(2, 0))
     );
     assert_eq!(
-        ListReader::new(&schema, &[0; 10], &[6]).err(),
+        ListReader::new(48, &schema, &[0; 10], &[6]).err(),
         Some(refused(3, 0))
     );
 }

@@ -9,7 +9,7 @@ const MOST: usize = 16_777_215;
 
 /// Judged with all the budget there is.
 fn judged(schema: &[u8], message: &Message) -> (u32, u64, u32) {
-    let verdict = judge(schema, &message.bytes, u32::MAX);
+    let verdict = judge(48, schema, &message.bytes, u32::MAX);
     (verdict.number, verdict.place, verdict.visits)
 }
 
@@ -50,17 +50,17 @@ fn refusal_2_under_10_bytes_or_over_the_size() {
     message.table(ID, 0);
     for length in 0..10 {
         assert_eq!(
-            judge(&schema, &message.bytes[..length], 9),
+            judge(48, &schema, &message.bytes[..length], 9),
             verdict(2, 0, 0)
         );
     }
     message.bytes.resize(MOST, 0xAA);
-    assert_eq!(judge(&schema, &message.bytes, 9), verdict(0, 0, 1));
+    assert_eq!(judge(48, &schema, &message.bytes, 9), verdict(0, 0, 1));
     message.bytes.push(0);
-    assert_eq!(judge(&schema, &message.bytes, 9), verdict(2, 0, 0));
+    assert_eq!(judge(48, &schema, &message.bytes, 9), verdict(2, 0, 0));
     // 2 comes before 3.
     message.bytes[0] = 0;
-    assert_eq!(judge(&schema, &message.bytes, 9), verdict(2, 0, 0));
+    assert_eq!(judge(48, &schema, &message.bytes, 9), verdict(2, 0, 0));
 }
 
 #[test]
@@ -71,7 +71,7 @@ fn refusal_3_wrong_message_magic() {
         message.table(ID, 0);
         message.bytes[byte] ^= 0x10;
         // Before the budget.
-        assert_eq!(judge(&schema, &message.bytes, 0), verdict(3, 0, 0));
+        assert_eq!(judge(48, &schema, &message.bytes, 0), verdict(3, 0, 0));
     }
 }
 
@@ -81,17 +81,23 @@ fn refusal_4_at_every_kind_of_object() {
     for (record, _, _) in objects() {
         let schema = with_members(&[record]);
         // Nothing of the object is judged before the budget.
-        assert_eq!(judge(&schema, &refers_to(far).bytes, 1), verdict(4, far, 1));
+        assert_eq!(
+            judge(48, &schema, &refers_to(far).bytes, 1),
+            verdict(4, far, 1)
+        );
         let schema = with_members(&[in_place(record)]);
-        assert_eq!(judge(&schema, &refers_to(far).bytes, 1), verdict(4, 26, 1));
+        assert_eq!(
+            judge(48, &schema, &refers_to(far).bytes, 1),
+            verdict(4, 26, 1)
+        );
     }
     for choice in 1..=4 {
         let mut message = Message::new(10);
         message.table(ID, 8).choice(choice, 7);
         let schema = with_members(&[union(0)]);
-        assert_eq!(judge(&schema, &message.bytes, 1), verdict(4, 7, 1));
+        assert_eq!(judge(48, &schema, &message.bytes, 1), verdict(4, 7, 1));
         let schema = with_members(&[in_place(union(0))]);
-        assert_eq!(judge(&schema, &message.bytes, 1), verdict(4, 28, 1));
+        assert_eq!(judge(48, &schema, &message.bytes, 1), verdict(4, 28, 1));
     }
 }
 
@@ -101,10 +107,10 @@ fn a_shared_object_is_charged_each_time() {
     let schema = with_members(&[list(2)]);
     let mut message = refers_to(26);
     message.list_head(3).u48(54).u48(54).u48(54).text("");
-    assert_eq!(judge(&schema, &message.bytes, 5), verdict(0, 0, 5));
-    assert_eq!(judge(&schema, &message.bytes, 4), verdict(4, 54, 4));
-    assert_eq!(judge(&schema, &message.bytes, 2), verdict(4, 54, 2));
-    assert_eq!(judge(&schema, &message.bytes, 1), verdict(4, 26, 1));
+    assert_eq!(judge(48, &schema, &message.bytes, 5), verdict(0, 0, 5));
+    assert_eq!(judge(48, &schema, &message.bytes, 4), verdict(4, 54, 4));
+    assert_eq!(judge(48, &schema, &message.bytes, 2), verdict(4, 54, 2));
+    assert_eq!(judge(48, &schema, &message.bytes, 1), verdict(4, 26, 1));
 }
 
 /// A table that leads to itself by a reference.
@@ -112,8 +118,14 @@ fn a_shared_object_is_charged_each_time() {
 fn refusal_5_by_references() {
     let schema = one_table(&[table(0)]);
     assert_eq!(judged(&schema, &refers_to(10)), (5, 10, 33));
-    assert_eq!(judge(&schema, &refers_to(10).bytes, 33), verdict(5, 10, 33));
-    assert_eq!(judge(&schema, &refers_to(10).bytes, 32), verdict(4, 10, 32));
+    assert_eq!(
+        judge(48, &schema, &refers_to(10).bytes, 33),
+        verdict(5, 10, 33)
+    );
+    assert_eq!(
+        judge(48, &schema, &refers_to(10).bytes, 32),
+        verdict(4, 10, 32)
+    );
     // A chain of 32 tables is not too deep; of 33 it is. The tables are at
     // 10, 26, 42, ...; the last has no member.
     for (count, expected) in [(32, (0, 0, 32)), (33, (5, 10 + 32 * 16, 33))] {
@@ -486,7 +498,7 @@ fn in_place_content_behind_a_longer_table() {
     let mut message = Message::new(10);
     message.table(ID, 9).u48(2).raw(&[7, 7, 7]).raw(b"ab\0");
     assert_eq!(judged(&schema, &message), (0, 0, 2));
-    let (_, sheet) = read(&schema, &message.bytes, 2, 100);
+    let (_, sheet) = read(48, &schema, &message.bytes, 2, 100);
     assert_eq!(sheet, Sheet::new().here().text("ab").done());
 }
 
@@ -499,10 +511,10 @@ fn the_walk_takes_members_in_order() {
     message.table(ID, 18).u48(44).u48(1).u48(66).u48(55);
     message.text("").text("").bytes_head(0);
     assert_eq!(message.here(), 76);
-    assert_eq!(judge(&schema, &message.bytes, 5), verdict(0, 0, 5));
+    assert_eq!(judge(48, &schema, &message.bytes, 5), verdict(0, 0, 5));
     for (budget, place) in [(1, 44), (2, 38), (3, 55), (4, 66)] {
         let expected = verdict(4, place, budget);
-        assert_eq!(judge(&schema, &message.bytes, budget), expected);
+        assert_eq!(judge(48, &schema, &message.bytes, budget), expected);
     }
 }
 

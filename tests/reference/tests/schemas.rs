@@ -18,8 +18,8 @@ fn parts(members: &[u16]) -> Parts {
 
 #[test]
 fn the_smallest_schema() {
-    assert!(lawful(&[0, 0, 0, 1, 0, 0, 0, 0, 0, 0]));
-    assert!(Schema::parse(&[0, 0, 0, 1, 0, 0, 0, 0, 0, 0]).is_some());
+    assert!(lawful(48, &[0, 0, 0, 1, 0, 0, 0, 0, 0, 0]));
+    assert!(Schema::parse(48, &[0, 0, 0, 1, 0, 0, 0, 0, 0, 0]).is_some());
 }
 
 /// Every beginning of a lawful schema is not lawful, nor is one with more.
@@ -36,14 +36,14 @@ fn the_whole_schema_and_nothing_more() {
         root: 1,
     }
     .pack();
-    assert!(lawful(&packed));
+    assert!(lawful(48, &packed));
     for length in 0..packed.len() {
-        assert!(!lawful(&packed[..length]), "{length}");
+        assert!(!lawful(48, &packed[..length]), "{length}");
     }
     for byte in [0, 1, 255] {
         let mut more = packed.clone();
         more.push(byte);
-        assert!(!lawful(&more));
+        assert!(!lawful(48, &more));
     }
 }
 
@@ -59,11 +59,11 @@ fn the_counts_at_their_limits() {
             .collect(),
         root: 63,
     };
-    assert!(lawful(&most.pack()));
+    assert!(lawful(48, &most.pack()));
     let over = |change: &dyn Fn(&mut Parts)| {
         let mut parts = most.clone();
         change(&mut parts);
-        assert!(!lawful(&parts.pack()));
+        assert!(!lawful(48, &parts.pack()));
     };
     over(&|parts| parts.structs.push(vec![U8]));
     over(&|parts| parts.lists.push(U8));
@@ -85,9 +85,9 @@ fn the_root_is_below_the_tables() {
         root: 2,
         ..Parts::default()
     };
-    assert!(lawful(&parts.pack()));
+    assert!(lawful(48, &parts.pack()));
     parts.root = 3;
-    assert!(!lawful(&parts.pack()));
+    assert!(!lawful(48, &parts.pack()));
 }
 
 #[test]
@@ -96,30 +96,30 @@ fn table_ids_differ() {
         tables: tables(3),
         ..Parts::default()
     };
-    assert!(lawful(&parts.pack()));
+    assert!(lawful(48, &parts.pack()));
     parts.tables[2].0 = 0;
-    assert!(!lawful(&parts.pack()));
+    assert!(!lawful(48, &parts.pack()));
     // An id may be another object's magic.
     parts.tables[2].0 = 0xD812_C8F5;
-    assert!(lawful(&parts.pack()));
+    assert!(lawful(48, &parts.pack()));
 }
 
 /// Kinds 18 to 31, the zero bit, and arguments.
 #[test]
 fn records_of_no_meaning() {
     for kind in 18..32u16 {
-        assert!(!lawful(&one_table(&[kind << 11])), "{kind}");
+        assert!(!lawful(48, &one_table(&[kind << 11])), "{kind}");
     }
     for kind in (0..11u16).chain([13, 14]) {
-        assert!(lawful(&one_table(&[kind << 11])), "{kind}");
-        assert!(!lawful(&one_table(&[kind << 11 | 1])), "{kind}");
-        assert!(!lawful(&one_table(&[kind << 11 | 0x100])), "{kind}");
-        assert!(!lawful(&one_table(&[kind << 11 | 255])), "{kind}");
+        assert!(lawful(48, &one_table(&[kind << 11])), "{kind}");
+        assert!(!lawful(48, &one_table(&[kind << 11 | 1])), "{kind}");
+        assert!(!lawful(48, &one_table(&[kind << 11 | 0x100])), "{kind}");
+        assert!(!lawful(48, &one_table(&[kind << 11 | 255])), "{kind}");
     }
-    assert!(!lawful(&one_table(&[enumeration(0)])));
-    assert!(lawful(&one_table(&[enumeration(1)])));
-    assert!(lawful(&one_table(&[enumeration(255)])));
-    assert!(!lawful(&one_table(&[enumeration(3) | 0x100])));
+    assert!(!lawful(48, &one_table(&[enumeration(0)])));
+    assert!(lawful(48, &one_table(&[enumeration(1)])));
+    assert!(lawful(48, &one_table(&[enumeration(255)])));
+    assert!(!lawful(48, &one_table(&[enumeration(3) | 0x100])));
 }
 
 #[test]
@@ -142,10 +142,10 @@ fn indices_are_below_their_counts() {
     ];
     for (record, count) in first {
         for index in 0..count {
-            assert!(lawful(&with(record + index).pack()));
+            assert!(lawful(48, &with(record + index).pack()));
         }
-        assert!(!lawful(&with(record + count).pack()));
-        assert!(!lawful(&with(record + 255).pack()));
+        assert!(!lawful(48, &with(record + count).pack()));
+        assert!(!lawful(48, &with(record + 255).pack()));
     }
 }
 
@@ -158,7 +158,7 @@ fn optional_and_in_place_on_table_members() {
         parts.structs = vec![vec![U8]];
         parts.lists = vec![U8];
         parts.unions = vec![vec![TEXT]];
-        lawful(&parts.pack())
+        lawful(48, &parts.pack())
     };
     for kind in 0..18u16 {
         let argument = u16::from(kind == 11);
@@ -172,13 +172,13 @@ fn optional_and_in_place_on_table_members() {
 
 #[test]
 fn at_most_one_in_place_per_table() {
-    assert!(lawful(&one_table(&[in_place(TEXT), BYTES])));
-    assert!(!lawful(&one_table(&[in_place(TEXT), in_place(BYTES)])));
+    assert!(lawful(48, &one_table(&[in_place(TEXT), BYTES])));
+    assert!(!lawful(48, &one_table(&[in_place(TEXT), in_place(BYTES)])));
     let two = Parts {
         tables: vec![(1, vec![in_place(TEXT)]), (2, vec![in_place(TEXT)])],
         ..Parts::default()
     };
-    assert!(lawful(&two.pack()));
+    assert!(lawful(48, &two.pack()));
 }
 
 /// "Struct members: kinds 0 to 12"; "List elements: 0 to 11 and 13 to 17.
@@ -199,7 +199,7 @@ fn what_structs_lists_and_unions_hold() {
             ] {
                 let mut parts = base.clone();
                 put(&mut parts, record);
-                assert_eq!(lawful(&parts.pack()), expected, "{record:#x}");
+                assert_eq!(lawful(48, &parts.pack()), expected, "{record:#x}");
             }
         };
         check(kind <= 12, &|parts, record| parts.structs[1][0] = record);
@@ -214,11 +214,11 @@ fn what_structs_lists_and_unions_hold() {
 fn inner_structs_have_a_lower_index() {
     let mut parts = parts(&[]);
     parts.structs = vec![vec![U8], vec![structure(0)], vec![structure(1)]];
-    assert!(lawful(&parts.pack()));
+    assert!(lawful(48, &parts.pack()));
     parts.structs[1] = vec![structure(1)];
-    assert!(!lawful(&parts.pack()));
+    assert!(!lawful(48, &parts.pack()));
     parts.structs[1] = vec![structure(2)];
-    assert!(!lawful(&parts.pack()));
+    assert!(!lawful(48, &parts.pack()));
 }
 
 /// "No struct is over 4,096 bytes."
@@ -227,11 +227,11 @@ fn a_struct_of_4096_bytes_and_one_of_4097() {
     let mut parts = parts(&[]);
     // 16 * 8 = 128; 32 * 128 = 4096.
     parts.structs = vec![vec![U64; 16], vec![structure(0); 32]];
-    assert!(lawful(&parts.pack()));
+    assert!(lawful(48, &parts.pack()));
     parts.structs.push(vec![structure(1)]);
-    assert!(lawful(&parts.pack()));
+    assert!(lawful(48, &parts.pack()));
     parts.structs.push(vec![structure(1), BOOL]);
-    assert!(!lawful(&parts.pack()));
+    assert!(!lawful(48, &parts.pack()));
     // Doubling again and again stays unlawful and cheap.
     let mut deep = Parts {
         structs: vec![vec![U64; 32]],
@@ -240,19 +240,22 @@ fn a_struct_of_4096_bytes_and_one_of_4097() {
     for index in 0..63 {
         deep.structs.push(vec![structure(index); 32]);
     }
-    assert!(!lawful(&deep.pack()));
+    assert!(!lawful(48, &deep.pack()));
 }
 
 #[test]
 fn an_unlawful_schema_is_1_everywhere() {
     let schema = [0, 0, 0, 0, 0];
-    assert_eq!(judge(&schema, &[], 0), verdict(1, 0, 0));
-    assert_eq!(read(&schema, &[], 0, 0), (verdict(1, 0, 0), vec![]));
-    assert_eq!(write(&schema, &[], 0), (1, vec![]));
+    assert_eq!(judge(48, &schema, &[], 0), verdict(1, 0, 0));
+    assert_eq!(read(48, &schema, &[], 0, 0), (verdict(1, 0, 0), vec![]));
+    assert_eq!(write(48, &schema, &[], 0), (1, vec![]));
     let refused = Answer::Refused {
         number: 1,
         place: 0,
     };
-    assert_eq!(field(&schema, &[], &[0; 97]), refused);
-    assert_eq!(ListReader::new(&schema, &[], &[0; 97]).err(), Some(refused));
+    assert_eq!(field(48, &schema, &[], &[0; 97]), refused);
+    assert_eq!(
+        ListReader::new(48, &schema, &[], &[0; 97]).err(),
+        Some(refused)
+    );
 }

@@ -7,9 +7,9 @@ use reference::{judge, read};
 
 /// Reads with all the budget and room there is; the message is accepted.
 fn sheet_of(schema: &[u8], message: &Message) -> Vec<u8> {
-    let (verdict, sheet) = read(schema, &message.bytes, u32::MAX, usize::MAX);
+    let (verdict, sheet) = read(48, schema, &message.bytes, u32::MAX, usize::MAX);
     assert_eq!((verdict.number, verdict.place), (0, 0));
-    assert_eq!(judge(schema, &message.bytes, u32::MAX), verdict);
+    assert_eq!(judge(48, schema, &message.bytes, u32::MAX), verdict);
     sheet
 }
 
@@ -282,7 +282,7 @@ fn the_empty_sheet() {
     let mut message = Message::new(10);
     message.table(ID, 3).raw(&[1, 2, 3]);
     assert_eq!(
-        read(&one_table(&[]), &message.bytes, 1, 0),
+        read(48, &one_table(&[]), &message.bytes, 1, 0),
         (verdict(0, 0, 1), vec![])
     );
 }
@@ -304,14 +304,14 @@ fn refusal_14_no_room() {
     let schema = one_table(&[TEXT, TEXT]);
     let mut message = Message::new(10);
     message.table(ID, 12).u48(32).u48(32).text("abc");
-    let (answer, sheet) = read(&schema, &message.bytes, 3, 15);
+    let (answer, sheet) = read(48, &schema, &message.bytes, 3, 15);
     // 2 * (2 + 32 + 24) = 116 bits, 15 bytes.
     assert_eq!((answer, sheet.len()), (verdict(0, 0, 3), 15));
     for room in 0..15 {
-        let answer = read(&schema, &message.bytes, 3, room);
+        let answer = read(48, &schema, &message.bytes, 3, room);
         assert_eq!(answer, (verdict(14, 0, 3), vec![]));
     }
-    let answer = read(&schema, &message.bytes, 2, 0);
+    let answer = read(48, &schema, &message.bytes, 2, 0);
     assert_eq!(answer, (verdict(4, 32, 2), vec![]));
 }
 
@@ -323,7 +323,7 @@ fn refusal_14_over_the_size() {
         let mut message = Message::new(10);
         message.table(ID, 12).u48(32).u48(32).bytes_head(length);
         message.bytes.resize(42 + length as usize, 0x5A);
-        let (answer, sheet) = read(&schema, &message.bytes, 9, usize::MAX);
+        let (answer, sheet) = read(48, &schema, &message.bytes, 9, usize::MAX);
         assert_eq!(answer, verdict(number, 0, 3));
         // 2 * (2 + 32) bits and the bytes twice.
         let expected = if number == 0 { 16_777_215 } else { 0 };
@@ -349,6 +349,6 @@ fn a_sheet_that_would_be_huge() {
     message.bytes_head(1 << 10);
     message.bytes.resize(message.bytes.len() + (1 << 10), 1);
     // 2^16 - 1 tables and as many bytes objects of 1,024 bytes.
-    let answer = read(&schema, &message.bytes, u32::MAX, usize::MAX);
+    let answer = read(48, &schema, &message.bytes, u32::MAX, usize::MAX);
     assert_eq!(answer, (verdict(14, 0, 131_070), vec![]));
 }

@@ -7,21 +7,24 @@ use reference::{judge, lawful, read, write};
 
 /// Writes a sheet, and reads the message back to the same sheet.
 fn written(schema: &[u8], sheet: &Sheet) -> Vec<u8> {
-    let (number, message) = write(schema, &sheet.done(), usize::MAX);
+    let (number, message) = write(48, schema, &sheet.done(), usize::MAX);
     assert_eq!(number, 0);
-    let (verdict, back) = read(schema, &message, u32::MAX, usize::MAX);
+    let (verdict, back) = read(48, schema, &message, u32::MAX, usize::MAX);
     assert_eq!((verdict.number, back), (0, sheet.done()));
-    assert_eq!(judge(schema, &message, verdict.visits), verdict);
-    assert_eq!(judge(schema, &message, verdict.visits - 1).number, 4);
+    assert_eq!(judge(48, schema, &message, verdict.visits), verdict);
+    assert_eq!(judge(48, schema, &message, verdict.visits - 1).number, 4);
     // The room is what the message needs.
     let length = message.len();
-    assert_eq!(write(schema, &sheet.done(), length), (0, message.clone()));
-    assert_eq!(write(schema, &sheet.done(), length - 1), (14, vec![]));
+    assert_eq!(
+        write(48, schema, &sheet.done(), length),
+        (0, message.clone())
+    );
+    assert_eq!(write(48, schema, &sheet.done(), length - 1), (14, vec![]));
     message
 }
 
 fn number(schema: &[u8], sheet: &Sheet) -> u32 {
-    let (number, message) = write(schema, &sheet.done(), usize::MAX);
+    let (number, message) = write(48, schema, &sheet.done(), usize::MAX);
     assert_eq!(message.is_empty(), number != 0);
     number
 }
@@ -242,19 +245,19 @@ fn refusal_11_the_end() {
     assert_eq!(number(&schema, &sheet), 0);
     let whole = sheet.done();
     for length in 0..whole.len() {
-        assert_eq!(write(&schema, &whole[..length], 999), (11, vec![]));
+        assert_eq!(write(48, &schema, &whole[..length], 999), (11, vec![]));
     }
     let mut more = whole.clone();
     more.push(0);
-    assert_eq!(write(&schema, &more, 999), (11, vec![]));
+    assert_eq!(write(48, &schema, &more, 999), (11, vec![]));
     // 58 + 18 + 100 + 45 = 221 bits: three bits are left in the last byte.
     for bit in 0..3 {
         let mut padded = whole.clone();
         *padded.last_mut().unwrap() |= 1 << bit;
-        assert_eq!(write(&schema, &padded, 999), (11, vec![]));
+        assert_eq!(write(48, &schema, &padded, 999), (11, vec![]));
     }
     // A root without members has no bytes at all.
-    assert_eq!(write(&one_table(&[]), &[0], 999), (11, vec![]));
+    assert_eq!(write(48, &one_table(&[]), &[0], 999), (11, vec![]));
 }
 
 #[test]
@@ -376,9 +379,9 @@ fn refusal_11_too_long_and_13() {
         sheet
     };
     // The message is 10 + 16 + 10 bytes longer than the bytes.
-    let (number, message) = write(&schema, &of_length(16_777_179), usize::MAX);
+    let (number, message) = write(48, &schema, &of_length(16_777_179), usize::MAX);
     assert_eq!((number, message.len()), (0, 16_777_215));
-    let write_number = |length| write(&schema, &of_length(length), 0).0;
+    let write_number = |length| write(48, &schema, &of_length(length), 0).0;
     assert_eq!(write_number(16_777_179), 14);
     assert_eq!(write_number(16_777_180), 13);
     // A sheet of the size, and one over it.
@@ -408,17 +411,17 @@ fn refusal_13_by_fixed_parts() {
         sheet
     };
     let sheet = of_tables(63).here().put(0, 8);
-    let (number, message) = write(&schema, &sheet.done(), usize::MAX);
+    let (number, message) = write(48, &schema, &sheet.done(), usize::MAX);
     // Root 10 to 27; the list's header, and 6 + 10 + 262,152 for each table.
     assert_eq!((number, message.len()), (0, 27 + 10 + 63 * 262_168));
     let sheet = of_tables(64).here().put(0, 8);
-    assert_eq!(write(&schema, &sheet.done(), 0), (13, vec![]));
+    assert_eq!(write(48, &schema, &sheet.done(), 0), (13, vec![]));
     // 12 comes before 13, over the whole sheet.
     let sheet = of_tables(64).absent();
-    assert_eq!(write(&schema, &sheet.done(), 0), (12, vec![]));
+    assert_eq!(write(48, &schema, &sheet.done(), 0), (12, vec![]));
     // And 11 before both.
     let sheet = of_tables(64).put(3, 2);
-    assert_eq!(write(&schema, &sheet.done(), 0), (11, vec![]));
+    assert_eq!(write(48, &schema, &sheet.done(), 0), (11, vec![]));
 }
 
 /// "an absent plain bool, integer, struct or float member"
@@ -506,7 +509,7 @@ fn refusal_12_unknown_marks() {
 /// A table that holds itself in one way: by what a sheet has at each level, and
 /// the objects of a level.
 fn levels(schema: &[u8], level: &dyn Fn(Sheet) -> Sheet, objects: u32, more: u32) -> Vec<u8> {
-    assert!(lawful(schema));
+    assert!(lawful(48, schema));
     let mut sheet = Sheet::new();
     for _ in 0..(31 + more) / objects {
         sheet = level(sheet);
@@ -536,11 +539,11 @@ fn the_depth_of_a_sheet_by_every_way_down() {
         (in_place(union(0)), &choice),
     ] {
         let schema = schema(member, U8);
-        let (number, message) = write(&schema, &levels(&schema, level, 1, 0), usize::MAX);
+        let (number, message) = write(48, &schema, &levels(&schema, level, 1, 0), usize::MAX);
         assert_eq!(number, 0);
-        assert_eq!(judge(&schema, &message, 32), verdict(0, 0, 32));
+        assert_eq!(judge(48, &schema, &message, 32), verdict(0, 0, 32));
         let deeper = levels(&schema, level, 1, 1);
-        assert_eq!(write(&schema, &deeper, usize::MAX), (11, Vec::new()));
+        assert_eq!(write(48, &schema, &deeper, usize::MAX), (11, Vec::new()));
     }
     // A list and its one element at each level: 31 objects, then 33.
     let element = |sheet: Sheet| sheet.here().put(1, 32).here();
@@ -550,10 +553,10 @@ fn the_depth_of_a_sheet_by_every_way_down() {
         (union(0), &union_element),
     ] {
         let schema = schema(list(0), kind);
-        let (number, message) = write(&schema, &levels(&schema, level, 2, 0), usize::MAX);
+        let (number, message) = write(48, &schema, &levels(&schema, level, 2, 0), usize::MAX);
         assert_eq!(number, 0);
-        assert_eq!(judge(&schema, &message, 31), verdict(0, 0, 31));
+        assert_eq!(judge(48, &schema, &message, 31), verdict(0, 0, 31));
         let deeper = levels(&schema, level, 2, 1);
-        assert_eq!(write(&schema, &deeper, usize::MAX), (11, Vec::new()));
+        assert_eq!(write(48, &schema, &deeper, usize::MAX), (11, Vec::new()));
     }
 }

@@ -3,8 +3,8 @@ use borrow.Author.Needs.{needs}
 use Rattle.field_element.proofs.offset_answer.Statement.{statement}
 use Rattle.field_element.proofs.offset_answer.Tie as tie
 
-u48-in-requires : tie.Need-u48-in-requires
-u48-in-requires c κs = search needs
+offset-in-requires : tie.Need-offset-in-requires
+offset-in-requires c κs = search needs
 
 returns : tie.Need-returns
 returns c = search offset-none
@@ -16,4 +16,4 @@ returns-2 : tie.Need-returns-2
 returns-2 c = search offset-there
 
 pub offset-answer-spec : {M : Type 1} → statement M
-offset-answer-spec = tie.close (tie.spec u48-in-requires returns arrive-answer-requires returns-2)
+offset-answer-spec = tie.close (tie.spec offset-in-requires returns arrive-answer-requires returns-2)

@@ -24,8 +24,8 @@ list-count-requires c κs = search needs
 loop-holds : tie.Need-loop-holds Inv-loop μ-loop
 loop-holds c = (omega arith, omega arith, search needs, search left-start)
 
-reader-step-requires : tie.Need-reader-step-requires Inv-loop μ-loop
-reader-step-requires c κs = search needs
+step-answer-requires : tie.Need-step-answer-requires Inv-loop μ-loop
+step-answer-requires c κs = search needs
 
 mul-put-case : tie.Need-mul-put-case Inv-loop μ-loop
 mul-put-case c = search needs
@@ -48,7 +48,7 @@ loop-less c = search needs
 loop-again : tie.Need-loop-again Inv-loop μ-loop
 loop-again c =
     let at-loop = c .before .before .before .before .before .before .before .before .loop in
-    let answered = c .before .before .before .before .case-of .ensures ∙ ap answerCase (c .before .before .before .before .before .before .reader-step .ensures) in (
+    let answered = c .before .before .before .before .case-of .ensures ∙ ap answerCase (c .before .before .before .before .before .before .step-answer .ensures) in (
       omega arith,
       omega arith,
       omega arith,
@@ -74,7 +74,7 @@ put-steps-spec =
     μ-loop
     list-count-requires
     loop-holds
-    reader-step-requires
+    step-answer-requires
     mul-put-case
     case-of-requires
     put-case-requires

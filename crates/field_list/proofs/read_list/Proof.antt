@@ -1,5 +1,5 @@
 use Rattle.message_object.proofs.OpenCases.{schema-accepted}
-use Rattle.field_list.proofs.ListCases.{count-unlawful}
+use Rattle.field_element.proofs.StepCases.{count-unlawful}
 use Rattle.field_list.proofs.ListCases.{over-unlawful}
 use borrow.Author.Needs.{needs}
 use Rattle.field_list.proofs.read_list.Statement.{statement}
@@ -23,6 +23,9 @@ same-length c = search needs
 returns : tie.Need-returns
 returns c = search needs
 
+refused-requires : tie.Need-refused-requires
+refused-requires c κs = search needs
+
 put-same-requires : tie.Need-put-same-requires
 put-same-requires c κs = search needs
 
@@ -42,6 +45,7 @@ read-list-spec =
     list-by-requires
     same-length
     returns
+    refused-requires
     put-same-requires
     same-length-2
     returns-2)

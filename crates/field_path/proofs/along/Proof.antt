@@ -13,7 +13,7 @@ use Rattle.field_path.proofs.along.Statement.{statement}
 use Rattle.field_path.proofs.along.Tie as tie
 
 abbrev Inv-loop : tie.InvT-loop
-Inv-loop b dir m path f₀ i₀ f i = (i ≤ length path) × (Field.along B.u48 (P.parse b) m f₀ path ≡ Field.along B.u48 (P.parse b) m f (drop i path)) × FoundWithin (P.parse b) m f
+Inv-loop b dir m path f₀ i₀ f i = (i ≤ length path) × (Field.along B.u48 (P.parse b) m f₀ path ≡ Field.along B.u48 (P.parse b) m f (drop i path)) × FoundWithin B.u48 (P.parse b) m f
 
 abbrev μ-loop : tie.MeasureT-loop
 μ-loop b dir m path f₀ i₀ f i = length path - i

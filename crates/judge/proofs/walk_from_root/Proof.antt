@@ -4,8 +4,8 @@ use Rattle.judge.proofs.walk_from_root.Statement.{statement}
 use Rattle.judge.proofs.walk_from_root.Tie as tie
 use Rattle.judge.proofs.walk_from_root.Reads as reads
 use Rattle.judge.proofs.walk_from_root.Lts as lts
-use Rattle.message_object.proofs.root_object.Reads as root-object-reads
-use Rattle.message_object.proofs.root_place.Reads as root-place-reads
+use Rattle.message_start.proofs.root_object.Reads as root-object-reads
+use Rattle.message_start.proofs.root_place.Reads as root-place-reads
 use Rattle.judge_walk.proofs.visit.Reads as visit-reads
 
 root-object-requires : tie.Need-root-object-requires

@@ -5,6 +5,7 @@ use Rattle.judge_member.proofs.lead_number.Tie as tie
 use Rattle.judge_member.proofs.lead_number.Reads as reads
 use Rattle.judge_member.proofs.lead_number.Lts as lts
 use Rattle.judge_member.proofs.plain_width.Reads as plain-width-reads
+use Rattle.message_layout.proofs.after_bytes.Reads as after-bytes-reads
 use Rattle.wire.proofs.eighth.Reads as eighth-reads
 
 eighth-requires : tie.Need-eighth-requires
@@ -13,22 +14,25 @@ eighth-requires c κs = search needs
 plain-width-requires : tie.Need-plain-width-requires
 plain-width-requires c κs = search needs
 
-add-if2 : tie.Need-add-if2
-add-if2 c = search needs
+after-bytes-requires : tie.Need-after-bytes-requires
+after-bytes-requires c κs = search needs
 
 returns : tie.Need-returns
-returns c = (search number-past, tt)
-
-add-if2-2 : tie.Need-add-if2-2
-add-if2-2 c = search needs
+returns c = search number-past
 
 returns-2 : tie.Need-returns-2
-returns-2 c = (search number-here, tt)
+returns-2 c = search number-here
 
 returns-3 : tie.Need-returns-3
-returns-3 c = (search number-cut, tt)
+returns-3 c = search number-cut
 
 pub lead-number-spec : {M : Type 1} → statement M
 lead-number-spec =
     tie.close
-    (tie.spec eighth-requires plain-width-requires add-if2 returns add-if2-2 returns-2 returns-3)
+    (tie.spec
+    eighth-requires
+    plain-width-requires
+    after-bytes-requires
+    returns
+    returns-2
+    returns-3)

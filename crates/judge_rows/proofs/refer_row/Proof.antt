@@ -1,12 +1,11 @@
 use Rattle.judge_text.proofs.ElementCases.{refer-none, refer-object}
-use native.Mathlib.Omega.{arith}
 use borrow.Author.Needs.{needs}
 use Rattle.judge_rows.proofs.refer_row.Statement.{statement}
 use Rattle.judge_rows.proofs.refer_row.Tie as tie
 use Rattle.judge_rows.proofs.refer_row.Reads as reads
 use Rattle.judge_rows.proofs.refer_row.Lts as lts
-use Rattle.judge_text.proofs.going.Reads as going-reads
 use Rattle.judge_rows.proofs.visit_row.Reads as visit-row-reads
+use Rattle.outcome.proofs.going.Reads as going-reads
 
 going-requires : tie.Need-going-requires
 going-requires c κs = search needs

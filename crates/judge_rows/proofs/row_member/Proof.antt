@@ -6,13 +6,14 @@ use Rattle.judge_rows.proofs.row_member.Statement.{statement}
 use Rattle.judge_rows.proofs.row_member.Tie as tie
 use Rattle.judge_rows.proofs.row_member.Reads as reads
 use Rattle.judge_rows.proofs.row_member.Lts as lts
-use Rattle.judge_text.proofs.going.Reads as going-reads
+use Rattle.judge_member.proofs.is_text_reference.Reads as is-text-reference-reads
 use Rattle.judge_member.proofs.row_width.Reads as row-width-reads
 use Rattle.judge_text.proofs.refer_text.Reads as refer-text-reads
-use Rattle.judge_text.proofs.refuse.Reads as refuse-reads
+use Rattle.outcome.proofs.going.Reads as going-reads
+use Rattle.outcome.proofs.refuse_part.Reads as refuse-part-reads
 use Rattle.wire.proofs.byte_in.Reads as byte-in-reads
 use Rattle.wire.proofs.index.Reads as index-reads
-use Rattle.wire.proofs.u48_in.Reads as u48-in-reads
+use Rattle.wire.proofs.offset_in.Reads as offset-in-reads
 
 byte-in-requires : tie.Need-byte-in-requires
 byte-in-requires c κs = search needs
@@ -26,17 +27,20 @@ row-width-requires c κs = search needs
 add-if1 : tie.Need-add-if1
 add-if1 c = search needs
 
-refuse-requires : tie.Need-refuse-requires
-refuse-requires c κs = search needs
+refuse-part-requires : tie.Need-refuse-part-requires
+refuse-part-requires c κs = search needs
 
 returns : tie.Need-returns
 returns c = search row-cut
 
-add-u48-in : tie.Need-add-u48-in
-add-u48-in c = search needs
+is-text-reference-requires : tie.Need-is-text-reference-requires
+is-text-reference-requires c κs = search needs
 
-u48-in-requires : tie.Need-u48-in-requires
-u48-in-requires c κs = omega (arith, text-wide _ (c .if2 .taken) _ (c .before .before .row-width .ensures .0))
+add-offset-in : tie.Need-add-offset-in
+add-offset-in c = search needs
+
+offset-in-requires : tie.Need-offset-in-requires
+offset-in-requires c κs = omega (arith, text-wide _ _ (c .before .before .is-text-reference .ensures) (c .before .if2 .taken) _ (c .before .before .before .before .before .row-width .ensures .0))
 
 refer-text-requires : tie.Need-refer-text-requires
 refer-text-requires c κs = search needs
@@ -58,10 +62,11 @@ row-member-spec =
     index-requires
     row-width-requires
     add-if1
-    refuse-requires
+    refuse-part-requires
     returns
-    add-u48-in
-    u48-in-requires
+    is-text-reference-requires
+    add-offset-in
+    offset-in-requires
     refer-text-requires
     returns-2
     going-requires

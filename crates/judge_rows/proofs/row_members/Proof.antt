@@ -1,34 +1,34 @@
 use Rattle.judge_rows.proofs.RowCases.{row-here, row-start, row-ended, row-done, row-stopped, row-turn, row-read}
 use borrow.Author.Needs.{needs}
 use native.Mathlib.Omega.{arith}
-use Prim.Native.Nat.{ℕ, _+_, _-_, _*_, _≤_}
+use Prim.Native.Nat.{_-_, _*_, _≤_}
 use mathlib.Core.Path.{_≡_}
 use lib.ListN.{drop}
 use Rattle.coding.specs.Bytes as B
 use Rattle.coding.specs.Packed as P
 use Rattle.coding.specs.Schema as Sc
-use Rattle.coding.specs.Layout as L
 use Rattle.coding.specs.Walk as W
+use Rattle.outcome.specs.Answers as As
 use Rattle.judge_member.specs.Records as Rs
 use Rattle.judge_rows.proofs.row_members.Statement.{statement}
 use Rattle.judge_rows.proofs.row_members.Tie as tie
 use Rattle.judge_rows.proofs.row_members.Reads as reads
 use Rattle.judge_rows.proofs.row_members.Lts as lts
-use Rattle.judge_text.proofs.going.Reads as going-reads
-use Rattle.judge_rows.proofs.row_member.Reads as row-member-reads
 use Rattle.judge_member.proofs.row_width.Reads as row-width-reads
+use Rattle.judge_rows.proofs.row_member.Reads as row-member-reads
+use Rattle.outcome.proofs.going.Reads as going-reads
 use Rattle.schema.proofs.record_place.Reads as record-place-reads
 use Rattle.wire.proofs.byte_in.Reads as byte-in-reads
 use Rattle.wire.proofs.index.Reads as index-reads
 
 abbrev Inv-loop : tie.InvT-loop
-Inv-loop b m budget d t first count holder start n end₀ v₀ j₀ end v j =
-    (j ≤ count) × (end ≤ 256 * j)
-    × (W.members (W.visit d B.u48 (P.parse b) m budget) B.u48 (P.parse b) m holder start n L.begin (Sc.tableOf (P.parse b) t .members) v₀
-    ≡ W.members (W.visit d B.u48 (P.parse b) m budget) B.u48 (P.parse b) m holder start n (Rs.noBool end) (drop j (Sc.tableOf (P.parse b) t .members)) v)
+Inv-loop b m l k x end₀ v₀ j₀ end v j =
+    (j ≤ k .count) × (end ≤ 256 * j)
+    × (As.membersBy B.u48 b m l (k .table) x v₀
+    ≡ W.members (As.visitBy B.u48 b m l) B.u48 (P.parse b) m (x .holder) (x .start) (x .length) (Rs.noBool end) j (drop j (Sc.tableOf (P.parse b) (k .table) .members)) v)
 
 abbrev μ-loop : tie.MeasureT-loop
-μ-loop b m budget d t first count holder start n end₀ v₀ j₀ end v j = count - j
+μ-loop b m l k x end₀ v₀ j₀ end v j = k .count - j
 
 loop-holds : tie.Need-loop-holds Inv-loop μ-loop
 loop-holds c = (omega arith, omega arith, search row-start)
@@ -40,25 +40,25 @@ returns : tie.Need-returns Inv-loop μ-loop
 returns c = search row-ended
 
 record-place-requires : tie.Need-record-place-requires Inv-loop μ-loop
-record-place-requires c κs = (omega arith, (c .before .before .before .before .before .pre .0) .small, omega (arith, (c .before .before .before .before .before .pre .0) .few))
+record-place-requires c κs = (omega arith, c .before .before .before .before .before .before .before .pre .0 .small, omega (arith, c .before .before .before .before .before .before .before .pre .0 .few))
 
 row-member-requires : tie.Need-row-member-requires Inv-loop μ-loop
-row-member-requires c κs = ((omega (arith, (c .before .before .before .before .before .before .pre .0) .inside, c .record-place .ensures .1), row-here _ _ _ _ (c .before .before .before .before .before .before .pre .0) _ (c .before .before .loop-test .taken) _ (c .record-place .ensures .1)), (c .before .before .before .before .before .before .pre .1, c .before .before .before .before .before .before .pre .2, omega (arith, c .before .if1 .left)))
+row-member-requires c κs = ((omega (arith, c .before .before .before .before .before .before .before .before .pre .0 .inside, c .record-place .ensures .1), row-here _ _ (c .before .before .before .before .before .before .before .before .pre .0) _ (c .before .before .before .if1 .taken) _ (c .record-place .ensures .1)), (c .before .before .before .before .before .before .before .before .pre .1, c .before .before .before .before .before .before .before .before .pre .2, omega (arith, c .before .if2 .left)))
 
 returns-2 : tie.Need-returns-2 Inv-loop μ-loop
-returns-2 c = row-stopped _ _ _ _ _ _ _ _ _ _ (c .before .before .before .before .before .before .before .before .before .pre .0) _ _ _ (c .before .before .before .before .before .before .loop .inv .2) (c .before .before .before .before .before .loop-test .taken) _ (c .before .before .before .record-place .ensures .0) _ (c .before .before .row-member .ensures) (c .if2 .taken)
+returns-2 c = row-stopped _ _ _ _ _ _ (c .before .before .before .before .before .before .before .before .before .before .before .pre .0) _ _ _ (c .before .before .before .before .before .before .before .before .loop .inv .2) (c .before .before .before .before .before .before .if1 .taken) _ (c .before .before .before .record-place .ensures .0) _ (c .before .before .row-member .ensures) (c .if3 .taken)
 
 byte-in-requires : tie.Need-byte-in-requires Inv-loop μ-loop
-byte-in-requires c κs = omega (arith, (c .before .before .before .before .before .before .before .before .before .before .pre .0) .inside, c .before .before .before .before .record-place .ensures .1)
+byte-in-requires c κs = omega (arith, c .before .before .before .before .before .before .before .before .before .before .before .before .pre .0 .inside, c .before .before .before .before .record-place .ensures .1)
 
 index-requires : tie.Need-index-requires Inv-loop μ-loop
 index-requires c κs = search needs
 
 row-width-requires : tie.Need-row-width-requires Inv-loop μ-loop
-row-width-requires c κs = row-read _ _ _ _ (c .before .before .before .before .before .before .before .before .before .before .before .before .pre .0) _ (c .before .before .before .before .before .before .before .before .loop-test .taken) _ (c .before .before .before .before .before .before .record-place .ensures .1) _ (c .before .byte-in .ensures) _ (c .index .ensures .0)
+row-width-requires c κs = row-read _ _ (c .before .before .before .before .before .before .before .before .before .before .before .before .before .before .pre .0) _ (c .before .before .before .before .before .before .before .before .before .if1 .taken) _ (c .before .before .before .before .before .before .record-place .ensures .1) _ (c .before .byte-in .ensures) _ (c .index .ensures .0)
 
 add-end : tie.Need-add-end Inv-loop μ-loop
-add-end c = omega (arith, c .row-width .ensures .1, (c .before .before .before .before .before .before .before .before .before .before .before .before .before .pre .0) .few, c .before .before .before .before .before .before .before .before .before .before .loop .inv .1)
+add-end c = omega (arith, c .row-width .ensures .1, c .before .before .before .before .before .before .before .before .before .before .before .before .before .before .before .pre .0 .few, c .before .before .before .before .before .before .before .before .before .before .before .before .loop .inv .1)
 
 add-j : tie.Need-add-j Inv-loop μ-loop
 add-j c = search needs
@@ -67,7 +67,7 @@ loop-less : tie.Need-loop-less Inv-loop μ-loop
 loop-less c = search needs
 
 loop-again : tie.Need-loop-again Inv-loop μ-loop
-loop-again c = (omega arith, omega (arith, c .row-width .ensures .1, c .before .before .before .before .before .before .before .before .before .before .loop .inv .1), row-turn _ _ _ _ _ _ _ _ _ _ (c .before .before .before .before .before .before .before .before .before .before .before .before .before .pre .0) _ _ _ (c .before .before .before .before .before .before .before .before .before .before .loop .inv .2) (c .before .before .before .before .before .before .before .before .before .loop-test .taken) _ (c .before .before .before .before .before .before .before .record-place .ensures .0) _ (c .before .before .before .before .before .before .row-member .ensures) (c .before .before .before .before .if2 .left) (c .before .before .before .before .before .before .before .record-place .ensures .1) _ (c .before .before .byte-in .ensures) _ (c .before .index .ensures .0) _ (c .row-width .ensures .0) (c .row-width .ensures .1))
+loop-again c = (omega arith, omega (arith, c .row-width .ensures .1, c .before .before .before .before .before .before .before .before .before .before .before .before .loop .inv .1), row-turn _ _ _ _ _ _ (c .before .before .before .before .before .before .before .before .before .before .before .before .before .before .before .pre .0) _ _ _ (c .before .before .before .before .before .before .before .before .before .before .before .before .loop .inv .2) (c .before .before .before .before .before .before .before .before .before .before .if1 .taken) _ (c .before .before .before .before .before .before .before .record-place .ensures .0) _ (c .before .before .before .before .before .before .row-member .ensures) (c .before .before .before .before .if3 .left) (c .before .before .before .before .before .before .before .record-place .ensures .1) _ (c .before .before .byte-in .ensures) _ (c .before .index .ensures .0) _ (c .row-width .ensures .0) (c .row-width .ensures .1))
 
 going-requires-2 : tie.Need-going-requires-2 Inv-loop μ-loop
 going-requires-2 c κs = search needs

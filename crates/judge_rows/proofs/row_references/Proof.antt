@@ -1,18 +1,12 @@
-use Rattle.judge_member.proofs.RowRecords.{row-table}
-use Rattle.judge_rows.proofs.RowCases.{row-list, row-id, row-no-text, row-no-bytes, row-no-list}
-use Rattle.message_object.proofs.OpenCases.{table-counted-of}
-use native.Mathlib.Omega.{arith}
+use Rattle.judge_rows.proofs.RowCases.{row-sound, row-is, row-no-text, row-no-bytes, row-no-list, row-list}
 use borrow.Author.Needs.{needs}
 use Rattle.judge_rows.proofs.row_references.Statement.{statement}
 use Rattle.judge_rows.proofs.row_references.Tie as tie
 use Rattle.judge_rows.proofs.row_references.Reads as reads
 use Rattle.judge_rows.proofs.row_references.Lts as lts
-use Rattle.judge_text.proofs.going.Reads as going-reads
+use Rattle.judge_member.proofs.rows_of.Reads as rows-of-reads
 use Rattle.judge_rows.proofs.row_tables.Reads as row-tables-reads
-use Rattle.schema.proofs.records.Reads as records-reads
-use Rattle.schema.proofs.table_id.Reads as table-id-reads
-use Rattle.schema.proofs.table_place.Reads as table-place-reads
-use Rattle.wire.proofs.index.Reads as index-reads
+use Rattle.outcome.proofs.going.Reads as going-reads
 
 enum-told : tie.Need-enum-told
 enum-told c = search needs
@@ -35,20 +29,11 @@ going-requires-3 c κs = search needs
 enum-known-ob : tie.Need-enum-known-ob
 enum-known-ob c = search needs
 
-index-requires : tie.Need-index-requires
-index-requires c κs = search needs
-
-table-place-requires : tie.Need-table-place-requires
-table-place-requires c κs = search (table-counted-of, needs)
-
-records-requires : tie.Need-records-requires
-records-requires c κs = search needs
-
-table-id-requires : tie.Need-table-id-requires
-table-id-requires c κs = search (table-counted-of, needs)
+rows-of-requires : tie.Need-rows-of-requires
+rows-of-requires c κs = search (row-sound, row-is, needs)
 
 row-tables-requires : tie.Need-row-tables-requires
-row-tables-requires c κs = (row-table _ _ _ _ (c .before .before .before .before .before .ob .given .1) (c .before .before .before .index .ensures .0) _ (c .before .before .table-place .ensures) _ (c .before .records .ensures .0) (c .before .before .before .before .before .before .before .before .before .before .pre .2) (c .before .records .ensures .1) (c .before .before .before .before .before .before .before .before .before .before .pre .4), row-id _ _ _ _ (c .table-id .ensures .0) (c .before .before .before .index .ensures .0), c .before .before .before .before .before .before .before .before .before .before .pre .1, c .before .before .before .before .before .before .before .before .before .before .pre .3)
+row-tables-requires c κs = search needs
 
 returns : tie.Need-returns
 returns c = search row-no-text
@@ -73,10 +58,7 @@ row-references-spec =
     enum-told-3
     going-requires-3
     enum-known-ob
-    index-requires
-    table-place-requires
-    records-requires
-    table-id-requires
+    rows-of-requires
     row-tables-requires
     returns
     returns-2

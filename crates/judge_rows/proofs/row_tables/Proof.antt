@@ -1,37 +1,39 @@
 use borrow.Author.Needs.{needs}
 use native.Mathlib.Omega.{arith}
-use Prim.Native.Nat.{ℕ, _+_, _-_, _*_, _≤_}
+use Prim.Native.Nat.{_+_, _-_, _*_, _≤_}
 use mathlib.Core.Path.{_≡_}
 use Rattle.coding.specs.Bytes as B
 use Rattle.coding.specs.Packed as P
 use Rattle.coding.specs.Walk as W
 use Rattle.coding.specs.declared.Kind.the-variants.{OfObject}
 use Rattle.coding.specs.declared.Object.the-variants as O
+use Rattle.outcome.specs.Answers as As
 use Rattle.judge_text.proofs.ElementCases.{elements-start, elements-done, references-stopped, references-turn}
 use Rattle.judge_rows.proofs.row_tables.Statement.{statement}
 use Rattle.judge_rows.proofs.row_tables.Tie as tie
 use Rattle.judge_rows.proofs.row_tables.Reads as reads
 use Rattle.judge_rows.proofs.row_tables.Lts as lts
-use Rattle.judge_text.proofs.going.Reads as going-reads
 use Rattle.judge_rows.proofs.refer_row.Reads as refer-row-reads
-use Rattle.wire.proofs.u48_in.Reads as u48-in-reads
+use Rattle.outcome.proofs.going.Reads as going-reads
+use Rattle.wire.proofs.offset_in.Reads as offset-in-reads
 
 abbrev Inv-loop : tie.InvT-loop
-Inv-loop b m budget d t id first count holder start n v₀ at₀ j₀ v at j =
-    (j ≤ n) × (at ≡ start + 6 * j)
-    × (W.elements (W.visit d B.u48 (P.parse b) m budget) B.u48 (P.parse b) m holder start (OfObject (O.Table t)) n 0 v₀ ≡ W.elements (W.visit d B.u48 (P.parse b) m budget) B.u48 (P.parse b) m holder start (OfObject (O.Table t)) (n - j) j v)
+Inv-loop b m l k x v₀ at₀ j₀ v at j =
+    (j ≤ x .length) × (at ≡ x .start + 6 * j)
+    × (As.elementsBy B.u48 b m l (OfObject (O.Table (k .table))) x v₀
+    ≡ W.elements (As.visitBy B.u48 b m l) B.u48 (P.parse b) m (x .holder) (x .start) (OfObject (O.Table (k .table))) (x .length - j) j v)
 
 abbrev μ-loop : tie.MeasureT-loop
-μ-loop b m budget d t id first count holder start n v₀ at₀ j₀ v at j = n - j
+μ-loop b m l k x v₀ at₀ j₀ v at j = x .length - j
 
 loop-holds : tie.Need-loop-holds Inv-loop μ-loop
 loop-holds c = (omega arith, omega arith, search elements-start)
 
-u48-in-requires : tie.Need-u48-in-requires Inv-loop μ-loop
-u48-in-requires c κs = search needs
+offset-in-requires : tie.Need-offset-in-requires Inv-loop μ-loop
+offset-in-requires c κs = search needs
 
 refer-row-requires : tie.Need-refer-row-requires Inv-loop μ-loop
-refer-row-requires c κs = (c .before .before .before .before .before .pre .0, c .before .before .before .before .before .pre .2, omega (arith, c .u48-in .ensures .small), c .before .before .before .before .before .pre .1)
+refer-row-requires c κs = search needs
 
 returns : tie.Need-returns Inv-loop μ-loop
 returns c = search references-stopped
@@ -61,7 +63,7 @@ row-tables-spec =
     Inv-loop
     μ-loop
     loop-holds
-    u48-in-requires
+    offset-in-requires
     refer-row-requires
     returns
     add-at

@@ -1,4 +1,4 @@
-use Rattle.judge_text.specs.Answers as As
+use Rattle.judge_text.specs.Texts as Ts
 use borrow.Author.Needs.{needs}
 use Rattle.judge_text.proofs.is_text.Statement.{statement}
 use Rattle.judge_text.proofs.is_text.Tie as tie
@@ -18,19 +18,19 @@ enum-told-4 : tie.Need-enum-told-4
 enum-told-4 c = search needs
 
 returns : tie.Need-returns
-unfolding As.isText
+unfolding Ts.isText
 returns c = search needs
 
 returns-2 : tie.Need-returns-2
-unfolding As.isText
+unfolding Ts.isText
 returns-2 c = search needs
 
 returns-3 : tie.Need-returns-3
-unfolding As.isText
+unfolding Ts.isText
 returns-3 c = search needs
 
 returns-4 : tie.Need-returns-4
-unfolding As.isText
+unfolding Ts.isText
 returns-4 c = search needs
 
 pub is-text-spec : {M : Type 1} → statement M

@@ -4,8 +4,8 @@ use Rattle.judge_text.proofs.refer_text.Statement.{statement}
 use Rattle.judge_text.proofs.refer_text.Tie as tie
 use Rattle.judge_text.proofs.refer_text.Reads as reads
 use Rattle.judge_text.proofs.refer_text.Lts as lts
-use Rattle.judge_text.proofs.going.Reads as going-reads
 use Rattle.judge_text.proofs.visit_text.Reads as visit-text-reads
+use Rattle.outcome.proofs.going.Reads as going-reads
 
 going-requires : tie.Need-going-requires
 going-requires c κs = search needs

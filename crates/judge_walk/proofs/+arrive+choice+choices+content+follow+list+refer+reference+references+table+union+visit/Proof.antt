@@ -3,22 +3,21 @@ use Rattle.schema.specs.Records.{record-whole}
 use mathlib.Core.Path.{_≡_}
 use native.Mathlib.Omega.{arith}
 use borrow.Author.Needs.{needs}
-use lib.ListN.{length, drop}
+use lib.ListN.{drop}
 use Rattle.coding.specs.Bytes as B
 use Rattle.coding.specs.Packed as P
 use Rattle.coding.specs.Schema as Sc
-use Rattle.coding.specs.Layout as L
 use Rattle.coding.specs.Walk as W
 use Rattle.message_layout.specs.Bounds.{Laid}
-use Rattle.message_object.proofs.OpenCases.{list-counted-of, table-counted-of, opened-fits, offset-small, inplace-first, inplace-length}
-use Rattle.judge_text.proofs.VisitCases.{visit-spent, visit-deep, visit-refused, visit-content}
+use Rattle.outcome.specs.Answers as As
+use Rattle.outcome.proofs.ArrivalCases.{visit-stopped, visit-refused, visit-content, charged-deep, deeper-falls}
+use Rattle.message_object.proofs.OpenCases.{list-counted-of, table-counted-of, opened-fits, offset-small, inplace-first, inplace-length, list-fits, table-fits}
 use Rattle.judge_walk.proofs.WalkCases.{arrive-text, arrive-offset, arrive-inplace, content-text, content-bytes, content-list, content-table, follow-absent, follow-value, follow-unknown, follow-struct, follow-refused, follow-object, follow-choice, object-small, object-place, choice-small, choice-place, union-none, union-offset, union-inplace}
-use Rattle.message_object.proofs.OpenCases.{list-fits, table-fits}
 use Rattle.judge_rows.proofs.MemberCases.{members-start, members-ended, members-done, members-stopped, members-turn, members-nowhere}
 use Rattle.judge_walk.proofs.ListCases.{list-flat, list-objects, list-unions, objects-sound, unions-counted, objects-there, unions-there, references-texts, choices-stopped, choices-turn, choice-none, choice-unknown, choice-known, choice-sound}
 use Rattle.judge_text.proofs.ElementCases.{elements-start, elements-done, references-stopped, references-turn, refer-none, refer-object}
 use Rattle.coding.specs.declared.Kind.the-variants.{OfObject, OfUnion}
-use Prim.Native.Nat.{ℕ, _+_, _-_, _*_, _<_, _≤_}
+use Prim.Native.Nat.{_+_, _-_, _*_, _≤_}
 use Prim.Native.Nat.{ℕ, _<_}
 use borrow.Fn.Kinds.{In}
 use borrow.Fn.PlainCycle.{Measures, is, falls, and}
@@ -58,17 +57,29 @@ use Rattle.judge_walk.proofs.+arrive+choice+choices+content+follow+list
 use Rattle.judge_walk.proofs.visit.Reads as visit
 use Rattle.judge_walk.proofs.visit.Kinds as visit-kinds
 use Rattle.judge_walk.proofs.+arrive+choice+choices+content+follow+list+refer+reference+references+table+union+visit.Lts-visit as visit-lts
-use Rattle.message_layout.proofs.begin.Reads as begin-reads
-use Rattle.message_layout.proofs.bit_byte.Reads as bit-byte-reads
-use Rattle.judge_rows.proofs.row_references.Reads as row-references-reads
-use Rattle.judge_member.proofs.behind_reference.Reads as behind-reference-reads
 use Rattle.judge_member.proofs.is_row_table.Reads as is-row-table-reads
 use Rattle.judge_member.proofs.lead_member.Reads as lead-member-reads
 use Rattle.judge_member.proofs.refers.Reads as refers-reads
+use Rattle.judge_rows.proofs.row_references.Reads as row-references-reads
+use Rattle.judge_text.proofs.is_text.Reads as is-text-reads
+use Rattle.judge_text.proofs.refer_text.Reads as refer-text-reads
+use Rattle.judge_text.proofs.texts.Reads as texts-reads
+use Rattle.judge_text.proofs.visit_text.Reads as visit-text-reads
+use Rattle.judge_walk.proofs.leads_nowhere.Reads as leads-nowhere-reads
+use Rattle.message_layout.proofs.after_bytes.Reads as after-bytes-reads
+use Rattle.message_layout.proofs.begin.Reads as begin-reads
+use Rattle.message_layout.proofs.bit_byte.Reads as bit-byte-reads
 use Rattle.message_object.proofs.open_object.Reads as open-object-reads
 use Rattle.message_object.proofs.placed.Reads as placed-reads
+use Rattle.outcome.proofs.below.Reads as below-reads
+use Rattle.outcome.proofs.charge.Reads as charge-reads
+use Rattle.outcome.proofs.going.Reads as going-reads
+use Rattle.outcome.proofs.refuse.Reads as refuse-reads
+use Rattle.outcome.proofs.refuse_part.Reads as refuse-part-reads
 use Rattle.schema.proofs.argument_at.Reads as argument-at-reads
 use Rattle.schema.proofs.case_count.Reads as case-count-reads
+use Rattle.schema.proofs.is_flat_kind.Reads as is-flat-kind-reads
+use Rattle.schema.proofs.is_object_kind.Reads as is-object-kind-reads
 use Rattle.schema.proofs.kind_at.Reads as kind-at-reads
 use Rattle.schema.proofs.list_place.Reads as list-place-reads
 use Rattle.schema.proofs.member_count.Reads as member-count-reads
@@ -76,16 +87,9 @@ use Rattle.schema.proofs.object_at.Reads as object-at-reads
 use Rattle.schema.proofs.record_place.Reads as record-place-reads
 use Rattle.schema.proofs.table_place.Reads as table-place-reads
 use Rattle.schema.proofs.union_case.Reads as union-case-reads
-use Rattle.judge_text.proofs.going.Reads as going-reads
-use Rattle.judge_text.proofs.is_text.Reads as is-text-reads
-use Rattle.judge_text.proofs.refer_text.Reads as refer-text-reads
-use Rattle.judge_text.proofs.refuse.Reads as refuse-reads
-use Rattle.judge_text.proofs.texts.Reads as texts-reads
-use Rattle.judge_text.proofs.visit_text.Reads as visit-text-reads
-use Rattle.judge_walk.proofs.leads_nowhere.Reads as leads-nowhere-reads
 use Rattle.wire.proofs.index.Reads as index-reads
+use Rattle.wire.proofs.offset_in.Reads as offset-in-reads
 use Rattle.wire.proofs.u16_in.Reads as u16-in-reads
-use Rattle.wire.proofs.u48_in.Reads as u48-in-reads
 use Rattle.judge_walk.proofs.+arrive+choice+choices+content+follow+list+refer+reference+references+table+union+visit.{
   statement,
 }
@@ -94,40 +98,40 @@ use Rattle.judge_walk.proofs.+arrive+choice+choices+content+follow+list
 }
 
 abbrev μ-arrive : Measures 3 arrive-kinds.ps ℕ
-μ-arrive κs a = 16 * a .1 .1 .1 .1 .0 + 4
+μ-arrive κs a = 16 * a .1 .1 .1 .0 .depth + 4
 
 abbrev μ-choice : Measures 3 choice-kinds.ps ℕ
-μ-choice κs a = 16 * a .1 .1 .1 .1 .0 + 5
+μ-choice κs a = 16 * a .1 .1 .1 .0 .depth + 5
 
 abbrev μ-choices : Measures 3 choices-kinds.ps ℕ
-μ-choices κs a = 16 * a .1 .1 .1 .1 .0 + 6
+μ-choices κs a = 16 * a .1 .1 .1 .0 .depth + 6
 
 abbrev μ-content : Measures 3 content-kinds.ps ℕ
-μ-content κs a = 16 * a .1 .1 .1 .1 .0 + 8
+μ-content κs a = 16 * a .1 .1 .1 .0 .depth + 8
 
 abbrev μ-follow : Measures 3 follow-kinds.ps ℕ
-μ-follow κs a = 16 * a .1 .1 .1 .1 .0 + 5
+μ-follow κs a = 16 * a .1 .1 .1 .0 .depth + 5
 
 abbrev μ-list : Measures 3 list-kinds.ps ℕ
-μ-list κs a = 16 * a .1 .1 .1 .1 .0 + 7
+μ-list κs a = 16 * a .1 .1 .1 .0 .depth + 7
 
 abbrev μ-refer : Measures 3 refer-kinds.ps ℕ
-μ-refer κs a = 16 * a .1 .1 .1 .1 .0 + 4
+μ-refer κs a = 16 * a .1 .1 .1 .0 .depth + 4
 
 abbrev μ-reference : Measures 3 reference-kinds.ps ℕ
-μ-reference κs a = 16 * a .1 .1 .1 .1 .0 + 5
+μ-reference κs a = 16 * a .1 .1 .1 .0 .depth + 5
 
 abbrev μ-references : Measures 3 references-kinds.ps ℕ
-μ-references κs a = 16 * a .1 .1 .1 .1 .0 + 6
+μ-references κs a = 16 * a .1 .1 .1 .0 .depth + 6
 
 abbrev μ-table : Measures 3 table-kinds.ps ℕ
-μ-table κs a = 16 * a .1 .1 .1 .1 .0 + 7
+μ-table κs a = 16 * a .1 .1 .1 .0 .depth + 7
 
 abbrev μ-union : Measures 3 union-kinds.ps ℕ
-μ-union κs a = 16 * a .1 .1 .1 .1 .0 + 4
+μ-union κs a = 16 * a .1 .1 .1 .0 .depth + 4
 
 abbrev μ-visit : Measures 3 visit-kinds.ps ℕ
-μ-visit κs a = 16 * a .1 .1 .1 .1 .0 + 0
+μ-visit κs a = 16 * a .1 .1 .1 .0 .depth + 0
 
 abbrev arrive-at : ℕ → In 3 arrive-kinds.ps
 arrive-at t = and 3 arrive-kinds.ps (is 3 arrive-kinds.ps μ-arrive t) arrive.Pre
@@ -208,7 +212,7 @@ abbrev arrive-R : ℕ → arrive-lts.Claims
 arrive-R t = (is-text-reads.Asked, is-text-reads.Learnt, visit-text-reads.Asked, visit-text-reads.Learnt, visit-below t, visit.Post)
 
 abbrev choice-R : ℕ → choice-lts.Claims
-choice-R t = (u16-in-reads.Asked, u16-in-reads.Learnt, going-reads.Asked, going-reads.Learnt, case-count-reads.Asked, case-count-reads.Learnt, union-case-reads.Asked, union-case-reads.Learnt, u48-in-reads.Asked, u48-in-reads.Learnt, union-below t, union.Post)
+choice-R t = (u16-in-reads.Asked, u16-in-reads.Learnt, going-reads.Asked, going-reads.Learnt, case-count-reads.Asked, case-count-reads.Learnt, union-case-reads.Asked, union-case-reads.Learnt, offset-in-reads.Asked, offset-in-reads.Learnt, union-below t, union.Post)
 
 abbrev choices-R : ℕ → choices-lts.Claims
 choices-R t = (choice-below t, choice.Post, going-reads.Asked, going-reads.Learnt)
@@ -217,28 +221,28 @@ abbrev content-R : ℕ → content-lts.Claims
 content-R t = (going-reads.Asked, going-reads.Learnt, index-reads.Asked, index-reads.Learnt, list-below t, list.Post, table-below t, table.Post)
 
 abbrev follow-R : ℕ → follow-lts.Claims
-follow-R t = (refuse-reads.Asked, refuse-reads.Learnt, going-reads.Asked, going-reads.Learnt, arrive-below t, arrive.Post, union-below t, union.Post)
+follow-R t = (refuse-part-reads.Asked, refuse-part-reads.Learnt, going-reads.Asked, going-reads.Learnt, arrive-below t, arrive.Post, union-below t, union.Post)
 
 abbrev list-R : ℕ → list-lts.Claims
-list-R t = (list-place-reads.Asked, list-place-reads.Learnt, kind-at-reads.Asked, kind-at-reads.Learnt, going-reads.Asked, going-reads.Learnt, object-at-reads.Asked, object-at-reads.Learnt, references-below t, references.Post, argument-at-reads.Asked, argument-at-reads.Learnt, index-reads.Asked, index-reads.Learnt, choices-below t, choices.Post)
+list-R t = (list-place-reads.Asked, list-place-reads.Learnt, kind-at-reads.Asked, kind-at-reads.Learnt, is-flat-kind-reads.Asked, is-flat-kind-reads.Learnt, going-reads.Asked, going-reads.Learnt, is-object-kind-reads.Asked, is-object-kind-reads.Learnt, object-at-reads.Asked, object-at-reads.Learnt, references-below t, references.Post, argument-at-reads.Asked, argument-at-reads.Learnt, index-reads.Asked, index-reads.Learnt, choices-below t, choices.Post)
 
 abbrev refer-R : ℕ → refer-lts.Claims
 refer-R t = (going-reads.Asked, going-reads.Learnt, visit-below t, visit.Post)
 
 abbrev reference-R : ℕ → reference-lts.Claims
-reference-R t = (going-reads.Asked, going-reads.Learnt, refuse-reads.Asked, refuse-reads.Learnt, u48-in-reads.Asked, u48-in-reads.Learnt, object-at-reads.Asked, object-at-reads.Learnt, is-text-reads.Asked, is-text-reads.Learnt, refer-text-reads.Asked, refer-text-reads.Learnt, refer-below t, refer.Post)
+reference-R t = (going-reads.Asked, going-reads.Learnt, refuse-part-reads.Asked, refuse-part-reads.Learnt, offset-in-reads.Asked, offset-in-reads.Learnt, object-at-reads.Asked, object-at-reads.Learnt, is-text-reads.Asked, is-text-reads.Learnt, refer-text-reads.Asked, refer-text-reads.Learnt, refer-below t, refer.Post)
 
 abbrev references-R : ℕ → references-lts.Claims
-references-R t = (is-text-reads.Asked, is-text-reads.Learnt, texts-reads.Asked, texts-reads.Learnt, is-row-table-reads.Asked, is-row-table-reads.Learnt, row-references-reads.Asked, row-references-reads.Learnt, u48-in-reads.Asked, u48-in-reads.Learnt, refer-below t, refer.Post, going-reads.Asked, going-reads.Learnt)
+references-R t = (is-text-reads.Asked, is-text-reads.Learnt, texts-reads.Asked, texts-reads.Learnt, is-row-table-reads.Asked, is-row-table-reads.Learnt, row-references-reads.Asked, row-references-reads.Learnt, offset-in-reads.Asked, offset-in-reads.Learnt, refer-below t, refer.Post, going-reads.Asked, going-reads.Learnt)
 
 abbrev table-R : ℕ → table-lts.Claims
-table-R t = (member-count-reads.Asked, member-count-reads.Learnt, table-place-reads.Asked, table-place-reads.Learnt, begin-reads.Asked, begin-reads.Learnt, bit-byte-reads.Asked, bit-byte-reads.Learnt, going-reads.Asked, going-reads.Learnt, record-place-reads.Asked, record-place-reads.Learnt, refers-reads.Asked, refers-reads.Learnt, reference-below t, reference.Post, behind-reference-reads.Asked, behind-reference-reads.Learnt, lead-member-reads.Asked, lead-member-reads.Learnt, leads-nowhere-reads.Asked, leads-nowhere-reads.Learnt, follow-below t, follow.Post)
+table-R t = (member-count-reads.Asked, member-count-reads.Learnt, table-place-reads.Asked, table-place-reads.Learnt, begin-reads.Asked, begin-reads.Learnt, bit-byte-reads.Asked, bit-byte-reads.Learnt, going-reads.Asked, going-reads.Learnt, record-place-reads.Asked, record-place-reads.Learnt, refers-reads.Asked, refers-reads.Learnt, reference-below t, reference.Post, after-bytes-reads.Asked, after-bytes-reads.Learnt, lead-member-reads.Asked, lead-member-reads.Learnt, leads-nowhere-reads.Asked, leads-nowhere-reads.Learnt, follow-below t, follow.Post)
 
 abbrev union-R : ℕ → union-lts.Claims
-union-R t = (refuse-reads.Asked, refuse-reads.Learnt, visit-below t, visit.Post)
+union-R t = (refuse-part-reads.Asked, refuse-part-reads.Learnt, visit-below t, visit.Post)
 
 abbrev visit-R : ℕ → visit-lts.Claims
-visit-R t = (placed-reads.Asked, placed-reads.Learnt, refuse-reads.Asked, refuse-reads.Learnt, open-object-reads.Asked, open-object-reads.Learnt, content-below t, content.Post)
+visit-R t = (placed-reads.Asked, placed-reads.Learnt, charge-reads.Asked, charge-reads.Learnt, open-object-reads.Asked, open-object-reads.Learnt, refuse-reads.Asked, refuse-reads.Learnt, below-reads.Asked, below-reads.Learnt, content-below t, content.Post)
 
 arrive-enum-known-p : (t : ℕ) → arrive-lts.Need-enum-known-p (arrive-R t) (arrive-at t) arrive.Post
 arrive-enum-known-p t c = search needs
@@ -288,31 +292,32 @@ choice-returns-2 t c = search choice-unknown
 choice-union-case-requires : (t : ℕ) → choice-lts.Need-union-case-requires (choice-R t) (choice-at t) choice.Post
 choice-union-case-requires t c κs = search needs
 
-choice-add-u48-in : (t : ℕ) → choice-lts.Need-add-u48-in (choice-R t) (choice-at t) choice.Post
-choice-add-u48-in t c = search needs
+choice-add-offset-in : (t : ℕ) → choice-lts.Need-add-offset-in (choice-R t) (choice-at t) choice.Post
+choice-add-offset-in t c = search needs
 
-choice-u48-in-requires : (t : ℕ) → choice-lts.Need-u48-in-requires (choice-R t) (choice-at t) choice.Post
-choice-u48-in-requires t c κs = search needs
+choice-offset-in-requires : (t : ℕ) → choice-lts.Need-offset-in-requires (choice-R t) (choice-at t) choice.Post
+choice-offset-in-requires t c κs = search needs
 
 choice-union-requires : (t : ℕ) → choice-lts.Need-union-requires (choice-R t) (choice-at t) choice.Post
-choice-union-requires t c κs = (omega arith, (c .before .before .before .before .before .before .before .before .before .pre .1 .0, c .before .before .before .before .before .before .before .before .before .pre .1 .1, search (choice-sound, c .before .before .before .before .before .before .before .before .before .pre .1 .0, c .before .before .before .before .if1 .left, c .before .before .before .case-count .ensures .0, c .before .before .if2 .left, c .before .union-case .ensures), omega (arith, c .u48-in .ensures .small)))
+choice-union-requires t c κs = (omega arith, (c .before .before .before .before .before .before .before .before .before .pre .1 .0, c .before .before .before .before .before .before .before .before .before .pre .1 .1, search (choice-sound, c .before .before .before .before .before .before .before .before .before .pre .1 .0, c .before .before .before .before .if1 .left, c .before .before .before .case-count .ensures .0, c .before .before .if2 .left, c .before .union-case .ensures), c .offset-in .ensures .1))
 
 choice-returns-3 : (t : ℕ) → choice-lts.Need-returns-3 (choice-R t) (choice-at t) choice.Post
 choice-returns-3 t c = search choice-known
 
 abbrev choices-Inv-loop : choices-lts.InvT-loop
-choices-Inv-loop b dir m budget d i holder start n v₀ at₀ j₀ v at j =
-    (j ≤ n) × (at ≡ start + 8 * j)
-    × (W.elements (W.visit d B.u48 (P.parse b) m budget) B.u48 (P.parse b) m holder start (OfUnion i) n 0 v₀ ≡ W.elements (W.visit d B.u48 (P.parse b) m budget) B.u48 (P.parse b) m holder start (OfUnion i) (n - j) j v)
+choices-Inv-loop b dir m l i x v₀ at₀ j₀ v at j =
+    (j ≤ x .length) × (at ≡ x .start + 8 * j)
+    × (As.elementsBy B.u48 b m l (OfUnion i) x v₀
+    ≡ W.elements (As.visitBy B.u48 b m l) B.u48 (P.parse b) m (x .holder) (x .start) (OfUnion i) (x .length - j) j v)
 
 abbrev choices-μ-loop : choices-lts.MeasureT-loop
-choices-μ-loop b dir m budget d i holder start n v₀ at₀ j₀ v at j = n - j
+choices-μ-loop b dir m l i x v₀ at₀ j₀ v at j = x .length - j
 
 choices-loop-holds : (t : ℕ) → choices-lts.Need-loop-holds (choices-R t) (choices-at t) choices.Post choices-Inv-loop choices-μ-loop
 choices-loop-holds t c = (omega arith, omega arith, search elements-start)
 
 choices-choice-requires : (t : ℕ) → choices-lts.Need-choice-requires (choices-R t) (choices-at t) choices.Post choices-Inv-loop choices-μ-loop
-choices-choice-requires t c κs = (omega arith, (c .before .before .before .before .before .pre .1 .0, c .before .before .before .before .before .pre .1 .1, c .before .before .before .before .before .pre .1 .2, omega (arith, c .before .before .before .before .before .pre .1 .3, c .before .loop .inv .1)))
+choices-choice-requires t c κs = (omega arith, (c .before .before .before .before .before .before .pre .1 .0, c .before .before .before .before .before .before .pre .1 .1, c .before .before .before .before .before .before .pre .1 .2, omega (arith, c .before .before .before .before .before .before .pre .1 .3, c .before .before .loop .inv .1)))
 
 choices-returns : (t : ℕ) → choices-lts.Need-returns (choices-R t) (choices-at t) choices.Post choices-Inv-loop choices-μ-loop
 choices-returns t c = search choices-stopped
@@ -380,8 +385,8 @@ content-returns-4 t c = search content-table
 follow-enum-known-step : (t : ℕ) → follow-lts.Need-enum-known-step (follow-R t) (follow-at t) follow.Post
 follow-enum-known-step t c = search needs
 
-follow-refuse-requires : (t : ℕ) → follow-lts.Need-refuse-requires (follow-R t) (follow-at t) follow.Post
-follow-refuse-requires t c κs = search needs
+follow-refuse-part-requires : (t : ℕ) → follow-lts.Need-refuse-part-requires (follow-R t) (follow-at t) follow.Post
+follow-refuse-part-requires t c κs = search needs
 
 follow-enum-told : (t : ℕ) → follow-lts.Need-enum-told (follow-R t) (follow-at t) follow.Post
 follow-enum-told t c = search needs
@@ -446,17 +451,23 @@ list-list-place-requires t c κs = search needs
 list-kind-at-requires : (t : ℕ) → list-lts.Need-kind-at-requires (list-R t) (list-at t) list.Post
 list-kind-at-requires t c κs = search needs
 
+list-is-flat-kind-requires : (t : ℕ) → list-lts.Need-is-flat-kind-requires (list-R t) (list-at t) list.Post
+list-is-flat-kind-requires t c κs = search needs
+
 list-going-requires : (t : ℕ) → list-lts.Need-going-requires (list-R t) (list-at t) list.Post
 list-going-requires t c κs = search needs
 
 list-returns : (t : ℕ) → list-lts.Need-returns (list-R t) (list-at t) list.Post
 list-returns t c = search list-flat
 
+list-is-object-kind-requires : (t : ℕ) → list-lts.Need-is-object-kind-requires (list-R t) (list-at t) list.Post
+list-is-object-kind-requires t c κs = search needs
+
 list-object-at-requires : (t : ℕ) → list-lts.Need-object-at-requires (list-R t) (list-at t) list.Post
 list-object-at-requires t c κs = search needs
 
 list-references-requires : (t : ℕ) → list-lts.Need-references-requires (list-R t) (list-at t) list.Post
-list-references-requires t c κs = (omega arith, (c .before .before .before .before .before .before .before .before .pre .1 .0 .0, c .before .before .before .before .before .before .before .before .pre .1 .0 .1, search objects-sound, search objects-there))
+list-references-requires t c κs = (omega arith, (c .before .before .before .before .before .before .before .before .before .before .pre .1 .0 .0, c .before .before .before .before .before .before .before .before .before .before .pre .1 .0 .1, search objects-sound, search objects-there))
 
 list-returns-2 : (t : ℕ) → list-lts.Need-returns-2 (list-R t) (list-at t) list.Post
 list-returns-2 t c = search list-objects
@@ -468,7 +479,7 @@ list-index-requires : (t : ℕ) → list-lts.Need-index-requires (list-R t) (lis
 list-index-requires t c κs = search needs
 
 list-choices-requires : (t : ℕ) → list-lts.Need-choices-requires (list-R t) (list-at t) list.Post
-list-choices-requires t c κs = (omega arith, (c .before .before .before .before .before .before .before .before .before .pre .1 .0 .0, c .before .before .before .before .before .before .before .before .before .pre .1 .0 .1, search unions-counted, search unions-there))
+list-choices-requires t c κs = (omega arith, (c .before .before .before .before .before .before .before .before .before .before .before .pre .1 .0 .0, c .before .before .before .before .before .before .before .before .before .before .before .pre .1 .0 .1, search unions-counted, search unions-there))
 
 list-returns-3 : (t : ℕ) → list-lts.Need-returns-3 (list-R t) (list-at t) list.Post
 list-returns-3 t c = search list-unions
@@ -494,17 +505,17 @@ reference-returns t c = search reference-past
 reference-add-if2 : (t : ℕ) → reference-lts.Need-add-if2 (reference-R t) (reference-at t) reference.Post
 reference-add-if2 t c = search needs
 
-reference-refuse-requires : (t : ℕ) → reference-lts.Need-refuse-requires (reference-R t) (reference-at t) reference.Post
-reference-refuse-requires t c κs = search needs
+reference-refuse-part-requires : (t : ℕ) → reference-lts.Need-refuse-part-requires (reference-R t) (reference-at t) reference.Post
+reference-refuse-part-requires t c κs = search needs
 
 reference-returns-2 : (t : ℕ) → reference-lts.Need-returns-2 (reference-R t) (reference-at t) reference.Post
 reference-returns-2 t c = search reference-cut
 
-reference-add-u48-in : (t : ℕ) → reference-lts.Need-add-u48-in (reference-R t) (reference-at t) reference.Post
-reference-add-u48-in t c = search needs
+reference-add-offset-in : (t : ℕ) → reference-lts.Need-add-offset-in (reference-R t) (reference-at t) reference.Post
+reference-add-offset-in t c = search needs
 
-reference-u48-in-requires : (t : ℕ) → reference-lts.Need-u48-in-requires (reference-R t) (reference-at t) reference.Post
-reference-u48-in-requires t c κs = search needs
+reference-offset-in-requires : (t : ℕ) → reference-lts.Need-offset-in-requires (reference-R t) (reference-at t) reference.Post
+reference-offset-in-requires t c κs = search needs
 
 reference-object-at-requires : (t : ℕ) → reference-lts.Need-object-at-requires (reference-R t) (reference-at t) reference.Post
 reference-object-at-requires t c κs = search needs
@@ -513,24 +524,25 @@ reference-is-text-requires : (t : ℕ) → reference-lts.Need-is-text-requires (
 reference-is-text-requires t c κs = search needs
 
 reference-refer-text-requires : (t : ℕ) → reference-lts.Need-refer-text-requires (reference-R t) (reference-at t) reference.Post
-reference-refer-text-requires t c κs = omega (arith, c .before .before .before .u48-in .ensures .small)
+reference-refer-text-requires t c κs = c .before .before .before .offset-in .ensures .1
 
 reference-returns-3 : (t : ℕ) → reference-lts.Need-returns-3 (reference-R t) (reference-at t) reference.Post
 reference-returns-3 t c = search reference-text
 
 reference-refer-requires : (t : ℕ) → reference-lts.Need-refer-requires (reference-R t) (reference-at t) reference.Post
-reference-refer-requires t c κs = (omega arith, (c .before .before .before .before .before .before .before .before .before .pre .1 .0 .0, c .before .before .before .before .before .before .before .before .before .pre .1 .0 .1, same-sound _ _ _ (c .before .before .object-at .ensures) (c .before .before .before .before .before .before .before .before .before .pre .1 .1 .0), omega (arith, c .before .before .before .u48-in .ensures .small)))
+reference-refer-requires t c κs = (omega arith, (c .before .before .before .before .before .before .before .before .before .before .before .before .before .pre .1 .0 .0, c .before .before .before .before .before .before .before .before .before .before .before .before .before .pre .1 .0 .1, same-sound _ _ _ (c .before .before .object-at .ensures) (c .before .before .before .before .before .before .before .before .before .before .before .before .before .pre .1 .1 .0), c .before .before .before .offset-in .ensures .1))
 
 reference-returns-4 : (t : ℕ) → reference-lts.Need-returns-4 (reference-R t) (reference-at t) reference.Post
 reference-returns-4 t c = search reference-here
 
 abbrev references-Inv-loop : references-lts.InvT-loop
-references-Inv-loop b dir m budget d ob holder start n v₀ at₀ j₀ v at j =
-    (j ≤ n) × (at ≡ start + 6 * j)
-    × (W.elements (W.visit d B.u48 (P.parse b) m budget) B.u48 (P.parse b) m holder start (OfObject ob) n 0 v₀ ≡ W.elements (W.visit d B.u48 (P.parse b) m budget) B.u48 (P.parse b) m holder start (OfObject ob) (n - j) j v)
+references-Inv-loop b dir m l ob x v₀ at₀ j₀ v at j =
+    (j ≤ x .length) × (at ≡ x .start + 6 * j)
+    × (As.elementsBy B.u48 b m l (OfObject ob) x v₀
+    ≡ W.elements (As.visitBy B.u48 b m l) B.u48 (P.parse b) m (x .holder) (x .start) (OfObject ob) (x .length - j) j v)
 
 abbrev references-μ-loop : references-lts.MeasureT-loop
-references-μ-loop b dir m budget d ob holder start n v₀ at₀ j₀ v at j = n - j
+references-μ-loop b dir m l ob x v₀ at₀ j₀ v at j = x .length - j
 
 references-is-text-requires : (t : ℕ) → references-lts.Need-is-text-requires (references-R t) (references-at t) references.Post references-Inv-loop references-μ-loop
 references-is-text-requires t c κs = search needs
@@ -553,11 +565,11 @@ references-returns-2 t c = c .row-references .ensures
 references-loop-holds : (t : ℕ) → references-lts.Need-loop-holds (references-R t) (references-at t) references.Post references-Inv-loop references-μ-loop
 references-loop-holds t c = (omega arith, omega arith, search elements-start)
 
-references-u48-in-requires : (t : ℕ) → references-lts.Need-u48-in-requires (references-R t) (references-at t) references.Post references-Inv-loop references-μ-loop
-references-u48-in-requires t c κs = search needs
+references-offset-in-requires : (t : ℕ) → references-lts.Need-offset-in-requires (references-R t) (references-at t) references.Post references-Inv-loop references-μ-loop
+references-offset-in-requires t c κs = search needs
 
 references-refer-requires : (t : ℕ) → references-lts.Need-refer-requires (references-R t) (references-at t) references.Post references-Inv-loop references-μ-loop
-references-refer-requires t c κs = (omega arith, (c .before .before .before .before .before .before .before .before .before .before .pre .1 .0, c .before .before .before .before .before .before .before .before .before .before .pre .1 .1, c .before .before .before .before .before .before .before .before .before .before .pre .1 .2, omega (arith, c .u48-in .ensures .small)))
+references-refer-requires t c κs = (omega arith, (c .before .before .before .before .before .before .before .before .before .before .before .pre .1 .0, c .before .before .before .before .before .before .before .before .before .before .before .pre .1 .1, c .before .before .before .before .before .before .before .before .before .before .before .pre .1 .2, c .offset-in .ensures .1))
 
 references-returns-3 : (t : ℕ) → references-lts.Need-returns-3 (references-R t) (references-at t) references.Post references-Inv-loop references-μ-loop
 references-returns-3 t c = search references-stopped
@@ -581,13 +593,13 @@ references-returns-4 : (t : ℕ) → references-lts.Need-returns-4 (references-R
 references-returns-4 t c = search elements-done
 
 abbrev table-Inv-loop : table-lts.InvT-loop
-table-Inv-loop b dir m budget d t holder start n count first c₀ v₀ j₀ c v j =
+table-Inv-loop b dir m l t x count first c₀ v₀ j₀ c v j =
     (j ≤ count) × Laid (4097 * j) c
-    × (W.members (W.visit d B.u48 (P.parse b) m budget) B.u48 (P.parse b) m holder start n L.begin (Sc.tableOf (P.parse b) t .members) v₀
-    ≡ W.members (W.visit d B.u48 (P.parse b) m budget) B.u48 (P.parse b) m holder start n c (drop j (Sc.tableOf (P.parse b) t .members)) v)
+    × (As.membersBy B.u48 b m l t x v₀
+    ≡ W.members (As.visitBy B.u48 b m l) B.u48 (P.parse b) m (x .holder) (x .start) (x .length) c j (drop j (Sc.tableOf (P.parse b) t .members)) v)
 
 abbrev table-μ-loop : table-lts.MeasureT-loop
-table-μ-loop b dir m budget d t holder start n count first c₀ v₀ j₀ c v j = count - j
+table-μ-loop b dir m l t x count first c₀ v₀ j₀ c v j = count - j
 
 table-member-count-requires : (t : ℕ) → table-lts.Need-member-count-requires (table-R t) (table-at t) table.Post table-Inv-loop table-μ-loop
 table-member-count-requires t c κs = search needs
@@ -611,19 +623,19 @@ table-returns : (t : ℕ) → table-lts.Need-returns (table-R t) (table-at t) ta
 table-returns t c = search members-ended
 
 table-record-place-requires : (t : ℕ) → table-lts.Need-record-place-requires (table-R t) (table-at t) table.Post table-Inv-loop table-μ-loop
-table-record-place-requires t c κs = (omega arith, c .before .before .before .before .before .table-place .ensures .small, omega (arith, c .before .before .before .before .before .before .member-count .ensures .1))
+table-record-place-requires t c κs = (omega arith, c .before .before .before .before .before .before .table-place .ensures .small, omega (arith, c .before .before .before .before .before .before .before .member-count .ensures .1))
 
 table-refers-requires : (t : ℕ) → table-lts.Need-refers-requires (table-R t) (table-at t) table.Post table-Inv-loop table-μ-loop
-table-refers-requires t c κs = omega (arith, record-whole _ _ _ (c .before .before .before .before .before .before .before .before .before .before .before .pre .1 .2) _ (c .before .before .before .before .before .before .before .member-count .ensures .0) (c .before .before .before .loop-test .taken) _ (c .before .before .before .before .before .before .table-place .ensures) _ (c .record-place .ensures .1))
+table-refers-requires t c κs = omega (arith, record-whole _ _ _ (c .before .before .before .before .before .before .before .before .before .before .before .before .pre .1 .2) _ (c .before .before .before .before .before .before .before .before .member-count .ensures .0) (c .before .before .before .before .loop-test .taken) _ (c .before .before .before .before .before .before .before .table-place .ensures) _ (c .record-place .ensures .1))
 
 table-reference-requires : (t : ℕ) → table-lts.Need-reference-requires (table-R t) (table-at t) table.Post table-Inv-loop table-μ-loop
-table-reference-requires t c κs = (omega arith, ((c .before .before .before .before .before .before .before .before .before .before .before .before .before .pre .1 .0, c .before .before .before .before .before .before .before .before .before .before .before .before .before .pre .1 .1, record-whole _ _ _ (c .before .before .before .before .before .before .before .before .before .before .before .before .before .pre .1 .2) _ (c .before .before .before .before .before .before .before .before .before .member-count .ensures .0) (c .before .before .before .before .before .loop-test .taken) _ (c .before .before .before .before .before .before .before .before .table-place .ensures) _ (c .before .before .record-place .ensures .1), c .before .refers .ensures (c .if2 .taken)), (reference-sound _ _ _ (c .before .before .before .before .before .before .before .before .before .before .before .before .before .pre .1 .2) _ (c .before .before .before .before .before .before .before .before .before .member-count .ensures .0) (c .before .before .before .before .before .loop-test .taken) _ (c .before .before .before .before .before .before .before .before .table-place .ensures) _ _ (c .before .before .before .before .before .before .before .before .before .before .before .before .before .pre .1 .0) (c .before .before .record-place .ensures .0) (c .before .refers .ensures (c .if2 .taken)), c .before .before .before .before .before .before .before .before .before .before .before .before .before .pre .1 .3, omega (arith, c .before .before .before .before .before .before .loop .inv .1 .end, c .before .before .before .before .before .before .before .before .before .member-count .ensures .1))))
+table-reference-requires t c κs = (omega arith, ((c .before .before .before .before .before .before .before .before .before .before .before .before .before .before .pre .1 .0, c .before .before .before .before .before .before .before .before .before .before .before .before .before .before .pre .1 .1, record-whole _ _ _ (c .before .before .before .before .before .before .before .before .before .before .before .before .before .before .pre .1 .2) _ (c .before .before .before .before .before .before .before .before .before .before .member-count .ensures .0) (c .before .before .before .before .before .before .loop-test .taken) _ (c .before .before .before .before .before .before .before .before .before .table-place .ensures) _ (c .before .before .record-place .ensures .1), c .before .refers .ensures (c .if2 .taken)), (reference-sound _ _ _ (c .before .before .before .before .before .before .before .before .before .before .before .before .before .before .pre .1 .2) _ (c .before .before .before .before .before .before .before .before .before .before .member-count .ensures .0) (c .before .before .before .before .before .before .loop-test .taken) _ (c .before .before .before .before .before .before .before .before .before .table-place .ensures) _ _ (c .before .before .before .before .before .before .before .before .before .before .before .before .before .before .pre .1 .0) (c .before .before .record-place .ensures .0) (c .before .refers .ensures (c .if2 .taken)), c .before .before .before .before .before .before .before .before .before .before .before .before .before .before .pre .1 .3, omega (arith, c .before .before .before .before .before .before .before .loop .inv .1 .end, c .before .before .before .before .before .before .before .before .before .before .member-count .ensures .1))))
 
 table-returns-2 : (t : ℕ) → table-lts.Need-returns-2 (table-R t) (table-at t) table.Post table-Inv-loop table-μ-loop
-table-returns-2 t c = reference-stopped _ _ _ _ _ _ _ _ _ _ _ (c .before .before .before .before .before .before .before .before .before .loop .inv .2) _ (c .before .before .before .before .before .before .before .before .before .before .before .before .member-count .ensures .0) (c .before .before .before .before .before .before .before .before .loop-test .taken) (c .before .before .before .before .before .before .before .before .before .before .before .before .before .before .before .before .pre .1 .2) _ (c .before .before .before .before .before .before .before .before .before .before .before .table-place .ensures) _ (c .before .before .before .before .before .record-place .ensures .0) _ (c .before .before .reference .ensures) (c .if3 .taken)
+table-returns-2 t c = reference-stopped _ _ _ _ _ _ _ _ _ _ _ (c .before .before .before .before .before .before .before .before .before .before .loop .inv .2) _ (c .before .before .before .before .before .before .before .before .before .before .before .before .before .member-count .ensures .0) (c .before .before .before .before .before .before .before .before .before .loop-test .taken) (c .before .before .before .before .before .before .before .before .before .before .before .before .before .before .before .before .before .pre .1 .2) _ (c .before .before .before .before .before .before .before .before .before .before .before .before .table-place .ensures) _ (c .before .before .before .before .before .record-place .ensures .0) _ (c .before .before .reference .ensures) (c .if3 .taken)
 
-table-behind-reference-requires : (t : ℕ) → table-lts.Need-behind-reference-requires (table-R t) (table-at t) table.Post table-Inv-loop table-μ-loop
-table-behind-reference-requires t c κs = (c .before .before .before .before .before .before .before .before .before .before .loop .inv .1 .byte, c .before .before .before .before .before .before .before .before .before .before .loop .inv .1 .bit, omega (arith, c .before .before .before .before .before .before .before .before .before .before .loop .inv .1 .end, c .before .before .before .before .before .before .before .before .before .before .before .before .before .member-count .ensures .1))
+table-after-bytes-requires : (t : ℕ) → table-lts.Need-after-bytes-requires (table-R t) (table-at t) table.Post table-Inv-loop table-μ-loop
+table-after-bytes-requires t c κs = (c .before .before .before .before .before .before .before .before .before .before .before .loop .inv .1 .byte, c .before .before .before .before .before .before .before .before .before .before .before .loop .inv .1 .bit, omega (arith, c .before .before .before .before .before .before .before .before .before .before .before .loop .inv .1 .end, c .before .before .before .before .before .before .before .before .before .before .before .before .before .before .member-count .ensures .1), omega arith)
 
 table-add-j : (t : ℕ) → table-lts.Need-add-j (table-R t) (table-at t) table.Post table-Inv-loop table-μ-loop
 table-add-j t c = search needs
@@ -632,10 +644,10 @@ table-loop-less : (t : ℕ) → table-lts.Need-loop-less (table-R t) (table-at t
 table-loop-less t c = search needs
 
 table-loop-again : (t : ℕ) → table-lts.Need-loop-again (table-R t) (table-at t) table.Post table-Inv-loop table-μ-loop
-table-loop-again t c = (omega arith, reference-laid _ _ _ (c .before .before .before .before .before .before .before .before .before .before .before .loop .inv .1) (c .behind-reference .ensures .1), reference-turn _ _ _ _ _ _ _ _ _ _ _ (c .before .before .before .before .before .before .before .before .before .before .before .loop .inv .2) _ (c .before .before .before .before .before .before .before .before .before .before .before .before .before .before .member-count .ensures .0) (c .before .before .before .before .before .before .before .before .before .before .loop-test .taken) (c .before .before .before .before .before .before .before .before .before .before .before .before .before .before .before .before .before .before .pre .1 .2) _ (c .before .before .before .before .before .before .before .before .before .before .before .before .before .table-place .ensures) _ (c .before .before .before .before .before .before .before .record-place .ensures .0) _ (c .before .before .before .before .reference .ensures) (c .before .before .if3 .left) (c .before .before .before .before .before .before .refers .ensures (c .before .before .before .before .before .if2 .taken)) _ (c .behind-reference .ensures .0))
+table-loop-again t c = (omega arith, reference-laid _ _ _ (c .before .before .before .before .before .before .before .before .before .before .before .before .loop .inv .1) (c .after-bytes .ensures .1), reference-turn _ _ _ _ _ _ _ _ _ _ _ (c .before .before .before .before .before .before .before .before .before .before .before .before .loop .inv .2) _ (c .before .before .before .before .before .before .before .before .before .before .before .before .before .before .before .member-count .ensures .0) (c .before .before .before .before .before .before .before .before .before .before .before .loop-test .taken) (c .before .before .before .before .before .before .before .before .before .before .before .before .before .before .before .before .before .before .before .pre .1 .2) _ (c .before .before .before .before .before .before .before .before .before .before .before .before .before .before .table-place .ensures) _ (c .before .before .before .before .before .before .before .record-place .ensures .0) _ (c .before .before .before .before .reference .ensures) (c .before .before .if3 .left) (c .before .before .before .before .before .before .refers .ensures (c .before .before .before .before .before .if2 .taken)) _ (c .after-bytes .ensures .0))
 
 table-lead-member-requires : (t : ℕ) → table-lts.Need-lead-member-requires (table-R t) (table-at t) table.Post table-Inv-loop table-μ-loop
-table-lead-member-requires t c κs = ((c .before .before .before .before .before .before .before .before .before .before .before .before .before .pre .1 .0, c .before .before .before .before .before .before .before .before .before .before .before .before .before .pre .1 .2, omega (arith, c .before .before .before .before .before .before .before .before .before .member-count .ensures .0), omega (arith, c .before .before .before .before .before .before .before .before .before .member-count .ensures .1)), (omega (arith, c .before .before .before .before .before .before .before .before .before .before .before .before .before .pre .1 .3), omega (arith, c .before .before .before .before .before .before .before .before .before .before .before .before .before .pre .1 .1), c .before .before .before .before .before .before .loop .inv .1))
+table-lead-member-requires t c κs = ((c .before .before .before .before .before .before .before .before .before .before .before .before .before .before .pre .1 .0, c .before .before .before .before .before .before .before .before .before .before .before .before .before .before .pre .1 .2, omega (arith, c .before .before .before .before .before .before .before .before .before .before .member-count .ensures .0), omega (arith, c .before .before .before .before .before .before .before .before .before .before .member-count .ensures .1)), (omega (arith, c .before .before .before .before .before .before .before .before .before .before .before .before .before .before .pre .1 .3), omega (arith, c .before .before .before .before .before .before .before .before .before .before .before .before .before .before .pre .1 .1), c .before .before .before .before .before .before .before .loop .inv .1))
 
 table-leads-nowhere-requires : (t : ℕ) → table-lts.Need-leads-nowhere-requires (table-R t) (table-at t) table.Post table-Inv-loop table-μ-loop
 table-leads-nowhere-requires t c κs = search needs
@@ -647,13 +659,13 @@ table-loop-less-2 : (t : ℕ) → table-lts.Need-loop-less-2 (table-R t) (table-
 table-loop-less-2 t c = search needs
 
 table-loop-again-2 : (t : ℕ) → table-lts.Need-loop-again-2 (table-R t) (table-at t) table.Post table-Inv-loop table-μ-loop
-table-loop-again-2 t c = (omega arith, c .before .before .before .lead-member .ensures .laid, members-nowhere _ _ _ _ _ _ _ _ _ _ _ (c .before .before .before .before .before .before .before .before .before .before .loop .inv .2) _ (c .before .before .before .before .before .before .before .before .before .before .before .before .before .member-count .ensures .0) (c .before .before .before .before .before .before .before .before .before .loop-test .taken) _ (c .before .before .before .lead-member .ensures .step-is) (c .before .before .leads-nowhere .ensures (c .before .if4 .taken)) _ (c .before .before .before .lead-member .ensures .next-is))
+table-loop-again-2 t c = (omega arith, c .before .before .before .lead-member .ensures .laid, members-nowhere _ _ _ _ _ _ _ _ _ _ _ _ (c .before .before .before .before .before .before .before .before .before .before .before .loop .inv .2) _ (c .before .before .before .before .before .before .before .before .before .before .before .before .before .before .member-count .ensures .0) (c .before .before .before .before .before .before .before .before .before .before .loop-test .taken) _ (c .before .before .before .lead-member .ensures .step-is) (c .before .before .leads-nowhere .ensures (c .before .if4 .taken)) _ (c .before .before .before .lead-member .ensures .next-is))
 
 table-follow-requires : (t : ℕ) → table-lts.Need-follow-requires (table-R t) (table-at t) table.Post table-Inv-loop table-μ-loop
-table-follow-requires t c κs = (omega (arith, c .before .before .before .before .before .before .before .before .before .before .before .before .before .before .before .before .pre .0), (c .before .before .before .before .before .before .before .before .before .before .before .before .before .before .before .before .pre .1 .0, c .before .before .before .before .before .before .before .before .before .before .before .before .before .before .before .before .pre .1 .1, c .before .before .lead-member .ensures .small))
+table-follow-requires t c κs = (omega (arith, c .before .before .before .before .before .before .before .before .before .before .before .before .before .before .before .before .before .pre .0), (c .before .before .before .before .before .before .before .before .before .before .before .before .before .before .before .before .before .pre .1 .0, c .before .before .before .before .before .before .before .before .before .before .before .before .before .before .before .before .before .pre .1 .1, c .before .before .lead-member .ensures .small))
 
 table-returns-3 : (t : ℕ) → table-lts.Need-returns-3 (table-R t) (table-at t) table.Post table-Inv-loop table-μ-loop
-table-returns-3 t c = members-stopped _ _ _ _ _ _ _ _ _ _ _ (c .before .before .before .before .before .before .before .before .before .before .before .before .loop .inv .2) _ (c .before .before .before .before .before .before .before .before .before .before .before .before .before .before .before .member-count .ensures .0) (c .before .before .before .before .before .before .before .before .before .before .before .loop-test .taken) _ (c .before .before .before .before .before .lead-member .ensures .step-is) _ (c .before .before .follow .ensures) (c .if5 .taken)
+table-returns-3 t c = members-stopped _ _ _ _ _ _ _ _ _ _ _ _ (c .before .before .before .before .before .before .before .before .before .before .before .before .before .loop .inv .2) _ (c .before .before .before .before .before .before .before .before .before .before .before .before .before .before .before .before .member-count .ensures .0) (c .before .before .before .before .before .before .before .before .before .before .before .before .loop-test .taken) _ (c .before .before .before .before .before .lead-member .ensures .step-is) _ (c .before .before .follow .ensures) (c .if5 .taken)
 
 table-add-j-3 : (t : ℕ) → table-lts.Need-add-j-3 (table-R t) (table-at t) table.Post table-Inv-loop table-μ-loop
 table-add-j-3 t c = search needs
@@ -662,7 +674,7 @@ table-loop-less-3 : (t : ℕ) → table-lts.Need-loop-less-3 (table-R t) (table-
 table-loop-less-3 t c = search needs
 
 table-loop-again-3 : (t : ℕ) → table-lts.Need-loop-again-3 (table-R t) (table-at t) table.Post table-Inv-loop table-μ-loop
-table-loop-again-3 t c = (omega arith, c .before .before .before .before .before .before .before .lead-member .ensures .laid, members-turn _ _ _ _ _ _ _ _ _ _ _ (c .before .before .before .before .before .before .before .before .before .before .before .before .before .before .loop .inv .2) _ (c .before .before .before .before .before .before .before .before .before .before .before .before .before .before .before .before .before .member-count .ensures .0) (c .before .before .before .before .before .before .before .before .before .before .before .before .before .loop-test .taken) _ (c .before .before .before .before .before .before .before .lead-member .ensures .step-is) _ (c .before .before .before .before .follow .ensures) (c .before .before .if5 .left) _ (c .before .before .before .before .before .before .before .lead-member .ensures .next-is))
+table-loop-again-3 t c = (omega arith, c .before .before .before .before .before .before .before .lead-member .ensures .laid, members-turn _ _ _ _ _ _ _ _ _ _ _ _ (c .before .before .before .before .before .before .before .before .before .before .before .before .before .before .before .loop .inv .2) _ (c .before .before .before .before .before .before .before .before .before .before .before .before .before .before .before .before .before .before .member-count .ensures .0) (c .before .before .before .before .before .before .before .before .before .before .before .before .before .before .loop-test .taken) _ (c .before .before .before .before .before .before .before .lead-member .ensures .step-is) _ (c .before .before .before .before .follow .ensures) (c .before .before .if5 .left) _ (c .before .before .before .before .before .before .before .lead-member .ensures .next-is))
 
 table-going-requires-2 : (t : ℕ) → table-lts.Need-going-requires-2 (table-R t) (table-at t) table.Post table-Inv-loop table-μ-loop
 table-going-requires-2 t c κs = search needs
@@ -673,8 +685,8 @@ table-returns-4 t c = search members-done
 union-enum-known-p : (t : ℕ) → union-lts.Need-enum-known-p (union-R t) (union-at t) union.Post
 union-enum-known-p t c = search needs
 
-union-refuse-requires : (t : ℕ) → union-lts.Need-refuse-requires (union-R t) (union-at t) union.Post
-union-refuse-requires t c κs = search needs
+union-refuse-part-requires : (t : ℕ) → union-lts.Need-refuse-part-requires (union-R t) (union-at t) union.Post
+union-refuse-part-requires t c κs = search needs
 
 union-returns : (t : ℕ) → union-lts.Need-returns (union-R t) (union-at t) union.Post
 union-returns t c = search union-none
@@ -697,20 +709,11 @@ union-returns-3 t c = search union-inplace
 visit-placed-requires : (t : ℕ) → visit-lts.Need-placed-requires (visit-R t) (visit-at t) visit.Post
 visit-placed-requires t c κs = search needs
 
-visit-refuse-requires : (t : ℕ) → visit-lts.Need-refuse-requires (visit-R t) (visit-at t) visit.Post
-visit-refuse-requires t c κs = search needs
+visit-charge-requires : (t : ℕ) → visit-lts.Need-charge-requires (visit-R t) (visit-at t) visit.Post
+visit-charge-requires t c κs = search needs
 
 visit-returns : (t : ℕ) → visit-lts.Need-returns (visit-R t) (visit-at t) visit.Post
-visit-returns t c = search visit-spent
-
-visit-add-t16 : (t : ℕ) → visit-lts.Need-add-t16 (visit-R t) (visit-at t) visit.Post
-visit-add-t16 t c = search needs
-
-visit-refuse-requires-2 : (t : ℕ) → visit-lts.Need-refuse-requires-2 (visit-R t) (visit-at t) visit.Post
-visit-refuse-requires-2 t c κs = search needs
-
-visit-returns-2 : (t : ℕ) → visit-lts.Need-returns-2 (visit-R t) (visit-at t) visit.Post
-visit-returns-2 t c = search visit-deep
+visit-returns t c = search visit-stopped
 
 visit-open-object-requires : (t : ℕ) → visit-lts.Need-open-object-requires (visit-R t) (visit-at t) visit.Post
 visit-open-object-requires t c κs = search needs
@@ -718,23 +721,23 @@ visit-open-object-requires t c κs = search needs
 visit-enum-known-e : (t : ℕ) → visit-lts.Need-enum-known-e (visit-R t) (visit-at t) visit.Post
 visit-enum-known-e t c = search needs
 
-visit-refuse-requires-3 : (t : ℕ) → visit-lts.Need-refuse-requires-3 (visit-R t) (visit-at t) visit.Post
-visit-refuse-requires-3 t c κs = search needs
+visit-refuse-requires : (t : ℕ) → visit-lts.Need-refuse-requires (visit-R t) (visit-at t) visit.Post
+visit-refuse-requires t c κs = search needs
 
 visit-enum-known-start : (t : ℕ) → visit-lts.Need-enum-known-start (visit-R t) (visit-at t) visit.Post
 visit-enum-known-start t c = search needs
 
-visit-sub-content : (t : ℕ) → visit-lts.Need-sub-content (visit-R t) (visit-at t) visit.Post
-visit-sub-content t c = search needs
+visit-below-requires : (t : ℕ) → visit-lts.Need-below-requires (visit-R t) (visit-at t) visit.Post
+visit-below-requires t c κs = search charged-deep
 
 visit-content-requires : (t : ℕ) → visit-lts.Need-content-requires (visit-R t) (visit-at t) visit.Post
-visit-content-requires t c κs = search (opened-fits, needs)
+visit-content-requires t c κs = (omega (arith, c .before .before .before .before .before .before .before .before .before .before .before .before .before .pre .0, deeper-falls _ _ (c .below .ensures) (charged-deep _ _ _ _ (c .before .before .before .before .before .before .before .before .charge .ensures) (c .before .before .before .before .before .before .if1 .left))), ((c .before .before .before .before .before .before .before .before .before .before .before .before .before .pre .1 .0, c .before .before .before .before .before .before .before .before .before .before .before .before .before .pre .1 .1, c .before .before .before .before .before .before .before .before .before .before .before .before .before .pre .1 .2), search opened-fits))
+
+visit-returns-2 : (t : ℕ) → visit-lts.Need-returns-2 (visit-R t) (visit-at t) visit.Post
+visit-returns-2 t c = search visit-refused
 
 visit-returns-3 : (t : ℕ) → visit-lts.Need-returns-3 (visit-R t) (visit-at t) visit.Post
-visit-returns-3 t c = search visit-refused
-
-visit-returns-4 : (t : ℕ) → visit-lts.Need-returns-4 (visit-R t) (visit-at t) visit.Post
-visit-returns-4 t c = search visit-content
+visit-returns-3 t c = search visit-content
 
 pub +arrive+choice+choices+content+follow+list+refer+reference+references+table+union+visit-spec :
     {M : Type 1} → statement M
@@ -774,8 +777,8 @@ pub +arrive+choice+choices+content+follow+list+refer+reference+references+table+
     (choice-going-requires-2 t)
     (choice-returns-2 t)
     (choice-union-case-requires t)
-    (choice-add-u48-in t)
-    (choice-u48-in-requires t)
+    (choice-add-offset-in t)
+    (choice-offset-in-requires t)
     (choice-union-requires t)
     (choice-returns-3 t))
     (λ t. choices-lts.spec
@@ -814,7 +817,7 @@ pub +arrive+choice+choices+content+follow+list+refer+reference+references+table+
     (follow-at t)
     follow.Post
     (follow-enum-known-step t)
-    (follow-refuse-requires t)
+    (follow-refuse-part-requires t)
     (follow-enum-told t)
     (follow-going-requires t)
     (follow-enum-told-2 t)
@@ -839,8 +842,10 @@ pub +arrive+choice+choices+content+follow+list+refer+reference+references+table+
     list.Post
     (list-list-place-requires t)
     (list-kind-at-requires t)
+    (list-is-flat-kind-requires t)
     (list-going-requires t)
     (list-returns t)
+    (list-is-object-kind-requires t)
     (list-object-at-requires t)
     (list-references-requires t)
     (list-returns-2 t)
@@ -862,10 +867,10 @@ pub +arrive+choice+choices+content+follow+list+refer+reference+references+table+
     (reference-going-requires t)
     (reference-returns t)
     (reference-add-if2 t)
-    (reference-refuse-requires t)
+    (reference-refuse-part-requires t)
     (reference-returns-2 t)
-    (reference-add-u48-in t)
-    (reference-u48-in-requires t)
+    (reference-add-offset-in t)
+    (reference-offset-in-requires t)
     (reference-object-at-requires t)
     (reference-is-text-requires t)
     (reference-refer-text-requires t)
@@ -884,7 +889,7 @@ pub +arrive+choice+choices+content+follow+list+refer+reference+references+table+
     (references-row-references-requires t)
     (references-returns-2 t)
     (references-loop-holds t)
-    (references-u48-in-requires t)
+    (references-offset-in-requires t)
     (references-refer-requires t)
     (references-returns-3 t)
     (references-add-at t)
@@ -909,7 +914,7 @@ pub +arrive+choice+choices+content+follow+list+refer+reference+references+table+
     (table-refers-requires t)
     (table-reference-requires t)
     (table-returns-2 t)
-    (table-behind-reference-requires t)
+    (table-after-bytes-requires t)
     (table-add-j t)
     (table-loop-less t)
     (table-loop-again t)
@@ -925,12 +930,11 @@ pub +arrive+choice+choices+content+follow+list+refer+reference+references+table+
     (table-loop-again-3 t)
     (table-going-requires-2 t)
     (table-returns-4 t))
-    (λ t. union-lts.spec
-    (union-R t)
+    (λ t. union-lts.spec (union-R t)
     (union-at t)
     union.Post
     (union-enum-known-p t)
-    (union-refuse-requires t)
+    (union-refuse-part-requires t)
     (union-returns t)
     (union-visit-requires t)
     (union-enum-known-p-2 t)
@@ -941,16 +945,13 @@ pub +arrive+choice+choices+content+follow+list+refer+reference+references+table+
     (visit-at t)
     visit.Post
     (visit-placed-requires t)
-    (visit-refuse-requires t)
+    (visit-charge-requires t)
     (visit-returns t)
-    (visit-add-t16 t)
-    (visit-refuse-requires-2 t)
-    (visit-returns-2 t)
     (visit-open-object-requires t)
     (visit-enum-known-e t)
-    (visit-refuse-requires-3 t)
+    (visit-refuse-requires t)
     (visit-enum-known-start t)
-    (visit-sub-content t)
+    (visit-below-requires t)
     (visit-content-requires t)
+    (visit-returns-2 t)
     (visit-returns-3 t)
-    (visit-returns-4 t)

@@ -1,9 +1,8 @@
+-- `message_header::fits` meets its contract.
 use Rattle.message_header.proofs.ContentCases.{fit-yes, fit-no}
 use borrow.Author.Needs.{needs}
 use Rattle.message_header.proofs.fits.Statement.{statement}
 use Rattle.message_header.proofs.fits.Tie as tie
-use Rattle.message_header.proofs.fits.Reads as reads
-use Rattle.message_header.proofs.fits.Lts as lts
 
 add-if1 : tie.Need-add-if1
 add-if1 c = search needs

@@ -1,12 +1,10 @@
-use native.Mathlib.Omega.{arith}
+-- `message_header::read_header` meets its contract.
+use denote.Ref.{now}
 use Rattle.message_header.proofs.HeaderCases.{header-low, header-short, header-other, header-good}
 use borrow.Author.Needs.{needs}
+use native.Mathlib.Omega.{arith}
 use Rattle.message_header.proofs.read_header.Statement.{statement}
 use Rattle.message_header.proofs.read_header.Tie as tie
-use Rattle.message_header.proofs.read_header.Reads as reads
-use Rattle.message_header.proofs.read_header.Lts as lts
-use Rattle.wire.proofs.u32_in.Reads as u32-in-reads
-use Rattle.wire.proofs.u48_in.Reads as u48-in-reads
 
 returns : tie.Need-returns
 returns c = (search header-low, tt)
@@ -23,14 +21,23 @@ u32-in-requires c κs = search needs
 returns-3 : tie.Need-returns-3
 returns-3 c = (search header-other, tt)
 
-add-u48-in : tie.Need-add-u48-in
-add-u48-in c = search needs
+add-t6 : tie.Need-add-t6
+add-t6 c = search needs
 
-u48-in-requires : tie.Need-u48-in-requires
-u48-in-requires c κs = search needs
+add-offset-in : tie.Need-add-offset-in
+add-offset-in c = search needs
+
+offset-in-requires : tie.Need-offset-in-requires
+offset-in-requires c κs = search needs
 
 returns-4 : tie.Need-returns-4
-returns-4 c = (search header-good, omega (arith, c .u48-in .ensures .small))
+returns-4 c =
+    let s = c .before .before .before .before .before .before in
+    let a = s .args in (
+      header-good (a .magic) (a .size) (now (a .m)) (a .at) (c .before .before .before .before .if1 .left) (c .before .before .before .if2 .left)
+          (c .before .before .u32-in .result) (c .before .before .u32-in .ensures) (c .before .if3 .left) (c .offset-in .result) (c .offset-in .ensures .0),
+      (omega (arith, s .pre .0, s .pre .2), c .offset-in .ensures .1),
+    )
 
 pub read-header-spec : {M : Type 1} → statement M
 read-header-spec =
@@ -41,6 +48,7 @@ read-header-spec =
     returns-2
     u32-in-requires
     returns-3
-    add-u48-in
-    u48-in-requires
+    add-t6
+    add-offset-in
+    offset-in-requires
     returns-4)

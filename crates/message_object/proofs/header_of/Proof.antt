@@ -2,14 +2,6 @@ use Rattle.message_object.proofs.OpenCases.{header-text, header-bytes, 
 use borrow.Author.Needs.{needs}
 use Rattle.message_object.proofs.header_of.Statement.{statement}
 use Rattle.message_object.proofs.header_of.Tie as tie
-use Rattle.message_object.proofs.header_of.Reads as reads
-use Rattle.message_object.proofs.header_of.Lts as lts
-use Rattle.message_header.proofs.BytesObject.header.Reads as BytesObject-header-reads
-use Rattle.message_header.proofs.ListObject.header.Reads as ListObject-header-reads
-use Rattle.message_header.proofs.TableObject.header.Reads as TableObject-header-reads
-use Rattle.message_header.proofs.TextObject.header.Reads as TextObject-header-reads
-use Rattle.schema.proofs.table_id.Reads as table-id-reads
-use Rattle.wire.proofs.index.Reads as index-reads
 
 enum-told : tie.Need-enum-told
 enum-told c = search needs

@@ -1,16 +1,8 @@
-use native.Mathlib.Omega.{arith}
-use mathlib.Core.Path.{_≡_, refl, sym, ap, _∙_}
-use borrow.Author.Tests.{le-ltb, lt-ltb, le-leb, lt-leb, eq-eqb, ne-eqb}
+-- `message_step::element_place` meets its contract.
 use Rattle.message_step.proofs.StepCases.{place-bool, place-other}
 use borrow.Author.Needs.{needs}
 use Rattle.message_step.proofs.element_place.Statement.{statement}
 use Rattle.message_step.proofs.element_place.Tie as tie
-use Rattle.message_step.proofs.element_place.Reads as reads
-use Rattle.message_step.proofs.element_place.Lts as lts
-use Rattle.message_layout.proofs.is_bool.Reads as is-bool-reads
-use Rattle.message_layout.proofs.width.Reads as width-reads
-use Rattle.message_step.proofs.times.Reads as times-reads
-use Rattle.wire.proofs.eighth.Reads as eighth-reads
 
 is-bool-requires : tie.Need-is-bool-requires
 is-bool-requires c κs = search needs

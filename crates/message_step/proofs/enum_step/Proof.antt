@@ -1,13 +1,8 @@
-use native.Mathlib.Omega.{arith}
-use mathlib.Core.Path.{_≡_, refl, sym, ap, _∙_}
-use borrow.Author.Tests.{le-ltb, lt-ltb, le-leb, lt-leb, eq-eqb, ne-eqb}
+-- `message_step::enum_step` meets its contract.
 use Rattle.message_step.proofs.StepCases.{enum-none, enum-known, enum-unknown}
 use borrow.Author.Needs.{needs}
 use Rattle.message_step.proofs.enum_step.Statement.{statement}
 use Rattle.message_step.proofs.enum_step.Tie as tie
-use Rattle.message_step.proofs.enum_step.Reads as reads
-use Rattle.message_step.proofs.enum_step.Lts as lts
-use Rattle.wire.proofs.wide.Reads as wide-reads
 
 returns : tie.Need-returns
 returns c = search enum-none

@@ -1,20 +1,10 @@
+-- `message_step::flat_step` meets its contract, by the kind.
 use native.Mathlib.Omega.{arith}
-use mathlib.Core.Path.{_≡_, refl, sym, ap, _∙_}
-use borrow.Author.Tests.{le-ltb, lt-ltb, le-leb, lt-leb, eq-eqb, ne-eqb}
 use Rattle.message_step.proofs.StepCases.{flat-boolean, flat-integer, flat-float, flat-enum, flat-struct}
-use Rattle.message_step.proofs.Inside.{boolean-there, enum-there, struct-there, integer-eight, float-eight, struct-counted}
+use Rattle.message_step.proofs.Inside.{boolean-there, enum-there, integer-eight, float-eight}
 use borrow.Author.Needs.{needs}
 use Rattle.message_step.proofs.flat_step.Statement.{statement}
 use Rattle.message_step.proofs.flat_step.Tie as tie
-use Rattle.message_step.proofs.flat_step.Reads as reads
-use Rattle.message_step.proofs.flat_step.Lts as lts
-use Rattle.message_step.proofs.enum_step.Reads as enum-step-reads
-use Rattle.message_step.proofs.float_step.Reads as float-step-reads
-use Rattle.message_step.proofs.struct_step.Reads as struct-step-reads
-use Rattle.wire.proofs.bit_value.Reads as bit-value-reads
-use Rattle.wire.proofs.byte_in.Reads as byte-in-reads
-use Rattle.wire.proofs.index.Reads as index-reads
-use Rattle.wire.proofs.number.Reads as number-reads
 
 enum-told : tie.Need-enum-told
 enum-told c = search needs
@@ -58,9 +48,6 @@ enum-step-requires c κs = search needs
 enum-known-k-4 : tie.Need-enum-known-k-4
 enum-known-k-4 c = search needs
 
-struct-step-requires : tie.Need-struct-step-requires
-struct-step-requires c κs = search (struct-counted, struct-there, needs)
-
 returns : tie.Need-returns
 returns c = search flat-boolean
 
@@ -94,7 +81,6 @@ flat-step-spec =
     byte-in-requires-2
     enum-step-requires
     enum-known-k-4
-    struct-step-requires
     returns
     returns-2
     returns-3

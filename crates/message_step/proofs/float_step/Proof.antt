@@ -1,13 +1,8 @@
-use native.Mathlib.Omega.{arith}
-use mathlib.Core.Path.{_≡_, refl, sym, ap, _∙_}
-use borrow.Author.Tests.{le-ltb, lt-ltb, le-leb, lt-leb, eq-eqb, ne-eqb}
+-- `message_step::float_step` meets its contract.
 use Rattle.message_step.proofs.StepCases.{float-none, float-value, float-plain}
 use borrow.Author.Needs.{needs}
 use Rattle.message_step.proofs.float_step.Statement.{statement}
 use Rattle.message_step.proofs.float_step.Tie as tie
-use Rattle.message_step.proofs.float_step.Reads as reads
-use Rattle.message_step.proofs.float_step.Lts as lts
-use Rattle.message_step.proofs.is_nan.Reads as is-nan-reads
 
 is-nan-requires : tie.Need-is-nan-requires
 is-nan-requires c κs = search needs

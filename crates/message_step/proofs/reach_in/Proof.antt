@@ -1,12 +1,8 @@
-use native.Mathlib.Omega.{arith}
-use mathlib.Core.Path.{_≡_, refl, sym, ap, _∙_}
-use borrow.Author.Tests.{le-ltb, lt-ltb, le-leb, lt-leb, eq-eqb, ne-eqb}
+-- `message_step::reach_in` meets its contract.
 use Rattle.message_step.proofs.ReachCases.{in-past, in-here, in-cut}
 use borrow.Author.Needs.{needs}
 use Rattle.message_step.proofs.reach_in.Statement.{statement}
 use Rattle.message_step.proofs.reach_in.Tie as tie
-use Rattle.message_step.proofs.reach_in.Reads as reads
-use Rattle.message_step.proofs.reach_in.Lts as lts
 
 returns : tie.Need-returns
 returns c = search in-past

@@ -1,14 +1,8 @@
-use native.Mathlib.Omega.{arith}
-use mathlib.Core.Path.{_≡_, refl, sym, ap, _∙_}
-use borrow.Author.Tests.{le-ltb, lt-ltb, le-leb, lt-leb, eq-eqb, ne-eqb}
+-- `message_step::reach_of` meets its contract.
 use Rattle.message_step.proofs.ReachCases.{reach-flag, reach-plain}
 use borrow.Author.Needs.{needs}
 use Rattle.message_step.proofs.reach_of.Statement.{statement}
 use Rattle.message_step.proofs.reach_of.Tie as tie
-use Rattle.message_step.proofs.reach_of.Reads as reads
-use Rattle.message_step.proofs.reach_of.Lts as lts
-use Rattle.message_step.proofs.reach_flagged.Reads as reach-flagged-reads
-use Rattle.message_step.proofs.reach_in.Reads as reach-in-reads
 
 reach-flagged-requires : tie.Need-reach-flagged-requires
 reach-flagged-requires c κs = search needs

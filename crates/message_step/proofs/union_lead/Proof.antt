@@ -1,14 +1,8 @@
-use native.Mathlib.Omega.{arith}
-use mathlib.Core.Path.{_≡_, refl, sym, ap, _∙_}
-use borrow.Author.Tests.{le-ltb, lt-ltb, le-leb, lt-leb, eq-eqb, ne-eqb}
+-- `message_step::union_lead` meets its contract.
 use Rattle.message_step.proofs.LeadCases.{lead-no-choice, lead-unknown, lead-choice-inplace, lead-choice-offset, case-sound}
 use borrow.Author.Needs.{needs}
 use Rattle.message_step.proofs.union_lead.Statement.{statement}
 use Rattle.message_step.proofs.union_lead.Tie as tie
-use Rattle.message_step.proofs.union_lead.Reads as reads
-use Rattle.message_step.proofs.union_lead.Lts as lts
-use Rattle.schema.proofs.case_count.Reads as case-count-reads
-use Rattle.schema.proofs.union_case.Reads as union-case-reads
 
 returns : tie.Need-returns
 returns c = (search lead-no-choice, tt)

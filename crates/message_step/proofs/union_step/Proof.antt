@@ -1,15 +1,8 @@
-use native.Mathlib.Omega.{arith}
-use mathlib.Core.Path.{_≡_, refl, sym, ap, _∙_}
-use borrow.Author.Tests.{le-ltb, lt-ltb, le-leb, lt-leb, eq-eqb, ne-eqb}
+-- `message_step::union_step` meets its contract.
 use Rattle.message_step.proofs.StepCases.{union-none, union-known, union-unknown}
 use borrow.Author.Needs.{needs}
 use Rattle.message_step.proofs.union_step.Statement.{statement}
 use Rattle.message_step.proofs.union_step.Tie as tie
-use Rattle.message_step.proofs.union_step.Reads as reads
-use Rattle.message_step.proofs.union_step.Lts as lts
-use Rattle.schema.proofs.case_count.Reads as case-count-reads
-use Rattle.schema.proofs.union_case.Reads as union-case-reads
-use Rattle.message_step.proofs.place_of.Reads as place-of-reads
 
 returns : tie.Need-returns
 returns c = search union-none

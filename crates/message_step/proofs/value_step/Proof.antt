@@ -1,19 +1,9 @@
-use native.Mathlib.Omega.{arith}
-use mathlib.Core.Path.{_≡_, refl, sym, ap, _∙_}
-use borrow.Author.Tests.{le-ltb, lt-ltb, le-leb, lt-leb, eq-eqb, ne-eqb}
-use Rattle.message_step.proofs.Inside.{flat-sound, flat-there, object-sound, object-there, choice-there, offset-there, union-counted}
+-- `message_step::value_step` meets its contract, by the kind.
 use Rattle.message_step.proofs.StepCases.{value-flat, value-object, value-union}
+use Rattle.message_step.proofs.Inside.{flat-sound, flat-there, object-sound, object-there, choice-there, offset-there, union-counted}
 use borrow.Author.Needs.{needs}
 use Rattle.message_step.proofs.value_step.Statement.{statement}
 use Rattle.message_step.proofs.value_step.Tie as tie
-use Rattle.message_step.proofs.value_step.Reads as reads
-use Rattle.message_step.proofs.value_step.Lts as lts
-use Rattle.message_step.proofs.flat_step.Reads as flat-step-reads
-use Rattle.message_step.proofs.object_step.Reads as object-step-reads
-use Rattle.message_step.proofs.union_step.Reads as union-step-reads
-use Rattle.wire.proofs.index.Reads as index-reads
-use Rattle.wire.proofs.u16_in.Reads as u16-in-reads
-use Rattle.wire.proofs.u48_in.Reads as u48-in-reads
 
 enum-known-k : tie.Need-enum-known-k
 enum-known-k c = search needs
@@ -24,11 +14,11 @@ flat-step-requires c κs = search (flat-sound, flat-there, needs)
 enum-known-k-2 : tie.Need-enum-known-k-2
 enum-known-k-2 c = search needs
 
-u48-in-requires : tie.Need-u48-in-requires
-u48-in-requires c κs = search object-there
+offset-in-requires : tie.Need-offset-in-requires
+offset-in-requires c κs = search object-there
 
 object-step-requires : tie.Need-object-step-requires
-object-step-requires c κs = search needs
+object-step-requires c κs = search (object-sound, needs)
 
 enum-known-k-3 : tie.Need-enum-known-k-3
 enum-known-k-3 c = search needs
@@ -42,11 +32,11 @@ u16-in-requires c κs = search choice-there
 cast-union-step : tie.Need-cast-union-step
 cast-union-step c = search needs
 
-add-u48-in : tie.Need-add-u48-in
-add-u48-in c = search needs
+add-offset-in : tie.Need-add-offset-in
+add-offset-in c = search needs
 
-u48-in-requires-2 : tie.Need-u48-in-requires-2
-u48-in-requires-2 c κs = search offset-there
+offset-in-requires-2 : tie.Need-offset-in-requires-2
+offset-in-requires-2 c κs = search offset-there
 
 union-step-requires : tie.Need-union-step-requires
 union-step-requires c κs = search (union-counted, needs)
@@ -67,14 +57,14 @@ value-step-spec =
     enum-known-k
     flat-step-requires
     enum-known-k-2
-    u48-in-requires
+    offset-in-requires
     object-step-requires
     enum-known-k-3
     index-requires
     u16-in-requires
     cast-union-step
-    add-u48-in
-    u48-in-requires-2
+    add-offset-in
+    offset-in-requires-2
     union-step-requires
     returns
     returns-2

@@ -1,4 +1,5 @@
-use Rattle.promises.proofs.Promised.{reads-field, reads-refusal}
+use Rattle.promises.proofs.Promised.{shows-entry, shows-refusal}
+use Rattle.promises.proofs.Reading.{hands-out}
 use borrow.Author.Needs.{needs}
 use Rattle.promises.proofs.field_and_sheet.Statement.{statement}
 use Rattle.promises.proofs.field_and_sheet.Tie as tie
@@ -16,11 +17,22 @@ returns : tie.Need-returns
 returns c =
     let ea = c .before .before .read .ensures .0 in
     let eo = c .before .before .read .ensures .1 in
-    let eq = c .before .before .before .before .field .ensures in (
+    let eq = c .before .before .before .before .field .ensures in
+    let schema-known = c .before .before .before .before .before .before .before .before .shared-slice-known in
+    let message-known = c .before .before .before .before .before .before .before .shared-slice-known2 in (
       eq,
       (
-        λ h short. reads-field _ _ (λ i. c .before .before .before .before .before .before .before .before .shared-slice-known .given i .fits) (λ i. c .before .before .before .before .before .before .before .shared-slice-known2 .given i .fits) _ _ _ _ ea eo h _ short _ eq,
-        λ h short. reads-refusal _ _ (λ i. c .before .before .before .before .before .before .before .before .shared-slice-known .given i .fits) (λ i. c .before .before .before .before .before .before .before .shared-slice-known2 .given i .fits) _ _ _ _ ea eo h _ short _ eq,
+        ea,
+        (
+          eo,
+          (
+            λ accepted short. shows-entry _ _ (λ i. schema-known .given i .fits) (λ i. message-known .given i .fits) _ _ accepted short _ eq,
+            (
+              hands-out _ _ _ _ _ _ ea eo,
+              λ accepted short. shows-refusal _ _ (λ i. schema-known .given i .fits) (λ i. message-known .given i .fits) _ _ accepted short _ eq,
+            ),
+          ),
+        ),
       ),
     )
 

@@ -11,7 +11,9 @@ judge-requires-2 c κs = search needs
 
 returns : tie.Need-returns
 returns c =
-    both-judge _ _ _ _ (λ i. c .before .before .before .before .shared-slice-known .given i .fits) _ _ (c .before .judge .ensures) (c .judge2 .ensures)
+    let er = c .before .judge .ensures in
+    let es = c .judge2 .ensures in
+    (er, (es, both-judge _ _ _ _ (λ i. c .before .before .before .before .shared-slice-known .given i .fits) _ _ er es))
 
 pub judged-by-both-spec : {M : Type 1} → statement M
 judged-by-both-spec = tie.close (tie.spec judge-requires judge-requires-2 returns)

@@ -1,5 +1,5 @@
 use Rattle.promises.proofs.Promised.{reads-exactly, reads-arrivals, reads-room, reads-lawful}
-use Rattle.promises.proofs.Reading.{refused-kept}
+use Rattle.promises.proofs.Reading.{hands-out, refused-kept}
 use borrow.Author.Needs.{needs}
 use Rattle.promises.proofs.read.Statement.{statement}
 use Rattle.promises.proofs.read.Tie as tie
@@ -14,11 +14,26 @@ returns : tie.Need-returns
 returns c =
     let ea = c .before .before .read .ensures .0 in
     let eo = c .before .before .read .ensures .1 in
-    let shown =
-    reads-lawful _ _ (λ i. c .before .before .before .before .before .before .shared-slice-known .given i .fits)
-    (λ i. c .before .before .before .before .before .shared-slice-known2 .given i .fits)
-    _ _ _ _ ea eo in
-    (ea, (eo, (reads-exactly _ _ _ _ _ ea, (reads-arrivals _ _ _ _ _ ea, (reads-room _ _ _ _ _ ea, (refused-kept _ _ _ _ _ _ ea eo, shown))))))
+    let schema-known = c .before .before .before .before .before .before .shared-slice-known in
+    let message-known = c .before .before .before .before .before .shared-slice-known2 in (
+      ea,
+      (
+        eo,
+        (
+          reads-exactly _ _ _ _ _ ea,
+          (
+            reads-arrivals _ _ _ _ _ ea,
+            (
+              reads-room _ _ _ _ _ ea,
+              (
+                refused-kept _ _ _ _ _ _ ea eo,
+                (hands-out _ _ _ _ _ _ ea eo, reads-lawful _ _ (λ i. schema-known .given i .fits) (λ i. message-known .given i .fits) _ _ _ _ ea eo),
+              ),
+            ),
+          ),
+        ),
+      ),
+    )
 
 pub read-spec : {M : Type 1} → statement M
 read-spec = tie.close (tie.spec read-requires same-length returns)

@@ -1,4 +1,5 @@
-use Rattle.promises.proofs.Promised.{both-read}
+use Rattle.promises.proofs.Promised.{older-reads, older-hands-out}
+use Rattle.promises.proofs.Reading.{hands-out}
 use borrow.Author.Needs.{needs}
 use Rattle.promises.proofs.read_by_both.Statement.{statement}
 use Rattle.promises.proofs.read_by_both.Tie as tie
@@ -17,9 +18,28 @@ same-length-2 c = search needs
 
 returns : tie.Need-returns
 returns c =
-    both-read _ _ _ (λ i. c .before .before .before .before .before .before .before .before .before .before .before .before .shared-slice-known .given i .fits) (λ i. c .before .before .before .before .before .before .before .before .before .before .before .shared-slice-known2 .given i .fits)
-    (λ i. c .before .before .before .before .before .before .before .before .before .before .shared-slice-known3 .given i .fits) _ _ _ _ _ _ _ (c .before .before .before .before .before .before .read .ensures .0) (c .before .before .before .before .before .before .read .ensures .1)
-    (c .before .before .read2 .ensures .0) (c .before .before .read2 .ensures .1)
+    let ea = c .before .before .before .before .before .before .read .ensures .0 in
+    let eo = c .before .before .before .before .before .before .read .ensures .1 in
+    let ec = c .before .before .read2 .ensures .0 in
+    let en = c .before .before .read2 .ensures .1 in
+    let older-known = c .before .before .before .before .before .before .before .before .before .before .before .before .shared-slice-known in
+    let newer-known = c .before .before .before .before .before .before .before .before .before .before .before .shared-slice-known2 in
+    let message-known = c .before .before .before .before .before .before .before .before .before .before .shared-slice-known3 in (
+      ea,
+      (
+        eo,
+        (
+          ec,
+          (
+            en,
+            (
+              older-reads _ _ _ (λ i. older-known .given i .fits) (λ i. newer-known .given i .fits) (λ i. message-known .given i .fits) _ _ _ _ ea eo,
+              (older-hands-out _ _ _ (λ i. older-known .given i .fits) (λ i. newer-known .given i .fits) (λ i. message-known .given i .fits) _ _ _ _ ea eo, hands-out _ _ _ _ _ _ ec en),
+            ),
+          ),
+        ),
+      ),
+    )
 
 pub read-by-both-spec : {M : Type 1} → statement M
 read-by-both-spec =

@@ -1,4 +1,5 @@
-use Rattle.promises.proofs.Promised.{reads-text, there-exactly, there-long}
+use Rattle.promises.proofs.Promised.{shows-text, there-exactly, there-long}
+use Rattle.promises.proofs.Reading.{hands-out}
 use borrow.Author.Needs.{needs}
 use Rattle.promises.proofs.text_and_sheet.Statement.{statement}
 use Rattle.promises.proofs.text_and_sheet.Tie as tie
@@ -17,15 +18,26 @@ returns c =
     let ea = c .before .before .read .ensures .0 in
     let eo = c .before .before .read .ensures .1 in
     let ep = c .before .before .before .before .text-span .ensures .0 in
-    let within = c .before .before .before .before .text-span .ensures .1 in (
+    let within = c .before .before .before .before .text-span .ensures .1 in
+    let schema-known = c .before .before .before .before .before .before .before .before .shared-slice-known in
+    let message-known = c .before .before .before .before .before .before .before .shared-slice-known2 in (
       ep,
       (
-        within,
+        ea,
         (
-          there-exactly _ _ _ _ ep,
+          eo,
           (
-            there-long _ _ _ _ ep,
-            λ h short. reads-text _ _ (λ i. c .before .before .before .before .before .before .before .before .shared-slice-known .given i .fits) (λ i. c .before .before .before .before .before .before .before .shared-slice-known2 .given i .fits) _ _ _ _ ea eo h _ short _ ep,
+            within,
+            (
+              there-exactly _ _ _ _ ep,
+              (
+                there-long _ _ _ _ ep,
+                (
+                  λ accepted short. shows-text _ _ (λ i. schema-known .given i .fits) (λ i. message-known .given i .fits) _ _ accepted short _ ep,
+                  hands-out _ _ _ _ _ _ ea eo,
+                ),
+              ),
+            ),
           ),
         ),
       ),

@@ -1,5 +1,5 @@
-use Rattle.promises.proofs.Writing.{within-room, part-length}
 use Rattle.promises.proofs.Trips.{same-verdict}
+use Rattle.promises.proofs.Writing.{within-room, part-length}
 use borrow.Author.Needs.{needs}
 use Rattle.promises.proofs.write_then_judge.Statement.{statement}
 use Rattle.promises.proofs.write_then_judge.Tie as tie
@@ -30,9 +30,21 @@ same-length c = search needs
 
 returns : tie.Need-returns
 returns c =
-    λ appends h.
-    same-verdict _ _ (λ i. c .before .before .before .before .before .before .before .before .before .before .before .shared-slice-known .given i .fits) (λ i. c .before .before .before .before .before .before .before .before .before .shared-slice-known3 .given i .fits) _ _ _
-    (c .before .before .before .before .before .before .write .ensures .0) (c .before .before .before .before .before .before .write .ensures .1) h _ _ appends _ _ (c .before .before .judge .ensures) (c .judge2 .ensures)
+    let ew = c .before .before .before .before .before .before .write .ensures .0 in
+    let er = c .before .before .before .before .before .before .write .ensures .1 in
+    let by-older = c .before .before .judge .ensures in
+    let by-newer = c .judge2 .ensures in
+    let older-known = c .before .before .before .before .before .before .before .before .before .before .before .shared-slice-known in
+    let sheet-known = c .before .before .before .before .before .before .before .before .before .shared-slice-known3 in (
+      ew,
+      (
+        er,
+        (
+          by-older,
+          (by-newer, λ appends h. same-verdict _ _ (λ i. older-known .given i .fits) (λ i. sheet-known .given i .fits) _ _ _ ew er h _ appends _ _ _ by-older by-newer),
+        ),
+      ),
+    )
 
 pub write-then-judge-spec : {M : Type 1} → statement M
 write-then-judge-spec =

@@ -1,5 +1,5 @@
+use Rattle.promises.proofs.Trips.{reads-back, trip-sheet, spends-all}
 use Rattle.promises.proofs.Writing.{within-room, part-length}
-use Rattle.promises.proofs.Trips.{reads-back, spends-all}
 use borrow.Author.Needs.{needs}
 use Rattle.promises.proofs.write_then_read.Statement.{statement}
 use Rattle.promises.proofs.write_then_read.Tie as tie
@@ -23,14 +23,31 @@ same-length-2 : tie.Need-same-length-2
 same-length-2 c = search needs
 
 returns : tie.Need-returns
-returns c = (
-  λ h.
-      reads-back _ _ (λ i. c .before .before .before .before .before .before .before .before .before .before .before .before .shared-slice-known .given i .fits) (λ i. c .before .before .before .before .before .before .before .before .before .before .before .shared-slice-known2 .given i .fits) _ _ _
-      (c .before .before .before .before .before .before .before .write .ensures .0) (c .before .before .before .before .before .before .before .write .ensures .1) h _ _ _ _ (c .before .before .read .ensures .0) (c .before .before .read .ensures .1),
-  λ h.
-      spends-all _ _ (λ i. c .before .before .before .before .before .before .before .before .before .before .before .before .shared-slice-known .given i .fits) (λ i. c .before .before .before .before .before .before .before .before .before .before .before .shared-slice-known2 .given i .fits) _ _ _
-      (c .before .before .before .before .before .before .before .write .ensures .0) (c .before .before .before .before .before .before .before .write .ensures .1) h _ _ _ _ (c .before .before .read .ensures .0) (c .before .before .read .ensures .1),
-)
+returns c =
+    let ew = c .before .before .before .before .before .before .before .write .ensures .0 in
+    let er = c .before .before .before .before .before .before .before .write .ensures .1 in
+    let ea = c .before .before .read .ensures .0 in
+    let eo = c .before .before .read .ensures .1 in
+    let schema-known = c .before .before .before .before .before .before .before .before .before .before .before .before .shared-slice-known in
+    let sheet-known = c .before .before .before .before .before .before .before .before .before .before .before .shared-slice-known2 in (
+      ew,
+      (
+        er,
+        (
+          ea,
+          (
+            eo,
+            (
+              λ h. reads-back _ _ (λ i. schema-known .given i .fits) (λ i. sheet-known .given i .fits) _ _ _ ew er h _ _ _ _ ea eo,
+              (
+                λ h. trip-sheet _ _ (λ i. schema-known .given i .fits) (λ i. sheet-known .given i .fits) _ _ _ ew er h,
+                λ h. spends-all _ _ (λ i. schema-known .given i .fits) (λ i. sheet-known .given i .fits) _ _ _ ew er h _ _ _ _ ea eo,
+              ),
+            ),
+          ),
+        ),
+      ),
+    )
 
 pub write-then-read-spec : {M : Type 1} → statement M
 write-then-read-spec =

@@ -1,5 +1,5 @@
+use Rattle.promises.proofs.Trips.{reads-added, hands-added, added-sheet}
 use Rattle.promises.proofs.Writing.{within-room, part-length}
-use Rattle.promises.proofs.Trips.{reads-added}
 use borrow.Author.Needs.{needs}
 use Rattle.promises.proofs.write_then_read_newer.Statement.{statement}
 use Rattle.promises.proofs.write_then_read_newer.Tie as tie
@@ -24,9 +24,30 @@ same-length-2 c = search needs
 
 returns : tie.Need-returns
 returns c =
-    λ appends h.
-    reads-added _ _ (λ i. c .before .before .before .before .before .before .before .before .before .before .before .before .before .shared-slice-known .given i .fits) (λ i. c .before .before .before .before .before .before .before .before .before .before .before .shared-slice-known3 .given i .fits) _ _ _
-    (c .before .before .before .before .before .before .before .write .ensures .0) (c .before .before .before .before .before .before .before .write .ensures .1) h _ _ appends _ _ _ (c .before .before .read .ensures .0) (c .before .before .read .ensures .1)
+    let ew = c .before .before .before .before .before .before .before .write .ensures .0 in
+    let er = c .before .before .before .before .before .before .before .write .ensures .1 in
+    let ea = c .before .before .read .ensures .0 in
+    let eo = c .before .before .read .ensures .1 in
+    let older-known = c .before .before .before .before .before .before .before .before .before .before .before .before .before .shared-slice-known in
+    let sheet-known = c .before .before .before .before .before .before .before .before .before .before .before .shared-slice-known3 in (
+      ew,
+      (
+        er,
+        (
+          ea,
+          (
+            eo,
+            (
+              λ appends h. reads-added _ _ (λ i. older-known .given i .fits) (λ i. sheet-known .given i .fits) _ _ _ ew er h _ appends _ _ _ _ ea eo,
+              (
+                λ appends h. hands-added _ _ (λ i. older-known .given i .fits) (λ i. sheet-known .given i .fits) _ _ _ ew er h _ appends _ _ _ _ ea eo,
+                λ appends h. added-sheet _ _ (λ i. older-known .given i .fits) (λ i. sheet-known .given i .fits) _ _ _ ew er h _ appends,
+              ),
+            ),
+          ),
+        ),
+      ),
+    )
 
 pub write-then-read-newer-spec : {M : Type 1} → statement M
 write-then-read-newer-spec =

@@ -4,11 +4,17 @@ use borrow.Author.Needs.{needs}
 use Rattle.schema.proofs.kind_of.Statement.{statement}
 use Rattle.schema.proofs.kind_of.Tie as tie
 
+is-flat-kind-requires : tie.Need-is-flat-kind-requires
+is-flat-kind-requires c κs = search needs
+
 flat-of-requires : tie.Need-flat-of-requires
 flat-of-requires c κs = search needs
 
 returns : tie.Need-returns
 returns c = search whole-1
+
+is-object-kind-requires : tie.Need-is-object-kind-requires
+is-object-kind-requires c κs = search needs
 
 object-of-requires : tie.Need-object-of-requires
 object-of-requires c κs = search needs
@@ -20,4 +26,6 @@ returns-3 : tie.Need-returns-3
 returns-3 c = search whole-3
 
 pub kind-of-spec : {M : Type 1} → statement M
-kind-of-spec = tie.close (tie.spec flat-of-requires returns object-of-requires returns-2 returns-3)
+kind-of-spec =
+    tie.close
+    (tie.spec is-flat-kind-requires flat-of-requires returns is-object-kind-requires object-of-requires returns-2 returns-3)

@@ -6,7 +6,7 @@ use Rattle.sheet_values.proofs.put_float.Reads as reads
 use Rattle.sheet_values.proofs.put_float.Lts as lts
 use Rattle.bitio.proofs.write.Reads as write-reads
 use Rattle.sheet_values.proofs.put_marked.Reads as put-marked-reads
-use Rattle.message_step.proofs.is_nan.Reads as is-nan-reads
+use Rattle.wire.proofs.is_nan.Reads as is-nan-reads
 use Rattle.wire.proofs.index.Reads as index-reads
 
 is-nan-requires : tie.Need-is-nan-requires

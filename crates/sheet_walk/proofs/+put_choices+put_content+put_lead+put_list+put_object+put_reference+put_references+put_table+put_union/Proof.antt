@@ -3,6 +3,7 @@ use mathlib.Core.Path.{_≡_, refl, sym, _∙_}
 use native.Mathlib.Omega.{arith}
 use borrow.Author.Needs.{needs}
 use lib.ListN.{length, drop}
+use Rattle.coding.specs.Bytes.{u48}
 use Rattle.coding.specs.Packed as P
 use Rattle.coding.specs.Schema as Sc
 use Rattle.coding.specs.Layout as L
@@ -18,10 +19,11 @@ use Rattle.sheet_walk.specs.Readable as D
 use Rattle.sheet_walk.proofs.Objects.{member-sound-of, object-none, header-there, content-readable, object-content, content-text, content-bytes, content-list, content-table, table-counted, table-inside, table-readable, list-counted, list-inside, list-readable}
 use Rattle.sheet_walk.proofs.Values.{reference-none, reference-there, reference-readable, choice-none, choice-unknown, choice-known, case-readable}
 use Rattle.sheet_walk.proofs.Parts.{members-start, readable-start, member-readable, rest-readable, members-turn, members-done, coded-rest, coded-turn, elements-start, elements-readable, elements-rest, elements-done, integer-eight, element-sound, list-few, list-start, list-bools, list-numbers, elements-inside, elements-given}
+use Rattle.sheet_walk.proofs.Blobs.{blob-inside, blob-referred}
 use Rattle.sheet_walk.proofs.Runs.{list-bytes, element-flat, list-flats}
 use Rattle.sheet_walk.proofs.References.{offset-readable, offsets-turn, offsets-inside, offsets-given, list-offsets, chosen-readable, choices-turn, choices-inside, choices-given, list-choices}
 use Rattle.sheet_walk.proofs.CodedMembers.{coded-laid, coded-member}
-use Rattle.sheet_walk.proofs.Leads.{lead-known, flat-member, lead-next, lead-past, chosen-given, lead-chosen, referred-given, lead-referred, lead-counted, width-union, width-object, lead-laid, lead-readable, lead-rest, lead-turn}
+use Rattle.sheet_walk.proofs.Leads.{lead-known, lead-above, flat-member, lead-next, lead-past, chosen-given, lead-chosen, referred-given, lead-referred, lead-counted, width-union, width-object, lead-laid, lead-readable, lead-rest, lead-turn}
 use borrow.Fn.Kinds.{In}
 use borrow.Fn.PlainCycle.{Measures, is, falls, and}
 use Rattle.sheet_walk.proofs.put_choices.Reads as put-choices
@@ -54,24 +56,25 @@ use Rattle.sheet_walk.proofs.+put_choices+put_content+put_lead+put_list
 use Rattle.bitio.proofs.write.Reads as write-reads
 use Rattle.bitio.proofs.write_blob.Reads as write-blob-reads
 use Rattle.sheet_walk.proofs.behind_coded.Reads as behind-coded-reads
-use Rattle.sheet_walk.proofs.behind_plain.Reads as behind-plain-reads
+use Rattle.message_layout.proofs.after_bytes.Reads as after-bytes-reads
 use Rattle.sheet_walk.proofs.code_at.Reads as code-at-reads
-use Rattle.sheet_walk.proofs.integer_width.Reads as integer-width-reads
-use Rattle.sheet_walk.proofs.is_blob.Reads as is-blob-reads
+use Rattle.schema.proofs.integer_width.Reads as integer-width-reads
+use Rattle.schema.proofs.is_blob.Reads as is-blob-reads
 use Rattle.sheet_walk.proofs.lead_width.Reads as lead-width-reads
-use Rattle.sheet_walk.proofs.length_of.Reads as length-of-reads
+use Rattle.sheet_walk.proofs.content_of.Reads as content-of-reads
 use Rattle.sheet_walk.proofs.member_at.Reads as member-at-reads
-use Rattle.sheet_walk.proofs.refer_blob.Reads as refer-blob-reads
-use Rattle.sheet_walk.proofs.start_of.Reads as start-of-reads
+use Rattle.sheet_walk.proofs.put_blob_reference.Reads as put-blob-reference-reads
+use Rattle.schema.proofs.is_flat_kind.Reads as is-flat-kind-reads
+use Rattle.schema.proofs.is_union_kind.Reads as is-union-kind-reads
 use Rattle.sheet_walk.proofs.put_coded.Reads as put-coded-reads
 use Rattle.sheet_walk.proofs.put_flats.Reads as put-flats-reads
 use Rattle.sheet_walk.proofs.put_flat_member.Reads as put-flat-member-reads
 use Rattle.message_layout.proofs.begin.Reads as begin-reads
 use Rattle.message_layout.proofs.is_bool.Reads as is-bool-reads
 use Rattle.sheet_values.proofs.number64.Reads as number64-reads
-use Rattle.sheet_values.proofs.put_bools.Reads as put-bools-reads
+use Rattle.sheet_lists.proofs.put_bools.Reads as put-bools-reads
 use Rattle.sheet_values.proofs.put_marked.Reads as put-marked-reads
-use Rattle.sheet_values.proofs.put_numbers.Reads as put-numbers-reads
+use Rattle.sheet_lists.proofs.put_numbers.Reads as put-numbers-reads
 use Rattle.schema.proofs.argument_at.Reads as argument-at-reads
 use Rattle.schema.proofs.case_count.Reads as case-count-reads
 use Rattle.schema.proofs.element.Reads as element-reads
@@ -85,7 +88,7 @@ use Rattle.schema.proofs.union_case.Reads as union-case-reads
 use Rattle.message_step.proofs.place_of.Reads as place-of-reads
 use Rattle.wire.proofs.index.Reads as index-reads
 use Rattle.wire.proofs.u16_in.Reads as u16-in-reads
-use Rattle.wire.proofs.u48_in.Reads as u48-in-reads
+use Rattle.wire.proofs.offset_in.Reads as offset-in-reads
 use Rattle.sheet_walk.proofs.+put_choices+put_content+put_lead+put_list+put_object+put_reference+put_references+put_table+put_union.{
   statement,
 }
@@ -221,39 +224,40 @@ put-union-below t =
     and 4 put-union-kinds.ps (falls 4 put-union-kinds.ps _<_ μ-put-union t) put-union.Pre
 
 abbrev put-choices-R : ℕ → put-choices-lts.Claims
-put-choices-R t = (u16-in-reads.Asked, u16-in-reads.Learnt, u48-in-reads.Asked, u48-in-reads.Learnt, put-union-below t, put-union.Post)
+put-choices-R t = (u16-in-reads.Asked, u16-in-reads.Learnt, offset-in-reads.Asked, offset-in-reads.Learnt, put-union-below t, put-union.Post)
 
 abbrev put-content-R : ℕ → put-content-lts.Claims
 put-content-R t = (write-blob-reads.Asked, write-blob-reads.Learnt, index-reads.Asked, index-reads.Learnt, put-list-below t, put-list.Post, put-table-below t, put-table.Post)
 
 abbrev put-lead-R : ℕ → put-lead-lts.Claims
-put-lead-R t = (kind-at-reads.Asked, kind-at-reads.Learnt, lead-width-reads.Asked, lead-width-reads.Learnt, write-reads.Asked, write-reads.Learnt, inplace-at-reads.Asked, inplace-at-reads.Learnt, argument-at-reads.Asked, argument-at-reads.Learnt, index-reads.Asked, index-reads.Learnt, u16-in-reads.Asked, u16-in-reads.Learnt, u48-in-reads.Asked, u48-in-reads.Learnt, put-union-below t, put-union.Post, object-at-reads.Asked, object-at-reads.Learnt, is-blob-reads.Asked, is-blob-reads.Learnt, refer-blob-reads.Asked, refer-blob-reads.Learnt, put-reference-below t, put-reference.Post)
+put-lead-R t = (kind-at-reads.Asked, kind-at-reads.Learnt, lead-width-reads.Asked, lead-width-reads.Learnt, write-reads.Asked, write-reads.Learnt, inplace-at-reads.Asked, inplace-at-reads.Learnt, is-union-kind-reads.Asked, is-union-kind-reads.Learnt, argument-at-reads.Asked, argument-at-reads.Learnt, index-reads.Asked, index-reads.Learnt, u16-in-reads.Asked, u16-in-reads.Learnt, offset-in-reads.Asked, offset-in-reads.Learnt, put-union-below t, put-union.Post, object-at-reads.Asked, object-at-reads.Learnt, is-blob-reads.Asked, is-blob-reads.Learnt, put-blob-reference-reads.Asked, put-blob-reference-reads.Learnt, put-reference-below t, put-reference.Post)
 
 abbrev put-list-R : ℕ → put-list-lts.Claims
 put-list-R t = (element-reads.Asked, element-reads.Learnt, integer-width-reads.Asked, integer-width-reads.Learnt, write-blob-reads.Asked, write-blob-reads.Learnt, number64-reads.Asked, number64-reads.Learnt, write-reads.Asked, write-reads.Learnt, is-bool-reads.Asked, is-bool-reads.Learnt, put-bools-reads.Asked, put-bools-reads.Learnt, put-numbers-reads.Asked, put-numbers-reads.Learnt, put-flats-reads.Asked, put-flats-reads.Learnt, put-references-below t, put-references.Post, index-reads.Asked, index-reads.Learnt, put-choices-below t, put-choices.Post)
 
 abbrev put-object-R : ℕ → put-object-lts.Claims
-put-object-R t = (start-of-reads.Asked, start-of-reads.Learnt, length-of-reads.Asked, length-of-reads.Learnt, put-content-below t, put-content.Post)
+put-object-R t = (content-of-reads.Asked, content-of-reads.Learnt, put-content-below t, put-content.Post)
 
 abbrev put-reference-R : ℕ → put-reference-lts.Claims
 put-reference-R t = (write-reads.Asked, write-reads.Learnt, place-of-reads.Asked, place-of-reads.Learnt, put-object-below t, put-object.Post)
 
 abbrev put-references-R : ℕ → put-references-lts.Claims
-put-references-R t = (u48-in-reads.Asked, u48-in-reads.Learnt, put-reference-below t, put-reference.Post)
+put-references-R t = (offset-in-reads.Asked, offset-in-reads.Learnt, put-reference-below t, put-reference.Post)
 
 abbrev put-table-R : ℕ → put-table-lts.Claims
-put-table-R t = (member-count-reads.Asked, member-count-reads.Learnt, table-place-reads.Asked, table-place-reads.Learnt, begin-reads.Asked, begin-reads.Learnt, record-place-reads.Asked, record-place-reads.Learnt, code-at-reads.Asked, code-at-reads.Learnt, put-coded-reads.Asked, put-coded-reads.Learnt, behind-coded-reads.Asked, behind-coded-reads.Learnt, kind-at-reads.Asked, kind-at-reads.Learnt, put-lead-below t, put-lead.Post, lead-width-reads.Asked, lead-width-reads.Learnt, behind-plain-reads.Asked, behind-plain-reads.Learnt, member-at-reads.Asked, member-at-reads.Learnt, put-flat-member-reads.Asked, put-flat-member-reads.Learnt)
+put-table-R t = (member-count-reads.Asked, member-count-reads.Learnt, table-place-reads.Asked, table-place-reads.Learnt, begin-reads.Asked, begin-reads.Learnt, record-place-reads.Asked, record-place-reads.Learnt, code-at-reads.Asked, code-at-reads.Learnt, put-coded-reads.Asked, put-coded-reads.Learnt, behind-coded-reads.Asked, behind-coded-reads.Learnt, kind-at-reads.Asked, kind-at-reads.Learnt, is-flat-kind-reads.Asked, is-flat-kind-reads.Learnt, put-lead-below t, put-lead.Post, lead-width-reads.Asked, lead-width-reads.Learnt, after-bytes-reads.Asked, after-bytes-reads.Learnt, member-at-reads.Asked, member-at-reads.Learnt, put-flat-member-reads.Asked, put-flat-member-reads.Learnt)
 
 abbrev put-union-R : ℕ → put-union-lts.Claims
 put-union-R t = (write-reads.Asked, write-reads.Learnt, case-count-reads.Asked, case-count-reads.Learnt, number64-reads.Asked, number64-reads.Learnt, put-marked-reads.Asked, put-marked-reads.Learnt, union-case-reads.Asked, union-case-reads.Learnt, place-of-reads.Asked, place-of-reads.Learnt, put-object-below t, put-object.Post)
 
 abbrev put-choices-Inv-loop : put-choices-lts.InvT-loop
-put-choices-Inv-loop b dir m out₀ d u start n pos p₀ at₀ j₀ out p at j =
-    Room out p × (j ≤ n) × (length out ≡ length out₀) × (at ≡ start + 8 * j) × D.ElementsReadable (D.ObjectReadable d (P.parse b) m) (P.parse b) m (OfUnion u) start (n - j) j
-    × Remaining out₀ pos (A.elementsAt d (P.parse b) m (OfUnion u) start n 0) out p (A.elementsAt d (P.parse b) m (OfUnion u) start (n - j) j)
+put-choices-Inv-loop b dir m out₀ d u pos n p₀ start j₀ out p at j =
+    Room out p × (j ≤ n) × (length out ≡ length out₀) × (at ≡ start + 8 * j)
+    × D.ElementsReadable u48 (D.ObjectReadable u48 d (P.parse b) m) (P.parse b) m (OfUnion u) start (n - j) j
+    × Remaining out₀ pos (A.elementsAt u48 d (P.parse b) m (OfUnion u) start n 0) out p (A.elementsAt u48 d (P.parse b) m (OfUnion u) start (n - j) j)
 
 abbrev put-choices-μ-loop : put-choices-lts.MeasureT-loop
-put-choices-μ-loop b dir m out₀ d u start n pos p₀ at₀ j₀ out p at j = n - j
+put-choices-μ-loop b dir m out₀ d u pos n p₀ start j₀ out p at j = n - j
 
 put-choices-loop-holds : (t : ℕ) → put-choices-lts.Need-loop-holds (put-choices-R t) (put-choices-at t) put-choices.Post put-choices-Inv-loop put-choices-μ-loop
 put-choices-loop-holds t c = (search needs, omega arith, refl, omega arith, search elements-readable, search elements-start)
@@ -267,17 +271,17 @@ put-choices-returns t c = search remaining-over
 put-choices-u16-in-requires : (t : ℕ) → put-choices-lts.Need-u16-in-requires (put-choices-R t) (put-choices-at t) put-choices.Post put-choices-Inv-loop put-choices-μ-loop
 put-choices-u16-in-requires t c κs = search needs
 
-put-choices-add-u48-in : (t : ℕ) → put-choices-lts.Need-add-u48-in (put-choices-R t) (put-choices-at t) put-choices.Post put-choices-Inv-loop put-choices-μ-loop
-put-choices-add-u48-in t c = search needs
+put-choices-add-offset-in : (t : ℕ) → put-choices-lts.Need-add-offset-in (put-choices-R t) (put-choices-at t) put-choices.Post put-choices-Inv-loop put-choices-μ-loop
+put-choices-add-offset-in t c = search needs
 
-put-choices-u48-in-requires : (t : ℕ) → put-choices-lts.Need-u48-in-requires (put-choices-R t) (put-choices-at t) put-choices.Post put-choices-Inv-loop put-choices-μ-loop
-put-choices-u48-in-requires t c κs = search needs
+put-choices-offset-in-requires : (t : ℕ) → put-choices-lts.Need-offset-in-requires (put-choices-R t) (put-choices-at t) put-choices.Post put-choices-Inv-loop put-choices-μ-loop
+put-choices-offset-in-requires t c κs = search needs
 
 put-choices-put-union-requires : (t : ℕ) → put-choices-lts.Need-put-union-requires (put-choices-R t) (put-choices-at t) put-choices.Post put-choices-Inv-loop put-choices-μ-loop
 put-choices-put-union-requires t c κs =
     let q = c .before .before .before .before .before .before .before .before .before .before .pre .1 in
     let inv = c .before .before .before .before .before .loop .inv in
-    (omega (arith, c .before .before .before .before .before .before .before .before .before .before .pre .0), (inv .0, ((q .1 .0 .0, q .1 .0 .1, q .1 .0 .2), chosen-readable _ _ _ _ _ _ _ (c .before .before .before .before .loop-test .taken) (inv .4) _ _ _ (inv .3) (c .before .before .u16-in .ensures) (c .before .u48-in .ensures))))
+    (omega (arith, c .before .before .before .before .before .before .before .before .before .before .pre .0), (inv .0, ((q .1 .0 .0, q .1 .0 .1, q .1 .0 .2), chosen-readable _ _ _ _ _ _ _ (c .before .before .before .before .loop-test .taken) (inv .4) _ _ _ (inv .3) (c .before .before .u16-in .ensures) (c .before .offset-in .ensures .0))))
 
 put-choices-add-at : (t : ℕ) → put-choices-lts.Need-add-at (put-choices-R t) (put-choices-at t) put-choices.Post put-choices-Inv-loop put-choices-μ-loop
 put-choices-add-at t c = search needs
@@ -298,7 +302,7 @@ put-choices-loop-again t c =
       omega (arith, put .len, inv .2),
       omega (arith, inv .3),
       search (elements-rest, less, inv .4),
-      search (choices-turn, less, inv .4, inv .3, c .before .before .before .before .before .u16-in .ensures, c .before .before .before .before .u48-in .ensures, inv .5, inv .0, put),
+      search (choices-turn, less, inv .4, inv .3, c .before .before .before .before .before .u16-in .ensures, c .before .before .before .before .offset-in .ensures .0, inv .5, inv .0, put),
     )
 
 put-choices-same-length-2 : (t : ℕ) → put-choices-lts.Need-same-length-2 (put-choices-R t) (put-choices-at t) put-choices.Post put-choices-Inv-loop put-choices-μ-loop
@@ -365,6 +369,9 @@ put-content-same-length-4 t c = search needs
 put-content-returns-4 : (t : ℕ) → put-content-lts.Need-returns-4 (put-content-R t) (put-content-at t) put-content.Post
 put-content-returns-4 t c = search content-table
 
+put-lead-add-tail : (t : ℕ) → put-lead-lts.Need-add-tail (put-lead-R t) (put-lead-at t) put-lead.Post
+put-lead-add-tail t c = search needs
+
 put-lead-kind-at-requires : (t : ℕ) → put-lead-lts.Need-kind-at-requires (put-lead-R t) (put-lead-at t) put-lead.Post
 put-lead-kind-at-requires t c κs = search needs
 
@@ -372,7 +379,7 @@ put-lead-lead-width-requires : (t : ℕ) → put-lead-lts.Need-lead-width-requir
 put-lead-lead-width-requires t c κs = search needs
 
 put-lead-add-if1 : (t : ℕ) → put-lead-lts.Need-add-if1 (put-lead-R t) (put-lead-at t) put-lead.Post
-put-lead-add-if1 t c = omega (arith, c .before .before .before .before .before .before .pre .1 .1 .1 .0 .3, c .lead-width .ensures .1)
+put-lead-add-if1 t c = omega (arith, c .before .before .before .before .before .before .before .pre .1 .1 .1 .0 .3, c .lead-width .ensures .2)
 
 put-lead-write-requires : (t : ℕ) → put-lead-lts.Need-write-requires (put-lead-R t) (put-lead-at t) put-lead.Post
 put-lead-write-requires t c κs = search needs
@@ -389,6 +396,9 @@ put-lead-inplace-at-requires t c κs = search needs
 put-lead-add-from : (t : ℕ) → put-lead-lts.Need-add-from (put-lead-R t) (put-lead-at t) put-lead.Post
 put-lead-add-from t c = search needs
 
+put-lead-is-union-kind-requires : (t : ℕ) → put-lead-lts.Need-is-union-kind-requires (put-lead-R t) (put-lead-at t) put-lead.Post
+put-lead-is-union-kind-requires t c κs = search needs
+
 put-lead-argument-at-requires : (t : ℕ) → put-lead-lts.Need-argument-at-requires (put-lead-R t) (put-lead-at t) put-lead.Post
 put-lead-argument-at-requires t c κs = search needs
 
@@ -396,36 +406,42 @@ put-lead-index-requires : (t : ℕ) → put-lead-lts.Need-index-requires (put-le
 put-lead-index-requires t c κs = search needs
 
 put-lead-u16-in-requires : (t : ℕ) → put-lead-lts.Need-u16-in-requires (put-lead-R t) (put-lead-at t) put-lead.Post
-put-lead-u16-in-requires t c κs = omega (arith, c .before .before .before .before .before .before .before .before .before .before .before .pre .1 .1 .1 .0 .0, c .before .before .before .before .if1 .left, c .before .before .before .before .before .lead-width .ensures .0, width-union _ (c .before .before .if2 .taken))
+put-lead-u16-in-requires t c κs = let w = width-union (c .before .before .before .before .before .before .before .before .before .kind-at .result) _ (c .before .before .before .is-union-kind .ensures) (c .before .before .if2 .taken) in omega (arith, c .before .before .before .before .before .before .before .before .before .before .before .before .before .before .before .pre .1 .1 .1 .0 .0, c .before .before .before .before .before .before .if1 .left, c .before .before .before .before .before .before .before .before .lead-width .ensures .0, w)
 
-put-lead-add-u48-in : (t : ℕ) → put-lead-lts.Need-add-u48-in (put-lead-R t) (put-lead-at t) put-lead.Post
-put-lead-add-u48-in t c = search needs
+put-lead-add-offset-in : (t : ℕ) → put-lead-lts.Need-add-offset-in (put-lead-R t) (put-lead-at t) put-lead.Post
+put-lead-add-offset-in t c = search needs
 
-put-lead-u48-in-requires : (t : ℕ) → put-lead-lts.Need-u48-in-requires (put-lead-R t) (put-lead-at t) put-lead.Post
-put-lead-u48-in-requires t c κs = omega (arith, c .before .before .before .before .before .before .before .before .before .before .before .before .pre .1 .1 .1 .0 .0, c .before .before .before .before .before .if1 .left, c .before .before .before .before .before .before .lead-width .ensures .0, width-union _ (c .before .before .before .if2 .taken))
-
-put-lead-add-put-union : (t : ℕ) → put-lead-lts.Need-add-put-union (put-lead-R t) (put-lead-at t) put-lead.Post
-put-lead-add-put-union t c = search needs
+put-lead-offset-in-requires : (t : ℕ) → put-lead-lts.Need-offset-in-requires (put-lead-R t) (put-lead-at t) put-lead.Post
+put-lead-offset-in-requires t c κs = let w = width-union (c .before .before .before .before .before .before .before .before .before .before .kind-at .result) _ (c .before .before .before .before .is-union-kind .ensures) (c .before .before .before .if2 .taken) in omega (arith, c .before .before .before .before .before .before .before .before .before .before .before .before .before .before .before .before .pre .1 .1 .1 .0 .0, c .before .before .before .before .before .before .before .if1 .left, c .before .before .before .before .before .before .before .before .before .lead-width .ensures .0, w)
 
 put-lead-put-union-requires : (t : ℕ) → put-lead-lts.Need-put-union-requires (put-lead-R t) (put-lead-at t) put-lead.Post
 put-lead-put-union-requires t c κs =
-    let q = c .before .before .before .before .before .before .before .before .before .before .before .before .before .before .pre .1 in
-    let kind = c .before .before .before .before .before .before .before .before .before .kind-at .ensures .0 in
+    let q = c .before .before .before .before .before .before .before .before .before .before .before .before .before .before .before .before .before .before .pre .1 in
+    let kind = c .before .before .before .before .before .before .before .before .before .before .before .before .kind-at .ensures .0 in
+    let told = c .before .before .before .before .before .before .is-union-kind .ensures in
     let chosen = c .before .before .before .before .before .if2 .taken in
     let argument = c .before .before .before .before .argument-at .ensures in
-    let index = c .before .before .before .index .ensures .0 in
-    (omega (arith, c .before .before .before .before .before .before .before .before .before .before .before .before .before .before .pre .0), (q .0, ((q .1 .0 .0, q .1 .0 .1, search (lead-counted, kind, q .1 .1 .0 .1, q .1 .1 .0 .2, chosen, q .1 .0 .3, argument, index)), search (chosen-given, kind, q .1 .1 .0 .1, q .1 .1 .0 .2, c .before .before .before .before .before .before .before .before .lead-width .ensures .0, c .before .before .before .before .before .before .before .if1 .left, c .before .before .before .before .before .before .inplace-at .ensures, chosen, argument, index, c .before .before .u16-in .ensures, c .before .u48-in .ensures, q .1 .1 .1))))
+    let index = c .before .before .before .index .ensures .0 in (
+      omega (arith, c .before .before .before .before .before .before .before .before .before .before .before .before .before .before .before .before .before .before .pre .0),
+      (
+        q .0,
+        (
+          (q .1 .0 .0, q .1 .0 .1, search (lead-counted, kind, told, chosen, q .1 .0 .3, argument, index)),
+          search (chosen-given, kind, q .1 .1 .0 .1, q .1 .1 .0 .2, c .before .before .before .before .before .before .before .before .before .before .before .lead-width .ensures .0, c .before .before .before .before .before .before .before .before .before .if1 .left, c .before .before .before .before .before .before .before .before .before .before .before .lead-width .ensures .1, c .before .before .before .before .before .before .before .before .inplace-at .ensures, told, chosen, argument, index, c .before .before .u16-in .ensures, c .before .offset-in .ensures .0, q .1 .1 .1),
+        ),
+      ),
+    )
 
 put-lead-same-length-2 : (t : ℕ) → put-lead-lts.Need-same-length-2 (put-lead-R t) (put-lead-at t) put-lead.Post
 put-lead-same-length-2 t c = search needs
 
 put-lead-returns-2 : (t : ℕ) → put-lead-lts.Need-returns-2 (put-lead-R t) (put-lead-at t) put-lead.Post
 put-lead-returns-2 t c =
-    let q = c .before .before .before .before .before .before .before .before .before .before .before .before .before .before .before .before .before .pre .1 .1 .1 in
-    search (lead-chosen, c .before .before .before .before .before .before .before .before .before .before .before .before .kind-at .ensures .0, q .0 .1, q .0 .2, c .before .before .before .before .before .before .before .before .before .before .before .lead-width .ensures .0, c .before .before .before .before .before .before .before .before .before .before .if1 .left, c .before .before .before .before .before .before .before .before .before .inplace-at .ensures, c .before .before .before .before .before .before .before .before .if2 .taken, c .before .before .before .before .before .before .before .argument-at .ensures, c .before .before .before .before .before .before .index .ensures .0, c .before .before .before .before .before .u16-in .ensures, c .before .before .before .before .u48-in .ensures, c .before .before .put-union .ensures)
+    let q = c .before .before .before .before .before .before .before .before .before .before .before .before .before .before .before .before .before .before .before .before .before .pre .1 .1 .1 in
+    search (lead-chosen, c .before .before .before .before .before .before .before .before .before .before .before .before .before .before .before .kind-at .ensures .0, q .0 .1, q .0 .2, c .before .before .before .before .before .before .before .before .before .before .before .before .before .before .lead-width .ensures .0, c .before .before .before .before .before .before .before .before .before .before .before .before .if1 .left, c .before .before .before .before .before .before .before .before .before .before .before .before .before .before .lead-width .ensures .1, c .before .before .before .before .before .before .before .before .before .before .before .inplace-at .ensures, c .before .before .before .before .before .before .before .before .before .is-union-kind .ensures, c .before .before .before .before .before .before .before .before .if2 .taken, c .before .before .before .before .before .before .before .argument-at .ensures, c .before .before .before .before .before .before .index .ensures .0, c .before .before .before .before .before .u16-in .ensures, c .before .before .before .before .offset-in .ensures .0, c .before .before .put-union .ensures)
 
-put-lead-u48-in-requires-2 : (t : ℕ) → put-lead-lts.Need-u48-in-requires-2 (put-lead-R t) (put-lead-at t) put-lead.Post
-put-lead-u48-in-requires-2 t c κs = omega (arith, c .before .before .before .before .before .before .before .before .before .pre .1 .1 .1 .0 .0, c .before .before .if1 .left, c .before .before .before .lead-width .ensures .0, width-object _ (c .if2 .left))
+put-lead-offset-in-requires-2 : (t : ℕ) → put-lead-lts.Need-offset-in-requires-2 (put-lead-R t) (put-lead-at t) put-lead.Post
+put-lead-offset-in-requires-2 t c κs = let w = width-object (c .before .before .before .before .before .before .before .kind-at .result) _ (c .before .is-union-kind .ensures) (c .if2 .left) in omega (arith, c .before .before .before .before .before .before .before .before .before .before .before .before .before .pre .1 .1 .1 .0 .0, c .before .before .before .before .if1 .left, c .before .before .before .before .before .before .lead-width .ensures .0, w)
 
 put-lead-object-at-requires : (t : ℕ) → put-lead-lts.Need-object-at-requires (put-lead-R t) (put-lead-at t) put-lead.Post
 put-lead-object-at-requires t c κs = search needs
@@ -433,33 +449,32 @@ put-lead-object-at-requires t c κs = search needs
 put-lead-is-blob-requires : (t : ℕ) → put-lead-lts.Need-is-blob-requires (put-lead-R t) (put-lead-at t) put-lead.Post
 put-lead-is-blob-requires t c κs = search needs
 
-put-lead-add-refer-blob : (t : ℕ) → put-lead-lts.Need-add-refer-blob (put-lead-R t) (put-lead-at t) put-lead.Post
-put-lead-add-refer-blob t c = search needs
-
-put-lead-refer-blob-requires : (t : ℕ) → put-lead-lts.Need-refer-blob-requires (put-lead-R t) (put-lead-at t) put-lead.Post
-put-lead-refer-blob-requires t c κs =
-    let q = c .before .before .before .before .before .before .before .before .before .before .before .before .before .before .pre .1 in
-    (q .0, ((q .1 .0 .1, sym (c .before .before .is-blob .ensures) ∙ c .before .if3 .taken), search (referred-given, c .before .before .before .before .before .before .before .before .before .kind-at .ensures .0, q .1 .1 .0 .1, q .1 .1 .0 .2, c .before .before .before .before .before .before .before .before .lead-width .ensures .0, c .before .before .before .before .before .before .before .if1 .left, c .before .before .before .before .before .before .inplace-at .ensures, c .before .before .before .before .before .if2 .left, c .before .before .before .object-at .ensures, c .before .before .before .before .u48-in2 .ensures, q .1 .1 .1)))
+put-lead-put-blob-reference-requires : (t : ℕ) → put-lead-lts.Need-put-blob-reference-requires (put-lead-R t) (put-lead-at t) put-lead.Post
+put-lead-put-blob-reference-requires t c κs =
+    let q = c .before .before .before .before .before .before .before .before .before .before .before .before .before .before .before .before .before .before .pre .1 in
+    (q .0, (q .1 .0 .1, blob-inside u48 _ _ _ _ _ _ _ (referred-given u48 _ _ _ (c .before .before .before .before .before .before .before .before .before .before .before .before .kind-at .ensures .0) (q .1 .1 .0 .1) (q .1 .1 .0 .2) _ (c .before .before .before .before .before .before .before .before .before .before .before .lead-width .ensures .0) _ _ _ _ _ (c .before .before .before .before .before .before .before .before .before .if1 .left) (c .before .before .before .before .before .before .before .before .before .before .before .lead-width .ensures .1) _ (c .before .before .before .before .before .before .before .before .inplace-at .ensures) _ (c .before .before .before .before .before .before .is-union-kind .ensures) (c .before .before .before .before .before .if2 .left) _ (c .before .before .before .object-at .ensures) _ (c .before .before .before .before .offset-in2 .ensures .0) (q .1 .1 .1)) (sym (c .before .before .is-blob .ensures) ∙ c .before .if3 .taken)))
 
 put-lead-same-length-3 : (t : ℕ) → put-lead-lts.Need-same-length-3 (put-lead-R t) (put-lead-at t) put-lead.Post
 put-lead-same-length-3 t c = search needs
 
 put-lead-returns-3 : (t : ℕ) → put-lead-lts.Need-returns-3 (put-lead-R t) (put-lead-at t) put-lead.Post
-put-lead-returns-3 t c = search lead-referred
-
-put-lead-add-put-reference : (t : ℕ) → put-lead-lts.Need-add-put-reference (put-lead-R t) (put-lead-at t) put-lead.Post
-put-lead-add-put-reference t c = search needs
+put-lead-returns-3 t c =
+    let q = c .before .before .before .before .before .before .before .before .before .before .before .before .before .before .before .before .before .before .before .before .before .pre .1 in
+    lead-referred u48 _ _ _ (c .before .before .before .before .before .before .before .before .before .before .before .before .before .before .before .kind-at .ensures .0) (q .1 .1 .0 .1) (q .1 .1 .0 .2) _ (c .before .before .before .before .before .before .before .before .before .before .before .before .before .before .lead-width .ensures .0) _ _ _ _ _ (c .before .before .before .before .before .before .before .before .before .before .before .before .if1 .left) (c .before .before .before .before .before .before .before .before .before .before .before .before .before .before .lead-width .ensures .1) _ (c .before .before .before .before .before .before .before .before .before .before .before .inplace-at .ensures) _ (c .before .before .before .before .before .before .before .before .before .is-union-kind .ensures) (c .before .before .before .before .before .before .before .before .if2 .left) _ (c .before .before .before .before .before .before .object-at .ensures) _ (c .before .before .before .before .before .before .before .offset-in2 .ensures .0) _ _ _ _
+    (blob-referred u48 _ _ _ _ _ _ _ (referred-given u48 _ _ _ (c .before .before .before .before .before .before .before .before .before .before .before .before .before .before .before .kind-at .ensures .0) (q .1 .1 .0 .1) (q .1 .1 .0 .2) _ (c .before .before .before .before .before .before .before .before .before .before .before .before .before .before .lead-width .ensures .0) _ _ _ _ _ (c .before .before .before .before .before .before .before .before .before .before .before .before .if1 .left) (c .before .before .before .before .before .before .before .before .before .before .before .before .before .before .lead-width .ensures .1) _ (c .before .before .before .before .before .before .before .before .before .before .before .inplace-at .ensures) _ (c .before .before .before .before .before .before .before .before .before .is-union-kind .ensures) (c .before .before .before .before .before .before .before .before .if2 .left) _ (c .before .before .before .before .before .before .object-at .ensures) _ (c .before .before .before .before .before .before .before .offset-in2 .ensures .0) (q .1 .1 .1)) (sym (c .before .before .before .before .before .is-blob .ensures) ∙ c .before .before .before .before .if3 .taken) _ _ _ _ (c .before .before .put-blob-reference .ensures))
 
 put-lead-put-reference-requires : (t : ℕ) → put-lead-lts.Need-put-reference-requires (put-lead-R t) (put-lead-at t) put-lead.Post
 put-lead-put-reference-requires t c κs =
-    let q = c .before .before .before .before .before .before .before .before .before .before .before .before .before .before .pre .1 in
-    (omega (arith, c .before .before .before .before .before .before .before .before .before .before .before .before .before .before .pre .0), (q .0, ((q .1 .0 .0, q .1 .0 .1), search (referred-given, c .before .before .before .before .before .before .before .before .before .kind-at .ensures .0, q .1 .1 .0 .1, q .1 .1 .0 .2, c .before .before .before .before .before .before .before .before .lead-width .ensures .0, c .before .before .before .before .before .before .before .if1 .left, c .before .before .before .before .before .before .inplace-at .ensures, c .before .before .before .before .before .if2 .left, c .before .before .before .object-at .ensures, c .before .before .before .before .u48-in2 .ensures, q .1 .1 .1))))
+    let q = c .before .before .before .before .before .before .before .before .before .before .before .before .before .before .before .before .before .before .pre .1 in
+    (omega (arith, c .before .before .before .before .before .before .before .before .before .before .before .before .before .before .before .before .before .before .pre .0), (q .0, ((q .1 .0 .0, q .1 .0 .1), referred-given u48 _ _ _ (c .before .before .before .before .before .before .before .before .before .before .before .before .kind-at .ensures .0) (q .1 .1 .0 .1) (q .1 .1 .0 .2) _ (c .before .before .before .before .before .before .before .before .before .before .before .lead-width .ensures .0) _ _ _ _ _ (c .before .before .before .before .before .before .before .before .before .if1 .left) (c .before .before .before .before .before .before .before .before .before .before .before .lead-width .ensures .1) _ (c .before .before .before .before .before .before .before .before .inplace-at .ensures) _ (c .before .before .before .before .before .before .is-union-kind .ensures) (c .before .before .before .before .before .if2 .left) _ (c .before .before .before .object-at .ensures) _ (c .before .before .before .before .offset-in2 .ensures .0) (q .1 .1 .1))))
 
 put-lead-same-length-4 : (t : ℕ) → put-lead-lts.Need-same-length-4 (put-lead-R t) (put-lead-at t) put-lead.Post
 put-lead-same-length-4 t c = search needs
 
 put-lead-returns-4 : (t : ℕ) → put-lead-lts.Need-returns-4 (put-lead-R t) (put-lead-at t) put-lead.Post
-put-lead-returns-4 t c = search lead-referred
+put-lead-returns-4 t c =
+    let q = c .before .before .before .before .before .before .before .before .before .before .before .before .before .before .before .before .before .before .before .before .before .pre .1 in
+    lead-referred u48 _ _ _ (c .before .before .before .before .before .before .before .before .before .before .before .before .before .before .before .kind-at .ensures .0) (q .1 .1 .0 .1) (q .1 .1 .0 .2) _ (c .before .before .before .before .before .before .before .before .before .before .before .before .before .before .lead-width .ensures .0) _ _ _ _ _ (c .before .before .before .before .before .before .before .before .before .before .before .before .if1 .left) (c .before .before .before .before .before .before .before .before .before .before .before .before .before .before .lead-width .ensures .1) _ (c .before .before .before .before .before .before .before .before .before .before .before .inplace-at .ensures) _ (c .before .before .before .before .before .before .before .before .before .is-union-kind .ensures) (c .before .before .before .before .before .before .before .before .if2 .left) _ (c .before .before .before .before .before .before .object-at .ensures) _ (c .before .before .before .before .before .before .before .offset-in2 .ensures .0) _ _ _ _ (c .before .before .put-reference .ensures)
 
 put-list-element-requires : (t : ℕ) → put-list-lts.Need-element-requires (put-list-R t) (put-list-at t) put-list.Post
 put-list-element-requires t c κs = search needs
@@ -527,7 +542,7 @@ put-list-put-references-requires t c κs =
       omega (arith, c .before .before .before .before .before .before .before .before .before .before .before .before .before .before .before .before .before .before .before .pre .0),
       (
         search (room-next, q .0, c .before .before .before .before .before .before .before .before .before .write .ensures),
-        ((q .1 .0 .0, q .1 .0 .1, offsets-inside _ _ _ is _ _ _ (elements-inside _ _ _ element _ _ _ (q .1 .1 .0))), offsets-given _ _ _ is _ _ _ _ (elements-given _ _ _ element _ _ _ _ (q .1 .1 .1))),
+        ((q .1 .0 .0, q .1 .0 .1, offsets-inside _ _ _ is _ _ _ (elements-inside u48 _ _ _ element _ _ _ (q .1 .1 .0))), offsets-given _ _ _ is _ _ _ _ (elements-given u48 _ _ _ element _ _ _ _ (q .1 .1 .1))),
       ),
     )
 
@@ -546,7 +561,7 @@ put-list-put-choices-requires t c κs =
       omega (arith, c .before .before .before .before .before .before .before .before .before .before .before .before .before .before .before .before .before .before .before .before .pre .0),
       (
         search (room-next, q .0, c .before .before .before .before .before .before .before .before .before .before .write .ensures),
-        ((q .1 .0 .0, q .1 .0 .1, union-counted _ _ _ _ (element-sound _ _ (q .1 .0 .0) _ _ element) is index, choices-inside _ _ _ _ is index _ _ _ (elements-inside _ _ _ element _ _ _ (q .1 .1 .0))), choices-given _ _ _ _ is index _ _ _ _ (elements-given _ _ _ element _ _ _ _ (q .1 .1 .1))),
+        ((q .1 .0 .0, q .1 .0 .1, union-counted _ _ _ _ (element-sound _ _ (q .1 .0 .0) _ _ element) is index, choices-inside _ _ _ _ is index _ _ _ (elements-inside u48 _ _ _ element _ _ _ (q .1 .1 .0))), choices-given _ _ _ _ is index _ _ _ _ (elements-given u48 _ _ _ element _ _ _ _ (q .1 .1 .1))),
       ),
     )
 
@@ -571,19 +586,16 @@ put-list-returns-6 t c = search list-choices
 put-object-returns : (t : ℕ) → put-object-lts.Need-returns (put-object-R t) (put-object-at t) put-object.Post
 put-object-returns t c = search object-none
 
-put-object-start-of-requires : (t : ℕ) → put-object-lts.Need-start-of-requires (put-object-R t) (put-object-at t) put-object.Post
-put-object-start-of-requires t c κs = (search header-there, search needs)
-
-put-object-length-of-requires : (t : ℕ) → put-object-lts.Need-length-of-requires (put-object-R t) (put-object-at t) put-object.Post
-put-object-length-of-requires t c κs = (search header-there, search needs)
-
 put-object-sub-put-content : (t : ℕ) → put-object-lts.Need-sub-put-content (put-object-R t) (put-object-at t) put-object.Post
 put-object-sub-put-content t c = search needs
 
+put-object-content-of-requires : (t : ℕ) → put-object-lts.Need-content-of-requires (put-object-R t) (put-object-at t) put-object.Post
+put-object-content-of-requires t c κs = (search header-there, search needs)
+
 put-object-put-content-requires : (t : ℕ) → put-object-lts.Need-put-content-requires (put-object-R t) (put-object-at t) put-object.Post
 put-object-put-content-requires t c κs =
-    let q = c .before .before .before .before .before .before .before .before .pre .1 in
-    (omega (arith, c .before .before .before .before .before .before .before .before .pre .0, c .before .before .before .if1 .left), (q .0, ((q .1 .0 .0, q .1 .0 .1), search (content-readable, q .1 .1, c .before .before .before .if1 .left, c .before .before .start-of .ensures, c .before .length-of .ensures))))
+    let q = c .before .before .before .before .before .before .before .pre .1 in
+    (omega (arith, c .before .before .before .before .before .before .before .pre .0, c .before .before .if1 .left), (q .0, ((q .1 .0 .0, q .1 .0 .1), search (content-readable, q .1 .1, c .before .before .if1 .left, c .content-of .ensures .0, c .content-of .ensures .1))))
 
 put-object-same-length : (t : ℕ) → put-object-lts.Need-same-length (put-object-R t) (put-object-at t) put-object.Post
 put-object-same-length t c = search needs
@@ -619,12 +631,13 @@ put-reference-returns-2 : (t : ℕ) → put-reference-lts.Need-returns-2 (put-re
 put-reference-returns-2 t c = search reference-there
 
 abbrev put-references-Inv-loop : put-references-lts.InvT-loop
-put-references-Inv-loop b dir m out₀ d ob start n pos p₀ at₀ j₀ out p at j =
-    Room out p × (j ≤ n) × (length out ≡ length out₀) × (at ≡ start + 6 * j) × D.ElementsReadable (D.ObjectReadable d (P.parse b) m) (P.parse b) m (OfObject ob) start (n - j) j
-    × Remaining out₀ pos (A.elementsAt d (P.parse b) m (OfObject ob) start n 0) out p (A.elementsAt d (P.parse b) m (OfObject ob) start (n - j) j)
+put-references-Inv-loop b dir m out₀ d ob pos n p₀ start j₀ out p at j =
+    Room out p × (j ≤ n) × (length out ≡ length out₀) × (at ≡ start + 6 * j)
+    × D.ElementsReadable u48 (D.ObjectReadable u48 d (P.parse b) m) (P.parse b) m (OfObject ob) start (n - j) j
+    × Remaining out₀ pos (A.elementsAt u48 d (P.parse b) m (OfObject ob) start n 0) out p (A.elementsAt u48 d (P.parse b) m (OfObject ob) start (n - j) j)
 
 abbrev put-references-μ-loop : put-references-lts.MeasureT-loop
-put-references-μ-loop b dir m out₀ d ob start n pos p₀ at₀ j₀ out p at j = n - j
+put-references-μ-loop b dir m out₀ d ob pos n p₀ start j₀ out p at j = n - j
 
 put-references-loop-holds : (t : ℕ) → put-references-lts.Need-loop-holds (put-references-R t) (put-references-at t) put-references.Post put-references-Inv-loop put-references-μ-loop
 put-references-loop-holds t c = (search needs, omega arith, refl, omega arith, search elements-readable, search elements-start)
@@ -635,24 +648,14 @@ put-references-same-length t c = search needs
 put-references-returns : (t : ℕ) → put-references-lts.Need-returns (put-references-R t) (put-references-at t) put-references.Post put-references-Inv-loop put-references-μ-loop
 put-references-returns t c = search remaining-over
 
-put-references-u48-in-requires : (t : ℕ) → put-references-lts.Need-u48-in-requires (put-references-R t) (put-references-at t) put-references.Post put-references-Inv-loop put-references-μ-loop
-put-references-u48-in-requires t c κs = search needs
+put-references-offset-in-requires : (t : ℕ) → put-references-lts.Need-offset-in-requires (put-references-R t) (put-references-at t) put-references.Post put-references-Inv-loop put-references-μ-loop
+put-references-offset-in-requires t c κs = search needs
 
-put-references-put-reference-requires :
-    (t : ℕ) → put-references-lts.Need-put-reference-requires (
-      u48-in-reads.Asked,
-      u48-in-reads.Learnt,
-      put-reference-below t,
-      put-reference.Post,
-    )
-    (put-references-at t)
-    put-references.Post
-    put-references-Inv-loop
-    put-references-μ-loop
+put-references-put-reference-requires : (t : ℕ) → put-references-lts.Need-put-reference-requires (put-references-R t) (put-references-at t) put-references.Post put-references-Inv-loop put-references-μ-loop
 put-references-put-reference-requires t c κs =
     let q = c .before .before .before .before .before .before .before .before .before .pre .1 in
     let inv = c .before .before .before .before .loop .inv in
-    (omega (arith, c .before .before .before .before .before .before .before .before .before .pre .0), (inv .0, ((q .1 .0 .0, q .1 .0 .1), offset-readable _ _ _ _ _ _ _ (c .before .before .before .loop-test .taken) (inv .4) _ _ (inv .3) (c .before .u48-in .ensures))))
+    (omega (arith, c .before .before .before .before .before .before .before .before .before .pre .0), (inv .0, ((q .1 .0 .0, q .1 .0 .1), offset-readable _ _ _ _ _ _ _ (c .before .before .before .loop-test .taken) (inv .4) _ _ (inv .3) (c .before .offset-in .ensures .0))))
 
 put-references-add-at : (t : ℕ) → put-references-lts.Need-add-at (put-references-R t) (put-references-at t) put-references.Post put-references-Inv-loop put-references-μ-loop
 put-references-add-at t c = search needs
@@ -673,7 +676,7 @@ put-references-loop-again t c =
       omega (arith, put .len, inv .2),
       omega (arith, inv .3),
       search (elements-rest, less, inv .4),
-      search (offsets-turn, less, inv .4, inv .3, c .before .before .before .before .u48-in .ensures, inv .5, inv .0, put),
+      search (offsets-turn, less, inv .4, inv .3, c .before .before .before .before .offset-in .ensures .0, inv .5, inv .0, put),
     )
 
 put-references-same-length-2 : (t : ℕ) → put-references-lts.Need-same-length-2 (put-references-R t) (put-references-at t) put-references.Post put-references-Inv-loop put-references-μ-loop
@@ -683,14 +686,14 @@ put-references-returns-2 : (t : ℕ) → put-references-lts.Need-returns-2 (put-
 put-references-returns-2 t c = search elements-done
 
 abbrev put-table-Inv-loop : put-table-lts.InvT-loop
-put-table-Inv-loop b dir m out₀ d t start n pos count first c₀ p₀ j₀ out c p j =
+put-table-Inv-loop b dir m out₀ d t part pos count first c₀ p₀ j₀ out c p j =
     Room out p × (j ≤ count) × (length out ≡ length out₀) × Laid (4097 * j) c
-    × D.MembersReadable (D.ObjectReadable d (P.parse b) m) (P.parse b) m start n c (drop j (Sc.tableOf (P.parse b) t .members))
-    × Remaining out₀ pos (A.membersAt d (P.parse b) m start n L.begin (Sc.tableOf (P.parse b) t .members)) out p
-    (A.membersAt d (P.parse b) m start n c (drop j (Sc.tableOf (P.parse b) t .members)))
+    × D.MembersReadable u48 (D.ObjectReadable u48 d (P.parse b) m) (P.parse b) m (part .start) (part .length) c (drop j (Sc.tableOf (P.parse b) t .members))
+    × Remaining out₀ pos (A.membersAt u48 d (P.parse b) m (part .start) (part .length) L.begin (Sc.tableOf (P.parse b) t .members)) out p
+    (A.membersAt u48 d (P.parse b) m (part .start) (part .length) c (drop j (Sc.tableOf (P.parse b) t .members)))
 
 abbrev put-table-μ-loop : put-table-lts.MeasureT-loop
-put-table-μ-loop b dir m out₀ d t start n pos count first c₀ p₀ j₀ out c p j = count - j
+put-table-μ-loop b dir m out₀ d t part pos count first c₀ p₀ j₀ out c p j = count - j
 
 put-table-member-count-requires : (t : ℕ) → put-table-lts.Need-member-count-requires (put-table-R t) (put-table-at t) put-table.Post put-table-Inv-loop put-table-μ-loop
 put-table-member-count-requires t c κs = search needs
@@ -754,22 +757,37 @@ put-table-loop-again t c =
 put-table-kind-at-requires : (t : ℕ) → put-table-lts.Need-kind-at-requires (put-table-R t) (put-table-at t) put-table.Post put-table-Inv-loop put-table-μ-loop
 put-table-kind-at-requires t c κs = omega (arith, record-whole _ _ _ (c .before .before .before .before .before .before .before .before .before .before .before .before .before .pre .1 .1 .0 .2) _ (c .before .before .before .before .before .before .before .before .member-count .ensures .0) (c .before .before .before .before .loop-test .taken) _ (c .before .before .before .before .before .before .before .table-place .ensures) _ (c .before .before .record-place .ensures .1))
 
+put-table-is-flat-kind-requires : (t : ℕ) → put-table-lts.Need-is-flat-kind-requires (put-table-R t) (put-table-at t) put-table.Post put-table-Inv-loop put-table-μ-loop
+put-table-is-flat-kind-requires t c κs = search needs
+
 put-table-put-lead-requires : (t : ℕ) → put-table-lts.Need-put-lead-requires (put-table-R t) (put-table-at t) put-table.Post put-table-Inv-loop put-table-μ-loop
 put-table-put-lead-requires t c κs =
-    let q = c .before .before .before .before .before .before .before .before .before .before .before .before .before .before .before .before .pre .1 in
-    let inv = c .before .before .before .before .before .before .before .before .loop .inv in
-    let less = c .before .before .before .before .before .before .before .loop-test .taken in
-    let count = c .before .before .before .before .before .before .before .before .before .before .before .member-count .ensures in
-    let block = c .before .before .before .before .before .before .before .before .before .before .table-place .ensures in
-    let place = c .before .before .before .before .before .record-place .ensures in
+    let q = c .before .before .before .before .before .before .before .before .before .before .before .before .before .before .before .before .before .pre .1 in
+    let inv = c .before .before .before .before .before .before .before .before .before .loop .inv in
+    let less = c .before .before .before .before .before .before .before .before .loop-test .taken in
+    let count = c .before .before .before .before .before .before .before .before .before .before .before .before .member-count .ensures in
+    let block = c .before .before .before .before .before .before .before .before .before .before .before .table-place .ensures in
+    let place = c .before .before .before .before .before .before .record-place .ensures in
     let is = coded-member _ _ _ (q .1 .0 .2) _ (count .0) less _ block _ (place .0) in
-    (omega (arith, c .before .before .before .before .before .before .before .before .before .before .before .before .before .before .before .before .pre .0), (inv .0, ((q .1 .0 .0, q .1 .0 .1, record-whole _ _ _ (q .1 .0 .2) _ (count .0) less _ block _ (place .1), member-sound-of _ _ (q .1 .0 .0) _ _ _ is (omega (arith, count .0, less)) .kind), ((q .1 .0 .3, omega (arith, c .before .before .kind-at .ensures .0, c .before .if3 .taken), lead-known _ _ (q .1 .0 .0) _ _ (q .1 .0 .2) _ (count .0) less _ block _ (place .0), omega (arith, inv .3 .end, count .1, less)), search (lead-readable, count .0, less, inv .4, is)))))
+    let above = lead-above _ _ _ (c .before .before .before .kind-at .ensures .0) _ (c .before .before .is-flat-kind .ensures) (c .before .if3 .taken) in
+    let known = lead-known _ _ (q .1 .0 .0) _ _ (q .1 .0 .2) _ (count .0) less _ block _ (place .0) in (
+      omega (arith, c .before .before .before .before .before .before .before .before .before .before .before .before .before .before .before .before .before .pre .0),
+      (
+        inv .0,
+        (
+          (q .1 .0 .0, q .1 .0 .1, record-whole _ _ _ (q .1 .0 .2) _ (count .0) less _ block _ (place .1), member-sound-of _ _ (q .1 .0 .0) _ _ _ is (omega (arith, count .0, less)) .kind),
+          ((q .1 .0 .3, above, known, omega (arith, inv .3 .end, count .1, less)), search (lead-readable, count .0, less, inv .4, is)),
+        ),
+      ),
+    )
 
 put-table-lead-width-requires : (t : ℕ) → put-table-lts.Need-lead-width-requires (put-table-R t) (put-table-at t) put-table.Post put-table-Inv-loop put-table-μ-loop
 put-table-lead-width-requires t c κs = search needs
 
-put-table-behind-plain-requires : (t : ℕ) → put-table-lts.Need-behind-plain-requires (put-table-R t) (put-table-at t) put-table.Post put-table-Inv-loop put-table-μ-loop
-put-table-behind-plain-requires t c κs = let inv = c .before .before .before .before .before .before .before .before .before .before .before .before .loop .inv in (omega (arith, inv .3 .end, c .before .before .before .before .before .before .before .before .before .before .before .before .before .before .before .member-count .ensures .1, c .before .before .before .before .before .before .before .before .before .before .before .loop-test .taken), c .lead-width .ensures .1)
+put-table-after-bytes-requires : (t : ℕ) → put-table-lts.Need-after-bytes-requires (put-table-R t) (put-table-at t) put-table.Post put-table-Inv-loop put-table-μ-loop
+put-table-after-bytes-requires t c κs =
+    let inv = c .before .before .before .before .before .before .before .before .before .before .before .before .before .loop .inv in
+    (inv .3 .byte, inv .3 .bit, omega (arith, inv .3 .end, c .before .before .before .before .before .before .before .before .before .before .before .before .before .before .before .before .member-count .ensures .1, c .before .before .before .before .before .before .before .before .before .before .before .before .loop-test .taken), omega (arith, c .lead-width .ensures .2))
 
 put-table-add-j-2 : (t : ℕ) → put-table-lts.Need-add-j-2 (put-table-R t) (put-table-at t) put-table.Post put-table-Inv-loop put-table-μ-loop
 put-table-add-j-2 t c = search needs
@@ -779,43 +797,40 @@ put-table-loop-less-2 t c = search needs
 
 put-table-loop-again-2 : (t : ℕ) → put-table-lts.Need-loop-again-2 (put-table-R t) (put-table-at t) put-table.Post put-table-Inv-loop put-table-μ-loop
 put-table-loop-again-2 t c =
-    let q = c .before .before .before .before .before .before .before .before .before .before .before .before .before .before .before .before .before .before .before .before .before .pre .1 in
-    let inv = c .before .before .before .before .before .before .before .before .before .before .before .before .before .loop .inv in
-    let less = c .before .before .before .before .before .before .before .before .before .before .before .before .loop-test .taken in
-    let count = c .before .before .before .before .before .before .before .before .before .before .before .before .before .before .before .before .member-count .ensures .0 in
-    let block = c .before .before .before .before .before .before .before .before .before .before .before .before .before .before .before .table-place .ensures in
-    let place = c .before .before .before .before .before .before .before .before .before .before .record-place .ensures .0 in
-    let kind = c .before .before .before .before .before .before .before .kind-at .ensures .0 in
+    let q = c .before .before .before .before .before .before .before .before .before .before .before .before .before .before .before .before .before .before .before .before .before .before .pre .1 in
+    let inv = c .before .before .before .before .before .before .before .before .before .before .before .before .before .before .loop .inv in
+    let less = c .before .before .before .before .before .before .before .before .before .before .before .before .before .loop-test .taken in
+    let count = c .before .before .before .before .before .before .before .before .before .before .before .before .before .before .before .before .before .member-count .ensures .0 in
+    let block = c .before .before .before .before .before .before .before .before .before .before .before .before .before .before .before .before .table-place .ensures in
+    let place = c .before .before .before .before .before .before .before .before .before .before .before .record-place .ensures .0 in
+    let kind = c .before .before .before .before .before .before .before .before .kind-at .ensures .0 in
     let width = c .before .lead-width .ensures in
     let put = c .before .before .before .before .put-lead .ensures in
     let is = coded-member _ _ _ (q .1 .0 .2) _ count less _ block _ place in
     let known = lead-known _ _ (q .1 .0 .0) _ _ (q .1 .0 .2) _ count less _ block _ place in
-    let next = lead-next _ _ _ kind (omega (arith, kind, c .before .before .before .before .before .before .if3 .taken)) known _ (width .0) _ _ (c .behind-plain .ensures) in (
+    let above = lead-above _ _ _ kind _ (c .before .before .before .before .before .before .before .is-flat-kind .ensures) (c .before .before .before .before .before .before .if3 .taken) in
+    let next = lead-next u48 _ _ _ kind above known _ (width .0) _ _ (c .after-bytes .ensures .0) in (
       search (room-next, inv .0, put),
       omega (arith, less),
       omega (arith, put .len, inv .2),
-      lead-laid _ _ _ _ (inv .3) (width .1) (c .behind-plain .ensures),
+      lead-laid _ _ _ _ (inv .3) (width .2) (c .after-bytes .ensures .0),
       search (lead-rest, count, less, inv .4, is, next),
       search (lead-turn, count, less, inv .4, is, next, inv .5, inv .0, put),
     )
 
 put-table-member-at-requires : (t : ℕ) → put-table-lts.Need-member-at-requires (put-table-R t) (put-table-at t) put-table.Post put-table-Inv-loop put-table-μ-loop
 put-table-member-at-requires t c κs =
-    let q = c .before .before .before .before .before .before .before .before .before .before .before .before .before .before .before .pre .1 in
-    ((q .1 .0 .0, q .1 .0 .2, omega (arith, c .before .before .before .before .before .before .before .before .before .before .member-count .ensures .0, c .before .before .before .before .before .before .loop-test .taken), omega (arith, c .before .before .before .before .before .before .before .before .before .before .member-count .ensures .1, c .before .before .before .before .before .before .loop-test .taken)), (q .1 .0 .3, q .1 .0 .1, c .before .before .before .before .before .before .before .loop .inv .3))
-
-put-table-add-put-flat-member : (t : ℕ) → put-table-lts.Need-add-put-flat-member (put-table-R t) (put-table-at t) put-table.Post put-table-Inv-loop put-table-μ-loop
-put-table-add-put-flat-member t c = let q = c .before .before .before .before .before .before .before .before .before .before .before .before .before .before .before .before .before .before .pre .1 in omega (arith, q .1 .0 .3, q .1 .0 .1)
+    let q = c .before .before .before .before .before .before .before .before .before .before .before .before .before .before .before .before .pre .1 in
+    ((q .1 .0 .0, q .1 .0 .2, omega (arith, c .before .before .before .before .before .before .before .before .before .before .before .member-count .ensures .0, c .before .before .before .before .before .before .before .loop-test .taken), omega (arith, c .before .before .before .before .before .before .before .before .before .before .before .member-count .ensures .1, c .before .before .before .before .before .before .before .loop-test .taken)), (q .1 .0 .3, q .1 .0 .1, c .before .before .before .before .before .before .before .before .loop .inv .3))
 
 put-table-put-flat-member-requires : (t : ℕ) → put-table-lts.Need-put-flat-member-requires (put-table-R t) (put-table-at t) put-table.Post put-table-Inv-loop put-table-μ-loop
 put-table-put-flat-member-requires t c κs =
-    let q = c .before .before .before .before .before .before .before .before .before .before .before .before .before .before .before .before .before .before .pre .1 in
+    let q = c .before .before .before .before .before .before .before .before .before .before .before .before .before .before .before .before .before .before .before .pre .1 in
     let is = c .before .before .member-at .ensures in
-    let inv = c .before .before .before .before .before .before .before .before .before .before .loop .inv in
-    let less = c .before .before .before .before .before .before .before .before .before .loop-test .taken in
-    let count = c .before .before .before .before .before .before .before .before .before .before .before .before .before .member-count .ensures .0 in
-    let same = coded-member _ _ _ (q .1 .0 .2) _ count less _ (c .before .before .before .before .before .before .before .before .before .before .before .before .table-place .ensures) _ (c .before .before .before .before .before .before .before .record-place .ensures .0) in
-    (inv .0, ((q .1 .0 .0, q .1 .0 .1, is .sound, flat-member _ _ _ (c .before .before .before .before .kind-at .ensures .0) (c .before .before .before .if3 .left) _ same _ (is .kind-is)), ((is .inside, is .bit-low, is .low), search (member-readable, count, less, inv .4, is))))
+    let inv = c .before .before .before .before .before .before .before .before .before .before .before .loop .inv in
+    let less = c .before .before .before .before .before .before .before .before .before .before .loop-test .taken in
+    let count = c .before .before .before .before .before .before .before .before .before .before .before .before .before .before .member-count .ensures .0 in
+    (inv .0, ((q .1 .0 .0, q .1 .0 .1, is .sound), ((is .inside, is .bit-low, is .low), member-readable u48 _ _ _ _ _ _ _ _ _ count less (inv .4) _ _ _ _ _ _ _ is)))
 
 put-table-add-j-3 : (t : ℕ) → put-table-lts.Need-add-j-3 (put-table-R t) (put-table-at t) put-table.Post put-table-Inv-loop put-table-μ-loop
 put-table-add-j-3 t c = search needs
@@ -825,17 +840,20 @@ put-table-loop-less-3 t c = search needs
 
 put-table-loop-again-3 : (t : ℕ) → put-table-lts.Need-loop-again-3 (put-table-R t) (put-table-at t) put-table.Post put-table-Inv-loop put-table-μ-loop
 put-table-loop-again-3 t c =
-    let inv = c .before .before .before .before .before .before .before .before .before .before .before .before .before .loop .inv in
-    let less = c .before .before .before .before .before .before .before .before .before .before .before .before .loop-test .taken in
+    let q = c .before .before .before .before .before .before .before .before .before .before .before .before .before .before .before .before .before .before .before .before .before .before .pre .1 in
+    let inv = c .before .before .before .before .before .before .before .before .before .before .before .before .before .before .loop .inv in
+    let less = c .before .before .before .before .before .before .before .before .before .before .before .before .before .loop-test .taken in
     let is = c .before .before .before .before .before .member-at .ensures in
-    let count = c .before .before .before .before .before .before .before .before .before .before .before .before .before .before .before .before .member-count .ensures .0 in
+    let count = c .before .before .before .before .before .before .before .before .before .before .before .before .before .before .before .before .before .member-count .ensures .0 in
+    let same = coded-member _ _ _ (q .1 .0 .2) _ count less _ (c .before .before .before .before .before .before .before .before .before .before .before .before .before .before .before .before .table-place .ensures) _ (c .before .before .before .before .before .before .before .before .before .before .before .record-place .ensures .0) in
+    let flat = flat-member _ _ _ (c .before .before .before .before .before .before .before .before .kind-at .ensures .0) _ (c .before .before .before .before .before .before .before .is-flat-kind .ensures) (c .before .before .before .before .before .before .if3 .left) _ same _ (is .kind-is) in
     let put = c .before .before .put-flat-member .ensures in (
       search (room-next, inv .0, put),
       omega (arith, less),
       omega (arith, put .len, inv .2),
       is .laid,
       search (rest-readable, count, less, inv .4, is),
-      search (members-turn, count, less, inv .4, is, inv .5, inv .0, put),
+      search (members-turn, count, less, inv .4, is, flat, inv .5, inv .0, put),
     )
 
 put-table-same-length-2 : (t : ℕ) → put-table-lts.Need-same-length-2 (put-table-R t) (put-table-at t) put-table.Post put-table-Inv-loop put-table-μ-loop
@@ -914,8 +932,8 @@ pub +put-choices+put-content+put-lead+put-list+put-object+put-reference+put-refe
     (put-choices-same-length t)
     (put-choices-returns t)
     (put-choices-u16-in-requires t)
-    (put-choices-add-u48-in t)
-    (put-choices-u48-in-requires t)
+    (put-choices-add-offset-in t)
+    (put-choices-offset-in-requires t)
     (put-choices-put-union-requires t)
     (put-choices-add-at t)
     (put-choices-add-j t)
@@ -947,6 +965,7 @@ pub +put-choices+put-content+put-lead+put-list+put-object+put-reference+put-refe
     (λ t. put-lead-lts.spec (put-lead-R t)
     (put-lead-at t)
     put-lead.Post
+    (put-lead-add-tail t)
     (put-lead-kind-at-requires t)
     (put-lead-lead-width-requires t)
     (put-lead-add-if1 t)
@@ -955,23 +974,21 @@ pub +put-choices+put-content+put-lead+put-list+put-object+put-reference+put-refe
     (put-lead-returns t)
     (put-lead-inplace-at-requires t)
     (put-lead-add-from t)
+    (put-lead-is-union-kind-requires t)
     (put-lead-argument-at-requires t)
     (put-lead-index-requires t)
     (put-lead-u16-in-requires t)
-    (put-lead-add-u48-in t)
-    (put-lead-u48-in-requires t)
-    (put-lead-add-put-union t)
+    (put-lead-add-offset-in t)
+    (put-lead-offset-in-requires t)
     (put-lead-put-union-requires t)
     (put-lead-same-length-2 t)
     (put-lead-returns-2 t)
-    (put-lead-u48-in-requires-2 t)
+    (put-lead-offset-in-requires-2 t)
     (put-lead-object-at-requires t)
     (put-lead-is-blob-requires t)
-    (put-lead-add-refer-blob t)
-    (put-lead-refer-blob-requires t)
+    (put-lead-put-blob-reference-requires t)
     (put-lead-same-length-3 t)
     (put-lead-returns-3 t)
-    (put-lead-add-put-reference t)
     (put-lead-put-reference-requires t)
     (put-lead-same-length-4 t)
     (put-lead-returns-4 t))
@@ -1009,9 +1026,8 @@ pub +put-choices+put-content+put-lead+put-list+put-object+put-reference+put-refe
     (put-object-at t)
     put-object.Post
     (put-object-returns t)
-    (put-object-start-of-requires t)
-    (put-object-length-of-requires t)
     (put-object-sub-put-content t)
+    (put-object-content-of-requires t)
     (put-object-put-content-requires t)
     (put-object-same-length t)
     (put-object-returns-2 t))
@@ -1034,7 +1050,7 @@ pub +put-choices+put-content+put-lead+put-list+put-object+put-reference+put-refe
     (put-references-loop-holds t)
     (put-references-same-length t)
     (put-references-returns t)
-    (put-references-u48-in-requires t)
+    (put-references-offset-in-requires t)
     (put-references-put-reference-requires t)
     (put-references-add-at t)
     (put-references-add-j t)
@@ -1061,21 +1077,21 @@ pub +put-choices+put-content+put-lead+put-list+put-object+put-reference+put-refe
     (put-table-loop-less t)
     (put-table-loop-again t)
     (put-table-kind-at-requires t)
+    (put-table-is-flat-kind-requires t)
     (put-table-put-lead-requires t)
     (put-table-lead-width-requires t)
-    (put-table-behind-plain-requires t)
+    (put-table-after-bytes-requires t)
     (put-table-add-j-2 t)
     (put-table-loop-less-2 t)
     (put-table-loop-again-2 t)
     (put-table-member-at-requires t)
-    (put-table-add-put-flat-member t)
     (put-table-put-flat-member-requires t)
     (put-table-add-j-3 t)
     (put-table-loop-less-3 t)
     (put-table-loop-again-3 t)
     (put-table-same-length-2 t)
     (put-table-returns-2 t))
-    λ t. put-union-lts.spec (put-union-R t)
+    (λ t. put-union-lts.spec (put-union-R t)
     (put-union-at t)
     put-union.Post
     (put-union-write-requires t)
@@ -1092,4 +1108,4 @@ pub +put-choices+put-content+put-lead+put-list+put-object+put-reference+put-refe
     (put-union-put-marked-requires-2 t)
     (put-union-put-object-requires t)
     (put-union-same-length-3 t)
-    (put-union-returns-3 t)
+    (put-union-returns-3 t))

@@ -1,4 +1,4 @@
-use Rattle.sheet_walk.proofs.Root.{root-readable, root-puts}
+use Rattle.sheet_walk.proofs.Root.{root-long, root-readable, root-puts}
 use borrow.Author.Needs.{needs}
 use Rattle.sheet_walk.proofs.put_root.Statement.{statement}
 use Rattle.sheet_walk.proofs.put_root.Tie as tie
@@ -7,7 +7,7 @@ root-object-requires : tie.Need-root-object-requires
 root-object-requires c κs = search needs
 
 root-place-requires : tie.Need-root-place-requires
-root-place-requires c κs = search needs
+root-place-requires c κs = search root-long
 
 put-object-requires : tie.Need-put-object-requires
 put-object-requires c κs = (search needs, (search needs, search root-readable))

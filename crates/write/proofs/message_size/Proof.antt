@@ -14,8 +14,11 @@ add-result c = search needs
 add-result-2 : tie.Need-add-result-2
 add-result-2 c = search needs
 
+add-result-3 : tie.Need-add-result-3
+add-result-3 c = search needs
+
 returns : tie.Need-returns
 returns c = search size-is
 
 pub message-size-spec : {M : Type 1} → statement M
-message-size-spec = tie.close (tie.spec add-content add-result add-result-2 returns)
+message-size-spec = tie.close (tie.spec add-content add-result add-result-2 add-result-3 returns)

@@ -4,7 +4,7 @@ use Rattle.write.proofs.write_judged.Statement.{statement}
 use Rattle.write.proofs.write_judged.Tie as tie
 use Rattle.write.proofs.write_judged.Reads as reads
 use Rattle.write.proofs.write_judged.Lts as lts
-use Rattle.message_object.proofs.root_object.Reads as root-object-reads
+use Rattle.message_start.proofs.root_object.Reads as root-object-reads
 use Rattle.write_measure.proofs.object.Reads as object-reads
 use Rattle.write.proofs.closed.Reads as closed-reads
 use Rattle.write.proofs.refused.Reads as refused-reads

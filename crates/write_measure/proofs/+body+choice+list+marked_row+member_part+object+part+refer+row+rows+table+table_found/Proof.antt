@@ -16,7 +16,8 @@ use Rattle.write_measure.specs.Survey.{opened, surveyMembers, surveyElem
 use Rattle.write_measure.specs.Surveyed.{Small}
 use borrow.Fn.Kinds.{In}
 use borrow.Fn.PlainCycle.{Measures, is, falls, and}
-use Rattle.write_measure.proofs.PartCases.{kind-flat, kind-object, union-counted, case-sound, body-flat, body-object, body-union, choice-cut, choice-zero, choice-above, choice-known, part-cut, part-none, part-there, part-lost, part-bad, refer-surveyed, refer-blob, object-none, object-there, object-bad}
+use Rattle.write_measure.proofs.PartCases.{kind-flat, kind-object, union-counted, case-sound, body-flat, body-object, body-union, choice-cut, choice-zero, choice-above, choice-known, part-cut, part-none, part-there, part-unknown, part-bad, refer-surveyed, refer-blob, object-none, object-there, object-bad}
+use Rattle.write_measure.proofs.ExtentCases.{size-short}
 use Rattle.write_measure.proofs.ObjectCases.{list-counted, table-counted, element-sound, member-kind, member-counted, members-start, members-done, elements-cut, elements-start, elements-unmarked, elements-rows, row-counted, row-deep, row-there, rows-start, object-marked, marked, elements-done, elements-stopped, elements-turn, object-deep, object-text, object-bytes, object-list, object-table}
 use Rattle.write_measure.proofs.SimpleCases.{members-few, table-cut, table-ended, table-stopped, table-turn}
 use Rattle.write_measure.proofs.body.Reads as body
@@ -66,12 +67,12 @@ use Rattle.write_measure.proofs.unmarked.Reads as unmarked-reads
 use Rattle.write_measure.proofs.unmarked_bits.Reads as unmarked-bits-reads
 use Rattle.write_measure.proofs.blob.Reads as blob-reads
 use Rattle.write_measure.proofs.blob_end.Reads as blob-end-reads
-use Rattle.write_measure.proofs.elements_size.Reads as elements-size-reads
+use Rattle.message_layout.proofs.elements_size.Reads as elements-size-reads
 use Rattle.write_measure.proofs.fixed_size.Reads as fixed-size-reads
 use Rattle.write_measure.proofs.flat_test.Reads as flat-test-reads
 use Rattle.write_measure.proofs.joined.Reads as joined-reads
 use Rattle.write_measure.proofs.simple_members.Reads as simple-members-reads
-use Rattle.write_measure.proofs.lost.Reads as lost-reads
+use Rattle.write_measure.proofs.unknown.Reads as unknown-reads
 use Rattle.write_measure.proofs.may_lack.Reads as may-lack-reads
 use Rattle.write_measure.proofs.opened.Reads as opened-reads
 use Rattle.write_measure.proofs.pass.Reads as pass-reads
@@ -220,7 +221,7 @@ abbrev member-part-R : ℕ → member-part-lts.Claims
 member-part-R t = (part-below t, part.Post)
 
 abbrev part-R : ℕ → part-lts.Claims
-part-R t = (take-number-reads.Asked, take-number-reads.Learnt, unlawful-reads.Asked, unlawful-reads.Learnt, may-lack-reads.Asked, may-lack-reads.Learnt, plain-reads.Asked, plain-reads.Learnt, body-below t, body.Post, lost-reads.Asked, lost-reads.Learnt)
+part-R t = (take-number-reads.Asked, take-number-reads.Learnt, unlawful-reads.Asked, unlawful-reads.Learnt, may-lack-reads.Asked, may-lack-reads.Learnt, plain-reads.Asked, plain-reads.Learnt, body-below t, body.Post, unknown-reads.Asked, unknown-reads.Learnt)
 
 abbrev refer-R : ℕ → refer-lts.Claims
 refer-R t = (blob-end-reads.Asked, blob-end-reads.Learnt, refer-blob-reads.Asked, refer-blob-reads.Learnt, object-below t, object.Post, referred-reads.Asked, referred-reads.Learnt)
@@ -296,7 +297,7 @@ choice-returns-4 t c = search choice-known
 
 abbrev list-Inv-loop : list-lts.InvT-loop
 list-Inv-loop b dir s d i at n k total u a₀ pos₀ j₀ a pos j =
-    (j ≤ n) × (n < 2 ^ 32) × (at ≤ 8 * length s) × (pos ≤ 8 * length s) × Small a × (unmarked k ≡ false)
+    (j ≤ n) × (n < 2 ^ 32) × (length s ≤ 16777215) × (at ≤ 8 * length s) × (pos ≤ 8 * length s) × Small a × (unmarked k ≡ false)
     × (surveyContent (survey d u48 (P.parse b)) u48 (P.parse b) (O.List i) (drop at (bits s)) ≡ surveyElements (survey d u48 (P.parse b)) u48 (P.parse b) k (n - j) a (drop pos (bits s)))
 
 abbrev list-μ-loop : list-lts.MeasureT-loop
@@ -321,7 +322,7 @@ list-table-in-requires : (t : ℕ) → list-lts.Need-table-in-requires (list-R t
 list-table-in-requires t c κs = search needs
 
 list-rows-requires : (t : ℕ) → list-lts.Need-rows-requires (list-R t) (list-at t) list.Post list-Inv-loop list-μ-loop
-list-rows-requires t c κs = search (row-counted, needs)
+list-rows-requires t c κs = (search needs, (search needs, search row-counted, (search needs, search needs), search needs, search size-short))
 
 list-returns-2 : (t : ℕ) → list-lts.Need-returns-2 (list-R t) (list-at t) list.Post list-Inv-loop list-μ-loop
 list-returns-2 t c = search elements-rows
@@ -342,10 +343,10 @@ list-returns-3 : (t : ℕ) → list-lts.Need-returns-3 (list-R t) (list-at t) li
 list-returns-3 t c = search elements-unmarked
 
 list-loop-holds : (t : ℕ) → list-lts.Need-loop-holds (list-R t) (list-at t) list.Post list-Inv-loop list-μ-loop
-list-loop-holds t c = (search needs, search needs, search needs, search needs, search needs, search marked, search elements-start)
+list-loop-holds t c = (search needs, search needs, search needs, search needs, search needs, search needs, search marked, search elements-start)
 
 list-part-requires : (t : ℕ) → list-lts.Need-part-requires (list-R t) (list-at t) list.Post list-Inv-loop list-μ-loop
-list-part-requires t c κs = search (element-sound, needs)
+list-part-requires t c κs = (search needs, (search needs, search element-sound, (search needs, search needs)))
 
 list-unlawful-requires-2 : (t : ℕ) → list-lts.Need-unlawful-requires-2 (list-R t) (list-at t) list.Post list-Inv-loop list-μ-loop
 list-unlawful-requires-2 t c κs = search needs
@@ -363,7 +364,7 @@ list-loop-less : (t : ℕ) → list-lts.Need-loop-less (list-R t) (list-at t) li
 list-loop-less t c = search needs
 
 list-loop-again : (t : ℕ) → list-lts.Need-loop-again (list-R t) (list-at t) list.Post list-Inv-loop list-μ-loop
-list-loop-again t c = (search needs, search needs, search needs, search needs, search needs, search needs, search elements-turn)
+list-loop-again t c = (search needs, search needs, search needs, search needs, search needs, search needs, search needs, search elements-turn)
 
 list-returns-5 : (t : ℕ) → list-lts.Need-returns-5 (list-R t) (list-at t) list.Post list-Inv-loop list-μ-loop
 list-returns-5 t c = search elements-done
@@ -446,11 +447,11 @@ part-body-requires t c κs = search needs
 part-returns-3 : (t : ℕ) → part-lts.Need-returns-3 (part-R t) (part-at t) part.Post
 part-returns-3 t c = search part-there
 
-part-lost-requires : (t : ℕ) → part-lts.Need-lost-requires (part-R t) (part-at t) part.Post
-part-lost-requires t c κs = search needs
+part-unknown-requires : (t : ℕ) → part-lts.Need-unknown-requires (part-R t) (part-at t) part.Post
+part-unknown-requires t c κs = search needs
 
 part-returns-4 : (t : ℕ) → part-lts.Need-returns-4 (part-R t) (part-at t) part.Post
-part-returns-4 t c = search part-lost
+part-returns-4 t c = search part-unknown
 
 part-unlawful-requires-2 : (t : ℕ) → part-lts.Need-unlawful-requires-2 (part-R t) (part-at t) part.Post
 part-unlawful-requires-2 t c κs = search needs
@@ -509,13 +510,13 @@ table-member-requires : (t : ℕ) → table-lts.Need-member-requires (table-R t)
 table-member-requires t c κs = (c .before .before .before .before .before .before .before .before .before .before .before .before .pre .1 .0 .directory, c .before .before .before .before .before .before .before .before .before .before .before .before .pre .1 .1, search member-counted, search needs)
 
 table-member-part-requires : (t : ℕ) → table-lts.Need-member-part-requires (table-R t) (table-at t) table.Post table-Inv-loop table-μ-loop
-table-member-part-requires t c κs = (omega (arith, c .before .before .before .before .before .before .before .before .before .before .before .before .before .pre .0), (c .before .before .before .before .before .before .before .before .before .before .before .before .before .pre .1 .0, member-kind _ _ (c .before .before .before .before .before .before .before .before .before .before .before .before .before .pre .1 .0) _ _ _ (c .member .ensures) _ (c .before .before .before .before .before .before .before .loop .inv .1) (c .before .if2 .left), c .before .before .before .before .before .before .before .before .before .before .before .before .before .pre .1 .2, c .before .before .before .before .before .simple-members .ensures .inside))
+table-member-part-requires t c κs = (omega (arith, c .before .before .before .before .before .before .before .before .before .before .before .before .before .pre .0), (c .before .before .before .before .before .before .before .before .before .before .before .before .before .pre .1 .0, member-kind _ _ (c .before .before .before .before .before .before .before .before .before .before .before .before .before .pre .1 .0) _ _ _ (c .member .ensures) _ (c .before .before .before .before .before .before .before .loop .inv .1) (c .before .if2 .left), (c .before .before .before .before .before .before .before .before .before .before .before .before .before .pre .1 .2 .0, c .before .before .before .before .before .simple-members .ensures .inside)))
 
 table-unlawful-requires-2 : (t : ℕ) → table-lts.Need-unlawful-requires-2 (table-R t) (table-at t) table.Post table-Inv-loop table-μ-loop
 table-unlawful-requires-2 t c κs = search needs
 
 table-returns-3 : (t : ℕ) → table-lts.Need-returns-3 (table-R t) (table-at t) table.Post table-Inv-loop table-μ-loop
-table-returns-3 t c = table-stopped _ _ _ _ _ (c .before .before .before .before .before .before .before .before .before .before .before .loop .a) (c .before .before .before .before .before .before .before .before .before .before .before .loop .pos) (c .before .before .before .before .before .before .before .before .before .before .before .loop .j) (c .before .before .before .before .before .before .before .before .before .before .before .loop .inv .6) (c .before .before .before .before .before .before .before .before .before .simple-members .result .whole) (c .before .before .before .before .before .before .before .before .before .simple-members .result .index) (c .before .before .before .before .before .before .before .before .before .simple-members .result .extent) (c .before .before .before .before .before .before .before .before .before .simple-members .result .next) (c .before .before .before .before .before .before .before .before .before .simple-members .ensures) (c .before .before .before .before .before .before .before .if1 .left) _ (c .before .before .before .before .before .before .before .before .before .before .before .loop .inv .1) (c .before .before .before .before .before .if2 .left) _ (c .before .before .before .before .member .ensures) (c .before .before .before .member-part .result .whole) (c .before .before .before .member-part .result .extent) (c .before .before .before .member-part .result .next) (c .before .before .before .member-part .ensures) (c .before .before .before .before .before .before .before .before .before .before .before .loop .inv .3) (c .before .if3 .taken) _ _ _ (c .unlawful2 .ensures .0) (c .unlawful2 .ensures .1) (c .unlawful2 .ensures .2)
+table-returns-3 t c = table-stopped u48 _ _ _ _ _ (c .before .before .before .before .before .before .before .before .before .before .before .loop .a) (c .before .before .before .before .before .before .before .before .before .before .before .loop .pos) (c .before .before .before .before .before .before .before .before .before .before .before .loop .j) (c .before .before .before .before .before .before .before .before .before .before .before .loop .inv .6) (c .before .before .before .before .before .before .before .before .before .simple-members .result .whole) (c .before .before .before .before .before .before .before .before .before .simple-members .result .index) (c .before .before .before .before .before .before .before .before .before .simple-members .result .extent) (c .before .before .before .before .before .before .before .before .before .simple-members .result .next) (c .before .before .before .before .before .before .before .before .before .simple-members .ensures) (c .before .before .before .before .before .before .before .if1 .left) _ (c .before .before .before .before .before .before .before .before .before .before .before .loop .inv .1) (c .before .before .before .before .before .if2 .left) _ (c .before .before .before .before .member .ensures) (c .before .before .before .member-part .result .whole) (c .before .before .before .member-part .result .extent) (c .before .before .before .member-part .result .next) (c .before .before .before .member-part .ensures) (c .before .before .before .before .before .before .before .before .before .before .before .loop .inv .3) (c .before .if3 .taken) _ _ _ (c .unlawful2 .ensures .0) (c .unlawful2 .ensures .1) (c .unlawful2 .ensures .2)
 
 table-joined-requires : (t : ℕ) → table-lts.Need-joined-requires (table-R t) (table-at t) table.Post table-Inv-loop table-μ-loop
 table-joined-requires t c κs = search needs
@@ -527,7 +528,7 @@ table-loop-less : (t : ℕ) → table-lts.Need-loop-less (table-R t) (table-at t
 table-loop-less t c = omega (arith, c .before .before .before .before .before .if2 .left, c .before .before .before .before .before .before .before .before .before .before .loop-test .taken, c .before .before .before .before .before .before .before .before .before .simple-members .ensures .on)
 
 table-loop-again : (t : ℕ) → table-lts.Need-loop-again (table-R t) (table-at t) table.Post table-Inv-loop table-μ-loop
-table-loop-again t c = (search needs, c .before .before .before .before .before .before .before .before .before .before .before .loop .inv .1, c .before .before .before .before .before .before .before .before .before .before .before .loop .inv .2, c .before .before .before .before .before .before .before .before .before .before .before .loop .inv .3, search needs, search needs, table-turn _ _ _ _ (c .before .before .before .before .before .before .before .before .before .before .before .before .before .before .before .before .before .args .at) (c .before .before .before .before .before .before .before .before .before .before .before .loop .a) (c .before .before .before .before .before .before .before .before .before .before .before .loop .pos) (c .before .before .before .before .before .before .before .before .before .before .before .loop .j) (c .before .before .before .before .before .before .before .before .before .before .before .loop .inv .6) (c .before .before .before .before .before .before .before .before .before .simple-members .result .whole) (c .before .before .before .before .before .before .before .before .before .simple-members .result .index) (c .before .before .before .before .before .before .before .before .before .simple-members .result .extent) (c .before .before .before .before .before .before .before .before .before .simple-members .result .next) (c .before .before .before .before .before .before .before .before .before .simple-members .ensures) (c .before .before .before .before .before .before .before .if1 .left) _ (c .before .before .before .before .before .before .before .before .before .before .before .loop .inv .1) (c .before .before .before .before .before .if2 .left) _ (c .before .before .before .before .member .ensures) (c .before .before .before .member-part .result .whole) (c .before .before .before .member-part .result .extent) (c .before .before .before .member-part .result .next) (c .before .before .before .member-part .ensures) (c .before .if3 .left) _ (c .joined .ensures))
+table-loop-again t c = (search needs, c .before .before .before .before .before .before .before .before .before .before .before .loop .inv .1, c .before .before .before .before .before .before .before .before .before .before .before .loop .inv .2, c .before .before .before .before .before .before .before .before .before .before .before .loop .inv .3, search needs, search needs, table-turn u48 _ _ _ _ (c .before .before .before .before .before .before .before .before .before .before .before .before .before .before .before .before .before .args .at) (c .before .before .before .before .before .before .before .before .before .before .before .loop .a) (c .before .before .before .before .before .before .before .before .before .before .before .loop .pos) (c .before .before .before .before .before .before .before .before .before .before .before .loop .j) (c .before .before .before .before .before .before .before .before .before .before .before .loop .inv .6) (c .before .before .before .before .before .before .before .before .before .simple-members .result .whole) (c .before .before .before .before .before .before .before .before .before .simple-members .result .index) (c .before .before .before .before .before .before .before .before .before .simple-members .result .extent) (c .before .before .before .before .before .before .before .before .before .simple-members .result .next) (c .before .before .before .before .before .before .before .before .before .simple-members .ensures) (c .before .before .before .before .before .before .before .if1 .left) _ (c .before .before .before .before .before .before .before .before .before .before .before .loop .inv .1) (c .before .before .before .before .before .if2 .left) _ (c .before .before .before .before .member .ensures) (c .before .before .before .member-part .result .whole) (c .before .before .before .member-part .result .extent) (c .before .before .before .member-part .result .next) (c .before .before .before .member-part .ensures) (c .before .if3 .left) _ (c .joined .ensures))
 
 table-returns-4 : (t : ℕ) → table-lts.Need-returns-4 (table-R t) (table-at t) table.Post table-Inv-loop table-μ-loop
 table-returns-4 t c = search members-done
@@ -741,7 +742,7 @@ pub +body+choice+list+marked-row+member-part+object+part+refer+row+rows+table+ta
     (part-returns-2 t)
     (part-body-requires t)
     (part-returns-3 t)
-    (part-lost-requires t)
+    (part-unknown-requires t)
     (part-returns-4 t)
     (part-unlawful-requires-2 t)
     (part-returns-5 t))

@@ -92,7 +92,7 @@ field-test-index-requires-2 : (t : ℕ) → field-test-lts.Need-index-requires-2
 field-test-index-requires-2 t c κs = search needs
 
 field-test-struct-test-requires : (t : ℕ) → field-test-lts.Need-struct-test-requires (field-test-R t) (field-test-at t) field-test.Post
-field-test-struct-test-requires t c κs = (let l : c .index2 .result < c .before .before .before .before .before .before .before .args .i = search struct-lower in (omega arith, (search needs, omega arith, search needs, search needs)))
+field-test-struct-test-requires t c κs = (let l : c .index2 .result < c .before .before .before .before .before .before .before .args .i = search struct-lower in (omega arith, (search needs, omega arith, (search needs, search needs))))
 
 field-test-returns : (t : ℕ) → field-test-lts.Need-returns (field-test-R t) (field-test-at t) field-test.Post
 field-test-returns t c = search field-boolean

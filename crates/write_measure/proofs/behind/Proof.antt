@@ -10,8 +10,8 @@ record-of-requires c κs = search needs
 whole-bytes-requires : tie.Need-whole-bytes-requires
 whole-bytes-requires c κs = search needs
 
-add-end : tie.Need-add-end
-add-end c = search needs
+after-bytes-requires : tie.Need-after-bytes-requires
+after-bytes-requires c κs = search needs
 
 returns : tie.Need-returns
 returns c = (search behind-bytes, search behind-laid)
@@ -28,4 +28,4 @@ returns-2 c = (search behind-placed, search laid-next)
 pub behind-spec : {M : Type 1} → statement M
 behind-spec =
     tie.close
-    (tie.spec record-of-requires whole-bytes-requires add-end returns member-requires place-member-requires returns-2)
+    (tie.spec record-of-requires whole-bytes-requires after-bytes-requires returns member-requires place-member-requires returns-2)

@@ -8,8 +8,11 @@ use Rattle.write_measure.proofs.capped.Lts as lts
 returns : tie.Need-returns
 returns c = (search capped-short, search needs)
 
+add-result : tie.Need-add-result
+add-result c = search needs
+
 returns-2 : tie.Need-returns-2
 returns-2 c = (search capped-past, search needs)
 
 pub capped-spec : {M : Type 1} → statement M
-capped-spec = tie.close (tie.spec returns returns-2)
+capped-spec = tie.close (tie.spec add-result returns returns-2)

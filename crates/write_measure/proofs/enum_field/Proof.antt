@@ -1,12 +1,12 @@
 use borrow.Author.Needs.{needs}
-use Rattle.write_measure.proofs.FlatCases.{mark-cut, mark-none, mark-known, mark-lost, mark-bad}
+use Rattle.write_measure.proofs.FlatCases.{mark-cut, mark-none, mark-known, mark-unknown, mark-bad}
 use Rattle.write_measure.proofs.enum_field.Statement.{statement}
 use Rattle.write_measure.proofs.enum_field.Tie as tie
 use Rattle.write_measure.proofs.enum_field.Reads as reads
 use Rattle.write_measure.proofs.enum_field.Lts as lts
 use Rattle.bitio.proofs.take_number.Reads as take-number-reads
 use Rattle.write_measure.proofs.enum_known.Reads as enum-known-reads
-use Rattle.write_measure.proofs.enum_lost.Reads as enum-lost-reads
+use Rattle.write_measure.proofs.enum_unknown.Reads as enum-unknown-reads
 use Rattle.write_measure.proofs.not_lawful.Reads as not-lawful-reads
 
 take-number-requires : tie.Need-take-number-requires
@@ -27,11 +27,11 @@ enum-known-requires c κs = search needs
 returns-3 : tie.Need-returns-3
 returns-3 c = search mark-known
 
-enum-lost-requires : tie.Need-enum-lost-requires
-enum-lost-requires c κs = search needs
+enum-unknown-requires : tie.Need-enum-unknown-requires
+enum-unknown-requires c κs = search needs
 
 returns-4 : tie.Need-returns-4
-returns-4 c = search mark-lost
+returns-4 c = search mark-unknown
 
 not-lawful-requires-2 : tie.Need-not-lawful-requires-2
 not-lawful-requires-2 c κs = search needs
@@ -49,7 +49,7 @@ enum-field-spec =
     returns-2
     enum-known-requires
     returns-3
-    enum-lost-requires
+    enum-unknown-requires
     returns-4
     not-lawful-requires-2
     returns-5)

@@ -1,5 +1,5 @@
 use borrow.Author.Needs.{needs}
-use Rattle.write_measure.proofs.SimpleCases.{body-boolean, body-integer, body-float, body-enum, body-struct, integer-fits, float-fits, struct-fits, number-kind}
+use Rattle.write_measure.proofs.SimpleCases.{body-boolean, body-integer, body-float, body-enum, body-struct, integer-fits, float-fits, struct-fits}
 use Rattle.write_measure.proofs.flat_body.Statement.{statement}
 use Rattle.write_measure.proofs.flat_body.Tie as tie
 
@@ -13,7 +13,7 @@ returns : tie.Need-returns
 returns c = search body-boolean
 
 number-width-requires : tie.Need-number-width-requires
-number-width-requires c κs = search (number-kind, needs)
+number-width-requires c κs = search needs
 
 mul-any-number : tie.Need-mul-any-number
 mul-any-number c = search needs

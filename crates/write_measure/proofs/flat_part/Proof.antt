@@ -27,8 +27,8 @@ returns-3 c = search flat-there
 flat-at-requires : tie.Need-flat-at-requires
 flat-at-requires c κs = search needs
 
-flat-lost-requires : tie.Need-flat-lost-requires
-flat-lost-requires c κs = search needs
+flat-unknown-requires : tie.Need-flat-unknown-requires
+flat-unknown-requires c κs = search needs
 
 returns-4 : tie.Need-returns-4
 returns-4 c = search flat-unknown
@@ -51,7 +51,7 @@ flat-part-spec =
     flat-body-requires
     returns-3
     flat-at-requires
-    flat-lost-requires
+    flat-unknown-requires
     returns-4
     not-lawful-requires-2
     returns-5)

@@ -4,7 +4,7 @@ use Rattle.write_measure.proofs.float_fine.Statement.{statement}
 use Rattle.write_measure.proofs.float_fine.Tie as tie
 use Rattle.write_measure.proofs.float_fine.Reads as reads
 use Rattle.write_measure.proofs.float_fine.Lts as lts
-use Rattle.write_measure.proofs.is_nan.Reads as is-nan-reads
+use Rattle.wire.proofs.is_nan.Reads as is-nan-reads
 
 is-nan-requires : tie.Need-is-nan-requires
 is-nan-requires c κs = search needs

@@ -1,4 +1,3 @@
-use borrow.Author.Needs.{needs}
 use Rattle.write_measure.proofs.ExtentCases.{fine-may, fine-some, fine-none}
 use Rattle.write_measure.proofs.in_place_fine.Statement.{statement}
 use Rattle.write_measure.proofs.in_place_fine.Tie as tie

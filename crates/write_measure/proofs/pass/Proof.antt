@@ -4,7 +4,7 @@ use Rattle.write_measure.proofs.pass.Statement.{statement}
 use Rattle.write_measure.proofs.pass.Tie as tie
 use Rattle.write_measure.proofs.pass.Reads as reads
 use Rattle.write_measure.proofs.pass.Lts as lts
-use Rattle.write_measure.proofs.times.Reads as times-reads
+use Rattle.message_layout.proofs.times.Reads as times-reads
 use Rattle.write_measure.proofs.unlawful.Reads as unlawful-reads
 
 times-requires : tie.Need-times-requires

@@ -16,7 +16,7 @@ use Rattle.write_measure.proofs.simple_members.Tie as tie
 abbrev Inv-loop : tie.InvT-loop
 Inv-loop b dir s d t from e at count a₀ pos₀ j₀ a pos j =
     (j ≤ count) × (count ≡ length (Sc.tableOf (P.parse b) t .members)) × (count < 256) × (from ≤ length (Sc.tableOf (P.parse b) t .members)) × (from ≤ j)
-    × (pos ≤ 8 * length s) × Small a
+    × (at ≤ 8 * length s) × (pos ≤ 8 * length s) × Small a
     × (surveyMembers (survey d u48 (P.parse b)) u48 (P.parse b) (drop from (Sc.tableOf (P.parse b) t .members)) e (drop at (bits s))
     ≡ surveyMembers (survey d u48 (P.parse b)) u48 (P.parse b) (drop j (Sc.tableOf (P.parse b) t .members)) a (drop pos (bits s)))
 
@@ -27,7 +27,7 @@ member-count-requires : tie.Need-member-count-requires Inv-loop μ-loop
 member-count-requires c κs = search needs
 
 loop-holds : tie.Need-loop-holds Inv-loop μ-loop
-loop-holds c = (search needs, search needs, search needs, search needs, search needs, search needs, search needs, refl)
+loop-holds c = (search needs, search needs, search needs, search needs, search needs, search needs, search needs, search needs, refl)
 
 record-of-requires : tie.Need-record-of-requires Inv-loop μ-loop
 record-of-requires c κs = (search needs, search needs, search member-counted, search needs)
@@ -39,7 +39,7 @@ returns : tie.Need-returns Inv-loop μ-loop
 returns c = search left-here
 
 simple-member-requires : tie.Need-simple-member-requires Inv-loop μ-loop
-simple-member-requires c κs = (search needs, search needs, search needs, search simple-member-counted, search needs, search needs, search needs)
+simple-member-requires c κs = (search needs, search needs, search needs, search simple-member-counted, (search needs, search needs), search needs)
 
 returns-2 : tie.Need-returns-2 Inv-loop μ-loop
 returns-2 c = search left-cut
@@ -51,7 +51,7 @@ loop-less : tie.Need-loop-less Inv-loop μ-loop
 loop-less c = search needs
 
 loop-again : tie.Need-loop-again Inv-loop μ-loop
-loop-again c = (search needs, search needs, search needs, search needs, search needs, search needs, search needs, search left-turn)
+loop-again c = (search needs, search needs, search needs, search needs, search needs, search needs, search needs, search needs, search left-turn)
 
 returns-3 : tie.Need-returns-3 Inv-loop μ-loop
 returns-3 c = search left-here

@@ -1,5 +1,5 @@
 use borrow.Author.Needs.{needs}
-use Rattle.write_measure.proofs.SimpleCases.{no-bytes, number-bytes, float-bytes, enum-bytes, object-bytes, union-bytes, number-kind}
+use Rattle.write_measure.proofs.SimpleCases.{no-bytes, number-bytes, float-bytes, enum-bytes, object-bytes, union-bytes}
 use Rattle.write_measure.proofs.whole_bytes.Statement.{statement}
 use Rattle.write_measure.proofs.whole_bytes.Tie as tie
 
@@ -16,13 +16,13 @@ returns-2 : tie.Need-returns-2
 returns-2 c = (search needs, no-bytes)
 
 number-width-requires : tie.Need-number-width-requires
-number-width-requires c κs = search (number-kind, needs)
+number-width-requires c κs = search needs
 
 returns-3 : tie.Need-returns-3
 returns-3 c = (search needs, λ h. search number-bytes)
 
 number-width-requires-2 : tie.Need-number-width-requires-2
-number-width-requires-2 c κs = search (number-kind, needs)
+number-width-requires-2 c κs = search needs
 
 returns-4 : tie.Need-returns-4
 returns-4 c = (search needs, λ h. search float-bytes)

@@ -73,7 +73,7 @@ use Rattle.write_pass.proofs.is_terminal.Reads as is-terminal-reads
 use Rattle.write_pass.proofs.emit_unmarked.Reads as emit-unmarked-reads
 use Rattle.write_pass.proofs.emit_flats.Reads as emit-flats-reads
 use Rattle.write_pass.proofs.emit_text.Reads as emit-text-reads
-use Rattle.write_pass.proofs.integer_width.Reads as integer-width-reads
+use Rattle.schema.proofs.integer_width.Reads as integer-width-reads
 use Rattle.write_pass.proofs.known_size.Reads as known-size-reads
 use Rattle.write_pass.proofs.lack.Reads as lack-reads
 use Rattle.write_pass.proofs.measure.Reads as measure-reads
@@ -83,6 +83,7 @@ use Rattle.write_pass.proofs.open.Reads as open-reads
 use Rattle.write_pass.proofs.pass.Reads as pass-reads
 use Rattle.write_store.proofs.copied.Reads as copied-reads
 use Rattle.write_store.proofs.put_number.Reads as put-number-reads
+use Rattle.write_store.proofs.put_offset.Reads as put-offset-reads
 use Rattle.write_pass.proofs.put_reference.Reads as put-reference-reads
 use Rattle.write_pass.proofs.stored.Reads as stored-reads
 use Rattle.write_pass.proofs.+emit_body+emit_choice+emit_content+emit_element+emit_elements+emit_list+emit_marked+emit_measured+emit_objects+emit_part+emit_refer+emit_table.{
@@ -246,7 +247,7 @@ abbrev emit-list-R : ℕ → emit-list-lts.Claims
 emit-list-R t = (element-reads.Asked, element-reads.Learnt, integer-width-reads.Asked, integer-width-reads.Learnt, emit-bytes-reads.Asked, emit-bytes-reads.Learnt, take-number-reads.Asked, take-number-reads.Learnt, not-lawful-reads.Asked, not-lawful-reads.Learnt, unmarked-reads.Asked, unmarked-reads.Learnt, emit-unmarked-reads.Asked, emit-unmarked-reads.Learnt, emit-flats-reads.Asked, emit-flats-reads.Learnt, emit-objects-below t, emit-objects.Post, emit-elements-below t, emit-elements.Post)
 
 abbrev emit-marked-R : ℕ → emit-marked-lts.Claims
-emit-marked-R t = (take-number-reads.Asked, take-number-reads.Learnt, not-lawful-reads.Asked, not-lawful-reads.Learnt, measure-by-reads.Asked, measure-by-reads.Learnt, emit-measured-below t, emit-measured.Post, put-number-reads.Asked, put-number-reads.Learnt, stored-reads.Asked, stored-reads.Learnt)
+emit-marked-R t = (take-number-reads.Asked, take-number-reads.Learnt, not-lawful-reads.Asked, not-lawful-reads.Learnt, measure-by-reads.Asked, measure-by-reads.Learnt, emit-measured-below t, emit-measured.Post, put-offset-reads.Asked, put-offset-reads.Learnt, stored-reads.Asked, stored-reads.Learnt)
 
 abbrev emit-objects-R : ℕ → emit-objects-lts.Claims
 emit-objects-R t = (known-size-reads.Asked, known-size-reads.Learnt, emit-marked-below t, emit-marked.Post, not-lawful-reads.Asked, not-lawful-reads.Learnt, copied-reads.Asked, copied-reads.Learnt, stored-reads.Asked, stored-reads.Learnt)
@@ -580,8 +581,8 @@ emit-marked-same-length t c = search needs
 emit-marked-returns-2 : (t : ℕ) → emit-marked-lts.Need-returns-2 (emit-marked-R t) (emit-marked-at t) emit-marked.Post
 emit-marked-returns-2 t c = search (marked-there, c .before .before .before .before .before .before .before .before .before .before .before .before .before .pre .1 .1, c .before .before .before .before .before .before .before .before .take-number .ensures, c .before .before .before .before .before .before .if1 .left, c .before .before .before .before .before .if2 .taken, c .before .before .emit-measured .ensures)
 
-emit-marked-put-number-requires : (t : ℕ) → emit-marked-lts.Need-put-number-requires (emit-marked-R t) (emit-marked-at t) emit-marked.Post
-emit-marked-put-number-requires t c κs = search (room-below, needs)
+emit-marked-put-offset-requires : (t : ℕ) → emit-marked-lts.Need-put-offset-requires (emit-marked-R t) (emit-marked-at t) emit-marked.Post
+emit-marked-put-offset-requires t c κs = search (room-below, needs)
 
 emit-marked-stored-requires : (t : ℕ) → emit-marked-lts.Need-stored-requires (emit-marked-R t) (emit-marked-at t) emit-marked.Post
 emit-marked-stored-requires t c κs = search needs
@@ -590,7 +591,7 @@ emit-marked-same-length-2 : (t : ℕ) → emit-marked-lts.Need-same-length-2 (em
 emit-marked-same-length-2 t c = search needs
 
 emit-marked-returns-3 : (t : ℕ) → emit-marked-lts.Need-returns-3 (emit-marked-R t) (emit-marked-at t) emit-marked.Post
-emit-marked-returns-3 t c = search (marked-none, c .before .before .before .before .before .before .before .before .before .before .before .before .before .before .pre .1 .1, c .before .before .before .before .before .before .before .before .before .take-number .ensures, c .before .before .before .before .before .before .before .if1 .left, c .before .before .before .before .before .if3 .taken, c .before .before .before .put-number .ensures, c .stored .ensures .0, c .stored .ensures .1, c .stored .ensures .2)
+emit-marked-returns-3 t c = search (marked-none, c .before .before .before .before .before .before .before .before .before .before .before .before .before .before .pre .1 .1, c .before .before .before .before .before .before .before .before .before .take-number .ensures, c .before .before .before .before .before .before .before .if1 .left, c .before .before .before .before .before .if3 .taken, c .before .before .before .put-offset .ensures, c .stored .ensures .0, c .stored .ensures .1, c .stored .ensures .2)
 
 emit-marked-not-lawful-requires-2 : (t : ℕ) → emit-marked-lts.Need-not-lawful-requires-2 (emit-marked-R t) (emit-marked-at t) emit-marked.Post
 emit-marked-not-lawful-requires-2 t c κs = search needs
@@ -951,7 +952,7 @@ pub +emit-body+emit-choice+emit-content+emit-element+emit-elements+emit-list+emi
     (emit-marked-emit-measured-requires t)
     (emit-marked-same-length t)
     (emit-marked-returns-2 t)
-    (emit-marked-put-number-requires t)
+    (emit-marked-put-offset-requires t)
     (emit-marked-stored-requires t)
     (emit-marked-same-length-2 t)
     (emit-marked-returns-3 t)

@@ -4,7 +4,7 @@ use Rattle.write_pass.proofs.by_offset.Statement.{statement}
 use Rattle.write_pass.proofs.by_offset.Tie as tie
 use Rattle.write_pass.proofs.by_offset.Reads as reads
 use Rattle.write_pass.proofs.by_offset.Lts as lts
-use Rattle.write_pass.proofs.is_blob.Reads as is-blob-reads
+use Rattle.schema.proofs.is_blob.Reads as is-blob-reads
 
 returns : tie.Need-returns
 returns c = search needs

@@ -18,7 +18,7 @@ use Rattle.write_pass.proofs.not_lawful.Reads as not-lawful-reads
 use Rattle.write_pass.proofs.stored.Reads as stored-reads
 use Rattle.write_store.proofs.put_bit.Reads as put-bit-reads
 use Rattle.write_store.proofs.put_octet.Reads as put-octet-reads
-use Rattle.write_store.proofs.reversed.Reads as reversed-reads
+use Rattle.bits.proofs.reversed.Reads as reversed-reads
 
 abbrev Inv-loop : tie.InvT-loop
 Inv-loop s out₀ n c pos p₀ at₀ left₀ out p at left =

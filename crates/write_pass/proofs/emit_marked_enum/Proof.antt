@@ -1,5 +1,5 @@
 use borrow.Author.Needs.{needs}
-use Rattle.write_pass.proofs.EmitCases.{room-marked, mark-cut, mark-none, mark-known, mark-lost, mark-bad}
+use Rattle.write_pass.proofs.EmitCases.{room-marked, mark-cut, mark-none, mark-known, mark-unknown, mark-bad}
 use Rattle.write_pass.proofs.EmitRoom.{room-taken}
 use Rattle.write_pass.proofs.emit_marked_enum.Statement.{statement}
 use Rattle.write_pass.proofs.emit_marked_enum.Tie as tie
@@ -52,7 +52,7 @@ same-length-3 : tie.Need-same-length-3
 same-length-3 c = search needs
 
 returns-4 : tie.Need-returns-4
-returns-4 c = search mark-lost
+returns-4 c = search mark-unknown
 
 not-lawful-requires-2 : tie.Need-not-lawful-requires-2
 not-lawful-requires-2 c κs = search needs

@@ -1,5 +1,5 @@
 use borrow.Author.Needs.{needs}
-use Rattle.write_pass.proofs.EmitRoom.{room-taken, room-below}
+use Rattle.write_pass.proofs.EmitRoom.{room-taken}
 use Rattle.write_pass.proofs.EmitCases.{float-cut, float-none, float-there, float-bad}
 use Rattle.write_pass.proofs.emit_marked_float.Statement.{statement}
 use Rattle.write_pass.proofs.emit_marked_float.Tie as tie

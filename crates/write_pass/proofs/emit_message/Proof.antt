@@ -4,7 +4,7 @@ use Rattle.write_pass.proofs.emit_message.Statement.{statement}
 use Rattle.write_pass.proofs.emit_message.Tie as tie
 use Rattle.write_pass.proofs.emit_message.Reads as reads
 use Rattle.write_pass.proofs.emit_message.Lts as lts
-use Rattle.message_object.proofs.root_object.Reads as root-object-reads
+use Rattle.message_start.proofs.root_object.Reads as root-object-reads
 use Rattle.write_pass.proofs.emit_measured.Reads as emit-measured-reads
 use Rattle.write_store.proofs.put_number.Reads as put-number-reads
 

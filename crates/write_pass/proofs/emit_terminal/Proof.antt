@@ -1,5 +1,5 @@
 use borrow.Author.Needs.{needs}
-use Rattle.write_pass.proofs.EmitRoom.{room-below, room-flag, room-lack}
+use Rattle.write_pass.proofs.EmitRoom.{room-flag, room-lack}
 use Rattle.write_pass.proofs.EmitPartCases.{part-cut, part-there, part-bad, part-none, part-pass}
 use Rattle.write_pass.proofs.emit_terminal.Statement.{statement}
 use Rattle.write_pass.proofs.emit_terminal.Tie as tie

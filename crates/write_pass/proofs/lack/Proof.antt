@@ -7,6 +7,7 @@ use Rattle.write_pass.proofs.lack.Reads as reads
 use Rattle.write_pass.proofs.lack.Lts as lts
 use Rattle.write_pass.proofs.lack_flat.Reads as lack-flat-reads
 use Rattle.write_store.proofs.put_number.Reads as put-number-reads
+use Rattle.write_store.proofs.put_offset.Reads as put-offset-reads
 
 enum-known-k : tie.Need-enum-known-k
 enum-known-k c = search needs
@@ -17,14 +18,14 @@ lack-flat-requires c κs = search (kind-flat, needs)
 enum-told : tie.Need-enum-told
 enum-told c = search needs
 
-put-number-requires : tie.Need-put-number-requires
-put-number-requires c κs = search needs
+put-offset-requires : tie.Need-put-offset-requires
+put-offset-requires c κs = search needs
 
 enum-told-2 : tie.Need-enum-told-2
 enum-told-2 c = search needs
 
-put-number-requires-2 : tie.Need-put-number-requires-2
-put-number-requires-2 c κs = search needs
+put-number-requires : tie.Need-put-number-requires
+put-number-requires c κs = search needs
 
 same-length : tie.Need-same-length
 same-length c = search needs
@@ -51,9 +52,9 @@ lack-spec =
     enum-known-k
     lack-flat-requires
     enum-told
-    put-number-requires
+    put-offset-requires
     enum-told-2
-    put-number-requires-2
+    put-number-requires
     same-length
     returns
     same-length-2

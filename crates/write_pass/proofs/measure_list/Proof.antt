@@ -7,7 +7,7 @@ use Rattle.write_pass.proofs.measure_list.Reads as reads
 use Rattle.write_pass.proofs.measure_list.Lts as lts
 use Rattle.bitio.proofs.take_number.Reads as take-number-reads
 use Rattle.schema.proofs.element.Reads as element-reads
-use Rattle.write_measure.proofs.elements_size.Reads as elements-size-reads
+use Rattle.message_layout.proofs.elements_size.Reads as elements-size-reads
 use Rattle.write_measure.proofs.opened.Reads as opened-reads
 
 take-number-requires : tie.Need-take-number-requires

@@ -1,27 +1,17 @@
 use borrow.Author.Needs.{needs}
-use Rattle.write_pass.proofs.OpenCases.{entered-low, entered-header, terminal-opened}
+use Rattle.write_pass.proofs.OpenCases.{terminal-opened}
 use Rattle.write_pass.proofs.open_terminal.Statement.{statement}
 use Rattle.write_pass.proofs.open_terminal.Tie as tie
 use Rattle.write_pass.proofs.open_terminal.Reads as reads
 use Rattle.write_pass.proofs.open_terminal.Lts as lts
 use Rattle.write_pass.proofs.terminal_magic.Reads as terminal-magic-reads
-use Rattle.write_store.proofs.enter_object.Reads as enter-object-reads
-use Rattle.write_store.proofs.put_number.Reads as put-number-reads
+use Rattle.write_pass.proofs.put_header.Reads as put-header-reads
 
 terminal-magic-requires : tie.Need-terminal-magic-requires
 terminal-magic-requires c κs = search needs
 
-add-enter-object : tie.Need-add-enter-object
-add-enter-object c = search needs
-
-enter-object-requires : tie.Need-enter-object-requires
-enter-object-requires c κs = search needs
-
-put-number-requires : tie.Need-put-number-requires
-put-number-requires c κs = search (entered-low, needs)
-
-put-number-requires-2 : tie.Need-put-number-requires-2
-put-number-requires-2 c κs = search (entered-header, needs)
+put-header-requires : tie.Need-put-header-requires
+put-header-requires c κs = search needs
 
 same-length : tie.Need-same-length
 same-length c = search needs
@@ -30,13 +20,4 @@ returns : tie.Need-returns
 returns c = search terminal-opened
 
 pub open-terminal-spec : {M : Type 1} → statement M
-open-terminal-spec =
-    tie.close
-    (tie.spec
-    terminal-magic-requires
-    add-enter-object
-    enter-object-requires
-    put-number-requires
-    put-number-requires-2
-    same-length
-    returns)
+open-terminal-spec = tie.close (tie.spec terminal-magic-requires put-header-requires same-length returns)

@@ -1,11 +1,11 @@
 use borrow.Author.Needs.{needs}
-use Rattle.write_pass.proofs.EmitCases.{if-cut, lost-there, lost-fails}
+use Rattle.write_pass.proofs.EmitCases.{if-cut, unknown-there, unknown-fails}
 use Rattle.write_pass.proofs.pass_enum.Statement.{statement}
 use Rattle.write_pass.proofs.pass_enum.Tie as tie
 use Rattle.write_pass.proofs.pass_enum.Reads as reads
 use Rattle.write_pass.proofs.pass_enum.Lts as lts
 use Rattle.bitio.proofs.take_number.Reads as take-number-reads
-use Rattle.write_measure.proofs.unknown_enum.Reads as unknown-enum-reads
+use Rattle.write_measure.proofs.is_unknown_enum.Reads as is-unknown-enum-reads
 use Rattle.write_pass.proofs.not_lawful.Reads as not-lawful-reads
 use Rattle.write_pass.proofs.stored.Reads as stored-reads
 
@@ -18,20 +18,20 @@ not-lawful-requires c κs = search needs
 returns : tie.Need-returns
 returns c = search if-cut
 
-unknown-enum-requires : tie.Need-unknown-enum-requires
-unknown-enum-requires c κs = search needs
+is-unknown-enum-requires : tie.Need-is-unknown-enum-requires
+is-unknown-enum-requires c κs = search needs
 
 stored-requires : tie.Need-stored-requires
 stored-requires c κs = search needs
 
 returns-2 : tie.Need-returns-2
-returns-2 c = search lost-there
+returns-2 c = search unknown-there
 
 not-lawful-requires-2 : tie.Need-not-lawful-requires-2
 not-lawful-requires-2 c κs = search needs
 
 returns-3 : tie.Need-returns-3
-returns-3 c = search lost-fails
+returns-3 c = search unknown-fails
 
 pub pass-enum-spec : {M : Type 1} → statement M
 pass-enum-spec =
@@ -40,7 +40,7 @@ pass-enum-spec =
     take-number-requires
     not-lawful-requires
     returns
-    unknown-enum-requires
+    is-unknown-enum-requires
     stored-requires
     returns-2
     not-lawful-requires-2

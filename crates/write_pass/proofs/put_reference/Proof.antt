@@ -4,10 +4,10 @@ use Rattle.write_pass.proofs.put_reference.Statement.{statement}
 use Rattle.write_pass.proofs.put_reference.Tie as tie
 use Rattle.write_pass.proofs.put_reference.Reads as reads
 use Rattle.write_pass.proofs.put_reference.Lts as lts
-use Rattle.write_store.proofs.put_number.Reads as put-number-reads
+use Rattle.write_store.proofs.put_offset.Reads as put-offset-reads
 
-put-number-requires : tie.Need-put-number-requires
-put-number-requires c κs = search needs
+put-offset-requires : tie.Need-put-offset-requires
+put-offset-requires c κs = search needs
 
 same-length : tie.Need-same-length
 same-length c = search needs
@@ -15,8 +15,8 @@ same-length c = search needs
 returns : tie.Need-returns
 returns c = search referred-content
 
-put-number-requires-2 : tie.Need-put-number-requires-2
-put-number-requires-2 c κs = search needs
+put-offset-requires-2 : tie.Need-put-offset-requires-2
+put-offset-requires-2 c κs = search needs
 
 same-length-2 : tie.Need-same-length-2
 same-length-2 c = search needs
@@ -28,9 +28,9 @@ pub put-reference-spec : {M : Type 1} → statement M
 put-reference-spec =
     tie.close
     (tie.spec
-    put-number-requires
+    put-offset-requires
     same-length
     returns
-    put-number-requires-2
+    put-offset-requires-2
     same-length-2
     returns-2)

@@ -1,10 +1,9 @@
-use Prim.Native.Nat.{ℕ, _+_, _-_, _*_, _<_, _≤_}
+use Prim.Native.Nat.{_+_, _-_, _≤_}
 use mathlib.Core.Path.{_≡_, refl, _∙_}
 use native.Mathlib.Omega.{arith}
-use lib.ListN.{length, drop, replicate}
+use lib.ListN.{length}
 use lib.Seq.{sets}
 use Rattle.coding.specs.Bytes.{leBytes}
-use Rattle.coding.specs.Bits.{bits, pack}
 use borrow.Author.Needs.{needs}
 use Rattle.write_store.proofs.StoreCases.{number-turn, number-done}
 use Rattle.write_store.proofs.store_each.Statement.{statement}

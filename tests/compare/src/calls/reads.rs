@@ -33,7 +33,13 @@ pub fn on_round(run: &mut Run, seed: u64, round: u64) -> Result<(), String> {
 
 /// A message with budgets and rooms around those that it needs.
 fn on_subject(run: &mut Run, rng: &mut Rng, subject: &Subject) -> Result<(), String> {
-    let (verdict, sheet) = reference::read(&subject.schema, &subject.message, AMPLE, SIZE_LIMIT);
+    let (verdict, sheet) = reference::read(
+        crate::CODING,
+        &subject.schema,
+        &subject.message,
+        AMPLE,
+        SIZE_LIMIT,
+    );
     let (length, visits) = (sheet.len(), verdict.visits);
     if verdict.number != 0 {
         run.counts.note(&format!("refused: {:?}", subject.sort));

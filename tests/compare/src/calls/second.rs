@@ -41,11 +41,11 @@ impl Calls for SecondCalls {
     }
 
     fn field(&self, schema: &[u8], message: &[u8], path: &[u32]) -> [u64; 4] {
-        numbers(reference::field(schema, message, path))
+        numbers(reference::field(crate::CODING, schema, message, path))
     }
 
     fn text(&self, schema: &[u8], message: &[u8], path: &[u32]) -> [u64; 3] {
-        match reference::text(schema, message, path) {
+        match reference::text(crate::CODING, schema, message, path) {
             Some((start, length)) => [1, start as u64, length as u64],
             None => [0; 3],
         }
@@ -59,14 +59,15 @@ impl Calls for SecondCalls {
         from: u64,
         cases: &mut [u64],
     ) -> u64 {
-        let mut reader = match ListReader::new(schema, message, path) {
+        let mut reader = match ListReader::new(crate::CODING, schema, message, path) {
             Ok(reader) => reader,
             Err(refusal) => {
                 store(cases, || refusal);
                 return 0;
             }
         };
-        let Answer::Object { length, .. } = reference::field(schema, message, path) else {
+        let Answer::Object { length, .. } = reference::field(crate::CODING, schema, message, path)
+        else {
             unreachable!("a list reader starts only at a list");
         };
         // After the last it stays.
@@ -78,7 +79,7 @@ impl Calls for SecondCalls {
     }
 
     fn read(&self, schema: &[u8], message: &[u8], budget: u32, sheet: &mut [u8]) -> [u64; 4] {
-        let (verdict, read) = reference::read(schema, message, budget, sheet.len());
+        let (verdict, read) = reference::read(crate::CODING, schema, message, budget, sheet.len());
         sheet[..read.len()].copy_from_slice(&read);
         let (number, visits) = (u64::from(verdict.number), u64::from(verdict.visits));
         [number, verdict.place, visits, read.len() as u64]
@@ -87,7 +88,7 @@ impl Calls for SecondCalls {
 
 impl Writes for SecondCalls {
     fn write(&self, schema: &[u8], sheet: &[u8], message: &mut [u8]) -> [u64; 2] {
-        let (number, written) = reference::write(schema, sheet, message.len());
+        let (number, written) = reference::write(crate::CODING, schema, sheet, message.len());
         message[..written.len()].copy_from_slice(&written);
         [u64::from(number), written.len() as u64]
     }

@@ -91,13 +91,14 @@ fn of_round(rng: &mut Rng) -> Vec<Subject> {
 fn read_from_damaged(rng: &mut Rng, schema: &Schema, value: Value) -> Option<Vec<u8>> {
     let wild = message_gen::lay_out(schema, rng, value, None);
     let bytes = damage::message(rng, &wild.bytes, &wild.spots);
-    let (verdict, sheet) = reference::read(&schema.pack(), &bytes, 3000, 1 << 16);
+    let (verdict, sheet) = reference::read(crate::CODING, &schema.pack(), &bytes, 3000, 1 << 16);
     (verdict.number == 0).then_some(sheet)
 }
 
 /// A sheet with rooms around the one that it needs.
 fn on_subject(run: &mut Run, rng: &mut Rng, subject: &Subject) -> Result<(), String> {
-    let (number, message) = reference::write(&subject.schema, &subject.sheet, SIZE_LIMIT);
+    let (number, message) =
+        reference::write(crate::CODING, &subject.schema, &subject.sheet, SIZE_LIMIT);
     let name = format!("sheets {}, answer {number}", subject.sort);
     run.counts.note(&name);
     let length = message.len();

@@ -15,17 +15,29 @@ pub fn folder() -> PathBuf {
     folder
 }
 
-/// What a program of the repository prints in a folder, which then goes away.
-pub fn run_in(folder: &Path, name: &str) -> String {
+/// A program of the repository that is to be run in a folder.
+pub fn program_in(folder: &Path, name: &str) -> Command {
     let programs = Path::new(env!("CARGO_MANIFEST_DIR")).join("../../target/bin");
     let program = programs.join(name);
     assert!(
         program.is_file(),
         "target/bin/{name} is missing: make it with `rt check {name}`"
     );
-    let output = Command::new(program).current_dir(folder).output();
-    let output = output.expect("the program runs");
+    let mut command = Command::new(program);
+    command.current_dir(folder);
+    command
+}
+
+/// What a program prints.
+pub fn printed_by(command: &mut Command) -> String {
+    let output = command.output().expect("the program runs");
     assert!(output.status.success() && output.stderr.is_empty());
-    fs::remove_dir_all(folder).expect("the folder goes away");
     String::from_utf8(output.stdout).expect("plain letters")
+}
+
+/// What a program of the repository prints in a folder, which then goes away.
+pub fn run_in(folder: &Path, name: &str) -> String {
+    let printed = printed_by(&mut program_in(folder, name));
+    fs::remove_dir_all(folder).expect("the folder goes away");
+    printed
 }

@@ -1,0 +1,38 @@
+use Rattle.message_object.proofs.OpenCases.{schema-accepted}
+use Rattle.field_element.proofs.StepCases.{answer-unlawful, next-unlawful}
+use borrow.Author.Needs.{needs}
+use Rattle.field_element.proofs.step.Statement.{statement}
+use Rattle.field_element.proofs.step.Tie as tie
+
+slice-aggregate-judge-schema : tie.Need-slice-aggregate-judge-schema
+slice-aggregate-judge-schema c = search needs
+
+judge-schema-requires : tie.Need-judge-schema-requires
+judge-schema-requires c κs = search needs
+
+slice-aggregate-step-by : tie.Need-slice-aggregate-step-by
+slice-aggregate-step-by c = search needs
+
+step-by-requires : tie.Need-step-by-requires
+step-by-requires c κs = search schema-accepted
+
+returns : tie.Need-returns
+returns c = search needs
+
+refused-requires : tie.Need-refused-requires
+refused-requires c κs = search needs
+
+returns-2 : tie.Need-returns-2
+returns-2 c = (search answer-unlawful, search next-unlawful)
+
+pub step-spec : {M : Type 1} → statement M
+step-spec =
+    tie.close
+    (tie.spec
+    slice-aggregate-judge-schema
+    judge-schema-requires
+    slice-aggregate-step-by
+    step-by-requires
+    returns
+    refused-requires
+    returns-2)

@@ -1,0 +1,2 @@
+-- What stands before a member.
+pub mod Before

@@ -1,0 +1,37 @@
+use Rattle.message_object.proofs.OpenCases.{placed-refused, placed-fit, small-start, small-length}
+use borrow.Author.Needs.{needs}
+use Rattle.message_object.proofs.fit_object.Statement.{statement}
+use Rattle.message_object.proofs.fit_object.Tie as tie
+use Rattle.message_object.proofs.fit_object.Reads as reads
+use Rattle.message_object.proofs.fit_object.Lts as lts
+use Rattle.message_header.proofs.fit_content.Reads as fit-content-reads
+use Rattle.message_object.proofs.content_at.Reads as content-at-reads
+
+content-at-requires : tie.Need-content-at-requires
+content-at-requires c κs = search needs
+
+enum-known-e : tie.Need-enum-known-e
+enum-known-e c = search needs
+
+enum-known-start : tie.Need-enum-known-start
+enum-known-start c = search needs
+
+fit-content-requires : tie.Need-fit-content-requires
+fit-content-requires c κs = search (small-start, small-length, needs)
+
+returns : tie.Need-returns
+returns c = search placed-refused
+
+returns-2 : tie.Need-returns-2
+returns-2 c = search placed-fit
+
+pub fit-object-spec : {M : Type 1} → statement M
+fit-object-spec =
+    tie.close
+    (tie.spec
+    content-at-requires
+    enum-known-e
+    enum-known-start
+    fit-content-requires
+    returns
+    returns-2)

@@ -1,0 +1,21 @@
+-- What a header announces, and content that fits: its bytes may be tested.
+use Prim.Native.Nat.{ℕ}
+use mathlib.Core.List.{List}
+use Rattle.coding.specs.Schema.{Schema}
+use Rattle.coding.specs.Walk.{fitContent}
+use Rattle.coding.specs.declared.Object.{Object}
+use Rattle.coding.specs.declared.Opened.{Opened}
+use Rattle.coding.specs.declared.Opened.the-variants as Op
+use Rattle.message_header.specs.declared.Header.{Header}
+use Rattle.message_header.specs.declared.Header.the-variants as Hd
+use Rattle.message_header.specs.Headers.{EndInside}
+
+-- what a header announces, if it fits
+abbrev pub announced : ℕ → Schema → List ℕ → Object → Header → Opened
+announced o S m ob (Hd.Refused n) = Op.Refused n
+announced o S m ob (Hd.Content start n) = fitContent o S m ob start n
+
+-- the end byte of a text that fits lies within the message
+abbrev pub EndsInside : List ℕ → Object → Opened → Type 0
+EndsInside m ob (Op.Refused n) = Unit {0}
+EndsInside m ob (Op.Content start n) = EndInside m ob start n

@@ -1,0 +1,2 @@
+-- What the test of content's bytes relies on.
+pub mod Fit

@@ -1,0 +1,13 @@
+-- `message_start::size_ok` meets its contract.
+use Rattle.message_start.proofs.StartCases.{size-short, size-long}
+use Rattle.message_start.proofs.size_ok.Statement.{statement}
+use Rattle.message_start.proofs.size_ok.Tie as tie
+
+returns : tie.Need-returns
+returns c = search size-short
+
+returns-2 : tie.Need-returns-2
+returns-2 c = search size-long
+
+pub size-ok-spec : {M : Type 1} → statement M
+size-ok-spec = tie.close (tie.spec returns returns-2)

@@ -1,0 +1,32 @@
+-- A walker's answer: a refusal, and whether the walk goes on or is stopped.
+use mathlib.Core.Path.{_≡_, refl, ap}
+use Prim.Native.Nat.{ℕ, _+_, _-_}
+use native.Mathlib.Omega.{arith}
+use borrow.Author.Tests.{eq-eqb, ne-eqb}
+use Rattle.coding.specs.Walk as W
+use Rattle.coding.specs.declared.Spent.{Spent}
+use Rattle.coding.specs.declared.Walked.{Walked}
+use Rattle.coding.specs.declared.Walked.the-variants.{Going, Refused}
+use Rattle.outcome.specs.declared.Outcome.{Outcome}
+use Rattle.outcome.specs.Answers.{walkedOf}
+
+pub answer-refuses : (k n at : ℕ) (s : Spent) → k ≡ n → walkedOf (record { code = k + 1; place = at; spent = s }) ≡ W.refuse n at s
+unfolding walkedOf W.refuse
+answer-refuses k n at s e =
+    let z : (k + 1 ≡ 0 → ⊥) = λ q. absurd (omega arith) in
+    let y : k + 1 - 1 ≡ n = omega arith in
+    simp (ne-eqb (k + 1) 0 z) (ap (λ (x : ℕ). Refused (record { number = x; place = at }) s) y)
+
+module _ (w : Outcome) where
+  pub is-going : w .code ≡ 0 → walkedOf w ≡ Going (w .spent)
+  unfolding walkedOf
+  is-going e = simp (eq-eqb _ _ e)
+
+  module _ (next : Spent → Walked) where
+    pub goes : w .code ≡ 0 → W.andThen (walkedOf w) next ≡ next (w .spent)
+    unfolding W.andThen walkedOf
+    goes e = simp (eq-eqb _ _ e)
+
+    pub stops : (w .code ≡ 0 → ⊥) → W.andThen (walkedOf w) next ≡ walkedOf w
+    unfolding W.andThen walkedOf
+    stops f = simp (ne-eqb _ _ f)

@@ -1,0 +1,2 @@
+-- What the walkers answer and are charged, in the words of the walk's definition.
+pub mod Answers

@@ -1,0 +1,102 @@
+-- Words for the contracts of this crate: what a parameter holds, and the definitions by the bytes of a schema, which they parse.
+-- `o` is the width of an offset in bytes, b a schema's bytes, m a message's, s a sheet's.
+use mathlib.Core.Path.{_≡_}
+use mathlib.Core.Bool.{true}
+use mathlib.Core.List.{List}
+use mathlib.Core.Logic.{_⊎_}
+use mathlib.Core.Option.{Option, some}
+use Prim.Native.Nat.{ℕ, _*_, _<_, _≤_}
+use lib.ListN.{length, take, drop}
+use denote.Ref.{RefT}
+use denote.Triple.Both.{Both}
+use Rattle.coding.specs.Bytes.{deepest, largest}
+use Rattle.coding.specs.Schema.{elementOf}
+use Rattle.coding.specs.Packed.{parse}
+use Rattle.coding.specs.Lawful.{lawful}
+use Rattle.coding.specs.Walk.{verdict}
+use Rattle.coding.specs.Value.{Value}
+use Rattle.coding.specs.Read.{messageRead}
+use Rattle.coding.specs.Sheet.{sheetTree}
+use Rattle.coding.specs.Message.{writable, messageOf}
+use Rattle.coding.specs.Field.{fieldFound, leads, answerCase, caseNumbers}
+use Rattle.coding.specs.declared.Object.the-variants as O
+use Rattle.coding.specs.declared.Found.the-variants as Fd
+use Rattle.coding.specs.declared.Answer.{Answer}
+use Rattle.coding.specs.declared.Budget.{Budget}
+use Rattle.coding.specs.declared.ReadAnswer.{ReadAnswer}
+use Rattle.demands.specs.Arrivals.{messageArrivals}
+use Rattle.demands.specs.FieldEntries.{Entry}
+use Rattle.demands.specs.Fields.{sheetEntry}
+use Rattle.demands.specs.SheetText.{sheetText}
+
+-- ---- parameters
+-- what a parameter holds as the function is called
+abbrev pub given : {X Y : Type 0} → Both (RefT X) Y → X
+given x = x .entry .now
+
+-- what a lent buffer holds as the function returns
+abbrev pub after : {X Y : Type 0} → Both Y (RefT X) → X
+after x = x .exit .now
+
+-- ---- judging and reading
+-- the message is accepted: number 0 of judging
+abbrev pub Accepts : ℕ → List ℕ → List ℕ → Budget → Type 0
+Accepts o b m budget = verdict o b m budget .number ≡ 0
+
+-- the arrivals of the walk
+abbrev pub arrivals : ℕ → List ℕ → List ℕ → ℕ
+arrivals o b m = messageArrivals o (parse b) m
+
+-- the tree of values that a message holds
+abbrev pub values : ℕ → List ℕ → List ℕ → Value
+values o b m = messageRead o (parse b) m
+
+-- the tree of values that a lawful sheet packs
+abbrev pub treeOf : List ℕ → List ℕ → Option Value
+treeOf b s = sheetTree (parse b) s
+
+-- a sheet is within the size and has room in an output
+abbrev pub Fits : List ℕ → List ℕ → Type 0
+Fits s out = (length s ≤ largest) × (length s ≤ length out)
+
+-- "no room in the output, or a sheet over the size"
+abbrev pub NoRoom : List ℕ → List ℕ → Type 0
+NoRoom s out = (largest < length s) ⊎ (length out < length s)
+
+-- where an answer has number 0, what stands in the output, up to the answer's length, is this sheet
+abbrev pub HandsOut : ReadAnswer → List ℕ → List ℕ → Type 0
+HandsOut r out s = r .verdict .number ≡ 0 → take (r .length) out ≡ s
+
+-- "on refusal the length is 0 and the output is unchanged": of an answer's number and length, and of the output before and after
+abbrev pub KeepsOnRefusal : ℕ → ℕ → List ℕ → List ℕ → Type 0
+KeepsOnRefusal number len out out′ = (number ≡ 0 → ⊥) → (len ≡ 0) × (out′ ≡ out)
+
+-- ---- one field
+-- the entry of a sheet at a path
+abbrev pub entryAt : List ℕ → List ℕ → List ℕ → Entry
+entryAt b s path = sheetEntry (parse b) s path
+
+-- the text or bytes of a sheet at a path
+abbrev pub textAt : List ℕ → List ℕ → List ℕ → List ℕ
+textAt b s path = sheetText (parse b) s path
+
+-- ---- the list reader
+-- the path leads to "a list whose elements are of kinds 13 to 17": list i of the schema at a place, where its content starts, its
+-- length, and how many objects of depth are left
+abbrev pub LeadsToList : ℕ → List ℕ → List ℕ → List ℕ → ℕ → ℕ → ℕ → ℕ → ℕ → Type 0
+LeadsToList o b m path i at start n left =
+    (fieldFound o b m path ≡ Fd.Object (O.List i) at start n left) × (leads (elementOf (parse b) i) ≡ true)
+
+-- an output holds the four numbers of each of n answers in turn
+abbrev pub HoldsAnswers : List ℕ → ℕ → (ℕ → Answer) → Type 0
+HoldsAnswers out n answer = (k : ℕ) → k < n → take 4 (drop (4 * k) out) ≡ caseNumbers (answerCase (answer k))
+
+-- ---- writing
+-- the sheet is lawful by a lawful schema, and its tree is writable
+abbrev pub Writable : ℕ → List ℕ → List ℕ → Value → Type 0
+Writable o b s v =
+    (lawful o b ≡ true) × (sheetTree (parse b) s ≡ some v) × (writable deepest o (parse b) (O.Table (parse b .root)) v ≡ true)
+
+-- the message of a tree
+abbrev pub layoutOf : ℕ → List ℕ → Value → List ℕ
+layoutOf o b v = messageOf o (parse b) v

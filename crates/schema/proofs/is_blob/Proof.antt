@@ -1,0 +1,33 @@
+use Rattle.schema.proofs.KindCases.{blob-text, blob-bytes, blob-list, blob-table}
+use borrow.Author.Needs.{needs}
+use Rattle.schema.proofs.is_blob.Statement.{statement}
+use Rattle.schema.proofs.is_blob.Tie as tie
+
+enum-told : tie.Need-enum-told
+enum-told c = search needs
+
+enum-told-2 : tie.Need-enum-told-2
+enum-told-2 c = search needs
+
+enum-told-3 : tie.Need-enum-told-3
+enum-told-3 c = search needs
+
+enum-told-4 : tie.Need-enum-told-4
+enum-told-4 c = search needs
+
+returns : tie.Need-returns
+returns c = search blob-text
+
+returns-2 : tie.Need-returns-2
+returns-2 c = search blob-bytes
+
+returns-3 : tie.Need-returns-3
+returns-3 c = search blob-list
+
+returns-4 : tie.Need-returns-4
+returns-4 c = search blob-table
+
+pub is-blob-spec : {M : Type 1} → statement M
+is-blob-spec =
+    tie.close
+    (tie.spec enum-told enum-told-2 enum-told-3 enum-told-4 returns returns-2 returns-3 returns-4)

@@ -1,0 +1,5 @@
+pub mod Bools
+pub mod Elements
+pub mod Enums
+pub mod Numbers
+pub mod Words

@@ -1,0 +1,4 @@
+-- Lemmas for the proofs of this crate.
+pub mod LastArm
+pub mod TableLaws
+pub mod StepLaws

@@ -1,0 +1,3 @@
+-- The table of text, and what the functions over it promise.
+pub mod Table
+pub mod Steps
