@@ -7,7 +7,7 @@ use mathlib.Core.List.{List}
 use lib.ListN.{getD}
 use lib.Dec.{eqb}
 use lib.Bits.{bitAnd, bitOr, and-mask, mask-lt}
-use Rattle.coding.specs.Bytes.{le, bitAt, u48}
+use Rattle.coding.specs.Bytes.{le, bitAt}
 use Rattle.wire.specs.Numbers.{Number, number-none, number-push}
 
 pub bit-is : (x k w : ℕ) → w ≡ x → bitAnd (w / 2 ^ k) 1 ≡ x / 2 ^ k % 2
@@ -39,11 +39,16 @@ number-all m at w i v l n =
 pub number-at : (m : List ℕ) (at w n r : ℕ) → w ≡ n → Number m at n r → Number m at w r
 number-at m at w n r e h = rw e h
 
--- an offset is a number of six bytes
-module _ (m : List ℕ) (at r : ℕ) (n : Number m at 6 r) where
-  pub offset-is : r ≡ le m at u48
-  unfolding u48
-  offset-is = n .is
+-- an offset is a number of six bytes, or of four
+module _ (m : List ℕ) (at r o : ℕ) where
+  pub offset-48 : o ≡ 6 → Number m at 6 r → r ≡ le m at o
+  offset-48 e n = n .is ∙ rw e
 
-  pub offset-small : r < 2 ^ 48
-  offset-small = n .small
+  pub offset-32 : (o ≡ 6 → ⊥) → 4 ≤ o → o ≤ 6 → o % 2 ≡ 0 → Number m at 4 r → r ≡ le m at o
+  offset-32 h l u q n = let e : o ≡ 4 = omega arith in n .is ∙ rw e
+
+pub small-48 : (m : List ℕ) (at r : ℕ) → Number m at 6 r → r < 2 ^ 48
+small-48 m at r n = n .small
+
+pub small-32 : (m : List ℕ) (at r : ℕ) → Number m at 4 r → r < 2 ^ 48
+small-32 m at r n = let h = n .small in omega arith

@@ -1,9 +1,9 @@
--- `lawful::judge_schema` meets its contract: the shape, the structs and the other rules together are the definition.
+-- `schema_lawful::well_formed` meets its contract: the shape, the structs and the other rules together are the definition.
 use borrow.Author.Tests.{not-false}
-use Rattle.schema_lawful.proofs.PartRules.{shaped, judged-1, judged-2, judged-3, judged-sound, judged-4}
+use Rattle.schema_lawful.proofs.PartRules.{shaped, formed-1, formed-2, formed-3, formed-sound-of, formed-4}
 use borrow.Author.Needs.{needs}
-use Rattle.schema_lawful.proofs.judge_schema.Statement.{statement}
-use Rattle.schema_lawful.proofs.judge_schema.Tie as tie
+use Rattle.schema_lawful.proofs.well_formed.Statement.{statement}
+use Rattle.schema_lawful.proofs.well_formed.Tie as tie
 
 shape-requires : tie.Need-shape-requires
 shape-requires c κs = search needs
@@ -12,7 +12,7 @@ same-length : tie.Need-same-length
 same-length c = search needs
 
 returns : tie.Need-returns
-returns c = search judged-1
+returns c = search formed-1
 
 structs-ok-requires : tie.Need-structs-ok-requires
 structs-ok-requires c κs = search shaped
@@ -21,7 +21,7 @@ same-length-2 : tie.Need-same-length-2
 same-length-2 c = search needs
 
 returns-2 : tie.Need-returns-2
-returns-2 c = search judged-2
+returns-2 c = search formed-2
 
 rules-requires : tie.Need-rules-requires
 rules-requires c κs = search needs
@@ -30,7 +30,7 @@ same-length-3 : tie.Need-same-length-3
 same-length-3 c = search needs
 
 returns-3 : tie.Need-returns-3
-returns-3 c = search judged-3
+returns-3 c = search formed-3
 
 store-representatives-requires : tie.Need-store-representatives-requires
 store-representatives-requires c κs =
@@ -41,7 +41,7 @@ store-representatives-requires c κs =
     let h = z .before .before in
     let s = h .before .before .before in
     let k = s .before .before .before in
-    (z .structs-ok .ensures .directory, z .structs-ok .ensures .sizes (not-false _ (u .if2 .left)), judged-sound _ _ _ (s .shape .ensures) (h .if1 .left) _ _ (z .structs-ok .ensures) (u .if2 .left) _ (t .rules .ensures) (e .if3 .left) (λ i. k .shared-slice-known .given i .fits))
+    (z .structs-ok .ensures .directory, z .structs-ok .ensures .sizes (not-false _ (u .if2 .left)), formed-sound-of _ _ _ (s .shape .ensures) (h .if1 .left) _ _ (z .structs-ok .ensures) (u .if2 .left) _ (t .rules .ensures) (e .if3 .left) (λ i. k .shared-slice-known .given i .fits))
 
 same-length-4 : tie.Need-same-length-4
 same-length-4 c = search needs
@@ -56,10 +56,10 @@ returns-4 c =
     let h = z .before .before in
     let s = h .before .before .before in
     let k = s .before .before .before in
-    judged-4 _ _ _ (s .shape .ensures) (h .if1 .left) _ _ (z .structs-ok .ensures) (u .if2 .left) _ (t .rules .ensures) (e .if3 .left) (λ i. k .shared-slice-known .given i .fits) _ (w .store-representatives .ensures)
+    formed-4 _ _ _ (s .shape .ensures) (h .if1 .left) _ _ (z .structs-ok .ensures) (u .if2 .left) _ (t .rules .ensures) (e .if3 .left) (λ i. k .shared-slice-known .given i .fits) _ (w .store-representatives .ensures)
 
-pub judge-schema-spec : {M : Type 1} → statement M
-judge-schema-spec =
+pub well-formed-spec : {M : Type 1} → statement M
+well-formed-spec =
     tie.close
     (tie.spec
     shape-requires
