@@ -14,6 +14,20 @@ pub const U48: usize = 6;
 
 pub const U32: usize = 4;
 
+// The width under the coding that a number names, 48 or 32. Any other number names none: no schema is lawful under its width, so
+// that every answer is the refusal 1.
+pub fn width_of(coding: u32) -> usize
+    ensures { λ r. ⌜ r ≡ B.widthOf coding ⌝ }
+{
+    if coding == 48 {
+        return U48;
+    }
+    if coding == 32 {
+        return U32;
+    }
+    0
+}
+
 // The bytes of a magic.
 pub const MAGIC: usize = 4;
 
