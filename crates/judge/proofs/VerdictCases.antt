@@ -2,7 +2,7 @@
 use mathlib.Core.Path.{_≡_, refl, sym, ap, _∙_, subst}
 use mathlib.Core.Bool.{Bool, true, false}
 use mathlib.Core.List.{List}
-use Prim.Native.Nat.{ℕ, _-_, _<_, _≤_}
+use Prim.Native.Nat.{ℕ, _+_, _-_, _<_, _≤_}
 use native.Mathlib.Omega.{arith}
 use lib.ListN.{length}
 use lib.Dec.{eqb, leb}
@@ -37,6 +37,9 @@ module _ (o : ℕ) (m : List ℕ) (t : Bool) (et : t ≡ W.sizeOk o m) (f : t �
   pub size-start : 4 + o ≤ length m
   unfolding W.sizeOk W.startSize
   size-start = leb-true (4 + o) (length m) (both-left (leb (4 + o) (length m)) (leb (length m) largest) (sym et ∙ f))
+
+  pub size-magic : 4 ≤ length m
+  size-magic = omega (arith, size-start)
 
   pub size-largest : length m ≤ 16777215
   unfolding W.sizeOk W.startSize largest
