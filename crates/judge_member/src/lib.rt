@@ -77,7 +77,7 @@ fn plain_width(k: usize) -> usize
 fn lead_number(b: &[u8], m: &[u8], at: usize, x: Content, c: Cursor, h: usize) -> SteppedMember
     requires { ⌜ (h ≡ getD (now b) at 0) × (Rs.Plain h) ⌝ }
     requires { ⌜ (c .byte ≤ c .end) × (c .bit ≤ 8) × (c .end < 2 ^ 58) ⌝ }
-    ensures { λ q. ⌜ (o : ℕ) → Rs.LedAt o (now (b .entry)) (now (m .entry)) at x c (q .step) (q .next) ⌝ }
+    ensures { λ q. ⌜ ((o : ℕ) → Rs.LedAt o (now (b .entry)) (now (m .entry)) at x c (q .step) (q .next)) ⌝ }
 {
     let w = plain_width(wire::eighth(h));
     let next = message_layout::after_bytes(c, w);
