@@ -214,7 +214,7 @@ opened-fits o S m ob p g start n eg e = object-fits o S m ob p start n (tested-s
 
 pub table-opened : (o : ℕ) (S : Schema) (m : List ℕ) (t x : ℕ) (g : Opened) (start n : ℕ) → g ≡ W.openObject o S m (O.Table t) (ByOffset x) → g ≡ Op.Content start n → start + n ≤ length m
 unfolding W.contentSize
-table-opened o S m t x g start n eg e = opened-fits S m (O.Table t) (ByOffset x) g start n eg e
+table-opened o S m t x g start n eg e = opened-fits o S m (O.Table t) (ByOffset x) g start n eg e
 
 -- what the content of a list and of a table takes
 pub list-fits : (o : ℕ) (S : Schema) (ob : Object) (start n c i j : ℕ) → ob ≡ O.List i → j ≡ i → start + W.contentSize o S ob n ≤ c
