@@ -2,7 +2,7 @@
 use mathlib.Core.Path.{_≡_, refl, sym, ap, _∙_}
 use mathlib.Core.Bool.{Bool, true, false}
 use mathlib.Core.List.{List}
-use Prim.Native.Nat.{ℕ, suc, _+_, _-_, _*_, _<_, _≤_}
+use Prim.Native.Nat.{ℕ, suc, _+_, _-_, _*_, _^_, _<_, _≤_}
 use native.Mathlib.Omega.{arith}
 use lib.Dec.{eqb}
 use borrow.Author.Tests.{eq-eqb, ne-eqb}
@@ -60,6 +60,10 @@ module _ (child : W.Child) (o : ℕ) (S : Schema) (m : List ℕ) (holder start :
 -- value j of n is there
 pub value-there : (w start n j at c : ℕ) → at ≡ start + w * j → j < n → start + w * n ≤ c → at + w ≤ c
 value-there w start n j at c e h l = omega (arith, times-within w j n h)
+
+-- and the place behind it is a number of the machine
+pub value-fits : (w start n j at c : ℕ) → at ≡ start + w * j → j < n → start + w * n ≤ c → c ≤ 16777215 → at + w < 2 ^ 64
+value-fits w start n j at c e h l small = omega (arith, value-there w start n j at c e h l)
 
 -- where the value behind it stands
 pub value-next : (w start j at : ℕ) → at ≡ start + w * j → at + w ≡ start + w * (j + 1)

@@ -7,7 +7,7 @@ use Rattle.coding.specs.Walk as W
 use Rattle.coding.specs.declared.Kind.the-variants.{OfObject}
 use Rattle.coding.specs.declared.Object.the-variants as O
 use Rattle.outcome.specs.Answers as As
-use Rattle.judge_text.proofs.ElementCases.{value-there, value-next, elements-start, elements-done, references-stopped, references-turn}
+use Rattle.judge_text.proofs.ElementCases.{value-there, value-fits, value-next, elements-start, elements-done, references-stopped, references-turn}
 use Rattle.judge_text.proofs.texts.Statement.{statement}
 use Rattle.judge_text.proofs.texts.Tie as tie
 use Rattle.judge_text.proofs.texts.Reads as reads
@@ -38,7 +38,7 @@ returns : tie.Need-returns Inv-loop μ-loop
 returns c = search references-stopped
 
 add-at : tie.Need-add-at Inv-loop μ-loop
-add-at c = search needs
+add-at c = record { fits = search value-fits }
 
 add-j : tie.Need-add-j Inv-loop μ-loop
 add-j c = search needs
