@@ -14,7 +14,7 @@ use Rattle.message_object.proofs.OpenCases.{list-counted-of, table-counted-of, 
 use Rattle.judge_walk.proofs.WalkCases.{arrive-text, arrive-offset, arrive-inplace, content-text, content-bytes, content-list, content-table, follow-absent, follow-value, follow-unknown, follow-struct, follow-refused, follow-object, follow-choice, object-small, object-place, choice-small, choice-place, union-none, union-offset, union-inplace}
 use Rattle.judge_rows.proofs.MemberCases.{members-start, members-ended, members-done, members-stopped, members-turn, members-nowhere}
 use Rattle.judge_walk.proofs.ListCases.{list-flat, list-objects, list-unions, objects-sound, unions-counted, objects-there, unions-there, references-texts, choices-stopped, choices-turn, choice-none, choice-unknown, choice-known, choice-sound}
-use Rattle.judge_text.proofs.ElementCases.{value-there, value-next, elements-start, elements-done, references-stopped, references-turn, refer-none, refer-object}
+use Rattle.judge_text.proofs.ElementCases.{value-there, value-fits, value-next, elements-start, elements-done, references-stopped, references-turn, refer-none, refer-object}
 use Rattle.coding.specs.declared.Kind.the-variants.{OfObject, OfUnion}
 use Prim.Native.Nat.{_+_, _-_, _*_, _≤_}
 use Prim.Native.Nat.{ℕ, _<_}
@@ -326,7 +326,7 @@ choices-returns : (t : ℕ) → choices-lts.Need-returns (choices-R t) (choices-
 choices-returns t c = search choices-stopped
 
 choices-add-at : (t : ℕ) → choices-lts.Need-add-at (choices-R t) (choices-at t) choices.Post choices-Inv-loop choices-μ-loop
-choices-add-at t c = search needs
+choices-add-at t c = record { fits = omega (arith, c .before .before .before .before .before .before .before .union-size .ensures, value-fits _ _ _ _ _ _ (c .before .before .before .before .before .before .loop .inv .1) (c .before .before .before .before .if1 .taken) (c .before .before .before .before .before .before .before .before .before .before .before .pre .1 .4) (c .before .before .before .before .before .before .before .before .before .before .before .pre .1 .2)) }
 
 choices-add-j : (t : ℕ) → choices-lts.Need-add-j (choices-R t) (choices-at t) choices.Post choices-Inv-loop choices-μ-loop
 choices-add-j t c = search needs
@@ -335,7 +335,7 @@ choices-loop-less : (t : ℕ) → choices-lts.Need-loop-less (choices-R t) (choi
 choices-loop-less t c = search needs
 
 choices-loop-again : (t : ℕ) → choices-lts.Need-loop-again (choices-R t) (choices-at t) choices.Post choices-Inv-loop choices-μ-loop
-choices-loop-again t c = (omega arith, search value-next, search choices-turn)
+choices-loop-again t c = (omega arith, omega (arith, c .before .before .before .before .before .before .before .union-size .ensures, value-next _ _ _ _ (c .before .before .before .before .before .before .loop .inv .1)), search choices-turn)
 
 choices-going-requires : (t : ℕ) → choices-lts.Need-going-requires (choices-R t) (choices-at t) choices.Post choices-Inv-loop choices-μ-loop
 choices-going-requires t c κs = search needs
@@ -578,7 +578,7 @@ references-returns-3 : (t : ℕ) → references-lts.Need-returns-3 (references-R
 references-returns-3 t c = search references-stopped
 
 references-add-at : (t : ℕ) → references-lts.Need-add-at (references-R t) (references-at t) references.Post references-Inv-loop references-μ-loop
-references-add-at t c = search needs
+references-add-at t c = record { fits = search value-fits }
 
 references-add-j : (t : ℕ) → references-lts.Need-add-j (references-R t) (references-at t) references.Post references-Inv-loop references-μ-loop
 references-add-j t c = search needs
@@ -638,7 +638,7 @@ table-returns-2 : (t : ℕ) → table-lts.Need-returns-2 (table-R t) (table-at t
 table-returns-2 t c = reference-stopped _ _ _ _ _ _ _ _ _ _ _ _ (c .before .before .before .before .before .before .before .before .before .before .loop .inv .2) _ (c .before .before .before .before .before .before .before .before .before .before .before .before .before .member-count .ensures .0) (c .before .before .before .before .before .before .before .before .before .loop-test .taken) (c .before .before .before .before .before .before .before .before .before .before .before .before .before .before .before .before .before .pre .1 .3) _ (c .before .before .before .before .before .before .before .before .before .before .before .before .table-place .ensures) _ (c .before .before .before .before .before .record-place .ensures .0) _ (c .before .before .reference .ensures) (c .if3 .taken)
 
 table-after-bytes-requires : (t : ℕ) → table-lts.Need-after-bytes-requires (table-R t) (table-at t) table.Post table-Inv-loop table-μ-loop
-table-after-bytes-requires t c κs = (c .before .before .before .before .before .before .before .before .before .before .before .loop .inv .1 .byte, c .before .before .before .before .before .before .before .before .before .before .before .loop .inv .1 .bit, omega (arith, c .before .before .before .before .before .before .before .before .before .before .before .loop .inv .1 .end, c .before .before .before .before .before .before .before .before .before .before .before .before .before .before .member-count .ensures .1), omega arith)
+table-after-bytes-requires t c κs = (c .before .before .before .before .before .before .before .before .before .before .before .loop .inv .1 .byte, c .before .before .before .before .before .before .before .before .before .before .before .loop .inv .1 .bit, omega (arith, c .before .before .before .before .before .before .before .before .before .before .before .loop .inv .1 .end, c .before .before .before .before .before .before .before .before .before .before .before .before .before .before .member-count .ensures .1), omega (arith, c .before .before .before .before .before .before .before .before .before .before .before .before .before .before .before .before .before .before .pre .1 .1 .1))
 
 table-add-j : (t : ℕ) → table-lts.Need-add-j (table-R t) (table-at t) table.Post table-Inv-loop table-μ-loop
 table-add-j t c = search needs
