@@ -50,7 +50,16 @@ fn leads_nowhere(step: Step) -> bool
 }
 
 // An arrival at an object, with this one counted in the depth that is left.
-pub fn visit(b: &[u8], dir: &[u16], m: &[u8], l: Limits, ob: Object, p: Place, s: Spent, o: usize) -> Outcome
+pub fn visit(
+    b: &[u8],
+    dir: &[u16],
+    m: &[u8],
+    l: Limits,
+    ob: Object,
+    p: Place,
+    s: Spent,
+    o: usize,
+) -> Outcome
     requires { ⌜ (Accepted (now b) (now dir)) × (Width o) × (WithinSize (now m)) × (ObjectSound (P.parse (now b)) ob) × D.PlaceSmall p ⌝ }
     ensures { λ r. ⌜ As.walkedOf r ≡ As.visitBy o (now (b .entry)) (now (m .entry)) l ob p s ⌝ }
 {
@@ -74,7 +83,16 @@ pub fn visit(b: &[u8], dir: &[u16], m: &[u8], l: Limits, ob: Object, p: Place, s
 }
 
 // An object's content. Texts and bytes have no parts.
-fn content(b: &[u8], dir: &[u16], m: &[u8], l: Limits, ob: Object, x: Content, s: Spent, o: usize) -> Outcome
+fn content(
+    b: &[u8],
+    dir: &[u16],
+    m: &[u8],
+    l: Limits,
+    ob: Object,
+    x: Content,
+    s: Spent,
+    o: usize,
+) -> Outcome
     requires { ⌜ (Accepted (now b) (now dir)) × (Width o) × (WithinSize (now m)) × (ObjectSound (P.parse (now b)) ob) ⌝ }
     requires { ⌜ x .start + W.contentSize o (P.parse (now b)) ob (x .length) ≤ length (now m) ⌝ }
     ensures { λ r. ⌜ As.walkedOf r ≡ As.contentBy o (now (b .entry)) (now (m .entry)) l ob x s ⌝ }
@@ -88,7 +106,16 @@ fn content(b: &[u8], dir: &[u16], m: &[u8], l: Limits, ob: Object, x: Content, s
 }
 
 // The members of table t, whose fixed part is the content.
-fn table(b: &[u8], dir: &[u16], m: &[u8], l: Limits, t: usize, x: Content, s: Spent, o: usize) -> Outcome
+fn table(
+    b: &[u8],
+    dir: &[u16],
+    m: &[u8],
+    l: Limits,
+    t: usize,
+    x: Content,
+    s: Spent,
+    o: usize,
+) -> Outcome
     requires { ⌜ (Accepted (now b) (now dir)) × (Width o) × (WithinSize (now m)) × (t < P.tableCount (now b)) × (x .start + x .length ≤ length (now m)) ⌝ }
     ensures { λ r. ⌜ As.walkedOf r ≡ As.membersBy o (now (b .entry)) (now (m .entry)) l t x s ⌝ }
 {
@@ -175,7 +202,16 @@ fn reference(
 }
 
 // The elements of list i.
-fn list(b: &[u8], dir: &[u16], m: &[u8], l: Limits, i: usize, x: Content, s: Spent, o: usize) -> Outcome
+fn list(
+    b: &[u8],
+    dir: &[u16],
+    m: &[u8],
+    l: Limits,
+    i: usize,
+    x: Content,
+    s: Spent,
+    o: usize,
+) -> Outcome
     requires { ⌜ (Accepted (now b) (now dir)) × (Width o) × (WithinSize (now m)) × (i < P.listCount (now b)) ⌝ }
     requires { ⌜ x .start + T.elementsSize o (P.parse (now b)) (Sc.elementOf (P.parse (now b)) i) (x .length) ≤ length (now m) ⌝ }
     ensures { λ r. ⌜ As.walkedOf r ≡ As.elementsBy o (now (b .entry)) (now (m .entry)) l (Sc.elementOf (P.parse (now (b .entry))) i) x s ⌝ }
@@ -188,7 +224,8 @@ fn list(b: &[u8], dir: &[u16], m: &[u8], l: Limits, i: usize, x: Content, s: Spe
     if schema::is_object_kind(k) {
         return references(b, dir, m, l, schema::object_at(b, at), x, s, o);
     }
-    choices(b, dir, m, l, wire::index(schema::argument_at(b, at)), x, s, o)
+    let u = wire::index(schema::argument_at(b, at));
+    choices(b, dir, m, l, u, x, s, o)
 }
 
 // The objects of a list, by their offsets.
@@ -227,7 +264,16 @@ fn references(
 }
 
 // What offset x leads to: nothing, or an arrival.
-fn refer(b: &[u8], dir: &[u16], m: &[u8], l: Limits, ob: Object, x: usize, s: Spent, o: usize) -> Outcome
+fn refer(
+    b: &[u8],
+    dir: &[u16],
+    m: &[u8],
+    l: Limits,
+    ob: Object,
+    x: usize,
+    s: Spent,
+    o: usize,
+) -> Outcome
     requires { ⌜ (Accepted (now b) (now dir)) × (Width o) × (WithinSize (now m)) × (ObjectSound (P.parse (now b)) ob) × (x < 2 ^ 48) ⌝ }
     ensures { λ r. ⌜ As.walkedOf r ≡ As.referred (As.visitBy o (now (b .entry)) (now (m .entry)) l) ob x s ⌝ }
 {
@@ -238,7 +284,16 @@ fn refer(b: &[u8], dir: &[u16], m: &[u8], l: Limits, ob: Object, x: usize, s: Sp
 }
 
 // The choices of a list of union i.
-fn choices(b: &[u8], dir: &[u16], m: &[u8], l: Limits, i: usize, x: Content, s: Spent, o: usize) -> Outcome
+fn choices(
+    b: &[u8],
+    dir: &[u16],
+    m: &[u8],
+    l: Limits,
+    i: usize,
+    x: Content,
+    s: Spent,
+    o: usize,
+) -> Outcome
     requires { ⌜ (Accepted (now b) (now dir)) × (Width o) × (WithinSize (now m)) × (i < P.unionCount (now b)) × (HasUnions o (now m) (x .start) (x .length)) ⌝ }
     ensures { λ r. ⌜ As.walkedOf r ≡ As.elementsBy o (now (b .entry)) (now (m .entry)) l (Kind.OfUnion i) x s ⌝ }
 {
@@ -290,7 +345,16 @@ fn choice(
 }
 
 // What the step of a part leads to.
-fn follow(b: &[u8], dir: &[u16], m: &[u8], l: Limits, part: Part, step: Step, s: Spent, o: usize) -> Outcome
+fn follow(
+    b: &[u8],
+    dir: &[u16],
+    m: &[u8],
+    l: Limits,
+    part: Part,
+    step: Step,
+    s: Spent,
+    o: usize,
+) -> Outcome
     requires { ⌜ (Accepted (now b) (now dir)) × (Width o) × (WithinSize (now m)) × D.StepSmall (P.parse (now b)) step ⌝ }
     ensures { λ r. ⌜ As.walkedOf r ≡ As.followBy o (now (b .entry)) (now (m .entry)) l part step s ⌝ }
 {
@@ -306,7 +370,16 @@ fn follow(b: &[u8], dir: &[u16], m: &[u8], l: Limits, part: Part, step: Step, s:
 }
 
 // An arrival at an object, at a text by its offset without the walker.
-fn arrive(b: &[u8], dir: &[u16], m: &[u8], l: Limits, ob: Object, p: Place, s: Spent, o: usize) -> Outcome
+fn arrive(
+    b: &[u8],
+    dir: &[u16],
+    m: &[u8],
+    l: Limits,
+    ob: Object,
+    p: Place,
+    s: Spent,
+    o: usize,
+) -> Outcome
     requires { ⌜ (Accepted (now b) (now dir)) × (Width o) × (WithinSize (now m)) × (ObjectSound (P.parse (now b)) ob) × D.PlaceSmall p ⌝ }
     ensures { λ r. ⌜ As.walkedOf r ≡ As.visitBy o (now (b .entry)) (now (m .entry)) l ob p s ⌝ }
 {
