@@ -248,6 +248,9 @@ module _ (b dir : List ℕ) (g : Bool) (s : Placed b dir (L.shapeOk b) g) where
               }
 
 -- ---- under a coding
+pub formed-accepted : (b dir : List ℕ) (t : Bool) → FormJudged b dir t → not t ≡ false → Accepted b dir
+formed-accepted b dir t j h = j .right (not-false t h)
+
 module _ (o : ℕ) (b dir : List ℕ) where
   pub judged-unformed : (t : Bool) → FormJudged b dir t → not t ≡ true → Judged o b dir false
   unfolding L.lawful

@@ -1,6 +1,6 @@
 // Whether bytes are a lawful schema.
 ghost use mathlib.Core.Path.{_≡_};
-ghost use Prim.Native.Nat.{_<_};
+ghost use Prim.Native.Nat.{_+_, _<_};
 ghost use lib.ListN.{length};
 ghost use Rattle.coding.specs.Packed as P;
 ghost use Rattle.coding.specs.Lawful as L;
