@@ -18,8 +18,8 @@ exchanged-requires c κs = search needs
 
 returns-2 : tie.Need-returns-2
 returns-2 c =
-    let k = c .before .before .before .before .before in
-    word-two _ _ _ (λ i. k .shared-slice-known .given i .fits) _ _ (search needs) (c .before .number .ensures) (c .exchanged .ensures)
+    let k = c .before .before .before .before in
+    word-two _ _ _ (λ i. k .shared-slice-known .given i .fits) _ _ (search needs) (c .before .number2 .ensures) (c .exchanged .ensures)
 
 number-requires-3 : tie.Need-number-requires-3
 number-requires-3 c κs = search needs
