@@ -1,8 +1,9 @@
 //! Stored cases: small messages made by hand to reach every refusal at every
 //! kind of object, and both sides of every test of bounds.
 //!
-//! They are kept as files beside the program that runs them: `cases.bin` has
-//! the bytes, and `stdout` what the second program answers, a line each.
+//! Those of the 48-bit coding are kept as files beside the program that runs
+//! them: `cases.bin` has the bytes, and `stdout` what the second program
+//! answers, a line each.
 
 mod builder;
 mod depth;
@@ -13,7 +14,9 @@ mod starts;
 mod structs;
 mod tables;
 
+use crate::coding::Coding;
 use crate::program::{Judge, Second, Verdict};
+use crate::schema::Packed;
 use std::fmt::Write;
 use std::fs;
 use std::io;
@@ -24,7 +27,7 @@ use std::path::Path;
 pub struct Case {
     pub group: String,
     pub name: String,
-    pub schema: Vec<u8>,
+    pub schema: Packed,
     pub message: Vec<u8>,
     pub budget: u32,
 }
@@ -36,16 +39,16 @@ impl Case {
     }
 }
 
-/// Every case, in the order of the files.
-pub fn cases() -> Vec<Case> {
+/// Every case of a coding, in the order of the files.
+pub fn cases(coding: Coding) -> Vec<Case> {
     let mut cases = Vec::new();
-    starts::add(&mut cases);
-    objects::add(&mut cases);
-    lists::add(&mut cases);
-    tables::add(&mut cases);
-    structs::add(&mut cases);
-    depth::add(&mut cases);
-    schemas::add(&mut cases);
+    starts::add(coding, &mut cases);
+    objects::add(coding, &mut cases);
+    lists::add(coding, &mut cases);
+    tables::add(coding, &mut cases);
+    structs::add(coding, &mut cases);
+    depth::add(coding, &mut cases);
+    schemas::add(coding, &mut cases);
     cases
 }
 
@@ -53,11 +56,11 @@ pub fn cases() -> Vec<Case> {
 pub fn packed(cases: &[Case]) -> Vec<u8> {
     let mut out = Vec::new();
     for case in cases {
-        let lengths = [case.schema.len() as u32, case.message.len() as u32];
+        let lengths = [case.schema.bytes.len() as u32, case.message.len() as u32];
         for number in [lengths[0], lengths[1], case.budget] {
             out.extend_from_slice(&number.to_le_bytes());
         }
-        out.extend_from_slice(&case.schema);
+        out.extend_from_slice(&case.schema.bytes);
         out.extend_from_slice(&case.message);
     }
     out
@@ -83,9 +86,10 @@ pub fn names(cases: &[Case]) -> String {
     out
 }
 
-/// Writes the files of the crate in this folder.
+/// Writes the files of the crate in this folder, whose program judges under 48
+/// bits.
 pub fn write(folder: &Path) -> io::Result<usize> {
-    let cases = cases();
+    let cases = cases(Coding::Bits48);
     fs::create_dir_all(folder.join("data"))?;
     fs::write(folder.join("data/cases.bin"), packed(&cases))?;
     fs::write(folder.join("stdout"), answers(&cases))?;
