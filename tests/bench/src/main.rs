@@ -165,6 +165,28 @@ fn time_tasks(plan: &Plan) -> bool {
     sound
 }
 
+/// The stack of either program, judging and reading to a sheet.
+fn stacks_of(case: &Case) -> [usize; 4] {
+    const ROOM: usize = 1 << 16;
+    let (schema, message) = (&case.schema, &case.message);
+    [
+        stack::touched(&|| {
+            black_box(ours(case));
+        }),
+        stack::touched(&|| {
+            black_box(second(case));
+        }),
+        stack::touched(&|| {
+            let mut sheet = vec![0; ROOM];
+            black_box(scalgo::read(case.coding, schema, message, 100, &mut sheet));
+        }),
+        stack::touched(&|| {
+            let coding = case.coding.number();
+            black_box(reference::read(coding, schema, message, 100, ROOM));
+        }),
+    ]
+}
+
 fn stacks() -> bool {
     println!("Bytes of stack touched by a message of 32 objects, each in the one before:");
     println!(
@@ -178,34 +200,7 @@ fn stacks() -> bool {
             sound = false;
             continue;
         }
-        let bytes = [
-            stack::touched(&|| {
-                black_box(ours(&case));
-            }),
-            stack::touched(&|| {
-                black_box(second(&case));
-            }),
-            stack::touched(&|| {
-                let mut sheet = vec![0; 1 << 16];
-                black_box(scalgo::read(
-                    case.coding,
-                    &case.schema,
-                    &case.message,
-                    100,
-                    &mut sheet,
-                ));
-            }),
-            stack::touched(&|| {
-                black_box(reference::read(
-                    case.coding.number(),
-                    &case.schema,
-                    &case.message,
-                    100,
-                    1 << 16,
-                ));
-            }),
-        ];
-        let [ours, second, sheet, second_sheet] = bytes;
+        let [ours, second, sheet, second_sheet] = stacks_of(&case);
         let name = case.name;
         println!("{name:<50} {ours:>12} {second:>12} {sheet:>12} {second_sheet:>12}");
     }

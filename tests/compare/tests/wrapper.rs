@@ -61,18 +61,18 @@ impl Texts {
 
     /// The offset that an element has.
     fn offset(&self, number: usize) -> usize {
-        match number {
-            _ if number % 3 == 0 => 0,
-            _ if number % 7 == 0 => self.coding.header() - 1,
+        match (number % 3, number % 7) {
+            (0, _) => 0,
+            (_, 0) => self.coding.header() - 1,
             _ => 3 * self.coding.header() + (1 + self.count) * self.coding.offset(),
         }
     }
 
     fn expected(&self, number: usize) -> Answer {
         let place = self.offset(number) as u64;
-        match number {
-            _ if number % 3 == 0 => Answer::Absent,
-            _ if number % 7 == 0 => Answer::Refused { number: 6, place },
+        match (number % 3, number % 7) {
+            (0, _) => Answer::Absent,
+            (_, 0) => Answer::Refused { number: 6, place },
             _ => Answer::Object {
                 kind: 13,
                 place,
