@@ -35,7 +35,7 @@ fn shortfalls(coding: Coding, tally: &Tally) -> Vec<String> {
         need(format!("number {number}"), tally.of_number(number), least);
     }
     let beyond = tally.messages - tally.of_number(1);
-    need("not refusal 1".to_string(), beyond, MESSAGES * 4 / 5);
+    need("not refusal 1".to_string(), beyond, MESSAGES * 3 / 4);
     for budget in [Budget::None, Budget::OneLess, Budget::One] {
         need(format!("{budget:?} spent"), tally.with(budget, 4), 50_000);
     }
