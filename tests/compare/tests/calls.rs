@@ -52,7 +52,7 @@ fn beyond_1(sort: &str, calls: u64, refused: u64) {
 }
 
 /// The answers of fields: every case, every refusal but 4, every kind.
-const ANSWERS: [(&str, u64); 37] = [
+const ANSWERS: [(&str, u64); 39] = [
     ("boolean 0", 10_000),
     ("boolean 1", 10_000),
     ("number of 8, signed 0", 10_000),
@@ -90,6 +90,8 @@ const ANSWERS: [(&str, u64); 37] = [
     ("paths: 97 numbers", 3000),
     ("paths: over 97 numbers", 5000),
     ("messages: Damaged", 15_000),
+    ("messages: OtherCoding", 3000),
+    ("messages: NoCoding", 400),
 ];
 
 /// The list reader: its steps, and what it starts at.
@@ -153,7 +155,7 @@ fn fields_texts_and_lists_under_32_bits() {
     fields_agree(Coding::Bits32);
 }
 
-const READS: [(&str, u64); 30] = [
+const READS: [(&str, u64); 32] = [
     ("accepted: Written", 2500),
     ("accepted: Wild", 3500),
     ("accepted: Damaged", 5000),
@@ -164,6 +166,8 @@ const READS: [(&str, u64); 30] = [
     ("refused: BrokenSchema", 3000),
     ("refused: Damaged", 20_000),
     ("refused: Faulty", 7000),
+    ("refused: OtherCoding", 3000),
+    ("refused: NoCoding", 400),
     ("room: exact, answer 0", 15_000),
     ("room: larger, answer 0", 15_000),
     ("room: one less, answer 14", 15_000),
@@ -202,7 +206,7 @@ fn reading_to_a_sheet_under_32_bits() {
     reads_agree(Coding::Bits32);
 }
 
-const WRITES: [(&str, u64); 24] = [
+const WRITES: [(&str, u64); 26] = [
     ("sheets of a writable value, answer 0", 8000),
     ("sheets of any value, answer 0", 5000),
     ("sheets of any value, answer 11", 300),
@@ -216,6 +220,8 @@ const WRITES: [(&str, u64); 24] = [
     ("sheets random bytes, answer 11", 8000),
     ("sheets by a damaged schema, answer 0", 60),
     ("sheets by a damaged schema, answer 1", 5000),
+    ("sheets by the other coding's schema, answer 0", 1500),
+    ("sheets under no coding, answer 1", 800),
     ("room: exact, answer 0", 20_000),
     ("room: larger, answer 0", 20_000),
     ("room: one less, answer 14", 20_000),
