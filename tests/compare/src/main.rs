@@ -27,7 +27,7 @@ const USAGE: &str = "usage: compare laws [--library] [--cases N] [--seed S] [--c
        compare fields|reads|writes|all [--cases N] [--seed S]
        compare cases FOLDER
        compare names
-all but `cases` with [--coding 32]; without it the coding is 48";
+the first three with [--coding 32]; without it the coding is 48";
 
 /// What the words ask for.
 struct Asked {
@@ -174,7 +174,7 @@ fn run(words: &[String]) -> Result<String, String> {
         "fields" | "reads" | "writes" => Ok(calls(command, &asked)?.to_string()),
         "all" => run_all(&asked),
         "cases" => write_cases(&asked),
-        "names" => Ok(stored::names(&stored::cases(asked.coding))),
+        "names" => Ok(stored::names(&stored::cases())),
         _ => Err(USAGE.to_string()),
     }
 }

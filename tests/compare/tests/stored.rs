@@ -47,7 +47,7 @@ fn has(groups: &BTreeMap<String, BTreeSet<u32>>, group: &str, numbers: &BTreeSet
 #[test]
 fn stored_files_are_what_the_tool_makes() {
     let folder = Path::new(env!("CARGO_MANIFEST_DIR")).join("../../crates/cases");
-    let cases = stored::cases(Coding::Bits48);
+    let cases = stored::cases();
     let stale = "is not what `compare cases crates/cases` makes";
     let bytes = fs::read(folder.join("data/cases.bin")).expect("cases.bin");
     assert!(bytes == stored::packed(&cases), "data/cases.bin {stale}");
@@ -57,15 +57,16 @@ fn stored_files_are_what_the_tool_makes() {
 
 #[test]
 fn library_answers_the_stored_cases_alike() {
-    for case in CODINGS.into_iter().flat_map(stored::cases) {
+    for case in stored::cases() {
         let given = LibraryCalls.judge(&case.schema, &case.message, case.budget);
-        assert_eq!(given, case.verdict(), "{}: {}", case.group, case.name);
+        let (coding, group) = (case.schema.coding, &case.group);
+        assert_eq!(given, case.verdict(), "{coding}: {group}: {}", case.name);
     }
 }
 
 #[test]
 fn every_refusal_at_every_kind_of_object() {
-    let groups = numbers_by_group(&stored::cases(Coding::Bits48));
+    let groups = numbers_by_group(&stored::under(Coding::Bits48));
     let ways = [
         "by offset",
         "in place",
@@ -106,7 +107,7 @@ fn apart_from_objects(groups: &BTreeMap<String, BTreeSet<u32>>) {
 /// A table is in place only as a case of a union, and a union only in place.
 #[test]
 fn every_refusal_at_every_kind_of_object_under_32_bits() {
-    let groups = numbers_by_group(&stored::cases(Coding::Bits32));
+    let groups = numbers_by_group(&stored::under(Coding::Bits32));
     for kind in ["text", "bytes", "list", "table"] {
         for way in ["by offset", "in place", "element", "union in place"] {
             let group = format!("{kind} {way}");
@@ -135,7 +136,7 @@ fn every_refusal_at_every_kind_of_object_under_32_bits() {
 /// A struct behind a flag of 0 is not judged, whatever its bytes are.
 #[test]
 fn structs_behind_a_flag_of_0_are_accepted() {
-    for case in CODINGS.into_iter().flat_map(stored::cases) {
+    for case in stored::cases() {
         if case.group == "struct with flag 0" {
             assert_eq!(case.verdict().number, 0, "{}", case.name);
         }
@@ -151,7 +152,7 @@ fn every_kind_of_member_is_cut() {
 }
 
 fn every_kind_is_cut(coding: Coding) {
-    let groups = numbers_by_group(&stored::cases(coding));
+    let groups = numbers_by_group(&stored::under(coding));
     for kind in 0..=17 {
         let plain = format!("member of kind {kind}");
         let wide = !matches!(kind, 0 | 1 | 5 | 11);

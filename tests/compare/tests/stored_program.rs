@@ -3,7 +3,6 @@
 mod common;
 
 use common::{folder, run_in};
-use compare::coding::Coding;
 use compare::stored::{self, Case};
 use std::fs;
 
@@ -15,14 +14,14 @@ fn printed(bytes: &[u8]) -> String {
 }
 
 fn some() -> Vec<Case> {
-    let mut cases = stored::cases(Coding::Bits48);
+    let mut cases = stored::cases();
     cases.truncate(3);
     cases
 }
 
 #[test]
 fn every_stored_case() {
-    let cases = stored::cases(Coding::Bits48);
+    let cases = stored::cases();
     let given = printed(&stored::packed(&cases));
     assert!(given == stored::answers(&cases), "see `rt check cases`");
 }

@@ -1,11 +1,12 @@
 //! Stored cases: small messages made by hand to reach every refusal at every
 //! kind of object, and both sides of every test of bounds.
 //!
-//! Those of the 48-bit coding are kept as files beside the program that runs
-//! them: `cases.bin` has the bytes, and `stdout` what the second program
-//! answers, a line each.
+//! They are kept as files beside the program that runs them: `cases.bin` has
+//! the bytes, first those of the 48-bit coding and then those of the older, and
+//! `stdout` what the second program answers, a line each.
 
 mod builder;
+pub mod by_hand;
 mod depth;
 mod lists;
 mod objects;
@@ -14,7 +15,7 @@ mod starts;
 mod structs;
 mod tables;
 
-use crate::coding::Coding;
+use crate::coding::{Coding, CODINGS};
 use crate::program::{Judge, Second, Verdict};
 use crate::schema::Packed;
 use std::fmt::Write;
@@ -39,8 +40,13 @@ impl Case {
     }
 }
 
-/// Every case of a coding, in the order of the files.
-pub fn cases(coding: Coding) -> Vec<Case> {
+/// Every case, in the order of the files.
+pub fn cases() -> Vec<Case> {
+    CODINGS.into_iter().flat_map(under).collect()
+}
+
+/// The cases of a coding.
+pub fn under(coding: Coding) -> Vec<Case> {
     let mut cases = Vec::new();
     starts::add(coding, &mut cases);
     objects::add(coding, &mut cases);
@@ -49,6 +55,9 @@ pub fn cases(coding: Coding) -> Vec<Case> {
     structs::add(coding, &mut cases);
     depth::add(coding, &mut cases);
     schemas::add(coding, &mut cases);
+    if coding.is_older() {
+        by_hand::add(&mut cases);
+    }
     cases
 }
 
@@ -57,7 +66,7 @@ pub fn packed(cases: &[Case]) -> Vec<u8> {
     let mut out = Vec::new();
     for case in cases {
         let lengths = [case.schema.bytes.len() as u32, case.message.len() as u32];
-        for number in [lengths[0], lengths[1], case.budget] {
+        for number in [case.schema.coding, lengths[0], lengths[1], case.budget] {
             out.extend_from_slice(&number.to_le_bytes());
         }
         out.extend_from_slice(&case.schema.bytes);
@@ -81,15 +90,15 @@ pub fn answers(cases: &[Case]) -> String {
 pub fn names(cases: &[Case]) -> String {
     let mut out = String::new();
     for (i, case) in cases.iter().enumerate() {
-        let _ = writeln!(out, "{}: {}: {}", i + 1, case.group, case.name);
+        let (number, coding) = (i + 1, case.schema.coding);
+        let _ = writeln!(out, "{number}: {coding}: {}: {}", case.group, case.name);
     }
     out
 }
 
-/// Writes the files of the crate in this folder, whose program judges under 48
-/// bits.
+/// Writes the files of the crate in this folder.
 pub fn write(folder: &Path) -> io::Result<usize> {
-    let cases = cases(Coding::Bits48);
+    let cases = cases();
     fs::create_dir_all(folder.join("data"))?;
     fs::write(folder.join("data/cases.bin"), packed(&cases))?;
     fs::write(folder.join("stdout"), answers(&cases))?;
