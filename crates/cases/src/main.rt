@@ -1,6 +1,6 @@
-// Judges stored cases. cases.bin, in the folder it is run in, holds for each case the length of its schema, the length of its
-// message and its budget, four bytes each, the lowest first, and then the bytes of both. For each case the program prints number,
-// place and visits on a line. A case that the file does not hold whole, or with a length over 64 KiB, ends the run.
+// Judges stored cases. cases.bin, in the folder it is run in, holds for each case its coding (48 or 32), the length of its schema,
+// the length of its message and its budget, four bytes each, the lowest first, and then the bytes of both. For each case the program
+// prints number, place and visits on a line. A case that the file does not hold whole, or with a length over 64 KiB, ends the run.
 use coding::Budget;
 use libc::STDOUT_FILENO;
 ghost use Rattle.io.specs.Counts.{Counts};
@@ -36,15 +36,15 @@ fn print(n: u64, end: u8) {
     io::write_all(STDOUT_FILENO, &last);
 }
 
-fn verdict(schema: &[u8], message: &[u8], budget: u32) {
-    let v = judge::judge(schema, message, Budget { visits: budget });
+fn verdict(schema: &[u8], message: &[u8], budget: u32, o: usize) {
+    let v = judge::judge(schema, message, Budget { visits: budget }, o);
     print(v.number as u64, b' ');
     print(v.place as u64, b' ');
     print(v.visits as u64, b'\n');
 }
 
-// One case, whose lengths and budget were read: answers whether the file holds it whole.
-fn judged(fd: i32, schema_length: usize, message_length: usize, budget: u32) -> bool {
+// One case, whose width, lengths and budget were read: answers whether the file holds it whole.
+fn judged(fd: i32, schema_length: usize, message_length: usize, budget: u32, o: usize) -> bool {
     let mut schema = [0u8; 65536];
     let s = load(fd, &mut schema, schema_length);
     let mut message = [0u8; 65536];
@@ -52,20 +52,21 @@ fn judged(fd: i32, schema_length: usize, message_length: usize, budget: u32) -> 
     if s != schema_length || m != message_length {
         return false;
     }
-    verdict(&schema[..s], &message[..m], budget);
+    verdict(&schema[..s], &message[..m], budget, o);
     true
 }
 
 // One case: answers whether the file holds it whole.
 fn one(fd: i32) -> bool {
-    let mut head = [0u8; 12];
+    let mut head = [0u8; 16];
     let n = io::read_full(fd, &mut head);
-    if n != 12 {
+    if n != 16 {
         return false;
     }
-    let schema_length = number(&head[..n], 0) as usize;
-    let message_length = number(&head[..n], 4) as usize;
-    judged(fd, schema_length, message_length, number(&head[..n], 8))
+    let o = wire::width_of(number(&head[..n], 0));
+    let schema_length = number(&head[..n], 4) as usize;
+    let message_length = number(&head[..n], 8) as usize;
+    judged(fd, schema_length, message_length, number(&head[..n], 12), o)
 }
 
 // A proved loop has to end, and nothing says that a file does: the turns are counted down from more than any file has.

@@ -53,3 +53,8 @@ u32 = 4
 -- whether it is the width of one of the two codings
 unfoldable pub widthKnown : ℕ → Bool
 widthKnown o = pick (eqb o u32) true (eqb o u48)
+
+-- "The caller says which coding": by the number of bits of its offsets. The width under the coding that a number names; another
+-- number names none, and 0 is no width.
+unfoldable pub widthOf : ℕ → ℕ
+widthOf n = pick (eqb n 48) u48 (pick (eqb n 32) u32 0)

@@ -6,7 +6,6 @@ use Prim.Native.Nat.{ℕ, _+_, _<_, _≤_}
 use lib.ListN.{length, getD}
 use lib.Dec.{eqb}
 use borrow.Author.Tests.{le-leb, lt-leb}
-use Rattle.coding.specs.Bytes.{u48}
 use Rattle.coding.specs.Schema as Sc
 use Rattle.coding.specs.Schema.{Schema}
 use Rattle.coding.specs.Packed as P
@@ -32,25 +31,26 @@ module _ (m : List ℕ) (start size n : ℕ) where
   unfolding fitted
   fit-no h = simp (lt-leb _ _ h)
 
-  pub fit-is : (S : Schema) (ob : Object) → size ≡ W.contentSize u48 S ob n → (r : Opened) → r ≡ fitted m start size n → r ≡ W.fitContent u48 S m ob start n
-  unfolding W.fitContent fitted
-  fit-is S ob e r f = f ∙ ap (λ (k : ℕ). fitted m start k n) e
+pub fit-is : (o : ℕ) (m : List ℕ) (start size n : ℕ) (S : Schema) (ob : Object) → size ≡ W.contentSize o S ob n → (r : Opened) → r ≡ fitted m start size n
+    → r ≡ W.fitContent o S m ob start n
+unfolding W.fitContent fitted
+fit-is o m start size n S ob e r f = f ∙ ap (λ (k : ℕ). fitted m start k n) e
 
 -- ---- the bytes of each object's content
-module _ (S : Schema) (ob : Object) (n : ℕ) where
-  pub size-text : ob ≡ O.Text → (x : ℕ) → x ≡ n + 1 → x ≡ W.contentSize u48 S ob n
+module _ (o : ℕ) (S : Schema) (ob : Object) (n : ℕ) where
+  pub size-text : ob ≡ O.Text → (x : ℕ) → x ≡ n + 1 → x ≡ W.contentSize o S ob n
   unfolding W.contentSize
   size-text e x f = rw e f
 
-  pub size-bytes : ob ≡ O.Bytes → n ≡ W.contentSize u48 S ob n
+  pub size-bytes : ob ≡ O.Bytes → n ≡ W.contentSize o S ob n
   unfolding W.contentSize
   size-bytes e = rw e
 
-  pub size-list : (i j : ℕ) → ob ≡ O.List i → j ≡ i → (k : Kind) → k ≡ Sc.elementOf S j → (x : ℕ) → x ≡ T.elementsSize u48 S k n → x ≡ W.contentSize u48 S ob n
+  pub size-list : (i j : ℕ) → ob ≡ O.List i → j ≡ i → (k : Kind) → k ≡ Sc.elementOf S j → (x : ℕ) → x ≡ T.elementsSize o S k n → x ≡ W.contentSize o S ob n
   unfolding W.contentSize
-  size-list i j e ej k ek x ex = rw e (ex ∙ ap (λ (q : Kind). T.elementsSize u48 S q n) (ek ∙ ap (Sc.elementOf S) ej))
+  size-list i j e ej k ek x ex = rw e (ex ∙ ap (λ (q : Kind). T.elementsSize o S q n) (ek ∙ ap (Sc.elementOf S) ej))
 
-  pub size-table : (i : ℕ) → ob ≡ O.Table i → n ≡ W.contentSize u48 S ob n
+  pub size-table : (i : ℕ) → ob ≡ O.Table i → n ≡ W.contentSize o S ob n
   unfolding W.contentSize
   size-table i e = rw e
 

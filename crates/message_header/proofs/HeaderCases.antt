@@ -1,29 +1,34 @@
 -- The ways out of reading a header.
-use mathlib.Core.Path.{_≡_}
+use mathlib.Core.Path.{_≡_, ap, _∙_}
 use mathlib.Core.List.{List}
 use Prim.Native.Nat.{ℕ, _+_, _<_, _≤_}
 use lib.ListN.{length}
 use borrow.Author.Tests.{eq-eqb, ne-eqb, le-leb, lt-leb}
-use Rattle.coding.specs.Bytes.{le, u48}
+use Rattle.coding.specs.Bytes.{le}
 use Rattle.coding.specs.Walk.{startSize}
 use Rattle.wire.specs.Numbers.{Number}
+use Rattle.message_header.specs.declared.Header.{Header}
 use Rattle.message_header.specs.declared.Header.the-variants.{Refused, Content}
 use Rattle.message_header.specs.Headers.{headerOf}
 
-module _ (magic size : ℕ) (m : List ℕ) (x : ℕ) where
-  pub header-low : x < 10 → Refused 6 ≡ headerOf u48 magic size m x
-  unfolding headerOf startSize u48
-  header-low h = simp (lt-leb _ _ h)
+module _ (o magic size : ℕ) (m : List ℕ) (x start : ℕ) (es : start ≡ 4 + o) where
+  pub header-low : x < start → Refused 6 ≡ headerOf o magic size m x
+  unfolding headerOf startSize
+  header-low h = simp (← es, lt-leb _ _ h)
 
-  pub header-short : 10 ≤ x → length m < x + size → Refused 6 ≡ headerOf u48 magic size m x
-  unfolding headerOf startSize u48
-  header-short h l = simp (le-leb _ _ h, lt-leb _ _ l)
+  pub header-short : start ≤ x → length m < x + size → Refused 6 ≡ headerOf o magic size m x
+  unfolding headerOf startSize
+  header-short h l = simp (← es, le-leb _ _ h, lt-leb _ _ l)
 
-  module _ (h : 10 ≤ x) (l : x + size ≤ length m) (y : ℕ) (n : Number m x 4 y) where
-    pub header-other : (y ≡ magic → ⊥) → Refused 7 ≡ headerOf u48 magic size m x
-    unfolding headerOf startSize u48
-    header-other f = simp (le-leb _ _ h, le-leb _ _ l, ← (n .is), ne-eqb _ _ f)
+  module _ (h : start ≤ x) (l : x + size ≤ length m) (y : ℕ) (n : Number m x 4 y) where
+    pub header-other : (y ≡ magic → ⊥) → Refused 7 ≡ headerOf o magic size m x
+    unfolding headerOf startSize
+    header-other f = simp (← es, le-leb _ _ h, le-leb _ _ l, ← (n .is), ne-eqb _ _ f)
 
-    pub header-good : y ≡ magic → (z : ℕ) → z ≡ le m (x + 4) u48 → Content (x + size) z ≡ headerOf u48 magic size m x
-    unfolding headerOf startSize u48
-    header-good f z ez = simp (le-leb _ _ h, le-leb _ _ l, ← (n .is), eq-eqb _ _ f, ← ez)
+    pub header-good : y ≡ magic → (z : ℕ) → z ≡ le m (x + 4) o → Content (x + size) z ≡ headerOf o magic size m x
+    unfolding headerOf startSize
+    header-good f z ez = simp (← es, le-leb _ _ h, le-leb _ _ l, ← (n .is), eq-eqb _ _ f, ← ez)
+
+-- the header's size, by its reader
+pub header-by : (o magic size : ℕ) (m : List ℕ) (x : ℕ) → size ≡ 4 + o → (r : Header) → r ≡ headerOf o magic size m x → r ≡ headerOf o magic (4 + o) m x
+header-by o magic size m x e r f = f ∙ ap (λ (k : ℕ). headerOf o magic k m x) e

@@ -5,11 +5,11 @@ use coding::Opened;
 ghost use mathlib.Core.Path.{_≡_};
 ghost use Prim.Native.Nat.{_+_, _*_, _<_, _≤_, _^_};
 ghost use lib.ListN.{length};
-ghost use Rattle.coding.specs.Bytes as B;
 ghost use Rattle.coding.specs.Packed as P;
 ghost use Rattle.coding.specs.Walk as W;
 ghost use Rattle.laws.specs.Sound.{ObjectSound};
 ghost use Rattle.schema.specs.Directory.{Accepted};
+ghost use Rattle.wire.specs.Sizes.{Width};
 ghost use Rattle.message_header.specs.Headers as Hs;
 
 // ---- headers
@@ -20,11 +20,11 @@ pub enum Header {
 }
 
 // A header of `size` bytes: a magic, and behind it a length.
-fn read_header(m: &[u8], at: usize, magic: u64, size: usize) -> Header
-    requires { ⌜ (at < 2 ^ 48) × (10 ≤ size) × (size < 2 ^ 16) ⌝ }
-    ensures { λ r. ⌜ (r ≡ Hs.headerOf B.u48 magic size (now (m .entry)) at) × Hs.Small r ⌝ }
+fn read_header(m: &[u8], at: usize, magic: u64, size: usize, o: usize) -> Header
+    requires { ⌜ (Width o) × (at < 2 ^ 48) × (4 + o ≤ size) × (size < 2 ^ 16) ⌝ }
+    ensures { λ r. ⌜ (r ≡ Hs.headerOf o magic size (now (m .entry)) at) × Hs.Small r ⌝ }
 {
-    if at < wire::START {
+    if at < wire::start_size(o) {
         return Header::Refused(6);
     }
     if m.len() < at + size {
@@ -33,7 +33,7 @@ fn read_header(m: &[u8], at: usize, magic: u64, size: usize) -> Header
     if wire::u32_in(m, at) != magic {
         return Header::Refused(7);
     }
-    Header::Content(at + size, wire::offset_in(m, at + wire::MAGIC))
+    Header::Content(at + size, wire::offset_in(m, at + wire::MAGIC, o))
 }
 
 // Text: length bytes and one zero byte.
@@ -44,13 +44,19 @@ pub struct TextObject {
 impl TextObject {
     pub const MAGIC: u64 = 0xD812_C8F5;
 
-    pub const HEADER: usize = 10;
-
-    pub fn header(m: &[u8], at: usize) -> Header
-        requires { ⌜ at < 2 ^ 48 ⌝ }
-        ensures { λ r. ⌜ (r ≡ Hs.headerOf B.u48 0xD812C8F5 10 (now (m .entry)) at) × Hs.Small r ⌝ }
+    // The bytes of its header: its magic, and a length.
+    pub fn header_size(o: usize) -> usize
+        requires { ⌜ Width o ⌝ }
+        ensures { λ r. ⌜ r ≡ 4 + o ⌝ }
     {
-        read_header(m, at, TextObject::MAGIC, TextObject::HEADER)
+        wire::MAGIC + o
+    }
+
+    pub fn header(m: &[u8], at: usize, o: usize) -> Header
+        requires { ⌜ (Width o) × (at < 2 ^ 48) ⌝ }
+        ensures { λ r. ⌜ (r ≡ Hs.headerOf o 0xD812C8F5 (4 + o) (now (m .entry)) at) × Hs.Small r ⌝ }
+    {
+        read_header(m, at, TextObject::MAGIC, TextObject::header_size(o), o)
     }
 }
 
@@ -62,13 +68,19 @@ pub struct BytesObject {
 impl BytesObject {
     pub const MAGIC: u64 = 0xDCDB_BE10;
 
-    pub const HEADER: usize = 10;
-
-    pub fn header(m: &[u8], at: usize) -> Header
-        requires { ⌜ at < 2 ^ 48 ⌝ }
-        ensures { λ r. ⌜ (r ≡ Hs.headerOf B.u48 0xDCDBBE10 10 (now (m .entry)) at) × Hs.Small r ⌝ }
+    // The bytes of its header: its magic, and a length.
+    pub fn header_size(o: usize) -> usize
+        requires { ⌜ Width o ⌝ }
+        ensures { λ r. ⌜ r ≡ 4 + o ⌝ }
     {
-        read_header(m, at, BytesObject::MAGIC, BytesObject::HEADER)
+        wire::MAGIC + o
+    }
+
+    pub fn header(m: &[u8], at: usize, o: usize) -> Header
+        requires { ⌜ (Width o) × (at < 2 ^ 48) ⌝ }
+        ensures { λ r. ⌜ (r ≡ Hs.headerOf o 0xDCDBBE10 (4 + o) (now (m .entry)) at) × Hs.Small r ⌝ }
+    {
+        read_header(m, at, BytesObject::MAGIC, BytesObject::header_size(o), o)
     }
 }
 
@@ -80,13 +92,19 @@ pub struct ListObject {
 impl ListObject {
     pub const MAGIC: u64 = 0x3400_BB46;
 
-    pub const HEADER: usize = 10;
-
-    pub fn header(m: &[u8], at: usize) -> Header
-        requires { ⌜ at < 2 ^ 48 ⌝ }
-        ensures { λ r. ⌜ (r ≡ Hs.headerOf B.u48 0x3400BB46 10 (now (m .entry)) at) × Hs.Small r ⌝ }
+    // The bytes of its header: its magic, and a length.
+    pub fn header_size(o: usize) -> usize
+        requires { ⌜ Width o ⌝ }
+        ensures { λ r. ⌜ r ≡ 4 + o ⌝ }
     {
-        read_header(m, at, ListObject::MAGIC, ListObject::HEADER)
+        wire::MAGIC + o
+    }
+
+    pub fn header(m: &[u8], at: usize, o: usize) -> Header
+        requires { ⌜ (Width o) × (at < 2 ^ 48) ⌝ }
+        ensures { λ r. ⌜ (r ≡ Hs.headerOf o 0x3400BB46 (4 + o) (now (m .entry)) at) × Hs.Small r ⌝ }
+    {
+        read_header(m, at, ListObject::MAGIC, ListObject::header_size(o), o)
     }
 }
 
@@ -96,13 +114,19 @@ pub struct TableObject {
 }
 
 impl TableObject {
-    pub const HEADER: usize = 10;
-
-    pub fn header(m: &[u8], at: usize, id: u64) -> Header
-        requires { ⌜ at < 2 ^ 48 ⌝ }
-        ensures { λ r. ⌜ (r ≡ Hs.headerOf B.u48 id 10 (now (m .entry)) at) × Hs.Small r ⌝ }
+    // The bytes of its header: its magic, and a length.
+    pub fn header_size(o: usize) -> usize
+        requires { ⌜ Width o ⌝ }
+        ensures { λ r. ⌜ r ≡ 4 + o ⌝ }
     {
-        read_header(m, at, id, TableObject::HEADER)
+        wire::MAGIC + o
+    }
+
+    pub fn header(m: &[u8], at: usize, id: u64, o: usize) -> Header
+        requires { ⌜ (Width o) × (at < 2 ^ 48) ⌝ }
+        ensures { λ r. ⌜ (r ≡ Hs.headerOf o id (4 + o) (now (m .entry)) at) × Hs.Small r ⌝ }
+    {
+        read_header(m, at, id, TableObject::header_size(o), o)
     }
 }
 
@@ -116,16 +140,16 @@ pub fn text_size(n: usize) -> usize
 }
 
 // The bytes of an object's content of length n.
-fn content_size(b: &[u8], dir: &[u16], ob: Object, n: usize) -> usize
-    requires { ⌜ (Accepted (now b) (now dir)) × (ObjectSound (P.parse (now b)) ob) × (n < 2 ^ 48) ⌝ }
-    ensures { λ r. ⌜ (r ≡ W.contentSize B.u48 (P.parse (now (b .entry))) ob n) × (r < 2 ^ 61) ⌝ }
+fn content_size(b: &[u8], dir: &[u16], ob: Object, n: usize, o: usize) -> usize
+    requires { ⌜ (Accepted (now b) (now dir)) × (Width o) × (ObjectSound (P.parse (now b)) ob) × (n < 2 ^ 48) ⌝ }
+    ensures { λ r. ⌜ (r ≡ W.contentSize o (P.parse (now (b .entry))) ob n) × (r < 2 ^ 61) ⌝ }
 {
     match ob {
         Object::Text => text_size(n),
         Object::Bytes => n,
         Object::List(i) => {
             let k = schema::element(b, dir, wire::index(i));
-            message_layout::elements_size(b, dir, k, n)
+            message_layout::elements_size(b, dir, k, n, o)
         }
         Object::Table(_) => n,
     }
@@ -143,11 +167,19 @@ pub fn fits(m: &[u8], start: usize, size: usize, n: usize) -> Opened
 }
 
 // An object's content of length n at `start`, if it fits.
-pub fn fit_content(b: &[u8], dir: &[u16], m: &[u8], ob: Object, start: usize, n: usize) -> Opened
-    requires { ⌜ (Accepted (now b) (now dir)) × (ObjectSound (P.parse (now b)) ob) × (start < 2 ^ 60) × (n < 2 ^ 48) ⌝ }
-    ensures { λ r. ⌜ r ≡ W.fitContent B.u48 (P.parse (now (b .entry))) (now (m .entry)) ob start n ⌝ }
+pub fn fit_content(
+    b: &[u8],
+    dir: &[u16],
+    m: &[u8],
+    ob: Object,
+    start: usize,
+    n: usize,
+    o: usize,
+) -> Opened
+    requires { ⌜ (Accepted (now b) (now dir)) × (Width o) × (ObjectSound (P.parse (now b)) ob) × (start < 2 ^ 60) × (n < 2 ^ 48) ⌝ }
+    ensures { λ r. ⌜ r ≡ W.fitContent o (P.parse (now (b .entry))) (now (m .entry)) ob start n ⌝ }
 {
-    fits(m, start, content_size(b, dir, ob, n), n)
+    fits(m, start, content_size(b, dir, ob, n, o), n)
 }
 
 // ---- the bytes of content that fits

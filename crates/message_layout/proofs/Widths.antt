@@ -7,7 +7,6 @@ use Prim.Native.Nat.{ℕ, _+_, _*_, _/_, _<_, _≤_}
 use native.Mathlib.Nat.{mul-le-mul-right}
 use native.Mathlib.Omega.{arith}
 use lib.ListN.{length}
-use Rattle.coding.specs.Bytes.{u48}
 use Rattle.coding.specs.Schema.{Schema}
 use Rattle.coding.specs.Structs.{flatWidth, structSize}
 use Rattle.coding.specs.Packed as P
@@ -70,21 +69,21 @@ module _ (b dir : List ℕ) (a : Accepted b dir) (k : Flat) (sound : FlatSound (
       omega arith
 
 -- ---- kinds
-module _ (S : Schema) (k : Kind) where
-  pub width-flat : (f : Flat) → k ≡ OfFlat f → (r : ℕ) → r ≡ flatWidth (structSize S) f → r ≡ L.width u48 S k
+module _ (o : ℕ) (S : Schema) (k : Kind) where
+  pub width-flat : (f : Flat) → k ≡ OfFlat f → (r : ℕ) → r ≡ flatWidth (structSize S) f → r ≡ L.width o S k
   unfolding L.width
   width-flat f e r q = rw e q
 
-  pub width-object : (ob : Object) → k ≡ OfObject ob → 6 ≡ L.width u48 S k
-  unfolding L.width u48
+  pub width-object : (ob : Object) → k ≡ OfObject ob → o ≡ L.width o S k
+  unfolding L.width
   width-object ob e = rw e
 
-  pub width-union : (i : ℕ) → k ≡ OfUnion i → 8 ≡ L.width u48 S k
-  unfolding L.width u48
-  width-union i e = rw e
+  pub width-union : (i : ℕ) → k ≡ OfUnion i → (r : ℕ) → r ≡ 2 + o → r ≡ L.width o S k
+  unfolding L.width
+  width-union i e r q = rw e q
 
-  pub flat-sound : (f : Flat) → k ≡ OfFlat f → KindSound S k → FlatSound (length (S .structs)) f
-  flat-sound f e h = subst (KindSound S) e h
+pub flat-sound : (S : Schema) (k : Kind) (f : Flat) → k ≡ OfFlat f → KindSound S k → FlatSound (length (S .structs)) f
+flat-sound S k f e h = subst (KindSound S) e h
 
 pub member-kind : (S : Schema) (r : Member) → MemberSound S r → KindSound S (r .kind)
 member-kind S r h = h .kind
@@ -93,11 +92,11 @@ member-kind S r h = h .kind
 pub times-small : (w n : ℕ) → w ≤ 4096 → w * n ≤ 4096 * n
 times-small w n h = mul-le-mul-right n h
 
-module _ (S : Schema) (k : Kind) (n : ℕ) (t : Bool) (et : t ≡ L.isBool k) where
-  pub size-bool : t ≡ true → (n + 7) / 8 ≡ T.elementsSize u48 S k n
+module _ (o : ℕ) (S : Schema) (k : Kind) (n : ℕ) (t : Bool) (et : t ≡ L.isBool k) where
+  pub size-bool : t ≡ true → (n + 7) / 8 ≡ T.elementsSize o S k n
   unfolding T.elementsSize
   size-bool f = simp (← et, f)
 
-  pub size-other : t ≡ false → (w : ℕ) → w ≡ L.width u48 S k → (x : ℕ) → x ≡ w * n → x ≡ T.elementsSize u48 S k n
+  pub size-other : t ≡ false → (w : ℕ) → w ≡ L.width o S k → (x : ℕ) → x ≡ w * n → x ≡ T.elementsSize o S k n
   unfolding T.elementsSize
   size-other f w ew x ex = simp (← et, f, ← ew) ex

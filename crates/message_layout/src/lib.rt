@@ -8,7 +8,6 @@ use coding::Slot;
 ghost use mathlib.Core.Path.{_≡_};
 ghost use Prim.Native.Nat.{ℕ, _+_, _-_, _*_, _<_, _≤_, _^_};
 ghost use lib.ListN.{length, getD};
-ghost use Rattle.coding.specs.Bytes as B;
 ghost use Rattle.coding.specs.Layout as L;
 ghost use Rattle.coding.specs.Lists.{pick};
 ghost use Rattle.coding.specs.Packed as P;
@@ -17,6 +16,7 @@ ghost use Rattle.coding.specs.Structs as S;
 ghost use Rattle.laws.specs.Sound.{FlatSound, KindSound, MemberSound};
 ghost use Rattle.message_layout.specs.Bounds.{Laid, Stands};
 ghost use Rattle.schema.specs.Directory.{Accepted};
+ghost use Rattle.wire.specs.Sizes.{Width};
 
 // Nothing laid out yet.
 pub fn begin() -> Cursor
@@ -156,14 +156,14 @@ pub fn flat_width(b: &[u8], dir: &[u16], k: Flat) -> usize
 }
 
 // The bytes of a member or an element.
-pub fn width(b: &[u8], dir: &[u16], k: Kind) -> usize
-    requires { ⌜ (Accepted (now b) (now dir)) × KindSound (P.parse (now b)) k ⌝ }
-    ensures { λ r. ⌜ (r ≡ L.width B.u48 (P.parse (now (b .entry))) k) × (0 < r) × (r ≤ 4096) ⌝ }
+pub fn width(b: &[u8], dir: &[u16], k: Kind, o: usize) -> usize
+    requires { ⌜ (Accepted (now b) (now dir)) × (Width o) × KindSound (P.parse (now b)) k ⌝ }
+    ensures { λ r. ⌜ (r ≡ L.width o (P.parse (now (b .entry))) k) × (0 < r) × (r ≤ 4096) ⌝ }
 {
     match k {
         Kind::OfFlat(f) => flat_width(b, dir, f),
-        Kind::OfObject(_) => wire::OFFSET,
-        Kind::OfUnion(_) => wire::UNION,
+        Kind::OfObject(_) => o,
+        Kind::OfUnion(_) => wire::union_size(o),
     }
 }
 
@@ -176,14 +176,14 @@ pub fn times(w: usize, n: usize) -> usize
 }
 
 // The bytes of a list's n elements of kind k.
-pub fn elements_size(b: &[u8], dir: &[u16], k: Kind, n: usize) -> usize
-    requires { ⌜ (Accepted (now b) (now dir)) × (KindSound (P.parse (now b)) k) × (n < 2 ^ 48) ⌝ }
-    ensures { λ r. ⌜ (r ≡ T.elementsSize B.u48 (P.parse (now (b .entry))) k n) × (r ≤ 4096 * n) ⌝ }
+pub fn elements_size(b: &[u8], dir: &[u16], k: Kind, n: usize, o: usize) -> usize
+    requires { ⌜ (Accepted (now b) (now dir)) × (Width o) × (KindSound (P.parse (now b)) k) × (n < 2 ^ 48) ⌝ }
+    ensures { λ r. ⌜ (r ≡ T.elementsSize o (P.parse (now (b .entry))) k n) × (r ≤ 4096 * n) ⌝ }
 {
     if is_bool(k) {
         return (n + 7) / 8;
     }
-    times(width(b, dir, k), n)
+    times(width(b, dir, k, o), n)
 }
 
 // ---- members
@@ -211,17 +211,17 @@ fn after_flag(flag: bool, c: Cursor) -> Cursor
 }
 
 // The value that comes next.
-fn place_value(b: &[u8], dir: &[u16], k: Kind, c: Cursor) -> PlacedValue
-    requires { ⌜ (Accepted (now b) (now dir)) × KindSound (P.parse (now b)) k ⌝ }
+fn place_value(b: &[u8], dir: &[u16], k: Kind, c: Cursor, o: usize) -> PlacedValue
+    requires { ⌜ (Accepted (now b) (now dir)) × (Width o) × KindSound (P.parse (now b)) k ⌝ }
     requires { ⌜ (c .byte ≤ c .end) × (c .bit ≤ 8) × (c .end < 2 ^ 59) ⌝ }
-    ensures { λ r. ⌜ Stands (L.slotOf B.u48 (P.parse (now (b .entry))) k c) (L.afterValue B.u48 (P.parse (now (b .entry))) k c) (c .end) (r .slot) (r .next) ⌝ }
+    ensures { λ r. ⌜ Stands (L.slotOf o (P.parse (now (b .entry))) k c) (L.afterValue o (P.parse (now (b .entry))) k c) (c .end) (r .slot) (r .next) ⌝ }
 {
     if is_bool(k) {
         let next = after_bit(c);
         let slot = bit_slot(c);
         return PlacedValue { slot, next };
     }
-    let w = width(b, dir, k);
+    let w = width(b, dir, k, o);
     let slot = Slot {
         at: c.end,
         bit: 0,
@@ -232,15 +232,15 @@ fn place_value(b: &[u8], dir: &[u16], k: Kind, c: Cursor) -> PlacedValue
 }
 
 // The member that comes next: its flag, if it has one, and then its value.
-pub fn place_member(b: &[u8], dir: &[u16], r: Member, c: Cursor) -> Placed
-    requires { ⌜ (Accepted (now b) (now dir)) × MemberSound (P.parse (now b)) r ⌝ }
+pub fn place_member(b: &[u8], dir: &[u16], r: Member, c: Cursor, o: usize) -> Placed
+    requires { ⌜ (Accepted (now b) (now dir)) × (Width o) × MemberSound (P.parse (now b)) r ⌝ }
     requires { ⌜ (c .byte ≤ c .end) × (c .bit ≤ 8) × (c .end < 2 ^ 58) ⌝ }
-    ensures { λ q. ⌜ (q .placement ≡ L.placementOf B.u48 (P.parse (now (b .entry))) r c) × (Stands (L.memberSlot B.u48 (P.parse (now (b .entry))) r c) (L.afterMember B.u48 (P.parse (now (b .entry))) r c) (c .end + 1) (q .placement .value) (q .next)) × (q .placement .flag .at ≤ c .end) × (q .placement .flag .bit < 8) ⌝ }
+    ensures { λ q. ⌜ (q .placement ≡ L.placementOf o (P.parse (now (b .entry))) r c) × (Stands (L.memberSlot o (P.parse (now (b .entry))) r c) (L.afterMember o (P.parse (now (b .entry))) r c) (c .end + 1) (q .placement .value) (q .next)) × (q .placement .flag .at ≤ c .end) × (q .placement .flag .bit < 8) ⌝ }
 {
     let k = r.kind;
     let flag = bit_slot(c);
     let f = after_flag(has_flag(r), c);
-    let v = place_value(b, dir, k, f);
+    let v = place_value(b, dir, k, f, o);
     let value = v.slot;
     let next = v.next;
     let placement = Placement { value, flag };

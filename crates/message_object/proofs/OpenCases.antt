@@ -8,7 +8,7 @@ use lib.ListN.{length}
 use borrow.Author.Tests.{leb-true}
 use lib.Dec.{leb, eqb}
 use Rattle.coding.specs.Lists.{pick}
-use Rattle.coding.specs.Bytes.{u48, le}
+use Rattle.coding.specs.Bytes.{le}
 use Rattle.coding.specs.Schema as Sc
 use Rattle.coding.specs.Schema.{Schema}
 use Rattle.coding.specs.Packed as P
@@ -22,7 +22,8 @@ use Rattle.coding.specs.declared.Opened.{Opened}
 use Rattle.coding.specs.declared.Opened.the-variants as Op
 use Rattle.laws.specs.Sound.{ObjectSound, MemberSound}
 use Rattle.laws.specs.SoundAt.{table-index, member-sound-at}
-use Rattle.schema.specs.Directory.{Accepted, accepted-sound, Judged}
+use Rattle.schema.specs.Directory.{Accepted, AcceptedUnder, accepted-sound, Judged}
+use Rattle.wire.specs.Sizes.{Width}
 use Rattle.message_step.specs.Lead.{PlaceSmall}
 use Rattle.coding.specs.declared.Member.{Member}
 use Rattle.message_header.specs.declared.Header.{Header}
@@ -32,24 +33,24 @@ use Rattle.message_header.proofs.ContentCases.{list-there, fit-is, size-text, s
 use Rattle.message_object.specs.Fit.{announced, EndsInside}
 
 -- ---- the header of each object
-module _ (S : Schema) (m : List ℕ) (ob : Object) (x : ℕ) (r : Header) where
-  pub header-text : ob ≡ O.Text → r ≡ headerOf u48 0xD812C8F5 10 m x → r ≡ headerOf u48 (W.magic S ob) (W.headerSize u48) m x
-  unfolding W.magic W.headerSize u48
+module _ (o : ℕ) (S : Schema) (m : List ℕ) (ob : Object) (x : ℕ) (r : Header) where
+  pub header-text : ob ≡ O.Text → r ≡ headerOf o 0xD812C8F5 (4 + o) m x → r ≡ headerOf o (W.magic S ob) (W.headerSize o) m x
+  unfolding W.magic W.headerSize
   header-text e f = rw e f
 
-  pub header-bytes : ob ≡ O.Bytes → r ≡ headerOf u48 0xDCDBBE10 10 m x → r ≡ headerOf u48 (W.magic S ob) (W.headerSize u48) m x
-  unfolding W.magic W.headerSize u48
+  pub header-bytes : ob ≡ O.Bytes → r ≡ headerOf o 0xDCDBBE10 (4 + o) m x → r ≡ headerOf o (W.magic S ob) (W.headerSize o) m x
+  unfolding W.magic W.headerSize
   header-bytes e f = rw e f
 
-  pub header-list : (i : ℕ) → ob ≡ O.List i → r ≡ headerOf u48 0x3400BB46 10 m x → r ≡ headerOf u48 (W.magic S ob) (W.headerSize u48) m x
-  unfolding W.magic W.headerSize u48
+  pub header-list : (i : ℕ) → ob ≡ O.List i → r ≡ headerOf o 0x3400BB46 (4 + o) m x → r ≡ headerOf o (W.magic S ob) (W.headerSize o) m x
+  unfolding W.magic W.headerSize
   header-list i e f = rw e f
 
-  pub header-table : (i j id : ℕ) → ob ≡ O.Table i → j ≡ i → id ≡ Sc.tableOf S j .id → r ≡ headerOf u48 id 10 m x
-      → r ≡ headerOf u48 (W.magic S ob) (W.headerSize u48) m x
-  unfolding W.magic W.headerSize u48
+  pub header-table : (i j id : ℕ) → ob ≡ O.Table i → j ≡ i → id ≡ Sc.tableOf S j .id → r ≡ headerOf o id (4 + o) m x
+      → r ≡ headerOf o (W.magic S ob) (W.headerSize o) m x
+  unfolding W.magic W.headerSize
   header-table i j id e ej q f =
-      f ∙ ap (λ (k : ℕ). headerOf u48 k 10 m x) (q ∙ ap (λ (k : ℕ). Sc.tableOf S k .id) ej) ∙ ap (λ (o : Object). headerOf u48 (W.magic S o) 10 m x) (sym e)
+      f ∙ ap (λ (k : ℕ). headerOf o k (4 + o) m x) (q ∙ ap (λ (k : ℕ). Sc.tableOf S k .id) ej) ∙ ap (λ (y : Object). headerOf o (W.magic S y) (4 + o) m x) (sym e)
 
 module _ (g : Header) (start n : ℕ) (small : Small g) (e : g ≡ Hd.Content start n) where
   pub small-start : start < 2 ^ 60
@@ -65,61 +66,61 @@ module _ (g : Header) (start n : ℕ) (small : Small g) (e : g ≡ Hd.Content st
   small-text size f = let h = small-length in omega arith
 
 -- ---- an object by its offset, and in place
-by-header : (S : Schema) (m : List ℕ) (ob : Object) (x : ℕ)
-    → announced u48 S m ob (headerOf u48 (W.magic S ob) (W.headerSize u48) m x) ≡ W.fitObject u48 S m ob (ByOffset x)
+by-header : (o : ℕ) (S : Schema) (m : List ℕ) (ob : Object) (x : ℕ)
+    → announced o S m ob (headerOf o (W.magic S ob) (W.headerSize o) m x) ≡ W.fitObject o S m ob (ByOffset x)
 unfolding W.fitObject headerOf
-by-header S m ob x =
-    by (leb (W.startSize u48) x && leb (x + W.headerSize u48) (length m)) (eqb (le m x 4) (W.magic S ob))
+by-header o S m ob x =
+    by (leb (W.startSize o) x && leb (x + W.headerSize o) (length m)) (eqb (le m x 4) (W.magic S ob))
   where
     by : (t u : Bool)
-        → announced u48 S m ob (pick t (pick u (Hd.Content (x + W.headerSize u48) (le m (x + 4) u48)) (Hd.Refused 7)) (Hd.Refused 6))
-        ≡ pick t (pick u (W.fitContent u48 S m ob (x + W.headerSize u48) (le m (x + 4) u48)) (Op.Refused 7)) (Op.Refused 6)
+        → announced o S m ob (pick t (pick u (Hd.Content (x + W.headerSize o) (le m (x + 4) o)) (Hd.Refused 7)) (Hd.Refused 6))
+        ≡ pick t (pick u (W.fitContent o S m ob (x + W.headerSize o) (le m (x + 4) o)) (Op.Refused 7)) (Op.Refused 6)
     by true true = refl
     by true false = refl
     by false u = refl
 
-module _ (S : Schema) (m : List ℕ) (ob : Object) (p : Place) where
-  module _ (x : ℕ) (e : p ≡ ByOffset x) (g : Header) (eg : g ≡ headerOf u48 (W.magic S ob) (W.headerSize u48) m x) where
-    pub announced-is : announced u48 S m ob g ≡ W.fitObject u48 S m ob p
-    announced-is = ap (announced u48 S m ob) eg ∙ by-header S m ob x ∙ ap (W.fitObject u48 S m ob) (sym e)
+module _ (o : ℕ) (S : Schema) (m : List ℕ) (ob : Object) (p : Place) where
+  module _ (x : ℕ) (e : p ≡ ByOffset x) (g : Header) (eg : g ≡ headerOf o (W.magic S ob) (W.headerSize o) m x) where
+    pub announced-is : announced o S m ob g ≡ W.fitObject o S m ob p
+    announced-is = ap (announced o S m ob) eg ∙ by-header o S m ob x ∙ ap (W.fitObject o S m ob) (sym e)
 
-    pub fit-refused : (n : ℕ) → g ≡ Hd.Refused n → Op.Refused n ≡ W.fitObject u48 S m ob p
-    fit-refused n f = sym (ap (announced u48 S m ob) f) ∙ announced-is
+    pub fit-refused : (n : ℕ) → g ≡ Hd.Refused n → Op.Refused n ≡ W.fitObject o S m ob p
+    fit-refused n f = sym (ap (announced o S m ob) f) ∙ announced-is
 
-    pub fit-offset : (start n : ℕ) (r : Opened) → g ≡ Hd.Content start n → r ≡ W.fitContent u48 S m ob start n → r ≡ W.fitObject u48 S m ob p
-    fit-offset start n r f q = q ∙ sym (ap (announced u48 S m ob) f) ∙ announced-is
+    pub fit-offset : (start n : ℕ) (r : Opened) → g ≡ Hd.Content start n → r ≡ W.fitContent o S m ob start n → r ≡ W.fitObject o S m ob p
+    fit-offset start n r f q = q ∙ sym (ap (announced o S m ob) f) ∙ announced-is
 
-  pub announced-inplace : (a n : ℕ) → p ≡ InPlace a n → W.fitContent u48 S m ob a n ≡ W.fitObject u48 S m ob p
+  pub announced-inplace : (a n : ℕ) → p ≡ InPlace a n → W.fitContent o S m ob a n ≡ W.fitObject o S m ob p
   unfolding W.fitObject
   announced-inplace a n e = rw e
 
-  module _ (g : Header) (eg : announced u48 S m ob g ≡ W.fitObject u48 S m ob p) where
-    pub placed-refused : (n : ℕ) → g ≡ Hd.Refused n → Op.Refused n ≡ W.fitObject u48 S m ob p
-    placed-refused n f = sym (ap (announced u48 S m ob) f) ∙ eg
+  module _ (g : Header) (eg : announced o S m ob g ≡ W.fitObject o S m ob p) where
+    pub placed-refused : (n : ℕ) → g ≡ Hd.Refused n → Op.Refused n ≡ W.fitObject o S m ob p
+    placed-refused n f = sym (ap (announced o S m ob) f) ∙ eg
 
-    pub placed-fit : (start n : ℕ) (r : Opened) → g ≡ Hd.Content start n → r ≡ W.fitContent u48 S m ob start n → r ≡ W.fitObject u48 S m ob p
-    placed-fit start n r f q = q ∙ sym (ap (announced u48 S m ob) f) ∙ eg
+    pub placed-fit : (start n : ℕ) (r : Opened) → g ≡ Hd.Content start n → r ≡ W.fitContent o S m ob start n → r ≡ W.fitObject o S m ob p
+    placed-fit start n r f q = q ∙ sym (ap (announced o S m ob) f) ∙ eg
 
 -- a text by its offset
-module _ (S : Schema) (m : List ℕ) (x : ℕ) (g : Header) (eg : g ≡ headerOf u48 0xD812C8F5 10 m x) where
-  pub text-header-refused : (n : ℕ) → g ≡ Hd.Refused n → Op.Refused n ≡ W.fitObject u48 S m O.Text (ByOffset x)
-  text-header-refused n f = fit-refused S m O.Text (ByOffset x) x refl g (header-text S m O.Text x g refl eg) n f
+module _ (o : ℕ) (S : Schema) (m : List ℕ) (x : ℕ) (g : Header) (eg : g ≡ headerOf o 0xD812C8F5 (4 + o) m x) where
+  pub text-header-refused : (n : ℕ) → g ≡ Hd.Refused n → Op.Refused n ≡ W.fitObject o S m O.Text (ByOffset x)
+  text-header-refused n f = fit-refused o S m O.Text (ByOffset x) x refl g (header-text o S m O.Text x g refl eg) n f
 
   pub text-header-fit : (start n size : ℕ) (r : Opened) → g ≡ Hd.Content start n → size ≡ n + 1 → r ≡ fitted m start size n
-      → r ≡ W.fitObject u48 S m O.Text (ByOffset x)
+      → r ≡ W.fitObject o S m O.Text (ByOffset x)
   text-header-fit start n size r f e q =
-      fit-offset S m O.Text (ByOffset x) x refl g (header-text S m O.Text x g refl eg) start n r f
-      (fit-is m start size n S O.Text (size-text S O.Text n refl size e) r q)
+      fit-offset o S m O.Text (ByOffset x) x refl g (header-text o S m O.Text x g refl eg) start n r f
+      (fit-is o m start size n S O.Text (size-text o S O.Text n refl size e) r q)
 
 -- a table by its offset
-module _ (S : Schema) (m : List ℕ) (t id x : ℕ) (ei : id ≡ Sc.tableOf S t .id) (g : Header) (eg : g ≡ headerOf u48 id 10 m x) where
-  pub table-header-refused : (n : ℕ) → g ≡ Hd.Refused n → Op.Refused n ≡ W.fitObject u48 S m (O.Table t) (ByOffset x)
-  table-header-refused n f = fit-refused S m (O.Table t) (ByOffset x) x refl g (header-table S m (O.Table t) x g t t id refl refl ei eg) n f
+module _ (o : ℕ) (S : Schema) (m : List ℕ) (t id x : ℕ) (ei : id ≡ Sc.tableOf S t .id) (g : Header) (eg : g ≡ headerOf o id (4 + o) m x) where
+  pub table-header-refused : (n : ℕ) → g ≡ Hd.Refused n → Op.Refused n ≡ W.fitObject o S m (O.Table t) (ByOffset x)
+  table-header-refused n f = fit-refused o S m (O.Table t) (ByOffset x) x refl g (header-table o S m (O.Table t) x g t t id refl refl ei eg) n f
 
-  pub table-header-fit : (start n : ℕ) (r : Opened) → g ≡ Hd.Content start n → r ≡ fitted m start n n → r ≡ W.fitObject u48 S m (O.Table t) (ByOffset x)
+  pub table-header-fit : (start n : ℕ) (r : Opened) → g ≡ Hd.Content start n → r ≡ fitted m start n n → r ≡ W.fitObject o S m (O.Table t) (ByOffset x)
   table-header-fit start n r f q =
-      fit-offset S m (O.Table t) (ByOffset x) x refl g (header-table S m (O.Table t) x g t t id refl refl ei eg) start n r f
-      (fit-is m start n n S (O.Table t) (size-table S (O.Table t) n t refl) r q)
+      fit-offset o S m (O.Table t) (ByOffset x) x refl g (header-table o S m (O.Table t) x g t t id refl refl ei eg) start n r f
+      (fit-is o m start n n S (O.Table t) (size-table o S (O.Table t) n t refl) r q)
 
 -- ---- the bytes of content that fits
 module _ (m : List ℕ) (ob : Object) (fit : Opened) where
@@ -139,10 +140,10 @@ module _ (m : List ℕ) (ob : Object) (fit : Opened) where
   pub end-inside : (start n : ℕ) → EndsInside m ob fit → fit ≡ Op.Content start n → EndInside m ob start n
   end-inside start n h e = subst (EndsInside m ob) e h
 
-pub opened-is : (S : Schema) (m : List ℕ) (ob : Object) (p : Place) (fit r : Opened) → fit ≡ W.fitObject u48 S m ob p → r ≡ W.bytesTested m ob fit
-    → r ≡ W.openObject u48 S m ob p
+pub opened-is : (o : ℕ) (S : Schema) (m : List ℕ) (ob : Object) (p : Place) (fit r : Opened) → fit ≡ W.fitObject o S m ob p → r ≡ W.bytesTested m ob fit
+    → r ≡ W.openObject o S m ob p
 unfolding W.openObject
-opened-is S m ob p fit r e f = f ∙ ap (W.bytesTested m ob) e
+opened-is o S m ob p fit r e f = f ∙ ap (W.bytesTested m ob) e
 
 -- of a table's bytes nothing is tested
 table-untested : (m : List ℕ) (t : ℕ) (fit : Opened) → W.bytesTested m (O.Table t) fit ≡ fit
@@ -150,51 +151,51 @@ unfolding W.bytesTested W.endOk
 table-untested m t (Op.Refused n) = refl
 table-untested m t (Op.Content start n) = refl
 
-pub table-opened-is : (S : Schema) (m : List ℕ) (t x : ℕ) (r : Opened) → r ≡ W.fitObject u48 S m (O.Table t) (ByOffset x)
-    → r ≡ W.openObject u48 S m (O.Table t) (ByOffset x)
-table-opened-is S m t x r e = opened-is S m (O.Table t) (ByOffset x) r r e (sym (table-untested m t r))
+pub table-opened-is : (o : ℕ) (S : Schema) (m : List ℕ) (t x : ℕ) (r : Opened) → r ≡ W.fitObject o S m (O.Table t) (ByOffset x)
+    → r ≡ W.openObject o S m (O.Table t) (ByOffset x)
+table-opened-is o S m t x r e = opened-is o S m (O.Table t) (ByOffset x) r r e (sym (table-untested m t r))
 
 -- ---- content that fits lies within the message
-content-fits : (S : Schema) (m : List ℕ) (ob : Object) (a k start n : ℕ) → W.fitContent u48 S m ob a k ≡ Op.Content start n
-    → start + W.contentSize u48 S ob n ≤ length m
+content-fits : (o : ℕ) (S : Schema) (m : List ℕ) (ob : Object) (a k start n : ℕ) → W.fitContent o S m ob a k ≡ Op.Content start n
+    → start + W.contentSize o S ob n ≤ length m
 unfolding W.fitContent
-content-fits S m ob a k start n e = by (leb (a + W.contentSize u48 S ob k) (length m)) refl e
+content-fits o S m ob a k start n e = by (leb (a + W.contentSize o S ob k) (length m)) refl e
   where
-    by : (t : Bool) → leb (a + W.contentSize u48 S ob k) (length m) ≡ t → pick t (Op.Content a k) (Op.Refused 6) ≡ Op.Content start n
-        → start + W.contentSize u48 S ob n ≤ length m
+    by : (t : Bool) → leb (a + W.contentSize o S ob k) (length m) ≡ t → pick t (Op.Content a k) (Op.Refused 6) ≡ Op.Content start n
+        → start + W.contentSize o S ob n ≤ length m
     by true l f =
         let p : a ≡ start = cc in
         let q : k ≡ n = cc in
-        subst (λ (x : ℕ). x + W.contentSize u48 S ob n ≤ length m) p (subst (λ (x : ℕ). a + W.contentSize u48 S ob x ≤ length m) q (leb-true _ _ l))
+        subst (λ (x : ℕ). x + W.contentSize o S ob n ≤ length m) p (subst (λ (x : ℕ). a + W.contentSize o S ob x ≤ length m) q (leb-true _ _ l))
     by false l f = let z : _≡_ {A = ℕ} 0 1 = cc in absurd (omega arith)
 
-announced-fits : (S : Schema) (m : List ℕ) (ob : Object) (start n : ℕ) (g : Header) → announced u48 S m ob g ≡ Op.Content start n
-    → start + W.contentSize u48 S ob n ≤ length m
-announced-fits S m ob start n (Hd.Refused k) e = let z : _≡_ {A = ℕ} 0 1 = cc in absurd (omega arith)
-announced-fits S m ob start n (Hd.Content a k) e = content-fits S m ob a k start n e
+announced-fits : (o : ℕ) (S : Schema) (m : List ℕ) (ob : Object) (start n : ℕ) (g : Header) → announced o S m ob g ≡ Op.Content start n
+    → start + W.contentSize o S ob n ≤ length m
+announced-fits o S m ob start n (Hd.Refused k) e = let z : _≡_ {A = ℕ} 0 1 = cc in absurd (omega arith)
+announced-fits o S m ob start n (Hd.Content a k) e = content-fits o S m ob a k start n e
 
-object-fits : (S : Schema) (m : List ℕ) (ob : Object) (p : Place) (start n : ℕ) → W.fitObject u48 S m ob p ≡ Op.Content start n
-    → start + W.contentSize u48 S ob n ≤ length m
+object-fits : (o : ℕ) (S : Schema) (m : List ℕ) (ob : Object) (p : Place) (start n : ℕ) → W.fitObject o S m ob p ≡ Op.Content start n
+    → start + W.contentSize o S ob n ≤ length m
 unfolding W.fitObject
-object-fits S m ob (ByOffset x) start n e =
-    announced-fits S m ob start n (headerOf u48 (W.magic S ob) (W.headerSize u48) m x) (by-header S m ob x ∙ e)
-object-fits S m ob (InPlace a k) start n e = content-fits S m ob a k start n e
+object-fits o S m ob (ByOffset x) start n e =
+    announced-fits o S m ob start n (headerOf o (W.magic S ob) (W.headerSize o) m x) (by-header o S m ob x ∙ e)
+object-fits o S m ob (InPlace a k) start n e = content-fits o S m ob a k start n e
 
-pub fit-fits : (S : Schema) (m : List ℕ) (ob : Object) (p : Place) (g : Opened) (start n : ℕ) → g ≡ W.fitObject u48 S m ob p → g ≡ Op.Content start n
-    → start + W.contentSize u48 S ob n ≤ length m
-fit-fits S m ob p g start n eg e = object-fits S m ob p start n (sym eg ∙ e)
+pub fit-fits : (o : ℕ) (S : Schema) (m : List ℕ) (ob : Object) (p : Place) (g : Opened) (start n : ℕ) → g ≡ W.fitObject o S m ob p → g ≡ Op.Content start n
+    → start + W.contentSize o S ob n ≤ length m
+fit-fits o S m ob p g start n eg e = object-fits o S m ob p start n (sym eg ∙ e)
 
 -- the end byte of a text is there
-ends-inside : (S : Schema) (m : List ℕ) (ob : Object) (start n : ℕ) → start + W.contentSize u48 S ob n ≤ length m → EndInside m ob start n
+ends-inside : (o : ℕ) (S : Schema) (m : List ℕ) (ob : Object) (start n : ℕ) → start + W.contentSize o S ob n ≤ length m → EndInside m ob start n
 unfolding W.contentSize
-ends-inside S m O.Text start n h = omega arith
-ends-inside S m O.Bytes start n h = tt
-ends-inside S m (O.List i) start n h = tt
-ends-inside S m (O.Table i) start n h = tt
+ends-inside o S m O.Text start n h = omega arith
+ends-inside o S m O.Bytes start n h = tt
+ends-inside o S m (O.List i) start n h = tt
+ends-inside o S m (O.Table i) start n h = tt
 
-pub fit-ends : (S : Schema) (m : List ℕ) (ob : Object) (p : Place) (g : Opened) → g ≡ W.fitObject u48 S m ob p → EndsInside m ob g
-fit-ends S m ob p (Op.Refused k) e = tt
-fit-ends S m ob p (Op.Content start n) e = ends-inside S m ob start n (object-fits S m ob p start n (sym e))
+pub fit-ends : (o : ℕ) (S : Schema) (m : List ℕ) (ob : Object) (p : Place) (g : Opened) → g ≡ W.fitObject o S m ob p → EndsInside m ob g
+fit-ends o S m ob p (Op.Refused k) e = tt
+fit-ends o S m ob p (Op.Content start n) e = ends-inside o S m ob start n (object-fits o S m ob p start n (sym e))
 
 -- ---- content that is opened fits
 tested-same : (m : List ℕ) (ob : Object) (fit : Opened) (start n : ℕ) → W.bytesTested m ob fit ≡ Op.Content start n → fit ≡ Op.Content start n
@@ -206,29 +207,36 @@ tested-same m ob (Op.Content a k) start n e = by (W.endOk m ob a k) e
     by true f = f
     by false f = let z : _≡_ {A = ℕ} 0 1 = cc in absurd (omega arith)
 
-pub opened-fits : (S : Schema) (m : List ℕ) (ob : Object) (p : Place) (g : Opened) (start n : ℕ) → g ≡ W.openObject u48 S m ob p → g ≡ Op.Content start n
-    → start + W.contentSize u48 S ob n ≤ length m
+pub opened-fits : (o : ℕ) (S : Schema) (m : List ℕ) (ob : Object) (p : Place) (g : Opened) (start n : ℕ) → g ≡ W.openObject o S m ob p → g ≡ Op.Content start n
+    → start + W.contentSize o S ob n ≤ length m
 unfolding W.openObject
-opened-fits S m ob p g start n eg e = object-fits S m ob p start n (tested-same m ob (W.fitObject u48 S m ob p) start n (sym eg ∙ e))
+opened-fits o S m ob p g start n eg e = object-fits o S m ob p start n (tested-same m ob (W.fitObject o S m ob p) start n (sym eg ∙ e))
 
-pub table-opened : (S : Schema) (m : List ℕ) (t x : ℕ) (g : Opened) (start n : ℕ) → g ≡ W.openObject u48 S m (O.Table t) (ByOffset x) → g ≡ Op.Content start n → start + n ≤ length m
+pub table-opened : (o : ℕ) (S : Schema) (m : List ℕ) (t x : ℕ) (g : Opened) (start n : ℕ) → g ≡ W.openObject o S m (O.Table t) (ByOffset x) → g ≡ Op.Content start n → start + n ≤ length m
 unfolding W.contentSize
-table-opened S m t x g start n eg e = opened-fits S m (O.Table t) (ByOffset x) g start n eg e
+table-opened o S m t x g start n eg e = opened-fits o S m (O.Table t) (ByOffset x) g start n eg e
 
 -- what the content of a list and of a table takes
-pub list-fits : (S : Schema) (ob : Object) (start n c i j : ℕ) → ob ≡ O.List i → j ≡ i → start + W.contentSize u48 S ob n ≤ c
-    → start + T.elementsSize u48 S (Sc.elementOf S j) n ≤ c
+pub list-fits : (o : ℕ) (S : Schema) (ob : Object) (start n c i j : ℕ) → ob ≡ O.List i → j ≡ i → start + W.contentSize o S ob n ≤ c
+    → start + T.elementsSize o S (Sc.elementOf S j) n ≤ c
 unfolding W.contentSize
-list-fits S ob start n c i j e ej h =
-    subst (λ (k : ℕ). start + T.elementsSize u48 S (Sc.elementOf S k) n ≤ c) (sym ej) (subst (λ (o : Object). start + W.contentSize u48 S o n ≤ c) e h)
+list-fits o S ob start n c i j e ej h =
+    subst (λ (k : ℕ). start + T.elementsSize o S (Sc.elementOf S k) n ≤ c) (sym ej) (subst (λ (y : Object). start + W.contentSize o S y n ≤ c) e h)
 
-pub table-fits : (S : Schema) (ob : Object) (start n c i : ℕ) → ob ≡ O.Table i → start + W.contentSize u48 S ob n ≤ c → start + n ≤ c
+pub table-fits : (o : ℕ) (S : Schema) (ob : Object) (start n c i : ℕ) → ob ≡ O.Table i → start + W.contentSize o S ob n ≤ c → start + n ≤ c
 unfolding W.contentSize
-table-fits S ob start n c i e h = subst (λ (o : Object). start + W.contentSize u48 S o n ≤ c) e h
+table-fits o S ob start n c i e h = subst (λ (y : Object). start + W.contentSize o S y n ≤ c) e h
 
 -- ---- what an accepted schema gives
-pub schema-accepted : (b dir : List ℕ) (t : Bool) → Judged b dir t → t ≡ true → Accepted b dir
-schema-accepted b dir t j e = j .right e
+module _ (o : ℕ) (b dir : List ℕ) (t : Bool) (j : Judged o b dir t) (e : t ≡ true) where
+  pub schema-accepted : AcceptedUnder o b dir
+  schema-accepted = j .right e
+
+  pub schema-read : Accepted b dir
+  schema-read = j .right e .accepted
+
+  pub schema-width : Width o
+  schema-width = j .right e .width
 
 pub member-sound-of : (b dir : List ℕ) → Accepted b dir → (t j : ℕ) (r : Member) → r ≡ Sc.memberOf (P.parse b) t j
     → j < length (Sc.tableOf (P.parse b) t .members) → MemberSound (P.parse b) r

@@ -9,59 +9,59 @@ use message_header::TableObject;
 use message_header::TextObject;
 ghost use mathlib.Core.Path.{_≡_};
 ghost use Prim.Native.Nat.{_<_, _^_};
-ghost use Rattle.coding.specs.Bytes as B;
 ghost use Rattle.coding.specs.Packed as P;
 ghost use Rattle.coding.specs.Schema as Sc;
 ghost use Rattle.coding.specs.Walk as W;
 ghost use Rattle.laws.specs.Sound.{ObjectSound};
 ghost use Rattle.schema.specs.Directory.{Accepted};
+ghost use Rattle.wire.specs.Sizes.{Width};
 ghost use Rattle.message_step.specs.Lead as D;
 ghost use Rattle.message_header.specs.Headers as Hs;
 ghost use Rattle.message_object.specs.Fit as Fs;
 
 // ---- what an object's header announces fits
 // The header of the object at an offset.
-fn header_of(b: &[u8], dir: &[u16], m: &[u8], ob: Object, at: usize) -> Header
-    requires { ⌜ (Accepted (now b) (now dir)) × (ObjectSound (P.parse (now b)) ob) × (at < 2 ^ 48) ⌝ }
-    ensures { λ r. ⌜ (r ≡ Hs.headerOf B.u48 (W.magic (P.parse (now (b .entry))) ob) (W.headerSize B.u48) (now (m .entry)) at) × Hs.Small r ⌝ }
+fn header_of(b: &[u8], dir: &[u16], m: &[u8], ob: Object, at: usize, o: usize) -> Header
+    requires { ⌜ (Accepted (now b) (now dir)) × (Width o) × (ObjectSound (P.parse (now b)) ob) × (at < 2 ^ 48) ⌝ }
+    ensures { λ r. ⌜ (r ≡ Hs.headerOf o (W.magic (P.parse (now (b .entry))) ob) (W.headerSize o) (now (m .entry)) at) × Hs.Small r ⌝ }
 {
     match ob {
-        Object::Text => TextObject::header(m, at),
-        Object::Bytes => BytesObject::header(m, at),
-        Object::List(_) => ListObject::header(m, at),
-        Object::Table(t) => TableObject::header(m, at, schema::table_id(b, dir, wire::index(t))),
+        Object::Text => TextObject::header(m, at, o),
+        Object::Bytes => BytesObject::header(m, at, o),
+        Object::List(_) => ListObject::header(m, at, o),
+        Object::Table(t) => TableObject::header(m, at, schema::table_id(b, dir, wire::index(t)), o),
     }
 }
 
 // Where the content of the object at a place starts, and its length: behind its header, or in place. Both ways meet here, so that
 // the compiler makes one piece of what follows.
-fn content_at(b: &[u8], dir: &[u16], m: &[u8], ob: Object, p: Place) -> Header
-    requires { ⌜ (Accepted (now b) (now dir)) × (ObjectSound (P.parse (now b)) ob) × D.PlaceSmall p ⌝ }
-    ensures { λ r. ⌜ (Fs.announced B.u48 (P.parse (now (b .entry))) (now (m .entry)) ob r ≡ W.fitObject B.u48 (P.parse (now (b .entry))) (now (m .entry)) ob p) × Hs.Small r ⌝ }
+fn content_at(b: &[u8], dir: &[u16], m: &[u8], ob: Object, p: Place, o: usize) -> Header
+    requires { ⌜ (Accepted (now b) (now dir)) × (Width o) × (ObjectSound (P.parse (now b)) ob) × D.PlaceSmall p ⌝ }
+    ensures { λ r. ⌜ (Fs.announced o (P.parse (now (b .entry))) (now (m .entry)) ob r ≡ W.fitObject o (P.parse (now (b .entry))) (now (m .entry)) ob p) × Hs.Small r ⌝ }
 {
     match p {
-        Place::ByOffset(x) => header_of(b, dir, m, ob, x),
+        Place::ByOffset(x) => header_of(b, dir, m, ob, x, o),
         Place::InPlace(a, n) => Header::Content(a, n),
     }
 }
 
 // An object at its place: offset and header, magic, content.
-pub fn fit_object(b: &[u8], dir: &[u16], m: &[u8], ob: Object, p: Place) -> Opened
-    requires { ⌜ (Accepted (now b) (now dir)) × (ObjectSound (P.parse (now b)) ob) × D.PlaceSmall p ⌝ }
-    ensures { λ r. ⌜ r ≡ W.fitObject B.u48 (P.parse (now (b .entry))) (now (m .entry)) ob p ⌝ }
+pub fn fit_object(b: &[u8], dir: &[u16], m: &[u8], ob: Object, p: Place, o: usize) -> Opened
+    requires { ⌜ (Accepted (now b) (now dir)) × (Width o) × (ObjectSound (P.parse (now b)) ob) × D.PlaceSmall p ⌝ }
+    ensures { λ r. ⌜ r ≡ W.fitObject o (P.parse (now (b .entry))) (now (m .entry)) ob p ⌝ }
 {
-    match content_at(b, dir, m, ob, p) {
+    match content_at(b, dir, m, ob, p, o) {
         Header::Refused(e) => Opened::Refused(e),
-        Header::Content(start, n) => message_header::fit_content(b, dir, m, ob, start, n),
+        Header::Content(start, n) => message_header::fit_content(b, dir, m, ob, start, n, o),
     }
 }
 
 // The text at an offset.
-pub fn fit_text(b: &[u8], m: &[u8], x: usize) -> Opened
-    requires { ⌜ x < 2 ^ 48 ⌝ }
-    ensures { λ r. ⌜ r ≡ W.fitObject B.u48 (P.parse (now (b .entry))) (now (m .entry)) Object.Text (Place.ByOffset x) ⌝ }
+pub fn fit_text(b: &[u8], m: &[u8], x: usize, o: usize) -> Opened
+    requires { ⌜ (Width o) × (x < 2 ^ 48) ⌝ }
+    ensures { λ r. ⌜ r ≡ W.fitObject o (P.parse (now (b .entry))) (now (m .entry)) Object.Text (Place.ByOffset x) ⌝ }
 {
-    match TextObject::header(m, x) {
+    match TextObject::header(m, x, o) {
         Header::Refused(e) => Opened::Refused(e),
         Header::Content(start, n) => message_header::fits(
             m,
@@ -73,11 +73,11 @@ pub fn fit_text(b: &[u8], m: &[u8], x: usize) -> Opened
 }
 
 // Table t with its id, at an offset.
-pub fn fit_table(b: &[u8], m: &[u8], t: u8, id: u64, x: usize) -> Opened
-    requires { ⌜ (x < 2 ^ 48) × (id ≡ Sc.tableOf (P.parse (now b)) t .id) ⌝ }
-    ensures { λ r. ⌜ r ≡ W.fitObject B.u48 (P.parse (now (b .entry))) (now (m .entry)) (Object.Table t) (Place.ByOffset x) ⌝ }
+pub fn fit_table(b: &[u8], m: &[u8], t: u8, id: u64, x: usize, o: usize) -> Opened
+    requires { ⌜ (Width o) × (x < 2 ^ 48) × (id ≡ Sc.tableOf (P.parse (now b)) t .id) ⌝ }
+    ensures { λ r. ⌜ r ≡ W.fitObject o (P.parse (now (b .entry))) (now (m .entry)) (Object.Table t) (Place.ByOffset x) ⌝ }
 {
-    match TableObject::header(m, x, id) {
+    match TableObject::header(m, x, id, o) {
         Header::Refused(e) => Opened::Refused(e),
         Header::Content(start, n) => message_header::fits(m, start, n, n),
     }
@@ -101,29 +101,29 @@ pub fn bytes_tested(m: &[u8], ob: Object, fit: Opened) -> Opened
 }
 
 // An object at its place, opened.
-pub fn open_object(b: &[u8], dir: &[u16], m: &[u8], ob: Object, p: Place) -> Opened
-    requires { ⌜ (Accepted (now b) (now dir)) × (ObjectSound (P.parse (now b)) ob) × D.PlaceSmall p ⌝ }
-    ensures { λ r. ⌜ r ≡ W.openObject B.u48 (P.parse (now (b .entry))) (now (m .entry)) ob p ⌝ }
+pub fn open_object(b: &[u8], dir: &[u16], m: &[u8], ob: Object, p: Place, o: usize) -> Opened
+    requires { ⌜ (Accepted (now b) (now dir)) × (Width o) × (ObjectSound (P.parse (now b)) ob) × D.PlaceSmall p ⌝ }
+    ensures { λ r. ⌜ r ≡ W.openObject o (P.parse (now (b .entry))) (now (m .entry)) ob p ⌝ }
 {
-    let fit = fit_object(b, dir, m, ob, p);
+    let fit = fit_object(b, dir, m, ob, p, o);
     bytes_tested(m, ob, fit)
 }
 
 // The text at an offset, opened.
-pub fn open_text(b: &[u8], m: &[u8], x: usize) -> Opened
-    requires { ⌜ x < 2 ^ 48 ⌝ }
-    ensures { λ r. ⌜ r ≡ W.openObject B.u48 (P.parse (now (b .entry))) (now (m .entry)) Object.Text (Place.ByOffset x) ⌝ }
+pub fn open_text(b: &[u8], m: &[u8], x: usize, o: usize) -> Opened
+    requires { ⌜ (Width o) × (x < 2 ^ 48) ⌝ }
+    ensures { λ r. ⌜ r ≡ W.openObject o (P.parse (now (b .entry))) (now (m .entry)) Object.Text (Place.ByOffset x) ⌝ }
 {
-    let fit = fit_text(b, m, x);
+    let fit = fit_text(b, m, x, o);
     bytes_tested(m, Object::Text, fit)
 }
 
 // Table t with its id, at an offset, opened: of its bytes nothing is tested.
-pub fn open_table(b: &[u8], m: &[u8], t: u8, id: u64, x: usize) -> Opened
-    requires { ⌜ (x < 2 ^ 48) × (id ≡ Sc.tableOf (P.parse (now b)) t .id) ⌝ }
-    ensures { λ r. ⌜ r ≡ W.openObject B.u48 (P.parse (now (b .entry))) (now (m .entry)) (Object.Table t) (Place.ByOffset x) ⌝ }
+pub fn open_table(b: &[u8], m: &[u8], t: u8, id: u64, x: usize, o: usize) -> Opened
+    requires { ⌜ (Width o) × (x < 2 ^ 48) × (id ≡ Sc.tableOf (P.parse (now b)) t .id) ⌝ }
+    ensures { λ r. ⌜ r ≡ W.openObject o (P.parse (now (b .entry))) (now (m .entry)) (Object.Table t) (Place.ByOffset x) ⌝ }
 {
-    fit_table(b, m, t, id, x)
+    fit_table(b, m, t, id, x, o)
 }
 
 // ---- places

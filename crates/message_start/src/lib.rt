@@ -3,30 +3,31 @@ use coding::Object;
 use coding::Place;
 ghost use mathlib.Core.Path.{_≡_};
 ghost use Prim.Native.Nat.{_≤_};
-ghost use Rattle.coding.specs.Bytes as B;
+ghost use lib.ListN.{length};
 ghost use Rattle.coding.specs.Packed as P;
 ghost use Rattle.coding.specs.Walk as W;
 ghost use Rattle.laws.specs.Sound.{ObjectSound};
 ghost use Rattle.schema.specs.Directory.{Accepted};
 ghost use Rattle.message_step.specs.Lead as D;
-ghost use Rattle.wire.specs.Sizes.{HasStart};
+ghost use Rattle.wire.specs.Sizes.{HasStart, Width};
 
 // Whether the message has its start and is within the size.
-pub fn size_ok(m: &[u8]) -> bool
-    ensures { λ r. ⌜ r ≡ W.sizeOk B.u48 (now (m .entry)) ⌝ }
+pub fn size_ok(m: &[u8], o: usize) -> bool
+    requires { ⌜ Width o ⌝ }
+    ensures { λ r. ⌜ r ≡ W.sizeOk o (now (m .entry)) ⌝ }
 {
-    if m.len() < wire::START {
+    if m.len() < wire::start_size(o) {
         return false;
     }
     m.len() <= wire::LARGEST
 }
 
 // What a message starts with.
-const MAGIC: u64 = 0xB5C0_C4B3;
+pub const MAGIC: u64 = 0xB5C0_C4B3;
 
 // Whether the message starts with its magic.
 pub fn start_ok(m: &[u8]) -> bool
-    requires { ⌜ HasStart (now m) ⌝ }
+    requires { ⌜ 4 ≤ length (now m) ⌝ }
     ensures { λ r. ⌜ r ≡ W.startOk (now (m .entry)) ⌝ }
 {
     wire::u32_in(m, 0) == MAGIC
@@ -41,9 +42,9 @@ pub fn root_object(b: &[u8], dir: &[u16]) -> Object
 }
 
 // Where the message's start says that the root table stands.
-pub fn root_place(m: &[u8]) -> Place
-    requires { ⌜ HasStart (now m) ⌝ }
-    ensures { λ r. ⌜ (r ≡ W.rootPlace B.u48 (now (m .entry))) × D.PlaceSmall r ⌝ }
+pub fn root_place(m: &[u8], o: usize) -> Place
+    requires { ⌜ (Width o) × HasStart o (now m) ⌝ }
+    ensures { λ r. ⌜ (r ≡ W.rootPlace o (now (m .entry))) × D.PlaceSmall r ⌝ }
 {
-    Place::ByOffset(wire::offset_in(m, wire::MAGIC))
+    Place::ByOffset(wire::offset_in(m, wire::MAGIC, o))
 }

@@ -8,7 +8,6 @@ use native.Mathlib.Omega.{arith}
 use native.Mathlib.Nat.{mul-le-mul}
 use lib.ListN.{length}
 use Rattle.coding.specs.Lists.{pick}
-use Rattle.coding.specs.Bytes.{u48}
 use Rattle.coding.specs.Schema.{Schema}
 use Rattle.coding.specs.Packed as P
 use Rattle.coding.specs.Layout as L
@@ -65,23 +64,23 @@ module _ (S : Schema) (k : Kind) (sound : KindSound S k) where
 pub union-counted : (b : List ℕ) (k : Kind) (u i : ℕ) → KindSound (P.parse b) k → k ≡ OfUnion u → i ≡ u → i < P.unionCount b
 union-counted b k u i sound e ei = rw ei (union-index b u (subst (KindSound (P.parse b)) e sound))
 
-module _ (S : Schema) (k : Kind) (at n : ℕ) (fits : at + L.width u48 S k ≤ n) where
+module _ (o : ℕ) (S : Schema) (k : Kind) (at n : ℕ) (fits : at + L.width o S k ≤ n) where
   pub flat-there : (f : Flat) → k ≡ OfFlat f → at + flatWidth (structSize S) f ≤ n
   unfolding L.width
-  flat-there f e = subst (λ (q : Kind). at + L.width u48 S q ≤ n) e fits
+  flat-there f e = subst (λ (q : Kind). at + L.width o S q ≤ n) e fits
 
-  pub object-there : (ob : Object) → k ≡ OfObject ob → at + 6 ≤ n
-  unfolding L.width u48
-  object-there ob e = subst (λ (q : Kind). at + L.width u48 S q ≤ n) e fits
+  pub object-there : (ob : Object) → k ≡ OfObject ob → at + o ≤ n
+  unfolding L.width
+  object-there ob e = subst (λ (q : Kind). at + L.width o S q ≤ n) e fits
 
-  pub union-there : (u : ℕ) → k ≡ OfUnion u → at + 8 ≤ n
-  unfolding L.width u48
-  union-there u e = let h = subst (λ (q : Kind). at + L.width u48 S q ≤ n) e fits in omega arith
+  pub union-there : (u : ℕ) → k ≡ OfUnion u → at + (2 + o) ≤ n
+  unfolding L.width
+  union-there u e = let h = subst (λ (q : Kind). at + L.width o S q ≤ n) e fits in omega arith
 
   pub choice-there : (u : ℕ) → k ≡ OfUnion u → at + 2 ≤ n
   choice-there u e = omega (arith, union-there u e)
 
-  pub offset-there : (u : ℕ) → k ≡ OfUnion u → at + 2 + 6 ≤ n
+  pub offset-there : (u : ℕ) → k ≡ OfUnion u → at + 2 + o ≤ n
   offset-there u e = omega (arith, union-there u e)
 
 -- ---- widths are small, and not 0
@@ -93,27 +92,27 @@ flat-some S s (F.Float w) h = ⊎-elim (λ e. omega arith) (λ e. omega arith) h
 flat-some S s (F.Enumerated n) h = omega arith
 flat-some S s (F.Struct i) h = s .structs i .some h
 
-kind-some : (S : Schema) → Sound S → (k : Kind) → KindSound S k → 0 < L.width u48 S k
-unfolding L.width u48
-kind-some S s (OfFlat f) h = flat-some S s f h
-kind-some S s (OfObject ob) h = omega arith
-kind-some S s (OfUnion u) h = omega arith
+kind-some : (o : ℕ) → 4 ≤ o → (S : Schema) → Sound S → (k : Kind) → KindSound S k → 0 < L.width o S k
+unfolding L.width
+kind-some o w S s (OfFlat f) h = flat-some S s f h
+kind-some o w S s (OfObject ob) h = omega arith
+kind-some o w S s (OfUnion u) h = omega arith
 
 times-some : (w n : ℕ) → 0 < w → n ≤ w * n
 times-some w n h = let p : 1 * n ≤ w * n = mul-le-mul h (let q : n ≤ n = omega arith in q) in omega arith
 
 -- a list whose elements fit has not many
-elements-few : (S : Schema) → Sound S → (k : Kind) → KindSound S k → (start n c : ℕ) → start + T.elementsSize u48 S k n ≤ c → n ≤ 8 * c
+elements-few : (o : ℕ) → 4 ≤ o → (S : Schema) → Sound S → (k : Kind) → KindSound S k → (start n c : ℕ) → start + T.elementsSize o S k n ≤ c → n ≤ 8 * c
 unfolding T.elementsSize
-elements-few S s k sound start n c h = by (L.isBool k) h
+elements-few o w S s k sound start n c h = by (L.isBool k) h
   where
-    by : (t : Bool) → start + pick t ((n + 7) / 8) (L.width u48 S k * n) ≤ c → n ≤ 8 * c
+    by : (t : Bool) → start + pick t ((n + 7) / 8) (L.width o S k * n) ≤ c → n ≤ 8 * c
     by true l = omega arith
-    by false l = omega (arith, times-some (L.width u48 S k) n (kind-some S s k sound))
+    by false l = omega (arith, times-some (L.width o S k) n (kind-some o w S s k sound))
 
-pub index-small : (b dir : List ℕ) → Accepted b dir → (k : Kind) → KindSound (P.parse b) k → (start n c i : ℕ)
-    → start + T.elementsSize u48 (P.parse b) k n ≤ c → c ≤ 16777215 → i < n → i < 2 ^ 40
-index-small b dir a k sound start n c i h l m = omega (arith, elements-few (P.parse b) (accepted-sound b dir a) k sound start n c h)
+pub index-small : (o : ℕ) → 4 ≤ o → (b dir : List ℕ) → Accepted b dir → (k : Kind) → KindSound (P.parse b) k → (start n c i : ℕ)
+    → start + T.elementsSize o (P.parse b) k n ≤ c → c ≤ 16777215 → i < n → i < 2 ^ 40
+index-small o w b dir a k sound start n c i h l m = omega (arith, elements-few o w (P.parse b) (accepted-sound b dir a) k sound start n c h)
 
 pub member-kind : (S : Schema) (r : Member) → MemberSound S r → KindSound S (r .kind)
 member-kind S r h = h .kind

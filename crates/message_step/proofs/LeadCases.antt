@@ -8,7 +8,7 @@ use lib.ListN.{length, getD}
 use lib.Dec.{eqb, leb, ltb}
 use borrow.Author.Tests.{eq-eqb, ne-eqb, le-leb, lt-leb}
 use Rattle.coding.specs.Lists.{pick}
-use Rattle.coding.specs.Bytes.{le, isNaN, u48}
+use Rattle.coding.specs.Bytes.{le, isNaN}
 use Rattle.coding.specs.Schema as Sc
 use Rattle.coding.specs.Schema.{Schema}
 use Rattle.coding.specs.Packed as P
@@ -92,18 +92,18 @@ case-sound b dir a u c n h en l ob e =
     rw e (all-at (ObjectSound (P.parse b)) O.Text (Sc.casesOf (P.parse b) u) (pred c) (accepted-sound b dir a .unions u .cases) q)
 
 -- ---- by the kind
-module _ (S : Schema) (m : List ℕ) (k : Kind) (inplace : Bool) (tail at : ℕ) (r : Step) where
-  pub lead-flat : (f : Flat) → k ≡ OfFlat f → r ≡ flatLead f at → r ≡ valueLead u48 S m k inplace tail at
+module _ (o : ℕ) (S : Schema) (m : List ℕ) (k : Kind) (inplace : Bool) (tail at : ℕ) (r : Step) where
+  pub lead-flat : (f : Flat) → k ≡ OfFlat f → r ≡ flatLead f at → r ≡ valueLead o S m k inplace tail at
   unfolding valueLead
   lead-flat f e q = rw e q
 
-  pub lead-object : (ob : Object) → k ≡ OfObject ob → (x : ℕ) → x ≡ le m at u48 → r ≡ T.objectStep ob inplace tail x
-      → r ≡ valueLead u48 S m k inplace tail at
+  pub lead-object : (ob : Object) → k ≡ OfObject ob → (x : ℕ) → x ≡ le m at o → r ≡ T.objectStep ob inplace tail x
+      → r ≡ valueLead o S m k inplace tail at
   unfolding valueLead
   lead-object ob e x ex q = rw e (q ∙ ap (T.objectStep ob inplace tail) ex)
 
-  pub lead-union : (u i : ℕ) → k ≡ OfUnion u → i ≡ u → (c x : ℕ) → Number m at 2 c → x ≡ le m (at + 2) u48
-      → r ≡ withoutValue (T.unionStep (Sc.casesOf S i) inplace tail c x) → r ≡ valueLead u48 S m k inplace tail at
+  pub lead-union : (u i : ℕ) → k ≡ OfUnion u → i ≡ u → (c x : ℕ) → Number m at 2 c → x ≡ le m (at + 2) o
+      → r ≡ withoutValue (T.unionStep (Sc.casesOf S i) inplace tail c x) → r ≡ valueLead o S m k inplace tail at
   unfolding valueLead
   lead-union u i e ei c x nc ex q = rw e (simp (← ei, ← (nc .is), ← ex) q)
 
@@ -133,12 +133,12 @@ object-led ob inplace tail x = by (eqb x 0)
     by true = refl
     by false = refl
 
-pub value-led : (S : Schema) (m : List ℕ) (k : Kind) (none inplace : Bool) (tail at bit : ℕ)
-    → withoutValue (T.valueStep u48 S m k none inplace tail at bit) ≡ valueLead u48 S m k inplace tail at
+pub value-led : (o : ℕ) (S : Schema) (m : List ℕ) (k : Kind) (none inplace : Bool) (tail at bit : ℕ)
+    → withoutValue (T.valueStep o S m k none inplace tail at bit) ≡ valueLead o S m k inplace tail at
 unfolding T.valueStep valueLead
-value-led S m (OfFlat f) none inplace tail at bit = flat-led m f none at bit
-value-led S m (OfObject ob) none inplace tail at bit = object-led ob inplace tail (le m at u48)
-value-led S m (OfUnion i) none inplace tail at bit = refl
+value-led o S m (OfFlat f) none inplace tail at bit = flat-led m f none at bit
+value-led o S m (OfObject ob) none inplace tail at bit = object-led ob inplace tail (le m at o)
+value-led o S m (OfUnion i) none inplace tail at bit = refl
 
 -- ---- the lead of a member, by the step before its struct is tested
 pub lead-tested : (S : Schema) (m : List ℕ) (s : Step) → leadOf (T.structTested S m (withoutValue s)) ≡ leadOf (T.structTested S m s)

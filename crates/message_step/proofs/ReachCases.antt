@@ -8,7 +8,7 @@ use lib.ListN.{length}
 use lib.Dec.{leb, eqb}
 use borrow.Author.Tests.{le-leb, lt-leb, leb-true}
 use Rattle.coding.specs.Lists.{pick}
-use Rattle.coding.specs.Bytes.{bitAt, u48}
+use Rattle.coding.specs.Bytes.{bitAt}
 use Rattle.coding.specs.Schema.{Schema}
 use Rattle.coding.specs.Layout as L
 use Rattle.coding.specs.Step as T

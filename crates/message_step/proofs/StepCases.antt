@@ -2,14 +2,13 @@
 use mathlib.Core.Path.{_≡_, refl, sym, ap, _∙_}
 use mathlib.Core.Bool.{Bool, true, false}
 use mathlib.Core.List.{List}
-use Prim.Native.Nat.{ℕ, suc, _+_, _*_, _/_, _%_, _^_, _<_, _≤_}
+use Prim.Native.Nat.{ℕ, _+_, _*_, _/_, _%_, _^_, _<_, _≤_}
 use native.Mathlib.Omega.{arith}
-use native.Mathlib.Nat.{mul-le-mul-left, mul-suc}
 use lib.ListN.{length, getD}
 use lib.Dec.{eqb, leb, ltb}
 use borrow.Author.Tests.{eq-eqb, ne-eqb, le-leb, lt-leb, lt-ltb, le-ltb}
 use Rattle.coding.specs.Lists.{pick}
-use Rattle.coding.specs.Bytes.{le, bitAt, isNaN, u48}
+use Rattle.coding.specs.Bytes.{le, bitAt, isNaN}
 use Rattle.coding.specs.Schema as Sc
 use Rattle.coding.specs.Schema.{Schema}
 use Rattle.coding.specs.Layout as L
@@ -24,6 +23,7 @@ use Rattle.coding.specs.declared.Place.{Place}
 use Rattle.coding.specs.declared.Place.the-variants.{ByOffset, InPlace}
 use Rattle.coding.specs.declared.Step.{Step}
 use Rattle.coding.specs.declared.Step.the-variants as St
+use Rattle.wire.specs.Products.{times-within}
 use Rattle.wire.specs.Numbers.{Number}
 use Rattle.message_step.proofs.ReachCases.{bool-one}
 
@@ -126,76 +126,70 @@ module _ (m : List ℕ) (k : Flat) (none : Bool) (at bit : ℕ) (r : Step) where
   unfolding T.flatStep
   flat-enum n e x ex f = rw e (rw ex at f)
 
-module _ (S : Schema) (m : List ℕ) (k : Kind) (none inplace : Bool) (tail at bit : ℕ) (r : Step) where
-  pub value-flat : (f : Flat) → k ≡ OfFlat f → r ≡ T.flatStep m f none at bit → r ≡ T.valueStep u48 S m k none inplace tail at bit
+module _ (o : ℕ) (S : Schema) (m : List ℕ) (k : Kind) (none inplace : Bool) (tail at bit : ℕ) (r : Step) where
+  pub value-flat : (f : Flat) → k ≡ OfFlat f → r ≡ T.flatStep m f none at bit → r ≡ T.valueStep o S m k none inplace tail at bit
   unfolding T.valueStep
   value-flat f e q = rw e q
 
-  pub value-object : (ob : Object) → k ≡ OfObject ob → (x : ℕ) → x ≡ le m at u48 → r ≡ T.objectStep ob inplace tail x
-      → r ≡ T.valueStep u48 S m k none inplace tail at bit
+  pub value-object : (ob : Object) → k ≡ OfObject ob → (x : ℕ) → x ≡ le m at o → r ≡ T.objectStep ob inplace tail x
+      → r ≡ T.valueStep o S m k none inplace tail at bit
   unfolding T.valueStep
   value-object ob e x ex q = rw e (q ∙ ap (T.objectStep ob inplace tail) ex)
 
-  pub value-union : (u i : ℕ) → k ≡ OfUnion u → i ≡ u → (c x : ℕ) → Number m at 2 c → x ≡ le m (at + 2) u48
-      → r ≡ T.unionStep (Sc.casesOf S i) inplace tail c x → r ≡ T.valueStep u48 S m k none inplace tail at bit
+  pub value-union : (u i : ℕ) → k ≡ OfUnion u → i ≡ u → (c x : ℕ) → Number m at 2 c → x ≡ le m (at + 2) o
+      → r ≡ T.unionStep (Sc.casesOf S i) inplace tail c x → r ≡ T.valueStep o S m k none inplace tail at bit
   unfolding T.valueStep
   value-union u i e ei c x nc ex q = rw e (simp (← ei, ← (nc .is), ← ex) q)
 
 -- the widths of references
-pub object-width : (S : Schema) (k : Kind) (ob : Object) → k ≡ OfObject ob → L.width u48 S k ≡ 6
-unfolding L.width u48
-object-width S k ob e = rw e
-
-pub union-width : (S : Schema) (k : Kind) (u : ℕ) → k ≡ OfUnion u → L.width u48 S k ≡ 8
-unfolding L.width u48
-union-width S k u e = rw e
-
-pub flat-width : (S : Schema) (k : Kind) (f : Flat) → k ≡ OfFlat f → L.width u48 S k ≡ flatWidth (structSize S) f
+pub object-width : (o : ℕ) (S : Schema) (k : Kind) (ob : Object) → k ≡ OfObject ob → L.width o S k ≡ o
 unfolding L.width
-flat-width S k f e = rw e
+object-width o S k ob e = rw e
+
+pub union-width : (o : ℕ) (S : Schema) (k : Kind) (u : ℕ) → k ≡ OfUnion u → L.width o S k ≡ 2 + o
+unfolding L.width
+union-width o S k u e = rw e
+
+pub flat-width : (o : ℕ) (S : Schema) (k : Kind) (f : Flat) → k ≡ OfFlat f → L.width o S k ≡ flatWidth (structSize S) f
+unfolding L.width
+flat-width o S k f e = rw e
 
 -- ---- elements
-module _ (S : Schema) (k : Kind) (start i : ℕ) (t : Bool) (et : t ≡ L.isBool k) where
-  pub place-bool : t ≡ true → (x : ℕ) → x ≡ i / 8 → start + x ≡ T.elementPlace u48 S k start i
+module _ (o : ℕ) (S : Schema) (k : Kind) (start i : ℕ) (t : Bool) (et : t ≡ L.isBool k) where
+  pub place-bool : t ≡ true → (x : ℕ) → x ≡ i / 8 → start + x ≡ T.elementPlace o S k start i
   unfolding T.elementPlace
   place-bool f x e = simp (← et, f, e)
 
-  pub place-other : t ≡ false → (w : ℕ) → w ≡ L.width u48 S k → (x : ℕ) → x ≡ w * i → start + x ≡ T.elementPlace u48 S k start i
+  pub place-other : t ≡ false → (w : ℕ) → w ≡ L.width o S k → (x : ℕ) → x ≡ w * i → start + x ≡ T.elementPlace o S k start i
   unfolding T.elementPlace
   place-other f w e x ex = simp (← et, f, ex, e)
 
 bool-inside : (i n : ℕ) → i < n → i / 8 + 1 ≤ (n + 7) / 8
 bool-inside i n h = omega arith
 
-other-inside : (w i n : ℕ) → i < n → w * i + w ≤ w * n
-other-inside w i n h =
-    let p : w * suc i ≤ w * n = mul-le-mul-left w h in
-    let e : w * suc i ≡ w * i + w = mul-suc w i in
-    omega arith
-
 -- an element lies inside the list's bytes
-pub element-inside : (S : Schema) (k : Kind) (start n i : ℕ) → i < n
-    → T.elementPlace u48 S k start i + L.width u48 S k ≤ start + T.elementsSize u48 S k n
+pub element-inside : (o : ℕ) (S : Schema) (k : Kind) (start n i : ℕ) → i < n
+    → T.elementPlace o S k start i + L.width o S k ≤ start + T.elementsSize o S k n
 unfolding T.elementPlace T.elementsSize
-element-inside S k start n i h = by (L.isBool k) refl
+element-inside o S k start n i h = by (L.isBool k) refl
   where
     by : (t : Bool) → L.isBool k ≡ t
-        → pick t (start + i / 8) (start + L.width u48 S k * i) + L.width u48 S k ≤ start + pick t ((n + 7) / 8) (L.width u48 S k * n)
-    by true e = omega (arith, bool-one u48 S k e, bool-inside i n h)
-    by false e = omega (arith, other-inside (L.width u48 S k) i n h)
+        → pick t (start + i / 8) (start + L.width o S k * i) + L.width o S k ≤ start + pick t ((n + 7) / 8) (L.width o S k * n)
+    by true e = omega (arith, bool-one o S k e, bool-inside i n h)
+    by false e = omega (arith, times-within (L.width o S k) i n h)
 
 -- ---- an element's value, where the code reads it
-module _ (S : Schema) (m : List ℕ) (k : Kind) (start n i at : ℕ) (ea : at ≡ T.elementPlace u48 S k start i) where
-  pub element-there : (c : ℕ) → start + T.elementsSize u48 S k n ≤ c → i < n → at + L.width u48 S k ≤ c
-  element-there c h l = omega (arith, element-inside S k start n i l)
+module _ (o : ℕ) (S : Schema) (m : List ℕ) (k : Kind) (start n i at : ℕ) (ea : at ≡ T.elementPlace o S k start i) where
+  pub element-there : (c : ℕ) → start + T.elementsSize o S k n ≤ c → i < n → at + L.width o S k ≤ c
+  element-there c h l = omega (arith, element-inside o S k start n i l)
 
-  pub element-low : (c : ℕ) → start + T.elementsSize u48 S k n ≤ c → i < n → c ≤ 16777215 → at < 2 ^ 60
-  element-low c h l z = omega (arith, element-inside S k start n i l)
+  pub element-low : (c : ℕ) → start + T.elementsSize o S k n ≤ c → i < n → c ≤ 16777215 → at < 2 ^ 60
+  element-low c h l z = omega (arith, element-inside o S k start n i l)
 
-pub element-value : (S : Schema) (m : List ℕ) (k : Kind) (start i at : ℕ) → at ≡ T.elementPlace u48 S k start i → (bit : ℕ) → bit ≡ i % 8 → (s r : Step)
-    → s ≡ T.valueStep u48 S m k true false 0 at bit → r ≡ T.structTested S m s → r ≡ T.elementStep u48 S m k start i
+pub element-value : (o : ℕ) (S : Schema) (m : List ℕ) (k : Kind) (start i at : ℕ) → at ≡ T.elementPlace o S k start i → (bit : ℕ) → bit ≡ i % 8 → (s r : Step)
+    → s ≡ T.valueStep o S m k true false 0 at bit → r ≡ T.structTested S m s → r ≡ T.elementStep o S m k start i
 unfolding T.elementStep
-element-value S m k start i at ea bit eb s r e f = simp (← ea, ← eb) (f ∙ ap (T.structTested S m) e)
+element-value o S m k start i at ea bit eb s r e f = simp (← ea, ← eb) (f ∙ ap (T.structTested S m) e)
 
 -- ---- the test of a struct, by the step
 module _ (S : Schema) (m : List ℕ) (s : Step) where

@@ -7,7 +7,7 @@ use native.Mathlib.Omega.{arith}
 use lib.ListN.{length, getD}
 use lib.Dec.{eqb, leb, ltb}
 use Rattle.coding.specs.Lists.{pick}
-use Rattle.coding.specs.Bytes.{le, isNaN, u48}
+use Rattle.coding.specs.Bytes.{le, isNaN}
 use Rattle.coding.specs.Schema as Sc
 use Rattle.coding.specs.Packed as P
 use Rattle.coding.specs.Layout as L
@@ -46,37 +46,37 @@ flat-inside b m (F.Enumerated n) none at bit h l =
     (one-of b m (ltb (getD m at 0) n) (St.Value (getD m at 0)) (St.Unknown (getD m at 0)) tt tt)
 flat-inside b m (F.Struct i) none at bit h l = (struct-index b i h, l)
 
-value-inside-all : (b m : List ℕ) (k : Kind) (none inplace : Bool) (tail at bit : ℕ) → KindSound (P.parse b) k → at + L.width u48 (P.parse b) k ≤ length m
-    → StructInside b m (T.valueStep u48 (P.parse b) m k none inplace tail at bit)
+value-inside-all : (o : ℕ) (b m : List ℕ) (k : Kind) (none inplace : Bool) (tail at bit : ℕ) → KindSound (P.parse b) k → at + L.width o (P.parse b) k ≤ length m
+    → StructInside b m (T.valueStep o (P.parse b) m k none inplace tail at bit)
 unfolding T.valueStep T.objectStep T.unionStep L.width
-value-inside-all b m (OfFlat f) none inplace tail at bit h l = flat-inside b m f none at bit h l
-value-inside-all b m (OfObject ob) none inplace tail at bit h l =
-    one-of b m (eqb (le m at u48) 0) St.Absent (St.Object ob (T.placeOf inplace tail (le m at u48))) tt tt
-value-inside-all b m (OfUnion i) none inplace tail at bit h l =
+value-inside-all o b m (OfFlat f) none inplace tail at bit h l = flat-inside b m f none at bit h l
+value-inside-all o b m (OfObject ob) none inplace tail at bit h l =
+    one-of b m (eqb (le m at o) 0) St.Absent (St.Object ob (T.placeOf inplace tail (le m at o))) tt tt
+value-inside-all o b m (OfUnion i) none inplace tail at bit h l =
     one-of b m (eqb (le m at 2) 0) St.Absent _ tt (one-of b m (leb (le m at 2) (length (Sc.casesOf (P.parse b) i))) (St.Choice _ _ _) (St.Unknown _) tt tt)
 
-pub found-element : (b m : List ℕ) (k : Kind) (start n i at bit : ℕ) → KindSound (P.parse b) k → at ≡ T.elementPlace u48 (P.parse b) k start i
-    → start + T.elementsSize u48 (P.parse b) k n ≤ length m → i < n → (s : Step) → s ≡ T.valueStep u48 (P.parse b) m k true false 0 at bit → StructInside b m s
-found-element b m k start n i at bit sound ea h l s e =
-    subst (StructInside b m) (sym e) (value-inside-all b m k true false 0 at bit sound (element-there (P.parse b) m k start n i at ea (length m) h l))
+pub found-element : (o : ℕ) (b m : List ℕ) (k : Kind) (start n i at bit : ℕ) → KindSound (P.parse b) k → at ≡ T.elementPlace o (P.parse b) k start i
+    → start + T.elementsSize o (P.parse b) k n ≤ length m → i < n → (s : Step) → s ≡ T.valueStep o (P.parse b) m k true false 0 at bit → StructInside b m s
+found-element o b m k start n i at bit sound ea h l s e =
+    subst (StructInside b m) (sym e) (value-inside-all o b m k true false 0 at bit sound (element-there o (P.parse b) m k start n i at ea (length m) h l))
 
-module _ (b m : List ℕ) (start n : ℕ) (p : Placement) (r : Member) (sound : MemberSound (P.parse b) r) (sits : Sits (L.width u48 (P.parse b) (r .kind)) p)
+module _ (o : ℕ) (b m : List ℕ) (start n : ℕ) (p : Placement) (r : Member) (sound : MemberSound (P.parse b) r) (sits : Sits (L.width o (P.parse b) (r .kind)) p)
     (fits : start + n ≤ length m) where
-  placed-inside : StructInside b m (T.placedStep u48 (P.parse b) m start n p r)
+  placed-inside : StructInside b m (T.placedStep o (P.parse b) m start n p r)
   unfolding reached
-  placed-inside = subst (StructInside b m) (sym (step-reached u48 (P.parse b) m start n p r)) (by (reachOf m start n p (L.hasFlag r)) refl)
+  placed-inside = subst (StructInside b m) (sym (step-reached o (P.parse b) m start n p r)) (by (reachOf m start n p (L.hasFlag r)) refl)
     where
       here : Step
-      here = T.valueStep u48 (P.parse b) m (r .kind) (r .optional) (r .inplace) (start + n) (start + p .value .at) (p .value .bit)
+      here = T.valueStep o (P.parse b) m (r .kind) (r .optional) (r .inplace) (start + n) (start + p .value .at) (p .value .bit)
 
       by : (g : Reach) → g ≡ reachOf m start n p (L.hasFlag r) → StructInside b m (reached g here)
       by Cut e = tt
       by Past e = tt
       by Here e =
-          value-inside-all b m (r .kind) (r .optional) (r .inplace) (start + n) (start + p .value .at) (p .value .bit) (sound .kind)
+          value-inside-all o b m (r .kind) (r .optional) (r .inplace) (start + n) (start + p .value .at) (p .value .bit) (sound .kind)
           (omega (arith, sits .size, here-inside m start n p (L.hasFlag r) Here e refl))
 
-  pub found-step : (s : Step) → s ≡ T.placedStep u48 (P.parse b) m start n p r → StructInside b m s
+  pub found-step : (s : Step) → s ≡ T.placedStep o (P.parse b) m start n p r → StructInside b m s
   found-step s e = subst (StructInside b m) (sym e) placed-inside
 
   without-inside : (s : Step) → StructInside b m s → StructInside b m (withoutValue s)
@@ -89,8 +89,8 @@ module _ (b m : List ℕ) (start n : ℕ) (p : Placement) (r : Member) (sound : 
   without-inside (St.Object ob q) h = tt
   without-inside (St.Choice c ob q) h = tt
 
-  pub found-lead : (s : Step) → s ≡ withoutValue (T.placedStep u48 (P.parse b) m start n p r) → StructInside b m s
-  found-lead s e = subst (StructInside b m) (sym e) (without-inside (T.placedStep u48 (P.parse b) m start n p r) placed-inside)
+  pub found-lead : (s : Step) → s ≡ withoutValue (T.placedStep o (P.parse b) m start n p r) → StructInside b m s
+  found-lead s e = subst (StructInside b m) (sym e) (without-inside (T.placedStep o (P.parse b) m start n p r) placed-inside)
 
 -- what a step says of its struct
 module _ (b m : List ℕ) (s : Step) (inside : StructInside b m s) (i at : ℕ) (e : s ≡ St.Struct i at) where

@@ -12,7 +12,6 @@ ghost use mathlib.Core.Path.{_≡_};
 ghost use mathlib.Core.Bool.{Bool, true, false, _&&_};
 ghost use Prim.Native.Nat.{ℕ, _+_, _-_, _*_, _<_, _≤_, _^_};
 ghost use lib.ListN.{length, getD};
-ghost use Rattle.coding.specs.Bytes as B;
 ghost use Rattle.coding.specs.Layout as L;
 ghost use Rattle.coding.specs.Packed as P;
 ghost use Rattle.coding.specs.Schema as Sc;
@@ -21,7 +20,7 @@ ghost use Rattle.coding.specs.Structs as S;
 ghost use Rattle.laws.specs.Sound.{FlatSound, ObjectSound, KindSound, MemberSound};
 ghost use Rattle.schema.specs.Directory.{Accepted};
 ghost use Rattle.message_step.specs.Lead as D;
-ghost use Rattle.wire.specs.Sizes.{WithinSize};
+ghost use Rattle.wire.specs.Sizes.{WithinSize, Width};
 
 // ---- whether a value is there
 // Cut by the end of the fixed part; past it, or without its flag; or here.
@@ -171,14 +170,15 @@ fn value_step(
     tail: usize,
     at: usize,
     bit: usize,
+    o: usize,
 ) -> Step
-    requires { ⌜ (Accepted (now b) (now dir)) × (KindSound (P.parse (now b)) k) × (tail < 2 ^ 48) ⌝ }
-    requires { ⌜ (at + L.width B.u48 (P.parse (now b)) k ≤ length (now m)) × (bit < 8) × (at < 2 ^ 60) ⌝ }
-    ensures { λ r. ⌜ r ≡ T.valueStep B.u48 (P.parse (now (b .entry))) (now (m .entry)) k none inplace tail at bit ⌝ }
+    requires { ⌜ (Accepted (now b) (now dir)) × (Width o) × (KindSound (P.parse (now b)) k) × (tail < 2 ^ 48) ⌝ }
+    requires { ⌜ (at + L.width o (P.parse (now b)) k ≤ length (now m)) × (bit < 8) × (at < 2 ^ 60) ⌝ }
+    ensures { λ r. ⌜ r ≡ T.valueStep o (P.parse (now (b .entry))) (now (m .entry)) k none inplace tail at bit ⌝ }
 {
     match k {
         Kind::OfFlat(f) => flat_step(b, m, f, none, at, bit),
-        Kind::OfObject(ob) => object_step(b, ob, inplace, tail, wire::offset_in(m, at)),
+        Kind::OfObject(ob) => object_step(b, ob, inplace, tail, wire::offset_in(m, at, o)),
         Kind::OfUnion(u) => union_step(
             b,
             dir,
@@ -186,7 +186,7 @@ fn value_step(
             inplace,
             tail,
             wire::u16_in(m, at) as u16,
-            wire::offset_in(m, at + 2),
+            wire::offset_in(m, at + wire::CHOICE, o),
         ),
     }
 }
@@ -240,14 +240,15 @@ fn value_lead(
     inplace: bool,
     tail: usize,
     at: usize,
+    o: usize,
 ) -> Step
-    requires { ⌜ (Accepted (now b) (now dir)) × (KindSound (P.parse (now b)) k) × (tail < 2 ^ 48) ⌝ }
-    requires { ⌜ (at + L.width B.u48 (P.parse (now b)) k ≤ length (now m)) × (at < 2 ^ 60) ⌝ }
-    ensures { λ r. ⌜ (r ≡ D.valueLead B.u48 (P.parse (now (b .entry))) (now (m .entry)) k inplace tail at) × D.StepSmall (P.parse (now (b .entry))) r ⌝ }
+    requires { ⌜ (Accepted (now b) (now dir)) × (Width o) × (KindSound (P.parse (now b)) k) × (tail < 2 ^ 48) ⌝ }
+    requires { ⌜ (at + L.width o (P.parse (now b)) k ≤ length (now m)) × (at < 2 ^ 60) ⌝ }
+    ensures { λ r. ⌜ (r ≡ D.valueLead o (P.parse (now (b .entry))) (now (m .entry)) k inplace tail at) × D.StepSmall (P.parse (now (b .entry))) r ⌝ }
 {
     match k {
         Kind::OfFlat(f) => flat_lead(f, at),
-        Kind::OfObject(ob) => object_step(b, ob, inplace, tail, wire::offset_in(m, at)),
+        Kind::OfObject(ob) => object_step(b, ob, inplace, tail, wire::offset_in(m, at, o)),
         Kind::OfUnion(u) => union_lead(
             b,
             dir,
@@ -255,7 +256,7 @@ fn value_lead(
             inplace,
             tail,
             wire::u16_in(m, at) as usize,
-            wire::offset_in(m, at + 2),
+            wire::offset_in(m, at + wire::CHOICE, o),
         ),
     }
 }
@@ -270,10 +271,11 @@ pub fn placed_step(
     n: usize,
     p: Placement,
     r: Member,
+    o: usize,
 ) -> Step
-    requires { ⌜ (Accepted (now b) (now dir)) × (MemberSound (P.parse (now b)) r) × (start + n ≤ length (now m)) × (WithinSize (now m)) ⌝ }
-    requires { ⌜ D.Sits (L.width B.u48 (P.parse (now b)) (r .kind)) p ⌝ }
-    ensures { λ q. ⌜ q ≡ T.placedStep B.u48 (P.parse (now (b .entry))) (now (m .entry)) start n p r ⌝ }
+    requires { ⌜ (Accepted (now b) (now dir)) × (Width o) × (MemberSound (P.parse (now b)) r) × (start + n ≤ length (now m)) × (WithinSize (now m)) ⌝ }
+    requires { ⌜ D.Sits (L.width o (P.parse (now b)) (r .kind)) p ⌝ }
+    ensures { λ q. ⌜ q ≡ T.placedStep o (P.parse (now (b .entry))) (now (m .entry)) start n p r ⌝ }
 {
     let k = r.kind;
     let slot = p.value;
@@ -290,6 +292,7 @@ pub fn placed_step(
             start + n,
             start + slot.at,
             slot.bit,
+            o,
         ),
     }
 }
@@ -303,17 +306,18 @@ pub fn placed_lead(
     n: usize,
     p: Placement,
     r: Member,
+    o: usize,
 ) -> Step
-    requires { ⌜ (Accepted (now b) (now dir)) × (MemberSound (P.parse (now b)) r) × (start + n ≤ length (now m)) × (WithinSize (now m)) ⌝ }
-    requires { ⌜ D.Sits (L.width B.u48 (P.parse (now b)) (r .kind)) p ⌝ }
-    ensures { λ q. ⌜ (q ≡ D.withoutValue (T.placedStep B.u48 (P.parse (now (b .entry))) (now (m .entry)) start n p r)) × D.StepSmall (P.parse (now (b .entry))) q ⌝ }
+    requires { ⌜ (Accepted (now b) (now dir)) × (Width o) × (MemberSound (P.parse (now b)) r) × (start + n ≤ length (now m)) × (WithinSize (now m)) ⌝ }
+    requires { ⌜ D.Sits (L.width o (P.parse (now b)) (r .kind)) p ⌝ }
+    ensures { λ q. ⌜ (q ≡ D.withoutValue (T.placedStep o (P.parse (now (b .entry))) (now (m .entry)) start n p r)) × D.StepSmall (P.parse (now (b .entry))) q ⌝ }
 {
     let k = r.kind;
     let slot = p.value;
     match reach_of(m, start, n, p, message_layout::has_flag(r)) {
         Reach::Cut => Step::Refused(8),
         Reach::Past => Step::Absent,
-        Reach::Here => value_lead(b, dir, m, k, r.inplace, start + n, start + slot.at),
+        Reach::Here => value_lead(b, dir, m, k, r.inplace, start + n, start + slot.at, o),
     }
 }
 
@@ -382,15 +386,16 @@ pub fn member_step(
     n: usize,
     c: Cursor,
     r: Member,
+    o: usize,
 ) -> SteppedMember
-    requires { ⌜ (Accepted (now b) (now dir)) × (MemberSound (P.parse (now b)) r) × (start + n ≤ length (now m)) × (WithinSize (now m)) ⌝ }
+    requires { ⌜ (Accepted (now b) (now dir)) × (Width o) × (MemberSound (P.parse (now b)) r) × (start + n ≤ length (now m)) × (WithinSize (now m)) ⌝ }
     requires { ⌜ (c .byte ≤ c .end) × (c .bit ≤ 8) × (c .end < 2 ^ 58) ⌝ }
-    ensures { λ q. ⌜ D.Stepped (T.memberStep B.u48 (P.parse (now (b .entry))) (now (m .entry)) start n c r) (L.afterMember B.u48 (P.parse (now (b .entry))) r c) (c .end) (q .step) (q .next) ⌝ }
+    ensures { λ q. ⌜ D.Stepped (T.memberStep o (P.parse (now (b .entry))) (now (m .entry)) start n c r) (L.afterMember o (P.parse (now (b .entry))) r c) (c .end) (q .step) (q .next) ⌝ }
 {
-    let q = message_layout::place_member(b, dir, r, c);
+    let q = message_layout::place_member(b, dir, r, c, o);
     let p = q.placement;
     let next = q.next;
-    let found = placed_step(b, dir, m, start, n, p, r);
+    let found = placed_step(b, dir, m, start, n, p, r, o);
     let step = struct_tested(b, dir, m, found);
     SteppedMember { step, next }
 }
@@ -404,29 +409,30 @@ pub fn member_lead(
     n: usize,
     c: Cursor,
     r: Member,
+    o: usize,
 ) -> SteppedMember
-    requires { ⌜ (Accepted (now b) (now dir)) × (MemberSound (P.parse (now b)) r) × (start + n ≤ length (now m)) × (WithinSize (now m)) ⌝ }
+    requires { ⌜ (Accepted (now b) (now dir)) × (Width o) × (MemberSound (P.parse (now b)) r) × (start + n ≤ length (now m)) × (WithinSize (now m)) ⌝ }
     requires { ⌜ (c .byte ≤ c .end) × (c .bit ≤ 8) × (c .end < 2 ^ 58) ⌝ }
-    ensures { λ q. ⌜ (D.Stepped (D.leadOf (T.memberStep B.u48 (P.parse (now (b .entry))) (now (m .entry)) start n c r)) (L.afterMember B.u48 (P.parse (now (b .entry))) r c) (c .end) (q .step) (q .next)) × D.StepSmall (P.parse (now (b .entry))) (q .step) ⌝ }
+    ensures { λ q. ⌜ (D.Stepped (D.leadOf (T.memberStep o (P.parse (now (b .entry))) (now (m .entry)) start n c r)) (L.afterMember o (P.parse (now (b .entry))) r c) (c .end) (q .step) (q .next)) × D.StepSmall (P.parse (now (b .entry))) (q .step) ⌝ }
 {
-    let q = message_layout::place_member(b, dir, r, c);
+    let q = message_layout::place_member(b, dir, r, c, o);
     let p = q.placement;
     let next = q.next;
-    let found = placed_lead(b, dir, m, start, n, p, r);
+    let found = placed_lead(b, dir, m, start, n, p, r, o);
     let step = struct_lead(b, dir, m, found);
     SteppedMember { step, next }
 }
 
 // ---- elements
 // Where element i of a list stands whose elements start at `start`; for a bool the byte.
-fn element_place(b: &[u8], dir: &[u16], k: Kind, start: usize, i: usize) -> usize
-    requires { ⌜ (Accepted (now b) (now dir)) × (KindSound (P.parse (now b)) k) × (start < 2 ^ 59) × (i < 2 ^ 40) ⌝ }
-    ensures { λ r. ⌜ r ≡ T.elementPlace B.u48 (P.parse (now (b .entry))) k start i ⌝ }
+fn element_place(b: &[u8], dir: &[u16], k: Kind, start: usize, i: usize, o: usize) -> usize
+    requires { ⌜ (Accepted (now b) (now dir)) × (Width o) × (KindSound (P.parse (now b)) k) × (start < 2 ^ 59) × (i < 2 ^ 40) ⌝ }
+    ensures { λ r. ⌜ r ≡ T.elementPlace o (P.parse (now (b .entry))) k start i ⌝ }
 {
     if message_layout::is_bool(k) {
         return start + wire::eighth(i);
     }
-    start + message_layout::times(message_layout::width(b, dir, k), i)
+    start + message_layout::times(message_layout::width(b, dir, k, o), i)
 }
 
 // Element i of a list of n elements that start at `start`.
@@ -438,12 +444,13 @@ pub fn element_step(
     start: usize,
     n: usize,
     i: usize,
+    o: usize,
 ) -> Step
-    requires { ⌜ (Accepted (now b) (now dir)) × (KindSound (P.parse (now b)) k) × (WithinSize (now m)) ⌝ }
-    requires { ⌜ (start + T.elementsSize B.u48 (P.parse (now b)) k n ≤ length (now m)) × (i < n) ⌝ }
-    ensures { λ r. ⌜ r ≡ T.elementStep B.u48 (P.parse (now (b .entry))) (now (m .entry)) k start i ⌝ }
+    requires { ⌜ (Accepted (now b) (now dir)) × (Width o) × (KindSound (P.parse (now b)) k) × (WithinSize (now m)) ⌝ }
+    requires { ⌜ (start + T.elementsSize o (P.parse (now b)) k n ≤ length (now m)) × (i < n) ⌝ }
+    ensures { λ r. ⌜ r ≡ T.elementStep o (P.parse (now (b .entry))) (now (m .entry)) k start i ⌝ }
 {
-    let at = element_place(b, dir, k, start, i);
-    let found = value_step(b, dir, m, k, true, false, 0, at, wire::low_three(i));
+    let at = element_place(b, dir, k, start, i, o);
+    let found = value_step(b, dir, m, k, true, false, 0, at, wire::low_three(i), o);
     struct_tested(b, dir, m, found)
 }

@@ -6,7 +6,6 @@ use mathlib.Core.Logic.{_↔_, _⊎_}
 use mathlib.Core.Option.{some}
 use Prim.Native.Nat.{ℕ, _≤_}
 use lib.ListN.{length, take}
-use Rattle.coding.specs.Bytes.{u48}
 use Rattle.coding.specs.Packed.{parse}
 use Rattle.coding.specs.Walk.{spending, atZero, verdict}
 use Rattle.coding.specs.Read.{messageRead}
@@ -33,77 +32,77 @@ use Rattle.promises.specs.Words.{Accepts, Fits, NoRoom, HandsOut, entryA
 use Rattle.promises.proofs.Reading.{handed, hands-out, read-or-room, fits-read, read-fits, no-room}
 
 -- ---- judging
-module _ (b m : List ℕ) (budget : Budget) (r : Verdict) (e : r ≡ verdict u48 b m budget) where
-  pub judges-exactly : (r .number ≡ 0) ↔ LawfulMessage u48 b m budget
-  judges-exactly = rw e (accepted-exactly u48 b m budget)
+module _ (o : ℕ) (b m : List ℕ) (budget : Budget) (r : Verdict) (e : r ≡ verdict o b m budget) where
+  pub judges-exactly : (r .number ≡ 0) ↔ LawfulMessage o b m budget
+  judges-exactly = rw e (accepted-exactly o b m budget)
 
-  pub judges-arrivals : r .number ≡ 0 → r .visits ≡ messageArrivals u48 (parse b) m
-  judges-arrivals = rw e (accepted-visits u48 b m budget)
+  pub judges-arrivals : r .number ≡ 0 → r .visits ≡ messageArrivals o (parse b) m
+  judges-arrivals = rw e (accepted-visits o b m budget)
 
-module _ (older newer m : List ℕ) (budget : Budget) (older-bytes : AreBytes older) (r s : Verdict) (er : r ≡ verdict u48 older m budget)
-    (es : s ≡ verdict u48 newer m budget) where
-  pub both-judge : Appends u48 older newer → s .number ≡ 0 → (r .number ≡ 0) × (r .visits ≤ s .visits)
-  both-judge appends = rw (er, es) (older-accepts u48 older newer older-bytes appends m budget)
+module _ (o : ℕ) (older newer m : List ℕ) (budget : Budget) (older-bytes : AreBytes older) (r s : Verdict) (er : r ≡ verdict o older m budget)
+    (es : s ≡ verdict o newer m budget) where
+  pub both-judge : Appends o older newer → s .number ≡ 0 → (r .number ≡ 0) × (r .visits ≤ s .visits)
+  both-judge appends = rw (er, es) (older-accepts o older newer older-bytes appends m budget)
 
 -- ---- reading to a sheet
-module _ (b m : List ℕ) (budget : Budget) (out : List ℕ) (a : ReadAnswer) (ea : a ≡ readAnswer u48 b m budget out) where
+module _ (o : ℕ) (b m : List ℕ) (budget : Budget) (out : List ℕ) (a : ReadAnswer) (ea : a ≡ readAnswer o b m budget out) where
   pub reads-exactly : (a .verdict .number ≡ 0)
-      ↔ (LawfulMessage u48 b m budget × Fits (messageSheet u48 b m) out)
+      ↔ (LawfulMessage o b m budget × Fits (messageSheet o b m) out)
   reads-exactly = (
-    λ h. let y = read-fits b m budget out a ea h in (accepted-exactly u48 b m budget .0 (y .0), (y .1, y .2)),
-    λ h. fits-read b m budget out a ea (accepted-exactly u48 b m budget .1 (h .0)) (h .1 .0) (h .1 .1),
+    λ h. let y = read-fits o b m budget out a ea h in (accepted-exactly o b m budget .0 (y .0), (y .1, y .2)),
+    λ h. fits-read o b m budget out a ea (accepted-exactly o b m budget .1 (h .0)) (h .1 .0) (h .1 .1),
   )
 
-  pub reads-arrivals : a .verdict .number ≡ 0 → a .verdict .visits ≡ messageArrivals u48 (parse b) m
+  pub reads-arrivals : a .verdict .number ≡ 0 → a .verdict .visits ≡ messageArrivals o (parse b) m
   reads-arrivals h =
-      let y = handed b m budget out a _ ea refl h in y .visits ∙ accepted-visits u48 b m budget (y .accepted)
+      let y = handed o b m budget out a _ ea refl h in y .visits ∙ accepted-visits o b m budget (y .accepted)
 
-  pub reads-room : LawfulMessage u48 b m budget → NoRoom (messageSheet u48 b m) out
-      → a ≡ record { verdict = atZero 14 (spending (messageArrivals u48 (parse b) m)); length = 0 }
-  reads-room h = no-room b m budget out _ a ea (lawful-verdict u48 b m budget h)
+  pub reads-room : LawfulMessage o b m budget → NoRoom (messageSheet o b m) out
+      → a ≡ record { verdict = atZero 14 (spending (messageArrivals o (parse b) m)); length = 0 }
+  reads-room h = no-room o b m budget out _ a ea (lawful-verdict o b m budget h)
 
-module _ (b m : List ℕ) (schema-bytes : AreBytes b) (message-bytes : AreBytes m) (budget : Budget) (out : List ℕ) (a : ReadAnswer) (out′ : List ℕ)
-    (ea : a ≡ readAnswer u48 b m budget out) (eo : out′ ≡ readOut u48 b m budget out) where
-  pub reads-lawful : a .verdict .number ≡ 0 → sheetTree (parse b) (take (a .length) out′) ≡ some (messageRead u48 (parse b) m)
+module _ (o : ℕ) (b m : List ℕ) (schema-bytes : AreBytes b) (message-bytes : AreBytes m) (budget : Budget) (out : List ℕ) (a : ReadAnswer) (out′ : List ℕ)
+    (ea : a ≡ readAnswer o b m budget out) (eo : out′ ≡ readOut o b m budget out) where
+  pub reads-lawful : a .verdict .number ≡ 0 → sheetTree (parse b) (take (a .length) out′) ≡ some (messageRead o (parse b) m)
   reads-lawful h =
-      let got = handed b m budget out a out′ ea eo h in
-      rw (got .sheet) (verdict-sheet-lawful u48 b m schema-bytes message-bytes budget (got .accepted) (got .sized))
+      let got = handed o b m budget out a out′ ea eo h in
+      rw (got .sheet) (verdict-sheet-lawful o b m schema-bytes message-bytes budget (got .accepted) (got .sized))
 
 -- ---- by the older schema, what the newer accepts
-module _ (older newer m : List ℕ) (older-bytes : AreBytes older) (newer-bytes : AreBytes newer) (message-bytes : AreBytes m) (budget : Budget)
-    (out out′ : List ℕ) (a : ReadAnswer) (ea : a ≡ readAnswer u48 older m budget out) (eo : out′ ≡ readOut u48 older m budget out)
-    (appends : Appends u48 older newer) (accepted : Accepts u48 newer m budget) where
-  agrees : OlderAgrees u48 older newer m budget
-  agrees = older-agrees u48 older newer m older-bytes newer-bytes message-bytes appends budget accepted
+module _ (o : ℕ) (older newer m : List ℕ) (older-bytes : AreBytes older) (newer-bytes : AreBytes newer) (message-bytes : AreBytes m) (budget : Budget)
+    (out out′ : List ℕ) (a : ReadAnswer) (ea : a ≡ readAnswer o older m budget out) (eo : out′ ≡ readOut o older m budget out)
+    (appends : Appends o older newer) (accepted : Accepts o newer m budget) where
+  agrees : OlderAgrees o older newer m budget
+  agrees = older-agrees o older newer m older-bytes newer-bytes message-bytes appends budget accepted
 
   pub older-reads : (a .verdict .number ≡ 0) ⊎ (a .verdict .number ≡ 14)
-  older-reads = read-or-room older m budget out a ea (agrees .accepts) .0
+  older-reads = read-or-room o older m budget out a ea (agrees .accepts) .0
 
-  pub older-hands-out : HandsOut a out′ (sheetWithout older newer (messageSheet u48 newer m))
-  older-hands-out h = hands-out older m budget out a out′ ea eo h ∙ agrees .sheet
+  pub older-hands-out : HandsOut a out′ (sheetWithout older newer (messageSheet o newer m))
+  older-hands-out h = hands-out o older m budget out a out′ ea eo h ∙ agrees .sheet
 
 -- ---- one field of an accepted message
-module _ (b m : List ℕ) (schema-bytes : AreBytes b) (message-bytes : AreBytes m) (path : List ℕ) (budget : Budget)
-    (accepted : Accepts u48 b m budget) (short : length path ≤ 96) where
-  pub shows-entry : (q : Answer) → q ≡ Field.field u48 b m path → shown q ≡ entryAt b (messageSheet u48 b m) path
-  shows-entry q eq = ap shown eq ∙ sheet-entry u48 b m schema-bytes message-bytes budget accepted path short
+module _ (o : ℕ) (b m : List ℕ) (schema-bytes : AreBytes b) (message-bytes : AreBytes m) (path : List ℕ) (budget : Budget)
+    (accepted : Accepts o b m budget) (short : length path ≤ 96) where
+  pub shows-entry : (q : Answer) → q ≡ Field.field o b m path → shown q ≡ entryAt b (messageSheet o b m) path
+  shows-entry q eq = ap shown eq ∙ sheet-entry o b m schema-bytes message-bytes budget accepted path short
 
-  pub shows-refusal : (q : Answer) → q ≡ Field.field u48 b m path → (r : Refusal) → q ≡ A.Refused r → r .number ≡ 15
-  shows-refusal q eq r e = field-refusal u48 b schema-bytes m budget accepted path short r (sym eq ∙ e)
+  pub shows-refusal : (q : Answer) → q ≡ Field.field o b m path → (r : Refusal) → q ≡ A.Refused r → r .number ≡ 15
+  shows-refusal q eq r e = field-refusal o b schema-bytes m budget accepted path short r (sym eq ∙ e)
 
-  pub shows-text : (p : Span) → p ≡ Field.fieldSpan u48 b m path → Field.textOf m p ≡ textAt b (messageSheet u48 b m) path
+  pub shows-text : (p : Span) → p ≡ Field.fieldSpan o b m path → Field.textOf m p ≡ textAt b (messageSheet o b m) path
   unfolding Field.fieldText
-  shows-text p ep = ap (Field.textOf m) ep ∙ sheet-text u48 b m schema-bytes message-bytes budget accepted path short
+  shows-text p ep = ap (Field.textOf m) ep ∙ sheet-text o b m schema-bytes message-bytes budget accepted path short
 
 -- ---- a text or bytes
-module _ (b m path : List ℕ) (p : Span) (ep : p ≡ Field.fieldSpan u48 b m path) where
-  pub there-exactly : (p .there ≡ true) ↔ ((k at n : ℕ) × (Field.field u48 b m path ≡ A.Object k at n) × IsText k)
+module _ (o : ℕ) (b m path : List ℕ) (p : Span) (ep : p ≡ Field.fieldSpan o b m path) where
+  pub there-exactly : (p .there ≡ true) ↔ ((k at n : ℕ) × (Field.field o b m path ≡ A.Object k at n) × IsText k)
   there-exactly = (
     λ h.
-        let y = part-answers u48 b m path (ap (λ (x : Span). x .there) (sym ep) ∙ h) in
-        (y .0, y .1, Field.fieldSpan u48 b m path .length, y .2, y .3),
-    λ y. ap (λ (x : Span). x .there) ep ∙ text-part u48 b m path (y .0) (y .1) (y .2) (y .3) (y .4) .0,
+        let y = part-answers o b m path (ap (λ (x : Span). x .there) (sym ep) ∙ h) in
+        (y .0, y .1, Field.fieldSpan o b m path .length, y .2, y .3),
+    λ y. ap (λ (x : Span). x .there) ep ∙ text-part o b m path (y .0) (y .1) (y .2) (y .3) (y .4) .0,
   )
 
-  pub there-long : (k at n : ℕ) → Field.field u48 b m path ≡ A.Object k at n → IsText k → p .length ≡ n
-  there-long k at n e t = ap (λ (x : Span). x .length) ep ∙ text-part u48 b m path k at n e t .1
+  pub there-long : (k at n : ℕ) → Field.field o b m path ≡ A.Object k at n → IsText k → p .length ≡ n
+  there-long k at n e t = ap (λ (x : Span). x .length) ep ∙ text-part o b m path k at n e t .1

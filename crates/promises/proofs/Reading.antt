@@ -10,7 +10,7 @@ use lib.Seq.{take-append-seam}
 use lib.Dec.{leb, eqb}
 use borrow.Author.Tests.{eqb-true, eqb-false, eq-eqb, leb-true, le-leb, lt-leb}
 use Rattle.coding.specs.Lists.{pick}
-use Rattle.coding.specs.Bytes.{u48, largest}
+use Rattle.coding.specs.Bytes.{largest}
 use Rattle.coding.specs.Walk.{spending, atZero, spentOf, verdict}
 use Rattle.coding.specs.Message.{messageSheet, fitsRoom, readAnswer, readOut}
 use Rattle.coding.specs.declared.Budget.{Budget}
@@ -19,11 +19,11 @@ use Rattle.coding.specs.declared.Verdict.{Verdict}
 use Rattle.promises.specs.Words.{NoRoom, HandsOut, KeepsOnRefusal}
 
 -- the sheet of an accepted message stands in the output
-pub record Handed (b m : List ℕ) (budget : Budget) (a : ReadAnswer) (out : List ℕ) : Type 0 where
-  pub accepted : verdict u48 b m budget .number ≡ 0
-  pub sheet : take (a .length) out ≡ messageSheet u48 b m
-  pub sized : length (messageSheet u48 b m) ≤ largest
-  pub visits : a .verdict .visits ≡ verdict u48 b m budget .visits
+pub record Handed (o : ℕ) (b m : List ℕ) (budget : Budget) (a : ReadAnswer) (out : List ℕ) : Type 0 where
+  pub accepted : verdict o b m budget .number ≡ 0
+  pub sheet : take (a .length) out ≡ messageSheet o b m
+  pub sized : length (messageSheet o b m) ≤ largest
+  pub visits : a .verdict .visits ≡ verdict o b m budget .visits
 
 fits-size : (l : List ℕ) (t : Bool) → leb (length l) largest && t ≡ true → length l ≤ largest
 fits-size l t h = by (leb (length l) largest) refl h
@@ -45,12 +45,12 @@ unfolding fitsRoom
 not-fits l out (inl h) = rw (lt-leb (length l) largest h)
 not-fits l out (inr h) = not-out (leb (length l) largest) (leb (length l) (length out)) (lt-leb (length l) (length out) h)
 
-module _ (b m : List ℕ) (budget : Budget) (out : List ℕ) where
+module _ (o : ℕ) (b m : List ℕ) (budget : Budget) (out : List ℕ) where
   abbrev judged : Verdict
-  judged = verdict u48 b m budget
+  judged = verdict o b m budget
 
   abbrev sheet : List ℕ
-  sheet = messageSheet u48 b m
+  sheet = messageSheet o b m
 
   abbrev answerBy : Bool → Bool → ReadAnswer
   answerBy s t =
@@ -64,22 +64,22 @@ module _ (b m : List ℕ) (budget : Budget) (out : List ℕ) where
   outBy s t = pick s (pick t (sheet ++ drop (length sheet) out) out) out
 
   handed-by : (s t : Bool) → eqb (judged .number) 0 ≡ s → fitsRoom sheet out ≡ t → answerBy s t .verdict .number ≡ 0
-      → Handed b m budget (answerBy s t) (outBy s t)
+      → Handed o b m budget (answerBy s t) (outBy s t)
   unfolding fitsRoom
   handed-by true true e f h =
       record { accepted = h; sheet = take-append-seam sheet (drop (length sheet) out); sized = fits-size sheet _ f; visits = refl }
   handed-by true false e f h = absurd (omega arith)
   handed-by false t e f h = absurd (eqb-false _ _ e h)
 
-  pub handed : (a : ReadAnswer) (out′ : List ℕ) → a ≡ readAnswer u48 b m budget out → out′ ≡ readOut u48 b m budget out → a .verdict .number ≡ 0
-      → Handed b m budget a out′
+  pub handed : (a : ReadAnswer) (out′ : List ℕ) → a ≡ readAnswer o b m budget out → out′ ≡ readOut o b m budget out → a .verdict .number ≡ 0
+      → Handed o b m budget a out′
   unfolding readAnswer readOut
   handed a out′ ea eo h =
       rw (ea, eo) (handed-by _ _ refl refl (ap (λ (x : ReadAnswer). x .verdict .number) (sym ea) ∙ h))
 
   -- what is handed out is the sheet of the rules
-  pub hands-out : (a : ReadAnswer) (out′ : List ℕ) → a ≡ readAnswer u48 b m budget out → out′ ≡ readOut u48 b m budget out
-      → HandsOut a out′ (messageSheet u48 b m)
+  pub hands-out : (a : ReadAnswer) (out′ : List ℕ) → a ≡ readAnswer o b m budget out → out′ ≡ readOut o b m budget out
+      → HandsOut a out′ (messageSheet o b m)
   hands-out a out′ ea eo h = handed a out′ ea eo h .sheet
 
   read-by : (s t : Bool) → eqb (judged .number) 0 ≡ s → judged .number ≡ 0
@@ -89,13 +89,13 @@ module _ (b m : List ℕ) (budget : Budget) (out : List ℕ) where
   read-by false t e h = (inl h, refl)
 
   -- an accepted message is read, or there is no room; either way with the full visits
-  pub read-or-room : (a : ReadAnswer) → a ≡ readAnswer u48 b m budget out → judged .number ≡ 0
+  pub read-or-room : (a : ReadAnswer) → a ≡ readAnswer o b m budget out → judged .number ≡ 0
       → ((a .verdict .number ≡ 0) ⊎ (a .verdict .number ≡ 14)) × (a .verdict .visits ≡ judged .visits)
   unfolding readAnswer
   read-or-room a ea h = rw ea (read-by _ (fitsRoom sheet out) refl h)
 
   -- where its sheet fits, it is read
-  pub fits-read : (a : ReadAnswer) → a ≡ readAnswer u48 b m budget out → judged .number ≡ 0 → length sheet ≤ largest → length sheet ≤ length out
+  pub fits-read : (a : ReadAnswer) → a ≡ readAnswer o b m budget out → judged .number ≡ 0 → length sheet ≤ largest → length sheet ≤ length out
       → a .verdict .number ≡ 0
   unfolding readAnswer fitsRoom
   fits-read a ea h l r =
@@ -110,13 +110,13 @@ module _ (b m : List ℕ) (budget : Budget) (out : List ℕ) where
   fits-by false t e f h = absurd (eqb-false _ _ e h)
 
   -- and only where it fits
-  pub read-fits : (a : ReadAnswer) → a ≡ readAnswer u48 b m budget out → a .verdict .number ≡ 0
+  pub read-fits : (a : ReadAnswer) → a ≡ readAnswer o b m budget out → a .verdict .number ≡ 0
       → (judged .number ≡ 0) × (length sheet ≤ largest) × (length sheet ≤ length out)
   unfolding readAnswer
   read-fits a ea h = fits-by _ _ refl refl (ap (λ (x : ReadAnswer). x .verdict .number) (sym ea) ∙ h)
 
   -- "then 14 with the full visits"
-  pub no-room : (n : ℕ) (a : ReadAnswer) → a ≡ readAnswer u48 b m budget out → judged ≡ atZero 0 (spending n)
+  pub no-room : (n : ℕ) (a : ReadAnswer) → a ≡ readAnswer o b m budget out → judged ≡ atZero 0 (spending n)
       → NoRoom sheet out → a ≡ record { verdict = atZero 14 (spending n); length = 0 }
   unfolding readAnswer
   no-room n a ea h x = ea ∙ rw (h, not-fits sheet out x)
@@ -128,7 +128,7 @@ module _ (b m : List ℕ) (budget : Budget) (out : List ℕ) where
   kept-by false t e h = (refl, refl)
 
   -- "on refusal the length is 0 and the output is unchanged"
-  pub refused-kept : (a : ReadAnswer) (out′ : List ℕ) → a ≡ readAnswer u48 b m budget out → out′ ≡ readOut u48 b m budget out
+  pub refused-kept : (a : ReadAnswer) (out′ : List ℕ) → a ≡ readAnswer o b m budget out → out′ ≡ readOut o b m budget out
       → KeepsOnRefusal (a .verdict .number) (a .length) out out′
   unfolding readAnswer readOut
   refused-kept a out′ ea eo h =

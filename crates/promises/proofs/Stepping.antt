@@ -8,7 +8,6 @@ use borrow.Author.Tests.{lt-ltb, le-ltb}
 use lib.ListN.{length, take, drop}
 use denote.Ref.{now}
 use Rattle.coding.specs.Lists.{pick}
-use Rattle.coding.specs.Bytes.{u48}
 use Rattle.coding.specs.Schema.{Schema, elementOf}
 use Rattle.coding.specs.Packed.{parse}
 use Rattle.coding.specs.Walk.{refusal}
@@ -49,84 +48,84 @@ other-start S (Fd.Object (O.List i) at start n d) free none = by (Field.leads (e
     by true e = absurd (none i at start n d (refl, e))
     by false e = refl
 
-module _ (b m path : List ℕ) where
-  starts : (i at start n left : ℕ) → LeadsToList u48 b m path i at start n left → Field.readerStart u48 b m path ≡ Fd.Object (O.List i) at start n left
+module _ (o : ℕ) (b m path : List ℕ) where
+  starts : (i at start n left : ℕ) → LeadsToList o b m path i at start n left → Field.readerStart o b m path ≡ Fd.Object (O.List i) at start n left
   unfolding Field.readerStart Field.readerOf Field.listFound
   starts i at start n left h = rw (h .0, h .1)
 
-  other : ((r : Refusal) → Field.field u48 b m path ≡ A.Refused r → ⊥) → NoList (parse b) (Field.fieldFound u48 b m path)
-      → Field.readerStart u48 b m path ≡ Fd.Refused (refusal 15 0)
+  other : ((r : Refusal) → Field.field o b m path ≡ A.Refused r → ⊥) → NoList (parse b) (Field.fieldFound o b m path)
+      → Field.readerStart o b m path ≡ Fd.Refused (refusal 15 0)
   unfolding Field.readerStart Field.field
-  other free none = other-start (parse b) (Field.fieldFound u48 b m path) free none
+  other free none = other-start (parse b) (Field.fieldFound o b m path) free none
 
 -- ---- one step: what it answers
-module _ (b m path : List ℕ) (j : ℕ) (q : Answer) (eq : q ≡ Field.readerGives u48 b m path j) where
-  pub steps-same : (element : List ℕ) (r : Answer) → r ≡ Field.field u48 b m element → (i at start n left : ℕ)
-      → LeadsToList u48 b m path i at start n left
+module _ (o : ℕ) (b m path : List ℕ) (j : ℕ) (q : Answer) (eq : q ≡ Field.readerGives o b m path j) where
+  pub steps-same : (element : List ℕ) (r : Answer) → r ≡ Field.field o b m element → (i at start n left : ℕ)
+      → LeadsToList o b m path i at start n left
       → element ≡ path ++ j ∷ [] → q ≡ r
   steps-same element r er i at start n left has e =
       eq
-      ∙ gives-path u48 b m path i at start n left (starts b m path i at start n left has) j
-      ∙ ap (Field.field u48 b m) (sym e)
+      ∙ gives-path o b m path i at start n left (starts o b m path i at start n left has) j
+      ∙ ap (Field.field o b m) (sym e)
       ∙ sym er
 
-  pub steps-end : (i at start n left : ℕ) → LeadsToList u48 b m path i at start n left → n ≤ j → q ≡ A.Refused (refusal 15 at)
+  pub steps-end : (i at start n left : ℕ) → LeadsToList o b m path i at start n left → n ≤ j → q ≡ A.Refused (refusal 15 at)
   steps-end i at start n left has l =
-      eq ∙ gives-end u48 b m path i at start n left (starts b m path i at start n left has) j l
+      eq ∙ gives-end o b m path i at start n left (starts o b m path i at start n left has) j l
 
-  step-refused : (r : Refusal) → Field.readerStart u48 b m path ≡ Fd.Refused r → q ≡ A.Refused r
-  step-refused r e = eq ∙ gives-refusal u48 b m path r e .1 j
+  step-refused : (r : Refusal) → Field.readerStart o b m path ≡ Fd.Refused r → q ≡ A.Refused r
+  step-refused r e = eq ∙ gives-refusal o b m path r e .1 j
 
 -- ---- one step: where the reader stands then
-module _ (b m path : List ℕ) (j k : ℕ) (ek : k ≡ Field.readerNext (Field.readerCount u48 b m path) j) where
-  stands : (n : ℕ) → Field.readerCount u48 b m path ≡ n → k ≡ Field.readerNext n j
+module _ (o : ℕ) (b m path : List ℕ) (j k : ℕ) (ek : k ≡ Field.readerNext (Field.readerCount o b m path) j) where
+  stands : (n : ℕ) → Field.readerCount o b m path ≡ n → k ≡ Field.readerNext n j
   stands n e = ek ∙ ap (λ (c : ℕ). Field.readerNext c j) e
 
-  pub next-moves : (i at start n left : ℕ) → LeadsToList u48 b m path i at start n left → j < n → k ≡ j + 1
+  pub next-moves : (i at start n left : ℕ) → LeadsToList o b m path i at start n left → j < n → k ≡ j + 1
   unfolding Field.readerNext
   next-moves i at start n left has h =
-      stands n (counts u48 b m path i at start n left (starts b m path i at start n left has)) ∙ ap (λ (t : Bool). pick t (j + 1) j) (lt-ltb j n h)
+      stands n (counts o b m path i at start n left (starts o b m path i at start n left has)) ∙ ap (λ (t : Bool). pick t (j + 1) j) (lt-ltb j n h)
 
-  pub next-stays : (i at start n left : ℕ) → LeadsToList u48 b m path i at start n left → n ≤ j → k ≡ j
+  pub next-stays : (i at start n left : ℕ) → LeadsToList o b m path i at start n left → n ≤ j → k ≡ j
   unfolding Field.readerNext
   next-stays i at start n left has h =
-      stands n (counts u48 b m path i at start n left (starts b m path i at start n left has)) ∙ ap (λ (t : Bool). pick t (j + 1) j) (le-ltb j n h)
+      stands n (counts o b m path i at start n left (starts o b m path i at start n left has)) ∙ ap (λ (t : Bool). pick t (j + 1) j) (le-ltb j n h)
 
-  next-refused : (r : Refusal) → Field.readerStart u48 b m path ≡ Fd.Refused r → k ≡ j
+  next-refused : (r : Refusal) → Field.readerStart o b m path ≡ Fd.Refused r → k ≡ j
   unfolding Field.readerNext
   next-refused r e =
-      stands 0 (gives-refusal u48 b m path r e .0) ∙ ap (λ (t : Bool). pick t (j + 1) j) (le-ltb j 0 (omega arith))
+      stands 0 (gives-refusal o b m path r e .0) ∙ ap (λ (t : Bool). pick t (j + 1) j) (le-ltb j 0 (omega arith))
 
 -- ---- one step: both
-module _ (b m path : List ℕ) (j : ℕ) (s : ListStep) (ea : s .answer ≡ Field.readerGives u48 b m path j)
-    (en : s .next ≡ Field.readerNext (Field.readerCount u48 b m path) j) where
+module _ (o : ℕ) (b m path : List ℕ) (j : ℕ) (s : ListStep) (ea : s .answer ≡ Field.readerGives o b m path j)
+    (en : s .next ≡ Field.readerNext (Field.readerCount o b m path) j) where
   both : (q : Answer) (k : ℕ) → s .answer ≡ q → s .next ≡ k → s ≡ record { answer = q; next = k }
   both q k e f = λ i. record { answer = e i; next = f i }
 
-  pub step-same : (element : List ℕ) (r : Answer) → r ≡ Field.field u48 b m element → (i at start n left : ℕ)
-      → LeadsToList u48 b m path i at start n left
+  pub step-same : (element : List ℕ) (r : Answer) → r ≡ Field.field o b m element → (i at start n left : ℕ)
+      → LeadsToList o b m path i at start n left
       → (element ≡ path ++ j ∷ [] → s .answer ≡ r) × (j < n → s .next ≡ j + 1)
   step-same element r er i at start n left has =
-      (steps-same b m path j (s .answer) ea element r er i at start n left has, next-moves b m path j (s .next) en i at start n left has)
+      (steps-same o b m path j (s .answer) ea element r er i at start n left has, next-moves o b m path j (s .next) en i at start n left has)
 
-  pub step-end : (i at start n left : ℕ) → LeadsToList u48 b m path i at start n left → n ≤ j → s ≡ record { answer = A.Refused (refusal 15 at); next = j }
+  pub step-end : (i at start n left : ℕ) → LeadsToList o b m path i at start n left → n ≤ j → s ≡ record { answer = A.Refused (refusal 15 at); next = j }
   step-end i at start n left has l =
-      both _ _ (steps-end b m path j (s .answer) ea i at start n left has l) (next-stays b m path j (s .next) en i at start n left has l)
+      both _ _ (steps-end o b m path j (s .answer) ea i at start n left has l) (next-stays o b m path j (s .next) en i at start n left has l)
 
-  refused : (r : Refusal) → Field.readerStart u48 b m path ≡ Fd.Refused r → s ≡ record { answer = A.Refused r; next = j }
-  refused r e = both _ _ (step-refused b m path j (s .answer) ea r e) (next-refused b m path j (s .next) en r e)
+  refused : (r : Refusal) → Field.readerStart o b m path ≡ Fd.Refused r → s ≡ record { answer = A.Refused r; next = j }
+  refused r e = both _ _ (step-refused o b m path j (s .answer) ea r e) (next-refused o b m path j (s .next) en r e)
 
-  pub step-own : (r : Refusal) → Field.field u48 b m path ≡ A.Refused r → s ≡ record { answer = A.Refused r; next = j }
-  step-own r e = refused r (refused-path u48 b m path r e)
+  pub step-own : (r : Refusal) → Field.field o b m path ≡ A.Refused r → s ≡ record { answer = A.Refused r; next = j }
+  step-own r e = refused r (refused-path o b m path r e)
 
-  pub step-other : ((r : Refusal) → Field.field u48 b m path ≡ A.Refused r → ⊥) → NoList (parse b) (Field.fieldFound u48 b m path)
+  pub step-other : ((r : Refusal) → Field.field o b m path ≡ A.Refused r → ⊥) → NoList (parse b) (Field.fieldFound o b m path)
       → s ≡ record { answer = A.Refused (refusal 15 0); next = j }
-  step-other free none = refused (refusal 15 0) (other b m path free none)
+  step-other free none = refused (refusal 15 0) (other o b m path free none)
 
 -- ---- a step of the reader
-module _ (r : ListReader) (q : Answer) (eq : q ≡ gives u48 r) (r′ : ListReader) (er : r′ ≡ after u48 r) where
+module _ (r : ListReader) (q : Answer) (eq : q ≡ gives r) (r′ : ListReader) (er : r′ ≡ after r) where
   abbrev step : ListStep
-  step = record { answer = q; next = after u48 r .element }
+  step = record { answer = q; next = after r .element }
 
   whole : (k : Answer) (j : ℕ) → step ≡ record { answer = k; next = j } → (q ≡ k) × (r′ ≡ atElement r j)
   whole k j e = (ap (λ (s : ListStep). s .answer) e, er ∙ ap (λ (s : ListStep). atElement r (s .next)) e)
@@ -136,40 +135,40 @@ module _ (r : ListReader) (q : Answer) (eq : q ≡ gives u48 r) (r′ : ListRead
     answers = eq;
     goes = er;
     moves = λ i at start n left l.
-        let e = step-same _ _ (now (r .path)) (r .element) step eq refl _ _ refl i at start n left l in
+        let e = step-same (r .width) _ _ (now (r .path)) (r .element) step eq refl _ _ refl i at start n left l in
         (e .0 refl, λ h. er ∙ ap (atElement r) (e .1 h));
-    stays = λ i at start n left l h. whole _ _ (step-end _ _ (now (r .path)) (r .element) step eq refl i at start n left l h);
-    own = λ x e. whole _ _ (step-own _ _ (now (r .path)) (r .element) step eq refl x e);
-    other = λ free none. whole _ _ (step-other _ _ (now (r .path)) (r .element) step eq refl free none);
+    stays = λ i at start n left l h. whole _ _ (step-end (r .width) _ _ (now (r .path)) (r .element) step eq refl i at start n left l h);
+    own = λ x e. whole _ _ (step-own (r .width) _ _ (now (r .path)) (r .element) step eq refl x e);
+    other = λ free none. whole _ _ (step-other (r .width) _ _ (now (r .path)) (r .element) step eq refl free none);
   }
 
 -- ---- many steps
-module _ (b m path : List ℕ) (from : ℕ) (out out′ : List ℕ) (r : ℕ) (er : r ≡ Field.readerCount u48 b m path)
-    (eo : out′ ≡ Field.readerOver u48 b m path from out) where
-  numbers : (k : ℕ) (q : Answer) → k < length out / 4 → Field.readerGives u48 b m path (from + k) ≡ q
+module _ (o : ℕ) (b m path : List ℕ) (from : ℕ) (out out′ : List ℕ) (r : ℕ) (er : r ≡ Field.readerCount o b m path)
+    (eo : out′ ≡ Field.readerOver o b m path from out) where
+  numbers : (k : ℕ) (q : Answer) → k < length out / 4 → Field.readerGives o b m path (from + k) ≡ q
       → take 4 (drop (4 * k) out′) ≡ Field.caseNumbers (Field.answerCase q)
   numbers k q h e =
       ap (λ (l : List ℕ). take 4 (drop (4 * k) l)) eo
-      ∙ over-gives u48 b m path from out k h
+      ∙ over-gives o b m path from out k h
       ∙ ap (λ (q : Answer). Field.caseNumbers (Field.answerCase q)) e
 
-  pub all-each : (i at start n left : ℕ) → LeadsToList u48 b m path i at start n left
-      → (r ≡ n) × HoldsAnswers out′ (length out / 4) (λ k. Field.field u48 b m (path ++ (from + k) ∷ []))
+  pub all-each : (i at start n left : ℕ) → LeadsToList o b m path i at start n left
+      → (r ≡ n) × HoldsAnswers out′ (length out / 4) (λ k. Field.field o b m (path ++ (from + k) ∷ []))
   all-each i at start n left has =
-      let e = starts b m path i at start n left has in (
-        er ∙ counts u48 b m path i at start n left e,
-        λ k h. numbers k _ h (gives-path u48 b m path i at start n left e (from + k)),
+      let e = starts o b m path i at start n left has in (
+        er ∙ counts o b m path i at start n left e,
+        λ k h. numbers k _ h (gives-path o b m path i at start n left e (from + k)),
       )
 
-  all-refused : (q : Refusal) → Field.readerStart u48 b m path ≡ Fd.Refused q
+  all-refused : (q : Refusal) → Field.readerStart o b m path ≡ Fd.Refused q
       → (r ≡ 0) × HoldsAnswers out′ (length out / 4) (λ _. A.Refused q)
   all-refused q e =
-      let y = gives-refusal u48 b m path q e in (er ∙ y .0, λ k h. numbers k _ h (y .1 (from + k)))
+      let y = gives-refusal o b m path q e in (er ∙ y .0, λ k h. numbers k _ h (y .1 (from + k)))
 
-  pub all-own : (q : Refusal) → Field.field u48 b m path ≡ A.Refused q
+  pub all-own : (q : Refusal) → Field.field o b m path ≡ A.Refused q
       → (r ≡ 0) × HoldsAnswers out′ (length out / 4) (λ _. A.Refused q)
-  all-own q e = all-refused q (refused-path u48 b m path q e)
+  all-own q e = all-refused q (refused-path o b m path q e)
 
-  pub all-other : ((q : Refusal) → Field.field u48 b m path ≡ A.Refused q → ⊥) → NoList (parse b) (Field.fieldFound u48 b m path)
+  pub all-other : ((q : Refusal) → Field.field o b m path ≡ A.Refused q → ⊥) → NoList (parse b) (Field.fieldFound o b m path)
       → (r ≡ 0) × HoldsAnswers out′ (length out / 4) (λ _. A.Refused (refusal 15 0))
-  all-other free none = all-refused (refusal 15 0) (other b m path free none)
+  all-other free none = all-refused (refusal 15 0) (other o b m path free none)

@@ -5,7 +5,6 @@ use mathlib.Core.Logic.{_⊎_}
 use Prim.Native.Nat.{ℕ, _<_, _≤_}
 use lib.ListN.{length, take, drop}
 use borrow.Author.Tests.{le-leb}
-use Rattle.coding.specs.Bytes.{u48}
 use Rattle.coding.specs.Packed.{parse}
 use Rattle.coding.specs.Walk.{refusal, spending, verdictAt, atZero, verdict}
 use Rattle.coding.specs.Value.{Value}
@@ -24,65 +23,65 @@ use Rattle.promises.proofs.Reading.{hands-out, read-or-room}
 use Rattle.promises.proofs.Writing.{made}
 
 -- ---- writing
-pub lays-out : (b s out : List ℕ) (a : WriteAnswer) → a ≡ writeAnswer u48 b s out → (out′ : List ℕ) → out′ ≡ writeOut u48 b s out → (v : Value)
-    → Writable u48 b s v → Fits (layoutOf u48 b v) out
-    → (a ≡ record { number = 0; length = length (layoutOf u48 b v) }) × (out′ ≡ layoutOf u48 b v ++ drop (length (layoutOf u48 b v)) out)
+pub lays-out : (o : ℕ) (b s out : List ℕ) (a : WriteAnswer) → a ≡ writeAnswer o b s out → (out′ : List ℕ) → out′ ≡ writeOut o b s out → (v : Value)
+    → Writable o b s v → Fits (layoutOf o b v) out
+    → (a ≡ record { number = 0; length = length (layoutOf o b v) }) × (out′ ≡ layoutOf o b v ++ drop (length (layoutOf o b v)) out)
 unfolding writeAnswer writeOut writeRoom writeOver
-lays-out b s out a ea out′ eo v w z =
-    let e = written-layout u48 b s v (w .0) (w .1) (w .2) .0 (z .0) in
-    let f = le-leb (length (messageOf u48 (parse b) v)) (length out) (z .1) in
+lays-out o b s out a ea out′ eo v w z =
+    let e = written-layout o b s v (w .0) (w .1) (w .2) .0 (z .0) in
+    let f = le-leb (length (messageOf o (parse b) v)) (length out) (z .1) in
     (ea ∙ rw (e, f), eo ∙ rw (e, f))
 
-pub lays-out-only : (b s out : List ℕ) (a : WriteAnswer) → a ≡ writeAnswer u48 b s out → (out′ : List ℕ) → out′ ≡ writeOut u48 b s out
-    → a .number ≡ 0 → WrittenAs u48 b s (take (a .length) out′)
-lays-out-only b s out a ea out′ eo h = written-as u48 b s (take (a .length) out′) (made b s out a ea out′ eo h)
+pub lays-out-only : (o : ℕ) (b s out : List ℕ) (a : WriteAnswer) → a ≡ writeAnswer o b s out → (out′ : List ℕ) → out′ ≡ writeOut o b s out
+    → a .number ≡ 0 → WrittenAs o b s (take (a .length) out′)
+lays-out-only o b s out a ea out′ eo h = written-as o b s (take (a .length) out′) (made o b s out a ea out′ eo h)
 
 -- ---- writing, then reading
-module _ (b s : List ℕ) (schema-bytes : AreBytes b) (sheet-bytes : AreBytes s) (room room′ : List ℕ) (w : WriteAnswer)
-    (ew : w ≡ writeAnswer u48 b s room) (er : room′ ≡ writeOut u48 b s room) (h : w .number ≡ 0) where
-  is-made : written u48 b s ≡ message (take (w .length) room′)
-  is-made = made b s room w ew room′ er h
+module _ (o : ℕ) (b s : List ℕ) (schema-bytes : AreBytes b) (sheet-bytes : AreBytes s) (room room′ : List ℕ) (w : WriteAnswer)
+    (ew : w ≡ writeAnswer o b s room) (er : room′ ≡ writeOut o b s room) (h : w .number ≡ 0) where
+  is-made : written o b s ≡ message (take (w .length) room′)
+  is-made = made o b s room w ew room′ er h
 
-  -- the rules give the sheet of which the message was made
-  pub trip-sheet : messageSheet u48 b (take (w .length) room′) ≡ s
-  trip-sheet = written-sheet u48 b s (take (w .length) room′) schema-bytes sheet-bytes is-made
+  -- the rules give the sheet o of which the message was made
+  pub trip-sheet : messageSheet o b (take (w .length) room′) ≡ s
+  trip-sheet = written-sheet o b s (take (w .length) room′) schema-bytes sheet-bytes is-made
 
-  module _ (budget : Budget) (out out′ : List ℕ) (a : ReadAnswer) (ea : a ≡ readAnswer u48 b (take (w .length) room′) budget out)
-      (eo : out′ ≡ readOut u48 b (take (w .length) room′) budget out) where
+  module _ (budget : Budget) (out out′ : List ℕ) (a : ReadAnswer) (ea : a ≡ readAnswer o b (take (w .length) room′) budget out)
+      (eo : out′ ≡ readOut o b (take (w .length) room′) budget out) where
     pub reads-back : enough b s ≤ budget .visits → length s ≤ length out
         → (a ≡ record { verdict = atZero 0 (spending (enough b s)); length = length s }) × (out′ ≡ s ++ drop (length s) out)
     reads-back l r = (
-      ea ∙ written-answer u48 b s (take (w .length) room′) schema-bytes sheet-bytes is-made budget out l r,
-      eo ∙ written-out u48 b s (take (w .length) room′) schema-bytes sheet-bytes is-made budget out l r,
+      ea ∙ written-answer o b s (take (w .length) room′) schema-bytes sheet-bytes is-made budget out l r,
+      eo ∙ written-out o b s (take (w .length) room′) schema-bytes sheet-bytes is-made budget out l r,
     )
 
     pub spends-all : budget .visits < enough b s
         → (at : ℕ) × (a ≡ record { verdict = verdictAt (refusal 4 at) (spending (budget .visits)); length = 0 }) × (out′ ≡ out)
     unfolding readAnswer readOut
     spends-all l =
-        let t = written-too-little u48 b s (take (w .length) room′) schema-bytes sheet-bytes is-made budget l in
+        let t = written-too-little o b s (take (w .length) room′) schema-bytes sheet-bytes is-made budget l in
         (t .0, ea ∙ rw (t .1), eo ∙ rw (t .1))
 
   -- ---- writing under the older schema, then reading by the newer
-  module _ (newer : List ℕ) (appends : Appends u48 b newer) where
-    pub same-verdict : (budget : Budget) (r q : Verdict) → r ≡ verdict u48 b (take (w .length) room′) budget → q ≡ verdict u48 newer (take (w .length) room′) budget
+  module _ (newer : List ℕ) (appends : Appends o b newer) where
+    pub same-verdict : (budget : Budget) (r q : Verdict) → r ≡ verdict o b (take (w .length) room′) budget → q ≡ verdict o newer (take (w .length) room′) budget
         → q ≡ r
     same-verdict budget r q e f =
-        f ∙ newer-agrees u48 b newer s (take (w .length) room′) schema-bytes sheet-bytes appends is-made .verdicts budget ∙ sym e
+        f ∙ newer-agrees o b newer s (take (w .length) room′) schema-bytes sheet-bytes appends is-made .verdicts budget ∙ sym e
 
-    pub added-sheet : messageSheet u48 newer (take (w .length) room′) ≡ sheetWith u48 b newer s
-    added-sheet = newer-agrees u48 b newer s (take (w .length) room′) schema-bytes sheet-bytes appends is-made .newer-sheet
+    pub added-sheet : messageSheet o newer (take (w .length) room′) ≡ sheetWith o b newer s
+    added-sheet = newer-agrees o b newer s (take (w .length) room′) schema-bytes sheet-bytes appends is-made .newer-sheet
 
-    module _ (budget : Budget) (out out′ : List ℕ) (a : ReadAnswer) (ea : a ≡ readAnswer u48 newer (take (w .length) room′) budget out)
-        (eo : out′ ≡ readOut u48 newer (take (w .length) room′) budget out) where
+    module _ (budget : Budget) (out out′ : List ℕ) (a : ReadAnswer) (ea : a ≡ readAnswer o newer (take (w .length) room′) budget out)
+        (eo : out′ ≡ readOut o newer (take (w .length) room′) budget out) where
       pub reads-added : enough b s ≤ budget .visits
           → ((a .verdict .number ≡ 0) ⊎ (a .verdict .number ≡ 14)) × (a .verdict .visits ≡ enough b s)
       reads-added l =
           let m = take (w .length) room′ in
-          let agrees = newer-agrees u48 b newer s m schema-bytes sheet-bytes appends is-made in
-          let v = agrees .verdicts budget ∙ written-verdict u48 b s m schema-bytes sheet-bytes is-made budget l in
-          let y = read-or-room newer m budget out a ea (ap (λ (x : Verdict). x .number) v) in
+          let agrees = newer-agrees o b newer s m schema-bytes sheet-bytes appends is-made in
+          let v = agrees .verdicts budget ∙ written-verdict o b s m schema-bytes sheet-bytes is-made budget l in
+          let y = read-or-room o newer m budget out a ea (ap (λ (x : Verdict). x .number) v) in
           (y .0, y .1 ∙ ap (λ (x : Verdict). x .visits) v)
 
-      pub hands-added : HandsOut a out′ (sheetWith u48 b newer s)
-      hands-added h = hands-out newer (take (w .length) room′) budget out a out′ ea eo h ∙ added-sheet
+      pub hands-added : HandsOut a out′ (sheetWith o b newer s)
+      hands-added h = hands-out o newer (take (w .length) room′) budget out a out′ ea eo h ∙ added-sheet

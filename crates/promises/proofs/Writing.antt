@@ -10,7 +10,7 @@ use lib.ListN.{length, take, drop, length-append}
 use lib.Seq.{take-append-seam, length-take-le}
 use lib.Dec.{leb}
 use Rattle.coding.specs.Lists.{pick}
-use Rattle.coding.specs.Bytes.{u48, deepest, largest}
+use Rattle.coding.specs.Bytes.{deepest, largest}
 use Rattle.coding.specs.Schema.{Schema}
 use Rattle.coding.specs.Packed.{parse}
 use Rattle.coding.specs.Lawful.{lawful}
@@ -26,22 +26,22 @@ abbrev Refuses : Written → Type 0
 Refuses (refused n) = 0 < n
 Refuses (message m) = Unit {0}
 
-tree-refuses : (S : Schema) (t : Option Value) → Refuses (writtenTree u48 S t)
+tree-refuses : (o : ℕ) (S : Schema) (t : Option Value) → Refuses (writtenTree o S t)
 unfolding writtenTree
-tree-refuses S Op.none = omega arith
-tree-refuses S (Op.some v) = by (writable deepest u48 S (O.Table (S .root)) v) (leb (length (messageOf u48 S v)) largest)
+tree-refuses o S Op.none = omega arith
+tree-refuses o S (Op.some v) = by (writable deepest o S (O.Table (S .root)) v) (leb (length (messageOf o S v)) largest)
   where
-    by : (s t : Bool) → Refuses (pick s (pick t (message (messageOf u48 S v)) (refused 13)) (refused 12))
+    by : (s t : Bool) → Refuses (pick s (pick t (message (messageOf o S v)) (refused 13)) (refused 12))
     by true true = tt
     by true false = omega arith
     by false t = omega arith
 
-writes-or-refuses : (b s : List ℕ) → Refuses (written u48 b s)
+writes-or-refuses : (o : ℕ) (b s : List ℕ) → Refuses (written o b s)
 unfolding written
-writes-or-refuses b s = by (lawful u48 b)
+writes-or-refuses o b s = by (lawful o b)
   where
-    by : (t : Bool) → Refuses (pick t (writtenTree u48 (parse b) (sheetTree (parse b) s)) (refused 1))
-    by true = tree-refuses (parse b) (sheetTree (parse b) s)
+    by : (t : Bool) → Refuses (pick t (writtenTree o (parse b) (sheetTree (parse b) s)) (refused 1))
+    by true = tree-refuses o (parse b) (sheetTree (parse b) s)
     by false = omega arith
 
 -- ---- number 0
@@ -83,20 +83,20 @@ room-kept (message m) out h = by (leb (length m) (length out)) h
     by true h = absurd (h refl)
     by false h = (refl, refl)
 
-module _ (b s out : List ℕ) (a : WriteAnswer) (ea : a ≡ writeAnswer u48 b s out) where
-  pub within-room : (out′ : List ℕ) → out′ ≡ writeOut u48 b s out → a .length ≤ length out′
+module _ (o : ℕ) (b s out : List ℕ) (a : WriteAnswer) (ea : a ≡ writeAnswer o b s out) where
+  pub within-room : (out′ : List ℕ) → out′ ≡ writeOut o b s out → a .length ≤ length out′
   unfolding writeAnswer writeOut
-  within-room out′ eo = rw (ea, eo) (room-length (written u48 b s) out)
+  within-room out′ eo = rw (ea, eo) (room-length (written o b s) out)
 
-  pub part-length : (out′ : List ℕ) → out′ ≡ writeOut u48 b s out → a .length ≡ length (take (a .length) out′)
+  pub part-length : (out′ : List ℕ) → out′ ≡ writeOut o b s out → a .length ≡ length (take (a .length) out′)
   part-length out′ eo = sym (length-take-le (a .length) out′ (within-room out′ eo))
 
-  pub made : (out′ : List ℕ) → out′ ≡ writeOut u48 b s out → a .number ≡ 0 → written u48 b s ≡ message (take (a .length) out′)
+  pub made : (out′ : List ℕ) → out′ ≡ writeOut o b s out → a .number ≡ 0 → written o b s ≡ message (take (a .length) out′)
   unfolding writeAnswer writeOut
   made out′ eo h =
-      rw (ea, eo) (room-made (written u48 b s) (writes-or-refuses b s) out (ap (λ (x : WriteAnswer). x .number) (sym ea) ∙ h))
+      rw (ea, eo) (room-made (written o b s) (writes-or-refuses o b s) out (ap (λ (x : WriteAnswer). x .number) (sym ea) ∙ h))
 
   -- "on refusal the length is 0 and the output is unchanged"
-  pub kept : (out′ : List ℕ) → out′ ≡ writeOut u48 b s out → KeepsOnRefusal (a .number) (a .length) out out′
+  pub kept : (out′ : List ℕ) → out′ ≡ writeOut o b s out → KeepsOnRefusal (a .number) (a .length) out out′
   unfolding writeAnswer writeOut
-  kept out′ eo h = rw (ea, eo) (room-kept (written u48 b s) out (λ z. h (ap (λ (x : WriteAnswer). x .number) ea ∙ z)))
+  kept out′ eo h = rw (ea, eo) (room-kept (written o b s) out (λ z. h (ap (λ (x : WriteAnswer). x .number) ea ∙ z)))

@@ -3,7 +3,6 @@ use Prim.Native.Nat.{ℕ, _+_, _<_, _≤_}
 use mathlib.Core.Path.{_≡_}
 use mathlib.Core.List.{[], _∷_, _++_}
 use denote.Ref.{now}
-use Rattle.coding.specs.Bytes.{u48}
 use Rattle.coding.specs.Walk.{refusal}
 use Rattle.coding.specs.Field.{field}
 use Rattle.coding.specs.declared.Answer.{Answer}
@@ -15,24 +14,24 @@ use Rattle.promises.specs.Words.{LeadsToList}
 
 -- the reader's path leads to "a list whose elements are of kinds 13 to 17": list i of the schema, of n elements, at a place
 abbrev pub listAt : ListReader → ℕ → ℕ → ℕ → ℕ → ℕ → Type 0
-listAt r i at start n left = LeadsToList u48 (now (r .schema)) (now (r .message)) (now (r .path)) i at start n left
+listAt r i at start n left = LeadsToList (r .width) (now (r .schema)) (now (r .message)) (now (r .path)) i at start n left
 
 -- the answer at the reader's path, and at its element's path
 abbrev pub pathField : ListReader → Answer
-pathField r = field u48 (now (r .schema)) (now (r .message)) (now (r .path))
+pathField r = field (r .width) (now (r .schema)) (now (r .message)) (now (r .path))
 
 abbrev pub elementField : ListReader → Answer
-elementField r = field u48 (now (r .schema)) (now (r .message)) (now (r .path) ++ r .element ∷ [])
+elementField r = field (r .width) (now (r .schema)) (now (r .message)) (now (r .path) ++ r .element ∷ [])
 
 -- the reader at another element
 abbrev pub atElement : ListReader → ℕ → ListReader
-atElement r j = record { schema = r .schema; message = r .message; path = r .path; element = j }
+atElement r j = record { schema = r .schema; message = r .message; path = r .path; element = j; width = r .width }
 
 -- what the papers demand of a step that answers q and leaves the reader r′
 pub record Stepped (r : ListReader) (q : Answer) (r′ : ListReader) : Type 0 where
   -- the answer and the reader after it are the definition's
-  pub answers : q ≡ gives u48 r
-  pub goes : r′ ≡ after u48 r
+  pub answers : q ≡ gives r
+  pub goes : r′ ≡ after r
   -- "Each step answers as that element's path would and moves on, refused or not"
   pub moves : (i at start n left : ℕ) → listAt r i at start n left → (q ≡ elementField r) × (r .element < n → r′ ≡ atElement r (r .element + 1))
   -- "after the last it answers 15 at the list and stays"

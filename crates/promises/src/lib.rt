@@ -17,7 +17,6 @@ ghost use mathlib.Core.Bool.{true};
 ghost use Prim.Native.Nat.{ℕ, _+_, _/_, _<_, _≤_};
 ghost use lib.ListN.{length, take, drop};
 ghost use Rattle.coding.specs.Append as Ap;
-ghost use Rattle.coding.specs.Bytes as B;
 ghost use Rattle.coding.specs.Field as F;
 ghost use Rattle.coding.specs.Message as M;
 ghost use Rattle.coding.specs.Value.{Value};
@@ -32,37 +31,37 @@ ghost use Rattle.promises.specs.Words.{given, after, Accepts, arrivals, 
 ghost use Rattle.promises.specs.Words.{entryAt, textAt, LeadsToList, HoldsAnswers, Writable, layoutOf};
 
 // Judging a message.
-pub fn judged(schema: &[u8], message: &[u8], budget: Budget) -> Verdict
+pub fn judged(schema: &[u8], message: &[u8], budget: Budget, o: usize) -> Verdict
     // "Judging answers number, place and visits", as the walk gives them, of refusals too
-    ensures whole { λ r. ⌜ r ≡ W.verdict B.u48 (given schema) (given message) budget ⌝ }
+    ensures whole { λ r. ⌜ r ≡ W.verdict o (given schema) (given message) budget ⌝ }
     // a message is accepted exactly when every object reached by its schema is lawful, within depth and budget
-    ensures exactly { λ r. ⌜ (r .number ≡ 0) ↔ LawfulMessage B.u48 (given schema) (given message) budget ⌝ }
+    ensures exactly { λ r. ⌜ (r .number ≡ 0) ↔ LawfulMessage o (given schema) (given message) budget ⌝ }
     // "visits in the verdict equal the arrivals of the walk's definition, shared objects counted each time"
-    ensures arrivals { λ r. ⌜ (r .number ≡ 0 → r .visits ≡ arrivals B.u48 (given schema) (given message)) ⌝ }
+    ensures arrivals { λ r. ⌜ (r .number ≡ 0 → r .visits ≡ arrivals o (given schema) (given message)) ⌝ }
 {
-    judge::judge(schema, message, budget)
+    judge::judge(schema, message, budget, o)
 }
 
 // Reading a message to a sheet.
-pub fn read(schema: &[u8], message: &[u8], budget: Budget, out: &mut [u8]) -> ReadAnswer
+pub fn read(schema: &[u8], message: &[u8], budget: Budget, out: &mut [u8], o: usize) -> ReadAnswer
     // the answer and the output are the definition's, of refusals too
-    ensures whole { λ r. ⌜ r ≡ M.readAnswer B.u48 (given schema) (given message) budget (given out) ⌝ }
-    ensures output { λ _. ⌜ after out ≡ M.readOut B.u48 (given schema) (given message) budget (given out) ⌝ }
+    ensures whole { λ r. ⌜ r ≡ M.readAnswer o (given schema) (given message) budget (given out) ⌝ }
+    ensures output { λ _. ⌜ after out ≡ M.readOut o (given schema) (given message) budget (given out) ⌝ }
     // a message is accepted exactly when every object reached by its schema is lawful, within depth and budget: number 0 comes
     // exactly then, if the sheet is within the size and the room
-    ensures exactly { λ r. ⌜ (r .verdict .number ≡ 0) ↔ ((LawfulMessage B.u48 (given schema) (given message) budget) × (Fits (M.messageSheet B.u48 (given schema) (given message)) (given out))) ⌝ }
+    ensures exactly { λ r. ⌜ (r .verdict .number ≡ 0) ↔ ((LawfulMessage o (given schema) (given message) budget) × (Fits (M.messageSheet o (given schema) (given message)) (given out))) ⌝ }
     // "visits in the verdict equal the arrivals of the walk's definition, shared objects counted each time"
-    ensures arrivals { λ r. ⌜ (r .verdict .number ≡ 0 → r .verdict .visits ≡ arrivals B.u48 (given schema) (given message)) ⌝ }
+    ensures arrivals { λ r. ⌜ (r .verdict .number ≡ 0 → r .verdict .visits ≡ arrivals o (given schema) (given message)) ⌝ }
     // "then 14 with the full visits"
-    ensures room { λ r. ⌜ (LawfulMessage B.u48 (given schema) (given message) budget → NoRoom (M.messageSheet B.u48 (given schema) (given message)) (given out) → r ≡ record { verdict = W.atZero 14 (W.spending (arrivals B.u48 (given schema) (given message))); length = 0 }) ⌝ }
+    ensures room { λ r. ⌜ (LawfulMessage o (given schema) (given message) budget → NoRoom (M.messageSheet o (given schema) (given message)) (given out) → r ≡ record { verdict = W.atZero 14 (W.spending (arrivals o (given schema) (given message))); length = 0 }) ⌝ }
     // "on refusal the length is 0 and the output is unchanged"
     ensures kept { λ r. ⌜ KeepsOnRefusal (r .verdict .number) (r .length) (given out) (after out) ⌝ }
     // what is handed out is the sheet of the rules
-    ensures sheet { λ r. ⌜ HandsOut r (after out) (M.messageSheet B.u48 (given schema) (given message)) ⌝ }
+    ensures sheet { λ r. ⌜ HandsOut r (after out) (M.messageSheet o (given schema) (given message)) ⌝ }
     // the sheet of an accepted message is lawful: what is handed out decodes to the values that the message holds
-    ensures lawful { λ r. ⌜ (r .verdict .number ≡ 0 → treeOf (given schema) (take (r .length) (after out)) ≡ some (values B.u48 (given schema) (given message))) ⌝ }
+    ensures lawful { λ r. ⌜ (r .verdict .number ≡ 0 → treeOf (given schema) (take (r .length) (after out)) ≡ some (values o (given schema) (given message))) ⌝ }
 {
-    sheet::read(schema, message, budget, out)
+    sheet::read(schema, message, budget, out, o)
 }
 
 // The verdicts of two schemas, of which the newer appends to the older.
@@ -72,15 +71,21 @@ pub struct Verdicts {
 }
 
 // Judging one message by two schemas.
-pub fn judged_by_both(older: &[u8], newer: &[u8], message: &[u8], budget: Budget) -> Verdicts
+pub fn judged_by_both(
+    older: &[u8],
+    newer: &[u8],
+    message: &[u8],
+    budget: Budget,
+    o: usize,
+) -> Verdicts
     // each verdict is the definition's
-    ensures by_older { λ r. ⌜ r .older ≡ W.verdict B.u48 (given older) (given message) budget ⌝ }
-    ensures by_newer { λ r. ⌜ r .newer ≡ W.verdict B.u48 (given newer) (given message) budget ⌝ }
+    ensures by_older { λ r. ⌜ r .older ≡ W.verdict o (given older) (given message) budget ⌝ }
+    ensures by_newer { λ r. ⌜ r .newer ≡ W.verdict o (given newer) (given message) budget ⌝ }
     // whatever bytes the newer accepts with a budget, the older accepts with the same budget
-    ensures accepts { λ r. ⌜ (Ap.Appends B.u48 (given older) (given newer) → r .newer .number ≡ 0 → (r .older .number ≡ 0) × (r .older .visits ≤ r .newer .visits)) ⌝ }
+    ensures accepts { λ r. ⌜ (Ap.Appends o (given older) (given newer) → r .newer .number ≡ 0 → (r .older .number ≡ 0) × (r .older .visits ≤ r .newer .visits)) ⌝ }
 {
-    let by_older = judge::judge(older, message, budget);
-    let by_newer = judge::judge(newer, message, budget);
+    let by_older = judge::judge(older, message, budget, o);
+    let by_newer = judge::judge(newer, message, budget, o);
     Verdicts {
         older: by_older,
         newer: by_newer,
@@ -101,22 +106,23 @@ pub fn read_by_both(
     budget: Budget,
     first: &mut [u8],
     second: &mut [u8],
+    o: usize,
 ) -> Sheets
     // each answer and each output is the definition's
-    ensures by_older { λ r. ⌜ r .older ≡ M.readAnswer B.u48 (given older) (given message) budget (given first) ⌝ }
-    ensures older_out { λ _. ⌜ after first ≡ M.readOut B.u48 (given older) (given message) budget (given first) ⌝ }
-    ensures by_newer { λ r. ⌜ r .newer ≡ M.readAnswer B.u48 (given newer) (given message) budget (given second) ⌝ }
-    ensures newer_out { λ _. ⌜ after second ≡ M.readOut B.u48 (given newer) (given message) budget (given second) ⌝ }
+    ensures by_older { λ r. ⌜ r .older ≡ M.readAnswer o (given older) (given message) budget (given first) ⌝ }
+    ensures older_out { λ _. ⌜ after first ≡ M.readOut o (given older) (given message) budget (given first) ⌝ }
+    ensures by_newer { λ r. ⌜ r .newer ≡ M.readAnswer o (given newer) (given message) budget (given second) ⌝ }
+    ensures newer_out { λ _. ⌜ after second ≡ M.readOut o (given newer) (given message) budget (given second) ⌝ }
     // what the newer accepts, its sheet having room or not, the older reads if the older's sheet has room
-    ensures accepts { λ r. ⌜ (Ap.Appends B.u48 (given older) (given newer) → Accepts B.u48 (given newer) (given message) budget → (r .older .verdict .number ≡ 0) ⊎ (r .older .verdict .number ≡ 14)) ⌝ }
+    ensures accepts { λ r. ⌜ (Ap.Appends o (given older) (given newer) → Accepts o (given newer) (given message) budget → (r .older .verdict .number ≡ 0) ⊎ (r .older .verdict .number ≡ 14)) ⌝ }
     // the older's sheet is the newer's sheet without the appended members, as bytes; "the rules give a sheet over the size too",
     // so the newer's sheet is the one of the rules, handed out or not
-    ensures without { λ r. ⌜ (Ap.Appends B.u48 (given older) (given newer) → Accepts B.u48 (given newer) (given message) budget → HandsOut (r .older) (after first) (Ap.sheetWithout (given older) (given newer) (M.messageSheet B.u48 (given newer) (given message)))) ⌝ }
+    ensures without { λ r. ⌜ (Ap.Appends o (given older) (given newer) → Accepts o (given newer) (given message) budget → HandsOut (r .older) (after first) (Ap.sheetWithout (given older) (given newer) (M.messageSheet o (given newer) (given message)))) ⌝ }
     // and where it is handed out, it stands in the second output
-    ensures handed { λ r. ⌜ HandsOut (r .newer) (after second) (M.messageSheet B.u48 (given newer) (given message)) ⌝ }
+    ensures handed { λ r. ⌜ HandsOut (r .newer) (after second) (M.messageSheet o (given newer) (given message)) ⌝ }
 {
-    let by_older = sheet::read(older, message, budget, first);
-    let by_newer = sheet::read(newer, message, budget, second);
+    let by_older = sheet::read(older, message, budget, first, o);
+    let by_newer = sheet::read(newer, message, budget, second, o);
     Sheets {
         older: by_older,
         newer: by_newer,
@@ -136,20 +142,21 @@ pub fn field_and_sheet(
     budget: Budget,
     path: &[u32],
     out: &mut [u8],
+    o: usize,
 ) -> FieldAndSheet
     // the field, the sheet's answer and the output are the definition's, at every path and of refusals too
-    ensures field { λ r. ⌜ r .field ≡ F.field B.u48 (given schema) (given message) (given path) ⌝ }
-    ensures sheet { λ r. ⌜ r .sheet ≡ M.readAnswer B.u48 (given schema) (given message) budget (given out) ⌝ }
-    ensures output { λ _. ⌜ after out ≡ M.readOut B.u48 (given schema) (given message) budget (given out) ⌝ }
+    ensures field { λ r. ⌜ r .field ≡ F.field o (given schema) (given message) (given path) ⌝ }
+    ensures sheet { λ r. ⌜ r .sheet ≡ M.readAnswer o (given schema) (given message) budget (given out) ⌝ }
+    ensures output { λ _. ⌜ after out ≡ M.readOut o (given schema) (given message) budget (given out) ⌝ }
     // "On an accepted message it equals the sheet's entry.": of the sheet that the rules give, handed out or not
-    ensures entry { λ r. ⌜ (Accepts B.u48 (given schema) (given message) budget → length (given path) ≤ 96 → shown (r .field) ≡ entryAt (given schema) (M.messageSheet B.u48 (given schema) (given message)) (given path)) ⌝ }
+    ensures entry { λ r. ⌜ (Accepts o (given schema) (given message) budget → length (given path) ≤ 96 → shown (r .field) ≡ entryAt (given schema) (M.messageSheet o (given schema) (given message)) (given path)) ⌝ }
     // and where it is handed out, it stands in the output
-    ensures handed { λ r. ⌜ HandsOut (r .sheet) (after out) (M.messageSheet B.u48 (given schema) (given message)) ⌝ }
+    ensures handed { λ r. ⌜ HandsOut (r .sheet) (after out) (M.messageSheet o (given schema) (given message)) ⌝ }
     // on an accepted message no refusal comes but 15
-    ensures refused { λ r. ⌜ (Accepts B.u48 (given schema) (given message) budget → length (given path) ≤ 96 → (q : Refusal) → r .field ≡ Answer.Refused q → q .number ≡ 15) ⌝ }
+    ensures refused { λ r. ⌜ (Accepts o (given schema) (given message) budget → length (given path) ≤ 96 → (q : Refusal) → r .field ≡ Answer.Refused q → q .number ≡ 15) ⌝ }
 {
-    let answer = field::field(schema, message, path);
-    let read = sheet::read(schema, message, budget, out);
+    let answer = field::field(schema, message, path, o);
+    let read = sheet::read(schema, message, budget, out, o);
     FieldAndSheet {
         field: answer,
         sheet: read,
@@ -169,24 +176,25 @@ pub fn text_and_sheet(
     budget: Budget,
     path: &[u32],
     out: &mut [u8],
+    o: usize,
 ) -> TextAndSheet
     // the part, the sheet's answer and the output are the definition's, at every path and of refusals too
-    ensures part { λ r. ⌜ r .text ≡ F.fieldSpan B.u48 (given schema) (given message) (given path) ⌝ }
-    ensures sheet { λ r. ⌜ r .sheet ≡ M.readAnswer B.u48 (given schema) (given message) budget (given out) ⌝ }
-    ensures output { λ _. ⌜ after out ≡ M.readOut B.u48 (given schema) (given message) budget (given out) ⌝ }
+    ensures part { λ r. ⌜ r .text ≡ F.fieldSpan o (given schema) (given message) (given path) ⌝ }
+    ensures sheet { λ r. ⌜ r .sheet ≡ M.readAnswer o (given schema) (given message) budget (given out) ⌝ }
+    ensures output { λ _. ⌜ after out ≡ M.readOut o (given schema) (given message) budget (given out) ⌝ }
     // the part lies in the message
     ensures within { λ r. ⌜ r .text .start + r .text .length ≤ length (given message) ⌝ }
     // "texts and bytes can be had as a part of the message": there is a part exactly where the field's answer is a text or bytes
-    ensures exactly { λ r. ⌜ (r .text .there ≡ true) ↔ ((k at n : ℕ) × (F.field B.u48 (given schema) (given message) (given path) ≡ Answer.Object k at n) × IsText k) ⌝ }
+    ensures exactly { λ r. ⌜ (r .text .there ≡ true) ↔ ((k at n : ℕ) × (F.field o (given schema) (given message) (given path) ≡ Answer.Object k at n) × IsText k) ⌝ }
     // and it has the answer's length
-    ensures long { λ r. ⌜ ((k at n : ℕ) → F.field B.u48 (given schema) (given message) (given path) ≡ Answer.Object k at n → IsText k → r .text .length ≡ n) ⌝ }
+    ensures long { λ r. ⌜ ((k at n : ℕ) → F.field o (given schema) (given message) (given path) ≡ Answer.Object k at n → IsText k → r .text .length ≡ n) ⌝ }
     // "On an accepted message it equals the sheet's entry.": it is the text of the sheet that the rules give, handed out or not
-    ensures text { λ r. ⌜ (Accepts B.u48 (given schema) (given message) budget → length (given path) ≤ 96 → F.textOf (given message) (r .text) ≡ textAt (given schema) (M.messageSheet B.u48 (given schema) (given message)) (given path)) ⌝ }
+    ensures text { λ r. ⌜ (Accepts o (given schema) (given message) budget → length (given path) ≤ 96 → F.textOf (given message) (r .text) ≡ textAt (given schema) (M.messageSheet o (given schema) (given message)) (given path)) ⌝ }
     // and where the sheet is handed out, it stands in the output
-    ensures handed { λ r. ⌜ HandsOut (r .sheet) (after out) (M.messageSheet B.u48 (given schema) (given message)) ⌝ }
+    ensures handed { λ r. ⌜ HandsOut (r .sheet) (after out) (M.messageSheet o (given schema) (given message)) ⌝ }
 {
-    let text = field::text_span(schema, message, path);
-    let read = sheet::read(schema, message, budget, out);
+    let text = field::text_span(schema, message, path, o);
+    let read = sheet::read(schema, message, budget, out, o);
     TextAndSheet { text, sheet: read }
 }
 
@@ -203,22 +211,23 @@ pub fn step_and_field(
     path: &[u32],
     element: usize,
     whole: &[u32],
+    o: usize,
 ) -> StepAndField
     // the step's answer, where the reader goes and the field are the definition's
-    ensures step { λ r. ⌜ r .step .answer ≡ F.readerGives B.u48 (given schema) (given message) (given path) element ⌝ }
-    ensures next { λ r. ⌜ r .step .next ≡ F.readerNext (F.readerCount B.u48 (given schema) (given message) (given path)) element ⌝ }
-    ensures field { λ r. ⌜ r .field ≡ F.field B.u48 (given schema) (given message) (given whole) ⌝ }
+    ensures step { λ r. ⌜ r .step .answer ≡ F.readerGives o (given schema) (given message) (given path) element ⌝ }
+    ensures next { λ r. ⌜ r .step .next ≡ F.readerNext (F.readerCount o (given schema) (given message) (given path)) element ⌝ }
+    ensures field { λ r. ⌜ r .field ≡ F.field o (given schema) (given message) (given whole) ⌝ }
     // "Each step answers as that element's path would and moves on, refused or not"
-    ensures same { λ r. ⌜ ((i at start n left : ℕ) → LeadsToList B.u48 (given schema) (given message) (given path) i at start n left → (given whole ≡ given path ++ element ∷ [] → r .step .answer ≡ r .field) × (element < n → r .step .next ≡ element + 1)) ⌝ }
+    ensures same { λ r. ⌜ ((i at start n left : ℕ) → LeadsToList o (given schema) (given message) (given path) i at start n left → (given whole ≡ given path ++ element ∷ [] → r .step .answer ≡ r .field) × (element < n → r .step .next ≡ element + 1)) ⌝ }
     // "after the last it answers 15 at the list and stays"
-    ensures end { λ r. ⌜ ((i at start n left : ℕ) → LeadsToList B.u48 (given schema) (given message) (given path) i at start n left → n ≤ element → r .step ≡ record { answer = Answer.Refused (W.refusal 15 at); next = element }) ⌝ }
+    ensures end { λ r. ⌜ ((i at start n left : ℕ) → LeadsToList o (given schema) (given message) (given path) i at start n left → n ≤ element → r .step ≡ record { answer = Answer.Refused (W.refusal 15 at); next = element }) ⌝ }
     // "a refused path gives its own refusal"
-    ensures own { λ r. ⌜ ((q : Refusal) → F.field B.u48 (given schema) (given message) (given path) ≡ Answer.Refused q → r .step ≡ record { answer = Answer.Refused q; next = element }) ⌝ }
+    ensures own { λ r. ⌜ ((q : Refusal) → F.field o (given schema) (given message) (given path) ≡ Answer.Refused q → r .step ≡ record { answer = Answer.Refused q; next = element }) ⌝ }
     // "any other answer is 15 at 0"
-    ensures other { λ r. ⌜ (((q : Refusal) → F.field B.u48 (given schema) (given message) (given path) ≡ Answer.Refused q → ⊥) → ((i at start n left : ℕ) → LeadsToList B.u48 (given schema) (given message) (given path) i at start n left → ⊥) → r .step ≡ record { answer = Answer.Refused (W.refusal 15 0); next = element }) ⌝ }
+    ensures other { λ r. ⌜ (((q : Refusal) → F.field o (given schema) (given message) (given path) ≡ Answer.Refused q → ⊥) → ((i at start n left : ℕ) → LeadsToList o (given schema) (given message) (given path) i at start n left → ⊥) → r .step ≡ record { answer = Answer.Refused (W.refusal 15 0); next = element }) ⌝ }
 {
-    let step = field_element::step(schema, message, path, element);
-    let answer = field::field(schema, message, whole);
+    let step = field_element::step(schema, message, path, element, o);
+    let answer = field::field(schema, message, whole, o);
     StepAndField {
         step,
         field: answer,
@@ -233,33 +242,40 @@ pub fn reader_step<'s, 'a, 'b, 'c>(r: &'s mut ListReader<'a, 'b, 'c>) -> Answer
 }
 
 // Many steps of the list reader at once.
-pub fn steps(schema: &[u8], message: &[u8], path: &[u32], from: usize, out: &mut [u64]) -> usize
+pub fn steps(
+    schema: &[u8],
+    message: &[u8],
+    path: &[u32],
+    from: usize,
+    out: &mut [u64],
+    o: usize,
+) -> usize
     // the count and the output are the definition's
-    ensures whole { λ r. ⌜ r ≡ F.readerCount B.u48 (given schema) (given message) (given path) ⌝ }
-    ensures output { λ _. ⌜ after out ≡ F.readerOver B.u48 (given schema) (given message) (given path) from (given out) ⌝ }
+    ensures whole { λ r. ⌜ r ≡ F.readerCount o (given schema) (given message) (given path) ⌝ }
+    ensures output { λ _. ⌜ after out ≡ F.readerOver o (given schema) (given message) (given path) from (given out) ⌝ }
     // the count is the list's, and each step has the numbers of the answer at the element's path
-    ensures each { λ r. ⌜ ((i at start n left : ℕ) → LeadsToList B.u48 (given schema) (given message) (given path) i at start n left → (r ≡ n) × (HoldsAnswers (after out) (length (given out) / 4) (λ k. F.field B.u48 (given schema) (given message) (given path ++ (from + k) ∷ [])))) ⌝ }
+    ensures each { λ r. ⌜ ((i at start n left : ℕ) → LeadsToList o (given schema) (given message) (given path) i at start n left → (r ≡ n) × (HoldsAnswers (after out) (length (given out) / 4) (λ k. F.field o (given schema) (given message) (given path ++ (from + k) ∷ [])))) ⌝ }
     // "a refused path gives its own refusal": each step has its numbers, and the count is 0
-    ensures own { λ r. ⌜ ((q : Refusal) → F.field B.u48 (given schema) (given message) (given path) ≡ Answer.Refused q → (r ≡ 0) × (HoldsAnswers (after out) (length (given out) / 4) (λ _. Answer.Refused q))) ⌝ }
+    ensures own { λ r. ⌜ ((q : Refusal) → F.field o (given schema) (given message) (given path) ≡ Answer.Refused q → (r ≡ 0) × (HoldsAnswers (after out) (length (given out) / 4) (λ _. Answer.Refused q))) ⌝ }
     // "any other answer is 15 at 0": the same
-    ensures other { λ r. ⌜ (((q : Refusal) → F.field B.u48 (given schema) (given message) (given path) ≡ Answer.Refused q → ⊥) → ((i at start n left : ℕ) → LeadsToList B.u48 (given schema) (given message) (given path) i at start n left → ⊥) → (r ≡ 0) × (HoldsAnswers (after out) (length (given out) / 4) (λ _. Answer.Refused (W.refusal 15 0)))) ⌝ }
+    ensures other { λ r. ⌜ (((q : Refusal) → F.field o (given schema) (given message) (given path) ≡ Answer.Refused q → ⊥) → ((i at start n left : ℕ) → LeadsToList o (given schema) (given message) (given path) i at start n left → ⊥) → (r ≡ 0) × (HoldsAnswers (after out) (length (given out) / 4) (λ _. Answer.Refused (W.refusal 15 0)))) ⌝ }
 {
-    field_list::read_list(schema, message, path, from, out)
+    field_list::read_list(schema, message, path, from, out, o)
 }
 
 // Writing a message of a sheet.
-pub fn written(schema: &[u8], sheet: &[u8], out: &mut [u8]) -> WriteAnswer
+pub fn written(schema: &[u8], sheet: &[u8], out: &mut [u8], o: usize) -> WriteAnswer
     // the answer and the output are the definition's, of refusals too
-    ensures whole { λ r. ⌜ r ≡ M.writeAnswer B.u48 (given schema) (given sheet) (given out) ⌝ }
-    ensures output { λ _. ⌜ after out ≡ M.writeOut B.u48 (given schema) (given sheet) (given out) ⌝ }
+    ensures whole { λ r. ⌜ r ≡ M.writeAnswer o (given schema) (given sheet) (given out) ⌝ }
+    ensures output { λ _. ⌜ after out ≡ M.writeOut o (given schema) (given sheet) (given out) ⌝ }
     // every writable sheet becomes the one message of the stated layout, within the size and given room
-    ensures every { λ r. ⌜ ((v : Value) → Writable B.u48 (given schema) (given sheet) v → Fits (layoutOf B.u48 (given schema) v) (given out) → (r ≡ record { number = 0; length = length (layoutOf B.u48 (given schema) v) }) × (after out ≡ layoutOf B.u48 (given schema) v ++ drop (length (layoutOf B.u48 (given schema) v)) (given out))) ⌝ }
+    ensures every { λ r. ⌜ ((v : Value) → Writable o (given schema) (given sheet) v → Fits (layoutOf o (given schema) v) (given out) → (r ≡ record { number = 0; length = length (layoutOf o (given schema) v) }) × (after out ≡ layoutOf o (given schema) v ++ drop (length (layoutOf o (given schema) v)) (given out))) ⌝ }
     // and nothing else is written
-    ensures only { λ r. ⌜ (r .number ≡ 0 → WrittenAs B.u48 (given schema) (given sheet) (take (r .length) (after out))) ⌝ }
+    ensures only { λ r. ⌜ (r .number ≡ 0 → WrittenAs o (given schema) (given sheet) (take (r .length) (after out))) ⌝ }
     // "on refusal the length is 0 and the output is unchanged"
     ensures kept { λ r. ⌜ KeepsOnRefusal (r .number) (r .length) (given out) (after out) ⌝ }
 {
-    write::write(schema, sheet, out)
+    write::write(schema, sheet, out, o)
 }
 
 // A message that was written, and what reading it gives.
@@ -275,22 +291,23 @@ pub fn write_then_read(
     room: &mut [u8],
     budget: Budget,
     out: &mut [u8],
+    o: usize,
 ) -> Trip
     // the answers, the room and the output are the definition's, of refusals too; what is read is what was written in the room
-    ensures written { λ r. ⌜ r .written ≡ M.writeAnswer B.u48 (given schema) (given sheet) (given room) ⌝ }
-    ensures message { λ _. ⌜ after room ≡ M.writeOut B.u48 (given schema) (given sheet) (given room) ⌝ }
-    ensures read { λ r. ⌜ r .read ≡ M.readAnswer B.u48 (given schema) (take (r .written .length) (after room)) budget (given out) ⌝ }
-    ensures output { λ r. ⌜ after out ≡ M.readOut B.u48 (given schema) (take (r .written .length) (after room)) budget (given out) ⌝ }
+    ensures written { λ r. ⌜ r .written ≡ M.writeAnswer o (given schema) (given sheet) (given room) ⌝ }
+    ensures message { λ _. ⌜ after room ≡ M.writeOut o (given schema) (given sheet) (given room) ⌝ }
+    ensures read { λ r. ⌜ r .read ≡ M.readAnswer o (given schema) (take (r .written .length) (after room)) budget (given out) ⌝ }
+    ensures output { λ r. ⌜ after out ≡ M.readOut o (given schema) (take (r .written .length) (after room)) budget (given out) ⌝ }
     // reading that message with enough budget gives the same sheet
     ensures same { λ r. ⌜ (r .written .number ≡ 0 → enough (given schema) (given sheet) ≤ budget .visits → length (given sheet) ≤ length (given out) → (r .read ≡ record { verdict = W.atZero 0 (W.spending (enough (given schema) (given sheet))); length = length (given sheet) }) × (after out ≡ given sheet ++ drop (length (given sheet)) (given out))) ⌝ }
     // the rules give that sheet of the message, with any budget and any room
-    ensures sheet { λ r. ⌜ (r .written .number ≡ 0 → M.messageSheet B.u48 (given schema) (take (r .written .length) (after room)) ≡ given sheet) ⌝ }
+    ensures sheet { λ r. ⌜ (r .written .number ≡ 0 → M.messageSheet o (given schema) (take (r .written .length) (after room)) ≡ given sheet) ⌝ }
     // with less the answer is 4, and the whole budget is spent
     ensures less { λ r. ⌜ (r .written .number ≡ 0 → budget .visits < enough (given schema) (given sheet) → (at : ℕ) × (r .read ≡ record { verdict = W.verdictAt (W.refusal 4 at) (W.spending (budget .visits)); length = 0 }) × (after out ≡ given out)) ⌝ }
 {
-    let written = write::write(schema, sheet, room);
+    let written = write::write(schema, sheet, room, o);
     let n = written.length;
-    let read = sheet::read(schema, &room[..n], budget, out);
+    let read = sheet::read(schema, &room[..n], budget, out, o);
     Trip { written, read }
 }
 
@@ -302,22 +319,23 @@ pub fn write_then_read_newer(
     room: &mut [u8],
     budget: Budget,
     out: &mut [u8],
+    o: usize,
 ) -> Trip
     // the answers, the room and the output are the definition's, of refusals too; what is read is what was written in the room
-    ensures written { λ r. ⌜ r .written ≡ M.writeAnswer B.u48 (given older) (given sheet) (given room) ⌝ }
-    ensures message { λ _. ⌜ after room ≡ M.writeOut B.u48 (given older) (given sheet) (given room) ⌝ }
-    ensures read { λ r. ⌜ r .read ≡ M.readAnswer B.u48 (given newer) (take (r .written .length) (after room)) budget (given out) ⌝ }
-    ensures output { λ r. ⌜ after out ≡ M.readOut B.u48 (given newer) (take (r .written .length) (after room)) budget (given out) ⌝ }
+    ensures written { λ r. ⌜ r .written ≡ M.writeAnswer o (given older) (given sheet) (given room) ⌝ }
+    ensures message { λ _. ⌜ after room ≡ M.writeOut o (given older) (given sheet) (given room) ⌝ }
+    ensures read { λ r. ⌜ r .read ≡ M.readAnswer o (given newer) (take (r .written .length) (after room)) budget (given out) ⌝ }
+    ensures output { λ r. ⌜ after out ≡ M.readOut o (given newer) (take (r .written .length) (after room)) budget (given out) ⌝ }
     // the newer reads the message with as many visits as the older, if its sheet has room
-    ensures accepts { λ r. ⌜ (Ap.Appends B.u48 (given older) (given newer) → r .written .number ≡ 0 → enough (given older) (given sheet) ≤ budget .visits → ((r .read .verdict .number ≡ 0) ⊎ (r .read .verdict .number ≡ 14)) × (r .read .verdict .visits ≡ enough (given older) (given sheet))) ⌝ }
+    ensures accepts { λ r. ⌜ (Ap.Appends o (given older) (given newer) → r .written .number ≡ 0 → enough (given older) (given sheet) ≤ budget .visits → ((r .read .verdict .number ≡ 0) ⊎ (r .read .verdict .number ≡ 14)) × (r .read .verdict .visits ≡ enough (given older) (given sheet))) ⌝ }
     // the newer's sheet is the older's with the added members, as bytes: what is handed out
-    ensures added { λ r. ⌜ (Ap.Appends B.u48 (given older) (given newer) → r .written .number ≡ 0 → HandsOut (r .read) (after out) (Ap.sheetWith B.u48 (given older) (given newer) (given sheet))) ⌝ }
+    ensures added { λ r. ⌜ (Ap.Appends o (given older) (given newer) → r .written .number ≡ 0 → HandsOut (r .read) (after out) (Ap.sheetWith o (given older) (given newer) (given sheet))) ⌝ }
     // and what the rules give of the message, with any budget and any room
-    ensures sheet { λ r. ⌜ (Ap.Appends B.u48 (given older) (given newer) → r .written .number ≡ 0 → M.messageSheet B.u48 (given newer) (take (r .written .length) (after room)) ≡ Ap.sheetWith B.u48 (given older) (given newer) (given sheet)) ⌝ }
+    ensures sheet { λ r. ⌜ (Ap.Appends o (given older) (given newer) → r .written .number ≡ 0 → M.messageSheet o (given newer) (take (r .written .length) (after room)) ≡ Ap.sheetWith o (given older) (given newer) (given sheet)) ⌝ }
 {
-    let written = write::write(older, sheet, room);
+    let written = write::write(older, sheet, room, o);
     let n = written.length;
-    let read = sheet::read(newer, &room[..n], budget, out);
+    let read = sheet::read(newer, &room[..n], budget, out, o);
     Trip { written, read }
 }
 
@@ -335,20 +353,21 @@ pub fn write_then_judge(
     sheet: &[u8],
     room: &mut [u8],
     budget: Budget,
+    o: usize,
 ) -> Judgements
     // the answer, the room and the verdicts are the definition's, of refusals too; what is judged is what was written in the room
-    ensures written { λ r. ⌜ r .written ≡ M.writeAnswer B.u48 (given older) (given sheet) (given room) ⌝ }
-    ensures message { λ _. ⌜ after room ≡ M.writeOut B.u48 (given older) (given sheet) (given room) ⌝ }
-    ensures by_older { λ r. ⌜ r .older ≡ W.verdict B.u48 (given older) (take (r .written .length) (after room)) budget ⌝ }
-    ensures by_newer { λ r. ⌜ r .newer ≡ W.verdict B.u48 (given newer) (take (r .written .length) (after room)) budget ⌝ }
+    ensures written { λ r. ⌜ r .written ≡ M.writeAnswer o (given older) (given sheet) (given room) ⌝ }
+    ensures message { λ _. ⌜ after room ≡ M.writeOut o (given older) (given sheet) (given room) ⌝ }
+    ensures by_older { λ r. ⌜ r .older ≡ W.verdict o (given older) (take (r .written .length) (after room)) budget ⌝ }
+    ensures by_newer { λ r. ⌜ r .newer ≡ W.verdict o (given newer) (take (r .written .length) (after room)) budget ⌝ }
     // whatever message the writer made under the older schema, the newer accepts with every budget with which the older does (and
     // gives the same visits): the whole verdict is the same
-    ensures same { λ r. ⌜ (Ap.Appends B.u48 (given older) (given newer) → r .written .number ≡ 0 → r .newer ≡ r .older) ⌝ }
+    ensures same { λ r. ⌜ (Ap.Appends o (given older) (given newer) → r .written .number ≡ 0 → r .newer ≡ r .older) ⌝ }
 {
-    let written = write::write(older, sheet, room);
+    let written = write::write(older, sheet, room, o);
     let n = written.length;
-    let by_older = judge::judge(older, &room[..n], budget);
-    let by_newer = judge::judge(newer, &room[..n], budget);
+    let by_older = judge::judge(older, &room[..n], budget, o);
+    let by_newer = judge::judge(newer, &room[..n], budget, o);
     Judgements {
         written,
         older: by_older,

@@ -1,4 +1,5 @@
-// The library's C interface: thin, no logic. include/scalgo.h declares it.
+// The library's C interface: thin, no logic. include/scalgo.h declares it. The number `coding` says the coding, 48 or 32; any other
+// names none, and no schema is lawful then.
 use coding::Budget;
 ghost use mathlib.Core.Path.{_≡_};
 ghost use Prim.Native.Nat.{_+_, _≤_};
@@ -12,17 +13,19 @@ ghost use Rattle.coding.specs.Walk as W;
 // Judges a message by a packed schema: answers the number, and stores place and visits.
 #[no_mangle]
 pub extern "C" fn scalgo_judge(
+    coding: u32,
     schema: &[u8],
     message: &[u8],
     budget: u32,
     place: &mut u64,
     visits: &mut u32,
 ) -> u32
-    ensures { λ r. ⌜ r ≡ W.verdict B.u48 (now (schema .entry)) (now (message .entry)) (record { visits = budget }) .number ⌝ }
-    ensures { λ _. ⌜ now (place .exit) ≡ W.verdict B.u48 (now (schema .entry)) (now (message .entry)) (record { visits = budget }) .place ⌝ }
-    ensures { λ _. ⌜ now (visits .exit) ≡ W.verdict B.u48 (now (schema .entry)) (now (message .entry)) (record { visits = budget }) .visits ⌝ }
+    ensures { λ r. ⌜ r ≡ W.verdict (B.widthOf coding) (now (schema .entry)) (now (message .entry)) (record { visits = budget }) .number ⌝ }
+    ensures { λ _. ⌜ now (place .exit) ≡ W.verdict (B.widthOf coding) (now (schema .entry)) (now (message .entry)) (record { visits = budget }) .place ⌝ }
+    ensures { λ _. ⌜ now (visits .exit) ≡ W.verdict (B.widthOf coding) (now (schema .entry)) (now (message .entry)) (record { visits = budget }) .visits ⌝ }
 {
-    let v = judge::judge(schema, message, Budget { visits: budget });
+    let o = wire::width_of(coding);
+    let v = judge::judge(schema, message, Budget { visits: budget }, o);
     *place = v.place as u64;
     *visits = v.visits;
     v.number as u32
@@ -31,6 +34,7 @@ pub extern "C" fn scalgo_judge(
 // One field's answer at a path: answers its case, and stores the case's three numbers.
 #[no_mangle]
 pub extern "C" fn scalgo_field(
+    coding: u32,
     schema: &[u8],
     message: &[u8],
     path: &[u32],
@@ -38,12 +42,13 @@ pub extern "C" fn scalgo_field(
     b: &mut u64,
     c: &mut u64,
 ) -> u32
-    ensures { λ r. ⌜ r ≡ F.answerCase (F.field B.u48 (now (schema .entry)) (now (message .entry)) (now (path .entry))) .case ⌝ }
-    ensures { λ _. ⌜ now (a .exit) ≡ F.answerCase (F.field B.u48 (now (schema .entry)) (now (message .entry)) (now (path .entry))) .a ⌝ }
-    ensures { λ _. ⌜ now (b .exit) ≡ F.answerCase (F.field B.u48 (now (schema .entry)) (now (message .entry)) (now (path .entry))) .b ⌝ }
-    ensures { λ _. ⌜ now (c .exit) ≡ F.answerCase (F.field B.u48 (now (schema .entry)) (now (message .entry)) (now (path .entry))) .c ⌝ }
+    ensures { λ r. ⌜ r ≡ F.answerCase (F.field (B.widthOf coding) (now (schema .entry)) (now (message .entry)) (now (path .entry))) .case ⌝ }
+    ensures { λ _. ⌜ now (a .exit) ≡ F.answerCase (F.field (B.widthOf coding) (now (schema .entry)) (now (message .entry)) (now (path .entry))) .a ⌝ }
+    ensures { λ _. ⌜ now (b .exit) ≡ F.answerCase (F.field (B.widthOf coding) (now (schema .entry)) (now (message .entry)) (now (path .entry))) .b ⌝ }
+    ensures { λ _. ⌜ now (c .exit) ≡ F.answerCase (F.field (B.widthOf coding) (now (schema .entry)) (now (message .entry)) (now (path .entry))) .c ⌝ }
 {
-    let answer = field::case_of(field::field(schema, message, path));
+    let o = wire::width_of(coding);
+    let answer = field::case_of(field::field(schema, message, path, o));
     *a = answer.a;
     *b = answer.b;
     *c = answer.c;
@@ -54,18 +59,20 @@ pub extern "C" fn scalgo_field(
 // part of the message starts and its length.
 #[no_mangle]
 pub extern "C" fn scalgo_text(
+    coding: u32,
     schema: &[u8],
     message: &[u8],
     path: &[u32],
     start: &mut u64,
     length: &mut u64,
 ) -> u32
-    ensures { λ r. ⌜ r ≡ pick (F.fieldSpan B.u48 (now (schema .entry)) (now (message .entry)) (now (path .entry)) .there) 1 0 ⌝ }
-    ensures { λ _. ⌜ now (start .exit) ≡ F.fieldSpan B.u48 (now (schema .entry)) (now (message .entry)) (now (path .entry)) .start ⌝ }
-    ensures { λ _. ⌜ now (length .exit) ≡ F.fieldSpan B.u48 (now (schema .entry)) (now (message .entry)) (now (path .entry)) .length ⌝ }
+    ensures { λ r. ⌜ r ≡ pick (F.fieldSpan (B.widthOf coding) (now (schema .entry)) (now (message .entry)) (now (path .entry)) .there) 1 0 ⌝ }
+    ensures { λ _. ⌜ now (start .exit) ≡ F.fieldSpan (B.widthOf coding) (now (schema .entry)) (now (message .entry)) (now (path .entry)) .start ⌝ }
+    ensures { λ _. ⌜ now (length .exit) ≡ F.fieldSpan (B.widthOf coding) (now (schema .entry)) (now (message .entry)) (now (path .entry)) .length ⌝ }
     ensures { λ _. ⌜ now (start .exit) + now (length .exit) ≤ N.length (now (message .entry)) ⌝ }
 {
-    let span = field::text_span(schema, message, path);
+    let o = wire::width_of(coding);
+    let span = field::text_span(schema, message, path, o);
     *start = span.start as u64;
     *length = span.length as u64;
     span.there as u32
@@ -75,21 +82,24 @@ pub extern "C" fn scalgo_text(
 // room for, and answers how many elements the list has.
 #[no_mangle]
 pub extern "C" fn scalgo_list(
+    coding: u32,
     schema: &[u8],
     message: &[u8],
     path: &[u32],
     from: u64,
     cases: &mut [u64],
 ) -> u64
-    ensures { λ r. ⌜ r ≡ F.readerCount B.u48 (now (schema .entry)) (now (message .entry)) (now (path .entry)) ⌝ }
-    ensures { λ _. ⌜ now (cases .exit) ≡ F.readerOver B.u48 (now (schema .entry)) (now (message .entry)) (now (path .entry)) from (now (cases .entry)) ⌝ }
+    ensures { λ r. ⌜ r ≡ F.readerCount (B.widthOf coding) (now (schema .entry)) (now (message .entry)) (now (path .entry)) ⌝ }
+    ensures { λ _. ⌜ now (cases .exit) ≡ F.readerOver (B.widthOf coding) (now (schema .entry)) (now (message .entry)) (now (path .entry)) from (now (cases .entry)) ⌝ }
 {
-    field_list::read_list(schema, message, path, from as usize, cases) as u64
+    let o = wire::width_of(coding);
+    field_list::read_list(schema, message, path, from as usize, cases, o) as u64
 }
 
 // Reads a message to its value sheet: answers the number, and stores place, visits and the sheet's length.
 #[no_mangle]
 pub extern "C" fn scalgo_read(
+    coding: u32,
     schema: &[u8],
     message: &[u8],
     budget: u32,
@@ -98,13 +108,14 @@ pub extern "C" fn scalgo_read(
     visits: &mut u32,
     length: &mut u64,
 ) -> u32
-    ensures { λ r. ⌜ r ≡ M.readAnswer B.u48 (now (schema .entry)) (now (message .entry)) (record { visits = budget }) (now (sheet .entry)) .verdict .number ⌝ }
-    ensures { λ _. ⌜ now (place .exit) ≡ M.readAnswer B.u48 (now (schema .entry)) (now (message .entry)) (record { visits = budget }) (now (sheet .entry)) .verdict .place ⌝ }
-    ensures { λ _. ⌜ now (visits .exit) ≡ M.readAnswer B.u48 (now (schema .entry)) (now (message .entry)) (record { visits = budget }) (now (sheet .entry)) .verdict .visits ⌝ }
-    ensures { λ _. ⌜ now (length .exit) ≡ M.readAnswer B.u48 (now (schema .entry)) (now (message .entry)) (record { visits = budget }) (now (sheet .entry)) .length ⌝ }
-    ensures { λ _. ⌜ now (sheet .exit) ≡ M.readOut B.u48 (now (schema .entry)) (now (message .entry)) (record { visits = budget }) (now (sheet .entry)) ⌝ }
+    ensures { λ r. ⌜ r ≡ M.readAnswer (B.widthOf coding) (now (schema .entry)) (now (message .entry)) (record { visits = budget }) (now (sheet .entry)) .verdict .number ⌝ }
+    ensures { λ _. ⌜ now (place .exit) ≡ M.readAnswer (B.widthOf coding) (now (schema .entry)) (now (message .entry)) (record { visits = budget }) (now (sheet .entry)) .verdict .place ⌝ }
+    ensures { λ _. ⌜ now (visits .exit) ≡ M.readAnswer (B.widthOf coding) (now (schema .entry)) (now (message .entry)) (record { visits = budget }) (now (sheet .entry)) .verdict .visits ⌝ }
+    ensures { λ _. ⌜ now (length .exit) ≡ M.readAnswer (B.widthOf coding) (now (schema .entry)) (now (message .entry)) (record { visits = budget }) (now (sheet .entry)) .length ⌝ }
+    ensures { λ _. ⌜ now (sheet .exit) ≡ M.readOut (B.widthOf coding) (now (schema .entry)) (now (message .entry)) (record { visits = budget }) (now (sheet .entry)) ⌝ }
 {
-    let answer = sheet::read(schema, message, Budget { visits: budget }, sheet);
+    let o = wire::width_of(coding);
+    let answer = sheet::read(schema, message, Budget { visits: budget }, sheet, o);
     let verdict = answer.verdict;
     *place = verdict.place as u64;
     *visits = verdict.visits;
@@ -115,16 +126,18 @@ pub extern "C" fn scalgo_read(
 // Writes a value sheet as a message: answers the number, and stores the message's length.
 #[no_mangle]
 pub extern "C" fn scalgo_write(
+    coding: u32,
     schema: &[u8],
     sheet: &[u8],
     message: &mut [u8],
     length: &mut u64,
 ) -> u32
-    ensures { λ r. ⌜ r ≡ M.writeAnswer B.u48 (now (schema .entry)) (now (sheet .entry)) (now (message .entry)) .number ⌝ }
-    ensures { λ _. ⌜ now (length .exit) ≡ M.writeAnswer B.u48 (now (schema .entry)) (now (sheet .entry)) (now (message .entry)) .length ⌝ }
-    ensures { λ _. ⌜ now (message .exit) ≡ M.writeOut B.u48 (now (schema .entry)) (now (sheet .entry)) (now (message .entry)) ⌝ }
+    ensures { λ r. ⌜ r ≡ M.writeAnswer (B.widthOf coding) (now (schema .entry)) (now (sheet .entry)) (now (message .entry)) .number ⌝ }
+    ensures { λ _. ⌜ now (length .exit) ≡ M.writeAnswer (B.widthOf coding) (now (schema .entry)) (now (sheet .entry)) (now (message .entry)) .length ⌝ }
+    ensures { λ _. ⌜ now (message .exit) ≡ M.writeOut (B.widthOf coding) (now (schema .entry)) (now (sheet .entry)) (now (message .entry)) ⌝ }
 {
-    let answer = write::write(schema, sheet, message);
+    let o = wire::width_of(coding);
+    let answer = write::write(schema, sheet, message, o);
     *length = answer.length as u64;
     answer.number as u32
 }

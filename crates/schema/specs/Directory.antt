@@ -6,12 +6,11 @@ use mathlib.Core.Bool.{Bool, true}
 use lib.ListN.{getD, length}
 use Rattle.coding.specs.Lists.{pick, every}
 use Rattle.coding.specs.Packed.{structCount, listCount, unionCount, tableCount, structPlace, unionPlace, tablePlace, blocks, records, parse}
-use Rattle.coding.specs.Bytes.{u48}
 use Rattle.coding.specs.Lawful.{blocksOk, structLawful, wellFormed, lawful}
 use Rattle.coding.specs.Structs.{structSize}
 use Rattle.laws.specs.Sound.{Sound}
-use Rattle.laws.specs.LawfulSound.{lawful-sound}
-use Rattle.laws.specs.Rules.{lawful-formed}
+use Rattle.laws.specs.LawfulSound.{formed-sound}
+use Rattle.wire.specs.Sizes.{Width}
 use Rattle.schema.specs.Representatives.{Representatives}
 
 -- n blocks were gone over, and their places stored from `base` on
@@ -64,21 +63,32 @@ pub record Represented (b dir : List ℕ) : Type 0 where
   pub sizes : Sizes b dir (structCount b)
   pub representatives : Representatives b dir (structCount b)
 
--- what a lawful schema with its directory gives to those who read a message by it
+-- what a well-formed schema with its directory gives to those who read a message by it
 pub record Accepted (b dir : List ℕ) : Type 0 where
   pub directory : Directory b dir
   pub sizes : Sizes b dir (structCount b)
   pub representatives : Representatives b dir (structCount b)
   pub bytes : (i : ℕ) → getD b i 0 < 256
-  pub lawful : lawful u48 b ≡ true
+  pub formed : wellFormed b ≡ true
 
 pub accepted-sound : (b dir : List ℕ) → Accepted b dir → Sound (parse b)
-accepted-sound b dir a = lawful-sound u48 b (a .bytes) (a .lawful)
+accepted-sound b dir a = formed-sound b (a .bytes) (a .formed)
 
 pub accepted-formed : (b dir : List ℕ) → Accepted b dir → wellFormed b ≡ true
-accepted-formed b dir a = lawful-formed u48 b (a .lawful)
+accepted-formed b dir a = a .formed
+
+-- an answer to whether the schema is well formed
+pub record FormJudged (b dir : List ℕ) (r : Bool) : Type 0 where
+  pub is : r ≡ wellFormed b
+  pub right : r ≡ true → Accepted b dir
+
+-- the schema is lawful under the coding whose offsets have o bytes
+pub record AcceptedUnder (o : ℕ) (b dir : List ℕ) : Type 0 where
+  pub accepted : Accepted b dir
+  pub width : Width o
+  pub lawful : lawful o b ≡ true
 
 -- the whole answer
-pub record Judged (b dir : List ℕ) (r : Bool) : Type 0 where
-  pub is : r ≡ Rattle.coding.specs.Lawful.lawful u48 b
-  pub right : r ≡ true → Accepted b dir
+pub record Judged (o : ℕ) (b dir : List ℕ) (r : Bool) : Type 0 where
+  pub is : r ≡ Rattle.coding.specs.Lawful.lawful o b
+  pub right : r ≡ true → AcceptedUnder o b dir

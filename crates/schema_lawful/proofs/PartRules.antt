@@ -2,21 +2,22 @@
 use mathlib.Core.Path.{_≡_, refl, sym, ap, _∙_}
 use mathlib.Core.Bool.{Bool, true, false, _&&_, not}
 use mathlib.Core.List.{List}
-use Prim.Native.Nat.{ℕ, _+_, _<_, _≤_}
+use Prim.Native.Nat.{ℕ, _+_, _%_, _<_, _≤_}
 use native.Mathlib.Omega.{arith}
 use lib.ListN.{getD}
-use borrow.Author.Tests.{not-true, not-false, eq-eqb, ne-eqb}
-use Rattle.coding.specs.Lists.{every}
+use lib.Dec.{eqb}
+use borrow.Author.Tests.{not-true, not-false, eq-eqb, ne-eqb, eqb-true}
+use Rattle.coding.specs.Lists.{every, pick}
 use Rattle.coding.specs.Packed as P
 use Rattle.coding.specs.Lawful as L
 use Rattle.laws.specs.Lists.{every-none, every-more, every-fail, never}
 use Rattle.laws.specs.Sound.{Sound}
-use Rattle.coding.specs.Bytes.{u48}
-use Rattle.laws.specs.LawfulSound.{lawful-sound}
-use Rattle.laws.specs.Rules.{lawful-48}
+use Rattle.coding.specs.Bytes.{u32, u48, widthKnown}
+use Rattle.laws.specs.LawfulSound.{formed-sound}
 use Rattle.schema_lawful.specs.declared.Part.{Part}
-use Rattle.schema_lawful.specs.declared.Part.the-variants.{Lists, Unions, Tables, Ids}
-use Rattle.schema.specs.Directory.{Directory, Placed, Block, StructsJudged, Represented, Judged}
+use Rattle.schema_lawful.specs.declared.Part.the-variants.{Lists, Unions, Tables, Ids, OlderLists, OlderTables}
+use Rattle.schema.specs.Directory.{Directory, Placed, Block, StructsJudged, Represented, Accepted, FormJudged, Judged}
+use Rattle.wire.specs.Sizes.{Width}
 use Rattle.schema_lawful.specs.Parts as Pa
 
 module _ (b : List ℕ) (i at : ℕ) (B : Block b 4 (P.tablePlace b i) at) (x : ℕ) (ex : x ≡ P.idAt b at) (j : ℕ) where
@@ -56,6 +57,14 @@ module _ (b : List ℕ) (part : Part) where
     unfolding Pa.partCount
     count-4 e h = simp e h
 
+    pub count-5 : part ≡ OlderLists → r ≡ getD b 1 0 → r ≡ Pa.partCount b part
+    unfolding Pa.partCount
+    count-5 e h = simp e h
+
+    pub count-6 : part ≡ OlderTables → r ≡ getD b 3 0 → r ≡ Pa.partCount b part
+    unfolding Pa.partCount
+    count-6 e h = simp e h
+
   module _ (i : ℕ) (r : Bool) where
     pub part-1 : part ≡ Lists → r ≡ L.listLawful b i → r ≡ Pa.partLawful b part i
     unfolding Pa.partLawful
@@ -73,6 +82,14 @@ module _ (b : List ℕ) (part : Part) where
     unfolding Pa.partLawful
     part-4 e h = simp e h
 
+    pub part-5 : part ≡ OlderLists → r ≡ L.olderElement b (P.listPlace b i) → r ≡ Pa.partLawful b part i
+    unfolding Pa.partLawful
+    part-5 e h = simp e h
+
+    pub part-6 : part ≡ OlderTables → r ≡ L.olderTable b i → r ≡ Pa.partLawful b part i
+    unfolding Pa.partLawful
+    part-6 e h = simp e h
+
   module _ (i : ℕ) (l : i < Pa.partCount b part) where
     pub in-lists : part ≡ Lists → i < P.listCount b
     unfolding Pa.partCount
@@ -89,6 +106,14 @@ module _ (b : List ℕ) (part : Part) where
     pub in-ids : part ≡ Ids → i < P.tableCount b
     unfolding Pa.partCount
     in-ids e = rw e at l
+
+    pub in-older-lists : part ≡ OlderLists → i < P.listCount b
+    unfolding Pa.partCount
+    in-older-lists e = rw e at l
+
+    pub in-older-tables : part ≡ OlderTables → i < P.tableCount b
+    unfolding Pa.partCount
+    in-older-tables e = rw e at l
 
   pub parts-none : every (Pa.partLawful b part) 0 ≡ true
   parts-none = every-none (Pa.partLawful b part)
@@ -125,46 +150,130 @@ module _ (b : List ℕ) (r₁ : Bool) (e₁ : r₁ ≡ Pa.partsLawful b Lists) w
       unfolding Pa.restLawful
       rules-4 h r e = simp (← e₁, not-false r₁ h₁, ← e₂, not-false r₂ h₂, ← e₃, not-false r₃ h) e
 
+-- ---- what the older coding asks
+module _ (b : List ℕ) (at k : ℕ) (ek : k ≡ P.kindAt b at) where
+  pub older-union : k ≡ 17 → (r : Bool) → r ≡ P.inplaceAt b at → r ≡ L.olderMember b at
+  unfolding L.olderMember
+  older-union h r e = simp (← ek, eq-eqb k 17 h) e
+
+  module _ (h : k ≡ 17 → ⊥) where
+    pub older-held : k ≡ 16 → (r : Bool) → r ≡ P.inplaceAt b at → not r ≡ L.olderMember b at
+    unfolding L.olderMember
+    older-held g r e = simp (← ek, ne-eqb k 17 h, eq-eqb k 16 g) (ap not e)
+
+    pub older-other : (k ≡ 16 → ⊥) → true ≡ L.olderMember b at
+    unfolding L.olderMember
+    older-other g = simp (← ek, ne-eqb k 17 h, ne-eqb k 16 g)
+
+pub older-element : (b : List ℕ) (i at k : ℕ) → at ≡ P.listPlace b i → k ≡ P.kindAt b at → (t : Bool) → t ≡ eqb k 17
+    → not t ≡ L.olderElement b (P.listPlace b i)
+unfolding L.olderElement
+older-element b i at k ea ek t et = rw (← ea, ← ek, ← et)
+
+-- the members of a table, one after another
+unfoldable pub olderFirst : List ℕ → ℕ → ℕ → Bool
+olderFirst b at n = every (λ j. L.olderMember b (P.recordPlace 4 at j)) n
+
+pub older-none : (b : List ℕ) (at : ℕ) → olderFirst b at 0 ≡ true
+unfolding olderFirst
+older-none b at = every-none _
+
+module _ (b : List ℕ) (i at : ℕ) (B : Block b 4 (P.tablePlace b i) at) (n j : ℕ) (en : n ≡ P.records b 4 at) where
+  pub older-done : j ≤ n → n ≤ j → olderFirst b at j ≡ true → true ≡ L.olderTable b i
+  unfolding L.olderTable olderFirst
+  older-done l m e = let z : j ≡ n = omega arith in rw (← (B .is), ← en, ← z) (sym e)
+
+  module _ (l : j < n) (q : ℕ) (eq : q ≡ P.recordPlace 4 at j) (r : Bool) (er : r ≡ L.olderMember b q) where
+    pub older-fail : not r ≡ true → false ≡ L.olderTable b i
+    unfolding L.olderTable
+    older-fail h =
+        rw (← (B .is))
+        (sym (every-fail (λ k. L.olderMember b (P.recordPlace 4 at k)) (P.records b 4 at) j (omega arith) (ap (L.olderMember b) (sym eq) ∙ sym er ∙ not-true r h)))
+
+    pub older-more : not r ≡ false → olderFirst b at j ≡ true → olderFirst b at (j + 1) ≡ true
+    unfolding olderFirst
+    older-more h e = every-more (λ k. L.olderMember b (P.recordPlace 4 at k)) j e (ap (L.olderMember b) (sym eq) ∙ sym er ∙ not-false r h)
+
+module _ (b : List ℕ) (r₁ : Bool) (e₁ : r₁ ≡ Pa.partsLawful b OlderLists) where
+  pub older-1 : not r₁ ≡ true → false ≡ L.olderOk b
+  unfolding L.olderOk Pa.partsLawful Pa.partLawful Pa.partCount
+  older-1 h = simp (← e₁, not-true r₁ h)
+
+  pub older-2 : not r₁ ≡ false → (r : Bool) → r ≡ Pa.partsLawful b OlderTables → r ≡ L.olderOk b
+  unfolding L.olderOk Pa.partsLawful Pa.partLawful Pa.partCount
+  older-2 h r e = simp (← e₁, not-false r₁ h) e
+
 -- ---- the whole
-parts-of : (b : List ℕ) → L.lawful u48 b ≡ (L.shapeOk b && (every (L.structLawful b) (P.structCount b) && Pa.restLawful b))
+parts-of : (b : List ℕ) → L.wellFormed b ≡ (L.shapeOk b && (every (L.structLawful b) (P.structCount b) && Pa.restLawful b))
 unfolding L.wellFormed L.rulesOk Pa.restLawful Pa.partsLawful Pa.partLawful Pa.partCount
-parts-of b = lawful-48 b
+parts-of b = refl
 
 module _ (b dir : List ℕ) (g : Bool) (s : Placed b dir (L.shapeOk b) g) where
-  pub judged-1 : not g ≡ true → Judged b dir false
-  judged-1 h = record { is = rw (parts-of b) (simp (← (s .is), not-true g h)); right = never }
+  pub formed-1 : not g ≡ true → FormJudged b dir false
+  formed-1 h = record { is = rw (parts-of b) (simp (← (s .is), not-true g h)); right = never }
 
   module _ (h : not g ≡ false) where
     pub shaped : Directory b dir
     shaped = s .right (not-false g h)
 
     module _ (d : List ℕ) (r : Bool) (z : StructsJudged b d r) where
-      pub judged-2 : not r ≡ true → Judged b d false
-      judged-2 q = record { is = rw (parts-of b) (simp (← (s .is), not-false g h, ← (z .is), not-true r q)); right = never }
+      pub formed-2 : not r ≡ true → FormJudged b d false
+      formed-2 q = record { is = rw (parts-of b) (simp (← (s .is), not-false g h, ← (z .is), not-true r q)); right = never }
 
       module _ (q : not r ≡ false) (t : Bool) (e : t ≡ Pa.restLawful b) where
-        is : t ≡ L.lawful u48 b
+        is : t ≡ L.wellFormed b
         is = rw (parts-of b) (simp (← (s .is), not-false g h, ← (z .is), not-false r q) e)
 
-        pub judged-3 : not t ≡ true → Judged b d false
-        judged-3 w = record { is = sym (not-true t w) ∙ is; right = never }
+        pub formed-3 : not t ≡ true → FormJudged b d false
+        formed-3 w = record { is = sym (not-true t w) ∙ is; right = never }
 
         module _ (w : not t ≡ false) (bytes : (i : ℕ) → getD b i 0 < 256) where
-          lawful : L.lawful u48 b ≡ true
-          lawful = sym is ∙ not-false t w
+          formed : L.wellFormed b ≡ true
+          formed = sym is ∙ not-false t w
 
-          pub judged-sound : Sound (P.parse b)
-          judged-sound = lawful-sound u48 b bytes lawful
+          pub formed-sound-of : Sound (P.parse b)
+          formed-sound-of = formed-sound b bytes formed
 
-          pub judged-4 : (d′ : List ℕ) → Represented b d′ → Judged b d′ true
-          judged-4 d′ R =
+          pub formed-4 : (d′ : List ℕ) → Represented b d′ → FormJudged b d′ true
+          formed-4 d′ R =
               record {
-                is = sym lawful;
+                is = sym formed;
                 right = λ q. record {
                   directory = R .directory;
                   sizes = R .sizes;
                   representatives = R .representatives;
                   bytes = bytes;
-                  lawful = lawful;
+                  formed = formed;
                 };
               }
+
+-- ---- under a coding
+pub formed-accepted : (b dir : List ℕ) (t : Bool) → FormJudged b dir t → not t ≡ false → Accepted b dir
+formed-accepted b dir t j h = j .right (not-false t h)
+
+module _ (o : ℕ) (b dir : List ℕ) where
+  pub judged-unformed : (t : Bool) → FormJudged b dir t → not t ≡ true → Judged o b dir false
+  unfolding L.lawful
+  judged-unformed t j h = record { is = by (widthKnown o) (L.wellFormed b) (sym (j .is) ∙ not-true t h); right = never }
+    where
+      by : (k w : Bool) → w ≡ false → false ≡ (k && (w && pick (eqb o u32) (L.olderOk b) true))
+      by true w e = simp e
+      by false w e = refl
+
+  module _ (a : Accepted b dir) where
+    under : (r : Bool) → r ≡ L.lawful o b → (r ≡ true → Width o) → Judged o b dir r
+    under r e w = record { is = e; right = λ q. record { accepted = a; width = w q; lawful = sym e ∙ q } }
+
+    pub judged-32 : o ≡ 4 → (r : Bool) → r ≡ L.olderOk b → Judged o b dir r
+    unfolding L.lawful widthKnown u32
+    judged-32 h r e = under r (simp (eq-eqb o 4 h, a .formed) e) (λ q. (omega arith, omega arith, omega arith))
+
+    pub judged-48 : (o ≡ 4 → ⊥) → (r : Bool) → r ≡ eqb o 6 → Judged o b dir r
+    unfolding L.lawful widthKnown u32 u48
+    judged-48 h r e =
+        under r (simp (ne-eqb o 4 h, a .formed) (e ∙ same (eqb o 6)))
+        (λ q. let z : o ≡ 6 = eqb-true o 6 (sym e ∙ q) in (omega arith, omega arith, omega arith))
+      where
+        same : (x : Bool) → x ≡ (x && true)
+        same true = refl
+        same false = refl

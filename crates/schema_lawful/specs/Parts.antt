@@ -1,24 +1,28 @@
--- The rules of lists, unions, tables and ids, each at every index of its part.
+-- The rules of lists, unions, tables and ids, and what the older coding asks, each at every index of its part.
 use Prim.Native.Nat.{ℕ}
 use mathlib.Core.List.{List}
 use mathlib.Core.Bool.{Bool, _&&_}
 use Rattle.coding.specs.Lists.{every}
-use Rattle.coding.specs.Packed.{listCount, unionCount, tableCount}
-use Rattle.coding.specs.Lawful.{listLawful, unionLawful, tableLawful, idLawful}
+use Rattle.coding.specs.Packed.{listCount, unionCount, tableCount, listPlace}
+use Rattle.coding.specs.Lawful.{listLawful, unionLawful, tableLawful, idLawful, olderElement, olderTable}
 use Rattle.schema_lawful.specs.declared.Part.{Part}
-use Rattle.schema_lawful.specs.declared.Part.the-variants.{Lists, Unions, Tables, Ids}
+use Rattle.schema_lawful.specs.declared.Part.the-variants.{Lists, Unions, Tables, Ids, OlderLists, OlderTables}
 
 unfoldable pub partCount : List ℕ → Part → ℕ
 partCount b Lists = listCount b
 partCount b Unions = unionCount b
 partCount b Tables = tableCount b
 partCount b Ids = tableCount b
+partCount b OlderLists = listCount b
+partCount b OlderTables = tableCount b
 
 unfoldable pub partLawful : List ℕ → Part → ℕ → Bool
 partLawful b Lists = listLawful b
 partLawful b Unions = unionLawful b
 partLawful b Tables = tableLawful b
 partLawful b Ids = idLawful b
+partLawful b OlderLists = λ i. olderElement b (listPlace b i)
+partLawful b OlderTables = olderTable b
 
 -- all of a part
 unfoldable pub partsLawful : List ℕ → Part → Bool

@@ -1,13 +1,13 @@
 // Whether bytes are a lawful schema.
 ghost use mathlib.Core.Path.{_≡_};
-ghost use Prim.Native.Nat.{_<_};
+ghost use Prim.Native.Nat.{_+_, _<_};
 ghost use lib.ListN.{length};
 ghost use Rattle.coding.specs.Packed as P;
 ghost use Rattle.coding.specs.Lawful as L;
-ghost use Rattle.schema.specs.Directory.{Directory, Judged};
+ghost use Rattle.schema.specs.Directory.{Directory, Accepted, FormJudged, Judged};
 ghost use Rattle.schema_lawful.specs.Parts as Pa;
 
-// ---- the rules of ids, and of all parts
+// ---- the rule of ids
 // Whether no table before table i has its id.
 fn id_ok(b: &[u8], dir: &[u16], i: usize) -> bool
     requires { ⌜ (Directory (now b) (now dir)) × (i < P.tableCount (now b)) ⌝ }
@@ -24,12 +24,56 @@ fn id_ok(b: &[u8], dir: &[u16], i: usize) -> bool
     true
 }
 
-// What the rules go over once the structs are judged.
+// ---- what the older coding asks beyond the rules
+// Whether the older coding has the table member whose record stands at `at`: a union is in place, a table is not.
+fn older_member(b: &[u8], at: usize) -> bool
+    requires { ⌜ at + 1 < length (now b) ⌝ }
+    ensures { λ r. ⌜ r ≡ L.olderMember (now (b .entry)) at ⌝ }
+{
+    let k = schema::kind_at(b, at);
+    if k == schema::KIND_UNION {
+        return schema::inplace_at(b, at);
+    }
+    if k == schema::KIND_TABLE {
+        return !schema::inplace_at(b, at);
+    }
+    true
+}
+
+// Whether it has list i: the element is no union.
+fn older_list(b: &[u8], dir: &[u16], i: usize) -> bool
+    requires { ⌜ (Directory (now b) (now dir)) × (i < P.listCount (now b)) ⌝ }
+    ensures { λ r. ⌜ r ≡ L.olderElement (now (b .entry)) (P.listPlace (now (b .entry)) i) ⌝ }
+{
+    !schema::is_union_kind(schema::kind_at(b, schema::list_place(b, dir, i)))
+}
+
+// Whether it has every member of table i.
+fn older_table(b: &[u8], dir: &[u16], i: usize) -> bool
+    requires { ⌜ (Directory (now b) (now dir)) × (i < P.tableCount (now b)) ⌝ }
+    ensures { λ r. ⌜ r ≡ L.olderTable (now (b .entry)) i ⌝ }
+{
+    let at = schema::table_place(b, dir, i);
+    let n = schema::records(b, schema::TABLE_HEAD, at);
+    let mut j: usize = 0;
+    while j < n {
+        if !older_member(b, schema::record_place(schema::TABLE_HEAD, at, j)) {
+            return false;
+        }
+        j += 1;
+    }
+    true
+}
+
+// ---- part by part
+// What the rules go over once the structs are judged, and the older coding once the rules are met.
 enum Part {
     Lists,
     Unions,
     Tables,
     Ids,
+    OlderLists,
+    OlderTables,
 }
 
 // How many there are of a part.
@@ -41,6 +85,8 @@ fn part_count(b: &[u8], part: Part) -> usize
         Part::Unions => schema::count(b, schema::UNIONS),
         Part::Tables => schema::count(b, schema::TABLES),
         Part::Ids => schema::count(b, schema::TABLES),
+        Part::OlderLists => schema::count(b, schema::LISTS),
+        Part::OlderTables => schema::count(b, schema::TABLES),
     }
 }
 
@@ -54,6 +100,8 @@ fn part_ok(b: &[u8], dir: &[u16], part: Part, i: usize) -> bool
         Part::Unions => schema_rules::union_ok(b, dir, i),
         Part::Tables => schema_rules::table_ok(b, dir, i),
         Part::Ids => id_ok(b, dir, i),
+        Part::OlderLists => older_list(b, dir, i),
+        Part::OlderTables => older_table(b, dir, i),
     }
 }
 
@@ -90,11 +138,23 @@ fn rules(b: &[u8], dir: &[u16]) -> bool
     parts_ok(b, dir, Part::Ids)
 }
 
+// Whether the older coding has all lists and tables.
+fn older(b: &[u8], dir: &[u16]) -> bool
+    requires { ⌜ Directory (now b) (now dir) ⌝ }
+    ensures { λ r. ⌜ r ≡ L.olderOk (now (b .entry)) ⌝ }
+{
+    if !parts_ok(b, dir, Part::OlderLists) {
+        return false;
+    }
+    parts_ok(b, dir, Part::OlderTables)
+}
+
 // ---- the whole schema
-// Whether the bytes are a lawful schema; where they are, the directory says where everything stands.
-pub fn judge_schema(b: &[u8], dir: &mut [u16]) -> bool
+// Whether the bytes are a schema by the rules that hold under both codings; where they are, the directory says where everything
+// stands.
+fn well_formed(b: &[u8], dir: &mut [u16]) -> bool
     requires { ⌜ length (now dir) ≡ 384 ⌝ }
-    ensures { λ r. ⌜ Judged (now (b .entry)) (now (dir .exit)) r ⌝ }
+    ensures { λ r. ⌜ FormJudged (now (b .entry)) (now (dir .exit)) r ⌝ }
 {
     if !schema_shape::shape(b, dir) {
         return false;
@@ -107,4 +167,26 @@ pub fn judge_schema(b: &[u8], dir: &mut [u16]) -> bool
     }
     schema_structs::store_representatives(b, dir);
     true
+}
+
+// Whether the coding of width o has all of the schema. There is no coding of another width than the two.
+fn coding_has(b: &[u8], dir: &[u16], o: usize) -> bool
+    requires { ⌜ Accepted (now b) (now dir) ⌝ }
+    ensures { λ r. ⌜ Judged o (now (b .entry)) (now (dir .entry)) r ⌝ }
+{
+    if o == wire::U32 {
+        return older(b, dir);
+    }
+    o == wire::U48
+}
+
+// Whether the bytes are a lawful schema under the coding of width o; where they are, the directory says where everything stands.
+pub fn judge_schema(b: &[u8], dir: &mut [u16], o: usize) -> bool
+    requires { ⌜ length (now dir) ≡ 384 ⌝ }
+    ensures { λ r. ⌜ Judged o (now (b .entry)) (now (dir .exit)) r ⌝ }
+{
+    if !well_formed(b, dir) {
+        return false;
+    }
+    coding_has(b, dir, o)
 }

@@ -7,7 +7,8 @@ use mathlib.Core.List.{List}
 use lib.ListN.{getD}
 use lib.Dec.{eqb}
 use lib.Bits.{bitAnd, bitOr, and-mask, mask-lt}
-use Rattle.coding.specs.Bytes.{le, bitAt, u48}
+use Rattle.coding.specs.Bytes.{le, bitAt, u32, u48, widthOf}
+use borrow.Author.Tests.{eq-eqb, ne-eqb}
 use Rattle.wire.specs.Numbers.{Number, number-none, number-push}
 
 pub bit-is : (x k w : ℕ) → w ≡ x → bitAnd (w / 2 ^ k) 1 ≡ x / 2 ^ k % 2
@@ -39,11 +40,31 @@ number-all m at w i v l n =
 pub number-at : (m : List ℕ) (at w n r : ℕ) → w ≡ n → Number m at n r → Number m at w r
 number-at m at w n r e h = rw e h
 
--- an offset is a number of six bytes
-module _ (m : List ℕ) (at r : ℕ) (n : Number m at 6 r) where
-  pub offset-is : r ≡ le m at u48
-  unfolding u48
-  offset-is = n .is
+-- an offset is a number of six bytes, or of four
+module _ (m : List ℕ) (at r o : ℕ) where
+  pub offset-48 : o ≡ 6 → Number m at 6 r → r ≡ le m at o
+  offset-48 e n = n .is ∙ rw e
 
-  pub offset-small : r < 2 ^ 48
-  offset-small = n .small
+  pub offset-32 : (o ≡ 6 → ⊥) → 4 ≤ o → o ≤ 6 → o % 2 ≡ 0 → Number m at 4 r → r ≡ le m at o
+  offset-32 h l u q n = let e : o ≡ 4 = omega arith in n .is ∙ rw e
+
+pub small-48 : (m : List ℕ) (at r : ℕ) → Number m at 6 r → r < 2 ^ 48
+small-48 m at r n = n .small
+
+pub small-32 : (m : List ℕ) (at r : ℕ) → Number m at 4 r → r < 2 ^ 48
+small-32 m at r n = let h = n .small in omega arith
+
+-- the width under the coding that a number names
+module _ (n : ℕ) where
+  pub width-48 : n ≡ 48 → 6 ≡ widthOf n
+  unfolding widthOf u48
+  width-48 h = simp (eq-eqb n 48 h)
+
+  module _ (g : n ≡ 48 → ⊥) where
+    pub width-32 : n ≡ 32 → 4 ≡ widthOf n
+    unfolding widthOf u32
+    width-32 h = simp (ne-eqb n 48 g, eq-eqb n 32 h)
+
+    pub width-none : (n ≡ 32 → ⊥) → 0 ≡ widthOf n
+    unfolding widthOf
+    width-none h = simp (ne-eqb n 48 g, ne-eqb n 32 h)

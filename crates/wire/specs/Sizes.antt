@@ -1,6 +1,7 @@
 -- Sizes of the coding in the words of the contracts: what a reader of a message may suppose of its bytes. Each number of the
 -- coding stands here once for all contracts; `wire`'s constants are the code's.
-use Prim.Native.Nat.{ℕ, _+_, _*_, _≤_}
+use Prim.Native.Nat.{ℕ, _+_, _*_, _%_, _≤_}
+use mathlib.Core.Path.{_≡_}
 use mathlib.Core.List.{List}
 use lib.ListN.{length}
 
@@ -8,20 +9,24 @@ use lib.ListN.{length}
 abbrev pub WithinSize : List ℕ → Type 0
 WithinSize m = length m ≤ 16777215
 
+-- o is the width of an offset under one of the two codings: four bytes, or six
+abbrev pub Width : ℕ → Type 0
+Width o = (4 ≤ o) × (o ≤ 6) × (o % 2 ≡ 0)
+
 -- the message has its start
-abbrev pub HasStart : List ℕ → Type 0
-HasStart m = 10 ≤ length m
+abbrev pub HasStart : ℕ → List ℕ → Type 0
+HasStart o m = 4 + o ≤ length m
 
 -- an offset or a length stands at a place; a union's choice and offset do
-abbrev pub HasOffset : List ℕ → ℕ → Type 0
-HasOffset m at = at + 6 ≤ length m
+abbrev pub HasOffset : ℕ → List ℕ → ℕ → Type 0
+HasOffset o m at = at + o ≤ length m
 
-abbrev pub HasUnion : List ℕ → ℕ → Type 0
-HasUnion m at = at + 8 ≤ length m
+abbrev pub HasUnion : ℕ → List ℕ → ℕ → Type 0
+HasUnion o m at = at + (2 + o) ≤ length m
 
 -- n of them stand from a place on
-abbrev pub HasOffsets : List ℕ → ℕ → ℕ → Type 0
-HasOffsets m at n = at + 6 * n ≤ length m
+abbrev pub HasOffsets : ℕ → List ℕ → ℕ → ℕ → Type 0
+HasOffsets o m at n = at + o * n ≤ length m
 
-abbrev pub HasUnions : List ℕ → ℕ → ℕ → Type 0
-HasUnions m at n = at + 8 * n ≤ length m
+abbrev pub HasUnions : ℕ → List ℕ → ℕ → ℕ → Type 0
+HasUnions o m at n = at + (2 + o) * n ≤ length m

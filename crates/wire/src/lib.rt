@@ -6,20 +6,49 @@ ghost use lib.ListN.{length, getD};
 ghost use lib.Dec.{eqb};
 ghost use Rattle.coding.specs.Bytes as B;
 ghost use Rattle.wire.specs.Numbers.{Number};
-ghost use Rattle.wire.specs.Sizes.{HasOffset};
+ghost use Rattle.wire.specs.Sizes.{HasOffset, Width};
 
 // ---- sizes of the coding
-// The bytes of an offset, and of a length.
-pub const OFFSET: usize = 6;
+// The width of an offset and of a length, in bytes: `o` in what follows. The coding of 48 bits, and the older one of 32.
+pub const U48: usize = 6;
+
+pub const U32: usize = 4;
+
+// The width under the coding that a number names, 48 or 32. Any other number names none: no schema is lawful under its width, so
+// that every answer is the refusal 1.
+pub fn width_of(coding: u32) -> usize
+    ensures { λ r. ⌜ r ≡ B.widthOf coding ⌝ }
+{
+    if coding == 48 {
+        return U48;
+    }
+    if coding == 32 {
+        return U32;
+    }
+    0
+}
 
 // The bytes of a magic.
 pub const MAGIC: usize = 4;
 
-// The bytes of a union: a choice of two bytes and an offset.
-pub const UNION: usize = 8;
+// The bytes of a union's choice.
+pub const CHOICE: usize = 2;
 
-// The bytes of the message's start. No offset is less.
-pub const START: usize = 10;
+// The bytes of a union: its choice, and an offset or a length.
+pub fn union_size(o: usize) -> usize
+    requires { ⌜ Width o ⌝ }
+    ensures { λ r. ⌜ r ≡ 2 + o ⌝ }
+{
+    CHOICE + o
+}
+
+// The bytes of the message's start: its magic, and the root's offset. No offset is less.
+pub fn start_size(o: usize) -> usize
+    requires { ⌜ Width o ⌝ }
+    ensures { λ r. ⌜ r ≡ 4 + o ⌝ }
+{
+    MAGIC + o
+}
 
 // The bytes of the largest message, and of the largest sheet.
 pub const LARGEST: usize = 16777215;
@@ -80,11 +109,14 @@ pub fn u48_in(m: &[u8], at: usize) -> u64
 }
 
 // An offset or a length whose bytes are there.
-pub fn offset_in(m: &[u8], at: usize) -> usize
-    requires { ⌜ HasOffset (now m) at ⌝ }
-    ensures { λ r. ⌜ (r ≡ B.le (now (m .entry)) at B.u48) × (r < 2 ^ 48) ⌝ }
+pub fn offset_in(m: &[u8], at: usize, o: usize) -> usize
+    requires { ⌜ (Width o) × HasOffset o (now m) at ⌝ }
+    ensures { λ r. ⌜ (r ≡ B.le (now (m .entry)) at o) × (r < 2 ^ 48) ⌝ }
 {
-    u48_in(m, at) as usize
+    if o == U48 {
+        return u48_in(m, at) as usize;
+    }
+    u32_in(m, at) as usize
 }
 
 pub fn u64_in(m: &[u8], at: usize) -> u64

@@ -1,10 +1,12 @@
 -- `message_header::read_header` meets its contract.
-use denote.Ref.{now}
 use Rattle.message_header.proofs.HeaderCases.{header-low, header-short, header-other, header-good}
-use borrow.Author.Needs.{needs}
 use native.Mathlib.Omega.{arith}
+use borrow.Author.Needs.{needs}
 use Rattle.message_header.proofs.read_header.Statement.{statement}
 use Rattle.message_header.proofs.read_header.Tie as tie
+
+start-size-requires : tie.Need-start-size-requires
+start-size-requires c κs = search needs
 
 returns : tie.Need-returns
 returns c = (search header-low, tt)
@@ -32,17 +34,17 @@ offset-in-requires c κs = search needs
 
 returns-4 : tie.Need-returns-4
 returns-4 c =
-    let s = c .before .before .before .before .before .before in
-    let a = s .args in (
-      header-good (a .magic) (a .size) (now (a .m)) (a .at) (c .before .before .before .before .if1 .left) (c .before .before .before .if2 .left)
-          (c .before .before .u32-in .result) (c .before .before .u32-in .ensures) (c .before .if3 .left) (c .offset-in .result) (c .offset-in .ensures .0),
-      (omega (arith, s .pre .0, s .pre .2), c .offset-in .ensures .1),
+    let i = c .before .before .before .before in (
+      header-good _ _ _ _ _ _ (i .before .start-size .ensures) (i .if1 .left) (c .before .before .before .if2 .left) _ (c .before .before .u32-in .ensures)
+          (c .before .if3 .left) _ (c .offset-in .ensures .0),
+      (omega arith, search needs),
     )
 
 pub read-header-spec : {M : Type 1} → statement M
 read-header-spec =
     tie.close
     (tie.spec
+    start-size-requires
     returns
     add-if2
     returns-2

@@ -1,13 +1,9 @@
+-- `message_layout::width` meets its contract, by the kind.
 use native.Mathlib.Omega.{arith}
-use mathlib.Core.Path.{_≡_, refl, sym, ap, _∙_}
-use borrow.Author.Tests.{le-ltb, lt-ltb, le-leb, lt-leb, eq-eqb, ne-eqb}
 use Rattle.message_layout.proofs.Widths.{width-flat, width-object, width-union, flat-sound}
 use borrow.Author.Needs.{needs}
 use Rattle.message_layout.proofs.width.Statement.{statement}
 use Rattle.message_layout.proofs.width.Tie as tie
-use Rattle.message_layout.proofs.width.Reads as reads
-use Rattle.message_layout.proofs.width.Lts as lts
-use Rattle.message_layout.proofs.flat_width.Reads as flat-width-reads
 
 enum-known-k : tie.Need-enum-known-k
 enum-known-k c = search needs
@@ -21,6 +17,9 @@ enum-told c = search needs
 enum-told-2 : tie.Need-enum-told-2
 enum-told-2 c = search needs
 
+union-size-requires : tie.Need-union-size-requires
+union-size-requires c κs = search needs
+
 returns : tie.Need-returns
 returns c = (search width-flat, omega arith, omega arith)
 
@@ -33,4 +32,4 @@ returns-3 c = (search width-union, omega arith, omega arith)
 pub width-spec : {M : Type 1} → statement M
 width-spec =
     tie.close
-    (tie.spec enum-known-k flat-width-requires enum-told enum-told-2 returns returns-2 returns-3)
+    (tie.spec enum-known-k flat-width-requires enum-told enum-told-2 union-size-requires returns returns-2 returns-3)

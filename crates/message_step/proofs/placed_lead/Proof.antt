@@ -27,7 +27,7 @@ add-value-lead-2 : tie.Need-add-value-lead-2
 add-value-lead-2 c = search needs
 
 value-lead-requires : tie.Need-value-lead-requires
-value-lead-requires c κs = ((search needs, search member-kind, search tail-small), (search value-inside, search value-low))
+value-lead-requires c κs = ((search needs, search needs, search member-kind, search tail-small), (search value-inside, search value-low))
 
 returns : tie.Need-returns
 returns c = (search lead-cut, tt)

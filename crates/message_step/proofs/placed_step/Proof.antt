@@ -27,7 +27,7 @@ add-value-step-2 : tie.Need-add-value-step-2
 add-value-step-2 c = search needs
 
 value-step-requires : tie.Need-value-step-requires
-value-step-requires c κs = ((search needs, search member-kind, search tail-small), (search value-inside, search needs, search value-low))
+value-step-requires c κs = ((search needs, search needs, search member-kind, search tail-small), (search value-inside, search needs, search value-low))
 
 returns : tie.Need-returns
 returns c = search step-cut

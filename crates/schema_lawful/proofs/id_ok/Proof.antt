@@ -1,4 +1,4 @@
--- `schema::id_ok` meets its contract. The invariant: the id differs from the first j.
+-- `schema_lawful::id_ok` meets its contract. The invariant: the id differs from the first j.
 use borrow.Author.Needs.{needs}
 use Rattle.coding.specs.Lawful as L
 use mathlib.Core.Bool.{true}

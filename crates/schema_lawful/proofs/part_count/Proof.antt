@@ -1,6 +1,6 @@
--- `schema::part_count` meets its contract.
+-- `schema_lawful::part_count` meets its contract.
 use native.Mathlib.Omega.{arith}
-use Rattle.schema_lawful.proofs.PartRules.{count-1, count-2, count-3, count-4}
+use Rattle.schema_lawful.proofs.PartRules.{count-1, count-2, count-3, count-4, count-5, count-6}
 use borrow.Author.Needs.{needs}
 use Rattle.schema_lawful.proofs.part_count.Statement.{statement}
 use Rattle.schema_lawful.proofs.part_count.Tie as tie
@@ -29,6 +29,18 @@ enum-told-4 c = search needs
 count-requires-4 : tie.Need-count-requires-4
 count-requires-4 c κs = search needs
 
+enum-told-5 : tie.Need-enum-told-5
+enum-told-5 c = search needs
+
+count-requires-5 : tie.Need-count-requires-5
+count-requires-5 c κs = search needs
+
+enum-told-6 : tie.Need-enum-told-6
+enum-told-6 c = search needs
+
+count-requires-6 : tie.Need-count-requires-6
+count-requires-6 c κs = search needs
+
 returns : tie.Need-returns
 returns c = (search count-1, omega arith)
 
@@ -40,6 +52,12 @@ returns-3 c = (search count-3, omega arith)
 
 returns-4 : tie.Need-returns-4
 returns-4 c = (search count-4, omega arith)
+
+returns-5 : tie.Need-returns-5
+returns-5 c = (search count-5, omega arith)
+
+returns-6 : tie.Need-returns-6
+returns-6 c = (search count-6, omega arith)
 
 pub part-count-spec : {M : Type 1} → statement M
 part-count-spec =
@@ -53,7 +71,13 @@ part-count-spec =
     count-requires-3
     enum-told-4
     count-requires-4
+    enum-told-5
+    count-requires-5
+    enum-told-6
+    count-requires-6
     returns
     returns-2
     returns-3
-    returns-4)
+    returns-4
+    returns-5
+    returns-6)

@@ -1,5 +1,5 @@
--- `schema::part_ok` meets its contract.
-use Rattle.schema_lawful.proofs.PartRules.{in-lists, in-unions, in-tables, in-ids, part-1, part-2, part-3, part-4}
+-- `schema_lawful::part_ok` meets its contract.
+use Rattle.schema_lawful.proofs.PartRules.{in-lists, in-unions, in-tables, in-ids, in-older-lists, in-older-tables, part-1, part-2, part-3, part-4, part-5, part-6}
 use borrow.Author.Needs.{needs}
 use Rattle.schema_lawful.proofs.part_ok.Statement.{statement}
 use Rattle.schema_lawful.proofs.part_ok.Tie as tie
@@ -28,6 +28,18 @@ enum-told-4 c = search needs
 id-ok-requires : tie.Need-id-ok-requires
 id-ok-requires c κs = search (in-ids, needs)
 
+enum-told-5 : tie.Need-enum-told-5
+enum-told-5 c = search needs
+
+older-list-requires : tie.Need-older-list-requires
+older-list-requires c κs = search (in-older-lists, needs)
+
+enum-told-6 : tie.Need-enum-told-6
+enum-told-6 c = search needs
+
+older-table-requires : tie.Need-older-table-requires
+older-table-requires c κs = search (in-older-tables, needs)
+
 returns : tie.Need-returns
 returns c = search part-1
 
@@ -39,6 +51,12 @@ returns-3 c = search part-3
 
 returns-4 : tie.Need-returns-4
 returns-4 c = search part-4
+
+returns-5 : tie.Need-returns-5
+returns-5 c = search part-5
+
+returns-6 : tie.Need-returns-6
+returns-6 c = search part-6
 
 pub part-ok-spec : {M : Type 1} → statement M
 part-ok-spec =
@@ -52,7 +70,13 @@ part-ok-spec =
     table-ok-requires
     enum-told-4
     id-ok-requires
+    enum-told-5
+    older-list-requires
+    enum-told-6
+    older-table-requires
     returns
     returns-2
     returns-3
-    returns-4)
+    returns-4
+    returns-5
+    returns-6)

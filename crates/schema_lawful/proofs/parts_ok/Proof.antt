@@ -1,4 +1,4 @@
--- `schema::parts_ok` meets its contract. The invariant: the first i of the part are lawful.
+-- `schema_lawful::parts_ok` meets its contract. The invariant: the first i of the part are lawful.
 use borrow.Author.Needs.{needs}
 use Rattle.schema_lawful.specs.Parts as Pa
 use Rattle.coding.specs.Lists.{every}

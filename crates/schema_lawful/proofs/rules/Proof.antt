@@ -1,4 +1,4 @@
--- `schema::rules` meets its contract.
+-- `schema_lawful::rules` meets its contract.
 use Rattle.schema_lawful.proofs.PartRules.{rules-1, rules-2, rules-3, rules-4}
 use borrow.Author.Needs.{needs}
 use Rattle.schema_lawful.proofs.rules.Statement.{statement}

@@ -2,11 +2,6 @@ use Rattle.write.proofs.WriteCases.{sheet-short, sheet-measured, not-an
 use borrow.Author.Needs.{needs}
 use Rattle.write.proofs.write_lawful.Statement.{statement}
 use Rattle.write.proofs.write_lawful.Tie as tie
-use Rattle.write.proofs.write_lawful.Reads as reads
-use Rattle.write.proofs.write_lawful.Lts as lts
-use Rattle.write_pass.proofs.emit_message.Reads as emit-message-reads
-use Rattle.write.proofs.message_size.Reads as message-size-reads
-use Rattle.write.proofs.refused.Reads as refused-reads
 
 refused-requires : tie.Need-refused-requires
 refused-requires c κs = search needs
@@ -36,7 +31,7 @@ slice-aggregate-emit-message : tie.Need-slice-aggregate-emit-message
 slice-aggregate-emit-message c = search taken
 
 emit-message-requires : tie.Need-emit-message-requires
-emit-message-requires c κs = (search needs, search sheet-short, search sheet-measured)
+emit-message-requires c κs = (search needs, search needs, search sheet-short, search sheet-measured)
 
 same-length : tie.Need-same-length
 same-length c = search needs
