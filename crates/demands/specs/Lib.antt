@@ -1,4 +1,4 @@
--- The theorems. A reader's way in: Counter, OlderCoding, Traps, FieldCases, Sheets, Reached, RoundTrip, Appending, NewerAgrees, Fields,
+-- The theorems. A reader's way in: Counter, OlderCoding, Traps, FieldCases, Members, Sheets, Reached, RoundTrip, Appending, NewerAgrees, Fields,
 -- Texts, SheetText, ListReader, Utf8, Utf8Cases; the other modules are their lemmas.
 pub mod Counter
 pub mod Traps
@@ -11,6 +11,7 @@ pub mod StepShown
 pub mod AcceptedShown
 pub mod Sheets
 pub mod RefusalNumbers
+pub mod Members
 pub mod Arrivals
 pub mod ArrivalsWalk
 pub mod Reached
