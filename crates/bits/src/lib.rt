@@ -35,6 +35,20 @@ pub fn pair(hi: u64, lo: u64, n: usize) -> u64
     hi << n | lo
 }
 
+// The half of 64 bits above the 32 low ones.
+fn upper(x: u64) -> u64
+    ensures { λ r. ⌜ (r ≡ x / 2 ^ 32) × (r < 2 ^ 32) ⌝ }
+{
+    x >> 32
+}
+
+// The two halves of 64 bits, the lower one made the higher.
+pub fn exchanged(x: u64) -> u64
+    ensures { λ r. ⌜ r ≡ x % 2 ^ 32 * 2 ^ 32 + x / 2 ^ 32 ⌝ }
+{
+    pair(low(x, 32), upper(x), 32)
+}
+
 // The eight low bits of v.
 pub fn last_byte(v: u64) -> u8
     ensures { λ r. ⌜ r ≡ v % 2 ^ 8 ⌝ }

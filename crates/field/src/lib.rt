@@ -11,7 +11,6 @@ use coding::Verdict;
 ghost use mathlib.Core.Path.{_≡_};
 ghost use Prim.Native.Nat.{_+_, _≤_};
 ghost use lib.ListN.{length, take, drop};
-ghost use Rattle.coding.specs.Bytes as B;
 ghost use Rattle.coding.specs.Field as F;
 ghost use Rattle.coding.specs.Lists.{pick};
 ghost use Rattle.coding.specs.Packed as P;
@@ -59,8 +58,8 @@ pub fn record_kind(ob: Object) -> u8
 }
 
 // The answer for what a path has come to.
-pub fn answer_of(b: &[u8], m: &[u8], f: Found) -> Answer
-    requires { ⌜ FoundIn B.u48 (now b) (now m) f ⌝ }
+pub fn answer_of(b: &[u8], m: &[u8], f: Found, o: usize) -> Answer
+    requires { ⌜ FoundIn o (now b) (now m) f ⌝ }
     ensures { λ r. ⌜ r ≡ F.answerOf f ⌝ }
 {
     match f {
@@ -74,11 +73,11 @@ pub fn answer_of(b: &[u8], m: &[u8], f: Found) -> Answer
 }
 
 // One field's answer, of any message by any schema.
-pub fn field(b: &[u8], m: &[u8], path: &[u32]) -> Answer
-    ensures { λ r. ⌜ r ≡ F.field B.u48 (now (b .entry)) (now (m .entry)) (now (path .entry)) ⌝ }
+pub fn field(b: &[u8], m: &[u8], path: &[u32], o: usize) -> Answer
+    ensures { λ r. ⌜ r ≡ F.field o (now (b .entry)) (now (m .entry)) (now (path .entry)) ⌝ }
 {
-    let found = field_path::field_found(b, m, path);
-    answer_of(b, m, found)
+    let found = field_path::field_found(b, m, path, o);
+    answer_of(b, m, found, o)
 }
 
 // ---- the answer's number, place and visits
@@ -209,10 +208,10 @@ fn span_of(f: Found) -> Span
 }
 
 // Where the text or the bytes stand that a path leads to, if it leads to such.
-pub fn text_span(b: &[u8], m: &[u8], path: &[u32]) -> Span
-    ensures { λ r. ⌜ (r ≡ F.fieldSpan B.u48 (now (b .entry)) (now (m .entry)) (now (path .entry))) × (r .start + r .length ≤ length (now (m .entry))) ⌝ }
+pub fn text_span(b: &[u8], m: &[u8], path: &[u32], o: usize) -> Span
+    ensures { λ r. ⌜ (r ≡ F.fieldSpan o (now (b .entry)) (now (m .entry)) (now (path .entry))) × (r .start + r .length ≤ length (now (m .entry))) ⌝ }
 {
-    let f = field_path::field_found(b, m, path);
+    let f = field_path::field_found(b, m, path, o);
     span_of(f)
 }
 
@@ -225,9 +224,9 @@ fn part_at<'a>(m: &'a [u8], start: usize, n: usize) -> &'a [u8]
 }
 
 // The text or the bytes that a path leads to, as a part of the message.
-pub fn field_text<'a>(b: &[u8], m: &'a [u8], path: &[u32]) -> &'a [u8]
-    ensures { λ r. ⌜ now r ≡ F.fieldText B.u48 (now (b .entry)) (now (m .entry)) (now (path .entry)) ⌝ }
+pub fn field_text<'a>(b: &[u8], m: &'a [u8], path: &[u32], o: usize) -> &'a [u8]
+    ensures { λ r. ⌜ now r ≡ F.fieldText o (now (b .entry)) (now (m .entry)) (now (path .entry)) ⌝ }
 {
-    let s = text_span(b, m, path);
+    let s = text_span(b, m, path, o);
     part_at(m, s.start, s.length)
 }

@@ -8,7 +8,7 @@ use borrow.Author.Tests.{eq-eqb, ne-eqb, lt-ltb, le-ltb}
 use lib.ListN.{length}
 use lib.Dec.{eqb}
 use Rattle.coding.specs.Lists.{pick}
-use Rattle.coding.specs.Bytes.{u48, le}
+use Rattle.coding.specs.Bytes.{le}
 use Rattle.coding.specs.Schema as Sc
 use Rattle.coding.specs.Schema.{Schema}
 use Rattle.coding.specs.Packed as P
@@ -31,6 +31,7 @@ use Rattle.coding.specs.declared.Answer.{Answer}
 use Rattle.coding.specs.declared.Answer.the-variants as A
 use Rattle.laws.specs.Lists.{pick-holds}
 use Rattle.laws.specs.Sound.{ObjectSound, KindSound}
+use Rattle.wire.specs.Products.{times-within}
 use Rattle.schema.specs.Directory.{Accepted, accepted-sound}
 use Rattle.field_element.specs.Listed.{offsetGives}
 use Rattle.field_arrival.specs.Within.{Readable}
@@ -60,119 +61,119 @@ unfolding Field.readerStart
 reader-reads o b m path list e = subst Reads (sym e) (of-reads (P.parse b) (Field.fieldFound o b m path))
 
 -- ---- an arrival's answer
-module _ (d : ℕ) (S : Schema) (m : List ℕ) (ob : Object) (x : ℕ) where
-  pub answer-deep : d ≡ 0 → (r : Answer) → r ≡ A.Refused (W.refusal 5 x) → r ≡ Field.answerOf (Field.arrived d u48 S m ob (ByOffset x))
+module _ (o d : ℕ) (S : Schema) (m : List ℕ) (ob : Object) (x : ℕ) where
+  pub answer-deep : d ≡ 0 → (r : Answer) → r ≡ A.Refused (W.refusal 5 x) → r ≡ Field.answerOf (Field.arrived d o S m ob (ByOffset x))
   unfolding Field.answerOf W.placed
-  answer-deep z r e = e ∙ ap Field.answerOf (arrive-deep u48 d S m ob (ByOffset x) x refl z (Fd.Refused (W.refusal 5 x)) refl)
+  answer-deep z r e = e ∙ ap Field.answerOf (arrive-deep o d S m ob (ByOffset x) x refl z (Fd.Refused (W.refusal 5 x)) refl)
 
-  module _ (l : d ≡ 0 → ⊥) (g : Opened) (eg : g ≡ W.openObject u48 S m ob (ByOffset x)) where
+  module _ (l : d ≡ 0 → ⊥) (g : Opened) (eg : g ≡ W.openObject o S m ob (ByOffset x)) where
     pub answer-shut : (n : ℕ) → g ≡ Op.Refused n → (r : Answer) → r ≡ A.Refused (W.refusal n x)
-        → r ≡ Field.answerOf (Field.arrived d u48 S m ob (ByOffset x))
+        → r ≡ Field.answerOf (Field.arrived d o S m ob (ByOffset x))
     unfolding Field.answerOf W.placed
-    answer-shut n q r e = e ∙ ap Field.answerOf (arrive-refused u48 d S m ob (ByOffset x) x refl l g eg n q (Fd.Refused (W.refusal n x)) refl)
+    answer-shut n q r e = e ∙ ap Field.answerOf (arrive-refused o d S m ob (ByOffset x) x refl l g eg n q (Fd.Refused (W.refusal n x)) refl)
 
     pub answer-open : (start n : ℕ) → g ≡ Op.Content start n → (k : ℕ) → k ≡ Field.recordKind ob
-        → A.Object k x n ≡ Field.answerOf (Field.arrived d u48 S m ob (ByOffset x))
+        → A.Object k x n ≡ Field.answerOf (Field.arrived d o S m ob (ByOffset x))
     unfolding Field.answerOf W.placed
     answer-open start n q k ek =
-        ap (λ (y : ℕ). A.Object y x n) ek ∙ ap Field.answerOf (arrive-content u48 d S m ob (ByOffset x) x refl l g eg start n q)
+        ap (λ (y : ℕ). A.Object y x n) ek ∙ ap Field.answerOf (arrive-content o d S m ob (ByOffset x) x refl l g eg start n q)
 
 -- ---- an offset's
-module _ (d : ℕ) (S : Schema) (m : List ℕ) (ob : Object) (y : ℕ) where
-  none-at : (x : ℕ) → y ≡ x → y ≡ 0 → A.Absent ≡ offsetGives d u48 S m ob x
+module _ (o d : ℕ) (S : Schema) (m : List ℕ) (ob : Object) (y : ℕ) where
+  none-at : (x : ℕ) → y ≡ x → y ≡ 0 → A.Absent ≡ offsetGives d o S m ob x
   unfolding offsetGives
   none-at x ey z = simp (eq-eqb _ _ (sym ey ∙ z))
 
-  there-at : (x : ℕ) → y ≡ x → (y ≡ 0 → ⊥) → (r : Answer) → r ≡ Field.answerOf (Field.arrived d u48 S m ob (ByOffset y)) → r ≡ offsetGives d u48 S m ob x
+  there-at : (x : ℕ) → y ≡ x → (y ≡ 0 → ⊥) → (r : Answer) → r ≡ Field.answerOf (Field.arrived d o S m ob (ByOffset y)) → r ≡ offsetGives d o S m ob x
   unfolding offsetGives
   there-at x ey z r e =
-      simp (ne-eqb x 0 (λ w. z (ey ∙ w))) (e ∙ ap (λ (q : ℕ). Field.answerOf (Field.arrived d u48 S m ob (ByOffset q))) ey)
+      simp (ne-eqb x 0 (λ w. z (ey ∙ w))) (e ∙ ap (λ (q : ℕ). Field.answerOf (Field.arrived d o S m ob (ByOffset q))) ey)
 
-  pub offset-none : (at : ℕ) → y ≡ le m at u48 → y ≡ 0 → A.Absent ≡ offsetGives d u48 S m ob (le m at u48)
-  offset-none at num z = none-at (le m at u48) num z
+  pub offset-none : (at : ℕ) → y ≡ le m at o → y ≡ 0 → A.Absent ≡ offsetGives d o S m ob (le m at o)
+  offset-none at num z = none-at (le m at o) num z
 
-  pub offset-there : (at : ℕ) → y ≡ le m at u48 → (y ≡ 0 → ⊥) → (r : Answer) → r ≡ Field.answerOf (Field.arrived d u48 S m ob (ByOffset y))
-      → r ≡ offsetGives d u48 S m ob (le m at u48)
-  offset-there at num z r e = there-at (le m at u48) num z r e
+  pub offset-there : (at : ℕ) → y ≡ le m at o → (y ≡ 0 → ⊥) → (r : Answer) → r ≡ Field.answerOf (Field.arrived d o S m ob (ByOffset y))
+      → r ≡ offsetGives d o S m ob (le m at o)
+  offset-there at num z r e = there-at (le m at o) num z r e
 
 -- ---- an element's
-module _ (S : Schema) (m : List ℕ) (i at start n d j : ℕ) (r : Answer) where
-  pub element-none : n ≤ j → r ≡ A.Refused (W.refusal 15 at) → r ≡ Field.answerOf (Field.objectPart u48 S m (O.List i) at start n d j)
+module _ (o : ℕ) (S : Schema) (m : List ℕ) (i at start n d j : ℕ) (r : Answer) where
+  pub element-none : n ≤ j → r ≡ A.Refused (W.refusal 15 at) → r ≡ Field.answerOf (Field.objectPart o S m (O.List i) at start n d j)
   unfolding Field.objectPart Field.noPart Field.answerOf
   element-none h e = simp (le-ltb _ _ h) e
 
   offset-answers : (ob : Object) (x : ℕ)
-      → offsetGives d u48 S m ob x ≡ Field.answerOf (Field.stepped d u48 S m at j (OfObject ob) (T.structTested S m (T.objectStep ob false 0 x)))
+      → offsetGives d o S m ob x ≡ Field.answerOf (Field.stepped d o S m at j (OfObject ob) (T.structTested S m (T.objectStep ob false 0 x)))
   unfolding offsetGives T.objectStep T.placeOf T.structTested Field.stepped Field.answerOf
   offset-answers ob x = by (eqb x 0)
     where
-      by : (t : Bool) → pick t A.Absent (Field.answerOf (Field.arrived d u48 S m ob (ByOffset x)))
-          ≡ Field.answerOf (Field.stepped d u48 S m at j (OfObject ob) (T.structTested S m (pick t St.Absent (St.Object ob (ByOffset x)))))
+      by : (t : Bool) → pick t A.Absent (Field.answerOf (Field.arrived d o S m ob (ByOffset x)))
+          ≡ Field.answerOf (Field.stepped d o S m at j (OfObject ob) (T.structTested S m (pick t St.Absent (St.Object ob (ByOffset x)))))
       by true = refl
       by false = refl
 
   pub element-offset : j < n → (k : Kind) → k ≡ Sc.elementOf S i → (ob : Object) → k ≡ OfObject ob
-      → r ≡ offsetGives d u48 S m ob (le m (start + 6 * j) u48) → r ≡ Field.answerOf (Field.objectPart u48 S m (O.List i) at start n d j)
-  unfolding Field.objectPart T.elementStep T.elementPlace T.valueStep L.width L.isBool u48
+      → r ≡ offsetGives d o S m ob (le m (start + o * j) o) → r ≡ Field.answerOf (Field.objectPart o S m (O.List i) at start n d j)
+  unfolding Field.objectPart T.elementStep T.elementPlace T.valueStep L.width L.isBool
   element-offset h k ek ob eo e =
-      simp (lt-ltb _ _ h, ← ek, eo) (e ∙ offset-answers ob (le m (start + 6 * j) u48))
+      simp (lt-ltb _ _ h, ← ek, eo) (e ∙ offset-answers ob (le m (start + o * j) o))
 
-module _ (S : Schema) (m : List ℕ) (i start n j : ℕ) (h : start + T.elementsSize u48 S (Sc.elementOf S i) n ≤ length m) (l : j < n) where
-  pub offset-fits : (k : Kind) → k ≡ Sc.elementOf S i → (ob : Object) → k ≡ OfObject ob → start + 6 * j + 6 ≤ length m
-  unfolding T.elementsSize L.width L.isBool u48
+module _ (o : ℕ) (S : Schema) (m : List ℕ) (i start n j : ℕ) (h : start + T.elementsSize o S (Sc.elementOf S i) n ≤ length m) (l : j < n) where
+  pub offset-fits : (k : Kind) → k ≡ Sc.elementOf S i → (ob : Object) → k ≡ OfObject ob → start + o * j + o ≤ length m
+  unfolding T.elementsSize L.width L.isBool
   offset-fits k ek ob eo =
-      let z : start + 6 * n ≤ length m = subst (λ (q : Kind). start + T.elementsSize u48 S q n ≤ length m) (sym ek ∙ eo) h in omega arith
+      let z : start + o * n ≤ length m = subst (λ (q : Kind). start + T.elementsSize o S q n ≤ length m) (sym ek ∙ eo) h in omega (arith, times-within o j n l)
 
-module _ (S : Schema) (m : List ℕ) (readable : Readable m) (i start n j : ℕ) (h : start + T.elementsSize u48 S (Sc.elementOf S i) n ≤ length m)
+module _ (o : ℕ) (S : Schema) (m : List ℕ) (readable : Readable m) (i start n j : ℕ) (h : start + T.elementsSize o S (Sc.elementOf S i) n ≤ length m)
     (l : j < n) (k : Kind) (ek : k ≡ Sc.elementOf S i) (ob : Object) (eo : k ≡ OfObject ob) where
-  pub offset-steps : 6 * j < 2 ^ 64
-  offset-steps = let g = readable .size in omega (arith, offset-fits S m i start n j h l k ek ob eo)
+  pub offset-steps : o * j < 2 ^ 64
+  offset-steps = let g = readable .size in omega (arith, offset-fits o S m i start n j h l k ek ob eo)
 
-  pub offset-place : start + 6 * j < 2 ^ 64
-  offset-place = let g = readable .size in omega (arith, offset-fits S m i start n j h l k ek ob eo)
+  pub offset-place : start + o * j < 2 ^ 64
+  offset-place = let g = readable .size in omega (arith, offset-fits o S m i start n j h l k ek ob eo)
 
 pub offset-sound : (b dir : List ℕ) → Accepted b dir → (i : ℕ) (k : Kind) → k ≡ Sc.elementOf (P.parse b) i → (ob : Object) → k ≡ OfObject ob
     → ObjectSound (P.parse b) ob
 offset-sound b dir a i k ek ob eo = subst (KindSound (P.parse b)) (sym ek ∙ eo) (accepted-sound b dir a .lists i .kind)
 
 -- ---- the object that is the list
-module _ (S : Schema) (m : List ℕ) (ob : Object) (at start n d j : ℕ) (r : Answer) where
+module _ (o : ℕ) (S : Schema) (m : List ℕ) (ob : Object) (at start n d j : ℕ) (r : Answer) where
   module _ (listed : Listed ob) where
-    pub no-text : ob ≡ O.Text → r ≡ Field.answerOf (Field.objectPart u48 S m ob at start n d j)
+    pub no-text : ob ≡ O.Text → r ≡ Field.answerOf (Field.objectPart o S m ob at start n d j)
     no-text e = absurd (subst Listed e listed)
 
-    pub no-bytes : ob ≡ O.Bytes → r ≡ Field.answerOf (Field.objectPart u48 S m ob at start n d j)
+    pub no-bytes : ob ≡ O.Bytes → r ≡ Field.answerOf (Field.objectPart o S m ob at start n d j)
     no-bytes e = absurd (subst Listed e listed)
 
-    pub no-table : (i : ℕ) → ob ≡ O.Table i → r ≡ Field.answerOf (Field.objectPart u48 S m ob at start n d j)
+    pub no-table : (i : ℕ) → ob ≡ O.Table i → r ≡ Field.answerOf (Field.objectPart o S m ob at start n d j)
     no-table i e = absurd (subst Listed e listed)
 
-  pub the-list : (i x : ℕ) → ob ≡ O.List i → x ≡ i → r ≡ Field.answerOf (Field.objectPart u48 S m (O.List x) at start n d j)
-      → r ≡ Field.answerOf (Field.objectPart u48 S m ob at start n d j)
-  the-list i x e ex f = f ∙ ap (λ (q : Object). Field.answerOf (Field.objectPart u48 S m q at start n d j)) (ap O.List ex ∙ sym e)
+  pub the-list : (i x : ℕ) → ob ≡ O.List i → x ≡ i → r ≡ Field.answerOf (Field.objectPart o S m (O.List x) at start n d j)
+      → r ≡ Field.answerOf (Field.objectPart o S m ob at start n d j)
+  the-list i x e ex f = f ∙ ap (λ (q : Object). Field.answerOf (Field.objectPart o S m q at start n d j)) (ap O.List ex ∙ sym e)
 
 -- ---- what the reader goes over
-module _ (S : Schema) (m : List ℕ) (list : Found) (j : ℕ) where
-  pub step-refused : (x : Refusal) → list ≡ Fd.Refused x → A.Refused x ≡ Field.listGives u48 S m list j
+module _ (o : ℕ) (S : Schema) (m : List ℕ) (list : Found) (j : ℕ) where
+  pub step-refused : (x : Refusal) → list ≡ Fd.Refused x → A.Refused x ≡ Field.listGives o S m list j
   unfolding Field.listGives Field.partOf Field.answerOf
   step-refused x e = rw e
 
   pub step-object : (ob : Object) (at start n d : ℕ) → list ≡ Fd.Object ob at start n d → (r : Answer)
-      → r ≡ Field.answerOf (Field.objectPart u48 S m ob at start n d j) → r ≡ Field.listGives u48 S m list j
+      → r ≡ Field.answerOf (Field.objectPart o S m ob at start n d j) → r ≡ Field.listGives o S m list j
   unfolding Field.listGives Field.partOf
   step-object ob at start n d e r q = rw e q
 
   module _ (reads : Reads list) (r : Answer) where
-    pub no-absent : list ≡ Fd.Absent → r ≡ Field.listGives u48 S m list j
+    pub no-absent : list ≡ Fd.Absent → r ≡ Field.listGives o S m list j
     no-absent e = absurd (subst Reads e reads)
 
-    pub no-unknown : (x : ℕ) → list ≡ Fd.Unknown x → r ≡ Field.listGives u48 S m list j
+    pub no-unknown : (x : ℕ) → list ≡ Fd.Unknown x → r ≡ Field.listGives o S m list j
     no-unknown x e = absurd (subst Reads e reads)
 
-    pub no-value : (k : Kind) (x holder : ℕ) → list ≡ Fd.Value k x holder → r ≡ Field.listGives u48 S m list j
+    pub no-value : (k : Kind) (x holder : ℕ) → list ≡ Fd.Value k x holder → r ≡ Field.listGives o S m list j
     no-value k x holder e = absurd (subst Reads e reads)
 
-    pub no-struct : (i at holder : ℕ) → list ≡ Fd.Struct i at holder → r ≡ Field.listGives u48 S m list j
+    pub no-struct : (i at holder : ℕ) → list ≡ Fd.Struct i at holder → r ≡ Field.listGives o S m list j
     no-struct i at holder e = absurd (subst Reads e reads)
 
 pub step-listed : (list : Found) → Reads list → (ob : Object) (at start n d : ℕ) → list ≡ Fd.Object ob at start n d → Listed ob

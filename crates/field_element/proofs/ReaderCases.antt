@@ -3,7 +3,6 @@ use mathlib.Core.Path.{_≡_, refl, sym, ap, _∙_, subst}
 use mathlib.Core.Bool.{Bool, true, false}
 use mathlib.Core.List.{List}
 use Prim.Native.Nat.{ℕ}
-use Rattle.coding.specs.Bytes.{u48}
 use Rattle.coding.specs.Schema as Sc
 use Rattle.coding.specs.Schema.{Schema}
 use Rattle.coding.specs.Packed as P
@@ -111,14 +110,14 @@ unfolding Field.readerStart
 reader-found o b m path f e r q = q ∙ ap (Field.readerOf (P.parse b)) e
 
 -- ---- an unlawful schema
-module _ (b dir m path : List ℕ) (t : Bool) (j : Judged b dir t) (f : t ≡ false) where
-  pub start-unlawful : Field.readerStart u48 b m path ≡ Fd.Refused (W.refusal 1 0)
+module _ (o : ℕ) (b dir m path : List ℕ) (t : Bool) (j : Judged o b dir t) (f : t ≡ false) where
+  pub start-unlawful : Field.readerStart o b m path ≡ Fd.Refused (W.refusal 1 0)
   unfolding Field.readerStart Field.readerOf
-  start-unlawful = ap (Field.readerOf (P.parse b)) (unlawful b dir m path t j f)
+  start-unlawful = ap (Field.readerOf (P.parse b)) (unlawful o b dir m path t j f)
 
-  pub gives-unlawful : (i : ℕ) → A.Refused (W.refusal 1 0) ≡ readerGives u48 b m path i
+  pub gives-unlawful : (i : ℕ) → A.Refused (W.refusal 1 0) ≡ readerGives o b m path i
   unfolding readerGives listGives Field.partOf Field.answerOf
-  gives-unlawful i = sym (ap (λ (g : Found). Field.answerOf (Field.partOf u48 (P.parse b) m g i)) start-unlawful)
+  gives-unlawful i = sym (ap (λ (g : Found). Field.answerOf (Field.partOf o (P.parse b) m g i)) start-unlawful)
 
 -- ---- a step
 module _ (o : ℕ) (b m path : List ℕ) (list : Found) (el : list ≡ Field.readerStart o b m path) (i : ℕ) (r : Answer) where

@@ -5,7 +5,6 @@ use mathlib.Core.List.{List}
 use Prim.Native.Nat.{ℕ, _+_, _<_, _≤_}
 use native.Mathlib.Omega.{arith}
 use borrow.Author.Tests.{lt-ltb, le-ltb}
-use Rattle.coding.specs.Bytes.{u48}
 use Rattle.coding.specs.Walk as W
 use Rattle.coding.specs.Field as Field
 use Rattle.coding.specs.declared.Object.{Object}
@@ -45,9 +44,9 @@ module _ (f : Found) where
   count-object ob at start n d e = rw e
 
 -- of an unlawful schema
-pub count-unlawful : (b dir m path : List ℕ) (t : Bool) → Judged b dir t → t ≡ false → 0 ≡ Field.readerCount u48 b m path
+pub count-unlawful : (o : ℕ) (b dir m path : List ℕ) (t : Bool) → Judged o b dir t → t ≡ false → 0 ≡ Field.readerCount o b m path
 unfolding Field.readerCount Field.listCount
-count-unlawful b dir m path t j f = sym (ap Field.listCount (start-unlawful b dir m path t j f))
+count-unlawful o b dir m path t j f = sym (ap Field.listCount (start-unlawful o b dir m path t j f))
 
 -- of the list that a reader has found, or of the refusal that it gives
 module _ (o : ℕ) (b m path : List ℕ) (list : Found) (el : list ≡ Field.readerStart o b m path) where
@@ -68,8 +67,8 @@ next-stays n j h = simp (le-ltb _ _ h)
 pub next-none : (j : ℕ) → j ≡ Field.readerNext 0 j
 next-none j = next-stays 0 j (omega arith)
 
-pub next-unlawful : (b m path : List ℕ) (j : ℕ) (dir : List ℕ) (t : Bool) → Judged b dir t → t ≡ false → j ≡ Field.readerNext (Field.readerCount u48 b m path) j
-next-unlawful b m path j dir t u f = next-none j ∙ ap (λ (n : ℕ). Field.readerNext n j) (count-unlawful b dir m path t u f)
+pub next-unlawful : (o : ℕ) (b m path : List ℕ) (j : ℕ) (dir : List ℕ) (t : Bool) → Judged o b dir t → t ≡ false → j ≡ Field.readerNext (Field.readerCount o b m path) j
+next-unlawful o b m path j dir t u f = next-none j ∙ ap (λ (n : ℕ). Field.readerNext n j) (count-unlawful o b dir m path t u f)
 
 module _ (o : ℕ) (b m path : List ℕ) (j : ℕ) where
   pub next-found : (list : Found) → list ≡ Field.readerStart o b m path → (n : ℕ) → n ≡ Field.listCount list → (r : ℕ) → r ≡ Field.readerNext n j
@@ -77,6 +76,6 @@ module _ (o : ℕ) (b m path : List ℕ) (j : ℕ) where
   next-found list el n en r e = e ∙ ap (λ (k : ℕ). Field.readerNext k j) (count-found o b m path list el n en)
 
 -- ---- the answer where the schema is not lawful
-pub answer-unlawful : (b dir m path : List ℕ) (t : Bool) → Judged b dir t → t ≡ false → (j : ℕ) (r : Answer) → r ≡ A.Refused (W.refusal 1 0)
-    → r ≡ Field.readerGives u48 b m path j
-answer-unlawful b dir m path t u f j r e = e ∙ gives-unlawful b dir m path t u f j
+pub answer-unlawful : (o : ℕ) (b dir m path : List ℕ) (t : Bool) → Judged o b dir t → t ≡ false → (j : ℕ) (r : Answer) → r ≡ A.Refused (W.refusal 1 0)
+    → r ≡ Field.readerGives o b m path j
+answer-unlawful o b dir m path t u f j r e = e ∙ gives-unlawful o b dir m path t u f j

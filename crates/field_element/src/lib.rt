@@ -16,11 +16,11 @@ ghost use Rattle.coding.specs.Schema as Sc;
 ghost use Rattle.coding.specs.Step as T;
 ghost use Rattle.coding.specs.Walk as W;
 ghost use Rattle.laws.specs.Sound.{ObjectSound};
-ghost use Rattle.schema.specs.Directory.{Accepted};
+ghost use Rattle.schema.specs.Directory.{Accepted, AcceptedUnder};
 ghost use Rattle.field_arrival.specs.Within.{Readable, FoundIn};
 ghost use Rattle.field_arrival.specs.Parts.{arrivedBy, objectPartBy};
 ghost use Rattle.field_element.specs.Listed.{Listed, Reads, offsetGives};
-ghost use Rattle.wire.specs.Sizes.{HasOffset};
+ghost use Rattle.wire.specs.Sizes.{Width, HasOffset};
 
 // ---- the list
 // Whether elements of a kind lead to objects.
@@ -53,9 +53,9 @@ fn list_of(b: &[u8], dir: &[u16], ob: Object, c: Content) -> Found
 }
 
 // What a reader starts from, by what its path comes to.
-fn reader_of(b: &[u8], dir: &[u16], m: &[u8], f: Found) -> Found
-    requires { ⌜ (Accepted (now b) (now dir)) × FoundIn B.u48 (now b) (now m) f ⌝ }
-    ensures { λ r. ⌜ (r ≡ F.readerOf (P.parse (now (b .entry))) f) × FoundIn B.u48 (now (b .entry)) (now (m .entry)) r ⌝ }
+fn reader_of(b: &[u8], dir: &[u16], m: &[u8], f: Found, o: usize) -> Found
+    requires { ⌜ (Accepted (now b) (now dir)) × FoundIn o (now b) (now m) f ⌝ }
+    ensures { λ r. ⌜ (r ≡ F.readerOf (P.parse (now (b .entry))) f) × FoundIn o (now (b .entry)) (now (m .entry)) r ⌝ }
 {
     match f {
         Found::Refused(x) => Found::Refused(x),
@@ -76,85 +76,117 @@ fn reader_of(b: &[u8], dir: &[u16], m: &[u8], f: Found) -> Found
 }
 
 // The list that a reader goes over, or why there is none, by a schema that was judged before.
-pub fn reader_by(b: &[u8], dir: &[u16], m: &[u8], path: &[u32]) -> Found
-    requires { ⌜ Accepted (now b) (now dir) ⌝ }
-    ensures { λ r. ⌜ (r ≡ F.readerStart B.u48 (now (b .entry)) (now (m .entry)) (now (path .entry))) × (FoundIn B.u48 (now (b .entry)) (now (m .entry)) r) × Reads r ⌝ }
+pub fn reader_by(b: &[u8], dir: &[u16], m: &[u8], path: &[u32], o: usize) -> Found
+    requires { ⌜ AcceptedUnder o (now b) (now dir) ⌝ }
+    ensures { λ r. ⌜ (r ≡ F.readerStart o (now (b .entry)) (now (m .entry)) (now (path .entry))) × (FoundIn o (now (b .entry)) (now (m .entry)) r) × Reads r ⌝ }
 {
-    let f = field_path::found_by(b, dir, m, path);
-    reader_of(b, dir, m, f)
+    let f = field_path::found_by(b, dir, m, path, o);
+    reader_of(b, dir, m, f, o)
 }
 
 // ---- the answer at an element
 // The answer of an arrival at an object by its offset, with d objects of depth left, this one counted.
-fn arrive_answer(b: &[u8], dir: &[u16], m: &[u8], d: usize, ob: Object, x: usize) -> Answer
-    requires { ⌜ (Accepted (now b) (now dir)) × (ObjectSound (P.parse (now b)) ob) × (x < 2 ^ 48) ⌝ }
-    ensures { λ r. ⌜ r ≡ F.answerOf (arrivedBy B.u48 (now (b .entry)) (now (m .entry)) d ob (Place.ByOffset x)) ⌝ }
+fn arrive_answer(
+    b: &[u8],
+    dir: &[u16],
+    m: &[u8],
+    d: usize,
+    ob: Object,
+    x: usize,
+    o: usize,
+) -> Answer
+    requires { ⌜ (Accepted (now b) (now dir)) × (Width o) × (ObjectSound (P.parse (now b)) ob) × (x < 2 ^ 48) ⌝ }
+    ensures { λ r. ⌜ r ≡ F.answerOf (arrivedBy o (now (b .entry)) (now (m .entry)) d ob (Place.ByOffset x)) ⌝ }
 {
     if d == 0 {
         return field::refused(5, x);
     }
-    match message_object::open_object(b, dir, m, ob, Place::ByOffset(x)) {
+    match message_object::open_object(b, dir, m, ob, Place::ByOffset(x), o) {
         Opened::Refused(e) => field::refused(e, x),
         Opened::Content(_, n) => Answer::Object(field::record_kind(ob), x, n),
     }
 }
 
 // The answer of an element that is the offset at a place of the message.
-fn offset_answer(b: &[u8], dir: &[u16], m: &[u8], d: usize, ob: Object, at: usize) -> Answer
-    requires { ⌜ (Accepted (now b) (now dir)) × (ObjectSound (P.parse (now b)) ob) × (Readable (now m)) × (HasOffset (now m) at) ⌝ }
-    ensures { λ r. ⌜ r ≡ offsetGives d B.u48 (P.parse (now (b .entry))) (now (m .entry)) ob (B.le (now (m .entry)) at B.u48) ⌝ }
+fn offset_answer(
+    b: &[u8],
+    dir: &[u16],
+    m: &[u8],
+    d: usize,
+    ob: Object,
+    at: usize,
+    o: usize,
+) -> Answer
+    requires { ⌜ (Accepted (now b) (now dir)) × (Width o) × (ObjectSound (P.parse (now b)) ob) × (Readable (now m)) × (HasOffset o (now m) at) ⌝ }
+    ensures { λ r. ⌜ r ≡ offsetGives d o (P.parse (now (b .entry))) (now (m .entry)) ob (B.le (now (m .entry)) at o) ⌝ }
 {
-    let x = wire::offset_in(m, at);
+    let x = wire::offset_in(m, at, o);
     if x == 0 {
         return Answer::Absent;
     }
-    arrive_answer(b, dir, m, d, ob, x)
+    arrive_answer(b, dir, m, d, ob, x, o)
 }
 
 // The answer of element j of a list, whatever its kind is.
-fn part_answer(b: &[u8], dir: &[u16], m: &[u8], i: usize, c: Content, j: usize) -> Answer
-    requires { ⌜ (Accepted (now b) (now dir)) × (Readable (now m)) × (i < P.listCount (now b)) ⌝ }
-    requires { ⌜ c .start + T.elementsSize B.u48 (P.parse (now b)) (Sc.elementOf (P.parse (now b)) i) (c .length) ≤ length (now m) ⌝ }
-    ensures { λ r. ⌜ r ≡ F.answerOf (objectPartBy B.u48 (now (b .entry)) (now (m .entry)) (Object.List i) c j) ⌝ }
+fn part_answer(b: &[u8], dir: &[u16], m: &[u8], i: usize, c: Content, j: usize, o: usize) -> Answer
+    requires { ⌜ (Accepted (now b) (now dir)) × (Width o) × (Readable (now m)) × (i < P.listCount (now b)) ⌝ }
+    requires { ⌜ c .start + T.elementsSize o (P.parse (now b)) (Sc.elementOf (P.parse (now b)) i) (c .length) ≤ length (now m) ⌝ }
+    ensures { λ r. ⌜ r ≡ F.answerOf (objectPartBy o (now (b .entry)) (now (m .entry)) (Object.List i) c j) ⌝ }
 {
-    let f = field_part::list_part(b, dir, m, i, c, j);
-    field::answer_of(b, m, f)
+    let f = field_part::list_part(b, dir, m, i, c, j, o);
+    field::answer_of(b, m, f, o)
 }
 
 // The answer of element j of a list of index i in the schema; an offset is followed at once.
-fn element_answer(b: &[u8], dir: &[u16], m: &[u8], i: usize, c: Content, j: usize) -> Answer
-    requires { ⌜ (Accepted (now b) (now dir)) × (Readable (now m)) × (i < P.listCount (now b)) ⌝ }
-    requires { ⌜ c .start + T.elementsSize B.u48 (P.parse (now b)) (Sc.elementOf (P.parse (now b)) i) (c .length) ≤ length (now m) ⌝ }
-    ensures { λ r. ⌜ r ≡ F.answerOf (objectPartBy B.u48 (now (b .entry)) (now (m .entry)) (Object.List i) c j) ⌝ }
+fn element_answer(
+    b: &[u8],
+    dir: &[u16],
+    m: &[u8],
+    i: usize,
+    c: Content,
+    j: usize,
+    o: usize,
+) -> Answer
+    requires { ⌜ (Accepted (now b) (now dir)) × (Width o) × (Readable (now m)) × (i < P.listCount (now b)) ⌝ }
+    requires { ⌜ c .start + T.elementsSize o (P.parse (now b)) (Sc.elementOf (P.parse (now b)) i) (c .length) ≤ length (now m) ⌝ }
+    ensures { λ r. ⌜ r ≡ F.answerOf (objectPartBy o (now (b .entry)) (now (m .entry)) (Object.List i) c j) ⌝ }
 {
     if c.length <= j {
         return field::refused(15, c.place);
     }
     match schema::element(b, dir, i) {
-        Kind::OfFlat(_) => part_answer(b, dir, m, i, c, j),
-        Kind::OfObject(ob) => { offset_answer(b, dir, m, c.left, ob, c.start + wire::OFFSET * j) }
-        Kind::OfUnion(_) => part_answer(b, dir, m, i, c, j),
+        Kind::OfFlat(_) => part_answer(b, dir, m, i, c, j, o),
+        Kind::OfObject(ob) => { offset_answer(b, dir, m, c.left, ob, c.start + o * j, o) }
+        Kind::OfUnion(_) => part_answer(b, dir, m, i, c, j, o),
     }
 }
 
 // The answer of the step at element j of an object that is a list.
-fn list_answer(b: &[u8], dir: &[u16], m: &[u8], ob: Object, c: Content, j: usize) -> Answer
-    requires { ⌜ (Accepted (now b) (now dir)) × (Readable (now m)) × (ObjectSound (P.parse (now b)) ob) × (Listed ob) ⌝ }
-    requires { ⌜ c .start + W.contentSize B.u48 (P.parse (now b)) ob (c .length) ≤ length (now m) ⌝ }
-    ensures { λ r. ⌜ r ≡ F.answerOf (objectPartBy B.u48 (now (b .entry)) (now (m .entry)) ob c j) ⌝ }
+fn list_answer(
+    b: &[u8],
+    dir: &[u16],
+    m: &[u8],
+    ob: Object,
+    c: Content,
+    j: usize,
+    o: usize,
+) -> Answer
+    requires { ⌜ (Accepted (now b) (now dir)) × (Width o) × (Readable (now m)) × (ObjectSound (P.parse (now b)) ob) × (Listed ob) ⌝ }
+    requires { ⌜ c .start + W.contentSize o (P.parse (now b)) ob (c .length) ≤ length (now m) ⌝ }
+    ensures { λ r. ⌜ r ≡ F.answerOf (objectPartBy o (now (b .entry)) (now (m .entry)) ob c j) ⌝ }
 {
     match ob {
         Object::Text => Answer::Absent,
         Object::Bytes => Answer::Absent,
-        Object::List(i) => element_answer(b, dir, m, wire::index(i), c, j),
+        Object::List(i) => element_answer(b, dir, m, wire::index(i), c, j, o),
         Object::Table(_) => Answer::Absent,
     }
 }
 
 // The answer of the step at element j of the list that a reader goes over, or the refusal that stands for it.
-pub fn step_answer(b: &[u8], dir: &[u16], m: &[u8], list: Found, j: usize) -> Answer
-    requires { ⌜ (Accepted (now b) (now dir)) × (FoundIn B.u48 (now b) (now m) list) × (Reads list) ⌝ }
-    ensures { λ r. ⌜ r ≡ F.listGives B.u48 (P.parse (now (b .entry))) (now (m .entry)) list j ⌝ }
+pub fn step_answer(b: &[u8], dir: &[u16], m: &[u8], list: Found, j: usize, o: usize) -> Answer
+    requires { ⌜ (Accepted (now b) (now dir)) × (Width o) × (FoundIn o (now b) (now m) list) × (Reads list) ⌝ }
+    ensures { λ r. ⌜ r ≡ F.listGives o (P.parse (now (b .entry))) (now (m .entry)) list j ⌝ }
 {
     match list {
         Found::Refused(x) => Answer::Refused(x),
@@ -169,7 +201,7 @@ pub fn step_answer(b: &[u8], dir: &[u16], m: &[u8], list: Found, j: usize) -> An
                 length,
                 left,
             };
-            list_answer(b, dir, m, ob, c, j)
+            list_answer(b, dir, m, ob, c, j, o)
         }
     }
 }
@@ -207,25 +239,25 @@ pub fn reader_next(n: usize, j: usize) -> usize
 }
 
 // The step at element j, by a schema that was judged before.
-fn step_by(b: &[u8], dir: &[u16], m: &[u8], path: &[u32], j: usize) -> ListStep
-    requires { ⌜ Accepted (now b) (now dir) ⌝ }
-    ensures { λ r. ⌜ (r .answer ≡ F.readerGives B.u48 (now (b .entry)) (now (m .entry)) (now (path .entry)) j) × (r .next ≡ F.readerNext (F.readerCount B.u48 (now (b .entry)) (now (m .entry)) (now (path .entry))) j) ⌝ }
+fn step_by(b: &[u8], dir: &[u16], m: &[u8], path: &[u32], j: usize, o: usize) -> ListStep
+    requires { ⌜ AcceptedUnder o (now b) (now dir) ⌝ }
+    ensures { λ r. ⌜ (r .answer ≡ F.readerGives o (now (b .entry)) (now (m .entry)) (now (path .entry)) j) × (r .next ≡ F.readerNext (F.readerCount o (now (b .entry)) (now (m .entry)) (now (path .entry))) j) ⌝ }
 {
-    let list = reader_by(b, dir, m, path);
+    let list = reader_by(b, dir, m, path, o);
     ListStep {
-        answer: step_answer(b, dir, m, list, j),
+        answer: step_answer(b, dir, m, list, j, o),
         next: reader_next(list_count(list), j),
     }
 }
 
 // The step at element j of the list that a path leads to, of any message by any schema. The reader moves on, refused or not; after
 // the last element, and where there is no list, it stays.
-pub fn step(b: &[u8], m: &[u8], path: &[u32], j: usize) -> ListStep
-    ensures { λ r. ⌜ (r .answer ≡ F.readerGives B.u48 (now (b .entry)) (now (m .entry)) (now (path .entry)) j) × (r .next ≡ F.readerNext (F.readerCount B.u48 (now (b .entry)) (now (m .entry)) (now (path .entry))) j) ⌝ }
+pub fn step(b: &[u8], m: &[u8], path: &[u32], j: usize, o: usize) -> ListStep
+    ensures { λ r. ⌜ (r .answer ≡ F.readerGives o (now (b .entry)) (now (m .entry)) (now (path .entry)) j) × (r .next ≡ F.readerNext (F.readerCount o (now (b .entry)) (now (m .entry)) (now (path .entry))) j) ⌝ }
 {
     let mut dir: [u16; 384] = [0; 384];
-    if schema_lawful::judge_schema(b, &mut dir) {
-        return step_by(b, &dir, m, path, j);
+    if schema_lawful::judge_schema(b, &mut dir, o) {
+        return step_by(b, &dir, m, path, j, o);
     }
     ListStep {
         answer: field::refused(1, 0),

@@ -6,7 +6,6 @@ use Prim.Native.Nat.{ℕ, zero, suc, _+_, _*_, _-_, _/_, _<_, _≤_}
 use native.Mathlib.Omega.{arith}
 use lib.ListN.{length, set, take, drop, length-append, take-append-drop}
 use lib.Seq.{length-take-le, take-at, drop-append-add, drop-drop, sets-eq}
-use Rattle.coding.specs.Bytes.{u48}
 use Rattle.coding.specs.Packed as P
 use Rattle.coding.specs.Walk as W
 use Rattle.coding.specs.Field as Field
@@ -124,10 +123,10 @@ unfolding Field.readerOver
 over-refused o b m path q j e none out =
     same-over (Field.readerGives o b m path) q j e out ∙ ap (λ (n : ℕ). stepsOver (Field.readerGives o b m path) n j out) none
 
-pub over-unlawful : (b dir m path : List ℕ) (t : Bool) → Judged b dir t → t ≡ false → (j : ℕ) (out out′ : List ℕ) (q : Answer)
-    → q ≡ A.Refused (W.refusal 1 0) → out′ ≡ stepsOver (always q) 0 0 out → out′ ≡ Field.readerOver u48 b m path j out
-over-unlawful b dir m path t u f j out out′ q eq h =
-    h ∙ over-refused u48 b m path q j (eq ∙ gives-unlawful b dir m path t u f j) (count-unlawful b dir m path t u f) out
+pub over-unlawful : (o : ℕ) (b dir m path : List ℕ) (t : Bool) → Judged o b dir t → t ≡ false → (j : ℕ) (out out′ : List ℕ) (q : Answer)
+    → q ≡ A.Refused (W.refusal 1 0) → out′ ≡ stepsOver (always q) 0 0 out → out′ ≡ Field.readerOver o b m path j out
+over-unlawful o b dir m path t u f j out out′ q eq h =
+    h ∙ over-refused o b m path q j (eq ∙ gives-unlawful o b dir m path t u f j) (count-unlawful o b dir m path t u f) out
 
 -- a reader that has its list, or a refusal that its steps give
 module _ (o : ℕ) (b m path : List ℕ) (list : Found) (el : list ≡ Field.readerStart o b m path) where

@@ -6,12 +6,12 @@ ghost use mathlib.Core.Path.{_≡_};
 ghost use Prim.Native.Nat.{_+_, _≤_};
 ghost use lib.ListN.{length, take, drop};
 ghost use mathlib.Core.List.{_++_};
-ghost use Rattle.coding.specs.Bytes as B;
 ghost use Rattle.coding.specs.Field as F;
 ghost use Rattle.coding.specs.Packed as P;
-ghost use Rattle.schema.specs.Directory.{Accepted};
+ghost use Rattle.schema.specs.Directory.{Accepted, AcceptedUnder};
 ghost use Rattle.field_arrival.specs.Within.{FoundIn};
 ghost use Rattle.field_element.specs.Listed.{Reads};
+ghost use Rattle.wire.specs.Sizes.{Width};
 ghost use Rattle.field_list.specs.Stepping as St;
 
 // The four numbers of a case, stored at a place of the output.
@@ -39,16 +39,16 @@ fn put_same(out: &mut [u64], answer: Answer)
 }
 
 // As many steps as the output has room for, from an element on, of the list that was found.
-fn put_steps(b: &[u8], dir: &[u16], m: &[u8], list: Found, from: usize, out: &mut [u64])
-    requires { ⌜ (Accepted (now b) (now dir)) × (FoundIn B.u48 (now b) (now m) list) × (Reads list) ⌝ }
-    ensures { λ _. ⌜ now (out .exit) ≡ F.stepsOver (F.listGives B.u48 (P.parse (now (b .entry))) (now (m .entry)) list) (F.listCount list) from (now (out .entry)) ⌝ }
+fn put_steps(b: &[u8], dir: &[u16], m: &[u8], list: Found, from: usize, out: &mut [u64], o: usize)
+    requires { ⌜ (Accepted (now b) (now dir)) × (Width o) × (FoundIn o (now b) (now m) list) × (Reads list) ⌝ }
+    ensures { λ _. ⌜ now (out .exit) ≡ F.stepsOver (F.listGives o (P.parse (now (b .entry))) (now (m .entry)) list) (F.listCount list) from (now (out .entry)) ⌝ }
 {
     let n = field_element::list_count(list);
     let steps = out.len() / 4;
     let mut j = from;
     let mut i: usize = 0;
     while i < steps {
-        let answer = field_element::step_answer(b, dir, m, list, j);
+        let answer = field_element::step_answer(b, dir, m, list, j, o);
         put_case(out, 4 * i, field::case_of(answer));
         j = field_element::reader_next(n, j);
         i += 1;
@@ -56,25 +56,33 @@ fn put_steps(b: &[u8], dir: &[u16], m: &[u8], list: Found, from: usize, out: &mu
 }
 
 // Many steps of a list reader, by a schema that was judged before.
-fn list_by(b: &[u8], dir: &[u16], m: &[u8], path: &[u32], from: usize, out: &mut [u64]) -> usize
-    requires { ⌜ Accepted (now b) (now dir) ⌝ }
-    ensures { λ r. ⌜ r ≡ F.readerCount B.u48 (now (b .entry)) (now (m .entry)) (now (path .entry)) ⌝ }
-    ensures { λ _. ⌜ now (out .exit) ≡ F.readerOver B.u48 (now (b .entry)) (now (m .entry)) (now (path .entry)) from (now (out .entry)) ⌝ }
+fn list_by(
+    b: &[u8],
+    dir: &[u16],
+    m: &[u8],
+    path: &[u32],
+    from: usize,
+    out: &mut [u64],
+    o: usize,
+) -> usize
+    requires { ⌜ AcceptedUnder o (now b) (now dir) ⌝ }
+    ensures { λ r. ⌜ r ≡ F.readerCount o (now (b .entry)) (now (m .entry)) (now (path .entry)) ⌝ }
+    ensures { λ _. ⌜ now (out .exit) ≡ F.readerOver o (now (b .entry)) (now (m .entry)) (now (path .entry)) from (now (out .entry)) ⌝ }
 {
-    let list = field_element::reader_by(b, dir, m, path);
-    put_steps(b, dir, m, list, from, out);
+    let list = field_element::reader_by(b, dir, m, path, o);
+    put_steps(b, dir, m, list, from, out, o);
     field_element::list_count(list)
 }
 
 // Many steps of a list reader, of any message by any schema: from an element on, the case and the three numbers of each step,
 // as many as the output has room for. Answers how many elements the list has.
-pub fn read_list(b: &[u8], m: &[u8], path: &[u32], from: usize, out: &mut [u64]) -> usize
-    ensures { λ r. ⌜ r ≡ F.readerCount B.u48 (now (b .entry)) (now (m .entry)) (now (path .entry)) ⌝ }
-    ensures { λ _. ⌜ now (out .exit) ≡ F.readerOver B.u48 (now (b .entry)) (now (m .entry)) (now (path .entry)) from (now (out .entry)) ⌝ }
+pub fn read_list(b: &[u8], m: &[u8], path: &[u32], from: usize, out: &mut [u64], o: usize) -> usize
+    ensures { λ r. ⌜ r ≡ F.readerCount o (now (b .entry)) (now (m .entry)) (now (path .entry)) ⌝ }
+    ensures { λ _. ⌜ now (out .exit) ≡ F.readerOver o (now (b .entry)) (now (m .entry)) (now (path .entry)) from (now (out .entry)) ⌝ }
 {
     let mut dir: [u16; 384] = [0; 384];
-    if schema_lawful::judge_schema(b, &mut dir) {
-        return list_by(b, &dir, m, path, from, out);
+    if schema_lawful::judge_schema(b, &mut dir, o) {
+        return list_by(b, &dir, m, path, from, out, o);
     }
     put_same(out, field::refused(1, 0));
     0

@@ -1,4 +1,4 @@
--- The element of a list of a lawful schema has its indices in range, and its elements end where the list does.
+-- The element of a list of a well-formed schema has its indices in range, and its elements end where the list does.
 use mathlib.Core.Path.{_≡_, sym, subst}
 use mathlib.Core.List.{List}
 use Prim.Native.Nat.{ℕ, _+_, _≤_}

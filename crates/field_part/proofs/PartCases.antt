@@ -8,7 +8,6 @@ use native.Mathlib.Numerals.{add-one}
 use lib.ListN.{length, getD, take}
 use lib.Seq.{take-suc}
 use borrow.Author.Tests.{lt-ltb, le-ltb}
-use Rattle.coding.specs.Bytes.{u48}
 use Rattle.coding.specs.Schema as Sc
 use Rattle.coding.specs.Schema.{Schema}
 use Rattle.coding.specs.Packed as P
@@ -163,13 +162,13 @@ module _ (o : ℕ) (S : Schema) (m : List ℕ) (t start n j : ℕ) (x : Member) 
   pub member-at-is : step ≡ T.memberStep o S m start n (L.afterMembers o S (take j (Sc.tableOf S t .members)) L.begin) x
   member-at-is = h .step-is ∙ ap (λ (k : Cursor). T.memberStep o S m start n k x) ec
 
-pub member-at-within : (b dir m : List ℕ) → Accepted b dir → Readable m → (t start n j : ℕ) → start + n ≤ length m
+pub member-at-within : (o : ℕ) (b dir m : List ℕ) → o ≤ 6 → Accepted b dir → Readable m → (t start n j : ℕ) → start + n ≤ length m
     → j < length (Sc.tableOf (P.parse b) t .members) → (x : Member) → x ≡ Sc.memberOf (P.parse b) t j
-    → (c : Cursor) (step : Step) (next : Cursor) → Stepped (T.memberStep u48 (P.parse b) m start n c x) (L.afterMember u48 (P.parse b) x c) (c .end) step next
+    → (c : Cursor) (step : Step) (next : Cursor) → Stepped (T.memberStep o (P.parse b) m start n c x) (L.afterMember o (P.parse b) x c) (c .end) step next
     → StepWithin (P.parse b) m step
-member-at-within b dir m a r t start n j h g x ex c step next q =
+member-at-within o b dir m most a r t start n j h g x ex c step next q =
     subst (StepWithin (P.parse b) m) (sym (q .step-is))
-    (member-within (P.parse b) (accepted-sound b dir a) m r x (member-sound-of b dir a t j x ex g) start n c h)
+    (member-within (P.parse b) (accepted-sound b dir a) m r o most x (member-sound-of b dir a t j x ex g) start n c h)
 
 pub cursor-low : (c : Cursor) (j : ℕ) → Laid (4097 * j) c → j < 256 → c .end < 2 ^ 58
 cursor-low c j l h = omega (arith, l .end)
@@ -196,12 +195,12 @@ module _ (o : ℕ) (S : Schema) (m : List ℕ) (i at start n d j : ℕ) (r : Fou
   unfolding Field.objectPart
   list-there h k ek step es e = simp (lt-ltb _ _ h, ← ek, ← es) e
 
-pub element-step-within : (b dir m : List ℕ) → Accepted b dir → Readable m → (i start n j : ℕ)
-    → start + T.elementsSize u48 (P.parse b) (Sc.elementOf (P.parse b) i) n ≤ length m → j < n → (k : Kind) → k ≡ Sc.elementOf (P.parse b) i
-    → (step : Step) → step ≡ T.elementStep u48 (P.parse b) m k start j → StepWithin (P.parse b) m step
-element-step-within b dir m a r i start n j h l k ek step e =
-    subst (StepWithin (P.parse b) m) (sym (e ∙ ap (λ (q : Kind). T.elementStep u48 (P.parse b) m q start j) ek))
-    (element-within (P.parse b) (accepted-sound b dir a) m r (Sc.elementOf (P.parse b) i) (accepted-sound b dir a .lists i .kind) start n j h l)
+pub element-step-within : (o : ℕ) (b dir m : List ℕ) → o ≤ 6 → Accepted b dir → Readable m → (i start n j : ℕ)
+    → start + T.elementsSize o (P.parse b) (Sc.elementOf (P.parse b) i) n ≤ length m → j < n → (k : Kind) → k ≡ Sc.elementOf (P.parse b) i
+    → (step : Step) → step ≡ T.elementStep o (P.parse b) m k start j → StepWithin (P.parse b) m step
+element-step-within o b dir m most a r i start n j h l k ek step e =
+    subst (StepWithin (P.parse b) m) (sym (e ∙ ap (λ (q : Kind). T.elementStep o (P.parse b) m q start j) ek))
+    (element-within (P.parse b) (accepted-sound b dir a) m r o most (Sc.elementOf (P.parse b) i) (accepted-sound b dir a .lists i .kind) start n j h l)
 
 -- ---- an object's part
 module _ (o : ℕ) (S : Schema) (m : List ℕ) (ob : Object) (at start n d j : ℕ) (r : Found) where

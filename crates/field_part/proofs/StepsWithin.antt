@@ -2,14 +2,15 @@
 use mathlib.Core.Path.{_≡_, ap}
 use mathlib.Core.Bool.{Bool, true, false, _&&_}
 use mathlib.Core.List.{List, [], _∷_, _++_}
-use Prim.Native.Nat.{ℕ, suc, _+_, _%_, _^_, _<_, _≤_}
+use Prim.Native.Nat.{ℕ, suc, _+_, _*_, _%_, _^_, _<_, _≤_}
 use native.Mathlib.Omega.{arith}
 use lib.ListN.{length, getD, take, drop, take-append-drop}
 use lib.Seq.{drop-cons}
+use lib.Pow.{pow-mono}
 use lib.Dec.{leb, eqb, ltb}
 use borrow.Author.Tests.{leb-true, eqb-false}
 use Rattle.coding.specs.Lists.{pick}
-use Rattle.coding.specs.Bytes.{le, bitAt, isNaN, u48}
+use Rattle.coding.specs.Bytes.{le, bitAt, isNaN}
 use Rattle.coding.specs.Schema as Sc
 use Rattle.coding.specs.Schema.{Schema}
 use Rattle.coding.specs.Layout as L
@@ -47,10 +48,6 @@ unfolding T.placeOf
 place-small inplace tail x h l = pick-holds PlaceSmall inplace (InPlace tail x) (ByOffset x) (λ e. (h, l)) (λ e. l)
 
 module _ (S : Schema) (sound : Sound S) (m : List ℕ) (readable : Readable m) where
-  offset-small : (at : ℕ) → le m at u48 < 2 ^ 48
-  unfolding u48
-  offset-small at = le-small m (readable .bytes) at 6
-
   flat-within : (k : Flat) → FlatSound (length (S .structs)) k → (none : Bool) (at bit : ℕ) → at + flatWidth (structSize S) k ≤ length m
       → StepWithin S m (T.flatStep m k none at bit)
   unfolding T.flatStep T.floatStep T.enumStep flatWidth
@@ -88,14 +85,6 @@ module _ (S : Schema) (sound : Sound S) (m : List ℕ) (readable : Readable m) w
       (λ f. (case-sound-at S sound u c (let z = eqb-false c 0 e in omega arith) (leb-true c (length (Sc.casesOf S u)) f), place-small inplace tail x h l))
       (λ f. tt))
 
-  value-within : (k : Kind) → KindSound S k → (none inplace : Bool) (tail at bit : ℕ) → tail < 2 ^ 48 → at + L.width u48 S k ≤ length m
-      → StepWithin S m (T.valueStep u48 S m k none inplace tail at bit)
-  unfolding T.valueStep L.width
-  value-within (OfFlat k) s none inplace tail at bit h l = flat-within k s none at bit l
-  value-within (OfObject ob) s none inplace tail at bit h l = object-within ob s inplace tail (le m at u48) h (offset-small at)
-  value-within (OfUnion u) s none inplace tail at bit h l =
-      union-within u inplace tail (le m at 2) (le m (at + 2) u48) h (offset-small (at + 2))
-
   inside-within : (n : ℕ) (slot : Slot) (past here : Step) → StepWithin S m past → (slot .at + slot .size ≤ n → StepWithin S m here)
       → StepWithin S m (T.inside n slot past here)
   unfolding T.inside
@@ -103,39 +92,55 @@ module _ (S : Schema) (sound : Sound S) (m : List ℕ) (readable : Readable m) w
       pick-holds (StepWithin S m) (leb n (slot .at)) past (pick (leb (slot .at + slot .size) n) here (St.Refused 8)) (λ e. p)
       (λ e. pick-holds (StepWithin S m) (leb (slot .at + slot .size) n) here (St.Refused 8) (λ f. h (leb-true (slot .at + slot .size) n f)) (λ f. tt))
 
-  pub member-within : (r : Member) → MemberSound S r → (start n : ℕ) (c : Cursor) → start + n ≤ length m
-      → StepWithin S m (T.memberStep u48 S m start n c r)
-  unfolding T.memberStep T.placedStep T.flagged L.placementOf L.memberSlot
-  member-within r s start n c h =
-      tested-within (T.placedStep u48 S m start n (L.placementOf u48 S r c) r)
-      (pick-holds (StepWithin S m) (L.hasFlag r) (T.flagged m start n flag slot here) (T.inside n slot St.Absent here)
-      (λ e. pick-holds (StepWithin S m) (leb n (flag .at)) St.Absent
-      (pick (eqb (bitAt m (start + flag .at) (flag .bit)) 1) (T.inside n slot (St.Refused 8) here) (T.inside n slot St.Absent St.Absent)) (λ f. tt)
-      (λ f. pick-holds (StepWithin S m) (eqb (bitAt m (start + flag .at) (flag .bit)) 1) (T.inside n slot (St.Refused 8) here) (T.inside n slot St.Absent St.Absent)
-      (λ g. inside-within n slot (St.Refused 8) here tt there) (λ g. inside-within n slot St.Absent St.Absent tt (λ l. tt))))
-      (λ e. inside-within n slot St.Absent here tt there))
-    where
-      slot : Slot
-      slot = L.memberSlot u48 S r c
+  -- ---- a table's member and a list's element, over the width
+  module _ (o : ℕ) (most : o ≤ 6) where
+    offset-small : (at : ℕ) → le m at o < 2 ^ 48
+    offset-small at =
+        let h : 8 * o ≤ 48 = omega arith in
+        let p : 2 ^ (8 * o) ≤ 2 ^ 48 = pow-mono h in
+        omega (arith, le-small m (readable .bytes) at o, p)
 
-      flag : Slot
-      flag = L.placementOf u48 S r c .flag
+    value-within : (k : Kind) → KindSound S k → (none inplace : Bool) (tail at bit : ℕ) → tail < 2 ^ 48 → at + L.width o S k ≤ length m
+        → StepWithin S m (T.valueStep o S m k none inplace tail at bit)
+    unfolding T.valueStep L.width
+    value-within (OfFlat k) s none inplace tail at bit h l = flat-within k s none at bit l
+    value-within (OfObject ob) s none inplace tail at bit h l = object-within ob s inplace tail (le m at o) h (offset-small at)
+    value-within (OfUnion u) s none inplace tail at bit h l =
+        union-within u inplace tail (le m at 2) (le m (at + 2) o) h (offset-small (at + 2))
 
-      here : Step
-      here = T.valueStep u48 S m (r .kind) (r .optional) (r .inplace) (start + n) (start + slot .at) (slot .bit)
+    pub member-within : (r : Member) → MemberSound S r → (start n : ℕ) (c : Cursor) → start + n ≤ length m
+        → StepWithin S m (T.memberStep o S m start n c r)
+    unfolding T.memberStep T.placedStep T.flagged L.placementOf L.memberSlot
+    member-within r s start n c h =
+        tested-within (T.placedStep o S m start n (L.placementOf o S r c) r)
+        (pick-holds (StepWithin S m) (L.hasFlag r) (T.flagged m start n flag slot here) (T.inside n slot St.Absent here)
+        (λ e. pick-holds (StepWithin S m) (leb n (flag .at)) St.Absent
+        (pick (eqb (bitAt m (start + flag .at) (flag .bit)) 1) (T.inside n slot (St.Refused 8) here) (T.inside n slot St.Absent St.Absent)) (λ f. tt)
+        (λ f. pick-holds (StepWithin S m) (eqb (bitAt m (start + flag .at) (flag .bit)) 1) (T.inside n slot (St.Refused 8) here) (T.inside n slot St.Absent St.Absent)
+        (λ g. inside-within n slot (St.Refused 8) here tt there) (λ g. inside-within n slot St.Absent St.Absent tt (λ l. tt))))
+        (λ e. inside-within n slot St.Absent here tt there))
+      where
+        slot : Slot
+        slot = L.memberSlot o S r c
 
-      there : slot .at + slot .size ≤ n → StepWithin S m here
-      there l =
-          let z : slot .size ≡ L.width u48 S (r .kind) = slot-size u48 S (r .kind) (L.afterFlag r c) in
-          let g = readable .size in
-          value-within (r .kind) (s .kind) (r .optional) (r .inplace) (start + n) (start + slot .at) (slot .bit) (omega arith) (omega arith)
+        flag : Slot
+        flag = L.placementOf o S r c .flag
 
-  pub element-within : (k : Kind) → KindSound S k → (start n i : ℕ) → start + T.elementsSize u48 S k n ≤ length m → i < n
-      → StepWithin S m (T.elementStep u48 S m k start i)
-  unfolding T.elementStep
-  element-within k s start n i h l =
-      tested-within (T.valueStep u48 S m k true false 0 (T.elementPlace u48 S k start i) (i % 8))
-      (value-within k s true false 0 (T.elementPlace u48 S k start i) (i % 8) (omega arith) (omega (arith, element-inside S k start n i l)))
+        here : Step
+        here = T.valueStep o S m (r .kind) (r .optional) (r .inplace) (start + n) (start + slot .at) (slot .bit)
+
+        there : slot .at + slot .size ≤ n → StepWithin S m here
+        there l =
+            let z : slot .size ≡ L.width o S (r .kind) = slot-size o S (r .kind) (L.afterFlag r c) in
+            let g = readable .size in
+            value-within (r .kind) (s .kind) (r .optional) (r .inplace) (start + n) (start + slot .at) (slot .bit) (omega arith) (omega arith)
+
+    pub element-within : (k : Kind) → KindSound S k → (start n i : ℕ) → start + T.elementsSize o S k n ≤ length m → i < n
+        → StepWithin S m (T.elementStep o S m k start i)
+    unfolding T.elementStep
+    element-within k s start n i h l =
+        tested-within (T.valueStep o S m k true false 0 (T.elementPlace o S k start i) (i % 8))
+        (value-within k s true false 0 (T.elementPlace o S k start i) (i % 8) (omega arith) (omega (arith, element-inside o S k start n i l)))
 
   -- ---- a struct's member
   before-and-here : (i j : ℕ) → j < length (Sc.structOf S i)

@@ -11,7 +11,6 @@ use field_arrival::Part;
 ghost use mathlib.Core.Path.{_≡_};
 ghost use Prim.Native.Nat.{_+_, _*_, _<_, _≤_, _^_};
 ghost use lib.ListN.{length};
-ghost use Rattle.coding.specs.Bytes as B;
 ghost use Rattle.coding.specs.Field as F;
 ghost use Rattle.coding.specs.Layout as L;
 ghost use Rattle.coding.specs.Packed as P;
@@ -22,6 +21,7 @@ ghost use Rattle.coding.specs.Walk as W;
 ghost use Rattle.laws.specs.Sound.{FlatSound, ObjectSound};
 ghost use Rattle.message_layout.specs.Bounds.{Laid};
 ghost use Rattle.schema.specs.Directory.{Accepted};
+ghost use Rattle.wire.specs.Sizes.{Width};
 ghost use Rattle.field_arrival.specs.Within.{Readable, StepIn, FoundIn};
 ghost use Rattle.field_arrival.specs.Parts.{objectPartBy};
 ghost use Rattle.field_part.specs.Before.{fieldPlace, cursorAt};
@@ -73,9 +73,17 @@ fn field_at(b: &[u8], dir: &[u16], m: &[u8], s: StructAt, j: usize, k: Flat) -> 
 }
 
 // Member j of a struct that is held by the object at `holder`.
-fn struct_part(b: &[u8], dir: &[u16], m: &[u8], s: StructAt, holder: usize, j: usize) -> Found
-    requires { ⌜ (Accepted (now b) (now dir)) × (Readable (now m)) × (s .index < P.structCount (now b)) × (s .place + S.structSize (P.parse (now b)) (s .index) ≤ length (now m)) ⌝ }
-    ensures { λ r. ⌜ r ≡ F.structPart B.u48 (P.parse (now (b .entry))) (now (m .entry)) (s .index) (s .place) holder j ⌝ }
+fn struct_part(
+    b: &[u8],
+    dir: &[u16],
+    m: &[u8],
+    s: StructAt,
+    holder: usize,
+    j: usize,
+    o: usize,
+) -> Found
+    requires { ⌜ (Accepted (now b) (now dir)) × (Width o) × (Readable (now m)) × (s .index < P.structCount (now b)) × (s .place + S.structSize (P.parse (now b)) (s .index) ≤ length (now m)) ⌝ }
+    ensures { λ r. ⌜ r ≡ F.structPart o (P.parse (now (b .entry))) (now (m .entry)) (s .index) (s .place) holder j ⌝ }
 {
     if schema::field_count(b, dir, s.index) <= j {
         return field_arrival::refuse(15, holder);
@@ -88,55 +96,64 @@ fn struct_part(b: &[u8], dir: &[u16], m: &[u8], s: StructAt, holder: usize, j: u
         kind: Kind::OfFlat(k),
         left: 0,
     };
-    field_arrival::follow(b, dir, m, part, step)
+    field_arrival::follow(b, dir, m, part, step, o)
 }
 
 // ---- members and elements
 // The cursor behind member i of table t.
-fn after_member(b: &[u8], dir: &[u16], t: usize, i: usize, c: Cursor) -> Cursor
-    requires { ⌜ (Accepted (now b) (now dir)) × (t < P.tableCount (now b)) × (i < length (Sc.tableOf (P.parse (now b)) t .members)) × (i < 256) × (Laid (4097 * i) c) ⌝ }
-    ensures { λ r. ⌜ (r ≡ L.afterMember B.u48 (P.parse (now (b .entry))) (Sc.memberOf (P.parse (now (b .entry))) t i) c) × Laid (4097 * (i + 1)) r ⌝ }
+fn after_member(b: &[u8], dir: &[u16], t: usize, i: usize, c: Cursor, o: usize) -> Cursor
+    requires { ⌜ (Accepted (now b) (now dir)) × (Width o) × (t < P.tableCount (now b)) × (i < length (Sc.tableOf (P.parse (now b)) t .members)) × (i < 256) × (Laid (4097 * i) c) ⌝ }
+    ensures { λ r. ⌜ (r ≡ L.afterMember o (P.parse (now (b .entry))) (Sc.memberOf (P.parse (now (b .entry))) t i) c) × Laid (4097 * (i + 1)) r ⌝ }
 {
     let r = schema::member(b, dir, t, i);
-    let p = message_layout::place_member(b, dir, r, c);
+    let p = message_layout::place_member(b, dir, r, c, o);
     p.next
 }
 
 // The cursor at member j of table t.
-fn cursor_at(b: &[u8], dir: &[u16], t: usize, j: usize) -> Cursor
-    requires { ⌜ (Accepted (now b) (now dir)) × (t < P.tableCount (now b)) × (j < length (Sc.tableOf (P.parse (now b)) t .members)) × (j < 256) ⌝ }
-    ensures { λ r. ⌜ (r ≡ cursorAt B.u48 (now (b .entry)) t j) × Laid (4097 * j) r ⌝ }
+fn cursor_at(b: &[u8], dir: &[u16], t: usize, j: usize, o: usize) -> Cursor
+    requires { ⌜ (Accepted (now b) (now dir)) × (Width o) × (t < P.tableCount (now b)) × (j < length (Sc.tableOf (P.parse (now b)) t .members)) × (j < 256) ⌝ }
+    ensures { λ r. ⌜ (r ≡ cursorAt o (now (b .entry)) t j) × Laid (4097 * j) r ⌝ }
 {
     let mut c = message_layout::begin();
     let mut i: usize = 0;
     while i < j {
-        c = after_member(b, dir, t, i, c);
+        c = after_member(b, dir, t, i, c, o);
         i += 1;
     }
     c
 }
 
 // What member j, which is r, of table t holds.
-fn member_at(b: &[u8], dir: &[u16], m: &[u8], t: usize, c: Content, j: usize, r: Member) -> Step
-    requires { ⌜ (Accepted (now b) (now dir)) × (Readable (now m)) × (t < P.tableCount (now b)) × (c .start + c .length ≤ length (now m)) ⌝ }
+fn member_at(
+    b: &[u8],
+    dir: &[u16],
+    m: &[u8],
+    t: usize,
+    c: Content,
+    j: usize,
+    r: Member,
+    o: usize,
+) -> Step
+    requires { ⌜ (Accepted (now b) (now dir)) × (Width o) × (Readable (now m)) × (t < P.tableCount (now b)) × (c .start + c .length ≤ length (now m)) ⌝ }
     requires { ⌜ (j < length (Sc.tableOf (P.parse (now b)) t .members)) × (j < 256) × (r ≡ Sc.memberOf (P.parse (now b)) t j) ⌝ }
-    ensures { λ q. ⌜ (q ≡ T.memberStep B.u48 (P.parse (now (b .entry))) (now (m .entry)) (c .start) (c .length) (cursorAt B.u48 (now (b .entry)) t j) r) × StepIn (now (b .entry)) (now (m .entry)) q ⌝ }
+    ensures { λ q. ⌜ (q ≡ T.memberStep o (P.parse (now (b .entry))) (now (m .entry)) (c .start) (c .length) (cursorAt o (now (b .entry)) t j) r) × StepIn (now (b .entry)) (now (m .entry)) q ⌝ }
 {
-    let at = cursor_at(b, dir, t, j);
-    let q = message_step::member_step(b, dir, m, c.start, c.length, at, r);
+    let at = cursor_at(b, dir, t, j, o);
+    let q = message_step::member_step(b, dir, m, c.start, c.length, at, r, o);
     q.step
 }
 
 // Member j of table t.
-fn table_part(b: &[u8], dir: &[u16], m: &[u8], t: usize, c: Content, j: usize) -> Found
-    requires { ⌜ (Accepted (now b) (now dir)) × (Readable (now m)) × (t < P.tableCount (now b)) × (c .start + c .length ≤ length (now m)) ⌝ }
-    ensures { λ r. ⌜ r ≡ objectPartBy B.u48 (now (b .entry)) (now (m .entry)) (Object.Table t) c j ⌝ }
+fn table_part(b: &[u8], dir: &[u16], m: &[u8], t: usize, c: Content, j: usize, o: usize) -> Found
+    requires { ⌜ (Accepted (now b) (now dir)) × (Width o) × (Readable (now m)) × (t < P.tableCount (now b)) × (c .start + c .length ≤ length (now m)) ⌝ }
+    ensures { λ r. ⌜ r ≡ objectPartBy o (now (b .entry)) (now (m .entry)) (Object.Table t) c j ⌝ }
 {
     if schema::member_count(b, dir, t) <= j {
         return field_arrival::refuse(15, c.place);
     }
     let r = schema::member(b, dir, t, j);
-    let step = member_at(b, dir, m, t, c, j, r);
+    let step = member_at(b, dir, m, t, c, j, r, o);
     let kind = r.kind;
     let part = Part {
         holder: c.place,
@@ -144,48 +161,48 @@ fn table_part(b: &[u8], dir: &[u16], m: &[u8], t: usize, c: Content, j: usize) -
         kind,
         left: c.left,
     };
-    field_arrival::follow(b, dir, m, part, step)
+    field_arrival::follow(b, dir, m, part, step, o)
 }
 
 // Element j of a list that is of index i in the schema.
-pub fn list_part(b: &[u8], dir: &[u16], m: &[u8], i: usize, c: Content, j: usize) -> Found
-    requires { ⌜ (Accepted (now b) (now dir)) × (Readable (now m)) × (i < P.listCount (now b)) ⌝ }
-    requires { ⌜ c .start + T.elementsSize B.u48 (P.parse (now b)) (Sc.elementOf (P.parse (now b)) i) (c .length) ≤ length (now m) ⌝ }
-    ensures { λ r. ⌜ r ≡ objectPartBy B.u48 (now (b .entry)) (now (m .entry)) (Object.List i) c j ⌝ }
+pub fn list_part(b: &[u8], dir: &[u16], m: &[u8], i: usize, c: Content, j: usize, o: usize) -> Found
+    requires { ⌜ (Accepted (now b) (now dir)) × (Width o) × (Readable (now m)) × (i < P.listCount (now b)) ⌝ }
+    requires { ⌜ c .start + T.elementsSize o (P.parse (now b)) (Sc.elementOf (P.parse (now b)) i) (c .length) ≤ length (now m) ⌝ }
+    ensures { λ r. ⌜ r ≡ objectPartBy o (now (b .entry)) (now (m .entry)) (Object.List i) c j ⌝ }
 {
     if c.length <= j {
         return field_arrival::refuse(15, c.place);
     }
     let kind = schema::element(b, dir, i);
-    let step = message_step::element_step(b, dir, m, kind, c.start, c.length, j);
+    let step = message_step::element_step(b, dir, m, kind, c.start, c.length, j, o);
     let part = Part {
         holder: c.place,
         number: j,
         kind,
         left: c.left,
     };
-    field_arrival::follow(b, dir, m, part, step)
+    field_arrival::follow(b, dir, m, part, step, o)
 }
 
 // Part j of an object: a text and bytes have none.
-fn object_part(b: &[u8], dir: &[u16], m: &[u8], ob: Object, c: Content, j: usize) -> Found
-    requires { ⌜ (Accepted (now b) (now dir)) × (Readable (now m)) × (ObjectSound (P.parse (now b)) ob) ⌝ }
-    requires { ⌜ c .start + W.contentSize B.u48 (P.parse (now b)) ob (c .length) ≤ length (now m) ⌝ }
-    ensures { λ r. ⌜ r ≡ objectPartBy B.u48 (now (b .entry)) (now (m .entry)) ob c j ⌝ }
+fn object_part(b: &[u8], dir: &[u16], m: &[u8], ob: Object, c: Content, j: usize, o: usize) -> Found
+    requires { ⌜ (Accepted (now b) (now dir)) × (Width o) × (Readable (now m)) × (ObjectSound (P.parse (now b)) ob) ⌝ }
+    requires { ⌜ c .start + W.contentSize o (P.parse (now b)) ob (c .length) ≤ length (now m) ⌝ }
+    ensures { λ r. ⌜ r ≡ objectPartBy o (now (b .entry)) (now (m .entry)) ob c j ⌝ }
 {
     match ob {
         Object::Text => field_arrival::refuse(15, c.place),
         Object::Bytes => field_arrival::refuse(15, c.place),
-        Object::List(i) => list_part(b, dir, m, wire::index(i), c, j),
-        Object::Table(t) => table_part(b, dir, m, wire::index(t), c, j),
+        Object::List(i) => list_part(b, dir, m, wire::index(i), c, j, o),
+        Object::Table(t) => table_part(b, dir, m, wire::index(t), c, j, o),
     }
 }
 
 // ---- one number of a path
 // What a path has come to with one number more, from what was found before.
-pub fn part_of(b: &[u8], dir: &[u16], m: &[u8], f: Found, j: usize) -> Found
-    requires { ⌜ (Accepted (now b) (now dir)) × (Readable (now m)) × (FoundIn B.u48 (now b) (now m) f) ⌝ }
-    ensures { λ r. ⌜ r ≡ F.partOf B.u48 (P.parse (now (b .entry))) (now (m .entry)) f j ⌝ }
+pub fn part_of(b: &[u8], dir: &[u16], m: &[u8], f: Found, j: usize, o: usize) -> Found
+    requires { ⌜ (Accepted (now b) (now dir)) × (Width o) × (Readable (now m)) × (FoundIn o (now b) (now m) f) ⌝ }
+    ensures { λ r. ⌜ r ≡ F.partOf o (P.parse (now (b .entry))) (now (m .entry)) f j ⌝ }
 {
     match f {
         Found::Refused(x) => Found::Refused(x),
@@ -197,7 +214,7 @@ pub fn part_of(b: &[u8], dir: &[u16], m: &[u8], f: Found, j: usize) -> Found
                 index: wire::index(i),
                 place,
             };
-            struct_part(b, dir, m, s, holder, j)
+            struct_part(b, dir, m, s, holder, j, o)
         }
         Found::Object(ob, place, start, length, left) => {
             let c = Content {
@@ -206,7 +223,7 @@ pub fn part_of(b: &[u8], dir: &[u16], m: &[u8], f: Found, j: usize) -> Found
                 length,
                 left,
             };
-            object_part(b, dir, m, ob, c, j)
+            object_part(b, dir, m, ob, c, j, o)
         }
     }
 }

@@ -3,12 +3,13 @@ use mathlib.Core.Path.{_≡_, sym, ap, _∙_}
 use mathlib.Core.Bool.{Bool, true, false, _&&_}
 use mathlib.Core.List.{List}
 use Prim.Native.Nat.{ℕ, suc, _+_, _<_, _≤_}
+use native.Mathlib.Omega.{arith}
 use native.Mathlib.Numerals.{add-one}
 use lib.ListN.{length, getD, drop, drop-of-length-le}
 use lib.Seq.{drop-cons}
 use lib.Dec.{leb}
 use borrow.Author.Tests.{le-leb, lt-leb, leb-true}
-use Rattle.coding.specs.Bytes.{u48, largest, deepest}
+use Rattle.coding.specs.Bytes.{largest, deepest}
 use Rattle.coding.specs.Schema.{Schema}
 use Rattle.coding.specs.Packed as P
 use Rattle.coding.specs.Walk as W
@@ -19,7 +20,7 @@ use Rattle.coding.specs.declared.Place.{Place}
 use Rattle.coding.specs.declared.Found.{Found}
 use Rattle.coding.specs.declared.Found.the-variants as Fd
 use Rattle.laws.specs.Lists.{both-left, both-right}
-use Rattle.schema.specs.Directory.{Accepted, Judged}
+use Rattle.schema.specs.Directory.{AcceptedUnder, Judged}
 use Rattle.field_arrival.specs.Within.{FoundWithin}
 
 -- ---- the numbers of a path, from number i on
@@ -46,35 +47,38 @@ root-found o S m path ob p eo ep f ef r e =
     (ef ∙ ap (λ (q : Object). Field.arrived 32 o S m q p) eo ∙ ap (Field.arrived 32 o S m (O.Table (S .root))) ep)
 
 -- ---- what comes first
-module _ (b dir m path : List ℕ) (a : Accepted b dir) (r : Found) where
-  pub found-far : 96 < length path → r ≡ Fd.Refused (W.refusal 15 0) → r ≡ Field.fieldFound u48 b m path
+module _ (o : ℕ) (b dir m path : List ℕ) (a : AcceptedUnder o b dir) (r : Found) where
+  pub found-far : 96 < length path → r ≡ Fd.Refused (W.refusal 15 0) → r ≡ Field.fieldFound o b m path
   unfolding Field.fieldFound Field.before
   found-far h e = simp (a .lawful, lt-leb _ _ h) e
 
-  module _ (h : length path ≤ 96) (s : Bool) (es : s ≡ W.sizeOk u48 m) where
-    pub found-size : s ≡ false → r ≡ Fd.Refused (W.refusal 2 0) → r ≡ Field.fieldFound u48 b m path
+  module _ (h : length path ≤ 96) (s : Bool) (es : s ≡ W.sizeOk o m) where
+    pub found-size : s ≡ false → r ≡ Fd.Refused (W.refusal 2 0) → r ≡ Field.fieldFound o b m path
     unfolding Field.fieldFound Field.before
     found-size f e = simp (a .lawful, le-leb _ _ h, ← es, f) e
 
     module _ (g : s ≡ true) (t : Bool) (et : t ≡ W.startOk m) where
-      pub found-there : t ≡ true → r ≡ Field.found u48 (P.parse b) m path → r ≡ Field.fieldFound u48 b m path
+      pub found-there : t ≡ true → r ≡ Field.found o (P.parse b) m path → r ≡ Field.fieldFound o b m path
       unfolding Field.fieldFound
       found-there f e = simp (a .lawful, le-leb _ _ h, ← es, g, ← et, f) e
 
-      pub found-other : t ≡ false → r ≡ Fd.Refused (W.refusal 3 0) → r ≡ Field.fieldFound u48 b m path
+      pub found-other : t ≡ false → r ≡ Fd.Refused (W.refusal 3 0) → r ≡ Field.fieldFound o b m path
       unfolding Field.fieldFound Field.before
       found-other f e = simp (a .lawful, le-leb _ _ h, ← es, g, ← et, f) e
 
 -- a message of a right size has its start, and is within the size
-module _ (m : List ℕ) (s : Bool) (es : s ≡ W.sizeOk u48 m) (g : s ≡ true) where
-  both : (10 ≤ length m) × (length m ≤ 16777215)
-  unfolding W.sizeOk W.startSize u48 largest
+module _ (o : ℕ) (m : List ℕ) (s : Bool) (es : s ≡ W.sizeOk o m) (g : s ≡ true) where
+  both : (4 + o ≤ length m) × (length m ≤ 16777215)
+  unfolding W.sizeOk W.startSize largest
   both =
-      let e : (leb 10 (length m) && leb (length m) 16777215) ≡ true = sym es ∙ g in
-      (leb-true _ _ (both-left (leb 10 (length m)) (leb (length m) 16777215) e), leb-true _ _ (both-right (leb 10 (length m)) (leb (length m) 16777215) e))
+      let e : (leb (4 + o) (length m) && leb (length m) 16777215) ≡ true = sym es ∙ g in
+      (leb-true _ _ (both-left (leb (4 + o) (length m)) (leb (length m) 16777215) e), leb-true _ _ (both-right (leb (4 + o) (length m)) (leb (length m) 16777215) e))
 
-  pub size-start : 10 ≤ length m
+  pub size-start : 4 + o ≤ length m
   size-start = both .0
+
+  pub size-magic : 4 ≤ length m
+  size-magic = let h = both .0 in omega arith
 
   pub size-most : length m ≤ 16777215
   size-most = both .1
@@ -83,10 +87,10 @@ pub refused-within : (o : ℕ) (S : Schema) (m : List ℕ) (n at : ℕ) (r : Fou
 refused-within o S m n at r e = rw e tt
 
 -- ---- the schema
-pub unlawful : (b dir m path : List ℕ) (t : Bool) → Judged b dir t → t ≡ false → Field.fieldFound u48 b m path ≡ Fd.Refused (W.refusal 1 0)
+pub unlawful : (o : ℕ) (b dir m path : List ℕ) (t : Bool) → Judged o b dir t → t ≡ false → Field.fieldFound o b m path ≡ Fd.Refused (W.refusal 1 0)
 unfolding Field.fieldFound Field.before
-unlawful b dir m path t j f = simp (← (j .is), f)
+unlawful o b dir m path t j f = simp (← (j .is), f)
 
-pub found-unlawful : (b dir m path : List ℕ) (t : Bool) → Judged b dir t → t ≡ false → (r : Found) → r ≡ Fd.Refused (W.refusal 1 0)
-    → r ≡ Field.fieldFound u48 b m path
-found-unlawful b dir m path t j f r e = e ∙ sym (unlawful b dir m path t j f)
+pub found-unlawful : (o : ℕ) (b dir m path : List ℕ) (t : Bool) → Judged o b dir t → t ≡ false → (r : Found) → r ≡ Fd.Refused (W.refusal 1 0)
+    → r ≡ Field.fieldFound o b m path
+found-unlawful o b dir m path t j f r e = e ∙ sym (unlawful o b dir m path t j f)

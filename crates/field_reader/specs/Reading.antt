@@ -1,4 +1,4 @@
--- The answer of a reader's step, and the reader after it, over the offset's width o.
+-- The answer of a reader's step, and the reader after it.
 use Prim.Native.Nat.{ℕ}
 use denote.Ref.{now}
 use Rattle.coding.specs.Field.{readerGives, readerCount, readerNext}
@@ -6,13 +6,13 @@ use Rattle.coding.specs.declared.Answer.{Answer}
 use Rattle.field_reader.specs.declared.ListReader.{ListReader}
 
 -- "Each step answers as that element's path would"
-abbrev pub gives : ℕ → ListReader → Answer
-gives o r = readerGives o (now (r .schema)) (now (r .message)) (now (r .path)) (r .element)
+abbrev pub gives : ListReader → Answer
+gives r = readerGives (r .width) (now (r .schema)) (now (r .message)) (now (r .path)) (r .element)
 
 -- how many elements the reader's list has; none where there is no list
-abbrev pub count : ℕ → ListReader → ℕ
-count o r = readerCount o (now (r .schema)) (now (r .message)) (now (r .path))
+abbrev pub count : ListReader → ℕ
+count r = readerCount (r .width) (now (r .schema)) (now (r .message)) (now (r .path))
 
 -- "and moves on, refused or not; after the last it answers 15 at the list and stays": all else of the reader is as it was
-abbrev pub after : ℕ → ListReader → ListReader
-after o r = record { schema = r .schema; message = r .message; path = r .path; element = readerNext (count o r) (r .element) }
+abbrev pub after : ListReader → ListReader
+after r = record { schema = r .schema; message = r .message; path = r .path; element = readerNext (count r) (r .element); width = r .width }

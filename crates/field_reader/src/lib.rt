@@ -1,8 +1,7 @@
-// The list reader: a schema, a message, a path to a list, and the element at which the next step answers. Its functions are
-// thin: the work is done by functions on slices and numbers.
+// The list reader: a schema, a message, a path to a list, the element at which the next step answers, and the width of an
+// offset in bytes. Its functions are thin: the work is done by functions on slices and numbers.
 use coding::Answer;
 ghost use mathlib.Core.Path.{_≡_};
-ghost use Rattle.coding.specs.Bytes as B;
 ghost use Rattle.field_reader.specs.Reading.{gives, after};
 
 pub struct ListReader<'a, 'b, 'c> {
@@ -10,6 +9,7 @@ pub struct ListReader<'a, 'b, 'c> {
     pub message: &'b [u8],
     pub path: &'c [u32],
     pub element: usize,
+    pub width: usize,
 }
 
 // A reader before its first step.
@@ -17,35 +17,38 @@ pub fn new<'a, 'b, 'c>(
     schema: &'a [u8],
     message: &'b [u8],
     path: &'c [u32],
+    o: usize,
 ) -> ListReader<'a, 'b, 'c>
-    ensures { λ r. ⌜ (r .schema ≡ schema .entry) × (r .message ≡ message .entry) × (r .path ≡ path .entry) × (r .element ≡ 0) ⌝ }
+    ensures { λ r. ⌜ (r .schema ≡ schema .entry) × (r .message ≡ message .entry) × (r .path ≡ path .entry) × (r .element ≡ 0) × (r .width ≡ o) ⌝ }
 {
     ListReader {
         schema,
         message,
         path,
         element: 0,
+        width: o,
     }
 }
 
 // A step: the answer at the reader's element. The reader moves on, refused or not; after the list's last element, and where there is
 // no list, it stays.
 pub fn step<'s, 'a, 'b, 'c>(r: &'s mut ListReader<'a, 'b, 'c>) -> Answer
-    ensures { λ q. ⌜ (q ≡ gives B.u48 (now (r .entry))) × (now (r .exit) ≡ after B.u48 (now (r .entry))) ⌝ }
+    ensures { λ q. ⌜ (q ≡ gives (now (r .entry))) × (now (r .exit) ≡ after (now (r .entry))) ⌝ }
 {
-    let s = field_element::step(r.schema, r.message, r.path, r.element);
+    let s = field_element::step(r.schema, r.message, r.path, r.element, r.width);
     r.element = s.next;
     s.answer
 }
 
 // The reader at another element.
 pub fn moved<'a, 'b, 'c>(r: ListReader<'a, 'b, 'c>, element: usize) -> ListReader<'a, 'b, 'c>
-    ensures { λ q. ⌜ (q .schema ≡ r .entry .schema) × (q .message ≡ r .entry .message) × (q .path ≡ r .entry .path) × (q .element ≡ element) ⌝ }
+    ensures { λ q. ⌜ (q .schema ≡ r .entry .schema) × (q .message ≡ r .entry .message) × (q .path ≡ r .entry .path) × (q .element ≡ element) × (q .width ≡ r .entry .width) ⌝ }
 {
     ListReader {
         schema: r.schema,
         message: r.message,
         path: r.path,
         element,
+        width: r.width,
     }
 }

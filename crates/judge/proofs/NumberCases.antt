@@ -6,7 +6,7 @@ use native.Mathlib.Omega.{arith}
 use lib.ListN.{length, getD}
 use lib.Dec.{leb, eqb, ltb}
 use Rattle.coding.specs.Lists.{pick}
-use Rattle.coding.specs.Bytes.{u48, le, bitAt, isNaN, deepest}
+use Rattle.coding.specs.Bytes.{le, bitAt, isNaN, deepest}
 use Rattle.coding.specs.Schema as Sc
 use Rattle.coding.specs.Schema.{Schema}
 use Rattle.coding.specs.Layout as L
@@ -53,20 +53,20 @@ OpenNumber (Op.Refused n) = n < 256
 OpenNumber (Op.Content start n) = Unit {0}
 
 -- ---- opening
-module _ (S : Schema) (m : List ℕ) (ob : Object) where
-  content-number : (start n : ℕ) → OpenNumber (W.fitContent u48 S m ob start n)
+module _ (o : ℕ) (S : Schema) (m : List ℕ) (ob : Object) where
+  content-number : (start n : ℕ) → OpenNumber (W.fitContent o S m ob start n)
   unfolding W.fitContent
-  content-number start n = by (leb (start + W.contentSize u48 S ob n) (length m))
+  content-number start n = by (leb (start + W.contentSize o S ob n) (length m))
     where
       by : (t : Bool) → OpenNumber (pick t (Op.Content start n) (Op.Refused 6))
       by true = tt
       by false = omega arith
 
-  fit-number : (p : Place) → OpenNumber (W.fitObject u48 S m ob p)
+  fit-number : (p : Place) → OpenNumber (W.fitObject o S m ob p)
   unfolding W.fitObject
   fit-number (ByOffset x) =
-      by (leb (W.startSize u48) x && leb (x + W.headerSize u48) (length m)) (eqb (le m x 4) (W.magic S ob))
-      (W.fitContent u48 S m ob (x + W.headerSize u48) (le m (x + 4) u48)) (content-number (x + W.headerSize u48) (le m (x + 4) u48))
+      by (leb (W.startSize o) x && leb (x + W.headerSize o) (length m)) (eqb (le m x 4) (W.magic S ob))
+      (W.fitContent o S m ob (x + W.headerSize o) (le m (x + 4) o)) (content-number (x + W.headerSize o) (le m (x + 4) o))
     where
       by : (t u : Bool) (g : Opened) → OpenNumber g → OpenNumber (pick t (pick u g (Op.Refused 7)) (Op.Refused 6))
       by true true g h = h
@@ -83,9 +83,9 @@ module _ (S : Schema) (m : List ℕ) (ob : Object) where
       by true = tt
       by false = omega arith
 
-  open-number : (p : Place) → OpenNumber (W.openObject u48 S m ob p)
+  open-number : (p : Place) → OpenNumber (W.openObject o S m ob p)
   unfolding W.openObject
-  open-number p = bytes-number (W.fitObject u48 S m ob p) (fit-number p)
+  open-number p = bytes-number (W.fitObject o S m ob p) (fit-number p)
 
 -- ---- steps
 flat-number : (m : List ℕ) (k : Flat) (none : Bool) (at bit : ℕ) → StepNumber (T.flatStep m k none at bit)
@@ -105,16 +105,16 @@ flat-number m (F.Enumerated n) none at bit = by (eqb (getD m at 0) 255) (ltb (ge
     by false false = tt
 flat-number m (F.Struct i) none at bit = tt
 
-value-number : (S : Schema) (m : List ℕ) (k : Kind) (none inplace : Bool) (tail at bit : ℕ) → StepNumber (T.valueStep u48 S m k none inplace tail at bit)
+value-number : (o : ℕ) (S : Schema) (m : List ℕ) (k : Kind) (none inplace : Bool) (tail at bit : ℕ) → StepNumber (T.valueStep o S m k none inplace tail at bit)
 unfolding T.valueStep T.objectStep T.unionStep
-value-number S m (OfFlat k) none inplace tail at bit = flat-number m k none at bit
-value-number S m (OfObject ob) none inplace tail at bit = by (eqb (le m at u48) 0) (T.placeOf inplace tail (le m at u48))
+value-number o S m (OfFlat k) none inplace tail at bit = flat-number m k none at bit
+value-number o S m (OfObject ob) none inplace tail at bit = by (eqb (le m at o) 0) (T.placeOf inplace tail (le m at o))
   where
     by : (t : Bool) (p : Place) → StepNumber (pick t St.Absent (St.Object ob p))
     by true p = tt
     by false p = tt
-value-number S m (OfUnion i) none inplace tail at bit =
-    by (eqb (le m at 2) 0) (leb (le m at 2) (length (Sc.casesOf S i))) (le m at 2) (Sc.caseOf (Sc.casesOf S i) (le m at 2)) (T.placeOf inplace tail (le m (at + 2) u48))
+value-number o S m (OfUnion i) none inplace tail at bit =
+    by (eqb (le m at 2) 0) (leb (le m at 2) (length (Sc.casesOf S i))) (le m at 2) (Sc.caseOf (Sc.casesOf S i) (le m at 2)) (T.placeOf inplace tail (le m (at + 2) o))
   where
     by : (t u : Bool) (c : ℕ) (ob : Object) (p : Place) → StepNumber (pick t St.Absent (pick u (St.Choice c ob p) (St.Unknown c)))
     by true u c ob p = tt
@@ -149,10 +149,10 @@ among true u x y f g = tt
 among false true x y f g = f
 among false false x y f g = g
 
-placed-number : (S : Schema) (m : List ℕ) (start n : ℕ) (p : Placement) (r : Member) → StepNumber (T.placedStep u48 S m start n p r)
+placed-number : (o : ℕ) (S : Schema) (m : List ℕ) (start n : ℕ) (p : Placement) (r : Member) → StepNumber (T.placedStep o S m start n p r)
 unfolding T.placedStep T.flagged
-placed-number S m start n p r =
-    by (L.hasFlag r) (p .flag) (p .value) _ (value-number S m (r .kind) (r .optional) (r .inplace) (start + n) (start + p .value .at) (p .value .bit))
+placed-number o S m start n p r =
+    by (L.hasFlag r) (p .flag) (p .value) _ (value-number o S m (r .kind) (r .optional) (r .inplace) (start + n) (start + p .value .at) (p .value .bit))
   where
     by : (f : Bool) (flag slot : Slot) (here : Step) → StepNumber here → StepNumber (pick f (T.flagged m start n flag slot here) (T.inside n slot St.Absent here))
     by true flag slot here h =
@@ -160,14 +160,14 @@ placed-number S m start n p r =
         (inside-number n slot (St.Refused 8) here (omega arith) h) (inside-number n slot St.Absent St.Absent tt tt)
     by false flag slot here h = inside-number n slot St.Absent here tt h
 
-member-number : (S : Schema) (m : List ℕ) (start n : ℕ) (c : Cursor) (r : Member) → StepNumber (T.memberStep u48 S m start n c r)
+member-number : (o : ℕ) (S : Schema) (m : List ℕ) (start n : ℕ) (c : Cursor) (r : Member) → StepNumber (T.memberStep o S m start n c r)
 unfolding T.memberStep
-member-number S m start n c r = struct-number S m (T.placedStep u48 S m start n (L.placementOf u48 S r c) r) (placed-number S m start n (L.placementOf u48 S r c) r)
+member-number o S m start n c r = struct-number S m (T.placedStep o S m start n (L.placementOf o S r c) r) (placed-number o S m start n (L.placementOf o S r c) r)
 
-element-number : (S : Schema) (m : List ℕ) (k : Kind) (start i : ℕ) → StepNumber (T.elementStep u48 S m k start i)
+element-number : (o : ℕ) (S : Schema) (m : List ℕ) (k : Kind) (start i : ℕ) → StepNumber (T.elementStep o S m k start i)
 unfolding T.elementStep
-element-number S m k start i =
-    struct-number S m (T.valueStep u48 S m k true false 0 (T.elementPlace u48 S k start i) (i % 8)) (value-number S m k true false 0 (T.elementPlace u48 S k start i) (i % 8))
+element-number o S m k start i =
+    struct-number S m (T.valueStep o S m k true false 0 (T.elementPlace o S k start i) (i % 8)) (value-number o S m k true false 0 (T.elementPlace o S k start i) (i % 8))
 
 -- ---- the walk
 refuse-small : (n at : ℕ) (s : Spent) → n < 256 → NumberSmall (W.refuse n at s)
@@ -200,36 +200,36 @@ module _ (child : W.Child) (small : (ob : Object) (p : Place) (s : Spent) → Nu
   follow-small holder j (St.Object ob p) s h = small ob p s
   follow-small holder j (St.Choice c ob p) s h = choice-small holder j ob p s
 
-  members-small : (S : Schema) (m : List ℕ) (holder start n : ℕ) (c : Cursor) (j : ℕ) (rs : List Member) (s : Spent)
-      → NumberSmall (W.members child u48 S m holder start n c j rs s)
+  members-small : (o : ℕ) (S : Schema) (m : List ℕ) (holder start n : ℕ) (c : Cursor) (j : ℕ) (rs : List Member) (s : Spent)
+      → NumberSmall (W.members child o S m holder start n c j rs s)
   unfolding W.members
-  members-small S m holder start n c j [] s = tt
-  members-small S m holder start n c j (r ∷ rs) s =
-      then-small (W.follow child holder j (T.memberStep u48 S m start n c r) s) (W.members child u48 S m holder start n (L.afterMember u48 S r c) (j + 1) rs)
-      (follow-small holder j (T.memberStep u48 S m start n c r) s (member-number S m start n c r)) (λ v. members-small S m holder start n (L.afterMember u48 S r c) (j + 1) rs v)
+  members-small o S m holder start n c j [] s = tt
+  members-small o S m holder start n c j (r ∷ rs) s =
+      then-small (W.follow child holder j (T.memberStep o S m start n c r) s) (W.members child o S m holder start n (L.afterMember o S r c) (j + 1) rs)
+      (follow-small holder j (T.memberStep o S m start n c r) s (member-number o S m start n c r)) (λ v. members-small o S m holder start n (L.afterMember o S r c) (j + 1) rs v)
 
-  elements-small : (S : Schema) (m : List ℕ) (holder start : ℕ) (k : Kind) (n i : ℕ) (s : Spent) → NumberSmall (W.elements child u48 S m holder start k n i s)
+  elements-small : (o : ℕ) (S : Schema) (m : List ℕ) (holder start : ℕ) (k : Kind) (n i : ℕ) (s : Spent) → NumberSmall (W.elements child o S m holder start k n i s)
   unfolding W.elements
-  elements-small S m holder start k zero i s = tt
-  elements-small S m holder start k (suc n) i s =
-      then-small (W.follow child holder i (T.elementStep u48 S m k start i) s) (W.elements child u48 S m holder start k n (i + 1))
-      (follow-small holder i (T.elementStep u48 S m k start i) s (element-number S m k start i)) (λ v. elements-small S m holder start k n (i + 1) v)
+  elements-small o S m holder start k zero i s = tt
+  elements-small o S m holder start k (suc n) i s =
+      then-small (W.follow child holder i (T.elementStep o S m k start i) s) (W.elements child o S m holder start k n (i + 1))
+      (follow-small holder i (T.elementStep o S m k start i) s (element-number o S m k start i)) (λ v. elements-small o S m holder start k n (i + 1) v)
 
-  content-small : (S : Schema) (m : List ℕ) (ob : Object) (holder start n : ℕ) (s : Spent) → NumberSmall (W.content child u48 S m ob holder start n s)
+  content-small : (o : ℕ) (S : Schema) (m : List ℕ) (ob : Object) (holder start n : ℕ) (s : Spent) → NumberSmall (W.content child o S m ob holder start n s)
   unfolding W.content
-  content-small S m O.Text holder start n s = tt
-  content-small S m O.Bytes holder start n s = tt
-  content-small S m (O.List i) holder start n s = elements-small S m holder start (Sc.elementOf S i) n 0 s
-  content-small S m (O.Table i) holder start n s = members-small S m holder start n L.begin 0 (Sc.tableOf S i .members) s
+  content-small o S m O.Text holder start n s = tt
+  content-small o S m O.Bytes holder start n s = tt
+  content-small o S m (O.List i) holder start n s = elements-small o S m holder start (Sc.elementOf S i) n 0 s
+  content-small o S m (O.Table i) holder start n s = members-small o S m holder start n L.begin 0 (Sc.tableOf S i .members) s
 
-  enter-small : (S : Schema) (m : List ℕ) (ob : Object) (holder : ℕ) (g : Opened) (s : Spent) → OpenNumber g → NumberSmall (W.enter child u48 S m ob holder g s)
+  enter-small : (o : ℕ) (S : Schema) (m : List ℕ) (ob : Object) (holder : ℕ) (g : Opened) (s : Spent) → OpenNumber g → NumberSmall (W.enter child o S m ob holder g s)
   unfolding W.enter
-  enter-small S m ob holder (Op.Refused n) s h = refuse-small n holder s h
-  enter-small S m ob holder (Op.Content start n) s h = content-small S m ob holder start n s
+  enter-small o S m ob holder (Op.Refused n) s h = refuse-small n holder s h
+  enter-small o S m ob holder (Op.Content start n) s h = content-small o S m ob holder start n s
 
-  arrive-small : (S : Schema) (m : List ℕ) (ob : Object) (p : Place) (s : Spent) → NumberSmall (W.arrive child u48 S m ob p s)
+  arrive-small : (o : ℕ) (S : Schema) (m : List ℕ) (ob : Object) (p : Place) (s : Spent) → NumberSmall (W.arrive child o S m ob p s)
   unfolding W.arrive
-  arrive-small S m ob p s = enter-small S m ob (W.placed p) (W.openObject u48 S m ob p) s (open-number S m ob p)
+  arrive-small o S m ob p s = enter-small o S m ob (W.placed p) (W.openObject o S m ob p) s (open-number o S m ob p)
 
   counted-small : (b : Budget) (ob : Object) (p : Place) (s : Spent) → NumberSmall (W.counted child b ob p s)
   unfolding W.counted
@@ -241,11 +241,11 @@ deep-small : (ob : Object) (p : Place) (s : Spent) → NumberSmall (W.tooDeep ob
 unfolding W.tooDeep
 deep-small ob p s = refuse-small 5 (W.placed p) s (omega arith)
 
-visit-small : (d : ℕ) (S : Schema) (m : List ℕ) (b : Budget) (ob : Object) (p : Place) (s : Spent) → NumberSmall (W.visit d u48 S m b ob p s)
+visit-small : (o d : ℕ) (S : Schema) (m : List ℕ) (b : Budget) (ob : Object) (p : Place) (s : Spent) → NumberSmall (W.visit d o S m b ob p s)
 unfolding W.visit
-visit-small zero S m b ob p s = counted-small W.tooDeep deep-small b ob p s
-visit-small (suc d) S m b ob p s = counted-small (W.arrive (W.visit d u48 S m b) u48 S m) (arrive-small (W.visit d u48 S m b) (visit-small d S m b) S m) b ob p s
+visit-small o zero S m b ob p s = counted-small W.tooDeep deep-small b ob p s
+visit-small o (suc d) S m b ob p s = counted-small (W.arrive (W.visit d o S m b) o S m) (arrive-small (W.visit d o S m b) (visit-small o d S m b) o S m) b ob p s
 
-pub walk-small : (S : Schema) (m : List ℕ) (b : Budget) → NumberSmall (W.walk u48 S m b)
+pub walk-small : (o : ℕ) (S : Schema) (m : List ℕ) (b : Budget) → NumberSmall (W.walk o S m b)
 unfolding W.walk
-walk-small S m b = visit-small deepest S m b (O.Table (S .root)) (W.rootPlace u48 m) W.nothing
+walk-small o S m b = visit-small o deepest S m b (O.Table (S .root)) (W.rootPlace o m) W.nothing

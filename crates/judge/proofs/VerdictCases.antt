@@ -2,13 +2,13 @@
 use mathlib.Core.Path.{_≡_, refl, sym, ap, _∙_, subst}
 use mathlib.Core.Bool.{Bool, true, false}
 use mathlib.Core.List.{List}
-use Prim.Native.Nat.{ℕ, _-_, _<_, _≤_}
+use Prim.Native.Nat.{ℕ, _+_, _-_, _<_, _≤_}
 use native.Mathlib.Omega.{arith}
 use lib.ListN.{length}
 use lib.Dec.{eqb, leb}
 use borrow.Author.Tests.{leb-true, eq-eqb, ne-eqb, eqb-true}
 use Rattle.coding.specs.Lists.{pick}
-use Rattle.coding.specs.Bytes.{u48, largest, deepest}
+use Rattle.coding.specs.Bytes.{largest, deepest}
 use Rattle.laws.specs.Lists.{both-left, both-right}
 use Rattle.coding.specs.Schema.{Schema}
 use Rattle.coding.specs.Packed as P
@@ -20,45 +20,48 @@ use Rattle.coding.specs.declared.Budget.{Budget}
 use Rattle.coding.specs.declared.Verdict.{Verdict}
 use Rattle.coding.specs.declared.Walked.{Walked}
 use Rattle.coding.specs.declared.Walked.the-variants.{Going, Refused}
-use Rattle.schema.specs.Directory.{Accepted, Judged}
+use Rattle.schema.specs.Directory.{AcceptedUnder, Judged}
 use Rattle.outcome.specs.declared.Outcome.{Outcome}
 use Rattle.outcome.specs.Answers.{walkedOf}
 use Rattle.judge.proofs.NumberCases.{NumberSmall, walk-small}
 
-pub walk-is : (b m : List ℕ) (budget : Budget) (ob : Object) (p : Place) → ob ≡ O.Table (P.parse b .root) → p ≡ W.rootPlace u48 m → (r : Walked)
-    → r ≡ W.visit 32 u48 (P.parse b) m budget ob p (record { visits = 0 }) → r ≡ W.walk u48 (P.parse b) m budget
+pub walk-is : (o : ℕ) (b m : List ℕ) (budget : Budget) (ob : Object) (p : Place) → ob ≡ O.Table (P.parse b .root) → p ≡ W.rootPlace o m → (r : Walked)
+    → r ≡ W.visit 32 o (P.parse b) m budget ob p (record { visits = 0 }) → r ≡ W.walk o (P.parse b) m budget
 unfolding W.walk W.nothing deepest
-walk-is b m budget ob p eo ep r e =
-    e ∙ ap (λ (q : Object). W.visit 32 u48 (P.parse b) m budget q p (record { visits = 0 })) eo
-    ∙ ap (λ (q : Place). W.visit 32 u48 (P.parse b) m budget (O.Table (P.parse b .root)) q (record { visits = 0 })) ep
+walk-is o b m budget ob p eo ep r e =
+    e ∙ ap (λ (q : Object). W.visit 32 o (P.parse b) m budget q p (record { visits = 0 })) eo
+    ∙ ap (λ (q : Place). W.visit 32 o (P.parse b) m budget (O.Table (P.parse b .root)) q (record { visits = 0 })) ep
 
 -- a message within the size
-module _ (m : List ℕ) (t : Bool) (et : t ≡ W.sizeOk u48 m) (f : t ≡ true) where
-  pub size-start : 10 ≤ length m
-  unfolding W.sizeOk W.startSize u48
-  size-start = leb-true 10 (length m) (both-left (leb 10 (length m)) (leb (length m) largest) (sym et ∙ f))
+module _ (o : ℕ) (m : List ℕ) (t : Bool) (et : t ≡ W.sizeOk o m) (f : t ≡ true) where
+  pub size-start : 4 + o ≤ length m
+  unfolding W.sizeOk W.startSize
+  size-start = leb-true (4 + o) (length m) (both-left (leb (4 + o) (length m)) (leb (length m) largest) (sym et ∙ f))
+
+  pub size-magic : 4 ≤ length m
+  size-magic = omega (arith, size-start)
 
   pub size-largest : length m ≤ 16777215
-  unfolding W.sizeOk W.startSize u48 largest
-  size-largest = leb-true (length m) 16777215 (both-right (leb 10 (length m)) (leb (length m) 16777215) (sym et ∙ f))
+  unfolding W.sizeOk W.startSize largest
+  size-largest = leb-true (length m) 16777215 (both-right (leb (4 + o) (length m)) (leb (length m) 16777215) (sym et ∙ f))
 
-module _ (b dir m : List ℕ) (a : Accepted b dir) (budget : Budget) (r : Verdict) (q : Bool) (eq : q ≡ W.sizeOk u48 m) where
-  pub verdict-size : q ≡ false → r ≡ W.early 2 → r ≡ W.verdict u48 b m budget
+module _ (o : ℕ) (b dir m : List ℕ) (a : AcceptedUnder o b dir) (budget : Budget) (r : Verdict) (q : Bool) (eq : q ≡ W.sizeOk o m) where
+  pub verdict-size : q ≡ false → r ≡ W.early 2 → r ≡ W.verdict o b m budget
   unfolding W.verdict
   verdict-size h e = simp (a .lawful, ← eq, h) e
 
   module _ (h : q ≡ true) (t : Bool) (et : t ≡ W.startOk m) where
-    pub verdict-walk : t ≡ true → (w : Walked) → w ≡ W.walk u48 (P.parse b) m budget → r ≡ W.verdictOf w → r ≡ W.verdict u48 b m budget
+    pub verdict-walk : t ≡ true → (w : Walked) → w ≡ W.walk o (P.parse b) m budget → r ≡ W.verdictOf w → r ≡ W.verdict o b m budget
     unfolding W.verdict
     verdict-walk f w ew e = simp (a .lawful, ← eq, h, ← et, f, ← ew) e
 
-    pub verdict-other : t ≡ false → r ≡ W.early 3 → r ≡ W.verdict u48 b m budget
+    pub verdict-other : t ≡ false → r ≡ W.early 3 → r ≡ W.verdict o b m budget
     unfolding W.verdict
     verdict-other f e = simp (a .lawful, ← eq, h, ← et, f) e
 
-pub verdict-unlawful : (b dir m : List ℕ) (budget : Budget) (t : Bool) → Judged b dir t → t ≡ false → (r : Verdict) → r ≡ W.early 1 → r ≡ W.verdict u48 b m budget
+pub verdict-unlawful : (o : ℕ) (b dir m : List ℕ) (budget : Budget) (t : Bool) → Judged o b dir t → t ≡ false → (r : Verdict) → r ≡ W.early 1 → r ≡ W.verdict o b m budget
 unfolding W.verdict
-verdict-unlawful b dir m budget t j f r e = simp (← (j .is), f) e
+verdict-unlawful o b dir m budget t j f r e = simp (← (j .is), f) e
 
 module _ (w : Outcome) where
   pub verdict-going : w .code ≡ 0 → record { number = 0; place = 0; visits = w .spent .visits } ≡ W.verdictOf (walkedOf w)
@@ -69,13 +72,13 @@ module _ (w : Outcome) where
   unfolding W.verdictOf walkedOf
   verdict-refused f = simp (ne-eqb _ _ f)
 
-  pub code-small : (S : Schema) (m : List ℕ) (b : Budget) → walkedOf w ≡ W.walk u48 S m b → w .code ≤ 256
+  pub code-small : (o : ℕ) (S : Schema) (m : List ℕ) (b : Budget) → walkedOf w ≡ W.walk o S m b → w .code ≤ 256
   unfolding walkedOf
-  code-small S m b e = by (eqb (w .code) 0) refl
+  code-small o S m b e = by (eqb (w .code) 0) refl
     where
       by : (t : Bool) → eqb (w .code) 0 ≡ t → w .code ≤ 256
       by true q = let z = eqb-true (w .code) 0 q in omega arith
       by false q =
-          let y : NumberSmall (pick (eqb (w .code) 0) (Going (w .spent)) (Refused (record { number = w .code - 1; place = w .place }) (w .spent))) = subst NumberSmall (sym e) (walk-small S m b) in
+          let y : NumberSmall (pick (eqb (w .code) 0) (Going (w .spent)) (Refused (record { number = w .code - 1; place = w .place }) (w .spent))) = subst NumberSmall (sym e) (walk-small o S m b) in
           let z : w .code - 1 < 256 = rw q at y in
           omega arith

@@ -6,12 +6,11 @@ use outcome::Limits;
 use outcome::Outcome;
 ghost use mathlib.Core.Path.{_≡_};
 ghost use Prim.Native.Nat.{_≤_};
-ghost use Rattle.coding.specs.Bytes as B;
 ghost use Rattle.coding.specs.Packed as P;
 ghost use Rattle.coding.specs.Walk as W;
-ghost use Rattle.schema.specs.Directory.{Accepted};
+ghost use Rattle.schema.specs.Directory.{Accepted, AcceptedUnder};
 ghost use Rattle.outcome.specs.Answers as As;
-ghost use Rattle.wire.specs.Sizes.{WithinSize, HasStart};
+ghost use Rattle.wire.specs.Sizes.{WithinSize, Width, HasStart};
 
 // The verdict of a walk that has ended.
 fn verdict_of(w: Outcome) -> Verdict
@@ -45,27 +44,27 @@ fn early(n: u8) -> Verdict
 }
 
 // The walk from the root.
-fn walk_from_root(b: &[u8], dir: &[u16], m: &[u8], budget: Budget) -> Outcome
-    requires { ⌜ (Accepted (now b) (now dir)) × (WithinSize (now m)) × (HasStart (now m)) ⌝ }
-    ensures { λ r. ⌜ As.walkedOf r ≡ W.walk B.u48 (P.parse (now (b .entry))) (now (m .entry)) budget ⌝ }
+fn walk_from_root(b: &[u8], dir: &[u16], m: &[u8], budget: Budget, o: usize) -> Outcome
+    requires { ⌜ (Accepted (now b) (now dir)) × (Width o) × (WithinSize (now m)) × (HasStart o (now m)) ⌝ }
+    ensures { λ r. ⌜ As.walkedOf r ≡ W.walk o (P.parse (now (b .entry))) (now (m .entry)) budget ⌝ }
 {
     let ob = message_start::root_object(b, dir);
-    let p = message_start::root_place(m);
+    let p = message_start::root_place(m, o);
     let l = Limits {
         budget,
         depth: outcome::DEEPEST,
     };
-    judge_walk::visit(b, dir, m, l, ob, p, Spent { visits: 0 })
+    judge_walk::visit(b, dir, m, l, ob, p, Spent { visits: 0 }, o)
 }
 
 // The verdict by a schema that was judged before: internal, since no user can show that it was.
-pub fn judged(b: &[u8], dir: &[u16], m: &[u8], budget: Budget) -> Verdict
-    requires { ⌜ Accepted (now b) (now dir) ⌝ }
-    ensures { λ r. ⌜ r ≡ W.verdict B.u48 (now (b .entry)) (now (m .entry)) budget ⌝ }
+pub fn judged(b: &[u8], dir: &[u16], m: &[u8], budget: Budget, o: usize) -> Verdict
+    requires { ⌜ AcceptedUnder o (now b) (now dir) ⌝ }
+    ensures { λ r. ⌜ r ≡ W.verdict o (now (b .entry)) (now (m .entry)) budget ⌝ }
 {
-    if message_start::size_ok(m) {
+    if message_start::size_ok(m, o) {
         if message_start::start_ok(m) {
-            return verdict_of(walk_from_root(b, dir, m, budget));
+            return verdict_of(walk_from_root(b, dir, m, budget, o));
         }
         return early(3);
     }
@@ -73,12 +72,12 @@ pub fn judged(b: &[u8], dir: &[u16], m: &[u8], budget: Budget) -> Verdict
 }
 
 // Judges a message by a packed schema: number, place and visits.
-pub fn judge(b: &[u8], m: &[u8], budget: Budget) -> Verdict
-    ensures { λ r. ⌜ r ≡ W.verdict B.u48 (now (b .entry)) (now (m .entry)) budget ⌝ }
+pub fn judge(b: &[u8], m: &[u8], budget: Budget, o: usize) -> Verdict
+    ensures { λ r. ⌜ r ≡ W.verdict o (now (b .entry)) (now (m .entry)) budget ⌝ }
 {
     let mut dir: [u16; 384] = [0; 384];
-    if schema_lawful::judge_schema(b, &mut dir) {
-        return judged(b, &dir, m, budget);
+    if schema_lawful::judge_schema(b, &mut dir, o) {
+        return judged(b, &dir, m, budget, o);
     }
     early(1)
 }

@@ -7,7 +7,6 @@ use native.Mathlib.Omega.{arith}
 use lib.ListN.{getD}
 use lib.Dec.{eqb, ltb}
 use borrow.Author.Tests.{eqb-true, eqb-false, ltb-true, ltb-false}
-use Rattle.coding.specs.Bytes.{u48}
 use Rattle.coding.specs.Schema as Sc
 use Rattle.coding.specs.Packed as P
 use Rattle.coding.specs.declared.Object.{Object}
@@ -84,12 +83,12 @@ module _ (h : ℕ) (t : Bool) (et : t ≡ isTextReference h) (f : t ≡ false) w
   pub width-plain : (o k : ℕ) → k ≡ h / 8 → (w : ℕ) → w ≡ plainWidth k → w ≡ rowWidth o h
   width-plain o k ek w ew = ew ∙ ap plainWidth ek ∙ sym (width-is o)
 
-module _ (h : ℕ) (t : Bool) (et : t ≡ isTextReference h) (f : t ≡ true) where
-  pub width-text : 6 ≡ rowWidth u48 h
-  unfolding rowWidth u48
+module _ (o h : ℕ) (t : Bool) (et : t ≡ isTextReference h) (f : t ≡ true) where
+  pub width-text : o ≡ rowWidth o h
+  unfolding rowWidth
   width-text = simp (← et, f)
 
-  pub text-wide : (w : ℕ) → w ≡ rowWidth u48 h → w ≡ 6
+  pub text-wide : (w : ℕ) → w ≡ rowWidth o h → w ≡ o
   text-wide w ew = ew ∙ sym width-text
 
 module _ (b : List ℕ) (first : ℕ) where

@@ -6,17 +6,16 @@ use message_step::SteppedMember;
 use outcome::Content;
 ghost use mathlib.Core.Path.{_≡_};
 ghost use mathlib.Core.Bool.{true};
-ghost use Prim.Native.Nat.{_+_, _*_, _<_, _≤_, _^_};
+ghost use Prim.Native.Nat.{ℕ, _+_, _*_, _<_, _≤_, _^_};
 ghost use lib.ListN.{length, getD};
 ghost use lib.Dec.{eqb};
-ghost use Rattle.coding.specs.Bytes as B;
 ghost use Rattle.coding.specs.Packed as P;
 ghost use Rattle.coding.specs.Schema as Sc;
 ghost use Rattle.laws.specs.Sound.{ObjectSound};
 ghost use Rattle.message_layout.specs.Bounds.{Laid};
 ghost use Rattle.schema.specs.Directory.{Accepted};
 ghost use Rattle.judge_member.specs.Records as Rs;
-ghost use Rattle.wire.specs.Sizes.{WithinSize};
+ghost use Rattle.wire.specs.Sizes.{WithinSize, Width};
 
 // ---- a record's first byte
 // It is eight times the kind, and flags that are 0 where the member is neither optional nor in place.
@@ -78,7 +77,7 @@ fn plain_width(k: usize) -> usize
 fn lead_number(b: &[u8], m: &[u8], at: usize, x: Content, c: Cursor, h: usize) -> SteppedMember
     requires { ⌜ (h ≡ getD (now b) at 0) × (Rs.Plain h) ⌝ }
     requires { ⌜ (c .byte ≤ c .end) × (c .bit ≤ 8) × (c .end < 2 ^ 58) ⌝ }
-    ensures { λ q. ⌜ Rs.LedAt B.u48 (now (b .entry)) (now (m .entry)) at x c (q .step) (q .next) ⌝ }
+    ensures { λ q. ⌜ ((o : ℕ) → Rs.LedAt o (now (b .entry)) (now (m .entry)) at x c (q .step) (q .next)) ⌝ }
 {
     let w = plain_width(wire::eighth(h));
     let next = message_layout::after_bytes(c, w);
@@ -120,12 +119,12 @@ fn is_row_member(h: usize) -> bool
 }
 
 // The bytes of a row table's member, by the first byte of its record.
-pub fn row_width(h: usize) -> usize
-    requires { ⌜ Rs.RowMember h ⌝ }
-    ensures { λ r. ⌜ (r ≡ Rs.rowWidth B.u48 h) × (r < 256) ⌝ }
+pub fn row_width(h: usize, o: usize) -> usize
+    requires { ⌜ (Rs.RowMember h) × (Width o) ⌝ }
+    ensures { λ r. ⌜ (r ≡ Rs.rowWidth o h) × (r < 256) ⌝ }
 {
     if is_text_reference(h) {
-        return wire::OFFSET;
+        return o;
     }
     plain_width(wire::eighth(h))
 }
@@ -188,10 +187,11 @@ pub fn lead_member(
     j: usize,
     x: Content,
     c: Cursor,
+    o: usize,
 ) -> SteppedMember
-    requires { ⌜ (Accepted (now b) (now dir)) × (t < P.tableCount (now b)) × (j < length (Sc.tableOf (P.parse (now b)) t .members)) × (j < 256) ⌝ }
+    requires { ⌜ (Accepted (now b) (now dir)) × (Width o) × (t < P.tableCount (now b)) × (j < length (Sc.tableOf (P.parse (now b)) t .members)) × (j < 256) ⌝ }
     requires { ⌜ (x .start + x .length ≤ length (now m)) × (WithinSize (now m)) × (Laid (4097 * j) c) ⌝ }
-    ensures { λ q. ⌜ Rs.Led B.u48 (P.parse (now (b .entry))) (now (m .entry)) t j x c (q .step) (q .next) ⌝ }
+    ensures { λ q. ⌜ Rs.Led o (P.parse (now (b .entry))) (now (m .entry)) t j x c (q .step) (q .next) ⌝ }
 {
     let at = schema::record_place(4, schema::table_place(b, dir, t), j);
     let h = wire::index(wire::byte_in(b, at));
@@ -199,5 +199,5 @@ pub fn lead_member(
         return lead_number(b, m, at, x, c, h);
     }
     let r = schema::member(b, dir, t, j);
-    message_step::member_lead(b, dir, m, x.start, x.length, c, r)
+    message_step::member_lead(b, dir, m, x.start, x.length, c, r, o)
 }

@@ -7,7 +7,7 @@ use native.Mathlib.Omega.{arith}
 use lib.ListN.{length, getD, drop}
 use lib.Dec.{eqb}
 use borrow.Author.Tests.{le-leb, lt-leb}
-use Rattle.coding.specs.Bytes.{u48, le}
+use Rattle.coding.specs.Bytes.{le}
 use Rattle.coding.specs.Schema as Sc
 use Rattle.coding.specs.Schema.{Schema}
 use Rattle.coding.specs.Packed as P
@@ -55,15 +55,15 @@ module _ (n at size : ℕ) (past here : Step) (l : at < n) where
   unfolding T.inside
   inside-cut g = simp (lt-leb _ _ l, lt-leb _ _ g)
 
-text-step : (S : Schema) (m : List ℕ) (start n end : ℕ)
-    → T.memberStep u48 S m start n (noBool end) text-member
-    ≡ T.structTested S m (T.inside n (record { at = end; bit = 0; size = 6 }) St.Absent (T.objectStep O.Text false 0 (le m (start + end) 6)))
-unfolding T.memberStep T.placedStep L.placementOf L.memberSlot L.slotOf L.afterFlag L.hasFlag L.isBool L.width T.valueStep T.objectStep T.placeOf u48
-text-step S m start n end = refl
+text-step : (o : ℕ) (S : Schema) (m : List ℕ) (start n end : ℕ)
+    → T.memberStep o S m start n (noBool end) text-member
+    ≡ T.structTested S m (T.inside n (record { at = end; bit = 0; size = o }) St.Absent (T.objectStep O.Text false 0 (le m (start + end) o)))
+unfolding T.memberStep T.placedStep L.placementOf L.memberSlot L.slotOf L.afterFlag L.hasFlag L.isBool L.width T.valueStep T.objectStep T.placeOf
+text-step o S m start n end = refl
 
-text-next : (S : Schema) (end : ℕ) → noBool (end + 6) ≡ L.afterMember u48 S text-member (noBool end)
-unfolding L.afterMember L.afterValue L.afterFlag L.hasFlag L.isBool L.width L.afterBytes u48
-text-next S end = refl
+text-next : (o : ℕ) (S : Schema) (end : ℕ) → noBool (end + o) ≡ L.afterMember o S text-member (noBool end)
+unfolding L.afterMember L.afterValue L.afterFlag L.hasFlag L.isBool L.width L.afterBytes
+text-next o S end = refl
 
 -- ---- the ways out of a member
 -- the first byte h of the record at `at`
@@ -92,63 +92,62 @@ module _ (b : List ℕ) (at x : ℕ) (ex : x ≡ getD b at 0) (h : ℕ) (eh : h 
     plain-cut l g =
         number-cut o b m at c (noBool end) h (eh ∙ ex) (plain-of-row h t et z lf) (h / 8) refl w (ew ∙ width-is h t et z o) lw (noBool (end + w)) behind-is laid-row l g .stepped .step-is
 
-module _ (child : W.Child) (b m : List ℕ) (at j : ℕ) (c : Content) (end : ℕ) (s : Spent) (l : end < c .length) (lf : RowMember (getD b at 0)) (x : ℕ) (ex : x ≡ getD b at 0)
-    (h : ℕ) (eh : h ≡ x) (w : ℕ) (ew : w ≡ rowWidth u48 h) (lw : w < 256) (r : Walked) where
+module _ (o : ℕ) (child : W.Child) (b m : List ℕ) (at j : ℕ) (c : Content) (end : ℕ) (s : Spent) (l : end < c .length) (lf : RowMember (getD b at 0)) (x : ℕ) (ex : x ≡ getD b at 0)
+    (h : ℕ) (eh : h ≡ x) (w : ℕ) (ew : w ≡ rowWidth o h) (lw : w < 256) (r : Walked) where
   here : RowMember h
   here = subst RowMember (sym (eh ∙ ex)) lf
 
-  by-text : P.memberAt b at ≡ text-member → (q : Step) → T.memberStep u48 (P.parse b) m (c .start) (c .length) (noBool end) text-member ≡ q
+  by-text : P.memberAt b at ≡ text-member → (q : Step) → T.memberStep o (P.parse b) m (c .start) (c .length) (noBool end) text-member ≡ q
       → r ≡ W.follow child (c .holder) j q s
-      → r ≡ W.follow child (c .holder) j (T.memberStep u48 (P.parse b) m (c .start) (c .length) (noBool end) (P.memberAt b at)) s
+      → r ≡ W.follow child (c .holder) j (T.memberStep o (P.parse b) m (c .start) (c .length) (noBool end) (P.memberAt b at)) s
   by-text e q f g =
       g ∙ ap (λ (k : Step). W.follow child (c .holder) j k s)
-      (sym (ap (T.memberStep u48 (P.parse b) m (c .start) (c .length) (noBool end)) e ∙ f))
+      (sym (ap (T.memberStep o (P.parse b) m (c .start) (c .length) (noBool end)) e ∙ f))
 
-  by-lead : (q : Step) → q ≡ leadOf (T.memberStep u48 (P.parse b) m (c .start) (c .length) (noBool end) (P.memberAt b at)) → r ≡ W.follow child (c .holder) j q s
-      → r ≡ W.follow child (c .holder) j (T.memberStep u48 (P.parse b) m (c .start) (c .length) (noBool end) (P.memberAt b at)) s
+  by-lead : (q : Step) → q ≡ leadOf (T.memberStep o (P.parse b) m (c .start) (c .length) (noBool end) (P.memberAt b at)) → r ≡ W.follow child (c .holder) j q s
+      → r ≡ W.follow child (c .holder) j (T.memberStep o (P.parse b) m (c .start) (c .length) (noBool end) (P.memberAt b at)) s
   by-lead q f g =
       g ∙ ap (λ (k : Step). W.follow child (c .holder) j k s) f
-      ∙ lead-follows child (c .holder) j (T.memberStep u48 (P.parse b) m (c .start) (c .length) (noBool end) (P.memberAt b at)) s
+      ∙ lead-follows child (c .holder) j (T.memberStep o (P.parse b) m (c .start) (c .length) (noBool end) (P.memberAt b at)) s
 
   pub row-cut : c .length < end + w → r ≡ W.refusePart 8 (c .holder) j s
-      → r ≡ W.follow child (c .holder) j (T.memberStep u48 (P.parse b) m (c .start) (c .length) (noBool end) (P.memberAt b at)) s
+      → r ≡ W.follow child (c .holder) j (T.memberStep o (P.parse b) m (c .start) (c .length) (noBool end) (P.memberAt b at)) s
   unfolding W.follow T.structTested
   row-cut g f = by (isTextReference h) refl
     where
-      by : (t : Bool) → t ≡ isTextReference h → r ≡ W.follow child (c .holder) j (T.memberStep u48 (P.parse b) m (c .start) (c .length) (noBool end) (P.memberAt b at)) s
+      by : (t : Bool) → t ≡ isTextReference h → r ≡ W.follow child (c .holder) j (T.memberStep o (P.parse b) m (c .start) (c .length) (noBool end) (P.memberAt b at)) s
       by true q =
-          let k : w ≡ 6 = ew ∙ sym (width-text h true q refl) in
+          let k : w ≡ o = ew ∙ sym (width-text o h true q refl) in
           by-text (of-text b at x ex h eh true q refl) (St.Refused 8)
-          (text-step (P.parse b) m (c .start) (c .length) end
-          ∙ ap (T.structTested (P.parse b) m) (inside-cut (c .length) end 6 St.Absent (T.objectStep O.Text false 0 (le m (c .start + end) 6)) l (omega arith))) f
-      by false q = by-lead (St.Refused 8) (plain-cut b at x ex h eh false q u48 here refl w ew lw m c end l g) f
+          (text-step o (P.parse b) m (c .start) (c .length) end
+          ∙ ap (T.structTested (P.parse b) m) (inside-cut (c .length) end o St.Absent (T.objectStep O.Text false 0 (le m (c .start + end) o)) l (omega arith))) f
+      by false q = by-lead (St.Refused 8) (plain-cut b at x ex h eh false q o here refl w ew lw m c end l g) f
 
   module _ (g : end + w ≤ c .length) (t : Bool) (et : t ≡ isTextReference h) where
-    pub row-text : t ≡ true → (y : ℕ) → y ≡ le m (c .start + end) u48 → r ≡ referred child O.Text y s
-        → r ≡ W.follow child (c .holder) j (T.memberStep u48 (P.parse b) m (c .start) (c .length) (noBool end) (P.memberAt b at)) s
-    unfolding u48
+    pub row-text : t ≡ true → (y : ℕ) → y ≡ le m (c .start + end) o → r ≡ referred child O.Text y s
+        → r ≡ W.follow child (c .holder) j (T.memberStep o (P.parse b) m (c .start) (c .length) (noBool end) (P.memberAt b at)) s
     row-text e y ey f =
-        let k : w ≡ 6 = ew ∙ sym (width-text h t et e) in
-        by-text (of-text b at x ex h eh t et e) (T.structTested (P.parse b) m (T.objectStep O.Text false 0 (le m (c .start + end) 6)))
-        (text-step (P.parse b) m (c .start) (c .length) end
-        ∙ ap (T.structTested (P.parse b) m) (inside-here (c .length) end 6 St.Absent (T.objectStep O.Text false 0 (le m (c .start + end) 6)) l (omega arith)))
-        (f ∙ ap (λ (q : ℕ). referred child O.Text q s) ey ∙ follow-offset child (P.parse b) m (c .holder) j O.Text (le m (c .start + end) 6) s)
+        let k : w ≡ o = ew ∙ sym (width-text o h t et e) in
+        by-text (of-text b at x ex h eh t et e) (T.structTested (P.parse b) m (T.objectStep O.Text false 0 (le m (c .start + end) o)))
+        (text-step o (P.parse b) m (c .start) (c .length) end
+        ∙ ap (T.structTested (P.parse b) m) (inside-here (c .length) end o St.Absent (T.objectStep O.Text false 0 (le m (c .start + end) o)) l (omega arith)))
+        (f ∙ ap (λ (q : ℕ). referred child O.Text q s) ey ∙ follow-offset child (P.parse b) m (c .holder) j O.Text (le m (c .start + end) o) s)
 
     pub row-number : t ≡ false → r ≡ Going s
-        → r ≡ W.follow child (c .holder) j (T.memberStep u48 (P.parse b) m (c .start) (c .length) (noBool end) (P.memberAt b at)) s
+        → r ≡ W.follow child (c .holder) j (T.memberStep o (P.parse b) m (c .start) (c .length) (noBool end) (P.memberAt b at)) s
     unfolding W.follow
-    row-number z f = by-lead St.Absent (plain-here b at x ex h eh t et u48 here z w ew lw m c end l g) f
+    row-number z f = by-lead St.Absent (plain-here b at x ex h eh t et o here z w ew lw m c end l g) f
 
 -- the cursor behind a member
-row-next : (b : List ℕ) (at end x : ℕ) → x ≡ getD b at 0 → (h : ℕ) → h ≡ x → RowMember h → (w : ℕ) → w ≡ rowWidth u48 h → w < 256
-    → noBool (end + w) ≡ L.afterMember u48 (P.parse b) (P.memberAt b at) (noBool end)
-row-next b at end x ex h eh lf w ew lw = by (isTextReference h) refl
+row-next : (o : ℕ) (b : List ℕ) (at end x : ℕ) → x ≡ getD b at 0 → (h : ℕ) → h ≡ x → RowMember h → (w : ℕ) → w ≡ rowWidth o h → w < 256
+    → noBool (end + w) ≡ L.afterMember o (P.parse b) (P.memberAt b at) (noBool end)
+row-next o b at end x ex h eh lf w ew lw = by (isTextReference h) refl
   where
-    by : (t : Bool) → t ≡ isTextReference h → noBool (end + w) ≡ L.afterMember u48 (P.parse b) (P.memberAt b at) (noBool end)
+    by : (t : Bool) → t ≡ isTextReference h → noBool (end + w) ≡ L.afterMember o (P.parse b) (P.memberAt b at) (noBool end)
     by true q =
-        ap (λ (k : ℕ). noBool (end + k)) (ew ∙ sym (width-text h true q refl)) ∙ text-next (P.parse b) end
-        ∙ ap (λ (r : Member). L.afterMember u48 (P.parse b) r (noBool end)) (sym (of-text b at x ex h eh true q refl))
-    by false q = plain-past b at x ex h eh false q u48 lf refl w ew lw b (record { holder = 0; start = 0; length = 0 }) end (omega arith)
+        ap (λ (k : ℕ). noBool (end + k)) (ew ∙ sym (width-text o h true q refl)) ∙ text-next o (P.parse b) end
+        ∙ ap (λ (r : Member). L.afterMember o (P.parse b) r (noBool end)) (sym (of-text b at x ex h eh true q refl))
+    by false q = plain-past b at x ex h eh false q o lf refl w ew lw b (record { holder = 0; start = 0; length = 0 }) end (omega arith)
 
 -- ---- the members of a row table, from member j on
 row-count : (b : List ℕ) (k : Rows) → RowTable b k → k .count ≡ length (Sc.tableOf (P.parse b) (k .table) .members)
@@ -160,72 +159,72 @@ row-here b k lt j h at ea = subst (λ (i : ℕ). RowMember (getD b i 0)) (sym ea
 pub row-read : (b : List ℕ) (k : Rows) → RowTable b k → (j : ℕ) → j < k .count → (at : ℕ) → at ≡ k .first + 4 + 1 + 2 * j → (x : ℕ) → x ≡ getD b at 0 → (h : ℕ) → h ≡ x → RowMember h
 row-read b k lt j l at ea x ex h eh = subst RowMember (sym (eh ∙ ex)) (row-here b k lt j l at ea)
 
-module _ (child : W.Child) (b m : List ℕ) (x : Content) (k : Rows) (s : Spent) where
-  pub row-start : W.members child u48 (P.parse b) m (x .holder) (x .start) (x .length) L.begin 0 (Sc.tableOf (P.parse b) (k .table) .members) s
-      ≡ W.members child u48 (P.parse b) m (x .holder) (x .start) (x .length) (noBool 0) 0 (drop 0 (Sc.tableOf (P.parse b) (k .table) .members)) s
+module _ (o : ℕ) (child : W.Child) (b m : List ℕ) (x : Content) (k : Rows) (s : Spent) where
+  pub row-start : W.members child o (P.parse b) m (x .holder) (x .start) (x .length) L.begin 0 (Sc.tableOf (P.parse b) (k .table) .members) s
+      ≡ W.members child o (P.parse b) m (x .holder) (x .start) (x .length) (noBool 0) 0 (drop 0 (Sc.tableOf (P.parse b) (k .table) .members)) s
   unfolding L.begin
   row-start = refl
 
   module _ (lt : RowTable b k) (end j : ℕ) (v : Spent)
-      (inv : W.members child u48 (P.parse b) m (x .holder) (x .start) (x .length) L.begin 0 (Sc.tableOf (P.parse b) (k .table) .members) s
-      ≡ W.members child u48 (P.parse b) m (x .holder) (x .start) (x .length) (noBool end) j (drop j (Sc.tableOf (P.parse b) (k .table) .members)) v) (r : Walked) where
+      (inv : W.members child o (P.parse b) m (x .holder) (x .start) (x .length) L.begin 0 (Sc.tableOf (P.parse b) (k .table) .members) s
+      ≡ W.members child o (P.parse b) m (x .holder) (x .start) (x .length) (noBool end) j (drop j (Sc.tableOf (P.parse b) (k .table) .members)) v) (r : Walked) where
     no-bool : end ≡ L.bitByte (noBool end)
     unfolding L.bitByte
     no-bool = refl
 
     pub row-ended : x .length ≤ end → r ≡ Going v
-        → r ≡ W.members child u48 (P.parse b) m (x .holder) (x .start) (x .length) L.begin 0 (Sc.tableOf (P.parse b) (k .table) .members) s
-    row-ended h f = members-ended child u48 (P.parse b) m (x .holder) (x .start) (x .length) (k .table) s (noBool end) j v inv end no-bool (omega arith) h r f
+        → r ≡ W.members child o (P.parse b) m (x .holder) (x .start) (x .length) L.begin 0 (Sc.tableOf (P.parse b) (k .table) .members) s
+    row-ended h f = members-ended child o (P.parse b) m (x .holder) (x .start) (x .length) (k .table) s (noBool end) j v inv end no-bool (omega arith) h r f
 
     pub row-done : k .count ≤ j → r ≡ Going v
-        → r ≡ W.members child u48 (P.parse b) m (x .holder) (x .start) (x .length) L.begin 0 (Sc.tableOf (P.parse b) (k .table) .members) s
-    row-done h f = members-done child u48 (P.parse b) m (x .holder) (x .start) (x .length) (k .table) s (noBool end) j v inv (k .count) (row-count b k lt) h r f
+        → r ≡ W.members child o (P.parse b) m (x .holder) (x .start) (x .length) L.begin 0 (Sc.tableOf (P.parse b) (k .table) .members) s
+    row-done h f = members-done child o (P.parse b) m (x .holder) (x .start) (x .length) (k .table) s (noBool end) j v inv (k .count) (row-count b k lt) h r f
 
   module _ (lt : RowTable b k) (end j : ℕ) (v : Spent)
-      (inv : W.members child u48 (P.parse b) m (x .holder) (x .start) (x .length) L.begin 0 (Sc.tableOf (P.parse b) (k .table) .members) s
-      ≡ W.members child u48 (P.parse b) m (x .holder) (x .start) (x .length) (noBool end) j (drop j (Sc.tableOf (P.parse b) (k .table) .members)) v)
+      (inv : W.members child o (P.parse b) m (x .holder) (x .start) (x .length) L.begin 0 (Sc.tableOf (P.parse b) (k .table) .members) s
+      ≡ W.members child o (P.parse b) m (x .holder) (x .start) (x .length) (noBool end) j (drop j (Sc.tableOf (P.parse b) (k .table) .members)) v)
       (h : j < k .count) (at : ℕ) (ea : at ≡ P.recordPlace 4 (k .first) j) (g : Outcome)
-      (eg : walkedOf g ≡ W.follow child (x .holder) j (T.memberStep u48 (P.parse b) m (x .start) (x .length) (noBool end) (P.memberAt b at)) v) where
+      (eg : walkedOf g ≡ W.follow child (x .holder) j (T.memberStep o (P.parse b) m (x .start) (x .length) (noBool end) (P.memberAt b at)) v) where
     is-member : P.memberAt b at ≡ Sc.memberOf (P.parse b) (k .table) j
     is-member =
         let l : j < length (Sc.tableOf (P.parse b) (k .table) .members) = subst (λ (i : ℕ). j < i) (row-count b k lt) h in
         record-member b (k .table) j (k .first) (lt .counted) l (lt .is) at ea
 
-    led : walkedOf g ≡ W.follow child (x .holder) j (leadOf (T.memberStep u48 (P.parse b) m (x .start) (x .length) (noBool end) (Sc.memberOf (P.parse b) (k .table) j))) v
+    led : walkedOf g ≡ W.follow child (x .holder) j (leadOf (T.memberStep o (P.parse b) m (x .start) (x .length) (noBool end) (Sc.memberOf (P.parse b) (k .table) j))) v
     led =
-        eg ∙ ap (λ (r : Member). W.follow child (x .holder) j (T.memberStep u48 (P.parse b) m (x .start) (x .length) (noBool end) r) v) is-member
-        ∙ sym (lead-follows child (x .holder) j (T.memberStep u48 (P.parse b) m (x .start) (x .length) (noBool end) (Sc.memberOf (P.parse b) (k .table) j)) v)
+        eg ∙ ap (λ (r : Member). W.follow child (x .holder) j (T.memberStep o (P.parse b) m (x .start) (x .length) (noBool end) r) v) is-member
+        ∙ sym (lead-follows child (x .holder) j (T.memberStep o (P.parse b) m (x .start) (x .length) (noBool end) (Sc.memberOf (P.parse b) (k .table) j)) v)
 
     pub row-stopped : (g .code ≡ 0 → ⊥)
-        → walkedOf g ≡ W.members child u48 (P.parse b) m (x .holder) (x .start) (x .length) L.begin 0 (Sc.tableOf (P.parse b) (k .table) .members) s
+        → walkedOf g ≡ W.members child o (P.parse b) m (x .holder) (x .start) (x .length) L.begin 0 (Sc.tableOf (P.parse b) (k .table) .members) s
     row-stopped f =
-        members-stopped child u48 (P.parse b) m (x .holder) (x .start) (x .length) (k .table) s (noBool end) j v inv (k .count) (row-count b k lt) h
-        (leadOf (T.memberStep u48 (P.parse b) m (x .start) (x .length) (noBool end) (Sc.memberOf (P.parse b) (k .table) j))) refl g led f
+        members-stopped child o (P.parse b) m (x .holder) (x .start) (x .length) (k .table) s (noBool end) j v inv (k .count) (row-count b k lt) h
+        (leadOf (T.memberStep o (P.parse b) m (x .start) (x .length) (noBool end) (Sc.memberOf (P.parse b) (k .table) j))) refl g led f
 
-    pub row-turn : g .code ≡ 0 → at ≡ k .first + 4 + 1 + 2 * j → (z : ℕ) → z ≡ getD b at 0 → (y : ℕ) → y ≡ z → (w : ℕ) → w ≡ rowWidth u48 y → w < 256
-        → W.members child u48 (P.parse b) m (x .holder) (x .start) (x .length) L.begin 0 (Sc.tableOf (P.parse b) (k .table) .members) s
-        ≡ W.members child u48 (P.parse b) m (x .holder) (x .start) (x .length) (noBool (end + w)) (j + 1) (drop (j + 1) (Sc.tableOf (P.parse b) (k .table) .members)) (g .spent)
+    pub row-turn : g .code ≡ 0 → at ≡ k .first + 4 + 1 + 2 * j → (z : ℕ) → z ≡ getD b at 0 → (y : ℕ) → y ≡ z → (w : ℕ) → w ≡ rowWidth o y → w < 256
+        → W.members child o (P.parse b) m (x .holder) (x .start) (x .length) L.begin 0 (Sc.tableOf (P.parse b) (k .table) .members) s
+        ≡ W.members child o (P.parse b) m (x .holder) (x .start) (x .length) (noBool (end + w)) (j + 1) (drop (j + 1) (Sc.tableOf (P.parse b) (k .table) .members)) (g .spent)
     row-turn f e z ez y ey w ew lw =
         let lf : RowMember y = row-read b k lt j h at e z ez y ey in
-        members-turn child u48 (P.parse b) m (x .holder) (x .start) (x .length) (k .table) s (noBool end) j v inv (k .count) (row-count b k lt) h
-        (leadOf (T.memberStep u48 (P.parse b) m (x .start) (x .length) (noBool end) (Sc.memberOf (P.parse b) (k .table) j))) refl g led f (noBool (end + w))
-        (row-next b at end z ez y ey lf w ew lw ∙ ap (λ (r : Member). L.afterMember u48 (P.parse b) r (noBool end)) is-member)
+        members-turn child o (P.parse b) m (x .holder) (x .start) (x .length) (k .table) s (noBool end) j v inv (k .count) (row-count b k lt) h
+        (leadOf (T.memberStep o (P.parse b) m (x .start) (x .length) (noBool end) (Sc.memberOf (P.parse b) (k .table) j))) refl g led f (noBool (end + w))
+        (row-next o b at end z ez y ey lf w ew lw ∙ ap (λ (r : Member). L.afterMember o (P.parse b) r (noBool end)) is-member)
 
 -- ---- a list of a row table
-module _ (child : W.Child) (b m : List ℕ) (holder start : ℕ) (ob : Object) (n : ℕ) (s : Spent) (r : Walked) where
-  pub row-list : (t : ℕ) → ob ≡ O.Table t → (k : ℕ) → k ≡ t → r ≡ W.elements child u48 (P.parse b) m holder start (OfObject (O.Table k)) n 0 s
-      → r ≡ W.elements child u48 (P.parse b) m holder start (OfObject ob) n 0 s
-  row-list t e k ek f = rw e (f ∙ ap (λ (i : ℕ). W.elements child u48 (P.parse b) m holder start (OfObject (O.Table i)) n 0 s) ek)
+module _ (o : ℕ) (child : W.Child) (b m : List ℕ) (holder start : ℕ) (ob : Object) (n : ℕ) (s : Spent) (r : Walked) where
+  pub row-list : (t : ℕ) → ob ≡ O.Table t → (k : ℕ) → k ≡ t → r ≡ W.elements child o (P.parse b) m holder start (OfObject (O.Table k)) n 0 s
+      → r ≡ W.elements child o (P.parse b) m holder start (OfObject ob) n 0 s
+  row-list t e k ek f = rw e (f ∙ ap (λ (i : ℕ). W.elements child o (P.parse b) m holder start (OfObject (O.Table i)) n 0 s) ek)
 
   -- no other object is one
   module _ (lf : RowObject b ob) where
-    pub row-no-text : ob ≡ O.Text → r ≡ W.elements child u48 (P.parse b) m holder start (OfObject ob) n 0 s
+    pub row-no-text : ob ≡ O.Text → r ≡ W.elements child o (P.parse b) m holder start (OfObject ob) n 0 s
     row-no-text e = absurd (subst (RowObject b) e lf)
 
-    pub row-no-bytes : ob ≡ O.Bytes → r ≡ W.elements child u48 (P.parse b) m holder start (OfObject ob) n 0 s
+    pub row-no-bytes : ob ≡ O.Bytes → r ≡ W.elements child o (P.parse b) m holder start (OfObject ob) n 0 s
     row-no-bytes e = absurd (subst (RowObject b) e lf)
 
-    pub row-no-list : (i : ℕ) → ob ≡ O.List i → r ≡ W.elements child u48 (P.parse b) m holder start (OfObject ob) n 0 s
+    pub row-no-list : (i : ℕ) → ob ≡ O.List i → r ≡ W.elements child o (P.parse b) m holder start (OfObject ob) n 0 s
     row-no-list i e = absurd (subst (RowObject b) e lf)
 
 pub row-sound : (b : List ℕ) (ob : Object) (t : ℕ) → ob ≡ O.Table t → ObjectSound (P.parse b) ob → ObjectSound (P.parse b) (O.Table t)

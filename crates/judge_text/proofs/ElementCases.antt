@@ -2,12 +2,12 @@
 use mathlib.Core.Path.{_≡_, refl, sym, ap, _∙_}
 use mathlib.Core.Bool.{Bool, true, false}
 use mathlib.Core.List.{List}
-use Prim.Native.Nat.{ℕ, suc, _+_, _-_, _*_, _<_, _≤_}
+use Prim.Native.Nat.{ℕ, suc, _+_, _-_, _*_, _^_, _<_, _≤_}
 use native.Mathlib.Omega.{arith}
 use lib.Dec.{eqb}
 use borrow.Author.Tests.{eq-eqb, ne-eqb}
 use Rattle.coding.specs.Lists.{pick}
-use Rattle.coding.specs.Bytes.{u48, le}
+use Rattle.coding.specs.Bytes.{le}
 use Rattle.coding.specs.Schema.{Schema}
 use Rattle.coding.specs.Layout as L
 use Rattle.coding.specs.Step as T
@@ -21,6 +21,7 @@ use Rattle.coding.specs.declared.Step.the-variants as St
 use Rattle.coding.specs.declared.Spent.{Spent}
 use Rattle.coding.specs.declared.Walked.{Walked}
 use Rattle.coding.specs.declared.Walked.the-variants.{Going}
+use Rattle.wire.specs.Products.{times-more, times-within}
 use Rattle.outcome.specs.declared.Outcome.{Outcome}
 use Rattle.outcome.specs.Answers.{walkedOf, referred}
 use Rattle.outcome.proofs.AnswerCases.{goes, stops}
@@ -55,6 +56,19 @@ module _ (child : W.Child) (o : ℕ) (S : Schema) (m : List ℕ) (holder start :
       pub elements-turn : g .code ≡ 0 → W.elements child o S m holder start k n 0 s ≡ W.elements child o S m holder start k (n - (j + 1)) (j + 1) (g .spent)
       elements-turn f = turned ∙ goes g rest f
 
+-- ---- values of w bytes, one behind the other
+-- value j of n is there
+pub value-there : (w start n j at c : ℕ) → at ≡ start + w * j → j < n → start + w * n ≤ c → at + w ≤ c
+value-there w start n j at c e h l = omega (arith, times-within w j n h)
+
+-- and the place behind it is a number of the machine
+pub value-fits : (w start n j at c : ℕ) → at ≡ start + w * j → j < n → start + w * n ≤ c → c ≤ 16777215 → at + w < 2 ^ 64
+value-fits w start n j at c e h l small = omega (arith, value-there w start n j at c e h l)
+
+-- where the value behind it stands
+pub value-next : (w start j at : ℕ) → at ≡ start + w * j → at + w ≡ start + w * (j + 1)
+value-next w start j at e = omega (arith, times-more w j)
+
 -- ---- the offsets of a list
 module _ (child : W.Child) (ob : Object) (x : ℕ) (s : Spent) (r : Walked) where
   pub refer-none : x ≡ 0 → r ≡ Going s → r ≡ referred child ob x s
@@ -75,20 +89,20 @@ follow-offset child S m holder j ob x s = by (eqb x 0)
     by true = refl
     by false = refl
 
-offset-step : (S : Schema) (m : List ℕ) (ob : Object) (start j at x : ℕ) → at ≡ start + 6 * j → x ≡ le m at u48
-    → T.structTested S m (T.objectStep ob false 0 x) ≡ T.elementStep u48 S m (OfObject ob) start j
-unfolding T.elementStep T.valueStep T.elementPlace L.isBool L.width u48
-offset-step S m ob start j at x ea ex = ap (λ (q : ℕ). T.structTested S m (T.objectStep ob false 0 q)) (ex ∙ ap (λ (q : ℕ). le m q 6) ea)
+offset-step : (o : ℕ) (S : Schema) (m : List ℕ) (ob : Object) (start j at x : ℕ) → at ≡ start + o * j → x ≡ le m at o
+    → T.structTested S m (T.objectStep ob false 0 x) ≡ T.elementStep o S m (OfObject ob) start j
+unfolding T.elementStep T.valueStep T.elementPlace L.isBool L.width
+offset-step o S m ob start j at x ea ex = ap (λ (q : ℕ). T.structTested S m (T.objectStep ob false 0 q)) (ex ∙ ap (λ (q : ℕ). le m q o) ea)
 
-module _ (child : W.Child) (S : Schema) (m : List ℕ) (holder start : ℕ) (ob : Object) (n : ℕ) (s : Spent) (j : ℕ) (v : Spent)
-    (inv : W.elements child u48 S m holder start (OfObject ob) n 0 s ≡ W.elements child u48 S m holder start (OfObject ob) (n - j) j v) (h : j < n) (at : ℕ)
-    (ea : at ≡ start + 6 * j) (x : ℕ) (ex : x ≡ le m at u48) (g : Outcome) (eg : walkedOf g ≡ referred child ob x v) where
-  by-step : walkedOf g ≡ W.follow child holder j (T.elementStep u48 S m (OfObject ob) start j) v
-  by-step = eg ∙ follow-offset child S m holder j ob x v ∙ ap (λ (q : Step). W.follow child holder j q v) (offset-step S m ob start j at x ea ex)
+module _ (o : ℕ) (child : W.Child) (S : Schema) (m : List ℕ) (holder start : ℕ) (ob : Object) (n : ℕ) (s : Spent) (j : ℕ) (v : Spent)
+    (inv : W.elements child o S m holder start (OfObject ob) n 0 s ≡ W.elements child o S m holder start (OfObject ob) (n - j) j v) (h : j < n) (at : ℕ)
+    (ea : at ≡ start + o * j) (x : ℕ) (ex : x ≡ le m at o) (g : Outcome) (eg : walkedOf g ≡ referred child ob x v) where
+  by-step : walkedOf g ≡ W.follow child holder j (T.elementStep o S m (OfObject ob) start j) v
+  by-step = eg ∙ follow-offset child S m holder j ob x v ∙ ap (λ (q : Step). W.follow child holder j q v) (offset-step o S m ob start j at x ea ex)
 
-  pub references-stopped : (g .code ≡ 0 → ⊥) → walkedOf g ≡ W.elements child u48 S m holder start (OfObject ob) n 0 s
-  references-stopped f = elements-stopped child u48 S m holder start (OfObject ob) n s j v inv h g by-step f
+  pub references-stopped : (g .code ≡ 0 → ⊥) → walkedOf g ≡ W.elements child o S m holder start (OfObject ob) n 0 s
+  references-stopped f = elements-stopped child o S m holder start (OfObject ob) n s j v inv h g by-step f
 
   pub references-turn : g .code ≡ 0
-      → W.elements child u48 S m holder start (OfObject ob) n 0 s ≡ W.elements child u48 S m holder start (OfObject ob) (n - (j + 1)) (j + 1) (g .spent)
-  references-turn f = elements-turn child u48 S m holder start (OfObject ob) n s j v inv h g by-step f
+      → W.elements child o S m holder start (OfObject ob) n 0 s ≡ W.elements child o S m holder start (OfObject ob) (n - (j + 1)) (j + 1) (g .spent)
+  references-turn f = elements-turn child o S m holder start (OfObject ob) n s j v inv h g by-step f

@@ -9,10 +9,9 @@ use outcome::Limits;
 use outcome::Outcome;
 ghost use mathlib.Core.Path.{_≡_};
 ghost use Prim.Native.Nat.{_+_, _*_, _<_, _^_};
-ghost use Rattle.coding.specs.Bytes as B;
 ghost use Rattle.outcome.specs.Answers as As;
 ghost use Rattle.judge_text.specs.Texts as Ts;
-ghost use Rattle.wire.specs.Sizes.{WithinSize, HasOffsets};
+ghost use Rattle.wire.specs.Sizes.{WithinSize, Width, HasOffsets};
 
 // Whether an object is a text.
 pub fn is_text(ob: Object) -> bool
@@ -27,47 +26,47 @@ pub fn is_text(ob: Object) -> bool
 }
 
 // An arrival at the text at offset x.
-pub fn visit_text(b: &[u8], m: &[u8], l: Limits, x: usize, s: Spent) -> Outcome
-    requires { ⌜ x < 2 ^ 48 ⌝ }
-    ensures { λ r. ⌜ As.walkedOf r ≡ As.visitBy B.u48 (now (b .entry)) (now (m .entry)) l Object.Text (Place.ByOffset x) s ⌝ }
+pub fn visit_text(b: &[u8], m: &[u8], l: Limits, x: usize, s: Spent, o: usize) -> Outcome
+    requires { ⌜ (Width o) × (x < 2 ^ 48) ⌝ }
+    ensures { λ r. ⌜ As.walkedOf r ≡ As.visitBy o (now (b .entry)) (now (m .entry)) l Object.Text (Place.ByOffset x) s ⌝ }
 {
     let g = outcome::charge(l, x, s);
     if g.code != 0 {
         return g;
     }
     let t = g.spent;
-    match message_object::open_text(b, m, x) {
+    match message_object::open_text(b, m, x, o) {
         Opened::Refused(e) => outcome::refuse(e, x, t),
         Opened::Content(_, _) => outcome::going(t),
     }
 }
 
 // What offset x leads to where a text is meant: nothing, or an arrival.
-pub fn refer_text(b: &[u8], m: &[u8], l: Limits, x: usize, s: Spent) -> Outcome
-    requires { ⌜ x < 2 ^ 48 ⌝ }
-    ensures { λ r. ⌜ As.walkedOf r ≡ As.referred (As.visitBy B.u48 (now (b .entry)) (now (m .entry)) l) Object.Text x s ⌝ }
+pub fn refer_text(b: &[u8], m: &[u8], l: Limits, x: usize, s: Spent, o: usize) -> Outcome
+    requires { ⌜ (Width o) × (x < 2 ^ 48) ⌝ }
+    ensures { λ r. ⌜ As.walkedOf r ≡ As.referred (As.visitBy o (now (b .entry)) (now (m .entry)) l) Object.Text x s ⌝ }
 {
     if x == 0 {
         return outcome::going(s);
     }
-    visit_text(b, m, l, x, s)
+    visit_text(b, m, l, x, s, o)
 }
 
 // The texts of a list, by their offsets.
-pub fn texts(b: &[u8], m: &[u8], l: Limits, x: Content, s: Spent) -> Outcome
-    requires { ⌜ (WithinSize (now m)) × (HasOffsets (now m) (x .start) (x .length)) ⌝ }
-    ensures { λ r. ⌜ As.walkedOf r ≡ As.elementsBy B.u48 (now (b .entry)) (now (m .entry)) l (Kind.OfObject Object.Text) x s ⌝ }
+pub fn texts(b: &[u8], m: &[u8], l: Limits, x: Content, s: Spent, o: usize) -> Outcome
+    requires { ⌜ (Width o) × (WithinSize (now m)) × (HasOffsets o (now m) (x .start) (x .length)) ⌝ }
+    ensures { λ r. ⌜ As.walkedOf r ≡ As.elementsBy o (now (b .entry)) (now (m .entry)) l (Kind.OfObject Object.Text) x s ⌝ }
 {
     let mut v = s;
     let mut at = x.start;
     let mut j: usize = 0;
     while j < x.length {
-        let g = refer_text(b, m, l, wire::offset_in(m, at), v);
+        let g = refer_text(b, m, l, wire::offset_in(m, at, o), v, o);
         if g.code != 0 {
             return g;
         }
         v = g.spent;
-        at += wire::OFFSET;
+        at += o;
         j += 1;
     }
     outcome::going(v)

@@ -8,7 +8,7 @@ use lib.ListN.{length, getD}
 use lib.Dec.{ltb, leb, eqb}
 use borrow.Author.Tests.{eq-eqb, ne-eqb, le-leb, lt-leb, ltb-true}
 use Rattle.coding.specs.Lists.{pick}
-use Rattle.coding.specs.Bytes.{u48, le, isNaN}
+use Rattle.coding.specs.Bytes.{le, isNaN}
 use Rattle.coding.specs.Schema as Sc
 use Rattle.coding.specs.Schema.{Schema}
 use Rattle.coding.specs.Packed as P
@@ -73,10 +73,10 @@ scalars-go child o S m holder start k f (suc n) i s e h =
     ∙ sym (ap (λ (w : Walked). W.andThen w (W.elements child o S m holder start k n (i + 1))) (first-goes child o S m holder start k f i s e h))
 
 -- ---- a list by the number of its element's kind
-pub list-flat : (b dir : List ℕ) → Accepted b dir → (child : W.Child) (m : List ℕ) (holder start i n : ℕ) (s : Spent) → i < P.listCount b → (at : ℕ) → at ≡ P.listPlace b i
-    → (k : ℕ) → k ≡ P.kindAt b at → (t : Bool) → t ≡ ltb k 13 → t ≡ true → (r : Walked) → r ≡ Going s → r ≡ W.elements child u48 (P.parse b) m holder start (Sc.elementOf (P.parse b) i) n 0 s
-list-flat b dir a child m holder start i n s l at ea k ek t et h r f =
-    f ∙ scalars-go child u48 (P.parse b) m holder start (Sc.elementOf (P.parse b) i) (P.flatOf k (P.argumentAt b at)) n 0 s
+pub list-flat : (o : ℕ) (b dir : List ℕ) → Accepted b dir → (child : W.Child) (m : List ℕ) (holder start i n : ℕ) (s : Spent) → i < P.listCount b → (at : ℕ) → at ≡ P.listPlace b i
+    → (k : ℕ) → k ≡ P.kindAt b at → (t : Bool) → t ≡ ltb k 13 → t ≡ true → (r : Walked) → r ≡ Going s → r ≡ W.elements child o (P.parse b) m holder start (Sc.elementOf (P.parse b) i) n 0 s
+list-flat o b dir a child m holder start i n s l at ea k ek t et h r f =
+    f ∙ scalars-go child o (P.parse b) m holder start (Sc.elementOf (P.parse b) i) (P.flatOf k (P.argumentAt b at)) n 0 s
     (sym (list-kind b i at l ea) ∙ element-flat b at k ek (ltb-true k 13 (sym et ∙ h))) (accepted-sound b dir a .lists i .scalar)
 
 -- what is not flat is an object or a union
@@ -90,14 +90,14 @@ module _ (b : List ℕ) (i : ℕ) (l : i < P.listCount b) (at : ℕ) (ea : at �
   of-union : q ≡ false → (a u : ℕ) → a ≡ P.argumentAt b at → u ≡ a → OfUnion u ≡ Sc.elementOf (P.parse b) i
   of-union h a u e eu = sym (element-union b at k ek (union-kind k (sym et ∙ ft) (sym eq ∙ h)) u (eu ∙ e)) ∙ list-kind b i at l ea
 
-  module _ (child : W.Child) (m : List ℕ) (holder start n : ℕ) (s : Spent) (r : Walked) where
-    pub list-objects : q ≡ true → (ob : Object) → ob ≡ P.objectAt b at → r ≡ W.elements child u48 (P.parse b) m holder start (OfObject ob) n 0 s
-        → r ≡ W.elements child u48 (P.parse b) m holder start (Sc.elementOf (P.parse b) i) n 0 s
-    list-objects h ob eo g = g ∙ ap (λ (w : Kind). W.elements child u48 (P.parse b) m holder start w n 0 s) (of-object h ob eo)
+  module _ (o : ℕ) (child : W.Child) (m : List ℕ) (holder start n : ℕ) (s : Spent) (r : Walked) where
+    pub list-objects : q ≡ true → (ob : Object) → ob ≡ P.objectAt b at → r ≡ W.elements child o (P.parse b) m holder start (OfObject ob) n 0 s
+        → r ≡ W.elements child o (P.parse b) m holder start (Sc.elementOf (P.parse b) i) n 0 s
+    list-objects h ob eo g = g ∙ ap (λ (w : Kind). W.elements child o (P.parse b) m holder start w n 0 s) (of-object h ob eo)
 
-    pub list-unions : q ≡ false → (a u : ℕ) → a ≡ P.argumentAt b at → u ≡ a → r ≡ W.elements child u48 (P.parse b) m holder start (OfUnion u) n 0 s
-        → r ≡ W.elements child u48 (P.parse b) m holder start (Sc.elementOf (P.parse b) i) n 0 s
-    list-unions h a u e eu g = g ∙ ap (λ (w : Kind). W.elements child u48 (P.parse b) m holder start w n 0 s) (of-union h a u e eu)
+    pub list-unions : q ≡ false → (a u : ℕ) → a ≡ P.argumentAt b at → u ≡ a → r ≡ W.elements child o (P.parse b) m holder start (OfUnion u) n 0 s
+        → r ≡ W.elements child o (P.parse b) m holder start (Sc.elementOf (P.parse b) i) n 0 s
+    list-unions h a u e eu g = g ∙ ap (λ (w : Kind). W.elements child o (P.parse b) m holder start w n 0 s) (of-union h a u e eu)
 
   -- what its walkers require
   module _ (dir : List ℕ) (acc : Accepted b dir) where
@@ -107,14 +107,14 @@ module _ (b : List ℕ) (i : ℕ) (l : i < P.listCount b) (at : ℕ) (ea : at �
     pub unions-counted : q ≡ false → (a u : ℕ) → a ≡ P.argumentAt b at → u ≡ a → u < P.unionCount b
     unions-counted h a u e eu = union-index b u (subst (KindSound (P.parse b)) (sym (of-union h a u e eu)) (accepted-sound b dir acc .lists i .kind))
 
-  module _ (start n c : ℕ) (fits : start + T.elementsSize u48 (P.parse b) (Sc.elementOf (P.parse b) i) n ≤ c) where
-    pub objects-there : q ≡ true → (ob : Object) → ob ≡ P.objectAt b at → start + 6 * n ≤ c
-    unfolding T.elementsSize L.isBool L.width u48
-    objects-there h ob eo = subst (λ (w : Kind). start + T.elementsSize u48 (P.parse b) w n ≤ c) (sym (of-object h ob eo)) fits
+  module _ (o start n c : ℕ) (fits : start + T.elementsSize o (P.parse b) (Sc.elementOf (P.parse b) i) n ≤ c) where
+    pub objects-there : q ≡ true → (ob : Object) → ob ≡ P.objectAt b at → start + o * n ≤ c
+    unfolding T.elementsSize L.isBool L.width
+    objects-there h ob eo = subst (λ (w : Kind). start + T.elementsSize o (P.parse b) w n ≤ c) (sym (of-object h ob eo)) fits
 
-    pub unions-there : q ≡ false → (a u : ℕ) → a ≡ P.argumentAt b at → u ≡ a → start + 8 * n ≤ c
-    unfolding T.elementsSize L.isBool L.width u48
-    unions-there h a u e eu = subst (λ (w : Kind). start + T.elementsSize u48 (P.parse b) w n ≤ c) (sym (of-union h a u e eu)) fits
+    pub unions-there : q ≡ false → (a u : ℕ) → a ≡ P.argumentAt b at → u ≡ a → start + (2 + o) * n ≤ c
+    unfolding T.elementsSize L.isBool L.width
+    unions-there h a u e eu = subst (λ (w : Kind). start + T.elementsSize o (P.parse b) w n ≤ c) (sym (of-union h a u e eu)) fits
 
 -- ---- the choices of a list
 -- no union is a struct
@@ -130,36 +130,36 @@ union-tested child S m holder j cases c x v = by (eqb c 0) (leb c (length cases)
     by false true = refl
     by false false = refl
 
-choice-step : (S : Schema) (m : List ℕ) (i start j at : ℕ) → at ≡ start + 8 * j
-    → T.structTested S m (T.unionStep (Sc.casesOf S i) false 0 (le m at 2) (le m (at + 2) u48)) ≡ T.elementStep u48 S m (OfUnion i) start j
-unfolding T.elementStep T.valueStep T.elementPlace L.isBool L.width u48
-choice-step S m i start j at ea = ap (λ (q : ℕ). T.structTested S m (T.unionStep (Sc.casesOf S i) false 0 (le m q 2) (le m (q + 2) 6))) ea
+choice-step : (o : ℕ) (S : Schema) (m : List ℕ) (i start j at : ℕ) → at ≡ start + (2 + o) * j
+    → T.structTested S m (T.unionStep (Sc.casesOf S i) false 0 (le m at 2) (le m (at + 2) o)) ≡ T.elementStep o S m (OfUnion i) start j
+unfolding T.elementStep T.valueStep T.elementPlace L.isBool L.width
+choice-step o S m i start j at ea = ap (λ (q : ℕ). T.structTested S m (T.unionStep (Sc.casesOf S i) false 0 (le m q 2) (le m (q + 2) o))) ea
 
-module _ (child : W.Child) (S : Schema) (m : List ℕ) (holder start i n : ℕ) (s : Spent) (j : ℕ) (v : Spent)
-    (inv : W.elements child u48 S m holder start (OfUnion i) n 0 s ≡ W.elements child u48 S m holder start (OfUnion i) (n - j) j v) (h : j < n) (at : ℕ)
-    (ea : at ≡ start + 8 * j) (g : Outcome) (eg : walkedOf g ≡ W.follow child holder j (T.unionStep (Sc.casesOf S i) false 0 (le m at 2) (le m (at + 2) u48)) v) where
-  by-choice : walkedOf g ≡ W.follow child holder j (T.elementStep u48 S m (OfUnion i) start j) v
-  by-choice = eg ∙ sym (union-tested child S m holder j (Sc.casesOf S i) (le m at 2) (le m (at + 2) u48) v) ∙ ap (λ (q : Step). W.follow child holder j q v) (choice-step S m i start j at ea)
+module _ (o : ℕ) (child : W.Child) (S : Schema) (m : List ℕ) (holder start i n : ℕ) (s : Spent) (j : ℕ) (v : Spent)
+    (inv : W.elements child o S m holder start (OfUnion i) n 0 s ≡ W.elements child o S m holder start (OfUnion i) (n - j) j v) (h : j < n) (at : ℕ)
+    (ea : at ≡ start + (2 + o) * j) (g : Outcome) (eg : walkedOf g ≡ W.follow child holder j (T.unionStep (Sc.casesOf S i) false 0 (le m at 2) (le m (at + 2) o)) v) where
+  by-choice : walkedOf g ≡ W.follow child holder j (T.elementStep o S m (OfUnion i) start j) v
+  by-choice = eg ∙ sym (union-tested child S m holder j (Sc.casesOf S i) (le m at 2) (le m (at + 2) o) v) ∙ ap (λ (q : Step). W.follow child holder j q v) (choice-step o S m i start j at ea)
 
-  pub choices-stopped : (g .code ≡ 0 → ⊥) → walkedOf g ≡ W.elements child u48 S m holder start (OfUnion i) n 0 s
-  choices-stopped f = elements-stopped child u48 S m holder start (OfUnion i) n s j v inv h g by-choice f
+  pub choices-stopped : (g .code ≡ 0 → ⊥) → walkedOf g ≡ W.elements child o S m holder start (OfUnion i) n 0 s
+  choices-stopped f = elements-stopped child o S m holder start (OfUnion i) n s j v inv h g by-choice f
 
   pub choices-turn : g .code ≡ 0
-      → W.elements child u48 S m holder start (OfUnion i) n 0 s ≡ W.elements child u48 S m holder start (OfUnion i) (n - (j + 1)) (j + 1) (g .spent)
-  choices-turn f = elements-turn child u48 S m holder start (OfUnion i) n s j v inv h g by-choice f
+      → W.elements child o S m holder start (OfUnion i) n 0 s ≡ W.elements child o S m holder start (OfUnion i) (n - (j + 1)) (j + 1) (g .spent)
+  choices-turn f = elements-turn child o S m holder start (OfUnion i) n s j v inv h g by-choice f
 
-module _ (child : W.Child) (m : List ℕ) (holder j : ℕ) (cases : List Object) (at : ℕ) (s : Spent) (c : ℕ) (nc : Number m at 2 c) where
-  pub choice-none : c ≡ 0 → (r : Walked) → r ≡ Going s → r ≡ W.follow child holder j (T.unionStep cases false 0 (le m at 2) (le m (at + 2) u48)) s
+module _ (o : ℕ) (child : W.Child) (m : List ℕ) (holder j : ℕ) (cases : List Object) (at : ℕ) (s : Spent) (c : ℕ) (nc : Number m at 2 c) where
+  pub choice-none : c ≡ 0 → (r : Walked) → r ≡ Going s → r ≡ W.follow child holder j (T.unionStep cases false 0 (le m at 2) (le m (at + 2) o)) s
   unfolding T.unionStep W.follow
   choice-none h r f = simp (← (nc .is), eq-eqb _ _ h) f
 
   module _ (h : c ≡ 0 → ⊥) (n : ℕ) (en : n ≡ length cases) where
-    pub choice-unknown : n < c → (r : Walked) → r ≡ Going s → r ≡ W.follow child holder j (T.unionStep cases false 0 (le m at 2) (le m (at + 2) u48)) s
+    pub choice-unknown : n < c → (r : Walked) → r ≡ Going s → r ≡ W.follow child holder j (T.unionStep cases false 0 (le m at 2) (le m (at + 2) o)) s
     unfolding T.unionStep W.follow
     choice-unknown l r f = simp (← (nc .is), ne-eqb _ _ h, ← en, lt-leb _ _ l) f
 
-    pub choice-known : c ≤ n → (ob : Object) → ob ≡ Sc.caseOf cases c → (x : ℕ) → x ≡ le m (at + 2) u48 → (r : Walked)
-        → r ≡ W.followChoice child holder j ob (ByOffset x) s → r ≡ W.follow child holder j (T.unionStep cases false 0 (le m at 2) (le m (at + 2) u48)) s
+    pub choice-known : c ≤ n → (ob : Object) → ob ≡ Sc.caseOf cases c → (x : ℕ) → x ≡ le m (at + 2) o → (r : Walked)
+        → r ≡ W.followChoice child holder j ob (ByOffset x) s → r ≡ W.follow child holder j (T.unionStep cases false 0 (le m at 2) (le m (at + 2) o)) s
     unfolding T.unionStep T.placeOf W.follow
     choice-known l ob eo x ex r f = simp (← (nc .is), ← ex, ne-eqb _ _ h, ← en, le-leb _ _ l, ← eo) f
 

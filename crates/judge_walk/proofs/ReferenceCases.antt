@@ -7,7 +7,7 @@ use native.Mathlib.Omega.{arith}
 use lib.ListN.{length, getD, drop}
 use lib.Dec.{eqb}
 use borrow.Author.Tests.{ne-eqb, le-leb, lt-leb}
-use Rattle.coding.specs.Bytes.{u48, le}
+use Rattle.coding.specs.Bytes.{le}
 use Rattle.coding.specs.Schema as Sc
 use Rattle.coding.specs.Schema.{Schema}
 use Rattle.coding.specs.Packed as P
@@ -55,47 +55,47 @@ reference-is b at p =
     ∙ ap (λ (k : Bool). record { kind = OfObject (P.objectAt b at); optional = k; inplace = eqb (getD b at 0 / 2 % 2) 1 }) o
     ∙ ap (λ (k : Bool). record { kind = OfObject (P.objectAt b at); optional = false; inplace = k }) i
 
-reference-step : (S : Schema) (m : List ℕ) (start n : ℕ) (c : Cursor) (ob : Object)
-    → T.memberStep u48 S m start n c (reference-member ob)
-    ≡ T.structTested S m (T.inside n (record { at = c .end; bit = 0; size = 6 }) St.Absent (T.objectStep ob false 0 (le m (start + c .end) 6)))
-unfolding T.memberStep T.placedStep L.placementOf L.memberSlot L.slotOf L.afterFlag L.hasFlag L.isBool L.width T.valueStep T.objectStep T.placeOf u48
-reference-step S m start n c ob = refl
+reference-step : (o : ℕ) (S : Schema) (m : List ℕ) (start n : ℕ) (c : Cursor) (ob : Object)
+    → T.memberStep o S m start n c (reference-member ob)
+    ≡ T.structTested S m (T.inside n (record { at = c .end; bit = 0; size = o }) St.Absent (T.objectStep ob false 0 (le m (start + c .end) o)))
+unfolding T.memberStep T.placedStep L.placementOf L.memberSlot L.slotOf L.afterFlag L.hasFlag L.isBool L.width T.valueStep T.objectStep T.placeOf
+reference-step o S m start n c ob = refl
 
-reference-next : (S : Schema) (c : Cursor) (ob : Object) → L.afterBytes 6 c ≡ L.afterMember u48 S (reference-member ob) c
-unfolding L.afterMember L.afterValue L.afterFlag L.hasFlag L.isBool L.width u48
-reference-next S c ob = refl
+reference-next : (o : ℕ) (S : Schema) (c : Cursor) (ob : Object) → L.afterBytes o c ≡ L.afterMember o S (reference-member ob) c
+unfolding L.afterMember L.afterValue L.afterFlag L.hasFlag L.isBool L.width
+reference-next o S c ob = refl
 
 -- ---- the ways out
-module _ (child : W.Child) (b m : List ℕ) (at j : ℕ) (x : Content) (c : Cursor) (s : Spent) (p : Refers (getD b at 0)) (r : Walked) where
+module _ (o : ℕ) (child : W.Child) (b m : List ℕ) (at j : ℕ) (x : Content) (c : Cursor) (s : Spent) (p : Refers (getD b at 0)) (r : Walked) where
   by-step : (q : Step)
-      → T.structTested (P.parse b) m (T.inside (x .length) (record { at = c .end; bit = 0; size = 6 }) St.Absent (T.objectStep (P.objectAt b at) false 0 (le m (x .start + c .end) 6))) ≡ q
-      → r ≡ W.follow child (x .holder) j q s → r ≡ W.follow child (x .holder) j (T.memberStep u48 (P.parse b) m (x .start) (x .length) c (P.memberAt b at)) s
+      → T.structTested (P.parse b) m (T.inside (x .length) (record { at = c .end; bit = 0; size = o }) St.Absent (T.objectStep (P.objectAt b at) false 0 (le m (x .start + c .end) o))) ≡ q
+      → r ≡ W.follow child (x .holder) j q s → r ≡ W.follow child (x .holder) j (T.memberStep o (P.parse b) m (x .start) (x .length) c (P.memberAt b at)) s
   by-step q f g =
       g ∙ ap (λ (k : Step). W.follow child (x .holder) j k s)
-      (sym (ap (T.memberStep u48 (P.parse b) m (x .start) (x .length) c) (reference-is b at p) ∙ reference-step (P.parse b) m (x .start) (x .length) c (P.objectAt b at) ∙ f))
+      (sym (ap (T.memberStep o (P.parse b) m (x .start) (x .length) c) (reference-is b at p) ∙ reference-step o (P.parse b) m (x .start) (x .length) c (P.objectAt b at) ∙ f))
 
   pub reference-past : x .length ≤ c .end → r ≡ Going s
-      → r ≡ W.follow child (x .holder) j (T.memberStep u48 (P.parse b) m (x .start) (x .length) c (P.memberAt b at)) s
+      → r ≡ W.follow child (x .holder) j (T.memberStep o (P.parse b) m (x .start) (x .length) c (P.memberAt b at)) s
   unfolding W.follow T.inside T.structTested
   reference-past h f = by-step St.Absent (simp (le-leb _ _ h)) f
 
   module _ (l : c .end < x .length) where
-    pub reference-cut : x .length < c .end + 6 → r ≡ W.refusePart 8 (x .holder) j s
-        → r ≡ W.follow child (x .holder) j (T.memberStep u48 (P.parse b) m (x .start) (x .length) c (P.memberAt b at)) s
+    pub reference-cut : x .length < c .end + o → r ≡ W.refusePart 8 (x .holder) j s
+        → r ≡ W.follow child (x .holder) j (T.memberStep o (P.parse b) m (x .start) (x .length) c (P.memberAt b at)) s
     unfolding W.follow T.inside T.structTested
     reference-cut h f = by-step (St.Refused 8) (simp (lt-leb _ _ l, lt-leb _ _ h)) f
 
-    module _ (h : c .end + 6 ≤ x .length) (y : ℕ) (ey : y ≡ le m (x .start + c .end) u48) (ob : Object) (eo : ob ≡ P.objectAt b at) where
+    module _ (h : c .end + o ≤ x .length) (y : ℕ) (ey : y ≡ le m (x .start + c .end) o) (ob : Object) (eo : ob ≡ P.objectAt b at) where
       pub reference-here : r ≡ referred child ob y s
-          → r ≡ W.follow child (x .holder) j (T.memberStep u48 (P.parse b) m (x .start) (x .length) c (P.memberAt b at)) s
-      unfolding T.inside u48
+          → r ≡ W.follow child (x .holder) j (T.memberStep o (P.parse b) m (x .start) (x .length) c (P.memberAt b at)) s
+      unfolding T.inside
       reference-here f =
-          by-step (T.structTested (P.parse b) m (T.objectStep (P.objectAt b at) false 0 (le m (x .start + c .end) 6))) (simp (lt-leb _ _ l, le-leb _ _ h))
-          (f ∙ ap (λ (q : ℕ). referred child ob q s) ey ∙ ap (λ (q : Object). referred child q (le m (x .start + c .end) 6) s) eo
-          ∙ follow-offset child (P.parse b) m (x .holder) j (P.objectAt b at) (le m (x .start + c .end) 6) s)
+          by-step (T.structTested (P.parse b) m (T.objectStep (P.objectAt b at) false 0 (le m (x .start + c .end) o))) (simp (lt-leb _ _ l, le-leb _ _ h))
+          (f ∙ ap (λ (q : ℕ). referred child ob q s) ey ∙ ap (λ (q : Object). referred child q (le m (x .start + c .end) o) s) eo
+          ∙ follow-offset child (P.parse b) m (x .holder) j (P.objectAt b at) (le m (x .start + c .end) o) s)
 
       pub reference-text : (t : Bool) → t ≡ isText ob → t ≡ true → r ≡ referred child O.Text y s
-          → r ≡ W.follow child (x .holder) j (T.memberStep u48 (P.parse b) m (x .start) (x .length) c (P.memberAt b at)) s
+          → r ≡ W.follow child (x .holder) j (T.memberStep o (P.parse b) m (x .start) (x .length) c (P.memberAt b at)) s
       reference-text t et e f = reference-here (f ∙ ap (λ (q : Object). referred child q y s) (sym (text-only ob t et e)))
 
 -- ---- member j of a table
@@ -110,37 +110,37 @@ module _ (b : List ℕ) (t j : ℕ) (l : t < P.tableCount b) (count : ℕ) (ec :
       subst (λ (r : Member). MemberSound (P.parse b) r) (reference-is b at p) (member-sound-of b dir a t j (P.memberAt b at) e counted) .kind
 
 -- ---- the members of a table, from such a member j on
-module _ (child : W.Child) (b m : List ℕ) (holder start n t : ℕ) (s : Spent) (c : Cursor) (j : ℕ) (v : Spent)
-    (inv : W.members child u48 (P.parse b) m holder start n L.begin 0 (Sc.tableOf (P.parse b) t .members) s
-    ≡ W.members child u48 (P.parse b) m holder start n c j (drop j (Sc.tableOf (P.parse b) t .members)) v) (count : ℕ)
+module _ (o : ℕ) (child : W.Child) (b m : List ℕ) (holder start n t : ℕ) (s : Spent) (c : Cursor) (j : ℕ) (v : Spent)
+    (inv : W.members child o (P.parse b) m holder start n L.begin 0 (Sc.tableOf (P.parse b) t .members) s
+    ≡ W.members child o (P.parse b) m holder start n c j (drop j (Sc.tableOf (P.parse b) t .members)) v) (count : ℕ)
     (ec : count ≡ length (Sc.tableOf (P.parse b) t .members)) (h : j < count) (l : t < P.tableCount b) (first : ℕ) (bl : Block b 4 (P.tablePlace b t) first) (at : ℕ)
-    (ea : at ≡ P.recordPlace 4 first j) (g : Outcome) (eg : walkedOf g ≡ W.follow child holder j (T.memberStep u48 (P.parse b) m start n c (P.memberAt b at)) v) where
+    (ea : at ≡ P.recordPlace 4 first j) (g : Outcome) (eg : walkedOf g ≡ W.follow child holder j (T.memberStep o (P.parse b) m start n c (P.memberAt b at)) v) where
   is-member : P.memberAt b at ≡ Sc.memberOf (P.parse b) t j
   is-member = record-member b t j first l (subst (λ (k : ℕ). j < k) ec h) (bl .is) at ea
 
-  led : walkedOf g ≡ W.follow child holder j (leadOf (T.memberStep u48 (P.parse b) m start n c (Sc.memberOf (P.parse b) t j))) v
+  led : walkedOf g ≡ W.follow child holder j (leadOf (T.memberStep o (P.parse b) m start n c (Sc.memberOf (P.parse b) t j))) v
   led =
-      eg ∙ ap (λ (r : Member). W.follow child holder j (T.memberStep u48 (P.parse b) m start n c r) v) is-member
-      ∙ sym (lead-follows child holder j (T.memberStep u48 (P.parse b) m start n c (Sc.memberOf (P.parse b) t j)) v)
+      eg ∙ ap (λ (r : Member). W.follow child holder j (T.memberStep o (P.parse b) m start n c r) v) is-member
+      ∙ sym (lead-follows child holder j (T.memberStep o (P.parse b) m start n c (Sc.memberOf (P.parse b) t j)) v)
 
-  pub reference-stopped : (g .code ≡ 0 → ⊥) → walkedOf g ≡ W.members child u48 (P.parse b) m holder start n L.begin 0 (Sc.tableOf (P.parse b) t .members) s
+  pub reference-stopped : (g .code ≡ 0 → ⊥) → walkedOf g ≡ W.members child o (P.parse b) m holder start n L.begin 0 (Sc.tableOf (P.parse b) t .members) s
   reference-stopped f =
-      members-stopped child u48 (P.parse b) m holder start n t s c j v inv count ec h
-      (leadOf (T.memberStep u48 (P.parse b) m start n c (Sc.memberOf (P.parse b) t j))) refl g led f
+      members-stopped child o (P.parse b) m holder start n t s c j v inv count ec h
+      (leadOf (T.memberStep o (P.parse b) m start n c (Sc.memberOf (P.parse b) t j))) refl g led f
 
-  pub reference-turn : g .code ≡ 0 → Refers (getD b at 0) → (next : Cursor) → next ≡ L.afterBytes 6 c
-      → W.members child u48 (P.parse b) m holder start n L.begin 0 (Sc.tableOf (P.parse b) t .members) s
-      ≡ W.members child u48 (P.parse b) m holder start n next (j + 1) (drop (j + 1) (Sc.tableOf (P.parse b) t .members)) (g .spent)
+  pub reference-turn : g .code ≡ 0 → Refers (getD b at 0) → (next : Cursor) → next ≡ L.afterBytes o c
+      → W.members child o (P.parse b) m holder start n L.begin 0 (Sc.tableOf (P.parse b) t .members) s
+      ≡ W.members child o (P.parse b) m holder start n next (j + 1) (drop (j + 1) (Sc.tableOf (P.parse b) t .members)) (g .spent)
   reference-turn f p next en =
-      members-turn child u48 (P.parse b) m holder start n t s c j v inv count ec h
-      (leadOf (T.memberStep u48 (P.parse b) m start n c (Sc.memberOf (P.parse b) t j))) refl g led f next
-      (en ∙ reference-next (P.parse b) c (P.objectAt b at) ∙ ap (λ (r : Member). L.afterMember u48 (P.parse b) r c) (sym (reference-is b at p) ∙ is-member))
+      members-turn child o (P.parse b) m holder start n t s c j v inv count ec h
+      (leadOf (T.memberStep o (P.parse b) m start n c (Sc.memberOf (P.parse b) t j))) refl g led f next
+      (en ∙ reference-next o (P.parse b) c (P.objectAt b at) ∙ ap (λ (r : Member). L.afterMember o (P.parse b) r c) (sym (reference-is b at p) ∙ is-member))
 
-pub reference-laid : (j : ℕ) (c next : Cursor) → Laid (4097 * j) c → Laid (c .end + 6) next → Laid (4097 * (j + 1)) next
-reference-laid j c next p q =
+pub reference-laid : (o j : ℕ) (c next : Cursor) → o ≤ 6 → Laid (4097 * j) c → Laid (c .end + o) next → Laid (4097 * (j + 1)) next
+reference-laid o j c next w p q =
     let x = p .end in
     let y = q .end in
     record { end = omega arith; byte = q .byte; bit = q .bit }
 
-pub same-sound : (S : Schema) (ob o : Object) → ob ≡ o → ObjectSound S o → ObjectSound S ob
-same-sound S ob o e h = subst (ObjectSound S) (sym e) h
+pub same-sound : (S : Schema) (ob ob′ : Object) → ob ≡ ob′ → ObjectSound S ob′ → ObjectSound S ob
+same-sound S ob ob′ e h = subst (ObjectSound S) (sym e) h

@@ -24,7 +24,7 @@ ghost use Rattle.schema.specs.Directory.{Accepted};
 ghost use Rattle.message_step.specs.Lead as D;
 ghost use Rattle.outcome.specs.Answers as As;
 ghost use Rattle.judge_member.specs.Records as Rs;
-ghost use Rattle.wire.specs.Sizes.{WithinSize, HasUnion, HasOffsets, HasUnions};
+ghost use Rattle.wire.specs.Sizes.{WithinSize, Width, HasUnion, HasOffsets, HasUnions};
 
 // Where the walk stands in a table: the number of the member that comes next, the place of its record in the schema, and the
 // cursor before it.
@@ -50,9 +50,18 @@ fn leads_nowhere(step: Step) -> bool
 }
 
 // An arrival at an object, with this one counted in the depth that is left.
-pub fn visit(b: &[u8], dir: &[u16], m: &[u8], l: Limits, ob: Object, p: Place, s: Spent) -> Outcome
-    requires { ⌜ (Accepted (now b) (now dir)) × (WithinSize (now m)) × (ObjectSound (P.parse (now b)) ob) × D.PlaceSmall p ⌝ }
-    ensures { λ r. ⌜ As.walkedOf r ≡ As.visitBy B.u48 (now (b .entry)) (now (m .entry)) l ob p s ⌝ }
+pub fn visit(
+    b: &[u8],
+    dir: &[u16],
+    m: &[u8],
+    l: Limits,
+    ob: Object,
+    p: Place,
+    s: Spent,
+    o: usize,
+) -> Outcome
+    requires { ⌜ (Accepted (now b) (now dir)) × (Width o) × (WithinSize (now m)) × (ObjectSound (P.parse (now b)) ob) × D.PlaceSmall p ⌝ }
+    ensures { λ r. ⌜ As.walkedOf r ≡ As.visitBy o (now (b .entry)) (now (m .entry)) l ob p s ⌝ }
 {
     let at = message_object::placed(p);
     let g = outcome::charge(l, at, s);
@@ -60,7 +69,7 @@ pub fn visit(b: &[u8], dir: &[u16], m: &[u8], l: Limits, ob: Object, p: Place, s
         return g;
     }
     let t = g.spent;
-    match message_object::open_object(b, dir, m, ob, p) {
+    match message_object::open_object(b, dir, m, ob, p, o) {
         Opened::Refused(e) => outcome::refuse(e, at, t),
         Opened::Content(start, n) => {
             let x = Content {
@@ -68,29 +77,47 @@ pub fn visit(b: &[u8], dir: &[u16], m: &[u8], l: Limits, ob: Object, p: Place, s
                 start,
                 length: n,
             };
-            content(b, dir, m, outcome::below(l), ob, x, t)
+            content(b, dir, m, outcome::below(l), ob, x, t, o)
         }
     }
 }
 
 // An object's content. Texts and bytes have no parts.
-fn content(b: &[u8], dir: &[u16], m: &[u8], l: Limits, ob: Object, x: Content, s: Spent) -> Outcome
-    requires { ⌜ (Accepted (now b) (now dir)) × (WithinSize (now m)) × (ObjectSound (P.parse (now b)) ob) ⌝ }
-    requires { ⌜ x .start + W.contentSize B.u48 (P.parse (now b)) ob (x .length) ≤ length (now m) ⌝ }
-    ensures { λ r. ⌜ As.walkedOf r ≡ As.contentBy B.u48 (now (b .entry)) (now (m .entry)) l ob x s ⌝ }
+fn content(
+    b: &[u8],
+    dir: &[u16],
+    m: &[u8],
+    l: Limits,
+    ob: Object,
+    x: Content,
+    s: Spent,
+    o: usize,
+) -> Outcome
+    requires { ⌜ (Accepted (now b) (now dir)) × (Width o) × (WithinSize (now m)) × (ObjectSound (P.parse (now b)) ob) ⌝ }
+    requires { ⌜ x .start + W.contentSize o (P.parse (now b)) ob (x .length) ≤ length (now m) ⌝ }
+    ensures { λ r. ⌜ As.walkedOf r ≡ As.contentBy o (now (b .entry)) (now (m .entry)) l ob x s ⌝ }
 {
     match ob {
         Object::Text => outcome::going(s),
         Object::Bytes => outcome::going(s),
-        Object::List(i) => list(b, dir, m, l, wire::index(i), x, s),
-        Object::Table(t) => table(b, dir, m, l, wire::index(t), x, s),
+        Object::List(i) => list(b, dir, m, l, wire::index(i), x, s, o),
+        Object::Table(t) => table(b, dir, m, l, wire::index(t), x, s, o),
     }
 }
 
 // The members of table t, whose fixed part is the content.
-fn table(b: &[u8], dir: &[u16], m: &[u8], l: Limits, t: usize, x: Content, s: Spent) -> Outcome
-    requires { ⌜ (Accepted (now b) (now dir)) × (WithinSize (now m)) × (t < P.tableCount (now b)) × (x .start + x .length ≤ length (now m)) ⌝ }
-    ensures { λ r. ⌜ As.walkedOf r ≡ As.membersBy B.u48 (now (b .entry)) (now (m .entry)) l t x s ⌝ }
+fn table(
+    b: &[u8],
+    dir: &[u16],
+    m: &[u8],
+    l: Limits,
+    t: usize,
+    x: Content,
+    s: Spent,
+    o: usize,
+) -> Outcome
+    requires { ⌜ (Accepted (now b) (now dir)) × (Width o) × (WithinSize (now m)) × (t < P.tableCount (now b)) × (x .start + x .length ≤ length (now m)) ⌝ }
+    ensures { λ r. ⌜ As.walkedOf r ≡ As.membersBy o (now (b .entry)) (now (m .entry)) l t x s ⌝ }
 {
     let count = schema::member_count(b, dir, t);
     let first = schema::table_place(b, dir, t);
@@ -108,16 +135,16 @@ fn table(b: &[u8], dir: &[u16], m: &[u8], l: Limits, t: usize, x: Content, s: Sp
                 record: at,
                 cursor: c,
             };
-            let g = reference(b, dir, m, l, x, k, v);
+            let g = reference(b, dir, m, l, x, k, v, o);
             if g.code != 0 {
                 return g;
             }
             v = g.spent;
-            c = message_layout::after_bytes(c, wire::OFFSET);
+            c = message_layout::after_bytes(c, o);
             j += 1;
             continue;
         }
-        let q = judge_member::lead_member(b, dir, m, t, j, x, c);
+        let q = judge_member::lead_member(b, dir, m, t, j, x, c, o);
         let step = q.step;
         if leads_nowhere(step) {
             c = q.next;
@@ -128,7 +155,7 @@ fn table(b: &[u8], dir: &[u16], m: &[u8], l: Limits, t: usize, x: Content, s: Sp
             holder: x.holder,
             number: j,
         };
-        let g = follow(b, dir, m, l, part, step, v);
+        let g = follow(b, dir, m, l, part, step, v, o);
         if g.code != 0 {
             return g;
         }
@@ -148,36 +175,46 @@ fn reference(
     x: Content,
     k: Standing,
     s: Spent,
+    o: usize,
 ) -> Outcome
-    requires { ⌜ (Accepted (now b) (now dir)) × (WithinSize (now m)) × (k .record + 1 < length (now b)) × (Rs.Refers (getD (now b) (k .record) 0)) ⌝ }
+    requires { ⌜ (Accepted (now b) (now dir)) × (Width o) × (WithinSize (now m)) × (k .record + 1 < length (now b)) × (Rs.Refers (getD (now b) (k .record) 0)) ⌝ }
     requires { ⌜ (ObjectSound (P.parse (now b)) (P.objectAt (now b) (k .record))) × (x .start + x .length ≤ length (now m)) × (k .cursor .end < 2 ^ 58) ⌝ }
-    ensures { λ r. ⌜ As.walkedOf r ≡ As.followBy B.u48 (now (b .entry)) (now (m .entry)) l (As.partOf x (k .number)) (As.memberBy B.u48 (now (b .entry)) (now (m .entry)) x (k .cursor) (P.memberAt (now (b .entry)) (k .record))) s ⌝ }
+    ensures { λ r. ⌜ As.walkedOf r ≡ As.followBy o (now (b .entry)) (now (m .entry)) l (As.partOf x (k .number)) (As.memberBy o (now (b .entry)) (now (m .entry)) x (k .cursor) (P.memberAt (now (b .entry)) (k .record))) s ⌝ }
 {
     let c = k.cursor;
     let end = c.end;
     if x.length <= end {
         return outcome::going(s);
     }
-    if x.length < end + wire::OFFSET {
+    if x.length < end + o {
         let part = Part {
             holder: x.holder,
             number: k.number,
         };
         return outcome::refuse_part(8, part, s);
     }
-    let y = wire::offset_in(m, x.start + end);
+    let y = wire::offset_in(m, x.start + end, o);
     let ob = schema::object_at(b, k.record);
     if judge_text::is_text(ob) {
-        return judge_text::refer_text(b, m, l, y, s);
+        return judge_text::refer_text(b, m, l, y, s, o);
     }
-    refer(b, dir, m, l, ob, y, s)
+    refer(b, dir, m, l, ob, y, s, o)
 }
 
 // The elements of list i.
-fn list(b: &[u8], dir: &[u16], m: &[u8], l: Limits, i: usize, x: Content, s: Spent) -> Outcome
-    requires { ⌜ (Accepted (now b) (now dir)) × (WithinSize (now m)) × (i < P.listCount (now b)) ⌝ }
-    requires { ⌜ x .start + T.elementsSize B.u48 (P.parse (now b)) (Sc.elementOf (P.parse (now b)) i) (x .length) ≤ length (now m) ⌝ }
-    ensures { λ r. ⌜ As.walkedOf r ≡ As.elementsBy B.u48 (now (b .entry)) (now (m .entry)) l (Sc.elementOf (P.parse (now (b .entry))) i) x s ⌝ }
+fn list(
+    b: &[u8],
+    dir: &[u16],
+    m: &[u8],
+    l: Limits,
+    i: usize,
+    x: Content,
+    s: Spent,
+    o: usize,
+) -> Outcome
+    requires { ⌜ (Accepted (now b) (now dir)) × (Width o) × (WithinSize (now m)) × (i < P.listCount (now b)) ⌝ }
+    requires { ⌜ x .start + T.elementsSize o (P.parse (now b)) (Sc.elementOf (P.parse (now b)) i) (x .length) ≤ length (now m) ⌝ }
+    ensures { λ r. ⌜ As.walkedOf r ≡ As.elementsBy o (now (b .entry)) (now (m .entry)) l (Sc.elementOf (P.parse (now (b .entry))) i) x s ⌝ }
 {
     let at = schema::list_place(b, dir, i);
     let k = schema::kind_at(b, at);
@@ -185,9 +222,10 @@ fn list(b: &[u8], dir: &[u16], m: &[u8], l: Limits, i: usize, x: Content, s: Spe
         return outcome::going(s);
     }
     if schema::is_object_kind(k) {
-        return references(b, dir, m, l, schema::object_at(b, at), x, s);
+        return references(b, dir, m, l, schema::object_at(b, at), x, s, o);
     }
-    choices(b, dir, m, l, wire::index(schema::argument_at(b, at)), x, s)
+    let u = wire::index(schema::argument_at(b, at));
+    choices(b, dir, m, l, u, x, s, o)
 }
 
 // The objects of a list, by their offsets.
@@ -199,47 +237,67 @@ fn references(
     ob: Object,
     x: Content,
     s: Spent,
+    o: usize,
 ) -> Outcome
-    requires { ⌜ (Accepted (now b) (now dir)) × (WithinSize (now m)) × (ObjectSound (P.parse (now b)) ob) × (HasOffsets (now m) (x .start) (x .length)) ⌝ }
-    ensures { λ r. ⌜ As.walkedOf r ≡ As.elementsBy B.u48 (now (b .entry)) (now (m .entry)) l (Kind.OfObject ob) x s ⌝ }
+    requires { ⌜ (Accepted (now b) (now dir)) × (Width o) × (WithinSize (now m)) × (ObjectSound (P.parse (now b)) ob) × (HasOffsets o (now m) (x .start) (x .length)) ⌝ }
+    ensures { λ r. ⌜ As.walkedOf r ≡ As.elementsBy o (now (b .entry)) (now (m .entry)) l (Kind.OfObject ob) x s ⌝ }
 {
     if judge_text::is_text(ob) {
-        return judge_text::texts(b, m, l, x, s);
+        return judge_text::texts(b, m, l, x, s, o);
     }
     if judge_member::is_row_table(b, dir, ob) {
-        return judge_rows::row_references(b, dir, m, l, ob, x, s);
+        return judge_rows::row_references(b, dir, m, l, ob, x, s, o);
     }
     let mut v = s;
     let mut at = x.start;
     let mut j: usize = 0;
     while j < x.length {
-        let g = refer(b, dir, m, l, ob, wire::offset_in(m, at), v);
+        let g = refer(b, dir, m, l, ob, wire::offset_in(m, at, o), v, o);
         if g.code != 0 {
             return g;
         }
         v = g.spent;
-        at += wire::OFFSET;
+        at += o;
         j += 1;
     }
     outcome::going(v)
 }
 
 // What offset x leads to: nothing, or an arrival.
-fn refer(b: &[u8], dir: &[u16], m: &[u8], l: Limits, ob: Object, x: usize, s: Spent) -> Outcome
-    requires { ⌜ (Accepted (now b) (now dir)) × (WithinSize (now m)) × (ObjectSound (P.parse (now b)) ob) × (x < 2 ^ 48) ⌝ }
-    ensures { λ r. ⌜ As.walkedOf r ≡ As.referred (As.visitBy B.u48 (now (b .entry)) (now (m .entry)) l) ob x s ⌝ }
+fn refer(
+    b: &[u8],
+    dir: &[u16],
+    m: &[u8],
+    l: Limits,
+    ob: Object,
+    x: usize,
+    s: Spent,
+    o: usize,
+) -> Outcome
+    requires { ⌜ (Accepted (now b) (now dir)) × (Width o) × (WithinSize (now m)) × (ObjectSound (P.parse (now b)) ob) × (x < 2 ^ 48) ⌝ }
+    ensures { λ r. ⌜ As.walkedOf r ≡ As.referred (As.visitBy o (now (b .entry)) (now (m .entry)) l) ob x s ⌝ }
 {
     if x == 0 {
         return outcome::going(s);
     }
-    visit(b, dir, m, l, ob, Place::ByOffset(x), s)
+    visit(b, dir, m, l, ob, Place::ByOffset(x), s, o)
 }
 
 // The choices of a list of union i.
-fn choices(b: &[u8], dir: &[u16], m: &[u8], l: Limits, i: usize, x: Content, s: Spent) -> Outcome
-    requires { ⌜ (Accepted (now b) (now dir)) × (WithinSize (now m)) × (i < P.unionCount (now b)) × (HasUnions (now m) (x .start) (x .length)) ⌝ }
-    ensures { λ r. ⌜ As.walkedOf r ≡ As.elementsBy B.u48 (now (b .entry)) (now (m .entry)) l (Kind.OfUnion i) x s ⌝ }
+fn choices(
+    b: &[u8],
+    dir: &[u16],
+    m: &[u8],
+    l: Limits,
+    i: usize,
+    x: Content,
+    s: Spent,
+    o: usize,
+) -> Outcome
+    requires { ⌜ (Accepted (now b) (now dir)) × (Width o) × (WithinSize (now m)) × (i < P.unionCount (now b)) × (HasUnions o (now m) (x .start) (x .length)) ⌝ }
+    ensures { λ r. ⌜ As.walkedOf r ≡ As.elementsBy o (now (b .entry)) (now (m .entry)) l (Kind.OfUnion i) x s ⌝ }
 {
+    let size = wire::union_size(o);
     let mut v = s;
     let mut at = x.start;
     let mut j: usize = 0;
@@ -248,12 +306,12 @@ fn choices(b: &[u8], dir: &[u16], m: &[u8], l: Limits, i: usize, x: Content, s: 
             holder: x.holder,
             number: j,
         };
-        let g = choice(b, dir, m, l, i, part, at, v);
+        let g = choice(b, dir, m, l, i, part, at, v, o);
         if g.code != 0 {
             return g;
         }
         v = g.spent;
-        at += wire::UNION;
+        at += size;
         j += 1;
     }
     outcome::going(v)
@@ -269,9 +327,10 @@ fn choice(
     part: Part,
     at: usize,
     s: Spent,
+    o: usize,
 ) -> Outcome
-    requires { ⌜ (Accepted (now b) (now dir)) × (WithinSize (now m)) × (i < P.unionCount (now b)) × (HasUnion (now m) at) ⌝ }
-    ensures { λ r. ⌜ As.walkedOf r ≡ As.followBy B.u48 (now (b .entry)) (now (m .entry)) l part (T.unionStep (Sc.casesOf (P.parse (now (b .entry))) i) false 0 (B.le (now (m .entry)) at 2) (B.le (now (m .entry)) (at + 2) B.u48)) s ⌝ }
+    requires { ⌜ (Accepted (now b) (now dir)) × (Width o) × (WithinSize (now m)) × (i < P.unionCount (now b)) × (HasUnion o (now m) at) ⌝ }
+    ensures { λ r. ⌜ As.walkedOf r ≡ As.followBy o (now (b .entry)) (now (m .entry)) l part (T.unionStep (Sc.casesOf (P.parse (now (b .entry))) i) false 0 (B.le (now (m .entry)) at 2) (B.le (now (m .entry)) (at + 2) o)) s ⌝ }
 {
     let c = wire::u16_in(m, at) as usize;
     if c == 0 {
@@ -281,14 +340,23 @@ fn choice(
         return outcome::going(s);
     }
     let ob = schema::union_case(b, dir, i, c);
-    let x = wire::offset_in(m, at + 2);
-    union(b, dir, m, l, part, ob, Place::ByOffset(x), s)
+    let x = wire::offset_in(m, at + 2, o);
+    union(b, dir, m, l, part, ob, Place::ByOffset(x), s, o)
 }
 
 // What the step of a part leads to.
-fn follow(b: &[u8], dir: &[u16], m: &[u8], l: Limits, part: Part, step: Step, s: Spent) -> Outcome
-    requires { ⌜ (Accepted (now b) (now dir)) × (WithinSize (now m)) × D.StepSmall (P.parse (now b)) step ⌝ }
-    ensures { λ r. ⌜ As.walkedOf r ≡ As.followBy B.u48 (now (b .entry)) (now (m .entry)) l part step s ⌝ }
+fn follow(
+    b: &[u8],
+    dir: &[u16],
+    m: &[u8],
+    l: Limits,
+    part: Part,
+    step: Step,
+    s: Spent,
+    o: usize,
+) -> Outcome
+    requires { ⌜ (Accepted (now b) (now dir)) × (Width o) × (WithinSize (now m)) × D.StepSmall (P.parse (now b)) step ⌝ }
+    ensures { λ r. ⌜ As.walkedOf r ≡ As.followBy o (now (b .entry)) (now (m .entry)) l part step s ⌝ }
 {
     match step {
         Step::Refused(e) => outcome::refuse_part(e, part, s),
@@ -296,24 +364,33 @@ fn follow(b: &[u8], dir: &[u16], m: &[u8], l: Limits, part: Part, step: Step, s:
         Step::Value(_) => outcome::going(s),
         Step::Unknown(_) => outcome::going(s),
         Step::Struct(_, _) => outcome::going(s),
-        Step::Object(ob, p) => arrive(b, dir, m, l, ob, p, s),
-        Step::Choice(_, ob, p) => union(b, dir, m, l, part, ob, p, s),
+        Step::Object(ob, p) => arrive(b, dir, m, l, ob, p, s, o),
+        Step::Choice(_, ob, p) => union(b, dir, m, l, part, ob, p, s, o),
     }
 }
 
 // An arrival at an object, at a text by its offset without the walker.
-fn arrive(b: &[u8], dir: &[u16], m: &[u8], l: Limits, ob: Object, p: Place, s: Spent) -> Outcome
-    requires { ⌜ (Accepted (now b) (now dir)) × (WithinSize (now m)) × (ObjectSound (P.parse (now b)) ob) × D.PlaceSmall p ⌝ }
-    ensures { λ r. ⌜ As.walkedOf r ≡ As.visitBy B.u48 (now (b .entry)) (now (m .entry)) l ob p s ⌝ }
+fn arrive(
+    b: &[u8],
+    dir: &[u16],
+    m: &[u8],
+    l: Limits,
+    ob: Object,
+    p: Place,
+    s: Spent,
+    o: usize,
+) -> Outcome
+    requires { ⌜ (Accepted (now b) (now dir)) × (Width o) × (WithinSize (now m)) × (ObjectSound (P.parse (now b)) ob) × D.PlaceSmall p ⌝ }
+    ensures { λ r. ⌜ As.walkedOf r ≡ As.visitBy o (now (b .entry)) (now (m .entry)) l ob p s ⌝ }
 {
     match p {
         Place::ByOffset(x) => {
             if judge_text::is_text(ob) {
-                return judge_text::visit_text(b, m, l, x, s);
+                return judge_text::visit_text(b, m, l, x, s, o);
             }
-            visit(b, dir, m, l, ob, Place::ByOffset(x), s)
+            visit(b, dir, m, l, ob, Place::ByOffset(x), s, o)
         }
-        Place::InPlace(a, n) => visit(b, dir, m, l, ob, Place::InPlace(a, n), s),
+        Place::InPlace(a, n) => visit(b, dir, m, l, ob, Place::InPlace(a, n), s, o),
     }
 }
 
@@ -327,17 +404,18 @@ fn union(
     ob: Object,
     p: Place,
     s: Spent,
+    o: usize,
 ) -> Outcome
-    requires { ⌜ (Accepted (now b) (now dir)) × (WithinSize (now m)) × (ObjectSound (P.parse (now b)) ob) × D.PlaceSmall p ⌝ }
-    ensures { λ r. ⌜ As.walkedOf r ≡ As.chooseBy B.u48 (now (b .entry)) (now (m .entry)) l part ob p s ⌝ }
+    requires { ⌜ (Accepted (now b) (now dir)) × (Width o) × (WithinSize (now m)) × (ObjectSound (P.parse (now b)) ob) × D.PlaceSmall p ⌝ }
+    ensures { λ r. ⌜ As.walkedOf r ≡ As.chooseBy o (now (b .entry)) (now (m .entry)) l part ob p s ⌝ }
 {
     match p {
         Place::ByOffset(x) => {
             if x == 0 {
                 return outcome::refuse_part(9, part, s);
             }
-            visit(b, dir, m, l, ob, Place::ByOffset(x), s)
+            visit(b, dir, m, l, ob, Place::ByOffset(x), s, o)
         }
-        Place::InPlace(a, n) => visit(b, dir, m, l, ob, Place::InPlace(a, n), s),
+        Place::InPlace(a, n) => visit(b, dir, m, l, ob, Place::InPlace(a, n), s, o),
     }
 }

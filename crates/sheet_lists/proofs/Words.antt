@@ -4,14 +4,14 @@ use mathlib.Core.List.{List, [], _++_, append-assoc, append-nil}
 use Prim.Native.Nat.{ℕ, zero, suc, _+_, _-_, _*_, _/_, _%_, _^_, _<_, _≤_}
 use native.Mathlib.Omega.{arith}
 use native.Mathlib.Nat.{zero-add, zero-mul, suc-mul, mul-suc, mul-comm, mul-left-comm, mul-le-mul-left}
-use lib.ListN.{length}
-use lib.Pow.{pow-add, shl-exact, split}
+use lib.ListN.{length, getD}
+use lib.Pow.{pow-add, shl-exact, split, low, high}
 use lib.Arith.{digits-lt}
 use lib.Bits.{bitOr, or-shifted}
 use Rattle.coding.specs.Bytes.{le}
 use Rattle.coding.specs.Bits.{bitsOf, bits}
 use Rattle.laws.specs.Bits.{bitsOf-join}
-use Rattle.wire.specs.Numbers.{Number}
+use Rattle.wire.specs.Numbers.{Number, le-small, le-join}
 use Rattle.bitio.specs.Splice.{splice}
 use Rattle.bitio.specs.Puts.{Room, Puts}
 use Rattle.bitio.specs.PutsLaws.{puts-then, puts-same, bits-in}
@@ -44,6 +44,12 @@ numbers-pair : (m : List ℕ) (w i j at a b h l r : ℕ) → l < 2 ^ b → r ≡
     → bitsOf (a + b) r ≡ A.numbersAt m w (i + j) at
 numbers-pair m w i j at a b h l r low er eh el = ap (bitsOf (a + b)) er ∙ bitsOf-join a b h l low ∙ ap₂ _++_ eh el ∙ sym (numbers-split m w i j at)
 
+exchanged-halves : (k h l x : ℕ) → l < 2 ^ k → x ≡ h * 2 ^ k + l → x % 2 ^ k * 2 ^ k + x / 2 ^ k ≡ l * 2 ^ k + h
+exchanged-halves k h l x small e =
+    let p : x % 2 ^ k ≡ l = ap (λ (i : ℕ). i % 2 ^ k) e ∙ low h k small in
+    let q : x / 2 ^ k ≡ h = ap (λ (i : ℕ). i / 2 ^ k) e ∙ high h k small in
+    ap₂ (λ (i j : ℕ). i * 2 ^ k + j) p q
+
 module _ (m : List ℕ) (s at : ℕ) where
   grouped-at : (k : ℕ) → s ≡ k → A.numbersAt m (8 / 2 ^ k) (2 ^ k) at ≡ A.numbersAt m (8 / 2 ^ s) (2 ^ s) at
   grouped-at k e = sym (ap (λ (i : ℕ). A.numbersAt m (8 / 2 ^ i) (2 ^ i) at) e)
@@ -51,8 +57,16 @@ module _ (m : List ℕ) (s at : ℕ) where
   pub word-one : (x : ℕ) → s ≡ 0 → Number m at 8 x → bitsOf 64 x ≡ A.numbersAt m (8 / 2 ^ s) (2 ^ s) at
   word-one x e nx = numbers-one m 8 at x nx ∙ grouped-at 0 e
 
-  pub word-two : (x y r : ℕ) → s ≡ 1 → Number m at 4 x → Number m (at + 4) 4 y → r ≡ x * 2 ^ 32 + y → bitsOf 64 r ≡ A.numbersAt m (8 / 2 ^ s) (2 ^ s) at
-  word-two x y r e nx ny er = numbers-pair m 4 1 1 at 32 32 x y r (ny .small) er (numbers-one m 4 at x nx) (numbers-one m 4 (at + 4) y ny) ∙ grouped-at 1 e
+  pub word-two : ((i : ℕ) → getD m i 0 < 256) → (x r : ℕ) → s ≡ 1 → Number m at 8 x → r ≡ x % 2 ^ 32 * 2 ^ 32 + x / 2 ^ 32
+      → bitsOf 64 r ≡ A.numbersAt m (8 / 2 ^ s) (2 ^ s) at
+  word-two bytes x r e nx er =
+      let lower : le m at 4 < 2 ^ 32 = le-small m bytes at 4 in
+      let upper : le m (at + 4) 4 < 2 ^ 32 = le-small m bytes (at + 4) 4 in
+      let y : x ≡ le m (at + 4) 4 * 2 ^ 32 + le m at 4 = nx .is ∙ le-join m at 4 4 in
+      numbers-pair m 4 1 1 at 32 32 (le m at 4) (le m (at + 4) 4) r upper (er ∙ exchanged-halves 32 (le m (at + 4) 4) (le m at 4) x lower y)
+      (numbers-one m 4 at _ (record { is = refl; small = lower }))
+      (numbers-one m 4 (at + 4) _ (record { is = refl; small = upper }))
+      ∙ grouped-at 1 e
 
   two : (i x y r : ℕ) → Number m i 2 x → Number m (i + 2) 2 y → r ≡ x * 2 ^ 16 + y → bitsOf 32 r ≡ A.numbersAt m 2 2 i
   two i x y r nx ny er = numbers-pair m 2 1 1 i 16 16 x y r (ny .small) er (numbers-one m 2 i x nx) (numbers-one m 2 (i + 2) y ny)

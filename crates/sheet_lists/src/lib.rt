@@ -59,7 +59,7 @@ fn word_of(m: &[u8], at: usize, s: usize) -> u64
         return wire::number(m, at, 8);
     }
     if s == 1 {
-        return bits::pair(wire::number(m, at, 4), wire::number(m, at + 4, 4), 32);
+        return bits::exchanged(wire::number(m, at, 8));
     }
     let hi = bits::pair(wire::number(m, at, 2), wire::number(m, at + 2, 2), 16);
     let lo = bits::pair(wire::number(m, at + 4, 2), wire::number(m, at + 6, 2), 16);

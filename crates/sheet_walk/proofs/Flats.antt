@@ -3,14 +3,14 @@ use mathlib.Core.Path.{_≡_, refl, sym, ap, _∙_, subst}
 use mathlib.Core.Bool.{Bool, true, false, _&&_, not}
 use mathlib.Core.List.{List, [], _++_}
 use mathlib.Core.Logic.{⊎-elim}
-use Prim.Native.Nat.{ℕ, _*_, _/_, _%_, _^_, _≤_}
+use Prim.Native.Nat.{ℕ, _+_, _*_, _/_, _%_, _^_, _≤_}
 use native.Mathlib.Omega.{arith}
-use lib.ListN.{getD}
+use lib.ListN.{getD, length}
 use lib.Dec.{eqb, ltb}
 use Rattle.coding.specs.Lists.{pick}
 use Rattle.coding.specs.Bytes.{le, bitAt, isNaN}
 use Rattle.coding.specs.Schema.{Schema}
-use Rattle.coding.specs.Structs.{structOk}
+use Rattle.coding.specs.Structs.{structOk, structSize, flatWidth}
 use Rattle.coding.specs.Step as T
 use Rattle.coding.specs.Bits.{bitsOf}
 use Rattle.coding.specs.Sheet as E
@@ -141,6 +141,11 @@ module _ (S : Schema) (m : List ℕ) (k : Kind) (none here : Bool) (at bit : ℕ
   pub member-union : (u : ℕ) → k ≡ OfUnion u → Puts out p (A.memberAt S m k none here at bit) out p
   unfolding A.memberAt A.valueAt
   member-union u ek = rw ek (simp (is-true here e) (puts-none out p (g .most)))
+
+pub flat-there : (S : Schema) (m : List ℕ) (k : Kind) (here : Bool) (at : ℕ) → (here ≡ true → D.ValueInside S m k at) → not here ≡ false → (f : Flat) → k ≡ OfFlat f
+    → at + flatWidth (structSize S) f ≤ length m
+unfolding D.ValueInside
+flat-there S m k here at h e f ek = subst (λ (j : Kind). D.ValueInside S m j at) ek (h (is-true here e))
 
 pub flat-given : (S : Schema) (m : List ℕ) (k : Kind) (here : Bool) (at : ℕ) → (here ≡ true → D.ValueReadable S m k at) → not here ≡ false → (f : Flat) → k ≡ OfFlat f
     → D.FlatReadable S m f at

@@ -8,7 +8,7 @@ use lib.ListN.{length, drop}
 use lib.Dec.{leb, ltb, eqb}
 use borrow.Author.Tests.{le-leb, lt-leb, lt-ltb, le-ltb, ltb-true, ltb-false, eqb-true, eqb-false, eq-eqb, ne-eqb}
 use Rattle.coding.specs.Lists.{pick}
-use Rattle.coding.specs.Bytes.{u48, le}
+use Rattle.coding.specs.Bytes.{le}
 use Rattle.coding.specs.Schema as Sc
 use Rattle.coding.specs.Schema.{Schema}
 use Rattle.coding.specs.Packed as P
@@ -153,14 +153,22 @@ module _ (o : ℕ) (S : Schema) (r : Member) (w : ℕ) (h : Leads o S (r .kind) 
       by false = refl
 
 -- ---- by the record
-module _ (k : ℕ) (t : Bool) (et : t ≡ eqb k 17) where
-  pub width-union : t ≡ true → 8 ≡ A.leadWidth u48 k
-  unfolding A.leadWidth u48
-  width-union h = simp (← et, h)
+module _ (o k : ℕ) (t : Bool) (et : t ≡ eqb k 17) where
+  pub width-union : t ≡ true → (w : ℕ) → w ≡ 2 + o → w ≡ A.leadWidth o k
+  unfolding A.leadWidth
+  width-union h w e = simp (← et, h) e
 
-  pub width-object : t ≡ false → 6 ≡ A.leadWidth u48 k
-  unfolding A.leadWidth u48
+  pub width-object : t ≡ false → o ≡ A.leadWidth o k
+  unfolding A.leadWidth
   width-object h = simp (← et, h)
+
+  -- the bytes of such a member that lies within a part
+  module _ (w : ℕ) (ew : w ≡ A.leadWidth o k) (start n c end : ℕ) (fits : start + n ≤ c) (l : end + w ≤ n) where
+    pub union-inside : t ≡ true → start + end + (2 + o) ≤ c
+    union-inside h = omega (arith, ew, width-union h (2 + o) refl, fits, l)
+
+    pub object-inside : t ≡ false → start + end + o ≤ c
+    object-inside h = omega (arith, ew, width-object h, fits, l)
 
 module _ (o : ℕ) (b : List ℕ) (at k : ℕ) (ek : k ≡ P.kindAt b at) (low : 12 < P.kindAt b at) (high : P.kindAt b at < 18) where
   of-object : (k ≡ 17 → ⊥) → P.memberAt b at .kind ≡ OfObject (P.objectAt b at)

@@ -6,7 +6,7 @@ use Prim.Native.Nat.{ℕ, zero, suc, _+_, _-_, _*_, _<_, _≤_}
 use native.Mathlib.Omega.{arith}
 use native.Mathlib.Numerals.{sub-one}
 use lib.ListN.{length, take, drop}
-use Rattle.coding.specs.Bytes.{u48, le}
+use Rattle.coding.specs.Bytes.{le}
 use Rattle.coding.specs.Schema as Sc
 use Rattle.coding.specs.Schema.{Schema}
 use Rattle.coding.specs.Packed as P
@@ -20,6 +20,7 @@ use Rattle.coding.specs.Sheet as E
 use Rattle.coding.specs.declared.Object.{Object}
 use Rattle.coding.specs.declared.Object.the-variants as O
 use Rattle.coding.specs.declared.Kind.{Kind}
+use Rattle.coding.specs.declared.Kind.the-variants.{OfFlat, OfObject, OfUnion}
 use Rattle.coding.specs.declared.Member.{Member}
 use Rattle.coding.specs.declared.Cursor.{Cursor}
 use Rattle.coding.specs.declared.Placement.{Placement}
@@ -44,31 +45,30 @@ use Rattle.sheet_walk.specs.Readable as D
 use Rattle.sheet_walk.specs.Stepping.{MemberAt, isHere}
 
 -- ---- places
-pub header-ten : 10 ≡ W.headerSize u48
-unfolding W.headerSize u48
-header-ten = refl
+pub header-is : (o r : ℕ) → r ≡ 4 + o → r ≡ W.headerSize o
+unfolding W.headerSize
+header-is o r e = e
 
-module _ (m : List ℕ) (p : Place) where
-  module _ (o : ℕ) where
-    pub start-offset : (x h : ℕ) → p ≡ ByOffset x → h ≡ W.headerSize o → x + h ≡ D.startOf o p
-    unfolding D.startOf
-    start-offset x h e eh = rw e (ap (λ (i : ℕ). x + i) eh)
+module _ (o : ℕ) (m : List ℕ) (p : Place) where
+  pub start-offset : (x h : ℕ) → p ≡ ByOffset x → h ≡ W.headerSize o → x + h ≡ D.startOf o p
+  unfolding D.startOf
+  start-offset x h e eh = rw e (ap (λ (i : ℕ). x + i) eh)
 
-    pub start-inplace : (a n : ℕ) → p ≡ InPlace a n → a ≡ D.startOf o p
-    unfolding D.startOf
-    start-inplace a n e = rw e
+  pub start-inplace : (a n : ℕ) → p ≡ InPlace a n → a ≡ D.startOf o p
+  unfolding D.startOf
+  start-inplace a n e = rw e
 
-    pub length-offset : (x r : ℕ) → p ≡ ByOffset x → r ≡ le m (x + 4) o → r ≡ D.lengthOf o m p
-    unfolding D.lengthOf
-    length-offset x r e h = rw e h
+  pub length-offset : (x r : ℕ) → p ≡ ByOffset x → r ≡ le m (x + 4) o → r ≡ D.lengthOf o m p
+  unfolding D.lengthOf
+  length-offset x r e h = rw e h
 
-    pub length-inplace : (a n : ℕ) → p ≡ InPlace a n → n ≡ D.lengthOf o m p
-    unfolding D.lengthOf
-    length-inplace a n e = rw e
+  pub length-inplace : (a n : ℕ) → p ≡ InPlace a n → n ≡ D.lengthOf o m p
+  unfolding D.lengthOf
+  length-inplace a n e = rw e
 
-  pub header-inside : (x : ℕ) → p ≡ ByOffset x → D.HeaderInside u48 m p → x + 10 ≤ length m
-  unfolding D.HeaderInside W.headerSize u48
-  header-inside x e h = subst (D.HeaderInside u48 m) e h
+  pub header-inside : (x h : ℕ) → p ≡ ByOffset x → h ≡ W.headerSize o → D.HeaderInside o m p → (x + h ≤ length m) × (h ≡ 4 + o)
+  unfolding D.HeaderInside W.headerSize
+  header-inside x h e eh l = (let g : x + (4 + o) ≤ length m = subst (D.HeaderInside o m) e l in omega arith, eh)
 
 -- ---- one member
 here-true : (g : Reach) → isHere g ≡ true → g ≡ Here
@@ -90,34 +90,40 @@ module _ (g : Reach) where
   unfolding isHere
   here-here e = rw e
 
-pub member-is : (b dir : List ℕ) → Accepted b dir → (m : List ℕ) (t j start n : ℕ) (c : Cursor) (r : Member) → r ≡ Sc.memberOf (P.parse b) t j
+value-within : (o : ℕ) (S : Schema) (m : List ℕ) (k : Kind) (at : ℕ) → at + L.width o S k ≤ length m → D.ValueInside S m k at
+unfolding L.width D.ValueInside
+value-within o S m (OfFlat f) at h = h
+value-within o S m (OfObject ob) at h = tt
+value-within o S m (OfUnion u) at h = tt
+
+pub member-is : (o : ℕ) (b dir : List ℕ) → Accepted b dir → (m : List ℕ) (t j start n : ℕ) (c : Cursor) (r : Member) → r ≡ Sc.memberOf (P.parse b) t j
     → j < length (Sc.tableOf (P.parse b) t .members) → j < 256 → start + n ≤ length m → length m ≤ 16777215 → Laid (4097 * j) c → (p : Placement) (next : Cursor)
-    → p ≡ L.placementOf u48 (P.parse b) r c → Stands (L.memberSlot u48 (P.parse b) r c) (L.afterMember u48 (P.parse b) r c) (c .end + 1) (p .value) next
+    → p ≡ L.placementOf o (P.parse b) r c → Stands (L.memberSlot o (P.parse b) r c) (L.afterMember o (P.parse b) r c) (c .end + 1) (p .value) next
     → (flag : Bool) → flag ≡ L.hasFlag r → (g : Reach) → g ≡ reachOf m start n p flag → (here : Bool) → here ≡ isHere g
-    → MemberAt u48 (P.parse b) m t j start n c (r .kind) (r .optional) (r .inplace) here (start + p .value .at) (p .value .bit) next
+    → MemberAt o (P.parse b) m t j start n c (r .kind) (r .optional) (r .inplace) here (start + p .value .at) (p .value .bit) next
 unfolding T.memberStep L.memberSlot
-member-is b dir a m t j start n c r e h few fits short laid p next ep stands flag ef g eg here eh =
+member-is o b dir a m t j start n c r e h few fits short laid p next ep stands flag ef g eg here eh =
     let x = laid .end in
     let q = stands .laid in
     let l = q .end in
     let z = stands .at in
-    let wide : p .value .size ≡ L.width u48 (P.parse b) (r .kind) =
-    ap (λ (i : Slot). i .size) (stands .slot-is) ∙ slot-size u48 (P.parse b) (r .kind) (L.afterFlag r c) in
+    let wide : p .value .size ≡ L.width o (P.parse b) (r .kind) =
+    ap (λ (i : Slot). i .size) (stands .slot-is) ∙ slot-size o (P.parse b) (r .kind) (L.afterFlag r c) in
     let s : MemberSound (P.parse b) (Sc.memberOf (P.parse b) t j) = member-sound-at (P.parse b) (accepted-sound b dir a) t j h in
     record {
       reach = g;
       here-is = eh;
       kind-is = ap (λ (k : Member). k .kind) e;
-      step-is = ap (λ (k : Member). T.memberStep u48 (P.parse b) m start n c k) (sym e)
-          ∙ ap (λ (y : Placement). T.structTested (P.parse b) m (T.placedStep u48 (P.parse b) m start n y r)) (sym ep)
+      step-is = ap (λ (k : Member). T.memberStep o (P.parse b) m start n c k) (sym e)
+          ∙ ap (λ (y : Placement). T.structTested (P.parse b) m (T.placedStep o (P.parse b) m start n y r)) (sym ep)
           ∙ ap (T.structTested (P.parse b) m)
-          (step-reached u48 (P.parse b) m start n p r
-          ∙ ap (λ (k : Reach). reached k (T.valueStep u48 (P.parse b) m (r .kind) (r .optional) (r .inplace) (start + n) (start + p .value .at) (p .value .bit)))
+          (step-reached o (P.parse b) m start n p r
+          ∙ ap (λ (k : Reach). reached k (T.valueStep o (P.parse b) m (r .kind) (r .optional) (r .inplace) (start + n) (start + p .value .at) (p .value .bit)))
           (sym (eg ∙ ap (reachOf m start n p) ef)));
-      inside = λ v. omega (arith, wide, here-inside m start n p flag g eg (here-true g (sym eh ∙ v)), fits);
+      inside = λ v. value-within o (P.parse b) m (r .kind) (start + p .value .at) (omega (arith, wide, here-inside m start n p flag g eg (here-true g (sym eh ∙ v)), fits));
       low = omega arith;
       bit-low = stands .bit;
-      next-is = stands .next-is ∙ ap (λ (k : Member). L.afterMember u48 (P.parse b) k c) e;
+      next-is = stands .next-is ∙ ap (λ (k : Member). L.afterMember o (P.parse b) k c) e;
       laid = record { end = omega arith; byte = q .byte; bit = q .bit };
       sound = subst (λ (k : Member). KindSound (P.parse b) (k .kind)) (sym e) (s .kind);
     }

@@ -9,7 +9,7 @@ use native.Mathlib.Numerals.{add-one}
 use lib.ListN.{length, getD, drop, drop-of-length-le}
 use lib.Seq.{drop-cons}
 use Rattle.coding.specs.Lists.{pick}
-use Rattle.coding.specs.Bytes.{u48, le, bitAt}
+use Rattle.coding.specs.Bytes.{le, bitAt}
 use Rattle.coding.specs.Schema as Sc
 use Rattle.coding.specs.Schema.{Schema}
 use Rattle.coding.specs.Packed as P
@@ -33,6 +33,7 @@ use Rattle.message_step.specs.Lead.{reached}
 use Rattle.message_step.specs.declared.Reach.{Reach}
 use Rattle.message_step.specs.declared.Reach.the-variants.{Cut, Past, Here}
 use Rattle.message_step.proofs.Inside.{index-small}
+use Rattle.wire.specs.Sizes.{Width}
 use Rattle.bitio.specs.Puts.{Room, Puts}
 use Rattle.bitio.specs.PutsLaws.{puts-then, puts-same}
 use Rattle.sheet_lists.specs.Elements as Es
@@ -262,11 +263,11 @@ pub element-sound : (b dir : List ℕ) → Accepted b dir → (i : ℕ) (k : Kin
 element-sound b dir a i k e = rw e (accepted-sound b dir a .lists i .kind)
 
 -- a list has not many elements
-pub list-few : (b dir : List ℕ) → Accepted b dir → (i start n c : ℕ) → start + T.elementsSize u48 (P.parse b) (Sc.elementOf (P.parse b) i) n ≤ c → c ≤ 16777215
+pub list-few : (o : ℕ) → Width o → (b dir : List ℕ) → Accepted b dir → (i start n c : ℕ) → start + T.elementsSize o (P.parse b) (Sc.elementOf (P.parse b) i) n ≤ c → c ≤ 16777215
     → n < 2 ^ 48
-list-few b dir a i start zero c h l = omega arith
-list-few b dir a i start (suc n) c h l =
-    let q = index-small b dir a (Sc.elementOf (P.parse b) i) (accepted-sound b dir a .lists i .kind) start (suc n) c n h l (omega arith) in omega arith
+list-few o w b dir a i start zero c h l = omega arith
+list-few o w b dir a i start (suc n) c h l =
+    let q = index-small o (w .0) b dir a (Sc.elementOf (P.parse b) i) (accepted-sound b dir a .lists i .kind) start (suc n) c n h l (omega arith) in omega arith
 
 pub list-start : (start x c : ℕ) → start + x ≤ c → c ≤ 16777215 → start < 2 ^ 58
 list-start start x c h l = omega arith

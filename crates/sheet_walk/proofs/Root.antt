@@ -1,9 +1,9 @@
 -- The root: what its entries rely on, and that they are the whole sheet.
 use mathlib.Core.Path.{_≡_, sym, subst}
 use mathlib.Core.List.{List}
-use Prim.Native.Nat.{ℕ, _≤_}
+use Prim.Native.Nat.{ℕ, _+_, _≤_}
 use lib.ListN.{length}
-use Rattle.coding.specs.Bytes.{u48, deepest}
+use Rattle.coding.specs.Bytes.{deepest}
 use Rattle.coding.specs.Schema.{Schema}
 use Rattle.coding.specs.Walk as W
 use Rattle.coding.specs.Read as R
@@ -15,9 +15,9 @@ use Rattle.bitio.specs.Puts.{Puts}
 use Rattle.sheet_walk.specs.MessageBits as A
 use Rattle.sheet_walk.specs.Readable as D
 
-pub root-long : (S : Schema) (m : List ℕ) → D.MessageReadable u48 S m → 10 ≤ length m
-unfolding W.startSize u48
-root-long S m h = h .long
+pub root-long : (o : ℕ) (S : Schema) (m : List ℕ) → D.MessageReadable o S m → 4 + o ≤ length m
+unfolding W.startSize
+root-long o S m h = h .long
 
 pub root-readable : (o : ℕ) (S : Schema) (m : List ℕ) → D.MessageReadable o S m → (ob : Object) (p : Place) → ob ≡ O.Table (S .root) → p ≡ W.rootPlace o m → D.ObjectReadable o 32 S m ob p
 unfolding deepest

@@ -7,7 +7,7 @@ use mathlib.Core.List.{List, [], _∷_}
 use lib.ListN.{length}
 use Rattle.coding.specs.Bytes.{le, deepest}
 use Rattle.coding.specs.Schema.{Schema, elementOf, tableOf}
-use Rattle.coding.specs.Structs.{structSize, structOk}
+use Rattle.coding.specs.Structs.{structSize, structOk, flatWidth}
 use Rattle.coding.specs.Layout.{begin, afterMember}
 use Rattle.coding.specs.Step.{memberStep, elementStep}
 use Rattle.coding.specs.Walk.{headerSize, startSize, contentSize, rootPlace}
@@ -63,6 +63,12 @@ FlatReadable S m (F.Integer s w) at = Unit {0}
 FlatReadable S m (F.Float w) at = Unit {0}
 FlatReadable S m (F.Enumerated n) at = Unit {0}
 FlatReadable S m (F.Struct i) at = structOk S m i at ≡ true
+
+-- it lies within the message
+unfoldable pub ValueInside : Schema → List ℕ → Kind → ℕ → Type 0
+ValueInside S m (OfFlat f) at = at + flatWidth (structSize S) f ≤ length m
+ValueInside S m (OfObject ob) at = Unit {0}
+ValueInside S m (OfUnion u) at = Unit {0}
 
 unfoldable pub ValueReadable : Schema → List ℕ → Kind → ℕ → Type 0
 ValueReadable S m (OfFlat f) at = FlatReadable S m f at

@@ -3,11 +3,10 @@ use mathlib.Core.Path.{_≡_}
 use mathlib.Core.Bool.{Bool, true, false}
 use Prim.Native.Nat.{ℕ, _+_, _-_, _*_, _^_, _<_, _≤_}
 use mathlib.Core.List.{List}
-use lib.ListN.{length}
 use lib.Dec.{leb, ltb}
 use Rattle.coding.specs.Lists.{pick}
 use Rattle.coding.specs.Schema.{Schema, memberOf}
-use Rattle.coding.specs.Layout.{width, afterMember, afterBit, afterBytes}
+use Rattle.coding.specs.Layout.{afterMember, afterBit, afterBytes}
 use Rattle.coding.specs.Step.{memberStep, valueStep, structTested}
 use Rattle.coding.specs.declared.Kind.{Kind}
 use Rattle.coding.specs.declared.Member.{Member}
@@ -18,6 +17,7 @@ use Rattle.message_step.specs.Lead.{reached}
 use Rattle.message_step.specs.declared.Reach.{Reach}
 use Rattle.message_step.specs.declared.Reach.the-variants.{Cut, Past, Here}
 use Rattle.sheet_walk.specs.MessageBits.{stepAt, codedAt}
+use Rattle.sheet_walk.specs.Readable.{ValueInside}
 
 unfoldable pub isHere : Reach → Bool
 isHere Cut = false
@@ -50,7 +50,7 @@ pub record MemberAt (o : ℕ) (S : Schema) (m : List ℕ) (t j start n : ℕ) (c
   pub here-is : here ≡ isHere reach
   pub kind-is : k ≡ memberOf S t j .kind
   pub step-is : memberStep o S m start n c (memberOf S t j) ≡ structTested S m (reached reach (valueStep o S m k none inplace (start + n) at bit))
-  pub inside : here ≡ true → at + width o S k ≤ length m
+  pub inside : here ≡ true → ValueInside S m k at
   pub low : at < 2 ^ 60
   pub bit-low : bit < 8
   pub next-is : next ≡ afterMember o S (memberOf S t j) c

@@ -1,4 +1,5 @@
-// A sheet's entries: one walk over an accepted message counts their bits and, where there is room, stores them.
+// A sheet's entries: one walk over an accepted message counts their bits and, where there is room, stores them. An offset and
+// a length have `o` bytes.
 use coding::Cursor;
 use coding::Flat;
 use coding::Kind;
@@ -8,8 +9,6 @@ ghost use mathlib.Core.Path.{_≡_};
 ghost use mathlib.Core.Bool.{true};
 ghost use Prim.Native.Nat.{_+_, _*_, _<_, _≤_, _^_};
 ghost use lib.ListN.{length};
-ghost use Rattle.coding.specs.Bytes as B;
-ghost use Rattle.coding.specs.Layout as L;
 ghost use Rattle.coding.specs.Packed as P;
 ghost use Rattle.coding.specs.Schema as Sc;
 ghost use Rattle.coding.specs.Step as T;
@@ -23,7 +22,7 @@ ghost use Rattle.sheet_walk.specs.MessageBits as Bt;
 ghost use Rattle.sheet_walk.specs.Readable as D;
 ghost use Rattle.sheet_walk.specs.Contracts as C;
 ghost use Rattle.sheet_walk.specs.Stepping.{MemberAt, Coded, Small, behind, isHere};
-ghost use Rattle.wire.specs.Sizes.{WithinSize, HasOffsets, HasUnions};
+ghost use Rattle.wire.specs.Sizes.{WithinSize, Width, HasOffsets, HasUnions};
 
 // ---- structs, by recursion on the struct index, which falls at every inner struct
 // A member of struct i, which stands at `at`.
@@ -88,26 +87,27 @@ pub struct Content {
 }
 
 // The bytes of an object's header.
-fn header_size(ob: Object) -> usize
-    ensures { λ r. ⌜ r ≡ W.headerSize B.u48 ⌝ }
+fn header_size(ob: Object, o: usize) -> usize
+    requires { ⌜ Width o ⌝ }
+    ensures { λ r. ⌜ r ≡ W.headerSize o ⌝ }
 {
     match ob {
-        Object::Text => message_header::TextObject::HEADER,
-        Object::Bytes => message_header::BytesObject::HEADER,
-        Object::List(_) => message_header::ListObject::HEADER,
-        Object::Table(_) => message_header::TableObject::HEADER,
+        Object::Text => message_header::TextObject::header_size(o),
+        Object::Bytes => message_header::BytesObject::header_size(o),
+        Object::List(_) => message_header::ListObject::header_size(o),
+        Object::Table(_) => message_header::TableObject::header_size(o),
     }
 }
 
 // The content of an object at its place.
-fn content_of(m: &[u8], ob: Object, p: Place) -> Content
-    requires { ⌜ (D.HeaderInside B.u48 (now m) p) × (WithinSize (now m)) ⌝ }
-    ensures { λ r. ⌜ (r .start ≡ D.startOf B.u48 p) × (r .length ≡ D.lengthOf B.u48 (now (m .entry)) p) ⌝ }
+fn content_of(m: &[u8], ob: Object, p: Place, o: usize) -> Content
+    requires { ⌜ (Width o) × (D.HeaderInside o (now m) p) × (WithinSize (now m)) ⌝ }
+    ensures { λ r. ⌜ (r .start ≡ D.startOf o p) × (r .length ≡ D.lengthOf o (now (m .entry)) p) ⌝ }
 {
     match p {
         Place::ByOffset(x) => Content {
-            start: x + header_size(ob),
-            length: wire::offset_in(m, x + wire::MAGIC),
+            start: x + header_size(ob, o),
+            length: wire::offset_in(m, x + wire::MAGIC, o),
         },
         Place::InPlace(start, length) => Content { start, length },
     }
@@ -203,16 +203,17 @@ fn put_blob_reference(
     tail: usize,
     x: usize,
     pos: usize,
+    o: usize,
 ) -> usize
     requires { ⌜ Room (now out) pos ⌝ }
-    requires { ⌜ WithinSize (now m) ⌝ }
-    requires { ⌜ ((x ≡ 0 → ⊥) → D.BlobInside B.u48 (now m) (T.placeOf inplace tail x)) ⌝ }
-    ensures { λ r. ⌜ Puts (now (out .entry)) pos (Bt.blobReferenceAt B.u48 (now (m .entry)) inplace tail x) (now (out .exit)) r ⌝ }
+    requires { ⌜ (Width o) × (WithinSize (now m)) ⌝ }
+    requires { ⌜ ((x ≡ 0 → ⊥) → D.BlobInside o (now m) (T.placeOf inplace tail x)) ⌝ }
+    ensures { λ r. ⌜ Puts (now (out .entry)) pos (Bt.blobReferenceAt o (now (m .entry)) inplace tail x) (now (out .exit)) r ⌝ }
 {
     if x == 0 {
         return bitio::write(out, pos, 2, 0);
     }
-    let c = content_of(m, ob, message_step::place_of(inplace, tail, x));
+    let c = content_of(m, ob, message_step::place_of(inplace, tail, x), o);
     sheet_values::put_blob(m, out, pos, c.start, c.length)
 }
 
@@ -238,7 +239,7 @@ fn put_flat_member(
 ) -> usize
     requires { ⌜ Room (now out) pos ⌝ }
     requires { ⌜ (Accepted (now b) (now dir)) × (WithinSize (now m)) × (KindSound (P.parse (now b)) (q .kind)) ⌝ }
-    requires { ⌜ (q .here ≡ true → q .at + L.width B.u48 (P.parse (now b)) (q .kind) ≤ length (now m)) × (q .bit < 8) × (q .at < 2 ^ 60) ⌝ }
+    requires { ⌜ (q .here ≡ true → D.ValueInside (P.parse (now b)) (now m) (q .kind) (q .at)) × (q .bit < 8) × (q .at < 2 ^ 60) ⌝ }
     requires { ⌜ (q .here ≡ true → D.ValueReadable (P.parse (now b)) (now m) (q .kind) (q .at)) ⌝ }
     ensures { λ r. ⌜ Puts (now (out .entry)) pos (C.memberBits (now (b .entry)) (now (m .entry)) (q .kind) (q .none) (q .here) (q .at) (q .bit)) (now (out .exit)) r ⌝ }
 {
@@ -273,14 +274,15 @@ fn member_at(
     j: usize,
     part: Content,
     c: Cursor,
+    o: usize,
 ) -> PlacedMember
-    requires { ⌜ (Accepted (now b) (now dir)) × (t < P.tableCount (now b)) × (j < length (Sc.tableOf (P.parse (now b)) t .members)) × (j < 256) ⌝ }
+    requires { ⌜ (Accepted (now b) (now dir)) × (Width o) × (t < P.tableCount (now b)) × (j < length (Sc.tableOf (P.parse (now b)) t .members)) × (j < 256) ⌝ }
     requires { ⌜ (part .start + part .length ≤ length (now m)) × (WithinSize (now m)) × (Laid (4097 * j) c) ⌝ }
-    ensures { λ q. ⌜ MemberAt B.u48 (P.parse (now (b .entry))) (now (m .entry)) t j (part .start) (part .length) c (q .kind) (q .none) (q .inplace) (q .here) (q .at) (q .bit) (q .next) ⌝ }
+    ensures { λ q. ⌜ MemberAt o (P.parse (now (b .entry))) (now (m .entry)) t j (part .start) (part .length) c (q .kind) (q .none) (q .inplace) (q .here) (q .at) (q .bit) (q .next) ⌝ }
 {
     let r = schema::member(b, dir, t, j);
     let k = r.kind;
-    let placed = message_layout::place_member(b, dir, r, c);
+    let placed = message_layout::place_member(b, dir, r, c, o);
     let p = placed.placement;
     let slot = p.value;
     let next = placed.next;
@@ -484,13 +486,14 @@ fn behind_coded(c: Cursor, q: usize) -> Cursor
 }
 
 // The bytes of a member that leads to an object, by its kind.
-fn lead_width(k: usize) -> usize
-    ensures { λ r. ⌜ (r ≡ Bt.leadWidth B.u48 k) × (0 < r) × (r ≤ 8) ⌝ }
+fn lead_width(k: usize, o: usize) -> usize
+    requires { ⌜ Width o ⌝ }
+    ensures { λ r. ⌜ (r ≡ Bt.leadWidth o k) × (0 < r) × (r ≤ 8) ⌝ }
 {
     if schema::is_union_kind(k) {
-        wire::UNION
+        wire::union_size(o)
     } else {
-        wire::OFFSET
+        o
     }
 }
 
@@ -505,17 +508,18 @@ fn put_lead(
     part: Content,
     c: Cursor,
     pos: usize,
+    o: usize,
 ) -> usize
     requires { ⌜ Room (now out) pos ⌝ }
-    requires { ⌜ (Accepted (now b) (now dir)) × (WithinSize (now m)) × (at + 1 < length (now b)) × (KindSound (P.parse (now b)) (P.memberAt (now b) at .kind)) ⌝ }
+    requires { ⌜ (Accepted (now b) (now dir)) × (Width o) × (WithinSize (now m)) × (at + 1 < length (now b)) × (KindSound (P.parse (now b)) (P.memberAt (now b) at .kind)) ⌝ }
     requires { ⌜ (part .start + part .length ≤ length (now m)) × (12 < P.kindAt (now b) at) × (P.kindAt (now b) at < 18) × (c .end < 2 ^ 58) ⌝ }
-    requires { ⌜ C.LeadReadable d (now b) (now m) at (part .start) (part .length) c ⌝ }
-    ensures { λ r. ⌜ Puts (now (out .entry)) pos (C.leadBits d (now (b .entry)) (now (m .entry)) at (part .start) (part .length) c) (now (out .exit)) r ⌝ }
+    requires { ⌜ C.LeadReadable o d (now b) (now m) at (part .start) (part .length) c ⌝ }
+    ensures { λ r. ⌜ Puts (now (out .entry)) pos (C.leadBits o d (now (b .entry)) (now (m .entry)) at (part .start) (part .length) c) (now (out .exit)) r ⌝ }
 {
     let end = c.end;
     let tail = part.start + part.length;
     let k = schema::kind_at(b, at);
-    if part.length < end + lead_width(k) {
+    if part.length < end + lead_width(k, o) {
         return bitio::write(out, pos, 2, 0);
     }
     let inplace = schema::inplace_at(b, at);
@@ -523,15 +527,15 @@ fn put_lead(
     if schema::is_union_kind(k) {
         let u = wire::index(schema::argument_at(b, at));
         let i = wire::u16_in(m, from) as usize;
-        let x = wire::offset_in(m, from + 2);
-        return put_union(b, dir, m, out, d, u, inplace, tail, i, x, pos);
+        let x = wire::offset_in(m, from + wire::CHOICE, o);
+        return put_union(b, dir, m, out, d, u, inplace, tail, i, x, pos, o);
     }
-    let x = wire::offset_in(m, from);
+    let x = wire::offset_in(m, from, o);
     let ob = schema::object_at(b, at);
     if schema::is_blob(ob) {
-        return put_blob_reference(m, out, ob, inplace, tail, x, pos);
+        return put_blob_reference(m, out, ob, inplace, tail, x, pos, o);
     }
-    put_reference(b, dir, m, out, d, ob, inplace, tail, x, pos)
+    put_reference(b, dir, m, out, d, ob, inplace, tail, x, pos, o)
 }
 
 // ---- objects by their places
@@ -547,18 +551,19 @@ fn put_reference(
     tail: usize,
     x: usize,
     pos: usize,
+    o: usize,
 ) -> usize
     requires { ⌜ Room (now out) pos ⌝ }
-    requires { ⌜ (Accepted (now b) (now dir)) × (WithinSize (now m)) ⌝ }
-    requires { ⌜ C.StepReadable d (now b) (now m) (T.objectStep ob inplace tail x) ⌝ }
-    ensures { λ r. ⌜ Puts (now (out .entry)) pos (C.referenceBits d (now (b .entry)) (now (m .entry)) ob inplace tail x) (now (out .exit)) r ⌝ }
+    requires { ⌜ (Accepted (now b) (now dir)) × (Width o) × (WithinSize (now m)) ⌝ }
+    requires { ⌜ C.StepReadable o d (now b) (now m) (T.objectStep ob inplace tail x) ⌝ }
+    ensures { λ r. ⌜ Puts (now (out .entry)) pos (C.referenceBits o d (now (b .entry)) (now (m .entry)) ob inplace tail x) (now (out .exit)) r ⌝ }
 {
     if x == 0 {
         return bitio::write(out, pos, 2, 0);
     }
     let place = message_step::place_of(inplace, tail, x);
     let p = bitio::write(out, pos, 2, 1);
-    put_object(b, dir, m, out, d, ob, place, p)
+    put_object(b, dir, m, out, d, ob, place, p, o)
 }
 
 // What choice c of union u, with the reference or length x, leads to, with its mark.
@@ -574,11 +579,12 @@ fn put_union(
     c: usize,
     x: usize,
     pos: usize,
+    o: usize,
 ) -> usize
     requires { ⌜ Room (now out) pos ⌝ }
-    requires { ⌜ (Accepted (now b) (now dir)) × (WithinSize (now m)) × (u < P.unionCount (now b)) ⌝ }
-    requires { ⌜ C.StepReadable d (now b) (now m) (T.unionStep (Sc.casesOf (P.parse (now b)) u) inplace tail c x) ⌝ }
-    ensures { λ r. ⌜ Puts (now (out .entry)) pos (C.choiceBits d (now (b .entry)) (now (m .entry)) u inplace tail c x) (now (out .exit)) r ⌝ }
+    requires { ⌜ (Accepted (now b) (now dir)) × (Width o) × (WithinSize (now m)) × (u < P.unionCount (now b)) ⌝ }
+    requires { ⌜ C.StepReadable o d (now b) (now m) (T.unionStep (Sc.casesOf (P.parse (now b)) u) inplace tail c x) ⌝ }
+    ensures { λ r. ⌜ Puts (now (out .entry)) pos (C.choiceBits o d (now (b .entry)) (now (m .entry)) u inplace tail c x) (now (out .exit)) r ⌝ }
 {
     if c == 0 {
         return bitio::write(out, pos, 2, 0);
@@ -589,7 +595,7 @@ fn put_union(
     let ob = schema::union_case(b, dir, u, c);
     let place = message_step::place_of(inplace, tail, x);
     let p = sheet_values::put_marked(out, pos, 1, 16, sheet_values::number64(c));
-    put_object(b, dir, m, out, d, ob, place, p)
+    put_object(b, dir, m, out, d, ob, place, p, o)
 }
 
 // The object at a place, with d objects of depth left, this one counted.
@@ -602,16 +608,27 @@ fn put_object(
     ob: Object,
     place: Place,
     pos: usize,
+    o: usize,
 ) -> usize
     requires { ⌜ Room (now out) pos ⌝ }
-    requires { ⌜ (Accepted (now b) (now dir)) × (WithinSize (now m)) ⌝ }
-    requires { ⌜ C.ObjectReadable d (now b) (now m) ob place ⌝ }
-    ensures { λ r. ⌜ Puts (now (out .entry)) pos (C.objectBits d (now (b .entry)) (now (m .entry)) ob place) (now (out .exit)) r ⌝ }
+    requires { ⌜ (Accepted (now b) (now dir)) × (Width o) × (WithinSize (now m)) ⌝ }
+    requires { ⌜ C.ObjectReadable o d (now b) (now m) ob place ⌝ }
+    ensures { λ r. ⌜ Puts (now (out .entry)) pos (C.objectBits o d (now (b .entry)) (now (m .entry)) ob place) (now (out .exit)) r ⌝ }
 {
     if d == 0 {
         return pos;
     }
-    put_content(b, dir, m, out, d - 1, ob, content_of(m, ob, place), pos)
+    put_content(
+        b,
+        dir,
+        m,
+        out,
+        d - 1,
+        ob,
+        content_of(m, ob, place, o),
+        pos,
+        o,
+    )
 }
 
 // An object's content; d objects of depth are left below it.
@@ -624,17 +641,18 @@ fn put_content(
     ob: Object,
     part: Content,
     pos: usize,
+    o: usize,
 ) -> usize
     requires { ⌜ Room (now out) pos ⌝ }
-    requires { ⌜ (Accepted (now b) (now dir)) × (WithinSize (now m)) ⌝ }
-    requires { ⌜ C.ContentReadable d (now b) (now m) ob (part .start) (part .length) ⌝ }
-    ensures { λ r. ⌜ Puts (now (out .entry)) pos (C.contentBits d (now (b .entry)) (now (m .entry)) ob (part .start) (part .length)) (now (out .exit)) r ⌝ }
+    requires { ⌜ (Accepted (now b) (now dir)) × (Width o) × (WithinSize (now m)) ⌝ }
+    requires { ⌜ C.ContentReadable o d (now b) (now m) ob (part .start) (part .length) ⌝ }
+    ensures { λ r. ⌜ Puts (now (out .entry)) pos (C.contentBits o d (now (b .entry)) (now (m .entry)) ob (part .start) (part .length)) (now (out .exit)) r ⌝ }
 {
     match ob {
         Object::Text => bitio::write_blob(m, out, pos, part.start, part.length),
         Object::Bytes => bitio::write_blob(m, out, pos, part.start, part.length),
-        Object::List(i) => put_list(b, dir, m, out, d, wire::index(i), part, pos),
-        Object::Table(t) => put_table(b, dir, m, out, d, wire::index(t), part, pos),
+        Object::List(i) => put_list(b, dir, m, out, d, wire::index(i), part, pos, o),
+        Object::Table(t) => put_table(b, dir, m, out, d, wire::index(t), part, pos, o),
     }
 }
 
@@ -648,11 +666,12 @@ fn put_table(
     t: usize,
     part: Content,
     pos: usize,
+    o: usize,
 ) -> usize
     requires { ⌜ Room (now out) pos ⌝ }
-    requires { ⌜ (Accepted (now b) (now dir)) × (WithinSize (now m)) × (t < P.tableCount (now b)) × (part .start + part .length ≤ length (now m)) ⌝ }
-    requires { ⌜ C.TableReadable d (now b) (now m) t (part .start) (part .length) ⌝ }
-    ensures { λ r. ⌜ Puts (now (out .entry)) pos (C.tableBits d (now (b .entry)) (now (m .entry)) t (part .start) (part .length)) (now (out .exit)) r ⌝ }
+    requires { ⌜ (Accepted (now b) (now dir)) × (Width o) × (WithinSize (now m)) × (t < P.tableCount (now b)) × (part .start + part .length ≤ length (now m)) ⌝ }
+    requires { ⌜ C.TableReadable o d (now b) (now m) t (part .start) (part .length) ⌝ }
+    ensures { λ r. ⌜ Puts (now (out .entry)) pos (C.tableBits o d (now (b .entry)) (now (m .entry)) t (part .start) (part .length)) (now (out .exit)) r ⌝ }
 {
     let count = schema::member_count(b, dir, t);
     let first = schema::table_place(b, dir, t);
@@ -673,12 +692,12 @@ fn put_table(
         }
         let k = schema::kind_at(b, at);
         if !schema::is_flat_kind(k) {
-            p = put_lead(b, dir, m, out, d, at, part, c, p);
-            c = message_layout::after_bytes(c, lead_width(k));
+            p = put_lead(b, dir, m, out, d, at, part, c, p, o);
+            c = message_layout::after_bytes(c, lead_width(k, o));
             j += 1;
             continue;
         }
-        let q = member_at(b, dir, m, t, j, part, c);
+        let q = member_at(b, dir, m, t, j, part, c, o);
         c = q.next;
         p = put_flat_member(b, dir, m, out, q, p);
         j += 1;
@@ -696,12 +715,13 @@ fn put_list(
     i: usize,
     part: Content,
     pos: usize,
+    o: usize,
 ) -> usize
     requires { ⌜ Room (now out) pos ⌝ }
-    requires { ⌜ (Accepted (now b) (now dir)) × (WithinSize (now m)) × (i < P.listCount (now b)) ⌝ }
-    requires { ⌜ C.ListInside (now b) (now m) i (part .start) (part .length) ⌝ }
-    requires { ⌜ C.ListReadable d (now b) (now m) i (part .start) (part .length) ⌝ }
-    ensures { λ r. ⌜ Puts (now (out .entry)) pos (C.listBits d (now (b .entry)) (now (m .entry)) i (part .start) (part .length)) (now (out .exit)) r ⌝ }
+    requires { ⌜ (Accepted (now b) (now dir)) × (Width o) × (WithinSize (now m)) × (i < P.listCount (now b)) ⌝ }
+    requires { ⌜ C.ListInside o (now b) (now m) i (part .start) (part .length) ⌝ }
+    requires { ⌜ C.ListReadable o d (now b) (now m) i (part .start) (part .length) ⌝ }
+    ensures { λ r. ⌜ Puts (now (out .entry)) pos (C.listBits o d (now (b .entry)) (now (m .entry)) i (part .start) (part .length)) (now (out .exit)) r ⌝ }
 {
     let start = part.start;
     let n = part.length;
@@ -719,8 +739,8 @@ fn put_list(
     }
     match k {
         Kind::OfFlat(f) => put_flats(m, out, f, start, n, p),
-        Kind::OfObject(ob) => put_references(b, dir, m, out, d, ob, part, p),
-        Kind::OfUnion(u) => put_choices(b, dir, m, out, d, wire::index(u), part, p),
+        Kind::OfObject(ob) => put_references(b, dir, m, out, d, ob, part, p, o),
+        Kind::OfUnion(u) => put_choices(b, dir, m, out, d, wire::index(u), part, p, o),
     }
 }
 
@@ -734,11 +754,12 @@ fn put_references(
     ob: Object,
     part: Content,
     pos: usize,
+    o: usize,
 ) -> usize
     requires { ⌜ Room (now out) pos ⌝ }
-    requires { ⌜ (Accepted (now b) (now dir)) × (WithinSize (now m)) × (HasOffsets (now m) (part .start) (part .length)) ⌝ }
-    requires { ⌜ C.ElementsReadable d (now b) (now m) (Kind.OfObject ob) (part .start) (part .length) ⌝ }
-    ensures { λ r. ⌜ Puts (now (out .entry)) pos (C.elementsBits d (now (b .entry)) (now (m .entry)) (Kind.OfObject ob) (part .start) (part .length)) (now (out .exit)) r ⌝ }
+    requires { ⌜ (Accepted (now b) (now dir)) × (Width o) × (WithinSize (now m)) × (HasOffsets o (now m) (part .start) (part .length)) ⌝ }
+    requires { ⌜ C.ElementsReadable o d (now b) (now m) (Kind.OfObject ob) (part .start) (part .length) ⌝ }
+    ensures { λ r. ⌜ Puts (now (out .entry)) pos (C.elementsBits o d (now (b .entry)) (now (m .entry)) (Kind.OfObject ob) (part .start) (part .length)) (now (out .exit)) r ⌝ }
 {
     let n = part.length;
     let mut p = pos;
@@ -748,9 +769,9 @@ fn put_references(
         if sheet_values::MOST < p {
             return p;
         }
-        let x = wire::offset_in(m, at);
-        p = put_reference(b, dir, m, out, d, ob, false, 0, x, p);
-        at += wire::OFFSET;
+        let x = wire::offset_in(m, at, o);
+        p = put_reference(b, dir, m, out, d, ob, false, 0, x, p, o);
+        at += o;
         j += 1;
     }
     p
@@ -766,13 +787,15 @@ fn put_choices(
     u: usize,
     part: Content,
     pos: usize,
+    o: usize,
 ) -> usize
     requires { ⌜ Room (now out) pos ⌝ }
-    requires { ⌜ (Accepted (now b) (now dir)) × (WithinSize (now m)) × (u < P.unionCount (now b)) × (HasUnions (now m) (part .start) (part .length)) ⌝ }
-    requires { ⌜ C.ElementsReadable d (now b) (now m) (Kind.OfUnion u) (part .start) (part .length) ⌝ }
-    ensures { λ r. ⌜ Puts (now (out .entry)) pos (C.elementsBits d (now (b .entry)) (now (m .entry)) (Kind.OfUnion u) (part .start) (part .length)) (now (out .exit)) r ⌝ }
+    requires { ⌜ (Accepted (now b) (now dir)) × (Width o) × (WithinSize (now m)) × (u < P.unionCount (now b)) × (HasUnions o (now m) (part .start) (part .length)) ⌝ }
+    requires { ⌜ C.ElementsReadable o d (now b) (now m) (Kind.OfUnion u) (part .start) (part .length) ⌝ }
+    ensures { λ r. ⌜ Puts (now (out .entry)) pos (C.elementsBits o d (now (b .entry)) (now (m .entry)) (Kind.OfUnion u) (part .start) (part .length)) (now (out .exit)) r ⌝ }
 {
     let n = part.length;
+    let size = wire::union_size(o);
     let mut p = pos;
     let mut at = part.start;
     let mut j: usize = 0;
@@ -781,9 +804,9 @@ fn put_choices(
             return p;
         }
         let c = wire::u16_in(m, at) as usize;
-        let x = wire::offset_in(m, at + 2);
-        p = put_union(b, dir, m, out, d, u, false, 0, c, x, p);
-        at += wire::UNION;
+        let x = wire::offset_in(m, at + wire::CHOICE, o);
+        p = put_union(b, dir, m, out, d, u, false, 0, c, x, p, o);
+        at += size;
         j += 1;
     }
     p
@@ -791,12 +814,12 @@ fn put_choices(
 
 // ---- the whole sheet
 // The root's bits, where there is room, and where they end.
-pub fn put_root(b: &[u8], dir: &[u16], m: &[u8], out: &mut [u8]) -> usize
+pub fn put_root(b: &[u8], dir: &[u16], m: &[u8], out: &mut [u8], o: usize) -> usize
     requires { ⌜ Room (now out) 0 ⌝ }
-    requires { ⌜ (Accepted (now b) (now dir)) × (C.MessageReadable (now b) (now m)) ⌝ }
-    ensures { λ r. ⌜ Puts (now (out .entry)) 0 (C.rootBits (now (b .entry)) (now (m .entry))) (now (out .exit)) r ⌝ }
+    requires { ⌜ (Accepted (now b) (now dir)) × (Width o) × (C.MessageReadable o (now b) (now m)) ⌝ }
+    ensures { λ r. ⌜ Puts (now (out .entry)) 0 (C.rootBits o (now (b .entry)) (now (m .entry))) (now (out .exit)) r ⌝ }
 {
     let ob = message_start::root_object(b, dir);
-    let p = message_start::root_place(m);
-    put_object(b, dir, m, out, 32, ob, p, 0)
+    let p = message_start::root_place(m, o);
+    put_object(b, dir, m, out, 32, ob, p, 0, o)
 }

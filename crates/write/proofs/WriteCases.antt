@@ -10,7 +10,7 @@ use lib.Seq.{length-take-le, take-all}
 use lib.Dec.{ltb, eqb}
 use borrow.Author.Tests.{le-leb, lt-leb, lt-ltb, le-ltb, eq-eqb, ne-eqb, eqb-true, not-true, not-false}
 use Rattle.coding.specs.Lists.{pick}
-use Rattle.coding.specs.Bytes.{u48, largest, deepest}
+use Rattle.coding.specs.Bytes.{largest, deepest}
 use Rattle.coding.specs.Bits.{bits, value, allZero}
 use Rattle.coding.specs.Packed.{parse}
 use Rattle.coding.specs.Walk.{headerSize}
@@ -22,7 +22,7 @@ use Rattle.coding.specs.declared.Object.the-variants as O
 use Rattle.coding.specs.declared.WriteAnswer.{WriteAnswer}
 use Rattle.laws.specs.Lists.{never}
 use Rattle.laws.specs.Bits.{bits-length}
-use Rattle.schema.specs.Directory.{Accepted, Judged, accepted-sound}
+use Rattle.schema.specs.Directory.{AcceptedUnder, Judged, accepted-sound}
 use Rattle.bitio.specs.Taken.{Run}
 use Rattle.write_measure.specs.Survey.{survey}
 use Rattle.write_measure.specs.Surveyed.{SurveyedAt}
@@ -38,29 +38,29 @@ use Rattle.write.specs.WriteLaws as Wl
 use Rattle.write_store.specs.declared.Places.{Places}
 
 -- ---- refusals
-module _ (b s o : List ℕ) (n : ℕ) (e : M.written u48 b s ≡ M.refused n) where
-  answered : (r : WriteAnswer) → r .number ≡ n → r .length ≡ 0 → r ≡ M.writeAnswer u48 b s o
+module _ (o : ℕ) (b s out : List ℕ) (n : ℕ) (e : M.written o b s ≡ M.refused n) where
+  answered : (r : WriteAnswer) → r .number ≡ n → r .length ≡ 0 → r ≡ M.writeAnswer o b s out
   unfolding M.writeAnswer M.writeRoom
-  answered r en el = ap₂ (λ (i j : ℕ). record { number = i; length = j }) en el ∙ sym (ap (λ w. M.writeRoom w (length o)) e)
+  answered r en el = ap₂ (λ (i j : ℕ). record { number = i; length = j }) en el ∙ sym (ap (λ w. M.writeRoom w (length out)) e)
 
-  unchanged : o ≡ M.writeOut u48 b s o
+  unchanged : out ≡ M.writeOut o b s out
   unfolding M.writeOut M.writeOver
-  unchanged = sym (ap (λ w. M.writeOver w o) e)
+  unchanged = sym (ap (λ w. M.writeOver w out) e)
 
 -- ---- the schema is not lawful
-pub schema-accepted : (b dir : List ℕ) (t : Bool) → Judged b dir t → t ≡ true → Accepted b dir
-schema-accepted b dir t j e = j .right e
+pub schema-accepted : (o : ℕ) (b dir : List ℕ) (t : Bool) → Judged o b dir t → t ≡ true → AcceptedUnder o b dir
+schema-accepted o b dir t j e = j .right e
 
-module _ (b dir s o : List ℕ) (t : Bool) (j : Judged b dir t) (h : t ≡ false) where
-  schema-refused : M.written u48 b s ≡ M.refused 1
+module _ (o : ℕ) (b dir s out : List ℕ) (t : Bool) (j : Judged o b dir t) (h : t ≡ false) where
+  schema-refused : M.written o b s ≡ M.refused 1
   unfolding M.written
   schema-refused = simp (← (j .is), h)
 
-  pub schema-answer : (r : WriteAnswer) → r .number ≡ 1 → r .length ≡ 0 → r ≡ M.writeAnswer u48 b s o
-  schema-answer r en el = answered b s o 1 schema-refused r en el
+  pub schema-answer : (r : WriteAnswer) → r .number ≡ 1 → r .length ≡ 0 → r ≡ M.writeAnswer o b s out
+  schema-answer r en el = answered o b s out 1 schema-refused r en el
 
-  pub schema-out : o ≡ M.writeOut u48 b s o
-  schema-out = unchanged b s o 1 schema-refused
+  pub schema-out : out ≡ M.writeOut o b s out
+  schema-out = unchanged o b s out 1 schema-refused
 
 -- ---- the end of the sheet
 value-zero : (xs : List ℕ) → value xs ≡ 0 → allZero xs ≡ true
@@ -108,146 +108,146 @@ module _ (s : List ℕ) (pos left : ℕ) (el : left ≡ 8 * length s - pos) wher
       er ∙ ap (λ (n : ℕ). eqb n 0) (run .number ∙ ap value whole) ∙ zero-is (drop pos (bits s))
       ∙ sym (simp (lt-ltb (length (drop pos (bits s))) 8 q))
 
-pub size-is : (x : Extent) → 10 + 10 + (x .width + x .chain) + x .below ≡ messageSize u48 x
-unfolding messageSize headerSize u48
-size-is x = omega arith
+pub size-is : (o : ℕ) (x : Extent) (n h : ℕ) → n ≡ 4 + o → h ≡ 4 + o → n + h + (x .width + x .chain) + x .below ≡ messageSize o x
+unfolding messageSize headerSize
+size-is o x n h en eh = omega arith
 
-pub sheet-short : (b s : List ℕ) (x : Extent) → LawfulSheet u48 b s x → length s ≤ 16777215
+pub sheet-short : (o : ℕ) (b s : List ℕ) (x : Extent) → LawfulSheet o b s x → length s ≤ 16777215
 unfolding largest
-sheet-short b s x k = k .short
+sheet-short o b s x k = k .short
 
 -- the sizes of the root table are those of the survey
-pub sheet-measured : (b s : List ℕ) (x : Extent) → LawfulSheet u48 b s x → Measured false (survey deepest u48 (parse b) (O.Table (parse b .root)) (bits s)) x
-sheet-measured b s x k = record { is = rw (k .sheet) (record { length = refl; width = refl; chain = λ e. refl }); small = k .small }
+pub sheet-measured : (o : ℕ) (b s : List ℕ) (x : Extent) → LawfulSheet o b s x → Measured false (survey deepest o (parse b) (O.Table (parse b .root)) (bits s)) x
+sheet-measured o b s x k = record { is = rw (k .sheet) (record { length = refl; width = refl; chain = λ e. refl }); small = k .small }
 
 -- ---- the sheet is too long
-module _ (b dir s o : List ℕ) (a : Accepted b dir) (h : 16777215 < length s) where
-  long-refused : M.written u48 b s ≡ M.refused 11
+module _ (o : ℕ) (b dir s out : List ℕ) (a : AcceptedUnder o b dir) (h : 16777215 < length s) where
+  long-refused : M.written o b s ≡ M.refused 11
   unfolding largest
-  long-refused = Wl.written-long u48 b s (a .lawful) (accepted-sound b dir a) h
+  long-refused = Wl.written-long o b s (a .lawful) (accepted-sound b dir (a .accepted)) h
 
-  pub long-answer : (r : WriteAnswer) → r .number ≡ 11 → r .length ≡ 0 → r ≡ M.writeAnswer u48 b s o
-  long-answer r en el = answered b s o 11 long-refused r en el
+  pub long-answer : (r : WriteAnswer) → r .number ≡ 11 → r .length ≡ 0 → r ≡ M.writeAnswer o b s out
+  long-answer r en el = answered o b s out 11 long-refused r en el
 
-  pub long-out : o ≡ M.writeOut u48 b s o
-  long-out = unchanged b s o 11 long-refused
+  pub long-out : out ≡ M.writeOut o b s out
+  long-out = unchanged o b s out 11 long-refused
 
 -- ---- the sheet is not lawful
-module _ (b dir s o : List ℕ) (a : Accepted b dir) (short : length s ≤ 16777215) (ob : Object) (eo : ob ≡ O.Table (parse b .root))
-    (whole : Bool) (x : Extent) (next : ℕ) (v : SurveyedAt s (survey 32 u48 (parse b) ob (drop 0 (bits s))) whole x next) where
-  surveyed : survey deepest u48 (parse b) (O.Table (parse b .root)) (bits s) ≡ pick whole (got x (drop next (bits s))) fail
+module _ (o : ℕ) (b dir s out : List ℕ) (a : AcceptedUnder o b dir) (short : length s ≤ 16777215) (ob : Object) (eo : ob ≡ O.Table (parse b .root))
+    (whole : Bool) (x : Extent) (next : ℕ) (v : SurveyedAt s (survey 32 o (parse b) ob (drop 0 (bits s))) whole x next) where
+  surveyed : survey deepest o (parse b) (O.Table (parse b .root)) (bits s) ≡ pick whole (got x (drop next (bits s))) fail
   unfolding deepest
-  surveyed = ap (λ (y : Object). survey 32 u48 (parse b) y (bits s)) (sym eo) ∙ v .is
+  surveyed = ap (λ (y : Object). survey 32 o (parse b) y (bits s)) (sym eo) ∙ v .is
 
   module _ (h : not whole ≡ true) where
-    cut-refused : M.written u48 b s ≡ M.refused 11
+    cut-refused : M.written o b s ≡ M.refused 11
     unfolding largest
     cut-refused =
-        Wl.written-cut u48 b s (a .lawful) (accepted-sound b dir a) short
+        Wl.written-cut o b s (a .lawful) (accepted-sound b dir (a .accepted)) short
         (surveyed ∙ ap (λ (t : Bool). pick t (got x (drop next (bits s))) fail) (not-true whole h))
 
-    pub cut-answer : (r : WriteAnswer) → r .number ≡ 11 → r .length ≡ 0 → r ≡ M.writeAnswer u48 b s o
-    cut-answer r en el = answered b s o 11 cut-refused r en el
+    pub cut-answer : (r : WriteAnswer) → r .number ≡ 11 → r .length ≡ 0 → r ≡ M.writeAnswer o b s out
+    cut-answer r en el = answered o b s out 11 cut-refused r en el
 
-    pub cut-out : o ≡ M.writeOut u48 b s o
-    cut-out = unchanged b s o 11 cut-refused
+    pub cut-out : out ≡ M.writeOut o b s out
+    cut-out = unchanged o b s out 11 cut-refused
 
   module _ (h : not whole ≡ false) (t : Bool) (et : t ≡ onlyEnd (drop next (bits s))) where
-    sheet-got : survey deepest u48 (parse b) (O.Table (parse b .root)) (bits s) ≡ got x (drop next (bits s))
+    sheet-got : survey deepest o (parse b) (O.Table (parse b .root)) (bits s) ≡ got x (drop next (bits s))
     sheet-got = surveyed ∙ ap (λ (u : Bool). pick u (got x (drop next (bits s))) fail) (not-false whole h)
 
     module _ (f : not t ≡ true) where
-      open-refused : M.written u48 b s ≡ M.refused 11
+      open-refused : M.written o b s ≡ M.refused 11
       unfolding largest onlyEnd
       open-refused =
-          Wl.written-open u48 b s (a .lawful) (accepted-sound b dir a) short x (drop next (bits s)) sheet-got (sym et ∙ not-true t f)
+          Wl.written-open o b s (a .lawful) (accepted-sound b dir (a .accepted)) short x (drop next (bits s)) sheet-got (sym et ∙ not-true t f)
 
-      pub open-answer : (r : WriteAnswer) → r .number ≡ 11 → r .length ≡ 0 → r ≡ M.writeAnswer u48 b s o
-      open-answer r en el = answered b s o 11 open-refused r en el
+      pub open-answer : (r : WriteAnswer) → r .number ≡ 11 → r .length ≡ 0 → r ≡ M.writeAnswer o b s out
+      open-answer r en el = answered o b s out 11 open-refused r en el
 
-      pub open-out : o ≡ M.writeOut u48 b s o
-      open-out = unchanged b s o 11 open-refused
+      pub open-out : out ≡ M.writeOut o b s out
+      open-out = unchanged o b s out 11 open-refused
 
-    pub sheet-lawful : not t ≡ false → LawfulSheet u48 b s x
+    pub sheet-lawful : not t ≡ false → LawfulSheet o b s x
     unfolding largest
     sheet-lawful f = record { short = short; rest = drop next (bits s); sheet = sheet-got; end = sym et ∙ not-false t f; small = v .small }
 
 -- ---- a lawful sheet
-module _ (b dir s o : List ℕ) (a : Accepted b dir) (x : Extent) (k : LawfulSheet u48 b s x) where
+module _ (o : ℕ) (b dir s out : List ℕ) (a : AcceptedUnder o b dir) (x : Extent) (k : LawfulSheet o b s x) where
   ended : (ltb (length (k .rest)) 8 && allZero (k .rest)) ≡ true
   unfolding onlyEnd
   ended = k .end
 
   module _ (h : not (x .writable) ≡ true) where
-    not-refused : M.written u48 b s ≡ M.refused 12
-    not-refused = Wl.written-not u48 b s (a .lawful) (accepted-sound b dir a) (k .short) x (k .rest) (k .sheet) ended (not-true (x .writable) h)
+    not-refused : M.written o b s ≡ M.refused 12
+    not-refused = Wl.written-not o b s (a .lawful) (accepted-sound b dir (a .accepted)) (k .short) x (k .rest) (k .sheet) ended (not-true (x .writable) h)
 
-    pub not-answer : (r : WriteAnswer) → r .number ≡ 12 → r .length ≡ 0 → r ≡ M.writeAnswer u48 b s o
-    not-answer r en el = answered b s o 12 not-refused r en el
+    pub not-answer : (r : WriteAnswer) → r .number ≡ 12 → r .length ≡ 0 → r ≡ M.writeAnswer o b s out
+    not-answer r en el = answered o b s out 12 not-refused r en el
 
-    pub not-out : o ≡ M.writeOut u48 b s o
-    not-out = unchanged b s o 12 not-refused
+    pub not-out : out ≡ M.writeOut o b s out
+    not-out = unchanged o b s out 12 not-refused
 
-  module _ (h : not (x .writable) ≡ false) (n : ℕ) (en : n ≡ messageSize u48 x) where
+  module _ (h : not (x .writable) ≡ false) (n : ℕ) (en : n ≡ messageSize o x) where
     module _ (l : 16777215 < n) where
-      over-refused : M.written u48 b s ≡ M.refused 13
+      over-refused : M.written o b s ≡ M.refused 13
       over-refused =
-          Wl.written-over u48 b s (a .lawful) (accepted-sound b dir a) (k .short) x (k .rest) (k .sheet) ended (not-false (x .writable) h)
+          Wl.written-over o b s (a .lawful) (accepted-sound b dir (a .accepted)) (k .short) x (k .rest) (k .sheet) ended (not-false (x .writable) h)
           (unfold largest in omega arith)
 
-      pub over-answer : (r : WriteAnswer) → r .number ≡ 13 → r .length ≡ 0 → r ≡ M.writeAnswer u48 b s o
-      over-answer r er el = answered b s o 13 over-refused r er el
+      pub over-answer : (r : WriteAnswer) → r .number ≡ 13 → r .length ≡ 0 → r ≡ M.writeAnswer o b s out
+      over-answer r er el = answered o b s out 13 over-refused r er el
 
-      pub over-out : o ≡ M.writeOut u48 b s o
-      over-out = unchanged b s o 13 over-refused
+      pub over-out : out ≡ M.writeOut o b s out
+      over-out = unchanged o b s out 13 over-refused
 
     module _ (l : n ≤ 16777215) where
-      small : messageSize u48 x ≤ largest
+      small : messageSize o x ≤ largest
       unfolding largest
       small = omega arith
 
-      whole : (m : List ℕ) × (M.written u48 b s ≡ M.message m) × (length m ≡ messageSize u48 x)
-          × ((out : List ℕ) (st : State) (zs : List ℕ) → length out ≡ messageSize u48 x → emitMessage u48 (parse b) out (bits s) ≡ got st zs → st .out ≡ m)
-      whole = Wl.written-message u48 b s (a .lawful) (accepted-sound b dir a) (k .short) x (k .rest) (k .sheet) ended (not-false (x .writable) h) small
+      whole : (m : List ℕ) × (M.written o b s ≡ M.message m) × (length m ≡ messageSize o x)
+          × ((buf : List ℕ) (st : State) (zs : List ℕ) → length buf ≡ messageSize o x → emitMessage o (parse b) buf (bits s) ≡ got st zs → st .out ≡ m)
+      whole = Wl.written-message o b s (a .lawful) (accepted-sound b dir (a .accepted)) (k .short) x (k .rest) (k .sheet) ended (not-false (x .writable) h) small
 
       m-length : length (whole .0) ≡ n
       m-length = whole .2 ∙ sym en
 
-      module _ (f : length o < n) where
-        pub full-answer : (r : WriteAnswer) → r .number ≡ 14 → r .length ≡ 0 → r ≡ M.writeAnswer u48 b s o
+      module _ (f : length out < n) where
+        pub full-answer : (r : WriteAnswer) → r .number ≡ 14 → r .length ≡ 0 → r ≡ M.writeAnswer o b s out
         unfolding M.writeAnswer M.writeRoom
         full-answer r er el =
-            let q : length o < length (whole .0) = omega (arith, m-length) in
+            let q : length out < length (whole .0) = omega (arith, m-length) in
             ap₂ (λ (i j : ℕ). record { number = i; length = j }) er el
-            ∙ sym (ap (λ w. M.writeRoom w (length o)) (whole .1) ∙ simp (lt-leb (length (whole .0)) (length o) q))
+            ∙ sym (ap (λ w. M.writeRoom w (length out)) (whole .1) ∙ simp (lt-leb (length (whole .0)) (length out) q))
 
-        pub full-out : o ≡ M.writeOut u48 b s o
+        pub full-out : out ≡ M.writeOut o b s out
         unfolding M.writeOut M.writeOver
         full-out =
-            let q : length o < length (whole .0) = omega (arith, m-length) in
-            sym (ap (λ w. M.writeOver w o) (whole .1) ∙ simp (lt-leb (length (whole .0)) (length o) q))
+            let q : length out < length (whole .0) = omega (arith, m-length) in
+            sym (ap (λ w. M.writeOver w out) (whole .1) ∙ simp (lt-leb (length (whole .0)) (length out) q))
 
-      module _ (f : n ≤ length o) where
-        pub done-answer : record { number = 0; length = n } ≡ M.writeAnswer u48 b s o
+      module _ (f : n ≤ length out) where
+        pub done-answer : record { number = 0; length = n } ≡ M.writeAnswer o b s out
         unfolding M.writeAnswer M.writeRoom
-        done-answer = sym (ap (λ w. M.writeRoom w (length o)) (whole .1) ∙ simp (m-length, le-leb n (length o) f))
+        done-answer = sym (ap (λ w. M.writeRoom w (length out)) (whole .1) ∙ simp (m-length, le-leb n (length out) f))
 
-        module _ (t : Bool) (c : Places) (o₁ : List ℕ) (z : ℕ) (p : MessageAt s (emitMessage u48 (parse b) (take n o) (bits s)) t c o₁ z) where
-          stored : o₁ ≡ whole .0
-          stored = by t (sym (Wl.message-got u48 b s (a .lawful) (accepted-sound b dir a) (k .short) x (k .rest) (k .sheet) (take n o) .1) ∙ p .is) (p .is)
+        module _ (t : Bool) (c : Places) (out₁ : List ℕ) (z : ℕ) (p : MessageAt s (emitMessage o (parse b) (take n out) (bits s)) t c out₁ z) where
+          stored : out₁ ≡ whole .0
+          stored = by t (sym (Wl.message-got o b s (a .lawful) (accepted-sound b dir (a .accepted)) (k .short) x (k .rest) (k .sheet) (take n out) .1) ∙ p .is) (p .is)
             where
-              by : (u : Bool) → got (Wl.message-got u48 b s (a .lawful) (accepted-sound b dir a) (k .short) x (k .rest) (k .sheet) (take n o) .0) (k .rest) ≡ pick u (got (stateOf c o₁) (drop z (bits s))) fail
-                  → emitMessage u48 (parse b) (take n o) (bits s) ≡ pick u (got (stateOf c o₁) (drop z (bits s))) fail → o₁ ≡ whole .0
+              by : (u : Bool) → got (Wl.message-got o b s (a .lawful) (accepted-sound b dir (a .accepted)) (k .short) x (k .rest) (k .sheet) (take n out) .0) (k .rest) ≡ pick u (got (stateOf c out₁) (drop z (bits s))) fail
+                  → emitMessage o (parse b) (take n out) (bits s) ≡ pick u (got (stateOf c out₁) (drop z (bits s))) fail → out₁ ≡ whole .0
               by true e g =
-                  whole .3 (take n o) (stateOf c o₁) (drop z (bits s)) (length-take-le n o f ∙ en) g
+                  whole .3 (take n out) (stateOf c out₁) (drop z (bits s)) (length-take-le n out f ∙ en) g
               by false e g = never (sym (ap is-got e))
 
-          pub done-out : (w : List ℕ) → w ≡ o₁ ++ drop n o → w ≡ M.writeOut u48 b s o
+          pub done-out : (w : List ℕ) → w ≡ out₁ ++ drop n out → w ≡ M.writeOut o b s out
           unfolding M.writeOut M.writeOver
           done-out w ew =
-              let q : length (whole .0) ≤ length o = omega (arith, m-length) in
-              ew ∙ ap₂ (λ (l : List ℕ) (i : ℕ). l ++ drop i o) stored (sym m-length)
-              ∙ sym (ap (λ w. M.writeOver w o) (whole .1) ∙ simp (le-leb (length (whole .0)) (length o) q))
+              let q : length (whole .0) ≤ length out = omega (arith, m-length) in
+              ew ∙ ap₂ (λ (l : List ℕ) (i : ℕ). l ++ drop i out) stored (sym m-length)
+              ∙ sym (ap (λ w. M.writeOver w out) (whole .1) ∙ simp (le-leb (length (whole .0)) (length out) q))
 
 pub taken : (k : ℕ) (l : List ℕ) → k ≤ length l → k ≡ length (take k l)
 taken k l h = sym (length-take-le k l h)

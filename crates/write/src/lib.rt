@@ -6,10 +6,10 @@ use write_measure::Extent;
 ghost use mathlib.Core.Path.{_≡_};
 ghost use Prim.Native.Nat.{ℕ, _+_, _*_, _≤_};
 ghost use lib.ListN.{length, drop};
-ghost use Rattle.coding.specs.Bytes as B;
 ghost use Rattle.coding.specs.Bits.{bits};
 ghost use Rattle.coding.specs.Message as M;
-ghost use Rattle.schema.specs.Directory.{Accepted};
+ghost use Rattle.schema.specs.Directory.{AcceptedUnder};
+ghost use Rattle.wire.specs.Sizes.{Width};
 ghost use Rattle.write_measure.specs.Surveyed.{Small};
 ghost use Rattle.write_measure.specs.SurveyBy.{Inside};
 ghost use Rattle.write.specs.Writing as Wr;
@@ -34,31 +34,31 @@ fn closed(s: &[u8], pos: usize) -> bool
 }
 
 // The length of the message whose root table takes e: the message's start, the table's header, and what it takes.
-fn message_size(e: Extent) -> usize
-    requires { ⌜ Small e ⌝ }
-    ensures { λ r. ⌜ r ≡ Wr.messageSize B.u48 e ⌝ }
+fn message_size(e: Extent, o: usize) -> usize
+    requires { ⌜ (Width o) × Small e ⌝ }
+    ensures { λ r. ⌜ r ≡ Wr.messageSize o e ⌝ }
 {
     let content = e.width + e.chain;
-    wire::START + TableObject::HEADER + content + e.below
+    wire::start_size(o) + TableObject::header_size(o) + content + e.below
 }
 
 // Writes a lawful sheet, whose root table takes e: 12, 13 or 14, or else the message.
-fn write_lawful(b: &[u8], dir: &[u16], s: &[u8], e: Extent, out: &mut [u8]) -> WriteAnswer
-    requires { ⌜ (Accepted (now b) (now dir)) × Wr.LawfulSheet B.u48 (now b) (now s) e ⌝ }
-    ensures { λ r. ⌜ r ≡ M.writeAnswer B.u48 (now (b .entry)) (now (s .entry)) (now (out .entry)) ⌝ }
-    ensures { λ _. ⌜ now (out .exit) ≡ M.writeOut B.u48 (now (b .entry)) (now (s .entry)) (now (out .entry)) ⌝ }
+fn write_lawful(b: &[u8], dir: &[u16], s: &[u8], e: Extent, out: &mut [u8], o: usize) -> WriteAnswer
+    requires { ⌜ (AcceptedUnder o (now b) (now dir)) × Wr.LawfulSheet o (now b) (now s) e ⌝ }
+    ensures { λ r. ⌜ r ≡ M.writeAnswer o (now (b .entry)) (now (s .entry)) (now (out .entry)) ⌝ }
+    ensures { λ _. ⌜ now (out .exit) ≡ M.writeOut o (now (b .entry)) (now (s .entry)) (now (out .entry)) ⌝ }
 {
     if !e.writable {
         return refused(12);
     }
-    let n = message_size(e);
+    let n = message_size(e, o);
     if wire::LARGEST < n {
         return refused(13);
     }
     if out.len() < n {
         return refused(14);
     }
-    write_pass::emit_message(b, dir, s, e, &mut out[..n]);
+    write_pass::emit_message(b, dir, s, e, &mut out[..n], o);
     WriteAnswer {
         number: 0,
         length: n,
@@ -66,34 +66,34 @@ fn write_lawful(b: &[u8], dir: &[u16], s: &[u8], e: Extent, out: &mut [u8]) -> W
 }
 
 // Writes a sheet by a schema that was found lawful: 11, or as a lawful sheet.
-fn write_judged(b: &[u8], dir: &[u16], s: &[u8], out: &mut [u8]) -> WriteAnswer
-    requires { ⌜ Accepted (now b) (now dir) ⌝ }
-    ensures { λ r. ⌜ r ≡ M.writeAnswer B.u48 (now (b .entry)) (now (s .entry)) (now (out .entry)) ⌝ }
-    ensures { λ _. ⌜ now (out .exit) ≡ M.writeOut B.u48 (now (b .entry)) (now (s .entry)) (now (out .entry)) ⌝ }
+fn write_judged(b: &[u8], dir: &[u16], s: &[u8], out: &mut [u8], o: usize) -> WriteAnswer
+    requires { ⌜ AcceptedUnder o (now b) (now dir) ⌝ }
+    ensures { λ r. ⌜ r ≡ M.writeAnswer o (now (b .entry)) (now (s .entry)) (now (out .entry)) ⌝ }
+    ensures { λ _. ⌜ now (out .exit) ≡ M.writeOut o (now (b .entry)) (now (s .entry)) (now (out .entry)) ⌝ }
 {
     if wire::LARGEST < s.len() {
         return refused(11);
     }
     let ob = message_start::root_object(b, dir);
-    let x = write_measure::object(b, dir, s, 32, ob, 0);
+    let x = write_measure::object(b, dir, s, 32, ob, 0, o);
     if !x.whole {
         return refused(11);
     }
     if !closed(s, x.next) {
         return refused(11);
     }
-    write_lawful(b, dir, s, x.extent, out)
+    write_lawful(b, dir, s, x.extent, out, o)
 }
 
 // Writes a sheet as a message: 1, 11, 12, 13 or 14, each over the whole sheet; else the message's length, and the message in
 // the output, whose bytes after it keep what they held.
-pub fn write(b: &[u8], s: &[u8], out: &mut [u8]) -> WriteAnswer
-    ensures { λ r. ⌜ r ≡ M.writeAnswer B.u48 (now (b .entry)) (now (s .entry)) (now (out .entry)) ⌝ }
-    ensures { λ _. ⌜ now (out .exit) ≡ M.writeOut B.u48 (now (b .entry)) (now (s .entry)) (now (out .entry)) ⌝ }
+pub fn write(b: &[u8], s: &[u8], out: &mut [u8], o: usize) -> WriteAnswer
+    ensures { λ r. ⌜ r ≡ M.writeAnswer o (now (b .entry)) (now (s .entry)) (now (out .entry)) ⌝ }
+    ensures { λ _. ⌜ now (out .exit) ≡ M.writeOut o (now (b .entry)) (now (s .entry)) (now (out .entry)) ⌝ }
 {
     let mut dir: [u16; 384] = [0; 384];
-    if schema_lawful::judge_schema(b, &mut dir) {
-        return write_judged(b, &dir, s, out);
+    if schema_lawful::judge_schema(b, &mut dir, o) {
+        return write_judged(b, &dir, s, out, o);
     }
     refused(1)
 }

@@ -10,7 +10,7 @@ use lib.Seq.{drop-cons}
 use lib.Dec.{ltb, leb}
 use borrow.Author.Tests.{le-leb, lt-leb, lt-ltb, le-ltb, leb-true, leb-false}
 use Rattle.coding.specs.Lists.{pick}
-use Rattle.coding.specs.Bytes.{u48, largest}
+use Rattle.coding.specs.Bytes.{largest}
 use Rattle.coding.specs.Schema as Sc
 use Rattle.coding.specs.Schema.{Schema}
 use Rattle.coding.specs.Packed as P
@@ -107,13 +107,13 @@ module _ (inplace may : Bool) (e : Extent) (small : Small e) where
         small = record { length = omega arith; width = omega arith; chain = lc; below = small .below };
       })
 
-  pub referred-out : inplace ≡ false → (b : ℕ) → b ≡ capped (10 + (e .width + e .chain) + e .below) → b ≤ 16777216
-      → Fits (referred u48 inplace may e) (record { writable = e .writable; length = 0; width = 0; chain = 0; below = b })
-  unfolding referred headerSize u48
-  referred-out i b eb lb =
-      let z : 10 + (e .width + e .chain) + e .below ≡ 10 + e .width + e .chain + e .below = omega arith in
+  pub referred-out : (o : ℕ) → inplace ≡ false → (h : ℕ) → h ≡ 4 + o → (b : ℕ) → b ≡ capped (h + (e .width + e .chain) + e .below) → b ≤ 16777216
+      → Fits (referred o inplace may e) (record { writable = e .writable; length = 0; width = 0; chain = 0; below = b })
+  unfolding referred headerSize
+  referred-out o i h eh b eb lb =
+      let z : h + (e .width + e .chain) + e .below ≡ 4 + o + e .width + e .chain + e .below = omega arith in
       rw i (record {
-        is = extent-same (e .writable) (e .writable) 0 0 0 0 b (capped (10 + e .width + e .chain + e .below)) refl refl (eb ∙ ap capped z);
+        is = extent-same (e .writable) (e .writable) 0 0 0 0 b (capped (4 + o + e .width + e .chain + e .below)) refl refl (eb ∙ ap capped z);
         small = record { length = omega arith; width = omega arith; chain = omega arith; below = lb };
       })
 

@@ -10,7 +10,6 @@ use lib.Seq.{drop-cons}
 use lib.Dec.{ltb, eqb}
 use borrow.Author.Tests.{eq-eqb, ne-eqb, lt-ltb, le-ltb, not-true, not-false}
 use Rattle.coding.specs.Lists.{pick}
-use Rattle.coding.specs.Bytes.{u48}
 use Rattle.coding.specs.Bits.{bits}
 use Rattle.coding.specs.Schema as Sc
 use Rattle.coding.specs.Schema.{Schema}
@@ -175,14 +174,13 @@ module _ (b : List ℕ) (at k : ℕ) (ek : k ≡ P.kindAt b at) where
         let m : k < 13 = omega arith in
         member-bytes (OfFlat (Enumerated (P.argumentAt b at))) (flat-kind m ∙ ap OfFlat (enum-at e)) (no-flag (P.optionalAt b at)) refl 1 refl
 
-  module _ (S : Schema) where
-    pub object-bytes : 13 ≤ k → k < 17 → WholeBytes u48 S (P.memberAt b at) 6
-    unfolding L.isBool L.width L.takesFlag u48
-    object-bytes g l = member-bytes u48 S (OfObject (P.objectAt b at)) (object-kind g l) (no-flag (P.optionalAt b at)) refl 6 refl
+    pub object-bytes : 13 ≤ k → k < 17 → WholeBytes o S (P.memberAt b at) o
+    unfolding L.isBool L.width L.takesFlag
+    object-bytes g l = member-bytes (OfObject (P.objectAt b at)) (object-kind g l) (no-flag (P.optionalAt b at)) refl o refl
 
-    pub union-bytes : 17 ≤ k → WholeBytes u48 S (P.memberAt b at) 8
-    unfolding L.isBool L.width L.takesFlag u48
-    union-bytes g = member-bytes u48 S (OfUnion (P.argumentAt b at)) (union-kind g) (no-flag (P.optionalAt b at)) refl 8 refl
+    pub union-bytes : 17 ≤ k → (w : ℕ) → w ≡ 2 + o → WholeBytes o S (P.memberAt b at) w
+    unfolding L.isBool L.width L.takesFlag
+    union-bytes g w ew = member-bytes (OfUnion (P.argumentAt b at)) (union-kind g) (no-flag (P.optionalAt b at)) refl w (sym ew)
 
   blob-kind : 13 ≤ k → k < 15 → BlobEnd (P.objectAt b at) (14 - k)
   unfolding P.objectAt P.objectOf

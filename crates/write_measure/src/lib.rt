@@ -11,7 +11,6 @@ ghost use mathlib.Core.Bool.{Bool, true, false, _&&_};
 ghost use Prim.Native.Nat.{ℕ, _+_, _-_, _*_, _%_, _<_, _≤_, _^_};
 ghost use lib.ListN.{length, take, drop, set, replicate};
 ghost use lib.Seq.{sets};
-ghost use Rattle.coding.specs.Bytes as B;
 ghost use Rattle.coding.specs.Bits.{bits, value, pack};
 ghost use Rattle.coding.specs.Packed as P;
 ghost use Rattle.coding.specs.Sheet as Sh;
@@ -23,6 +22,7 @@ ghost use lib.Dec.{ltb};
 ghost use Rattle.laws.specs.Sound.{FlatSound, ObjectSound, KindSound, MemberSound};
 ghost use Rattle.message_layout.specs.Bounds.{Laid};
 ghost use Rattle.schema.specs.Directory.{Accepted};
+ghost use Rattle.wire.specs.Sizes.{Width};
 ghost use Rattle.write_measure.specs.Survey as Sv;
 ghost use Rattle.write_measure.specs.SurveyBy as By;
 ghost use Rattle.write_measure.specs.UnmarkedElements.{unmarkedBits, passed};
@@ -456,9 +456,9 @@ fn in_place_fine(may: bool, n: usize, fine: bool) -> bool
 }
 
 // What an object adds to the one that refers to it, or in which it stands. All types of objects have headers of one size.
-fn referred(inplace: bool, may: bool, e: Extent) -> Extent
-    requires { ⌜ Small e ⌝ }
-    ensures { λ r. ⌜ Fits (Sv.referred B.u48 inplace may e) r ⌝ }
+fn referred(inplace: bool, may: bool, e: Extent, o: usize) -> Extent
+    requires { ⌜ (Width o) × Small e ⌝ }
+    ensures { λ r. ⌜ Fits (Sv.referred o inplace may e) r ⌝ }
 {
     let fine = e.writable;
     let below = e.below;
@@ -477,15 +477,15 @@ fn referred(inplace: bool, may: bool, e: Extent) -> Extent
         length: 0,
         width: 0,
         chain: 0,
-        below: capped(TableObject::HEADER + size + below),
+        below: capped(TableObject::header_size(o) + size + below),
     }
 }
 
 // ---- sizes
 // The bytes of the member of the record at `at` where it takes no bit; 0 where it may take one, and of a struct.
-fn whole_bytes(b: &[u8], at: usize) -> usize
-    requires { ⌜ at + 1 < length (now b) ⌝ }
-    ensures { λ r. ⌜ (r < 256) × (0 < r → WholeBytes B.u48 (P.parse (now (b .entry))) (P.memberAt (now (b .entry)) at) r) ⌝ }
+fn whole_bytes(b: &[u8], at: usize, o: usize) -> usize
+    requires { ⌜ (Width o) × (at + 1 < length (now b)) ⌝ }
+    ensures { λ r. ⌜ (r < 256) × (0 < r → WholeBytes o (P.parse (now (b .entry))) (P.memberAt (now (b .entry)) at) r) ⌝ }
 {
     let k = schema::kind_at(b, at);
     if k == schema::KIND_BOOL {
@@ -507,37 +507,37 @@ fn whole_bytes(b: &[u8], at: usize) -> usize
         return 0;
     }
     if k < schema::KIND_UNION {
-        wire::OFFSET
+        o
     } else {
-        wire::UNION
+        wire::union_size(o)
     }
 }
 
 // The cursor behind member j of table t.
-fn behind(b: &[u8], dir: &[u16], t: usize, j: usize, c: Cursor) -> Cursor
-    requires { ⌜ (Accepted (now b) (now dir)) × (t < P.tableCount (now b)) × (j < length (Sc.tableOf (P.parse (now b)) t .members)) × (j < 256) × Laid (4097 * j) c ⌝ }
-    ensures { λ r. ⌜ (r ≡ L.afterMember B.u48 (P.parse (now (b .entry))) (Sc.memberOf (P.parse (now (b .entry))) t j) c) × Laid (4097 * (j + 1)) r ⌝ }
+fn behind(b: &[u8], dir: &[u16], t: usize, j: usize, c: Cursor, o: usize) -> Cursor
+    requires { ⌜ (Accepted (now b) (now dir)) × (Width o) × (t < P.tableCount (now b)) × (j < length (Sc.tableOf (P.parse (now b)) t .members)) × (j < 256) × Laid (4097 * j) c ⌝ }
+    ensures { λ r. ⌜ (r ≡ L.afterMember o (P.parse (now (b .entry))) (Sc.memberOf (P.parse (now (b .entry))) t j) c) × Laid (4097 * (j + 1)) r ⌝ }
 {
-    let w = whole_bytes(b, schema::record_of(b, dir, t, j));
+    let w = whole_bytes(b, schema::record_of(b, dir, t, j), o);
     if 0 < w {
         return message_layout::after_bytes(c, w);
     }
     let r = schema::member(b, dir, t, j);
-    let q = message_layout::place_member(b, dir, r, c);
+    let q = message_layout::place_member(b, dir, r, c, o);
     let next = q.next;
     next
 }
 
 // The size of table t's full fixed part.
-pub fn fixed_size(b: &[u8], dir: &[u16], t: usize) -> usize
-    requires { ⌜ (Accepted (now b) (now dir)) × (t < P.tableCount (now b)) ⌝ }
-    ensures { λ r. ⌜ (r ≡ By.fixed B.u48 (now (b .entry)) t) × (r < 2 ^ 40) ⌝ }
+pub fn fixed_size(b: &[u8], dir: &[u16], t: usize, o: usize) -> usize
+    requires { ⌜ (Accepted (now b) (now dir)) × (Width o) × (t < P.tableCount (now b)) ⌝ }
+    ensures { λ r. ⌜ (r ≡ By.fixed o (now (b .entry)) t) × (r < 2 ^ 40) ⌝ }
 {
     let count = schema::member_count(b, dir, t);
     let mut c = message_layout::begin();
     let mut j: usize = 0;
     while j < count {
-        c = behind(b, dir, t, j, c);
+        c = behind(b, dir, t, j, c, o);
         j += 1;
     }
     c.end
@@ -660,9 +660,17 @@ fn blob_end(ob: Object) -> usize
 }
 
 // A text or bytes that is referred to, or stands in place.
-fn refer_blob(s: &[u8], d: usize, more: usize, inplace: bool, may: bool, pos: usize) -> Surveyed
-    requires { ⌜ (By.Inside (now s) pos) × (more ≤ 1) ⌝ }
-    ensures { λ r. ⌜ By.Surveys (now (s .entry)) pos (blobReferred d B.u48 inplace may more) r ⌝ }
+fn refer_blob(
+    s: &[u8],
+    d: usize,
+    more: usize,
+    inplace: bool,
+    may: bool,
+    pos: usize,
+    o: usize,
+) -> Surveyed
+    requires { ⌜ (Width o) × (By.Inside (now s) pos) × (more ≤ 1) ⌝ }
+    ensures { λ r. ⌜ By.Surveys (now (s .entry)) pos (blobReferred d o inplace may more) r ⌝ }
 {
     if d == 0 {
         return unlawful(pos);
@@ -672,16 +680,16 @@ fn refer_blob(s: &[u8], d: usize, more: usize, inplace: bool, may: bool, pos: us
     let next = x.next;
     Surveyed {
         whole: whole,
-        extent: referred(inplace, may, x.extent),
+        extent: referred(inplace, may, x.extent, o),
         next: next,
     }
 }
 
 // ---- simple members: flat values, texts and bytes. Nothing in them has parts, so that no walk to other objects is needed.
 // A text or bytes that is there. It says what `refer_blob` says, and calls nothing but the cursor, for speed.
-fn blob_there(s: &[u8], d: usize, more: usize, inplace: bool, pos: usize) -> Surveyed
-    requires { ⌜ (By.Inside (now s) pos) × (more ≤ 1) ⌝ }
-    ensures { λ r. ⌜ By.Surveys (now (s .entry)) pos (blobReferred d B.u48 inplace false more) r ⌝ }
+fn blob_there(s: &[u8], d: usize, more: usize, inplace: bool, pos: usize, o: usize) -> Surveyed
+    requires { ⌜ (Width o) × (By.Inside (now s) pos) × (more ≤ 1) ⌝ }
+    ensures { λ r. ⌜ By.Surveys (now (s .entry)) pos (blobReferred d o inplace false more) r ⌝ }
 {
     if d == 0 {
         return unlawful(pos);
@@ -697,15 +705,15 @@ fn blob_there(s: &[u8], d: usize, more: usize, inplace: bool, pos: usize) -> Sur
     let e = opened(n, n + more);
     Surveyed {
         whole: whole,
-        extent: referred(inplace, false, e),
+        extent: referred(inplace, false, e, o),
         next: next,
     }
 }
 
 // The text or bytes of the record at `at`: its mark, and its content if it is present.
-fn blob_part(b: &[u8], s: &[u8], d: usize, at: usize, pos: usize) -> Surveyed
-    requires { ⌜ (at + 1 < length (now b)) × (13 ≤ P.kindAt (now b) at) × (P.kindAt (now b) at < 15) × By.Inside (now s) pos ⌝ }
-    ensures { λ r. ⌜ By.Surveys (now (s .entry)) pos (By.blobMember B.u48 d (now (b .entry)) at) r ⌝ }
+fn blob_part(b: &[u8], s: &[u8], d: usize, at: usize, pos: usize, o: usize) -> Surveyed
+    requires { ⌜ (Width o) × (at + 1 < length (now b)) × (13 ≤ P.kindAt (now b) at) × (P.kindAt (now b) at < 15) × By.Inside (now s) pos ⌝ }
+    ensures { λ r. ⌜ By.Surveys (now (s .entry)) pos (By.blobMember o d (now (b .entry)) at) r ⌝ }
 {
     let x = bitio::take_number(s, pos, 2);
     if !x.whole {
@@ -722,7 +730,7 @@ fn blob_part(b: &[u8], s: &[u8], d: usize, at: usize, pos: usize) -> Surveyed
     }
     if mark == 1 {
         let more = schema::KIND_BYTES - schema::kind_at(b, at);
-        return blob_there(s, d, more, schema::inplace_at(b, at), next);
+        return blob_there(s, d, more, schema::inplace_at(b, at), next, o);
     }
     unlawful(pos)
 }
@@ -736,9 +744,10 @@ fn simple_member(
     at: usize,
     a: Extent,
     pos: usize,
+    o: usize,
 ) -> Surveyed
-    requires { ⌜ (Accepted (now b) (now dir)) × (at + 1 < length (now b)) × (MemberSound (P.parse (now b)) (P.memberAt (now b) at)) × (P.kindAt (now b) at < 15) × (By.Inside (now s) pos) × Small a ⌝ }
-    ensures { λ r. ⌜ By.Surveys (now (s .entry)) pos (By.member B.u48 d (now (b .entry)) at a) r ⌝ }
+    requires { ⌜ (Accepted (now b) (now dir)) × (Width o) × (at + 1 < length (now b)) × (MemberSound (P.parse (now b)) (P.memberAt (now b) at)) × (P.kindAt (now b) at < 15) × (By.Inside (now s) pos) × Small a ⌝ }
+    ensures { λ r. ⌜ By.Surveys (now (s .entry)) pos (By.member o d (now (b .entry)) at a) r ⌝ }
 {
     if schema::kind_at(b, at) < schema::KIND_TEXT {
         let x = flat_part(b, dir, s, at, pos);
@@ -750,7 +759,7 @@ fn simple_member(
             next: next,
         };
     }
-    let x = blob_part(b, s, d, at, pos);
+    let x = blob_part(b, s, d, at, pos, o);
     let whole = x.whole;
     let next = x.next;
     Surveyed {
@@ -778,9 +787,10 @@ fn simple_members(
     from: usize,
     e: Extent,
     at: usize,
+    o: usize,
 ) -> Left
-    requires { ⌜ (Accepted (now b) (now dir)) × (t < P.tableCount (now b)) × (from ≤ length (Sc.tableOf (P.parse (now b)) t .members)) × (By.Inside (now s) at) × Small e ⌝ }
-    ensures { λ r. ⌜ By.Leaves B.u48 d (now (b .entry)) t from e (now (s .entry)) at r ⌝ }
+    requires { ⌜ (Accepted (now b) (now dir)) × (Width o) × (t < P.tableCount (now b)) × (from ≤ length (Sc.tableOf (P.parse (now b)) t .members)) × (By.Inside (now s) at) × Small e ⌝ }
+    ensures { λ r. ⌜ By.Leaves o d (now (b .entry)) t from e (now (s .entry)) at r ⌝ }
 {
     let count = schema::member_count(b, dir, t);
     let mut a = e;
@@ -796,7 +806,7 @@ fn simple_members(
                 whole: true,
             };
         }
-        let x = simple_member(b, dir, s, d, r, a, pos);
+        let x = simple_member(b, dir, s, d, r, a, pos, o);
         if !x.whole {
             return Left {
                 extent: e,
@@ -839,20 +849,21 @@ fn refer(
     inplace: bool,
     may: bool,
     pos: usize,
+    o: usize,
 ) -> Surveyed
-    requires { ⌜ (Accepted (now b) (now dir)) × (ObjectSound (P.parse (now b)) ob) × By.Inside (now s) pos ⌝ }
-    ensures { λ r. ⌜ By.Surveys (now (s .entry)) pos (By.held B.u48 d (now (b .entry)) inplace may ob) r ⌝ }
+    requires { ⌜ (Accepted (now b) (now dir)) × (Width o) × (ObjectSound (P.parse (now b)) ob) × By.Inside (now s) pos ⌝ }
+    ensures { λ r. ⌜ By.Surveys (now (s .entry)) pos (By.held o d (now (b .entry)) inplace may ob) r ⌝ }
 {
     let more = blob_end(ob);
     if more < 2 {
-        return refer_blob(s, d, more, inplace, may, pos);
+        return refer_blob(s, d, more, inplace, may, pos, o);
     }
-    let x = object(b, dir, s, d, ob, pos);
+    let x = object(b, dir, s, d, ob, pos, o);
     let whole = x.whole;
     let next = x.next;
     Surveyed {
         whole: whole,
-        extent: referred(inplace, may, x.extent),
+        extent: referred(inplace, may, x.extent, o),
         next: next,
     }
 }
@@ -866,9 +877,10 @@ fn choice(
     u: usize,
     inplace: bool,
     pos: usize,
+    o: usize,
 ) -> Surveyed
-    requires { ⌜ (Accepted (now b) (now dir)) × (u < P.unionCount (now b)) × By.Inside (now s) pos ⌝ }
-    ensures { λ r. ⌜ By.Surveys (now (s .entry)) pos (By.choice B.u48 d (now (b .entry)) inplace u) r ⌝ }
+    requires { ⌜ (Accepted (now b) (now dir)) × (Width o) × (u < P.unionCount (now b)) × By.Inside (now s) pos ⌝ }
+    ensures { λ r. ⌜ By.Surveys (now (s .entry)) pos (By.choice o d (now (b .entry)) inplace u) r ⌝ }
 {
     let n = schema::case_count(b, dir, u);
     let x = bitio::take_number(s, pos, 16);
@@ -883,7 +895,7 @@ fn choice(
         return unlawful(pos);
     }
     let ob = schema::union_case(b, dir, u, c);
-    refer(b, dir, s, d, ob, inplace, true, x.next)
+    refer(b, dir, s, d, ob, inplace, true, x.next, o)
 }
 
 // A member or an element, present, behind its mark.
@@ -896,14 +908,15 @@ fn body(
     optional: bool,
     inplace: bool,
     pos: usize,
+    o: usize,
 ) -> Surveyed
-    requires { ⌜ (Accepted (now b) (now dir)) × (KindSound (P.parse (now b)) k) × By.Inside (now s) pos ⌝ }
-    ensures { λ r. ⌜ By.Surveys (now (s .entry)) pos (By.body B.u48 d (now (b .entry)) k optional inplace) r ⌝ }
+    requires { ⌜ (Accepted (now b) (now dir)) × (Width o) × (KindSound (P.parse (now b)) k) × By.Inside (now s) pos ⌝ }
+    ensures { λ r. ⌜ By.Surveys (now (s .entry)) pos (By.body o d (now (b .entry)) k optional inplace) r ⌝ }
 {
     match k {
         Kind::OfFlat(f) => plain_of(flat_test(b, dir, s, pos, optional, f)),
-        Kind::OfObject(ob) => refer(b, dir, s, d, ob, inplace, false, pos),
-        Kind::OfUnion(u) => choice(b, dir, s, d, wire::index(u), inplace, pos),
+        Kind::OfObject(ob) => refer(b, dir, s, d, ob, inplace, false, pos, o),
+        Kind::OfUnion(u) => choice(b, dir, s, d, wire::index(u), inplace, pos, o),
     }
 }
 
@@ -917,9 +930,10 @@ fn part(
     optional: bool,
     inplace: bool,
     pos: usize,
+    o: usize,
 ) -> Surveyed
-    requires { ⌜ (Accepted (now b) (now dir)) × (KindSound (P.parse (now b)) k) × By.Inside (now s) pos ⌝ }
-    ensures { λ r. ⌜ By.Surveys (now (s .entry)) pos (By.part B.u48 d (now (b .entry)) k optional inplace) r ⌝ }
+    requires { ⌜ (Accepted (now b) (now dir)) × (Width o) × (KindSound (P.parse (now b)) k) × By.Inside (now s) pos ⌝ }
+    ensures { λ r. ⌜ By.Surveys (now (s .entry)) pos (By.part o d (now (b .entry)) k optional inplace) r ⌝ }
 {
     let x = bitio::take_number(s, pos, 2);
     if !x.whole {
@@ -935,7 +949,7 @@ fn part(
         };
     }
     if mark == 1 {
-        return body(b, dir, s, d, k, optional, inplace, next);
+        return body(b, dir, s, d, k, optional, inplace, next, o);
     }
     if mark == 2 {
         return unknown(b, dir, s, next, k);
@@ -944,25 +958,42 @@ fn part(
 }
 
 // `part` of a table's member. It is apart for speed: a table's slices are stored for the call only where there is such a member.
-fn member_part(b: &[u8], dir: &[u16], s: &[u8], d: usize, r: Member, pos: usize) -> Surveyed
-    requires { ⌜ (Accepted (now b) (now dir)) × (KindSound (P.parse (now b)) (r .kind)) × By.Inside (now s) pos ⌝ }
-    ensures { λ q. ⌜ By.Surveys (now (s .entry)) pos (By.part B.u48 d (now (b .entry)) (r .kind) (r .optional) (r .inplace)) q ⌝ }
+fn member_part(
+    b: &[u8],
+    dir: &[u16],
+    s: &[u8],
+    d: usize,
+    r: Member,
+    pos: usize,
+    o: usize,
+) -> Surveyed
+    requires { ⌜ (Accepted (now b) (now dir)) × (Width o) × (KindSound (P.parse (now b)) (r .kind)) × By.Inside (now s) pos ⌝ }
+    ensures { λ q. ⌜ By.Surveys (now (s .entry)) pos (By.part o d (now (b .entry)) (r .kind) (r .optional) (r .inplace)) q ⌝ }
 {
     let k = r.kind;
-    part(b, dir, s, d, k, r.optional, r.inplace, pos)
+    part(b, dir, s, d, k, r.optional, r.inplace, pos, o)
 }
 
 // The content of table t; `size` is that of its full fixed part.
-fn table(b: &[u8], dir: &[u16], s: &[u8], d: usize, t: usize, size: usize, at: usize) -> Surveyed
-    requires { ⌜ (Accepted (now b) (now dir)) × (t < P.tableCount (now b)) × (By.Inside (now s) at) × (size ≡ By.fixed B.u48 (now b) t) × (size < 2 ^ 40) ⌝ }
-    ensures { λ r. ⌜ By.Surveys (now (s .entry)) at (By.content B.u48 d (now (b .entry)) (Object.Table t)) r ⌝ }
+fn table(
+    b: &[u8],
+    dir: &[u16],
+    s: &[u8],
+    d: usize,
+    t: usize,
+    size: usize,
+    at: usize,
+    o: usize,
+) -> Surveyed
+    requires { ⌜ (Accepted (now b) (now dir)) × (Width o) × (t < P.tableCount (now b)) × (By.Inside (now s) at) × (size ≡ By.fixed o (now b) t) × (size < 2 ^ 40) ⌝ }
+    ensures { λ r. ⌜ By.Surveys (now (s .entry)) at (By.content o d (now (b .entry)) (Object.Table t)) r ⌝ }
 {
     let count = schema::member_count(b, dir, t);
     let mut a = opened(size, size);
     let mut pos = at;
     let mut j: usize = 0;
     while j < count {
-        let g = simple_members(b, dir, s, d, t, j, a, pos);
+        let g = simple_members(b, dir, s, d, t, j, a, pos, o);
         if !g.whole {
             return unlawful(at);
         }
@@ -977,7 +1008,7 @@ fn table(b: &[u8], dir: &[u16], s: &[u8], d: usize, t: usize, size: usize, at: u
             };
         }
         let r = schema::member(b, dir, t, i);
-        let x = member_part(b, dir, s, d, r, g.next);
+        let x = member_part(b, dir, s, d, r, g.next, o);
         if !x.whole {
             return unlawful(at);
         }
@@ -993,29 +1024,38 @@ fn table(b: &[u8], dir: &[u16], s: &[u8], d: usize, t: usize, size: usize, at: u
 }
 
 // The content of table t, with the size of its fixed part found first.
-fn table_found(b: &[u8], dir: &[u16], s: &[u8], d: usize, t: usize, at: usize) -> Surveyed
-    requires { ⌜ (Accepted (now b) (now dir)) × (t < P.tableCount (now b)) × By.Inside (now s) at ⌝ }
-    ensures { λ r. ⌜ By.Surveys (now (s .entry)) at (By.content B.u48 d (now (b .entry)) (Object.Table t)) r ⌝ }
+fn table_found(b: &[u8], dir: &[u16], s: &[u8], d: usize, t: usize, at: usize, o: usize) -> Surveyed
+    requires { ⌜ (Accepted (now b) (now dir)) × (Width o) × (t < P.tableCount (now b)) × By.Inside (now s) at ⌝ }
+    ensures { λ r. ⌜ By.Surveys (now (s .entry)) at (By.content o d (now (b .entry)) (Object.Table t)) r ⌝ }
 {
-    let size = fixed_size(b, dir, t);
-    table(b, dir, s, d, t, size, at)
+    let size = fixed_size(b, dir, t, o);
+    table(b, dir, s, d, t, size, at, o)
 }
 
 // ---- a list of tables, whose fixed parts all have one size
 // Table t that an element refers to; `size` is that of its full fixed part.
-fn row(b: &[u8], dir: &[u16], s: &[u8], d: usize, t: usize, size: usize, pos: usize) -> Surveyed
-    requires { ⌜ (Accepted (now b) (now dir)) × (t < P.tableCount (now b)) × (By.Inside (now s) pos) × (size ≡ By.fixed B.u48 (now b) t) × (size < 2 ^ 40) ⌝ }
-    ensures { λ r. ⌜ By.Surveys (now (s .entry)) pos (By.held B.u48 d (now (b .entry)) false false (Object.Table t)) r ⌝ }
+fn row(
+    b: &[u8],
+    dir: &[u16],
+    s: &[u8],
+    d: usize,
+    t: usize,
+    size: usize,
+    pos: usize,
+    o: usize,
+) -> Surveyed
+    requires { ⌜ (Accepted (now b) (now dir)) × (Width o) × (t < P.tableCount (now b)) × (By.Inside (now s) pos) × (size ≡ By.fixed o (now b) t) × (size < 2 ^ 40) ⌝ }
+    ensures { λ r. ⌜ By.Surveys (now (s .entry)) pos (By.held o d (now (b .entry)) false false (Object.Table t)) r ⌝ }
 {
     if d == 0 {
         return unlawful(pos);
     }
-    let x = table(b, dir, s, d - 1, t, size, pos);
+    let x = table(b, dir, s, d - 1, t, size, pos, o);
     let whole = x.whole;
     let next = x.next;
     Surveyed {
         whole: whole,
-        extent: referred(false, false, x.extent),
+        extent: referred(false, false, x.extent, o),
         next: next,
     }
 }
@@ -1029,9 +1069,10 @@ fn marked_row(
     t: usize,
     size: usize,
     pos: usize,
+    o: usize,
 ) -> Surveyed
-    requires { ⌜ (Accepted (now b) (now dir)) × (t < P.tableCount (now b)) × (By.Inside (now s) pos) × (size ≡ By.fixed B.u48 (now b) t) × (size < 2 ^ 40) ⌝ }
-    ensures { λ r. ⌜ By.Surveys (now (s .entry)) pos (By.part B.u48 d (now (b .entry)) (Kind.OfObject (Object.Table t)) true false) r ⌝ }
+    requires { ⌜ (Accepted (now b) (now dir)) × (Width o) × (t < P.tableCount (now b)) × (By.Inside (now s) pos) × (size ≡ By.fixed o (now b) t) × (size < 2 ^ 40) ⌝ }
+    ensures { λ r. ⌜ By.Surveys (now (s .entry)) pos (By.part o d (now (b .entry)) (Kind.OfObject (Object.Table t)) true false) r ⌝ }
 {
     let x = bitio::take_number(s, pos, 2);
     if !x.whole {
@@ -1047,7 +1088,7 @@ fn marked_row(
         };
     }
     if mark == 1 {
-        return row(b, dir, s, d, t, size, next);
+        return row(b, dir, s, d, t, size, next, o);
     }
     unlawful(pos)
 }
@@ -1062,16 +1103,17 @@ fn rows(
     n: usize,
     total: usize,
     at: usize,
+    o: usize,
 ) -> Surveyed
-    requires { ⌜ (Accepted (now b) (now dir)) × (t < P.tableCount (now b)) × (By.Inside (now s) at) × (n < 2 ^ 32) × (total < 2 ^ 48) ⌝ }
-    ensures { λ r. ⌜ By.Surveys (now (s .entry)) at (By.elements B.u48 d (now (b .entry)) (Kind.OfObject (Object.Table t)) n (Sv.opened n total)) r ⌝ }
+    requires { ⌜ (Accepted (now b) (now dir)) × (Width o) × (t < P.tableCount (now b)) × (By.Inside (now s) at) × (n < 2 ^ 32) × (total < 2 ^ 48) ⌝ }
+    ensures { λ r. ⌜ By.Surveys (now (s .entry)) at (By.elements o d (now (b .entry)) (Kind.OfObject (Object.Table t)) n (Sv.opened n total)) r ⌝ }
 {
-    let size = fixed_size(b, dir, t);
+    let size = fixed_size(b, dir, t, o);
     let mut a = opened(n, total);
     let mut pos = at;
     let mut j: usize = 0;
     while j < n {
-        let x = marked_row(b, dir, s, d, t, size, pos);
+        let x = marked_row(b, dir, s, d, t, size, pos, o);
         if !x.whole {
             return unlawful(at);
         }
@@ -1087,9 +1129,9 @@ fn rows(
 }
 
 // The content of list i.
-fn list(b: &[u8], dir: &[u16], s: &[u8], d: usize, i: usize, at: usize) -> Surveyed
-    requires { ⌜ (Accepted (now b) (now dir)) × (i < P.listCount (now b)) × By.Inside (now s) at ⌝ }
-    ensures { λ r. ⌜ By.Surveys (now (s .entry)) at (By.content B.u48 d (now (b .entry)) (Object.List i)) r ⌝ }
+fn list(b: &[u8], dir: &[u16], s: &[u8], d: usize, i: usize, at: usize, o: usize) -> Surveyed
+    requires { ⌜ (Accepted (now b) (now dir)) × (Width o) × (i < P.listCount (now b)) × By.Inside (now s) at ⌝ }
+    ensures { λ r. ⌜ By.Surveys (now (s .entry)) at (By.content o d (now (b .entry)) (Object.List i)) r ⌝ }
 {
     let y = bitio::take_number(s, at, 32);
     if !y.whole {
@@ -1097,10 +1139,10 @@ fn list(b: &[u8], dir: &[u16], s: &[u8], d: usize, i: usize, at: usize) -> Surve
     }
     let n = y.value as usize;
     let k = schema::element(b, dir, i);
-    let total = message_layout::elements_size(b, dir, k, n);
+    let total = message_layout::elements_size(b, dir, k, n, o);
     let t = table_in(k);
     if t < 256 {
-        return rows(b, dir, s, d, t, n, total, y.next);
+        return rows(b, dir, s, d, t, n, total, y.next, o);
     }
     let first = opened(n, total);
     if unmarked(k) {
@@ -1110,7 +1152,7 @@ fn list(b: &[u8], dir: &[u16], s: &[u8], d: usize, i: usize, at: usize) -> Surve
     let mut pos = y.next;
     let mut j: usize = 0;
     while j < n {
-        let x = part(b, dir, s, d, k, true, false, pos);
+        let x = part(b, dir, s, d, k, true, false, pos, o);
         if !x.whole {
             return unlawful(at);
         }
@@ -1126,9 +1168,17 @@ fn list(b: &[u8], dir: &[u16], s: &[u8], d: usize, i: usize, at: usize) -> Surve
 }
 
 // An object's content, where d objects may stand below each other, this one counted.
-pub fn object(b: &[u8], dir: &[u16], s: &[u8], d: usize, ob: Object, pos: usize) -> Surveyed
-    requires { ⌜ (Accepted (now b) (now dir)) × (ObjectSound (P.parse (now b)) ob) × By.Inside (now s) pos ⌝ }
-    ensures { λ r. ⌜ By.Surveys (now (s .entry)) pos (By.object B.u48 d (now (b .entry)) ob) r ⌝ }
+pub fn object(
+    b: &[u8],
+    dir: &[u16],
+    s: &[u8],
+    d: usize,
+    ob: Object,
+    pos: usize,
+    o: usize,
+) -> Surveyed
+    requires { ⌜ (Accepted (now b) (now dir)) × (Width o) × (ObjectSound (P.parse (now b)) ob) × By.Inside (now s) pos ⌝ }
+    ensures { λ r. ⌜ By.Surveys (now (s .entry)) pos (By.object o d (now (b .entry)) ob) r ⌝ }
 {
     if d == 0 {
         return unlawful(pos);
@@ -1136,7 +1186,7 @@ pub fn object(b: &[u8], dir: &[u16], s: &[u8], d: usize, ob: Object, pos: usize)
     match ob {
         Object::Text => blob(s, pos, 1),
         Object::Bytes => blob(s, pos, 0),
-        Object::List(i) => list(b, dir, s, d - 1, wire::index(i), pos),
-        Object::Table(t) => table_found(b, dir, s, d - 1, wire::index(t), pos),
+        Object::List(i) => list(b, dir, s, d - 1, wire::index(i), pos, o),
+        Object::Table(t) => table_found(b, dir, s, d - 1, wire::index(t), pos, o),
     }
 }

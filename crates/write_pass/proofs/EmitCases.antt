@@ -2,14 +2,14 @@
 use mathlib.Core.Path.{_≡_, refl, sym, ap, _∙_, subst}
 use mathlib.Core.Bool.{Bool, true, false, not, false≢true}
 use mathlib.Core.List.{List, [], _∷_}
-use Prim.Native.Nat.{ℕ, _+_, _*_, _^_, _<_, _≤_}
+use Prim.Native.Nat.{ℕ, zero, suc, _+_, _*_, _^_, _<_, _≤_}
 use native.Mathlib.Omega.{arith}
 use lib.ListN.{length, take, drop, length-drop}
 use lib.Seq.{sets}
 use lib.Dec.{leb, eqb}
 use borrow.Author.Tests.{eq-eqb, ne-eqb, lt-ltb, le-ltb, leb-true, not-true, not-false}
 use Rattle.coding.specs.Lists.{pick}
-use Rattle.coding.specs.Bytes.{u48, leBytes, noFloat}
+use Rattle.coding.specs.Bytes.{leBytes, noFloat}
 use Rattle.coding.specs.Bits.{bits, value, pack}
 use Rattle.coding.specs.Schema as Sc
 use Rattle.coding.specs.Schema.{Schema}
@@ -514,20 +514,33 @@ pub lacks-boolean : (S : Schema) (k : Flat) (c r : Places) (o o₁ : List ℕ) �
 unfolding lackFlat
 lacks-boolean S k c r o o₁ e u = let a = u .at in rw e (record { is = u .is; bool = u .bool; at = omega arith; tail = u .tail; next = u .next })
 
-module _ (S : Schema) (k : Kind) (c r : Places) (o o₁ : List ℕ) where
-  pub lacks-flat : (f : Flat) → k ≡ OfFlat f → Lacks (lackFlat S f (stateOf c o)) (stateOf r o₁) c r → Lacks (lack u48 S k (stateOf c o)) (stateOf r o₁) c r
+-- the bytes of the number 0
+zero-bytes : (w : ℕ) → leBytes w 0 ≡ zeros w
+unfolding leBytes
+zero-bytes zero = refl
+zero-bytes (suc w) = ap (λ (l : List ℕ). 0 ∷ l) (zero-bytes w)
+
+zero-lacks : (w : ℕ) → w ≤ 8 → (c r : Places) (out out₁ : List ℕ) → HeldOk c → Stood w (putNumber w 0 (stateOf c out)) (stateOf r out₁) c r
+    → Lacks (putBytes (zeros w) (stateOf c out)) (stateOf r out₁) c r
+unfolding putNumber
+zero-lacks w l c r out out₁ ok u =
+    stood-lacks w (omega arith) _ _ c r ok (subst (λ (bs : List ℕ). Stood w (putBytes bs (stateOf c out)) (stateOf r out₁) c r) (zero-bytes w) u)
+
+module _ (o : ℕ) (S : Schema) (k : Kind) (c r : Places) (out out₁ : List ℕ) where
+  pub lacks-flat : (f : Flat) → k ≡ OfFlat f → Lacks (lackFlat S f (stateOf c out)) (stateOf r out₁) c r → Lacks (lack o S k (stateOf c out)) (stateOf r out₁) c r
   unfolding lack
   lacks-flat f e u = rw e u
 
-  pub lacks-object : (ob : Object) → k ≡ OfObject ob → HeldOk c → Stood u48 (putNumber u48 0 (stateOf c o)) (stateOf r o₁) c r
-      → Lacks (lack u48 S k (stateOf c o)) (stateOf r o₁) c r
-  unfolding lack u48 putNumber leBytes
-  lacks-object ob e ok u = rw e (stood-lacks u48 (omega arith) _ _ c r ok u)
+  pub lacks-object : o ≤ 6 → (ob : Object) → k ≡ OfObject ob → HeldOk c → Stood o (putNumber o 0 (stateOf c out)) (stateOf r out₁) c r
+      → Lacks (lack o S k (stateOf c out)) (stateOf r out₁) c r
+  unfolding lack
+  lacks-object most ob e ok u = rw e (zero-lacks o (omega arith) c r out out₁ ok u)
 
-  pub lacks-union : (i : ℕ) → k ≡ OfUnion i → HeldOk c → Stood 8 (putNumber 8 0 (stateOf c o)) (stateOf r o₁) c r
-      → Lacks (lack u48 S k (stateOf c o)) (stateOf r o₁) c r
-  unfolding lack u48 putNumber leBytes
-  lacks-union i e ok u = rw e (stood-lacks 8 (omega arith) _ _ c r ok u)
+  pub lacks-union : o ≤ 6 → (i : ℕ) → k ≡ OfUnion i → HeldOk c → (w : ℕ) → w ≡ 2 + o → Stood w (putNumber w 0 (stateOf c out)) (stateOf r out₁) c r
+      → Lacks (lack o S k (stateOf c out)) (stateOf r out₁) c r
+  unfolding lack
+  lacks-union most i e ok w ew u =
+      rw e (subst (λ (n : ℕ). Lacks (putBytes (zeros n) (stateOf c out)) (stateOf r out₁) c r) ew (zero-lacks w (omega arith) c r out out₁ ok u))
 
 -- ---- unknown numbers, passed over
 module _ (s : List ℕ) (k : Flat) (pos : ℕ) (c : Places) (st : State) (t : Bool) (p : Places) (out : List ℕ) (n : ℕ) where

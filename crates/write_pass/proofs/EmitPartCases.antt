@@ -8,7 +8,6 @@ use lib.ListN.{length, drop}
 use lib.Dec.{eqb}
 use borrow.Author.Tests.{eq-eqb, ne-eqb, le-leb, lt-leb, not-true, not-false}
 use Rattle.coding.specs.Lists.{pick}
-use Rattle.coding.specs.Bytes.{u48}
 use Rattle.coding.specs.Bits.{bits}
 use Rattle.coding.specs.Schema as Sc
 use Rattle.coding.specs.Schema.{Schema}
@@ -39,73 +38,73 @@ use Rattle.write_pass.proofs.EmitCases.{lacks-object}
 use Rattle.write_pass.proofs.EmitRoom.{taken-at, refused, extra-most, held-same, room-lack}
 
 -- ---- an object: what refers to it, its content, and back; by offset or in place
-module _ (child : Emitter) (S : Schema) (inplace : Bool) (ob : Object) (st : State) (xs : List ℕ) where
+module _ (o : ℕ) (child : Emitter) (S : Schema) (inplace : Bool) (ob : Object) (st : State) (xs : List ℕ) where
   -- the content's pass from u on, back behind z
   within : State → State → Parsed State
   within z u = bind (child ob u xs) (λ inner zs. got (pick inplace (leaveContent z inner) (leaveObject z inner)) zs)
 
   surveyed : (measure : Surveyor) (x : Extent) (ys : List ℕ) → measure ob xs ≡ got x ys
-      → emitRefer child measure u48 S inplace ob st xs ≡ within (referred u48 inplace x st) (opened u48 S ob inplace x (referred u48 inplace x st))
+      → emitRefer child measure o S inplace ob st xs ≡ within (referred o inplace x st) (opened o S ob inplace x (referred o inplace x st))
   unfolding within
   surveyed measure x ys e = by inplace
     where
-      by : (i : Bool) → emitRefer child measure u48 S i ob st xs
-          ≡ bind (child ob (opened u48 S ob i x (referred u48 i x st)) xs) (λ inner zs. got (pick i (leaveContent (referred u48 i x st) inner) (leaveObject (referred u48 i x st) inner)) zs)
+      by : (i : Bool) → emitRefer child measure o S i ob st xs
+          ≡ bind (child ob (opened o S ob i x (referred o i x st)) xs) (λ inner zs. got (pick i (leaveContent (referred o i x st) inner) (leaveObject (referred o i x st) inner)) zs)
       by true = unfold emitRefer emitObject emitContentAt opened referred bind in rw e
       by false = unfold emitRefer emitObject emitContentAt opened referred bind in rw e
 
   module _ (r x : Extent) where
-    same-referred : (i : Bool) → Sizes i r x → referred u48 i x st ≡ referred u48 i r st
+    same-referred : (i : Bool) → Sizes i r x → referred o i x st ≡ referred o i r st
     unfolding referred
-    same-referred true s = ap (λ (n : ℕ). putNumber u48 n st) (sym (s .length))
+    same-referred true s = ap (λ (n : ℕ). putNumber o n st) (sym (s .length))
     same-referred false s = refl
 
-    same-opened : (i : Bool) → Sizes i r x → (z : State) → opened u48 S ob i x z ≡ opened u48 S ob i r z
+    same-opened : (i : Bool) → Sizes i r x → (z : State) → opened o S ob i x z ≡ opened o S ob i r z
     unfolding opened openObject
     same-opened true s z = ap (λ (n : ℕ). enterContent n z) (sym (s .width))
     same-opened false s z =
-        ap (λ (n : ℕ). putNumber u48 n (putNumber 4 (magic S ob) (enterObject (headerSize u48 + x .width) (x .chain) z))) (sym (s .length))
-        ∙ ap₂ (λ (w k : ℕ). putNumber u48 (r .length) (putNumber 4 (magic S ob) (enterObject (headerSize u48 + w) k z))) (sym (s .width)) (sym (s .chain refl))
+        ap (λ (n : ℕ). putNumber o n (putNumber 4 (magic S ob) (enterObject (headerSize o + x .width) (x .chain) z))) (sym (s .length))
+        ∙ ap₂ (λ (w k : ℕ). putNumber o (r .length) (putNumber 4 (magic S ob) (enterObject (headerSize o + w) k z))) (sym (s .width)) (sym (s .chain refl))
 
   -- by sizes that are right where the survey gives something; where it does not, the content's pass fails
   refer-is : (measure : Surveyor) (r : Extent) → Has (Sizes inplace r) (measure ob xs) → ((u : State) → measure ob xs ≡ fail → child ob u xs ≡ fail)
-      → emitRefer child measure u48 S inplace ob st xs ≡ within (referred u48 inplace r st) (opened u48 S ob inplace r (referred u48 inplace r st))
+      → emitRefer child measure o S inplace ob st xs ≡ within (referred o inplace r st) (opened o S ob inplace r (referred o inplace r st))
   unfolding within bind
   refer-is measure r m fails = by (measure ob xs) refl m
     where
       by : (p : Parsed Extent) → measure ob xs ≡ p → Has (Sizes inplace r) p
-          → emitRefer child measure u48 S inplace ob st xs ≡ within (referred u48 inplace r st) (opened u48 S ob inplace r (referred u48 inplace r st))
+          → emitRefer child measure o S inplace ob st xs ≡ within (referred o inplace r st) (opened o S ob inplace r (referred o inplace r st))
       by fail e h =
-          let g : emitRefer child measure u48 S inplace ob st xs ≡ fail = unfold emitRefer in rw e in
-          g ∙ sym (ap (λ (p : Parsed State). bind p (λ inner zs. got (pick inplace (leaveContent (referred u48 inplace r st) inner) (leaveObject (referred u48 inplace r st) inner)) zs))
-          (fails (opened u48 S ob inplace r (referred u48 inplace r st)) e))
+          let g : emitRefer child measure o S inplace ob st xs ≡ fail = unfold emitRefer in rw e in
+          g ∙ sym (ap (λ (p : Parsed State). bind p (λ inner zs. got (pick inplace (leaveContent (referred o inplace r st) inner) (leaveObject (referred o inplace r st) inner)) zs))
+          (fails (opened o S ob inplace r (referred o inplace r st)) e))
       by (got x ys) e h =
-          surveyed measure x ys e ∙ ap (within (referred u48 inplace x st)) (same-opened r x inplace h (referred u48 inplace x st))
-          ∙ ap (λ (z : State). within z (opened u48 S ob inplace r z)) (same-referred r x inplace h)
+          surveyed measure x ys e ∙ ap (within (referred o inplace x st)) (same-opened r x inplace h (referred o inplace x st))
+          ∙ ap (λ (z : State). within z (opened o S ob inplace r z)) (same-referred r x inplace h)
 
-module _ (child : Emitter) (measure : Surveyor) (S : Schema) (s : List ℕ) (inplace : Bool) (ob : Object) (c : Places) (o : List ℕ) (pos : ℕ) (room : Room s pos c)
+module _ (o : ℕ) (child : Emitter) (measure : Surveyor) (S : Schema) (s : List ℕ) (inplace : Bool) (ob : Object) (c : Places) (out : List ℕ) (pos : ℕ) (room : Room s pos c)
     (x : Extent) (m : Measured inplace (measure ob (drop pos (bits s))) x) (fails : (u : State) → measure ob (drop pos (bits s)) ≡ fail → child ob u (drop pos (bits s)) ≡ fail) where
-  module _ (p : Places) (o₁ : List ℕ) (st : Stood u48 (referred u48 inplace x (stateOf c o)) (stateOf p o₁) c p)
-      (q : Places) (o₂ : List ℕ) (op : Opens u48 (opened u48 S ob inplace x (stateOf p o₁)) (stateOf q o₂) q)
-      (yw : Bool) (y : Places) (o₃ : List ℕ) (yn : ℕ) (em : EmittedAt s (child ob (stateOf q o₂) (drop pos (bits s))) pos q 0 yw y o₃ yn) where
+  module _ (p : Places) (out₁ : List ℕ) (st : Stood o (referred o inplace x (stateOf c out)) (stateOf p out₁) c p)
+      (q : Places) (out₂ : List ℕ) (op : Opens o (opened o S ob inplace x (stateOf p out₁)) (stateOf q out₂) q)
+      (yw : Bool) (y : Places) (out₃ : List ℕ) (yn : ℕ) (em : EmittedAt s (child ob (stateOf q out₂) (drop pos (bits s))) pos q 0 yw y out₃ yn) where
     abbrev back : Parsed State → Parsed State
-    back r = bind r (λ inner zs. got (pick inplace (leaveContent (stateOf p o₁) inner) (leaveObject (stateOf p o₁) inner)) zs)
+    back r = bind r (λ inner zs. got (pick inplace (leaveContent (stateOf p out₁) inner) (leaveObject (stateOf p out₁) inner)) zs)
 
-    referred-is : emitRefer child measure u48 S inplace ob (stateOf c o) (drop pos (bits s)) ≡ back (pick yw (got (stateOf y o₃) (drop yn (bits s))) fail)
+    referred-is : emitRefer child measure o S inplace ob (stateOf c out) (drop pos (bits s)) ≡ back (pick yw (got (stateOf y out₃) (drop yn (bits s))) fail)
     unfolding within
     referred-is =
-        refer-is child S inplace ob (stateOf c o) (drop pos (bits s)) measure x (m .is) fails
-        ∙ ap (λ (z : State). bind (child ob (opened u48 S ob inplace x z) (drop pos (bits s))) (λ inner zs. got (pick inplace (leaveContent z inner) (leaveObject z inner)) zs)) (sym (st .is))
+        refer-is o child S inplace ob (stateOf c out) (drop pos (bits s)) measure x (m .is) fails
+        ∙ ap (λ (z : State). bind (child ob (opened o S ob inplace x z) (drop pos (bits s))) (λ inner zs. got (pick inplace (leaveContent z inner) (leaveObject z inner)) zs)) (sym (st .is))
         ∙ ap (λ (z : State). back (child ob z (drop pos (bits s)))) (sym (op .is)) ∙ ap back (em .is)
 
     pub refer-unlawful : not yw ≡ true → (w : Bool) (r : Places) (n : ℕ) → w ≡ false → r ≡ c → n ≡ pos
-        → EmittedAt s (emitRefer child measure u48 S inplace ob (stateOf c o) (drop pos (bits s))) pos c u48 w r o₃ n
+        → EmittedAt s (emitRefer child measure o S inplace ob (stateOf c out) (drop pos (bits s))) pos c o w r out₃ n
     unfolding bind
     refer-unlawful f w r n ew er en =
-        refused s _ pos c u48 (referred-is ∙ ap (λ (u : Bool). back (pick u (got (stateOf y o₃) (drop yn (bits s))) fail)) (not-true yw f)) room w r o₃ n ew er en
+        refused s _ pos c o (referred-is ∙ ap (λ (u : Bool). back (pick u (got (stateOf y out₃) (drop yn (bits s))) fail)) (not-true yw f)) room w r out₃ n ew er en
 
     shut : (i : Bool)
-        → pick i (leaveContent (stateOf p o₁) (stateOf y o₃)) (leaveObject (stateOf p o₁) (stateOf y o₃)) ≡ stateOf (closed i p y) o₃
+        → pick i (leaveContent (stateOf p out₁) (stateOf y out₃)) (leaveObject (stateOf p out₁) (stateOf y out₃)) ≡ stateOf (closed i p y) out₃
     unfolding closed leftContent leftObject leaveContent leaveObject
     shut true = refl
     shut false = refl
@@ -131,15 +130,15 @@ module _ (child : Emitter) (measure : Surveyor) (S : Schema) (s : List ℕ) (inp
     shut-next false a = a
 
     pub refer-closed : pos ≤ yn → not yw ≡ false → (k : Places) → k ≡ closed inplace p y → (w : Bool) (r : Places) (n : ℕ) → w ≡ true → r ≡ k → n ≡ yn
-        → EmittedAt s (emitRefer child measure u48 S inplace ob (stateOf c o) (drop pos (bits s))) pos c u48 w r o₃ n
+        → EmittedAt s (emitRefer child measure o S inplace ob (stateOf c out) (drop pos (bits s))) pos c o w r out₃ n
     unfolding bind
     refer-closed on f k ek w r n ew er en =
         let a = shut-at inplace in
         let b = st .at in
-        let g : closed inplace p y .at + 8192 * pos ≤ c .at + u48 + 8192 * yn = omega arith in
+        let g : closed inplace p y .at + 8192 * pos ≤ c .at + o + 8192 * yn = omega arith in
         rw (ew, er, en, ek)
         (record {
-          is = referred-is ∙ ap (λ (u : Bool). back (pick u (got (stateOf y o₃) (drop yn (bits s))) fail)) (not-false yw f)
+          is = referred-is ∙ ap (λ (u : Bool). back (pick u (got (stateOf y out₃) (drop yn (bits s))) fail)) (not-false yw f)
               ∙ ap (λ (z : State). got z (drop yn (bits s))) (shut inplace);
           here = em .here;
           at = g;
@@ -153,35 +152,35 @@ positive : (y : ℕ) → (y ≡ 0 → ⊥) → 1 ≤ y
 positive zero f = absurd (f refl)
 positive (suc y) f = omega arith
 
-module _ (child : Emitter) (measure : Surveyor) (S : Schema) (s : List ℕ) (inplace : Bool) (u : ℕ) (c : Places) (o : List ℕ) (pos : ℕ) (room : Room s pos c)
+module _ (o : ℕ) (child : Emitter) (measure : Surveyor) (S : Schema) (s : List ℕ) (inplace : Bool) (u : ℕ) (c : Places) (out : List ℕ) (pos : ℕ) (room : Room s pos c)
     (whole : Bool) (x next : ℕ) (taken : TakenNumber s pos 16 whole x next) where
   pub choice-cut : not whole ≡ true → (w : Bool) (q : Places) (n : ℕ) → w ≡ false → q ≡ c → n ≡ pos
-      → EmittedAt s (emitChoice child measure u48 S inplace (Sc.casesOf S u) (stateOf c o) (drop pos (bits s))) pos c u48 w q o n
+      → EmittedAt s (emitChoice child measure o S inplace (Sc.casesOf S u) (stateOf c out) (drop pos (bits s))) pos c o w q out n
   unfolding emitChoice bind
-  choice-cut h w q n ew eq en = refused s _ pos c u48 (rw (taken .number, not-true whole h)) room w q o n ew eq en
+  choice-cut h w q n ew eq en = refused s _ pos c o (rw (taken .number, not-true whole h)) room w q out n ew eq en
 
   module _ (h : not whole ≡ false) where
     pub choice-zero : x ≡ 0 → (w : Bool) (q : Places) (n : ℕ) → w ≡ false → q ≡ c → n ≡ pos
-        → EmittedAt s (emitChoice child measure u48 S inplace (Sc.casesOf S u) (stateOf c o) (drop pos (bits s))) pos c u48 w q o n
+        → EmittedAt s (emitChoice child measure o S inplace (Sc.casesOf S u) (stateOf c out) (drop pos (bits s))) pos c o w q out n
     unfolding emitChoice bind
     choice-zero z w q n ew eq en =
         let lt : x < 1 = omega arith in
-        refused s _ pos c u48 (rw (taken .number, not-false whole h) (simp (lt-leb 1 x lt))) room w q o n ew eq en
+        refused s _ pos c o (rw (taken .number, not-false whole h) (simp (lt-leb 1 x lt))) room w q out n ew eq en
 
     module _ (h0 : x ≡ 0 → ⊥) (m : ℕ) (em : m ≡ length (Sc.casesOf S u)) where
       pub choice-above : m < x → (w : Bool) (q : Places) (n : ℕ) → w ≡ false → q ≡ c → n ≡ pos
-          → EmittedAt s (emitChoice child measure u48 S inplace (Sc.casesOf S u) (stateOf c o) (drop pos (bits s))) pos c u48 w q o n
+          → EmittedAt s (emitChoice child measure o S inplace (Sc.casesOf S u) (stateOf c out) (drop pos (bits s))) pos c o w q out n
       unfolding emitChoice bind
       choice-above g w q n ew eq en =
           let one : 1 ≤ x = positive x h0 in
           let lt : length (Sc.casesOf S u) < x = omega arith in
-          refused s _ pos c u48 (rw (taken .number, not-false whole h) (simp (le-leb 1 x one, lt-leb x (length (Sc.casesOf S u)) lt))) room w q o n ew eq en
+          refused s _ pos c o (rw (taken .number, not-false whole h) (simp (le-leb 1 x one, lt-leb x (length (Sc.casesOf S u)) lt))) room w q out n ew eq en
 
-      pub choice-known : x ≤ m → (ob : Object) → ob ≡ Sc.caseOf (Sc.casesOf S u) x → (p : Places) (o₁ : List ℕ) → Stood 2 (putNumber 2 x (stateOf c o)) (stateOf p o₁) c p
-          → (w : Bool) (q : Places) (o₂ : List ℕ) (n : ℕ) → EmittedAt s (emitRefer child measure u48 S inplace ob (stateOf p o₁) (drop next (bits s))) next p u48 w q o₂ n
-          → EmittedAt s (emitChoice child measure u48 S inplace (Sc.casesOf S u) (stateOf c o) (drop pos (bits s))) pos c u48 w q o₂ n
+      pub choice-known : x ≤ m → (ob : Object) → ob ≡ Sc.caseOf (Sc.casesOf S u) x → (p : Places) (out₁ : List ℕ) → Stood 2 (putNumber 2 x (stateOf c out)) (stateOf p out₁) c p
+          → (w : Bool) (q : Places) (out₂ : List ℕ) (n : ℕ) → EmittedAt s (emitRefer child measure o S inplace ob (stateOf p out₁) (drop next (bits s))) next p o w q out₂ n
+          → EmittedAt s (emitChoice child measure o S inplace (Sc.casesOf S u) (stateOf c out) (drop pos (bits s))) pos c o w q out₂ n
       unfolding emitChoice bind
-      choice-known g ob eo p o₁ st w q o₂ n t =
+      choice-known g ob eo p out₁ st w q out₂ n t =
           let one : 1 ≤ x = positive x h0 in
           let le : x ≤ length (Sc.casesOf S u) = omega arith in
           let e = taken-at s pos 16 whole x next taken (room .here) h in
@@ -189,8 +188,8 @@ module _ (child : Emitter) (measure : Surveyor) (S : Schema) (s : List ℕ) (inp
           let f = st .at in
           record {
             is = rw (taken .number, not-false whole h) (simp (le-leb 1 x one, le-leb x (length (Sc.casesOf S u)) le)
-                (ap (λ (b : Object). emitRefer child measure u48 S inplace b (putNumber 2 x (stateOf c o)) (drop next (bits s))) (sym eo)
-                ∙ ap (λ (z : State). emitRefer child measure u48 S inplace ob z (drop next (bits s))) (sym (st .is)) ∙ t .is));
+                (ap (λ (b : Object). emitRefer child measure o S inplace b (putNumber 2 x (stateOf c out)) (drop next (bits s))) (sym eo)
+                ∙ ap (λ (z : State). emitRefer child measure o S inplace ob z (drop next (bits s))) (sym (st .is)) ∙ t .is));
             here = t .here;
             at = omega arith;
             bool = t .bool;
@@ -199,44 +198,44 @@ module _ (child : Emitter) (measure : Surveyor) (S : Schema) (s : List ℕ) (inp
           }
 
 -- ---- what is there
-module _ (child : Emitter) (measure : Surveyor) (S : Schema) (s : List ℕ) (k : Kind) (inplace : Bool) (c : Places) (o : List ℕ) (pos : ℕ) (w : Bool) (q : Places) (o₁ : List ℕ) (n : ℕ) where
-  pub body-flat : (f : Flat) → k ≡ OfFlat f → EmittedAt s (emitFlat S f (stateOf c o) (drop pos (bits s))) pos c 0 w q o₁ n
-      → EmittedAt s (emitBody child measure u48 S k inplace (stateOf c o) (drop pos (bits s))) pos c (extra u48 k) w q o₁ n
+module _ (o : ℕ) (child : Emitter) (measure : Surveyor) (S : Schema) (s : List ℕ) (k : Kind) (inplace : Bool) (c : Places) (out : List ℕ) (pos : ℕ) (w : Bool) (q : Places) (out₁ : List ℕ) (n : ℕ) where
+  pub body-flat : (f : Flat) → k ≡ OfFlat f → EmittedAt s (emitFlat S f (stateOf c out) (drop pos (bits s))) pos c 0 w q out₁ n
+      → EmittedAt s (emitBody child measure o S k inplace (stateOf c out) (drop pos (bits s))) pos c (extra o k) w q out₁ n
   unfolding emitBody extra
   body-flat f e t = rw e t
 
-  pub body-object : (ob : Object) → k ≡ OfObject ob → EmittedAt s (emitRefer child measure u48 S inplace ob (stateOf c o) (drop pos (bits s))) pos c u48 w q o₁ n
-      → EmittedAt s (emitBody child measure u48 S k inplace (stateOf c o) (drop pos (bits s))) pos c (extra u48 k) w q o₁ n
+  pub body-object : (ob : Object) → k ≡ OfObject ob → EmittedAt s (emitRefer child measure o S inplace ob (stateOf c out) (drop pos (bits s))) pos c o w q out₁ n
+      → EmittedAt s (emitBody child measure o S k inplace (stateOf c out) (drop pos (bits s))) pos c (extra o k) w q out₁ n
   unfolding emitBody extra
   body-object ob e t = rw e t
 
-  pub body-union : (u j : ℕ) → k ≡ OfUnion u → j ≡ u → EmittedAt s (emitChoice child measure u48 S inplace (Sc.casesOf S j) (stateOf c o) (drop pos (bits s))) pos c u48 w q o₁ n
-      → EmittedAt s (emitBody child measure u48 S k inplace (stateOf c o) (drop pos (bits s))) pos c (extra u48 k) w q o₁ n
+  pub body-union : (u j : ℕ) → k ≡ OfUnion u → j ≡ u → EmittedAt s (emitChoice child measure o S inplace (Sc.casesOf S j) (stateOf c out) (drop pos (bits s))) pos c o w q out₁ n
+      → EmittedAt s (emitBody child measure o S k inplace (stateOf c out) (drop pos (bits s))) pos c (extra o k) w q out₁ n
   unfolding emitBody extra
-  body-union u j e ej t = rw e (subst (λ (a : ℕ). EmittedAt s (emitChoice child measure u48 S inplace (Sc.casesOf S a) (stateOf c o) (drop pos (bits s))) pos c u48 w q o₁ n) ej t)
+  body-union u j e ej t = rw e (subst (λ (a : ℕ). EmittedAt s (emitChoice child measure o S inplace (Sc.casesOf S a) (stateOf c out) (drop pos (bits s))) pos c o w q out₁ n) ej t)
 
 -- ---- with its mark
-module _ (child : Emitter) (measure : Surveyor) (S : Schema) (s : List ℕ) (r : Member) (c : Places) (o : List ℕ) (pos : ℕ) (room : Room s pos c)
+module _ (o : ℕ) (child : Emitter) (measure : Surveyor) (S : Schema) (s : List ℕ) (r : Member) (c : Places) (out : List ℕ) (pos : ℕ) (room : Room s pos c)
     (whole : Bool) (x next : ℕ) (taken : TakenNumber s pos 2 whole x next) where
   pub part-cut : not whole ≡ true → (w : Bool) (q : Places) (n : ℕ) → w ≡ false → q ≡ c → n ≡ pos
-      → EmittedAt s (emitMember child measure u48 S r (stateOf c o) (drop pos (bits s))) pos c 0 w q o n
+      → EmittedAt s (emitMember child measure o S r (stateOf c out) (drop pos (bits s))) pos c 0 w q out n
   unfolding emitMember emitPart surveyMark bind
-  part-cut h w q n ew eq en = refused s _ pos c 0 (rw (taken .number, not-true whole h)) room w q o n ew eq en
+  part-cut h w q n ew eq en = refused s _ pos c 0 (rw (taken .number, not-true whole h)) room w q out n ew eq en
 
   module _ (h : not whole ≡ false) where
-    pub part-there : x ≡ 1 → (p : Places) (o₁ : List ℕ) → BitPut (flagged r 1 (stateOf c o)) (stateOf p o₁) c p
-        → (w : Bool) (q : Places) (o₂ : List ℕ) (n : ℕ) → EmittedAt s (emitBody child measure u48 S (r .kind) (r .inplace) (stateOf p o₁) (drop next (bits s))) next p (extra u48 (r .kind)) w q o₂ n
-        → EmittedAt s (emitMember child measure u48 S r (stateOf c o) (drop pos (bits s))) pos c 0 w q o₂ n
+    pub part-there : o ≤ 6 → x ≡ 1 → (p : Places) (out₁ : List ℕ) → BitPut (flagged r 1 (stateOf c out)) (stateOf p out₁) c p
+        → (w : Bool) (q : Places) (out₂ : List ℕ) (n : ℕ) → EmittedAt s (emitBody child measure o S (r .kind) (r .inplace) (stateOf p out₁) (drop next (bits s))) next p (extra o (r .kind)) w q out₂ n
+        → EmittedAt s (emitMember child measure o S r (stateOf c out) (drop pos (bits s))) pos c 0 w q out₂ n
     unfolding emitMember emitPart surveyMark bind
-    part-there z p o₁ b w q o₂ n t =
+    part-there most z p out₁ b w q out₂ n t =
         let e = taken-at s pos 2 whole x next taken (room .here) h in
-        let few = extra-most (r .kind) in
+        let few = extra-most o most (r .kind) in
         let a = t .at in
         let f = b .at in
         let n0 : eqb x 0 ≡ false = rw z refl in
         record {
           is = rw (taken .number, not-false whole h) (simp (n0, eq-eqb x 1 z)
-              (ap (λ (y : State). emitBody child measure u48 S (r .kind) (r .inplace) y (drop next (bits s))) (sym (b .is)) ∙ t .is));
+              (ap (λ (y : State). emitBody child measure o S (r .kind) (r .inplace) y (drop next (bits s))) (sym (b .is)) ∙ t .is));
           here = t .here;
           at = omega arith;
           bool = t .bool;
@@ -246,20 +245,20 @@ module _ (child : Emitter) (measure : Surveyor) (S : Schema) (s : List ℕ) (r :
 
     module _ (h1 : x ≡ 1 → ⊥) where
       pub part-bad : x ≡ 3 → (w : Bool) (q : Places) (n : ℕ) → w ≡ false → q ≡ c → n ≡ pos
-          → EmittedAt s (emitMember child measure u48 S r (stateOf c o) (drop pos (bits s))) pos c 0 w q o n
+          → EmittedAt s (emitMember child measure o S r (stateOf c out) (drop pos (bits s))) pos c 0 w q out n
       unfolding emitMember emitPart surveyMark bind
       part-bad z w q n ew eq en =
           let n0 : eqb x 0 ≡ false = rw z refl in
           let n2 : eqb x 2 ≡ false = rw z refl in
-          refused s _ pos c 0 (rw (taken .number, not-false whole h) (simp (n0, ne-eqb x 1 h1, n2))) room w q o n ew eq en
+          refused s _ pos c 0 (rw (taken .number, not-false whole h) (simp (n0, ne-eqb x 1 h1, n2))) room w q out n ew eq en
 
-      module _ (h3 : x ≡ 3 → ⊥) (p : Places) (o₁ : List ℕ) (b : BitPut (flagged r 0 (stateOf c o)) (stateOf p o₁) c p)
-          (q : Places) (o₂ : List ℕ) (l : Lacks (lack u48 S (r .kind) (stateOf p o₁)) (stateOf q o₂) p q) where
-        lacked : stateOf q o₂ ≡ lack u48 S (r .kind) (flagged r 0 (stateOf c o))
-        lacked = l .is ∙ ap (lack u48 S (r .kind)) (b .is)
+      module _ (h3 : x ≡ 3 → ⊥) (p : Places) (out₁ : List ℕ) (b : BitPut (flagged r 0 (stateOf c out)) (stateOf p out₁) c p)
+          (q : Places) (out₂ : List ℕ) (l : Lacks (lack o S (r .kind) (stateOf p out₁)) (stateOf q out₂) p q) where
+        lacked : stateOf q out₂ ≡ lack o S (r .kind) (flagged r 0 (stateOf c out))
+        lacked = l .is ∙ ap (lack o S (r .kind)) (b .is)
 
         pub part-none : x ≡ 0 → (w : Bool) (y : Places) (n : ℕ) → w ≡ true → y ≡ q → n ≡ next
-            → EmittedAt s (emitMember child measure u48 S r (stateOf c o) (drop pos (bits s))) pos c 0 w y o₂ n
+            → EmittedAt s (emitMember child measure o S r (stateOf c out) (drop pos (bits s))) pos c 0 w y out₂ n
         unfolding emitMember emitPart surveyMark bind
         part-none z w y n ew ey en =
             let e = taken-at s pos 2 whole x next taken (room .here) h in
@@ -276,10 +275,10 @@ module _ (child : Emitter) (measure : Surveyor) (S : Schema) (s : List ℕ) (r :
               next = rw (l .next, b .next) (room .next);
             })
 
-        pub part-pass : (x ≡ 0 → ⊥) → (w : Bool) (y : Places) (o₃ : List ℕ) (n : ℕ) → EmittedAt s (pass S (r .kind) (stateOf q o₂) (drop next (bits s))) next q 0 w y o₃ n
-            → EmittedAt s (emitMember child measure u48 S r (stateOf c o) (drop pos (bits s))) pos c 0 w y o₃ n
+        pub part-pass : (x ≡ 0 → ⊥) → (w : Bool) (y : Places) (out₃ : List ℕ) (n : ℕ) → EmittedAt s (pass S (r .kind) (stateOf q out₂) (drop next (bits s))) next q 0 w y out₃ n
+            → EmittedAt s (emitMember child measure o S r (stateOf c out) (drop pos (bits s))) pos c 0 w y out₃ n
         unfolding emitMember emitPart surveyMark bind
-        part-pass h0 w y o₃ n t =
+        part-pass h0 w y out₃ n t =
             let e = taken-at s pos 2 whole x next taken (room .here) h in
             let two : x ≡ 2 = by x h0 h1 h3 (taken .small) in
             let a = l .at in
@@ -303,49 +302,49 @@ module _ (child : Emitter) (measure : Surveyor) (S : Schema) (s : List ℕ) (r :
             by (suc (suc (suc (suc m)))) f0 f1 f3 i = absurd (omega arith)
 
 -- ---- elements
-module _ (child : Emitter) (measure : Surveyor) (S : Schema) (s : List ℕ) (k : Kind) (c : Places) (o : List ℕ) (pos : ℕ) (w : Bool) (q : Places) (o₁ : List ℕ) (n : ℕ)
+module _ (o : ℕ) (child : Emitter) (measure : Surveyor) (S : Schema) (s : List ℕ) (k : Kind) (c : Places) (out : List ℕ) (pos : ℕ) (w : Bool) (q : Places) (out₁ : List ℕ) (n : ℕ)
     (t : Bool) (et : t ≡ unmarked k) where
-  pub element-marked : t ≡ false → EmittedAt s (emitMember child measure u48 S (record { kind = k; optional = false; inplace = false }) (stateOf c o) (drop pos (bits s))) pos c 0 w q o₁ n
-      → EmittedAt s (emitElement child measure u48 S k (stateOf c o) (drop pos (bits s))) pos c 0 w q o₁ n
+  pub element-marked : t ≡ false → EmittedAt s (emitMember child measure o S (record { kind = k; optional = false; inplace = false }) (stateOf c out) (drop pos (bits s))) pos c 0 w q out₁ n
+      → EmittedAt s (emitElement child measure o S k (stateOf c out) (drop pos (bits s))) pos c 0 w q out₁ n
   unfolding emitElement emitMember flagged hasFlag
   element-marked h m = rw (← et, h) m
 
 -- ---- an element that refers to an object, with its mark
-module _ (child : Emitter) (measure : Surveyor) (S : Schema) (s : List ℕ) (ob : Object) (c : Places) (o : List ℕ) (pos : ℕ) (room : Room s pos c)
+module _ (o : ℕ) (child : Emitter) (measure : Surveyor) (S : Schema) (s : List ℕ) (ob : Object) (c : Places) (out : List ℕ) (pos : ℕ) (room : Room s pos c)
     (whole : Bool) (x next : ℕ) (taken : TakenNumber s pos 2 whole x next) where
   abbrev plainObject : Member
   plainObject = record { kind = OfObject ob; optional = false; inplace = false }
 
-  unflagged : (y : ℕ) → BitPut (flagged plainObject y (stateOf c o)) (stateOf c o) c c
+  unflagged : (y : ℕ) → BitPut (flagged plainObject y (stateOf c out)) (stateOf c out) c c
   unfolding hasFlag
-  unflagged y = flag-none plainObject y c o false refl refl (room .bool)
+  unflagged y = flag-none plainObject y c out false refl refl (room .bool)
 
-  as-element : (w : Bool) (q : Places) (o₁ : List ℕ) (n : ℕ) → EmittedAt s (emitMember child measure u48 S plainObject (stateOf c o) (drop pos (bits s))) pos c 0 w q o₁ n
-      → EmittedAt s (emitElement child measure u48 S (OfObject ob) (stateOf c o) (drop pos (bits s))) pos c 0 w q o₁ n
-  as-element w q o₁ n t = element-marked child measure S s (OfObject ob) c o pos w q o₁ n false (sym (object-marked ob)) refl t
+  as-element : (w : Bool) (q : Places) (out₁ : List ℕ) (n : ℕ) → EmittedAt s (emitMember child measure o S plainObject (stateOf c out) (drop pos (bits s))) pos c 0 w q out₁ n
+      → EmittedAt s (emitElement child measure o S (OfObject ob) (stateOf c out) (drop pos (bits s))) pos c 0 w q out₁ n
+  as-element w q out₁ n t = element-marked o child measure S s (OfObject ob) c out pos w q out₁ n false (sym (object-marked ob)) refl t
 
   pub marked-cut : not whole ≡ true → (w : Bool) (q : Places) (n : ℕ) → w ≡ false → q ≡ c → n ≡ pos
-      → EmittedAt s (emitElement child measure u48 S (OfObject ob) (stateOf c o) (drop pos (bits s))) pos c 0 w q o n
-  marked-cut h w q n ew eq en = as-element w q o n (part-cut child measure S s plainObject c o pos room whole x next taken h w q n ew eq en)
+      → EmittedAt s (emitElement child measure o S (OfObject ob) (stateOf c out) (drop pos (bits s))) pos c 0 w q out n
+  marked-cut h w q n ew eq en = as-element w q out n (part-cut o child measure S s plainObject c out pos room whole x next taken h w q n ew eq en)
 
   module _ (h : not whole ≡ false) where
-    pub marked-there : x ≡ 1 → (w : Bool) (q : Places) (o₂ : List ℕ) (n : ℕ) → EmittedAt s (emitRefer child measure u48 S false ob (stateOf c o) (drop next (bits s))) next c u48 w q o₂ n
-        → EmittedAt s (emitElement child measure u48 S (OfObject ob) (stateOf c o) (drop pos (bits s))) pos c 0 w q o₂ n
-    marked-there z w q o₂ n t =
-        as-element w q o₂ n (part-there child measure S s plainObject c o pos room whole x next taken h z c o (unflagged 1) w q o₂ n
-        (body-object child measure S s (OfObject ob) false c o next w q o₂ n ob refl t))
+    pub marked-there : o ≤ 6 → x ≡ 1 → (w : Bool) (q : Places) (out₂ : List ℕ) (n : ℕ) → EmittedAt s (emitRefer child measure o S false ob (stateOf c out) (drop next (bits s))) next c o w q out₂ n
+        → EmittedAt s (emitElement child measure o S (OfObject ob) (stateOf c out) (drop pos (bits s))) pos c 0 w q out₂ n
+    marked-there most z w q out₂ n t =
+        as-element w q out₂ n (part-there o child measure S s plainObject c out pos room whole x next taken h most z c out (unflagged 1) w q out₂ n
+        (body-object o child measure S s (OfObject ob) false c out next w q out₂ n ob refl t))
 
-    pub marked-none : x ≡ 0 → (p : Places) (o₁ : List ℕ) → Stood u48 (putNumber u48 0 (stateOf c o)) (stateOf p o₁) c p → (w : Bool) (y : Places) (n : ℕ) → w ≡ true → y ≡ p → n ≡ next
-        → EmittedAt s (emitElement child measure u48 S (OfObject ob) (stateOf c o) (drop pos (bits s))) pos c 0 w y o₁ n
-    marked-none z p o₁ u w y n ew ey en =
-        as-element w y o₁ n (part-none child measure S s plainObject c o pos room whole x next taken h (λ e. (let v : ⊥ = omega arith in v)) (λ e. (let v : ⊥ = omega arith in v)) c o (unflagged 0) p o₁
-        (lacks-object S (OfObject ob) c p o o₁ ob refl (room .bool) u) z w y n ew ey en)
+    pub marked-none : o ≤ 6 → x ≡ 0 → (p : Places) (out₁ : List ℕ) → Stood o (putNumber o 0 (stateOf c out)) (stateOf p out₁) c p → (w : Bool) (y : Places) (n : ℕ) → w ≡ true → y ≡ p → n ≡ next
+        → EmittedAt s (emitElement child measure o S (OfObject ob) (stateOf c out) (drop pos (bits s))) pos c 0 w y out₁ n
+    marked-none most z p out₁ u w y n ew ey en =
+        as-element w y out₁ n (part-none o child measure S s plainObject c out pos room whole x next taken h (λ e. (let v : ⊥ = omega arith in v)) (λ e. (let v : ⊥ = omega arith in v)) c out (unflagged 0) p out₁
+        (lacks-object o S (OfObject ob) c p out out₁ most ob refl (room .bool) u) z w y n ew ey en)
 
     pub marked-bad : (x ≡ 1 → ⊥) → (x ≡ 0 → ⊥) → (w : Bool) (q : Places) (n : ℕ) → w ≡ false → q ≡ c → n ≡ pos
-        → EmittedAt s (emitElement child measure u48 S (OfObject ob) (stateOf c o) (drop pos (bits s))) pos c 0 w q o n
+        → EmittedAt s (emitElement child measure o S (OfObject ob) (stateOf c out) (drop pos (bits s))) pos c 0 w q out n
     unfolding emitElement emitPart surveyMark bind unmarked pass
     marked-bad h1 h0 w q n ew eq en =
-        refused s _ pos c 0 (rw (taken .number, not-false whole h) (simp (ne-eqb x 0 h0, ne-eqb x 1 h1) (by (eqb x 2)))) room w q o n ew eq en
+        refused s _ pos c 0 (rw (taken .number, not-false whole h) (simp (ne-eqb x 0 h0, ne-eqb x 1 h1) (by (eqb x 2)))) room w q out n ew eq en
       where
         by : (t : Bool) → _≡_ {A = Parsed State} (pick t fail fail) fail
         by true = refl
@@ -385,63 +384,63 @@ terminal-blob k inplace ob e h = by inplace (subst (λ (q : Kind). isTerminal q 
     by false g = g
 
 -- ---- what is there
-module _ (child : Emitter) (measure : Surveyor) (S : Schema) (s : List ℕ) (k : Kind) (inplace : Bool) (c : Places) (o : List ℕ) (pos : ℕ) (w : Bool) (q : Places) (o₁ : List ℕ) (n : ℕ) where
-  pub body-terminal : (ob : Object) → k ≡ OfObject ob → isTerminal k inplace ≡ true → EmittedAt s (emitRefer child measure u48 S false ob (stateOf c o) (drop pos (bits s))) pos c u48 w q o₁ n
-      → EmittedAt s (emitBody child measure u48 S k inplace (stateOf c o) (drop pos (bits s))) pos c (extra u48 k) w q o₁ n
+module _ (o : ℕ) (child : Emitter) (measure : Surveyor) (S : Schema) (s : List ℕ) (k : Kind) (inplace : Bool) (c : Places) (out : List ℕ) (pos : ℕ) (w : Bool) (q : Places) (out₁ : List ℕ) (n : ℕ) where
+  pub body-terminal : (ob : Object) → k ≡ OfObject ob → isTerminal k inplace ≡ true → EmittedAt s (emitRefer child measure o S false ob (stateOf c out) (drop pos (bits s))) pos c o w q out₁ n
+      → EmittedAt s (emitBody child measure o S k inplace (stateOf c out) (drop pos (bits s))) pos c (extra o k) w q out₁ n
   unfolding isTerminal
   body-terminal ob e h t = by inplace (subst (λ (q : Kind). isTerminal q inplace ≡ true) e h)
     where
-      by : (i : Bool) → (not i && isBlob ob) ≡ true → EmittedAt s (emitBody child measure u48 S k i (stateOf c o) (drop pos (bits s))) pos c (extra u48 k) w q o₁ n
+      by : (i : Bool) → (not i && isBlob ob) ≡ true → EmittedAt s (emitBody child measure o S k i (stateOf c out) (drop pos (bits s))) pos c (extra o k) w q out₁ n
       by true g = never g
-      by false g = body-object child measure S s k false c o pos w q o₁ n ob e t
+      by false g = body-object o child measure S s k false c out pos w q out₁ n ob e t
 
-  pub body-no-terminal : (i : ℕ) → k ≡ OfUnion i → isTerminal k inplace ≡ true → EmittedAt s (emitBody child measure u48 S k inplace (stateOf c o) (drop pos (bits s))) pos c (extra u48 k) w q o₁ n
+  pub body-no-terminal : (i : ℕ) → k ≡ OfUnion i → isTerminal k inplace ≡ true → EmittedAt s (emitBody child measure o S k inplace (stateOf c out) (drop pos (bits s))) pos c (extra o k) w q out₁ n
   unfolding isTerminal
   body-no-terminal i e h = never (subst (λ (q : Kind). isTerminal q inplace ≡ true) e h)
 
-  pub body-no-flat : (f : Flat) → k ≡ OfFlat f → refers k ≡ true → EmittedAt s (emitBody child measure u48 S k inplace (stateOf c o) (drop pos (bits s))) pos c (extra u48 k) w q o₁ n
+  pub body-no-flat : (f : Flat) → k ≡ OfFlat f → refers k ≡ true → EmittedAt s (emitBody child measure o S k inplace (stateOf c out) (drop pos (bits s))) pos c (extra o k) w q out₁ n
   unfolding refers
   body-no-flat f e h = never (subst (λ (q : Kind). refers q ≡ true) e h)
 
 -- ---- with a mark and no flag
-module _ (child : Emitter) (measure : Surveyor) (S : Schema) (s : List ℕ) (k : Kind) (inplace : Bool) (c : Places) (o : List ℕ) (pos : ℕ) (room : Room s pos c)
+module _ (o : ℕ) (child : Emitter) (measure : Surveyor) (S : Schema) (s : List ℕ) (k : Kind) (inplace : Bool) (c : Places) (out : List ℕ) (pos : ℕ) (room : Room s pos c)
     (whole : Bool) (x next : ℕ) (taken : TakenNumber s pos 2 whole x next) where
   abbrev plainPart : Member
   plainPart = record { kind = k; optional = false; inplace = inplace }
 
-  no-bit : (y : ℕ) → BitPut (flagged plainPart y (stateOf c o)) (stateOf c o) c c
+  no-bit : (y : ℕ) → BitPut (flagged plainPart y (stateOf c out)) (stateOf c out) c c
   unfolding hasFlag
-  no-bit y = flag-none plainPart y c o false refl refl (room .bool)
+  no-bit y = flag-none plainPart y c out false refl refl (room .bool)
 
-  as-unflagged : (w : Bool) (q : Places) (o₁ : List ℕ) (n : ℕ) → EmittedAt s (emitMember child measure u48 S plainPart (stateOf c o) (drop pos (bits s))) pos c 0 w q o₁ n
-      → EmittedAt s (emitUnflagged child measure u48 S k inplace (stateOf c o) (drop pos (bits s))) pos c 0 w q o₁ n
+  as-unflagged : (w : Bool) (q : Places) (out₁ : List ℕ) (n : ℕ) → EmittedAt s (emitMember child measure o S plainPart (stateOf c out) (drop pos (bits s))) pos c 0 w q out₁ n
+      → EmittedAt s (emitUnflagged child measure o S k inplace (stateOf c out) (drop pos (bits s))) pos c 0 w q out₁ n
   unfolding emitMember flagged hasFlag emitUnflagged
-  as-unflagged w q o₁ n t = t
+  as-unflagged w q out₁ n t = t
 
   pub unflagged-cut : not whole ≡ true → (w : Bool) (q : Places) (n : ℕ) → w ≡ false → q ≡ c → n ≡ pos
-      → EmittedAt s (emitUnflagged child measure u48 S k inplace (stateOf c o) (drop pos (bits s))) pos c 0 w q o n
-  unflagged-cut h w q n ew eq en = as-unflagged w q o n (part-cut child measure S s plainPart c o pos room whole x next taken h w q n ew eq en)
+      → EmittedAt s (emitUnflagged child measure o S k inplace (stateOf c out) (drop pos (bits s))) pos c 0 w q out n
+  unflagged-cut h w q n ew eq en = as-unflagged w q out n (part-cut o child measure S s plainPart c out pos room whole x next taken h w q n ew eq en)
 
   module _ (h : not whole ≡ false) where
-    pub unflagged-there : x ≡ 1 → (w : Bool) (q : Places) (o₂ : List ℕ) (n : ℕ) → EmittedAt s (emitBody child measure u48 S k inplace (stateOf c o) (drop next (bits s))) next c (extra u48 k) w q o₂ n
-        → EmittedAt s (emitUnflagged child measure u48 S k inplace (stateOf c o) (drop pos (bits s))) pos c 0 w q o₂ n
-    unflagged-there z w q o₂ n t = as-unflagged w q o₂ n (part-there child measure S s plainPart c o pos room whole x next taken h z c o (no-bit 1) w q o₂ n t)
+    pub unflagged-there : o ≤ 6 → x ≡ 1 → (w : Bool) (q : Places) (out₂ : List ℕ) (n : ℕ) → EmittedAt s (emitBody child measure o S k inplace (stateOf c out) (drop next (bits s))) next c (extra o k) w q out₂ n
+        → EmittedAt s (emitUnflagged child measure o S k inplace (stateOf c out) (drop pos (bits s))) pos c 0 w q out₂ n
+    unflagged-there most z w q out₂ n t = as-unflagged w q out₂ n (part-there o child measure S s plainPart c out pos room whole x next taken h most z c out (no-bit 1) w q out₂ n t)
 
     module _ (h1 : x ≡ 1 → ⊥) where
       pub unflagged-bad : x ≡ 3 → (w : Bool) (q : Places) (n : ℕ) → w ≡ false → q ≡ c → n ≡ pos
-          → EmittedAt s (emitUnflagged child measure u48 S k inplace (stateOf c o) (drop pos (bits s))) pos c 0 w q o n
-      unflagged-bad z w q n ew eq en = as-unflagged w q o n (part-bad child measure S s plainPart c o pos room whole x next taken h h1 z w q n ew eq en)
+          → EmittedAt s (emitUnflagged child measure o S k inplace (stateOf c out) (drop pos (bits s))) pos c 0 w q out n
+      unflagged-bad z w q n ew eq en = as-unflagged w q out n (part-bad o child measure S s plainPart c out pos room whole x next taken h h1 z w q n ew eq en)
 
-      module _ (h3 : x ≡ 3 → ⊥) (q : Places) (o₂ : List ℕ) (l : Lacks (lack u48 S k (stateOf c o)) (stateOf q o₂) c q) where
+      module _ (h3 : x ≡ 3 → ⊥) (q : Places) (out₂ : List ℕ) (l : Lacks (lack o S k (stateOf c out)) (stateOf q out₂) c q) where
         pub unflagged-none : x ≡ 0 → (w : Bool) (y : Places) (n : ℕ) → w ≡ true → y ≡ q → n ≡ next
-            → EmittedAt s (emitUnflagged child measure u48 S k inplace (stateOf c o) (drop pos (bits s))) pos c 0 w y o₂ n
+            → EmittedAt s (emitUnflagged child measure o S k inplace (stateOf c out) (drop pos (bits s))) pos c 0 w y out₂ n
         unflagged-none z w y n ew ey en =
-            as-unflagged w y o₂ n (part-none child measure S s plainPart c o pos room whole x next taken h h1 h3 c o (no-bit 0) q o₂ l z w y n ew ey en)
+            as-unflagged w y out₂ n (part-none o child measure S s plainPart c out pos room whole x next taken h h1 h3 c out (no-bit 0) q out₂ l z w y n ew ey en)
 
-        pub unflagged-pass : (x ≡ 0 → ⊥) → (w : Bool) (y : Places) (o₃ : List ℕ) (n : ℕ) → EmittedAt s (pass S k (stateOf q o₂) (drop next (bits s))) next q 0 w y o₃ n
-            → EmittedAt s (emitUnflagged child measure u48 S k inplace (stateOf c o) (drop pos (bits s))) pos c 0 w y o₃ n
-        unflagged-pass h0 w y o₃ n t =
-            as-unflagged w y o₃ n (part-pass child measure S s plainPart c o pos room whole x next taken h h1 h3 c o (no-bit 0) q o₂ l h0 w y o₃ n t)
+        pub unflagged-pass : (x ≡ 0 → ⊥) → (w : Bool) (y : Places) (out₃ : List ℕ) (n : ℕ) → EmittedAt s (pass S k (stateOf q out₂) (drop next (bits s))) next q 0 w y out₃ n
+            → EmittedAt s (emitUnflagged child measure o S k inplace (stateOf c out) (drop pos (bits s))) pos c 0 w y out₃ n
+        unflagged-pass h0 w y out₃ n t =
+            as-unflagged w y out₃ n (part-pass o child measure S s plainPart c out pos room whole x next taken h h1 h3 c out (no-bit 0) q out₂ l h0 w y out₃ n t)
 
 -- behind what stands for no value
 pub room-lacked : (s : List ℕ) (pos : ℕ) (c : Places) → Room s pos c → (whole : Bool) (x next : ℕ) → TakenNumber s pos 2 whole x next → not whole ≡ false
@@ -461,21 +460,21 @@ no-flag r h = by (r .kind) (r .optional) h
     by (OfUnion i) true g = unfold takesFlag in refl
     by (OfUnion i) false g = refl
 
-pub unflagged-member : (child : Emitter) (measure : Surveyor) (S : Schema) (s : List ℕ) (r : Member) → refers (r .kind) ≡ true → (st : State) (xs : List ℕ) (pos : ℕ) (c : Places)
-    (w : Bool) (q : Places) (o₁ : List ℕ) (n : ℕ) → EmittedAt s (emitUnflagged child measure u48 S (r .kind) (r .inplace) st xs) pos c 0 w q o₁ n
-    → EmittedAt s (emitMember child measure u48 S r st xs) pos c 0 w q o₁ n
+pub unflagged-member : (o : ℕ) (child : Emitter) (measure : Surveyor) (S : Schema) (s : List ℕ) (r : Member) → refers (r .kind) ≡ true → (st : State) (xs : List ℕ) (pos : ℕ) (c : Places)
+    (w : Bool) (q : Places) (out₁ : List ℕ) (n : ℕ) → EmittedAt s (emitUnflagged child measure o S (r .kind) (r .inplace) st xs) pos c 0 w q out₁ n
+    → EmittedAt s (emitMember child measure o S r st xs) pos c 0 w q out₁ n
 unfolding emitMember emitUnflagged flagged
-unflagged-member child measure S s r h st xs pos c w q o₁ n t = rw (no-flag r h) t
+unflagged-member o child measure S s r h st xs pos c w q out₁ n t = rw (no-flag r h) t
 
 -- ---- elements with a mark
-module _ (child : Emitter) (measure : Surveyor) (S : Schema) (s : List ℕ) (k : Kind) (h : unmarked k ≡ false) (c : Places) (o : List ℕ) (pos : ℕ) (w : Bool) (q : Places) (o₁ : List ℕ) (n : ℕ) where
-  pub element-flat : (f : Flat) → k ≡ OfFlat f → EmittedAt s (emitMarkedFlat S f (stateOf c o) (drop pos (bits s))) pos c 0 w q o₁ n
-      → EmittedAt s (emitElement child measure u48 S k (stateOf c o) (drop pos (bits s))) pos c 0 w q o₁ n
+module _ (o : ℕ) (child : Emitter) (measure : Surveyor) (S : Schema) (s : List ℕ) (k : Kind) (h : unmarked k ≡ false) (c : Places) (out : List ℕ) (pos : ℕ) (w : Bool) (q : Places) (out₁ : List ℕ) (n : ℕ) where
+  pub element-flat : (f : Flat) → k ≡ OfFlat f → EmittedAt s (emitMarkedFlat S f (stateOf c out) (drop pos (bits s))) pos c 0 w q out₁ n
+      → EmittedAt s (emitElement child measure o S k (stateOf c out) (drop pos (bits s))) pos c 0 w q out₁ n
   unfolding emitElement emitPart emitMarkedFlat surveyMark lack pass emitBody
   element-flat f e t = rw (h, e) t
 
-  pub element-refers : EmittedAt s (emitUnflagged child measure u48 S k false (stateOf c o) (drop pos (bits s))) pos c 0 w q o₁ n
-      → EmittedAt s (emitElement child measure u48 S k (stateOf c o) (drop pos (bits s))) pos c 0 w q o₁ n
+  pub element-refers : EmittedAt s (emitUnflagged child measure o S k false (stateOf c out) (drop pos (bits s))) pos c 0 w q out₁ n
+      → EmittedAt s (emitElement child measure o S k (stateOf c out) (drop pos (bits s))) pos c 0 w q out₁ n
   unfolding emitElement emitUnflagged
   element-refers t = rw h t
 

@@ -8,7 +8,6 @@ use lib.ListN.{length, take, drop, length-drop}
 use lib.Dec.{leb}
 use borrow.Author.Tests.{leb-true, not-false}
 use Rattle.coding.specs.Lists.{pick}
-use Rattle.coding.specs.Bytes.{u48}
 use Rattle.coding.specs.Walk.{headerSize}
 use Rattle.coding.specs.Bits.{bits, value}
 use Rattle.coding.specs.Sheet.{Parsed, fail, got, takeNumber}
@@ -113,9 +112,9 @@ module _ (s : List ℕ) (pos : ℕ) (c : Places) (room : Room s pos c) (whole : 
       }
 
 -- in a content that was opened
-pub room-open : (s : List ℕ) (pos : ℕ) (c : Places) → Room s pos c → (put now : State) (q : Places) → Opens u48 put now q → Room s pos q
-unfolding headerSize u48
-room-open s pos c room put now q t =
+pub room-open : (s : List ℕ) (pos : ℕ) (c : Places) → Room s pos c → (o : ℕ) (put now : State) (q : Places) → Opens o put now q → o ≤ 6 → Room s pos q
+unfolding headerSize
+room-open s pos c room o put now q t most =
     let a = room .short in
     let f = t .at in
     record { short = room .short; here = room .here; at = omega arith; bool = t .bool; tail = t .tail; next = t .next }
@@ -154,8 +153,8 @@ refused s p pos c e h room w q out n ew eq en =
       next = rw eq (room .next);
     }
 
-pub extra-most : (k : Kind) → extra u48 k ≤ 6
-unfolding extra u48
-extra-most (OfFlat f) = omega arith
-extra-most (OfObject ob) = omega arith
-extra-most (OfUnion i) = omega arith
+pub extra-most : (o : ℕ) → o ≤ 6 → (k : Kind) → extra o k ≤ 6
+unfolding extra
+extra-most o most (OfFlat f) = omega arith
+extra-most o most (OfObject ob) = most
+extra-most o most (OfUnion i) = most

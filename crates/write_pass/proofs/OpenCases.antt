@@ -4,7 +4,7 @@ use mathlib.Core.Bool.{Bool, true, false}
 use mathlib.Core.List.{List}
 use Prim.Native.Nat.{ℕ, _+_, _^_, _<_, _≤_}
 use native.Mathlib.Omega.{arith}
-use Rattle.coding.specs.Bytes.{u48, largest}
+use Rattle.coding.specs.Bytes.{largest}
 use Rattle.coding.specs.Schema as Sc
 use Rattle.coding.specs.Schema.{Schema}
 use Rattle.coding.specs.Layout.{hasFlag}
@@ -32,14 +32,14 @@ module _ (inplace : Bool) (c i r : Places) where
   closed-object e h = rw e h
 
 -- ---- flags
-module _ (m : Member) (x : ℕ) (c q : Places) (o o₁ : List ℕ) (t : Bool) (et : t ≡ hasFlag m) where
-  pub flag-some : t ≡ true → BitPut (putBit x (stateOf c o)) (stateOf q o₁) c q → BitPut (flagged m x (stateOf c o)) (stateOf q o₁) c q
+module _ (m : Member) (x : ℕ) (c q : Places) (out out₁ : List ℕ) (t : Bool) (et : t ≡ hasFlag m) where
+  pub flag-some : t ≡ true → BitPut (putBit x (stateOf c out)) (stateOf q out₁) c q → BitPut (flagged m x (stateOf c out)) (stateOf q out₁) c q
   unfolding flagged
   flag-some h p = rw (← et, h) p
 
-pub flag-none : (m : Member) (x : ℕ) (c : Places) (o : List ℕ) (t : Bool) → t ≡ hasFlag m → t ≡ false → HeldOk c → BitPut (flagged m x (stateOf c o)) (stateOf c o) c c
+pub flag-none : (m : Member) (x : ℕ) (c : Places) (out : List ℕ) (t : Bool) → t ≡ hasFlag m → t ≡ false → HeldOk c → BitPut (flagged m x (stateOf c out)) (stateOf c out) c c
 unfolding flagged
-flag-none m x c o t et h ok = rw (← et, h) (record { is = refl; bool = ok; at = omega arith; tail = refl; next = refl })
+flag-none m x c out t et h ok = rw (← et, h) (record { is = refl; bool = ok; at = omega arith; tail = refl; next = refl })
 
 -- ---- magics
 module _ (S : Schema) (ob : Object) where
@@ -60,12 +60,12 @@ module _ (S : Schema) (ob : Object) where
   magic-table i j r e ej er = rw (e, ← ej) er
 
 -- ---- references
-module _ (inplace : Bool) (x : Extent) (c r : Places) (o o₁ : List ℕ) where
-  pub referred-content : inplace ≡ true → Stood u48 (putNumber u48 (x .length) (stateOf c o)) (stateOf r o₁) c r → Stood u48 (referred u48 inplace x (stateOf c o)) (stateOf r o₁) c r
+module _ (o : ℕ) (inplace : Bool) (x : Extent) (c r : Places) (out out₁ : List ℕ) where
+  pub referred-content : inplace ≡ true → Stood o (putNumber o (x .length) (stateOf c out)) (stateOf r out₁) c r → Stood o (referred o inplace x (stateOf c out)) (stateOf r out₁) c r
   unfolding referred
   referred-content e t = rw e t
 
-  pub referred-object : inplace ≡ false → Stood u48 (putNumber u48 (c .next) (stateOf c o)) (stateOf r o₁) c r → Stood u48 (referred u48 inplace x (stateOf c o)) (stateOf r o₁) c r
+  pub referred-object : inplace ≡ false → Stood o (putNumber o (c .next) (stateOf c out)) (stateOf r out₁) c r → Stood o (referred o inplace x (stateOf c out)) (stateOf r out₁) c r
   unfolding referred
   referred-object e t = rw e t
 
@@ -82,16 +82,17 @@ module _ (c q : Places) (w chain : ℕ) (eq : q ≡ enteredObject w chain c) (l 
   unfolding enteredObject
   entered-header put now h t = let e = ap (λ (p : Places). p .at) eq in let f = t .at in omega arith
 
-pub header-put : (mg : ℕ) (x : Extent) (c q h r : Places) (o o₁ o₂ : List ℕ) → c .next ≤ 16777216
-    → q ≡ enteredObject (10 + x .width) (x .chain) c → Stood 4 (putNumber 4 mg (stateOf q o)) (stateOf h o₁) q h
-    → Stood u48 (putNumber u48 (x .length) (stateOf h o₁)) (stateOf r o₂) h r → Opens u48 (headed u48 mg x (stateOf c o)) (stateOf r o₂) r
-unfolding headed enterObject enteredObject headerSize u48 largest
-header-put mg x c q h r o o₁ o₂ l eq t u =
+pub header-put : (o mg : ℕ) (x : Extent) (c q h r : Places) (out out₁ out₂ : List ℕ) → c .next ≤ 16777216
+    → (size : ℕ) → size ≡ 4 + o → q ≡ enteredObject (size + x .width) (x .chain) c → Stood 4 (putNumber 4 mg (stateOf q out)) (stateOf h out₁) q h
+    → Stood o (putNumber o (x .length) (stateOf h out₁)) (stateOf r out₂) h r → Opens o (headed o mg x (stateOf c out)) (stateOf r out₂) r
+unfolding headed enterObject enteredObject headerSize largest
+header-put o mg x c q h r out out₁ out₂ l size es en₀ t u =
+    let eq : q ≡ enteredObject (4 + o + x .width) (x .chain) c = en₀ ∙ ap (λ (n : ℕ). enteredObject (n + x .width) (x .chain) c) es in
     let ea = ap (λ (p : Places). p .at) eq in
     let et = ap (λ (p : Places). p .tail) eq in
     let en = ap (λ (p : Places). p .next) eq in
-    let mt = capped-most (c .next + (10 + x .width)) in
-    let mn = capped-most (c .next + (10 + x .width) + x .chain) in
+    let mt = capped-most (c .next + (4 + o + x .width)) in
+    let mn = capped-most (c .next + (4 + o + x .width) + x .chain) in
     let ha = t .at in
     let ht = t .tail in
     let hn = t .next in
@@ -99,39 +100,39 @@ header-put mg x c q h r o o₁ o₂ l eq t u =
     let rt = u .tail in
     let rn = u .next in
     record {
-      is = u .is ∙ ap (putNumber u48 (x .length)) (t .is ∙ ap (λ (p : Places). putNumber 4 mg (stateOf p o)) eq);
+      is = u .is ∙ ap (putNumber o (x .length)) (t .is ∙ ap (λ (p : Places). putNumber 4 mg (stateOf p out)) eq);
       bool = held-none r (u .free ∙ t .free ∙ ap (λ (p : Places). p .free) eq) (u .held ∙ t .held ∙ ap (λ (p : Places). p .held) eq);
       at = omega arith;
       tail = omega arith;
       next = omega arith;
     }
 
-pub object-opened : (S : Schema) (ob : Object) (x : Extent) (c r : Places) (o o₁ : List ℕ) (mg : ℕ) → mg ≡ magic S ob
-    → Opens u48 (headed u48 mg x (stateOf c o)) (stateOf r o₁) r → Opens u48 (openObject u48 S ob x (stateOf c o)) (stateOf r o₁) r
+pub object-opened : (o : ℕ) (S : Schema) (ob : Object) (x : Extent) (c r : Places) (out out₁ : List ℕ) (mg : ℕ) → mg ≡ magic S ob
+    → Opens o (headed o mg x (stateOf c out)) (stateOf r out₁) r → Opens o (openObject o S ob x (stateOf c out)) (stateOf r out₁) r
 unfolding headed openObject
-object-opened S ob x c r o o₁ mg em t = subst (λ (m : ℕ). Opens u48 (headed u48 m x (stateOf c o)) (stateOf r o₁) r) em t
+object-opened o S ob x c r out out₁ mg em t = subst (λ (m : ℕ). Opens o (headed o m x (stateOf c out)) (stateOf r out₁) r) em t
 
-module _ (S : Schema) (ob : Object) (inplace : Bool) (x : Extent) (c r : Places) where
-  pub opened-content : inplace ≡ true → c .tail ≤ 16777216 → c .next ≤ 16777216 → r ≡ enteredContent (x .width) c → (o : List ℕ)
-      → Opens u48 (opened u48 S ob inplace x (stateOf c o)) (stateOf r o) r
+module _ (o : ℕ) (S : Schema) (ob : Object) (inplace : Bool) (x : Extent) (c r : Places) where
+  pub opened-content : inplace ≡ true → c .tail ≤ 16777216 → c .next ≤ 16777216 → r ≡ enteredContent (x .width) c → (out : List ℕ)
+      → Opens o (opened o S ob inplace x (stateOf c out)) (stateOf r out) r
   unfolding opened enterContent enteredContent largest
-  opened-content e lt ln er o =
+  opened-content e lt ln er out =
       let ea = ap (λ (p : Places). p .at) er in
       let et = ap (λ (p : Places). p .tail) er in
       let en = ap (λ (p : Places). p .next) er in
       let mt = capped-most (c .tail + x .width) in
       rw e (record {
-        is = ap (λ (p : Places). stateOf p o) er;
+        is = ap (λ (p : Places). stateOf p out) er;
         bool = held-none r (ap (λ (p : Places). p .free) er) (ap (λ (p : Places). p .held) er);
         at = omega arith;
         tail = omega arith;
         next = omega arith;
       })
 
-  pub opened-object : inplace ≡ false → (o o₁ : List ℕ) → Opens u48 (openObject u48 S ob x (stateOf c o)) (stateOf r o₁) r
-      → Opens u48 (opened u48 S ob inplace x (stateOf c o)) (stateOf r o₁) r
+  pub opened-object : inplace ≡ false → (out out₁ : List ℕ) → Opens o (openObject o S ob x (stateOf c out)) (stateOf r out₁) r
+      → Opens o (opened o S ob inplace x (stateOf c out)) (stateOf r out₁) r
   unfolding opened
-  opened-object e o o₁ t = rw e t
+  opened-object e out out₁ t = rw e t
 
 -- ---- texts and bytes by their offset
 module _ (ob : Object) (h : isBlob ob ≡ true) where
@@ -149,6 +150,6 @@ module _ (ob : Object) (h : isBlob ob ≡ true) where
   pub magic-no-table : (S : Schema) (i : ℕ) → ob ≡ O.Table i → 0 ≡ magic S ob
   magic-no-table S i e = absurd (not-table i e)
 
-pub terminal-opened : (S : Schema) (ob : Object) (x : Extent) (c r : Places) (o o₁ : List ℕ) (mg : ℕ) → mg ≡ magic S ob
-    → Opens u48 (headed u48 mg x (stateOf c o)) (stateOf r o₁) r → Opens u48 (opened u48 S ob false x (stateOf c o)) (stateOf r o₁) r
-terminal-opened S ob x c r o o₁ mg em t = opened-object S ob false x c r refl o o₁ (object-opened S ob x c r o o₁ mg em t)
+pub terminal-opened : (o : ℕ) (S : Schema) (ob : Object) (x : Extent) (c r : Places) (out out₁ : List ℕ) (mg : ℕ) → mg ≡ magic S ob
+    → Opens o (headed o mg x (stateOf c out)) (stateOf r out₁) r → Opens o (opened o S ob false x (stateOf c out)) (stateOf r out₁) r
+terminal-opened o S ob x c r out out₁ mg em t = opened-object o S ob false x c r refl out out₁ (object-opened o S ob x c r out out₁ mg em t)

@@ -8,7 +8,7 @@ use lib.ListN.{drop}
 use lib.Seq.{sets}
 use borrow.Author.Tests.{eq-eqb, ne-eqb, not-true, not-false}
 use Rattle.coding.specs.Lists.{pick}
-use Rattle.coding.specs.Bytes.{u48, leBytes}
+use Rattle.coding.specs.Bytes.{leBytes}
 use Rattle.coding.specs.Bits.{bits}
 use Rattle.coding.specs.Schema as Sc
 use Rattle.coding.specs.Schema.{Schema}
@@ -269,12 +269,12 @@ module _ (k : Kind) (w : ℕ) (ew : w ≡ integerWidth k) where
       by S (OfObject ob) g = unfold integerWidth in omega arith
       by S (OfUnion u) g = unfold integerWidth in omega arith
 
-  pub list-octets : w ≡ 1 → (child : Emitter) (measure : Surveyor) (S : Schema) (s : List ℕ) (i : ℕ) → k ≡ Sc.elementOf S i → (c : Places) (o : List ℕ) (pos : ℕ)
-      → (t : Bool) (q : Places) (o₁ : List ℕ) (m : ℕ) → EmittedAt s (emitBlob [] (stateOf c o) (drop pos (bits s))) pos c 0 t q o₁ m
-      → EmittedAt s (emitContent child measure u48 S (O.List i) (stateOf c o) (drop pos (bits s))) pos c 0 t q o₁ m
-  list-octets h child measure S s i ek c o pos t q o₁ m em =
+  pub list-octets : w ≡ 1 → (o : ℕ) (child : Emitter) (measure : Surveyor) (S : Schema) (s : List ℕ) (i : ℕ) → k ≡ Sc.elementOf S i → (c : Places) (out : List ℕ) (pos : ℕ)
+      → (t : Bool) (q : Places) (out₁ : List ℕ) (m : ℕ) → EmittedAt s (emitBlob [] (stateOf c out) (drop pos (bits s))) pos c 0 t q out₁ m
+      → EmittedAt s (emitContent child measure o S (O.List i) (stateOf c out) (drop pos (bits s))) pos c 0 t q out₁ m
+  list-octets h o child measure S s i ek c out pos t q out₁ m em =
       record {
-        is = octets-blob child measure u48 S i (ap integerWidth (sym ek) ∙ sym ew ∙ h) (stateOf c o) (drop pos (bits s)) (all-drop Bit pos (bits s) (bits-bits s)) ∙ em .is;
+        is = octets-blob child measure o S i (ap integerWidth (sym ek) ∙ sym ew ∙ h) (stateOf c out) (drop pos (bits s)) (all-drop Bit pos (bits s) (bits-bits s)) ∙ em .is;
         here = em .here;
         at = em .at;
         bool = em .bool;
@@ -282,21 +282,21 @@ module _ (k : Kind) (w : ℕ) (ew : w ≡ integerWidth k) where
         next = em .next;
       }
 
-  pub list-run : (b dir : List ℕ) → Accepted b dir → (t₀ : Bool) → t₀ ≡ unmarked k → t₀ ≡ true → (child : Emitter) (measure : Surveyor) (s : List ℕ) (i : ℕ) → k ≡ Sc.elementOf (parse b) i
-      → (c : Places) (o : List ℕ) (pos : ℕ) → Room s pos c → (whole : Bool) (n first : ℕ) → TakenNumber s pos 32 whole n first → not whole ≡ false
-      → (t : Bool) (q : Places) (o₁ : List ℕ) (m : ℕ) → EmittedAt s (emitUnmarked w n (stateOf c o) (drop first (bits s))) first c 0 t q o₁ m
-      → EmittedAt s (emitContent child measure u48 (parse b) (O.List i) (stateOf c o) (drop pos (bits s))) pos c 0 t q o₁ m
-  list-run b dir acc t₀ e₀ h child measure s i ek c o pos room whole n first taken f t q o₁ m em =
+  pub list-run : (b dir : List ℕ) → Accepted b dir → (t₀ : Bool) → t₀ ≡ unmarked k → t₀ ≡ true → (o : ℕ) (child : Emitter) (measure : Surveyor) (s : List ℕ) (i : ℕ) → k ≡ Sc.elementOf (parse b) i
+      → (c : Places) (out : List ℕ) (pos : ℕ) → Room s pos c → (whole : Bool) (n first : ℕ) → TakenNumber s pos 32 whole n first → not whole ≡ false
+      → (t : Bool) (q : Places) (out₁ : List ℕ) (m : ℕ) → EmittedAt s (emitUnmarked w n (stateOf c out) (drop first (bits s))) first c 0 t q out₁ m
+      → EmittedAt s (emitContent child measure o (parse b) (O.List i) (stateOf c out) (drop pos (bits s))) pos c 0 t q out₁ m
+  list-run b dir acc t₀ e₀ h o child measure s i ek c out pos room whole n first taken f t q out₁ m em =
       let e = taken-at s pos 32 whole n first taken (room .here) f in
       let a = em .at in
       record { is = is; here = em .here; at = omega arith; bool = em .bool; tail = em .tail; next = em .next }
     where
-      first-is : emitContent child measure u48 (parse b) (O.List i) (stateOf c o) (drop pos (bits s)) ≡ emitElements child measure u48 (parse b) k n (stateOf c o) (drop first (bits s))
+      first-is : emitContent child measure o (parse b) (O.List i) (stateOf c out) (drop pos (bits s)) ≡ emitElements child measure o (parse b) k n (stateOf c out) (drop first (bits s))
       first-is =
           unfold emitContent bind in
-          rw (taken .number, not-false whole f) (ap (λ (j : Kind). emitElements child measure u48 (parse b) j n (stateOf c o) (drop first (bits s))) (sym ek))
+          rw (taken .number, not-false whole f) (ap (λ (j : Kind). emitElements child measure o (parse b) j n (stateOf c out) (drop first (bits s))) (sym ek))
 
-      is : emitContent child measure u48 (parse b) (O.List i) (stateOf c o) (drop pos (bits s)) ≡ pick t (got (stateOf q o₁) (drop m (bits s))) fail
+      is : emitContent child measure o (parse b) (O.List i) (stateOf c out) (drop pos (bits s)) ≡ pick t (got (stateOf q out₁) (drop m (bits s))) fail
       is =
-          first-is ∙ unmarked-run child measure u48 (parse b) k (element-sound b dir acc i k ek) (sym e₀ ∙ h) n (stateOf c o) (drop first (bits s))
-          ∙ ap (λ (v : ℕ). emitUnmarked v n (stateOf c o) (drop first (bits s))) (sym ew) ∙ em .is
+          first-is ∙ unmarked-run child measure o (parse b) k (element-sound b dir acc i k ek) (sym e₀ ∙ h) n (stateOf c out) (drop first (bits s))
+          ∙ ap (λ (v : ℕ). emitUnmarked v n (stateOf c out) (drop first (bits s))) (sym ew) ∙ em .is

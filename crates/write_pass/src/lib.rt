@@ -34,7 +34,7 @@ ghost use Rattle.write_measure.specs.SurveyBy.{Inside};
 ghost use Rattle.write_pass.specs.EmitBy as By;
 ghost use Rattle.write_pass.specs.Emitting as Eg;
 ghost use Rattle.write_pass.specs.Emitting.{Room, EmittedAt};
-ghost use Rattle.wire.specs.Sizes.{WithinSize};
+ghost use Rattle.wire.specs.Sizes.{WithinSize, Width};
 
 // ---- flat values: bools, numbers, enums and structs, which lead to no object
 // Whether a part of the sheet is lawful; if so, where the message goes on behind it, and where the sheet does. The bool stands
@@ -278,14 +278,14 @@ fn lack_flat(b: &[u8], dir: &[u16], out: &mut [u8], k: Flat, c: Places) -> Place
 }
 
 // What stands for a member or an element that is absent.
-fn lack(b: &[u8], dir: &[u16], out: &mut [u8], k: Kind, c: Places) -> Places
-    requires { ⌜ (Accepted (now b) (now dir)) × (KindSound (P.parse (now b)) k) × HeldOk c × (c .at < 2 ^ 61) ⌝ }
-    ensures { λ r. ⌜ Eg.Lacks (Es.lack B.u48 (P.parse (now (b .entry))) k (stateOf c (now (out .entry)))) (stateOf r (now (out .exit))) c r ⌝ }
+fn lack(b: &[u8], dir: &[u16], out: &mut [u8], k: Kind, c: Places, o: usize) -> Places
+    requires { ⌜ (Accepted (now b) (now dir)) × (Width o) × (KindSound (P.parse (now b)) k) × HeldOk c × (c .at < 2 ^ 61) ⌝ }
+    ensures { λ r. ⌜ Eg.Lacks (Es.lack o (P.parse (now (b .entry))) k (stateOf c (now (out .entry)))) (stateOf r (now (out .exit))) c r ⌝ }
 {
     match k {
         Kind::OfFlat(f) => lack_flat(b, dir, out, f, c),
-        Kind::OfObject(_) => write_store::put_offset(out, c, 0),
-        Kind::OfUnion(_) => write_store::put_number(out, c, wire::UNION, 0),
+        Kind::OfObject(_) => write_store::put_offset(out, c, 0, o),
+        Kind::OfUnion(_) => write_store::put_number(out, c, wire::union_size(o), 0),
     }
 }
 
@@ -567,34 +567,42 @@ fn object_magic(b: &[u8], dir: &[u16], ob: Object) -> u64
 }
 
 // What refers to an object: its offset, or its length in place.
-fn put_reference(out: &mut [u8], inplace: bool, e: Extent, c: Places) -> Places
-    requires { ⌜ c .at < 2 ^ 61 ⌝ }
-    ensures { λ r. ⌜ Stood B.u48 (Eg.referred B.u48 inplace e (stateOf c (now (out .entry)))) (stateOf r (now (out .exit))) c r ⌝ }
+fn put_reference(out: &mut [u8], inplace: bool, e: Extent, c: Places, o: usize) -> Places
+    requires { ⌜ (Width o) × (c .at < 2 ^ 61) ⌝ }
+    ensures { λ r. ⌜ Stood o (Eg.referred o inplace e (stateOf c (now (out .entry)))) (stateOf r (now (out .exit))) c r ⌝ }
 {
     if inplace {
-        return write_store::put_offset(out, c, e.length as u64);
+        return write_store::put_offset(out, c, e.length as u64, o);
     }
     let x = c.next as u64;
-    write_store::put_offset(out, c, x)
+    write_store::put_offset(out, c, x, o)
 }
 
 // A header at the next object's place, by the object's magic and extent; behind it the content goes on. All types of objects
 // have headers of one size.
-fn put_header(out: &mut [u8], magic: u64, e: Extent, c: Places) -> Places
-    requires { ⌜ (Small e) × (c .next ≤ 16777216) ⌝ }
-    ensures { λ r. ⌜ Eg.Opens B.u48 (Eg.headed B.u48 magic e (stateOf c (now (out .entry)))) (stateOf r (now (out .exit))) r ⌝ }
+fn put_header(out: &mut [u8], magic: u64, e: Extent, c: Places, o: usize) -> Places
+    requires { ⌜ (Width o) × (Small e) × (c .next ≤ 16777216) ⌝ }
+    ensures { λ r. ⌜ Eg.Opens o (Eg.headed o magic e (stateOf c (now (out .entry)))) (stateOf r (now (out .exit))) r ⌝ }
 {
-    let q = write_store::enter_object(c, TableObject::HEADER + e.width, e.chain);
+    let q = write_store::enter_object(c, TableObject::header_size(o) + e.width, e.chain);
     let h = write_store::put_number(out, q, 4, magic);
-    write_store::put_offset(out, h, e.length as u64)
+    write_store::put_offset(out, h, e.length as u64, o)
 }
 
 // An object's header, at the next object's place; behind it the content goes on.
-fn open_object(b: &[u8], dir: &[u16], out: &mut [u8], ob: Object, e: Extent, c: Places) -> Places
-    requires { ⌜ (Accepted (now b) (now dir)) × (ObjectSound (P.parse (now b)) ob) × (Small e) × (c .next ≤ 16777216) ⌝ }
-    ensures { λ r. ⌜ Eg.Opens B.u48 (Es.openObject B.u48 (P.parse (now (b .entry))) ob e (stateOf c (now (out .entry)))) (stateOf r (now (out .exit))) r ⌝ }
+fn open_object(
+    b: &[u8],
+    dir: &[u16],
+    out: &mut [u8],
+    ob: Object,
+    e: Extent,
+    c: Places,
+    o: usize,
+) -> Places
+    requires { ⌜ (Accepted (now b) (now dir)) × (Width o) × (ObjectSound (P.parse (now b)) ob) × (Small e) × (c .next ≤ 16777216) ⌝ }
+    ensures { λ r. ⌜ Eg.Opens o (Es.openObject o (P.parse (now (b .entry))) ob e (stateOf c (now (out .entry)))) (stateOf r (now (out .exit))) r ⌝ }
 {
-    put_header(out, object_magic(b, dir, ob), e, c)
+    put_header(out, object_magic(b, dir, ob), e, c, o)
 }
 
 // Where the content is stored: c is behind what refers to it.
@@ -606,14 +614,15 @@ fn open(
     inplace: bool,
     e: Extent,
     c: Places,
+    o: usize,
 ) -> Places
-    requires { ⌜ (Accepted (now b) (now dir)) × (ObjectSound (P.parse (now b)) ob) × (Small e) × (c .next ≤ 16777216) × (c .tail ≤ 16777216) ⌝ }
-    ensures { λ r. ⌜ Eg.Opens B.u48 (Eg.opened B.u48 (P.parse (now (b .entry))) ob inplace e (stateOf c (now (out .entry)))) (stateOf r (now (out .exit))) r ⌝ }
+    requires { ⌜ (Accepted (now b) (now dir)) × (Width o) × (ObjectSound (P.parse (now b)) ob) × (Small e) × (c .next ≤ 16777216) × (c .tail ≤ 16777216) ⌝ }
+    ensures { λ r. ⌜ Eg.Opens o (Eg.opened o (P.parse (now (b .entry))) ob inplace e (stateOf c (now (out .entry)))) (stateOf r (now (out .exit))) r ⌝ }
 {
     if inplace {
         return write_store::enter_content(c, e.width);
     }
-    open_object(b, dir, out, ob, e, c)
+    open_object(b, dir, out, ob, e, c, o)
 }
 
 // Back from the content: c is behind what refers to it.
@@ -666,14 +675,14 @@ fn measure_blob(s: &[u8], pos: usize, more: usize) -> Extent
 }
 
 // The extent of list i.
-fn measure_list(b: &[u8], dir: &[u16], s: &[u8], i: usize, pos: usize) -> Extent
-    requires { ⌜ (Accepted (now b) (now dir)) × (i < P.listCount (now b)) × Inside (now s) pos ⌝ }
-    ensures { λ r. ⌜ MeasuredContent B.u48 (P.parse (now (b .entry))) (Object.List i) (drop pos (bits (now (s .entry)))) r ⌝ }
+fn measure_list(b: &[u8], dir: &[u16], s: &[u8], i: usize, pos: usize, o: usize) -> Extent
+    requires { ⌜ (Accepted (now b) (now dir)) × (Width o) × (i < P.listCount (now b)) × Inside (now s) pos ⌝ }
+    ensures { λ r. ⌜ MeasuredContent o (P.parse (now (b .entry))) (Object.List i) (drop pos (bits (now (s .entry)))) r ⌝ }
 {
     let x = bitio::take_number(s, pos, 32);
     let n = x.value as usize;
     let k = schema::element(b, dir, i);
-    write_measure::opened(n, message_layout::elements_size(b, dir, k, n))
+    write_measure::opened(n, message_layout::elements_size(b, dir, k, n, o))
 }
 
 // The extent of table t. Only where something may stand in place behind it is its content surveyed.
@@ -685,16 +694,17 @@ fn measure_table(
     t: u8,
     inplace: bool,
     pos: usize,
+    o: usize,
 ) -> Extent
-    requires { ⌜ (Accepted (now b) (now dir)) × (ObjectSound (P.parse (now b)) (Object.Table t)) × Inside (now s) pos ⌝ }
-    ensures { λ r. ⌜ By.Measures B.u48 d (now (b .entry)) inplace (Object.Table t) (now (s .entry)) pos r ⌝ }
+    requires { ⌜ (Accepted (now b) (now dir)) × (Width o) × (ObjectSound (P.parse (now b)) (Object.Table t)) × Inside (now s) pos ⌝ }
+    ensures { λ r. ⌜ By.Measures o d (now (b .entry)) inplace (Object.Table t) (now (s .entry)) pos r ⌝ }
 {
     let i = wire::index(t);
     if chained(b, dir, i, inplace) {
-        let x = write_measure::object(b, dir, s, d, Object::Table(t), pos);
+        let x = write_measure::object(b, dir, s, d, Object::Table(t), pos, o);
         return x.extent;
     }
-    let n = write_measure::fixed_size(b, dir, i);
+    let n = write_measure::fixed_size(b, dir, i, o);
     write_measure::opened(n, n)
 }
 
@@ -708,53 +718,63 @@ fn measure(
     ob: Object,
     inplace: bool,
     pos: usize,
+    o: usize,
 ) -> Extent
-    requires { ⌜ (Accepted (now b) (now dir)) × (ObjectSound (P.parse (now b)) ob) × Inside (now s) pos ⌝ }
-    ensures { λ r. ⌜ By.Measures B.u48 d (now (b .entry)) inplace ob (now (s .entry)) pos r ⌝ }
+    requires { ⌜ (Accepted (now b) (now dir)) × (Width o) × (ObjectSound (P.parse (now b)) ob) × Inside (now s) pos ⌝ }
+    ensures { λ r. ⌜ By.Measures o d (now (b .entry)) inplace ob (now (s .entry)) pos r ⌝ }
 {
     match ob {
         Object::Text => measure_blob(s, pos, 1),
         Object::Bytes => measure_blob(s, pos, 0),
-        Object::List(i) => measure_list(b, dir, s, wire::index(i), pos),
-        Object::Table(t) => measure_table(b, dir, s, d, t, inplace, pos),
+        Object::List(i) => measure_list(b, dir, s, wire::index(i), pos, o),
+        Object::Table(t) => measure_table(b, dir, s, d, t, inplace, pos, o),
     }
 }
 
 // ---- the size of an object's content where it is known before its sheet, that of a table behind which nothing stands in place;
 // 0 where it is not
 // The known size of table t, or 0.
-fn known_table(b: &[u8], dir: &[u16], t: usize) -> usize
-    requires { ⌜ (Accepted (now b) (now dir)) × (t < P.tableCount (now b)) ⌝ }
-    ensures { λ r. ⌜ KnownSize B.u48 (P.parse (now (b .entry))) (Object.Table t) r ⌝ }
+fn known_table(b: &[u8], dir: &[u16], t: usize, o: usize) -> usize
+    requires { ⌜ (Accepted (now b) (now dir)) × (Width o) × (t < P.tableCount (now b)) ⌝ }
+    ensures { λ r. ⌜ KnownSize o (P.parse (now (b .entry))) (Object.Table t) r ⌝ }
 {
     if any_in_place(b, dir, t) {
         return 0;
     }
-    write_measure::fixed_size(b, dir, t)
+    write_measure::fixed_size(b, dir, t, o)
 }
 
 // The known size of an object, or 0.
-fn known_size(b: &[u8], dir: &[u16], ob: Object) -> usize
-    requires { ⌜ (Accepted (now b) (now dir)) × (ObjectSound (P.parse (now b)) ob) ⌝ }
-    ensures { λ r. ⌜ KnownSize B.u48 (P.parse (now (b .entry))) ob r ⌝ }
+fn known_size(b: &[u8], dir: &[u16], ob: Object, o: usize) -> usize
+    requires { ⌜ (Accepted (now b) (now dir)) × (Width o) × (ObjectSound (P.parse (now b)) ob) ⌝ }
+    ensures { λ r. ⌜ KnownSize o (P.parse (now (b .entry))) ob r ⌝ }
 {
     match ob {
         Object::Text => 0,
         Object::Bytes => 0,
         Object::List(_) => 0,
-        Object::Table(t) => known_table(b, dir, wire::index(t)),
+        Object::Table(t) => known_table(b, dir, wire::index(t), o),
     }
 }
 
 // The extent of an object by its known size n, or measured where that is 0.
-fn measure_by(b: &[u8], dir: &[u16], s: &[u8], d: usize, ob: Object, n: usize, pos: usize) -> Extent
-    requires { ⌜ (Accepted (now b) (now dir)) × (ObjectSound (P.parse (now b)) ob) × (KnownSize B.u48 (P.parse (now b)) ob n) × Inside (now s) pos ⌝ }
-    ensures { λ r. ⌜ By.Measures B.u48 d (now (b .entry)) false ob (now (s .entry)) pos r ⌝ }
+fn measure_by(
+    b: &[u8],
+    dir: &[u16],
+    s: &[u8],
+    d: usize,
+    ob: Object,
+    n: usize,
+    pos: usize,
+    o: usize,
+) -> Extent
+    requires { ⌜ (Accepted (now b) (now dir)) × (Width o) × (ObjectSound (P.parse (now b)) ob) × (KnownSize o (P.parse (now b)) ob n) × Inside (now s) pos ⌝ }
+    ensures { λ r. ⌜ By.Measures o d (now (b .entry)) false ob (now (s .entry)) pos r ⌝ }
 {
     if 0 < n {
         return write_measure::opened(n, n);
     }
-    measure(b, dir, s, d, ob, false, pos)
+    measure(b, dir, s, d, ob, false, pos, o)
 }
 
 // ---- terminal members: a flat value, or a text or bytes by its offset. No other object stands below or in place behind them,
@@ -781,9 +801,9 @@ fn is_terminal(k: Kind, inplace: bool) -> bool
 }
 
 // The extent of a text or bytes.
-fn measure_terminal(b: &[u8], s: &[u8], d: usize, ob: Object, pos: usize) -> Extent
+fn measure_terminal(b: &[u8], s: &[u8], d: usize, ob: Object, pos: usize, o: usize) -> Extent
     requires { ⌜ (isBlob ob ≡ true) × Inside (now s) pos ⌝ }
-    ensures { λ r. ⌜ By.Measures B.u48 d (now (b .entry)) false ob (now (s .entry)) pos r ⌝ }
+    ensures { λ r. ⌜ By.Measures o d (now (b .entry)) false ob (now (s .entry)) pos r ⌝ }
 {
     match ob {
         Object::Text => measure_blob(s, pos, 1),
@@ -807,11 +827,11 @@ fn terminal_magic(b: &[u8], ob: Object) -> u64
 }
 
 // The header of a text or bytes, at the next object's place.
-fn open_terminal(b: &[u8], out: &mut [u8], ob: Object, e: Extent, c: Places) -> Places
-    requires { ⌜ (isBlob ob ≡ true) × (Small e) × (c .next ≤ 16777216) ⌝ }
-    ensures { λ r. ⌜ Eg.Opens B.u48 (Eg.opened B.u48 (P.parse (now (b .entry))) ob false e (stateOf c (now (out .entry)))) (stateOf r (now (out .exit))) r ⌝ }
+fn open_terminal(b: &[u8], out: &mut [u8], ob: Object, e: Extent, c: Places, o: usize) -> Places
+    requires { ⌜ (Width o) × (isBlob ob ≡ true) × (Small e) × (c .next ≤ 16777216) ⌝ }
+    ensures { λ r. ⌜ Eg.Opens o (Eg.opened o (P.parse (now (b .entry))) ob false e (stateOf c (now (out .entry)))) (stateOf r (now (out .exit))) r ⌝ }
 {
-    put_header(out, terminal_magic(b, ob), e, c)
+    put_header(out, terminal_magic(b, ob), e, c, o)
 }
 
 // The content of a text or bytes, where d objects may stand below each other, this one counted.
@@ -823,10 +843,11 @@ fn terminal_content(
     ob: Object,
     c: Places,
     pos: usize,
+    o: usize,
 ) -> Emitted
     requires { ⌜ isBlob ob ≡ true ⌝ }
     requires { ⌜ Room (now s) pos c ⌝ }
-    ensures { λ r. ⌜ By.Emits (now (s .entry)) pos (By.object B.u48 d (now (b .entry)) ob) c (now (out .entry)) 0 r (now (out .exit)) ⌝ }
+    ensures { λ r. ⌜ By.Emits (now (s .entry)) pos (By.object o d (now (b .entry)) ob) c (now (out .entry)) 0 r (now (out .exit)) ⌝ }
 {
     if d == 0 {
         return not_lawful(c, pos);
@@ -849,15 +870,16 @@ fn refer_terminal(
     ob: Object,
     c: Places,
     pos: usize,
+    o: usize,
 ) -> Emitted
-    requires { ⌜ (Accepted (now b) (now dir)) × (isBlob ob ≡ true) ⌝ }
+    requires { ⌜ (Accepted (now b) (now dir)) × (Width o) × (isBlob ob ≡ true) ⌝ }
     requires { ⌜ Room (now s) pos c ⌝ }
-    ensures { λ r. ⌜ By.Emits (now (s .entry)) pos (By.held B.u48 d (now (b .entry)) false ob) c (now (out .entry)) B.u48 r (now (out .exit)) ⌝ }
+    ensures { λ r. ⌜ By.Emits (now (s .entry)) pos (By.held o d (now (b .entry)) false ob) c (now (out .entry)) o r (now (out .exit)) ⌝ }
 {
-    let e = measure_terminal(b, s, d, ob, pos);
-    let p = put_reference(out, false, e, c);
-    let q = open_terminal(b, out, ob, e, p);
-    let y = terminal_content(b, s, out, d, ob, q, pos);
+    let e = measure_terminal(b, s, d, ob, pos, o);
+    let p = put_reference(out, false, e, c, o);
+    let q = open_terminal(b, out, ob, e, p, o);
+    let y = terminal_content(b, s, out, d, ob, q, pos, o);
     if !y.whole {
         return not_lawful(c, pos);
     }
@@ -876,14 +898,15 @@ fn terminal_body(
     inplace: bool,
     c: Places,
     pos: usize,
+    o: usize,
 ) -> Emitted
-    requires { ⌜ (Accepted (now b) (now dir)) × (KindSound (P.parse (now b)) k) × (Eg.isTerminal k inplace ≡ true) ⌝ }
+    requires { ⌜ (Accepted (now b) (now dir)) × (Width o) × (KindSound (P.parse (now b)) k) × (Eg.isTerminal k inplace ≡ true) ⌝ }
     requires { ⌜ Room (now s) pos c ⌝ }
-    ensures { λ r. ⌜ By.Emits (now (s .entry)) pos (By.body B.u48 d (now (b .entry)) k inplace) c (now (out .entry)) (Eg.extra B.u48 k) r (now (out .exit)) ⌝ }
+    ensures { λ r. ⌜ By.Emits (now (s .entry)) pos (By.body o d (now (b .entry)) k inplace) c (now (out .entry)) (Eg.extra o k) r (now (out .exit)) ⌝ }
 {
     match k {
         Kind::OfFlat(f) => emit_flat(b, dir, s, out, f, c, pos),
-        Kind::OfObject(ob) => refer_terminal(b, dir, s, out, d, ob, c, pos),
+        Kind::OfObject(ob) => refer_terminal(b, dir, s, out, d, ob, c, pos, o),
         Kind::OfUnion(_) => not_lawful(c, pos),
     }
 }
@@ -898,10 +921,11 @@ fn emit_terminal(
     r: Member,
     c: Places,
     pos: usize,
+    o: usize,
 ) -> Emitted
-    requires { ⌜ (Accepted (now b) (now dir)) × (KindSound (P.parse (now b)) (r .kind)) × (Eg.isTerminal (r .kind) (r .inplace) ≡ true) ⌝ }
+    requires { ⌜ (Accepted (now b) (now dir)) × (Width o) × (KindSound (P.parse (now b)) (r .kind)) × (Eg.isTerminal (r .kind) (r .inplace) ≡ true) ⌝ }
     requires { ⌜ Room (now s) pos c ⌝ }
-    ensures { λ q. ⌜ By.Emits (now (s .entry)) pos (By.member B.u48 d (now (b .entry)) r) c (now (out .entry)) 0 q (now (out .exit)) ⌝ }
+    ensures { λ q. ⌜ By.Emits (now (s .entry)) pos (By.member o d (now (b .entry)) r) c (now (out .entry)) 0 q (now (out .exit)) ⌝ }
 {
     let x = bitio::take_number(s, pos, 2);
     if !x.whole {
@@ -912,13 +936,13 @@ fn emit_terminal(
     let k = r.kind;
     if mark == 1 {
         let p = flag(out, r, 1, c);
-        return terminal_body(b, dir, s, out, d, k, r.inplace, p, next);
+        return terminal_body(b, dir, s, out, d, k, r.inplace, p, next, o);
     }
     if mark == 3 {
         return not_lawful(c, pos);
     }
     let p = flag(out, r, 0, c);
-    let q = lack(b, dir, out, k, p);
+    let q = lack(b, dir, out, k, p, o);
     if mark == 0 {
         return stored(q, next);
     }
@@ -937,13 +961,14 @@ fn emit_refer(
     inplace: bool,
     c: Places,
     pos: usize,
+    o: usize,
 ) -> Emitted
-    requires { ⌜ (Accepted (now b) (now dir)) × (ObjectSound (P.parse (now b)) ob) ⌝ }
+    requires { ⌜ (Accepted (now b) (now dir)) × (Width o) × (ObjectSound (P.parse (now b)) ob) ⌝ }
     requires { ⌜ Room (now s) pos c ⌝ }
-    ensures { λ r. ⌜ By.Emits (now (s .entry)) pos (By.held B.u48 d (now (b .entry)) inplace ob) c (now (out .entry)) B.u48 r (now (out .exit)) ⌝ }
+    ensures { λ r. ⌜ By.Emits (now (s .entry)) pos (By.held o d (now (b .entry)) inplace ob) c (now (out .entry)) o r (now (out .exit)) ⌝ }
 {
-    let e = measure(b, dir, s, d, ob, inplace, pos);
-    emit_measured(b, dir, s, out, d, ob, inplace, e, c, pos)
+    let e = measure(b, dir, s, d, ob, inplace, pos, o);
+    emit_measured(b, dir, s, out, d, ob, inplace, e, c, pos, o)
 }
 
 // An object by its offset or in place, whose extent e is known.
@@ -958,14 +983,15 @@ fn emit_measured(
     e: Extent,
     c: Places,
     pos: usize,
+    o: usize,
 ) -> Emitted
-    requires { ⌜ (Accepted (now b) (now dir)) × (ObjectSound (P.parse (now b)) ob) × (By.Measures B.u48 d (now b) inplace ob (now s) pos e) ⌝ }
+    requires { ⌜ (Accepted (now b) (now dir)) × (Width o) × (ObjectSound (P.parse (now b)) ob) × (By.Measures o d (now b) inplace ob (now s) pos e) ⌝ }
     requires { ⌜ Room (now s) pos c ⌝ }
-    ensures { λ r. ⌜ By.Emits (now (s .entry)) pos (By.held B.u48 d (now (b .entry)) inplace ob) c (now (out .entry)) B.u48 r (now (out .exit)) ⌝ }
+    ensures { λ r. ⌜ By.Emits (now (s .entry)) pos (By.held o d (now (b .entry)) inplace ob) c (now (out .entry)) o r (now (out .exit)) ⌝ }
 {
-    let p = put_reference(out, inplace, e, c);
-    let q = open(b, dir, out, ob, inplace, e, p);
-    let y = emit_content(b, dir, s, out, d, ob, q, pos);
+    let p = put_reference(out, inplace, e, c, o);
+    let q = open(b, dir, out, ob, inplace, e, p, o);
+    let y = emit_content(b, dir, s, out, d, ob, q, pos, o);
     if !y.whole {
         return not_lawful(c, pos);
     }
@@ -984,10 +1010,11 @@ fn emit_choice(
     inplace: bool,
     c: Places,
     pos: usize,
+    o: usize,
 ) -> Emitted
-    requires { ⌜ (Accepted (now b) (now dir)) × (u < P.unionCount (now b)) ⌝ }
+    requires { ⌜ (Accepted (now b) (now dir)) × (Width o) × (u < P.unionCount (now b)) ⌝ }
     requires { ⌜ Room (now s) pos c ⌝ }
-    ensures { λ r. ⌜ By.Emits (now (s .entry)) pos (By.choice B.u48 d (now (b .entry)) inplace u) c (now (out .entry)) B.u48 r (now (out .exit)) ⌝ }
+    ensures { λ r. ⌜ By.Emits (now (s .entry)) pos (By.choice o d (now (b .entry)) inplace u) c (now (out .entry)) o r (now (out .exit)) ⌝ }
 {
     let n = schema::case_count(b, dir, u);
     let x = bitio::take_number(s, pos, 16);
@@ -1004,7 +1031,7 @@ fn emit_choice(
     let ob = schema::union_case(b, dir, u, k);
     let next = x.next;
     let p = write_store::put_number(out, c, 2, x.value);
-    emit_refer(b, dir, s, out, d, ob, inplace, p, next)
+    emit_refer(b, dir, s, out, d, ob, inplace, p, next, o)
 }
 
 // A member or an element that leads to an object, present, behind its mark.
@@ -1018,15 +1045,16 @@ fn emit_body(
     inplace: bool,
     c: Places,
     pos: usize,
+    o: usize,
 ) -> Emitted
-    requires { ⌜ (Accepted (now b) (now dir)) × (KindSound (P.parse (now b)) k) × (Eg.refers k ≡ true) ⌝ }
+    requires { ⌜ (Accepted (now b) (now dir)) × (Width o) × (KindSound (P.parse (now b)) k) × (Eg.refers k ≡ true) ⌝ }
     requires { ⌜ Room (now s) pos c ⌝ }
-    ensures { λ r. ⌜ By.Emits (now (s .entry)) pos (By.body B.u48 d (now (b .entry)) k inplace) c (now (out .entry)) (Eg.extra B.u48 k) r (now (out .exit)) ⌝ }
+    ensures { λ r. ⌜ By.Emits (now (s .entry)) pos (By.body o d (now (b .entry)) k inplace) c (now (out .entry)) (Eg.extra o k) r (now (out .exit)) ⌝ }
 {
     match k {
         Kind::OfFlat(_) => not_lawful(c, pos),
-        Kind::OfObject(ob) => emit_refer(b, dir, s, out, d, ob, inplace, c, pos),
-        Kind::OfUnion(u) => emit_choice(b, dir, s, out, d, wire::index(u), inplace, c, pos),
+        Kind::OfObject(ob) => emit_refer(b, dir, s, out, d, ob, inplace, c, pos, o),
+        Kind::OfUnion(u) => emit_choice(b, dir, s, out, d, wire::index(u), inplace, c, pos, o),
     }
 }
 
@@ -1041,10 +1069,11 @@ fn emit_part(
     inplace: bool,
     c: Places,
     pos: usize,
+    o: usize,
 ) -> Emitted
-    requires { ⌜ (Accepted (now b) (now dir)) × (KindSound (P.parse (now b)) k) × (Eg.refers k ≡ true) ⌝ }
+    requires { ⌜ (Accepted (now b) (now dir)) × (Width o) × (KindSound (P.parse (now b)) k) × (Eg.refers k ≡ true) ⌝ }
     requires { ⌜ Room (now s) pos c ⌝ }
-    ensures { λ r. ⌜ By.Emits (now (s .entry)) pos (By.part B.u48 d (now (b .entry)) k inplace) c (now (out .entry)) 0 r (now (out .exit)) ⌝ }
+    ensures { λ r. ⌜ By.Emits (now (s .entry)) pos (By.part o d (now (b .entry)) k inplace) c (now (out .entry)) 0 r (now (out .exit)) ⌝ }
 {
     let x = bitio::take_number(s, pos, 2);
     if !x.whole {
@@ -1053,12 +1082,12 @@ fn emit_part(
     let mark = x.value;
     let next = x.next;
     if mark == 1 {
-        return emit_body(b, dir, s, out, d, k, inplace, c, next);
+        return emit_body(b, dir, s, out, d, k, inplace, c, next, o);
     }
     if mark == 3 {
         return not_lawful(c, pos);
     }
-    let q = lack(b, dir, out, k, c);
+    let q = lack(b, dir, out, k, c, o);
     if mark == 0 {
         return stored(q, next);
     }
@@ -1075,15 +1104,16 @@ fn emit_element(
     k: Kind,
     c: Places,
     pos: usize,
+    o: usize,
 ) -> Emitted
-    requires { ⌜ (Accepted (now b) (now dir)) × (KindSound (P.parse (now b)) k) × (NoStruct k) × (Sh.unmarked k ≡ false) ⌝ }
+    requires { ⌜ (Accepted (now b) (now dir)) × (Width o) × (KindSound (P.parse (now b)) k) × (NoStruct k) × (Sh.unmarked k ≡ false) ⌝ }
     requires { ⌜ Room (now s) pos c ⌝ }
-    ensures { λ r. ⌜ By.Emits (now (s .entry)) pos (By.element B.u48 d (now (b .entry)) k) c (now (out .entry)) 0 r (now (out .exit)) ⌝ }
+    ensures { λ r. ⌜ By.Emits (now (s .entry)) pos (By.element o d (now (b .entry)) k) c (now (out .entry)) 0 r (now (out .exit)) ⌝ }
 {
     match k {
         Kind::OfFlat(f) => emit_marked_flat(b, s, out, f, c, pos),
-        Kind::OfObject(_) => emit_part(b, dir, s, out, d, k, false, c, pos),
-        Kind::OfUnion(_) => emit_part(b, dir, s, out, d, k, false, c, pos),
+        Kind::OfObject(_) => emit_part(b, dir, s, out, d, k, false, c, pos, o),
+        Kind::OfUnion(_) => emit_part(b, dir, s, out, d, k, false, c, pos, o),
     }
 }
 
@@ -1097,10 +1127,11 @@ fn emit_table(
     t: usize,
     c: Places,
     pos: usize,
+    o: usize,
 ) -> Emitted
-    requires { ⌜ (Accepted (now b) (now dir)) × (t < P.tableCount (now b)) ⌝ }
+    requires { ⌜ (Accepted (now b) (now dir)) × (Width o) × (t < P.tableCount (now b)) ⌝ }
     requires { ⌜ Room (now s) pos c ⌝ }
-    ensures { λ r. ⌜ By.Emits (now (s .entry)) pos (By.content B.u48 d (now (b .entry)) (Object.Table t)) c (now (out .entry)) 0 r (now (out .exit)) ⌝ }
+    ensures { λ r. ⌜ By.Emits (now (s .entry)) pos (By.content o d (now (b .entry)) (Object.Table t)) c (now (out .entry)) 0 r (now (out .exit)) ⌝ }
 {
     let n = schema::member_count(b, dir, t);
     let mut p = c;
@@ -1110,7 +1141,7 @@ fn emit_table(
         let r = schema::member(b, dir, t, j);
         let k = r.kind;
         if is_terminal(k, r.inplace) {
-            let y = emit_terminal(b, dir, s, out, d, r, p, at);
+            let y = emit_terminal(b, dir, s, out, d, r, p, at, o);
             if !y.whole {
                 return not_lawful(c, pos);
             }
@@ -1119,7 +1150,7 @@ fn emit_table(
             j += 1;
             continue;
         }
-        let x = emit_part(b, dir, s, out, d, k, r.inplace, p, at);
+        let x = emit_part(b, dir, s, out, d, k, r.inplace, p, at, o);
         if !x.whole {
             return not_lawful(c, pos);
         }
@@ -1142,10 +1173,11 @@ fn emit_marked(
     n: usize,
     c: Places,
     pos: usize,
+    o: usize,
 ) -> Emitted
-    requires { ⌜ (Accepted (now b) (now dir)) × (ObjectSound (P.parse (now b)) ob) × (KnownSize B.u48 (P.parse (now b)) ob n) ⌝ }
+    requires { ⌜ (Accepted (now b) (now dir)) × (Width o) × (ObjectSound (P.parse (now b)) ob) × (KnownSize o (P.parse (now b)) ob n) ⌝ }
     requires { ⌜ Room (now s) pos c ⌝ }
-    ensures { λ r. ⌜ By.Emits (now (s .entry)) pos (By.element B.u48 d (now (b .entry)) (Kind.OfObject ob)) c (now (out .entry)) 0 r (now (out .exit)) ⌝ }
+    ensures { λ r. ⌜ By.Emits (now (s .entry)) pos (By.element o d (now (b .entry)) (Kind.OfObject ob)) c (now (out .entry)) 0 r (now (out .exit)) ⌝ }
 {
     let x = bitio::take_number(s, pos, 2);
     if !x.whole {
@@ -1154,11 +1186,11 @@ fn emit_marked(
     let mark = x.value;
     let next = x.next;
     if mark == 1 {
-        let e = measure_by(b, dir, s, d, ob, n, next);
-        return emit_measured(b, dir, s, out, d, ob, false, e, c, next);
+        let e = measure_by(b, dir, s, d, ob, n, next, o);
+        return emit_measured(b, dir, s, out, d, ob, false, e, c, next, o);
     }
     if mark == 0 {
-        let p = write_store::put_offset(out, c, 0);
+        let p = write_store::put_offset(out, c, 0, o);
         return stored(p, next);
     }
     not_lawful(c, pos)
@@ -1175,17 +1207,18 @@ fn emit_objects(
     n: usize,
     c: Places,
     pos: usize,
+    o: usize,
 ) -> Emitted
-    requires { ⌜ (Accepted (now b) (now dir)) × (ObjectSound (P.parse (now b)) ob) × (n < 2 ^ 32) ⌝ }
+    requires { ⌜ (Accepted (now b) (now dir)) × (Width o) × (ObjectSound (P.parse (now b)) ob) × (n < 2 ^ 32) ⌝ }
     requires { ⌜ Room (now s) pos c ⌝ }
-    ensures { λ r. ⌜ By.Emits (now (s .entry)) pos (By.elements B.u48 d (now (b .entry)) (Kind.OfObject ob) n) c (now (out .entry)) 0 r (now (out .exit)) ⌝ }
+    ensures { λ r. ⌜ By.Emits (now (s .entry)) pos (By.elements o d (now (b .entry)) (Kind.OfObject ob) n) c (now (out .entry)) 0 r (now (out .exit)) ⌝ }
 {
-    let size = known_size(b, dir, ob);
+    let size = known_size(b, dir, ob, o);
     let mut p = c;
     let mut at = pos;
     let mut j: usize = 0;
     while j < n {
-        let x = emit_marked(b, dir, s, out, d, ob, size, p, at);
+        let x = emit_marked(b, dir, s, out, d, ob, size, p, at, o);
         if !x.whole {
             return not_lawful(c, pos);
         }
@@ -1207,16 +1240,17 @@ fn emit_elements(
     n: usize,
     c: Places,
     pos: usize,
+    o: usize,
 ) -> Emitted
-    requires { ⌜ (Accepted (now b) (now dir)) × (KindSound (P.parse (now b)) k) × (NoStruct k) × (Sh.unmarked k ≡ false) × (n < 2 ^ 32) ⌝ }
+    requires { ⌜ (Accepted (now b) (now dir)) × (Width o) × (KindSound (P.parse (now b)) k) × (NoStruct k) × (Sh.unmarked k ≡ false) × (n < 2 ^ 32) ⌝ }
     requires { ⌜ Room (now s) pos c ⌝ }
-    ensures { λ r. ⌜ By.Emits (now (s .entry)) pos (By.elements B.u48 d (now (b .entry)) k n) c (now (out .entry)) 0 r (now (out .exit)) ⌝ }
+    ensures { λ r. ⌜ By.Emits (now (s .entry)) pos (By.elements o d (now (b .entry)) k n) c (now (out .entry)) 0 r (now (out .exit)) ⌝ }
 {
     let mut p = c;
     let mut at = pos;
     let mut j: usize = 0;
     while j < n {
-        let x = emit_element(b, dir, s, out, d, k, p, at);
+        let x = emit_element(b, dir, s, out, d, k, p, at, o);
         if !x.whole {
             return not_lawful(c, pos);
         }
@@ -1237,10 +1271,11 @@ fn emit_list(
     i: usize,
     c: Places,
     pos: usize,
+    o: usize,
 ) -> Emitted
-    requires { ⌜ (Accepted (now b) (now dir)) × (i < P.listCount (now b)) ⌝ }
+    requires { ⌜ (Accepted (now b) (now dir)) × (Width o) × (i < P.listCount (now b)) ⌝ }
     requires { ⌜ Room (now s) pos c ⌝ }
-    ensures { λ r. ⌜ By.Emits (now (s .entry)) pos (By.content B.u48 d (now (b .entry)) (Object.List i)) c (now (out .entry)) 0 r (now (out .exit)) ⌝ }
+    ensures { λ r. ⌜ By.Emits (now (s .entry)) pos (By.content o d (now (b .entry)) (Object.List i)) c (now (out .entry)) 0 r (now (out .exit)) ⌝ }
 {
     let k = schema::element(b, dir, i);
     if schema::integer_width(k) == 1 {
@@ -1256,8 +1291,8 @@ fn emit_list(
     }
     match k {
         Kind::OfFlat(f) => emit_flats(b, s, out, f, n, c, y.next),
-        Kind::OfObject(ob) => emit_objects(b, dir, s, out, d, ob, n, c, y.next),
-        Kind::OfUnion(_) => emit_elements(b, dir, s, out, d, k, n, c, y.next),
+        Kind::OfObject(ob) => emit_objects(b, dir, s, out, d, ob, n, c, y.next, o),
+        Kind::OfUnion(_) => emit_elements(b, dir, s, out, d, k, n, c, y.next, o),
     }
 }
 
@@ -1271,10 +1306,11 @@ fn emit_content(
     ob: Object,
     c: Places,
     pos: usize,
+    o: usize,
 ) -> Emitted
-    requires { ⌜ (Accepted (now b) (now dir)) × (ObjectSound (P.parse (now b)) ob) ⌝ }
+    requires { ⌜ (Accepted (now b) (now dir)) × (Width o) × (ObjectSound (P.parse (now b)) ob) ⌝ }
     requires { ⌜ Room (now s) pos c ⌝ }
-    ensures { λ r. ⌜ By.Emits (now (s .entry)) pos (By.object B.u48 d (now (b .entry)) ob) c (now (out .entry)) 0 r (now (out .exit)) ⌝ }
+    ensures { λ r. ⌜ By.Emits (now (s .entry)) pos (By.object o d (now (b .entry)) ob) c (now (out .entry)) 0 r (now (out .exit)) ⌝ }
 {
     if d == 0 {
         return not_lawful(c, pos);
@@ -1282,26 +1318,27 @@ fn emit_content(
     match ob {
         Object::Text => emit_text(s, out, c, pos),
         Object::Bytes => emit_bytes(s, out, c, pos),
-        Object::List(i) => emit_list(b, dir, s, out, d - 1, wire::index(i), c, pos),
-        Object::Table(t) => emit_table(b, dir, s, out, d - 1, wire::index(t), c, pos),
+        Object::List(i) => emit_list(b, dir, s, out, d - 1, wire::index(i), c, pos, o),
+        Object::Table(t) => emit_table(b, dir, s, out, d - 1, wire::index(t), c, pos, o),
     }
 }
 
 // ---- the whole message
 // The message's start and the root table, which takes e, into a buffer of the message's length.
-pub fn emit_message(b: &[u8], dir: &[u16], s: &[u8], e: Extent, out: &mut [u8]) -> Emitted
-    requires { ⌜ (Accepted (now b) (now dir)) × (WithinSize (now s)) × (Measured false (Sv.survey B.deepest B.u48 (P.parse (now b)) (Object.Table (P.parse (now b) .root)) (bits (now s))) e) ⌝ }
-    ensures { λ r. ⌜ Eg.MessageAt (now (s .entry)) (Es.emitMessage B.u48 (P.parse (now (b .entry))) (now (out .entry)) (bits (now (s .entry)))) (r .whole) (r .places) (now (out .exit)) (r .next) ⌝ }
+pub fn emit_message(b: &[u8], dir: &[u16], s: &[u8], e: Extent, out: &mut [u8], o: usize) -> Emitted
+    requires { ⌜ (Accepted (now b) (now dir)) × (Width o) × (WithinSize (now s)) × (Measured false (Sv.survey B.deepest o (P.parse (now b)) (Object.Table (P.parse (now b) .root)) (bits (now s))) e) ⌝ }
+    ensures { λ r. ⌜ Eg.MessageAt (now (s .entry)) (Es.emitMessage o (P.parse (now (b .entry))) (now (out .entry)) (bits (now (s .entry)))) (r .whole) (r .places) (now (out .exit)) (r .next) ⌝ }
 {
+    let size = wire::start_size(o);
     let start = Places {
         at: 0,
         last: 0,
         free: 0,
         held: 0,
-        tail: wire::START,
-        next: wire::START,
+        tail: size,
+        next: size,
     };
     let ob = message_start::root_object(b, dir);
     let p = write_store::put_number(out, start, 4, 0xB5C0_C4B3);
-    emit_measured(b, dir, s, out, 32, ob, false, e, p, 0)
+    emit_measured(b, dir, s, out, 32, ob, false, e, p, 0, o)
 }

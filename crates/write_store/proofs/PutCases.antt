@@ -4,7 +4,7 @@ use mathlib.Core.List.{List, [], _∷_}
 use Prim.Native.Nat.{ℕ, _+_}
 use lib.ListN.{length, set, replicate, length-replicate}
 use lib.Seq.{sets}
-use Rattle.coding.specs.Bytes.{leBytes, u48}
+use Rattle.coding.specs.Bytes.{leBytes}
 use Rattle.coding.specs.Bits.{pack}
 use Rattle.coding.specs.Message.{zeros}
 use Rattle.laws.specs.Bits.{pack-length}
@@ -59,10 +59,6 @@ module _ (c r : Places) (o o₁ : List ℕ) where
   pub number-put : (w x : ℕ) → o₁ ≡ sets o (c .at) (leBytes w x) → r ≡ forward w c → Stood w (putNumber w x (stateOf c o)) (stateOf r o₁) c r
   unfolding putNumber
   number-put w x e er = stood c r w (leBytes w x) o o₁ (length-leBytes w x) e er
-
-  pub offset-put : (x : ℕ) → Stood 6 (putNumber 6 x (stateOf c o)) (stateOf r o₁) c r → Stood u48 (putNumber u48 x (stateOf c o)) (stateOf r o₁) c r
-  unfolding u48
-  offset-put x t = t
 
   pub byte-put : (x : ℕ) → o₁ ≡ set o (c .at) x → r ≡ forward 1 c → Stood 1 (putByte x (stateOf c o)) (stateOf r o₁) c r
   unfolding putByte

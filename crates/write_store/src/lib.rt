@@ -6,6 +6,7 @@ ghost use lib.Seq.{sets};
 ghost use Rattle.coding.specs.Bytes as B;
 ghost use Rattle.coding.specs.Bits.{bits, value, pack};
 ghost use Rattle.coding.specs.Message as M;
+ghost use Rattle.wire.specs.Sizes.{Width};
 ghost use Rattle.write_store.specs.State as St;
 ghost use Rattle.write_store.specs.Storing as Sg;
 ghost use Rattle.write_store.specs.Storing.{stateOf, HeldOk, BitPut, Stood};
@@ -383,11 +384,11 @@ pub fn put_number(out: &mut [u8], c: Places, w: usize, x: u64) -> Places
 }
 
 // An offset, or the length that stands in its place: as wide as an offset.
-pub fn put_offset(out: &mut [u8], c: Places, x: u64) -> Places
-    requires { ⌜ c .at < 2 ^ 61 ⌝ }
-    ensures { λ r. ⌜ Stood B.u48 (St.putNumber B.u48 x (stateOf c (now (out .entry)))) (stateOf r (now (out .exit))) c r ⌝ }
+pub fn put_offset(out: &mut [u8], c: Places, x: u64, o: usize) -> Places
+    requires { ⌜ (Width o) × (c .at < 2 ^ 61) ⌝ }
+    ensures { λ r. ⌜ Stood o (St.putNumber o x (stateOf c (now (out .entry)))) (stateOf r (now (out .exit))) c r ⌝ }
 {
-    put_number(out, c, wire::OFFSET, x)
+    put_number(out, c, o, x)
 }
 
 // One byte.

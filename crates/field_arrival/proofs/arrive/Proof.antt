@@ -24,8 +24,8 @@ refuse-requires-2 c κs = search needs
 enum-known-start : tie.Need-enum-known-start
 enum-known-start c = search needs
 
-sub-t14 : tie.Need-sub-t14
-sub-t14 c = search needs
+sub-t15 : tie.Need-sub-t15
+sub-t15 c = search needs
 
 returns-2 : tie.Need-returns-2
 returns-2 c = search arrive-refused
@@ -44,6 +44,6 @@ arrive-spec =
     enum-known-e
     refuse-requires-2
     enum-known-start
-    sub-t14
+    sub-t15
     returns-2
     returns-3)

@@ -14,7 +14,7 @@ slice-aggregate-step-by : tie.Need-slice-aggregate-step-by
 slice-aggregate-step-by c = search needs
 
 step-by-requires : tie.Need-step-by-requires
-step-by-requires c κs = search schema-accepted
+step-by-requires c κs = schema-accepted _ _ _ _ (c .before .before .before .judge-schema .ensures) (c .before .if1 .taken)
 
 returns : tie.Need-returns
 returns c = search needs

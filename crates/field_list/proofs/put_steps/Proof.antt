@@ -2,7 +2,6 @@ use Prim.Native.Nat.{ℕ, _-_, _*_, _≤_}
 use mathlib.Core.Path.{_≡_, sym, ap, _∙_}
 use native.Mathlib.Omega.{arith}
 use lib.ListN.{length}
-use Rattle.coding.specs.Bytes as B
 use Rattle.coding.specs.Packed as P
 use Rattle.coding.specs.Field as Field
 use Rattle.coding.specs.Field.{answerCase, stepsOver}
@@ -13,10 +12,10 @@ use Rattle.field_list.proofs.put_steps.Statement.{statement}
 use Rattle.field_list.proofs.put_steps.Tie as tie
 
 abbrev Inv-loop : tie.InvT-loop
-Inv-loop b dir m list from out₀ n steps j₀ i₀ out j i = (i ≤ steps) × (4 * steps ≤ length out) × (length out ≡ length out₀) × (stepsLeft (Field.listGives B.u48 (P.parse b) m list) n j i steps out ≡ stepsOver (Field.listGives B.u48 (P.parse b) m list) n j₀ out₀)
+Inv-loop b dir m list from out₀ o n steps j₀ i₀ out j i = (i ≤ steps) × (4 * steps ≤ length out) × (length out ≡ length out₀) × (stepsLeft (Field.listGives o (P.parse b) m list) n j i steps out ≡ stepsOver (Field.listGives o (P.parse b) m list) n j₀ out₀)
 
 abbrev μ-loop : tie.MeasureT-loop
-μ-loop b dir m list from out₀ n steps j₀ i₀ out j i = steps - i
+μ-loop b dir m list from out₀ o n steps j₀ i₀ out j i = steps - i
 
 list-count-requires : tie.Need-list-count-requires Inv-loop μ-loop
 list-count-requires c κs = search needs
@@ -62,7 +61,7 @@ returns : tie.Need-returns Inv-loop μ-loop
 returns c =
     let at-loop = c .before .loop in
     let args = c .before .before .before .before .before .before .before .args in
-    let gives = Field.listGives B.u48 (P.parse (args .b .now)) (args .m .now) (args .list) in
+    let gives = Field.listGives (args .o) (P.parse (args .b .now)) (args .m .now) (args .list) in
     sym (left-done gives _ (at-loop .j) (at-loop .i) _ (at-loop .out) (omega arith) (omega arith)) ∙ at-loop .inv .3
     ∙ ap (λ (n : ℕ). stepsOver gives n (args .from) (args .out .now)) (c .before .before .list-count .ensures)
 

@@ -2,7 +2,6 @@ use Prim.Native.Nat.{_-_, _*_, _≤_}
 use mathlib.Core.Path.{_≡_}
 use native.Mathlib.Omega.{arith}
 use lib.ListN.{take}
-use Rattle.coding.specs.Bytes as B
 use Rattle.coding.specs.Packed as P
 use Rattle.coding.specs.Schema as Sc
 use Rattle.coding.specs.Layout as L
@@ -13,10 +12,10 @@ use Rattle.field_part.proofs.cursor_at.Statement.{statement}
 use Rattle.field_part.proofs.cursor_at.Tie as tie
 
 abbrev Inv-loop : tie.InvT-loop
-Inv-loop b dir t j c₀ i₀ c i = (i ≤ j) × (c ≡ L.afterMembers B.u48 (P.parse b) (take i (Sc.tableOf (P.parse b) t .members)) L.begin) × Laid (4097 * i) c
+Inv-loop b dir t j o c₀ i₀ c i = (i ≤ j) × (c ≡ L.afterMembers o (P.parse b) (take i (Sc.tableOf (P.parse b) t .members)) L.begin) × Laid (4097 * i) c
 
 abbrev μ-loop : tie.MeasureT-loop
-μ-loop b dir t j c₀ i₀ c i = j - i
+μ-loop b dir t j o c₀ i₀ c i = j - i
 
 begin-requires : tie.Need-begin-requires Inv-loop μ-loop
 begin-requires c κs = search needs

@@ -8,7 +8,7 @@ cursor-at-requires : tie.Need-cursor-at-requires
 cursor-at-requires c κs = search needs
 
 member-step-requires : tie.Need-member-step-requires
-member-step-requires c κs = ((c .before .before .before .before .pre .0 .0, search member-sound-of, c .before .before .before .before .pre .0 .3, c .before .before .before .before .pre .0 .1 .size), (c .cursor-at .ensures .1 .byte, c .cursor-at .ensures .1 .bit, search cursor-low))
+member-step-requires c κs = ((c .before .before .before .before .pre .0 .0, c .before .before .before .before .pre .0 .1, search member-sound-of, c .before .before .before .before .pre .0 .4, c .before .before .before .before .pre .0 .2 .size), (c .cursor-at .ensures .1 .byte, c .cursor-at .ensures .1 .bit, search cursor-low))
 
 returns : tie.Need-returns
 returns c = (search member-at-is, search member-at-within)

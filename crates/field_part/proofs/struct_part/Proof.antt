@@ -17,7 +17,7 @@ field-requires : tie.Need-field-requires
 field-requires c κs = search needs
 
 field-at-requires : tie.Need-field-at-requires
-field-at-requires c κs = (c .before .before .before .before .before .before .pre, (omega (arith, c .before .before .field-count .ensures .0, c .before .if1 .left), omega (arith, c .before .before .field-count .ensures .1, c .before .if1 .left), c .field .ensures))
+field-at-requires c κs = ((c .before .before .before .before .before .before .pre .0, c .before .before .before .before .before .before .pre .2, c .before .before .before .before .before .before .pre .3, c .before .before .before .before .before .before .pre .4), (omega (arith, c .before .before .field-count .ensures .0, c .before .if1 .left), omega (arith, c .before .before .field-count .ensures .1, c .before .if1 .left), c .field .ensures))
 
 follow-requires : tie.Need-follow-requires
 follow-requires c κs = search needs

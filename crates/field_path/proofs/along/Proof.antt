@@ -2,7 +2,6 @@ use Prim.Native.Nat.{_-_, _≤_}
 use mathlib.Core.Path.{_≡_}
 use native.Mathlib.Omega.{arith}
 use lib.ListN.{length, drop}
-use Rattle.coding.specs.Bytes as B
 use Rattle.coding.specs.Packed as P
 use Rattle.coding.specs.Field as Field
 use Rattle.field_arrival.specs.Within.{FoundWithin}
@@ -13,10 +12,10 @@ use Rattle.field_path.proofs.along.Statement.{statement}
 use Rattle.field_path.proofs.along.Tie as tie
 
 abbrev Inv-loop : tie.InvT-loop
-Inv-loop b dir m path f₀ i₀ f i = (i ≤ length path) × (Field.along B.u48 (P.parse b) m f₀ path ≡ Field.along B.u48 (P.parse b) m f (drop i path)) × FoundWithin B.u48 (P.parse b) m f
+Inv-loop b dir m path o f₀ i₀ f i = (i ≤ length path) × (Field.along o (P.parse b) m f₀ path ≡ Field.along o (P.parse b) m f (drop i path)) × FoundWithin o (P.parse b) m f
 
 abbrev μ-loop : tie.MeasureT-loop
-μ-loop b dir m path f₀ i₀ f i = length path - i
+μ-loop b dir m path o f₀ i₀ f i = length path - i
 
 loop-holds : tie.Need-loop-holds Inv-loop μ-loop
 loop-holds c = (omega arith, search needs, search needs)

@@ -1,4 +1,4 @@
-use Rattle.field_path.proofs.PathCases.{found-far, found-size, found-there, found-other, size-start, size-most, refused-within}
+use Rattle.field_path.proofs.PathCases.{found-far, found-size, found-there, found-other, size-start, size-magic, size-most, refused-within}
 use borrow.Author.Needs.{needs}
 use Rattle.field_path.proofs.found_by.Statement.{statement}
 use Rattle.field_path.proofs.found_by.Tie as tie
@@ -13,10 +13,10 @@ size-ok-requires : tie.Need-size-ok-requires
 size-ok-requires c κs = search needs
 
 start-ok-requires : tie.Need-start-ok-requires
-start-ok-requires c κs = search size-start
+start-ok-requires c κs = search size-magic
 
 from-root-requires : tie.Need-from-root-requires
-from-root-requires c κs = (c .before .before .before .before .before .before .before .before .before .pre, record { bytes = λ i. c .before .before .before .before .before .before .shared-slice-known3 .given i .fits; size = search size-most }, search size-start)
+from-root-requires c κs = (c .before .before .before .before .before .before .before .before .before .pre .accepted, c .before .before .before .before .before .before .before .before .before .pre .width, record { bytes = λ i. c .before .before .before .before .before .before .shared-slice-known3 .given i .fits; size = search size-most }, search size-start)
 
 returns-2 : tie.Need-returns-2
 returns-2 c = (search found-there, c .from-root .ensures .1)

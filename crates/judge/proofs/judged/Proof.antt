@@ -1,4 +1,4 @@
-use Rattle.judge.proofs.VerdictCases.{size-start, size-largest, verdict-walk, verdict-other, verdict-size, code-small}
+use Rattle.judge.proofs.VerdictCases.{size-start, size-magic, size-largest, verdict-walk, verdict-other, verdict-size, code-small}
 use borrow.Author.Needs.{needs}
 use Rattle.judge.proofs.judged.Statement.{statement}
 use Rattle.judge.proofs.judged.Tie as tie
@@ -14,13 +14,13 @@ size-ok-requires : tie.Need-size-ok-requires
 size-ok-requires c κs = search needs
 
 start-ok-requires : tie.Need-start-ok-requires
-start-ok-requires c κs = search size-start
+start-ok-requires c κs = search size-magic
 
 walk-from-root-requires : tie.Need-walk-from-root-requires
 walk-from-root-requires c κs = search (size-start, size-largest, needs)
 
 verdict-of-requires : tie.Need-verdict-of-requires
-verdict-of-requires c κs = code-small _ _ _ _ (c .walk-from-root .ensures)
+verdict-of-requires c κs = code-small _ _ _ _ _ (c .walk-from-root .ensures)
 
 returns : tie.Need-returns
 returns c = search verdict-walk

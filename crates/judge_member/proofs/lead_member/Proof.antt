@@ -2,6 +2,7 @@ use Rattle.judge_member.proofs.PlainCases.{number-led}
 use Rattle.schema.specs.Records.{record-inside}
 use Rattle.message_object.proofs.OpenCases.{member-sound-of}
 use Rattle.judge_member.proofs.PlainCases.{led-is}
+use native.Mathlib.Omega.{arith}
 use borrow.Author.Needs.{needs}
 use Rattle.judge_member.proofs.lead_member.Statement.{statement}
 use Rattle.judge_member.proofs.lead_member.Tie as tie
@@ -41,7 +42,7 @@ member-requires : tie.Need-member-requires
 member-requires c κs = search needs
 
 member-lead-requires : tie.Need-member-lead-requires
-member-lead-requires c κs = search (member-sound-of, needs)
+member-lead-requires c κs = ((c .before .before .before .before .before .before .before .before .before .before .pre .0 .0, c .before .before .before .before .before .before .before .before .before .before .pre .0 .1, member-sound-of _ _ (c .before .before .before .before .before .before .before .before .before .before .pre .0 .0) _ _ _ (c .member .ensures) (c .before .before .before .before .before .before .before .before .before .before .pre .0 .3), c .before .before .before .before .before .before .before .before .before .before .pre .1 .0, c .before .before .before .before .before .before .before .before .before .before .pre .1 .1), (c .before .before .before .before .before .before .before .before .before .before .pre .1 .2 .byte, c .before .before .before .before .before .before .before .before .before .before .pre .1 .2 .bit, omega (arith, c .before .before .before .before .before .before .before .before .before .before .pre .1 .2 .end, c .before .before .before .before .before .before .before .before .before .before .pre .0 .4)))
 
 returns-2 : tie.Need-returns-2
 returns-2 c = search (led-is, c .before .member .ensures, c .before .before .before .before .before .before .before .before .before .before .before .pre .1 .2, c .member-lead .ensures .0, c .member-lead .ensures .1)

@@ -18,13 +18,13 @@ after-bytes-requires : tie.Need-after-bytes-requires
 after-bytes-requires c κs = search needs
 
 returns : tie.Need-returns
-returns c = search number-past
+returns c = λ o. search number-past
 
 returns-2 : tie.Need-returns-2
-returns-2 c = search number-here
+returns-2 c = λ o. search number-here
 
 returns-3 : tie.Need-returns-3
-returns-3 c = search number-cut
+returns-3 c = λ o. search number-cut
 
 pub lead-number-spec : {M : Type 1} → statement M
 lead-number-spec =

@@ -40,7 +40,7 @@ add-offset-in : tie.Need-add-offset-in
 add-offset-in c = search needs
 
 offset-in-requires : tie.Need-offset-in-requires
-offset-in-requires c κs = omega (arith, text-wide _ _ (c .before .before .is-text-reference .ensures) (c .before .if2 .taken) _ (c .before .before .before .before .before .row-width .ensures .0))
+offset-in-requires c κs = (c .before .before .before .before .before .before .before .before .before .before .pre .0 .0, omega (arith, text-wide _ _ _ (c .before .before .is-text-reference .ensures) (c .before .if2 .taken) _ (c .before .before .before .before .before .row-width .ensures .0)))
 
 refer-text-requires : tie.Need-refer-text-requires
 refer-text-requires c κs = search needs

@@ -4,7 +4,6 @@ use native.Mathlib.Omega.{arith}
 use Prim.Native.Nat.{_-_, _*_, _≤_}
 use mathlib.Core.Path.{_≡_}
 use lib.ListN.{drop}
-use Rattle.coding.specs.Bytes as B
 use Rattle.coding.specs.Packed as P
 use Rattle.coding.specs.Schema as Sc
 use Rattle.coding.specs.Walk as W
@@ -22,13 +21,13 @@ use Rattle.wire.proofs.byte_in.Reads as byte-in-reads
 use Rattle.wire.proofs.index.Reads as index-reads
 
 abbrev Inv-loop : tie.InvT-loop
-Inv-loop b m l k x end₀ v₀ j₀ end v j =
+Inv-loop b m l k x o end₀ v₀ j₀ end v j =
     (j ≤ k .count) × (end ≤ 256 * j)
-    × (As.membersBy B.u48 b m l (k .table) x v₀
-    ≡ W.members (As.visitBy B.u48 b m l) B.u48 (P.parse b) m (x .holder) (x .start) (x .length) (Rs.noBool end) j (drop j (Sc.tableOf (P.parse b) (k .table) .members)) v)
+    × (As.membersBy o b m l (k .table) x v₀
+    ≡ W.members (As.visitBy o b m l) o (P.parse b) m (x .holder) (x .start) (x .length) (Rs.noBool end) j (drop j (Sc.tableOf (P.parse b) (k .table) .members)) v)
 
 abbrev μ-loop : tie.MeasureT-loop
-μ-loop b m l k x end₀ v₀ j₀ end v j = k .count - j
+μ-loop b m l k x o end₀ v₀ j₀ end v j = k .count - j
 
 loop-holds : tie.Need-loop-holds Inv-loop μ-loop
 loop-holds c = (omega arith, omega arith, search row-start)
@@ -43,10 +42,10 @@ record-place-requires : tie.Need-record-place-requires Inv-loop μ-loop
 record-place-requires c κs = (omega arith, c .before .before .before .before .before .before .before .pre .0 .small, omega (arith, c .before .before .before .before .before .before .before .pre .0 .few))
 
 row-member-requires : tie.Need-row-member-requires Inv-loop μ-loop
-row-member-requires c κs = ((omega (arith, c .before .before .before .before .before .before .before .before .pre .0 .inside, c .record-place .ensures .1), row-here _ _ (c .before .before .before .before .before .before .before .before .pre .0) _ (c .before .before .before .if1 .taken) _ (c .record-place .ensures .1)), (c .before .before .before .before .before .before .before .before .pre .1, c .before .before .before .before .before .before .before .before .pre .2, omega (arith, c .before .if2 .left)))
+row-member-requires c κs = ((c .before .before .before .before .before .before .before .before .pre .1, omega (arith, c .before .before .before .before .before .before .before .before .pre .0 .inside, c .record-place .ensures .1), row-here _ _ (c .before .before .before .before .before .before .before .before .pre .0) _ (c .before .before .before .if1 .taken) _ (c .record-place .ensures .1)), (c .before .before .before .before .before .before .before .before .pre .2, c .before .before .before .before .before .before .before .before .pre .3, omega (arith, c .before .if2 .left)))
 
 returns-2 : tie.Need-returns-2 Inv-loop μ-loop
-returns-2 c = row-stopped _ _ _ _ _ _ (c .before .before .before .before .before .before .before .before .before .before .before .pre .0) _ _ _ (c .before .before .before .before .before .before .before .before .loop .inv .2) (c .before .before .before .before .before .before .if1 .taken) _ (c .before .before .before .record-place .ensures .0) _ (c .before .before .row-member .ensures) (c .if3 .taken)
+returns-2 c = row-stopped _ _ _ _ _ _ _ (c .before .before .before .before .before .before .before .before .before .before .before .pre .0) _ _ _ (c .before .before .before .before .before .before .before .before .loop .inv .2) (c .before .before .before .before .before .before .if1 .taken) _ (c .before .before .before .record-place .ensures .0) _ (c .before .before .row-member .ensures) (c .if3 .taken)
 
 byte-in-requires : tie.Need-byte-in-requires Inv-loop μ-loop
 byte-in-requires c κs = omega (arith, c .before .before .before .before .before .before .before .before .before .before .before .before .pre .0 .inside, c .before .before .before .before .record-place .ensures .1)
@@ -55,7 +54,7 @@ index-requires : tie.Need-index-requires Inv-loop μ-loop
 index-requires c κs = search needs
 
 row-width-requires : tie.Need-row-width-requires Inv-loop μ-loop
-row-width-requires c κs = row-read _ _ (c .before .before .before .before .before .before .before .before .before .before .before .before .before .before .pre .0) _ (c .before .before .before .before .before .before .before .before .before .if1 .taken) _ (c .before .before .before .before .before .before .record-place .ensures .1) _ (c .before .byte-in .ensures) _ (c .index .ensures .0)
+row-width-requires c κs = (row-read _ _ (c .before .before .before .before .before .before .before .before .before .before .before .before .before .before .pre .0) _ (c .before .before .before .before .before .before .before .before .before .if1 .taken) _ (c .before .before .before .before .before .before .record-place .ensures .1) _ (c .before .byte-in .ensures) _ (c .index .ensures .0), c .before .before .before .before .before .before .before .before .before .before .before .before .before .before .pre .1)
 
 add-end : tie.Need-add-end Inv-loop μ-loop
 add-end c = omega (arith, c .row-width .ensures .1, c .before .before .before .before .before .before .before .before .before .before .before .before .before .before .before .pre .0 .few, c .before .before .before .before .before .before .before .before .before .before .before .before .loop .inv .1)
@@ -67,7 +66,7 @@ loop-less : tie.Need-loop-less Inv-loop μ-loop
 loop-less c = search needs
 
 loop-again : tie.Need-loop-again Inv-loop μ-loop
-loop-again c = (omega arith, omega (arith, c .row-width .ensures .1, c .before .before .before .before .before .before .before .before .before .before .before .before .loop .inv .1), row-turn _ _ _ _ _ _ (c .before .before .before .before .before .before .before .before .before .before .before .before .before .before .before .pre .0) _ _ _ (c .before .before .before .before .before .before .before .before .before .before .before .before .loop .inv .2) (c .before .before .before .before .before .before .before .before .before .before .if1 .taken) _ (c .before .before .before .before .before .before .before .record-place .ensures .0) _ (c .before .before .before .before .before .before .row-member .ensures) (c .before .before .before .before .if3 .left) (c .before .before .before .before .before .before .before .record-place .ensures .1) _ (c .before .before .byte-in .ensures) _ (c .before .index .ensures .0) _ (c .row-width .ensures .0) (c .row-width .ensures .1))
+loop-again c = (omega arith, omega (arith, c .row-width .ensures .1, c .before .before .before .before .before .before .before .before .before .before .before .before .loop .inv .1), row-turn _ _ _ _ _ _ _ (c .before .before .before .before .before .before .before .before .before .before .before .before .before .before .before .pre .0) _ _ _ (c .before .before .before .before .before .before .before .before .before .before .before .before .loop .inv .2) (c .before .before .before .before .before .before .before .before .before .before .if1 .taken) _ (c .before .before .before .before .before .before .before .record-place .ensures .0) _ (c .before .before .before .before .before .before .row-member .ensures) (c .before .before .before .before .if3 .left) (c .before .before .before .before .before .before .before .record-place .ensures .1) _ (c .before .before .byte-in .ensures) _ (c .before .index .ensures .0) _ (c .row-width .ensures .0) (c .row-width .ensures .1))
 
 going-requires-2 : tie.Need-going-requires-2 Inv-loop μ-loop
 going-requires-2 c κs = search needs

@@ -2,13 +2,12 @@ use borrow.Author.Needs.{needs}
 use native.Mathlib.Omega.{arith}
 use Prim.Native.Nat.{_+_, _-_, _*_, _≤_}
 use mathlib.Core.Path.{_≡_}
-use Rattle.coding.specs.Bytes as B
 use Rattle.coding.specs.Packed as P
 use Rattle.coding.specs.Walk as W
 use Rattle.coding.specs.declared.Kind.the-variants.{OfObject}
 use Rattle.coding.specs.declared.Object.the-variants as O
 use Rattle.outcome.specs.Answers as As
-use Rattle.judge_text.proofs.ElementCases.{elements-start, elements-done, references-stopped, references-turn}
+use Rattle.judge_text.proofs.ElementCases.{value-there, value-fits, value-next, elements-start, elements-done, references-stopped, references-turn}
 use Rattle.judge_rows.proofs.row_tables.Statement.{statement}
 use Rattle.judge_rows.proofs.row_tables.Tie as tie
 use Rattle.judge_rows.proofs.row_tables.Reads as reads
@@ -18,19 +17,19 @@ use Rattle.outcome.proofs.going.Reads as going-reads
 use Rattle.wire.proofs.offset_in.Reads as offset-in-reads
 
 abbrev Inv-loop : tie.InvT-loop
-Inv-loop b m l k x v₀ at₀ j₀ v at j =
-    (j ≤ x .length) × (at ≡ x .start + 6 * j)
-    × (As.elementsBy B.u48 b m l (OfObject (O.Table (k .table))) x v₀
-    ≡ W.elements (As.visitBy B.u48 b m l) B.u48 (P.parse b) m (x .holder) (x .start) (OfObject (O.Table (k .table))) (x .length - j) j v)
+Inv-loop b m l k x o v₀ at₀ j₀ v at j =
+    (j ≤ x .length) × (at ≡ x .start + o * j)
+    × (As.elementsBy o b m l (OfObject (O.Table (k .table))) x v₀
+    ≡ W.elements (As.visitBy o b m l) o (P.parse b) m (x .holder) (x .start) (OfObject (O.Table (k .table))) (x .length - j) j v)
 
 abbrev μ-loop : tie.MeasureT-loop
-μ-loop b m l k x v₀ at₀ j₀ v at j = x .length - j
+μ-loop b m l k x o v₀ at₀ j₀ v at j = x .length - j
 
 loop-holds : tie.Need-loop-holds Inv-loop μ-loop
 loop-holds c = (omega arith, omega arith, search elements-start)
 
 offset-in-requires : tie.Need-offset-in-requires Inv-loop μ-loop
-offset-in-requires c κs = search needs
+offset-in-requires c κs = search (value-there, needs)
 
 refer-row-requires : tie.Need-refer-row-requires Inv-loop μ-loop
 refer-row-requires c κs = search needs
@@ -39,7 +38,7 @@ returns : tie.Need-returns Inv-loop μ-loop
 returns c = search references-stopped
 
 add-at : tie.Need-add-at Inv-loop μ-loop
-add-at c = search needs
+add-at c = record { fits = search value-fits }
 
 add-j : tie.Need-add-j Inv-loop μ-loop
 add-j c = search needs
@@ -48,7 +47,7 @@ loop-less : tie.Need-loop-less Inv-loop μ-loop
 loop-less c = search needs
 
 loop-again : tie.Need-loop-again Inv-loop μ-loop
-loop-again c = (omega arith, omega arith, search references-turn)
+loop-again c = (omega arith, search value-next, search references-turn)
 
 going-requires : tie.Need-going-requires Inv-loop μ-loop
 going-requires c κs = search needs

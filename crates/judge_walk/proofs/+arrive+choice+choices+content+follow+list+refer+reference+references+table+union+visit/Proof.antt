@@ -4,7 +4,6 @@ use mathlib.Core.Path.{_≡_}
 use native.Mathlib.Omega.{arith}
 use borrow.Author.Needs.{needs}
 use lib.ListN.{drop}
-use Rattle.coding.specs.Bytes as B
 use Rattle.coding.specs.Packed as P
 use Rattle.coding.specs.Schema as Sc
 use Rattle.coding.specs.Walk as W
@@ -15,7 +14,7 @@ use Rattle.message_object.proofs.OpenCases.{list-counted-of, table-counted-of, 
 use Rattle.judge_walk.proofs.WalkCases.{arrive-text, arrive-offset, arrive-inplace, content-text, content-bytes, content-list, content-table, follow-absent, follow-value, follow-unknown, follow-struct, follow-refused, follow-object, follow-choice, object-small, object-place, choice-small, choice-place, union-none, union-offset, union-inplace}
 use Rattle.judge_rows.proofs.MemberCases.{members-start, members-ended, members-done, members-stopped, members-turn, members-nowhere}
 use Rattle.judge_walk.proofs.ListCases.{list-flat, list-objects, list-unions, objects-sound, unions-counted, objects-there, unions-there, references-texts, choices-stopped, choices-turn, choice-none, choice-unknown, choice-known, choice-sound}
-use Rattle.judge_text.proofs.ElementCases.{elements-start, elements-done, references-stopped, references-turn, refer-none, refer-object}
+use Rattle.judge_text.proofs.ElementCases.{value-there, value-fits, value-next, elements-start, elements-done, references-stopped, references-turn, refer-none, refer-object}
 use Rattle.coding.specs.declared.Kind.the-variants.{OfObject, OfUnion}
 use Prim.Native.Nat.{_+_, _-_, _*_, _≤_}
 use Prim.Native.Nat.{ℕ, _<_}
@@ -90,6 +89,7 @@ use Rattle.schema.proofs.union_case.Reads as union-case-reads
 use Rattle.wire.proofs.index.Reads as index-reads
 use Rattle.wire.proofs.offset_in.Reads as offset-in-reads
 use Rattle.wire.proofs.u16_in.Reads as u16-in-reads
+use Rattle.wire.proofs.union_size.Reads as union-size-reads
 use Rattle.judge_walk.proofs.+arrive+choice+choices+content+follow+list+refer+reference+references+table+union+visit.{
   statement,
 }
@@ -215,7 +215,7 @@ abbrev choice-R : ℕ → choice-lts.Claims
 choice-R t = (u16-in-reads.Asked, u16-in-reads.Learnt, going-reads.Asked, going-reads.Learnt, case-count-reads.Asked, case-count-reads.Learnt, union-case-reads.Asked, union-case-reads.Learnt, offset-in-reads.Asked, offset-in-reads.Learnt, union-below t, union.Post)
 
 abbrev choices-R : ℕ → choices-lts.Claims
-choices-R t = (choice-below t, choice.Post, going-reads.Asked, going-reads.Learnt)
+choices-R t = (union-size-reads.Asked, union-size-reads.Learnt, choice-below t, choice.Post, going-reads.Asked, going-reads.Learnt)
 
 abbrev content-R : ℕ → content-lts.Claims
 content-R t = (going-reads.Asked, going-reads.Learnt, index-reads.Asked, index-reads.Learnt, list-below t, list.Post, table-below t, table.Post)
@@ -251,13 +251,13 @@ arrive-is-text-requires : (t : ℕ) → arrive-lts.Need-is-text-requires (arrive
 arrive-is-text-requires t c κs = search needs
 
 arrive-visit-text-requires : (t : ℕ) → arrive-lts.Need-visit-text-requires (arrive-R t) (arrive-at t) arrive.Post
-arrive-visit-text-requires t c κs = search offset-small
+arrive-visit-text-requires t c κs = search (offset-small, needs)
 
 arrive-returns : (t : ℕ) → arrive-lts.Need-returns (arrive-R t) (arrive-at t) arrive.Post
 arrive-returns t c = search arrive-text
 
 arrive-visit-requires : (t : ℕ) → arrive-lts.Need-visit-requires (arrive-R t) (arrive-at t) arrive.Post
-arrive-visit-requires t c κs = (omega arith, (c .before .before .before .before .before .before .before .before .pre .1 .0, c .before .before .before .before .before .before .before .before .pre .1 .1, c .before .before .before .before .before .before .before .before .pre .1 .2, search offset-small))
+arrive-visit-requires t c κs = (omega arith, (c .before .before .before .before .before .before .before .before .pre .1 .0, c .before .before .before .before .before .before .before .before .pre .1 .1, c .before .before .before .before .before .before .before .before .pre .1 .2, c .before .before .before .before .before .before .before .before .pre .1 .3, search offset-small))
 
 arrive-enum-known-p-2 : (t : ℕ) → arrive-lts.Need-enum-known-p-2 (arrive-R t) (arrive-at t) arrive.Post
 arrive-enum-known-p-2 t c = search needs
@@ -299,31 +299,34 @@ choice-offset-in-requires : (t : ℕ) → choice-lts.Need-offset-in-requires (ch
 choice-offset-in-requires t c κs = search needs
 
 choice-union-requires : (t : ℕ) → choice-lts.Need-union-requires (choice-R t) (choice-at t) choice.Post
-choice-union-requires t c κs = (omega arith, (c .before .before .before .before .before .before .before .before .before .pre .1 .0, c .before .before .before .before .before .before .before .before .before .pre .1 .1, search (choice-sound, c .before .before .before .before .before .before .before .before .before .pre .1 .0, c .before .before .before .before .if1 .left, c .before .before .before .case-count .ensures .0, c .before .before .if2 .left, c .before .union-case .ensures), c .offset-in .ensures .1))
+choice-union-requires t c κs = (omega arith, (c .before .before .before .before .before .before .before .before .before .pre .1 .0, c .before .before .before .before .before .before .before .before .before .pre .1 .1, c .before .before .before .before .before .before .before .before .before .pre .1 .2, search (choice-sound, c .before .before .before .before .before .before .before .before .before .pre .1 .0, c .before .before .before .before .if1 .left, c .before .before .before .case-count .ensures .0, c .before .before .if2 .left, c .before .union-case .ensures), c .offset-in .ensures .1))
 
 choice-returns-3 : (t : ℕ) → choice-lts.Need-returns-3 (choice-R t) (choice-at t) choice.Post
 choice-returns-3 t c = search choice-known
 
 abbrev choices-Inv-loop : choices-lts.InvT-loop
-choices-Inv-loop b dir m l i x v₀ at₀ j₀ v at j =
-    (j ≤ x .length) × (at ≡ x .start + 8 * j)
-    × (As.elementsBy B.u48 b m l (OfUnion i) x v₀
-    ≡ W.elements (As.visitBy B.u48 b m l) B.u48 (P.parse b) m (x .holder) (x .start) (OfUnion i) (x .length - j) j v)
+choices-Inv-loop b dir m l i x o size v₀ at₀ j₀ v at j =
+    (j ≤ x .length) × (at ≡ x .start + (2 + o) * j)
+    × (As.elementsBy o b m l (OfUnion i) x v₀
+    ≡ W.elements (As.visitBy o b m l) o (P.parse b) m (x .holder) (x .start) (OfUnion i) (x .length - j) j v)
 
 abbrev choices-μ-loop : choices-lts.MeasureT-loop
-choices-μ-loop b dir m l i x v₀ at₀ j₀ v at j = x .length - j
+choices-μ-loop b dir m l i x o size v₀ at₀ j₀ v at j = x .length - j
+
+choices-union-size-requires : (t : ℕ) → choices-lts.Need-union-size-requires (choices-R t) (choices-at t) choices.Post choices-Inv-loop choices-μ-loop
+choices-union-size-requires t c κs = search needs
 
 choices-loop-holds : (t : ℕ) → choices-lts.Need-loop-holds (choices-R t) (choices-at t) choices.Post choices-Inv-loop choices-μ-loop
 choices-loop-holds t c = (omega arith, omega arith, search elements-start)
 
 choices-choice-requires : (t : ℕ) → choices-lts.Need-choice-requires (choices-R t) (choices-at t) choices.Post choices-Inv-loop choices-μ-loop
-choices-choice-requires t c κs = (omega arith, (c .before .before .before .before .before .before .pre .1 .0, c .before .before .before .before .before .before .pre .1 .1, c .before .before .before .before .before .before .pre .1 .2, omega (arith, c .before .before .before .before .before .before .pre .1 .3, c .before .before .loop .inv .1)))
+choices-choice-requires t c κs = (omega arith, (c .before .before .before .before .before .before .before .pre .1 .0, c .before .before .before .before .before .before .before .pre .1 .1, c .before .before .before .before .before .before .before .pre .1 .2, c .before .before .before .before .before .before .before .pre .1 .3, search value-there))
 
 choices-returns : (t : ℕ) → choices-lts.Need-returns (choices-R t) (choices-at t) choices.Post choices-Inv-loop choices-μ-loop
 choices-returns t c = search choices-stopped
 
 choices-add-at : (t : ℕ) → choices-lts.Need-add-at (choices-R t) (choices-at t) choices.Post choices-Inv-loop choices-μ-loop
-choices-add-at t c = search needs
+choices-add-at t c = record { fits = omega (arith, c .before .before .before .before .before .before .before .union-size .ensures, value-fits _ _ _ _ _ _ (c .before .before .before .before .before .before .loop .inv .1) (c .before .before .before .before .if1 .taken) (c .before .before .before .before .before .before .before .before .before .before .before .pre .1 .4) (c .before .before .before .before .before .before .before .before .before .before .before .pre .1 .2)) }
 
 choices-add-j : (t : ℕ) → choices-lts.Need-add-j (choices-R t) (choices-at t) choices.Post choices-Inv-loop choices-μ-loop
 choices-add-j t c = search needs
@@ -332,7 +335,7 @@ choices-loop-less : (t : ℕ) → choices-lts.Need-loop-less (choices-R t) (choi
 choices-loop-less t c = search needs
 
 choices-loop-again : (t : ℕ) → choices-lts.Need-loop-again (choices-R t) (choices-at t) choices.Post choices-Inv-loop choices-μ-loop
-choices-loop-again t c = (omega arith, omega arith, search choices-turn)
+choices-loop-again t c = (omega arith, omega (arith, c .before .before .before .before .before .before .before .union-size .ensures, value-next _ _ _ _ (c .before .before .before .before .before .before .loop .inv .1)), search choices-turn)
 
 choices-going-requires : (t : ℕ) → choices-lts.Need-going-requires (choices-R t) (choices-at t) choices.Post choices-Inv-loop choices-μ-loop
 choices-going-requires t c κs = search needs
@@ -467,7 +470,7 @@ list-object-at-requires : (t : ℕ) → list-lts.Need-object-at-requires (list-R
 list-object-at-requires t c κs = search needs
 
 list-references-requires : (t : ℕ) → list-lts.Need-references-requires (list-R t) (list-at t) list.Post
-list-references-requires t c κs = (omega arith, (c .before .before .before .before .before .before .before .before .before .before .pre .1 .0 .0, c .before .before .before .before .before .before .before .before .before .before .pre .1 .0 .1, search objects-sound, search objects-there))
+list-references-requires t c κs = (omega arith, (c .before .before .before .before .before .before .before .before .before .before .pre .1 .0 .0, c .before .before .before .before .before .before .before .before .before .before .pre .1 .0 .1, c .before .before .before .before .before .before .before .before .before .before .pre .1 .0 .2, search objects-sound, search objects-there))
 
 list-returns-2 : (t : ℕ) → list-lts.Need-returns-2 (list-R t) (list-at t) list.Post
 list-returns-2 t c = search list-objects
@@ -479,7 +482,7 @@ list-index-requires : (t : ℕ) → list-lts.Need-index-requires (list-R t) (lis
 list-index-requires t c κs = search needs
 
 list-choices-requires : (t : ℕ) → list-lts.Need-choices-requires (list-R t) (list-at t) list.Post
-list-choices-requires t c κs = (omega arith, (c .before .before .before .before .before .before .before .before .before .before .before .pre .1 .0 .0, c .before .before .before .before .before .before .before .before .before .before .before .pre .1 .0 .1, search unions-counted, search unions-there))
+list-choices-requires t c κs = (omega arith, (c .before .before .before .before .before .before .before .before .before .before .before .pre .1 .0 .0, c .before .before .before .before .before .before .before .before .before .before .before .pre .1 .0 .1, c .before .before .before .before .before .before .before .before .before .before .before .pre .1 .0 .2, search unions-counted, search unions-there))
 
 list-returns-3 : (t : ℕ) → list-lts.Need-returns-3 (list-R t) (list-at t) list.Post
 list-returns-3 t c = search list-unions
@@ -491,7 +494,7 @@ refer-returns : (t : ℕ) → refer-lts.Need-returns (refer-R t) (refer-at t) re
 refer-returns t c = search refer-none
 
 refer-visit-requires : (t : ℕ) → refer-lts.Need-visit-requires (refer-R t) (refer-at t) refer.Post
-refer-visit-requires t c κs = (omega arith, (c .before .before .before .before .pre .1 .0, c .before .before .before .before .pre .1 .1, c .before .before .before .before .pre .1 .2, c .before .before .before .before .pre .1 .3))
+refer-visit-requires t c κs = (omega arith, (c .before .before .before .before .pre .1 .0, c .before .before .before .before .pre .1 .1, c .before .before .before .before .pre .1 .2, c .before .before .before .before .pre .1 .3, c .before .before .before .before .pre .1 .4))
 
 refer-returns-2 : (t : ℕ) → refer-lts.Need-returns-2 (refer-R t) (refer-at t) refer.Post
 refer-returns-2 t c = search refer-object
@@ -524,25 +527,25 @@ reference-is-text-requires : (t : ℕ) → reference-lts.Need-is-text-requires (
 reference-is-text-requires t c κs = search needs
 
 reference-refer-text-requires : (t : ℕ) → reference-lts.Need-refer-text-requires (reference-R t) (reference-at t) reference.Post
-reference-refer-text-requires t c κs = c .before .before .before .offset-in .ensures .1
+reference-refer-text-requires t c κs = (c .before .before .before .before .before .before .before .before .before .before .before .before .before .pre .1 .0 .1, c .before .before .before .offset-in .ensures .1)
 
 reference-returns-3 : (t : ℕ) → reference-lts.Need-returns-3 (reference-R t) (reference-at t) reference.Post
 reference-returns-3 t c = search reference-text
 
 reference-refer-requires : (t : ℕ) → reference-lts.Need-refer-requires (reference-R t) (reference-at t) reference.Post
-reference-refer-requires t c κs = (omega arith, (c .before .before .before .before .before .before .before .before .before .before .before .before .before .pre .1 .0 .0, c .before .before .before .before .before .before .before .before .before .before .before .before .before .pre .1 .0 .1, same-sound _ _ _ (c .before .before .object-at .ensures) (c .before .before .before .before .before .before .before .before .before .before .before .before .before .pre .1 .1 .0), c .before .before .before .offset-in .ensures .1))
+reference-refer-requires t c κs = (omega arith, (c .before .before .before .before .before .before .before .before .before .before .before .before .before .pre .1 .0 .0, c .before .before .before .before .before .before .before .before .before .before .before .before .before .pre .1 .0 .1, c .before .before .before .before .before .before .before .before .before .before .before .before .before .pre .1 .0 .2, same-sound _ _ _ (c .before .before .object-at .ensures) (c .before .before .before .before .before .before .before .before .before .before .before .before .before .pre .1 .1 .0), c .before .before .before .offset-in .ensures .1))
 
 reference-returns-4 : (t : ℕ) → reference-lts.Need-returns-4 (reference-R t) (reference-at t) reference.Post
 reference-returns-4 t c = search reference-here
 
 abbrev references-Inv-loop : references-lts.InvT-loop
-references-Inv-loop b dir m l ob x v₀ at₀ j₀ v at j =
-    (j ≤ x .length) × (at ≡ x .start + 6 * j)
-    × (As.elementsBy B.u48 b m l (OfObject ob) x v₀
-    ≡ W.elements (As.visitBy B.u48 b m l) B.u48 (P.parse b) m (x .holder) (x .start) (OfObject ob) (x .length - j) j v)
+references-Inv-loop b dir m l ob x o v₀ at₀ j₀ v at j =
+    (j ≤ x .length) × (at ≡ x .start + o * j)
+    × (As.elementsBy o b m l (OfObject ob) x v₀
+    ≡ W.elements (As.visitBy o b m l) o (P.parse b) m (x .holder) (x .start) (OfObject ob) (x .length - j) j v)
 
 abbrev references-μ-loop : references-lts.MeasureT-loop
-references-μ-loop b dir m l ob x v₀ at₀ j₀ v at j = x .length - j
+references-μ-loop b dir m l ob x o v₀ at₀ j₀ v at j = x .length - j
 
 references-is-text-requires : (t : ℕ) → references-lts.Need-is-text-requires (references-R t) (references-at t) references.Post references-Inv-loop references-μ-loop
 references-is-text-requires t c κs = search needs
@@ -557,7 +560,7 @@ references-is-row-table-requires : (t : ℕ) → references-lts.Need-is-row-tabl
 references-is-row-table-requires t c κs = search needs
 
 references-row-references-requires : (t : ℕ) → references-lts.Need-row-references-requires (references-R t) (references-at t) references.Post references-Inv-loop references-μ-loop
-references-row-references-requires t c κs = (c .before .before .before .before .before .before .before .pre .1 .0, c .before .before .before .before .before .before .before .pre .1 .1, c .before .before .before .before .before .before .before .pre .1 .2, c .before .before .before .before .before .before .before .pre .1 .3, c .before .is-row-table .ensures (c .if2 .taken))
+references-row-references-requires t c κs = (c .before .before .before .before .before .before .before .pre .1 .0, c .before .before .before .before .before .before .before .pre .1 .1, c .before .before .before .before .before .before .before .pre .1 .2, c .before .before .before .before .before .before .before .pre .1 .3, c .before .before .before .before .before .before .before .pre .1 .4, c .before .is-row-table .ensures (c .if2 .taken))
 
 references-returns-2 : (t : ℕ) → references-lts.Need-returns-2 (references-R t) (references-at t) references.Post references-Inv-loop references-μ-loop
 references-returns-2 t c = c .row-references .ensures
@@ -566,16 +569,16 @@ references-loop-holds : (t : ℕ) → references-lts.Need-loop-holds (references
 references-loop-holds t c = (omega arith, omega arith, search elements-start)
 
 references-offset-in-requires : (t : ℕ) → references-lts.Need-offset-in-requires (references-R t) (references-at t) references.Post references-Inv-loop references-μ-loop
-references-offset-in-requires t c κs = search needs
+references-offset-in-requires t c κs = search (value-there, needs)
 
 references-refer-requires : (t : ℕ) → references-lts.Need-refer-requires (references-R t) (references-at t) references.Post references-Inv-loop references-μ-loop
-references-refer-requires t c κs = (omega arith, (c .before .before .before .before .before .before .before .before .before .before .before .pre .1 .0, c .before .before .before .before .before .before .before .before .before .before .before .pre .1 .1, c .before .before .before .before .before .before .before .before .before .before .before .pre .1 .2, c .offset-in .ensures .1))
+references-refer-requires t c κs = (omega arith, (c .before .before .before .before .before .before .before .before .before .before .before .pre .1 .0, c .before .before .before .before .before .before .before .before .before .before .before .pre .1 .1, c .before .before .before .before .before .before .before .before .before .before .before .pre .1 .2, c .before .before .before .before .before .before .before .before .before .before .before .pre .1 .3, c .offset-in .ensures .1))
 
 references-returns-3 : (t : ℕ) → references-lts.Need-returns-3 (references-R t) (references-at t) references.Post references-Inv-loop references-μ-loop
 references-returns-3 t c = search references-stopped
 
 references-add-at : (t : ℕ) → references-lts.Need-add-at (references-R t) (references-at t) references.Post references-Inv-loop references-μ-loop
-references-add-at t c = search needs
+references-add-at t c = record { fits = search value-fits }
 
 references-add-j : (t : ℕ) → references-lts.Need-add-j (references-R t) (references-at t) references.Post references-Inv-loop references-μ-loop
 references-add-j t c = search needs
@@ -584,7 +587,7 @@ references-loop-less : (t : ℕ) → references-lts.Need-loop-less (references-R
 references-loop-less t c = search needs
 
 references-loop-again : (t : ℕ) → references-lts.Need-loop-again (references-R t) (references-at t) references.Post references-Inv-loop references-μ-loop
-references-loop-again t c = (omega arith, omega arith, search references-turn)
+references-loop-again t c = (omega arith, search value-next, search references-turn)
 
 references-going-requires : (t : ℕ) → references-lts.Need-going-requires (references-R t) (references-at t) references.Post references-Inv-loop references-μ-loop
 references-going-requires t c κs = search needs
@@ -593,13 +596,13 @@ references-returns-4 : (t : ℕ) → references-lts.Need-returns-4 (references-R
 references-returns-4 t c = search elements-done
 
 abbrev table-Inv-loop : table-lts.InvT-loop
-table-Inv-loop b dir m l t x count first c₀ v₀ j₀ c v j =
+table-Inv-loop b dir m l t x o count first c₀ v₀ j₀ c v j =
     (j ≤ count) × Laid (4097 * j) c
-    × (As.membersBy B.u48 b m l t x v₀
-    ≡ W.members (As.visitBy B.u48 b m l) B.u48 (P.parse b) m (x .holder) (x .start) (x .length) c j (drop j (Sc.tableOf (P.parse b) t .members)) v)
+    × (As.membersBy o b m l t x v₀
+    ≡ W.members (As.visitBy o b m l) o (P.parse b) m (x .holder) (x .start) (x .length) c j (drop j (Sc.tableOf (P.parse b) t .members)) v)
 
 abbrev table-μ-loop : table-lts.MeasureT-loop
-table-μ-loop b dir m l t x count first c₀ v₀ j₀ c v j = count - j
+table-μ-loop b dir m l t x o count first c₀ v₀ j₀ c v j = count - j
 
 table-member-count-requires : (t : ℕ) → table-lts.Need-member-count-requires (table-R t) (table-at t) table.Post table-Inv-loop table-μ-loop
 table-member-count-requires t c κs = search needs
@@ -626,16 +629,16 @@ table-record-place-requires : (t : ℕ) → table-lts.Need-record-place-requires
 table-record-place-requires t c κs = (omega arith, c .before .before .before .before .before .before .table-place .ensures .small, omega (arith, c .before .before .before .before .before .before .before .member-count .ensures .1))
 
 table-refers-requires : (t : ℕ) → table-lts.Need-refers-requires (table-R t) (table-at t) table.Post table-Inv-loop table-μ-loop
-table-refers-requires t c κs = omega (arith, record-whole _ _ _ (c .before .before .before .before .before .before .before .before .before .before .before .before .pre .1 .2) _ (c .before .before .before .before .before .before .before .before .member-count .ensures .0) (c .before .before .before .before .loop-test .taken) _ (c .before .before .before .before .before .before .before .table-place .ensures) _ (c .record-place .ensures .1))
+table-refers-requires t c κs = omega (arith, record-whole _ _ _ (c .before .before .before .before .before .before .before .before .before .before .before .before .pre .1 .3) _ (c .before .before .before .before .before .before .before .before .member-count .ensures .0) (c .before .before .before .before .loop-test .taken) _ (c .before .before .before .before .before .before .before .table-place .ensures) _ (c .record-place .ensures .1))
 
 table-reference-requires : (t : ℕ) → table-lts.Need-reference-requires (table-R t) (table-at t) table.Post table-Inv-loop table-μ-loop
-table-reference-requires t c κs = (omega arith, ((c .before .before .before .before .before .before .before .before .before .before .before .before .before .before .pre .1 .0, c .before .before .before .before .before .before .before .before .before .before .before .before .before .before .pre .1 .1, record-whole _ _ _ (c .before .before .before .before .before .before .before .before .before .before .before .before .before .before .pre .1 .2) _ (c .before .before .before .before .before .before .before .before .before .before .member-count .ensures .0) (c .before .before .before .before .before .before .loop-test .taken) _ (c .before .before .before .before .before .before .before .before .before .table-place .ensures) _ (c .before .before .record-place .ensures .1), c .before .refers .ensures (c .if2 .taken)), (reference-sound _ _ _ (c .before .before .before .before .before .before .before .before .before .before .before .before .before .before .pre .1 .2) _ (c .before .before .before .before .before .before .before .before .before .before .member-count .ensures .0) (c .before .before .before .before .before .before .loop-test .taken) _ (c .before .before .before .before .before .before .before .before .before .table-place .ensures) _ _ (c .before .before .before .before .before .before .before .before .before .before .before .before .before .before .pre .1 .0) (c .before .before .record-place .ensures .0) (c .before .refers .ensures (c .if2 .taken)), c .before .before .before .before .before .before .before .before .before .before .before .before .before .before .pre .1 .3, omega (arith, c .before .before .before .before .before .before .before .loop .inv .1 .end, c .before .before .before .before .before .before .before .before .before .before .member-count .ensures .1))))
+table-reference-requires t c κs = (omega arith, ((c .before .before .before .before .before .before .before .before .before .before .before .before .before .before .pre .1 .0, c .before .before .before .before .before .before .before .before .before .before .before .before .before .before .pre .1 .1, c .before .before .before .before .before .before .before .before .before .before .before .before .before .before .pre .1 .2, record-whole _ _ _ (c .before .before .before .before .before .before .before .before .before .before .before .before .before .before .pre .1 .3) _ (c .before .before .before .before .before .before .before .before .before .before .member-count .ensures .0) (c .before .before .before .before .before .before .loop-test .taken) _ (c .before .before .before .before .before .before .before .before .before .table-place .ensures) _ (c .before .before .record-place .ensures .1), c .before .refers .ensures (c .if2 .taken)), (reference-sound _ _ _ (c .before .before .before .before .before .before .before .before .before .before .before .before .before .before .pre .1 .3) _ (c .before .before .before .before .before .before .before .before .before .before .member-count .ensures .0) (c .before .before .before .before .before .before .loop-test .taken) _ (c .before .before .before .before .before .before .before .before .before .table-place .ensures) _ _ (c .before .before .before .before .before .before .before .before .before .before .before .before .before .before .pre .1 .0) (c .before .before .record-place .ensures .0) (c .before .refers .ensures (c .if2 .taken)), c .before .before .before .before .before .before .before .before .before .before .before .before .before .before .pre .1 .4, omega (arith, c .before .before .before .before .before .before .before .loop .inv .1 .end, c .before .before .before .before .before .before .before .before .before .before .member-count .ensures .1))))
 
 table-returns-2 : (t : ℕ) → table-lts.Need-returns-2 (table-R t) (table-at t) table.Post table-Inv-loop table-μ-loop
-table-returns-2 t c = reference-stopped _ _ _ _ _ _ _ _ _ _ _ (c .before .before .before .before .before .before .before .before .before .before .loop .inv .2) _ (c .before .before .before .before .before .before .before .before .before .before .before .before .before .member-count .ensures .0) (c .before .before .before .before .before .before .before .before .before .loop-test .taken) (c .before .before .before .before .before .before .before .before .before .before .before .before .before .before .before .before .before .pre .1 .2) _ (c .before .before .before .before .before .before .before .before .before .before .before .before .table-place .ensures) _ (c .before .before .before .before .before .record-place .ensures .0) _ (c .before .before .reference .ensures) (c .if3 .taken)
+table-returns-2 t c = reference-stopped _ _ _ _ _ _ _ _ _ _ _ _ (c .before .before .before .before .before .before .before .before .before .before .loop .inv .2) _ (c .before .before .before .before .before .before .before .before .before .before .before .before .before .member-count .ensures .0) (c .before .before .before .before .before .before .before .before .before .loop-test .taken) (c .before .before .before .before .before .before .before .before .before .before .before .before .before .before .before .before .before .pre .1 .3) _ (c .before .before .before .before .before .before .before .before .before .before .before .before .table-place .ensures) _ (c .before .before .before .before .before .record-place .ensures .0) _ (c .before .before .reference .ensures) (c .if3 .taken)
 
 table-after-bytes-requires : (t : ℕ) → table-lts.Need-after-bytes-requires (table-R t) (table-at t) table.Post table-Inv-loop table-μ-loop
-table-after-bytes-requires t c κs = (c .before .before .before .before .before .before .before .before .before .before .before .loop .inv .1 .byte, c .before .before .before .before .before .before .before .before .before .before .before .loop .inv .1 .bit, omega (arith, c .before .before .before .before .before .before .before .before .before .before .before .loop .inv .1 .end, c .before .before .before .before .before .before .before .before .before .before .before .before .before .before .member-count .ensures .1), omega arith)
+table-after-bytes-requires t c κs = (c .before .before .before .before .before .before .before .before .before .before .before .loop .inv .1 .byte, c .before .before .before .before .before .before .before .before .before .before .before .loop .inv .1 .bit, omega (arith, c .before .before .before .before .before .before .before .before .before .before .before .loop .inv .1 .end, c .before .before .before .before .before .before .before .before .before .before .before .before .before .before .member-count .ensures .1), omega (arith, c .before .before .before .before .before .before .before .before .before .before .before .before .before .before .before .before .before .before .pre .1 .1 .1))
 
 table-add-j : (t : ℕ) → table-lts.Need-add-j (table-R t) (table-at t) table.Post table-Inv-loop table-μ-loop
 table-add-j t c = search needs
@@ -644,10 +647,10 @@ table-loop-less : (t : ℕ) → table-lts.Need-loop-less (table-R t) (table-at t
 table-loop-less t c = search needs
 
 table-loop-again : (t : ℕ) → table-lts.Need-loop-again (table-R t) (table-at t) table.Post table-Inv-loop table-μ-loop
-table-loop-again t c = (omega arith, reference-laid _ _ _ (c .before .before .before .before .before .before .before .before .before .before .before .before .loop .inv .1) (c .after-bytes .ensures .1), reference-turn _ _ _ _ _ _ _ _ _ _ _ (c .before .before .before .before .before .before .before .before .before .before .before .before .loop .inv .2) _ (c .before .before .before .before .before .before .before .before .before .before .before .before .before .before .before .member-count .ensures .0) (c .before .before .before .before .before .before .before .before .before .before .before .loop-test .taken) (c .before .before .before .before .before .before .before .before .before .before .before .before .before .before .before .before .before .before .before .pre .1 .2) _ (c .before .before .before .before .before .before .before .before .before .before .before .before .before .before .table-place .ensures) _ (c .before .before .before .before .before .before .before .record-place .ensures .0) _ (c .before .before .before .before .reference .ensures) (c .before .before .if3 .left) (c .before .before .before .before .before .before .refers .ensures (c .before .before .before .before .before .if2 .taken)) _ (c .after-bytes .ensures .0))
+table-loop-again t c = (omega arith, reference-laid _ _ _ _ (c .before .before .before .before .before .before .before .before .before .before .before .before .before .before .before .before .before .before .before .pre .1 .1 .1) (c .before .before .before .before .before .before .before .before .before .before .before .before .loop .inv .1) (c .after-bytes .ensures .1), reference-turn _ _ _ _ _ _ _ _ _ _ _ _ (c .before .before .before .before .before .before .before .before .before .before .before .before .loop .inv .2) _ (c .before .before .before .before .before .before .before .before .before .before .before .before .before .before .before .member-count .ensures .0) (c .before .before .before .before .before .before .before .before .before .before .before .loop-test .taken) (c .before .before .before .before .before .before .before .before .before .before .before .before .before .before .before .before .before .before .before .pre .1 .3) _ (c .before .before .before .before .before .before .before .before .before .before .before .before .before .before .table-place .ensures) _ (c .before .before .before .before .before .before .before .record-place .ensures .0) _ (c .before .before .before .before .reference .ensures) (c .before .before .if3 .left) (c .before .before .before .before .before .before .refers .ensures (c .before .before .before .before .before .if2 .taken)) _ (c .after-bytes .ensures .0))
 
 table-lead-member-requires : (t : ℕ) → table-lts.Need-lead-member-requires (table-R t) (table-at t) table.Post table-Inv-loop table-μ-loop
-table-lead-member-requires t c κs = ((c .before .before .before .before .before .before .before .before .before .before .before .before .before .before .pre .1 .0, c .before .before .before .before .before .before .before .before .before .before .before .before .before .before .pre .1 .2, omega (arith, c .before .before .before .before .before .before .before .before .before .before .member-count .ensures .0), omega (arith, c .before .before .before .before .before .before .before .before .before .before .member-count .ensures .1)), (omega (arith, c .before .before .before .before .before .before .before .before .before .before .before .before .before .before .pre .1 .3), omega (arith, c .before .before .before .before .before .before .before .before .before .before .before .before .before .before .pre .1 .1), c .before .before .before .before .before .before .before .loop .inv .1))
+table-lead-member-requires t c κs = ((c .before .before .before .before .before .before .before .before .before .before .before .before .before .before .pre .1 .0, c .before .before .before .before .before .before .before .before .before .before .before .before .before .before .pre .1 .1, c .before .before .before .before .before .before .before .before .before .before .before .before .before .before .pre .1 .3, omega (arith, c .before .before .before .before .before .before .before .before .before .before .member-count .ensures .0), omega (arith, c .before .before .before .before .before .before .before .before .before .before .member-count .ensures .1)), (omega (arith, c .before .before .before .before .before .before .before .before .before .before .before .before .before .before .pre .1 .4), omega (arith, c .before .before .before .before .before .before .before .before .before .before .before .before .before .before .pre .1 .2), c .before .before .before .before .before .before .before .loop .inv .1))
 
 table-leads-nowhere-requires : (t : ℕ) → table-lts.Need-leads-nowhere-requires (table-R t) (table-at t) table.Post table-Inv-loop table-μ-loop
 table-leads-nowhere-requires t c κs = search needs
@@ -662,7 +665,7 @@ table-loop-again-2 : (t : ℕ) → table-lts.Need-loop-again-2 (table-R t) (tabl
 table-loop-again-2 t c = (omega arith, c .before .before .before .lead-member .ensures .laid, members-nowhere _ _ _ _ _ _ _ _ _ _ _ _ (c .before .before .before .before .before .before .before .before .before .before .before .loop .inv .2) _ (c .before .before .before .before .before .before .before .before .before .before .before .before .before .before .member-count .ensures .0) (c .before .before .before .before .before .before .before .before .before .before .loop-test .taken) _ (c .before .before .before .lead-member .ensures .step-is) (c .before .before .leads-nowhere .ensures (c .before .if4 .taken)) _ (c .before .before .before .lead-member .ensures .next-is))
 
 table-follow-requires : (t : ℕ) → table-lts.Need-follow-requires (table-R t) (table-at t) table.Post table-Inv-loop table-μ-loop
-table-follow-requires t c κs = (omega (arith, c .before .before .before .before .before .before .before .before .before .before .before .before .before .before .before .before .before .pre .0), (c .before .before .before .before .before .before .before .before .before .before .before .before .before .before .before .before .before .pre .1 .0, c .before .before .before .before .before .before .before .before .before .before .before .before .before .before .before .before .before .pre .1 .1, c .before .before .lead-member .ensures .small))
+table-follow-requires t c κs = (omega (arith, c .before .before .before .before .before .before .before .before .before .before .before .before .before .before .before .before .before .pre .0), (c .before .before .before .before .before .before .before .before .before .before .before .before .before .before .before .before .before .pre .1 .0, c .before .before .before .before .before .before .before .before .before .before .before .before .before .before .before .before .before .pre .1 .1, c .before .before .before .before .before .before .before .before .before .before .before .before .before .before .before .before .before .pre .1 .2, c .before .before .lead-member .ensures .small))
 
 table-returns-3 : (t : ℕ) → table-lts.Need-returns-3 (table-R t) (table-at t) table.Post table-Inv-loop table-μ-loop
 table-returns-3 t c = members-stopped _ _ _ _ _ _ _ _ _ _ _ _ (c .before .before .before .before .before .before .before .before .before .before .before .before .before .loop .inv .2) _ (c .before .before .before .before .before .before .before .before .before .before .before .before .before .before .before .before .member-count .ensures .0) (c .before .before .before .before .before .before .before .before .before .before .before .before .loop-test .taken) _ (c .before .before .before .before .before .lead-member .ensures .step-is) _ (c .before .before .follow .ensures) (c .if5 .taken)
@@ -692,7 +695,7 @@ union-returns : (t : ℕ) → union-lts.Need-returns (union-R t) (union-at t) un
 union-returns t c = search union-none
 
 union-visit-requires : (t : ℕ) → union-lts.Need-visit-requires (union-R t) (union-at t) union.Post
-union-visit-requires t c κs = (omega arith, (c .before .before .before .before .before .before .before .pre .1 .0, c .before .before .before .before .before .before .before .pre .1 .1, c .before .before .before .before .before .before .before .pre .1 .2, search offset-small))
+union-visit-requires t c κs = (omega arith, (c .before .before .before .before .before .before .before .pre .1 .0, c .before .before .before .before .before .before .before .pre .1 .1, c .before .before .before .before .before .before .before .pre .1 .2, c .before .before .before .before .before .before .before .pre .1 .3, search offset-small))
 
 union-enum-known-p-2 : (t : ℕ) → union-lts.Need-enum-known-p-2 (union-R t) (union-at t) union.Post
 union-enum-known-p-2 t c = search needs
@@ -731,7 +734,7 @@ visit-below-requires : (t : ℕ) → visit-lts.Need-below-requires (visit-R t) (
 visit-below-requires t c κs = search charged-deep
 
 visit-content-requires : (t : ℕ) → visit-lts.Need-content-requires (visit-R t) (visit-at t) visit.Post
-visit-content-requires t c κs = (omega (arith, c .before .before .before .before .before .before .before .before .before .before .before .before .before .pre .0, deeper-falls _ _ (c .below .ensures) (charged-deep _ _ _ _ (c .before .before .before .before .before .before .before .before .charge .ensures) (c .before .before .before .before .before .before .if1 .left))), ((c .before .before .before .before .before .before .before .before .before .before .before .before .before .pre .1 .0, c .before .before .before .before .before .before .before .before .before .before .before .before .before .pre .1 .1, c .before .before .before .before .before .before .before .before .before .before .before .before .before .pre .1 .2), search opened-fits))
+visit-content-requires t c κs = (omega (arith, c .before .before .before .before .before .before .before .before .before .before .before .before .before .pre .0, deeper-falls _ _ (c .below .ensures) (charged-deep _ _ _ _ (c .before .before .before .before .before .before .before .before .charge .ensures) (c .before .before .before .before .before .before .if1 .left))), ((c .before .before .before .before .before .before .before .before .before .before .before .before .before .pre .1 .0, c .before .before .before .before .before .before .before .before .before .before .before .before .before .pre .1 .1, c .before .before .before .before .before .before .before .before .before .before .before .before .before .pre .1 .2, c .before .before .before .before .before .before .before .before .before .before .before .before .before .pre .1 .3), search opened-fits))
 
 visit-returns-2 : (t : ℕ) → visit-lts.Need-returns-2 (visit-R t) (visit-at t) visit.Post
 visit-returns-2 t c = search visit-refused
@@ -782,11 +785,12 @@ pub +arrive+choice+choices+content+follow+list+refer+reference+references+table+
     (choice-union-requires t)
     (choice-returns-3 t))
     (λ t. choices-lts.spec
-    (choice-below t, choice.Post, going-reads.Asked, going-reads.Learnt)
+    (choices-R t)
     (choices-at t)
     choices.Post
     choices-Inv-loop
     choices-μ-loop
+    (choices-union-size-requires t)
     (choices-loop-holds t)
     (choices-choice-requires t)
     (choices-returns t)

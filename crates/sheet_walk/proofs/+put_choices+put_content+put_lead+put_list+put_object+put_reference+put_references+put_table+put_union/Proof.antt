@@ -3,7 +3,6 @@ use mathlib.Core.Path.{_≡_, refl, sym, _∙_}
 use native.Mathlib.Omega.{arith}
 use borrow.Author.Needs.{needs}
 use lib.ListN.{length, drop}
-use Rattle.coding.specs.Bytes.{u48}
 use Rattle.coding.specs.Packed as P
 use Rattle.coding.specs.Schema as Sc
 use Rattle.coding.specs.Layout as L
@@ -21,9 +20,9 @@ use Rattle.sheet_walk.proofs.Values.{reference-none, reference-there, r
 use Rattle.sheet_walk.proofs.Parts.{members-start, readable-start, member-readable, rest-readable, members-turn, members-done, coded-rest, coded-turn, elements-start, elements-readable, elements-rest, elements-done, integer-eight, element-sound, list-few, list-start, list-bools, list-numbers, elements-inside, elements-given}
 use Rattle.sheet_walk.proofs.Blobs.{blob-inside, blob-referred}
 use Rattle.sheet_walk.proofs.Runs.{list-bytes, element-flat, list-flats}
-use Rattle.sheet_walk.proofs.References.{offset-readable, offsets-turn, offsets-inside, offsets-given, list-offsets, chosen-readable, choices-turn, choices-inside, choices-given, list-choices}
+use Rattle.sheet_walk.proofs.References.{run-inside, run-next, offset-readable, offsets-turn, offsets-inside, offsets-given, list-offsets, chosen-readable, choices-turn, choices-inside, choices-given, list-choices}
 use Rattle.sheet_walk.proofs.CodedMembers.{coded-laid, coded-member}
-use Rattle.sheet_walk.proofs.Leads.{lead-known, lead-above, flat-member, lead-next, lead-past, chosen-given, lead-chosen, referred-given, lead-referred, lead-counted, width-union, width-object, lead-laid, lead-readable, lead-rest, lead-turn}
+use Rattle.sheet_walk.proofs.Leads.{lead-known, lead-above, flat-member, lead-next, lead-past, chosen-given, lead-chosen, referred-given, lead-referred, lead-counted, union-inside, object-inside, lead-laid, lead-readable, lead-rest, lead-turn}
 use borrow.Fn.Kinds.{In}
 use borrow.Fn.PlainCycle.{Measures, is, falls, and}
 use Rattle.sheet_walk.proofs.put_choices.Reads as put-choices
@@ -89,6 +88,7 @@ use Rattle.message_step.proofs.place_of.Reads as place-of-reads
 use Rattle.wire.proofs.index.Reads as index-reads
 use Rattle.wire.proofs.u16_in.Reads as u16-in-reads
 use Rattle.wire.proofs.offset_in.Reads as offset-in-reads
+use Rattle.wire.proofs.union_size.Reads as union-size-reads
 use Rattle.sheet_walk.proofs.+put_choices+put_content+put_lead+put_list+put_object+put_reference+put_references+put_table+put_union.{
   statement,
 }
@@ -224,7 +224,7 @@ put-union-below t =
     and 4 put-union-kinds.ps (falls 4 put-union-kinds.ps _<_ μ-put-union t) put-union.Pre
 
 abbrev put-choices-R : ℕ → put-choices-lts.Claims
-put-choices-R t = (u16-in-reads.Asked, u16-in-reads.Learnt, offset-in-reads.Asked, offset-in-reads.Learnt, put-union-below t, put-union.Post)
+put-choices-R t = (union-size-reads.Asked, union-size-reads.Learnt, u16-in-reads.Asked, u16-in-reads.Learnt, offset-in-reads.Asked, offset-in-reads.Learnt, put-union-below t, put-union.Post)
 
 abbrev put-content-R : ℕ → put-content-lts.Claims
 put-content-R t = (write-blob-reads.Asked, write-blob-reads.Learnt, index-reads.Asked, index-reads.Learnt, put-list-below t, put-list.Post, put-table-below t, put-table.Post)
@@ -251,13 +251,16 @@ abbrev put-union-R : ℕ → put-union-lts.Claims
 put-union-R t = (write-reads.Asked, write-reads.Learnt, case-count-reads.Asked, case-count-reads.Learnt, number64-reads.Asked, number64-reads.Learnt, put-marked-reads.Asked, put-marked-reads.Learnt, union-case-reads.Asked, union-case-reads.Learnt, place-of-reads.Asked, place-of-reads.Learnt, put-object-below t, put-object.Post)
 
 abbrev put-choices-Inv-loop : put-choices-lts.InvT-loop
-put-choices-Inv-loop b dir m out₀ d u pos n p₀ start j₀ out p at j =
-    Room out p × (j ≤ n) × (length out ≡ length out₀) × (at ≡ start + 8 * j)
-    × D.ElementsReadable u48 (D.ObjectReadable u48 d (P.parse b) m) (P.parse b) m (OfUnion u) start (n - j) j
-    × Remaining out₀ pos (A.elementsAt u48 d (P.parse b) m (OfUnion u) start n 0) out p (A.elementsAt u48 d (P.parse b) m (OfUnion u) start (n - j) j)
+put-choices-Inv-loop b dir m out₀ d u pos o n size p₀ start j₀ out p at j =
+    Room out p × (j ≤ n) × (length out ≡ length out₀) × (at ≡ start + (2 + o) * j)
+    × D.ElementsReadable o (D.ObjectReadable o d (P.parse b) m) (P.parse b) m (OfUnion u) start (n - j) j
+    × Remaining out₀ pos (A.elementsAt o d (P.parse b) m (OfUnion u) start n 0) out p (A.elementsAt o d (P.parse b) m (OfUnion u) start (n - j) j)
 
 abbrev put-choices-μ-loop : put-choices-lts.MeasureT-loop
-put-choices-μ-loop b dir m out₀ d u pos n p₀ start j₀ out p at j = n - j
+put-choices-μ-loop b dir m out₀ d u pos o n size p₀ start j₀ out p at j = n - j
+
+put-choices-union-size-requires : (t : ℕ) → put-choices-lts.Need-union-size-requires (put-choices-R t) (put-choices-at t) put-choices.Post put-choices-Inv-loop put-choices-μ-loop
+put-choices-union-size-requires t c κs = search needs
 
 put-choices-loop-holds : (t : ℕ) → put-choices-lts.Need-loop-holds (put-choices-R t) (put-choices-at t) put-choices.Post put-choices-Inv-loop put-choices-μ-loop
 put-choices-loop-holds t c = (search needs, omega arith, refl, omega arith, search elements-readable, search elements-start)
@@ -269,22 +272,28 @@ put-choices-returns : (t : ℕ) → put-choices-lts.Need-returns (put-choices-R 
 put-choices-returns t c = search remaining-over
 
 put-choices-u16-in-requires : (t : ℕ) → put-choices-lts.Need-u16-in-requires (put-choices-R t) (put-choices-at t) put-choices.Post put-choices-Inv-loop put-choices-μ-loop
-put-choices-u16-in-requires t c κs = search needs
+put-choices-u16-in-requires t c κs = omega (arith, run-inside _ _ _ _ _ (c .before .loop-test .taken) (c .before .before .loop .inv .3) _ (c .before .before .before .before .before .before .before .before .pre .1 .1 .0 .4))
 
 put-choices-add-offset-in : (t : ℕ) → put-choices-lts.Need-add-offset-in (put-choices-R t) (put-choices-at t) put-choices.Post put-choices-Inv-loop put-choices-μ-loop
-put-choices-add-offset-in t c = search needs
+put-choices-add-offset-in t c =
+    let q = c .before .before .before .before .before .before .before .before .before .pre .1 .1 .0 in
+    omega (arith, run-inside _ _ _ _ _ (c .before .before .loop-test .taken) (c .before .before .before .loop .inv .3) _ (q .4), q .2)
 
 put-choices-offset-in-requires : (t : ℕ) → put-choices-lts.Need-offset-in-requires (put-choices-R t) (put-choices-at t) put-choices.Post put-choices-Inv-loop put-choices-μ-loop
-put-choices-offset-in-requires t c κs = search needs
+put-choices-offset-in-requires t c κs =
+    let q = c .before .before .before .before .before .before .before .before .before .pre .1 .1 .0 in
+    (q .1, omega (arith, run-inside _ _ _ _ _ (c .before .before .loop-test .taken) (c .before .before .before .loop .inv .3) _ (q .4)))
 
 put-choices-put-union-requires : (t : ℕ) → put-choices-lts.Need-put-union-requires (put-choices-R t) (put-choices-at t) put-choices.Post put-choices-Inv-loop put-choices-μ-loop
 put-choices-put-union-requires t c κs =
-    let q = c .before .before .before .before .before .before .before .before .before .before .pre .1 in
+    let q = c .before .before .before .before .before .before .before .before .before .before .before .pre .1 in
     let inv = c .before .before .before .before .before .loop .inv in
-    (omega (arith, c .before .before .before .before .before .before .before .before .before .before .pre .0), (inv .0, ((q .1 .0 .0, q .1 .0 .1, q .1 .0 .2), chosen-readable _ _ _ _ _ _ _ (c .before .before .before .before .loop-test .taken) (inv .4) _ _ _ (inv .3) (c .before .before .u16-in .ensures) (c .before .offset-in .ensures .0))))
+    (omega (arith, c .before .before .before .before .before .before .before .before .before .before .before .pre .0), (inv .0, ((q .1 .0 .0, q .1 .0 .1, q .1 .0 .2, q .1 .0 .3), chosen-readable _ _ _ _ _ _ _ _ (c .before .before .before .before .loop-test .taken) (inv .4) _ _ _ (inv .3) (c .before .before .u16-in .ensures) (c .before .offset-in .ensures .0))))
 
 put-choices-add-at : (t : ℕ) → put-choices-lts.Need-add-at (put-choices-R t) (put-choices-at t) put-choices.Post put-choices-Inv-loop put-choices-μ-loop
-put-choices-add-at t c = search needs
+put-choices-add-at t c =
+    let q = c .before .before .before .before .before .before .before .before .before .before .before .before .before .before .pre .1 .1 .0 in
+    omega (arith, run-inside _ _ _ _ _ (c .before .before .before .before .before .before .before .loop-test .taken) (c .before .before .before .before .before .before .before .before .loop .inv .3) _ (q .4), q .2, c .before .before .before .before .before .before .before .before .before .union-size .ensures)
 
 put-choices-add-j : (t : ℕ) → put-choices-lts.Need-add-j (put-choices-R t) (put-choices-at t) put-choices.Post put-choices-Inv-loop put-choices-μ-loop
 put-choices-add-j t c = search needs
@@ -300,7 +309,7 @@ put-choices-loop-again t c =
       search (room-next, inv .0, put),
       omega (arith, less),
       omega (arith, put .len, inv .2),
-      omega (arith, inv .3),
+      omega (arith, run-next _ _ _ _ _ less (inv .3), c .before .before .before .before .before .before .before .before .before .union-size .ensures),
       search (elements-rest, less, inv .4),
       search (choices-turn, less, inv .4, inv .3, c .before .before .before .before .before .u16-in .ensures, c .before .before .before .before .offset-in .ensures .0, inv .5, inv .0, put),
     )
@@ -332,7 +341,7 @@ put-content-index-requires t c κs = search needs
 put-content-put-list-requires : (t : ℕ) → put-content-lts.Need-put-list-requires (put-content-R t) (put-content-at t) put-content.Post
 put-content-put-list-requires t c κs =
     let q = c .before .before .before .before .before .before .before .before .before .pre .1 in
-    (omega (arith, c .before .before .before .before .before .before .before .before .before .pre .0), (q .0, ((q .1 .0 .0, q .1 .0 .1, search (list-counted, q .1 .1, c .before .before .before .ob .given .1, c .index .ensures .0)), (search (list-inside, q .1 .1, c .before .before .before .ob .given .1, c .index .ensures .0), search (list-readable, q .1 .1, c .before .before .before .ob .given .1, c .index .ensures .0)))))
+    (omega (arith, c .before .before .before .before .before .before .before .before .before .pre .0), (q .0, ((q .1 .0 .0, q .1 .0 .1, q .1 .0 .2, search (list-counted, q .1 .1, c .before .before .before .ob .given .1, c .index .ensures .0)), (search (list-inside, q .1 .1, c .before .before .before .ob .given .1, c .index .ensures .0), search (list-readable, q .1 .1, c .before .before .before .ob .given .1, c .index .ensures .0)))))
 
 put-content-enum-known-ob-2 : (t : ℕ) → put-content-lts.Need-enum-known-ob-2 (put-content-R t) (put-content-at t) put-content.Post
 put-content-enum-known-ob-2 t c = search needs
@@ -343,7 +352,7 @@ put-content-index-requires-2 t c κs = search needs
 put-content-put-table-requires : (t : ℕ) → put-content-lts.Need-put-table-requires (put-content-R t) (put-content-at t) put-content.Post
 put-content-put-table-requires t c κs =
     let q = c .before .before .before .before .before .before .before .before .before .pre .1 in
-    (omega (arith, c .before .before .before .before .before .before .before .before .before .pre .0), (q .0, ((q .1 .0 .0, q .1 .0 .1, search (table-counted, q .1 .1, c .before .before .before .ob2 .given .1, c .index2 .ensures .0), search (table-inside, q .1 .1, c .before .before .before .ob2 .given .1, c .index2 .ensures .0)), search (table-readable, q .1 .1, c .before .before .before .ob2 .given .1, c .index2 .ensures .0))))
+    (omega (arith, c .before .before .before .before .before .before .before .before .before .pre .0), (q .0, ((q .1 .0 .0, q .1 .0 .1, q .1 .0 .2, search (table-counted, q .1 .1, c .before .before .before .ob2 .given .1, c .index2 .ensures .0), search (table-inside, q .1 .1, c .before .before .before .ob2 .given .1, c .index2 .ensures .0)), search (table-readable, q .1 .1, c .before .before .before .ob2 .given .1, c .index2 .ensures .0))))
 
 put-content-same-length : (t : ℕ) → put-content-lts.Need-same-length (put-content-R t) (put-content-at t) put-content.Post
 put-content-same-length t c = search needs
@@ -406,13 +415,15 @@ put-lead-index-requires : (t : ℕ) → put-lead-lts.Need-index-requires (put-le
 put-lead-index-requires t c κs = search needs
 
 put-lead-u16-in-requires : (t : ℕ) → put-lead-lts.Need-u16-in-requires (put-lead-R t) (put-lead-at t) put-lead.Post
-put-lead-u16-in-requires t c κs = let w = width-union (c .before .before .before .before .before .before .before .before .before .kind-at .result) _ (c .before .before .before .is-union-kind .ensures) (c .before .before .if2 .taken) in omega (arith, c .before .before .before .before .before .before .before .before .before .before .before .before .before .before .before .pre .1 .1 .1 .0 .0, c .before .before .before .before .before .before .if1 .left, c .before .before .before .before .before .before .before .before .lead-width .ensures .0, w)
+put-lead-u16-in-requires t c κs = omega (arith, union-inside _ (c .before .before .before .before .before .before .before .before .before .kind-at .result) _ (c .before .before .before .is-union-kind .ensures) _ (c .before .before .before .before .before .before .before .before .lead-width .ensures .0) _ _ _ _ (c .before .before .before .before .before .before .before .before .before .before .before .before .before .before .before .pre .1 .1 .1 .0 .0) (c .before .before .before .before .before .before .if1 .left) (c .before .before .if2 .taken))
 
 put-lead-add-offset-in : (t : ℕ) → put-lead-lts.Need-add-offset-in (put-lead-R t) (put-lead-at t) put-lead.Post
 put-lead-add-offset-in t c = search needs
 
 put-lead-offset-in-requires : (t : ℕ) → put-lead-lts.Need-offset-in-requires (put-lead-R t) (put-lead-at t) put-lead.Post
-put-lead-offset-in-requires t c κs = let w = width-union (c .before .before .before .before .before .before .before .before .before .before .kind-at .result) _ (c .before .before .before .before .is-union-kind .ensures) (c .before .before .before .if2 .taken) in omega (arith, c .before .before .before .before .before .before .before .before .before .before .before .before .before .before .before .before .pre .1 .1 .1 .0 .0, c .before .before .before .before .before .before .before .if1 .left, c .before .before .before .before .before .before .before .before .before .lead-width .ensures .0, w)
+put-lead-offset-in-requires t c κs =
+    let q = c .before .before .before .before .before .before .before .before .before .before .before .before .before .before .before .before .pre .1 .1 in
+    (q .0 .1, omega (arith, union-inside _ (c .before .before .before .before .before .before .before .before .before .before .kind-at .result) _ (c .before .before .before .before .is-union-kind .ensures) _ (c .before .before .before .before .before .before .before .before .before .lead-width .ensures .0) _ _ _ _ (q .1 .0 .0) (c .before .before .before .before .before .before .before .if1 .left) (c .before .before .before .if2 .taken)))
 
 put-lead-put-union-requires : (t : ℕ) → put-lead-lts.Need-put-union-requires (put-lead-R t) (put-lead-at t) put-lead.Post
 put-lead-put-union-requires t c κs =
@@ -426,7 +437,7 @@ put-lead-put-union-requires t c κs =
       (
         q .0,
         (
-          (q .1 .0 .0, q .1 .0 .1, search (lead-counted, kind, told, chosen, q .1 .0 .3, argument, index)),
+          (q .1 .0 .0, q .1 .0 .1, q .1 .0 .2, search (lead-counted, kind, told, chosen, q .1 .0 .4, argument, index)),
           search (chosen-given, kind, q .1 .1 .0 .1, q .1 .1 .0 .2, c .before .before .before .before .before .before .before .before .before .before .before .lead-width .ensures .0, c .before .before .before .before .before .before .before .before .before .if1 .left, c .before .before .before .before .before .before .before .before .before .before .before .lead-width .ensures .1, c .before .before .before .before .before .before .before .before .inplace-at .ensures, told, chosen, argument, index, c .before .before .u16-in .ensures, c .before .offset-in .ensures .0, q .1 .1 .1),
         ),
       ),
@@ -441,7 +452,9 @@ put-lead-returns-2 t c =
     search (lead-chosen, c .before .before .before .before .before .before .before .before .before .before .before .before .before .before .before .kind-at .ensures .0, q .0 .1, q .0 .2, c .before .before .before .before .before .before .before .before .before .before .before .before .before .before .lead-width .ensures .0, c .before .before .before .before .before .before .before .before .before .before .before .before .if1 .left, c .before .before .before .before .before .before .before .before .before .before .before .before .before .before .lead-width .ensures .1, c .before .before .before .before .before .before .before .before .before .before .before .inplace-at .ensures, c .before .before .before .before .before .before .before .before .before .is-union-kind .ensures, c .before .before .before .before .before .before .before .before .if2 .taken, c .before .before .before .before .before .before .before .argument-at .ensures, c .before .before .before .before .before .before .index .ensures .0, c .before .before .before .before .before .u16-in .ensures, c .before .before .before .before .offset-in .ensures .0, c .before .before .put-union .ensures)
 
 put-lead-offset-in-requires-2 : (t : ℕ) → put-lead-lts.Need-offset-in-requires-2 (put-lead-R t) (put-lead-at t) put-lead.Post
-put-lead-offset-in-requires-2 t c κs = let w = width-object (c .before .before .before .before .before .before .before .kind-at .result) _ (c .before .is-union-kind .ensures) (c .if2 .left) in omega (arith, c .before .before .before .before .before .before .before .before .before .before .before .before .before .pre .1 .1 .1 .0 .0, c .before .before .before .before .if1 .left, c .before .before .before .before .before .before .lead-width .ensures .0, w)
+put-lead-offset-in-requires-2 t c κs =
+    let q = c .before .before .before .before .before .before .before .before .before .before .before .before .before .pre .1 .1 in
+    (q .0 .1, object-inside _ (c .before .before .before .before .before .before .before .kind-at .result) _ (c .before .is-union-kind .ensures) _ (c .before .before .before .before .before .before .lead-width .ensures .0) _ _ _ _ (q .1 .0 .0) (c .before .before .before .before .if1 .left) (c .if2 .left))
 
 put-lead-object-at-requires : (t : ℕ) → put-lead-lts.Need-object-at-requires (put-lead-R t) (put-lead-at t) put-lead.Post
 put-lead-object-at-requires t c κs = search needs
@@ -452,7 +465,7 @@ put-lead-is-blob-requires t c κs = search needs
 put-lead-put-blob-reference-requires : (t : ℕ) → put-lead-lts.Need-put-blob-reference-requires (put-lead-R t) (put-lead-at t) put-lead.Post
 put-lead-put-blob-reference-requires t c κs =
     let q = c .before .before .before .before .before .before .before .before .before .before .before .before .before .before .before .before .before .before .pre .1 in
-    (q .0, (q .1 .0 .1, blob-inside u48 _ _ _ _ _ _ _ (referred-given u48 _ _ _ (c .before .before .before .before .before .before .before .before .before .before .before .before .kind-at .ensures .0) (q .1 .1 .0 .1) (q .1 .1 .0 .2) _ (c .before .before .before .before .before .before .before .before .before .before .before .lead-width .ensures .0) _ _ _ _ _ (c .before .before .before .before .before .before .before .before .before .if1 .left) (c .before .before .before .before .before .before .before .before .before .before .before .lead-width .ensures .1) _ (c .before .before .before .before .before .before .before .before .inplace-at .ensures) _ (c .before .before .before .before .before .before .is-union-kind .ensures) (c .before .before .before .before .before .if2 .left) _ (c .before .before .before .object-at .ensures) _ (c .before .before .before .before .offset-in2 .ensures .0) (q .1 .1 .1)) (sym (c .before .before .is-blob .ensures) ∙ c .before .if3 .taken)))
+    (q .0, ((q .1 .0 .1, q .1 .0 .2), blob-inside _ _ _ _ _ _ _ _ (referred-given _ _ _ _ (c .before .before .before .before .before .before .before .before .before .before .before .before .kind-at .ensures .0) (q .1 .1 .0 .1) (q .1 .1 .0 .2) _ (c .before .before .before .before .before .before .before .before .before .before .before .lead-width .ensures .0) _ _ _ _ _ (c .before .before .before .before .before .before .before .before .before .if1 .left) (c .before .before .before .before .before .before .before .before .before .before .before .lead-width .ensures .1) _ (c .before .before .before .before .before .before .before .before .inplace-at .ensures) _ (c .before .before .before .before .before .before .is-union-kind .ensures) (c .before .before .before .before .before .if2 .left) _ (c .before .before .before .object-at .ensures) _ (c .before .before .before .before .offset-in2 .ensures .0) (q .1 .1 .1)) (sym (c .before .before .is-blob .ensures) ∙ c .before .if3 .taken)))
 
 put-lead-same-length-3 : (t : ℕ) → put-lead-lts.Need-same-length-3 (put-lead-R t) (put-lead-at t) put-lead.Post
 put-lead-same-length-3 t c = search needs
@@ -460,13 +473,13 @@ put-lead-same-length-3 t c = search needs
 put-lead-returns-3 : (t : ℕ) → put-lead-lts.Need-returns-3 (put-lead-R t) (put-lead-at t) put-lead.Post
 put-lead-returns-3 t c =
     let q = c .before .before .before .before .before .before .before .before .before .before .before .before .before .before .before .before .before .before .before .before .before .pre .1 in
-    lead-referred u48 _ _ _ (c .before .before .before .before .before .before .before .before .before .before .before .before .before .before .before .kind-at .ensures .0) (q .1 .1 .0 .1) (q .1 .1 .0 .2) _ (c .before .before .before .before .before .before .before .before .before .before .before .before .before .before .lead-width .ensures .0) _ _ _ _ _ (c .before .before .before .before .before .before .before .before .before .before .before .before .if1 .left) (c .before .before .before .before .before .before .before .before .before .before .before .before .before .before .lead-width .ensures .1) _ (c .before .before .before .before .before .before .before .before .before .before .before .inplace-at .ensures) _ (c .before .before .before .before .before .before .before .before .before .is-union-kind .ensures) (c .before .before .before .before .before .before .before .before .if2 .left) _ (c .before .before .before .before .before .before .object-at .ensures) _ (c .before .before .before .before .before .before .before .offset-in2 .ensures .0) _ _ _ _
-    (blob-referred u48 _ _ _ _ _ _ _ (referred-given u48 _ _ _ (c .before .before .before .before .before .before .before .before .before .before .before .before .before .before .before .kind-at .ensures .0) (q .1 .1 .0 .1) (q .1 .1 .0 .2) _ (c .before .before .before .before .before .before .before .before .before .before .before .before .before .before .lead-width .ensures .0) _ _ _ _ _ (c .before .before .before .before .before .before .before .before .before .before .before .before .if1 .left) (c .before .before .before .before .before .before .before .before .before .before .before .before .before .before .lead-width .ensures .1) _ (c .before .before .before .before .before .before .before .before .before .before .before .inplace-at .ensures) _ (c .before .before .before .before .before .before .before .before .before .is-union-kind .ensures) (c .before .before .before .before .before .before .before .before .if2 .left) _ (c .before .before .before .before .before .before .object-at .ensures) _ (c .before .before .before .before .before .before .before .offset-in2 .ensures .0) (q .1 .1 .1)) (sym (c .before .before .before .before .before .is-blob .ensures) ∙ c .before .before .before .before .if3 .taken) _ _ _ _ (c .before .before .put-blob-reference .ensures))
+    lead-referred _ _ _ _ (c .before .before .before .before .before .before .before .before .before .before .before .before .before .before .before .kind-at .ensures .0) (q .1 .1 .0 .1) (q .1 .1 .0 .2) _ (c .before .before .before .before .before .before .before .before .before .before .before .before .before .before .lead-width .ensures .0) _ _ _ _ _ (c .before .before .before .before .before .before .before .before .before .before .before .before .if1 .left) (c .before .before .before .before .before .before .before .before .before .before .before .before .before .before .lead-width .ensures .1) _ (c .before .before .before .before .before .before .before .before .before .before .before .inplace-at .ensures) _ (c .before .before .before .before .before .before .before .before .before .is-union-kind .ensures) (c .before .before .before .before .before .before .before .before .if2 .left) _ (c .before .before .before .before .before .before .object-at .ensures) _ (c .before .before .before .before .before .before .before .offset-in2 .ensures .0) _ _ _ _
+    (blob-referred _ _ _ _ _ _ _ _ (referred-given _ _ _ _ (c .before .before .before .before .before .before .before .before .before .before .before .before .before .before .before .kind-at .ensures .0) (q .1 .1 .0 .1) (q .1 .1 .0 .2) _ (c .before .before .before .before .before .before .before .before .before .before .before .before .before .before .lead-width .ensures .0) _ _ _ _ _ (c .before .before .before .before .before .before .before .before .before .before .before .before .if1 .left) (c .before .before .before .before .before .before .before .before .before .before .before .before .before .before .lead-width .ensures .1) _ (c .before .before .before .before .before .before .before .before .before .before .before .inplace-at .ensures) _ (c .before .before .before .before .before .before .before .before .before .is-union-kind .ensures) (c .before .before .before .before .before .before .before .before .if2 .left) _ (c .before .before .before .before .before .before .object-at .ensures) _ (c .before .before .before .before .before .before .before .offset-in2 .ensures .0) (q .1 .1 .1)) (sym (c .before .before .before .before .before .is-blob .ensures) ∙ c .before .before .before .before .if3 .taken) _ _ _ _ (c .before .before .put-blob-reference .ensures))
 
 put-lead-put-reference-requires : (t : ℕ) → put-lead-lts.Need-put-reference-requires (put-lead-R t) (put-lead-at t) put-lead.Post
 put-lead-put-reference-requires t c κs =
     let q = c .before .before .before .before .before .before .before .before .before .before .before .before .before .before .before .before .before .before .pre .1 in
-    (omega (arith, c .before .before .before .before .before .before .before .before .before .before .before .before .before .before .before .before .before .before .pre .0), (q .0, ((q .1 .0 .0, q .1 .0 .1), referred-given u48 _ _ _ (c .before .before .before .before .before .before .before .before .before .before .before .before .kind-at .ensures .0) (q .1 .1 .0 .1) (q .1 .1 .0 .2) _ (c .before .before .before .before .before .before .before .before .before .before .before .lead-width .ensures .0) _ _ _ _ _ (c .before .before .before .before .before .before .before .before .before .if1 .left) (c .before .before .before .before .before .before .before .before .before .before .before .lead-width .ensures .1) _ (c .before .before .before .before .before .before .before .before .inplace-at .ensures) _ (c .before .before .before .before .before .before .is-union-kind .ensures) (c .before .before .before .before .before .if2 .left) _ (c .before .before .before .object-at .ensures) _ (c .before .before .before .before .offset-in2 .ensures .0) (q .1 .1 .1))))
+    (omega (arith, c .before .before .before .before .before .before .before .before .before .before .before .before .before .before .before .before .before .before .pre .0), (q .0, ((q .1 .0 .0, q .1 .0 .1, q .1 .0 .2), referred-given _ _ _ _ (c .before .before .before .before .before .before .before .before .before .before .before .before .kind-at .ensures .0) (q .1 .1 .0 .1) (q .1 .1 .0 .2) _ (c .before .before .before .before .before .before .before .before .before .before .before .lead-width .ensures .0) _ _ _ _ _ (c .before .before .before .before .before .before .before .before .before .if1 .left) (c .before .before .before .before .before .before .before .before .before .before .before .lead-width .ensures .1) _ (c .before .before .before .before .before .before .before .before .inplace-at .ensures) _ (c .before .before .before .before .before .before .is-union-kind .ensures) (c .before .before .before .before .before .if2 .left) _ (c .before .before .before .object-at .ensures) _ (c .before .before .before .before .offset-in2 .ensures .0) (q .1 .1 .1))))
 
 put-lead-same-length-4 : (t : ℕ) → put-lead-lts.Need-same-length-4 (put-lead-R t) (put-lead-at t) put-lead.Post
 put-lead-same-length-4 t c = search needs
@@ -474,7 +487,7 @@ put-lead-same-length-4 t c = search needs
 put-lead-returns-4 : (t : ℕ) → put-lead-lts.Need-returns-4 (put-lead-R t) (put-lead-at t) put-lead.Post
 put-lead-returns-4 t c =
     let q = c .before .before .before .before .before .before .before .before .before .before .before .before .before .before .before .before .before .before .before .before .before .pre .1 in
-    lead-referred u48 _ _ _ (c .before .before .before .before .before .before .before .before .before .before .before .before .before .before .before .kind-at .ensures .0) (q .1 .1 .0 .1) (q .1 .1 .0 .2) _ (c .before .before .before .before .before .before .before .before .before .before .before .before .before .before .lead-width .ensures .0) _ _ _ _ _ (c .before .before .before .before .before .before .before .before .before .before .before .before .if1 .left) (c .before .before .before .before .before .before .before .before .before .before .before .before .before .before .lead-width .ensures .1) _ (c .before .before .before .before .before .before .before .before .before .before .before .inplace-at .ensures) _ (c .before .before .before .before .before .before .before .before .before .is-union-kind .ensures) (c .before .before .before .before .before .before .before .before .if2 .left) _ (c .before .before .before .before .before .before .object-at .ensures) _ (c .before .before .before .before .before .before .before .offset-in2 .ensures .0) _ _ _ _ (c .before .before .put-reference .ensures)
+    lead-referred _ _ _ _ (c .before .before .before .before .before .before .before .before .before .before .before .before .before .before .before .kind-at .ensures .0) (q .1 .1 .0 .1) (q .1 .1 .0 .2) _ (c .before .before .before .before .before .before .before .before .before .before .before .before .before .before .lead-width .ensures .0) _ _ _ _ _ (c .before .before .before .before .before .before .before .before .before .before .before .before .if1 .left) (c .before .before .before .before .before .before .before .before .before .before .before .before .before .before .lead-width .ensures .1) _ (c .before .before .before .before .before .before .before .before .before .before .before .inplace-at .ensures) _ (c .before .before .before .before .before .before .before .before .before .is-union-kind .ensures) (c .before .before .before .before .before .before .before .before .if2 .left) _ (c .before .before .before .before .before .before .object-at .ensures) _ (c .before .before .before .before .before .before .before .offset-in2 .ensures .0) _ _ _ _ (c .before .before .put-reference .ensures)
 
 put-list-element-requires : (t : ℕ) → put-list-lts.Need-element-requires (put-list-R t) (put-list-at t) put-list.Post
 put-list-element-requires t c κs = search needs
@@ -503,7 +516,7 @@ put-list-is-bool-requires t c κs = search needs
 put-list-put-bools-requires : (t : ℕ) → put-list-lts.Need-put-bools-requires (put-list-R t) (put-list-at t) put-list.Post
 put-list-put-bools-requires t c κs =
     let q = c .before .before .before .before .before .before .before .before .before .before .before .before .before .before .before .pre .1 in
-    (search (room-next, q .0, c .before .before .before .before .before .write .ensures), (omega (arith, list-start _ _ _ (q .1 .1 .0) (q .1 .0 .1)), search (list-few, q .1 .0 .0, q .1 .1 .0, q .1 .0 .1)))
+    (search (room-next, q .0, c .before .before .before .before .before .write .ensures), (omega (arith, list-start _ _ _ (q .1 .1 .0) (q .1 .0 .2)), search (list-few, q .1 .0 .1, q .1 .0 .0, q .1 .1 .0, q .1 .0 .2)))
 
 put-list-same-length-2 : (t : ℕ) → put-list-lts.Need-same-length-2 (put-list-R t) (put-list-at t) put-list.Post
 put-list-same-length-2 t c = search needs
@@ -515,7 +528,7 @@ put-list-put-numbers-requires : (t : ℕ) → put-list-lts.Need-put-numbers-requ
 put-list-put-numbers-requires t c κs =
     let q = c .before .before .before .before .before .before .before .before .before .before .before .before .before .before .before .before .pre .1 in
     let sound = element-sound _ _ (q .1 .0 .0) _ _ (c .before .before .before .before .before .before .before .before .before .before .before .element .ensures) in
-    (search (room-next, q .0, c .before .before .before .before .before .before .write .ensures), (integer-eight _ _ _ sound (c .before .before .before .before .before .before .before .before .before .before .integer-width .ensures), list-start _ _ _ (q .1 .1 .0) (q .1 .0 .1), search (list-few, q .1 .0 .0, q .1 .1 .0, q .1 .0 .1)))
+    (search (room-next, q .0, c .before .before .before .before .before .before .write .ensures), (integer-eight _ _ _ sound (c .before .before .before .before .before .before .before .before .before .before .integer-width .ensures), list-start _ _ _ (q .1 .1 .0) (q .1 .0 .2), search (list-few, q .1 .0 .1, q .1 .0 .0, q .1 .1 .0, q .1 .0 .2)))
 
 put-list-same-length-3 : (t : ℕ) → put-list-lts.Need-same-length-3 (put-list-R t) (put-list-at t) put-list.Post
 put-list-same-length-3 t c = search needs
@@ -529,7 +542,7 @@ put-list-enum-known-k t c = search needs
 put-list-put-flats-requires : (t : ℕ) → put-list-lts.Need-put-flats-requires (put-list-R t) (put-list-at t) put-list.Post
 put-list-put-flats-requires t c κs =
     let q = c .before .before .before .before .before .before .before .before .before .before .before .before .before .before .before .before .before .before .before .pre .1 in
-    (search (room-next, q .0, c .before .before .before .before .before .before .before .before .before .write .ensures), (element-flat _ _ (q .1 .0 .0) _ _ (c .before .before .before .before .before .before .before .before .before .before .before .before .before .before .element .ensures) _ (c .before .before .k .given .1), list-start _ _ _ (q .1 .1 .0) (q .1 .0 .1), search (list-few, q .1 .0 .0, q .1 .1 .0, q .1 .0 .1)))
+    (search (room-next, q .0, c .before .before .before .before .before .before .before .before .before .write .ensures), (element-flat _ _ (q .1 .0 .0) _ _ (c .before .before .before .before .before .before .before .before .before .before .before .before .before .before .element .ensures) _ (c .before .before .k .given .1), list-start _ _ _ (q .1 .1 .0) (q .1 .0 .2), search (list-few, q .1 .0 .1, q .1 .0 .0, q .1 .1 .0, q .1 .0 .2)))
 
 put-list-enum-known-k-2 : (t : ℕ) → put-list-lts.Need-enum-known-k-2 (put-list-R t) (put-list-at t) put-list.Post
 put-list-enum-known-k-2 t c = search needs
@@ -542,7 +555,7 @@ put-list-put-references-requires t c κs =
       omega (arith, c .before .before .before .before .before .before .before .before .before .before .before .before .before .before .before .before .before .before .before .pre .0),
       (
         search (room-next, q .0, c .before .before .before .before .before .before .before .before .before .write .ensures),
-        ((q .1 .0 .0, q .1 .0 .1, offsets-inside _ _ _ is _ _ _ (elements-inside u48 _ _ _ element _ _ _ (q .1 .1 .0))), offsets-given _ _ _ is _ _ _ _ (elements-given u48 _ _ _ element _ _ _ _ (q .1 .1 .1))),
+        ((q .1 .0 .0, q .1 .0 .1, q .1 .0 .2, offsets-inside _ _ _ _ is _ _ _ (elements-inside _ _ _ _ element _ _ _ (q .1 .1 .0))), offsets-given _ _ _ _ is _ _ _ _ (elements-given _ _ _ _ element _ _ _ _ (q .1 .1 .1))),
       ),
     )
 
@@ -561,7 +574,7 @@ put-list-put-choices-requires t c κs =
       omega (arith, c .before .before .before .before .before .before .before .before .before .before .before .before .before .before .before .before .before .before .before .before .pre .0),
       (
         search (room-next, q .0, c .before .before .before .before .before .before .before .before .before .before .write .ensures),
-        ((q .1 .0 .0, q .1 .0 .1, union-counted _ _ _ _ (element-sound _ _ (q .1 .0 .0) _ _ element) is index, choices-inside _ _ _ _ is index _ _ _ (elements-inside u48 _ _ _ element _ _ _ (q .1 .1 .0))), choices-given _ _ _ _ is index _ _ _ _ (elements-given u48 _ _ _ element _ _ _ _ (q .1 .1 .1))),
+        ((q .1 .0 .0, q .1 .0 .1, q .1 .0 .2, union-counted _ _ _ _ (element-sound _ _ (q .1 .0 .0) _ _ element) is index, choices-inside _ _ _ _ _ is index _ _ _ (elements-inside _ _ _ _ element _ _ _ (q .1 .1 .0))), choices-given _ _ _ _ _ is index _ _ _ _ (elements-given _ _ _ _ element _ _ _ _ (q .1 .1 .1))),
       ),
     )
 
@@ -590,12 +603,12 @@ put-object-sub-put-content : (t : ℕ) → put-object-lts.Need-sub-put-content (
 put-object-sub-put-content t c = search needs
 
 put-object-content-of-requires : (t : ℕ) → put-object-lts.Need-content-of-requires (put-object-R t) (put-object-at t) put-object.Post
-put-object-content-of-requires t c κs = (search header-there, search needs)
+put-object-content-of-requires t c κs = (search needs, search header-there, search needs)
 
 put-object-put-content-requires : (t : ℕ) → put-object-lts.Need-put-content-requires (put-object-R t) (put-object-at t) put-object.Post
 put-object-put-content-requires t c κs =
     let q = c .before .before .before .before .before .before .before .pre .1 in
-    (omega (arith, c .before .before .before .before .before .before .before .pre .0, c .before .before .if1 .left), (q .0, ((q .1 .0 .0, q .1 .0 .1), search (content-readable, q .1 .1, c .before .before .if1 .left, c .content-of .ensures .0, c .content-of .ensures .1))))
+    (omega (arith, c .before .before .before .before .before .before .before .pre .0, c .before .before .if1 .left), (q .0, ((q .1 .0 .0, q .1 .0 .1, q .1 .0 .2), search (content-readable, q .1 .1, c .before .before .if1 .left, c .content-of .ensures .0, c .content-of .ensures .1))))
 
 put-object-same-length : (t : ℕ) → put-object-lts.Need-same-length (put-object-R t) (put-object-at t) put-object.Post
 put-object-same-length t c = search needs
@@ -622,7 +635,7 @@ put-reference-put-object-requires : (t : ℕ) → put-reference-lts.Need-put-obj
 put-reference-put-object-requires t c κs =
     let q = c .before .before .before .before .before .before .before .before .before .before .before .pre .1 in
     let fall = c .before .before .before .before .before .before .before .before .before .before .before .pre .0 in
-    (omega (arith, fall), (search (room-next, q .0, c .before .before .before .write2 .ensures), ((q .1 .0 .0, q .1 .0 .1), search (reference-readable, q .1 .1, c .before .before .before .before .before .before .if1 .left, c .before .before .before .before .before .place-of .ensures))))
+    (omega (arith, fall), (search (room-next, q .0, c .before .before .before .write2 .ensures), ((q .1 .0 .0, q .1 .0 .1, q .1 .0 .2), search (reference-readable, q .1 .1, c .before .before .before .before .before .before .if1 .left, c .before .before .before .before .before .place-of .ensures))))
 
 put-reference-same-length-2 : (t : ℕ) → put-reference-lts.Need-same-length-2 (put-reference-R t) (put-reference-at t) put-reference.Post
 put-reference-same-length-2 t c = search needs
@@ -631,13 +644,13 @@ put-reference-returns-2 : (t : ℕ) → put-reference-lts.Need-returns-2 (put-re
 put-reference-returns-2 t c = search reference-there
 
 abbrev put-references-Inv-loop : put-references-lts.InvT-loop
-put-references-Inv-loop b dir m out₀ d ob pos n p₀ start j₀ out p at j =
-    Room out p × (j ≤ n) × (length out ≡ length out₀) × (at ≡ start + 6 * j)
-    × D.ElementsReadable u48 (D.ObjectReadable u48 d (P.parse b) m) (P.parse b) m (OfObject ob) start (n - j) j
-    × Remaining out₀ pos (A.elementsAt u48 d (P.parse b) m (OfObject ob) start n 0) out p (A.elementsAt u48 d (P.parse b) m (OfObject ob) start (n - j) j)
+put-references-Inv-loop b dir m out₀ d ob pos o n p₀ start j₀ out p at j =
+    Room out p × (j ≤ n) × (length out ≡ length out₀) × (at ≡ start + o * j)
+    × D.ElementsReadable o (D.ObjectReadable o d (P.parse b) m) (P.parse b) m (OfObject ob) start (n - j) j
+    × Remaining out₀ pos (A.elementsAt o d (P.parse b) m (OfObject ob) start n 0) out p (A.elementsAt o d (P.parse b) m (OfObject ob) start (n - j) j)
 
 abbrev put-references-μ-loop : put-references-lts.MeasureT-loop
-put-references-μ-loop b dir m out₀ d ob pos n p₀ start j₀ out p at j = n - j
+put-references-μ-loop b dir m out₀ d ob pos o n p₀ start j₀ out p at j = n - j
 
 put-references-loop-holds : (t : ℕ) → put-references-lts.Need-loop-holds (put-references-R t) (put-references-at t) put-references.Post put-references-Inv-loop put-references-μ-loop
 put-references-loop-holds t c = (search needs, omega arith, refl, omega arith, search elements-readable, search elements-start)
@@ -649,16 +662,20 @@ put-references-returns : (t : ℕ) → put-references-lts.Need-returns (put-refe
 put-references-returns t c = search remaining-over
 
 put-references-offset-in-requires : (t : ℕ) → put-references-lts.Need-offset-in-requires (put-references-R t) (put-references-at t) put-references.Post put-references-Inv-loop put-references-μ-loop
-put-references-offset-in-requires t c κs = search needs
+put-references-offset-in-requires t c κs =
+    let q = c .before .before .before .before .before .before .before .pre .1 .1 .0 in
+    (q .1, run-inside _ _ _ _ _ (c .before .loop-test .taken) (c .before .before .loop .inv .3) _ (q .3))
 
 put-references-put-reference-requires : (t : ℕ) → put-references-lts.Need-put-reference-requires (put-references-R t) (put-references-at t) put-references.Post put-references-Inv-loop put-references-μ-loop
 put-references-put-reference-requires t c κs =
     let q = c .before .before .before .before .before .before .before .before .before .pre .1 in
     let inv = c .before .before .before .before .loop .inv in
-    (omega (arith, c .before .before .before .before .before .before .before .before .before .pre .0), (inv .0, ((q .1 .0 .0, q .1 .0 .1), offset-readable _ _ _ _ _ _ _ (c .before .before .before .loop-test .taken) (inv .4) _ _ (inv .3) (c .before .offset-in .ensures .0))))
+    (omega (arith, c .before .before .before .before .before .before .before .before .before .pre .0), (inv .0, ((q .1 .0 .0, q .1 .0 .1, q .1 .0 .2), offset-readable _ _ _ _ _ _ _ _ (c .before .before .before .loop-test .taken) (inv .4) _ _ (inv .3) (c .before .offset-in .ensures .0))))
 
 put-references-add-at : (t : ℕ) → put-references-lts.Need-add-at (put-references-R t) (put-references-at t) put-references.Post put-references-Inv-loop put-references-μ-loop
-put-references-add-at t c = search needs
+put-references-add-at t c =
+    let q = c .before .before .before .before .before .before .before .before .before .before .before .before .pre .1 .1 .0 in
+    omega (arith, run-inside _ _ _ _ _ (c .before .before .before .before .before .before .loop-test .taken) (c .before .before .before .before .before .before .before .loop .inv .3) _ (q .3), q .2)
 
 put-references-add-j : (t : ℕ) → put-references-lts.Need-add-j (put-references-R t) (put-references-at t) put-references.Post put-references-Inv-loop put-references-μ-loop
 put-references-add-j t c = search needs
@@ -674,7 +691,7 @@ put-references-loop-again t c =
       search (room-next, inv .0, put),
       omega (arith, less),
       omega (arith, put .len, inv .2),
-      omega (arith, inv .3),
+      run-next _ _ _ _ _ less (inv .3),
       search (elements-rest, less, inv .4),
       search (offsets-turn, less, inv .4, inv .3, c .before .before .before .before .offset-in .ensures .0, inv .5, inv .0, put),
     )
@@ -686,14 +703,14 @@ put-references-returns-2 : (t : ℕ) → put-references-lts.Need-returns-2 (put-
 put-references-returns-2 t c = search elements-done
 
 abbrev put-table-Inv-loop : put-table-lts.InvT-loop
-put-table-Inv-loop b dir m out₀ d t part pos count first c₀ p₀ j₀ out c p j =
+put-table-Inv-loop b dir m out₀ d t part pos o count first c₀ p₀ j₀ out c p j =
     Room out p × (j ≤ count) × (length out ≡ length out₀) × Laid (4097 * j) c
-    × D.MembersReadable u48 (D.ObjectReadable u48 d (P.parse b) m) (P.parse b) m (part .start) (part .length) c (drop j (Sc.tableOf (P.parse b) t .members))
-    × Remaining out₀ pos (A.membersAt u48 d (P.parse b) m (part .start) (part .length) L.begin (Sc.tableOf (P.parse b) t .members)) out p
-    (A.membersAt u48 d (P.parse b) m (part .start) (part .length) c (drop j (Sc.tableOf (P.parse b) t .members)))
+    × D.MembersReadable o (D.ObjectReadable o d (P.parse b) m) (P.parse b) m (part .start) (part .length) c (drop j (Sc.tableOf (P.parse b) t .members))
+    × Remaining out₀ pos (A.membersAt o d (P.parse b) m (part .start) (part .length) L.begin (Sc.tableOf (P.parse b) t .members)) out p
+    (A.membersAt o d (P.parse b) m (part .start) (part .length) c (drop j (Sc.tableOf (P.parse b) t .members)))
 
 abbrev put-table-μ-loop : put-table-lts.MeasureT-loop
-put-table-μ-loop b dir m out₀ d t part pos count first c₀ p₀ j₀ out c p j = count - j
+put-table-μ-loop b dir m out₀ d t part pos o count first c₀ p₀ j₀ out c p j = count - j
 
 put-table-member-count-requires : (t : ℕ) → put-table-lts.Need-member-count-requires (put-table-R t) (put-table-at t) put-table.Post put-table-Inv-loop put-table-μ-loop
 put-table-member-count-requires t c κs = search needs
@@ -717,13 +734,13 @@ put-table-record-place-requires : (t : ℕ) → put-table-lts.Need-record-place-
 put-table-record-place-requires t c κs = (omega arith, c .before .before .before .before .table-place .ensures .small, omega (arith, c .before .before .before .before .before .member-count .ensures .1, c .before .loop-test .taken))
 
 put-table-code-at-requires : (t : ℕ) → put-table-lts.Need-code-at-requires (put-table-R t) (put-table-at t) put-table.Post put-table-Inv-loop put-table-μ-loop
-put-table-code-at-requires t c κs = omega (arith, record-whole _ _ _ (c .before .before .before .before .before .before .before .before .before .before .before .pre .1 .1 .0 .2) _ (c .before .before .before .before .before .before .member-count .ensures .0) (c .before .before .loop-test .taken) _ (c .before .before .before .before .before .table-place .ensures) _ (c .record-place .ensures .1))
+put-table-code-at-requires t c κs = omega (arith, record-whole _ _ _ (c .before .before .before .before .before .before .before .before .before .before .before .pre .1 .1 .0 .3) _ (c .before .before .before .before .before .before .member-count .ensures .0) (c .before .before .loop-test .taken) _ (c .before .before .before .before .before .table-place .ensures) _ (c .record-place .ensures .1))
 
 put-table-put-coded-requires : (t : ℕ) → put-table-lts.Need-put-coded-requires (put-table-R t) (put-table-at t) put-table.Post put-table-Inv-loop put-table-μ-loop
 put-table-put-coded-requires t c κs =
     let q = c .before .before .before .before .before .before .before .before .before .before .before .before .before .before .pre .1 in
     let inv = c .before .before .before .before .before .before .loop .inv in
-    (inv .0, (q .1 .0 .3, q .1 .0 .1, omega (arith, inv .3 .end, c .before .before .before .before .before .before .before .before .before .member-count .ensures .1, c .before .before .before .before .before .loop-test .taken), inv .3 .byte, inv .3 .bit, c .before .before .code-at .ensures .1))
+    (inv .0, (q .1 .0 .4, q .1 .0 .2, omega (arith, inv .3 .end, c .before .before .before .before .before .before .before .before .before .member-count .ensures .1, c .before .before .before .before .before .loop-test .taken), inv .3 .byte, inv .3 .bit, c .before .before .code-at .ensures .1))
 
 put-table-behind-coded-requires : (t : ℕ) → put-table-lts.Need-behind-coded-requires (put-table-R t) (put-table-at t) put-table.Post put-table-Inv-loop put-table-μ-loop
 put-table-behind-coded-requires t c κs =
@@ -745,7 +762,7 @@ put-table-loop-again t c =
     let some = c .before .before .before .before .before .if2 .taken in
     let put = c .before .before .before .put-coded .ensures in
     let next = c .behind-coded .ensures in
-    let is = coded-member _ _ _ (c .before .before .before .before .before .before .before .before .before .before .before .before .before .before .before .before .before .before .pre .1 .1 .0 .2) _ count less _ (c .before .before .before .before .before .before .before .before .before .before .before .before .table-place .ensures) _ (c .before .before .before .before .before .before .before .record-place .ensures .0) in (
+    let is = coded-member _ _ _ (c .before .before .before .before .before .before .before .before .before .before .before .before .before .before .before .before .before .before .pre .1 .1 .0 .3) _ count less _ (c .before .before .before .before .before .before .before .before .before .before .before .before .table-place .ensures) _ (c .before .before .before .before .before .before .before .record-place .ensures .0) in (
       search (room-next, inv .0, put),
       omega (arith, less),
       omega (arith, put .len, inv .2),
@@ -755,7 +772,7 @@ put-table-loop-again t c =
     )
 
 put-table-kind-at-requires : (t : ℕ) → put-table-lts.Need-kind-at-requires (put-table-R t) (put-table-at t) put-table.Post put-table-Inv-loop put-table-μ-loop
-put-table-kind-at-requires t c κs = omega (arith, record-whole _ _ _ (c .before .before .before .before .before .before .before .before .before .before .before .before .before .pre .1 .1 .0 .2) _ (c .before .before .before .before .before .before .before .before .member-count .ensures .0) (c .before .before .before .before .loop-test .taken) _ (c .before .before .before .before .before .before .before .table-place .ensures) _ (c .before .before .record-place .ensures .1))
+put-table-kind-at-requires t c κs = omega (arith, record-whole _ _ _ (c .before .before .before .before .before .before .before .before .before .before .before .before .before .pre .1 .1 .0 .3) _ (c .before .before .before .before .before .before .before .before .member-count .ensures .0) (c .before .before .before .before .loop-test .taken) _ (c .before .before .before .before .before .before .before .table-place .ensures) _ (c .before .before .record-place .ensures .1))
 
 put-table-is-flat-kind-requires : (t : ℕ) → put-table-lts.Need-is-flat-kind-requires (put-table-R t) (put-table-at t) put-table.Post put-table-Inv-loop put-table-μ-loop
 put-table-is-flat-kind-requires t c κs = search needs
@@ -768,21 +785,21 @@ put-table-put-lead-requires t c κs =
     let count = c .before .before .before .before .before .before .before .before .before .before .before .before .member-count .ensures in
     let block = c .before .before .before .before .before .before .before .before .before .before .before .table-place .ensures in
     let place = c .before .before .before .before .before .before .record-place .ensures in
-    let is = coded-member _ _ _ (q .1 .0 .2) _ (count .0) less _ block _ (place .0) in
+    let is = coded-member _ _ _ (q .1 .0 .3) _ (count .0) less _ block _ (place .0) in
     let above = lead-above _ _ _ (c .before .before .before .kind-at .ensures .0) _ (c .before .before .is-flat-kind .ensures) (c .before .if3 .taken) in
-    let known = lead-known _ _ (q .1 .0 .0) _ _ (q .1 .0 .2) _ (count .0) less _ block _ (place .0) in (
+    let known = lead-known _ _ (q .1 .0 .0) _ _ (q .1 .0 .3) _ (count .0) less _ block _ (place .0) in (
       omega (arith, c .before .before .before .before .before .before .before .before .before .before .before .before .before .before .before .before .before .pre .0),
       (
         inv .0,
         (
-          (q .1 .0 .0, q .1 .0 .1, record-whole _ _ _ (q .1 .0 .2) _ (count .0) less _ block _ (place .1), member-sound-of _ _ (q .1 .0 .0) _ _ _ is (omega (arith, count .0, less)) .kind),
-          ((q .1 .0 .3, above, known, omega (arith, inv .3 .end, count .1, less)), search (lead-readable, count .0, less, inv .4, is)),
+          (q .1 .0 .0, q .1 .0 .1, q .1 .0 .2, record-whole _ _ _ (q .1 .0 .3) _ (count .0) less _ block _ (place .1), member-sound-of _ _ (q .1 .0 .0) _ _ _ is (omega (arith, count .0, less)) .kind),
+          ((q .1 .0 .4, above, known, omega (arith, inv .3 .end, count .1, less)), search (lead-readable, count .0, less, inv .4, is)),
         ),
       ),
     )
 
 put-table-lead-width-requires : (t : ℕ) → put-table-lts.Need-lead-width-requires (put-table-R t) (put-table-at t) put-table.Post put-table-Inv-loop put-table-μ-loop
-put-table-lead-width-requires t c κs = search needs
+put-table-lead-width-requires t c κs = c .before .before .before .before .before .before .before .before .before .before .before .before .before .before .before .before .before .before .before .before .pre .1 .1 .0 .1
 
 put-table-after-bytes-requires : (t : ℕ) → put-table-lts.Need-after-bytes-requires (put-table-R t) (put-table-at t) put-table.Post put-table-Inv-loop put-table-μ-loop
 put-table-after-bytes-requires t c κs =
@@ -806,10 +823,10 @@ put-table-loop-again-2 t c =
     let kind = c .before .before .before .before .before .before .before .before .kind-at .ensures .0 in
     let width = c .before .lead-width .ensures in
     let put = c .before .before .before .before .put-lead .ensures in
-    let is = coded-member _ _ _ (q .1 .0 .2) _ count less _ block _ place in
-    let known = lead-known _ _ (q .1 .0 .0) _ _ (q .1 .0 .2) _ count less _ block _ place in
+    let is = coded-member _ _ _ (q .1 .0 .3) _ count less _ block _ place in
+    let known = lead-known _ _ (q .1 .0 .0) _ _ (q .1 .0 .3) _ count less _ block _ place in
     let above = lead-above _ _ _ kind _ (c .before .before .before .before .before .before .before .is-flat-kind .ensures) (c .before .before .before .before .before .before .if3 .taken) in
-    let next = lead-next u48 _ _ _ kind above known _ (width .0) _ _ (c .after-bytes .ensures .0) in (
+    let next = lead-next _ _ _ _ kind above known _ (width .0) _ _ (c .after-bytes .ensures .0) in (
       search (room-next, inv .0, put),
       omega (arith, less),
       omega (arith, put .len, inv .2),
@@ -821,7 +838,7 @@ put-table-loop-again-2 t c =
 put-table-member-at-requires : (t : ℕ) → put-table-lts.Need-member-at-requires (put-table-R t) (put-table-at t) put-table.Post put-table-Inv-loop put-table-μ-loop
 put-table-member-at-requires t c κs =
     let q = c .before .before .before .before .before .before .before .before .before .before .before .before .before .before .before .before .pre .1 in
-    ((q .1 .0 .0, q .1 .0 .2, omega (arith, c .before .before .before .before .before .before .before .before .before .before .before .member-count .ensures .0, c .before .before .before .before .before .before .before .loop-test .taken), omega (arith, c .before .before .before .before .before .before .before .before .before .before .before .member-count .ensures .1, c .before .before .before .before .before .before .before .loop-test .taken)), (q .1 .0 .3, q .1 .0 .1, c .before .before .before .before .before .before .before .before .loop .inv .3))
+    ((q .1 .0 .0, q .1 .0 .1, q .1 .0 .3, omega (arith, c .before .before .before .before .before .before .before .before .before .before .before .member-count .ensures .0, c .before .before .before .before .before .before .before .loop-test .taken), omega (arith, c .before .before .before .before .before .before .before .before .before .before .before .member-count .ensures .1, c .before .before .before .before .before .before .before .loop-test .taken)), (q .1 .0 .4, q .1 .0 .2, c .before .before .before .before .before .before .before .before .loop .inv .3))
 
 put-table-put-flat-member-requires : (t : ℕ) → put-table-lts.Need-put-flat-member-requires (put-table-R t) (put-table-at t) put-table.Post put-table-Inv-loop put-table-μ-loop
 put-table-put-flat-member-requires t c κs =
@@ -830,7 +847,7 @@ put-table-put-flat-member-requires t c κs =
     let inv = c .before .before .before .before .before .before .before .before .before .before .before .loop .inv in
     let less = c .before .before .before .before .before .before .before .before .before .before .loop-test .taken in
     let count = c .before .before .before .before .before .before .before .before .before .before .before .before .before .before .member-count .ensures .0 in
-    (inv .0, ((q .1 .0 .0, q .1 .0 .1, is .sound), ((is .inside, is .bit-low, is .low), member-readable u48 _ _ _ _ _ _ _ _ _ count less (inv .4) _ _ _ _ _ _ _ is)))
+    (inv .0, ((q .1 .0 .0, q .1 .0 .2, is .sound), ((is .inside, is .bit-low, is .low), member-readable _ _ _ _ _ _ _ _ _ _ count less (inv .4) _ _ _ _ _ _ _ is)))
 
 put-table-add-j-3 : (t : ℕ) → put-table-lts.Need-add-j-3 (put-table-R t) (put-table-at t) put-table.Post put-table-Inv-loop put-table-μ-loop
 put-table-add-j-3 t c = search needs
@@ -845,7 +862,7 @@ put-table-loop-again-3 t c =
     let less = c .before .before .before .before .before .before .before .before .before .before .before .before .before .loop-test .taken in
     let is = c .before .before .before .before .before .member-at .ensures in
     let count = c .before .before .before .before .before .before .before .before .before .before .before .before .before .before .before .before .before .member-count .ensures .0 in
-    let same = coded-member _ _ _ (q .1 .0 .2) _ count less _ (c .before .before .before .before .before .before .before .before .before .before .before .before .before .before .before .before .table-place .ensures) _ (c .before .before .before .before .before .before .before .before .before .before .before .record-place .ensures .0) in
+    let same = coded-member _ _ _ (q .1 .0 .3) _ count less _ (c .before .before .before .before .before .before .before .before .before .before .before .before .before .before .before .before .table-place .ensures) _ (c .before .before .before .before .before .before .before .before .before .before .before .record-place .ensures .0) in
     let flat = flat-member _ _ _ (c .before .before .before .before .before .before .before .before .kind-at .ensures .0) _ (c .before .before .before .before .before .before .before .is-flat-kind .ensures) (c .before .before .before .before .before .before .if3 .left) _ same _ (is .kind-is) in
     let put = c .before .before .put-flat-member .ensures in (
       search (room-next, inv .0, put),
@@ -902,7 +919,7 @@ put-union-put-object-requires : (t : ℕ) → put-union-lts.Need-put-object-requ
 put-union-put-object-requires t c κs =
     let q = c .before .before .before .before .before .before .before .before .before .before .before .before .before .before .before .pre .1 in
     let fall = c .before .before .before .before .before .before .before .before .before .before .before .before .before .before .before .pre .0 in
-    (omega (arith, fall), (search (room-next, q .0, c .before .before .before .put-marked2 .ensures), ((q .1 .0 .0, q .1 .0 .1), search (case-readable, q .1 .1, c .before .before .before .before .before .before .before .before .before .before .if1 .left, c .before .before .before .before .before .before .before .before .before .case-count .ensures .0, c .before .before .before .before .before .before .before .before .if2 .left, c .before .before .before .before .before .before .before .union-case .ensures, c .before .before .before .before .before .before .place-of .ensures))))
+    (omega (arith, fall), (search (room-next, q .0, c .before .before .before .put-marked2 .ensures), ((q .1 .0 .0, q .1 .0 .1, q .1 .0 .2), search (case-readable, q .1 .1, c .before .before .before .before .before .before .before .before .before .before .if1 .left, c .before .before .before .before .before .before .before .before .before .case-count .ensures .0, c .before .before .before .before .before .before .before .before .if2 .left, c .before .before .before .before .before .before .before .union-case .ensures, c .before .before .before .before .before .before .place-of .ensures))))
 
 put-union-same-length-3 : (t : ℕ) → put-union-lts.Need-same-length-3 (put-union-R t) (put-union-at t) put-union.Post
 put-union-same-length-3 t c = search needs
@@ -928,6 +945,7 @@ pub +put-choices+put-content+put-lead+put-list+put-object+put-reference+put-refe
     put-choices.Post
     put-choices-Inv-loop
     put-choices-μ-loop
+    (put-choices-union-size-requires t)
     (put-choices-loop-holds t)
     (put-choices-same-length t)
     (put-choices-returns t)

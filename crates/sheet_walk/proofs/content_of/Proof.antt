@@ -1,5 +1,5 @@
 use native.Mathlib.Omega.{arith}
-use Rattle.sheet_walk.proofs.Objects.{header-ten, header-inside, start-offset, start-inplace, length-offset, length-inplace}
+use Rattle.sheet_walk.proofs.Objects.{header-inside, start-offset, start-inplace, length-offset, length-inplace}
 use borrow.Author.Needs.{needs}
 use Rattle.sheet_walk.proofs.content_of.Statement.{statement}
 use Rattle.sheet_walk.proofs.content_of.Tie as tie
@@ -14,14 +14,14 @@ enum-known-p c = search needs
 header-size-requires : tie.Need-header-size-requires
 header-size-requires c κs = search needs
 
-add-t9 : tie.Need-add-t9
-add-t9 c = let h = header-inside _ _ _ (c .before .before .p .given .1) (c .before .before .before .before .before .pre .0) in omega (arith, h, header-ten, c .header-size .ensures, c .before .before .before .before .before .pre .1)
+add-t10 : tie.Need-add-t10
+add-t10 c = let q = c .before .before .before .before .before .pre in let h = header-inside _ _ _ _ _ (c .before .before .p .given .1) (c .header-size .ensures) (q .1) in omega (arith, h .0, h .1, q .2)
 
 add-offset-in : tie.Need-add-offset-in
-add-offset-in c = let h = header-inside _ _ _ (c .before .before .p .given .1) (c .before .before .before .before .before .pre .0) in omega (arith, h, header-ten, c .header-size .ensures, c .before .before .before .before .before .pre .1)
+add-offset-in c = let q = c .before .before .before .before .before .pre in let h = header-inside _ _ _ _ _ (c .before .before .p .given .1) (c .header-size .ensures) (q .1) in omega (arith, h .0, h .1, q .2)
 
 offset-in-requires : tie.Need-offset-in-requires
-offset-in-requires c κs = let h = header-inside _ _ _ (c .before .before .p .given .1) (c .before .before .before .before .before .pre .0) in omega (arith, h, header-ten, c .header-size .ensures, c .before .before .before .before .before .pre .1)
+offset-in-requires c κs = let q = c .before .before .before .before .before .pre in let h = header-inside _ _ _ _ _ (c .before .before .p .given .1) (c .header-size .ensures) (q .1) in (q .0, omega (arith, h .0, h .1))
 
 enum-known-p-2 : tie.Need-enum-known-p-2
 enum-known-p-2 c = search needs
@@ -38,7 +38,7 @@ content-of-spec =
     (tie.spec
     enum-known-p
     header-size-requires
-    add-t9
+    add-t10
     add-offset-in
     offset-in-requires
     enum-known-p-2

@@ -1,35 +1,63 @@
-use Rattle.sheet_walk.proofs.Objects.{header-ten}
+use Rattle.sheet_walk.proofs.Objects.{header-is}
 use borrow.Author.Needs.{needs}
 use Rattle.sheet_walk.proofs.header_size.Statement.{statement}
 use Rattle.sheet_walk.proofs.header_size.Tie as tie
 use Rattle.sheet_walk.proofs.header_size.Reads as reads
 use Rattle.sheet_walk.proofs.header_size.Lts as lts
+use Rattle.message_header.proofs.BytesObject.header_size.Reads as BytesObject-header-size-reads
+use Rattle.message_header.proofs.ListObject.header_size.Reads as ListObject-header-size-reads
+use Rattle.message_header.proofs.TableObject.header_size.Reads as TableObject-header-size-reads
+use Rattle.message_header.proofs.TextObject.header_size.Reads as TextObject-header-size-reads
 
 enum-told : tie.Need-enum-told
 enum-told c = search needs
 
+header-size-requires : tie.Need-header-size-requires
+header-size-requires c κs = search needs
+
 enum-told-2 : tie.Need-enum-told-2
 enum-told-2 c = search needs
+
+header-size-requires-2 : tie.Need-header-size-requires-2
+header-size-requires-2 c κs = search needs
 
 enum-told-3 : tie.Need-enum-told-3
 enum-told-3 c = search needs
 
+header-size-requires-3 : tie.Need-header-size-requires-3
+header-size-requires-3 c κs = search needs
+
 enum-told-4 : tie.Need-enum-told-4
 enum-told-4 c = search needs
 
+header-size-requires-4 : tie.Need-header-size-requires-4
+header-size-requires-4 c κs = search needs
+
 returns : tie.Need-returns
-returns c = header-ten
+returns c = search header-is
 
 returns-2 : tie.Need-returns-2
-returns-2 c = header-ten
+returns-2 c = search header-is
 
 returns-3 : tie.Need-returns-3
-returns-3 c = header-ten
+returns-3 c = search header-is
 
 returns-4 : tie.Need-returns-4
-returns-4 c = header-ten
+returns-4 c = search header-is
 
 pub header-size-spec : {M : Type 1} → statement M
 header-size-spec =
     tie.close
-    (tie.spec enum-told enum-told-2 enum-told-3 enum-told-4 returns returns-2 returns-3 returns-4)
+    (tie.spec
+    enum-told
+    header-size-requires
+    enum-told-2
+    header-size-requires-2
+    enum-told-3
+    header-size-requires-3
+    enum-told-4
+    header-size-requires-4
+    returns
+    returns-2
+    returns-3
+    returns-4)

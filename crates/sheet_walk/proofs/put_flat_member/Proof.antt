@@ -1,5 +1,5 @@
-use Rattle.sheet_walk.proofs.Flats.{is-true, member-none, member-flat, member-object, member-union, flat-given}
-use Rattle.message_step.proofs.Inside.{flat-sound, flat-there}
+use Rattle.sheet_walk.proofs.Flats.{member-none, member-flat, member-object, member-union, flat-there, flat-given}
+use Rattle.message_step.proofs.Inside.{flat-sound}
 use borrow.Author.Needs.{needs}
 use Rattle.sheet_walk.proofs.put_flat_member.Statement.{statement}
 use Rattle.sheet_walk.proofs.put_flat_member.Tie as tie
@@ -20,9 +20,8 @@ put-flat-requires : tie.Need-put-flat-requires
 put-flat-requires c κs =
     let q = c .before .before .before .before .before .before .before .before .before .before .pre in
     let here = c .before .before .before .before .if1 .left in
-    let fits = q .1 .1 .0 .0 (is-true _ here) in
     let is = c .before .before .k .given .1 in
-    (q .0, ((q .1 .0 .0, search (flat-sound, q .1 .0 .2, is), q .1 .0 .1), ((search (flat-there, fits, is), q .1 .1 .0 .1, q .1 .1 .0 .2), search (flat-given, q .1 .1 .1, here, is))))
+    (q .0, ((q .1 .0 .0, search (flat-sound, q .1 .0 .2, is), q .1 .0 .1), ((search (flat-there, q .1 .1 .0 .0, here, is), q .1 .1 .0 .1, q .1 .1 .0 .2), search (flat-given, q .1 .1 .1, here, is))))
 
 enum-told : tie.Need-enum-told
 enum-told c = search needs

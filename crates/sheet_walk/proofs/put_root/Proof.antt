@@ -7,7 +7,7 @@ root-object-requires : tie.Need-root-object-requires
 root-object-requires c κs = search needs
 
 root-place-requires : tie.Need-root-place-requires
-root-place-requires c κs = search root-long
+root-place-requires c κs = (search needs, search root-long)
 
 put-object-requires : tie.Need-put-object-requires
 put-object-requires c κs = (search needs, (search needs, search root-readable))

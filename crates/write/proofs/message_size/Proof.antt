@@ -8,6 +8,12 @@ use Rattle.write.proofs.message_size.Lts as lts
 add-content : tie.Need-add-content
 add-content c = search needs
 
+start-size-requires : tie.Need-start-size-requires
+start-size-requires c κs = search needs
+
+header-size-requires : tie.Need-header-size-requires
+header-size-requires c κs = search needs
+
 add-result : tie.Need-add-result
 add-result c = search needs
 
@@ -21,4 +27,4 @@ returns : tie.Need-returns
 returns c = search size-is
 
 pub message-size-spec : {M : Type 1} → statement M
-message-size-spec = tie.close (tie.spec add-content add-result add-result-2 add-result-3 returns)
+message-size-spec = tie.close (tie.spec add-content start-size-requires header-size-requires add-result add-result-2 add-result-3 returns)

@@ -36,7 +36,7 @@ slice-aggregate-emit-message : tie.Need-slice-aggregate-emit-message
 slice-aggregate-emit-message c = search taken
 
 emit-message-requires : tie.Need-emit-message-requires
-emit-message-requires c κs = (search needs, search sheet-short, search sheet-measured)
+emit-message-requires c κs = (search needs, search needs, search sheet-short, search sheet-measured)
 
 same-length : tie.Need-same-length
 same-length c = search needs

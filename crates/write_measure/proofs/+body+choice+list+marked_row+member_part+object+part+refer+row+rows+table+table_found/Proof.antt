@@ -4,7 +4,6 @@ use mathlib.Core.Bool.{false}
 use native.Mathlib.Omega.{arith}
 use borrow.Author.Needs.{needs}
 use lib.ListN.{length, drop}
-use Rattle.coding.specs.Bytes.{u48}
 use Rattle.coding.specs.Bits.{bits}
 use Rattle.coding.specs.Packed as P
 use Rattle.coding.specs.Schema as Sc
@@ -296,12 +295,12 @@ choice-returns-4 : (t : ℕ) → choice-lts.Need-returns-4 (choice-R t) (choice-
 choice-returns-4 t c = search choice-known
 
 abbrev list-Inv-loop : list-lts.InvT-loop
-list-Inv-loop b dir s d i at n k total u a₀ pos₀ j₀ a pos j =
+list-Inv-loop b dir s d i at o n k total u a₀ pos₀ j₀ a pos j =
     (j ≤ n) × (n < 2 ^ 32) × (length s ≤ 16777215) × (at ≤ 8 * length s) × (pos ≤ 8 * length s) × Small a × (unmarked k ≡ false)
-    × (surveyContent (survey d u48 (P.parse b)) u48 (P.parse b) (O.List i) (drop at (bits s)) ≡ surveyElements (survey d u48 (P.parse b)) u48 (P.parse b) k (n - j) a (drop pos (bits s)))
+    × (surveyContent (survey d o (P.parse b)) o (P.parse b) (O.List i) (drop at (bits s)) ≡ surveyElements (survey d o (P.parse b)) o (P.parse b) k (n - j) a (drop pos (bits s)))
 
 abbrev list-μ-loop : list-lts.MeasureT-loop
-list-μ-loop b dir s d i at n k total u a₀ pos₀ j₀ a pos j = n - j
+list-μ-loop b dir s d i at o n k total u a₀ pos₀ j₀ a pos j = n - j
 
 list-take-number-requires : (t : ℕ) → list-lts.Need-take-number-requires (list-R t) (list-at t) list.Post list-Inv-loop list-μ-loop
 list-take-number-requires t c κs = search needs
@@ -322,7 +321,7 @@ list-table-in-requires : (t : ℕ) → list-lts.Need-table-in-requires (list-R t
 list-table-in-requires t c κs = search needs
 
 list-rows-requires : (t : ℕ) → list-lts.Need-rows-requires (list-R t) (list-at t) list.Post list-Inv-loop list-μ-loop
-list-rows-requires t c κs = (search needs, (search needs, search row-counted, (search needs, search needs), search needs, search size-short))
+list-rows-requires t c κs = (search needs, (search needs, search needs, search row-counted, (search needs, search needs), search needs, search size-short))
 
 list-returns-2 : (t : ℕ) → list-lts.Need-returns-2 (list-R t) (list-at t) list.Post list-Inv-loop list-μ-loop
 list-returns-2 t c = search elements-rows
@@ -337,7 +336,7 @@ list-unmarked-bits-requires : (t : ℕ) → list-lts.Need-unmarked-bits-requires
 list-unmarked-bits-requires t c κs = search needs
 
 list-pass-requires : (t : ℕ) → list-lts.Need-pass-requires (list-R t) (list-at t) list.Post list-Inv-loop list-μ-loop
-list-pass-requires t c κs = search needs
+list-pass-requires t c κs = ((c .before .before .before .before .before .before .before .before .before .before .before .before .before .before .pre .1 .3 .0, c .before .before .before .before .before .before .before .before .before .before .take-number .ensures .inside), search needs, search (needs, c .before .before .before .before .before .before .before .before .before .before .take-number .ensures), search needs)
 
 list-returns-3 : (t : ℕ) → list-lts.Need-returns-3 (list-R t) (list-at t) list.Post list-Inv-loop list-μ-loop
 list-returns-3 t c = search elements-unmarked
@@ -346,7 +345,7 @@ list-loop-holds : (t : ℕ) → list-lts.Need-loop-holds (list-R t) (list-at t) 
 list-loop-holds t c = (search needs, search needs, search needs, search needs, search needs, search needs, search marked, search elements-start)
 
 list-part-requires : (t : ℕ) → list-lts.Need-part-requires (list-R t) (list-at t) list.Post list-Inv-loop list-μ-loop
-list-part-requires t c κs = (search needs, (search needs, search element-sound, (search needs, search needs)))
+list-part-requires t c κs = (search needs, (search needs, search needs, search element-sound, (search needs, search needs)))
 
 list-unlawful-requires-2 : (t : ℕ) → list-lts.Need-unlawful-requires-2 (list-R t) (list-at t) list.Post list-Inv-loop list-μ-loop
 list-unlawful-requires-2 t c κs = search needs
@@ -478,12 +477,12 @@ refer-returns-2 : (t : ℕ) → refer-lts.Need-returns-2 (refer-R t) (refer-at t
 refer-returns-2 t c = search refer-surveyed
 
 abbrev table-Inv-loop : table-lts.InvT-loop
-table-Inv-loop b dir s d t size at count a₀ pos₀ j₀ a pos j =
+table-Inv-loop b dir s d t size at o count a₀ pos₀ j₀ a pos j =
     (j ≤ count) × (count ≡ length (Sc.tableOf (P.parse b) t .members)) × (count < 256) × (at ≤ 8 * length s) × (pos ≤ 8 * length s) × Small a
-    × (surveyContent (survey d u48 (P.parse b)) u48 (P.parse b) (O.Table t) (drop at (bits s)) ≡ surveyMembers (survey d u48 (P.parse b)) u48 (P.parse b) (drop j (Sc.tableOf (P.parse b) t .members)) a (drop pos (bits s)))
+    × (surveyContent (survey d o (P.parse b)) o (P.parse b) (O.Table t) (drop at (bits s)) ≡ surveyMembers (survey d o (P.parse b)) o (P.parse b) (drop j (Sc.tableOf (P.parse b) t .members)) a (drop pos (bits s)))
 
 abbrev table-μ-loop : table-lts.MeasureT-loop
-table-μ-loop b dir s d t size at count a₀ pos₀ j₀ a pos j = count - j
+table-μ-loop b dir s d t size at o count a₀ pos₀ j₀ a pos j = count - j
 
 table-member-count-requires : (t : ℕ) → table-lts.Need-member-count-requires (table-R t) (table-at t) table.Post table-Inv-loop table-μ-loop
 table-member-count-requires t c κs = search needs
@@ -507,16 +506,16 @@ table-returns-2 : (t : ℕ) → table-lts.Need-returns-2 (table-R t) (table-at t
 table-returns-2 t c = search table-ended
 
 table-member-requires : (t : ℕ) → table-lts.Need-member-requires (table-R t) (table-at t) table.Post table-Inv-loop table-μ-loop
-table-member-requires t c κs = (c .before .before .before .before .before .before .before .before .before .before .before .before .pre .1 .0 .directory, c .before .before .before .before .before .before .before .before .before .before .before .before .pre .1 .1, search member-counted, search needs)
+table-member-requires t c κs = (c .before .before .before .before .before .before .before .before .before .before .before .before .pre .1 .0 .directory, c .before .before .before .before .before .before .before .before .before .before .before .before .pre .1 .2, search member-counted, search needs)
 
 table-member-part-requires : (t : ℕ) → table-lts.Need-member-part-requires (table-R t) (table-at t) table.Post table-Inv-loop table-μ-loop
-table-member-part-requires t c κs = (omega (arith, c .before .before .before .before .before .before .before .before .before .before .before .before .before .pre .0), (c .before .before .before .before .before .before .before .before .before .before .before .before .before .pre .1 .0, member-kind _ _ (c .before .before .before .before .before .before .before .before .before .before .before .before .before .pre .1 .0) _ _ _ (c .member .ensures) _ (c .before .before .before .before .before .before .before .loop .inv .1) (c .before .if2 .left), (c .before .before .before .before .before .before .before .before .before .before .before .before .before .pre .1 .2 .0, c .before .before .before .before .before .simple-members .ensures .inside)))
+table-member-part-requires t c κs = (omega (arith, c .before .before .before .before .before .before .before .before .before .before .before .before .before .pre .0), (c .before .before .before .before .before .before .before .before .before .before .before .before .before .pre .1 .0, c .before .before .before .before .before .before .before .before .before .before .before .before .before .pre .1 .1, member-kind _ _ (c .before .before .before .before .before .before .before .before .before .before .before .before .before .pre .1 .0) _ _ _ (c .member .ensures) _ (c .before .before .before .before .before .before .before .loop .inv .1) (c .before .if2 .left), (c .before .before .before .before .before .before .before .before .before .before .before .before .before .pre .1 .3 .0, c .before .before .before .before .before .simple-members .ensures .inside)))
 
 table-unlawful-requires-2 : (t : ℕ) → table-lts.Need-unlawful-requires-2 (table-R t) (table-at t) table.Post table-Inv-loop table-μ-loop
 table-unlawful-requires-2 t c κs = search needs
 
 table-returns-3 : (t : ℕ) → table-lts.Need-returns-3 (table-R t) (table-at t) table.Post table-Inv-loop table-μ-loop
-table-returns-3 t c = table-stopped u48 _ _ _ _ _ (c .before .before .before .before .before .before .before .before .before .before .before .loop .a) (c .before .before .before .before .before .before .before .before .before .before .before .loop .pos) (c .before .before .before .before .before .before .before .before .before .before .before .loop .j) (c .before .before .before .before .before .before .before .before .before .before .before .loop .inv .6) (c .before .before .before .before .before .before .before .before .before .simple-members .result .whole) (c .before .before .before .before .before .before .before .before .before .simple-members .result .index) (c .before .before .before .before .before .before .before .before .before .simple-members .result .extent) (c .before .before .before .before .before .before .before .before .before .simple-members .result .next) (c .before .before .before .before .before .before .before .before .before .simple-members .ensures) (c .before .before .before .before .before .before .before .if1 .left) _ (c .before .before .before .before .before .before .before .before .before .before .before .loop .inv .1) (c .before .before .before .before .before .if2 .left) _ (c .before .before .before .before .member .ensures) (c .before .before .before .member-part .result .whole) (c .before .before .before .member-part .result .extent) (c .before .before .before .member-part .result .next) (c .before .before .before .member-part .ensures) (c .before .before .before .before .before .before .before .before .before .before .before .loop .inv .3) (c .before .if3 .taken) _ _ _ (c .unlawful2 .ensures .0) (c .unlawful2 .ensures .1) (c .unlawful2 .ensures .2)
+table-returns-3 t c = table-stopped _ _ _ _ _ _ (c .before .before .before .before .before .before .before .before .before .before .before .loop .a) (c .before .before .before .before .before .before .before .before .before .before .before .loop .pos) (c .before .before .before .before .before .before .before .before .before .before .before .loop .j) (c .before .before .before .before .before .before .before .before .before .before .before .loop .inv .6) (c .before .before .before .before .before .before .before .before .before .simple-members .result .whole) (c .before .before .before .before .before .before .before .before .before .simple-members .result .index) (c .before .before .before .before .before .before .before .before .before .simple-members .result .extent) (c .before .before .before .before .before .before .before .before .before .simple-members .result .next) (c .before .before .before .before .before .before .before .before .before .simple-members .ensures) (c .before .before .before .before .before .before .before .if1 .left) _ (c .before .before .before .before .before .before .before .before .before .before .before .loop .inv .1) (c .before .before .before .before .before .if2 .left) _ (c .before .before .before .before .member .ensures) (c .before .before .before .member-part .result .whole) (c .before .before .before .member-part .result .extent) (c .before .before .before .member-part .result .next) (c .before .before .before .member-part .ensures) (c .before .before .before .before .before .before .before .before .before .before .before .loop .inv .3) (c .before .if3 .taken) _ _ _ (c .unlawful2 .ensures .0) (c .unlawful2 .ensures .1) (c .unlawful2 .ensures .2)
 
 table-joined-requires : (t : ℕ) → table-lts.Need-joined-requires (table-R t) (table-at t) table.Post table-Inv-loop table-μ-loop
 table-joined-requires t c κs = search needs
@@ -528,7 +527,7 @@ table-loop-less : (t : ℕ) → table-lts.Need-loop-less (table-R t) (table-at t
 table-loop-less t c = omega (arith, c .before .before .before .before .before .if2 .left, c .before .before .before .before .before .before .before .before .before .before .loop-test .taken, c .before .before .before .before .before .before .before .before .before .simple-members .ensures .on)
 
 table-loop-again : (t : ℕ) → table-lts.Need-loop-again (table-R t) (table-at t) table.Post table-Inv-loop table-μ-loop
-table-loop-again t c = (search needs, c .before .before .before .before .before .before .before .before .before .before .before .loop .inv .1, c .before .before .before .before .before .before .before .before .before .before .before .loop .inv .2, c .before .before .before .before .before .before .before .before .before .before .before .loop .inv .3, search needs, search needs, table-turn u48 _ _ _ _ (c .before .before .before .before .before .before .before .before .before .before .before .before .before .before .before .before .before .args .at) (c .before .before .before .before .before .before .before .before .before .before .before .loop .a) (c .before .before .before .before .before .before .before .before .before .before .before .loop .pos) (c .before .before .before .before .before .before .before .before .before .before .before .loop .j) (c .before .before .before .before .before .before .before .before .before .before .before .loop .inv .6) (c .before .before .before .before .before .before .before .before .before .simple-members .result .whole) (c .before .before .before .before .before .before .before .before .before .simple-members .result .index) (c .before .before .before .before .before .before .before .before .before .simple-members .result .extent) (c .before .before .before .before .before .before .before .before .before .simple-members .result .next) (c .before .before .before .before .before .before .before .before .before .simple-members .ensures) (c .before .before .before .before .before .before .before .if1 .left) _ (c .before .before .before .before .before .before .before .before .before .before .before .loop .inv .1) (c .before .before .before .before .before .if2 .left) _ (c .before .before .before .before .member .ensures) (c .before .before .before .member-part .result .whole) (c .before .before .before .member-part .result .extent) (c .before .before .before .member-part .result .next) (c .before .before .before .member-part .ensures) (c .before .if3 .left) _ (c .joined .ensures))
+table-loop-again t c = (search needs, c .before .before .before .before .before .before .before .before .before .before .before .loop .inv .1, c .before .before .before .before .before .before .before .before .before .before .before .loop .inv .2, c .before .before .before .before .before .before .before .before .before .before .before .loop .inv .3, search needs, search needs, table-turn _ _ _ _ _ (c .before .before .before .before .before .before .before .before .before .before .before .before .before .before .before .before .before .args .at) (c .before .before .before .before .before .before .before .before .before .before .before .loop .a) (c .before .before .before .before .before .before .before .before .before .before .before .loop .pos) (c .before .before .before .before .before .before .before .before .before .before .before .loop .j) (c .before .before .before .before .before .before .before .before .before .before .before .loop .inv .6) (c .before .before .before .before .before .before .before .before .before .simple-members .result .whole) (c .before .before .before .before .before .before .before .before .before .simple-members .result .index) (c .before .before .before .before .before .before .before .before .before .simple-members .result .extent) (c .before .before .before .before .before .before .before .before .before .simple-members .result .next) (c .before .before .before .before .before .before .before .before .before .simple-members .ensures) (c .before .before .before .before .before .before .before .if1 .left) _ (c .before .before .before .before .before .before .before .before .before .before .before .loop .inv .1) (c .before .before .before .before .before .if2 .left) _ (c .before .before .before .before .member .ensures) (c .before .before .before .member-part .result .whole) (c .before .before .before .member-part .result .extent) (c .before .before .before .member-part .result .next) (c .before .before .before .member-part .ensures) (c .before .if3 .left) _ (c .joined .ensures))
 
 table-returns-4 : (t : ℕ) → table-lts.Need-returns-4 (table-R t) (table-at t) table.Post table-Inv-loop table-μ-loop
 table-returns-4 t c = search members-done
@@ -585,14 +584,14 @@ row-returns-2 : (t : ℕ) → row-lts.Need-returns-2 (row-R t) (row-at t) row.Po
 row-returns-2 t c = search row-there
 
 abbrev rows-Inv-loop : rows-lts.InvT-loop
-rows-Inv-loop b dir s d t n total at size a₀ pos₀ j₀ a pos j =
+rows-Inv-loop b dir s d t n total at o size a₀ pos₀ j₀ a pos j =
     (j ≤ n) × (n < 2 ^ 32) × (at ≤ 8 * length s) × (pos ≤ 8 * length s) × Small a × (unmarked (OfObject (O.Table t)) ≡ false)
-    × (size ≡ L.fixedSize u48 (P.parse b) (Sc.tableOf (P.parse b) t .members)) × (size < 2 ^ 40)
-    × (surveyElements (survey d u48 (P.parse b)) u48 (P.parse b) (OfObject (O.Table t)) n (opened n total) (drop at (bits s))
-    ≡ surveyElements (survey d u48 (P.parse b)) u48 (P.parse b) (OfObject (O.Table t)) (n - j) a (drop pos (bits s)))
+    × (size ≡ L.fixedSize o (P.parse b) (Sc.tableOf (P.parse b) t .members)) × (size < 2 ^ 40)
+    × (surveyElements (survey d o (P.parse b)) o (P.parse b) (OfObject (O.Table t)) n (opened n total) (drop at (bits s))
+    ≡ surveyElements (survey d o (P.parse b)) o (P.parse b) (OfObject (O.Table t)) (n - j) a (drop pos (bits s)))
 
 abbrev rows-μ-loop : rows-lts.MeasureT-loop
-rows-μ-loop b dir s d t n total at size a₀ pos₀ j₀ a pos j = n - j
+rows-μ-loop b dir s d t n total at o size a₀ pos₀ j₀ a pos j = n - j
 
 rows-fixed-size-requires : (t : ℕ) → rows-lts.Need-fixed-size-requires (rows-R t) (rows-at t) rows.Post rows-Inv-loop rows-μ-loop
 rows-fixed-size-requires t c κs = search needs

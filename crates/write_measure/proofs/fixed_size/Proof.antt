@@ -1,7 +1,6 @@
 use Prim.Native.Nat.{_-_, _*_, _≤_}
 use mathlib.Core.Path.{_≡_}
 use lib.ListN.{drop}
-use Rattle.coding.specs.Bytes.{u48}
 use Rattle.coding.specs.Packed as P
 use Rattle.coding.specs.Schema as Sc
 use Rattle.coding.specs.Layout as L
@@ -18,12 +17,12 @@ use Rattle.write_measure.proofs.behind.Reads as behind-reads
 use Rattle.schema.proofs.member_count.Reads as member-count-reads
 
 abbrev Inv-loop : tie.InvT-loop
-Inv-loop b dir t count c₀ j₀ c j =
+Inv-loop b dir t o count c₀ j₀ c j =
     (j ≤ count) × Laid (4097 * j) c
-    × (L.afterMembers u48 (P.parse b) (Sc.tableOf (P.parse b) t .members) L.begin ≡ L.afterMembers u48 (P.parse b) (drop j (Sc.tableOf (P.parse b) t .members)) c)
+    × (L.afterMembers o (P.parse b) (Sc.tableOf (P.parse b) t .members) L.begin ≡ L.afterMembers o (P.parse b) (drop j (Sc.tableOf (P.parse b) t .members)) c)
 
 abbrev μ-loop : tie.MeasureT-loop
-μ-loop b dir t count c₀ j₀ c j = count - j
+μ-loop b dir t o count c₀ j₀ c j = count - j
 
 member-count-requires : tie.Need-member-count-requires Inv-loop μ-loop
 member-count-requires c κs = search needs
@@ -35,7 +34,7 @@ loop-holds : tie.Need-loop-holds Inv-loop μ-loop
 loop-holds c = (search needs, search needs, search fixed-start)
 
 behind-requires : tie.Need-behind-requires Inv-loop μ-loop
-behind-requires c κs = (search needs, search needs, search member-counted, search needs, search needs)
+behind-requires c κs = (search needs, search needs, search needs, search member-counted, search needs, search needs)
 
 add-j : tie.Need-add-j Inv-loop μ-loop
 add-j c = search needs

@@ -19,6 +19,9 @@ capped-requires c κs = search needs
 returns : tie.Need-returns
 returns c = search referred-in
 
+header-size-requires : tie.Need-header-size-requires
+header-size-requires c κs = search needs
+
 add-capped : tie.Need-add-capped
 add-capped c = search needs
 
@@ -39,6 +42,7 @@ referred-spec =
     in-place-fine-requires
     capped-requires
     returns
+    header-size-requires
     add-capped
     add-capped-2
     capped-requires-2

@@ -2,7 +2,6 @@ use borrow.Author.Needs.{needs}
 use Prim.Native.Nat.{_-_, _*_, _<_, _≤_}
 use mathlib.Core.Path.{_≡_, refl}
 use lib.ListN.{length, drop}
-use Rattle.coding.specs.Bytes.{u48}
 use Rattle.coding.specs.Bits.{bits}
 use Rattle.coding.specs.Packed as P
 use Rattle.coding.specs.Schema as Sc
@@ -14,14 +13,14 @@ use Rattle.write_measure.proofs.simple_members.Statement.{statement}
 use Rattle.write_measure.proofs.simple_members.Tie as tie
 
 abbrev Inv-loop : tie.InvT-loop
-Inv-loop b dir s d t from e at count a₀ pos₀ j₀ a pos j =
+Inv-loop b dir s d t from e at o count a₀ pos₀ j₀ a pos j =
     (j ≤ count) × (count ≡ length (Sc.tableOf (P.parse b) t .members)) × (count < 256) × (from ≤ length (Sc.tableOf (P.parse b) t .members)) × (from ≤ j)
     × (at ≤ 8 * length s) × (pos ≤ 8 * length s) × Small a
-    × (surveyMembers (survey d u48 (P.parse b)) u48 (P.parse b) (drop from (Sc.tableOf (P.parse b) t .members)) e (drop at (bits s))
-    ≡ surveyMembers (survey d u48 (P.parse b)) u48 (P.parse b) (drop j (Sc.tableOf (P.parse b) t .members)) a (drop pos (bits s)))
+    × (surveyMembers (survey d o (P.parse b)) o (P.parse b) (drop from (Sc.tableOf (P.parse b) t .members)) e (drop at (bits s))
+    ≡ surveyMembers (survey d o (P.parse b)) o (P.parse b) (drop j (Sc.tableOf (P.parse b) t .members)) a (drop pos (bits s)))
 
 abbrev μ-loop : tie.MeasureT-loop
-μ-loop b dir s d t from e at count a₀ pos₀ j₀ a pos j = count - j
+μ-loop b dir s d t from e at o count a₀ pos₀ j₀ a pos j = count - j
 
 member-count-requires : tie.Need-member-count-requires Inv-loop μ-loop
 member-count-requires c κs = search needs
@@ -39,7 +38,7 @@ returns : tie.Need-returns Inv-loop μ-loop
 returns c = search left-here
 
 simple-member-requires : tie.Need-simple-member-requires Inv-loop μ-loop
-simple-member-requires c κs = (search needs, search needs, search needs, search simple-member-counted, (search needs, search needs), search needs)
+simple-member-requires c κs = (search needs, search needs, search needs, search needs, search simple-member-counted, (search needs, search needs), search needs)
 
 returns-2 : tie.Need-returns-2 Inv-loop μ-loop
 returns-2 c = search left-cut

@@ -33,6 +33,9 @@ returns-5 c = (search needs, λ h. search enum-bytes)
 returns-6 : tie.Need-returns-6
 returns-6 c = (search needs, no-bytes)
 
+union-size-requires : tie.Need-union-size-requires
+union-size-requires c κs = search needs
+
 returns-7 : tie.Need-returns-7
 returns-7 c = (search needs, λ h. search object-bytes)
 
@@ -53,5 +56,6 @@ whole-bytes-spec =
     returns-4
     returns-5
     returns-6
+    union-size-requires
     returns-7
     returns-8)

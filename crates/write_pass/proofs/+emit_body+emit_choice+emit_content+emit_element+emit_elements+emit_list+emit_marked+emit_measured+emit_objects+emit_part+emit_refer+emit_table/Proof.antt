@@ -3,7 +3,6 @@ use mathlib.Core.Path.{_≡_, _∙_}
 use native.Mathlib.Omega.{arith}
 use borrow.Author.Needs.{needs}
 use lib.ListN.{length, drop}
-use Rattle.coding.specs.Bytes.{u48}
 use Rattle.coding.specs.Bits.{bits}
 use Rattle.coding.specs.Packed as P
 use Rattle.coding.specs.Schema as Sc
@@ -331,7 +330,7 @@ emit-choice-put-number-requires : (t : ℕ) → emit-choice-lts.Need-put-number-
 emit-choice-put-number-requires t c κs = search (room-below, needs)
 
 emit-choice-emit-refer-requires : (t : ℕ) → emit-choice-lts.Need-emit-refer-requires (emit-choice-R t) (emit-choice-at t) emit-choice.Post
-emit-choice-emit-refer-requires t c κs = (omega arith, ((c .before .before .before .before .before .before .before .before .before .before .before .before .before .before .before .before .pre .1 .0 .0, search (case-sound, c .before .before .before .before .before .before .before .before .before .before .before .before .before .before .before .before .pre .1 .0 .0, c .before .before .before .before .before .before .before .if2 .left, c .before .before .before .before .before .before .before .before .before .before .before .case-count .ensures .0, c .before .before .before .before .before .before .if3 .left, c .before .before .before .before .before .union-case .ensures)), search (room-choice, c .before .before .before .before .before .before .before .before .before .before .before .before .before .before .before .before .pre .1 .1, c .before .before .before .before .before .before .before .before .before .before .take-number .ensures, c .before .before .before .before .before .before .before .before .if1 .left, c .before .before .before .put-number .ensures)))
+emit-choice-emit-refer-requires t c κs = (omega arith, ((c .before .before .before .before .before .before .before .before .before .before .before .before .before .before .before .before .pre .1 .0 .0, c .before .before .before .before .before .before .before .before .before .before .before .before .before .before .before .before .pre .1 .0 .1, search (case-sound, c .before .before .before .before .before .before .before .before .before .before .before .before .before .before .before .before .pre .1 .0 .0, c .before .before .before .before .before .before .before .if2 .left, c .before .before .before .before .before .before .before .before .before .before .before .case-count .ensures .0, c .before .before .before .before .before .before .if3 .left, c .before .before .before .before .before .union-case .ensures)), search (room-choice, c .before .before .before .before .before .before .before .before .before .before .before .before .before .before .before .before .pre .1 .1, c .before .before .before .before .before .before .before .before .before .before .take-number .ensures, c .before .before .before .before .before .before .before .before .if1 .left, c .before .before .before .put-number .ensures)))
 
 emit-choice-same-length : (t : ℕ) → emit-choice-lts.Need-same-length (emit-choice-R t) (emit-choice-at t) emit-choice.Post
 emit-choice-same-length t c = search needs
@@ -442,12 +441,12 @@ emit-element-returns-3 : (t : ℕ) → emit-element-lts.Need-returns-3 (emit-ele
 emit-element-returns-3 t c = search element-refers
 
 abbrev emit-elements-Inv-loop : emit-elements-lts.InvT-loop
-emit-elements-Inv-loop b dir s out₀ d k n c pos p₀ at₀ j₀ out p at j =
+emit-elements-Inv-loop b dir s out₀ d k n c pos o p₀ at₀ j₀ out p at j =
     (j ≤ n) × (n < 2 ^ 32) × (length out ≡ length out₀) × Room s pos c × Room s at p × (p .at + 8192 * pos ≤ c .at + 8192 * at)
-    × (emitElements (emit d u48 (P.parse b)) (survey d u48 (P.parse b)) u48 (P.parse b) k n (stateOf c out₀) (drop pos (bits s)) ≡ emitElements (emit d u48 (P.parse b)) (survey d u48 (P.parse b)) u48 (P.parse b) k (n - j) (stateOf p out) (drop at (bits s)))
+    × (emitElements (emit d o (P.parse b)) (survey d o (P.parse b)) o (P.parse b) k n (stateOf c out₀) (drop pos (bits s)) ≡ emitElements (emit d o (P.parse b)) (survey d o (P.parse b)) o (P.parse b) k (n - j) (stateOf p out) (drop at (bits s)))
 
 abbrev emit-elements-μ-loop : emit-elements-lts.MeasureT-loop
-emit-elements-μ-loop b dir s out₀ d k n c pos p₀ at₀ j₀ out p at j = n - j
+emit-elements-μ-loop b dir s out₀ d k n c pos o p₀ at₀ j₀ out p at j = n - j
 
 emit-elements-loop-holds : (t : ℕ) → emit-elements-lts.Need-loop-holds (emit-elements-R t) (emit-elements-at t) emit-elements.Post emit-elements-Inv-loop emit-elements-μ-loop
 emit-elements-loop-holds t c = (search needs, search needs, search needs, search needs, search needs, search needs, search elements-start)
@@ -540,7 +539,7 @@ emit-list-enum-told : (t : ℕ) → emit-list-lts.Need-enum-told (emit-list-R t)
 emit-list-enum-told t c = search needs
 
 emit-list-emit-elements-requires : (t : ℕ) → emit-list-lts.Need-emit-elements-requires (emit-list-R t) (emit-list-at t) emit-list.Post
-emit-list-emit-elements-requires t c κs = (search needs, ((c .before .before .before .before .before .before .before .before .before .before .before .before .before .before .before .pre .1 .0 .0, search (element-sound, c .before .before .before .before .before .before .before .before .before .before .before .before .before .before .before .pre .1 .0 .0, c .before .before .before .before .before .before .before .before .before .before .element .ensures), search (element-scalar, c .before .before .before .before .before .before .before .before .before .before .before .before .before .before .before .pre .1 .0 .0, c .before .before .before .before .before .before .before .before .before .before .element .ensures), search (not-unmarked, c .before .before .before .before .unmarked .ensures, c .before .before .before .if3 .left), search (needs, c .before .before .before .before .before .before .before .take-number .ensures)), search (room-taken, c .before .before .before .before .before .before .before .before .before .before .before .before .before .before .before .pre .1 .1, c .before .before .before .before .before .before .before .take-number .ensures, c .before .before .before .before .before .if2 .left)))
+emit-list-emit-elements-requires t c κs = (search needs, ((c .before .before .before .before .before .before .before .before .before .before .before .before .before .before .before .pre .1 .0 .0, c .before .before .before .before .before .before .before .before .before .before .before .before .before .before .before .pre .1 .0 .1, search (element-sound, c .before .before .before .before .before .before .before .before .before .before .before .before .before .before .before .pre .1 .0 .0, c .before .before .before .before .before .before .before .before .before .before .element .ensures), search (element-scalar, c .before .before .before .before .before .before .before .before .before .before .before .before .before .before .before .pre .1 .0 .0, c .before .before .before .before .before .before .before .before .before .before .element .ensures), search (not-unmarked, c .before .before .before .before .unmarked .ensures, c .before .before .before .if3 .left), search (needs, c .before .before .before .before .before .before .before .take-number .ensures)), search (room-taken, c .before .before .before .before .before .before .before .before .before .before .before .before .before .before .before .pre .1 .1, c .before .before .before .before .before .before .before .take-number .ensures, c .before .before .before .before .before .if2 .left)))
 
 emit-list-same-length-3 : (t : ℕ) → emit-list-lts.Need-same-length-3 (emit-list-R t) (emit-list-at t) emit-list.Post
 emit-list-same-length-3 t c = search needs
@@ -579,7 +578,7 @@ emit-marked-same-length : (t : ℕ) → emit-marked-lts.Need-same-length (emit-m
 emit-marked-same-length t c = search needs
 
 emit-marked-returns-2 : (t : ℕ) → emit-marked-lts.Need-returns-2 (emit-marked-R t) (emit-marked-at t) emit-marked.Post
-emit-marked-returns-2 t c = search (marked-there, c .before .before .before .before .before .before .before .before .before .before .before .before .before .pre .1 .1, c .before .before .before .before .before .before .before .before .take-number .ensures, c .before .before .before .before .before .before .if1 .left, c .before .before .before .before .before .if2 .taken, c .before .before .emit-measured .ensures)
+emit-marked-returns-2 t c = search (marked-there, c .before .before .before .before .before .before .before .before .before .before .before .before .before .pre .1 .1, c .before .before .before .before .before .before .before .before .take-number .ensures, c .before .before .before .before .before .before .if1 .left, c .before .before .before .before .before .if2 .taken, c .before .before .emit-measured .ensures, c .before .before .before .before .before .before .before .before .before .before .before .before .before .pre .1 .0 .1 .1)
 
 emit-marked-put-offset-requires : (t : ℕ) → emit-marked-lts.Need-put-offset-requires (emit-marked-R t) (emit-marked-at t) emit-marked.Post
 emit-marked-put-offset-requires t c κs = search (room-below, needs)
@@ -591,7 +590,7 @@ emit-marked-same-length-2 : (t : ℕ) → emit-marked-lts.Need-same-length-2 (em
 emit-marked-same-length-2 t c = search needs
 
 emit-marked-returns-3 : (t : ℕ) → emit-marked-lts.Need-returns-3 (emit-marked-R t) (emit-marked-at t) emit-marked.Post
-emit-marked-returns-3 t c = search (marked-none, c .before .before .before .before .before .before .before .before .before .before .before .before .before .before .pre .1 .1, c .before .before .before .before .before .before .before .before .before .take-number .ensures, c .before .before .before .before .before .before .before .if1 .left, c .before .before .before .before .before .if3 .taken, c .before .before .before .put-offset .ensures, c .stored .ensures .0, c .stored .ensures .1, c .stored .ensures .2)
+emit-marked-returns-3 t c = search (marked-none, c .before .before .before .before .before .before .before .before .before .before .before .before .before .before .pre .1 .1, c .before .before .before .before .before .before .before .before .before .take-number .ensures, c .before .before .before .before .before .before .before .if1 .left, c .before .before .before .before .before .if3 .taken, c .before .before .before .put-offset .ensures, c .stored .ensures .0, c .stored .ensures .1, c .stored .ensures .2, c .before .before .before .before .before .before .before .before .before .before .before .before .before .before .pre .1 .0 .1 .1)
 
 emit-marked-not-lawful-requires-2 : (t : ℕ) → emit-marked-lts.Need-not-lawful-requires-2 (emit-marked-R t) (emit-marked-at t) emit-marked.Post
 emit-marked-not-lawful-requires-2 t c κs = search needs
@@ -600,12 +599,12 @@ emit-marked-returns-4 : (t : ℕ) → emit-marked-lts.Need-returns-4 (emit-marke
 emit-marked-returns-4 t c = search marked-bad
 
 abbrev emit-objects-Inv-loop : emit-objects-lts.InvT-loop
-emit-objects-Inv-loop b dir s out₀ d ob n c pos size p₀ at₀ j₀ out p at j =
+emit-objects-Inv-loop b dir s out₀ d ob n c pos o size p₀ at₀ j₀ out p at j =
     (j ≤ n) × (n < 2 ^ 32) × (length out ≡ length out₀) × Room s pos c × Room s at p × (p .at + 8192 * pos ≤ c .at + 8192 * at)
-    × (emitElements (emit d u48 (P.parse b)) (survey d u48 (P.parse b)) u48 (P.parse b) (OfObject ob) n (stateOf c out₀) (drop pos (bits s)) ≡ emitElements (emit d u48 (P.parse b)) (survey d u48 (P.parse b)) u48 (P.parse b) (OfObject ob) (n - j) (stateOf p out) (drop at (bits s)))
+    × (emitElements (emit d o (P.parse b)) (survey d o (P.parse b)) o (P.parse b) (OfObject ob) n (stateOf c out₀) (drop pos (bits s)) ≡ emitElements (emit d o (P.parse b)) (survey d o (P.parse b)) o (P.parse b) (OfObject ob) (n - j) (stateOf p out) (drop at (bits s)))
 
 abbrev emit-objects-μ-loop : emit-objects-lts.MeasureT-loop
-emit-objects-μ-loop b dir s out₀ d ob n c pos size p₀ at₀ j₀ out p at j = n - j
+emit-objects-μ-loop b dir s out₀ d ob n c pos o size p₀ at₀ j₀ out p at j = n - j
 
 emit-objects-known-size-requires : (t : ℕ) → emit-objects-lts.Need-known-size-requires (emit-objects-R t) (emit-objects-at t) emit-objects.Post emit-objects-Inv-loop emit-objects-μ-loop
 emit-objects-known-size-requires t c κs = search needs
@@ -662,7 +661,7 @@ emit-part-same-length : (t : ℕ) → emit-part-lts.Need-same-length (emit-part-
 emit-part-same-length t c = search needs
 
 emit-part-returns-2 : (t : ℕ) → emit-part-lts.Need-returns-2 (emit-part-R t) (emit-part-at t) emit-part.Post
-emit-part-returns-2 t c = search (unflagged-there, c .before .before .before .before .before .before .before .before .before .before .before .before .pre .1 .1, c .before .before .before .before .before .before .before .take-number .ensures, c .before .before .before .before .before .if1 .left, c .before .before .before .before .if2 .taken, c .before .before .emit-body .ensures)
+emit-part-returns-2 t c = search (unflagged-there, c .before .before .before .before .before .before .before .before .before .before .before .before .pre .1 .1, c .before .before .before .before .before .before .before .take-number .ensures, c .before .before .before .before .before .if1 .left, c .before .before .before .before .if2 .taken, c .before .before .emit-body .ensures, c .before .before .before .before .before .before .before .before .before .before .before .before .pre .1 .0 .1 .1)
 
 emit-part-not-lawful-requires-2 : (t : ℕ) → emit-part-lts.Need-not-lawful-requires-2 (emit-part-R t) (emit-part-at t) emit-part.Post
 emit-part-not-lawful-requires-2 t c κs = search needs
@@ -695,10 +694,10 @@ emit-measured-put-reference-requires : (t : ℕ) → emit-measured-lts.Need-put-
 emit-measured-put-reference-requires t c κs = search (room-below, needs)
 
 emit-measured-open-requires : (t : ℕ) → emit-measured-lts.Need-open-requires (emit-measured-R t) (emit-measured-at t) emit-measured.Post
-emit-measured-open-requires t c κs = (c .before .before .before .before .before .before .before .before .before .pre .1 .0 .0, c .before .before .before .before .before .before .before .before .before .pre .1 .0 .1, c .before .before .before .before .before .before .before .before .before .pre .1 .0 .2 .small, search (stood-next, c .before .before .before .before .before .before .before .before .before .pre .1 .1, c .before .before .before .put-reference .ensures), search (stood-tail, c .before .before .before .before .before .before .before .before .before .pre .1 .1, c .before .before .before .put-reference .ensures))
+emit-measured-open-requires t c κs = (c .before .before .before .before .before .before .before .before .before .pre .1 .0 .0, c .before .before .before .before .before .before .before .before .before .pre .1 .0 .1, c .before .before .before .before .before .before .before .before .before .pre .1 .0 .2, c .before .before .before .before .before .before .before .before .before .pre .1 .0 .3 .small, search (stood-next, c .before .before .before .before .before .before .before .before .before .pre .1 .1, c .before .before .before .put-reference .ensures), search (stood-tail, c .before .before .before .before .before .before .before .before .before .pre .1 .1, c .before .before .before .put-reference .ensures))
 
 emit-measured-emit-content-requires : (t : ℕ) → emit-measured-lts.Need-emit-content-requires (emit-measured-R t) (emit-measured-at t) emit-measured.Post
-emit-measured-emit-content-requires t c κs = (omega (arith, c .before .before .before .before .before .before .before .before .before .before .before .before .before .pre .0), ((c .before .before .before .before .before .before .before .before .before .before .before .before .before .pre .1 .0 .0, c .before .before .before .before .before .before .before .before .before .before .before .before .before .pre .1 .0 .1), search (room-open, c .before .before .before .before .before .before .before .before .before .before .before .before .before .pre .1 .1, c .before .before .before .open .ensures)))
+emit-measured-emit-content-requires t c κs = (omega (arith, c .before .before .before .before .before .before .before .before .before .before .before .before .before .pre .0), ((c .before .before .before .before .before .before .before .before .before .before .before .before .before .pre .1 .0 .0, c .before .before .before .before .before .before .before .before .before .before .before .before .before .pre .1 .0 .1, c .before .before .before .before .before .before .before .before .before .before .before .before .before .pre .1 .0 .2), search (room-open, c .before .before .before .before .before .before .before .before .before .before .before .before .before .pre .1 .1, c .before .before .before .open .ensures, c .before .before .before .before .before .before .before .before .before .before .before .before .before .pre .1 .0 .1 .1)))
 
 emit-measured-not-lawful-requires : (t : ℕ) → emit-measured-lts.Need-not-lawful-requires (emit-measured-R t) (emit-measured-at t) emit-measured.Post
 emit-measured-not-lawful-requires t c κs = search needs
@@ -707,7 +706,7 @@ emit-measured-same-length : (t : ℕ) → emit-measured-lts.Need-same-length (em
 emit-measured-same-length t c = search needs
 
 emit-measured-returns : (t : ℕ) → emit-measured-lts.Need-returns (emit-measured-R t) (emit-measured-at t) emit-measured.Post
-emit-measured-returns t c = search (refer-cut, c .before .before .before .before .before .before .before .before .before .before .before .before .before .before .before .before .before .before .before .pre .1 .0 .0, c .before .before .before .before .before .before .before .before .before .before .before .before .before .before .before .before .before .before .before .pre .1 .1, c .before .before .before .before .before .before .before .before .before .before .before .before .before .before .before .before .before .before .before .pre .1 .0 .2, c .before .before .before .before .before .before .before .before .before .before .before .before .before .put-reference .ensures, c .before .before .before .before .before .before .before .before .before .open .ensures, c .before .before .before .before .before .emit-content .ensures, c .before .if1 .taken, c .not-lawful .ensures .0, c .not-lawful .ensures .1, c .not-lawful .ensures .2)
+emit-measured-returns t c = search (refer-cut, c .before .before .before .before .before .before .before .before .before .before .before .before .before .before .before .before .before .before .before .pre .1 .0 .0, c .before .before .before .before .before .before .before .before .before .before .before .before .before .before .before .before .before .before .before .pre .1 .1, c .before .before .before .before .before .before .before .before .before .before .before .before .before .before .before .before .before .before .before .pre .1 .0 .3, c .before .before .before .before .before .before .before .before .before .before .before .before .before .put-reference .ensures, c .before .before .before .before .before .before .before .before .before .open .ensures, c .before .before .before .before .before .emit-content .ensures, c .before .if1 .taken, c .not-lawful .ensures .0, c .not-lawful .ensures .1, c .not-lawful .ensures .2)
 
 emit-measured-close-requires : (t : ℕ) → emit-measured-lts.Need-close-requires (emit-measured-R t) (emit-measured-at t) emit-measured.Post
 emit-measured-close-requires t c κs = search needs
@@ -719,7 +718,7 @@ emit-measured-same-length-2 : (t : ℕ) → emit-measured-lts.Need-same-length-2
 emit-measured-same-length-2 t c = c .before .before .before .before .before .before .emit-content .kept .1 .1 .1 .0 ∙ c .before .before .before .before .before .before .before .before .before .before .open .kept .1 .1 .0 ∙ c .before .before .before .before .before .before .before .before .before .before .before .before .before .before .put-reference .kept .0
 
 emit-measured-returns-2 : (t : ℕ) → emit-measured-lts.Need-returns-2 (emit-measured-R t) (emit-measured-at t) emit-measured.Post
-emit-measured-returns-2 t c = search (refer-done, c .before .before .before .before .before .before .before .before .before .before .before .before .before .before .before .before .before .before .before .before .pre .1 .0 .0, c .before .before .before .before .before .before .before .before .before .before .before .before .before .before .before .before .before .before .before .before .pre .1 .1, c .before .before .before .before .before .before .before .before .before .before .before .before .before .before .before .before .before .before .before .before .pre .1 .0 .2, c .before .before .before .before .before .before .before .before .before .before .before .before .before .before .put-reference .ensures, c .before .before .before .before .before .before .before .before .before .before .open .ensures, c .before .before .before .before .before .before .emit-content .ensures, c .before .before .if1 .left, c .before .close .ensures, c .stored .ensures .0, c .stored .ensures .1, c .stored .ensures .2)
+emit-measured-returns-2 t c = search (refer-done, c .before .before .before .before .before .before .before .before .before .before .before .before .before .before .before .before .before .before .before .before .pre .1 .0 .0, c .before .before .before .before .before .before .before .before .before .before .before .before .before .before .before .before .before .before .before .before .pre .1 .1, c .before .before .before .before .before .before .before .before .before .before .before .before .before .before .before .before .before .before .before .before .pre .1 .0 .3, c .before .before .before .before .before .before .before .before .before .before .before .before .before .before .put-reference .ensures, c .before .before .before .before .before .before .before .before .before .before .open .ensures, c .before .before .before .before .before .before .emit-content .ensures, c .before .before .if1 .left, c .before .close .ensures, c .stored .ensures .0, c .stored .ensures .1, c .stored .ensures .2)
 
 emit-refer-measure-requires : (t : ℕ) → emit-refer-lts.Need-measure-requires (emit-refer-R t) (emit-refer-at t) emit-refer.Post
 emit-refer-measure-requires t c κs = search needs
@@ -734,12 +733,12 @@ emit-refer-returns : (t : ℕ) → emit-refer-lts.Need-returns (emit-refer-R t) 
 emit-refer-returns t c = search needs
 
 abbrev emit-table-Inv-loop : emit-table-lts.InvT-loop
-emit-table-Inv-loop b dir s out₀ d t c pos n p₀ at₀ j₀ out p at j =
+emit-table-Inv-loop b dir s out₀ d t c pos o n p₀ at₀ j₀ out p at j =
     (j ≤ n) × (n ≡ length (Sc.tableOf (P.parse b) t .members)) × (n < 256) × (length out ≡ length out₀) × Room s pos c × Room s at p × (p .at + 8192 * pos ≤ c .at + 8192 * at)
-    × (emitContent (emit d u48 (P.parse b)) (survey d u48 (P.parse b)) u48 (P.parse b) (O.Table t) (stateOf c out₀) (drop pos (bits s)) ≡ emitMembers (emit d u48 (P.parse b)) (survey d u48 (P.parse b)) u48 (P.parse b) (drop j (Sc.tableOf (P.parse b) t .members)) (stateOf p out) (drop at (bits s)))
+    × (emitContent (emit d o (P.parse b)) (survey d o (P.parse b)) o (P.parse b) (O.Table t) (stateOf c out₀) (drop pos (bits s)) ≡ emitMembers (emit d o (P.parse b)) (survey d o (P.parse b)) o (P.parse b) (drop j (Sc.tableOf (P.parse b) t .members)) (stateOf p out) (drop at (bits s)))
 
 abbrev emit-table-μ-loop : emit-table-lts.MeasureT-loop
-emit-table-μ-loop b dir s out₀ d t c pos n p₀ at₀ j₀ out p at j = n - j
+emit-table-μ-loop b dir s out₀ d t c pos o n p₀ at₀ j₀ out p at j = n - j
 
 emit-table-member-count-requires : (t : ℕ) → emit-table-lts.Need-member-count-requires (emit-table-R t) (emit-table-at t) emit-table.Post emit-table-Inv-loop emit-table-μ-loop
 emit-table-member-count-requires t c κs = search needs

@@ -8,6 +8,9 @@ use Rattle.message_start.proofs.root_object.Reads as root-object-reads
 use Rattle.write_pass.proofs.emit_measured.Reads as emit-measured-reads
 use Rattle.write_store.proofs.put_number.Reads as put-number-reads
 
+start-size-requires : tie.Need-start-size-requires
+start-size-requires c κs = search needs
+
 root-object-requires : tie.Need-root-object-requires
 root-object-requires c κs = search needs
 
@@ -26,4 +29,4 @@ returns c = search message-done
 pub emit-message-spec : {M : Type 1} → statement M
 emit-message-spec =
     tie.close
-    (tie.spec root-object-requires put-number-requires emit-measured-requires same-length returns)
+    (tie.spec start-size-requires root-object-requires put-number-requires emit-measured-requires same-length returns)

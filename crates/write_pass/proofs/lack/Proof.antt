@@ -24,6 +24,9 @@ put-offset-requires c κs = search needs
 enum-told-2 : tie.Need-enum-told-2
 enum-told-2 c = search needs
 
+union-size-requires : tie.Need-union-size-requires
+union-size-requires c κs = search needs
+
 put-number-requires : tie.Need-put-number-requires
 put-number-requires c κs = search needs
 
@@ -54,6 +57,7 @@ lack-spec =
     enum-told
     put-offset-requires
     enum-told-2
+    union-size-requires
     put-number-requires
     same-length
     returns

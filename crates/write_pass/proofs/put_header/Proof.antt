@@ -8,6 +8,9 @@ use Rattle.write_store.proofs.enter_object.Reads as enter-object-reads
 use Rattle.write_store.proofs.put_number.Reads as put-number-reads
 use Rattle.write_store.proofs.put_offset.Reads as put-offset-reads
 
+header-size-requires : tie.Need-header-size-requires
+header-size-requires c κs = search needs
+
 add-enter-object : tie.Need-add-enter-object
 add-enter-object c = search needs
 
@@ -30,6 +33,7 @@ pub put-header-spec : {M : Type 1} → statement M
 put-header-spec =
     tie.close
     (tie.spec
+    header-size-requires
     add-enter-object
     enter-object-requires
     put-number-requires

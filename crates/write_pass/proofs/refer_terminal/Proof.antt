@@ -24,7 +24,7 @@ open-terminal-requires : tie.Need-open-terminal-requires
 open-terminal-requires c κs = search (stood-next, needs)
 
 terminal-content-requires : tie.Need-terminal-content-requires
-terminal-content-requires c κs = (c .before .before .before .before .before .before .before .before .before .before .before .before .before .before .pre .0 .1, search (room-open, c .before .before .before .before .before .before .before .before .before .before .before .before .before .before .pre .1, c .before .before .before .open-terminal .ensures))
+terminal-content-requires c κs = (c .before .before .before .before .before .before .before .before .before .before .before .before .before .before .pre .0 .2, search (room-open, c .before .before .before .before .before .before .before .before .before .before .before .before .before .before .pre .1, c .before .before .before .open-terminal .ensures, c .before .before .before .before .before .before .before .before .before .before .before .before .before .before .pre .0 .1 .1))
 
 not-lawful-requires : tie.Need-not-lawful-requires
 not-lawful-requires c κs = search needs

@@ -1,5 +1,4 @@
 use borrow.Author.Needs.{needs}
-use Rattle.write_store.proofs.PutCases.{offset-put}
 use Rattle.write_store.proofs.put_offset.Statement.{statement}
 use Rattle.write_store.proofs.put_offset.Tie as tie
 use Rattle.write_store.proofs.put_offset.Reads as reads
@@ -13,7 +12,7 @@ same-length : tie.Need-same-length
 same-length c = search needs
 
 returns : tie.Need-returns
-returns c = search offset-put
+returns c = search needs
 
 pub put-offset-spec : {M : Type 1} → statement M
 put-offset-spec = tie.close (tie.spec put-number-requires same-length returns)
