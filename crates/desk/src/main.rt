@@ -52,7 +52,12 @@ fn main() {
     let s = load(b"schema.bin", &mut schema);
     let mut message = [0u8; 65537];
     let m = load(b"message.bin", &mut message);
-    let v = judge::judge(&schema[..s], &message[..m], Budget { visits: 100000 }, wire::U48);
+    let v = judge::judge(
+        &schema[..s],
+        &message[..m],
+        Budget { visits: 100000 },
+        wire::U48,
+    );
     print(v.number as u64, b' ');
     print(v.place as u64, b' ');
     print(v.visits as u64, b'\n');

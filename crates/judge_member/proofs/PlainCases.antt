@@ -178,6 +178,6 @@ led-is o S m t j x c r e laid step next h small =
 
 module _ (o : ℕ) (b : List ℕ) (t j p : ℕ) (l : t < P.tableCount b) (h : j < length (Sc.tableOf (P.parse b) t .members)) (ep : p ≡ P.tablePlace b t) where
   pub number-led : (m : List ℕ) (x : Content) (c : Cursor) → Laid (4097 * j) c → (at : ℕ) → at ≡ P.recordPlace 4 p j → (step : Step) (next : Cursor)
-      → ((w : ℕ) → LedAt w b m at x c step next) → Led o (P.parse b) m t j x c step next
+      → ((o′ : ℕ) → LedAt o′ b m at x c step next) → Led o (P.parse b) m t j x c step next
   number-led m x c laid at e step next g =
       led-is o (P.parse b) m t j x c (P.memberAt b at) (record-member b t j p l h ep at e) laid step next (g o .stepped) (g o .small)

@@ -73,7 +73,8 @@ fn plain_width(k: usize) -> usize
     wire::index(schema::width_of(k))
 }
 
-// The number, float or enum of the record at `at`, whose first byte is h: it leads nowhere, but may be cut.
+// The number, float or enum of the record at `at`, whose first byte is h: it leads nowhere, but may be cut,
+// whatever the width of an offset.
 fn lead_number(b: &[u8], m: &[u8], at: usize, x: Content, c: Cursor, h: usize) -> SteppedMember
     requires { ⌜ (h ≡ getD (now b) at 0) × (Rs.Plain h) ⌝ }
     requires { ⌜ (c .byte ≤ c .end) × (c .bit ≤ 8) × (c .end < 2 ^ 58) ⌝ }

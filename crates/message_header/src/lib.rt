@@ -167,7 +167,15 @@ pub fn fits(m: &[u8], start: usize, size: usize, n: usize) -> Opened
 }
 
 // An object's content of length n at `start`, if it fits.
-pub fn fit_content(b: &[u8], dir: &[u16], m: &[u8], ob: Object, start: usize, n: usize, o: usize) -> Opened
+pub fn fit_content(
+    b: &[u8],
+    dir: &[u16],
+    m: &[u8],
+    ob: Object,
+    start: usize,
+    n: usize,
+    o: usize,
+) -> Opened
     requires { ⌜ (Accepted (now b) (now dir)) × (Width o) × (ObjectSound (P.parse (now b)) ob) × (start < 2 ^ 60) × (n < 2 ^ 48) ⌝ }
     ensures { λ r. ⌜ r ≡ W.fitContent o (P.parse (now (b .entry))) (now (m .entry)) ob start n ⌝ }
 {

@@ -123,23 +123,23 @@ module _ (o : ℕ) (b m path : List ℕ) (j : ℕ) (s : ListStep) (ea : s .answe
   step-other free none = refused (refusal 15 0) (other o b m path free none)
 
 -- ---- a step of the reader
-module _ (o : ℕ) (r : ListReader) (q : Answer) (eq : q ≡ gives o r) (r′ : ListReader) (er : r′ ≡ after o r) where
+module _ (r : ListReader) (q : Answer) (eq : q ≡ gives r) (r′ : ListReader) (er : r′ ≡ after r) where
   abbrev step : ListStep
-  step = record { answer = q; next = after o r .element }
+  step = record { answer = q; next = after r .element }
 
   whole : (k : Answer) (j : ℕ) → step ≡ record { answer = k; next = j } → (q ≡ k) × (r′ ≡ atElement r j)
   whole k j e = (ap (λ (s : ListStep). s .answer) e, er ∙ ap (λ (s : ListStep). atElement r (s .next)) e)
 
-  pub reader-steps : Stepped o r q r′
+  pub reader-steps : Stepped r q r′
   reader-steps = record {
     answers = eq;
     goes = er;
     moves = λ i at start n left l.
-        let e = step-same o _ _ (now (r .path)) (r .element) step eq refl _ _ refl i at start n left l in
+        let e = step-same (r .width) _ _ (now (r .path)) (r .element) step eq refl _ _ refl i at start n left l in
         (e .0 refl, λ h. er ∙ ap (atElement r) (e .1 h));
-    stays = λ i at start n left l h. whole _ _ (step-end o _ _ (now (r .path)) (r .element) step eq refl i at start n left l h);
-    own = λ x e. whole _ _ (step-own o _ _ (now (r .path)) (r .element) step eq refl x e);
-    other = λ free none. whole _ _ (step-other o _ _ (now (r .path)) (r .element) step eq refl free none);
+    stays = λ i at start n left l h. whole _ _ (step-end (r .width) _ _ (now (r .path)) (r .element) step eq refl i at start n left l h);
+    own = λ x e. whole _ _ (step-own (r .width) _ _ (now (r .path)) (r .element) step eq refl x e);
+    other = λ free none. whole _ _ (step-other (r .width) _ _ (now (r .path)) (r .element) step eq refl free none);
   }
 
 -- ---- many steps

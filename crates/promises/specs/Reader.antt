@@ -13,30 +13,30 @@ use Rattle.field_reader.specs.declared.ListReader.{ListReader}
 use Rattle.promises.specs.Words.{LeadsToList}
 
 -- the reader's path leads to "a list whose elements are of kinds 13 to 17": list i of the schema, of n elements, at a place
-abbrev pub listAt : (o : ℕ) → ListReader → ℕ → ℕ → ℕ → ℕ → ℕ → Type 0
-listAt o r i at start n left = LeadsToList o (now (r .schema)) (now (r .message)) (now (r .path)) i at start n left
+abbrev pub listAt : ListReader → ℕ → ℕ → ℕ → ℕ → ℕ → Type 0
+listAt r i at start n left = LeadsToList (r .width) (now (r .schema)) (now (r .message)) (now (r .path)) i at start n left
 
 -- the answer at the reader's path, and at its element's path
-abbrev pub pathField : (o : ℕ) → ListReader → Answer
-pathField o r = field o (now (r .schema)) (now (r .message)) (now (r .path))
+abbrev pub pathField : ListReader → Answer
+pathField r = field (r .width) (now (r .schema)) (now (r .message)) (now (r .path))
 
-abbrev pub elementField : (o : ℕ) → ListReader → Answer
-elementField o r = field o (now (r .schema)) (now (r .message)) (now (r .path) ++ r .element ∷ [])
+abbrev pub elementField : ListReader → Answer
+elementField r = field (r .width) (now (r .schema)) (now (r .message)) (now (r .path) ++ r .element ∷ [])
 
 -- the reader at another element
 abbrev pub atElement : ListReader → ℕ → ListReader
-atElement r j = record { schema = r .schema; message = r .message; path = r .path; element = j }
+atElement r j = record { schema = r .schema; message = r .message; path = r .path; element = j; width = r .width }
 
 -- what the papers demand of a step that answers q and leaves the reader r′
-pub record Stepped (o : ℕ) (r : ListReader) (q : Answer) (r′ : ListReader) : Type 0 where
+pub record Stepped (r : ListReader) (q : Answer) (r′ : ListReader) : Type 0 where
   -- the answer and the reader after it are the definition's
-  pub answers : q ≡ gives o r
-  pub goes : r′ ≡ after o r
-  -- "Each step o answers as that element's path would and moves on, refused o or not"
-  pub moves : (i at start n left : ℕ) → listAt o r i at start n left → (q ≡ elementField o r) × (r .element < n → r′ ≡ atElement r (r .element + 1))
+  pub answers : q ≡ gives r
+  pub goes : r′ ≡ after r
+  -- "Each step answers as that element's path would and moves on, refused or not"
+  pub moves : (i at start n left : ℕ) → listAt r i at start n left → (q ≡ elementField r) × (r .element < n → r′ ≡ atElement r (r .element + 1))
   -- "after the last it answers 15 at the list and stays"
-  pub stays : (i at start n left : ℕ) → listAt o r i at start n left → n ≤ r .element → (q ≡ A.Refused (refusal 15 at)) × (r′ ≡ r)
-  -- "a refused o path gives its own refusal"
-  pub own : (x : Refusal) → pathField o r ≡ A.Refused x → (q ≡ A.Refused x) × (r′ ≡ r)
-  -- "any other o answer is 15 at 0"
-  pub other : ((x : Refusal) → pathField o r ≡ A.Refused x → ⊥) → ((i at start n left : ℕ) → listAt o r i at start n left → ⊥) → (q ≡ A.Refused (refusal 15 0)) × (r′ ≡ r)
+  pub stays : (i at start n left : ℕ) → listAt r i at start n left → n ≤ r .element → (q ≡ A.Refused (refusal 15 at)) × (r′ ≡ r)
+  -- "a refused path gives its own refusal"
+  pub own : (x : Refusal) → pathField r ≡ A.Refused x → (q ≡ A.Refused x) × (r′ ≡ r)
+  -- "any other answer is 15 at 0"
+  pub other : ((x : Refusal) → pathField r ≡ A.Refused x → ⊥) → ((i at start n left : ℕ) → listAt r i at start n left → ⊥) → (q ≡ A.Refused (refusal 15 0)) × (r′ ≡ r)

@@ -71,7 +71,13 @@ pub struct Verdicts {
 }
 
 // Judging one message by two schemas.
-pub fn judged_by_both(older: &[u8], newer: &[u8], message: &[u8], budget: Budget, o: usize) -> Verdicts
+pub fn judged_by_both(
+    older: &[u8],
+    newer: &[u8],
+    message: &[u8],
+    budget: Budget,
+    o: usize,
+) -> Verdicts
     // each verdict is the definition's
     ensures by_older { λ r. ⌜ r .older ≡ W.verdict o (given older) (given message) budget ⌝ }
     ensures by_newer { λ r. ⌜ r .newer ≡ W.verdict o (given newer) (given message) budget ⌝ }
@@ -236,7 +242,14 @@ pub fn reader_step<'s, 'a, 'b, 'c>(r: &'s mut ListReader<'a, 'b, 'c>) -> Answer
 }
 
 // Many steps of the list reader at once.
-pub fn steps(schema: &[u8], message: &[u8], path: &[u32], from: usize, out: &mut [u64], o: usize) -> usize
+pub fn steps(
+    schema: &[u8],
+    message: &[u8],
+    path: &[u32],
+    from: usize,
+    out: &mut [u64],
+    o: usize,
+) -> usize
     // the count and the output are the definition's
     ensures whole { λ r. ⌜ r ≡ F.readerCount o (given schema) (given message) (given path) ⌝ }
     ensures output { λ _. ⌜ after out ≡ F.readerOver o (given schema) (given message) (given path) from (given out) ⌝ }

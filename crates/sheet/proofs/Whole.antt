@@ -1,4 +1,5 @@
--- The whole sheet: an accepted message is readable; counting the bits, filling the buffer, and the answers.
+-- The whole sheet: an accepted message is readable; counting the bits, filling the buffer, and the answers. `w` is the width of an
+-- offset in bytes.
 use mathlib.Core.Path.{_≡_, refl, sym, ap, ap₂, _∙_, subst}
 use mathlib.Core.Bool.{Bool, true, false}
 use mathlib.Core.List.{List, [], _∷_, _++_}
@@ -10,7 +11,7 @@ use lib.ListN.{length, getD, take, drop, set, length-set}
 use lib.Seq.{length-take-le, getD-set-same}
 use borrow.Author.Tests.{le-leb, lt-leb, leb-true, leb-false, eq-eqb, ne-eqb}
 use Rattle.coding.specs.Lists.{pick}
-use Rattle.coding.specs.Bytes.{u48, deepest, largest}
+use Rattle.coding.specs.Bytes.{deepest, largest}
 use Rattle.coding.specs.Packed as P
 use Rattle.coding.specs.Walk as W
 use Rattle.coding.specs.Bits.{bits, packed, byteCount}
@@ -25,7 +26,7 @@ use Rattle.coding.specs.declared.ReadAnswer.{ReadAnswer}
 use Rattle.laws.specs.All.{all-index}
 use Rattle.laws.specs.Lists.{both-left, both-right}
 use Rattle.laws.specs.Bits.{Byte, packed-length}
-use Rattle.schema.specs.Directory.{Accepted, Judged, accepted-sound}
+use Rattle.schema.specs.Directory.{Accepted, AcceptedUnder, Judged, accepted-sound}
 use Rattle.bitio.specs.Puts.{Room, Puts, saturated}
 use Rattle.bitio.specs.Filled.{sheet-filled}
 use Rattle.sheet_walk.specs.MessageBits as A
@@ -39,34 +40,34 @@ unfolding W.verdictOf
 says-number Q (Going s) h e = h
 says-number Q (Refused r s) h e = absurd (h e)
 
-sizes : (m : List ℕ) → W.sizeOk u48 m ≡ true → (W.startSize u48 ≤ length m) × (length m ≤ 16777215)
-unfolding W.sizeOk W.startSize u48 largest
-sizes m e = (
-  leb-true 10 (length m) (both-left (leb 10 (length m)) (leb (length m) 16777215) e),
-  leb-true (length m) 16777215 (both-right (leb 10 (length m)) (leb (length m) 16777215) e),
+sizes : (w : ℕ) (m : List ℕ) → W.sizeOk w m ≡ true → (W.startSize w ≤ length m) × (length m ≤ 16777215)
+unfolding W.sizeOk largest
+sizes w m e = (
+  leb-true (W.startSize w) (length m) (both-left (leb (W.startSize w) (length m)) (leb (length m) 16777215) e),
+  leb-true (length m) 16777215 (both-right (leb (W.startSize w) (length m)) (leb (length m) 16777215) e),
 )
 
-rooted : (b dir m : List ℕ) → Accepted b dir → (budget : Budget) → W.verdictOf (W.walk u48 (P.parse b) m budget) .number ≡ 0
-    → D.ObjectReadable u48 deepest (P.parse b) m (O.Table (P.parse b .root)) (W.rootPlace u48 m)
+rooted : (w : ℕ) (b dir m : List ℕ) → Accepted b dir → (budget : Budget) → W.verdictOf (W.walk w (P.parse b) m budget) .number ≡ 0
+    → D.ObjectReadable w deepest (P.parse b) m (O.Table (P.parse b .root)) (W.rootPlace w m)
 unfolding W.walk
-rooted b dir m a budget q =
-    says-number (D.ObjectReadable u48 deepest (P.parse b) m (O.Table (P.parse b .root)) (W.rootPlace u48 m))
-    (W.visit deepest u48 (P.parse b) m budget (O.Table (P.parse b .root)) (W.rootPlace u48 m) W.nothing)
-    (visit-says u48 (P.parse b) (accepted-sound b dir a) m budget deepest (O.Table (P.parse b .root)) (W.rootPlace u48 m) W.nothing (accepted-sound b dir a .root))
+rooted w b dir m a budget q =
+    says-number (D.ObjectReadable w deepest (P.parse b) m (O.Table (P.parse b .root)) (W.rootPlace w m))
+    (W.visit deepest w (P.parse b) m budget (O.Table (P.parse b .root)) (W.rootPlace w m) W.nothing)
+    (visit-says w (P.parse b) (accepted-sound b dir a) m budget deepest (O.Table (P.parse b .root)) (W.rootPlace w m) W.nothing (accepted-sound b dir a .root))
     q
 
-pub message-readable : (b dir m : List ℕ) → Accepted b dir → (budget : Budget) (v : Verdict) → v ≡ W.verdict u48 b m budget → v .number ≡ 0 → D.MessageReadable u48 (P.parse b) m
+pub message-readable : (w : ℕ) (b dir m : List ℕ) → AcceptedUnder w b dir → (budget : Budget) (v : Verdict) → v ≡ W.verdict w b m budget → v .number ≡ 0 → D.MessageReadable w (P.parse b) m
 unfolding W.verdict W.early W.nothing
-message-readable b dir m a budget v ev h =
-    by (W.sizeOk u48 m) (W.startOk m) refl
+message-readable w b dir m a budget v ev h =
+    by (W.sizeOk w m) (W.startOk m) refl
     (subst (λ (x : Verdict). x .number ≡ 0)
-    (ev ∙ ap (λ (t : Bool). pick t (pick (W.sizeOk u48 m) (pick (W.startOk m) (W.verdictOf (W.walk u48 (P.parse b) m budget)) (W.early 3)) (W.early 2)) (W.early 1)) (a .lawful)) h)
+    (ev ∙ ap (λ (t : Bool). pick t (pick (W.sizeOk w m) (pick (W.startOk m) (W.verdictOf (W.walk w (P.parse b) m budget)) (W.early 3)) (W.early 2)) (W.early 1)) (a .lawful)) h)
   where
-    sized : W.sizeOk u48 m ≡ true → (W.startSize u48 ≤ length m) × (length m ≤ 16777215)
-    sized e = sizes m e
+    sized : W.sizeOk w m ≡ true → (W.startSize w ≤ length m) × (length m ≤ 16777215)
+    sized e = sizes w m e
 
-    by : (t u : Bool) → W.sizeOk u48 m ≡ t → pick t (pick u (W.verdictOf (W.walk u48 (P.parse b) m budget)) (W.early 3)) (W.early 2) .number ≡ 0 → D.MessageReadable u48 (P.parse b) m
-    by true true e q = record { long = sized e .0; short = sized e .1; root = rooted b dir m a budget q }
+    by : (t u : Bool) → W.sizeOk w m ≡ t → pick t (pick u (W.verdictOf (W.walk w (P.parse b) m budget)) (W.early 3)) (W.early 2) .number ≡ 0 → D.MessageReadable w (P.parse b) m
+    by true true e q = record { long = sized e .0; short = sized e .1; root = rooted w b dir m (a .accepted) budget q }
     by true false e q = absurd (let z : 3 ≡ 0 = q in omega arith)
     by false u e q = absurd (let z : 2 ≡ 0 = q in omega arith)
 
@@ -177,36 +178,36 @@ module _ (xs : List ℕ) (v : Verdict) (o o₁ : List ℕ) (n : ℕ) (e : n ≡ 
           (ap₂ (λ (a c : List ℕ). a ++ c) g (ap₂ (λ (k : ℕ) (c : List ℕ). drop k c) sized f))
 
 -- ---- the answers of the reader
-module _ (b m o : List ℕ) (budget : Budget) (v : Verdict) (ev : v ≡ W.verdict u48 b m budget) where
+module _ (w : ℕ) (b m o : List ℕ) (budget : Budget) (v : Verdict) (ev : v ≡ W.verdict w b m budget) where
   module _ (h : v .number ≡ 0) where
-    pub read-answer : (r : ReadAnswer) → r ≡ sheetAnswer (A.rootAt u48 (P.parse b) m) v o → r ≡ M.readAnswer u48 b m budget o
+    pub read-answer : (r : ReadAnswer) → r ≡ sheetAnswer (A.rootAt w (P.parse b) m) v o → r ≡ M.readAnswer w b m budget o
     unfolding M.readAnswer M.messageSheet E.sheetOf sheetAnswer noRoom A.rootAt
     read-answer r er = er ∙ simp (← ev, eq-eqb _ _ h)
 
-    pub read-over : (o₁ : List ℕ) → o₁ ≡ sheetOver (A.rootAt u48 (P.parse b) m) o → o₁ ≡ M.readOut u48 b m budget o
+    pub read-over : (o₁ : List ℕ) → o₁ ≡ sheetOver (A.rootAt w (P.parse b) m) o → o₁ ≡ M.readOut w b m budget o
     unfolding M.readOut M.messageSheet E.sheetOf sheetOver A.rootAt
     read-over o₁ er = er ∙ simp (← ev, eq-eqb _ _ h)
 
   module _ (h : v .number ≡ 0 → ⊥) where
-    pub refused-answer : record { verdict = v; length = 0 } ≡ M.readAnswer u48 b m budget o
+    pub refused-answer : record { verdict = v; length = 0 } ≡ M.readAnswer w b m budget o
     unfolding M.readAnswer
     refused-answer = simp (← ev, ne-eqb _ _ h)
 
-    pub refused-over : o ≡ M.readOut u48 b m budget o
+    pub refused-over : o ≡ M.readOut w b m budget o
     unfolding M.readOut
     refused-over = simp (← ev, ne-eqb _ _ h)
 
 -- ---- a schema that is not lawful
-pub schema-accepted : (b dir : List ℕ) (t : Bool) → Judged b dir t → t ≡ true → Accepted b dir
-schema-accepted b dir t j e = j .right e
+pub schema-accepted : (w : ℕ) (b dir : List ℕ) (t : Bool) → Judged w b dir t → t ≡ true → AcceptedUnder w b dir
+schema-accepted w b dir t j e = j .right e
 
-unlawful : (b dir m : List ℕ) (budget : Budget) (t : Bool) → Judged b dir t → t ≡ false → W.verdict u48 b m budget ≡ record { number = 1; place = 0; visits = 0 }
+unlawful : (w : ℕ) (b dir m : List ℕ) (budget : Budget) (t : Bool) → Judged w b dir t → t ≡ false → W.verdict w b m budget ≡ record { number = 1; place = 0; visits = 0 }
 unfolding W.verdict W.early W.nothing
-unlawful b dir m budget t j f = simp (← (j .is), f)
+unlawful w b dir m budget t j f = simp (← (j .is), f)
 
-module _ (b dir m o : List ℕ) (budget : Budget) (t : Bool) (j : Judged b dir t) (f : t ≡ false) where
-  pub unlawful-answer : record { verdict = record { number = 1; place = 0; visits = 0 }; length = 0 } ≡ M.readAnswer u48 b m budget o
-  unlawful-answer = refused-answer b m o budget (record { number = 1; place = 0; visits = 0 }) (sym (unlawful b dir m budget t j f)) (λ e. omega arith)
+module _ (w : ℕ) (b dir m o : List ℕ) (budget : Budget) (t : Bool) (j : Judged w b dir t) (f : t ≡ false) where
+  pub unlawful-answer : record { verdict = record { number = 1; place = 0; visits = 0 }; length = 0 } ≡ M.readAnswer w b m budget o
+  unlawful-answer = refused-answer w b m o budget (record { number = 1; place = 0; visits = 0 }) (sym (unlawful w b dir m budget t j f)) (λ e. omega arith)
 
-  pub unlawful-over : o ≡ M.readOut u48 b m budget o
-  unlawful-over = refused-over b m o budget (record { number = 1; place = 0; visits = 0 }) (sym (unlawful b dir m budget t j f)) (λ e. omega arith)
+  pub unlawful-over : o ≡ M.readOut w b m budget o
+  unlawful-over = refused-over w b m o budget (record { number = 1; place = 0; visits = 0 }) (sym (unlawful w b dir m budget t j f)) (λ e. omega arith)

@@ -87,6 +87,7 @@ fn write_judged(b: &[u8], dir: &[u16], s: &[u8], out: &mut [u8], o: usize) -> Wr
 
 // Writes a sheet as a message: 1, 11, 12, 13 or 14, each over the whole sheet; else the message's length, and the message in
 // the output, whose bytes after it keep what they held.
+// Under an o that is no coding's width no schema is lawful.
 pub fn write(b: &[u8], s: &[u8], out: &mut [u8], o: usize) -> WriteAnswer
     ensures { λ r. ⌜ r ≡ M.writeAnswer o (now (b .entry)) (now (s .entry)) (now (out .entry)) ⌝ }
     ensures { λ _. ⌜ now (out .exit) ≡ M.writeOut o (now (b .entry)) (now (s .entry)) (now (out .entry)) ⌝ }

@@ -31,7 +31,6 @@ use denote.Triple.Entry.{onEntry}
 use denote.Triple.Spec.{Meets, tripleOf}
 use denote.Triple.Table.{entered, cited}
 use denote.Triple.Walked.{says, Stays, gave-ref, walkOf, goes-gave-ref, Walks, ends-at, walked, walk-meets}
-use Rattle.coding.specs.Bytes.{u48}
 use Rattle.coding.specs.declared.Answer.{Answer}
 use Rattle.coding.proofs.Answer as A
 use Rattle.coding.proofs.Answer.Laws as A′
@@ -84,7 +83,7 @@ module _ {M : Type 1} (𝓤 : URA M) (H : Heap 𝓤) (𝓐 : Atoms 𝓤) (W : Gi
 
   -- what the callee says of its answer and of the reader at exit
   abbrev Says : Answer → ListReader → Type 0
-  Says a r = (a ≡ gives u48 h) × (r ≡ after u48 h)
+  Says a r = (a ≡ gives h) × (r ≡ after h)
 
   exits : (a : Answer) (u : Val) (r : ListReader) → Says a r → ent 𝓤 (⋆ 𝓤 H 𝓐 (‵ (A.the-row .own a (u ∷ [])) ∷ (‵ (flft κ q) ⊛ ‵ (flft κ₁ q₁) ⊛ ‵ (flft κ₂ q₂) ⊛ ‵ (flft κ₃ q₃) ⊛ ‵ ftrue) ∷ ‵ (fres γ (B .coded .code r)) ∷ [])) (Post u)
   exits a u r e =

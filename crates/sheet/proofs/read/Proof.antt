@@ -13,7 +13,7 @@ slice-aggregate-read-judged : tie.Need-slice-aggregate-read-judged
 slice-aggregate-read-judged c = search needs
 
 read-judged-requires : tie.Need-read-judged-requires
-read-judged-requires c κs = search schema-accepted
+read-judged-requires c κs = schema-accepted _ _ _ _ (c .before .before .before .before .judge-schema .ensures) (c .before .before .if1 .taken)
 
 same-length : tie.Need-same-length
 same-length c = search needs

@@ -7,7 +7,7 @@ judged-requires : tie.Need-judged-requires
 judged-requires c κs = search needs
 
 read-accepted-requires : tie.Need-read-accepted-requires
-read-accepted-requires c κs = (search needs, search message-readable)
+read-accepted-requires c κs = (search needs, search needs, search message-readable)
 
 same-length : tie.Need-same-length
 same-length c = search needs
