@@ -32,7 +32,7 @@ pub struct Part {
 
 // ---- a walker's answer
 // The member of an answer that is about none.
-pub const NO_MEMBER: u32 = 4294967295;
+pub const NO_MEMBER: u32 = wire::NO_MEMBER;
 
 // What a walker answers, in whole words: 0 to go on, or a refusal's number and 1; its place and its member; what is spent.
 pub struct Outcome {
