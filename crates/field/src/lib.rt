@@ -169,7 +169,8 @@ pub fn case_of(answer: Answer) -> Case
         Answer::Absent => case_with(5, 0, 0, 0),
         Answer::Unknown(x) => case_with(6, x as u64, 0, 0),
         Answer::Refused(why) => {
-            case_with(7, wire::wide(why.number), why.place as u64, why.member as u64)
+            let number = wire::wide(why.number);
+            case_with(7, number, why.place as u64, why.member as u64)
         }
     }
 }
