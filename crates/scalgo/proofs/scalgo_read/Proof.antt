@@ -20,8 +20,11 @@ returns c =
       (
         ap (λ (x : ReadAnswer). x .verdict .place) e,
         (
-          ap (λ (x : ReadAnswer). x .verdict .visits) e,
-          (ap (λ (x : ReadAnswer). x .length) e, c .before .before .before .before .read .ensures .1),
+          ap (λ (x : ReadAnswer). x .verdict .member) e,
+          (
+            ap (λ (x : ReadAnswer). x .verdict .visits) e,
+            (ap (λ (x : ReadAnswer). x .length) e, c .before .before .before .before .read .ensures .1),
+          ),
         ),
       ),
     )
