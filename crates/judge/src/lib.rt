@@ -74,8 +74,8 @@ pub fn judged(b: &[u8], dir: &[u16], m: &[u8], budget: Budget, o: usize) -> Verd
     early(2)
 }
 
-// Judges a message by a packed schema under the coding of width o: number, place, member and visits. A width of no coding is refused
-// as an unlawful schema is.
+// Judges a message by a packed schema under the coding of width o: number, place, member and visits. A width of no coding is
+// refused as an unlawful schema is.
 pub fn judge(b: &[u8], m: &[u8], budget: Budget, o: usize) -> Verdict
     ensures { λ r. ⌜ r ≡ W.verdict o (now (b .entry)) (now (m .entry)) budget ⌝ }
 {

@@ -23,7 +23,7 @@ pub fn size_ok(m: &[u8], o: usize) -> bool
 }
 
 // What a message starts with.
-const MAGIC: u64 = 0xB5C0_C4B3;
+pub const MAGIC: u64 = 0xB5C0_C4B3;
 
 // Whether the message starts with its magic.
 pub fn start_ok(m: &[u8]) -> bool

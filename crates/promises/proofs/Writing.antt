@@ -22,33 +22,33 @@ use Rattle.coding.specs.declared.WriteAnswer.{WriteAnswer}
 use Rattle.promises.specs.Words.{KeepsOnRefusal}
 
 -- ---- the writer refuses by 1, 11, 12 or 13, and never by 0
-abbrev Refuses : (o : ℕ) → Written → Type 0
-Refuses o (refused o n) = 0 < n
-Refuses o (message m) = Unit {0}
+abbrev Refuses : Written → Type 0
+Refuses (refused n) = 0 < n
+Refuses (message m) = Unit {0}
 
-tree-refuses : (o : ℕ) (S : Schema) (t : Option Value) → Refuses o (writtenTree o S t)
+tree-refuses : (o : ℕ) (S : Schema) (t : Option Value) → Refuses (writtenTree o S t)
 unfolding writtenTree
 tree-refuses o S Op.none = omega arith
 tree-refuses o S (Op.some v) = by (writable deepest o S (O.Table (S .root)) v) (leb (length (messageOf o S v)) largest)
   where
-    by : (s t : Bool) → Refuses o (pick s (pick t (message (messageOf o S v)) (refused o 13)) (refused o 12))
+    by : (s t : Bool) → Refuses (pick s (pick t (message (messageOf o S v)) (refused 13)) (refused 12))
     by true true = tt
     by true false = omega arith
     by false t = omega arith
 
-writes-or-refuses : (o : ℕ) (b s : List ℕ) → Refuses o (written o b s)
+writes-or-refuses : (o : ℕ) (b s : List ℕ) → Refuses (written o b s)
 unfolding written
 writes-or-refuses o b s = by (lawful o b)
   where
-    by : (t : Bool) → Refuses o (pick t (writtenTree o (parse b) (sheetTree (parse b) s)) (refused o 1))
+    by : (t : Bool) → Refuses (pick t (writtenTree o (parse b) (sheetTree (parse b) s)) (refused 1))
     by true = tree-refuses o (parse b) (sheetTree (parse b) s)
     by false = omega arith
 
 -- ---- number 0
-room-length : (o : ℕ) (w : Written) (out : List ℕ) → writeRoom w (length out) .length ≤ length (writeOver w out)
+room-length : (w : Written) (out : List ℕ) → writeRoom w (length out) .length ≤ length (writeOver w out)
 unfolding writeRoom writeOver
-room-length o (refused o k) out = omega arith
-room-length o (message m) out = by (leb (length m) (length out))
+room-length (refused k) out = omega arith
+room-length (message m) out = by (leb (length m) (length out))
   where
     by : (t : Bool)
         → pick {A = WriteAnswer} t (record { number = 0; length = length m }) (record { number = 14; length = 0 }) .length
@@ -56,11 +56,11 @@ room-length o (message m) out = by (leb (length m) (length out))
     by true = omega (arith, length-append m (drop (length m) out))
     by false = omega arith
 
-room-made : (o : ℕ) (w : Written) → Refuses o w → (out : List ℕ) → writeRoom w (length out) .number ≡ 0
+room-made : (w : Written) → Refuses w → (out : List ℕ) → writeRoom w (length out) .number ≡ 0
     → w ≡ message (take (writeRoom w (length out) .length) (writeOver w out))
 unfolding writeRoom writeOver
-room-made o (refused o k) f out h = absurd (omega arith)
-room-made o (message m) f out h = by (leb (length m) (length out)) h
+room-made (refused k) f out h = absurd (omega arith)
+room-made (message m) f out h = by (leb (length m) (length out)) h
   where
     by : (t : Bool) → pick {A = WriteAnswer} t (record { number = 0; length = length m }) (record { number = 14; length = 0 }) .number ≡ 0
         → message m
@@ -71,11 +71,11 @@ room-made o (message m) f out h = by (leb (length m) (length out)) h
     by false h = absurd (omega arith)
 
 -- ---- any other number
-room-kept : (o : ℕ) (w : Written) (out : List ℕ) → (writeRoom w (length out) .number ≡ 0 → ⊥)
+room-kept : (w : Written) (out : List ℕ) → (writeRoom w (length out) .number ≡ 0 → ⊥)
     → (writeRoom w (length out) .length ≡ 0) × (writeOver w out ≡ out)
 unfolding writeRoom writeOver
-room-kept o (refused o k) out h = (refl, refl)
-room-kept o (message m) out h = by (leb (length m) (length out)) h
+room-kept (refused k) out h = (refl, refl)
+room-kept (message m) out h = by (leb (length m) (length out)) h
   where
     by : (t : Bool) → (pick {A = WriteAnswer} t (record { number = 0; length = length m }) (record { number = 14; length = 0 }) .number ≡ 0 → ⊥)
         → (pick {A = WriteAnswer} t (record { number = 0; length = length m }) (record { number = 14; length = 0 }) .length ≡ 0)
@@ -86,7 +86,7 @@ room-kept o (message m) out h = by (leb (length m) (length out)) h
 module _ (o : ℕ) (b s out : List ℕ) (a : WriteAnswer) (ea : a ≡ writeAnswer o b s out) where
   pub within-room : (out′ : List ℕ) → out′ ≡ writeOut o b s out → a .length ≤ length out′
   unfolding writeAnswer writeOut
-  within-room out′ eo = rw (ea, eo) (room-length o (written o b s) out)
+  within-room out′ eo = rw (ea, eo) (room-length (written o b s) out)
 
   pub part-length : (out′ : List ℕ) → out′ ≡ writeOut o b s out → a .length ≡ length (take (a .length) out′)
   part-length out′ eo = sym (length-take-le (a .length) out′ (within-room out′ eo))
@@ -94,9 +94,9 @@ module _ (o : ℕ) (b s out : List ℕ) (a : WriteAnswer) (ea : a ≡ writeAnswe
   pub made : (out′ : List ℕ) → out′ ≡ writeOut o b s out → a .number ≡ 0 → written o b s ≡ message (take (a .length) out′)
   unfolding writeAnswer writeOut
   made out′ eo h =
-      rw (ea, eo) (room-made o (written o b s) (writes-or-refuses o b s) out (ap (λ (x : WriteAnswer). x .number) (sym ea) ∙ h))
+      rw (ea, eo) (room-made (written o b s) (writes-or-refuses o b s) out (ap (λ (x : WriteAnswer). x .number) (sym ea) ∙ h))
 
   -- "on refusal the length is 0 and the output is unchanged"
   pub kept : (out′ : List ℕ) → out′ ≡ writeOut o b s out → KeepsOnRefusal (a .number) (a .length) out out′
   unfolding writeAnswer writeOut
-  kept out′ eo h = rw (ea, eo) (room-kept o (written o b s) out (λ z. h (ap (λ (x : WriteAnswer). x .number) ea ∙ z)))
+  kept out′ eo h = rw (ea, eo) (room-kept (written o b s) out (λ z. h (ap (λ (x : WriteAnswer). x .number) ea ∙ z)))

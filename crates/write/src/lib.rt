@@ -1,17 +1,27 @@
 // Writing a message from a value sheet: the sheet is surveyed first, and then one pass over it stores the message.
+use coding::Object;
 use coding::Verdict;
 use coding::WriteAnswer;
 use message_header::TableObject;
 use write_measure::Extent;
+use write_pass::Emitted;
+use write_store::Places;
 ghost use mathlib.Core.Path.{_≡_};
+ghost use mathlib.Core.Bool.{false};
 ghost use Prim.Native.Nat.{ℕ, _+_, _*_, _≤_};
 ghost use lib.ListN.{length, drop};
 ghost use Rattle.coding.specs.Bits.{bits};
+ghost use Rattle.coding.specs.Bytes as B;
 ghost use Rattle.coding.specs.Message as M;
-ghost use Rattle.schema.specs.Directory.{AcceptedUnder};
-ghost use Rattle.wire.specs.Sizes.{Width};
+ghost use Rattle.coding.specs.Packed as P;
+ghost use Rattle.schema.specs.Directory.{Accepted, AcceptedUnder};
+ghost use Rattle.wire.specs.Sizes.{WithinSize, Width};
+ghost use Rattle.write_measure.specs.Survey as Sv;
 ghost use Rattle.write_measure.specs.Surveyed.{Small};
 ghost use Rattle.write_measure.specs.SurveyBy.{Inside};
+ghost use Rattle.write_pass.specs.EmitSheet as Es;
+ghost use Rattle.write_pass.specs.Emitting as Eg;
+ghost use Rattle.write_pass.specs.Measure.{Measured};
 ghost use Rattle.write.specs.Writing as Wr;
 
 // The answer of a refusal, by its number.
@@ -42,6 +52,25 @@ fn message_size(e: Extent, o: usize) -> usize
     wire::start_size(o) + TableObject::header_size(o) + content + e.below
 }
 
+// The message's start and the root table, which takes e, into a buffer of the message's length.
+fn emit_message(b: &[u8], dir: &[u16], s: &[u8], e: Extent, out: &mut [u8], o: usize) -> Emitted
+    requires { ⌜ (Accepted (now b) (now dir)) × (Width o) × (WithinSize (now s)) × (Measured false (Sv.survey B.deepest o (P.parse (now b)) (Object.Table (P.parse (now b) .root)) (bits (now s))) e) ⌝ }
+    ensures { λ r. ⌜ Eg.MessageAt (now (s .entry)) (Es.emitMessage o (P.parse (now (b .entry))) (now (out .entry)) (bits (now (s .entry)))) (r .whole) (r .places) (now (out .exit)) (r .next) ⌝ }
+{
+    let size = wire::start_size(o);
+    let start = Places {
+        at: 0,
+        last: 0,
+        free: 0,
+        held: 0,
+        tail: size,
+        next: size,
+    };
+    let ob = message_start::root_object(b, dir);
+    let p = write_store::put_number(out, start, wire::MAGIC, message_start::MAGIC);
+    write_pass::emit_measured(b, dir, s, out, 32, ob, false, e, p, 0, o)
+}
+
 // Writes a lawful sheet, whose root table takes e: 12, 13 or 14, or else the message.
 fn write_lawful(b: &[u8], dir: &[u16], s: &[u8], e: Extent, out: &mut [u8], o: usize) -> WriteAnswer
     requires { ⌜ (AcceptedUnder o (now b) (now dir)) × Wr.LawfulSheet o (now b) (now s) e ⌝ }
@@ -58,7 +87,7 @@ fn write_lawful(b: &[u8], dir: &[u16], s: &[u8], e: Extent, out: &mut [u8], o: u
     if out.len() < n {
         return refused(14);
     }
-    write_pass::emit_message(b, dir, s, e, &mut out[..n], o);
+    emit_message(b, dir, s, e, &mut out[..n], o);
     WriteAnswer {
         number: 0,
         length: n,

@@ -972,7 +972,7 @@ fn emit_refer(
 }
 
 // An object by its offset or in place, whose extent e is known.
-fn emit_measured(
+pub fn emit_measured(
     b: &[u8],
     dir: &[u16],
     s: &[u8],
@@ -1321,24 +1321,4 @@ fn emit_content(
         Object::List(i) => emit_list(b, dir, s, out, d - 1, wire::index(i), c, pos, o),
         Object::Table(t) => emit_table(b, dir, s, out, d - 1, wire::index(t), c, pos, o),
     }
-}
-
-// ---- the whole message
-// The message's start and the root table, which takes e, into a buffer of the message's length.
-pub fn emit_message(b: &[u8], dir: &[u16], s: &[u8], e: Extent, out: &mut [u8], o: usize) -> Emitted
-    requires { ⌜ (Accepted (now b) (now dir)) × (Width o) × (WithinSize (now s)) × (Measured false (Sv.survey B.deepest o (P.parse (now b)) (Object.Table (P.parse (now b) .root)) (bits (now s))) e) ⌝ }
-    ensures { λ r. ⌜ Eg.MessageAt (now (s .entry)) (Es.emitMessage o (P.parse (now (b .entry))) (now (out .entry)) (bits (now (s .entry)))) (r .whole) (r .places) (now (out .exit)) (r .next) ⌝ }
-{
-    let size = wire::start_size(o);
-    let start = Places {
-        at: 0,
-        last: 0,
-        free: 0,
-        held: 0,
-        tail: size,
-        next: size,
-    };
-    let ob = message_start::root_object(b, dir);
-    let p = write_store::put_number(out, start, 4, 0xB5C0_C4B3);
-    emit_measured(b, dir, s, out, 32, ob, false, e, p, 0, o)
 }

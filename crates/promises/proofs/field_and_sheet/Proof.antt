@@ -26,10 +26,10 @@ returns c =
         (
           eo,
           (
-            λ accepted short. shows-entry _ _ (λ i. schema-known .given i .fits) (λ i. message-known .given i .fits) _ _ accepted short _ eq,
+            λ accepted short. shows-entry _ _ _ (λ i. schema-known .given i .fits) (λ i. message-known .given i .fits) _ _ accepted short _ eq,
             (
-              hands-out _ _ _ _ _ _ ea eo,
-              λ accepted short. shows-refusal _ _ (λ i. schema-known .given i .fits) (λ i. message-known .given i .fits) _ _ accepted short _ eq,
+              hands-out _ _ _ _ _ _ _ ea eo,
+              λ accepted short. shows-refusal _ _ _ (λ i. schema-known .given i .fits) (λ i. message-known .given i .fits) _ _ accepted short _ eq,
             ),
           ),
         ),

@@ -9,7 +9,7 @@ judge-requires c κs = search needs
 returns : tie.Need-returns
 returns c = (
   c .judge .ensures,
-  (judges-exactly _ _ _ _ (c .judge .ensures), judges-arrivals _ _ _ _ (c .judge .ensures)),
+  (judges-exactly _ _ _ _ _ (c .judge .ensures), judges-arrivals _ _ _ _ _ (c .judge .ensures)),
 )
 
 pub judged-spec : {M : Type 1} → statement M

@@ -20,14 +20,14 @@ returns c =
       (
         eo,
         (
-          reads-exactly _ _ _ _ _ ea,
+          reads-exactly _ _ _ _ _ _ ea,
           (
-            reads-arrivals _ _ _ _ _ ea,
+            reads-arrivals _ _ _ _ _ _ ea,
             (
-              reads-room _ _ _ _ _ ea,
+              reads-room _ _ _ _ _ _ ea,
               (
-                refused-kept _ _ _ _ _ _ ea eo,
-                (hands-out _ _ _ _ _ _ ea eo, reads-lawful _ _ (λ i. schema-known .given i .fits) (λ i. message-known .given i .fits) _ _ _ _ ea eo),
+                refused-kept _ _ _ _ _ _ _ ea eo,
+                (hands-out _ _ _ _ _ _ _ ea eo, reads-lawful _ _ _ (λ i. schema-known .given i .fits) (λ i. message-known .given i .fits) _ _ _ _ ea eo),
               ),
             ),
           ),

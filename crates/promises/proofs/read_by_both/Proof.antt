@@ -33,8 +33,8 @@ returns c =
           (
             en,
             (
-              older-reads _ _ _ (λ i. older-known .given i .fits) (λ i. newer-known .given i .fits) (λ i. message-known .given i .fits) _ _ _ _ ea eo,
-              (older-hands-out _ _ _ (λ i. older-known .given i .fits) (λ i. newer-known .given i .fits) (λ i. message-known .given i .fits) _ _ _ _ ea eo, hands-out _ _ _ _ _ _ ec en),
+              older-reads _ _ _ _ (λ i. older-known .given i .fits) (λ i. newer-known .given i .fits) (λ i. message-known .given i .fits) _ _ _ _ ea eo,
+              (older-hands-out _ _ _ _ (λ i. older-known .given i .fits) (λ i. newer-known .given i .fits) (λ i. message-known .given i .fits) _ _ _ _ ea eo, hands-out _ _ _ _ _ _ _ ec en),
             ),
           ),
         ),

@@ -14,7 +14,7 @@ returns c =
     let ea = c .before .step .ensures .0 in
     let en = c .before .step .ensures .1 in
     let er = c .field .ensures in
-    (ea, (en, (er, (step-same _ _ _ _ _ ea en _ _ er, (step-end _ _ _ _ _ ea en, (step-own _ _ _ _ _ ea en, step-other _ _ _ _ _ ea en))))))
+    (ea, (en, (er, (step-same _ _ _ _ _ _ ea en _ _ er, (step-end _ _ _ _ _ _ ea en, (step-own _ _ _ _ _ _ ea en, step-other _ _ _ _ _ _ ea en))))))
 
 pub step-and-field-spec : {M : Type 1} → statement M
 step-and-field-spec = tie.close (tie.spec step-requires field-requires returns)

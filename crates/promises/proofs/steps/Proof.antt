@@ -13,7 +13,7 @@ returns : tie.Need-returns
 returns c =
     let er = c .before .before .read-list .ensures .0 in
     let eo = c .before .before .read-list .ensures .1 in
-    (er, (eo, (all-each _ _ _ _ _ _ _ er eo, (all-own _ _ _ _ _ _ _ er eo, all-other _ _ _ _ _ _ _ er eo))))
+    (er, (eo, (all-each _ _ _ _ _ _ _ _ er eo, (all-own _ _ _ _ _ _ _ _ er eo, all-other _ _ _ _ _ _ _ _ er eo))))
 
 pub steps-spec : {M : Type 1} → statement M
 steps-spec = tie.close (tie.spec read-list-requires same-length returns)

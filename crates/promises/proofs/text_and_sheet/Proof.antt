@@ -29,12 +29,12 @@ returns c =
           (
             within,
             (
-              there-exactly _ _ _ _ ep,
+              there-exactly _ _ _ _ _ ep,
               (
-                there-long _ _ _ _ ep,
+                there-long _ _ _ _ _ ep,
                 (
-                  λ accepted short. shows-text _ _ (λ i. schema-known .given i .fits) (λ i. message-known .given i .fits) _ _ accepted short _ ep,
-                  hands-out _ _ _ _ _ _ ea eo,
+                  λ accepted short. shows-text _ _ _ (λ i. schema-known .given i .fits) (λ i. message-known .given i .fits) _ _ accepted short _ ep,
+                  hands-out _ _ _ _ _ _ _ ea eo,
                 ),
               ),
             ),

@@ -8,19 +8,19 @@ write-requires : tie.Need-write-requires
 write-requires c κs = search needs
 
 slice-reshare-prefix-judge : tie.Need-slice-reshare-prefix-judge
-slice-reshare-prefix-judge c = within-room _ _ _ _ (c .before .before .write .ensures .0) _ (c .before .before .write .ensures .1)
+slice-reshare-prefix-judge c = within-room _ _ _ _ _ (c .before .before .write .ensures .0) _ (c .before .before .write .ensures .1)
 
 slice-aggregate-judge : tie.Need-slice-aggregate-judge
-slice-aggregate-judge c = part-length _ _ _ _ (c .before .before .before .write .ensures .0) _ (c .before .before .before .write .ensures .1)
+slice-aggregate-judge c = part-length _ _ _ _ _ (c .before .before .before .write .ensures .0) _ (c .before .before .before .write .ensures .1)
 
 judge-requires : tie.Need-judge-requires
 judge-requires c κs = search needs
 
 slice-reshare-prefix-judge-2 : tie.Need-slice-reshare-prefix-judge-2
-slice-reshare-prefix-judge-2 c = within-room _ _ _ _ (c .before .before .before .before .write .ensures .0) _ (c .before .before .before .before .write .ensures .1)
+slice-reshare-prefix-judge-2 c = within-room _ _ _ _ _ (c .before .before .before .before .write .ensures .0) _ (c .before .before .before .before .write .ensures .1)
 
 slice-aggregate-judge-2 : tie.Need-slice-aggregate-judge-2
-slice-aggregate-judge-2 c = part-length _ _ _ _ (c .before .before .before .before .before .write .ensures .0) _ (c .before .before .before .before .before .write .ensures .1)
+slice-aggregate-judge-2 c = part-length _ _ _ _ _ (c .before .before .before .before .before .write .ensures .0) _ (c .before .before .before .before .before .write .ensures .1)
 
 judge-requires-2 : tie.Need-judge-requires-2
 judge-requires-2 c κs = search needs
@@ -41,7 +41,7 @@ returns c =
         er,
         (
           by-older,
-          (by-newer, λ appends h. same-verdict _ _ (λ i. older-known .given i .fits) (λ i. sheet-known .given i .fits) _ _ _ ew er h _ appends _ _ _ by-older by-newer),
+          (by-newer, λ appends h. same-verdict _ _ _ (λ i. older-known .given i .fits) (λ i. sheet-known .given i .fits) _ _ _ ew er h _ appends _ _ _ by-older by-newer),
         ),
       ),
     )

@@ -8,10 +8,10 @@ write-requires : tie.Need-write-requires
 write-requires c κs = search needs
 
 slice-reshare-prefix-read : tie.Need-slice-reshare-prefix-read
-slice-reshare-prefix-read c = within-room _ _ _ _ (c .before .before .write .ensures .0) _ (c .before .before .write .ensures .1)
+slice-reshare-prefix-read c = within-room _ _ _ _ _ (c .before .before .write .ensures .0) _ (c .before .before .write .ensures .1)
 
 slice-aggregate-read : tie.Need-slice-aggregate-read
-slice-aggregate-read c = part-length _ _ _ _ (c .before .before .before .write .ensures .0) _ (c .before .before .before .write .ensures .1)
+slice-aggregate-read c = part-length _ _ _ _ _ (c .before .before .before .write .ensures .0) _ (c .before .before .before .write .ensures .1)
 
 read-requires : tie.Need-read-requires
 read-requires c κs = search needs
@@ -38,10 +38,10 @@ returns c =
           (
             eo,
             (
-              λ appends h. reads-added _ _ (λ i. older-known .given i .fits) (λ i. sheet-known .given i .fits) _ _ _ ew er h _ appends _ _ _ _ ea eo,
+              λ appends h. reads-added _ _ _ (λ i. older-known .given i .fits) (λ i. sheet-known .given i .fits) _ _ _ ew er h _ appends _ _ _ _ ea eo,
               (
-                λ appends h. hands-added _ _ (λ i. older-known .given i .fits) (λ i. sheet-known .given i .fits) _ _ _ ew er h _ appends _ _ _ _ ea eo,
-                λ appends h. added-sheet _ _ (λ i. older-known .given i .fits) (λ i. sheet-known .given i .fits) _ _ _ ew er h _ appends,
+                λ appends h. hands-added _ _ _ (λ i. older-known .given i .fits) (λ i. sheet-known .given i .fits) _ _ _ ew er h _ appends _ _ _ _ ea eo,
+                λ appends h. added-sheet _ _ _ (λ i. older-known .given i .fits) (λ i. sheet-known .given i .fits) _ _ _ ew er h _ appends,
               ),
             ),
           ),

@@ -14,7 +14,7 @@ returns : tie.Need-returns
 returns c =
     let ea = c .before .before .write .ensures .0 in
     let eo = c .before .before .write .ensures .1 in
-    (ea, (eo, (lays-out _ _ _ _ ea _ eo, (lays-out-only _ _ _ _ ea _ eo, kept _ _ _ _ ea _ eo))))
+    (ea, (eo, (lays-out _ _ _ _ _ ea _ eo, (lays-out-only _ _ _ _ _ ea _ eo, kept _ _ _ _ _ ea _ eo))))
 
 pub written-spec : {M : Type 1} → statement M
 written-spec = tie.close (tie.spec write-requires same-length returns)

@@ -1,9 +1,14 @@
-use Rattle.coding.specs.declared.Case.{Case}
-use Rattle.coding.specs.Field.{answerCase}
+-- `scalgo::scalgo_field` meets its contract.
 use mathlib.Core.Path.{_≡_, ap, _∙_}
+use Prim.Native.Nat.{ℕ}
+use Rattle.coding.specs.Field.{field, answerCase}
+use Rattle.coding.specs.declared.Case.{Case}
 use borrow.Author.Needs.{needs}
 use Rattle.scalgo.proofs.scalgo_field.Statement.{statement}
 use Rattle.scalgo.proofs.scalgo_field.Tie as tie
+
+width-of-requires : tie.Need-width-of-requires
+width-of-requires c κs = search needs
 
 field-requires : tie.Need-field-requires
 field-requires c κs = search needs
@@ -13,8 +18,9 @@ case-of-requires c κs = search needs
 
 returns : tie.Need-returns
 returns c =
-    let e = c .case-of .ensures ∙ ap answerCase (c .before .field .ensures) in
+    let f = c .before .field .ensures ∙ ap (λ (o : ℕ). field o _ _ _) (c .before .before .width-of .ensures) in
+    let e = c .case-of .ensures ∙ ap answerCase f in
     (ap (λ (x : Case). x .case) e, (ap (λ (x : Case). x .a) e, (ap (λ (x : Case). x .b) e, ap (λ (x : Case). x .c) e)))
 
 pub scalgo-field-spec : {M : Type 1} → statement M
-scalgo-field-spec = tie.close (tie.spec field-requires case-of-requires returns)
+scalgo-field-spec = tie.close (tie.spec width-of-requires field-requires case-of-requires returns)

@@ -1,8 +1,14 @@
-use mathlib.Core.Path.{ap}
+-- `scalgo::scalgo_judge` meets its contract.
+use mathlib.Core.Path.{ap, _∙_}
+use Prim.Native.Nat.{ℕ}
+use Rattle.coding.specs.Walk.{verdict}
 use Rattle.coding.specs.declared.Verdict.{Verdict}
 use borrow.Author.Needs.{needs}
 use Rattle.scalgo.proofs.scalgo_judge.Statement.{statement}
 use Rattle.scalgo.proofs.scalgo_judge.Tie as tie
+
+width-of-requires : tie.Need-width-of-requires
+width-of-requires c κs = search needs
 
 judge-requires : tie.Need-judge-requires
 judge-requires c κs = search needs
@@ -11,13 +17,9 @@ cast-result : tie.Need-cast-result
 cast-result c = search needs
 
 returns : tie.Need-returns
-returns c = (
-  ap (λ (v : Verdict). v .number) (c .before .judge .ensures),
-  (
-    ap (λ (v : Verdict). v .place) (c .before .judge .ensures),
-    (ap (λ (v : Verdict). v .member) (c .before .judge .ensures), ap (λ (v : Verdict). v .visits) (c .before .judge .ensures)),
-  ),
-)
+returns c =
+    let e = c .before .judge .ensures ∙ ap (λ (o : ℕ). verdict o _ _ _) (c .before .before .width-of .ensures) in
+    (ap (λ (v : Verdict). v .number) e, (ap (λ (v : Verdict). v .place) e, (ap (λ (v : Verdict). v .member) e, ap (λ (v : Verdict). v .visits) e)))
 
 pub scalgo-judge-spec : {M : Type 1} → statement M
-scalgo-judge-spec = tie.close (tie.spec judge-requires cast-result returns)
+scalgo-judge-spec = tie.close (tie.spec width-of-requires judge-requires cast-result returns)

@@ -1,8 +1,14 @@
+-- `scalgo::scalgo_read` meets its contract.
+use mathlib.Core.Path.{ap, _∙_}
+use Prim.Native.Nat.{ℕ}
+use Rattle.coding.specs.Message.{readAnswer, readOut}
 use Rattle.coding.specs.declared.ReadAnswer.{ReadAnswer}
-use mathlib.Core.Path.{ap}
 use borrow.Author.Needs.{needs}
 use Rattle.scalgo.proofs.scalgo_read.Statement.{statement}
 use Rattle.scalgo.proofs.scalgo_read.Tie as tie
+
+width-of-requires : tie.Need-width-of-requires
+width-of-requires c κs = search needs
 
 read-requires : tie.Need-read-requires
 read-requires c κs = search needs
@@ -15,7 +21,9 @@ same-length c = search needs
 
 returns : tie.Need-returns
 returns c =
-    let e = c .before .before .before .before .read .ensures .0 in (
+    let read = c .before .before .before .before .read .ensures in
+    let w = c .before .before .before .before .before .width-of .ensures in
+    let e = read .0 ∙ ap (λ (o : ℕ). readAnswer o _ _ _ _) w in (
       ap (λ (x : ReadAnswer). x .verdict .number) e,
       (
         ap (λ (x : ReadAnswer). x .verdict .place) e,
@@ -23,11 +31,11 @@ returns c =
           ap (λ (x : ReadAnswer). x .verdict .member) e,
           (
             ap (λ (x : ReadAnswer). x .verdict .visits) e,
-            (ap (λ (x : ReadAnswer). x .length) e, c .before .before .before .before .read .ensures .1),
+            (ap (λ (x : ReadAnswer). x .length) e, read .1 ∙ ap (λ (o : ℕ). readOut o _ _ _ _) w),
           ),
         ),
       ),
     )
 
 pub scalgo-read-spec : {M : Type 1} → statement M
-scalgo-read-spec = tie.close (tie.spec read-requires cast-result same-length returns)
+scalgo-read-spec = tie.close (tie.spec width-of-requires read-requires cast-result same-length returns)

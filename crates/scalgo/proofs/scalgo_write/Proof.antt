@@ -1,8 +1,14 @@
+-- `scalgo::scalgo_write` meets its contract.
+use mathlib.Core.Path.{ap, _∙_}
+use Prim.Native.Nat.{ℕ}
+use Rattle.coding.specs.Message.{writeAnswer, writeOut}
 use Rattle.coding.specs.declared.WriteAnswer.{WriteAnswer}
-use mathlib.Core.Path.{ap}
 use borrow.Author.Needs.{needs}
 use Rattle.scalgo.proofs.scalgo_write.Statement.{statement}
 use Rattle.scalgo.proofs.scalgo_write.Tie as tie
+
+width-of-requires : tie.Need-width-of-requires
+width-of-requires c κs = search needs
 
 write-requires : tie.Need-write-requires
 write-requires c κs = search needs
@@ -15,10 +21,12 @@ same-length c = search needs
 
 returns : tie.Need-returns
 returns c =
-    let e = c .before .before .before .write .ensures .0 in (
+    let wrote = c .before .before .before .write .ensures in
+    let w = c .before .before .before .before .width-of .ensures in
+    let e = wrote .0 ∙ ap (λ (o : ℕ). writeAnswer o _ _ _) w in (
       ap (λ (x : WriteAnswer). x .number) e,
-      (ap (λ (x : WriteAnswer). x .length) e, c .before .before .before .write .ensures .1),
+      (ap (λ (x : WriteAnswer). x .length) e, wrote .1 ∙ ap (λ (o : ℕ). writeOut o _ _ _) w),
     )
 
 pub scalgo-write-spec : {M : Type 1} → statement M
-scalgo-write-spec = tie.close (tie.spec write-requires cast-result same-length returns)
+scalgo-write-spec = tie.close (tie.spec width-of-requires write-requires cast-result same-length returns)

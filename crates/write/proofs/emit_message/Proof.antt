@@ -1,12 +1,8 @@
+-- `write::emit_message` meets its contract.
 use borrow.Author.Needs.{needs}
 use Rattle.write_pass.proofs.EmitMessageCases.{message-measured, message-room, message-done}
-use Rattle.write_pass.proofs.emit_message.Statement.{statement}
-use Rattle.write_pass.proofs.emit_message.Tie as tie
-use Rattle.write_pass.proofs.emit_message.Reads as reads
-use Rattle.write_pass.proofs.emit_message.Lts as lts
-use Rattle.message_start.proofs.root_object.Reads as root-object-reads
-use Rattle.write_pass.proofs.emit_measured.Reads as emit-measured-reads
-use Rattle.write_store.proofs.put_number.Reads as put-number-reads
+use Rattle.write.proofs.emit_message.Statement.{statement}
+use Rattle.write.proofs.emit_message.Tie as tie
 
 start-size-requires : tie.Need-start-size-requires
 start-size-requires c κs = search needs
