@@ -22,19 +22,29 @@
 extern "C" {
 #endif
 
+/* Which coding a message is in: the first argument of every function. It is not guessed; under any
+ * other number no schema is lawful. */
+enum {
+    SCALGO_CODING_48 = 48,     /* offsets and lengths of 48 bits */
+    SCALGO_CODING_32 = 32      /* the older coding: offsets and lengths of 32 bits, and unions always
+                                  in place */
+};
+
 /* What scalgo_judge, scalgo_read and scalgo_write answer, and the number of a refused case of
- * scalgo_field and scalgo_list. */
+ * scalgo_field and scalgo_list. Where two numbers of bytes are named, the first is of the coding of
+ * 48 bits and the second of that of 32. */
 enum {
     SCALGO_ACCEPTED = 0,
-    SCALGO_SCHEMA = 1,         /* the schema is not lawful */
-    SCALGO_MESSAGE_SIZE = 2,   /* the message is under 10 bytes or over 16,777,215 */
+    SCALGO_SCHEMA = 1,         /* the schema is not lawful; under 32 bits also one with a union not in
+                                  place, a table in place or a list of unions */
+    SCALGO_MESSAGE_SIZE = 2,   /* the message is under 10 or 8 bytes, or over 16,777,215 */
     SCALGO_MESSAGE_MAGIC = 3,  /* wrong message magic */
     SCALGO_BUDGET = 4,         /* budget spent */
     SCALGO_DEPTH = 5,          /* deeper than 32 objects */
-    SCALGO_FIT = 6,            /* an offset under 10, or a header or content that does not fit */
+    SCALGO_FIT = 6,            /* an offset under 10 or 8, or a header or content that does not fit */
     SCALGO_OBJECT_MAGIC = 7,   /* wrong object magic */
     SCALGO_CUT = 8,            /* a member cut by its table's end, or a flag without its value */
-    SCALGO_UNION_OFFSET = 9,   /* a known union choice, not in place, with offset 0 */
+    SCALGO_UNION_OFFSET = 9,   /* a known union choice, not in place, with offset 0; never under 32 bits */
     SCALGO_BYTE = 10,          /* a struct's boolean not 0 or 1, or a text's end byte not 0 */
     SCALGO_SHEET = 11,         /* the sheet is not lawful, over 16,777,215 bytes, or deeper than 32 objects */
     SCALGO_WRITABLE = 12,      /* the sheet is lawful but not writable */
@@ -67,7 +77,7 @@ enum {
  *         lie past the message's end. 0 with the other numbers.
  * *visits: the objects visited; an arrival refused for the budget is not counted.
  */
-uint32_t scalgo_judge(const uint8_t *schema, size_t schema_len,
+uint32_t scalgo_judge(uint32_t coding, const uint8_t *schema, size_t schema_len,
                       const uint8_t *message, size_t message_len,
                       uint32_t budget, uint64_t *place, uint32_t *visits);
 
@@ -82,7 +92,7 @@ uint32_t scalgo_judge(const uint8_t *schema, size_t schema_len,
  * A refusal is 1, 2 or 3, 5 to 10 or 15. With 5 to 10 its place is as of scalgo_judge; with 15 it
  * is that of the last object judged; it is 0 with 1, 2 and 3 and with a path over 96 numbers.
  */
-uint32_t scalgo_field(const uint8_t *schema, size_t schema_len,
+uint32_t scalgo_field(uint32_t coding, const uint8_t *schema, size_t schema_len,
                       const uint8_t *message, size_t message_len,
                       const uint32_t *path, size_t path_len,
                       uint64_t *a, uint64_t *b, uint64_t *c);
@@ -94,7 +104,7 @@ uint32_t scalgo_field(const uint8_t *schema, size_t schema_len,
  *
  * path: as of scalgo_field.
  */
-uint32_t scalgo_text(const uint8_t *schema, size_t schema_len,
+uint32_t scalgo_text(uint32_t coding, const uint8_t *schema, size_t schema_len,
                      const uint8_t *message, size_t message_len,
                      const uint32_t *path, size_t path_len,
                      uint64_t *start, uint64_t *length);
@@ -112,7 +122,7 @@ uint32_t scalgo_text(const uint8_t *schema, size_t schema_len,
  * answer is 0. A refusal is a step's answer like any other: its case SCALGO_CASE_REFUSED, number
  * and place are written too.
  */
-uint64_t scalgo_list(const uint8_t *schema, size_t schema_len,
+uint64_t scalgo_list(uint32_t coding, const uint8_t *schema, size_t schema_len,
                      const uint8_t *message, size_t message_len,
                      const uint32_t *path, size_t path_len,
                      uint64_t from, uint64_t *cases, size_t cases_len);
@@ -125,18 +135,19 @@ uint64_t scalgo_list(const uint8_t *schema, size_t schema_len,
  *         are the sheet, and the bytes after them keep what they held.
  * *length: the bytes of the sheet; 0 with a refusal.
  */
-uint32_t scalgo_read(const uint8_t *schema, size_t schema_len,
+uint32_t scalgo_read(uint32_t coding, const uint8_t *schema, size_t schema_len,
                      const uint8_t *message, size_t message_len,
                      uint32_t budget, uint8_t *sheet, size_t room,
                      uint64_t *place, uint32_t *visits, uint64_t *length);
 
-/* Writes a value sheet as a message and answers 0, 1, 11, 12, 13 or 14.
+/* Writes a value sheet as a message and answers 0, 1, 11, 12, 13 or 14. The root table is put at 10
+ * or 8.
  *
  * message, room: where the message goes. With a refusal it is unchanged; else its first *length
  *         bytes are the message, and the bytes after them keep what they held.
  * *length: the bytes of the message; 0 with a refusal.
  */
-uint32_t scalgo_write(const uint8_t *schema, size_t schema_len,
+uint32_t scalgo_write(uint32_t coding, const uint8_t *schema, size_t schema_len,
                       const uint8_t *sheet, size_t sheet_len,
                       uint8_t *message, size_t room, uint64_t *length);
 

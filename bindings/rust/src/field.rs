@@ -1,9 +1,10 @@
 //! One field of a message, and a text or bytes as a part of it.
 
-use crate::Answer;
+use crate::{Answer, Coding};
 
 extern "C" {
     fn scalgo_field(
+        coding: u32,
         schema: *const u8,
         schema_len: usize,
         message: *const u8,
@@ -16,6 +17,7 @@ extern "C" {
     ) -> u32;
 
     fn scalgo_text(
+        coding: u32,
         schema: *const u8,
         schema_len: usize,
         message: *const u8,
@@ -35,22 +37,23 @@ extern "C" {
 /// # let message = b"\xB3\xC4\xC0\xB5\x0A\x00\x00\x00\x00\x00\
 /// #     \x45\x43\x49\x4C\x08\x00\x00\x00\x00\x00\x03\x00\x1C\x00\x00\x00\x00\x00\
 /// #     \xF5\xC8\x12\xD8\x02\x00\x00\x00\x00\x00ab\x00";
-/// use scalgo::{field, Answer};
+/// use scalgo::{field, Answer, Coding::Bits48};
 ///
 /// let number = Answer::Number { bits: 3, width: 16, signed: false };
-/// assert_eq!(field(schema, message, &[0]), number);
+/// assert_eq!(field(Bits48, schema, message, &[0]), number);
 /// let text = Answer::Object { kind: 13, place: 28, length: 2 };
-/// assert_eq!(field(schema, message, &[1]), text);
+/// assert_eq!(field(Bits48, schema, message, &[1]), text);
 /// // The table at 10 has two members.
 /// let none = Answer::Refused { number: 15, place: 10 };
-/// assert_eq!(field(schema, message, &[2]), none);
+/// assert_eq!(field(Bits48, schema, message, &[2]), none);
 /// ```
-pub fn field(schema: &[u8], message: &[u8], path: &[u32]) -> Answer {
+pub fn field(coding: Coding, schema: &[u8], message: &[u8], path: &[u32]) -> Answer {
     let (mut a, mut b, mut c) = (0, 0, 0);
     // SAFETY: each slice is given as its pointer, which is not null, and its length; no one writes
     // to any during the call; the three numbers are this function's own; nothing is kept.
     let case = unsafe {
         scalgo_field(
+            coding.number(),
             schema.as_ptr(),
             schema.len(),
             message.as_ptr(),
@@ -73,14 +76,22 @@ pub fn field(schema: &[u8], message: &[u8], path: &[u32]) -> Answer {
 /// # let message = b"\xB3\xC4\xC0\xB5\x0A\x00\x00\x00\x00\x00\
 /// #     \x45\x43\x49\x4C\x08\x00\x00\x00\x00\x00\x03\x00\x1C\x00\x00\x00\x00\x00\
 /// #     \xF5\xC8\x12\xD8\x02\x00\x00\x00\x00\x00ab\x00";
-/// assert_eq!(scalgo::text(schema, message, &[1]), Some(&b"ab"[..]));
-/// assert_eq!(scalgo::text(schema, message, &[0]), None);
+/// use scalgo::{text, Coding::Bits48};
+///
+/// assert_eq!(text(Bits48, schema, message, &[1]), Some(&b"ab"[..]));
+/// assert_eq!(text(Bits48, schema, message, &[0]), None);
 /// ```
-pub fn text<'m>(schema: &[u8], message: &'m [u8], path: &[u32]) -> Option<&'m [u8]> {
+pub fn text<'m>(
+    coding: Coding,
+    schema: &[u8],
+    message: &'m [u8],
+    path: &[u32],
+) -> Option<&'m [u8]> {
     let (mut start, mut length) = (0, 0);
     // SAFETY: as in `field`, with two numbers.
     let found = unsafe {
         scalgo_text(
+            coding.number(),
             schema.as_ptr(),
             schema.len(),
             message.as_ptr(),

@@ -1,7 +1,10 @@
 //! The verdict on a message.
 
+use crate::Coding;
+
 extern "C" {
     fn scalgo_judge(
+        coding: u32,
         schema: *const u8,
         schema_len: usize,
         message: *const u8,
@@ -31,12 +34,13 @@ impl Verdict {
 }
 
 /// Judges a message by a packed schema. At most `budget` objects are visited.
-pub fn judge(schema: &[u8], message: &[u8], budget: u32) -> Verdict {
+pub fn judge(coding: Coding, schema: &[u8], message: &[u8], budget: u32) -> Verdict {
     let (mut place, mut visits) = (0, 0);
     // SAFETY: each slice is given as its pointer, which is not null, and its length; no one writes
     // to either during the call; the two numbers are this function's own; nothing is kept.
     let number = unsafe {
         scalgo_judge(
+            coding.number(),
             schema.as_ptr(),
             schema.len(),
             message.as_ptr(),

@@ -8,18 +8,22 @@
 //! be called from several threads at once. Any bytes may be given: what is not lawful is answered
 //! by a number.
 //!
+//! There are two codings of messages, and every function is told which one by its first argument,
+//! a [`Coding`]. Where the table names two numbers of bytes, the first is of the coding of 48 bits
+//! and the second of that of 32.
+//!
 //! | Number | Meaning | Place |
 //! |---|---|---|
 //! | 0 | accepted | 0 |
-//! | 1 | the schema is not lawful | 0 |
-//! | 2 | the message is under 10 bytes or over 16,777,215 | 0 |
+//! | 1 | the schema is not lawful under the coding | 0 |
+//! | 2 | the message is under 10 or 8 bytes, or over 16,777,215 | 0 |
 //! | 3 | wrong message magic | 0 |
 //! | 4 | the budget is spent | the object not visited |
 //! | 5 | deeper than 32 objects | the object |
-//! | 6 | an offset under 10, or a header or content that does not fit | the object |
+//! | 6 | an offset under 10 or 8, or a header or content that does not fit | the object |
 //! | 7 | wrong object magic | the object |
 //! | 8 | a member cut by its table's end, or a flag without its value | the table |
-//! | 9 | a known union choice, not in place, with offset 0 | the holder |
+//! | 9 | a known union choice, not in place, with offset 0; never under 32 bits | the holder |
 //! | 10 | a struct's boolean not 0 or 1, or a text's end byte not 0 | the object |
 //! | 11 | the sheet is not lawful, over 16,777,215 bytes, or deeper than 32 objects | 0 |
 //! | 12 | the sheet is lawful but cannot be written | 0 |
@@ -30,21 +34,32 @@
 //! # Example
 //!
 //! ```
+//! use scalgo::{judge, Coding};
+//!
 //! // A table with a U16 and a text, and a message of the two.
 //! let schema = b"\x00\x00\x00\x01\x00\x4C\x49\x43\x45\x02\x10\x00\x68\x00";
 //! let message = b"\xB3\xC4\xC0\xB5\x0A\x00\x00\x00\x00\x00\
 //!     \x45\x43\x49\x4C\x08\x00\x00\x00\x00\x00\x03\x00\x1C\x00\x00\x00\x00\x00\
 //!     \xF5\xC8\x12\xD8\x02\x00\x00\x00\x00\x00ab\x00";
 //!
-//! let verdict = scalgo::judge(schema, message, 100);
+//! let verdict = judge(Coding::Bits48, schema, message, 100);
 //! assert!(verdict.accepted());
 //! assert_eq!(verdict.visits, 2);
 //!
-//! let cut = scalgo::judge(schema, &message[..40], 100);
+//! let cut = judge(Coding::Bits48, schema, &message[..40], 100);
 //! assert_eq!((cut.number, cut.place, cut.visits), (6, 28, 2));
+//!
+//! // The same in the older coding.
+//! let older = b"\xB3\xC4\xC0\xB5\x08\x00\x00\x00\
+//!     \x45\x43\x49\x4C\x06\x00\x00\x00\x03\x00\x16\x00\x00\x00\
+//!     \xF5\xC8\x12\xD8\x02\x00\x00\x00ab\x00";
+//!
+//! assert!(judge(Coding::Bits32, schema, older, 100).accepted());
+//! assert_eq!(judge(Coding::Bits48, schema, older, 100).number, 6);
 //! ```
 
 mod answer;
+mod coding;
 mod field;
 mod judge;
 mod list;
@@ -52,6 +67,7 @@ mod read;
 mod write;
 
 pub use answer::Answer;
+pub use coding::Coding;
 pub use field::{field, text};
 pub use judge::{judge, Verdict};
 pub use list::{list, List};

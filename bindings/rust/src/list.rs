@@ -1,12 +1,13 @@
 //! The elements of a list.
 
 use crate::answer::{LIST, NO_PART};
-use crate::{field, Answer};
+use crate::{field, Answer, Coding};
 use std::fmt;
 use std::iter::FusedIterator;
 
 extern "C" {
     fn scalgo_list(
+        coding: u32,
         schema: *const u8,
         schema_len: usize,
         message: *const u8,
@@ -26,6 +27,7 @@ const HELD: usize = 64;
 /// [`field`] at its own path. A refused element does not end it.
 #[derive(Clone)]
 pub struct List<'a> {
+    coding: Coding,
     schema: &'a [u8],
     message: &'a [u8],
     path: &'a [u32],
@@ -43,7 +45,7 @@ pub struct List<'a> {
 /// and every step from that path would be refused so.
 ///
 /// ```
-/// use scalgo::Answer;
+/// use scalgo::{list, Answer, Coding::Bits48};
 ///
 /// // A table with a list of texts, and a message with the texts "ab" and none.
 /// let schema = b"\x00\x01\x00\x01\x00\x68\x00\x4C\x49\x43\x45\x01\x78\x00";
@@ -53,18 +55,24 @@ pub struct List<'a> {
 ///     \x30\x00\x00\x00\x00\x00\x00\x00\x00\x00\x00\x00\
 ///     \xF5\xC8\x12\xD8\x02\x00\x00\x00\x00\x00ab\x00";
 ///
-/// let mut list = scalgo::list(schema, message, &[0]).expect("a list");
-/// assert_eq!(list.len(), 2);
+/// let mut texts = list(Bits48, schema, message, &[0]).expect("a list");
+/// assert_eq!(texts.len(), 2);
 /// let text = Answer::Object { kind: 13, place: 48, length: 2 };
-/// assert_eq!(list.next(), Some(text));
-/// assert_eq!(list.next(), Some(Answer::Absent));
-/// assert_eq!(list.next(), None);
+/// assert_eq!(texts.next(), Some(text));
+/// assert_eq!(texts.next(), Some(Answer::Absent));
+/// assert_eq!(texts.next(), None);
 ///
-/// let root = scalgo::list(schema, message, &[]);
+/// let root = list(Bits48, schema, message, &[]);
 /// assert_eq!(root.err(), Some(Answer::Refused { number: 15, place: 0 }));
 /// ```
-pub fn list<'a>(schema: &'a [u8], message: &'a [u8], path: &'a [u32]) -> Result<List<'a>, Answer> {
+pub fn list<'a>(
+    coding: Coding,
+    schema: &'a [u8],
+    message: &'a [u8],
+    path: &'a [u32],
+) -> Result<List<'a>, Answer> {
     let mut list = List {
+        coding,
         schema,
         message,
         path,
@@ -75,7 +83,7 @@ pub fn list<'a>(schema: &'a [u8], message: &'a [u8], path: &'a [u32]) -> Result<
     };
     list.length = list.fetch();
     let first = Answer::new(list.held[0]);
-    if list.length > 0 || ends_at_once(first, field(schema, message, path)) {
+    if list.length > 0 || ends_at_once(first, field(coding, schema, message, path)) {
         Ok(list)
     } else {
         Err(first)
@@ -107,6 +115,7 @@ impl List<'_> {
         // and lent to this function alone; nothing is kept.
         unsafe {
             scalgo_list(
+                self.coding.number(),
                 self.schema.as_ptr(),
                 self.schema.len(),
                 self.message.as_ptr(),

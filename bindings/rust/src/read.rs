@@ -1,9 +1,10 @@
 //! A message to its value sheet.
 
-use crate::Verdict;
+use crate::{Coding, Verdict};
 
 extern "C" {
     fn scalgo_read(
+        coding: u32,
         schema: *const u8,
         schema_len: usize,
         message: *const u8,
@@ -34,25 +35,34 @@ pub struct ReadAnswer {
 /// # let message = b"\xB3\xC4\xC0\xB5\x0A\x00\x00\x00\x00\x00\
 /// #     \x45\x43\x49\x4C\x08\x00\x00\x00\x00\x00\x03\x00\x1C\x00\x00\x00\x00\x00\
 /// #     \xF5\xC8\x12\xD8\x02\x00\x00\x00\x00\x00ab\x00";
+/// use scalgo::{read, Coding::Bits48};
+///
 /// let mut sheet = [0xEE; 12];
-/// let answer = scalgo::read(schema, message, 2, &mut sheet);
+/// let answer = read(Bits48, schema, message, 2, &mut sheet);
 /// assert!(answer.verdict.accepted());
 /// assert_eq!((answer.verdict.visits, answer.length), (2, 9));
 /// assert_eq!(sheet, *b"\x40\x00\xD0\x00\x00\x00\x26\x16\x20\xEE\xEE\xEE");
 ///
 /// // A budget of 1, and a sheet of 8 bytes.
-/// let spent = scalgo::read(schema, message, 1, &mut sheet).verdict;
+/// let spent = read(Bits48, schema, message, 1, &mut sheet).verdict;
 /// assert_eq!((spent.number, spent.place, spent.visits), (4, 28, 1));
-/// let short = scalgo::read(schema, message, 2, &mut sheet[..8]).verdict;
+/// let short = read(Bits48, schema, message, 2, &mut sheet[..8]).verdict;
 /// assert_eq!((short.number, short.place, short.visits), (14, 0, 2));
 /// ```
-pub fn read(schema: &[u8], message: &[u8], budget: u32, sheet: &mut [u8]) -> ReadAnswer {
+pub fn read(
+    coding: Coding,
+    schema: &[u8],
+    message: &[u8],
+    budget: u32,
+    sheet: &mut [u8],
+) -> ReadAnswer {
     let (mut place, mut visits, mut length) = (0, 0, 0);
     // SAFETY: each slice is given as its pointer, which is not null, and its length; no one writes
     // to the shared ones during the call, and the sheet is lent to this function alone; the three
     // numbers are this function's own; nothing is kept.
     let number = unsafe {
         scalgo_read(
+            coding.number(),
             schema.as_ptr(),
             schema.len(),
             message.as_ptr(),

@@ -1,7 +1,10 @@
 //! A value sheet to its message.
 
+use crate::Coding;
+
 extern "C" {
     fn scalgo_write(
+        coding: u32,
         schema: *const u8,
         schema_len: usize,
         sheet: *const u8,
@@ -26,27 +29,30 @@ pub struct WriteAnswer {
 ///
 /// ```
 /// # let schema = b"\x00\x00\x00\x01\x00\x4C\x49\x43\x45\x02\x10\x00\x68\x00";
+/// use scalgo::{write, Coding::Bits48};
+///
 /// let sheet = b"\x40\x00\xD0\x00\x00\x00\x26\x16\x20";
 /// let mut message = [0xEE; 43];
-/// let answer = scalgo::write(schema, sheet, &mut message);
+/// let answer = write(Bits48, schema, sheet, &mut message);
 /// assert_eq!((answer.number, answer.length), (0, 41));
 /// assert_eq!(message, *b"\xB3\xC4\xC0\xB5\x0A\x00\x00\x00\x00\x00\
 ///     \x45\x43\x49\x4C\x08\x00\x00\x00\x00\x00\x03\x00\x1C\x00\x00\x00\x00\x00\
 ///     \xF5\xC8\x12\xD8\x02\x00\x00\x00\x00\x00ab\x00\xEE\xEE");
 ///
 /// // A message of 40 bytes has no room; a sheet with a byte more is not lawful.
-/// let short = scalgo::write(schema, sheet, &mut message[..40]);
+/// let short = write(Bits48, schema, sheet, &mut message[..40]);
 /// assert_eq!((short.number, short.length), (14, 0));
 /// let longer = b"\x40\x00\xD0\x00\x00\x00\x26\x16\x20\x00";
-/// assert_eq!(scalgo::write(schema, longer, &mut message).number, 11);
+/// assert_eq!(write(Bits48, schema, longer, &mut message).number, 11);
 /// ```
-pub fn write(schema: &[u8], sheet: &[u8], message: &mut [u8]) -> WriteAnswer {
+pub fn write(coding: Coding, schema: &[u8], sheet: &[u8], message: &mut [u8]) -> WriteAnswer {
     let mut length = 0;
     // SAFETY: each slice is given as its pointer, which is not null, and its length; no one writes
     // to the shared ones during the call, and the message is lent to this function alone; the
     // length is this function's own; nothing is kept.
     let number = unsafe {
         scalgo_write(
+            coding.number(),
             schema.as_ptr(),
             schema.len(),
             sheet.as_ptr(),

@@ -1,4 +1,5 @@
-//! The desk's commands on files, with what the requirements' own table says.
+//! The desk's commands on files, with what the requirements' own table says; and the same in the
+//! older coding, worked out by hand.
 
 use std::fs;
 use std::path::{Path, PathBuf};
@@ -8,13 +9,21 @@ const SCHEMA: &[u8] = b"\x00\x00\x00\x01\x00\x4C\x49\x43\x45\x02\x10\x00\x68\x00
 const MESSAGE: &[u8] = b"\xB3\xC4\xC0\xB5\x0A\x00\x00\x00\x00\x00\
     \x45\x43\x49\x4C\x08\x00\x00\x00\x00\x00\x03\x00\x1C\x00\x00\x00\x00\x00\
     \xF5\xC8\x12\xD8\x02\x00\x00\x00\x00\x00ab\x00";
+const OLDER_MESSAGE: &[u8] = b"\xB3\xC4\xC0\xB5\x08\x00\x00\x00\
+    \x45\x43\x49\x4C\x06\x00\x00\x00\x03\x00\x16\x00\x00\x00\
+    \xF5\xC8\x12\xD8\x02\x00\x00\x00ab\x00";
 const SHEET: &[u8] = b"\x40\x00\xD0\x00\x00\x00\x26\x16\x20";
 
 /// A folder of its own with the schema, the message and the sheet.
 fn folder(name: &str) -> PathBuf {
     let folder = Path::new(env!("CARGO_TARGET_TMPDIR")).join(name);
     fs::create_dir_all(&folder).expect("a folder");
-    let files = [("schema", SCHEMA), ("message", MESSAGE), ("sheet", SHEET)];
+    let files = [
+        ("schema", SCHEMA),
+        ("message", MESSAGE),
+        ("older", OLDER_MESSAGE),
+        ("sheet", SHEET),
+    ];
     for (name, bytes) in files {
         fs::write(folder.join(name), bytes).expect("a file is written");
     }
@@ -95,7 +104,34 @@ fn wrong_words_and_missing_files() {
         "judge schema",
         "field schema message x",
         "judge schema none",
+        "--coding 33 judge schema message",
+        "--coding x judge schema message",
+        "--coding 32",
+        "judge schema message --coding 32",
     ] {
         assert_eq!(run(&folder, words), (String::new(), false));
     }
+}
+
+#[test]
+fn the_older_coding() {
+    let folder = folder("older");
+    prints(&folder, "--coding 32 judge schema older", "0 0 2");
+    prints(&folder, "--coding 48 judge schema message", "0 0 2");
+    prints(&folder, "--coding 32 judge schema message", "6 1835011 2");
+    let root = "table at 8, length 6";
+    prints(&folder, "--coding 32 field schema older", root);
+    let text = "text at 22, length 2: ab";
+    prints(&folder, "--coding 32 field schema older 1", text);
+    let none = "refused: 15 at 0";
+    prints(&folder, "--coding 32 list schema older 1", none);
+    prints(&folder, "--coding 32 read schema older read", "0 0 2 9");
+    assert_eq!(fs::read(folder.join("read")).expect("a sheet"), SHEET);
+    prints(&folder, "--coding 32 write schema sheet written", "0 33");
+    let written = fs::read(folder.join("written")).expect("bytes");
+    assert_eq!(written, OLDER_MESSAGE);
+    // A union that is not in place.
+    let union = b"\x00\x00\x01\x01\x00\x01\x68\x00\x4C\x49\x43\x45\x01\x88\x00";
+    fs::write(folder.join("schema"), union).expect("a file is written");
+    prints(&folder, "--coding 32 judge schema older", "1 0 0");
 }

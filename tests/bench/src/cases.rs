@@ -6,9 +6,12 @@ use crate::schema::{
     UNION,
 };
 use reference::Verdict;
+use scalgo::Coding::{self, Bits32, Bits48};
 
+#[derive(Clone)]
 pub struct Case {
-    pub name: &'static str,
+    pub name: String,
+    pub coding: Coding,
     pub schema: Vec<u8>,
     pub message: Vec<u8>,
     pub budget: u32,
@@ -16,48 +19,62 @@ pub struct Case {
 }
 
 impl Case {
-    /// A message that is accepted after so many visits.
-    pub fn accepted(name: &'static str, schema: &Schema, message: Vec<u8>, visits: u32) -> Case {
+    /// A message in its coding, of which the name tells where it is the older one.
+    fn new(name: &str, schema: Vec<u8>, message: Message, expected: Verdict) -> Case {
+        let coding = message.coding();
+        let name = match coding {
+            Bits48 => name.to_string(),
+            Bits32 => format!("{name}, 32 bits"),
+        };
         Case {
             name,
-            schema: schema.pack(),
-            message,
+            coding,
+            schema,
+            message: message.finish(),
             budget: u32::MAX,
-            expected: Verdict {
-                number: 0,
-                place: 0,
-                visits,
-            },
+            expected,
         }
     }
 
+    /// A message that is accepted after so many visits.
+    pub fn accepted(name: &str, schema: &Schema, message: Message, visits: u32) -> Case {
+        let (number, place) = (0, 0);
+        let expected = Verdict {
+            number,
+            place,
+            visits,
+        };
+        Case::new(name, schema.pack(), message, expected)
+    }
+
     /// A schema that is not lawful.
-    fn not_lawful(name: &'static str, schema: Vec<u8>, message: Vec<u8>) -> Case {
-        Case {
-            name,
-            schema,
-            message,
-            budget: u32::MAX,
-            expected: Verdict {
-                number: 1,
-                place: 0,
-                visits: 0,
-            },
-        }
+    fn not_lawful(name: &str, schema: Vec<u8>, message: Message) -> Case {
+        let (number, place, visits) = (1, 0, 0);
+        let expected = Verdict {
+            number,
+            place,
+            visits,
+        };
+        Case::new(name, schema, message, expected)
     }
 }
 
 /// Each case is built when its turn comes.
 pub const CASES: &[fn() -> Case] = &[
-    small,
-    small_older,
-    tables,
-    tables_late,
+    || small(Bits48),
+    || small(Bits32),
+    || small_older(Bits48),
+    || small_older(Bits32),
+    || tables(Bits48),
+    || tables(Bits32),
+    || tables_late(Bits48),
+    || tables_late(Bits32),
     unions_late,
     every_kind,
     || numbers("(d) a list of 1,000,000 U64", 1_000_000),
     || numbers("(d) a list of 2,000,000 U64", 2_000_000),
-    texts,
+    || texts(Bits48),
+    || texts(Bits32),
     wide_schema,
     deep_schema,
     last_ids_equal,
@@ -79,20 +96,32 @@ const CHECKOUT: &[u8] = b"\xB3\xC4\xC0\xB5\x0A\x00\x00\x00\x00\x00\
     \x45\x43\x49\x4C\x08\x00\x00\x00\x00\x00\x03\x00\x1C\x00\x00\x00\x00\x00\
     \xF5\xC8\x12\xD8\x02\x00\x00\x00\x00\x00ab\x00";
 
-fn small() -> Case {
+/// The same in 32 bits.
+const OLDER_CHECKOUT: &[u8] = b"\xB3\xC4\xC0\xB5\x08\x00\x00\x00\
+    \x45\x43\x49\x4C\x06\x00\x00\x00\x03\x00\x16\x00\x00\x00\
+    \xF5\xC8\x12\xD8\x02\x00\x00\x00ab\x00";
+
+fn checkout(coding: Coding) -> Message {
+    match coding {
+        Bits48 => Message::of(coding, CHECKOUT),
+        Bits32 => Message::of(coding, OLDER_CHECKOUT),
+    }
+}
+
+fn small(coding: Coding) -> Case {
     let schema = Schema {
         tables: vec![Table::new(0x4C49_4345, &[plain(U16), plain(TEXT)])],
         ..Schema::default()
     };
-    Case::accepted("(a) M by N", &schema, CHECKOUT.to_vec(), 2)
+    Case::accepted("(a) M by N", &schema, checkout(coding), 2)
 }
 
-fn small_older() -> Case {
+fn small_older(coding: Coding) -> Case {
     let schema = Schema {
         tables: vec![Table::new(0x4C49_4345, &[plain(U16)])],
         ..Schema::default()
     };
-    Case::accepted("(a) M by O", &schema, CHECKOUT.to_vec(), 1)
+    Case::accepted("(a) M by O", &schema, checkout(coding), 1)
 }
 
 /// The root table has a list and nothing else.
@@ -102,7 +131,7 @@ fn root(list: usize) -> Table {
 
 /// The root and its list; answers where the list's elements start.
 fn put_list(message: &mut Message, count: usize, element: usize) -> usize {
-    message.header(ROOT, 6);
+    message.header(ROOT, message.width());
     message.refer_behind();
     message.header(LIST_MAGIC, count);
     let elements = message.end();
@@ -113,20 +142,21 @@ fn put_list(message: &mut Message, count: usize, element: usize) -> usize {
 const ELEMENTS: usize = 100_000;
 
 /// Tables of their own, each a U16 and a text of two bytes.
-fn put_tables() -> Vec<u8> {
-    let mut message = Message::new();
-    let references = put_list(&mut message, ELEMENTS, 6);
+fn put_tables(coding: Coding) -> Message {
+    let mut message = Message::new(coding);
+    let width = message.width();
+    let references = put_list(&mut message, ELEMENTS, width);
     for number in 0..ELEMENTS {
-        message.set_u48(references + 6 * number, message.end());
-        message.header(INNER, 8);
+        message.set_offset(references + width * number, message.end());
+        message.header(INNER, 2 + width);
         message.u16(number as u16);
         message.refer_behind();
         message.text(b"ab");
     }
-    message.finish()
+    message
 }
 
-pub fn tables() -> Case {
+pub fn tables(coding: Coding) -> Case {
     let schema = Schema {
         lists: vec![Record::of(TABLE, 1)],
         tables: vec![root(0), Table::new(INNER, &[plain(U16), plain(TEXT)])],
@@ -136,7 +166,7 @@ pub fn tables() -> Case {
     Case::accepted(
         "(b) a list of 100,000 tables",
         &schema,
-        put_tables(),
+        put_tables(coding),
         visits,
     )
 }
@@ -161,25 +191,25 @@ fn largest(element: Record) -> Schema {
     }
 }
 
-pub fn tables_late() -> Case {
+pub fn tables_late(coding: Coding) -> Case {
     let schema = largest(Record::of(TABLE, MOST - 1));
     let visits = 2 + 2 * ELEMENTS as u32;
     let name = "(b) the same, at the largest schema's end";
-    Case::accepted(name, &schema, put_tables(), visits)
+    Case::accepted(name, &schema, put_tables(coding), visits)
 }
 
 fn unions_late() -> Case {
     let schema = largest(Record::of(UNION, MOST - 1));
-    let mut message = Message::new();
+    let mut message = Message::new(Bits48);
     let elements = put_list(&mut message, ELEMENTS, 8);
     for number in 0..ELEMENTS {
         message.set_u16(elements + 8 * number, 32);
-        message.set_u48(elements + 8 * number + 2, message.end());
+        message.set_offset(elements + 8 * number + 2, message.end());
         message.text(b"ab");
     }
     let visits = 2 + ELEMENTS as u32;
     let name = "(b) 100,000 unions there, the last case";
-    Case::accepted(name, &schema, message.finish(), visits)
+    Case::accepted(name, &schema, message, visits)
 }
 
 /// A table with 64 members: all kinds in turn, the second time optional where they may be, and the
@@ -248,14 +278,14 @@ pub fn every_kind() -> Case {
             Table::new(INNER, &[plain(U16), plain(BOOL)]),
         ],
     };
-    let mut message = Message::new();
+    let mut message = Message::new(Bits48);
     message.header(ROOT, fixed.bytes.len());
     let start = message.end();
     message.put(&fixed.bytes);
     message.put(b"ab\0");
     let visits = 2 + references.len() as u32;
     for (at, kind) in references {
-        message.set_u48(start + at, message.end());
+        message.set_offset(start + at, message.end());
         match kind {
             TEXT => message.text(b"ab"),
             BYTES => {
@@ -273,55 +303,56 @@ pub fn every_kind() -> Case {
         }
     }
     let name = "(c) 64 members of every kind";
-    Case::accepted(name, &schema, message.finish(), visits)
+    Case::accepted(name, &schema, message, visits)
 }
 
-pub fn numbers(name: &'static str, count: usize) -> Case {
+pub fn numbers(name: &str, count: usize) -> Case {
     let schema = Schema {
         lists: vec![plain(U64)],
         tables: vec![root(0)],
         ..Schema::default()
     };
-    let mut message = Message::new();
+    let mut message = Message::new(Bits48);
     put_list(&mut message, count, 8);
-    Case::accepted(name, &schema, message.finish(), 2)
+    Case::accepted(name, &schema, message, 2)
 }
 
 /// A list of 1,000,000 elements of a kind, each `width` bytes or, where that is 0, a bit. Of the
 /// bytes one in seven is 255.
-pub fn elements(name: &'static str, element: Record, width: usize) -> Case {
+pub fn elements(name: &str, element: Record, width: usize) -> Case {
     const COUNT: usize = 1_000_000;
     let schema = Schema {
         lists: vec![element],
         tables: vec![root(0)],
         ..Schema::default()
     };
-    let mut message = Message::new();
+    let mut message = Message::new(Bits48);
     let size = if width == 0 { COUNT / 8 } else { COUNT * width };
     put_list(&mut message, COUNT, 0);
     let bytes: Vec<u8> = (0..size)
         .map(|at| if at % 7 == 0 { 255 } else { (at % 11) as u8 })
         .collect();
     message.put(&bytes);
-    Case::accepted(name, &schema, message.finish(), 2)
+    Case::accepted(name, &schema, message, 2)
 }
 
-pub fn texts() -> Case {
+pub fn texts(coding: Coding) -> Case {
     const TEXTS: usize = 10_000;
     let schema = Schema {
         lists: vec![plain(TEXT)],
         tables: vec![root(0)],
         ..Schema::default()
     };
-    let mut message = Message::new();
-    let references = put_list(&mut message, TEXTS, 6);
+    let mut message = Message::new(coding);
+    let width = message.width();
+    let references = put_list(&mut message, TEXTS, width);
     for number in 0..TEXTS {
-        message.set_u48(references + 6 * number, message.end());
+        message.set_offset(references + width * number, message.end());
         message.text(&[b'a'; 1000]);
     }
     let visits = 2 + TEXTS as u32;
     let name = "(e) 10,000 texts of 1,000 bytes";
-    Case::accepted(name, &schema, message.finish(), visits)
+    Case::accepted(name, &schema, message, visits)
 }
 
 /// "No struct is over 4,096 bytes."
@@ -375,10 +406,10 @@ fn full(structs: Vec<Vec<Record>>) -> Schema {
 }
 
 /// A root whose members are all absent.
-fn put_empty() -> Vec<u8> {
-    let mut message = Message::new();
+fn put_empty() -> Message {
+    let mut message = Message::new(Bits48);
     message.header(ROOT, 0);
-    message.finish()
+    message
 }
 
 fn wide_schema() -> Case {
@@ -423,11 +454,11 @@ fn deep_booleans() -> Case {
         fixed.boolean(true);
         fixed.put(&[1; STRUCT_SIZE]);
     }
-    let mut message = Message::new();
+    let mut message = Message::new(Bits48);
     message.header(ROOT, fixed.bytes.len());
     message.put(&fixed.bytes);
     let name = "(g) 64 structs of 4,096 deep booleans";
-    Case::accepted(name, &schema, message.finish(), 1)
+    Case::accepted(name, &schema, message, 1)
 }
 
 /// A thousand references to one table whose fixed part is the flags of eight absent structs.
@@ -439,16 +470,16 @@ fn deep_layout() -> Case {
         tables: vec![root(0), table_of_structs(INNER)],
         ..Schema::default()
     };
-    let mut message = Message::new();
+    let mut message = Message::new(Bits48);
     let references = put_list(&mut message, SIDE, 6);
     for number in 0..SIDE {
-        message.set_u48(references + 6 * number, message.end());
+        message.set_offset(references + 6 * number, message.end());
     }
     message.header(INNER, 1);
     message.zeros(1);
     let visits = 2 + SIDE as u32;
     let name = "(g) 1,000 visits of a table of such structs";
-    Case::accepted(name, &schema, message.finish(), visits)
+    Case::accepted(name, &schema, message, visits)
 }
 
 /// A thousand references to one list of a thousand references to one text.
@@ -460,7 +491,7 @@ fn shared() -> Case {
         tables: vec![root(0)],
         ..Schema::default()
     };
-    let mut message = Message::new();
+    let mut message = Message::new(Bits48);
     let outer = put_list(&mut message, SIDE, 6);
     let list = message.end();
     message.header(LIST_MAGIC, SIDE);
@@ -469,18 +500,17 @@ fn shared() -> Case {
     let text = message.end();
     message.text(b"ab");
     for number in 0..SIDE {
-        message.set_u48(outer + 6 * number, list);
-        message.set_u48(inner + 6 * number, text);
+        message.set_offset(outer + 6 * number, list);
+        message.set_offset(inner + 6 * number, text);
     }
+    let expected = Verdict {
+        number: 4,
+        place: text as u64,
+        visits: BUDGET,
+    };
+    let name = "(h) a shared text, 1,000,000 visits";
     Case {
-        name: "(h) a shared text, 1,000,000 visits",
-        schema: schema.pack(),
-        message: message.finish(),
         budget: BUDGET,
-        expected: Verdict {
-            number: 4,
-            place: text as u64,
-            visits: BUDGET,
-        },
+        ..Case::new(name, schema.pack(), message, expected)
     }
 }

@@ -3,6 +3,7 @@
 use crate::cases::Case;
 use crate::message::{Message, LIST_MAGIC};
 use crate::schema::{plain, Record, Schema, Table, BOOL, LIST, STRUCT, TABLE, UNION};
+use scalgo::Coding::Bits48;
 
 /// "Depth: 32 objects, the root being 1".
 const DEEPEST: usize = 32;
@@ -25,8 +26,8 @@ pub fn cases() -> Vec<Case> {
 struct Link(u32, usize, &'static [u8]);
 
 /// The links of a chain; the last refers to nothing, and all its content is zero.
-fn chain(link: impl Fn(usize) -> Link) -> Vec<u8> {
-    let mut message = Message::new();
+fn chain(link: impl Fn(usize) -> Link) -> Message {
+    let mut message = Message::new(Bits48);
     for depth in 1..=DEEPEST {
         let Link(magic, length, before) = link(depth);
         message.header(magic, length);
@@ -37,7 +38,7 @@ fn chain(link: impl Fn(usize) -> Link) -> Vec<u8> {
             message.zeros(before.len() + 6);
         }
     }
-    message.finish()
+    message
 }
 
 /// A union's first choice.
@@ -53,7 +54,7 @@ fn schema(members: &[Record], lists: &[Record], cases: &[Record]) -> Schema {
     }
 }
 
-fn deepest(name: &'static str, schema: &Schema, message: Vec<u8>) -> Case {
+fn deepest(name: &str, schema: &Schema, message: Message) -> Case {
     Case::accepted(name, schema, message, DEEPEST as u32)
 }
 
@@ -65,13 +66,13 @@ fn tables() -> Case {
 
 fn tables_in_place() -> Case {
     let schema = schema(&[plain(TABLE).in_place()], &[], &[]);
-    let mut message = Message::new();
+    let mut message = Message::new(Bits48);
     message.header(ID, 6);
     for _ in 1..DEEPEST {
-        message.u48(6);
+        message.offset(6);
     }
     message.zeros(6);
-    deepest("tables in place", &schema, message.finish())
+    deepest("tables in place", &schema, message)
 }
 
 fn tables_by_unions() -> Case {

@@ -20,11 +20,8 @@ use std::time::{Duration, Instant};
 use tasks::{Task, SUMMED};
 use timing::Plan;
 
-/// The coding that is timed: that of document 000.
-const CODING: u32 = 48;
-
 fn ours(case: &Case) -> Verdict {
-    let verdict = scalgo::judge(&case.schema, &case.message, case.budget);
+    let verdict = scalgo::judge(case.coding, &case.schema, &case.message, case.budget);
     Verdict {
         number: verdict.number,
         place: verdict.place,
@@ -33,7 +30,12 @@ fn ours(case: &Case) -> Verdict {
 }
 
 fn second(case: &Case) -> Verdict {
-    reference::judge(crate::CODING, &case.schema, &case.message, case.budget)
+    reference::judge(
+        case.coding.number(),
+        &case.schema,
+        &case.message,
+        case.budget,
+    )
 }
 
 /// What is wrong with the verdicts, if anything is.
@@ -60,7 +62,7 @@ fn time(plan: &Plan, case: &Case) {
     );
     let objects = f64::from(case.expected.visits);
     println!(
-        "{:<46} {:>7} {:>12.0} {:>12.0} {:>12.0} {:>12.0} {:>7.2} {:>7.2} {}",
+        "{:<50} {:>7} {:>12.0} {:>12.0} {:>12.0} {:>12.0} {:>7.2} {:>7.2} {}",
         case.name,
         case.expected.visits,
         ours.best,
@@ -84,7 +86,7 @@ fn per_object(objects: f64, ours: f64, second: f64) -> String {
 fn times(plan: &Plan) -> bool {
     println!("Nanoseconds a call: best and median of each program, and ours by the reference's.");
     println!(
-        "{:<46} {:>7} {:>12} {:>12} {:>12} {:>12} {:>7} {:>7} {:>8} {:>8}",
+        "{:<50} {:>7} {:>12} {:>12} {:>12} {:>12} {:>7} {:>7} {:>8} {:>8}",
         "case",
         "visits",
         "ours best",
@@ -123,7 +125,7 @@ fn time_task(plan: &Plan, task: &Task) {
     );
     SUMMED.with_borrow_mut(|summed| *summed = true);
     println!(
-        "{:<46} {:>12.0} {:>12.0} {:>12.0} {:>12.0} {:>7.2} {:>7.2} {}",
+        "{:<50} {:>12.0} {:>12.0} {:>12.0} {:>12.0} {:>7.2} {:>7.2} {}",
         task.name,
         ours.best,
         ours.median,
@@ -147,7 +149,7 @@ fn speed(bytes: usize, ours: f64, second: f64) -> String {
 fn time_tasks(plan: &Plan) -> bool {
     println!("Nanoseconds a call; the last two are GB/s, half of the bytes in and out together.");
     println!(
-        "{:<46} {:>12} {:>12} {:>12} {:>12} {:>7} {:>7} {:>8} {:>8}",
+        "{:<50} {:>12} {:>12} {:>12} {:>12} {:>7} {:>7} {:>8} {:>8}",
         "task", "ours best", "median", "ref best", "median", "best", "median", "ours", "ref",
     );
     let mut sound = true;
@@ -163,10 +165,32 @@ fn time_tasks(plan: &Plan) -> bool {
     sound
 }
 
+/// The stack of either program, judging and reading to a sheet.
+fn stacks_of(case: &Case) -> [usize; 4] {
+    const ROOM: usize = 1 << 16;
+    let (schema, message) = (&case.schema, &case.message);
+    [
+        stack::touched(&|| {
+            black_box(ours(case));
+        }),
+        stack::touched(&|| {
+            black_box(second(case));
+        }),
+        stack::touched(&|| {
+            let mut sheet = vec![0; ROOM];
+            black_box(scalgo::read(case.coding, schema, message, 100, &mut sheet));
+        }),
+        stack::touched(&|| {
+            let coding = case.coding.number();
+            black_box(reference::read(coding, schema, message, 100, ROOM));
+        }),
+    ]
+}
+
 fn stacks() -> bool {
     println!("Bytes of stack touched by a message of 32 objects, each in the one before:");
     println!(
-        "{:<46} {:>12} {:>12} {:>12} {:>12}",
+        "{:<50} {:>12} {:>12} {:>12} {:>12}",
         "objects", "ours", "reference", "ours to sheet", "reference",
     );
     let mut sound = true;
@@ -176,30 +200,9 @@ fn stacks() -> bool {
             sound = false;
             continue;
         }
-        let bytes = [
-            stack::touched(&|| {
-                black_box(ours(&case));
-            }),
-            stack::touched(&|| {
-                black_box(second(&case));
-            }),
-            stack::touched(&|| {
-                let mut sheet = vec![0; 1 << 16];
-                black_box(scalgo::read(&case.schema, &case.message, 100, &mut sheet));
-            }),
-            stack::touched(&|| {
-                black_box(reference::read(
-                    48,
-                    &case.schema,
-                    &case.message,
-                    100,
-                    1 << 16,
-                ));
-            }),
-        ];
-        let [ours, second, sheet, second_sheet] = bytes;
+        let [ours, second, sheet, second_sheet] = stacks_of(&case);
         let name = case.name;
-        println!("{name:<46} {ours:>12} {second:>12} {sheet:>12} {second_sheet:>12}");
+        println!("{name:<50} {ours:>12} {second:>12} {sheet:>12} {second_sheet:>12}");
     }
     sound
 }

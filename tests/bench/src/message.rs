@@ -1,23 +1,40 @@
 //! A message, built from its first byte to its last.
 
+use scalgo::Coding;
+
 const MESSAGE_MAGIC: u32 = 0xB5C0_C4B3;
 const TEXT_MAGIC: u32 = 0xD812_C8F5;
 pub const BYTES_MAGIC: u32 = 0xDCDB_BE10;
 pub const LIST_MAGIC: u32 = 0x3400_BB46;
 
-/// The magic and length of a message or an object.
-const HEADER: usize = 10;
-
 pub struct Message {
+    coding: Coding,
     bytes: Vec<u8>,
 }
 
 impl Message {
-    /// A message whose root comes first.
-    pub fn new() -> Message {
-        let mut message = Message { bytes: Vec::new() };
-        message.header(MESSAGE_MAGIC, HEADER);
+    /// A message whose root comes first, behind a magic and an offset.
+    pub fn new(coding: Coding) -> Message {
+        let mut message = Message::of(coding, &[]);
+        message.header(MESSAGE_MAGIC, 4 + message.width());
         message
+    }
+
+    /// A message of these bytes.
+    pub fn of(coding: Coding, bytes: &[u8]) -> Message {
+        Message {
+            coding,
+            bytes: bytes.to_vec(),
+        }
+    }
+
+    pub fn coding(&self) -> Coding {
+        self.coding
+    }
+
+    /// The bytes of an offset or a length.
+    pub fn width(&self) -> usize {
+        self.coding.number() as usize / 8
     }
 
     /// Where the next byte goes.
@@ -41,8 +58,10 @@ impl Message {
         self.put(&value.to_le_bytes());
     }
 
-    pub fn u48(&mut self, value: usize) {
-        self.put(&u48(value));
+    /// An offset or a length.
+    pub fn offset(&mut self, value: usize) {
+        let (bytes, width) = (value.to_le_bytes(), self.width());
+        self.put(&bytes[..width]);
     }
 
     /// Writes over zero bytes put earlier.
@@ -51,18 +70,19 @@ impl Message {
     }
 
     /// Writes over zero bytes put earlier.
-    pub fn set_u48(&mut self, at: usize, value: usize) {
-        self.bytes[at..at + 6].copy_from_slice(&u48(value));
+    pub fn set_offset(&mut self, at: usize, value: usize) {
+        let width = self.width();
+        self.bytes[at..at + width].copy_from_slice(&value.to_le_bytes()[..width]);
     }
 
     /// A reference to what comes right behind it.
     pub fn refer_behind(&mut self) {
-        self.u48(self.end() + 6);
+        self.offset(self.end() + self.width());
     }
 
     pub fn header(&mut self, magic: u32, length: usize) {
         self.put(&magic.to_le_bytes());
-        self.u48(length);
+        self.offset(length);
     }
 
     pub fn text(&mut self, content: &[u8]) {
@@ -70,11 +90,6 @@ impl Message {
         self.put(content);
         self.zeros(1);
     }
-}
-
-fn u48(value: usize) -> [u8; 6] {
-    let bytes = (value as u64).to_le_bytes();
-    [bytes[0], bytes[1], bytes[2], bytes[3], bytes[4], bytes[5]]
 }
 
 /// A table's fixed part as it grows.

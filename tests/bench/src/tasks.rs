@@ -5,6 +5,7 @@ use crate::message::{Message, LIST_MAGIC};
 use crate::schema::{
     plain, Record, Schema, Table, BOOL, ENUM, F32, F64, LIST, TABLE, TEXT, U16, U32, U64, U8,
 };
+use scalgo::Coding::{Bits32, Bits48};
 use std::cell::RefCell;
 use std::hint::black_box;
 
@@ -52,10 +53,12 @@ const PARTS: &[fn() -> Task] = &[
 
 /// Messages that are read to a sheet, and whose sheets are written.
 const WHOLES: &[fn() -> Case] = &[
-    cases::texts,
+    || cases::texts(Bits48),
+    || cases::texts(Bits32),
     cases::every_kind,
     || cases::numbers("(d) a list of 1,000,000 U64", 1_000_000),
-    cases::tables,
+    || cases::tables(Bits48),
+    || cases::tables(Bits32),
     deep_numbers,
     || cases::elements("1,000,000 bools", plain(BOOL), 0),
     || cases::elements("1,000,000 U8", plain(U8), 1),
@@ -92,7 +95,7 @@ const OUTER: usize = 1000;
 const INNER: usize = 100;
 
 /// The root, a list of 1,000 tables, each with a list of 100 tables of a U16 and a text.
-fn nested() -> (Schema, Vec<u8>) {
+fn nested() -> Case {
     let schema = Schema {
         lists: vec![Record::of(TABLE, 1), Record::of(TABLE, 2)],
         tables: vec![
@@ -102,14 +105,14 @@ fn nested() -> (Schema, Vec<u8>) {
         ],
         ..Schema::default()
     };
-    let mut message = Message::new();
+    let mut message = Message::new(Bits48);
     message.header(1, 6);
     message.refer_behind();
     message.header(LIST_MAGIC, OUTER);
     let outer = message.end();
     message.zeros(6 * OUTER);
     for table in 0..OUTER {
-        message.set_u48(outer + 6 * table, message.end());
+        message.set_offset(outer + 6 * table, message.end());
         message.header(2, 8);
         message.u16(table as u16);
         message.refer_behind();
@@ -117,14 +120,15 @@ fn nested() -> (Schema, Vec<u8>) {
         let inner = message.end();
         message.zeros(6 * INNER);
         for element in 0..INNER {
-            message.set_u48(inner + 6 * element, message.end());
+            message.set_offset(inner + 6 * element, message.end());
             message.header(3, 8);
             message.u16((table + element) as u16);
             message.refer_behind();
             message.text(b"ab");
         }
     }
-    (schema, message.finish())
+    let visits = 2 + OUTER * (2 + 2 * INNER);
+    Case::accepted("nested lists", &schema, message, visits as u32)
 }
 
 /// Tables, each in the one before, and a list of numbers in the last, at depth 32.
@@ -135,7 +139,7 @@ fn deep_numbers() -> Case {
         tables: vec![Table::new(1, &[plain(TABLE), Record::of(LIST, 0)])],
         ..Schema::default()
     };
-    let mut message = Message::new();
+    let mut message = Message::new(Bits48);
     for depth in 1..32 {
         message.header(1, 12);
         match depth {
@@ -144,7 +148,7 @@ fn deep_numbers() -> Case {
                 message.refer_behind();
             }
             _ => {
-                message.u48(message.end() + 12);
+                message.offset(message.end() + 12);
                 message.zeros(6);
             }
         }
@@ -153,27 +157,28 @@ fn deep_numbers() -> Case {
     for number in 0..NUMBERS as u64 {
         message.put(&number.to_le_bytes());
     }
-    Case::accepted("20,000 U64 at depth 32", &schema, message.finish(), 32)
+    Case::accepted("20,000 U64 at depth 32", &schema, message, 32)
 }
 
 /// One field: both must give the number expected of it.
-fn field(name: &str, schema: Vec<u8>, message: Vec<u8>, path: Vec<u32>, expected: u64) -> Task {
-    let (same_schema, same_message, same_path) = (schema.clone(), message.clone(), path.clone());
-    let ours = move || match scalgo::field(&schema, &message, black_box(&path)) {
-        scalgo::Answer::Number { bits, .. } => numbers(&[u64::from(bits != expected), bits]),
-        other => panic!("{other:?}"),
+fn field(name: String, case: Case, path: Vec<u32>, expected: u64) -> Task {
+    let (same_case, same_path) = (case.clone(), path.clone());
+    let ours = move || {
+        let path = black_box(&path);
+        match scalgo::field(case.coding, &case.schema, &case.message, path) {
+            scalgo::Answer::Number { bits, .. } => numbers(&[u64::from(bits != expected), bits]),
+            other => panic!("{other:?}"),
+        }
     };
-    let second = move || match reference::field(
-        crate::CODING,
-        &same_schema,
-        &same_message,
-        black_box(&same_path),
-    ) {
-        reference::Answer::Number { bits, .. } => numbers(&[u64::from(bits != expected), bits]),
-        other => panic!("{other:?}"),
+    let second = move || {
+        let (case, path) = (&same_case, black_box(&same_path));
+        match reference::field(case.coding.number(), &case.schema, &case.message, path) {
+            reference::Answer::Number { bits, .. } => numbers(&[u64::from(bits != expected), bits]),
+            other => panic!("{other:?}"),
+        }
     };
     Task {
-        name: name.to_string(),
+        name,
         bytes: 0,
         ours: Box::new(ours),
         second: Box::new(second),
@@ -181,33 +186,33 @@ fn field(name: &str, schema: Vec<u8>, message: Vec<u8>, path: Vec<u32>, expected
 }
 
 fn field_at_depth_5() -> Task {
-    let (schema, message) = nested();
-    let name = format!("a field at depth 5 of {} bytes", message.len());
-    field(&name, schema.pack(), message, vec![0, 777, 1, 55, 0], 832)
+    let case = nested();
+    let name = format!("a field at depth 5 of {} bytes", case.message.len());
+    field(name, case, vec![0, 777, 1, 55, 0], 832)
 }
 
 fn field_by_the_largest_schema() -> Task {
-    let case = cases::tables_late();
     let name = "a field at depth 3 by the largest schema";
-    field(name, case.schema, case.message, vec![0, 50_000, 0], 50_000)
+    let case = cases::tables_late(Bits48);
+    field(name.to_string(), case, vec![0, 50_000, 0], 50_000)
 }
 
 fn text_at_depth_5() -> Task {
-    let (schema, message) = nested();
-    let (schema, path) = (schema.pack(), vec![0, 777, 1, 55, 1]);
-    let (same_schema, same_message, same_path) = (schema.clone(), message.clone(), path.clone());
-    let ours = move || match scalgo::text(&schema, &message, black_box(&path)) {
-        Some(text) => numbers(&[0, text.len() as u64, u64::from(text[0])]),
-        None => panic!("no text"),
+    let (case, path) = (nested(), [0, 777, 1, 55, 1]);
+    let same_case = case.clone();
+    let ours = move || {
+        let path = black_box(&path);
+        match scalgo::text(case.coding, &case.schema, &case.message, path) {
+            Some(text) => numbers(&[0, text.len() as u64, u64::from(text[0])]),
+            None => panic!("no text"),
+        }
     };
-    let second = move || match reference::text(
-        crate::CODING,
-        &same_schema,
-        &same_message,
-        black_box(&same_path),
-    ) {
-        Some((at, length)) => numbers(&[0, length as u64, u64::from(same_message[at])]),
-        None => panic!("no text"),
+    let second = move || {
+        let (case, path) = (&same_case, black_box(&path));
+        match reference::text(case.coding.number(), &case.schema, &case.message, path) {
+            Some((at, length)) => numbers(&[0, length as u64, u64::from(case.message[at])]),
+            None => panic!("no text"),
+        }
     };
     Task {
         name: "a text at depth 6 of the same".to_string(),
@@ -219,10 +224,11 @@ fn text_at_depth_5() -> Task {
 
 /// A list read to its end: the sum of the places is the same.
 fn list_of_tables() -> Task {
-    let case = cases::tables();
-    let (schema, message) = (case.schema.clone(), case.message.clone());
+    let case = cases::tables(Bits48);
+    let same_case = case.clone();
     let ours = move || {
-        let list = scalgo::list(&schema, &message, &[0]).expect("a list");
+        let list = scalgo::list(case.coding, &case.schema, &case.message, &[0]);
+        let list = list.expect("a list");
         let places = list.map(|answer| match answer {
             scalgo::Answer::Object { place, .. } => place,
             other => panic!("{other:?}"),
@@ -230,8 +236,9 @@ fn list_of_tables() -> Task {
         numbers(&[0, places.sum()])
     };
     let second = move || {
-        let path = [0];
-        let reader = reference::ListReader::new(crate::CODING, &case.schema, &case.message, &path);
+        let (case, path) = (&same_case, [0]);
+        let coding = case.coding.number();
+        let reader = reference::ListReader::new(coding, &case.schema, &case.message, &path);
         let mut reader = reader.unwrap_or_else(|refusal| panic!("{refusal:?}"));
         let mut sum = 0;
         while let reference::Answer::Object { place, .. } = reader.step() {
@@ -260,30 +267,35 @@ fn outcome(numbers: &[u64], bytes: &[u8]) -> Outcome {
     }
 }
 
+/// The most bytes of a sheet.
+const ROOM: usize = 16_777_215;
+
+/// The sheet of a message.
+fn sheet_of(case: &Case) -> Vec<u8> {
+    let coding = case.coding.number();
+    reference::read(coding, &case.schema, &case.message, case.budget, ROOM).1
+}
+
 /// A message to its sheet. The library is lent its output; the second program makes its own.
 fn read(case: Case) -> Task {
-    const ROOM: usize = 16_777_215;
-    let (_, sheet) = reference::read(
-        crate::CODING,
-        &case.schema,
-        &case.message,
-        case.budget,
-        ROOM,
+    let room = sheet_of(&case).len() + 100;
+    let output = RefCell::new(vec![0; room]);
+    let (name, bytes) = (
+        format!("reading {}", case.name),
+        case.message.len() + room - 100,
     );
-    let output = RefCell::new(vec![0; sheet.len() + 100]);
-    let room = sheet.len() + 100;
-    let (schema, message) = (case.schema.clone(), case.message.clone());
+    let same_case = case.clone();
     let ours = move || {
         let mut output = output.borrow_mut();
-        let answer = scalgo::read(&schema, &message, u32::MAX, &mut output);
+        let (schema, message) = (&case.schema, &case.message);
+        let answer = scalgo::read(case.coding, schema, message, u32::MAX, &mut output);
         let number = u64::from(answer.verdict.number);
         outcome(&[number, answer.length as u64], &output[..answer.length])
     };
-    let bytes = case.message.len() + sheet.len();
-    let name = format!("reading {}", case.name);
     let second = move || {
-        let (verdict, sheet) =
-            reference::read(crate::CODING, &case.schema, &case.message, u32::MAX, room);
+        let (schema, message) = (&same_case.schema, &same_case.message);
+        let coding = same_case.coding.number();
+        let (verdict, sheet) = reference::read(coding, schema, message, u32::MAX, room);
         outcome(&[u64::from(verdict.number), sheet.len() as u64], &sheet)
     };
     Task {
@@ -296,30 +308,27 @@ fn read(case: Case) -> Task {
 
 /// A sheet to its message, outputs as in `read`.
 fn write(case: Case) -> Task {
-    const ROOM: usize = 16_777_215;
-    let (_, sheet) = reference::read(
-        crate::CODING,
-        &case.schema,
-        &case.message,
-        case.budget,
-        ROOM,
-    );
+    let sheet = sheet_of(&case);
     let room = case.message.len() + 100;
     let output = RefCell::new(vec![0; room]);
-    let (schema, same_sheet) = (case.schema.clone(), sheet.clone());
-    let bytes = case.message.len() + sheet.len();
+    let (name, bytes) = (
+        format!("writing {}", case.name),
+        case.message.len() + sheet.len(),
+    );
+    let (same_case, same_sheet) = (case.clone(), sheet.clone());
     let ours = move || {
         let mut output = output.borrow_mut();
-        let answer = scalgo::write(&schema, &sheet, &mut output);
+        let answer = scalgo::write(case.coding, &case.schema, &sheet, &mut output);
         let number = u64::from(answer.number);
         outcome(&[number, answer.length as u64], &output[..answer.length])
     };
     let second = move || {
-        let (number, message) = reference::write(crate::CODING, &case.schema, &same_sheet, room);
+        let coding = same_case.coding.number();
+        let (number, message) = reference::write(coding, &same_case.schema, &same_sheet, room);
         outcome(&[u64::from(number), message.len() as u64], &message)
     };
     Task {
-        name: format!("writing {}", case.name),
+        name,
         bytes,
         ours: Box::new(ours),
         second: Box::new(second),

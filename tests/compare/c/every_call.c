@@ -1,5 +1,6 @@
 /* Calls every function of the library once for each thing that the requirements' own table says,
- * and prints what it answers. every_call.txt is what they say it must print. */
+ * then the same in the older coding, and under a number that is no coding's; and prints what it
+ * answers. every_call.txt is what they say it must print. */
 #include "scalgo.h"
 
 #include <stdio.h>
@@ -9,21 +10,61 @@
 static const uint8_t newer[] = {0, 0, 0, 1, 0, 0x4C, 0x49, 0x43, 0x45, 2, 0x10, 0, 0x68, 0};
 static const uint8_t older[] = {0, 0, 0, 1, 0, 0x4C, 0x49, 0x43, 0x45, 1, 0x10, 0};
 
-/* M. */
-static const uint8_t message[] = {
+/* M, and the same in 32 bits. */
+static const uint8_t message_48[] = {
     0xB3, 0xC4, 0xC0, 0xB5, 0x0A, 0, 0, 0, 0, 0,
     0x45, 0x43, 0x49, 0x4C, 8, 0, 0, 0, 0, 0, 3, 0, 0x1C, 0, 0, 0, 0, 0,
     0xF5, 0xC8, 0x12, 0xD8, 2, 0, 0, 0, 0, 0, 'a', 'b', 0,
 };
+static const uint8_t message_32[] = {
+    0xB3, 0xC4, 0xC0, 0xB5, 8, 0, 0, 0,
+    0x45, 0x43, 0x49, 0x4C, 6, 0, 0, 0, 3, 0, 0x16, 0, 0, 0,
+    0xF5, 0xC8, 0x12, 0xD8, 2, 0, 0, 0, 'a', 'b', 0,
+};
 
-/* A table with a list of texts, and a message with "ab", none, and one whose offset is 9. */
+/* A table with a list of texts, and a message with "ab", none, and one whose offset is 9, or 7. */
 static const uint8_t texts[] = {0, 1, 0, 1, 0, 0x68, 0, 0x4C, 0x49, 0x43, 0x45, 1, 0x78, 0};
-static const uint8_t list[] = {
+static const uint8_t list_48[] = {
     0xB3, 0xC4, 0xC0, 0xB5, 0x0A, 0, 0, 0, 0, 0,
     0x45, 0x43, 0x49, 0x4C, 6, 0, 0, 0, 0, 0, 0x1A, 0, 0, 0, 0, 0,
     0x46, 0xBB, 0x00, 0x34, 3, 0, 0, 0, 0, 0,
     0x36, 0, 0, 0, 0, 0, 0, 0, 0, 0, 0, 0, 9, 0, 0, 0, 0, 0,
     0xF5, 0xC8, 0x12, 0xD8, 2, 0, 0, 0, 0, 0, 'a', 'b', 0,
+};
+static const uint8_t list_32[] = {
+    0xB3, 0xC4, 0xC0, 0xB5, 8, 0, 0, 0,
+    0x45, 0x43, 0x49, 0x4C, 4, 0, 0, 0, 0x14, 0, 0, 0,
+    0x46, 0xBB, 0x00, 0x34, 3, 0, 0, 0,
+    0x28, 0, 0, 0, 0, 0, 0, 0, 7, 0, 0, 0,
+    0xF5, 0xC8, 0x12, 0xD8, 2, 0, 0, 0, 'a', 'b', 0,
+};
+
+/* A table with a union of a text, in place and not; and a message with "ab" in place. */
+static const uint8_t in_place[] = {0, 0, 1, 1, 0, 1, 0x68, 0, 0x4C, 0x49, 0x43, 0x45, 1, 0x8A, 0};
+static const uint8_t by_offset[] = {0, 0, 1, 1, 0, 1, 0x68, 0, 0x4C, 0x49, 0x43, 0x45, 1, 0x88, 0};
+static const uint8_t union_48[] = {
+    0xB3, 0xC4, 0xC0, 0xB5, 0x0A, 0, 0, 0, 0, 0,
+    0x45, 0x43, 0x49, 0x4C, 8, 0, 0, 0, 0, 0, 1, 0, 2, 0, 0, 0, 0, 0, 'a', 'b', 0,
+};
+static const uint8_t union_32[] = {
+    0xB3, 0xC4, 0xC0, 0xB5, 8, 0, 0, 0,
+    0x45, 0x43, 0x49, 0x4C, 6, 0, 0, 0, 1, 0, 2, 0, 0, 0, 'a', 'b', 0,
+};
+
+/* A coding, and what there is in it. */
+struct coded {
+    uint32_t coding;
+    const uint8_t *message, *list, *union_;
+    size_t message_len, list_len, union_len;
+    size_t length_at, offset_at; /* the root's length and the text's offset in the message */
+    uint8_t under;               /* the last offset that is too small, and size */
+};
+
+static const struct coded codings[] = {
+    {SCALGO_CODING_48, message_48, list_48, union_48,
+     sizeof message_48, sizeof list_48, sizeof union_48, 14, 22, 9},
+    {SCALGO_CODING_32, message_32, list_32, union_32,
+     sizeof message_32, sizeof list_32, sizeof union_32, 12, 18, 7},
 };
 
 static void print_numbers(const uint64_t *numbers, size_t count) {
@@ -40,134 +81,161 @@ static void print_bytes(const uint8_t *bytes, size_t count) {
     printf("\n");
 }
 
-/* M with one byte changed. */
-static const uint8_t *changed(size_t at, uint8_t byte) {
-    static uint8_t copy[sizeof message];
-    memcpy(copy, message, sizeof message);
+/* The message with one byte changed. */
+static const uint8_t *changed(const struct coded *in, size_t at, uint8_t byte) {
+    static uint8_t copy[sizeof message_48];
+    memcpy(copy, in->message, in->message_len);
     copy[at] = byte;
     return copy;
 }
 
-static void judge(const uint8_t *schema, size_t schema_len, const uint8_t *bytes, size_t len,
-                  uint32_t budget) {
+static void judge(uint32_t coding, const uint8_t *schema, size_t schema_len, const uint8_t *bytes,
+                  size_t len, uint32_t budget) {
     uint64_t place = 99;
     uint32_t visits = 99;
-    uint32_t number = scalgo_judge(schema, schema_len, bytes, len, budget, &place, &visits);
+    uint32_t number = scalgo_judge(coding, schema, schema_len, bytes, len, budget, &place, &visits);
     uint64_t numbers[3] = {number, place, visits};
     print_numbers(numbers, 3);
 }
 
-static void judges(void) {
-    size_t len = sizeof message;
-    judge(newer, sizeof newer, message, len, 2);
-    judge(newer, sizeof newer, message, len, 1);
-    judge(newer, sizeof newer, message, len, 0);
-    judge(older, sizeof older, message, len, 1);
-    judge(newer, sizeof newer, changed(14, 5), len, 2);
-    judge(newer, sizeof newer, changed(40, 1), len, 2);
-    judge(newer, sizeof newer, message, len - 1, 2);
-    judge(newer, sizeof newer, message, 0, 2);
-    judge(newer, sizeof newer, changed(22, 9), len, 2);
+static void judges(const struct coded *in) {
+    uint32_t coding = in->coding;
+    size_t len = in->message_len;
+    judge(coding, newer, sizeof newer, in->message, len, 2);
+    judge(coding, newer, sizeof newer, in->message, len, 1);
+    judge(coding, newer, sizeof newer, in->message, len, 0);
+    judge(coding, older, sizeof older, in->message, len, 1);
+    judge(coding, newer, sizeof newer, changed(in, in->length_at, 5), len, 2);
+    judge(coding, newer, sizeof newer, changed(in, len - 1, 1), len, 2);
+    judge(coding, newer, sizeof newer, in->message, len - 1, 2);
+    judge(coding, newer, sizeof newer, in->message, 0, 2);
+    judge(coding, newer, sizeof newer, changed(in, in->offset_at, in->under), len, 2);
 }
 
 /* One field and, where it is a text, its part. */
-static void field(const uint8_t *schema, size_t schema_len, const uint8_t *bytes,
-                  const uint32_t *path, size_t path_len) {
-    size_t len = sizeof message;
+static void field(uint32_t coding, const uint8_t *schema, size_t schema_len, const uint8_t *bytes,
+                  size_t len, const uint32_t *path, size_t path_len) {
     uint64_t n[4] = {99, 99, 99, 99};
-    n[0] = scalgo_field(schema, schema_len, bytes, len, path, path_len, &n[1], &n[2], &n[3]);
+    n[0] = scalgo_field(coding, schema, schema_len, bytes, len, path, path_len, &n[1], &n[2], &n[3]);
     print_numbers(n, 4);
     uint64_t part[3] = {99, 99, 99};
-    part[0] = scalgo_text(schema, schema_len, bytes, len, path, path_len, &part[1], &part[2]);
+    part[0] = scalgo_text(coding, schema, schema_len, bytes, len, path, path_len, &part[1], &part[2]);
     print_numbers(part, 3);
     if (part[0] == 1) {
         print_bytes(bytes + part[1], (size_t)part[2]);
     }
 }
 
-static void fields(void) {
+static void fields(const struct coded *in) {
     static const uint32_t first[] = {0};
     static const uint32_t second[] = {1};
     static const uint32_t long_path[97] = {0};
-    field(newer, sizeof newer, message, first, 0);
-    field(newer, sizeof newer, message, first, 1);
-    field(newer, sizeof newer, message, second, 1);
-    field(older, sizeof older, message, second, 1);
-    field(newer, sizeof newer, changed(14, 2), second, 1);
-    field(newer, sizeof newer, changed(14, 5), second, 1);
-    field(newer, sizeof newer, changed(40, 1), second, 1);
-    field(newer, sizeof newer, message, long_path, 97);
-    field(message, sizeof message, message, first, 1);
+    uint32_t coding = in->coding;
+    const uint8_t *message = in->message;
+    size_t len = in->message_len;
+    field(coding, newer, sizeof newer, message, len, first, 0);
+    field(coding, newer, sizeof newer, message, len, first, 1);
+    field(coding, newer, sizeof newer, message, len, second, 1);
+    field(coding, older, sizeof older, message, len, second, 1);
+    field(coding, newer, sizeof newer, changed(in, in->length_at, 2), len, second, 1);
+    field(coding, newer, sizeof newer, changed(in, in->length_at, 5), len, second, 1);
+    field(coding, newer, sizeof newer, changed(in, len - 1, 1), len, second, 1);
+    field(coding, newer, sizeof newer, message, len, long_path, 97);
+    field(coding, message, len, message, len, first, 1);
 }
 
-static void lists(void) {
+/* So many steps from an element on at the path of the first member. */
+static void list_from(uint32_t coding, const uint8_t *schema, size_t schema_len,
+                      const uint8_t *bytes, size_t len, uint64_t from, size_t steps) {
     static const uint32_t path[] = {0};
     uint64_t cases[4 * 4 + 1];
-    uint64_t count[1];
     memset(cases, 0x55, sizeof cases);
-    count[0] = scalgo_list(texts, sizeof texts, list, sizeof list, path, 1, 0, cases, 17);
-    print_numbers(count, 1);
-    for (size_t i = 0; i < 4; i++) {
+    uint64_t count = scalgo_list(coding, schema, schema_len, bytes, len, path, 1, from, cases,
+                                 4 * steps + 1);
+    print_numbers(&count, 1);
+    for (size_t i = 0; i < steps; i++) {
         print_numbers(cases + 4 * i, 4);
     }
-    printf("%s\n", cases[16] == 0x5555555555555555u ? "kept" : "changed");
-    count[0] = scalgo_list(texts, sizeof texts, list, sizeof list, path, 1, 2, cases, 4);
-    print_numbers(count, 1);
-    print_numbers(cases, 4);
-    /* Not a list of texts: a number, and a path that is refused. */
-    count[0] = scalgo_list(newer, sizeof newer, message, sizeof message, path, 1, 0, cases, 4);
-    print_numbers(count, 1);
-    print_numbers(cases, 4);
-    count[0] = scalgo_list(texts, sizeof texts, list, 9, path, 1, 0, cases, 4);
-    print_numbers(count, 1);
-    print_numbers(cases, 4);
+    printf("%s\n", cases[4 * steps] == 0x5555555555555555u ? "kept" : "changed");
 }
 
-static void read_with(uint32_t budget, size_t room) {
+static void lists(const struct coded *in) {
+    list_from(in->coding, texts, sizeof texts, in->list, in->list_len, 0, 4);
+    list_from(in->coding, texts, sizeof texts, in->list, in->list_len, 2, 1);
+    /* Not a list of texts: a number, and a path that is refused. */
+    list_from(in->coding, newer, sizeof newer, in->message, in->message_len, 0, 1);
+    list_from(in->coding, texts, sizeof texts, in->list, in->under, 0, 1);
+}
+
+static void read_with(uint32_t coding, const struct coded *in, uint32_t budget, size_t room) {
     uint8_t sheet[12];
     uint64_t place = 99;
     uint32_t visits = 99;
     uint64_t length = 99;
     memset(sheet, 0xEE, sizeof sheet);
-    uint32_t number = scalgo_read(newer, sizeof newer, message, sizeof message, budget,
+    uint32_t number = scalgo_read(coding, newer, sizeof newer, in->message, in->message_len, budget,
                                   sheet, room, &place, &visits, &length);
     uint64_t numbers[4] = {number, place, visits, length};
     print_numbers(numbers, 4);
     print_bytes(sheet, sizeof sheet);
 }
 
-static void reads(void) {
-    read_with(2, 12);
-    read_with(2, 9);
-    read_with(2, 8);
-    read_with(1, 12);
+static void reads(const struct coded *in) {
+    read_with(in->coding, in, 2, 12);
+    read_with(in->coding, in, 2, 9);
+    read_with(in->coding, in, 2, 8);
+    read_with(in->coding, in, 1, 12);
 }
 
-static void write_with(const uint8_t *sheet, size_t sheet_len, size_t room) {
-    uint8_t bytes[43];
+/* The sheet of the message, and a byte more. */
+static const uint8_t sheet[] = {0x40, 0, 0xD0, 0, 0, 0, 0x26, 0x16, 0x20, 0};
+
+static void write_with(uint32_t coding, const uint8_t *bytes, size_t len, size_t room) {
+    uint8_t written[43];
     uint64_t length = 99;
-    memset(bytes, 0xEE, sizeof bytes);
-    uint32_t number = scalgo_write(newer, sizeof newer, sheet, sheet_len, bytes, room, &length);
+    memset(written, 0xEE, sizeof written);
+    uint32_t number = scalgo_write(coding, newer, sizeof newer, bytes, len, written, room, &length);
     uint64_t numbers[2] = {number, length};
     print_numbers(numbers, 2);
-    print_bytes(bytes, sizeof bytes);
+    print_bytes(written, sizeof written);
 }
 
-static void writes(void) {
-    static const uint8_t sheet[] = {0x40, 0, 0xD0, 0, 0, 0, 0x26, 0x16, 0x20, 0};
-    write_with(sheet, 9, 43);
-    write_with(sheet, 9, 41);
-    write_with(sheet, 9, 40);
-    write_with(sheet, 10, 43);
+static void writes(const struct coded *in) {
+    write_with(in->coding, sheet, 9, 43);
+    write_with(in->coding, sheet, 9, in->message_len);
+    write_with(in->coding, sheet, 9, in->message_len - 1);
+    write_with(in->coding, sheet, 10, 43);
     /* Both members absent, but the number may not be. */
-    write_with(sheet + 1, 1, 43);
+    write_with(in->coding, sheet + 1, 1, 43);
+}
+
+/* A union in place is of both codings, one by its offset of the newer alone: there it has an offset
+ * of 2. */
+static void unions(const struct coded *in) {
+    judge(in->coding, in_place, sizeof in_place, in->union_, in->union_len, 9);
+    judge(in->coding, by_offset, sizeof by_offset, in->union_, in->union_len, 9);
+}
+
+/* Under a number that is no coding's no schema is lawful. */
+static void no_coding(uint32_t coding) {
+    static const uint32_t path[] = {1};
+    const struct coded *in = &codings[0];
+    judge(coding, newer, sizeof newer, in->message, in->message_len, 2);
+    field(coding, newer, sizeof newer, in->message, in->message_len, path, 1);
+    list_from(coding, texts, sizeof texts, in->list, in->list_len, 0, 2);
+    read_with(coding, in, 2, 12);
+    write_with(coding, sheet, 9, 43);
 }
 
 int main(void) {
-    judges();
-    fields();
-    lists();
-    reads();
-    writes();
+    for (size_t i = 0; i < 2; i++) {
+        judges(&codings[i]);
+        fields(&codings[i]);
+        lists(&codings[i]);
+        reads(&codings[i]);
+        writes(&codings[i]);
+        unions(&codings[i]);
+    }
+    no_coding(40);
     return 0;
 }

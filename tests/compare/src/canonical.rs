@@ -6,8 +6,6 @@ use crate::value::Value;
 
 /// The first bytes of a message.
 pub const MESSAGE_MAGIC: u32 = 0xB5C0_C4B3;
-/// The bytes before the first object, and those of an object's header.
-pub const HEADER: usize = 10;
 
 /// The magic that starts an object.
 pub fn magic(schema: &Schema, record: &Record) -> u32 {
@@ -37,8 +35,8 @@ pub fn message(schema: &Schema, root: &Value) -> Vec<u8> {
         schema,
         out: Vec::new(),
     };
-    writer.out.extend_from_slice(&MESSAGE_MAGIC.to_le_bytes());
-    writer.out.extend_from_slice(&[HEADER as u8, 0, 0, 0, 0, 0]);
+    writer.header(MESSAGE_MAGIC);
+    writer.set_offset(4, schema.coding.header() as u64);
     writer.object(&Record::plain(TABLE, schema.root), root);
     writer.out
 }
@@ -48,18 +46,28 @@ impl<'a> Writer<'a> {
         self.out[at..at + width].copy_from_slice(&value.to_le_bytes()[..width]);
     }
 
+    /// Sets an offset or a length.
+    fn set_offset(&mut self, at: usize, value: u64) {
+        self.set(at, value, self.schema.coding.offset());
+    }
+
+    /// Writes a magic, and zeros for an offset or a length.
+    fn header(&mut self, magic: u32) {
+        let end = self.out.len() + self.schema.coding.header();
+        self.out.extend_from_slice(&magic.to_le_bytes());
+        self.out.resize(end, 0);
+    }
+
     /// Writes an object with all that it leads to.
     fn object(&mut self, record: &Record, value: &'a Value) {
         let start = self.out.len();
-        let magic = magic(self.schema, record);
-        self.out.extend_from_slice(&magic.to_le_bytes());
-        self.out.extend_from_slice(&[0; 6]);
+        self.header(magic(self.schema, record));
         let mut pending = Vec::new();
         let length = self.content(record, value, &mut pending);
-        self.set(start + 4, length, 6);
+        self.set_offset(start + 4, length);
         for next in pending {
             let place = self.out.len() as u64;
-            self.set(next.at, place, 6);
+            self.set_offset(next.at, place);
             self.object(&next.record, next.value);
         }
     }
@@ -143,11 +151,11 @@ impl<'a> Writer<'a> {
                 let case = cases[usize::from(*choice) - 1];
                 self.set(at, u64::from(*choice), 2);
                 let length = self.content(&case, object, pending);
-                self.set(at + 2, length, 6);
+                self.set_offset(at + 2, length);
             }
             _ => {
                 let length = self.content(member, part, pending);
-                self.set(at, length, 6);
+                self.set_offset(at, length);
             }
         }
     }

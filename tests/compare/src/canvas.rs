@@ -91,10 +91,10 @@ impl Pattern {
         self.mask[bit / 8] |= 1 << (bit % 8);
     }
 
-    /// Keeps six bytes for a number written at the end.
-    pub fn set_late(&mut self, at: usize, late: Late) {
-        self.set_spot(at, 0, 6);
-        self.locked[at..at + 6].fill(true);
+    /// Keeps so many bytes for a number written at the end.
+    pub fn set_late(&mut self, at: usize, width: usize, late: Late) {
+        self.set_spot(at, 0, width);
+        self.locked[at..at + width].fill(true);
         self.late.push((at, late));
     }
 

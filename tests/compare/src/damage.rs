@@ -1,10 +1,11 @@
 //! Random damage to messages and sheets.
 
 use crate::canvas::Spot;
+use crate::coding::Coding;
 use crate::rng::Rng;
 
-/// A damaged message; the spots say where its numbers stand.
-pub fn message(rng: &mut Rng, bytes: &[u8], spots: &[Spot]) -> Vec<u8> {
+/// A damaged message of a coding; the spots say where its numbers stand.
+pub fn message(coding: Coding, rng: &mut Rng, bytes: &[u8], spots: &[Spot]) -> Vec<u8> {
     let mut out = bytes.to_vec();
     if !out.is_empty() && rng.one_in(3) {
         // A single bit: the gentlest, so that many stay accepted.
@@ -16,25 +17,25 @@ pub fn message(rng: &mut Rng, bytes: &[u8], spots: &[Spot]) -> Vec<u8> {
     for _ in 0..times {
         if !spots.is_empty() && rng.coin() {
             let spot = spots[rng.below(spots.len())];
-            at_spot(rng, &mut out, spot);
+            at_spot(coding, rng, &mut out, spot);
         } else {
-            anywhere(rng, &mut out);
+            anywhere(coding, rng, &mut out);
         }
     }
     out
 }
 
 /// A number at an edge, for a message of `length` bytes.
-fn edge(rng: &mut Rng, length: usize) -> u64 {
-    let length = length as u64;
+fn edge(coding: Coding, rng: &mut Rng, length: usize) -> u64 {
+    let (length, header) = (length as u64, coding.header() as u64);
     let near = (length + 14).saturating_sub(rng.below(30) as u64);
     let edges = [
         0,
         1,
-        9,
-        10,
-        11,
-        length.saturating_sub(10),
+        header - 1,
+        header,
+        header + 1,
+        length.saturating_sub(header),
         length.saturating_sub(1),
         length,
         length + 1,
@@ -44,14 +45,14 @@ fn edge(rng: &mut Rng, length: usize) -> u64 {
         (1 << 24) - 1,
         1 << 24,
         (1 << 32) - 1,
-        1 << 32,
-        1 << 45,
-        (1 << 48) - 1,
+        coding.largest() / 65_536 + 1,
+        coding.largest() / 8 + 1,
+        coding.largest(),
     ];
     rng.pick(&edges)
 }
 
-fn at_spot(rng: &mut Rng, out: &mut [u8], spot: Spot) {
+fn at_spot(coding: Coding, rng: &mut Rng, out: &mut [u8], spot: Spot) {
     let end = (spot.position + spot.width).min(out.len());
     if spot.position >= end {
         return;
@@ -66,14 +67,14 @@ fn at_spot(rng: &mut Rng, out: &mut [u8], spot: Spot) {
         2 => old ^ 1 << rng.below(8 * spot.width),
         3 => rng.below(out.len() + 1) as u64,
         4 => rng.below(8) as u64,
-        _ => edge(rng, out.len()),
+        _ => edge(coding, rng, out.len()),
     };
     let width = end - spot.position;
     out[spot.position..end].copy_from_slice(&new.to_le_bytes()[..width]);
 }
 
 /// Damage at a random place.
-fn anywhere(rng: &mut Rng, out: &mut Vec<u8>) {
+fn anywhere(coding: Coding, rng: &mut Rng, out: &mut Vec<u8>) {
     if out.is_empty() {
         return;
     }
@@ -90,8 +91,8 @@ fn anywhere(rng: &mut Rng, out: &mut Vec<u8>) {
             out.drain(at..end);
         }
         4 => {
-            let number = edge(rng, out.len()).to_le_bytes();
-            let end = (at + 6).min(out.len());
+            let number = edge(coding, rng, out.len()).to_le_bytes();
+            let end = (at + coding.offset()).min(out.len());
             out[at..end].copy_from_slice(&number[..end - at]);
         }
         5 => out[at] = rng.bits() as u8,

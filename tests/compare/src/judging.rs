@@ -1,6 +1,7 @@
 //! Two judges given the same messages with the same budgets: number, place
 //! and visits must be equal.
 
+use crate::coding::Coding;
 use crate::laws::hex;
 use crate::program::{Judge, Verdict};
 use crate::rng::Rng;
@@ -27,7 +28,7 @@ pub fn same_verdict(
         subject.sort,
         first.name(),
         second.name(),
-        hex(&subject.schema),
+        subject.schema,
         hex(&subject.message),
     ))
 }
@@ -66,12 +67,12 @@ pub fn on_subject(
 pub fn on_round(
     first: &dyn Judge,
     second: &dyn Judge,
-    seed: u64,
-    round: u64,
+    coding: Coding,
+    (seed, round): (u64, u64),
     tally: &mut Tally,
 ) -> Result<(), String> {
     let mut rng = Rng::for_case(seed, round);
-    for subject in subjects::of_round(&mut rng) {
+    for subject in subjects::of_round(coding, &mut rng) {
         on_subject(first, second, &subject, tally)
             .map_err(|report| format!("seed {seed} round {round}: {report}"))?;
     }
@@ -83,13 +84,14 @@ pub fn on_round(
 pub fn run(
     first: &dyn Judge,
     second: &dyn Judge,
+    coding: Coding,
     seed: u64,
     messages: u64,
 ) -> Result<Tally, String> {
     let mut tally = Tally::default();
     let mut round = 0;
     while tally.messages < messages {
-        on_round(first, second, seed, round, &mut tally)?;
+        on_round(first, second, coding, (seed, round), &mut tally)?;
         round += 1;
     }
     Ok(tally)

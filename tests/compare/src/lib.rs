@@ -6,8 +6,10 @@ pub mod bits;
 pub mod calls;
 pub mod canonical;
 pub mod canvas;
+pub mod coding;
 pub mod counts;
 pub mod damage;
+pub mod doubling;
 pub mod judging;
 pub mod laws;
 pub mod lookup;
@@ -30,6 +32,3 @@ pub mod subjects;
 pub mod tally;
 pub mod value;
 pub mod value_gen;
-
-/// The coding that the library runs under: that of document 000. The second program knows both.
-pub const CODING: u32 = 48;

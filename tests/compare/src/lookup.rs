@@ -1,7 +1,6 @@
 //! What reading one field must answer, found from a value and, where the
 //! layout is known, from its arrivals.
 
-use crate::canonical::HEADER;
 use crate::message_faults::FaultKind;
 use crate::message_gen::Wild;
 use crate::paths::PATH_LIMIT;
@@ -15,8 +14,8 @@ pub struct Hint<'a> {
     pub answer: Answer,
     pub places_known: bool,
     pub length_known: bool,
-    /// The bytes of a text or blob, and whether they stand in place.
-    pub content: Option<(&'a [u8], bool)>,
+    /// The bytes of a text or blob, and how far behind its place they stand.
+    pub content: Option<(&'a [u8], usize)>,
 }
 
 /// A value, with its layout where that is known.
@@ -57,6 +56,15 @@ impl<'a> Known<'a> {
 
     fn place(&self, node: &Node) -> u64 {
         self.wild.map_or(0, |wild| wild.arrivals[node.index].place)
+    }
+
+    /// The bytes of an object before its content.
+    fn header(&self, node: &Node) -> usize {
+        if node.in_place {
+            0
+        } else {
+            self.schema.coding.header()
+        }
     }
 
     fn refused(&self, number: u32, node: &Node) -> Option<Hint<'a>> {
@@ -104,7 +112,7 @@ impl<'a> Known<'a> {
 
     fn whole(&self, node: &Node<'a>) -> Hint<'a> {
         let (length, content) = match node.value {
-            Value::Blob(bytes) => (bytes.len(), Some((&bytes[..], node.in_place))),
+            Value::Blob(bytes) => (bytes.len(), Some((&bytes[..], self.header(node)))),
             Value::List(parts) => (parts.len(), None),
             _ => (0, None),
         };
@@ -169,9 +177,8 @@ impl<'a> Known<'a> {
                 self.object(child(record, value, record.in_place), rest)
             }
             Value::Struct(inner) => {
-                let header = if node.in_place { 0 } else { HEADER };
                 let (slots, _) = self.schema.slots(node.record.argument);
-                let place = self.place(node) + (header + slots[at].first()) as u64;
+                let place = self.place(node) + (self.header(node) + slots[at].first()) as u64;
                 self.structure(node, record.argument, inner, place, rest)
             }
             value => self.leaf(node, &record, value, rest),
@@ -275,11 +282,10 @@ impl Hint<'_> {
     }
 
     fn content_stands(&self, answer: &Answer, message: &[u8]) -> bool {
-        let (Some((content, in_place)), Answer::Object { place, .. }) = (self.content, answer)
-        else {
+        let (Some((content, header)), Answer::Object { place, .. }) = (self.content, answer) else {
             return true;
         };
-        let start = *place as usize + if in_place { 0 } else { HEADER };
+        let start = *place as usize + header;
         message.get(start..start + content.len()) == Some(content)
     }
 }

@@ -1,15 +1,18 @@
-//! Runs the tests at any length.
+//! Runs the tests at any length, under the 48-bit coding or with `--coding 32`
+//! under the older one.
 //!
 //! `compare laws --cases N --seed S` runs the laws on the second program, with
 //! `--library` on the proved library, or one case of a run with `--case K`.
 //! `compare judge --cases N --seed S` judges N messages with the proved library
 //! and the second program side by side, or those of one round of a run with
 //! `--round K`. `compare fields`, `reads` and `writes` put N calls to both, and
-//! `compare all` does each of these with N, and the laws on the library.
+//! `compare all` does each of these with N, and the laws on the library; its
+//! last lines say how many answers of each sort were not refusal 1.
 //! `compare cases FOLDER` writes the stored cases into the folder of their
 //! crate, and `compare names` says what each of them is.
 
-use compare::calls::{fields, reads, writes, LibraryCalls, SecondCalls};
+use compare::calls::{fields, lists, reads, writes, LibraryCalls, SecondCalls};
+use compare::coding::Coding;
 use compare::counts::Counts;
 use compare::judging;
 use compare::laws::{self, Programs};
@@ -23,17 +26,62 @@ const USAGE: &str = "usage: compare laws [--library] [--cases N] [--seed S] [--c
        compare judge [--cases N] [--seed S] [--round K]
        compare fields|reads|writes|all [--cases N] [--seed S]
        compare cases FOLDER
-       compare names";
+       compare names
+the first three with [--coding 32]; without it the coding is 48";
 
-fn number_after(arguments: &[String], name: &str) -> Option<u64> {
-    let at = arguments.iter().position(|argument| argument == name)?;
-    arguments.get(at + 1)?.parse().ok()
+/// What the words ask for.
+struct Asked {
+    coding: Coding,
+    seed: u64,
+    cases: Option<u64>,
+    /// One case or round of a run alone.
+    one: Option<u64>,
+    library: bool,
+    folder: Option<String>,
 }
 
-fn run_laws(arguments: &[String]) -> Result<String, String> {
-    let cases = number_after(arguments, "--cases").unwrap_or(100_000);
-    let seed = number_after(arguments, "--seed").unwrap_or(1);
-    let program: &dyn Program = match arguments.iter().any(|word| word == "--library") {
+impl Asked {
+    /// Reads the words after the command.
+    fn new(words: &[String]) -> Result<Asked, String> {
+        let mut asked = Asked {
+            coding: Coding::Bits48,
+            seed: 1,
+            cases: None,
+            one: None,
+            library: false,
+            folder: None,
+        };
+        let mut words = words.iter();
+        while let Some(word) = words.next() {
+            let mut number = || {
+                let word = words.next().and_then(|word| word.parse::<u64>().ok());
+                word.ok_or(USAGE)
+            };
+            match word.as_str() {
+                "--coding" => asked.coding = coding(number()?).ok_or(USAGE)?,
+                "--seed" => asked.seed = number()?,
+                "--cases" => asked.cases = Some(number()?),
+                "--case" | "--round" => asked.one = Some(number()?),
+                "--library" => asked.library = true,
+                _ if word.starts_with('-') || asked.folder.is_some() => return Err(USAGE.into()),
+                _ => asked.folder = Some(word.clone()),
+            }
+        }
+        Ok(asked)
+    }
+
+    /// The number of cases; 200,000 if none is said.
+    fn cases(&self) -> u64 {
+        self.cases.unwrap_or(200_000)
+    }
+}
+
+fn coding(number: u64) -> Option<Coding> {
+    u32::try_from(number).ok().and_then(Coding::of)
+}
+
+fn run_laws(asked: &Asked) -> Result<String, String> {
+    let program: &dyn Program = match asked.library {
         true => &Library,
         false => &Second,
     };
@@ -41,87 +89,106 @@ fn run_laws(arguments: &[String]) -> Result<String, String> {
         program,
         relations: &Second,
     };
-    if let Some(case) = number_after(arguments, "--case") {
+    if let Some(case) = asked.one {
         let mut counts = Counts::default();
-        laws::run_case(&programs, seed, case, &mut counts)?;
+        laws::run_case(&programs, asked.coding, (asked.seed, case), &mut counts)?;
         return Ok(counts.to_string());
     }
-    Ok(laws::run(&programs, seed, cases)?.to_string())
+    let cases = asked.cases.unwrap_or(100_000);
+    Ok(laws::run(&programs, asked.coding, asked.seed, cases)?.to_string())
 }
 
-fn run_judges(arguments: &[String]) -> Result<String, String> {
-    let messages = number_after(arguments, "--cases").unwrap_or(200_000);
-    let seed = number_after(arguments, "--seed").unwrap_or(1);
-    if let Some(round) = number_after(arguments, "--round") {
+fn judges(asked: &Asked) -> Result<Tally, String> {
+    let (coding, seed) = (asked.coding, asked.seed);
+    if let Some(round) = asked.one {
         let mut tally = Tally::default();
-        judging::on_round(&Library, &Second, seed, round, &mut tally)?;
-        return Ok(tally.to_string());
+        judging::on_round(&LibraryCalls, &Second, coding, (seed, round), &mut tally)?;
+        return Ok(tally);
     }
-    Ok(judging::run(&Library, &Second, seed, messages)?.to_string())
+    judging::run(&LibraryCalls, &Second, coding, seed, asked.cases())
 }
 
 /// The C interface's calls put to both: `fields`, `reads` or `writes`.
-fn run_calls(arguments: &[String]) -> Result<String, String> {
-    let calls = number_after(arguments, "--cases").unwrap_or(200_000);
-    let seed = number_after(arguments, "--seed").unwrap_or(1);
-    let counts = match arguments[0].as_str() {
-        "fields" => fields::run(&LibraryCalls, &SecondCalls, seed, calls)?,
-        "reads" => reads::run(&LibraryCalls, &SecondCalls, seed, calls)?,
-        "writes" => writes::run(&LibraryCalls, &SecondCalls, seed, calls)?,
-        _ => return Err(USAGE.to_string()),
-    };
-    Ok(counts.to_string())
+fn calls(sort: &str, asked: &Asked) -> Result<Counts, String> {
+    let (coding, seed, cases) = (asked.coding, asked.seed, asked.cases());
+    match sort {
+        "fields" => fields::run(&LibraryCalls, &SecondCalls, coding, seed, cases),
+        "reads" => reads::run(&LibraryCalls, &SecondCalls, coding, seed, cases),
+        _ => writes::run(&LibraryCalls, &SecondCalls, coding, seed, cases),
+    }
 }
 
 /// Every side by side with so many calls each, and the laws on the library with
 /// a tenth of as many cases.
-fn run_all(arguments: &[String]) -> Result<String, String> {
-    let calls = number_after(arguments, "--cases").unwrap_or(200_000);
-    let seed = number_after(arguments, "--seed").unwrap_or(1);
-    let programs = Programs {
-        program: &Library,
-        relations: &Second,
-    };
-    let seen = [
-        judging::run(&Library, &Second, seed, calls)?.to_string(),
-        fields::run(&LibraryCalls, &SecondCalls, seed, calls)?.to_string(),
-        reads::run(&LibraryCalls, &SecondCalls, seed, calls)?.to_string(),
-        writes::run(&LibraryCalls, &SecondCalls, seed, calls)?.to_string(),
-        laws::run(&programs, seed, calls / 10)?.to_string(),
+fn run_all(asked: &Asked) -> Result<String, String> {
+    let tally = judges(asked)?;
+    let [fields, reads, writes] = [
+        calls("fields", asked)?,
+        calls("reads", asked)?,
+        calls("writes", asked)?,
     ];
-    Ok(seen.join("\n"))
+    let laws = run_laws(&Asked {
+        cases: Some(asked.cases() / 10),
+        library: true,
+        folder: None,
+        ..*asked
+    })?;
+    let beyond = [
+        ("messages judged", tally.messages, tally.of_number(1)),
+        answered(&fields, fields::ANSWERS, "refused 1"),
+        answered(&fields, lists::CALLS, lists::REFUSED_1),
+        (reads::CALLS, reads.named(reads::CALLS), reads.answers[1]),
+        (
+            writes::CALLS,
+            writes.named(writes::CALLS),
+            writes.answers[1],
+        ),
+    ];
+    let mut seen = format!("{tally}\n{fields}\n{reads}\n{writes}\n{laws}\n");
+    for (sort, all, refused) in beyond {
+        let beyond = all - refused;
+        seen += &format!("{:?}: {all} {sort}, {beyond} not refusal 1\n", asked.coding);
+    }
+    Ok(seen)
 }
 
-fn write_cases(arguments: &[String]) -> Result<String, String> {
-    let folder = arguments.get(1).ok_or(USAGE)?;
+/// How often something was counted, and how often as refused by 1.
+fn answered<'a>(counts: &Counts, sort: &'a str, refused: &str) -> (&'a str, u64, u64) {
+    (sort, counts.named(sort), counts.named(refused))
+}
+
+fn write_cases(asked: &Asked) -> Result<String, String> {
+    let folder = asked.folder.as_ref().ok_or(USAGE)?;
     match stored::write(Path::new(folder)) {
         Ok(count) => Ok(format!("{count} cases\n")),
         Err(error) => Err(error.to_string()),
     }
 }
 
+fn run(words: &[String]) -> Result<String, String> {
+    let (command, rest) = words.split_first().ok_or(USAGE)?;
+    let asked = Asked::new(rest)?;
+    match command.as_str() {
+        "laws" => run_laws(&asked),
+        "judge" => Ok(judges(&asked)?.to_string()),
+        "fields" | "reads" | "writes" => Ok(calls(command, &asked)?.to_string()),
+        "all" => run_all(&asked),
+        "cases" => write_cases(&asked),
+        "names" => Ok(stored::names(&stored::cases())),
+        _ => Err(USAGE.to_string()),
+    }
+}
+
 fn main() -> ExitCode {
-    let arguments: Vec<String> = std::env::args().skip(1).collect();
-    let outcome = match arguments.first().map(String::as_str) {
-        Some("laws") => run_laws(&arguments),
-        Some("judge") => run_judges(&arguments),
-        Some("fields" | "reads" | "writes") => run_calls(&arguments),
-        Some("all") => run_all(&arguments),
-        Some("cases") => write_cases(&arguments),
-        Some("names") => Ok(stored::names(&stored::cases())),
-        _ => {
-            eprintln!("{USAGE}");
-            return ExitCode::from(2);
-        }
-    };
-    match outcome {
+    let words: Vec<String> = std::env::args().skip(1).collect();
+    match run(&words) {
         Ok(table) => {
             print!("{table}");
             ExitCode::SUCCESS
         }
         Err(report) => {
             eprintln!("{report}");
-            ExitCode::FAILURE
+            ExitCode::from(if report == USAGE { 2 } else { 1 })
         }
     }
 }

@@ -1,8 +1,9 @@
 //! Wild messages: a value laid out as bytes at random, with what a judge must
 //! answer about it.
 
-use crate::canonical::{magic, HEADER, MESSAGE_MAGIC};
+use crate::canonical::{magic, MESSAGE_MAGIC};
 use crate::canvas::{Canvas, Late, Pattern, Spot};
+use crate::coding::Coding;
 use crate::message_faults::{may_be_absent, Fault, FaultKind};
 use crate::rng::Rng;
 use crate::schema::*;
@@ -93,7 +94,7 @@ pub fn lay_out(schema: &Schema, rng: &mut Rng, value: Value, fault: Option<Fault
     let mut layouter = Layouter {
         schema,
         rng,
-        canvas: Canvas::new(HEADER, gap),
+        canvas: Canvas::new(schema.coding.header(), gap),
         arrivals: Vec::new(),
         shared: HashMap::new(),
         fault,
@@ -105,7 +106,7 @@ pub fn lay_out(schema: &Schema, rng: &mut Rng, value: Value, fault: Option<Fault
     };
     let mut start = Pattern::default();
     start.push(&MESSAGE_MAGIC.to_le_bytes());
-    start.grow(6);
+    start.grow(schema.coding.offset());
     let root = Record::plain(TABLE, schema.root);
     layouter.reference(&mut start, 4, None, &root, &value);
     layouter.canvas.write(0, &start.bytes);
@@ -114,6 +115,20 @@ pub fn lay_out(schema: &Schema, rng: &mut Rng, value: Value, fault: Option<Fault
 }
 
 impl Layouter<'_> {
+    fn coding(&self) -> Coding {
+        self.schema.coding
+    }
+
+    /// Puts an offset or a length.
+    fn put_offset(&self, pattern: &mut Pattern, at: usize, number: u64) {
+        pattern.set_spot(at, number, self.coding().offset());
+    }
+
+    /// Keeps the bytes of an offset or a length for the end.
+    fn put_late(&self, pattern: &mut Pattern, at: usize, late: Late) {
+        pattern.set_late(at, self.coding().offset(), late);
+    }
+
     fn has_fault(&self, object: usize, part: usize, kind: FaultKind) -> bool {
         self.fault == Some(Fault { object, part, kind })
     }
@@ -172,23 +187,24 @@ impl Layouter<'_> {
                 fault.kind,
             ) {
                 self.cycle = Some((target, next));
-                return pattern.set_late(at, Late::PlaceOf(target));
+                return self.put_late(pattern, at, Late::PlaceOf(target));
             }
         }
         if self.has_fault(next, 0, FaultKind::SmallOffset) {
-            let offset = self.rng.range(usize::from(holder.is_some()), 9) as u64;
+            let most = self.coding().header() - 1;
+            let offset = self.rng.range(usize::from(holder.is_some()), most) as u64;
             self.arrive(holder, record, false);
             self.arrivals[next].place = offset;
             self.refuse(6, next, next + 1);
-            return pattern.set_spot(at, offset, 6);
+            return self.put_offset(pattern, at, offset);
         }
         if self.has_fault(next, 0, FaultKind::FarOffset) {
             self.arrive(holder, record, false);
             self.refuse(6, next, next + 1);
-            return pattern.set_late(at, Late::FarOffset(next));
+            return self.put_late(pattern, at, Late::FarOffset(next));
         }
         let place = self.object(holder, record, value);
-        pattern.set_spot(at, place, 6);
+        self.put_offset(pattern, at, place);
     }
 
     /// Lays out an object by offset, or names one laid out before.
@@ -200,17 +216,18 @@ impl Layouter<'_> {
         let index = self.arrive(holder, record, false);
         let mut pattern = Pattern::default();
         let magic = self.object_magic(index, record);
-        pattern.grow(10);
+        pattern.grow(self.coding().header());
         pattern.set_spot(0, u64::from(magic), 4);
         pattern.inner.push((index, 0));
         if matches!(value, Value::Blob(_)) && self.fault.is_none() && self.rng.one_in(10) {
             self.open.push(index);
-            pattern.set_late(4, Late::OpenLength(index));
+            self.put_late(&mut pattern, 4, Late::OpenLength(index));
         } else {
             let length = self.content(&mut pattern, index, record, value, false);
             self.put_length(&mut pattern, 4, index, length);
         }
-        let at = self.canvas.place(self.rng, &pattern, HEADER);
+        let lowest = self.coding().header();
+        let at = self.canvas.place(self.rng, &pattern, lowest);
         self.settle(pattern, at);
         let end = self.arrivals.len();
         let fault_inside = self.fault.is_some_and(|f| (index..end).contains(&f.object));
@@ -257,9 +274,9 @@ impl Layouter<'_> {
         self.arrivals[index].length = length;
         if self.has_fault(index, 0, FaultKind::LongLength) {
             self.refuse(6, index, index + 1);
-            pattern.set_late(at, Late::LongLength(index));
+            self.put_late(pattern, at, Late::LongLength(index));
         } else {
-            pattern.set_spot(at, length, 6);
+            self.put_offset(pattern, at, length);
         }
     }
 
@@ -446,7 +463,7 @@ impl Layouter<'_> {
     ) {
         match part {
             Value::Absent if member.kind == UNION => pattern.set_spot(at, 0, 2),
-            Value::Absent => pattern.set_spot(at, 0, 6),
+            Value::Absent => self.put_offset(pattern, at, 0),
             Value::Unknown(choice) => pattern.set_spot(at, u64::from(*choice), 2),
             Value::Union(choice, object) => {
                 let cases = &self.schema.unions[usize::from(member.argument)];
@@ -499,7 +516,7 @@ impl Layouter<'_> {
             }
             (_, Value::Number(bits)) => pattern.set(at, *bits, width),
             (_, Value::Struct(parts)) => self.structure(pattern, at, of, record.argument, parts),
-            (_, Value::Absent) => pattern.set_spot(at, 0, 6),
+            (_, Value::Absent) => self.put_offset(pattern, at, 0),
             (_, object) => self.reference(pattern, at, Some(of), record, object),
         }
     }
@@ -515,7 +532,7 @@ impl Layouter<'_> {
     ) {
         if self.has_fault(of.holder, of.part, FaultKind::UnionZero) {
             self.refuse(9, of.holder, self.arrivals.len());
-            return pattern.set_spot(at, 0, 6);
+            return self.put_offset(pattern, at, 0);
         }
         let case = self.schema.unions[usize::from(union)][usize::from(choice) - 1];
         self.reference(pattern, at, Some(of), &case, object);
@@ -580,7 +597,7 @@ impl Layouter<'_> {
     fn close_open(&mut self) -> Vec<(usize, usize, usize)> {
         let mut closed = Vec::new();
         for index in self.open.clone() {
-            let start = self.arrivals[index].place as usize + HEADER;
+            let start = self.arrivals[index].place as usize + self.coding().header();
             let room = self.canvas.bytes().len().saturating_sub(start);
             let length = if self.arrivals[index].kind == TEXT {
                 self.canvas.zero_byte(self.rng, start) - start
@@ -602,20 +619,24 @@ impl Layouter<'_> {
                 Late::PlaceOf(index) => self.arrivals[index].place,
                 Late::OpenLength(index) => self.arrivals[index].length,
                 Late::FarOffset(index) => {
-                    let offset = far_offset(self.rng, size);
+                    let offset = far_offset(self.coding(), self.rng, size);
                     self.arrivals[index].place = offset;
                     offset
                 }
                 Late::LongLength(index) => self.long_length(index, size),
             };
-            self.canvas.write(at, &number.to_le_bytes()[..6]);
+            self.canvas.write(at, &self.coding().bytes(number));
         }
     }
 
     fn long_length(&mut self, index: usize, size: u64) -> u64 {
         let arrival = self.arrivals[index];
-        let header = if arrival.in_place { 0 } else { HEADER as u64 };
-        let room = size - arrival.place - header;
+        let header = if arrival.in_place {
+            0
+        } else {
+            self.coding().header()
+        };
+        let room = size - arrival.place - header as u64;
         let least = match arrival.kind {
             TEXT => room,
             LIST => {
@@ -626,8 +647,8 @@ impl Layouter<'_> {
         };
         match self.rng.below(4) {
             0 => least + self.rng.below(300) as u64,
-            1 => (1 << 48) - 1,
-            2 => least.max(1 << self.rng.range(24, 47)),
+            1 => self.coding().largest(),
+            2 => least.max(high_bit(self.coding(), self.rng)),
             _ => least,
         }
     }
@@ -674,13 +695,20 @@ impl Layouter<'_> {
     }
 }
 
-fn far_offset(rng: &mut Rng, size: u64) -> u64 {
+/// A power of two above every size.
+fn high_bit(coding: Coding, rng: &mut Rng) -> u64 {
+    1 << rng.range(24, coding.number() as usize - 1)
+}
+
+/// An offset at which no header fits.
+fn far_offset(coding: Coding, rng: &mut Rng, size: u64) -> u64 {
+    let first = size + 1 - coding.header() as u64;
     match rng.below(5) {
-        0 => size - 9,
+        0 => first,
         1 => size,
-        2 => (1 << 48) - 1,
-        3 => (1 << rng.range(24, 47)) | rng.below(64) as u64,
-        _ => size - 9 + rng.below(300) as u64,
+        2 => coding.largest(),
+        3 => high_bit(coding, rng) | rng.below(64) as u64,
+        _ => first + rng.below(300) as u64,
     }
 }
 

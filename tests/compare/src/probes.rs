@@ -1,13 +1,13 @@
 //! Single calls with random arguments, to be put to any program.
 
-use crate::canvas::Spot;
+use crate::coding::Coding;
 use crate::damage;
 use crate::message_faults;
-use crate::message_gen;
+use crate::message_gen::{self, Wild};
 use crate::paths;
 use crate::program::{Answer, Program, Verdict};
 use crate::rng::Rng;
-use crate::schema::{Schema, SIZE_LIMIT};
+use crate::schema::{Packed, Schema, SIZE_LIMIT};
 use crate::schema_faults;
 use crate::sheet;
 use crate::sheet_faults;
@@ -28,7 +28,7 @@ pub enum Question {
 /// One call: the schema, the message or the sheet, and the question.
 #[derive(Clone, Debug)]
 pub struct Probe {
-    pub schema: Vec<u8>,
+    pub schema: Packed,
     pub bytes: Vec<u8>,
     pub question: Question,
 }
@@ -47,7 +47,7 @@ pub enum Outcome {
 impl Probe {
     /// Puts the question to a program.
     pub fn put_to(&self, program: &dyn Program) -> Outcome {
-        let (schema, bytes) = (&self.schema[..], &self.bytes[..]);
+        let (schema, bytes) = (&self.schema, &self.bytes[..]);
         match &self.question {
             Question::Judge { budget } => Outcome::Judged(program.judge(schema, bytes, *budget)),
             Question::Read { budget, room } => {
@@ -68,14 +68,14 @@ impl Probe {
 }
 
 /// Probes of one random schema and value.
-pub fn random_probes(rng: &mut Rng) -> Vec<Probe> {
-    let schema = subjects::some_schema(rng, 12);
+pub fn random_probes(coding: Coding, rng: &mut Rng) -> Vec<Probe> {
+    let schema = subjects::some_schema(coding, rng, 12);
     let value = subjects::some_value(rng, &schema, 20);
     let packed = match rng.below(20) {
         0 => schema_faults::damaged(rng, &schema.pack()),
         1 => {
-            let rule = rng.pick(&schema_faults::RULES);
-            schema_faults::breaking(rng, rule)
+            let rule = rng.pick(schema_faults::rules(coding));
+            schema_faults::breaking(coding, rng, rule)
         }
         _ => schema.pack(),
     };
@@ -114,7 +114,7 @@ fn some_messages(rng: &mut Rng, schema: &Schema, value: &Value) -> Vec<(Vec<u8>,
     for wild in [whole, faulty] {
         let visits = wild.walked.len() as u32;
         let less = visits.saturating_sub(1);
-        for bytes in damaged(rng, &wild.bytes, &wild.spots) {
+        for bytes in damaged(schema.coding, rng, &wild) {
             let budget = rng.pick(&[0, 1, 50, 3000]);
             out.push((bytes, vec![budget, visits]));
         }
@@ -123,8 +123,9 @@ fn some_messages(rng: &mut Rng, schema: &Schema, value: &Value) -> Vec<(Vec<u8>,
     out
 }
 
-fn damaged(rng: &mut Rng, bytes: &[u8], spots: &[Spot]) -> Vec<Vec<u8>> {
-    (0..3).map(|_| damage::message(rng, bytes, spots)).collect()
+fn damaged(coding: Coding, rng: &mut Rng, wild: &Wild) -> Vec<Vec<u8>> {
+    let mut damaged = || damage::message(coding, rng, &wild.bytes, &wild.spots);
+    (0..3).map(|_| damaged()).collect()
 }
 
 fn questions(rng: &mut Rng, schema: &Schema, value: &Value, budgets: &[u32]) -> Vec<Question> {

@@ -1,5 +1,6 @@
 //! Programs under test, and running two of them side by side.
 
+use crate::schema::Packed;
 pub use reference::{Answer, Verdict};
 use std::cell::RefCell;
 
@@ -28,9 +29,9 @@ pub trait Judge {
     /// What reports call it.
     fn name(&self) -> &'static str;
     /// Judges a message.
-    fn judge(&self, schema: &[u8], message: &[u8], budget: u32) -> Verdict;
+    fn judge(&self, schema: &Packed, message: &[u8], budget: u32) -> Verdict;
     /// Judges by a schema unpacked beforehand, where the program can.
-    fn judge_unpacked(&self, _schema: &[u8], _message: &[u8], _budget: u32) -> Option<Verdict> {
+    fn judge_unpacked(&self, _schema: &Packed, _message: &[u8], _budget: u32) -> Option<Verdict> {
         None
     }
 }
@@ -38,17 +39,18 @@ pub trait Judge {
 /// A program that judges, reads, writes and answers fields.
 pub trait Program: Judge {
     /// Reads a message to a sheet; no bytes on refusal.
-    fn read(&self, schema: &[u8], message: &[u8], budget: u32, room: usize) -> (Verdict, Vec<u8>);
+    fn read(&self, schema: &Packed, message: &[u8], budget: u32, room: usize)
+        -> (Verdict, Vec<u8>);
     /// Writes a sheet to a message; no bytes on refusal.
-    fn write(&self, schema: &[u8], sheet: &[u8], room: usize) -> (u32, Vec<u8>);
+    fn write(&self, schema: &Packed, sheet: &[u8], room: usize) -> (u32, Vec<u8>);
     /// Answers one field.
-    fn field(&self, schema: &[u8], message: &[u8], path: &[u32]) -> Answer;
+    fn field(&self, schema: &Packed, message: &[u8], path: &[u32]) -> Answer;
     /// The bytes of a text or of bytes, where the path leads to such.
-    fn text(&self, schema: &[u8], message: &[u8], path: &[u32]) -> Option<Vec<u8>>;
+    fn text(&self, schema: &Packed, message: &[u8], path: &[u32]) -> Option<Vec<u8>>;
     /// Starts a list reader and takes so many steps.
     fn list_steps(
         &self,
-        schema: &[u8],
+        schema: &Packed,
         message: &[u8],
         path: &[u32],
         steps: usize,
@@ -58,25 +60,30 @@ pub trait Program: Judge {
 /// What one schema is to another, and to its sheets.
 pub trait Relations {
     /// Whether a packed schema is lawful.
-    fn lawful(&self, schema: &[u8]) -> bool;
+    fn lawful(&self, schema: &Packed) -> bool;
     /// Whether the newer appends to the older.
-    fn appends(&self, older: &[u8], newer: &[u8]) -> bool;
+    fn appends(&self, older: &Packed, newer: &Packed) -> bool;
     /// The newer sheet without the appended members.
-    fn without_appended(&self, older: &[u8], newer: &[u8], sheet: &[u8]) -> Option<Vec<u8>>;
+    fn without_appended(&self, older: &Packed, newer: &Packed, sheet: &[u8]) -> Option<Vec<u8>>;
     /// The older sheet with the added members.
-    fn with_added(&self, older: &[u8], newer: &[u8], sheet: &[u8]) -> Option<Vec<u8>>;
+    fn with_added(&self, older: &Packed, newer: &Packed, sheet: &[u8]) -> Option<Vec<u8>>;
 }
 
 /// The proved library, called through its Rust wrapper.
 pub struct Library;
+
+/// The wrapper's coding; it takes no number that is none's.
+fn coding(schema: &Packed) -> scalgo::Coding {
+    scalgo::Coding::of(schema.coding).expect("a number of a coding")
+}
 
 impl Judge for Library {
     fn name(&self) -> &'static str {
         "proved library"
     }
 
-    fn judge(&self, schema: &[u8], message: &[u8], budget: u32) -> Verdict {
-        let verdict = scalgo::judge(schema, message, budget);
+    fn judge(&self, schema: &Packed, message: &[u8], budget: u32) -> Verdict {
+        let verdict = scalgo::judge(coding(schema), &schema.bytes, message, budget);
         Verdict {
             number: verdict.number,
             place: verdict.place,
@@ -132,9 +139,15 @@ fn answer(answer: scalgo::Answer) -> Answer {
 }
 
 impl Program for Library {
-    fn read(&self, schema: &[u8], message: &[u8], budget: u32, room: usize) -> (Verdict, Vec<u8>) {
+    fn read(
+        &self,
+        schema: &Packed,
+        message: &[u8],
+        budget: u32,
+        room: usize,
+    ) -> (Verdict, Vec<u8>) {
         let (verdict, sheet) = with_room(room, |sheet| {
-            let answer = scalgo::read(schema, message, budget, sheet);
+            let answer = scalgo::read(coding(schema), &schema.bytes, message, budget, sheet);
             (answer.verdict, answer.length)
         });
         let verdict = Verdict {
@@ -145,29 +158,29 @@ impl Program for Library {
         (verdict, sheet)
     }
 
-    fn write(&self, schema: &[u8], sheet: &[u8], room: usize) -> (u32, Vec<u8>) {
+    fn write(&self, schema: &Packed, sheet: &[u8], room: usize) -> (u32, Vec<u8>) {
         with_room(room, |message| {
-            let answer = scalgo::write(schema, sheet, message);
+            let answer = scalgo::write(coding(schema), &schema.bytes, sheet, message);
             (answer.number, answer.length)
         })
     }
 
-    fn field(&self, schema: &[u8], message: &[u8], path: &[u32]) -> Answer {
-        answer(scalgo::field(schema, message, path))
+    fn field(&self, schema: &Packed, message: &[u8], path: &[u32]) -> Answer {
+        answer(scalgo::field(coding(schema), &schema.bytes, message, path))
     }
 
-    fn text(&self, schema: &[u8], message: &[u8], path: &[u32]) -> Option<Vec<u8>> {
-        scalgo::text(schema, message, path).map(<[u8]>::to_vec)
+    fn text(&self, schema: &Packed, message: &[u8], path: &[u32]) -> Option<Vec<u8>> {
+        scalgo::text(coding(schema), &schema.bytes, message, path).map(<[u8]>::to_vec)
     }
 
     fn list_steps(
         &self,
-        schema: &[u8],
+        schema: &Packed,
         message: &[u8],
         path: &[u32],
         steps: usize,
     ) -> Result<Vec<Answer>, Answer> {
-        let list = scalgo::list(schema, message, path).map_err(answer)?;
+        let list = scalgo::list(coding(schema), &schema.bytes, message, path).map_err(answer)?;
         let mut answers: Vec<Answer> = list.take(steps).map(answer).collect();
         // The iterator has an end where the list reader says 15 at the list.
         if let Answer::Object { place, .. } = self.field(schema, message, path) {
@@ -185,60 +198,66 @@ impl Judge for Second {
         "second program"
     }
 
-    fn judge(&self, schema: &[u8], message: &[u8], budget: u32) -> Verdict {
-        reference::judge(crate::CODING, schema, message, budget)
+    fn judge(&self, schema: &Packed, message: &[u8], budget: u32) -> Verdict {
+        reference::judge(schema.coding, &schema.bytes, message, budget)
     }
 
-    fn judge_unpacked(&self, schema: &[u8], message: &[u8], budget: u32) -> Option<Verdict> {
-        let schema = reference::Schema::parse(crate::CODING, schema)?;
+    fn judge_unpacked(&self, schema: &Packed, message: &[u8], budget: u32) -> Option<Verdict> {
+        let schema = reference::Schema::parse(schema.coding, &schema.bytes)?;
         Some(reference::judge_parsed(&schema, message, budget))
     }
 }
 
 impl Program for Second {
-    fn read(&self, schema: &[u8], message: &[u8], budget: u32, room: usize) -> (Verdict, Vec<u8>) {
-        reference::read(crate::CODING, schema, message, budget, room)
+    fn read(
+        &self,
+        schema: &Packed,
+        message: &[u8],
+        budget: u32,
+        room: usize,
+    ) -> (Verdict, Vec<u8>) {
+        reference::read(schema.coding, &schema.bytes, message, budget, room)
     }
 
-    fn write(&self, schema: &[u8], sheet: &[u8], room: usize) -> (u32, Vec<u8>) {
-        reference::write(crate::CODING, schema, sheet, room)
+    fn write(&self, schema: &Packed, sheet: &[u8], room: usize) -> (u32, Vec<u8>) {
+        reference::write(schema.coding, &schema.bytes, sheet, room)
     }
 
-    fn field(&self, schema: &[u8], message: &[u8], path: &[u32]) -> Answer {
-        reference::field(crate::CODING, schema, message, path)
+    fn field(&self, schema: &Packed, message: &[u8], path: &[u32]) -> Answer {
+        reference::field(schema.coding, &schema.bytes, message, path)
     }
 
-    fn text(&self, schema: &[u8], message: &[u8], path: &[u32]) -> Option<Vec<u8>> {
-        let (start, length) = reference::text(crate::CODING, schema, message, path)?;
+    fn text(&self, schema: &Packed, message: &[u8], path: &[u32]) -> Option<Vec<u8>> {
+        let (start, length) = reference::text(schema.coding, &schema.bytes, message, path)?;
         Some(message[start..start + length].to_vec())
     }
 
     fn list_steps(
         &self,
-        schema: &[u8],
+        schema: &Packed,
         message: &[u8],
         path: &[u32],
         steps: usize,
     ) -> Result<Vec<Answer>, Answer> {
-        let mut reader = reference::ListReader::new(crate::CODING, schema, message, path)?;
+        let mut reader = reference::ListReader::new(schema.coding, &schema.bytes, message, path)?;
         Ok((0..steps).map(|_| reader.step()).collect())
     }
 }
 
 impl Relations for Second {
-    fn lawful(&self, schema: &[u8]) -> bool {
-        reference::lawful(crate::CODING, schema)
+    fn lawful(&self, schema: &Packed) -> bool {
+        reference::lawful(schema.coding, &schema.bytes)
     }
 
-    fn appends(&self, older: &[u8], newer: &[u8]) -> bool {
-        reference::appends(crate::CODING, older, newer)
+    fn appends(&self, older: &Packed, newer: &Packed) -> bool {
+        reference::appends(older.coding, &older.bytes, &newer.bytes)
     }
 
-    fn without_appended(&self, older: &[u8], newer: &[u8], sheet: &[u8]) -> Option<Vec<u8>> {
-        reference::without_appended(crate::CODING, older, newer, sheet)
+    fn without_appended(&self, older: &Packed, newer: &Packed, sheet: &[u8]) -> Option<Vec<u8>> {
+        reference::without_appended(older.coding, &older.bytes, &newer.bytes, sheet)
     }
 
-    fn with_added(&self, older: &[u8], newer: &[u8], sheet: &[u8]) -> Option<Vec<u8>> {
-        reference::with_added(crate::CODING, older, newer, sheet)
+    fn with_added(&self, older: &Packed, newer: &Packed, sheet: &[u8]) -> Option<Vec<u8>> {
+        reference::with_added(older.coding, &older.bytes, &newer.bytes, sheet)
     }
 }

@@ -1,6 +1,10 @@
 //! This crate's own model of a schema: its parts, its packed form, its rules
 //! and the places of table members.
 
+use crate::coding::Coding;
+use crate::laws::hex;
+use std::fmt;
+
 /// The most bytes of a message or a sheet.
 pub const SIZE_LIMIT: usize = 16_777_215;
 /// The most objects on one way down, the root included.
@@ -81,9 +85,39 @@ pub struct Table {
     pub members: Vec<Record>,
 }
 
+/// A packed schema, lawful or not, and the number of the coding it is used under.
+#[derive(Clone, Debug, PartialEq, Eq)]
+pub struct Packed {
+    pub coding: u32,
+    pub bytes: Vec<u8>,
+}
+
+impl Packed {
+    /// These bytes under a coding.
+    pub fn new(coding: Coding, bytes: &[u8]) -> Packed {
+        Packed {
+            coding: coding.number(),
+            bytes: bytes.to_vec(),
+        }
+    }
+
+    /// Other bytes under the same coding.
+    pub fn with(&self, bytes: Vec<u8>) -> Packed {
+        Packed { bytes, ..*self }
+    }
+}
+
+/// What a report says of it.
+impl fmt::Display for Packed {
+    fn fmt(&self, out: &mut fmt::Formatter) -> fmt::Result {
+        write!(out, "{} under {}", hex(&self.bytes), self.coding)
+    }
+}
+
 /// A schema, lawful or not.
-#[derive(Clone, Debug, PartialEq, Eq, Default)]
+#[derive(Clone, Debug, PartialEq, Eq)]
 pub struct Schema {
+    pub coding: Coding,
     pub structs: Vec<Vec<Record>>,
     pub lists: Vec<Record>,
     pub unions: Vec<Vec<Record>>,
@@ -175,8 +209,24 @@ impl Placer {
 }
 
 impl Schema {
-    /// The packed bytes.
-    pub fn pack(&self) -> Vec<u8> {
+    /// A schema of nothing.
+    pub fn new(coding: Coding) -> Schema {
+        Schema {
+            coding,
+            structs: Vec::new(),
+            lists: Vec::new(),
+            unions: Vec::new(),
+            tables: Vec::new(),
+            root: 0,
+        }
+    }
+
+    /// The packed form.
+    pub fn pack(&self) -> Packed {
+        Packed::new(self.coding, &self.packed_bytes())
+    }
+
+    fn packed_bytes(&self) -> Vec<u8> {
         let mut out = vec![
             self.structs.len() as u8,
             self.lists.len() as u8,
@@ -219,8 +269,8 @@ impl Schema {
         match record.kind {
             BOOL => 1,
             STRUCT => self.struct_size(record.argument),
-            TEXT..=TABLE => 6,
-            UNION => 8,
+            TEXT..=TABLE => self.coding.offset(),
+            UNION => self.coding.union(),
             _ => record.width() as usize / 8,
         }
     }
@@ -263,13 +313,13 @@ impl Schema {
 }
 
 /// A schema of one table, which has the one member.
-pub fn root_with(member: Record) -> Schema {
+pub fn root_with(coding: Coding, member: Record) -> Schema {
     let table = Table {
         id: 0x5EA7_0001,
         members: vec![member],
     };
     Schema {
         tables: vec![table],
-        ..Schema::default()
+        ..Schema::new(coding)
     }
 }

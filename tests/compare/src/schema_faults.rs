@@ -1,5 +1,6 @@
 //! Unlawful schemas: each rule broken by itself, and random damage.
 
+use crate::coding::Coding;
 use crate::rng::Rng;
 use crate::schema::*;
 use crate::schema_gen;
@@ -36,10 +37,13 @@ pub enum Rule {
     EqualIds,
     BytesLeft,
     BytesMissing,
+    UnionNotInPlace,
+    TableInPlace,
+    ListOfUnions,
 }
 
-/// Every rule.
-pub const RULES: [Rule; 29] = [
+/// Every rule; the last three are the older coding's own.
+const RULES: [Rule; 32] = [
     Rule::TooManyStructs,
     Rule::TooManyLists,
     Rule::TooManyUnions,
@@ -69,21 +73,33 @@ pub const RULES: [Rule; 29] = [
     Rule::EqualIds,
     Rule::BytesLeft,
     Rule::BytesMissing,
+    Rule::UnionNotInPlace,
+    Rule::TableInPlace,
+    Rule::ListOfUnions,
 ];
 
+/// The rules of a coding.
+pub fn rules(coding: Coding) -> &'static [Rule] {
+    match coding {
+        Coding::Bits48 => &RULES[..29],
+        Coding::Bits32 => &RULES,
+    }
+}
+
 /// A packed schema that breaks exactly the rule named.
-pub fn breaking(rng: &mut Rng, rule: Rule) -> Vec<u8> {
-    let mut schema = schema_gen::lawful_schema(rng);
+pub fn breaking(coding: Coding, rng: &mut Rng, rule: Rule) -> Packed {
+    let mut schema = schema_gen::lawful_schema(coding, rng);
     if !break_counts(rng, &mut schema, rule) && !break_flags(rng, &mut schema, rule) {
         break_records(rng, &mut schema, rule);
     }
     let mut packed = schema.pack();
+    let bytes = &mut packed.bytes;
     match rule {
         Rule::BytesLeft => {
             let extra = rng.range(1, 9);
-            packed.extend(rng.bytes(extra));
+            bytes.extend(rng.bytes(extra));
         }
-        Rule::BytesMissing => packed.truncate(rng.below(packed.len())),
+        Rule::BytesMissing => bytes.truncate(rng.below(bytes.len())),
         _ => {}
     }
     packed
@@ -108,7 +124,7 @@ fn break_counts(rng: &mut Rng, schema: &mut Schema, rule: Rule) -> bool {
                 schema.tables.push(Table { id, members });
             }
         }
-        Rule::NoTable => *schema = Schema::default(),
+        Rule::NoTable => *schema = Schema::new(schema.coding),
         Rule::RootIndex => schema.root = rng.range(schema.tables.len(), 255) as u8,
         _ => return break_part_counts(rng, schema, rule),
     }
@@ -166,8 +182,15 @@ fn some_union(rng: &mut Rng, schema: &mut Schema) -> usize {
     rng.below(schema.unions.len())
 }
 
-/// A table member given to a table with room for it.
-fn give(rng: &mut Rng, schema: &mut Schema, member: Record) {
+/// A table member given to a table with room for it. In the older coding a
+/// union is in place.
+fn give(rng: &mut Rng, schema: &mut Schema, mut member: Record) {
+    member.in_place |= schema.coding.is_older() && member.kind == UNION;
+    insert(rng, schema, member);
+}
+
+/// A table member as it is.
+fn insert(rng: &mut Rng, schema: &mut Schema, member: Record) {
     let at = rng.below(schema.tables.len());
     let members = &mut schema.tables[at].members;
     members.truncate(63);
@@ -198,8 +221,11 @@ fn break_flags(rng: &mut Rng, schema: &mut Schema, rule: Rule) -> bool {
             give(rng, schema, member);
         }
         Rule::TwoInPlace => {
-            let kinds = [TEXT, BYTES, LIST, TABLE, UNION];
-            let mut pair = [of_kind(rng, schema, &kinds), of_kind(rng, schema, &kinds)];
+            let kinds: &[u8] = match schema.coding {
+                Coding::Bits48 => &[TEXT, BYTES, LIST, TABLE, UNION],
+                Coding::Bits32 => &[TEXT, BYTES, LIST, UNION],
+            };
+            let mut pair = [of_kind(rng, schema, kinds), of_kind(rng, schema, kinds)];
             pair[0].in_place = true;
             pair[1].in_place = true;
             let at = rng.below(schema.tables.len());
@@ -319,6 +345,27 @@ fn break_kinds(rng: &mut Rng, schema: &mut Schema, rule: Rule) {
     }
 }
 
+/// The older coding's own rules.
+fn break_older(rng: &mut Rng, schema: &mut Schema, rule: Rule) {
+    match rule {
+        Rule::UnionNotInPlace => {
+            let union = of_kind(rng, schema, &[UNION]);
+            insert(rng, schema, union);
+        }
+        Rule::TableInPlace => {
+            let mut table = of_kind(rng, schema, &[TABLE]);
+            table.in_place = true;
+            insert(rng, schema, table);
+        }
+        Rule::ListOfUnions => {
+            let union = of_kind(rng, schema, &[UNION]);
+            let at = some_list(rng, schema);
+            schema.lists[at] = union;
+        }
+        _ => {}
+    }
+}
+
 fn break_whole(rng: &mut Rng, schema: &mut Schema, rule: Rule) {
     match rule {
         Rule::StructSize => {
@@ -338,16 +385,16 @@ fn break_whole(rng: &mut Rng, schema: &mut Schema, rule: Rule) {
                 schema.tables.push(Table { id, members });
             }
         }
-        _ => {}
+        _ => break_older(rng, schema, rule),
     }
 }
 
 /// Random damage to a packed schema; the result may still be lawful.
-pub fn damaged(rng: &mut Rng, packed: &[u8]) -> Vec<u8> {
-    let mut out = packed.to_vec();
+pub fn damaged(rng: &mut Rng, packed: &Packed) -> Packed {
+    let mut out = packed.bytes.clone();
     for _ in 0..rng.range(1, 3) {
         if out.is_empty() {
-            return out;
+            break;
         }
         let at = rng.below(out.len());
         match rng.below(6) {
@@ -360,5 +407,5 @@ pub fn damaged(rng: &mut Rng, packed: &[u8]) -> Vec<u8> {
             _ => out[at] ^= 1 << rng.below(8),
         }
     }
-    out
+    packed.with(out)
 }

@@ -1,5 +1,6 @@
 //! Random lawful schemas.
 
+use crate::coding::Coding;
 use crate::rng::Rng;
 use crate::schema::*;
 
@@ -12,27 +13,22 @@ struct Counts {
     members: usize,
 }
 
-/// A random lawful schema, mostly small.
-pub fn lawful_schema(rng: &mut Rng) -> Schema {
+/// A random schema that is lawful under the coding, mostly small.
+pub fn lawful_schema(coding: Coding, rng: &mut Rng) -> Schema {
     match rng.below(200) {
-        0 => wide(rng),
-        1 => largest_struct(rng),
-        2 => nested_structs(rng),
-        3..=12 => recursive(rng),
-        13..=60 => from_counts(rng, 1, 1, 1, 1, 4),
-        61..=170 => from_counts(rng, 3, 3, 3, 3, 7),
-        _ => from_counts(rng, 6, 6, 6, 8, 14),
+        0 => wide(coding, rng),
+        1 => largest_struct(coding, rng),
+        2 => nested_structs(coding, rng),
+        3..=12 => recursive(coding, rng),
+        13..=60 => from_counts(coding, rng, [1, 1, 1, 1, 4]),
+        61..=170 => from_counts(coding, rng, [3, 3, 3, 3, 7]),
+        _ => from_counts(coding, rng, [6, 6, 6, 8, 14]),
     }
 }
 
-fn from_counts(
-    rng: &mut Rng,
-    structs: usize,
-    lists: usize,
-    unions: usize,
-    tables: usize,
-    members: usize,
-) -> Schema {
+/// At most so many structs, lists, unions and tables, and members of each table.
+fn from_counts(coding: Coding, rng: &mut Rng, most: [usize; 5]) -> Schema {
+    let [structs, lists, unions, tables, members] = most;
     let some = |rng: &mut Rng, most: usize| {
         let least = usize::from(most > 0 && !rng.one_in(5));
         rng.range(least, most)
@@ -44,11 +40,11 @@ fn from_counts(
         tables: rng.range(1, tables),
         members,
     };
-    build(rng, &counts)
+    build(coding, rng, &counts)
 }
 
 /// Every count at or near its limit.
-fn wide(rng: &mut Rng) -> Schema {
+fn wide(coding: Coding, rng: &mut Rng) -> Schema {
     let near = |rng: &mut Rng| if rng.coin() { 64 } else { rng.range(0, 64) };
     let counts = Counts {
         structs: near(rng),
@@ -57,12 +53,12 @@ fn wide(rng: &mut Rng) -> Schema {
         tables: near(rng).max(1),
         members: 64,
     };
-    build(rng, &counts)
+    build(coding, rng, &counts)
 }
 
 /// Has a struct of exactly 4,096 bytes, used by the root.
-fn largest_struct(rng: &mut Rng) -> Schema {
-    let mut schema = from_counts(rng, 0, 2, 2, 2, 4);
+fn largest_struct(coding: Coding, rng: &mut Rng) -> Schema {
+    let mut schema = from_counts(coding, rng, [0, 2, 2, 2, 4]);
     let kind = rng.pick(&[4, 8, F64]);
     schema.structs = vec![
         vec![Record::plain(kind, 0); 32],
@@ -87,8 +83,8 @@ fn largest_struct(rng: &mut Rng) -> Schema {
 }
 
 /// Has 64 structs, each inside the next.
-fn nested_structs(rng: &mut Rng) -> Schema {
-    let mut schema = from_counts(rng, 0, 1, 1, 2, 4);
+fn nested_structs(coding: Coding, rng: &mut Rng) -> Schema {
+    let mut schema = from_counts(coding, rng, [0, 1, 1, 2, 4]);
     schema.structs = vec![vec![small_struct_member(rng)]];
     for inner in 0..63 {
         let mut members = vec![Record::plain(STRUCT, inner)];
@@ -113,12 +109,12 @@ fn small_struct_member(rng: &mut Rng) -> Record {
 }
 
 /// Has a table that leads back to itself, directly or through a list or union,
-/// by offset or in place.
-pub fn recursive(rng: &mut Rng) -> Schema {
-    let mut schema = from_counts(rng, 1, 2, 2, 2, 3);
+/// by offset or in place, as far as the coding has these.
+pub fn recursive(coding: Coding, rng: &mut Rng) -> Schema {
+    let mut schema = from_counts(coding, rng, [1, 2, 2, 2, 3]);
     let root = schema.root;
     let back = Record::plain(TABLE, root);
-    let mut link = match rng.below(4) {
+    let mut link = match rng.below(if coding.is_older() { 3 } else { 4 }) {
         0 => back,
         1 => {
             schema.lists.push(back);
@@ -136,13 +132,18 @@ pub fn recursive(rng: &mut Rng) -> Schema {
         }
     };
     let members = &mut schema.tables[usize::from(root)].members;
-    link.in_place = rng.coin() && members.iter().all(|m| !m.in_place);
+    if coding.is_older() && link.kind == UNION {
+        members.retain(|m| !m.in_place);
+        link.in_place = true;
+    } else if !(coding.is_older() && link.kind == TABLE) {
+        link.in_place = rng.coin() && members.iter().all(|m| !m.in_place);
+    }
     members.insert(rng.below(members.len() + 1), link);
     schema
 }
 
-fn build(rng: &mut Rng, counts: &Counts) -> Schema {
-    let mut schema = Schema::default();
+fn build(coding: Coding, rng: &mut Rng, counts: &Counts) -> Schema {
+    let mut schema = Schema::new(coding);
     for _ in 0..counts.structs {
         let members = struct_members(rng, &schema);
         schema.structs.push(members);
@@ -268,6 +269,7 @@ pub fn element(rng: &mut Rng, schema: &Schema) -> Record {
         1 => Record::plain(rng.pick(&[F32, F64]), 0),
         2 => Record::plain(ENUM, enum_count(rng)),
         3 => Record::plain(rng.range(1, 8) as u8, 0),
+        _ if schema.coding.is_older() => object(rng, schema),
         _ => object_or_union(rng, schema),
     }
 }
@@ -294,6 +296,26 @@ pub fn member(rng: &mut Rng, schema: &Schema, may_be_in_place: bool) -> Record {
     }
     if member.kind >= TEXT {
         member.in_place = may_be_in_place && rng.one_in(3);
+    }
+    match member.kind {
+        UNION | TABLE if schema.coding.is_older() => {
+            of_older_coding(rng, schema, member, may_be_in_place)
+        }
+        _ => member,
+    }
+}
+
+/// A union or a table as a member in the older coding: a union in place, or an object where it may
+/// not be, and a table by its offset.
+fn of_older_coding(
+    rng: &mut Rng,
+    schema: &Schema,
+    mut member: Record,
+    may_be_in_place: bool,
+) -> Record {
+    member.in_place = member.kind == UNION;
+    if member.in_place && !may_be_in_place {
+        return object(rng, schema);
     }
     member
 }

@@ -1,6 +1,7 @@
 //! Unpacking a schema and judging whether it is lawful, by this crate's own
 //! reading of the rules.
 
+use crate::coding::Coding;
 use crate::schema::*;
 
 /// Takes bytes from the packed form in turn.
@@ -36,14 +37,17 @@ impl Taker<'_> {
     }
 }
 
-/// Unpacks a schema; `None` when bytes are missing or left over. The rules are
-/// not judged.
-pub fn unpack(packed: &[u8]) -> Option<Schema> {
-    let mut taker = Taker { bytes: packed };
+/// Unpacks a schema; `None` when bytes are missing or left over, or there is no
+/// such coding. The rules are not judged.
+pub fn unpack(packed: &Packed) -> Option<Schema> {
+    let coding = Coding::of(packed.coding)?;
+    let mut taker = Taker {
+        bytes: &packed.bytes,
+    };
     let counts = taker.take::<4>()?;
     let mut schema = Schema {
         root: taker.byte()?,
-        ..Schema::default()
+        ..Schema::new(coding)
     };
     for _ in 0..counts[0] {
         schema.structs.push(taker.records()?);
@@ -63,11 +67,11 @@ pub fn unpack(packed: &[u8]) -> Option<Schema> {
 }
 
 /// The lawful schema that the bytes pack, if they do.
-pub fn parse(packed: &[u8]) -> Option<Schema> {
+pub fn parse(packed: &Packed) -> Option<Schema> {
     unpack(packed).filter(lawful)
 }
 
-/// Whether a schema keeps every rule.
+/// Whether a schema keeps every rule of its coding.
 pub fn lawful(schema: &Schema) -> bool {
     schema.structs.len() <= 64
         && schema.lists.len() <= 64
@@ -79,6 +83,19 @@ pub fn lawful(schema: &Schema) -> bool {
         && schema.unions.iter().all(|u| union_lawful(schema, u))
         && schema.tables.iter().all(|t| table_lawful(schema, t))
         && ids_differ(schema)
+        && (!schema.coding.is_older() || of_older_coding(schema))
+}
+
+/// "a schema with a union not in place, a table in place, a list of unions
+/// .. is 1 under this coding".
+fn of_older_coding(schema: &Schema) -> bool {
+    let mut members = schema.tables.iter().flat_map(|table| &table.members);
+    schema.lists.iter().all(|element| element.kind != UNION)
+        && members.all(|member| match member.kind {
+            UNION => member.in_place,
+            TABLE => !member.in_place,
+            _ => true,
+        })
 }
 
 fn argument_lawful(schema: &Schema, record: &Record) -> bool {

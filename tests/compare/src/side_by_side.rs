@@ -1,5 +1,6 @@
 //! Two programs given the same calls.
 
+use crate::coding::Coding;
 use crate::laws::hex;
 use crate::probes::{random_probes, Outcome, Probe};
 use crate::program::Program;
@@ -20,7 +21,7 @@ pub fn compare(
         probe.question,
         first.name(),
         second.name(),
-        hex(&probe.schema),
+        probe.schema,
         hex(&probe.bytes),
     ))
 }
@@ -30,13 +31,14 @@ pub fn compare(
 pub fn side_by_side(
     first: &dyn Program,
     second: &dyn Program,
+    coding: Coding,
     seed: u64,
     cases: u64,
 ) -> Result<u64, String> {
     let mut calls = 0;
     for case in 0..cases {
         let mut rng = Rng::for_case(seed, case);
-        for probe in random_probes(&mut rng) {
+        for probe in random_probes(coding, &mut rng) {
             compare(first, second, &probe)
                 .map_err(|report| format!("side by side, seed {seed} case {case}: {report}"))?;
             calls += 1;

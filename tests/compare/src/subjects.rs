@@ -1,12 +1,13 @@
 //! Messages to be judged, each with the schema it is judged by.
 
 use crate::append_gen;
-use crate::canonical::{self, HEADER, MESSAGE_MAGIC};
+use crate::canonical::{self, MESSAGE_MAGIC};
+use crate::coding::Coding;
 use crate::damage;
 use crate::message_faults;
 use crate::message_gen::{self, Wild};
 use crate::rng::Rng;
-use crate::schema::{Schema, DEPTH_LIMIT};
+use crate::schema::{Packed, Schema, DEPTH_LIMIT};
 use crate::schema_faults;
 use crate::schema_gen;
 use crate::value::{writable, Value};
@@ -34,10 +35,14 @@ pub enum Sort {
     DamagedSchema,
     /// Judged by a schema with one rule broken.
     BrokenSchema,
+    /// A schema and a message made for the other coding.
+    OtherCoding,
+    /// Judged under a number that is no coding's.
+    NoCoding,
 }
 
 /// Every sort.
-pub const SORTS: [Sort; 9] = [
+pub const SORTS: [Sort; 11] = [
     Sort::Written,
     Sort::Wild,
     Sort::Faulty,
@@ -47,26 +52,28 @@ pub const SORTS: [Sort; 9] = [
     Sort::OtherSchema,
     Sort::DamagedSchema,
     Sort::BrokenSchema,
+    Sort::OtherCoding,
+    Sort::NoCoding,
 ];
 
 /// A message and the schema it is judged by.
 #[derive(Clone, Debug)]
 pub struct Subject {
     pub sort: Sort,
-    pub schema: Vec<u8>,
+    pub schema: Packed,
     pub message: Vec<u8>,
 }
 
 /// What the subjects of one round are made from.
 struct Maker {
     schema: Schema,
-    packed: Vec<u8>,
+    packed: Packed,
     subjects: Vec<Subject>,
 }
 
 /// The subjects of one random schema and value.
-pub fn of_round(rng: &mut Rng) -> Vec<Subject> {
-    let schema = some_schema(rng, 10);
+pub fn of_round(coding: Coding, rng: &mut Rng) -> Vec<Subject> {
+    let schema = some_schema(coding, rng, 10);
     let value = some_value(rng, &schema, 12);
     let mut maker = Maker {
         packed: schema.pack(),
@@ -77,15 +84,36 @@ pub fn of_round(rng: &mut Rng) -> Vec<Subject> {
     maker.starts(rng);
     maker.random(rng);
     maker.other_schemas(rng);
+    maker.other_codings(rng);
     maker.subjects
 }
 
 /// A lawful schema; once in `recursive` times one whose tables lead back to themselves.
-pub fn some_schema(rng: &mut Rng, recursive: usize) -> Schema {
+pub fn some_schema(coding: Coding, rng: &mut Rng, recursive: usize) -> Schema {
     if rng.one_in(recursive) {
-        schema_gen::recursive(rng)
+        schema_gen::recursive(coding, rng)
     } else {
-        schema_gen::lawful_schema(rng)
+        schema_gen::lawful_schema(coding, rng)
+    }
+}
+
+/// A schema made for the other coding than this one, under which it may not be lawful.
+pub fn made_for_the_other(coding: Coding, rng: &mut Rng) -> (Schema, Packed) {
+    let schema = some_schema(coding.other(), rng, 10);
+    let packed = Packed::new(coding, &schema.pack().bytes);
+    (schema, packed)
+}
+
+/// A number that is no coding's, near one that is or far from it.
+pub fn no_coding(rng: &mut Rng) -> u32 {
+    let number = match rng.below(3) {
+        0 => rng.pick(&[0, 16, 31, 33, 47, 49, 64, u32::MAX]),
+        1 => rng.pick(&[32, 48]) ^ 1 << rng.below(32),
+        _ => rng.bits() as u32,
+    };
+    match Coding::of(number) {
+        Some(_) => 0,
+        None => number,
     }
 }
 
@@ -114,7 +142,7 @@ impl Maker {
         });
     }
 
-    fn add_by(&mut self, sort: Sort, schema: Vec<u8>, message: Vec<u8>) {
+    fn add_by(&mut self, sort: Sort, schema: Packed, message: Vec<u8>) {
         self.subjects.push(Subject {
             sort,
             schema,
@@ -141,7 +169,7 @@ impl Maker {
 
     fn damaged(&mut self, rng: &mut Rng, wild: &Wild, times: usize) {
         for _ in 0..times {
-            let bytes = damage::message(rng, &wild.bytes, &wild.spots);
+            let bytes = damage::message(self.schema.coding, rng, &wild.bytes, &wild.spots);
             self.add(Sort::Damaged, bytes);
         }
     }
@@ -155,8 +183,9 @@ impl Maker {
 
     fn starts(&mut self, rng: &mut Rng) {
         let mut message = self.earlier(rng);
-        if rng.coin() || message.len() < HEADER {
-            message.truncate(rng.range(0, HEADER + 1));
+        let header = self.schema.coding.header();
+        if rng.coin() || message.len() < header {
+            message.truncate(rng.range(0, header + 1));
         } else {
             let bit = rng.below(32);
             message[bit / 8] ^= 1 << (bit % 8);
@@ -166,13 +195,13 @@ impl Maker {
 
     fn random(&mut self, rng: &mut Rng) {
         let root = &self.schema.tables[usize::from(self.schema.root)];
+        let coding = self.schema.coding;
         let mut message = Vec::new();
         if !rng.one_in(8) {
             message.extend_from_slice(&MESSAGE_MAGIC.to_le_bytes());
-            message.extend_from_slice(&[HEADER as u8, 0, 0, 0, 0, 0]);
+            message.extend(coding.bytes(coding.header() as u64));
             message.extend_from_slice(&root.id.to_le_bytes());
-            let length = rng.small(60) as u8;
-            message.extend_from_slice(&[length, 0, 0, 0, 0, 0]);
+            message.extend(coding.bytes(rng.small(60) as u64));
         }
         let count = rng.range(0, 80);
         let sparse = rng.coin();
@@ -205,12 +234,27 @@ impl Maker {
         self.add_by(Sort::DamagedSchema, schema, message);
         let message = self.earlier(rng);
         let mut schema = self.packed.clone();
-        let at = rng.below(schema.len());
-        schema[at] ^= 1 << rng.below(8);
+        let at = rng.below(schema.bytes.len());
+        schema.bytes[at] ^= 1 << rng.below(8);
         self.add_by(Sort::DamagedSchema, schema, message);
         let message = self.earlier(rng);
-        let rule = rng.pick(&schema_faults::RULES);
-        let schema = schema_faults::breaking(rng, rule);
+        let coding = self.schema.coding;
+        let rule = rng.pick(schema_faults::rules(coding));
+        let schema = schema_faults::breaking(coding, rng, rule);
         self.add_by(Sort::BrokenSchema, schema, message);
+    }
+
+    /// A schema and a message of the other coding; now and then a number that is no coding's.
+    fn other_codings(&mut self, rng: &mut Rng) {
+        let (schema, packed) = made_for_the_other(self.schema.coding, rng);
+        let value = some_value(rng, &schema, 12);
+        let message = message_gen::lay_out(&schema, rng, value, None).bytes;
+        self.add_by(Sort::OtherCoding, packed, message);
+        if rng.one_in(8) {
+            let coding = no_coding(rng);
+            let bytes = self.packed.bytes.clone();
+            let message = self.earlier(rng);
+            self.add_by(Sort::NoCoding, Packed { coding, bytes }, message);
+        }
     }
 }

@@ -2,17 +2,31 @@
 //! of every call, and every output before and after it.
 //!
 //! A longer run: `compare all --cases 10000000 --seed S`, or `fields`, `reads`
-//! or `writes` alone.
+//! or `writes` alone, and with `--coding 32` under the older coding.
 
-use compare::calls::{fields, reads, writes, LibraryCalls, SecondCalls};
+use compare::calls::{fields, lists, reads, writes, LibraryCalls, SecondCalls};
+use compare::coding::Coding;
 use compare::counts::Counts;
 
-/// What a run did not reach often enough.
-fn shortfalls(counts: &Counts, wanted: &[(&str, u64)]) -> Vec<String> {
+/// What the older coding never has, without unions that are not in place.
+const NEVER_UNDER_32: [&str; 6] = [
+    "refused 9",
+    "list steps: refused 9",
+    "list steps: unknown below 256",
+    "list steps: unknown from 256",
+    "room: some, answer 9",
+    "room: none, answer 9",
+];
+
+/// What a run did not reach often enough, or reached where it must not.
+fn shortfalls(coding: Coding, counts: &Counts, wanted: &[(&str, u64)]) -> Vec<String> {
     let mut short = Vec::new();
     for &(name, least) in wanted {
         let count = counts.named(name);
-        if count < least {
+        let never = coding.is_older() && NEVER_UNDER_32.contains(&name);
+        if never && count > 0 {
+            short.push(format!("{name}: {count}, none wanted"));
+        } else if !never && count < least {
             short.push(format!("{name}: {count}, at least {least} wanted"));
         }
     }
@@ -20,18 +34,25 @@ fn shortfalls(counts: &Counts, wanted: &[(&str, u64)]) -> Vec<String> {
 }
 
 /// No difference, and everything reached.
-fn reached(outcome: Result<Counts, String>, wanted: &[(&str, u64)]) {
+fn reached(coding: Coding, outcome: Result<Counts, String>, wanted: &[(&str, u64)]) -> Counts {
     let counts = match outcome {
         Ok(counts) => counts,
         Err(report) => panic!("{report}"),
     };
     println!("{counts}");
-    let short = shortfalls(&counts, wanted);
+    let short = shortfalls(coding, &counts, wanted);
     assert!(short.is_empty(), "not reached often enough: {short:#?}");
+    counts
+}
+
+/// Most calls of a sort got another answer than refusal 1.
+fn beyond_1(sort: &str, calls: u64, refused: u64) {
+    println!("{sort}: {calls}, {} not refusal 1", calls - refused);
+    assert!(refused * 5 < calls, "{sort}: {refused} of {calls}");
 }
 
 /// The answers of fields: every case, every refusal but 4, every kind.
-const ANSWERS: [(&str, u64); 37] = [
+const ANSWERS: [(&str, u64); 39] = [
     ("boolean 0", 10_000),
     ("boolean 1", 10_000),
     ("number of 8, signed 0", 10_000),
@@ -69,10 +90,13 @@ const ANSWERS: [(&str, u64); 37] = [
     ("paths: 97 numbers", 3000),
     ("paths: over 97 numbers", 5000),
     ("messages: Damaged", 15_000),
+    ("messages: OtherCoding", 3000),
+    ("messages: NoCoding", 400),
 ];
 
 /// The list reader: its steps, and what it starts at.
-const LISTS: [(&str, u64); 35] = [
+const LISTS: [(&str, u64); 36] = [
+    ("list calls", 300_000),
     ("lists", 20_000),
     ("list steps: object 13", 1500),
     ("list steps: object 14", 1500),
@@ -110,13 +134,28 @@ const LISTS: [(&str, u64); 35] = [
     ("list starts: refused 15", 5000),
 ];
 
-#[test]
-fn fields_texts_and_lists() {
-    let outcome = fields::run(&LibraryCalls, &SecondCalls, 1, 1_000_000);
-    reached(outcome, &[&ANSWERS[..], &LISTS].concat());
+fn fields_agree(coding: Coding) {
+    let outcome = fields::run(&LibraryCalls, &SecondCalls, coding, 1, 1_000_000);
+    let counts = reached(coding, outcome, &[&ANSWERS[..], &LISTS].concat());
+    for (sort, refused) in [
+        (fields::ANSWERS, "refused 1"),
+        (lists::CALLS, lists::REFUSED_1),
+    ] {
+        beyond_1(sort, counts.named(sort), counts.named(refused));
+    }
 }
 
-const READS: [(&str, u64); 30] = [
+#[test]
+fn fields_texts_and_lists() {
+    fields_agree(Coding::Bits48);
+}
+
+#[test]
+fn fields_texts_and_lists_under_32_bits() {
+    fields_agree(Coding::Bits32);
+}
+
+const READS: [(&str, u64); 32] = [
     ("accepted: Written", 2500),
     ("accepted: Wild", 3500),
     ("accepted: Damaged", 5000),
@@ -127,6 +166,8 @@ const READS: [(&str, u64); 30] = [
     ("refused: BrokenSchema", 3000),
     ("refused: Damaged", 20_000),
     ("refused: Faulty", 7000),
+    ("refused: OtherCoding", 3000),
+    ("refused: NoCoding", 400),
     ("room: exact, answer 0", 15_000),
     ("room: larger, answer 0", 15_000),
     ("room: one less, answer 14", 15_000),
@@ -149,13 +190,23 @@ const READS: [(&str, u64); 30] = [
     ("room: none, answer 10", 600),
 ];
 
-#[test]
-fn reading_to_a_sheet() {
-    let outcome = reads::run(&LibraryCalls, &SecondCalls, 1, 400_000);
-    reached(outcome, &READS);
+fn reads_agree(coding: Coding) {
+    let outcome = reads::run(&LibraryCalls, &SecondCalls, coding, 1, 400_000);
+    let counts = reached(coding, outcome, &READS);
+    beyond_1(reads::CALLS, counts.named(reads::CALLS), counts.answers[1]);
 }
 
-const WRITES: [(&str, u64); 24] = [
+#[test]
+fn reading_to_a_sheet() {
+    reads_agree(Coding::Bits48);
+}
+
+#[test]
+fn reading_to_a_sheet_under_32_bits() {
+    reads_agree(Coding::Bits32);
+}
+
+const WRITES: [(&str, u64); 26] = [
     ("sheets of a writable value, answer 0", 8000),
     ("sheets of any value, answer 0", 5000),
     ("sheets of any value, answer 11", 300),
@@ -169,6 +220,8 @@ const WRITES: [(&str, u64); 24] = [
     ("sheets random bytes, answer 11", 8000),
     ("sheets by a damaged schema, answer 0", 60),
     ("sheets by a damaged schema, answer 1", 5000),
+    ("sheets by the other coding's schema, answer 0", 1500),
+    ("sheets under no coding, answer 1", 800),
     ("room: exact, answer 0", 20_000),
     ("room: larger, answer 0", 20_000),
     ("room: one less, answer 14", 20_000),
@@ -182,8 +235,22 @@ const WRITES: [(&str, u64); 24] = [
     ("round trips", 20_000),
 ];
 
+fn writes_agree(coding: Coding) {
+    let outcome = writes::run(&LibraryCalls, &SecondCalls, coding, 1, 400_000);
+    let counts = reached(coding, outcome, &WRITES);
+    beyond_1(
+        writes::CALLS,
+        counts.named(writes::CALLS),
+        counts.answers[1],
+    );
+}
+
 #[test]
 fn writing_a_message() {
-    let outcome = writes::run(&LibraryCalls, &SecondCalls, 1, 400_000);
-    reached(outcome, &WRITES);
+    writes_agree(Coding::Bits48);
+}
+
+#[test]
+fn writing_a_message_under_32_bits() {
+    writes_agree(Coding::Bits32);
 }

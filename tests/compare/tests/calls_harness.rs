@@ -2,6 +2,10 @@
 //! each program here is the second program with one fault.
 
 use compare::calls::{fields, reads, writes, Calls, SecondCalls, Writes};
+use compare::coding::{Coding, CODINGS};
+use compare::judging;
+use compare::program::{Judge, Verdict};
+use compare::schema::Packed;
 
 #[derive(Clone, Copy, Debug, PartialEq)]
 enum Flaw {
@@ -29,9 +33,32 @@ enum Flaw {
     MessageUnusedBit,
     MessageRoomOneMore,
     NotWritableFirst,
+    CodingIgnored,
+    AnyCodingTaken,
+    CodingGuessed,
 }
 
 struct Flawed(Flaw);
+
+impl Flawed {
+    /// The schema under the coding that the program takes it for.
+    fn taken(&self, schema: &Packed) -> Packed {
+        let lawful = |coding: Coding| reference::lawful(coding.number(), &schema.bytes);
+        let given = Coding::of(schema.coding);
+        let taken = match self.0 {
+            Flaw::CodingIgnored => Some(Coding::Bits48),
+            Flaw::AnyCodingTaken => given.or(Some(Coding::Bits48)),
+            Flaw::CodingGuessed => given
+                .filter(|coding| lawful(*coding))
+                .or(CODINGS.into_iter().find(|coding| lawful(*coding))),
+            _ => given,
+        };
+        match taken {
+            Some(coding) => Packed::new(coding, &schema.bytes),
+            None => schema.clone(),
+        }
+    }
+}
 
 /// Changes a byte of an output, where it has that byte.
 fn change(output: &mut [u8], at: usize) {
@@ -40,12 +67,19 @@ fn change(output: &mut [u8], at: usize) {
     }
 }
 
-impl Calls for Flawed {
+impl Judge for Flawed {
     fn name(&self) -> &'static str {
         "flawed program"
     }
 
-    fn field(&self, schema: &[u8], message: &[u8], path: &[u32]) -> [u64; 4] {
+    fn judge(&self, schema: &Packed, message: &[u8], budget: u32) -> Verdict {
+        SecondCalls.judge(&self.taken(schema), message, budget)
+    }
+}
+
+impl Calls for Flawed {
+    fn field(&self, schema: &Packed, message: &[u8], path: &[u32]) -> [u64; 4] {
+        let schema = &self.taken(schema);
         let answer = SecondCalls.field(schema, message, path);
         match (self.0, answer) {
             (Flaw::AlwaysAbsent, _) => [5, 0, 0, 0],
@@ -58,7 +92,8 @@ impl Calls for Flawed {
         }
     }
 
-    fn text(&self, schema: &[u8], message: &[u8], path: &[u32]) -> [u64; 3] {
+    fn text(&self, schema: &Packed, message: &[u8], path: &[u32]) -> [u64; 3] {
+        let schema = &self.taken(schema);
         let part = SecondCalls.text(schema, message, path);
         match (self.0, part) {
             (Flaw::TextOneLonger, [1, start, length]) => [1, start, length + 1],
@@ -72,12 +107,13 @@ impl Calls for Flawed {
 
     fn list(
         &self,
-        schema: &[u8],
+        schema: &Packed,
         message: &[u8],
         path: &[u32],
         from: u64,
         cases: &mut [u64],
     ) -> u64 {
+        let schema = &self.taken(schema);
         let count = SecondCalls.list(schema, message, path, from, cases);
         match self.0 {
             Flaw::ListStopsAtRefused => {
@@ -105,7 +141,8 @@ impl Calls for Flawed {
         count
     }
 
-    fn read(&self, schema: &[u8], message: &[u8], budget: u32, sheet: &mut [u8]) -> [u64; 4] {
+    fn read(&self, schema: &Packed, message: &[u8], budget: u32, sheet: &mut [u8]) -> [u64; 4] {
+        let schema = &self.taken(schema);
         let answer = SecondCalls.read(schema, message, budget, sheet);
         let [number, place, visits, length] = answer;
         let used = length as usize;
@@ -126,7 +163,8 @@ impl Calls for Flawed {
 }
 
 impl Writes for Flawed {
-    fn write(&self, schema: &[u8], sheet: &[u8], message: &mut [u8]) -> [u64; 2] {
+    fn write(&self, schema: &Packed, sheet: &[u8], message: &mut [u8]) -> [u64; 2] {
+        let schema = &self.taken(schema);
         if self.0 == Flaw::WritesNothing {
             let mut scratch = vec![0; message.len()];
             return SecondCalls.write(schema, sheet, &mut scratch);
@@ -180,32 +218,54 @@ const IN_WRITES: [Flaw; 6] = [
     Flaw::NotWritableFirst,
 ];
 
+/// What every side by side must catch.
+const IN_CODINGS: [Flaw; 3] = [
+    Flaw::CodingIgnored,
+    Flaw::AnyCodingTaken,
+    Flaw::CodingGuessed,
+];
+
 /// Calls of each run; few enough to take no time, enough to catch each flaw.
 const CALLS: u64 = 20_000;
 
+/// A run of a side by side under a coding with a flawed program.
+type Run = fn(&Flawed, Coding) -> Result<(), String>;
+
+/// Every flaw is caught under both codings, and the program without one passes.
+fn catches(sort: &str, flaws: &[Flaw], run: Run) {
+    for coding in CODINGS {
+        for flaw in flaws.iter().chain(&IN_CODINGS) {
+            let outcome = run(&Flawed(*flaw), coding);
+            assert!(outcome.is_err(), "{sort} miss {flaw:?} under {coding:?}");
+        }
+        assert!(run(&Flawed(Flaw::None), coding).is_ok());
+    }
+}
+
+#[test]
+fn judging_side_by_side_catches_flaws() {
+    catches("judging", &[], |flawed, coding| {
+        judging::run(flawed, &SecondCalls, coding, 9, CALLS / 10).map(drop)
+    });
+}
+
 #[test]
 fn fields_side_by_side_catch_flaws() {
-    for flaw in IN_FIELDS {
-        let outcome = fields::run(&Flawed(flaw), &SecondCalls, 9, CALLS);
-        assert!(outcome.is_err(), "fields side by side miss {flaw:?}");
-    }
-    assert!(fields::run(&Flawed(Flaw::None), &SecondCalls, 9, CALLS).is_ok());
+    catches("fields", &IN_FIELDS, |flawed, coding| {
+        fields::run(flawed, &SecondCalls, coding, 9, CALLS).map(drop)
+    });
 }
 
 #[test]
 fn reads_side_by_side_catch_flaws() {
-    for flaw in IN_READS {
-        let outcome = reads::run(&Flawed(flaw), &SecondCalls, 9, CALLS);
-        assert!(outcome.is_err(), "reads side by side miss {flaw:?}");
-    }
-    assert!(reads::run(&Flawed(Flaw::None), &SecondCalls, 9, CALLS).is_ok());
+    catches("reads", &IN_READS, |flawed, coding| {
+        reads::run(flawed, &SecondCalls, coding, 9, CALLS).map(drop)
+    });
 }
 
 #[test]
 fn writes_side_by_side_catch_flaws() {
-    for flaw in IN_WRITES {
-        let outcome = writes::run(&Flawed(flaw), &SecondCalls, 9, CALLS);
-        assert!(outcome.is_err(), "writes side by side miss {flaw:?}");
-    }
-    assert!(writes::run(&Flawed(Flaw::None), &SecondCalls, 9, CALLS).is_ok());
+    catches("writes", &IN_WRITES, |flawed, coding| {
+        writes::run(flawed, &SecondCalls, coding, 9, CALLS).map(drop)
+    });
 }

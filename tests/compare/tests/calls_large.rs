@@ -2,7 +2,8 @@
 //! over the size, and sheets that would be far larger than their messages.
 
 use compare::calls::{Calls, LibraryCalls, Output, SecondCalls};
-use compare::canonical::{self, HEADER};
+use compare::canonical;
+use compare::coding::{Coding, CODINGS};
 use compare::schema::*;
 use compare::value::Value;
 use std::time::{Duration, Instant};
@@ -27,12 +28,25 @@ fn filled(schema: &Schema, empty: Value, length: u64) -> Vec<u8> {
     for at in start..SIZE_LIMIT - 1 {
         message[at] = (at as u8).wrapping_mul(29) ^ (at >> 9) as u8;
     }
-    message[30..36].copy_from_slice(&length.to_le_bytes()[..6]);
+    let at = before_content(schema.coding) - schema.coding.offset();
+    put(schema.coding, &mut message, at, length);
     message
 }
 
-/// The bytes for content behind the root, its one reference and a header.
-const CONTENT: u64 = (SIZE_LIMIT - 2 * HEADER - 6 - HEADER) as u64;
+/// Writes an offset or a length over what stands there.
+fn put(coding: Coding, message: &mut [u8], at: usize, number: u64) {
+    message[at..at + coding.offset()].copy_from_slice(&coding.bytes(number));
+}
+
+/// The bytes of the start, the root with its one reference and a header.
+fn before_content(coding: Coding) -> usize {
+    3 * coding.header() + coding.offset()
+}
+
+/// The bytes that are left for content.
+fn content(coding: Coding) -> u64 {
+    (SIZE_LIMIT - before_content(coding)) as u64
+}
 
 #[test]
 fn full_lists_of_every_plain_kind() {
@@ -40,55 +54,64 @@ fn full_lists_of_every_plain_kind() {
     let integers = [(1, 8), (2, 16), (3, 32), (4, 64), (5, 8), (8, 64)];
     let integers = integers.map(|(kind, bits)| (kind, bits, bits));
     for (kind, bits, in_sheet) in kinds.into_iter().chain(integers) {
-        let mut schema = root_with(Record::plain(LIST, 0));
-        schema.lists = vec![Record::plain(kind, if kind == ENUM { 200 } else { 0 })];
-        let most = 8 * CONTENT / bits;
-        let message = filled(&schema, Value::List(Vec::new()), most);
-        // A mark and a count, and the elements, few of which are absent.
-        let (number, length) = read(&schema, &message, SIZE_LIMIT);
-        if in_sheet == bits {
-            let exact = (34 + most * bits).div_ceil(8) as usize;
-            assert_eq!((number, length), (0, exact), "kind {kind}");
-            assert_eq!(read(&schema, &message, exact - 1), (14, 0));
-            assert_eq!(read(&schema, &message, exact), (0, exact));
-        } else {
-            assert_eq!((number, length), (14, 0), "kind {kind}");
+        for coding in CODINGS {
+            full_list(coding, kind, bits, in_sheet);
         }
-        let fewer = filled(&schema, Value::List(Vec::new()), most / 2);
-        assert_eq!(read(&schema, &fewer, SIZE_LIMIT).0, 0);
     }
+}
+
+/// A full list of elements of so many bits, and of so many in a sheet.
+fn full_list(coding: Coding, kind: u8, bits: u64, in_sheet: u64) {
+    let mut schema = root_with(coding, Record::plain(LIST, 0));
+    schema.lists = vec![Record::plain(kind, if kind == ENUM { 200 } else { 0 })];
+    let most = 8 * content(coding) / bits;
+    let message = filled(&schema, Value::List(Vec::new()), most);
+    // A mark and a count, and the elements, few of which are absent.
+    let (number, length) = read(&schema, &message, SIZE_LIMIT);
+    if in_sheet == bits {
+        let exact = (34 + most * bits).div_ceil(8) as usize;
+        assert_eq!((number, length), (0, exact), "kind {kind}");
+        assert_eq!(read(&schema, &message, exact - 1), (14, 0));
+        assert_eq!(read(&schema, &message, exact), (0, exact));
+    } else {
+        assert_eq!((number, length), (14, 0), "kind {kind}");
+    }
+    let fewer = filled(&schema, Value::List(Vec::new()), most / 2);
+    assert_eq!(read(&schema, &fewer, SIZE_LIMIT).0, 0);
 }
 
 #[test]
 fn full_texts_and_bytes() {
-    for (kind, length) in [(TEXT, CONTENT - 1), (BYTES, CONTENT)] {
-        let schema = root_with(Record::plain(kind, 0));
-        let message = filled(&schema, Value::Blob(Vec::new()), length);
-        let exact = (34 + 8 * length).div_ceil(8) as usize;
-        for room in [exact, SIZE_LIMIT, SIZE_LIMIT + 1000] {
-            assert_eq!(read(&schema, &message, room), (0, exact));
+    for coding in CODINGS {
+        for (kind, length) in [(TEXT, content(coding) - 1), (BYTES, content(coding))] {
+            let schema = root_with(coding, Record::plain(kind, 0));
+            let message = filled(&schema, Value::Blob(Vec::new()), length);
+            let exact = (34 + 8 * length).div_ceil(8) as usize;
+            for room in [exact, SIZE_LIMIT, SIZE_LIMIT + 1000] {
+                assert_eq!(read(&schema, &message, room), (0, exact));
+            }
+            assert_eq!(read(&schema, &message, exact - 1), (14, 0));
         }
-        assert_eq!(read(&schema, &message, exact - 1), (14, 0));
     }
 }
 
 /// A text of the given length, named so often by one list, and a list of that
 /// list.
 fn naming(schema: &Schema, text: usize, lists: usize, texts: usize) -> Vec<u8> {
+    let coding = schema.coding;
+    let (offset, header) = (coding.offset(), coding.header());
     let mut message = canonical::message(schema, &Value::Table(vec![Value::Absent]));
-    let inner = message.len() + HEADER + 6 * lists;
-    let content = inner + HEADER + 6 * texts;
-    let outer = message.len() as u64;
-    message[20..26].copy_from_slice(&outer.to_le_bytes()[..6]);
+    let outer = message.len();
+    let inner = outer + header + offset * lists;
+    let content = inner + header + offset * texts;
+    put(coding, &mut message, 2 * header, outer as u64);
     for (count, to) in [(lists, inner), (texts, content)] {
         message.extend_from_slice(&0x3400_BB46u32.to_le_bytes());
-        message.extend_from_slice(&(count as u64).to_le_bytes()[..6]);
-        for _ in 0..count {
-            message.extend_from_slice(&(to as u64).to_le_bytes()[..6]);
-        }
+        message.extend(coding.bytes(count as u64));
+        message.extend(coding.bytes(to as u64).repeat(count));
     }
     message.extend_from_slice(&0xD812_C8F5u32.to_le_bytes());
-    message.extend_from_slice(&(text as u64).to_le_bytes()[..6]);
+    message.extend(coding.bytes(text as u64));
     message.resize(message.len() + text, b'x');
     message.push(0);
     message
@@ -98,7 +121,11 @@ fn naming(schema: &Schema, text: usize, lists: usize, texts: usize) -> Vec<u8> {
 /// would be some 65 billion bytes, which is refused without that work.
 #[test]
 fn a_text_named_often() {
-    let mut schema = root_with(Record::plain(LIST, 0));
+    CODINGS.into_iter().for_each(one_text_named_often);
+}
+
+fn one_text_named_often(coding: Coding) {
+    let mut schema = root_with(coding, Record::plain(LIST, 0));
     schema.lists = vec![Record::plain(LIST, 1), Record::plain(TEXT, 0)];
     let bits = |text: usize, texts: usize| 34 + 34 + texts * (34 + 8 * text);
     let exact = bits(65_530, 256).div_ceil(8);
@@ -121,13 +148,17 @@ fn a_text_named_often() {
 /// A list of 100,000 texts of which every fifth is refused, from every place.
 #[test]
 fn a_long_list() {
+    CODINGS.into_iter().for_each(one_long_list);
+}
+
+fn one_long_list(coding: Coding) {
     let count = 100_000;
-    let mut schema = root_with(Record::plain(LIST, 0));
+    let mut schema = root_with(coding, Record::plain(LIST, 0));
     schema.lists = vec![Record::plain(TEXT, 0)];
     let list = Value::List(vec![Value::Blob(b"ab".to_vec()); count]);
     let mut message = canonical::message(&schema, &Value::Table(vec![list]));
     for number in (0..count).step_by(5) {
-        message[36 + 6 * number] ^= 1;
+        message[before_content(coding) + coding.offset() * number] ^= 1;
     }
     let packed = schema.pack();
     let mut cases = vec![9; 4 * count + 7];
@@ -172,60 +203,73 @@ mod writing {
     fn full_lists_of_every_plain_kind() {
         let kinds = [(1, 8), (2, 16), (3, 32), (4, 64), (8, 64), (BOOL, 1)];
         for (kind, bits) in kinds {
-            let mut schema = root_with(Record::plain(LIST, 0));
-            schema.lists = vec![Record::plain(kind, 0)];
-            let most = 8 * CONTENT / bits / if kind == BOOL { 16 } else { 1 };
-            let message = filled(&schema, Value::List(Vec::new()), most);
-            let mut sheet = vec![0; SIZE_LIMIT];
-            let packed = schema.pack();
-            let [_, _, _, length] = SecondCalls.read(&packed, &message, 2, &mut sheet);
-            let bytes = &sheet[..length as usize];
-            let used = 36 + (most * bits).div_ceil(8) as usize;
-            assert_eq!(write(&schema, bytes, used), (0, used), "kind {kind}");
-            assert_eq!(write(&schema, bytes, used - 1), (14, 0));
+            for coding in CODINGS {
+                full_list(coding, kind, bits);
+            }
         }
+    }
+
+    fn full_list(coding: Coding, kind: u8, bits: u64) {
+        let mut schema = root_with(coding, Record::plain(LIST, 0));
+        schema.lists = vec![Record::plain(kind, 0)];
+        let most = 8 * content(coding) / bits / if kind == BOOL { 16 } else { 1 };
+        let message = filled(&schema, Value::List(Vec::new()), most);
+        let mut sheet = vec![0; SIZE_LIMIT];
+        let packed = schema.pack();
+        let [_, _, _, length] = SecondCalls.read(&packed, &message, 2, &mut sheet);
+        let bytes = &sheet[..length as usize];
+        let used = before_content(coding) + (most * bits).div_ceil(8) as usize;
+        assert_eq!(write(&schema, bytes, used), (0, used), "kind {kind}");
+        assert_eq!(write(&schema, bytes, used - 1), (14, 0));
     }
 
     #[test]
     fn a_text_at_and_over_the_size() {
-        let schema = root_with(Record::plain(TEXT, 0));
-        let value = |length| Value::Table(vec![Value::Blob(vec![b'x'; length])]);
-        let longest = CONTENT as usize - 1;
-        let bytes = sheet::encode(&schema, &value(longest));
-        assert_eq!(write(&schema, &bytes, SIZE_LIMIT), (0, SIZE_LIMIT));
-        assert_eq!(write(&schema, &bytes, SIZE_LIMIT - 1), (14, 0));
-        let over = sheet::encode(&schema, &value(longest + 1));
-        for room in [0, SIZE_LIMIT, SIZE_LIMIT + 1] {
-            assert_eq!(write(&schema, &over, room), (13, 0));
+        for coding in CODINGS {
+            let schema = root_with(coding, Record::plain(TEXT, 0));
+            let value = |length| Value::Table(vec![Value::Blob(vec![b'x'; length])]);
+            let longest = content(coding) as usize - 1;
+            let bytes = sheet::encode(&schema, &value(longest));
+            assert_eq!(write(&schema, &bytes, SIZE_LIMIT), (0, SIZE_LIMIT));
+            assert_eq!(write(&schema, &bytes, SIZE_LIMIT - 1), (14, 0));
+            let over = sheet::encode(&schema, &value(longest + 1));
+            for room in [0, SIZE_LIMIT, SIZE_LIMIT + 1] {
+                assert_eq!(write(&schema, &over, room), (13, 0));
+            }
         }
     }
 
-    /// A sheet of 2 bits an element for 8 bytes in the message.
+    /// A sheet of 2 bits an element for all its bytes in the message.
     #[test]
     fn absent_elements() {
-        let mut schema = root_with(Record::plain(LIST, 0));
-        schema.lists = vec![Record::plain(F64, 0)];
-        let most = CONTENT as usize / 8;
-        let value = |count| Value::Table(vec![Value::List(vec![Value::Absent; count])]);
-        let bytes = sheet::encode(&schema, &value(most));
-        let used = 36 + 8 * most;
-        assert_eq!(write(&schema, &bytes, SIZE_LIMIT), (0, used));
-        assert_eq!(write(&schema, &bytes, used - 1), (14, 0));
-        let over = sheet::encode(&schema, &value(most + 1));
-        assert_eq!(write(&schema, &over, SIZE_LIMIT), (13, 0));
+        for coding in CODINGS {
+            for (kind, size) in [(F64, 8), (TEXT, coding.offset())] {
+                let mut schema = root_with(coding, Record::plain(LIST, 0));
+                schema.lists = vec![Record::plain(kind, 0)];
+                let most = content(coding) as usize / size;
+                let value = |count| Value::Table(vec![Value::List(vec![Value::Absent; count])]);
+                let bytes = sheet::encode(&schema, &value(most));
+                let used = before_content(coding) + size * most;
+                assert_eq!(write(&schema, &bytes, SIZE_LIMIT), (0, used));
+                assert_eq!(write(&schema, &bytes, used - 1), (14, 0));
+                let over = sheet::encode(&schema, &value(most + 1));
+                assert_eq!(write(&schema, &over, SIZE_LIMIT), (13, 0));
+            }
+        }
     }
 
     /// A count that the sheet's few bytes cannot hold is not lawful, and costs
     /// nothing.
     #[test]
     fn counts_without_elements() {
-        let mut schema = root_with(Record::plain(LIST, 0));
-        for kind in [BOOL, 1, 4, F64, ENUM, TEXT] {
-            schema.lists = vec![Record::plain(kind, u8::from(kind == ENUM))];
-            let bytes = [0x7F, 0xFF, 0xFF, 0xFF, 0xC0];
-            let began = Instant::now();
-            assert_eq!(write(&schema, &bytes, SIZE_LIMIT), (11, 0));
-            assert!(began.elapsed() < Duration::from_secs(1));
+        for mut schema in CODINGS.map(|coding| root_with(coding, Record::plain(LIST, 0))) {
+            for kind in [BOOL, 1, 4, F64, ENUM, TEXT] {
+                schema.lists = vec![Record::plain(kind, u8::from(kind == ENUM))];
+                let bytes = [0x7F, 0xFF, 0xFF, 0xFF, 0xC0];
+                let began = Instant::now();
+                assert_eq!(write(&schema, &bytes, SIZE_LIMIT), (11, 0));
+                assert!(began.elapsed() < Duration::from_secs(1));
+            }
         }
     }
 }

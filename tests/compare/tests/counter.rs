@@ -2,11 +2,21 @@
 //! second program and on the proved library.
 
 use compare::canonical;
+use compare::coding::Coding::Bits48;
 use compare::program::{Answer, Judge, Library, Program, Second, Verdict};
-use compare::schema::{Record, Schema, Slot, Table, BOOL};
+use compare::schema::{Packed, Record, Schema, Slot, Table, BOOL};
 use compare::schema_rules;
 use compare::sheet;
 use compare::value::Value;
+
+/// O and N, under the coding of the table.
+fn older() -> Packed {
+    Packed::new(Bits48, &OLDER)
+}
+
+fn newer() -> Packed {
+    Packed::new(Bits48, &NEWER)
+}
 
 const OLDER: [u8; 12] = [0, 0, 0, 1, 0, 0x4C, 0x49, 0x43, 0x45, 1, 0x10, 0];
 const NEWER: [u8; 14] = [0, 0, 0, 1, 0, 0x4C, 0x49, 0x43, 0x45, 2, 0x10, 0, 0x68, 0];
@@ -30,9 +40,9 @@ fn verdict(number: u32, place: u64, visits: u32) -> Verdict {
 
 #[test]
 fn own_model_gives_the_table_s_bytes() {
-    let newer = schema_rules::parse(&NEWER).expect("lawful");
-    let older = schema_rules::parse(&OLDER).expect("lawful");
-    assert_eq!(newer.pack(), NEWER);
+    let newer = schema_rules::parse(&newer()).expect("lawful");
+    let older = schema_rules::parse(&older()).expect("lawful");
+    assert_eq!(newer.pack().bytes, NEWER);
     assert_eq!(canonical::message(&newer, &value()), MESSAGE);
     assert_eq!(sheet::encode(&newer, &value()), SHEET);
     assert_eq!(sheet::decode(&newer, &SHEET), Some(value()));
@@ -47,11 +57,11 @@ fn changed(at: usize, byte: u8) -> Vec<u8> {
 }
 
 fn judges_as_the_table_says(judge: &dyn Judge) {
-    let by_newer = |message: &[u8], budget| judge.judge(&NEWER, message, budget);
+    let by_newer = |message: &[u8], budget| judge.judge(&newer(), message, budget);
     assert_eq!(by_newer(&MESSAGE, 2), verdict(0, 0, 2));
     assert_eq!(by_newer(&MESSAGE, 1), verdict(4, 28, 1));
     assert_eq!(by_newer(&MESSAGE, 0), verdict(4, 10, 0));
-    assert_eq!(judge.judge(&OLDER, &MESSAGE, 1), verdict(0, 0, 1));
+    assert_eq!(judge.judge(&older(), &MESSAGE, 1), verdict(0, 0, 1));
     assert_eq!(by_newer(&changed(14, 5), 2), verdict(8, 10, 1));
     assert_eq!(by_newer(&changed(14, 2), 2), verdict(0, 0, 1));
     assert_eq!(by_newer(&changed(14, 0), 2), verdict(0, 0, 1));
@@ -72,15 +82,15 @@ fn library_judges_as_the_table_says() {
 }
 
 fn gives_the_table_s_sheets(program: &dyn Program) {
-    let read = program.read(&NEWER, &MESSAGE, 2, 9);
+    let read = program.read(&newer(), &MESSAGE, 2, 9);
     assert_eq!(read, (verdict(0, 0, 2), SHEET.to_vec()));
-    let read = program.read(&OLDER, &MESSAGE, 1, 3);
+    let read = program.read(&older(), &MESSAGE, 1, 3);
     assert_eq!(read, (verdict(0, 0, 1), vec![0x40, 0, 0xC0]));
-    let read = program.read(&NEWER, &changed(14, 2), 2, 9);
+    let read = program.read(&newer(), &changed(14, 2), 2, 9);
     assert_eq!(read, (verdict(0, 0, 1), vec![0x40, 0, 0xC0]));
-    let read = program.read(&NEWER, &changed(14, 0), 2, 9);
+    let read = program.read(&newer(), &changed(14, 0), 2, 9);
     assert_eq!(read, (verdict(0, 0, 1), vec![0]));
-    let read = program.read(&NEWER, &MESSAGE, 2, 8);
+    let read = program.read(&newer(), &MESSAGE, 2, 8);
     assert_eq!(read, (verdict(14, 0, 2), Vec::new()));
 }
 
@@ -96,7 +106,7 @@ fn library_gives_the_table_s_sheets() {
 
 /// The table's entries one by one.
 fn answers_the_table_s_fields(program: &dyn Program) {
-    let by_newer = |message: &[u8], path: &[u32]| program.field(&NEWER, message, path);
+    let by_newer = |message: &[u8], path: &[u32]| program.field(&newer(), message, path);
     let number = Answer::Number {
         bits: 3,
         width: 16,
@@ -111,9 +121,9 @@ fn answers_the_table_s_fields(program: &dyn Program) {
     assert_eq!(by_newer(&MESSAGE, &[]), object(16, 10, 8));
     assert_eq!(by_newer(&MESSAGE, &[0]), number);
     assert_eq!(by_newer(&MESSAGE, &[1]), object(13, 28, 2));
-    assert_eq!(program.text(&NEWER, &MESSAGE, &[1]), Some(b"ab".to_vec()));
-    assert_eq!(program.text(&NEWER, &MESSAGE, &[0]), None);
-    assert_eq!(program.field(&OLDER, &MESSAGE, &[1]), refused(15, 10));
+    assert_eq!(program.text(&newer(), &MESSAGE, &[1]), Some(b"ab".to_vec()));
+    assert_eq!(program.text(&newer(), &MESSAGE, &[0]), None);
+    assert_eq!(program.field(&older(), &MESSAGE, &[1]), refused(15, 10));
     assert_eq!(by_newer(&changed(14, 5), &[0]), number);
     assert_eq!(by_newer(&changed(14, 5), &[1]), refused(8, 10));
     assert_eq!(by_newer(&changed(14, 2), &[1]), Answer::Absent);
@@ -122,7 +132,7 @@ fn answers_the_table_s_fields(program: &dyn Program) {
     assert_eq!(by_newer(&MESSAGE[..40], &[1]), refused(6, 28));
     assert_eq!(by_newer(&[], &[1]), refused(2, 0));
     assert_eq!(by_newer(&changed(22, 9), &[1]), refused(6, 9));
-    let list = program.list_steps(&NEWER, &MESSAGE, &[1], 1);
+    let list = program.list_steps(&newer(), &MESSAGE, &[1], 1);
     assert_eq!(list, Err(refused(15, 0)));
 }
 
@@ -137,13 +147,14 @@ fn library_answers_the_table_s_fields() {
 }
 
 fn writes_the_table_s_message(program: &dyn Program) {
-    let write = |sheet: &[u8], room| program.write(&NEWER, sheet, room);
+    let write = |sheet: &[u8], room| program.write(&newer(), sheet, room);
     assert_eq!(write(&SHEET, 41), (0, MESSAGE.to_vec()));
     assert_eq!(write(&SHEET, 40), (14, Vec::new()));
     assert_eq!(write(&SHEET[..8], 41), (11, Vec::new()));
     // Both absent; a plain number may not be.
     assert_eq!(write(&[0], 41), (12, Vec::new()));
-    assert_eq!(program.write(&[], &SHEET, 41), (1, Vec::new()));
+    let none = Packed::new(Bits48, &[]);
+    assert_eq!(program.write(&none, &SHEET, 41), (1, Vec::new()));
 }
 
 #[test]
@@ -163,7 +174,7 @@ fn optional_bool_after_seven_bools() {
     let tables = vec![Table { id: 1, members }];
     let schema = Schema {
         tables,
-        ..Schema::default()
+        ..Schema::new(Bits48)
     };
     let (slots, size) = schema.slots(0);
     let expected = Slot {

@@ -1,10 +1,12 @@
 //! The laws and the comparison must catch programs that are wrong: each
 //! program here is the second program with one fault.
 
+use compare::coding::CODINGS;
 use compare::counts::Counts;
 use compare::judging;
 use compare::laws::{self, Programs};
 use compare::program::{Answer, Judge, Program, Relations, Second, Verdict};
+use compare::schema::Packed;
 use compare::side_by_side::side_by_side;
 
 #[derive(Clone, Copy, Debug, PartialEq)]
@@ -41,7 +43,7 @@ impl Judge for Flawed {
         "flawed program"
     }
 
-    fn judge(&self, schema: &[u8], message: &[u8], budget: u32) -> Verdict {
+    fn judge(&self, schema: &Packed, message: &[u8], budget: u32) -> Verdict {
         let verdict = Second.judge(schema, message, budget);
         match self.0 {
             Flaw::AcceptsEverything => accepted(verdict.visits),
@@ -64,7 +66,13 @@ impl Judge for Flawed {
 }
 
 impl Program for Flawed {
-    fn read(&self, schema: &[u8], message: &[u8], budget: u32, room: usize) -> (Verdict, Vec<u8>) {
+    fn read(
+        &self,
+        schema: &Packed,
+        message: &[u8],
+        budget: u32,
+        room: usize,
+    ) -> (Verdict, Vec<u8>) {
         let (verdict, sheet) = Second.read(schema, message, budget, room);
         match self.0 {
             Flaw::FixedSheet if verdict.number == 0 => (verdict, vec![0; sheet.len()]),
@@ -73,7 +81,7 @@ impl Program for Flawed {
         }
     }
 
-    fn write(&self, schema: &[u8], sheet: &[u8], room: usize) -> (u32, Vec<u8>) {
+    fn write(&self, schema: &Packed, sheet: &[u8], room: usize) -> (u32, Vec<u8>) {
         let (number, message) = Second.write(schema, sheet, room);
         match self.0 {
             Flaw::WritesNothing => (number, Vec::new()),
@@ -81,7 +89,7 @@ impl Program for Flawed {
         }
     }
 
-    fn field(&self, schema: &[u8], message: &[u8], path: &[u32]) -> Answer {
+    fn field(&self, schema: &Packed, message: &[u8], path: &[u32]) -> Answer {
         match (self.0, Second.field(schema, message, path)) {
             (Flaw::UnknownAsAbsent, Answer::Unknown(_)) => Answer::Absent,
             (Flaw::NumbersSigned, Answer::Number { bits, width, .. }) => Answer::Number {
@@ -93,7 +101,7 @@ impl Program for Flawed {
         }
     }
 
-    fn text(&self, schema: &[u8], message: &[u8], path: &[u32]) -> Option<Vec<u8>> {
+    fn text(&self, schema: &Packed, message: &[u8], path: &[u32]) -> Option<Vec<u8>> {
         let text = Second.text(schema, message, path)?;
         match self.0 {
             Flaw::TextWithItsZero => Some([&text[..], &[0]].concat()),
@@ -103,7 +111,7 @@ impl Program for Flawed {
 
     fn list_steps(
         &self,
-        schema: &[u8],
+        schema: &Packed,
         message: &[u8],
         path: &[u32],
         steps: usize,
@@ -118,11 +126,11 @@ impl Program for Flawed {
 }
 
 impl Relations for Flawed {
-    fn lawful(&self, schema: &[u8]) -> bool {
+    fn lawful(&self, schema: &Packed) -> bool {
         Second.lawful(schema)
     }
 
-    fn appends(&self, older: &[u8], newer: &[u8]) -> bool {
+    fn appends(&self, older: &Packed, newer: &Packed) -> bool {
         match self.0 {
             Flaw::NeverAppends => false,
             Flaw::AlwaysAppends => true,
@@ -130,14 +138,14 @@ impl Relations for Flawed {
         }
     }
 
-    fn without_appended(&self, older: &[u8], newer: &[u8], sheet: &[u8]) -> Option<Vec<u8>> {
+    fn without_appended(&self, older: &Packed, newer: &Packed, sheet: &[u8]) -> Option<Vec<u8>> {
         match self.0 {
             Flaw::NothingTakenAway => Some(sheet.to_vec()),
             _ => Second.without_appended(older, newer, sheet),
         }
     }
 
-    fn with_added(&self, older: &[u8], newer: &[u8], sheet: &[u8]) -> Option<Vec<u8>> {
+    fn with_added(&self, older: &Packed, newer: &Packed, sheet: &[u8]) -> Option<Vec<u8>> {
         Second.with_added(older, newer, sheet)
     }
 }
@@ -169,11 +177,15 @@ const IN_RELATIONS: [Flaw; 3] = [
 fn laws_catch_flawed_programs() {
     let calls = IN_VERDICTS.into_iter().chain(IN_OTHER_CALLS);
     for flaw in calls.chain(IN_RELATIONS) {
-        let mut counts = Counts::default();
-        let program = Flawed(flaw);
-        let programs = Programs::one(&program);
-        let caught = (0..3000).any(|case| laws::run_case(&programs, 9, case, &mut counts).is_err());
-        assert!(caught, "the laws miss {flaw:?}");
+        for coding in CODINGS {
+            let program = Flawed(flaw);
+            let programs = Programs::one(&program);
+            let mut counts = Counts::default();
+            let mut fails =
+                |case| laws::run_case(&programs, coding, (9, case), &mut counts).is_err();
+            let caught = (0..3000).any(&mut fails);
+            assert!(caught, "the laws miss {flaw:?} under {coding:?}");
+        }
     }
 }
 
@@ -181,16 +193,26 @@ fn laws_catch_flawed_programs() {
 fn comparison_catches_flawed_programs() {
     let calls = IN_VERDICTS.into_iter().chain(IN_OTHER_CALLS);
     for flaw in calls.chain([Flaw::TextWithItsZero]) {
-        let outcome = side_by_side(&Flawed(flaw), &Second, 9, 300);
-        assert!(outcome.is_err(), "the comparison misses {flaw:?}");
+        for coding in CODINGS {
+            let outcome = side_by_side(&Flawed(flaw), &Second, coding, 9, 300);
+            assert!(
+                outcome.is_err(),
+                "the comparison misses {flaw:?} under {coding:?}"
+            );
+        }
     }
 }
 
 #[test]
 fn judging_side_by_side_catches_flawed_judges() {
-    for flaw in IN_VERDICTS {
-        let outcome = judging::run(&Flawed(flaw), &Second, 9, 2000);
-        assert!(outcome.is_err(), "judging side by side misses {flaw:?}");
+    for coding in CODINGS {
+        for flaw in IN_VERDICTS {
+            let outcome = judging::run(&Flawed(flaw), &Second, coding, 9, 2000);
+            assert!(
+                outcome.is_err(),
+                "judging side by side misses {flaw:?} under {coding:?}"
+            );
+        }
+        assert!(judging::run(&Second, &Second, coding, 9, 2000).is_ok());
     }
-    assert!(judging::run(&Second, &Second, 9, 2000).is_ok());
 }

@@ -1,15 +1,18 @@
 //! The proved library and the second program side by side: number, place and
 //! visits are equal on every message with every budget.
 //!
-//! A longer run: `compare judge --cases 10000000 --seed S`.
+//! A longer run: `compare judge --cases 10000000 --seed S`, and with
+//! `--coding 32` under the older coding.
 
+use compare::calls::LibraryCalls;
+use compare::coding::{Coding, CODINGS};
 use compare::judging;
-use compare::program::{Library, Second};
+use compare::program::Second;
 use compare::subjects::{Sort, SORTS};
 use compare::tally::{Budget, Tally, NUMBERS};
 
 const SEED: u64 = 1;
-const MESSAGES: u64 = 250_000;
+const MESSAGES: u64 = 300_000;
 
 /// At least so many messages of each number with an ample budget; a spent
 /// budget is rare there, and comes from the smaller ones.
@@ -18,23 +21,29 @@ const NUMBERS_SEEN: [u64; NUMBERS] = [
 ];
 
 /// What the run did not reach often enough.
-fn shortfalls(tally: &Tally) -> Vec<String> {
+fn shortfalls(coding: Coding, tally: &Tally) -> Vec<String> {
     let mut short = Vec::new();
     let mut need = |name: String, count: u64, least: u64| {
         if count < least {
             short.push(format!("{name}: {count}, at least {least} wanted"));
         }
     };
-    for (number, least) in NUMBERS_SEEN.into_iter().enumerate() {
+    // Unions of the older coding have no offset that could be 0.
+    let possible = |number: &usize| !(coding.is_older() && *number == 9);
+    for number in (0..NUMBERS).filter(possible) {
+        let least = NUMBERS_SEEN[number];
         need(format!("number {number}"), tally.of_number(number), least);
     }
+    let beyond = tally.messages - tally.of_number(1);
+    need("not refusal 1".to_string(), beyond, MESSAGES * 3 / 4);
     for budget in [Budget::None, Budget::OneLess, Budget::One] {
         need(format!("{budget:?} spent"), tally.with(budget, 4), 50_000);
     }
     for sort in SORTS {
-        need(format!("{sort:?}"), tally.of_sort(sort), 5000);
+        let least = if sort == Sort::NoCoding { 1000 } else { 5000 };
+        need(format!("{sort:?}"), tally.of_sort(sort), least);
     }
-    for number in [0, 5, 6, 7, 8, 9, 10] {
+    for number in [0, 5, 6, 7, 8, 9, 10].into_iter().filter(possible) {
         let name = format!("damaged, number {number}");
         need(name, tally.of(Sort::Damaged, number), 500);
     }
@@ -54,23 +63,40 @@ fn budgets_change_nothing(tally: &Tally) {
     }
 }
 
-#[test]
-fn library_and_second_program_agree() {
-    let tally = match judging::run(&Library, &Second, SEED, MESSAGES) {
+/// Both judge alike, and the run reaches everything.
+fn agree(coding: Coding) {
+    let tally = match judging::run(&LibraryCalls, &Second, coding, SEED, MESSAGES) {
         Ok(tally) => tally,
         Err(report) => panic!("{report}"),
     };
     println!("{tally}");
     budgets_change_nothing(&tally);
-    let short = shortfalls(&tally);
+    let short = shortfalls(coding, &tally);
     assert!(short.is_empty(), "not reached often enough: {short:#?}");
+    // Under no coding is any schema lawful.
+    assert_eq!(tally.of(Sort::NoCoding, 1), tally.of_sort(Sort::NoCoding));
+    assert_eq!(coding.is_older(), tally.of_number(9) == 0);
+    let others = tally.of(Sort::OtherCoding, 1);
+    assert_eq!(coding.is_older(), others > 0);
+}
+
+#[test]
+fn library_and_second_program_agree() {
+    agree(Coding::Bits48);
+}
+
+#[test]
+fn library_and_second_program_agree_under_32_bits() {
+    agree(Coding::Bits32);
 }
 
 #[test]
 fn library_and_second_program_agree_with_other_seeds() {
-    for seed in 2..12 {
-        if let Err(report) = judging::run(&Library, &Second, seed, 10_000) {
-            panic!("{report}");
+    for coding in CODINGS {
+        for seed in 2..12 {
+            if let Err(report) = judging::run(&LibraryCalls, &Second, coding, seed, 10_000) {
+                panic!("{report}");
+            }
         }
     }
 }

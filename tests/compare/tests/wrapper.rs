@@ -1,66 +1,106 @@
 //! The Rust wrapper and the second program side by side on every call: judging,
 //! reading, writing, fields, texts and lists.
 
+use compare::coding::{Coding, CODINGS};
 use compare::program::{Library, Second};
 use compare::side_by_side::side_by_side;
-use scalgo::Answer;
+use scalgo::{Answer, List};
 
-#[test]
-fn wrapper_and_second_program_agree() {
-    match side_by_side(&Library, &Second, 1, 4000) {
+fn agree(coding: Coding) {
+    match side_by_side(&Library, &Second, coding, 1, 4000) {
         Ok(calls) => assert!(calls > 400_000, "only {calls} calls"),
         Err(report) => panic!("{report}"),
     }
 }
 
-const SCHEMA: &[u8] = b"\x00\x01\x00\x01\x00\x68\x00\x4C\x49\x43\x45\x01\x78\x00";
-
-/// A table with a list of `count` texts, of which every third is none and
-/// every seventh names no object.
-fn message(count: usize) -> Vec<u8> {
-    let mut message = b"\xB3\xC4\xC0\xB5\x0A\0\0\0\0\0".to_vec();
-    message.extend_from_slice(b"\x45\x43\x49\x4C\x06\0\0\0\0\0\x1A\0\0\0\0\0");
-    message.extend_from_slice(b"\x46\xBB\x00\x34");
-    message.extend_from_slice(&(count as u64).to_le_bytes()[..6]);
-    let text = 36 + 6 * count;
-    for number in 0..count {
-        let offset = match number {
-            _ if number % 3 == 0 => 0,
-            _ if number % 7 == 0 => 9,
-            _ => text,
-        };
-        message.extend_from_slice(&(offset as u64).to_le_bytes()[..6]);
-    }
-    message.extend_from_slice(b"\xF5\xC8\x12\xD8\x02\0\0\0\0\0ab\0");
-    message
+#[test]
+fn wrapper_and_second_program_agree() {
+    agree(Coding::Bits48);
 }
 
-fn expected(number: usize, count: usize) -> Answer {
-    match number {
-        _ if number % 3 == 0 => Answer::Absent,
-        _ if number % 7 == 0 => Answer::Refused {
-            number: 6,
-            place: 9,
-        },
-        _ => Answer::Object {
-            kind: 13,
-            place: 36 + 6 * count as u64,
-            length: 2,
-        },
+#[test]
+fn wrapper_and_second_program_agree_under_32_bits() {
+    agree(Coding::Bits32);
+}
+
+const SCHEMA: &[u8] = b"\x00\x01\x00\x01\x00\x68\x00\x4C\x49\x43\x45\x01\x78\x00";
+
+/// A list of `count` texts, of which every third is none and every seventh
+/// names no object.
+struct Texts {
+    coding: Coding,
+    count: usize,
+    message: Vec<u8>,
+}
+
+impl Texts {
+    fn new(coding: Coding, count: usize) -> Texts {
+        let mut texts = Texts {
+            coding,
+            count,
+            message: Vec::new(),
+        };
+        let (offset, header) = (coding.offset(), coding.header());
+        texts.put(b"\xB3\xC4\xC0\xB5", &[header]);
+        texts.put(b"\x45\x43\x49\x4C", &[offset, 2 * header + offset]);
+        texts.put(b"\x46\xBB\x00\x34", &[count]);
+        let offsets: Vec<usize> = (0..count).map(|number| texts.offset(number)).collect();
+        texts.put(b"", &offsets);
+        texts.put(b"\xF5\xC8\x12\xD8", &[2]);
+        texts.put(b"ab\0", &[]);
+        texts
+    }
+
+    /// Bytes, and then offsets or lengths.
+    fn put(&mut self, bytes: &[u8], numbers: &[usize]) {
+        self.message.extend_from_slice(bytes);
+        for number in numbers {
+            self.message.extend(self.coding.bytes(*number as u64));
+        }
+    }
+
+    /// The offset that an element has.
+    fn offset(&self, number: usize) -> usize {
+        match (number % 3, number % 7) {
+            (0, _) => 0,
+            (_, 0) => self.coding.header() - 1,
+            _ => 3 * self.coding.header() + (1 + self.count) * self.coding.offset(),
+        }
+    }
+
+    fn expected(&self, number: usize) -> Answer {
+        let place = self.offset(number) as u64;
+        match (number % 3, number % 7) {
+            (0, _) => Answer::Absent,
+            (_, 0) => Answer::Refused { number: 6, place },
+            _ => Answer::Object {
+                kind: 13,
+                place,
+                length: 2,
+            },
+        }
+    }
+
+    /// The wrapper's iterator.
+    fn list(&self) -> List<'_> {
+        let coding = scalgo::Coding::of(self.coding.number()).expect("a coding");
+        scalgo::list(coding, SCHEMA, &self.message, &[0]).expect("a list")
     }
 }
 
 /// Lists that end before, at and after what the iterator fetches at once.
 #[test]
 fn lists_around_what_is_fetched_at_once() {
-    for count in [0, 1, 63, 64, 65, 127, 128, 129, 1000] {
-        let message = message(count);
-        let mut list = scalgo::list(SCHEMA, &message, &[0]).expect("a list");
-        for number in 0..count {
-            assert_eq!(list.len(), count - number);
-            assert_eq!(list.next(), Some(expected(number, count)));
+    for coding in CODINGS {
+        for count in [0, 1, 63, 64, 65, 127, 128, 129, 1000] {
+            let texts = Texts::new(coding, count);
+            let mut list = texts.list();
+            for number in 0..count {
+                assert_eq!(list.len(), count - number);
+                assert_eq!(list.next(), Some(texts.expected(number)));
+            }
+            assert_eq!((list.len(), list.next(), list.next()), (0, None, None));
         }
-        assert_eq!((list.len(), list.next(), list.next()), (0, None, None));
     }
 }
 
@@ -68,16 +108,17 @@ fn lists_around_what_is_fetched_at_once() {
 #[test]
 fn elements_passed_over() {
     let count = 1000;
-    let message = message(count);
-    for passed in [0, 1, 5, 62, 63, 64, 200, 998, 999, 1000, usize::MAX] {
-        let mut list = scalgo::list(SCHEMA, &message, &[0]).expect("a list");
-        let mut at = passed;
-        while at < count {
-            assert_eq!(list.nth(passed), Some(expected(at, count)));
-            assert_eq!(list.len(), count - at - 1);
-            at += passed + 1;
+    for texts in CODINGS.map(|coding| Texts::new(coding, count)) {
+        for passed in [0, 1, 5, 62, 63, 64, 200, 998, 999, 1000, usize::MAX] {
+            let mut list = texts.list();
+            let mut at = passed;
+            while at < count {
+                assert_eq!(list.nth(passed), Some(texts.expected(at)));
+                assert_eq!(list.len(), count - at - 1);
+                at += passed + 1;
+            }
+            assert_eq!((list.nth(passed), list.len()), (None, 0));
+            assert_eq!(list.next(), None);
         }
-        assert_eq!((list.nth(passed), list.len()), (None, 0));
-        assert_eq!(list.next(), None);
     }
 }

@@ -1,10 +1,10 @@
 //! The whole library at the desk, on files. See `USAGE`.
 
-use scalgo::Answer;
+use scalgo::{Answer, Coding};
 use std::process::ExitCode;
 
 const USAGE: &str = "\
-usage:
+usage: scalgo-desk [--coding 32] COMMAND; without it the coding is 48
   scalgo-desk judge SCHEMA MESSAGE          prints number, place, visits
   scalgo-desk field SCHEMA MESSAGE N N N..  prints what stands at the path
   scalgo-desk list SCHEMA MESSAGE N N N..   prints what each element of the list is
@@ -35,44 +35,52 @@ fn main() -> ExitCode {
 /// Runs one command and gives what it prints.
 fn run(words: &[&str]) -> Result<String, String> {
     match words {
+        ["--coding", word, words @ ..] => command(coding(word)?, words),
+        _ => command(Coding::Bits48, words),
+    }
+}
+
+/// A command under a coding.
+fn command(coding: Coding, words: &[&str]) -> Result<String, String> {
+    match words {
         ["judge", schema, message] => {
-            let verdict = scalgo::judge(&load(schema)?, &load(message)?, BUDGET);
+            let verdict = scalgo::judge(coding, &load(schema)?, &load(message)?, BUDGET);
             let (number, place, visits) = (verdict.number, verdict.place, verdict.visits);
             Ok(format!("{number} {place} {visits}\n"))
         }
         ["field", schema, message, path @ ..] => {
             let (schema, message, path) = (load(schema)?, load(message)?, numbers(path)?);
-            Ok(format!("{}\n", field(&schema, &message, &path)))
+            Ok(format!("{}\n", field(coding, &schema, &message, &path)))
         }
         ["list", schema, message, path @ ..] => {
             let (schema, message, path) = (load(schema)?, load(message)?, numbers(path)?);
-            Ok(list(&schema, &message, &path))
+            Ok(list(coding, &schema, &message, &path))
         }
-        ["read", schema, message, sheet] => read(&load(schema)?, &load(message)?, sheet),
-        ["write", schema, sheet, message] => write(&load(schema)?, &load(sheet)?, message),
+        ["read", schema, message, sheet] => read(coding, &load(schema)?, &load(message)?, sheet),
+        ["write", schema, sheet, message] => write(coding, &load(schema)?, &load(sheet)?, message),
         _ => Err(USAGE.to_string()),
     }
 }
 
 /// What stands at a path, a text or bytes with its content.
-fn field(schema: &[u8], message: &[u8], path: &[u32]) -> String {
-    let line = line(scalgo::field(schema, message, path));
-    match scalgo::text(schema, message, path) {
+fn field(coding: Coding, schema: &[u8], message: &[u8], path: &[u32]) -> String {
+    let line = line(scalgo::field(coding, schema, message, path));
+    match scalgo::text(coding, schema, message, path) {
         Some(text) => format!("{line}: {}", text.escape_ascii()),
         None => line,
     }
 }
 
-fn list(schema: &[u8], message: &[u8], path: &[u32]) -> String {
-    match scalgo::list(schema, message, path) {
+fn list(coding: Coding, schema: &[u8], message: &[u8], path: &[u32]) -> String {
+    match scalgo::list(coding, schema, message, path) {
         Ok(list) => list.map(|element| line(element) + "\n").collect(),
         Err(refusal) => line(refusal) + "\n",
     }
 }
 
-fn read(schema: &[u8], message: &[u8], file: &str) -> Result<String, String> {
+fn read(coding: Coding, schema: &[u8], message: &[u8], file: &str) -> Result<String, String> {
     let mut sheet = vec![0; SIZE];
-    let answer = scalgo::read(schema, message, BUDGET, &mut sheet);
+    let answer = scalgo::read(coding, schema, message, BUDGET, &mut sheet);
     let verdict = answer.verdict;
     if verdict.accepted() {
         save(file, &sheet[..answer.length])?;
@@ -81,9 +89,9 @@ fn read(schema: &[u8], message: &[u8], file: &str) -> Result<String, String> {
     Ok(format!("{number} {place} {visits} {}\n", answer.length))
 }
 
-fn write(schema: &[u8], sheet: &[u8], file: &str) -> Result<String, String> {
+fn write(coding: Coding, schema: &[u8], sheet: &[u8], file: &str) -> Result<String, String> {
     let mut message = vec![0; SIZE];
-    let answer = scalgo::write(schema, sheet, &mut message);
+    let answer = scalgo::write(coding, schema, sheet, &mut message);
     if answer.number == 0 {
         save(file, &message[..answer.length])?;
     }
@@ -141,6 +149,11 @@ fn load(file: &str) -> Result<Vec<u8>, String> {
 
 fn save(file: &str, bytes: &[u8]) -> Result<(), String> {
     std::fs::write(file, bytes).map_err(|trouble| format!("{file}: {trouble}"))
+}
+
+fn coding(word: &str) -> Result<Coding, String> {
+    let coding = word.parse().ok().and_then(Coding::of);
+    coding.ok_or_else(|| format!("{word}: no coding"))
 }
 
 fn numbers(words: &[&str]) -> Result<Vec<u32>, String> {

@@ -2,11 +2,6 @@ use Rattle.write.proofs.WriteCases.{sheet-short, sheet-measured, not-an
 use borrow.Author.Needs.{needs}
 use Rattle.write.proofs.write_lawful.Statement.{statement}
 use Rattle.write.proofs.write_lawful.Tie as tie
-use Rattle.write.proofs.write_lawful.Reads as reads
-use Rattle.write.proofs.write_lawful.Lts as lts
-use Rattle.write_pass.proofs.emit_message.Reads as emit-message-reads
-use Rattle.write.proofs.message_size.Reads as message-size-reads
-use Rattle.write.proofs.refused.Reads as refused-reads
 
 refused-requires : tie.Need-refused-requires
 refused-requires c κs = search needs

@@ -3,6 +3,7 @@
 
 use super::lists;
 use super::Calls;
+use crate::coding::Coding;
 use crate::counts::Counts;
 use crate::laws::hex;
 use crate::paths::PATH_LIMIT;
@@ -10,6 +11,9 @@ use crate::rng::Rng;
 use crate::schema::Schema;
 use crate::schema_rules;
 use crate::subjects::{self, Subject};
+
+/// What the answers of fields are counted as.
+pub const ANSWERS: &str = "field answers";
 
 /// The paths followed into one message.
 const PATHS: usize = 4;
@@ -66,7 +70,7 @@ impl<'a> Place<'a> {
         format!(
             "{:?}: {call} at {path:?}\n  {one}\n  {two}\n  schema: {}\n  message: {}",
             self.subject.sort,
-            hex(&self.subject.schema),
+            self.subject.schema,
             hex(&self.subject.message),
         )
     }
@@ -76,18 +80,18 @@ impl<'a> Place<'a> {
 pub fn run(
     first: &dyn Calls,
     second: &dyn Calls,
+    coding: Coding,
     seed: u64,
     answers: u64,
 ) -> Result<Counts, String> {
-    super::until(first, second, "field answers", answers, |run, round| {
-        on_round(run, seed, round)
-    })
+    let run = Run::new(first, second, coding);
+    run.until(ANSWERS, answers, |run, round| on_round(run, seed, round))
 }
 
 /// One numbered round of a seeded run.
 pub fn on_round(run: &mut Run, seed: u64, round: u64) -> Result<(), String> {
     let mut rng = Rng::for_case(seed, round);
-    for subject in subjects::of_round(&mut rng) {
+    for subject in subjects::of_round(run.coding, &mut rng) {
         on_subject(run, &mut rng, &subject)
             .map_err(|report| format!("seed {seed} round {round}: {report}"))?;
         run.counts.note(&format!("messages: {:?}", subject.sort));
@@ -182,9 +186,11 @@ fn ask(run: &mut Run, rng: &mut Rng, place: &Place, path: &[u32]) -> Result<[u64
     }
     note(&mut run.counts, path, one, part);
     if matches!(one, [3, 15, ..]) {
-        lists::at_list(run, rng, place, path, one)?;
-        lists::damaged(run, rng, place, path, one)?;
-    } else if rng.one_in(10) {
+        for _ in 0..2 {
+            lists::at_list(run, rng, place, path, one)?;
+            lists::damaged(run, rng, place, path, one)?;
+        }
+    } else if rng.one_in(5) {
         lists::at_list(run, rng, place, path, one)?;
     }
     Ok(one)
@@ -192,7 +198,7 @@ fn ask(run: &mut Run, rng: &mut Rng, place: &Place, path: &[u32]) -> Result<[u64
 
 /// Counts an answer.
 fn note(counts: &mut Counts, path: &[u32], answer: [u64; 4], part: [u64; 3]) {
-    counts.note("field answers");
+    counts.note(ANSWERS);
     counts.note(&sort_of(answer));
     match path.len() {
         0 => counts.note("paths: empty"),

@@ -1,11 +1,25 @@
 //! The proved library, called as a C program calls it.
 
 use super::{Calls, Writes};
+use crate::program::{Judge, Verdict};
+use crate::schema::Packed;
 // The archive is linked with the wrapper.
 use scalgo as _;
 
 extern "C" {
+    fn scalgo_judge(
+        coding: u32,
+        schema: *const u8,
+        schema_len: usize,
+        message: *const u8,
+        message_len: usize,
+        budget: u32,
+        place: *mut u64,
+        visits: *mut u32,
+    ) -> u32;
+
     fn scalgo_field(
+        coding: u32,
         schema: *const u8,
         schema_len: usize,
         message: *const u8,
@@ -18,6 +32,7 @@ extern "C" {
     ) -> u32;
 
     fn scalgo_text(
+        coding: u32,
         schema: *const u8,
         schema_len: usize,
         message: *const u8,
@@ -29,6 +44,7 @@ extern "C" {
     ) -> u32;
 
     fn scalgo_list(
+        coding: u32,
         schema: *const u8,
         schema_len: usize,
         message: *const u8,
@@ -41,6 +57,7 @@ extern "C" {
     ) -> u64;
 
     fn scalgo_read(
+        coding: u32,
         schema: *const u8,
         schema_len: usize,
         message: *const u8,
@@ -54,6 +71,7 @@ extern "C" {
     ) -> u32;
 
     fn scalgo_write(
+        coding: u32,
         schema: *const u8,
         schema_len: usize,
         sheet: *const u8,
@@ -70,19 +88,44 @@ const UNSET: u64 = 0x5A5A_5A5A_5A5A_5A5A;
 /// The proved library.
 pub struct LibraryCalls;
 
-impl Calls for LibraryCalls {
+impl Judge for LibraryCalls {
     fn name(&self) -> &'static str {
         "proved library"
     }
 
-    fn field(&self, schema: &[u8], message: &[u8], path: &[u32]) -> [u64; 4] {
-        let (mut a, mut b, mut c) = (UNSET, UNSET, UNSET);
+    fn judge(&self, schema: &Packed, message: &[u8], budget: u32) -> Verdict {
+        let (mut place, mut visits) = (UNSET, UNSET as u32);
         // SAFETY: each slice is given as its pointer and its length and is not written to during
-        // the call; the three numbers are this function's own.
+        // the call; the two numbers are this function's own.
+        let number = unsafe {
+            scalgo_judge(
+                schema.coding,
+                schema.bytes.as_ptr(),
+                schema.bytes.len(),
+                message.as_ptr(),
+                message.len(),
+                budget,
+                &mut place,
+                &mut visits,
+            )
+        };
+        Verdict {
+            number,
+            place,
+            visits,
+        }
+    }
+}
+
+impl Calls for LibraryCalls {
+    fn field(&self, schema: &Packed, message: &[u8], path: &[u32]) -> [u64; 4] {
+        let (mut a, mut b, mut c) = (UNSET, UNSET, UNSET);
+        // SAFETY: as in `judge`, with three numbers.
         let case = unsafe {
             scalgo_field(
-                schema.as_ptr(),
-                schema.len(),
+                schema.coding,
+                schema.bytes.as_ptr(),
+                schema.bytes.len(),
                 message.as_ptr(),
                 message.len(),
                 path.as_ptr(),
@@ -95,13 +138,14 @@ impl Calls for LibraryCalls {
         [u64::from(case), a, b, c]
     }
 
-    fn text(&self, schema: &[u8], message: &[u8], path: &[u32]) -> [u64; 3] {
+    fn text(&self, schema: &Packed, message: &[u8], path: &[u32]) -> [u64; 3] {
         let (mut start, mut length) = (UNSET, UNSET);
-        // SAFETY: as in `field`, with two numbers.
+        // SAFETY: as in `judge`.
         let found = unsafe {
             scalgo_text(
-                schema.as_ptr(),
-                schema.len(),
+                schema.coding,
+                schema.bytes.as_ptr(),
+                schema.bytes.len(),
                 message.as_ptr(),
                 message.len(),
                 path.as_ptr(),
@@ -115,17 +159,18 @@ impl Calls for LibraryCalls {
 
     fn list(
         &self,
-        schema: &[u8],
+        schema: &Packed,
         message: &[u8],
         path: &[u32],
         from: u64,
         cases: &mut [u64],
     ) -> u64 {
-        // SAFETY: as in `field`; the cases are lent to this function alone.
+        // SAFETY: as in `judge`; the cases are lent to this function alone.
         unsafe {
             scalgo_list(
-                schema.as_ptr(),
-                schema.len(),
+                schema.coding,
+                schema.bytes.as_ptr(),
+                schema.bytes.len(),
                 message.as_ptr(),
                 message.len(),
                 path.as_ptr(),
@@ -137,13 +182,14 @@ impl Calls for LibraryCalls {
         }
     }
 
-    fn read(&self, schema: &[u8], message: &[u8], budget: u32, sheet: &mut [u8]) -> [u64; 4] {
+    fn read(&self, schema: &Packed, message: &[u8], budget: u32, sheet: &mut [u8]) -> [u64; 4] {
         let (mut place, mut visits, mut length) = (UNSET, UNSET as u32, UNSET);
-        // SAFETY: as in `field`; the sheet is lent to this function alone.
+        // SAFETY: as in `judge`; the sheet is lent to this function alone.
         let number = unsafe {
             scalgo_read(
-                schema.as_ptr(),
-                schema.len(),
+                schema.coding,
+                schema.bytes.as_ptr(),
+                schema.bytes.len(),
                 message.as_ptr(),
                 message.len(),
                 budget,
@@ -159,13 +205,14 @@ impl Calls for LibraryCalls {
 }
 
 impl Writes for LibraryCalls {
-    fn write(&self, schema: &[u8], sheet: &[u8], message: &mut [u8]) -> [u64; 2] {
+    fn write(&self, schema: &Packed, sheet: &[u8], message: &mut [u8]) -> [u64; 2] {
         let mut length = UNSET;
         // SAFETY: as in `read`, with the message lent.
         let number = unsafe {
             scalgo_write(
-                schema.as_ptr(),
-                schema.len(),
+                schema.coding,
+                schema.bytes.as_ptr(),
+                schema.bytes.len(),
                 sheet.as_ptr(),
                 sheet.len(),
                 message.as_mut_ptr(),

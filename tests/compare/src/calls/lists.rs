@@ -2,8 +2,11 @@
 //! own paths.
 
 use super::fields::{sort_of, Place, Run};
-use crate::canonical::HEADER;
 use crate::rng::Rng;
+
+/// What the calls of the list reader are counted as, and those of an unlawful schema.
+pub const CALLS: &str = "list calls";
+pub const REFUSED_1: &str = "list calls refused by 1";
 
 /// What the numbers hold before a call.
 const UNSET: u64 = 0xA5A5_A5A5_A5A5_A5A5;
@@ -31,6 +34,10 @@ pub fn at_list(
         let (one, two) = (format!("{count} {cases:?}"), format!("{other} {second:?}"));
         return Err(place.report(&call, path, &one, &two));
     }
+    run.counts.note(CALLS);
+    if whole[..2] == [7, 1] {
+        run.counts.note(REFUSED_1);
+    }
     let answers: Vec<[u64; 4]> = (cases.chunks_exact(4))
         .map(|case| [case[0], case[1], case[2], case[3]])
         .collect();
@@ -53,15 +60,18 @@ pub fn damaged(
     let mut subject = place.subject.clone();
     let message = &mut subject.message;
     let (at, length) = (whole[2] as usize, whole[3] as usize);
-    // Six bytes a reference, eight a union; in place there is no header.
-    let start = at + rng.pick(&[HEADER, HEADER, HEADER, 0]);
-    let (size, skipped) = rng.pick(&[(6, 0), (8, 0), (8, 2)]);
+    // A union has a choice before its offset; in place there is no header.
+    let (offset, header) = (run.coding.offset(), run.coding.header());
+    let start = at + rng.pick(&[header, header, header, 0]);
+    let union = run.coding.union();
+    let (size, skipped) = rng.pick(&[(offset, 0), (union, 0), (union, 2)]);
     for _ in 0..rng.range(1, 3) {
         let element = start + size * rng.below(length.max(1)) + skipped;
         let near = rng.below(message.len() + 20) as u64;
-        let number = rng.pick(&[0, 1, 9, 10, at as u64, near, near, 1 << 40]);
-        if let Some(bytes) = message.get_mut(element..element + 6) {
-            bytes.copy_from_slice(&number.to_le_bytes()[..6]);
+        let (first, far) = (header as u64, run.coding.largest() / 256 + 1);
+        let number = rng.pick(&[0, 1, first - 1, first, at as u64, near, near, far]);
+        if let Some(bytes) = message.get_mut(element..element + offset) {
+            bytes.copy_from_slice(&run.coding.bytes(number));
         }
     }
     let place = place.with(&subject);

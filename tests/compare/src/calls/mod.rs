@@ -8,65 +8,73 @@ pub mod reads;
 pub mod second;
 pub mod writes;
 
+use crate::coding::Coding;
 use crate::counts::Counts;
+use crate::program::Judge;
+use crate::schema::Packed;
 
 pub use library::LibraryCalls;
 pub use second::SecondCalls;
 
 /// The calls that read.
-pub trait Calls {
-    /// What reports call it.
-    fn name(&self) -> &'static str;
+pub trait Calls: Judge {
     /// One field: the case and its three numbers.
-    fn field(&self, schema: &[u8], message: &[u8], path: &[u32]) -> [u64; 4];
+    fn field(&self, schema: &Packed, message: &[u8], path: &[u32]) -> [u64; 4];
     /// A text or bytes: 1, start and length, or three times 0.
-    fn text(&self, schema: &[u8], message: &[u8], path: &[u32]) -> [u64; 3];
+    fn text(&self, schema: &Packed, message: &[u8], path: &[u32]) -> [u64; 3];
     /// A list's elements from one on, four numbers each as far as they fit;
     /// gives the number of elements.
     fn list(
         &self,
-        schema: &[u8],
+        schema: &Packed,
         message: &[u8],
         path: &[u32],
         from: u64,
         cases: &mut [u64],
     ) -> u64;
     /// A message to its sheet: number, place, visits and length.
-    fn read(&self, schema: &[u8], message: &[u8], budget: u32, sheet: &mut [u8]) -> [u64; 4];
+    fn read(&self, schema: &Packed, message: &[u8], budget: u32, sheet: &mut [u8]) -> [u64; 4];
 }
 
 /// The call that writes, and those that read what was written.
 pub trait Writes: Calls {
     /// A sheet to its message: number and length.
-    fn write(&self, schema: &[u8], sheet: &[u8], message: &mut [u8]) -> [u64; 2];
+    fn write(&self, schema: &Packed, sheet: &[u8], message: &mut [u8]) -> [u64; 2];
 }
 
-/// Two programs, and what was seen of them.
+/// Two programs under a coding, and what was seen of them.
 pub struct Run<'a, C: ?Sized> {
     pub first: &'a C,
     pub second: &'a C,
+    pub coding: Coding,
     pub counts: Counts,
 }
 
-/// Runs numbered rounds of a seed with both until so many of a sort were counted.
-pub fn until<'a, C: ?Sized>(
-    first: &'a C,
-    second: &'a C,
-    sort: &str,
-    many: u64,
-    on_round: impl Fn(&mut Run<'a, C>, u64) -> Result<(), String>,
-) -> Result<Counts, String> {
-    let mut run = Run {
-        first,
-        second,
-        counts: Counts::default(),
-    };
-    let mut round = 0;
-    while run.counts.named(sort) < many {
-        on_round(&mut run, round)?;
-        round += 1;
+impl<'a, C: ?Sized> Run<'a, C> {
+    /// Nothing is seen yet.
+    pub fn new(first: &'a C, second: &'a C, coding: Coding) -> Run<'a, C> {
+        Run {
+            first,
+            second,
+            coding,
+            counts: Counts::default(),
+        }
     }
-    Ok(run.counts)
+
+    /// Runs numbered rounds until so many of a sort were counted; gives what was seen.
+    pub fn until(
+        mut self,
+        sort: &str,
+        many: u64,
+        on_round: impl Fn(&mut Run<'a, C>, u64) -> Result<(), String>,
+    ) -> Result<Counts, String> {
+        let mut round = 0;
+        while self.counts.named(sort) < many {
+            on_round(&mut self, round)?;
+            round += 1;
+        }
+        Ok(self.counts)
+    }
 }
 
 /// The bytes on either side of an output that no call may touch.

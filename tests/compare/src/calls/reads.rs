@@ -2,11 +2,15 @@
 //! surroundings.
 
 use super::{Calls, Output};
+use crate::coding::Coding;
 use crate::counts::Counts;
 use crate::laws::hex;
 use crate::rng::Rng;
 use crate::schema::SIZE_LIMIT;
 use crate::subjects::{self, Subject};
+
+/// What the calls are counted as.
+pub const CALLS: &str = "reads";
 
 /// Damage may share objects so that a walk grows without end.
 const AMPLE: u32 = 3000;
@@ -15,16 +19,21 @@ const AMPLE: u32 = 3000;
 pub type Run<'a> = super::Run<'a, dyn Calls + 'a>;
 
 /// Reads messages with both until at least so many calls were compared.
-pub fn run(first: &dyn Calls, second: &dyn Calls, seed: u64, calls: u64) -> Result<Counts, String> {
-    super::until(first, second, "reads", calls, |run, round| {
-        on_round(run, seed, round)
-    })
+pub fn run(
+    first: &dyn Calls,
+    second: &dyn Calls,
+    coding: Coding,
+    seed: u64,
+    calls: u64,
+) -> Result<Counts, String> {
+    let run = Run::new(first, second, coding);
+    run.until(CALLS, calls, |run, round| on_round(run, seed, round))
 }
 
 /// One numbered round of a seeded run.
 pub fn on_round(run: &mut Run, seed: u64, round: u64) -> Result<(), String> {
     let mut rng = Rng::for_case(seed, round);
-    for subject in subjects::of_round(&mut rng) {
+    for subject in subjects::of_round(run.coding, &mut rng) {
         on_subject(run, &mut rng, &subject)
             .map_err(|report| format!("seed {seed} round {round}: {report}"))?;
     }
@@ -34,8 +43,8 @@ pub fn on_round(run: &mut Run, seed: u64, round: u64) -> Result<(), String> {
 /// A message with budgets and rooms around those that it needs.
 fn on_subject(run: &mut Run, rng: &mut Rng, subject: &Subject) -> Result<(), String> {
     let (verdict, sheet) = reference::read(
-        crate::CODING,
-        &subject.schema,
+        subject.schema.coding,
+        &subject.schema.bytes,
         &subject.message,
         AMPLE,
         SIZE_LIMIT,
@@ -75,7 +84,7 @@ fn one(
     let (schema, message) = (&subject.schema, &subject.message);
     let given = run.first.read(schema, message, budget, sheet.lent());
     let second = run.second.read(schema, message, budget, expected.lent());
-    run.counts.note("reads");
+    run.counts.note(CALLS);
     run.counts.note(&format!("{sort}, answer {}", given[0]));
     run.counts.answer(given[0] as u32);
     if given == second && sheet.whole() == expected.whole() {
@@ -89,7 +98,7 @@ fn one(
         run.second.name(),
         hex(sheet.whole()),
         hex(expected.whole()),
-        hex(schema),
+        schema,
         hex(message),
     ))
 }

@@ -1,6 +1,8 @@
 //! What the second program says, in the C interface's numbers.
 
 use super::{Calls, Writes};
+use crate::program::{Judge, Second, Verdict};
+use crate::schema::Packed;
 use reference::{Answer, ListReader};
 
 /// The second program.
@@ -35,17 +37,28 @@ fn store(cases: &mut [u64], mut answer: impl FnMut() -> Answer) {
     }
 }
 
-impl Calls for SecondCalls {
+impl Judge for SecondCalls {
     fn name(&self) -> &'static str {
-        "second program"
+        Second.name()
     }
 
-    fn field(&self, schema: &[u8], message: &[u8], path: &[u32]) -> [u64; 4] {
-        numbers(reference::field(crate::CODING, schema, message, path))
+    fn judge(&self, schema: &Packed, message: &[u8], budget: u32) -> Verdict {
+        Second.judge(schema, message, budget)
+    }
+}
+
+impl Calls for SecondCalls {
+    fn field(&self, schema: &Packed, message: &[u8], path: &[u32]) -> [u64; 4] {
+        numbers(reference::field(
+            schema.coding,
+            &schema.bytes,
+            message,
+            path,
+        ))
     }
 
-    fn text(&self, schema: &[u8], message: &[u8], path: &[u32]) -> [u64; 3] {
-        match reference::text(crate::CODING, schema, message, path) {
+    fn text(&self, schema: &Packed, message: &[u8], path: &[u32]) -> [u64; 3] {
+        match reference::text(schema.coding, &schema.bytes, message, path) {
             Some((start, length)) => [1, start as u64, length as u64],
             None => [0; 3],
         }
@@ -53,20 +66,21 @@ impl Calls for SecondCalls {
 
     fn list(
         &self,
-        schema: &[u8],
+        schema: &Packed,
         message: &[u8],
         path: &[u32],
         from: u64,
         cases: &mut [u64],
     ) -> u64 {
-        let mut reader = match ListReader::new(crate::CODING, schema, message, path) {
+        let mut reader = match ListReader::new(schema.coding, &schema.bytes, message, path) {
             Ok(reader) => reader,
             Err(refusal) => {
                 store(cases, || refusal);
                 return 0;
             }
         };
-        let Answer::Object { length, .. } = reference::field(crate::CODING, schema, message, path)
+        let Answer::Object { length, .. } =
+            reference::field(schema.coding, &schema.bytes, message, path)
         else {
             unreachable!("a list reader starts only at a list");
         };
@@ -78,8 +92,9 @@ impl Calls for SecondCalls {
         length
     }
 
-    fn read(&self, schema: &[u8], message: &[u8], budget: u32, sheet: &mut [u8]) -> [u64; 4] {
-        let (verdict, read) = reference::read(crate::CODING, schema, message, budget, sheet.len());
+    fn read(&self, schema: &Packed, message: &[u8], budget: u32, sheet: &mut [u8]) -> [u64; 4] {
+        let (verdict, read) =
+            reference::read(schema.coding, &schema.bytes, message, budget, sheet.len());
         sheet[..read.len()].copy_from_slice(&read);
         let (number, visits) = (u64::from(verdict.number), u64::from(verdict.visits));
         [number, verdict.place, visits, read.len() as u64]
@@ -87,8 +102,9 @@ impl Calls for SecondCalls {
 }
 
 impl Writes for SecondCalls {
-    fn write(&self, schema: &[u8], sheet: &[u8], message: &mut [u8]) -> [u64; 2] {
-        let (number, written) = reference::write(crate::CODING, schema, sheet, message.len());
+    fn write(&self, schema: &Packed, sheet: &[u8], message: &mut [u8]) -> [u64; 2] {
+        let (number, written) =
+            reference::write(schema.coding, &schema.bytes, sheet, message.len());
         message[..written.len()].copy_from_slice(&written);
         [u64::from(number), written.len() as u64]
     }

@@ -2,12 +2,13 @@
 //! with its surroundings; and what was written read back.
 
 use super::{Output, Writes};
+use crate::coding::Coding;
 use crate::counts::Counts;
 use crate::damage;
 use crate::laws::hex;
 use crate::message_gen;
 use crate::rng::Rng;
-use crate::schema::{Schema, SIZE_LIMIT};
+use crate::schema::{Packed, Schema, SIZE_LIMIT};
 use crate::schema_faults;
 use crate::sheet;
 use crate::sheet_faults;
@@ -18,10 +19,13 @@ use crate::value_gen::{self, Purpose};
 /// Two programs, and what was seen of them.
 pub type Run<'a> = super::Run<'a, dyn Writes + 'a>;
 
+/// What the calls are counted as.
+pub const CALLS: &str = "writes";
+
 /// Any bytes as a sheet, and the schema they are written by.
 struct Subject {
     sort: &'static str,
-    schema: Vec<u8>,
+    schema: Packed,
     sheet: Vec<u8>,
 }
 
@@ -29,18 +33,18 @@ struct Subject {
 pub fn run(
     first: &dyn Writes,
     second: &dyn Writes,
+    coding: Coding,
     seed: u64,
     calls: u64,
 ) -> Result<Counts, String> {
-    super::until(first, second, "writes", calls, |run, round| {
-        on_round(run, seed, round)
-    })
+    let run = Run::new(first, second, coding);
+    run.until(CALLS, calls, |run, round| on_round(run, seed, round))
 }
 
 /// One numbered round of a seeded run.
 pub fn on_round(run: &mut Run, seed: u64, round: u64) -> Result<(), String> {
     let mut rng = Rng::for_case(seed, round);
-    for subject in of_round(&mut rng) {
+    for subject in of_round(run.coding, &mut rng) {
         on_subject(run, &mut rng, &subject)
             .map_err(|report| format!("seed {seed} round {round}: {report}"))?;
     }
@@ -48,8 +52,8 @@ pub fn on_round(run: &mut Run, seed: u64, round: u64) -> Result<(), String> {
 }
 
 /// The sheets of one random schema.
-fn of_round(rng: &mut Rng) -> Vec<Subject> {
-    let schema = subjects::some_schema(rng, 10);
+fn of_round(coding: Coding, rng: &mut Rng) -> Vec<Subject> {
+    let schema = subjects::some_schema(coding, rng, 10);
     let size = value_gen::some_size(rng);
     let writable = value_gen::root_value(&schema, rng, Purpose::Writable, size);
     let any = subjects::some_value(rng, &schema, 12);
@@ -84,21 +88,48 @@ fn of_round(rng: &mut Rng) -> Vec<Subject> {
             sheet,
         });
     }
+    other_codings(coding, rng, &packed, &mut out);
     out
+}
+
+/// A sheet by a schema made for the other coding; now and then one under a number that is no
+/// coding's.
+fn other_codings(coding: Coding, rng: &mut Rng, own: &Packed, out: &mut Vec<Subject>) {
+    let (schema, packed) = subjects::made_for_the_other(coding, rng);
+    let size = value_gen::some_size(rng);
+    let value = value_gen::root_value(&schema, rng, Purpose::Writable, size);
+    out.push(Subject {
+        sort: "by the other coding's schema",
+        schema: packed,
+        sheet: sheet::encode(&schema, &value),
+    });
+    if rng.one_in(8) {
+        let schema = Packed {
+            coding: subjects::no_coding(rng),
+            bytes: own.bytes.clone(),
+        };
+        out.push(Subject {
+            sort: "under no coding",
+            schema,
+            sheet: out[0].sheet.clone(),
+        });
+    }
 }
 
 /// The sheet of a damaged message that is still accepted.
 fn read_from_damaged(rng: &mut Rng, schema: &Schema, value: Value) -> Option<Vec<u8>> {
     let wild = message_gen::lay_out(schema, rng, value, None);
-    let bytes = damage::message(rng, &wild.bytes, &wild.spots);
-    let (verdict, sheet) = reference::read(crate::CODING, &schema.pack(), &bytes, 3000, 1 << 16);
+    let bytes = damage::message(schema.coding, rng, &wild.bytes, &wild.spots);
+    let packed = schema.pack();
+    let (verdict, sheet) = reference::read(packed.coding, &packed.bytes, &bytes, 3000, 1 << 16);
     (verdict.number == 0).then_some(sheet)
 }
 
 /// A sheet with rooms around the one that it needs.
 fn on_subject(run: &mut Run, rng: &mut Rng, subject: &Subject) -> Result<(), String> {
+    let schema = &subject.schema;
     let (number, message) =
-        reference::write(crate::CODING, &subject.schema, &subject.sheet, SIZE_LIMIT);
+        reference::write(schema.coding, &schema.bytes, &subject.sheet, SIZE_LIMIT);
     let name = format!("sheets {}, answer {number}", subject.sort);
     run.counts.note(&name);
     let length = message.len();
@@ -129,7 +160,7 @@ fn one(
     let (schema, sheet) = (&subject.schema, &subject.sheet);
     let given = run.first.write(schema, sheet, message.lent());
     let second = run.second.write(schema, sheet, expected.lent());
-    run.counts.note("writes");
+    run.counts.note(CALLS);
     run.counts.note(&format!("{sort}, answer {}", given[0]));
     run.counts.answer(given[0] as u32);
     if given == second && message.whole() == expected.whole() {
@@ -143,7 +174,7 @@ fn one(
         run.second.name(),
         hex(message.whole()),
         hex(expected.whole()),
-        hex(schema),
+        schema,
         hex(sheet),
     ))
 }
@@ -166,7 +197,7 @@ fn read_back(run: &mut Run, subject: &Subject, message: &[u8]) -> Result<(), Str
         subject.sort,
         hex(back.front(length)),
         hex(&subject.sheet),
-        hex(&subject.schema),
+        subject.schema,
         hex(message),
     ))
 }

@@ -18,13 +18,13 @@ const BUDGET: u32 = 3000;
 struct Pair {
     older: Schema,
     newer: Schema,
-    old: Vec<u8>,
-    new: Vec<u8>,
+    old: Packed,
+    new: Packed,
 }
 
 /// One pair of schemas.
 pub fn check(context: &mut Context) -> Checked {
-    let older = schema_gen::lawful_schema(&mut context.rng);
+    let older = schema_gen::lawful_schema(context.coding, &mut context.rng);
     relations(context, &older)?;
     let newer = append_gen::newer(&mut context.rng, &older);
     let pair = Pair {
@@ -52,7 +52,7 @@ fn relations(context: &mut Context, older: &Schema) -> Checked {
         ("a damaged newer schema", damaged, by_damage),
     ];
     for (law, new, expected) in cases {
-        let data: Data = &[("older", &old), ("newer", &new)];
+        let data: Data = &[("older", &old.bytes), ("newer", &new.bytes)];
         same(law, &expected, &context.relations.appends(&old, &new), data)?;
         context.counts.note(if expected {
             "schemas that append"
@@ -61,8 +61,9 @@ fn relations(context: &mut Context, older: &Schema) -> Checked {
         });
     }
     let back = append_gen::appends(&newer, older);
-    let data: Data = &[("older", &newer.pack()), ("newer", &old)];
-    let given = context.relations.appends(&newer.pack(), &old);
+    let new = newer.pack();
+    let data: Data = &[("older", &new.bytes), ("newer", &old.bytes)];
+    let given = context.relations.appends(&new, &old);
     same("the other way round", &back, &given, data)
 }
 
@@ -74,7 +75,7 @@ fn forward(context: &mut Context, pair: &Pair) -> Checked {
     let visits = wild.walked.len() as u32;
     forward_one(context, pair, &wild.bytes, visits, Some(&wild.value))?;
     for _ in 0..2 {
-        let bytes = damage::message(&mut context.rng, &wild.bytes, &wild.spots);
+        let bytes = damage::message(context.coding, &mut context.rng, &wild.bytes, &wild.spots);
         forward_one(context, pair, &bytes, BUDGET, None)?;
     }
     Ok(())
@@ -87,7 +88,11 @@ fn forward_one(
     budget: u32,
     value: Option<&Value>,
 ) -> Checked {
-    let data: Data = &[("older", &pair.old), ("newer", &pair.new), ("m", bytes)];
+    let data: Data = &[
+        ("older", &pair.old.bytes),
+        ("newer", &pair.new.bytes),
+        ("m", bytes),
+    ];
     let (verdict, new_sheet) = context.read(&pair.new, bytes, budget, SIZE_LIMIT);
     if verdict.number != 0 {
         return same("laid out by the newer", &false, &value.is_some(), data);
@@ -123,8 +128,8 @@ fn backward(context: &mut Context, pair: &Pair) -> Checked {
     let old_sheet = sheet::encode(&pair.older, &value);
     let (number, message) = context.write(&pair.old, &old_sheet, SIZE_LIMIT);
     let data: Data = &[
-        ("older", &pair.old),
-        ("newer", &pair.new),
+        ("older", &pair.old.bytes),
+        ("newer", &pair.new.bytes),
         ("sheet", &old_sheet),
         ("message", &message),
     ];

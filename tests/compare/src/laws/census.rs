@@ -1,6 +1,5 @@
 //! Counts what an accepted wild message has in it.
 
-use crate::canonical::HEADER;
 use crate::counts::Counts;
 use crate::message_gen::{Arrival, Wild};
 use crate::schema::*;
@@ -62,7 +61,11 @@ fn note_entries(counts: &mut Counts, value: &Value) {
 
 /// The bytes an object stands in, without what it holds in place.
 fn extent(schema: &Schema, arrival: &Arrival) -> (u64, u64) {
-    let header = if arrival.in_place { 0 } else { HEADER as u64 };
+    let header = if arrival.in_place {
+        0
+    } else {
+        schema.coding.header()
+    };
     let content = match arrival.kind {
         TEXT => arrival.length + 1,
         LIST => {
@@ -71,7 +74,7 @@ fn extent(schema: &Schema, arrival: &Arrival) -> (u64, u64) {
         }
         _ => arrival.length,
     };
-    (arrival.place, arrival.place + header + content)
+    (arrival.place, arrival.place + header as u64 + content)
 }
 
 /// Counts objects that are reached again, and those that overlap others.

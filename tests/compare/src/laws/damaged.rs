@@ -16,13 +16,13 @@ const BUDGET: u32 = 3000;
 
 /// One message with several damages of it.
 pub fn check(context: &mut Context) -> Checked {
-    let schema = schema_gen::lawful_schema(&mut context.rng);
+    let schema = schema_gen::lawful_schema(context.coding, &mut context.rng);
     let size = value_gen::some_size(&mut context.rng);
     let value = value_gen::root_value(&schema, &mut context.rng, Purpose::Wild, size);
     let wild = message_gen::lay_out(&schema, &mut context.rng, value, None);
     let packed = schema.pack();
     for _ in 0..3 {
-        let bytes = damage::message(&mut context.rng, &wild.bytes, &wild.spots);
+        let bytes = damage::message(context.coding, &mut context.rng, &wild.bytes, &wild.spots);
         one(context, &schema, &packed, &bytes, &wild.value)?;
     }
     Ok(())
@@ -32,11 +32,11 @@ pub fn check(context: &mut Context) -> Checked {
 fn one(
     context: &mut Context,
     schema: &Schema,
-    packed: &[u8],
+    packed: &Packed,
     bytes: &[u8],
     value: &Value,
 ) -> Checked {
-    let data: Data = &[("schema", packed), ("message", bytes)];
+    let data: Data = &[("schema", &packed.bytes), ("message", bytes)];
     let verdict = context.judge(packed, bytes, BUDGET);
     let (again, given) = context.read(packed, bytes, BUDGET, SIZE_LIMIT);
     same("reading gives the verdict", &verdict, &again, data)?;
@@ -56,12 +56,12 @@ fn one(
 fn accepted_one(
     context: &mut Context,
     schema: &Schema,
-    packed: &[u8],
+    packed: &Packed,
     bytes: &[u8],
     given: &[u8],
     visits: u32,
 ) -> Checked {
-    let data: Data = &[("schema", packed), ("message", bytes)];
+    let data: Data = &[("schema", &packed.bytes), ("message", bytes)];
     context.counts.note("damaged messages accepted");
     let Some(value) = sheet::decode(schema, given) else {
         return fail("the sheet read is lawful", &hex(given), data);
@@ -91,12 +91,12 @@ fn accepted_one(
 fn fields_of_refused(
     context: &mut Context,
     schema: &Schema,
-    packed: &[u8],
+    packed: &Packed,
     bytes: &[u8],
     verdict: Verdict,
     value: &Value,
 ) -> Checked {
-    let data: Data = &[("schema", packed), ("message", bytes)];
+    let data: Data = &[("schema", &packed.bytes), ("message", bytes)];
     for _ in 0..2 {
         let path = paths::random_path(schema, &mut context.rng, value);
         let answer = context.field(packed, bytes, &path);
@@ -124,7 +124,7 @@ fn fields_of_refused(
 /// A larger budget changes nothing, nor does one just large enough.
 fn other_budgets(
     context: &mut Context,
-    packed: &[u8],
+    packed: &Packed,
     bytes: &[u8],
     verdict: Verdict,
     data: Data,

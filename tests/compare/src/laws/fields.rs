@@ -12,7 +12,7 @@ use crate::value::Value;
 pub fn on_wild(
     context: &mut Context,
     schema: &Schema,
-    packed: &[u8],
+    packed: &Packed,
     wild: &Wild,
     data: Data,
 ) -> Checked {
@@ -29,7 +29,7 @@ pub fn on_wild(
 pub fn on_accepted(
     context: &mut Context,
     schema: &Schema,
-    packed: &[u8],
+    packed: &Packed,
     message: &[u8],
     value: &Value,
     data: Data,
@@ -46,7 +46,7 @@ pub fn on_accepted(
 fn some_fields(
     context: &mut Context,
     known: &Known,
-    packed: &[u8],
+    packed: &Packed,
     message: &[u8],
     data: Data,
 ) -> Checked {
@@ -68,7 +68,7 @@ fn some_fields(
 fn some_lists(
     context: &mut Context,
     known: &Known,
-    packed: &[u8],
+    packed: &Packed,
     message: &[u8],
     data: Data,
 ) -> Checked {
@@ -115,7 +115,7 @@ fn list_at(schema: &Schema, root: &Value, path: &[u32]) -> Option<(u8, usize)> {
 fn one_list(
     context: &mut Context,
     known: &Known,
-    packed: &[u8],
+    packed: &Packed,
     message: &[u8],
     path: &[u32],
     data: Data,
@@ -150,7 +150,7 @@ fn one_list(
 
 fn element_answers(
     context: &mut Context,
-    packed: &[u8],
+    packed: &Packed,
     message: &[u8],
     path: &[u32],
     count: usize,

@@ -2,13 +2,15 @@
 
 use super::*;
 use crate::canonical;
+use crate::doubling;
 use crate::schema::*;
 use crate::sheet;
 use crate::value::Value;
 
 /// Runs the large cases once.
-pub fn run(programs: &Programs, counts: &mut Counts) -> Result<(), String> {
+pub fn run(programs: &Programs, coding: Coding, counts: &mut Counts) -> Result<(), String> {
     let mut context = Context {
+        coding,
         rng: Rng::new(0),
         counts,
         program: programs.program,
@@ -24,21 +26,27 @@ pub fn run(programs: &Programs, counts: &mut Counts) -> Result<(), String> {
         doubling,
     ];
     for check in checks {
-        check(&mut context).map_err(|failure| format!("large cases: {}", failure.text))?;
+        check(&mut context)
+            .map_err(|failure| format!("{coding:?} large cases: {}", failure.text))?;
     }
     Ok(())
 }
 
+/// The bytes of a message start, a root of one reference and another header.
+fn before_content(coding: Coding) -> usize {
+    3 * coding.header() + coding.offset()
+}
+
 /// A text whose message has exactly the largest size, and one byte more.
 fn text_at_the_limit(context: &mut Context) -> Checked {
-    let schema = root_with(Record::plain(TEXT, 0));
+    let schema = root_with(context.coding, Record::plain(TEXT, 0));
     let packed = schema.pack();
     for over in [0, 1] {
-        let text = vec![b'x'; SIZE_LIMIT - 37 + over];
+        let text = vec![b'x'; SIZE_LIMIT - before_content(context.coding) - 1 + over];
         let value = Value::Table(vec![Value::Blob(text)]);
         let bytes = sheet::encode(&schema, &value);
         let (number, message) = context.write(&packed, &bytes, SIZE_LIMIT + 100);
-        let data: Data = &[("schema", &packed)];
+        let data: Data = &[("schema", &packed.bytes)];
         if over == 1 {
             same(
                 "one byte over the size",
@@ -71,13 +79,21 @@ fn text_at_the_limit(context: &mut Context) -> Checked {
 
 /// A list of absent elements is far larger in a message than in a sheet.
 fn absent_elements(context: &mut Context) -> Checked {
-    let mut schema = root_with(Record::plain(LIST, 0));
-    for element in [Record::plain(F64, 0), Record::plain(UNION, 0)] {
+    let mut schema = root_with(context.coding, Record::plain(LIST, 0));
+    for kind in [
+        F64,
+        if context.coding.is_older() {
+            TEXT
+        } else {
+            UNION
+        },
+    ] {
+        let element = Record::plain(kind, 0);
         schema.lists = vec![element];
         schema.unions = vec![vec![Record::plain(TEXT, 0)]];
         let packed = schema.pack();
-        let fitting = (SIZE_LIMIT - 36) / 8;
-        let data: Data = &[("schema", &packed)];
+        let fitting = (SIZE_LIMIT - before_content(context.coding)) / schema.value_size(&element);
+        let data: Data = &[("schema", &packed.bytes)];
         let value = Value::Table(vec![Value::List(vec![Value::Absent; fitting + 1])]);
         let bytes = sheet::encode(&schema, &value);
         for room in 0..51 {
@@ -95,11 +111,11 @@ fn absent_elements(context: &mut Context) -> Checked {
 
 /// A small message whose sheet has exactly the largest size, and ones over it.
 fn shared_text(context: &mut Context) -> Checked {
-    let mut schema = root_with(Record::plain(LIST, 0));
+    let mut schema = root_with(context.coding, Record::plain(LIST, 0));
     schema.tables[0].members.push(Record::plain(BYTES, 0));
     schema.lists = vec![Record::plain(TEXT, 0)];
     let packed = schema.pack();
-    let data: Data = &[("schema", &packed)];
+    let data: Data = &[("schema", &packed.bytes)];
     let (text, count) = (65_536, 255);
     // Mark and length, 34 bits, for the list, each text and the blob.
     let bits = 34 * (2 + count) + 8 * text * count;
@@ -123,26 +139,29 @@ fn naming_one_text(schema: &Schema, text: usize, count: usize, blob: usize) -> V
     let texts = Value::List(vec![Value::Blob(vec![b'y'; text])]);
     let one = Value::Table(vec![texts, Value::Blob(vec![b'z'; blob])]);
     let mut message = canonical::message(schema, &one);
-    let offset = message.len() as u64;
-    message[20..26].copy_from_slice(&offset.to_le_bytes()[..6]);
+    let coding = schema.coding;
+    let (offset, header) = (coding.offset(), coding.header());
+    let list = coding.bytes(message.len() as u64);
+    message[2 * header..2 * header + offset].copy_from_slice(&list);
     message.extend_from_slice(&0x3400_BB46u32.to_le_bytes());
-    message.extend_from_slice(&(count as u64).to_le_bytes()[..6]);
+    message.extend(coding.bytes(count as u64));
+    // The text stands after the start, the root and the first list.
+    let text = header + (header + 2 * offset) + (header + offset);
     for _ in 0..count {
-        // The text stands after the start, the root and the first list.
-        message.extend_from_slice(&(10 + 22 + 16u64).to_le_bytes()[..6]);
+        message.extend(coding.bytes(text as u64));
     }
     message
 }
 
 /// A message and a sheet one byte over the size.
 fn sizes(context: &mut Context) -> Checked {
-    let schema = root_with(Record::plain(BYTES, 0));
+    let schema = root_with(context.coding, Record::plain(BYTES, 0));
     let packed = schema.pack();
     let blob = vec![7; 100];
     let value = Value::Table(vec![Value::Blob(blob)]);
     let mut message = canonical::message(&schema, &value);
     message.resize(SIZE_LIMIT, 0xAA);
-    let data: Data = &[("schema", &packed)];
+    let data: Data = &[("schema", &packed.bytes)];
     let verdict = context.judge(&packed, &message, 2);
     same(
         "a message of the size",
@@ -167,7 +186,7 @@ fn sizes(context: &mut Context) -> Checked {
 /// next: the innermost number has a path of 96 numbers.
 fn longest_path(context: &mut Context) -> Checked {
     let back = Record::plain(TABLE, 0);
-    let mut schema = root_with(back);
+    let mut schema = root_with(context.coding, back);
     schema.tables[0].members.push(Record::plain(STRUCT, 63));
     schema.structs = vec![vec![Record::plain(5, 0)]];
     let mut inner = Value::Struct(vec![Value::Number(0xFE)]);
@@ -181,7 +200,7 @@ fn longest_path(context: &mut Context) -> Checked {
     }
     let packed = schema.pack();
     let message = canonical::message(&schema, &value);
-    let data: Data = &[("schema", &packed), ("message", &message)];
+    let data: Data = &[("schema", &packed.bytes), ("message", &message)];
     let mut path = vec![0; 31];
     path.push(1);
     path.resize(96, 0);
@@ -203,35 +222,18 @@ fn longest_path(context: &mut Context) -> Checked {
 /// Lists that each name the next table twice, so that the walk doubles 15
 /// times over.
 fn doubling(context: &mut Context) -> Checked {
-    let mut schema = root_with(Record::plain(LIST, 0));
-    schema.lists = vec![Record::plain(TABLE, 0)];
+    let schema = doubling::schema(context.coding);
     let packed = schema.pack();
     let levels = 15;
-    let mut message = canonical::message(&schema, &Value::Table(vec![Value::Absent]));
-    message.truncate(10);
-    for level in 0..=levels {
-        // A table of 16 bytes, and a list of 22 with two offsets.
-        let table = 10 + 38 * level as u64;
-        let list = if level == levels { 0 } else { table + 16 };
-        message.extend_from_slice(&schema.tables[0].id.to_le_bytes());
-        for number in [6, list] {
-            message.extend_from_slice(&number.to_le_bytes()[..6]);
-        }
-        if level < levels {
-            message.extend_from_slice(&0x3400_BB46u32.to_le_bytes());
-            for number in [2, table + 38, table + 38] {
-                message.extend_from_slice(&number.to_le_bytes()[..6]);
-            }
-        }
-    }
+    let message = doubling::message(&schema, levels);
     let visits = 3 * (1 << levels) - 2;
-    let data: Data = &[("schema", &packed), ("message", &message)];
+    let data: Data = &[("schema", &packed.bytes), ("message", &message)];
     let verdict = context.judge(&packed, &message, u32::MAX);
     same("a walk that doubles", &accepted(visits), &verdict, data)?;
     let verdict = context.judge(&packed, &message, visits - 1);
     let last = Verdict {
         number: 4,
-        place: 10 + 38 * levels as u64,
+        place: doubling::table_at(context.coding, levels),
         visits: visits - 1,
     };
     same("a walk that doubles, cut short", &last, &verdict, data)
@@ -240,11 +242,11 @@ fn doubling(context: &mut Context) -> Checked {
 /// A sheet of exactly the largest size, whose message is smaller, and one a
 /// byte longer: list elements of 64 bits take 66 in a sheet.
 fn sheet_at_the_limit(context: &mut Context) -> Checked {
-    let mut schema = root_with(Record::plain(LIST, 0));
+    let mut schema = root_with(context.coding, Record::plain(LIST, 0));
     schema.tables[0].members.push(Record::plain(BYTES, 0));
     schema.lists = vec![Record::plain(F64, 0)];
     let packed = schema.pack();
-    let data: Data = &[("schema", &packed)];
+    let data: Data = &[("schema", &packed.bytes)];
     let count = (8 * SIZE_LIMIT - 100) / 66;
     let blob = (8 * SIZE_LIMIT - 68 - 66 * count) / 8;
     for (blob, number) in [(blob, 0), (blob + 1, 11)] {

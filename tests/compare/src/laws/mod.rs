@@ -11,9 +11,11 @@ mod sheets;
 mod starts;
 mod wild;
 
+use crate::coding::Coding;
 use crate::counts::Counts;
 use crate::program::{accepted, refused_at_start, Answer, Program, Relations, Verdict};
 use crate::rng::Rng;
+use crate::schema::Packed;
 use std::fmt::{Debug, Write};
 use std::panic::{catch_unwind, AssertUnwindSafe};
 
@@ -50,6 +52,7 @@ pub type Data<'a> = &'a [(&'static str, &'a [u8])];
 
 /// What a case runs with.
 pub struct Context<'a> {
+    pub coding: Coding,
     pub rng: Rng,
     pub counts: &'a mut Counts,
     pub program: &'a dyn Program,
@@ -57,25 +60,25 @@ pub struct Context<'a> {
 }
 
 impl Context<'_> {
-    fn judge(&mut self, schema: &[u8], message: &[u8], budget: u32) -> Verdict {
+    fn judge(&mut self, schema: &Packed, message: &[u8], budget: u32) -> Verdict {
         let verdict = self.program.judge(schema, message, budget);
         self.counts.answer(verdict.number);
         verdict
     }
 
-    fn read(&mut self, s: &[u8], message: &[u8], budget: u32, room: usize) -> (Verdict, Vec<u8>) {
+    fn read(&mut self, s: &Packed, message: &[u8], budget: u32, room: usize) -> (Verdict, Vec<u8>) {
         let (verdict, sheet) = self.program.read(s, message, budget, room);
         self.counts.answer(verdict.number);
         (verdict, sheet)
     }
 
-    fn write(&mut self, schema: &[u8], sheet: &[u8], room: usize) -> (u32, Vec<u8>) {
+    fn write(&mut self, schema: &Packed, sheet: &[u8], room: usize) -> (u32, Vec<u8>) {
         let (number, message) = self.program.write(schema, sheet, room);
         self.counts.answer(number);
         (number, message)
     }
 
-    fn field(&mut self, schema: &[u8], message: &[u8], path: &[u32]) -> Answer {
+    fn field(&mut self, schema: &Packed, message: &[u8], path: &[u32]) -> Answer {
         let answer = self.program.field(schema, message, path);
         self.count_field(&answer);
         answer
@@ -158,11 +161,12 @@ const LAWS: [(usize, &str, Law); 7] = [
 /// Runs one numbered case of a seeded run.
 pub fn run_case(
     programs: &Programs,
-    seed: u64,
-    case: u64,
+    coding: Coding,
+    (seed, case): (u64, u64),
     counts: &mut Counts,
 ) -> Result<(), String> {
     let mut context = Context {
+        coding,
         rng: Rng::for_case(seed, case),
         counts,
         program: programs.program,
@@ -184,15 +188,18 @@ pub fn run_case(
         Ok(Err(failure)) => failure.text,
         Err(_) => "a panic, reported above".to_string(),
     };
-    Err(format!("seed {seed} case {case} ({}): {text}", chosen.1))
+    Err(format!(
+        "{coding:?} seed {seed} case {case} ({}): {text}",
+        chosen.1
+    ))
 }
 
 /// Runs cases 0 to `cases`, then the large ones; stops at the first failure.
-pub fn run(programs: &Programs, seed: u64, cases: u64) -> Result<Counts, String> {
+pub fn run(programs: &Programs, coding: Coding, seed: u64, cases: u64) -> Result<Counts, String> {
     let mut counts = Counts::default();
     for case in 0..cases {
-        run_case(programs, seed, case, &mut counts)?;
+        run_case(programs, coding, (seed, case), &mut counts)?;
     }
-    run_large(programs, &mut counts)?;
+    run_large(programs, coding, &mut counts)?;
     Ok(counts)
 }

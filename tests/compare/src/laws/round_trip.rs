@@ -9,7 +9,7 @@ use crate::value_gen::{self, Purpose};
 
 /// One writable sheet.
 pub fn check(context: &mut Context) -> Checked {
-    let schema = schema_gen::lawful_schema(&mut context.rng);
+    let schema = schema_gen::lawful_schema(context.coding, &mut context.rng);
     let size = value_gen::some_size(&mut context.rng);
     let value = value_gen::root_value(&schema, &mut context.rng, Purpose::Writable, size);
     let packed = schema.pack();
@@ -20,7 +20,7 @@ pub fn check(context: &mut Context) -> Checked {
         context.counts.note("writable values of depth 32");
     }
     let data: Data = &[
-        ("schema", &packed),
+        ("schema", &packed.bytes),
         ("sheet", &sheet),
         ("message", &message),
     ];
@@ -31,7 +31,7 @@ pub fn check(context: &mut Context) -> Checked {
 /// Writing gives the message where there is room for it.
 pub fn writing(
     context: &mut Context,
-    packed: &[u8],
+    packed: &Packed,
     sheet: &[u8],
     message: &[u8],
     data: Data,
@@ -46,7 +46,7 @@ pub fn writing(
 /// Judging and reading the message accept it with just enough.
 pub fn reading(
     context: &mut Context,
-    packed: &[u8],
+    packed: &Packed,
     sheet: &[u8],
     message: &[u8],
     visits: u32,

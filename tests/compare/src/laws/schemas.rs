@@ -4,16 +4,17 @@ use super::*;
 use crate::schema_faults;
 use crate::schema_gen;
 use crate::schema_rules;
+use crate::subjects;
 
 /// A lawful schema, one with a rule broken, and damaged ones.
 pub fn check(context: &mut Context) -> Checked {
-    let packed = schema_gen::lawful_schema(&mut context.rng).pack();
+    let packed = schema_gen::lawful_schema(context.coding, &mut context.rng).pack();
     judged(context, &packed, true)?;
-    let rule = context.rng.pick(&schema_faults::RULES);
+    let rule = context.rng.pick(schema_faults::rules(context.coding));
     context
         .counts
         .note(&format!("schema rule broken: {rule:?}"));
-    let broken = schema_faults::breaking(&mut context.rng, rule);
+    let broken = schema_faults::breaking(context.coding, &mut context.rng, rule);
     judged(context, &broken, false)?;
     for _ in 0..4 {
         let damaged = schema_faults::damaged(&mut context.rng, &packed);
@@ -25,14 +26,22 @@ pub fn check(context: &mut Context) -> Checked {
         });
         judged(context, &damaged, lawful)?;
     }
+    let (_, other) = subjects::made_for_the_other(context.coding, &mut context.rng);
+    let lawful = schema_rules::parse(&other).is_some();
+    context.counts.note(if lawful {
+        "the other coding's schemas, lawful"
+    } else {
+        "the other coding's schemas, not lawful"
+    });
+    judged(context, &other, lawful)?;
     let length = context.rng.range(0, 12);
-    let noise = context.rng.bytes(length);
+    let noise = Packed::new(context.coding, &context.rng.bytes(length));
     judged(context, &noise, schema_rules::parse(&noise).is_some())
 }
 
 /// Every function refuses an unlawful schema first.
-fn judged(context: &mut Context, packed: &[u8], lawful: bool) -> Checked {
-    let data: Data = &[("schema", packed)];
+fn judged(context: &mut Context, packed: &Packed, lawful: bool) -> Checked {
+    let data: Data = &[("schema", &packed.bytes)];
     let own = schema_rules::parse(packed).is_some();
     same("own rules", &lawful, &own, data)?;
     same("lawful", &lawful, &context.relations.lawful(packed), data)?;
@@ -40,7 +49,11 @@ fn judged(context: &mut Context, packed: &[u8], lawful: bool) -> Checked {
     let message = context.rng.bytes(length);
     let verdict = context.judge(packed, &message, 10);
     if lawful {
-        let expected = if length < 10 { 2 } else { 3 };
+        let expected = if length < context.coding.header() {
+            2
+        } else {
+            3
+        };
         return same("noise is no message", &expected, &verdict.number, data);
     }
     let refused = refused_at_start(1);
@@ -63,7 +76,7 @@ fn judged(context: &mut Context, packed: &[u8], lawful: bool) -> Checked {
 }
 
 /// Neither a field nor a list is read by an unlawful schema.
-fn fields_refused(context: &mut Context, packed: &[u8], message: &[u8], data: Data) -> Checked {
+fn fields_refused(context: &mut Context, packed: &Packed, message: &[u8], data: Data) -> Checked {
     let (number, place) = (1, 0);
     let answer = Answer::Refused { number, place };
     let steps = context.rng.pick(&[0, 3, 97]);

@@ -16,7 +16,7 @@ pub fn check(context: &mut Context) -> Checked {
     if context.rng.one_in(12) {
         return too_deep(context);
     }
-    let schema = schema_gen::lawful_schema(&mut context.rng);
+    let schema = schema_gen::lawful_schema(context.coding, &mut context.rng);
     let size = value_gen::some_size(&mut context.rng);
     let purpose = context.rng.pick(&[Purpose::Writable, Purpose::Wild]);
     let value = value_gen::root_value(&schema, &mut context.rng, purpose, size);
@@ -34,8 +34,8 @@ pub fn check(context: &mut Context) -> Checked {
 }
 
 /// Writes any bytes as a sheet; what must come of it is known.
-pub fn written(context: &mut Context, schema: &Schema, packed: &[u8], bytes: &[u8]) -> Checked {
-    let data: Data = &[("schema", packed), ("sheet", bytes)];
+pub fn written(context: &mut Context, schema: &Schema, packed: &Packed, bytes: &[u8]) -> Checked {
+    let data: Data = &[("schema", &packed.bytes), ("sheet", bytes)];
     let Some(value) = sheet::decode(schema, bytes) else {
         return refused(context, packed, bytes, 11, "a sheet that is not lawful");
     };
@@ -53,8 +53,14 @@ pub fn written(context: &mut Context, schema: &Schema, packed: &[u8], bytes: &[u
 }
 
 /// Writing refuses, whatever the room.
-fn refused(context: &mut Context, packed: &[u8], bytes: &[u8], number: u32, law: &str) -> Checked {
-    let data: Data = &[("schema", packed), ("sheet", bytes)];
+fn refused(
+    context: &mut Context,
+    packed: &Packed,
+    bytes: &[u8],
+    number: u32,
+    law: &str,
+) -> Checked {
+    let data: Data = &[("schema", &packed.bytes), ("sheet", bytes)];
     for room in [SIZE_LIMIT, 0] {
         let given = context.write(packed, bytes, room);
         same(law, &(number, Vec::new()), &given, data)?;
@@ -63,7 +69,7 @@ fn refused(context: &mut Context, packed: &[u8], bytes: &[u8], number: u32, law:
 }
 
 /// Each way of not being lawful that has a place in this sheet.
-fn unlawful(context: &mut Context, schema: &Schema, packed: &[u8], value: &Value) -> Checked {
+fn unlawful(context: &mut Context, schema: &Schema, packed: &Packed, value: &Value) -> Checked {
     let (sheet, marks, used) = sheet::encode_with_marks(schema, value);
     if !marks.is_empty() {
         for _ in 0..2 {
@@ -90,7 +96,7 @@ fn unlawful(context: &mut Context, schema: &Schema, packed: &[u8], value: &Value
 fn bad_mark(
     context: &mut Context,
     schema: &Schema,
-    packed: &[u8],
+    packed: &Packed,
     sheet: &[u8],
     site: MarkSite,
 ) -> Checked {
@@ -132,7 +138,7 @@ fn wrong_number(context: &mut Context, schema: &Schema, site: MarkSite) -> u16 {
 }
 
 /// A writable value changed in one place so that it is not.
-fn unwritable(context: &mut Context, schema: &Schema, packed: &[u8], value: &Value) -> Checked {
+fn unwritable(context: &mut Context, schema: &Schema, packed: &Packed, value: &Value) -> Checked {
     let Some((value, name)) = sheet_faults::unwritable(schema, &mut context.rng, value) else {
         context
             .counts
@@ -141,7 +147,7 @@ fn unwritable(context: &mut Context, schema: &Schema, packed: &[u8], value: &Val
     };
     context.counts.note(name);
     let bytes = sheet::encode(schema, &value);
-    let data: Data = &[("schema", packed), ("sheet", &bytes)];
+    let data: Data = &[("schema", &packed.bytes), ("sheet", &bytes)];
     same(
         "unwritable by own rules",
         &false,
@@ -162,8 +168,8 @@ fn unwritable(context: &mut Context, schema: &Schema, packed: &[u8], value: &Val
 
 /// Sheets of depth 32 and 33.
 fn too_deep(context: &mut Context) -> Checked {
-    let rng = &mut context.rng;
-    let schema = schema_gen::recursive(rng);
+    let (coding, rng) = (context.coding, &mut context.rng);
+    let schema = schema_gen::recursive(coding, rng);
     let depth = DEPTH_LIMIT + rng.range(0, 2) as u32;
     let size = Size {
         objects: rng.range(1, 30),

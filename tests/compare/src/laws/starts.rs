@@ -8,25 +8,26 @@ use crate::value_gen::{self, Purpose};
 
 /// A message too short, and one with a wrong magic.
 pub fn check(context: &mut Context) -> Checked {
-    let schema = schema_gen::lawful_schema(&mut context.rng);
+    let schema = schema_gen::lawful_schema(context.coding, &mut context.rng);
     let size = value_gen::some_size(&mut context.rng);
     let value = value_gen::root_value(&schema, &mut context.rng, Purpose::Wild, size);
     let wild = message_gen::lay_out(&schema, &mut context.rng, value, None);
     let packed = schema.pack();
-    for length in [0, 9, context.rng.range(0, 9)] {
+    let header = context.coding.header();
+    for length in [0, header - 1, context.rng.range(0, header - 1)] {
         refused(context, &packed, &wild.bytes[..length], 2)?;
     }
     let mut bytes = wild.bytes;
     let bit = context.rng.below(32);
     bytes[bit / 8] ^= 1 << (bit % 8);
     refused(context, &packed, &bytes, 3)?;
-    bytes.truncate(10);
+    bytes.truncate(header);
     refused(context, &packed, &bytes, 3)
 }
 
 /// Every function refuses the message with this number and nothing else.
-pub fn refused(context: &mut Context, packed: &[u8], message: &[u8], number: u32) -> Checked {
-    let data: Data = &[("schema", packed), ("message", message)];
+pub fn refused(context: &mut Context, packed: &Packed, message: &[u8], number: u32) -> Checked {
+    let data: Data = &[("schema", &packed.bytes), ("message", message)];
     let verdict = refused_at_start(number);
     for budget in [0, 5, u32::MAX] {
         let given = context.judge(packed, message, budget);

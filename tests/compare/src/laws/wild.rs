@@ -20,7 +20,7 @@ pub fn check(context: &mut Context) -> Checked {
     let wild = message_gen::lay_out(&schema, &mut context.rng, value, fault);
     census::note(context.counts, &schema, &wild);
     let packed = schema.pack();
-    let data: Data = &[("schema", &packed), ("message", &wild.bytes)];
+    let data: Data = &[("schema", &packed.bytes), ("message", &wild.bytes)];
     verdicts(context, &packed, &wild, data)?;
     if wild.number == 0 {
         sheet_of(context, &schema, &packed, &wild, data)?;
@@ -30,12 +30,12 @@ pub fn check(context: &mut Context) -> Checked {
 
 /// A schema and a value; now and then one that is too deep.
 fn schema_and_value(context: &mut Context) -> (Schema, Value) {
-    let rng = &mut context.rng;
+    let (coding, rng) = (context.coding, &mut context.rng);
     let deep = rng.one_in(25);
     let schema = if deep {
-        schema_gen::recursive(rng)
+        schema_gen::recursive(coding, rng)
     } else {
-        schema_gen::lawful_schema(rng)
+        schema_gen::lawful_schema(coding, rng)
     };
     let mut size = value_gen::some_size(rng);
     if deep {
@@ -59,7 +59,7 @@ fn choose_fault(schema: &Schema, context: &mut Context, value: &Value) -> Option
 }
 
 /// The verdicts with many budgets.
-fn verdicts(context: &mut Context, packed: &[u8], wild: &Wild, data: Data) -> Checked {
+fn verdicts(context: &mut Context, packed: &Packed, wild: &Wild, data: Data) -> Checked {
     let visits = wild.walked.len() as u32;
     let some = context.rng.below(visits as usize + 1) as u32;
     for budget in [u32::MAX, visits, visits.saturating_sub(1), some, 1, 0] {
@@ -87,7 +87,7 @@ fn verdicts(context: &mut Context, packed: &[u8], wild: &Wild, data: Data) -> Ch
 fn sheet_of(
     context: &mut Context,
     schema: &Schema,
-    packed: &[u8],
+    packed: &Packed,
     wild: &Wild,
     data: Data,
 ) -> Checked {

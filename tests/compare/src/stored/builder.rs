@@ -1,8 +1,10 @@
 //! A message with one object of a kind, reached in one of the ways there are.
 
 use super::Case;
-use crate::canonical::{magic, HEADER, MESSAGE_MAGIC};
+use crate::canonical::{magic, MESSAGE_MAGIC};
+use crate::coding::Coding;
 use crate::schema::*;
+use crate::schema_rules;
 
 /// How the walk comes to an object.
 #[derive(Clone, Copy, Debug, PartialEq, Eq)]
@@ -16,7 +18,7 @@ pub enum Way {
 }
 
 /// Every way.
-pub const WAYS: [Way; 6] = [
+const WAYS: [Way; 6] = [
     Way::Member,
     Way::InPlace,
     Way::Element,
@@ -66,10 +68,12 @@ pub fn kind_name(kind: u8) -> &'static str {
     }
 }
 
-/// A number as six bytes.
-pub fn six(number: u64) -> [u8; 6] {
-    let bytes = number.to_le_bytes();
-    [bytes[0], bytes[1], bytes[2], bytes[3], bytes[4], bytes[5]]
+/// Every way to every kind of object that the coding has.
+pub fn ways(coding: Coding) -> impl Iterator<Item = (Way, u8)> {
+    let every = WAYS
+        .into_iter()
+        .flat_map(|way| OBJECTS.map(|kind| (way, kind)));
+    every.filter(move |(way, kind)| schema_rules::lawful(&schema_of(coding, *way, *kind)))
 }
 
 /// A message, and where its parts stand.
@@ -79,7 +83,7 @@ pub struct Setup {
     pub kind: u8,
     pub schema: Schema,
     pub message: Vec<u8>,
-    /// Where the U48 stands that is the offset, or the length in place.
+    /// Where the offset stands, or the length in place.
     pub reference: usize,
     /// Where the object is, by its place.
     pub object: usize,
@@ -91,7 +95,7 @@ pub struct Setup {
 
 /// The schema: the first table has a table of its own sort and then what
 /// leads to the object.
-fn schema_of(way: Way, kind: u8) -> Schema {
+fn schema_of(coding: Coding, way: Way, kind: u8) -> Schema {
     let argument = u8::from(kind == TABLE);
     let object = Record::plain(kind, argument);
     let union = Record::plain(UNION, 0);
@@ -113,11 +117,10 @@ fn schema_of(way: Way, kind: u8) -> Schema {
         members,
     };
     Schema {
-        structs: Vec::new(),
         lists: vec![Record::plain(2, 0), element],
         unions: vec![vec![object, Record::plain(BYTES, 0)]],
         tables: vec![first, second],
-        root: 0,
+        ..Schema::new(coding)
     }
 }
 
@@ -134,11 +137,11 @@ fn content_of(kind: u8) -> (u64, &'static [u8]) {
 
 impl Setup {
     /// The object below so many tables, each of which leads to the next.
-    pub fn new(way: Way, kind: u8, tables: usize) -> Setup {
+    pub fn new(coding: Coding, way: Way, kind: u8, tables: usize) -> Setup {
         let mut setup = Setup {
             way,
             kind,
-            schema: schema_of(way, kind),
+            schema: schema_of(coding, way, kind),
             message: Vec::new(),
             reference: 0,
             object: 0,
@@ -146,16 +149,15 @@ impl Setup {
             content: 0,
         };
         setup.put(&MESSAGE_MAGIC.to_le_bytes());
-        setup.put(&six(HEADER as u64));
-        let union = matches!(way, Way::Union | Way::UnionInPlace);
-        let fixed = if union { 14 } else { 12 };
+        setup.number(coding.header() as u64);
+        let (_, fixed) = setup.schema.slots(0);
         for i in 0..tables {
-            let next = setup.message.len() + HEADER + fixed;
+            let next = setup.message.len() + coding.header() + fixed;
             setup.header(&Record::plain(TABLE, 0), fixed as u64);
             let next = if i + 1 < tables { next } else { 0 };
-            setup.put(&six(next as u64));
+            setup.number(next as u64);
             if i + 1 < tables {
-                setup.put(&vec![0; fixed - 6]);
+                setup.put(&vec![0; fixed - coding.offset()]);
             }
         }
         setup.lead();
@@ -167,17 +169,22 @@ impl Setup {
         self.message.extend_from_slice(bytes);
     }
 
+    /// Puts an offset or a length.
+    fn number(&mut self, number: u64) {
+        self.put(&self.coding().bytes(number));
+    }
+
     fn header(&mut self, record: &Record, length: u64) {
         let magic = magic(&self.schema, record);
         self.put(&magic.to_le_bytes());
-        self.put(&six(length));
+        self.number(length);
     }
 
     /// Puts what leads to the object.
     fn lead(&mut self) {
         if self.way.element() {
-            let list = self.message.len() as u64 + 6;
-            self.put(&six(list));
+            let list = self.message.len() + self.coding().offset();
+            self.number(list as u64);
             self.header(&Record::plain(LIST, 1), 1);
         }
         if self.way.union() {
@@ -185,8 +192,12 @@ impl Setup {
         }
         self.reference = self.message.len();
         let (length, _) = content_of(self.kind);
-        let offset = self.reference as u64 + 6;
-        self.put(&six(if self.way.in_place() { length } else { offset }));
+        let behind = self.reference + self.coding().offset();
+        self.number(if self.way.in_place() {
+            length
+        } else {
+            behind as u64
+        });
     }
 
     /// Puts the object.
@@ -208,10 +219,16 @@ impl Setup {
         format!("{} {}", kind_name(self.kind), self.way.name())
     }
 
-    /// A message with a number of six bytes changed.
+    /// The coding of the message.
+    pub fn coding(&self) -> Coding {
+        self.schema.coding
+    }
+
+    /// A message with an offset or a length changed.
     pub fn with(&self, at: usize, number: u64) -> Setup {
         let mut setup = self.clone();
-        setup.message[at..at + 6].copy_from_slice(&six(number));
+        let bytes = self.coding().bytes(number);
+        setup.message[at..at + bytes.len()].copy_from_slice(&bytes);
         setup
     }
 

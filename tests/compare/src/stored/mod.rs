@@ -2,9 +2,11 @@
 //! kind of object, and both sides of every test of bounds.
 //!
 //! They are kept as files beside the program that runs them: `cases.bin` has
-//! the bytes, and `stdout` what the second program answers, a line each.
+//! the bytes, first those of the 48-bit coding and then those of the older, and
+//! `stdout` what the second program answers, a line each.
 
 mod builder;
+pub mod by_hand;
 mod depth;
 mod lists;
 mod objects;
@@ -13,7 +15,9 @@ mod starts;
 mod structs;
 mod tables;
 
+use crate::coding::{Coding, CODINGS};
 use crate::program::{Judge, Second, Verdict};
+use crate::schema::Packed;
 use std::fmt::Write;
 use std::fs;
 use std::io;
@@ -24,7 +28,7 @@ use std::path::Path;
 pub struct Case {
     pub group: String,
     pub name: String,
-    pub schema: Vec<u8>,
+    pub schema: Packed,
     pub message: Vec<u8>,
     pub budget: u32,
 }
@@ -38,14 +42,22 @@ impl Case {
 
 /// Every case, in the order of the files.
 pub fn cases() -> Vec<Case> {
+    CODINGS.into_iter().flat_map(under).collect()
+}
+
+/// The cases of a coding.
+pub fn under(coding: Coding) -> Vec<Case> {
     let mut cases = Vec::new();
-    starts::add(&mut cases);
-    objects::add(&mut cases);
-    lists::add(&mut cases);
-    tables::add(&mut cases);
-    structs::add(&mut cases);
-    depth::add(&mut cases);
-    schemas::add(&mut cases);
+    starts::add(coding, &mut cases);
+    objects::add(coding, &mut cases);
+    lists::add(coding, &mut cases);
+    tables::add(coding, &mut cases);
+    structs::add(coding, &mut cases);
+    depth::add(coding, &mut cases);
+    schemas::add(coding, &mut cases);
+    if coding.is_older() {
+        by_hand::add(&mut cases);
+    }
     cases
 }
 
@@ -53,11 +65,11 @@ pub fn cases() -> Vec<Case> {
 pub fn packed(cases: &[Case]) -> Vec<u8> {
     let mut out = Vec::new();
     for case in cases {
-        let lengths = [case.schema.len() as u32, case.message.len() as u32];
-        for number in [lengths[0], lengths[1], case.budget] {
+        let lengths = [case.schema.bytes.len() as u32, case.message.len() as u32];
+        for number in [case.schema.coding, lengths[0], lengths[1], case.budget] {
             out.extend_from_slice(&number.to_le_bytes());
         }
-        out.extend_from_slice(&case.schema);
+        out.extend_from_slice(&case.schema.bytes);
         out.extend_from_slice(&case.message);
     }
     out
@@ -78,7 +90,8 @@ pub fn answers(cases: &[Case]) -> String {
 pub fn names(cases: &[Case]) -> String {
     let mut out = String::new();
     for (i, case) in cases.iter().enumerate() {
-        let _ = writeln!(out, "{}: {}: {}", i + 1, case.group, case.name);
+        let (number, coding) = (i + 1, case.schema.coding);
+        let _ = writeln!(out, "{number}: {coding}: {}: {}", case.group, case.name);
     }
     out
 }

@@ -1,32 +1,29 @@
 //! Objects of every kind in every way: header, magic, content, end byte.
 
-use super::builder::{Setup, Way, OBJECTS, WAYS};
+use super::builder::{ways, Setup, Way, OBJECTS};
 use super::Case;
+use crate::coding::Coding;
 use crate::schema::{LIST, TEXT};
 
 /// A budget that no case here spends.
 pub const AMPLE: u32 = 1000;
 
-const LARGEST: u64 = (1 << 48) - 1;
-
 /// Adds the cases.
-pub fn add(cases: &mut Vec<Case>) {
-    for way in WAYS {
-        for kind in OBJECTS {
-            let setup = Setup::new(way, kind, 1);
-            budgets(cases, &setup);
-            lengths(cases, &setup);
-            sizes(cases, &setup);
-            if !way.in_place() {
-                offsets(cases, &setup);
-                magics(cases, &setup);
-            }
-            if way.union() {
-                choices(cases, &setup);
-            }
-            if kind == TEXT {
-                ends(cases, &setup);
-            }
+pub fn add(coding: Coding, cases: &mut Vec<Case>) {
+    for (way, kind) in ways(coding) {
+        let setup = Setup::new(coding, way, kind, 1);
+        budgets(cases, &setup);
+        lengths(cases, &setup);
+        sizes(cases, &setup);
+        if !way.in_place() {
+            offsets(cases, &setup);
+            magics(cases, &setup);
+        }
+        if way.union() {
+            choices(cases, &setup);
+        }
+        if kind == TEXT {
+            ends(cases, &setup);
         }
     }
 }
@@ -57,7 +54,16 @@ fn lengths(cases: &mut Vec<Case>, setup: &Setup) {
         let case = setup.with(setup.length, length);
         cases.push(case.case(&format!("length {length}"), AMPLE));
     }
-    for length in [most + 256, 1 << 24, 1 << 32, 1 << 47, LARGEST - 1, LARGEST] {
+    let largest = setup.coding().largest();
+    let far = [
+        most + 256,
+        1 << 24,
+        1 << 32,
+        largest / 2 + 1,
+        largest - 1,
+        largest,
+    ];
+    for length in far.into_iter().filter(|length| *length <= largest) {
         let case = setup.with(setup.length, length);
         cases.push(case.case(&format!("length {length}"), AMPLE));
     }
@@ -87,10 +93,12 @@ fn sizes(cases: &mut Vec<Case>, setup: &Setup) {
 fn offsets(cases: &mut Vec<Case>, setup: &Setup) {
     let size = setup.message.len() as u64;
     let object = setup.object as u64;
-    let edges = [size - 10, size - 9, size - 1, size, size + 1];
-    let near = [0, 1, 9, 10, 11, object - 1, object + 1];
-    let far = [1 << 24, 1 << 32, LARGEST - 9, LARGEST];
-    for offset in near.into_iter().chain(edges).chain(far) {
+    let (header, largest) = (setup.coding().header() as u64, setup.coding().largest());
+    let edges = [size - header, size + 1 - header, size - 1, size, size + 1];
+    let near = [0, 1, header - 1, header, header + 1, object - 1, object + 1];
+    let far = [1 << 24, 1 << 32, largest + 1 - header, largest];
+    let every = near.into_iter().chain(edges).chain(far);
+    for offset in every.filter(|offset| *offset <= largest) {
         let case = setup.with(setup.reference, offset);
         cases.push(case.case(&format!("offset {offset}"), AMPLE));
     }
@@ -104,16 +112,16 @@ fn magics(cases: &mut Vec<Case>, setup: &Setup) {
         cases.push(case.case(&format!("magic's byte {i} wrong"), AMPLE));
     }
     for other in OBJECTS {
-        let at = Setup::new(Way::Member, other, 1);
+        let at = Setup::new(setup.coding(), Way::Member, other, 1);
         let mut case = setup.clone();
         let magic = &at.message[at.object..at.object + 4];
         case.message[setup.object..setup.object + 4].copy_from_slice(magic);
         cases.push(case.case(&format!("magic of kind {other}"), AMPLE));
     }
     let wrong = setup.with_byte(setup.object, 0);
-    let long = wrong.with(setup.length, LARGEST);
+    let long = wrong.with(setup.length, setup.coding().largest());
     cases.push(long.case("magic wrong and length too large", AMPLE));
-    let cut = wrong.sized(setup.object + 9);
+    let cut = wrong.sized(setup.object + setup.coding().header() - 1);
     cases.push(cut.case("magic wrong and header cut", AMPLE));
 }
 
@@ -133,8 +141,9 @@ fn choices(cases: &mut Vec<Case>, setup: &Setup) {
         cases.push(case.case(&format!("choice {choice}"), AMPLE));
         let none = case.with(setup.reference, 0);
         cases.push(none.case(&format!("choice {choice}, number 0"), AMPLE));
-        let large = case.with(setup.reference, LARGEST);
-        cases.push(large.case(&format!("choice {choice}, number {LARGEST}"), AMPLE));
+        let largest = setup.coding().largest();
+        let large = case.with(setup.reference, largest);
+        cases.push(large.case(&format!("choice {choice}, number {largest}"), AMPLE));
     }
 }
 

@@ -1,13 +1,14 @@
 //! What is judged before the walk, and the root.
 
-use super::builder::{six, Setup, Way};
+use super::builder::{Setup, Way};
 use super::objects::AMPLE;
 use super::Case;
+use crate::coding::Coding;
 use crate::schema::TEXT;
 
 /// Adds the cases.
-pub fn add(cases: &mut Vec<Case>) {
-    let setup = Setup::new(Way::Member, TEXT, 1);
+pub fn add(coding: Coding, cases: &mut Vec<Case>) {
+    let setup = Setup::new(coding, Way::Member, TEXT, 1);
     let mut push = |name: &str, message: Vec<u8>, budget| {
         cases.push(Case {
             group: "start".to_string(),
@@ -27,17 +28,18 @@ pub fn add(cases: &mut Vec<Case>) {
         message[bit / 8] ^= 1 << (bit % 8);
         push(&format!("bit {bit} of the magic wrong"), message, budget);
     }
-    let size = setup.message.len() as u64;
-    let near = [0, 1, 9, 11, size - 10, size - 9, size, size + 1];
-    for offset in near.into_iter().chain([1 << 32, (1 << 48) - 1]) {
-        let mut message = setup.message.clone();
-        message[4..10].copy_from_slice(&six(offset));
+    let (size, header) = (setup.message.len() as u64, coding.header() as u64);
+    let near = [0, 1, header - 1, header + 1];
+    let edges = [size - header, size - header + 1, size, size + 1];
+    let far = [coding.largest() / 65_536 + 1, coding.largest()];
+    for offset in near.into_iter().chain(edges).chain(far) {
+        let message = setup.with(4, offset).message;
         push(&format!("root at {offset}"), message.clone(), AMPLE);
         push(&format!("root at {offset}, budget 0"), message, 0);
     }
     for i in 0..4 {
         let mut message = setup.message.clone();
-        message[10 + i] ^= 0x40;
+        message[coding.header() + i] ^= 0x40;
         push(&format!("root's magic, byte {i} wrong"), message, AMPLE);
     }
     let mut filled = setup.message.clone();

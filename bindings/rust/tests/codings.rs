@@ -1,0 +1,241 @@
+//! Every function of the wrapper under both codings. What is expected was worked out by hand from
+//! the documents of the two codings, so the numbers stand beside each other here.
+
+use scalgo::Coding::{self, Bits32, Bits48};
+use scalgo::{field, judge, list, read, text, write, Answer, Verdict};
+
+/// The same value in one of the codings.
+struct Example {
+    coding: Coding,
+    /// By `SCHEMA`: a table with 3 and a reference to the text "ab".
+    message: &'static [u8],
+    /// By `IN_PLACE`: a table with 5 and, in place, a union with the text "ab".
+    union: &'static [u8],
+    /// By `LIST`: a table with a list of the text "ab", none, and an offset one too small.
+    texts: &'static [u8],
+    /// Where an object may stand first: the bytes of the message start.
+    first: u64,
+    /// The bytes of an offset or a length.
+    offset: u64,
+}
+
+const SCHEMA: &[u8] = b"\x00\x00\x00\x01\x00\x4C\x49\x43\x45\x02\x10\x00\x68\x00";
+const SHEET: &[u8] = b"\x40\x00\xD0\x00\x00\x00\x26\x16\x20";
+
+const IN_PLACE: &[u8] = b"\x00\x00\x01\x01\x00\x01\x68\x00\x4C\x49\x43\x45\x02\x08\x00\x8A\x00";
+const UNION_SHEET: &[u8] = b"\x41\x50\x00\x10\x00\x00\x00\x26\x16\x20";
+
+const LIST: &[u8] = b"\x00\x01\x00\x01\x00\x68\x00\x4C\x49\x43\x45\x01\x78\x00";
+
+const EXAMPLES: [Example; 2] = [
+    Example {
+        coding: Bits48,
+        message: b"\xB3\xC4\xC0\xB5\x0A\x00\x00\x00\x00\x00\
+            \x45\x43\x49\x4C\x08\x00\x00\x00\x00\x00\x03\x00\x1C\x00\x00\x00\x00\x00\
+            \xF5\xC8\x12\xD8\x02\x00\x00\x00\x00\x00ab\x00",
+        union: b"\xB3\xC4\xC0\xB5\x0A\x00\x00\x00\x00\x00\
+            \x45\x43\x49\x4C\x09\x00\x00\x00\x00\x00\
+            \x05\x01\x00\x02\x00\x00\x00\x00\x00ab\x00",
+        texts: b"\xB3\xC4\xC0\xB5\x0A\x00\x00\x00\x00\x00\
+            \x45\x43\x49\x4C\x06\x00\x00\x00\x00\x00\x1A\x00\x00\x00\x00\x00\
+            \x46\xBB\x00\x34\x03\x00\x00\x00\x00\x00\
+            \x36\x00\x00\x00\x00\x00\x00\x00\x00\x00\x00\x00\x09\x00\x00\x00\x00\x00\
+            \xF5\xC8\x12\xD8\x02\x00\x00\x00\x00\x00ab\x00",
+        first: 10,
+        offset: 6,
+    },
+    Example {
+        coding: Bits32,
+        message: b"\xB3\xC4\xC0\xB5\x08\x00\x00\x00\
+            \x45\x43\x49\x4C\x06\x00\x00\x00\x03\x00\x16\x00\x00\x00\
+            \xF5\xC8\x12\xD8\x02\x00\x00\x00ab\x00",
+        union: b"\xB3\xC4\xC0\xB5\x08\x00\x00\x00\
+            \x45\x43\x49\x4C\x07\x00\x00\x00\
+            \x05\x01\x00\x02\x00\x00\x00ab\x00",
+        texts: b"\xB3\xC4\xC0\xB5\x08\x00\x00\x00\
+            \x45\x43\x49\x4C\x04\x00\x00\x00\x14\x00\x00\x00\
+            \x46\xBB\x00\x34\x03\x00\x00\x00\
+            \x28\x00\x00\x00\x00\x00\x00\x00\x07\x00\x00\x00\
+            \xF5\xC8\x12\xD8\x02\x00\x00\x00ab\x00",
+        first: 8,
+        offset: 4,
+    },
+];
+
+fn verdict(number: u32, place: u64, visits: u32) -> Verdict {
+    Verdict {
+        number,
+        place,
+        visits,
+    }
+}
+
+fn object(kind: u8, place: u64, length: u64) -> Answer {
+    Answer::Object {
+        kind,
+        place,
+        length,
+    }
+}
+
+fn refused(number: u32, place: u64) -> Answer {
+    Answer::Refused { number, place }
+}
+
+impl Example {
+    /// Where the referenced text of `message` stands: behind the root's header, a U16 and an offset.
+    fn text(&self) -> u64 {
+        2 * self.first + 2 + self.offset
+    }
+}
+
+#[test]
+fn numbers_of_the_codings() {
+    assert_eq!(Coding::ALL.map(Coding::number), [48, 32]);
+    assert_eq!(
+        (Coding::of(48), Coding::of(32)),
+        (Some(Bits48), Some(Bits32))
+    );
+    for number in [0, 31, 33, 47, 49, u32::MAX] {
+        assert_eq!(Coding::of(number), None);
+    }
+}
+
+#[test]
+fn verdicts() {
+    for example in EXAMPLES {
+        let judged = |message: &[u8], budget| judge(example.coding, SCHEMA, message, budget);
+        let (message, text) = (example.message, example.text());
+        assert_eq!(judged(message, 2), verdict(0, 0, 2));
+        assert_eq!(judged(message, 1), verdict(4, text, 1));
+        assert_eq!(judged(message, 0), verdict(4, example.first, 0));
+        assert_eq!(
+            judged(&message[..message.len() - 1], 2),
+            verdict(6, text, 2)
+        );
+        let first = example.first as usize;
+        assert_eq!(judged(&message[..first - 1], 2), verdict(2, 0, 0));
+        assert_eq!(judged(&message[..first], 2), verdict(6, example.first, 1));
+        let mut small = message.to_vec();
+        small[4] = first as u8 - 1;
+        assert_eq!(judged(&small, 2), verdict(6, example.first - 1, 1));
+        let mut cut = message.to_vec();
+        cut[first + 4] -= 1;
+        assert_eq!(judged(&cut, 2), verdict(8, example.first, 1));
+        let mut end = message.to_vec();
+        end[message.len() - 1] = 1;
+        assert_eq!(judged(&end, 2), verdict(10, text, 2));
+    }
+}
+
+/// A message of one coding is none of the other.
+#[test]
+fn messages_of_the_other_coding() {
+    let [newer, older] = EXAMPLES;
+    // The root is at 10 here too, but its length ends at 18: the reference is the two bytes of 3
+    // and the first two of the offset.
+    let given = judge(Bits32, SCHEMA, newer.message, 2);
+    assert_eq!(given, verdict(6, 0x001C_0003, 2));
+    // The root's offset is 8 and the first two bytes of the root's id.
+    let given = judge(Bits48, SCHEMA, older.message, 2);
+    assert_eq!(given, verdict(6, 0x4345_0000_0008, 1));
+}
+
+#[test]
+fn fields_and_texts() {
+    let three = Answer::Number {
+        bits: 3,
+        width: 16,
+        signed: false,
+    };
+    for example in EXAMPLES {
+        let at = |path: &[u32]| field(example.coding, SCHEMA, example.message, path);
+        assert_eq!(at(&[]), object(16, example.first, 2 + example.offset));
+        assert_eq!(at(&[0]), three);
+        assert_eq!(at(&[1]), object(13, example.text(), 2));
+        assert_eq!(at(&[2]), refused(15, example.first));
+        let part = |path: &[u32]| text(example.coding, SCHEMA, example.message, path);
+        assert_eq!(part(&[1]), Some(&b"ab"[..]));
+        assert_eq!(part(&[0]), None);
+    }
+}
+
+#[test]
+fn unions_in_place() {
+    for example in EXAMPLES {
+        let (coding, message) = (example.coding, example.union);
+        // The root's header, a U8, a choice and a length.
+        let place = 2 * example.first + 3 + example.offset;
+        assert_eq!(judge(coding, IN_PLACE, message, 2), verdict(0, 0, 2));
+        assert_eq!(judge(coding, IN_PLACE, message, 1), verdict(4, place, 1));
+        assert_eq!(field(coding, IN_PLACE, message, &[1]), object(13, place, 2));
+        assert_eq!(text(coding, IN_PLACE, message, &[1]), Some(&b"ab"[..]));
+        let mut sheet = [0xEE; 11];
+        let answer = read(coding, IN_PLACE, message, 2, &mut sheet);
+        assert_eq!((answer.verdict, answer.length), (verdict(0, 0, 2), 10));
+        assert_eq!(sheet, *b"\x41\x50\x00\x10\x00\x00\x00\x26\x16\x20\xEE");
+        let mut written = vec![0xEE; message.len()];
+        let answer = write(coding, IN_PLACE, UNION_SHEET, &mut written);
+        assert_eq!((answer.number, answer.length), (0, message.len()));
+        assert_eq!(written, message);
+    }
+}
+
+#[test]
+fn lists() {
+    for example in EXAMPLES {
+        // The root's header and an offset; the list's header and three offsets.
+        let list_at = 2 * example.first + example.offset;
+        let text_at = list_at + example.first + 3 * example.offset;
+        let elements = list(example.coding, LIST, example.texts, &[0]);
+        let elements: Vec<Answer> = elements.expect("a list").collect();
+        let small = refused(6, example.first - 1);
+        let expected = [object(13, text_at, 2), Answer::Absent, small];
+        assert_eq!(elements, expected);
+        let none = list(example.coding, LIST, example.texts, &[]).err();
+        assert_eq!(none, Some(refused(15, 0)));
+    }
+}
+
+#[test]
+fn sheets_and_messages() {
+    for example in EXAMPLES {
+        let (coding, message) = (example.coding, example.message);
+        let mut sheet = [0xEE; 10];
+        let answer = read(coding, SCHEMA, message, 2, &mut sheet);
+        assert_eq!((answer.verdict, answer.length), (verdict(0, 0, 2), 9));
+        assert_eq!((&sheet[..9], sheet[9]), (SHEET, 0xEE));
+        let short = read(coding, SCHEMA, message, 2, &mut sheet[..8]);
+        assert_eq!((short.verdict, short.length), (verdict(14, 0, 2), 0));
+        let mut written = vec![0xEE; message.len() + 1];
+        let answer = write(coding, SCHEMA, SHEET, &mut written);
+        assert_eq!((answer.number, answer.length), (0, message.len()));
+        assert_eq!(written, [message, &[0xEE]].concat());
+        let short = write(coding, SCHEMA, SHEET, &mut written[..message.len() - 1]);
+        assert_eq!((short.number, short.length), (14, 0));
+    }
+}
+
+/// A union not in place, a table in place and a list of unions: lawful under 48 bits alone.
+#[test]
+fn schemas_of_one_coding() {
+    let schemas: [&[u8]; 3] = [
+        b"\x00\x00\x01\x01\x00\x01\x68\x00\x4C\x49\x43\x45\x01\x88\x00",
+        b"\x00\x00\x00\x01\x00\x4C\x49\x43\x45\x01\x82\x00",
+        b"\x00\x01\x01\x01\x00\x88\x00\x01\x68\x00\x4C\x49\x43\x45\x00",
+    ];
+    for schema in schemas {
+        // The start says 8, where the coding of 48 bits has no object.
+        let message = b"\xB3\xC4\xC0\xB5\x08\0\0\0\0\0";
+        assert_eq!(judge(Bits48, schema, message, 2), verdict(6, 8, 1));
+        assert_eq!(judge(Bits32, schema, message, 2), verdict(1, 0, 0));
+        assert_eq!(field(Bits32, schema, message, &[0; 97]), refused(1, 0));
+        assert_eq!(text(Bits32, schema, message, &[0]), None);
+        let none = list(Bits32, schema, message, &[0]).err();
+        assert_eq!(none, Some(refused(1, 0)));
+        let answer = read(Bits32, schema, message, 2, &mut [0; 9]);
+        assert_eq!((answer.verdict, answer.length), (verdict(1, 0, 0), 0));
+        let answer = write(Bits32, schema, &[0], &mut [0; 99]);
+        assert_eq!((answer.number, answer.length), (1, 0));
+    }
+}

@@ -1,0 +1,89 @@
+//! The stored cases of the 32-bit coding that were worked out by hand, and more
+//! of the same: both programs answer as the documents say.
+
+use compare::calls::{Calls, LibraryCalls, SecondCalls, Writes};
+use compare::program::Verdict;
+use compare::schema::Packed;
+use compare::stored::by_hand::{bytes, message, packed, REFUSED, SHEETS, TEXT};
+
+/// What both programs answer.
+fn judged(schema: &Packed, message: &[u8], budget: u32) -> (u32, u64, u32) {
+    let parts = |verdict: Verdict| (verdict.number, verdict.place, verdict.visits);
+    let given = [&LibraryCalls as &dyn Calls, &SecondCalls]
+        .map(|program| parts(program.judge(schema, message, budget)));
+    assert_eq!(given[0], given[1], "{schema}");
+    given[0]
+}
+
+#[test]
+fn refusals() {
+    for case in REFUSED {
+        let given = judged(&packed(case.schema), &message(case.message), case.budget);
+        assert_eq!(given, case.verdict, "{}", case.name);
+    }
+}
+
+/// What is tried before the walk, and the root's own offset.
+#[test]
+fn starts() {
+    let schema = packed(TEXT);
+    let at = |start: &str| judged(&schema, &bytes(start), 9);
+    assert_eq!(at(""), (2, 0, 0));
+    assert_eq!(at("B3C4C0B5 080000"), (2, 0, 0));
+    assert_eq!(at("B3C4C0B5 08000000"), (6, 8, 1));
+    assert_eq!(at("B3C4C0B4 08000000"), (3, 0, 0));
+    let root = "4543494C 00000000";
+    for (offset, verdict) in [("08", (0, 0, 1)), ("07", (6, 7, 1)), ("00", (6, 0, 1))] {
+        assert_eq!(at(&format!("B3C4C0B5 {offset}000000 {root}")), verdict);
+    }
+    // At 9 a header fits with one byte more, but no id stands there.
+    assert_eq!(at(&format!("B3C4C0B5 09000000 {root} 00")), (7, 9, 1));
+    assert_eq!(at(&format!("B3C4C0B5 09000000 {root}")), (6, 9, 1));
+}
+
+#[test]
+fn sheets() {
+    for case in SHEETS {
+        let (schema, message) = (packed(case.schema), message(case.message));
+        let sheet = bytes(case.sheet);
+        let accepted = (0, 0, case.visits);
+        assert_eq!(judged(&schema, &message, 9), accepted, "{}", case.name);
+        for program in [&LibraryCalls as &dyn Writes, &SecondCalls] {
+            let mut read = vec![0xEE; sheet.len()];
+            let answer = program.read(&schema, &message, case.visits, &mut read);
+            let expected = [0, 0, u64::from(case.visits), sheet.len() as u64];
+            assert_eq!((answer, &read), (expected, &sheet), "{}", case.name);
+            if case.written {
+                let mut written = vec![0xEE; message.len()];
+                let answer = program.write(&schema, &sheet, &mut written);
+                let expected = [0, message.len() as u64];
+                assert_eq!((answer, &written), (expected, &message), "{}", case.name);
+            }
+        }
+    }
+}
+
+/// A union not in place, a table in place, a list of unions; and the same under
+/// 48 bits, where the root at 8 is what is refused.
+#[test]
+fn schemas() {
+    let message = message("00000000 0000");
+    for digits in [
+        "00000101 00 01 6800 4C494345 01 8800",
+        "00000001 00 4C494345 01 8200",
+        "00010101 00 8800 01 6800 4C494345 00",
+    ] {
+        let schema = packed(digits);
+        assert_eq!(judged(&schema, &message, 9), (1, 0, 0));
+        let lawful = Packed {
+            coding: 48,
+            ..schema
+        };
+        assert_eq!(judged(&lawful, &message, 9), (6, 0x4345_0000_0008, 1));
+    }
+    // Neither is a coding, whatever the schema.
+    for coding in [0, 31, 33, 47, 49, u32::MAX] {
+        let bytes = bytes(TEXT);
+        assert_eq!(judged(&Packed { coding, bytes }, &message, 9), (1, 0, 0));
+    }
+}
