@@ -1,8 +1,8 @@
 -- `scalgo::scalgo_field` meets its contract.
 use mathlib.Core.Path.{_≡_, ap, _∙_}
-use Prim.Native.Nat.{ℕ}
-use Rattle.coding.specs.Field.{field, answerCase}
+use Rattle.coding.specs.Field.{answerCase}
 use Rattle.coding.specs.declared.Case.{Case}
+use Rattle.scalgo.proofs.Codings.{field-by}
 use borrow.Author.Needs.{needs}
 use Rattle.scalgo.proofs.scalgo_field.Statement.{statement}
 use Rattle.scalgo.proofs.scalgo_field.Tie as tie
@@ -18,7 +18,7 @@ case-of-requires c κs = search needs
 
 returns : tie.Need-returns
 returns c =
-    let f = c .before .field .ensures ∙ ap (λ (o : ℕ). field o _ _ _) (c .before .before .width-of .ensures) in
+    let f = field-by _ _ (c .before .before .width-of .ensures) _ _ _ _ (c .before .field .ensures) in
     let e = c .case-of .ensures ∙ ap answerCase f in
     (ap (λ (x : Case). x .case) e, (ap (λ (x : Case). x .a) e, (ap (λ (x : Case). x .b) e, ap (λ (x : Case). x .c) e)))
 

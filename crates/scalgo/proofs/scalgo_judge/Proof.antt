@@ -1,8 +1,7 @@
 -- `scalgo::scalgo_judge` meets its contract.
-use mathlib.Core.Path.{ap, _∙_}
-use Prim.Native.Nat.{ℕ}
-use Rattle.coding.specs.Walk.{verdict}
+use mathlib.Core.Path.{ap}
 use Rattle.coding.specs.declared.Verdict.{Verdict}
+use Rattle.scalgo.proofs.Codings.{judge-by}
 use borrow.Author.Needs.{needs}
 use Rattle.scalgo.proofs.scalgo_judge.Statement.{statement}
 use Rattle.scalgo.proofs.scalgo_judge.Tie as tie
@@ -18,7 +17,7 @@ cast-result c = search needs
 
 returns : tie.Need-returns
 returns c =
-    let e = c .before .judge .ensures ∙ ap (λ (o : ℕ). verdict o _ _ _) (c .before .before .width-of .ensures) in
+    let e = judge-by _ _ (c .before .before .width-of .ensures) _ _ _ _ (c .before .judge .ensures) in
     (ap (λ (v : Verdict). v .number) e, (ap (λ (v : Verdict). v .place) e, (ap (λ (v : Verdict). v .member) e, ap (λ (v : Verdict). v .visits) e)))
 
 pub scalgo-judge-spec : {M : Type 1} → statement M

@@ -1,8 +1,7 @@
 -- `scalgo::scalgo_read` meets its contract.
-use mathlib.Core.Path.{ap, _∙_}
-use Prim.Native.Nat.{ℕ}
-use Rattle.coding.specs.Message.{readAnswer, readOut}
+use mathlib.Core.Path.{ap}
 use Rattle.coding.specs.declared.ReadAnswer.{ReadAnswer}
+use Rattle.scalgo.proofs.Codings.{read-by, read-out-by}
 use borrow.Author.Needs.{needs}
 use Rattle.scalgo.proofs.scalgo_read.Statement.{statement}
 use Rattle.scalgo.proofs.scalgo_read.Tie as tie
@@ -22,8 +21,8 @@ same-length c = search needs
 returns : tie.Need-returns
 returns c =
     let read = c .before .before .before .before .read .ensures in
-    let w = c .before .before .before .before .before .width-of .ensures in
-    let e = read .0 ∙ ap (λ (o : ℕ). readAnswer o _ _ _ _) w in (
+    let w = c .before .before .before .before .before .before .width-of .ensures in
+    let e = read-by _ _ w _ _ _ _ _ (read .0) in (
       ap (λ (x : ReadAnswer). x .verdict .number) e,
       (
         ap (λ (x : ReadAnswer). x .verdict .place) e,
@@ -31,7 +30,7 @@ returns c =
           ap (λ (x : ReadAnswer). x .verdict .member) e,
           (
             ap (λ (x : ReadAnswer). x .verdict .visits) e,
-            (ap (λ (x : ReadAnswer). x .length) e, read .1 ∙ ap (λ (o : ℕ). readOut o _ _ _ _) w),
+            (ap (λ (x : ReadAnswer). x .length) e, read-out-by _ _ w _ _ _ _ _ (read .1)),
           ),
         ),
       ),

@@ -4,8 +4,8 @@ use mathlib.Core.Bool.{Bool, true, false}
 use Prim.Native.Nat.{ℕ}
 use mir.Val.{boolByte}
 use Rattle.coding.specs.Lists.{pick}
-use Rattle.coding.specs.Field.{fieldSpan}
 use Rattle.coding.specs.declared.Span.{Span}
+use Rattle.scalgo.proofs.Codings.{span-by}
 use borrow.Author.Needs.{needs}
 use Rattle.scalgo.proofs.scalgo_text.Statement.{statement}
 use Rattle.scalgo.proofs.scalgo_text.Tie as tie
@@ -25,7 +25,7 @@ bit false = refl
 
 returns : tie.Need-returns
 returns c =
-    let e = c .before .text-span .ensures .0 ∙ ap (λ (o : ℕ). fieldSpan o _ _ _) (c .before .before .width-of .ensures) in (
+    let e = span-by _ _ (c .before .before .width-of .ensures) _ _ _ _ (c .before .text-span .ensures .0) in (
       bit (c .before .text-span .result .there) ∙ ap (λ (x : Span). pick {A = ℕ} (x .there) 1 0) e,
       (ap (λ (x : Span). x .start) e, (ap (λ (x : Span). x .length) e, c .before .text-span .ensures .1)),
     )

@@ -1,8 +1,7 @@
 -- `scalgo::scalgo_write` meets its contract.
-use mathlib.Core.Path.{ap, _∙_}
-use Prim.Native.Nat.{ℕ}
-use Rattle.coding.specs.Message.{writeAnswer, writeOut}
+use mathlib.Core.Path.{ap}
 use Rattle.coding.specs.declared.WriteAnswer.{WriteAnswer}
+use Rattle.scalgo.proofs.Codings.{write-by, write-out-by}
 use borrow.Author.Needs.{needs}
 use Rattle.scalgo.proofs.scalgo_write.Statement.{statement}
 use Rattle.scalgo.proofs.scalgo_write.Tie as tie
@@ -22,10 +21,10 @@ same-length c = search needs
 returns : tie.Need-returns
 returns c =
     let wrote = c .before .before .before .write .ensures in
-    let w = c .before .before .before .before .width-of .ensures in
-    let e = wrote .0 ∙ ap (λ (o : ℕ). writeAnswer o _ _ _) w in (
+    let w = c .before .before .before .before .before .width-of .ensures in
+    let e = write-by _ _ w _ _ _ _ (wrote .0) in (
       ap (λ (x : WriteAnswer). x .number) e,
-      (ap (λ (x : WriteAnswer). x .length) e, wrote .1 ∙ ap (λ (o : ℕ). writeOut o _ _ _) w),
+      (ap (λ (x : WriteAnswer). x .length) e, write-out-by _ _ w _ _ _ _ (wrote .1)),
     )
 
 pub scalgo-write-spec : {M : Type 1} → statement M
