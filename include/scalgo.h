@@ -53,6 +53,9 @@ enum {
     SCALGO_PATH = 15           /* a path's step has no such part, or a path over 96 numbers */
 };
 
+/* The member of an answer that is about none: 4,294,967,295. */
+#define SCALGO_NO_MEMBER UINT32_MAX
+
 /* What scalgo_field answers, and the first of the four numbers of a step of scalgo_list. An enum is
  * an unsigned number of 8 bits; a union with a known choice is its object. */
 enum {
@@ -65,7 +68,7 @@ enum {
     SCALGO_CASE_STRUCT = 4,    /* a: its place */
     SCALGO_CASE_ABSENT = 5,
     SCALGO_CASE_UNKNOWN = 6,   /* an enum or a union's choice that the schema does not know; a: the number */
-    SCALGO_CASE_REFUSED = 7    /* a: one of the numbers above; b: its place */
+    SCALGO_CASE_REFUSED = 7    /* a: one of the numbers above; b: its place; c: its member */
 };
 
 /* Judges a message by a packed schema and answers 0 to 10 of the numbers above.
@@ -75,11 +78,14 @@ enum {
  *         byte: its offset as stored, or where its content starts if it is in place. With 8 it is
  *         the table, with 9 the object that holds the union. It is what the message says and may
  *         lie past the message's end. 0 with the other numbers.
+ * *member: which part of the object at *place is refused, counted from 0: with 8 the table's member,
+ *         with 9 the table's member or the list's element, with 10 the table's member that is a
+ *         struct. SCALGO_NO_MEMBER with 10 for a text's end byte, and with the other numbers.
  * *visits: the objects visited; an arrival refused for the budget is not counted.
  */
 uint32_t scalgo_judge(uint32_t coding, const uint8_t *schema, size_t schema_len,
                       const uint8_t *message, size_t message_len,
-                      uint32_t budget, uint64_t *place, uint32_t *visits);
+                      uint32_t budget, uint64_t *place, uint32_t *member, uint32_t *visits);
 
 /* Reads one field and answers its case.
  *
@@ -90,7 +96,8 @@ uint32_t scalgo_judge(uint32_t coding, const uint8_t *schema, size_t schema_len,
  * *a, *b, *c: what the case has; 0 where it has no such number.
  *
  * A refusal is 1, 2 or 3, 5 to 10 or 15. With 5 to 10 its place is as of scalgo_judge; with 15 it
- * is that of the last object judged; it is 0 with 1, 2 and 3 and with a path over 96 numbers.
+ * is that of the last object judged; it is 0 with 1, 2 and 3 and with a path over 96 numbers. Its
+ * member is as of scalgo_judge: SCALGO_NO_MEMBER with 1 to 7 and 15.
  */
 uint32_t scalgo_field(uint32_t coding, const uint8_t *schema, size_t schema_len,
                       const uint8_t *message, size_t message_len,
@@ -119,8 +126,8 @@ uint32_t scalgo_text(uint32_t coding, const uint8_t *schema, size_t schema_len,
  *
  * A step after the last element is refused by 15 at the list. Where there is no such list every
  * step is refused: by the path's own refusal, or by 15 at 0 if it leads to anything else; and the
- * answer is 0. A refusal is a step's answer like any other: its case SCALGO_CASE_REFUSED, number
- * and place are written too.
+ * answer is 0. A refusal is a step's answer like any other: its case SCALGO_CASE_REFUSED, number,
+ * place and member are written too.
  */
 uint64_t scalgo_list(uint32_t coding, const uint8_t *schema, size_t schema_len,
                      const uint8_t *message, size_t message_len,
@@ -129,8 +136,8 @@ uint64_t scalgo_list(uint32_t coding, const uint8_t *schema, size_t schema_len,
 
 /* Reads a message to its value sheet and answers 0 to 10 as scalgo_judge does, or 14.
  *
- * budget, *place, *visits: as of scalgo_judge; with 14 the place is 0 and the visits are those of
- *         the accepted message.
+ * budget, *place, *member, *visits: as of scalgo_judge; with 14 the place is 0, there is no member,
+ *         and the visits are those of the accepted message.
  * sheet, room: where the sheet goes. With a refusal it is unchanged; else its first *length bytes
  *         are the sheet, and the bytes after them keep what they held.
  * *length: the bytes of the sheet; 0 with a refusal.
@@ -138,7 +145,7 @@ uint64_t scalgo_list(uint32_t coding, const uint8_t *schema, size_t schema_len,
 uint32_t scalgo_read(uint32_t coding, const uint8_t *schema, size_t schema_len,
                      const uint8_t *message, size_t message_len,
                      uint32_t budget, uint8_t *sheet, size_t room,
-                     uint64_t *place, uint32_t *visits, uint64_t *length);
+                     uint64_t *place, uint32_t *member, uint32_t *visits, uint64_t *length);
 
 /* Writes a value sheet as a message and answers 0, 1, 11, 12, 13 or 14. The root table is put at 10
  * or 8.

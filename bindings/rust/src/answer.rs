@@ -17,8 +17,20 @@ pub enum Answer {
     Absent,
     /// An enum's number or a union's choice that the schema does not know.
     Unknown(u16),
-    /// A refusal: its number, and where the last object judged stands.
-    Refused { number: u32, place: u64 },
+    /// A refusal: its number, where the last object judged stands, and which member or element of
+    /// that object is refused, as of [`Verdict`](crate::Verdict).
+    Refused {
+        number: u32,
+        place: u64,
+        member: Option<u32>,
+    },
+}
+
+/// The library's number of a member: the largest of 32 bits says that there is none.
+pub(crate) fn member(number: u64) -> Option<u32> {
+    u32::try_from(number)
+        .ok()
+        .filter(|number| *number < u32::MAX)
 }
 
 /// The record kind of a list.
@@ -53,6 +65,7 @@ impl Answer {
             _ => Answer::Refused {
                 number: a as u32,
                 place: b,
+                member: member(c),
             },
         }
     }

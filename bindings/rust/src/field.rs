@@ -44,8 +44,14 @@ extern "C" {
 /// let text = Answer::Object { kind: 13, place: 28, length: 2 };
 /// assert_eq!(field(Bits48, schema, message, &[1]), text);
 /// // The table at 10 has two members.
-/// let none = Answer::Refused { number: 15, place: 10 };
+/// let none = Answer::Refused { number: 15, place: 10, member: None };
 /// assert_eq!(field(Bits48, schema, message, &[2]), none);
+///
+/// // With 5 bytes of its fixed part the text, member 1, is cut.
+/// let mut cut = message.to_vec();
+/// cut[14] = 5;
+/// let refused = Answer::Refused { number: 8, place: 10, member: Some(1) };
+/// assert_eq!(field(Bits48, schema, &cut, &[1]), refused);
 /// ```
 pub fn field(coding: Coding, schema: &[u8], message: &[u8], path: &[u32]) -> Answer {
     let (mut a, mut b, mut c) = (0, 0, 0);

@@ -1,5 +1,6 @@
 //! The verdict on a message.
 
+use crate::answer::member;
 use crate::Coding;
 
 extern "C" {
@@ -11,6 +12,7 @@ extern "C" {
         message_len: usize,
         budget: u32,
         place: *mut u64,
+        member: *mut u32,
         visits: *mut u32,
     ) -> u32;
 }
@@ -22,6 +24,9 @@ pub struct Verdict {
     pub number: u32,
     /// Where the object of the refusal stands, counted from the message's first byte.
     pub place: u64,
+    /// Which member or element of that object is refused, counted from 0: with 8, 9 and 10, a text's
+    /// end byte aside. Of a struct it is the table's member.
+    pub member: Option<u32>,
     /// The objects visited, a shared one at each arrival.
     pub visits: u32,
 }
@@ -35,9 +40,9 @@ impl Verdict {
 
 /// Judges a message by a packed schema. At most `budget` objects are visited.
 pub fn judge(coding: Coding, schema: &[u8], message: &[u8], budget: u32) -> Verdict {
-    let (mut place, mut visits) = (0, 0);
+    let (mut place, mut part, mut visits) = (0, 0, 0);
     // SAFETY: each slice is given as its pointer, which is not null, and its length; no one writes
-    // to either during the call; the two numbers are this function's own; nothing is kept.
+    // to either during the call; the three numbers are this function's own; nothing is kept.
     let number = unsafe {
         scalgo_judge(
             coding.number(),
@@ -47,12 +52,14 @@ pub fn judge(coding: Coding, schema: &[u8], message: &[u8], budget: u32) -> Verd
             message.len(),
             budget,
             &mut place,
+            &mut part,
             &mut visits,
         )
     };
     Verdict {
         number,
         place,
+        member: member(u64::from(part)),
         visits,
     }
 }

@@ -31,6 +31,9 @@
 //! | 14 | no room in the output, or a sheet over 16,777,215 bytes | 0 |
 //! | 15 | a step that has no such part, or a path over 96 numbers | the last object judged; 0 for length |
 //!
+//! With 8, 9 and 10 there is a member too: the number of the table's member or the list's element that
+//! is refused. A text's end byte has none.
+//!
 //! # Example
 //!
 //! ```

@@ -63,7 +63,8 @@ pub struct List<'a> {
 /// assert_eq!(texts.next(), None);
 ///
 /// let root = list(Bits48, schema, message, &[]);
-/// assert_eq!(root.err(), Some(Answer::Refused { number: 15, place: 0 }));
+/// let none = Answer::Refused { number: 15, place: 0, member: None };
+/// assert_eq!(root.err(), Some(none));
 /// ```
 pub fn list<'a>(
     coding: Coding,
@@ -100,6 +101,7 @@ fn ends_at_once(first: Answer, whole: Answer) -> bool {
                 == Answer::Refused {
                     number: NO_PART,
                     place,
+                    member: None,
                 }
         }
         _ => false,

@@ -1,5 +1,6 @@
 //! A message to its value sheet.
 
+use crate::answer::member;
 use crate::{Coding, Verdict};
 
 extern "C" {
@@ -13,6 +14,7 @@ extern "C" {
         sheet: *mut u8,
         room: usize,
         place: *mut u64,
+        member: *mut u32,
         visits: *mut u32,
         length: *mut u64,
     ) -> u32;
@@ -56,9 +58,9 @@ pub fn read(
     budget: u32,
     sheet: &mut [u8],
 ) -> ReadAnswer {
-    let (mut place, mut visits, mut length) = (0, 0, 0);
+    let (mut place, mut part, mut visits, mut length) = (0, 0, 0, 0);
     // SAFETY: each slice is given as its pointer, which is not null, and its length; no one writes
-    // to the shared ones during the call, and the sheet is lent to this function alone; the three
+    // to the shared ones during the call, and the sheet is lent to this function alone; the four
     // numbers are this function's own; nothing is kept.
     let number = unsafe {
         scalgo_read(
@@ -71,6 +73,7 @@ pub fn read(
             sheet.as_mut_ptr(),
             sheet.len(),
             &mut place,
+            &mut part,
             &mut visits,
             &mut length,
         )
@@ -79,6 +82,7 @@ pub fn read(
         verdict: Verdict {
             number,
             place,
+            member: member(u64::from(part)),
             visits,
         },
         length: length as usize,

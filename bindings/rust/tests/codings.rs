@@ -62,10 +62,12 @@ const EXAMPLES: [Example; 2] = [
     },
 ];
 
+/// A verdict without a member.
 fn verdict(number: u32, place: u64, visits: u32) -> Verdict {
     Verdict {
         number,
         place,
+        member: None,
         visits,
     }
 }
@@ -78,8 +80,13 @@ fn object(kind: u8, place: u64, length: u64) -> Answer {
     }
 }
 
+/// A refusal without a member.
 fn refused(number: u32, place: u64) -> Answer {
-    Answer::Refused { number, place }
+    Answer::Refused {
+        number,
+        place,
+        member: None,
+    }
 }
 
 impl Example {
@@ -121,7 +128,12 @@ fn verdicts() {
         assert_eq!(judged(&small, 2), verdict(6, example.first - 1, 1));
         let mut cut = message.to_vec();
         cut[first + 4] -= 1;
-        assert_eq!(judged(&cut, 2), verdict(8, example.first, 1));
+        // The text is member 1; the end byte is of no member.
+        let of_text = Verdict {
+            member: Some(1),
+            ..verdict(8, example.first, 1)
+        };
+        assert_eq!(judged(&cut, 2), of_text);
         let mut end = message.to_vec();
         end[message.len() - 1] = 1;
         assert_eq!(judged(&end, 2), verdict(10, text, 2));
@@ -158,6 +170,71 @@ fn fields_and_texts() {
         assert_eq!(part(&[1]), Some(&b"ab"[..]));
         assert_eq!(part(&[0]), None);
     }
+}
+
+/// A U8, a struct of a U8 and a bool, and a U16: the struct is member 1, cut or with a wrong bool,
+/// and the U16 member 2.
+#[test]
+fn members() {
+    let schema =
+        b"\x01\x00\x00\x01\x00\x02\x08\x00\x00\x00\x4C\x49\x43\x45\x03\x08\x00\x60\x00\x10\x00";
+    for example in EXAMPLES {
+        let start = &example.message[..example.first as usize + 4];
+        let message = |fixed: &[u8]| {
+            let length = &(fixed.len() as u64).to_le_bytes()[..example.offset as usize];
+            [start, length, fixed].concat()
+        };
+        for (fixed, number, member) in [
+            (&[0, 0][..], 8, 1),
+            (&[0, 0, 2], 10, 1),
+            (&[0, 0, 2, 0], 10, 1),
+            (&[0, 0, 1, 0], 8, 2),
+        ] {
+            let (place, member) = (example.first, Some(member));
+            let expected = Verdict {
+                member,
+                ..verdict(number, place, 1)
+            };
+            let message = message(fixed);
+            assert_eq!(judge(example.coding, schema, &message, 9), expected);
+            let answer = read(example.coding, schema, &message, 9, &mut [0; 9]);
+            assert_eq!((answer.verdict, answer.length), (expected, 0));
+            let refused = Answer::Refused {
+                number,
+                place,
+                member,
+            };
+            let path = [member.unwrap_or(0), 0];
+            assert_eq!(field(example.coding, schema, &message, &path), refused);
+        }
+    }
+}
+
+/// A list of unions of a text: choice 0, and then a known choice of offset 0.
+#[test]
+fn elements() {
+    let schema = b"\x00\x01\x01\x01\x00\x88\x00\x01\x68\x00\x4C\x49\x43\x45\x01\x78\x00";
+    let message = b"\xB3\xC4\xC0\xB5\x0A\x00\x00\x00\x00\x00\
+        \x45\x43\x49\x4C\x06\x00\x00\x00\x00\x00\x1A\x00\x00\x00\x00\x00\
+        \x46\xBB\x00\x34\x02\x00\x00\x00\x00\x00\
+        \x00\x00\x00\x00\x00\x00\x00\x00\x01\x00\x00\x00\x00\x00\x00\x00";
+    let member = Some(1);
+    let expected = Verdict {
+        member,
+        ..verdict(9, 26, 2)
+    };
+    assert_eq!(judge(Bits48, schema, message, 9), expected);
+    let elements = list(Bits48, schema, message, &[0]).expect("a list");
+    let (number, place) = (9, 26);
+    let refused = Answer::Refused {
+        number,
+        place,
+        member,
+    };
+    let elements: Vec<Answer> = elements.collect();
+    assert_eq!(elements, [Answer::Absent, refused]);
+    let inside = list(Bits48, schema, message, &[0, 1]).err();
+    assert_eq!(inside, Some(refused));
 }
 
 #[test]

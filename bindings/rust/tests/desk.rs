@@ -58,6 +58,16 @@ fn judging_and_fields() {
     prints(&folder, "judge schema message", "6 28 2");
     prints(&folder, "field schema message 1", "refused: 6 at 28");
     prints(&folder, "judge message schema", "1 0 0");
+    // The text is cut by a fixed part of 5 bytes.
+    let mut cut = MESSAGE.to_vec();
+    cut[14] = 5;
+    fs::write(folder.join("message"), cut).expect("a file is written");
+    prints(&folder, "judge schema message", "8 10 1, member 1");
+    let refused = "refused: 8 at 10, member 1";
+    prints(&folder, "field schema message 1", refused);
+    prints(&folder, "list schema message 1", refused);
+    let read = "8 10 1 0, member 1";
+    prints(&folder, "read schema message read", read);
 }
 
 /// A table with a list of texts: "ab", none, and one that is not there.

@@ -13,7 +13,7 @@ use Rattle.coding.specs.Lawful.{lawful}
 use Rattle.coding.specs.Structs.{total, structSize}
 use Rattle.coding.specs.Layout.{begin, afterMembers}
 use Rattle.coding.specs.Step.{fieldStep, memberStep, elementStep}
-use Rattle.coding.specs.Walk.{placed, refusal, openObject, rootPlace, nothing, verdictAt, early, sizeOk, startOk}
+use Rattle.coding.specs.Walk.{placed, refusal, partRefusal, openObject, rootPlace, nothing, verdictAt, early, sizeOk, startOk}
 use Rattle.coding.specs.declared.Flat.{Flat}
 use Rattle.coding.specs.declared.Flat.the-variants as F
 use Rattle.coding.specs.declared.Object.{Object}
@@ -51,10 +51,9 @@ unfoldable pub arrived : ℕ → ℕ → Schema → List ℕ → Object → Plac
 arrived zero o S m ob p = Fd.Refused (refusal 5 (placed p))
 arrived (suc d) o S m ob p = opened ob (placed p) d (openObject o S m ob p)
 
--- a refusal of part j of the object at `holder`: refusals 8, 9 and 10 of a member or an element are placed at its holder. The
--- number j is not answered yet (02, K6).
+-- a refusal of part j of the object at `holder`; 02, K6: "Field reading answers likewise."
 unfoldable pub partRefused : ℕ → ℕ → ℕ → Found
-partRefused n holder j = Fd.Refused (refusal n holder)
+partRefused n holder j = Fd.Refused (partRefusal n holder j)
 
 -- "unions are passed through without one", a number of the path; refusal 9: "known union choice, not in place, offset 0"
 unfoldable pub chosen : ℕ → ℕ → Schema → List ℕ → ℕ → ℕ → Object → Place → Found
@@ -176,7 +175,7 @@ field o b m path = answerOf (fieldFound o b m path)
 -- ---- "Where an answer is an enum, a definition gives this paper's number and values for each of its cases.": the values,
 -- as four numbers for those who cannot be given an enum. The first is the library's own number of the case: 0 a boolean, 1
 -- a number (its bits, its width in bits, 1 where it has a sign), 2 a float (its bits, its width), 3 an object (its record
--- kind, place and length), 4 a struct (its place), 5 absent, 6 unknown (its number), 7 refused (number, place)
+-- kind, place and length), 4 a struct (its place), 5 absent, 6 unknown (its number), 7 refused (number, place, member)
 unfoldable pub answerCase : Answer → Case
 answerCase (A.Boolean x) = record { case = 0; a = pick x 1 0; b = 0; c = 0 }
 answerCase (A.Number x w s) = record { case = 1; a = x; b = w; c = pick s 1 0 }
@@ -185,7 +184,7 @@ answerCase (A.Object k at n) = record { case = 3; a = k; b = at; c = n }
 answerCase (A.Struct at) = record { case = 4; a = at; b = 0; c = 0 }
 answerCase A.Absent = record { case = 5; a = 0; b = 0; c = 0 }
 answerCase (A.Unknown x) = record { case = 6; a = x; b = 0; c = 0 }
-answerCase (A.Refused r) = record { case = 7; a = r .number; b = r .place; c = 0 }
+answerCase (A.Refused r) = record { case = 7; a = r .number; b = r .place; c = r .member }
 
 -- ---- "texts and bytes can be had as a part of the message": the content where the answer is a text or bytes, else nothing
 -- no "part of the message"

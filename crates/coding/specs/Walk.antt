@@ -93,9 +93,18 @@ unfoldable pub openObject : ℕ → Schema → List ℕ → Object → Place →
 openObject o S m ob p = bytesTested m ob (fitObject o S m ob p)
 
 -- ---- members, elements and the arrivals that they lead to
--- a refusal with "No." and "Place" of the paper's table
+-- 02, K6: "a text's end byte and every other answer carry 4,294,967,295": the answer is about no member
+unfoldable pub noMember : ℕ
+noMember = 4294967295
+
+-- a refusal with "No." and "Place" of the paper's table, about no member
 abbrev pub refusal : ℕ → ℕ → Refusal
-refusal n at = record { number = n; place = at }
+refusal n at = record { number = n; place = at; member = noMember }
+
+-- 02, K6: "Refusals 8, 9 and 10 shall carry the member's or element's number in its holder, counted from 0": a refusal of part
+-- j of the object at `holder`, where 8, 9 and 10 of a member or an element are placed
+abbrev pub partRefusal : ℕ → ℕ → ℕ → Refusal
+partRefusal n holder j = record { number = n; place = holder; member = j }
 
 -- a refusal with its number and place, after what was spent: "Judging answers number, place and visits"
 unfoldable pub refuse : ℕ → ℕ → Spent → Walked
@@ -110,10 +119,9 @@ andThen (Refused r s) next = Refused r s
 abbrev pub Child : Type 0
 Child = Object → Place → Spent → Walked
 
--- a refusal of part j of the object at `holder`: refusals 8, 9 and 10 of a member or an element are placed at its holder. The
--- number j is not answered yet (02, K6).
+-- a refusal of part j of the object at `holder`, after what was spent
 unfoldable pub refusePart : ℕ → ℕ → ℕ → Spent → Walked
-refusePart n holder j s = refuse n holder s
+refusePart n holder j s = Refused (partRefusal n holder j) s
 
 -- where a union's choice leads, of part j of a holder; refusal 9: "known union choice, not in place, offset 0", at the
 -- "holder"
@@ -122,8 +130,8 @@ followChoice child holder j ob (ByOffset x) s = pick (eqb x 0) (refusePart 9 hol
 followChoice child holder j ob (InPlace a n) s = child ob (InPlace a n) s
 
 -- what the step of part j leads to, for a holder at a place. Refusal 8, "member cut, or flag without value", is at the
--- "table"; refusal 10, "struct boolean not 0 or 1", at the "object" that holds the struct. An unknown enum or choice:
--- "Neither is refused."
+-- "table"; refusal 10, "struct boolean not 0 or 1", at the "object" that holds the struct; 02, K6: "A struct reports the table's
+-- member." An unknown enum or choice: "Neither is refused."
 unfoldable pub follow : Child → ℕ → ℕ → Step → Spent → Walked
 follow child holder j (St.Refused n) s = refusePart n holder j s
 follow child holder j St.Absent s = Going s
@@ -207,11 +215,11 @@ unfoldable pub walk : ℕ → Schema → List ℕ → Budget → Walked
 walk o S m b = visit deepest o S m b (O.Table (S .root)) (rootPlace o m) nothing
 
 -- ---- the verdict
--- "Judging answers number, place and visits": of a refusal, after what was spent
+-- "Judging answers number, place and visits", and the member (02, K6): of a refusal, after what was spent
 abbrev pub verdictAt : Refusal → Spent → Verdict
-verdictAt r s = record { number = r .number; place = r .place; visits = s .visits }
+verdictAt r s = record { number = r .number; place = r .place; member = r .member; visits = s .visits }
 
--- a number at place 0: "accepted", or a refusal at 0, after what was spent
+-- a number at place 0, about no member: "accepted", or a refusal at 0, after what was spent
 abbrev pub atZero : ℕ → Spent → Verdict
 atZero n s = verdictAt (refusal n 0) s
 

@@ -99,9 +99,11 @@ pub struct Spent {
     pub visits: u32,
 }
 
+// Its number and place, and the number in its holder of the member or element that it is about; 4294967295 where it is about none.
 pub struct Refusal {
     pub number: u8,
     pub place: usize,
+    pub member: u32,
 }
 
 pub enum Walked {
@@ -123,9 +125,11 @@ pub enum Found {
 
 // ---- the answers
 
+// The member is a refusal's; 4294967295 where there is none.
 pub struct Verdict {
     pub number: u8,
     pub place: usize,
+    pub member: u32,
     pub visits: u32,
 }
 

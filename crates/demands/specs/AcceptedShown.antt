@@ -55,6 +55,10 @@ refuse-ends : {P : Type 0} (n at : ℕ) (s : Spent) → 0 < n → Ends P (refuse
 unfolding refuse
 refuse-ends n at s h = stops h
 
+refuse-part-ends : {P : Type 0} (n holder j : ℕ) (s : Spent) → 0 < n → Ends P (refusePart n holder j s)
+unfolding refusePart
+refuse-part-ends n holder j s h = stops h
+
 then-ends : {P Q : Type 0} {a : Walked} {next : Spent → Walked} → Ends P a → ((s : Spent) → Ends Q (next s)) → Ends (P × Q) (andThen a next)
 unfolding andThen
 then-ends (goes {s} p) h = both p (h s)
@@ -108,13 +112,13 @@ module _ (S : Schema) (G : Sound S) (m : List ℕ) (small : (i : ℕ) → getD m
     unfolding followChoice refusePart
     choice-ends holder j ob (ByOffset x) s =
         pick-holds (Ends (shown ob (reader ob (ByOffset x)))) (eqb x 0) (refusePart 9 holder j s) (child ob (ByOffset x) s)
-        (λ e. refuse-ends 9 holder s (omega arith)) (λ e. below ob (ByOffset x) s)
+        (λ e. refuse-part-ends 9 holder j s (omega arith)) (λ e. below ob (ByOffset x) s)
     choice-ends holder j ob (InPlace a n) s = below ob (InPlace a n) s
 
     step-ends : {k : Kind} {st : Step} → StepShown S m k st → (holder j : ℕ) (s : Spent)
         → Ends (PartShown shown S k (stepRead (structRead S m) reader st)) (follow child holder j st s)
     unfolding follow refusePart stepRead
-    step-ends (step-refused {n} l) holder j s = refuse-ends n holder s l
+    step-ends (step-refused {n} l) holder j s = refuse-part-ends n holder j s l
     step-ends step-absent holder j s = goes no-part
     step-ends (step-value h) holder j s = goes (flat h)
     step-ends (step-unknown h) holder j s = goes (flat h)

@@ -56,6 +56,11 @@ module _ {b : Budget} where
   unfolding refuse
   judged-refuse k s n at z f = stops _ s z f
 
+  judged-refuse-part : {P : Type 0} (k : ℕ) (s : Spent) (n holder j : ℕ) → 0 < n → (P → s .visits + k ≤ b .visits → ⊥)
+      → Judged b P k s (refusePart n holder j s)
+  unfolding refusePart
+  judged-refuse-part k s n holder j z f = stops _ s z f
+
   judged-then : {P Q : Type 0} {k l : ℕ} {s : Spent} {w : Walked} {next : Spent → Walked} → Judged b P k s w
       → ((t : Spent) → t .visits ≤ b .visits → Judged b Q l t (next t)) → Judged b (P × Q) (k + l) s (andThen w next)
   unfolding andThen
@@ -109,7 +114,7 @@ module _ (b : Budget) (P : Object → Place → Type 0) (k : Object → Place �
       by : (t : Bool) → eqb x 0 ≡ t
           → Judged b (PartLawful P (St.Choice c ob (ByOffset x))) (k ob (ByOffset x)) s
           (pick t (refusePart 9 holder j s) (child ob (ByOffset x) s))
-      by true e = judged-refuse _ s 9 holder (omega arith) (λ q g. q .step (eqb-true x 0 e))
+      by true e = judged-refuse-part _ s 9 holder j (omega arith) (λ q g. q .step (eqb-true x 0 e))
       by false e =
           judged-as
           (λ q. record { step = eqb-false x 0 e; object = λ ob′ p′ l. led-to P q l })
@@ -121,7 +126,7 @@ module _ (b : Budget) (P : Object → Place → Type 0) (k : Object → Place �
   follow-judged : (holder j : ℕ) (st : Step) → NumberedStep st → (s : Spent) → s .visits ≤ b .visits
       → Judged b (PartLawful P st) (arrivalsAt k st) s (follow child holder j st s)
   unfolding follow refusePart arrivalsAt
-  follow-judged holder j (St.Refused n) z s h = judged-refuse 0 s n holder z (λ q g. q .step)
+  follow-judged holder j (St.Refused n) z s h = judged-refuse-part 0 s n holder j z (λ q g. q .step)
   follow-judged holder j St.Absent z s h = still St.Absent tt tt s h
   follow-judged holder j (St.Value x) z s h = still (St.Value x) tt tt s h
   follow-judged holder j (St.Unknown x) z s h = still (St.Unknown x) tt tt s h

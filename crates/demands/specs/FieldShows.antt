@@ -15,7 +15,7 @@ use Rattle.coding.specs.Schema.{Schema, structOf, fieldOf, elementOf, tableOf, 
 use Rattle.coding.specs.Structs.{lower, byIndex, total, structSize}
 use Rattle.coding.specs.Layout.{begin, afterMembers}
 use Rattle.coding.specs.Step.{enumStep, fieldStep, memberStep, elementStep}
-use Rattle.coding.specs.Walk.{placed, refusal, magic, headerSize, startSize, contentSize, endOk, fitContent, fitObject, bytesTested, openObject, refuse, refusePart, follow, followChoice, members, elements, content, enter, arrive, tooDeep, oneMore, counted, visit, rootPlace, nothing, walk}
+use Rattle.coding.specs.Walk.{placed, refusal, partRefusal, magic, headerSize, startSize, contentSize, endOk, fitContent, fitObject, bytesTested, openObject, refuse, refusePart, follow, followChoice, members, elements, content, enter, arrive, tooDeep, oneMore, counted, visit, rootPlace, nothing, walk}
 use Rattle.coding.specs.Value as Tree
 use Rattle.coding.specs.Read as Read
 use Rattle.coding.specs.Field as Field
@@ -23,7 +23,7 @@ use Rattle.laws.specs.Lists.{all-at}
 use Rattle.laws.specs.Structs.{lower-is}
 use Rattle.laws.specs.Sound.{FlatSound, FlatScalar, Sound}
 use Rattle.demands.specs.FieldEntries as E
-use Rattle.demands.specs.GoingOn.{GoesOn, refuse-going, members-going, elements-going, members-at, elements-at, elements-count, fields-at}
+use Rattle.demands.specs.GoingOn.{GoesOn, refuse-going, refuse-part-going, members-going, elements-going, members-at, elements-at, elements-count, fields-at}
 use Rattle.demands.specs.StepKinds.{OfKind, member-kind, element-kind, refused, absent, unknown, value, struct, object, choice}
 use Rattle.coding.specs.declared.Flat.{Flat}
 use Rattle.coding.specs.declared.Flat.the-variants as F
@@ -169,16 +169,16 @@ module _ (o : ℕ) (S : Schema) (m : List ℕ) (b : Budget) where
   choice-shows d holder j ob (InPlace a n) s t e = arrived-shows d ob (InPlace a n) s t e
   choice-shows d holder j ob (ByOffset x) s t e = by (eqb x 0) e
     where
-      by : (f : Bool) → pick f (refuse 9 holder s) (visit d o S m b ob (ByOffset x) s) ≡ Going t
-          → Shows o S m b (pick f (Fd.Refused (refusal 9 holder)) (Field.arrived d o S m ob (ByOffset x)))
+      by : (f : Bool) → pick f (refusePart 9 holder j s) (visit d o S m b ob (ByOffset x) s) ≡ Going t
+          → Shows o S m b (pick f (Fd.Refused (partRefusal 9 holder j)) (Field.arrived d o S m ob (ByOffset x)))
           (E.Part.object ob (Read.read d o S m ob (ByOffset x)))
-      by true q = absurd (refuse-going _ _ _ _ q)
+      by true q = absurd (refuse-part-going _ _ _ _ _ q)
       by false q = arrived-shows d ob (ByOffset x) s t q
 
   step-shows : (d holder j : ℕ) {k : Kind} {step : Step} → OfKind S k step → GoesOn (visit d o S m b) holder j step
       → Shows o S m b (Field.stepped d o S m holder j k step) (E.partHere S k (Read.stepRead (Read.structRead S m) (Read.read d o S m) step))
   unfolding Field.stepped Read.stepRead E.partHere E.kindPart Read.structRead byIndex Read.readBy E.flatPart Tree.asRow Tree.asNumber Tree.asObject follow refusePart Field.partRefused
-  step-shows d holder j (refused n) g = absurd (refuse-going _ _ _ _ (g .goes))
+  step-shows d holder j (refused n) g = absurd (refuse-part-going n holder j _ _ (g .goes))
   step-shows d holder j absent g = no-value
   step-shows d holder j (unknown x) g = unknown-number x
   step-shows d holder j (value k x h) g =

@@ -9,7 +9,7 @@ use Rattle.coding.specs.Schema.{Schema, plainBool}
 use Rattle.coding.specs.Structs.{flatWidth, total, structSize}
 use Rattle.coding.specs.Layout.{afterMember, afterMembers}
 use Rattle.coding.specs.Step.{fieldStep, memberStep, elementStep}
-use Rattle.coding.specs.Walk.{Child, refuse, andThen, follow, members, elements}
+use Rattle.coding.specs.Walk.{Child, refuse, refusePart, andThen, follow, members, elements}
 use Rattle.coding.specs.Value as Tree
 use Rattle.coding.specs.Read as Read
 use Rattle.demands.specs.FieldEntries.{valueAt}
@@ -37,6 +37,10 @@ refused-going r s t e = let z : _≡_ {A = ℕ} 0 1 = cc in omega arith
 pub refuse-going : (n at : ℕ) (s t : Spent) → refuse n at s ≡ Going t → ⊥
 unfolding refuse
 refuse-going n at s t e = refused-going _ _ _ e
+
+pub refuse-part-going : (n holder j : ℕ) (s t : Spent) → refusePart n holder j s ≡ Going t → ⊥
+unfolding refusePart
+refuse-part-going n holder j s t e = refused-going _ _ _ e
 
 shift : (i j : ℕ) → i + 1 + j ≡ i + suc j
 shift i j = omega arith

@@ -1,5 +1,5 @@
--- The theorems. A reader's way in: Counter, OlderCoding, Traps, FieldCases, Sheets, Reached, RoundTrip, Appending, NewerAgrees, Fields,
--- Texts, SheetText, ListReader, Utf8, Utf8Cases; the other modules are their lemmas.
+-- The theorems. A reader's way in: Counter, OlderCoding, Traps, FieldCases, MemberCases, Members, Sheets, Reached, RoundTrip,
+-- Appending, NewerAgrees, Fields, Texts, SheetText, ListReader, Utf8, Utf8Cases; the other modules are their lemmas.
 pub mod Counter
 pub mod Traps
 pub mod OlderCoding
@@ -11,6 +11,8 @@ pub mod StepShown
 pub mod AcceptedShown
 pub mod Sheets
 pub mod RefusalNumbers
+pub mod Members
+pub mod MemberCases
 pub mod Arrivals
 pub mod ArrivalsWalk
 pub mod Reached

@@ -20,7 +20,7 @@ use Rattle.coding.specs.Lawful.{lawful}
 use Rattle.coding.specs.Structs.{total, structSize}
 use Rattle.coding.specs.Layout.{begin, afterMembers}
 use Rattle.coding.specs.Step.{fieldStep, memberStep, elementStep}
-use Rattle.coding.specs.Walk.{placed, refusal, openObject, rootPlace, sizeOk, startOk}
+use Rattle.coding.specs.Walk.{placed, refusal, partRefusal, openObject, rootPlace, sizeOk, startOk}
 use Rattle.coding.specs.Field as Field
 use Rattle.coding.specs.declared.Object.{Object}
 use Rattle.coding.specs.declared.Object.the-variants as O
@@ -57,6 +57,10 @@ none : (d n at : ℕ) → depth (Fd.Refused (refusal n at)) ≤ d
 unfolding depth
 none d n at = omega arith
 
+no-part : (d n holder j : ℕ) → depth (Fd.Refused (partRefusal n holder j)) ≤ d
+unfolding depth
+no-part d n holder j = omega arith
+
 module _ (o : ℕ) (S : Schema) (m : List ℕ) where
   opened-depth : (d : ℕ) (ob : Object) (at : ℕ) (w : Opened) → depth (Field.opened ob at d w) ≤ suc d
   unfolding Field.opened depth
@@ -71,7 +75,7 @@ module _ (o : ℕ) (S : Schema) (m : List ℕ) where
   chosen-depth : (d holder j : ℕ) (ob : Object) (p : Place) → depth (Field.chosen d o S m holder j ob p) ≤ d
   unfolding Field.chosen Field.partRefused
   chosen-depth d holder j ob (ByOffset x) =
-      either d (eqb x 0) (Fd.Refused (refusal 9 holder)) (Field.arrived d o S m ob (ByOffset x)) (none d 9 holder)
+      either d (eqb x 0) (Fd.Refused (partRefusal 9 holder j)) (Field.arrived d o S m ob (ByOffset x)) (no-part d 9 holder j)
       (arrived-depth d ob (ByOffset x))
   chosen-depth d holder j ob (InPlace a n) = arrived-depth d ob (InPlace a n)
 

@@ -76,12 +76,12 @@ module _ (child : Child) (U : (ob : Object) (p : Place) (s : Spent) → Within (
     (m : List ℕ) where
   choice-up : (holder j : ℕ) (ob : Object) (p : Place) (s : Spent) → Within (Going s) (followChoice child holder j ob p s)
   unfolding followChoice refusePart
-  choice-up holder j ob (ByOffset x) s = pick-up (eqb x 0) (refuse-up 9 holder s) (U ob (ByOffset x) s)
+  choice-up holder j ob (ByOffset x) s = pick-up (eqb x 0) stopped (U ob (ByOffset x) s)
   choice-up holder j ob (InPlace a n) s = U ob (InPlace a n) s
 
   follow-up : (holder j : ℕ) (st : Step) (s : Spent) → Within (Going s) (follow child holder j st s)
   unfolding follow refusePart
-  follow-up holder j (St.Refused n) s = refuse-up n holder s
+  follow-up holder j (St.Refused n) s = stopped
   follow-up holder j St.Absent s = stay
   follow-up holder j (St.Value x) s = stay
   follow-up holder j (St.Unknown x) s = stay
@@ -157,13 +157,13 @@ module _ (o : ℕ) (O N : Schema) (sound : Sound O) (G : SchemaAppends O N) (m :
         → Within (followChoice old holder j ob p s) (followChoice new holder j ob p s′)
     unfolding followChoice refusePart
     choice-within ob q holder j (ByOffset x) s s′ h =
-        pick-within (eqb x 0) (refuse-up 9 holder s′) (H ob q (ByOffset x) s s′ h)
+        pick-within (eqb x 0) stopped (H ob q (ByOffset x) s s′ h)
     choice-within ob q holder j (InPlace a n) s s′ h = H ob q (InPlace a n) s s′ h
 
     follow-within : {k : Kind} {a b : Step} → SameStep O k a b → (holder j : ℕ) (s s′ : Spent) → s .visits ≤ s′ .visits
         → Within (follow old holder j a s) (follow new holder j b s′)
     unfolding follow refusePart
-    follow-within (refused {n}) holder j s s′ h = refuse-up n holder s′
+    follow-within (refused {n}) holder j s s′ h = stopped
     follow-within no-value holder j s s′ h = going h
     follow-within (value q) holder j s s′ h = going h
     follow-within (enum-value q) holder j s s′ h = going h

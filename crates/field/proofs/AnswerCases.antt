@@ -118,42 +118,37 @@ pub field-found : (o : ℕ) (b m path : List ℕ) (g : Found) → g ≡ Field.fi
 unfolding Field.field
 field-found o b m path g eg r e = e ∙ ap Field.answerOf eg
 
--- ---- number, place and visits
+-- ---- number, place, member and visits
 module _ (q : Answer) (r : Verdict) where
-  module _ (f : r ≡ W.verdictAt (W.refusal 0 0) W.nothing) where
+  module _ (f : r ≡ W.early 0) where
     pub verdict-boolean : (x : Bool) → q ≡ A.Boolean x → r ≡ Field.answerVerdict q
-    unfolding Field.answerVerdict W.early
+    unfolding Field.answerVerdict
     verdict-boolean x e = rw e f
 
     pub verdict-number : (x w : ℕ) (s : Bool) → q ≡ A.Number x w s → r ≡ Field.answerVerdict q
-    unfolding Field.answerVerdict W.early
+    unfolding Field.answerVerdict
     verdict-number x w s e = rw e f
 
     pub verdict-float : (x w : ℕ) → q ≡ A.Float x w → r ≡ Field.answerVerdict q
-    unfolding Field.answerVerdict W.early
+    unfolding Field.answerVerdict
     verdict-float x w e = rw e f
 
     pub verdict-object : (k at n : ℕ) → q ≡ A.Object k at n → r ≡ Field.answerVerdict q
-    unfolding Field.answerVerdict W.early
+    unfolding Field.answerVerdict
     verdict-object k at n e = rw e f
 
     pub verdict-struct : (at : ℕ) → q ≡ A.Struct at → r ≡ Field.answerVerdict q
-    unfolding Field.answerVerdict W.early
+    unfolding Field.answerVerdict
     verdict-struct at e = rw e f
 
     pub verdict-absent : q ≡ A.Absent → r ≡ Field.answerVerdict q
-    unfolding Field.answerVerdict W.early
+    unfolding Field.answerVerdict
     verdict-absent e = rw e f
 
     pub verdict-unknown : (x : ℕ) → q ≡ A.Unknown x → r ≡ Field.answerVerdict q
-    unfolding Field.answerVerdict W.early
+    unfolding Field.answerVerdict
     verdict-unknown x e = rw e f
 
-  pub verdict-refused : (x : Refusal) → q ≡ A.Refused x → r ≡ W.verdictAt (W.refusal (x .number) (x .place)) W.nothing → r ≡ Field.answerVerdict q
+  pub verdict-refused : (x : Refusal) → q ≡ A.Refused x → r ≡ W.verdictAt x W.nothing → r ≡ Field.answerVerdict q
   unfolding Field.answerVerdict
   verdict-refused x e f = rw e f
-
--- visits 0
-pub unspent-is : (n at : ℕ) → _≡_ {A = Verdict} (record { number = n; place = at; visits = 0 }) (W.verdictAt (W.refusal n at) W.nothing)
-unfolding W.nothing
-unspent-is n at = refl

@@ -137,6 +137,6 @@ module _ (q : Answer) (r : Case) where
   unfolding answerCase
   case-unknown x e f = rw e f
 
-  pub case-refused : (w : Refusal) → q ≡ A.Refused w → (u : ℕ) → u ≡ w .number → r ≡ record { case = 7; a = u; b = w .place; c = 0 } → r ≡ answerCase q
+  pub case-refused : (w : Refusal) → q ≡ A.Refused w → (u : ℕ) → u ≡ w .number → r ≡ record { case = 7; a = u; b = w .place; c = w .member } → r ≡ answerCase q
   unfolding answerCase
   case-refused w e u eu f = rw (e, ← eu) f

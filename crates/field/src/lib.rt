@@ -80,42 +80,56 @@ pub fn field(b: &[u8], m: &[u8], path: &[u32], o: usize) -> Answer
     answer_of(b, m, found, o)
 }
 
-// ---- the answer's number, place and visits
-// The refusal n at a place, as an answer.
+// ---- the answer's number, place, member and visits
+// The refusal n at a place, about no member, as an answer.
 pub fn refused(n: u8, at: usize) -> Answer
     ensures { λ r. ⌜ r ≡ Answer.Refused (W.refusal n at) ⌝ }
 {
     let why = Refusal {
         number: n,
         place: at,
+        member: wire::NO_MEMBER,
     };
     Answer::Refused(why)
 }
 
-// A number and a place without visits: one field is read without budget.
-fn unspent(number: u8, place: usize) -> Verdict
-    ensures { λ r. ⌜ r ≡ W.verdictAt (W.refusal number place) W.nothing ⌝ }
+// A refusal without visits: one field is read without budget.
+fn unspent(why: Refusal) -> Verdict
+    ensures { λ r. ⌜ r ≡ W.verdictAt why W.nothing ⌝ }
 {
     Verdict {
-        number,
-        place,
+        number: why.number,
+        place: why.place,
+        member: why.member,
         visits: 0,
     }
 }
 
-// Number, place and visits of a field's answer: 0 at 0 for what is no refusal.
+// The verdict of what is no refusal: 0 at 0, about no member, without visits.
+fn passed() -> Verdict
+    ensures { λ r. ⌜ r ≡ W.early 0 ⌝ }
+{
+    Verdict {
+        number: 0,
+        place: 0,
+        member: wire::NO_MEMBER,
+        visits: 0,
+    }
+}
+
+// Number, place, member and visits of a field's answer: 0 at 0 for what is no refusal.
 pub fn verdict_of(answer: Answer) -> Verdict
     ensures { λ r. ⌜ r ≡ F.answerVerdict answer ⌝ }
 {
     match answer {
-        Answer::Boolean(_) => unspent(0, 0),
-        Answer::Number(_, _, _) => unspent(0, 0),
-        Answer::Float(_, _) => unspent(0, 0),
-        Answer::Object(_, _, _) => unspent(0, 0),
-        Answer::Struct(_) => unspent(0, 0),
-        Answer::Absent => unspent(0, 0),
-        Answer::Unknown(_) => unspent(0, 0),
-        Answer::Refused(why) => unspent(why.number, why.place),
+        Answer::Boolean(_) => passed(),
+        Answer::Number(_, _, _) => passed(),
+        Answer::Float(_, _) => passed(),
+        Answer::Object(_, _, _) => passed(),
+        Answer::Struct(_) => passed(),
+        Answer::Absent => passed(),
+        Answer::Unknown(_) => passed(),
+        Answer::Refused(why) => unspent(why),
     }
 }
 
@@ -154,7 +168,10 @@ pub fn case_of(answer: Answer) -> Case
         Answer::Struct(at) => case_with(4, at as u64, 0, 0),
         Answer::Absent => case_with(5, 0, 0, 0),
         Answer::Unknown(x) => case_with(6, x as u64, 0, 0),
-        Answer::Refused(why) => case_with(7, wire::wide(why.number), why.place as u64, 0),
+        Answer::Refused(why) => {
+            let number = wire::wide(why.number);
+            case_with(7, number, why.place as u64, why.member as u64)
+        }
     }
 }
 

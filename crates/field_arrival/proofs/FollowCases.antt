@@ -45,8 +45,8 @@ module _ (o d : ℕ) (S : Schema) (m : List ℕ) (ob : Object) (p : Place) (at :
     arrive-content start n q = sym (ap (Field.opened ob at (d - 1)) q) ∙ goes d l
 
 module _ (o d : ℕ) (S : Schema) (m : List ℕ) (holder j : ℕ) (ob : Object) (p : Place) (r : Found) where
-  pub choose-none : (x : ℕ) → p ≡ ByOffset x → x ≡ 0 → r ≡ Fd.Refused (W.refusal 9 holder) → r ≡ Field.chosen d o S m holder j ob p
-  unfolding Field.chosen Field.partRefused
+  pub choose-none : (x : ℕ) → p ≡ ByOffset x → x ≡ 0 → r ≡ Field.partRefused 9 holder j → r ≡ Field.chosen d o S m holder j ob p
+  unfolding Field.chosen
   choose-none x e z f = rw e (simp (eq-eqb _ _ z) f)
 
   pub choose-offset : (x : ℕ) → p ≡ ByOffset x → (x ≡ 0 → ⊥) → r ≡ Field.arrived d o S m ob (ByOffset x) → r ≡ Field.chosen d o S m holder j ob p
@@ -76,8 +76,8 @@ module _ (o d : ℕ) (S : Schema) (m : List ℕ) (holder j : ℕ) (k : Kind) (st
   follow-struct i at e = rw e
 
   module _ (r : Found) where
-    pub follow-refused : (n : ℕ) → step ≡ St.Refused n → r ≡ Fd.Refused (W.refusal n holder) → r ≡ Field.stepped d o S m holder j k step
-    unfolding Field.stepped Field.partRefused
+    pub follow-refused : (n : ℕ) → step ≡ St.Refused n → r ≡ Field.partRefused n holder j → r ≡ Field.stepped d o S m holder j k step
+    unfolding Field.stepped
     follow-refused n e f = rw e f
 
     pub follow-object : (ob : Object) (p : Place) → step ≡ St.Object ob p → r ≡ Field.arrived d o S m ob p

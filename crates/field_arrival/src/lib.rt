@@ -30,19 +30,32 @@ pub struct Content {
 // left below the holder.
 pub struct Part {
     pub holder: usize,
-    pub number: usize,
+    pub number: u32,
     pub kind: Kind,
     pub left: usize,
 }
 
 // ---- arrivals
-// The refusal n at a place.
+// The refusal n at a place, about no member.
 pub fn refuse(n: u8, at: usize) -> Found
     ensures { λ r. ⌜ r ≡ Found.Refused (W.refusal n at) ⌝ }
 {
     let why = Refusal {
         number: n,
         place: at,
+        member: wire::NO_MEMBER,
+    };
+    Found::Refused(why)
+}
+
+// The refusal n of part j of the object at `holder`.
+fn refuse_part(n: u8, holder: usize, j: u32) -> Found
+    ensures { λ r. ⌜ r ≡ F.partRefused n holder j ⌝ }
+{
+    let why = Refusal {
+        number: n,
+        place: holder,
+        member: j,
     };
     Found::Refused(why)
 }
@@ -70,7 +83,7 @@ fn choose(b: &[u8], dir: &[u16], m: &[u8], part: Part, ob: Object, p: Place, o: 
     match p {
         Place::ByOffset(x) => {
             if x == 0 {
-                return refuse(9, part.holder);
+                return refuse_part(9, part.holder, part.number);
             }
             arrive(b, dir, m, part.left, ob, Place::ByOffset(x), o)
         }
@@ -86,7 +99,7 @@ pub fn follow(b: &[u8], dir: &[u16], m: &[u8], part: Part, step: Step, o: usize)
 {
     let kind = part.kind;
     match step {
-        Step::Refused(e) => refuse(e, part.holder),
+        Step::Refused(e) => refuse_part(e, part.holder, part.number),
         Step::Absent => Found::Absent,
         Step::Value(x) => Found::Value(kind, x, part.holder),
         Step::Unknown(x) => Found::Unknown(x),

@@ -49,7 +49,7 @@ module _ (o : ℕ) (S : Schema) (m : List ℕ) (size : length m ≤ 16777215) wh
   chosen-within : (d holder j : ℕ) (ob : Object) (p : Place) → ObjectSound S ob → FoundWithin o S m (Field.chosen d o S m holder j ob p)
   unfolding Field.chosen Field.partRefused
   chosen-within d holder j ob (ByOffset x) s =
-      pick-holds (FoundWithin o S m) (eqb x 0) (Fd.Refused (W.refusal 9 holder)) (Field.arrived d o S m ob (ByOffset x)) (λ e. tt)
+      pick-holds (FoundWithin o S m) (eqb x 0) (Field.partRefused 9 holder j) (Field.arrived d o S m ob (ByOffset x)) (λ e. tt)
       (λ e. arrived-within d ob (ByOffset x) s)
   chosen-within d holder j ob (InPlace a n) s = arrived-within d ob (InPlace a n) s
 

@@ -92,7 +92,7 @@ fn struct_part(
     let step = field_at(b, dir, m, s, j, k);
     let part = Part {
         holder,
-        number: j,
+        number: j as u32,
         kind: Kind::OfFlat(k),
         left: 0,
     };
@@ -157,7 +157,7 @@ fn table_part(b: &[u8], dir: &[u16], m: &[u8], t: usize, c: Content, j: usize, o
     let kind = r.kind;
     let part = Part {
         holder: c.place,
-        number: j,
+        number: j as u32,
         kind,
         left: c.left,
     };
@@ -175,9 +175,10 @@ pub fn list_part(b: &[u8], dir: &[u16], m: &[u8], i: usize, c: Content, j: usize
     }
     let kind = schema::element(b, dir, i);
     let step = message_step::element_step(b, dir, m, kind, c.start, c.length, j, o);
+    let number = j as u32;
     let part = Part {
         holder: c.place,
-        number: j,
+        number,
         kind,
         left: c.left,
     };

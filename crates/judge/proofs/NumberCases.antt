@@ -176,7 +176,7 @@ refuse-small n at s h = h
 
 part-small : (n holder j : ℕ) (s : Spent) → n < 256 → NumberSmall (W.refusePart n holder j s)
 unfolding W.refusePart
-part-small n holder j s h = refuse-small n holder s h
+part-small n holder j s h = h
 
 then-small : (w : Walked) (next : Spent → Walked) → NumberSmall w → ((s : Spent) → NumberSmall (next s)) → NumberSmall (W.andThen w next)
 unfolding W.andThen

@@ -64,11 +64,11 @@ unfolding W.verdict
 verdict-unlawful o b dir m budget t j f r e = simp (← (j .is), f) e
 
 module _ (w : Outcome) where
-  pub verdict-going : w .code ≡ 0 → record { number = 0; place = 0; visits = w .spent .visits } ≡ W.verdictOf (walkedOf w)
-  unfolding W.verdictOf walkedOf
+  pub verdict-going : w .code ≡ 0 → record { number = 0; place = 0; member = 4294967295; visits = w .spent .visits } ≡ W.verdictOf (walkedOf w)
+  unfolding W.verdictOf W.noMember walkedOf
   verdict-going e = simp (eq-eqb _ _ e)
 
-  pub verdict-refused : (w .code ≡ 0 → ⊥) → record { number = w .code - 1; place = w .place; visits = w .spent .visits } ≡ W.verdictOf (walkedOf w)
+  pub verdict-refused : (w .code ≡ 0 → ⊥) → record { number = w .code - 1; place = w .place; member = w .member; visits = w .spent .visits } ≡ W.verdictOf (walkedOf w)
   unfolding W.verdictOf walkedOf
   verdict-refused f = simp (ne-eqb _ _ f)
 
@@ -79,6 +79,6 @@ module _ (w : Outcome) where
       by : (t : Bool) → eqb (w .code) 0 ≡ t → w .code ≤ 256
       by true q = let z = eqb-true (w .code) 0 q in omega arith
       by false q =
-          let y : NumberSmall (pick (eqb (w .code) 0) (Going (w .spent)) (Refused (record { number = w .code - 1; place = w .place }) (w .spent))) = subst NumberSmall (sym e) (walk-small o S m b) in
+          let y : NumberSmall (pick (eqb (w .code) 0) (Going (w .spent)) (Refused (record { number = w .code - 1; place = w .place; member = w .member }) (w .spent))) = subst NumberSmall (sym e) (walk-small o S m b) in
           let z : w .code - 1 < 256 = rw q at y in
           omega arith

@@ -22,12 +22,14 @@ fn verdict_of(w: Outcome) -> Verdict
         return Verdict {
             number: 0,
             place: 0,
+            member: outcome::NO_MEMBER,
             visits: s.visits,
         };
     }
     Verdict {
         number: (w.code - 1) as u8,
         place: w.place,
+        member: w.member,
         visits: s.visits,
     }
 }
@@ -39,6 +41,7 @@ fn early(n: u8) -> Verdict
     Verdict {
         number: n,
         place: 0,
+        member: outcome::NO_MEMBER,
         visits: 0,
     }
 }
@@ -71,8 +74,8 @@ pub fn judged(b: &[u8], dir: &[u16], m: &[u8], budget: Budget, o: usize) -> Verd
     early(2)
 }
 
-// Judges a message by a packed schema under the coding of width o: number, place and visits. A width of no coding is refused
-// as an unlawful schema is.
+// Judges a message by a packed schema under the coding of width o: number, place, member and visits. A width of no coding is
+// refused as an unlawful schema is.
 pub fn judge(b: &[u8], m: &[u8], budget: Budget, o: usize) -> Verdict
     ensures { λ r. ⌜ r ≡ W.verdict o (now (b .entry)) (now (m .entry)) budget ⌝ }
 {

@@ -96,4 +96,4 @@ module _ (child : W.Child) (o : ℕ) (S : Schema) (m : List ℕ) (holder start n
         ≡ W.members child o S m holder start n next (j + 1) (drop (j + 1) (Sc.tableOf S t .members)) v
     unfolding walkedOf W.follow
     members-nowhere h step es e next en =
-        members-turn h step es (record { code = 0; place = 0; spent = v }) (sym (ap (λ (q : Step). W.follow child holder j q v) e)) refl next en
+        members-turn h step es (record { code = 0; place = 0; member = 0; spent = v }) (sym (ap (λ (q : Step). W.follow child holder j q v) e)) refl next en

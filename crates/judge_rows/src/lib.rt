@@ -26,7 +26,7 @@ fn row_member(
     m: &[u8],
     l: Limits,
     at: usize,
-    j: usize,
+    j: u32,
     x: Content,
     end: usize,
     s: Spent,
@@ -63,7 +63,7 @@ fn row_members(b: &[u8], m: &[u8], l: Limits, k: Rows, x: Content, s: Spent, o: 
             return outcome::going(v);
         }
         let at = schema::record_place(4, k.first, j);
-        let g = row_member(b, m, l, at, j, x, end, v, o);
+        let g = row_member(b, m, l, at, j as u32, x, end, v, o);
         if g.code != 0 {
             return g;
         }

@@ -2,7 +2,8 @@
 use mathlib.Core.Path.{_≡_, refl, sym, ap, _∙_, subst}
 use mathlib.Core.Bool.{Bool, true, false, _&&_, not}
 use mathlib.Core.List.{List}
-use Prim.Native.Nat.{ℕ, zero, suc, _+_, _-_, _*_, _%_, _<_, _≤_}
+use Prim.Native.Nat.{ℕ, zero, suc, _+_, _-_, _*_, _%_, _^_, _<_, _≤_}
+use native.Mathlib.Nat.{add-mul}
 use native.Mathlib.Omega.{arith}
 use lib.ListN.{length, getD}
 use lib.Dec.{ltb, leb, eqb}
@@ -117,6 +118,10 @@ module _ (b : List ℕ) (i : ℕ) (l : i < P.listCount b) (at : ℕ) (ea : at �
     unions-there h a u e eu = subst (λ (w : Kind). start + T.elementsSize o (P.parse b) w n ≤ c) (sym (of-union h a u e eu)) fits
 
 -- ---- the choices of a list
+-- the number of one is a number of 32 bits: each takes more than a byte of the message
+pub choice-number : (o start n j c : ℕ) → j < n → start + (2 + o) * n ≤ c → c ≤ 16777215 → j < 2 ^ 32
+choice-number o start n j c h l small = omega (arith, add-mul 2 o n)
+
 -- no union is a struct
 union-tested : (child : W.Child) (S : Schema) (m : List ℕ) (holder j : ℕ) (cases : List Object) (c x : ℕ) (v : Spent)
     → W.follow child holder j (T.structTested S m (T.unionStep cases false 0 c x)) v ≡ W.follow child holder j (T.unionStep cases false 0 c x) v

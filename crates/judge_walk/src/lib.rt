@@ -29,7 +29,7 @@ ghost use Rattle.wire.specs.Sizes.{WithinSize, Width, HasUnion, HasOffsets, Has
 // Where the walk stands in a table: the number of the member that comes next, the place of its record in the schema, and the
 // cursor before it.
 struct Standing {
-    number: usize,
+    number: u32,
     record: usize,
     cursor: Cursor,
 }
@@ -131,7 +131,7 @@ fn table(
         let at = schema::record_place(4, first, j);
         if judge_member::refers(b, at) {
             let k = Standing {
-                number: j,
+                number: j as u32,
                 record: at,
                 cursor: c,
             };
@@ -153,7 +153,7 @@ fn table(
         }
         let part = Part {
             holder: x.holder,
-            number: j,
+            number: j as u32,
         };
         let g = follow(b, dir, m, l, part, step, v, o);
         if g.code != 0 {
@@ -304,7 +304,7 @@ fn choices(
     while j < x.length {
         let part = Part {
             holder: x.holder,
-            number: j,
+            number: j as u32,
         };
         let g = choice(b, dir, m, l, i, part, at, v, o);
         if g.code != 0 {

@@ -10,12 +10,21 @@ use Rattle.coding.specs.declared.Walked.the-variants.{Going, Refused}
 use Rattle.outcome.specs.declared.Outcome.{Outcome}
 use Rattle.outcome.specs.Answers.{walkedOf}
 
-pub answer-refuses : (k n at : ℕ) (s : Spent) → k ≡ n → walkedOf (record { code = k + 1; place = at; spent = s }) ≡ W.refuse n at s
-unfolding walkedOf W.refuse
-answer-refuses k n at s e =
-    let z : (k + 1 ≡ 0 → ⊥) = λ q. absurd (omega arith) in
-    let y : k + 1 - 1 ≡ n = omega arith in
-    simp (ne-eqb (k + 1) 0 z) (ap (λ (x : ℕ). Refused (record { number = x; place = at }) s) y)
+module _ (k n at : ℕ) (s : Spent) (e : k ≡ n) where
+  refuses : (j : ℕ) → walkedOf (record { code = k + 1; place = at; member = j; spent = s }) ≡ Refused (W.partRefusal n at j) s
+  unfolding walkedOf
+  refuses j =
+      let z : (k + 1 ≡ 0 → ⊥) = λ q. absurd (omega arith) in
+      let y : k + 1 - 1 ≡ n = omega arith in
+      simp (ne-eqb (k + 1) 0 z) (ap (λ (x : ℕ). Refused (W.partRefusal x at j) s) y)
+
+  pub answer-refuses : walkedOf (record { code = k + 1; place = at; member = 4294967295; spent = s }) ≡ W.refuse n at s
+  unfolding W.refuse W.noMember
+  answer-refuses = refuses 4294967295
+
+  pub part-refuses : (j : ℕ) → walkedOf (record { code = k + 1; place = at; member = j; spent = s }) ≡ W.refusePart n at j s
+  unfolding W.refusePart
+  part-refuses j = refuses j
 
 module _ (w : Outcome) where
   pub is-going : w .code ≡ 0 → walkedOf w ≡ Going (w .spent)

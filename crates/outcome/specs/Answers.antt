@@ -27,7 +27,8 @@ use Rattle.outcome.specs.declared.Outcome.{Outcome}
 
 -- a walker's answer: 0 to go on, or a refusal's number and 1
 unfoldable pub walkedOf : Outcome → Walked
-walkedOf w = pick (eqb (w .code) 0) (Going (w .spent)) (Refused (record { number = w .code - 1; place = w .place }) (w .spent))
+walkedOf w =
+    pick (eqb (w .code) 0) (Going (w .spent)) (Refused (record { number = w .code - 1; place = w .place; member = w .member }) (w .spent))
 
 -- ---- what an arrival is charged
 -- an object with d objects of depth left, itself counted: too deep, or to be opened

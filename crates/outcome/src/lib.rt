@@ -27,14 +27,18 @@ pub struct Content {
 // A member or an element: the place of the object that holds it, and its number there, from 0.
 pub struct Part {
     pub holder: usize,
-    pub number: usize,
+    pub number: u32,
 }
 
 // ---- a walker's answer
-// What a walker answers, in whole words: 0 to go on, or a refusal's number and 1; its place; what is spent.
+// The member of an answer that is about none.
+pub const NO_MEMBER: u32 = wire::NO_MEMBER;
+
+// What a walker answers, in whole words: 0 to go on, or a refusal's number and 1; its place and its member; what is spent.
 pub struct Outcome {
     pub code: usize,
     pub place: usize,
+    pub member: u32,
     pub spent: Spent,
 }
 
@@ -45,6 +49,7 @@ pub fn going(s: Spent) -> Outcome
     Outcome {
         code: 0,
         place: 0,
+        member: NO_MEMBER,
         spent: s,
     }
 }
@@ -56,6 +61,7 @@ pub fn refuse(n: u8, at: usize, s: Spent) -> Outcome
     Outcome {
         code: wire::index(n) + 1,
         place: at,
+        member: NO_MEMBER,
         spent: s,
     }
 }
@@ -64,7 +70,12 @@ pub fn refuse(n: u8, at: usize, s: Spent) -> Outcome
 pub fn refuse_part(n: u8, part: Part, s: Spent) -> Outcome
     ensures { λ r. ⌜ As.walkedOf r ≡ W.refusePart n (part .holder) (part .number) s ⌝ }
 {
-    refuse(n, part.holder, s)
+    Outcome {
+        code: wire::index(n) + 1,
+        place: part.holder,
+        member: part.number,
+        spent: s,
+    }
 }
 
 // ---- an arrival

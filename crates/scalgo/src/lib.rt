@@ -10,7 +10,7 @@ ghost use Rattle.coding.specs.Lists.{pick};
 ghost use Rattle.coding.specs.Message as M;
 ghost use Rattle.coding.specs.Walk as W;
 
-// Judges a message by a packed schema: answers the number, and stores place and visits.
+// Judges a message by a packed schema: answers the number, and stores place, member and visits.
 #[no_mangle]
 pub extern "C" fn scalgo_judge(
     coding: u32,
@@ -18,15 +18,18 @@ pub extern "C" fn scalgo_judge(
     message: &[u8],
     budget: u32,
     place: &mut u64,
+    member: &mut u32,
     visits: &mut u32,
 ) -> u32
     ensures { λ r. ⌜ r ≡ W.verdict (B.widthOf coding) (now (schema .entry)) (now (message .entry)) (record { visits = budget }) .number ⌝ }
     ensures { λ _. ⌜ now (place .exit) ≡ W.verdict (B.widthOf coding) (now (schema .entry)) (now (message .entry)) (record { visits = budget }) .place ⌝ }
+    ensures { λ _. ⌜ now (member .exit) ≡ W.verdict (B.widthOf coding) (now (schema .entry)) (now (message .entry)) (record { visits = budget }) .member ⌝ }
     ensures { λ _. ⌜ now (visits .exit) ≡ W.verdict (B.widthOf coding) (now (schema .entry)) (now (message .entry)) (record { visits = budget }) .visits ⌝ }
 {
     let o = wire::width_of(coding);
     let v = judge::judge(schema, message, Budget { visits: budget }, o);
     *place = v.place as u64;
+    *member = v.member;
     *visits = v.visits;
     v.number as u32
 }
@@ -96,7 +99,7 @@ pub extern "C" fn scalgo_list(
     field_list::read_list(schema, message, path, from as usize, cases, o) as u64
 }
 
-// Reads a message to its value sheet: answers the number, and stores place, visits and the sheet's length.
+// Reads a message to its value sheet: answers the number, and stores place, member, visits and the sheet's length.
 #[no_mangle]
 pub extern "C" fn scalgo_read(
     coding: u32,
@@ -105,11 +108,13 @@ pub extern "C" fn scalgo_read(
     budget: u32,
     sheet: &mut [u8],
     place: &mut u64,
+    member: &mut u32,
     visits: &mut u32,
     length: &mut u64,
 ) -> u32
     ensures { λ r. ⌜ r ≡ M.readAnswer (B.widthOf coding) (now (schema .entry)) (now (message .entry)) (record { visits = budget }) (now (sheet .entry)) .verdict .number ⌝ }
     ensures { λ _. ⌜ now (place .exit) ≡ M.readAnswer (B.widthOf coding) (now (schema .entry)) (now (message .entry)) (record { visits = budget }) (now (sheet .entry)) .verdict .place ⌝ }
+    ensures { λ _. ⌜ now (member .exit) ≡ M.readAnswer (B.widthOf coding) (now (schema .entry)) (now (message .entry)) (record { visits = budget }) (now (sheet .entry)) .verdict .member ⌝ }
     ensures { λ _. ⌜ now (visits .exit) ≡ M.readAnswer (B.widthOf coding) (now (schema .entry)) (now (message .entry)) (record { visits = budget }) (now (sheet .entry)) .verdict .visits ⌝ }
     ensures { λ _. ⌜ now (length .exit) ≡ M.readAnswer (B.widthOf coding) (now (schema .entry)) (now (message .entry)) (record { visits = budget }) (now (sheet .entry)) .length ⌝ }
     ensures { λ _. ⌜ now (sheet .exit) ≡ M.readOut (B.widthOf coding) (now (schema .entry)) (now (message .entry)) (record { visits = budget }) (now (sheet .entry)) ⌝ }
@@ -118,6 +123,7 @@ pub extern "C" fn scalgo_read(
     let answer = sheet::read(schema, message, Budget { visits: budget }, sheet, o);
     let verdict = answer.verdict;
     *place = verdict.place as u64;
+    *member = verdict.member;
     *visits = verdict.visits;
     *length = answer.length as u64;
     verdict.number as u32

@@ -142,6 +142,10 @@ refuse-says : (P : Type 0) (n at : ℕ) (s : Spent) → (n ≡ 0 → ⊥) → Sa
 unfolding W.refuse
 refuse-says P n at s h = h
 
+refuse-part-says : (P : Type 0) (n holder j : ℕ) (s : Spent) → (n ≡ 0 → ⊥) → Says P (W.refusePart n holder j s)
+unfolding W.refusePart
+refuse-part-says P n holder j s h = h
+
 -- one of two walks
 pick-says : (P : Type 0) (t : Bool) (v w : Walked) → (t ≡ true → Says P v) → Says P w → Says P (pick t v w)
 pick-says P true v w h k = h refl
@@ -150,17 +154,17 @@ pick-says P false v w h k = k
 module _ (o : ℕ) (S : Schema) (sound : Sound S) (m : List ℕ) (child : W.Child) (good : D.Child)
     (says : (ob : Object) (p : Place) (s : Spent) → ObjectSound S ob → Says (good ob p) (child ob p s)) where
   choice-says : (holder j : ℕ) (ob : Object) (p : Place) (s : Spent) → ObjectSound S ob → Says (good ob p) (W.followChoice child holder j ob p s)
-  unfolding W.followChoice W.refusePart
+  unfolding W.followChoice
   choice-says holder j ob (ByOffset x) s l = by (eqb x 0)
     where
-      by : (t : Bool) → Says (good ob (ByOffset x)) (pick t (W.refuse 9 holder s) (child ob (ByOffset x) s))
-      by true = refuse-says (good ob (ByOffset x)) 9 holder s (λ e. omega arith)
+      by : (t : Bool) → Says (good ob (ByOffset x)) (pick t (W.refusePart 9 holder j s) (child ob (ByOffset x) s))
+      by true = refuse-part-says (good ob (ByOffset x)) 9 holder j s (λ e. omega arith)
       by false = says ob (ByOffset x) s l
   choice-says holder j ob (InPlace a n) s l = says ob (InPlace a n) s l
 
   follow-says : (holder j : ℕ) (step : Step) (s : Spent) → Inside S m step → Says (D.StepReadable good S m step) (W.follow child holder j step s)
-  unfolding W.follow W.refusePart D.StepReadable
-  follow-says holder j (St.Refused n) s h = refuse-says ⊥ n holder s h
+  unfolding W.follow D.StepReadable
+  follow-says holder j (St.Refused n) s h = refuse-part-says ⊥ n holder j s h
   follow-says holder j St.Absent s h = tt
   follow-says holder j (St.Value x) s h = tt
   follow-says holder j (St.Unknown x) s h = tt

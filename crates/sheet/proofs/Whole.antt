@@ -201,13 +201,16 @@ module _ (w : ℕ) (b m o : List ℕ) (budget : Budget) (v : Verdict) (ev : v �
 pub schema-accepted : (w : ℕ) (b dir : List ℕ) (t : Bool) → Judged w b dir t → t ≡ true → AcceptedUnder w b dir
 schema-accepted w b dir t j e = j .right e
 
-unlawful : (w : ℕ) (b dir m : List ℕ) (budget : Budget) (t : Bool) → Judged w b dir t → t ≡ false → W.verdict w b m budget ≡ record { number = 1; place = 0; visits = 0 }
-unfolding W.verdict W.early W.nothing
+abbrev unlawfulSchema : Verdict
+unlawfulSchema = record { number = 1; place = 0; member = 4294967295; visits = 0 }
+
+unlawful : (w : ℕ) (b dir m : List ℕ) (budget : Budget) (t : Bool) → Judged w b dir t → t ≡ false → W.verdict w b m budget ≡ unlawfulSchema
+unfolding W.verdict W.early W.nothing W.noMember
 unlawful w b dir m budget t j f = simp (← (j .is), f)
 
 module _ (w : ℕ) (b dir m o : List ℕ) (budget : Budget) (t : Bool) (j : Judged w b dir t) (f : t ≡ false) where
-  pub unlawful-answer : record { verdict = record { number = 1; place = 0; visits = 0 }; length = 0 } ≡ M.readAnswer w b m budget o
-  unlawful-answer = refused-answer w b m o budget (record { number = 1; place = 0; visits = 0 }) (sym (unlawful w b dir m budget t j f)) (λ e. omega arith)
+  pub unlawful-answer : record { verdict = unlawfulSchema; length = 0 } ≡ M.readAnswer w b m budget o
+  unlawful-answer = refused-answer w b m o budget unlawfulSchema (sym (unlawful w b dir m budget t j f)) (λ e. omega arith)
 
   pub unlawful-over : o ≡ M.readOut w b m budget o
-  unlawful-over = refused-over w b m o budget (record { number = 1; place = 0; visits = 0 }) (sym (unlawful w b dir m budget t j f)) (λ e. omega arith)
+  unlawful-over = refused-over w b m o budget unlawfulSchema (sym (unlawful w b dir m budget t j f)) (λ e. omega arith)

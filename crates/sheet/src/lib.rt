@@ -41,6 +41,7 @@ fn no_room(v: Verdict) -> ReadAnswer
     let refusal = Verdict {
         number: 14,
         place: 0,
+        member: wire::NO_MEMBER,
         visits: v.visits,
     };
     ReadAnswer {
@@ -113,6 +114,7 @@ pub fn read(b: &[u8], m: &[u8], budget: Budget, out: &mut [u8], o: usize) -> Rea
     let refusal = Verdict {
         number: 1,
         place: 0,
+        member: wire::NO_MEMBER,
         visits: 0,
     };
     ReadAnswer {

@@ -53,6 +53,10 @@ pub fn start_size(o: usize) -> usize
 // The bytes of the largest message, and of the largest sheet.
 pub const LARGEST: usize = 16777215;
 
+// ---- answers
+// The member of an answer that is about none.
+pub const NO_MEMBER: u32 = 4294967295;
+
 // ---- bytes
 pub fn byte(m: &[u8], at: usize) -> u8
     ensures { λ r. ⌜ r ≡ getD (now (m .entry)) at 0 ⌝ }

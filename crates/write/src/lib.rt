@@ -128,13 +128,14 @@ pub fn write(b: &[u8], s: &[u8], out: &mut [u8], o: usize) -> WriteAnswer
     refused(1)
 }
 
-// Number, place and visits of a writer's answer: 0 or the refusal's number, at 0, with no visits.
+// Number, place, member and visits of a writer's answer: 0 or the refusal's number, at 0, about no member, with no visits.
 pub fn verdict_of(answer: WriteAnswer) -> Verdict
     ensures { λ r. ⌜ r ≡ M.writeVerdict answer ⌝ }
 {
     Verdict {
         number: answer.number,
         place: 0,
+        member: wire::NO_MEMBER,
         visits: 0,
     }
 }

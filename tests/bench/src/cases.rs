@@ -5,7 +5,7 @@ use crate::schema::{
     plain, Record, Schema, Table, BOOL, BYTES, ENUM, F64, LIST, STRUCT, TABLE, TEXT, U16, U64,
     UNION,
 };
-use reference::Verdict;
+use reference::{Verdict, NO_MEMBER};
 use scalgo::Coding::{self, Bits32, Bits48};
 
 #[derive(Clone)]
@@ -38,24 +38,22 @@ impl Case {
 
     /// A message that is accepted after so many visits.
     pub fn accepted(name: &str, schema: &Schema, message: Message, visits: u32) -> Case {
-        let (number, place) = (0, 0);
-        let expected = Verdict {
-            number,
-            place,
-            visits,
-        };
-        Case::new(name, schema.pack(), message, expected)
+        Case::new(name, schema.pack(), message, verdict(0, 0, visits))
     }
 
     /// A schema that is not lawful.
     fn not_lawful(name: &str, schema: Vec<u8>, message: Message) -> Case {
-        let (number, place, visits) = (1, 0, 0);
-        let expected = Verdict {
-            number,
-            place,
-            visits,
-        };
-        Case::new(name, schema, message, expected)
+        Case::new(name, schema, message, verdict(1, 0, 0))
+    }
+}
+
+/// A verdict that is about no member.
+fn verdict(number: u32, place: u64, visits: u32) -> Verdict {
+    Verdict {
+        number,
+        place,
+        member: NO_MEMBER,
+        visits,
     }
 }
 
@@ -503,11 +501,7 @@ fn shared() -> Case {
         message.set_offset(outer + 6 * number, list);
         message.set_offset(inner + 6 * number, text);
     }
-    let expected = Verdict {
-        number: 4,
-        place: text as u64,
-        visits: BUDGET,
-    };
+    let expected = verdict(4, text as u64, BUDGET);
     let name = "(h) a shared text, 1,000,000 visits";
     Case {
         budget: BUDGET,

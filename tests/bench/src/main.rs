@@ -13,7 +13,7 @@ mod tasks;
 mod timing;
 
 use cases::{Case, CASES};
-use reference::Verdict;
+use reference::{Verdict, NO_MEMBER};
 use std::hint::black_box;
 use std::process::ExitCode;
 use std::time::{Duration, Instant};
@@ -25,6 +25,7 @@ fn ours(case: &Case) -> Verdict {
     Verdict {
         number: verdict.number,
         place: verdict.place,
+        member: verdict.member.unwrap_or(NO_MEMBER),
         visits: verdict.visits,
     }
 }

@@ -51,20 +51,30 @@ static const uint8_t union_32[] = {
     0x45, 0x43, 0x49, 0x4C, 6, 0, 0, 0, 1, 0, 2, 0, 0, 0, 'a', 'b', 0,
 };
 
+/* A table with a U8 and a struct of a bool, and a message in which that bool is 2. */
+static const uint8_t structs[] = {1, 0, 0, 1, 0, 1, 0, 0, 0x4C, 0x49, 0x43, 0x45, 2, 8, 0, 0x60, 0};
+static const uint8_t struct_48[] = {
+    0xB3, 0xC4, 0xC0, 0xB5, 0x0A, 0, 0, 0, 0, 0,
+    0x45, 0x43, 0x49, 0x4C, 2, 0, 0, 0, 0, 0, 5, 2,
+};
+static const uint8_t struct_32[] = {
+    0xB3, 0xC4, 0xC0, 0xB5, 8, 0, 0, 0, 0x45, 0x43, 0x49, 0x4C, 2, 0, 0, 0, 5, 2,
+};
+
 /* A coding, and what there is in it. */
 struct coded {
     uint32_t coding;
-    const uint8_t *message, *list, *union_;
-    size_t message_len, list_len, union_len;
+    const uint8_t *message, *list, *union_, *struct_;
+    size_t message_len, list_len, union_len, struct_len;
     size_t length_at, offset_at; /* the root's length and the text's offset in the message */
     uint8_t under;               /* the last offset that is too small, and size */
 };
 
 static const struct coded codings[] = {
-    {SCALGO_CODING_48, message_48, list_48, union_48,
-     sizeof message_48, sizeof list_48, sizeof union_48, 14, 22, 9},
-    {SCALGO_CODING_32, message_32, list_32, union_32,
-     sizeof message_32, sizeof list_32, sizeof union_32, 12, 18, 7},
+    {SCALGO_CODING_48, message_48, list_48, union_48, struct_48,
+     sizeof message_48, sizeof list_48, sizeof union_48, sizeof struct_48, 14, 22, 9},
+    {SCALGO_CODING_32, message_32, list_32, union_32, struct_32,
+     sizeof message_32, sizeof list_32, sizeof union_32, sizeof struct_32, 12, 18, 7},
 };
 
 static void print_numbers(const uint64_t *numbers, size_t count) {
@@ -92,10 +102,11 @@ static const uint8_t *changed(const struct coded *in, size_t at, uint8_t byte) {
 static void judge(uint32_t coding, const uint8_t *schema, size_t schema_len, const uint8_t *bytes,
                   size_t len, uint32_t budget) {
     uint64_t place = 99;
-    uint32_t visits = 99;
-    uint32_t number = scalgo_judge(coding, schema, schema_len, bytes, len, budget, &place, &visits);
-    uint64_t numbers[3] = {number, place, visits};
-    print_numbers(numbers, 3);
+    uint32_t member = 99, visits = 99;
+    uint32_t number = scalgo_judge(coding, schema, schema_len, bytes, len, budget, &place, &member,
+                                   &visits);
+    uint64_t numbers[4] = {number, place, member, visits};
+    print_numbers(numbers, 4);
 }
 
 static void judges(const struct coded *in) {
@@ -169,14 +180,13 @@ static void lists(const struct coded *in) {
 
 static void read_with(uint32_t coding, const struct coded *in, uint32_t budget, size_t room) {
     uint8_t sheet[12];
-    uint64_t place = 99;
-    uint32_t visits = 99;
-    uint64_t length = 99;
+    uint64_t place = 99, length = 99;
+    uint32_t member = 99, visits = 99;
     memset(sheet, 0xEE, sizeof sheet);
     uint32_t number = scalgo_read(coding, newer, sizeof newer, in->message, in->message_len, budget,
-                                  sheet, room, &place, &visits, &length);
-    uint64_t numbers[4] = {number, place, visits, length};
-    print_numbers(numbers, 4);
+                                  sheet, room, &place, &member, &visits, &length);
+    uint64_t numbers[5] = {number, place, member, visits, length};
+    print_numbers(numbers, 5);
     print_bytes(sheet, sizeof sheet);
 }
 
@@ -216,6 +226,13 @@ static void unions(const struct coded *in) {
     judge(in->coding, by_offset, sizeof by_offset, in->union_, in->union_len, 9);
 }
 
+/* The struct is member 1 of its table. */
+static void members(const struct coded *in) {
+    static const uint32_t path[] = {1, 0};
+    judge(in->coding, structs, sizeof structs, in->struct_, in->struct_len, 9);
+    field(in->coding, structs, sizeof structs, in->struct_, in->struct_len, path, 2);
+}
+
 /* Under a number that is no coding's no schema is lawful. */
 static void no_coding(uint32_t coding) {
     static const uint32_t path[] = {1};
@@ -235,6 +252,7 @@ int main(void) {
         reads(&codings[i]);
         writes(&codings[i]);
         unions(&codings[i]);
+        members(&codings[i]);
     }
     no_coding(40);
     return 0;

@@ -1,6 +1,7 @@
 //! Counters of what a run made and saw, so that a reader can tell that the
 //! tests reach things.
 
+use crate::members;
 use std::collections::BTreeMap;
 use std::fmt;
 
@@ -22,6 +23,14 @@ impl Counts {
     pub fn answer(&mut self, number: u32) {
         if let Some(count) = self.answers.get_mut(number as usize) {
             *count += 1;
+        }
+    }
+
+    /// Counts the member of a refusal that may have one.
+    pub fn member(&mut self, number: u32, member: u32) {
+        if members::REFUSALS.contains(&number) {
+            let which = members::NAMES[members::which(member)];
+            self.note(&format!("refused {number}, member {which}"));
         }
     }
 

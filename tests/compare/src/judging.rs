@@ -1,5 +1,5 @@
-//! Two judges given the same messages with the same budgets: number, place
-//! and visits must be equal.
+//! Two judges given the same messages with the same budgets: number, place,
+//! member and visits must be equal.
 
 use crate::coding::Coding;
 use crate::laws::hex;

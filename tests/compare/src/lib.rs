@@ -13,6 +13,7 @@ pub mod doubling;
 pub mod judging;
 pub mod laws;
 pub mod lookup;
+pub mod members;
 pub mod message_faults;
 pub mod message_gen;
 pub mod minimums;

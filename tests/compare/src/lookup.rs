@@ -4,9 +4,10 @@
 use crate::message_faults::FaultKind;
 use crate::message_gen::Wild;
 use crate::paths::PATH_LIMIT;
+use crate::program::refused;
 use crate::schema::*;
 use crate::value::{objects, Value};
-use reference::Answer;
+use reference::{Answer, NO_MEMBER};
 
 /// An answer as far as it is known.
 #[derive(Clone, Debug)]
@@ -39,10 +40,7 @@ impl<'a> Known<'a> {
     /// The answer to a path; `None` where nothing is known.
     pub fn answer(&self, path: &[u32]) -> Option<Hint<'a>> {
         if path.len() > PATH_LIMIT {
-            return Some(exactly(Answer::Refused {
-                number: 15,
-                place: 0,
-            }));
+            return Some(exactly(refused(15, 0)));
         }
         let root = Node {
             index: 0,
@@ -68,11 +66,16 @@ impl<'a> Known<'a> {
     }
 
     fn refused(&self, number: u32, node: &Node) -> Option<Hint<'a>> {
+        self.refused_of(number, node, NO_MEMBER)
+    }
+
+    fn refused_of(&self, number: u32, node: &Node, member: u32) -> Option<Hint<'a>> {
         Some(Hint {
             places_known: self.wild.is_some(),
             ..exactly(Answer::Refused {
                 number,
                 place: self.place(node),
+                member,
             })
         })
     }
@@ -156,7 +159,7 @@ impl<'a> Known<'a> {
         rest: &[u32],
     ) -> Option<Hint<'a>> {
         if let Some(fault) = self.part_fault(node, at) {
-            return self.refused(fault?, node);
+            return self.refused_of(fault?, node, at as u32);
         }
         let record = crate::paths::part_record(self.schema, &node.record, node.value, at);
         let before: usize = parts[..at].iter().map(objects).sum();
@@ -270,12 +273,17 @@ impl Hint<'_> {
                 place == p || !self.places_known
             }
             (
-                Answer::Refused { number, place },
+                Answer::Refused {
+                    number,
+                    place,
+                    member,
+                },
                 Answer::Refused {
                     number: n,
                     place: p,
+                    member: m,
                 },
-            ) => number == n && (place == p || !self.places_known),
+            ) => (number, member) == (n, m) && (place == p || !self.places_known),
             (expected, given) => expected == given,
         };
         same && self.content_stands(answer, message)

@@ -5,11 +5,12 @@ use crate::canonical::{magic, MESSAGE_MAGIC};
 use crate::canvas::{Canvas, Late, Pattern, Spot};
 use crate::coding::Coding;
 use crate::message_faults::{may_be_absent, Fault, FaultKind};
+use crate::program::verdict;
 use crate::rng::Rng;
 use crate::schema::*;
 use crate::value::Value;
 use crate::value_gen::nan_bits;
-use reference::Verdict;
+use reference::{Verdict, NO_MEMBER};
 use std::collections::HashMap;
 
 /// One arrival of the walk.
@@ -35,6 +36,7 @@ pub struct Wild {
     pub sure: usize,
     pub number: u32,
     pub place: u64,
+    pub member: u32,
     pub fault: Option<Fault>,
     pub spots: Vec<Spot>,
 }
@@ -43,25 +45,22 @@ impl Wild {
     /// The verdict with this budget.
     pub fn expected(&self, budget: u32) -> Verdict {
         match self.walked.get(budget as usize) {
-            Some(place) => Verdict {
-                number: 4,
-                place: *place,
-                visits: budget,
-            },
+            Some(place) => verdict(4, *place, budget),
             None => Verdict {
-                number: self.number,
-                place: self.place,
-                visits: self.walked.len() as u32,
+                member: self.member,
+                ..verdict(self.number, self.place, self.walked.len() as u32)
             },
         }
     }
 }
 
-/// A refusal: its number, the arrival that is its place, and the visits.
+/// A refusal: its number, the arrival that is its place, the member, and the
+/// visits.
 #[derive(Clone, Copy)]
 struct Outcome {
     number: u32,
     arrival: usize,
+    member: u32,
     visits: usize,
 }
 
@@ -133,11 +132,23 @@ impl Layouter<'_> {
         self.fault == Some(Fault { object, part, kind })
     }
 
-    fn refuse(&mut self, number: u32, arrival: usize, visits: usize) {
+    /// The arrival itself is refused.
+    fn refuse(&mut self, number: u32, arrival: usize) {
         self.outcome = Some(Outcome {
             number,
             arrival,
-            visits,
+            member: NO_MEMBER,
+            visits: arrival + 1,
+        });
+    }
+
+    /// A part of an object is refused, after what came before it.
+    fn refuse_part(&mut self, number: u32, of: PartOf) {
+        self.outcome = Some(Outcome {
+            number,
+            arrival: of.holder,
+            member: of.part as u32,
+            visits: self.arrivals.len(),
         });
     }
 
@@ -195,12 +206,12 @@ impl Layouter<'_> {
             let offset = self.rng.range(usize::from(holder.is_some()), most) as u64;
             self.arrive(holder, record, false);
             self.arrivals[next].place = offset;
-            self.refuse(6, next, next + 1);
+            self.refuse(6, next);
             return self.put_offset(pattern, at, offset);
         }
         if self.has_fault(next, 0, FaultKind::FarOffset) {
             self.arrive(holder, record, false);
-            self.refuse(6, next, next + 1);
+            self.refuse(6, next);
             return self.put_late(pattern, at, Late::FarOffset(next));
         }
         let place = self.object(holder, record, value);
@@ -242,7 +253,7 @@ impl Layouter<'_> {
         if !self.has_fault(index, 0, FaultKind::Magic) {
             return right;
         }
-        self.refuse(7, index, index + 1);
+        self.refuse(7, index);
         match self.rng.below(3) {
             0 => right ^ 1 << self.rng.below(32),
             1 => !right,
@@ -273,7 +284,7 @@ impl Layouter<'_> {
     fn put_length(&mut self, pattern: &mut Pattern, at: usize, index: usize, length: u64) {
         self.arrivals[index].length = length;
         if self.has_fault(index, 0, FaultKind::LongLength) {
-            self.refuse(6, index, index + 1);
+            self.refuse(6, index);
             self.put_late(pattern, at, Late::LongLength(index));
         } else {
             self.put_offset(pattern, at, length);
@@ -295,7 +306,7 @@ impl Layouter<'_> {
                 if record.kind == TEXT {
                     let bad = self.has_fault(index, 0, FaultKind::TextEnd);
                     if bad {
-                        self.refuse(10, index, index + 1);
+                        self.refuse(10, index);
                     }
                     let end = if bad { self.rng.range(1, 255) } else { 0 };
                     pattern.push(&[end as u8]);
@@ -371,7 +382,7 @@ impl Layouter<'_> {
         let past_end = self.has_fault(of.holder, of.part, FaultKind::FlagWithoutValue);
         let cut = reach == Reach::Cut;
         if past_end || cut {
-            self.refuse(8, of.holder, self.arrivals.len());
+            self.refuse_part(8, of);
         }
         if let Some(flag) = slot.flag {
             let set = if cut {
@@ -531,7 +542,7 @@ impl Layouter<'_> {
         object: &Value,
     ) {
         if self.has_fault(of.holder, of.part, FaultKind::UnionZero) {
-            self.refuse(9, of.holder, self.arrivals.len());
+            self.refuse_part(9, of);
             return self.put_offset(pattern, at, 0);
         }
         let case = self.schema.unions[usize::from(union)][usize::from(choice) - 1];
@@ -551,7 +562,7 @@ impl Layouter<'_> {
         if self.has_fault(of.holder, of.part, FaultKind::StructBool) {
             let bad = self.rng.pick(&bools);
             bytes[bad] = self.rng.range(2, 255) as u8;
-            self.refuse(10, of.holder, self.arrivals.len());
+            self.refuse_part(10, of);
         }
         pattern.set_bytes(at, &bytes);
     }
@@ -588,6 +599,7 @@ impl Layouter<'_> {
             sure,
             number,
             place,
+            member: self.outcome.map_or(NO_MEMBER, |outcome| outcome.member),
             fault,
             spots: self.spots,
         }

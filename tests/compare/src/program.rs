@@ -1,26 +1,35 @@
 //! Programs under test, and running two of them side by side.
 
 use crate::schema::Packed;
-pub use reference::{Answer, Verdict};
+pub use reference::{Answer, Verdict, NO_MEMBER};
 use std::cell::RefCell;
 
-/// The verdict of an accepted message.
-pub fn accepted(visits: u32) -> Verdict {
-    let (number, place) = (0, 0);
+/// A verdict without a member.
+pub fn verdict(number: u32, place: u64, visits: u32) -> Verdict {
     Verdict {
         number,
         place,
+        member: NO_MEMBER,
         visits,
     }
 }
 
+/// The verdict of an accepted message.
+pub fn accepted(visits: u32) -> Verdict {
+    verdict(0, 0, visits)
+}
+
 /// The verdict of a message refused before the walk.
 pub fn refused_at_start(number: u32) -> Verdict {
-    let (place, visits) = (0, 0);
-    Verdict {
+    verdict(number, 0, 0)
+}
+
+/// The refusal of a field without a member.
+pub fn refused(number: u32, place: u64) -> Answer {
+    Answer::Refused {
         number,
         place,
-        visits,
+        member: NO_MEMBER,
     }
 }
 
@@ -83,12 +92,22 @@ impl Judge for Library {
     }
 
     fn judge(&self, schema: &Packed, message: &[u8], budget: u32) -> Verdict {
-        let verdict = scalgo::judge(coding(schema), &schema.bytes, message, budget);
-        Verdict {
-            number: verdict.number,
-            place: verdict.place,
-            visits: verdict.visits,
-        }
+        of_wrapper(scalgo::judge(
+            coding(schema),
+            &schema.bytes,
+            message,
+            budget,
+        ))
+    }
+}
+
+/// The wrapper's verdict as the second program's.
+fn of_wrapper(verdict: scalgo::Verdict) -> Verdict {
+    Verdict {
+        number: verdict.number,
+        place: verdict.place,
+        member: verdict.member.unwrap_or(NO_MEMBER),
+        visits: verdict.visits,
     }
 }
 
@@ -134,7 +153,15 @@ fn answer(answer: scalgo::Answer) -> Answer {
         scalgo::Answer::Struct { place } => Answer::Struct { place },
         scalgo::Answer::Absent => Answer::Absent,
         scalgo::Answer::Unknown(number) => Answer::Unknown(u64::from(number)),
-        scalgo::Answer::Refused { number, place } => Answer::Refused { number, place },
+        scalgo::Answer::Refused {
+            number,
+            place,
+            member,
+        } => Answer::Refused {
+            number,
+            place,
+            member: member.unwrap_or(NO_MEMBER),
+        },
     }
 }
 
@@ -150,12 +177,7 @@ impl Program for Library {
             let answer = scalgo::read(coding(schema), &schema.bytes, message, budget, sheet);
             (answer.verdict, answer.length)
         });
-        let verdict = Verdict {
-            number: verdict.number,
-            place: verdict.place,
-            visits: verdict.visits,
-        };
-        (verdict, sheet)
+        (of_wrapper(verdict), sheet)
     }
 
     fn write(&self, schema: &Packed, sheet: &[u8], room: usize) -> (u32, Vec<u8>) {
@@ -184,7 +206,7 @@ impl Program for Library {
         let mut answers: Vec<Answer> = list.take(steps).map(answer).collect();
         // The iterator has an end where the list reader says 15 at the list.
         if let Answer::Object { place, .. } = self.field(schema, message, path) {
-            answers.resize(steps, Answer::Refused { number: 15, place });
+            answers.resize(steps, refused(15, place));
         }
         Ok(answers)
     }

@@ -1,5 +1,6 @@
 //! What a comparison of two judges saw.
 
+use crate::members;
 use crate::program::Verdict;
 use crate::subjects::{Sort, SORTS};
 use std::fmt;
@@ -35,14 +36,17 @@ pub struct Tally {
     pub calls: u64,
     by_sort: [[u64; NUMBERS]; SORTS.len()],
     by_budget: [[u64; NUMBERS]; BUDGETS.len()],
+    by_member: [[u64; members::NAMES.len()]; NUMBERS],
 }
 
 impl Tally {
     /// Counts a message by what an ample budget gives.
     pub fn message(&mut self, sort: Sort, verdict: Verdict) {
         self.messages += 1;
-        if let Some(count) = self.by_sort[sort as usize].get_mut(verdict.number as usize) {
+        let number = verdict.number as usize;
+        if let Some(count) = self.by_sort[sort as usize].get_mut(number) {
             *count += 1;
+            self.by_member[number][members::which(verdict.member)] += 1;
         }
     }
 
@@ -67,6 +71,11 @@ impl Tally {
     /// How many messages of a sort an ample budget gives this number.
     pub fn of(&self, sort: Sort, number: usize) -> u64 {
         self.by_sort[sort as usize][number]
+    }
+
+    /// How many messages an ample budget gives this number, by the range of the member.
+    pub fn members(&self, number: usize) -> [u64; members::NAMES.len()] {
+        self.by_member[number]
     }
 
     /// How many calls with a budget gave this number.
@@ -99,6 +108,10 @@ impl fmt::Display for Tally {
         for budget in BUDGETS {
             let name = format!("{budget:?}");
             row(out, &name, &self.by_budget[budget as usize])?;
+        }
+        for number in members::REFUSALS {
+            let counts = self.members(number as usize);
+            writeln!(out, "  {number}, members {:?}: {counts:?}", members::NAMES)?;
         }
         Ok(())
     }

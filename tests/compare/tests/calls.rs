@@ -9,8 +9,10 @@ use compare::coding::Coding;
 use compare::counts::Counts;
 
 /// What the older coding never has, without unions that are not in place.
-const NEVER_UNDER_32: [&str; 6] = [
+const NEVER_UNDER_32: [&str; 8] = [
     "refused 9",
+    "refused 9, member 0",
+    "refused 9, member 1 to 9",
     "list steps: refused 9",
     "list steps: unknown below 256",
     "list steps: unknown from 256",
@@ -94,6 +96,18 @@ const ANSWERS: [(&str, u64); 39] = [
     ("messages: NoCoding", 400),
 ];
 
+/// Which members the refusals of fields are about.
+const MEMBERS_OF_FIELDS: [(&str, u64); 8] = [
+    ("refused 8, member 0", 4000),
+    ("refused 8, member 1 to 9", 4000),
+    ("refused 8, member 10 or more", 10),
+    ("refused 9, member 0", 200),
+    ("refused 9, member 1 to 9", 300),
+    ("refused 10, member none", 1000),
+    ("refused 10, member 0", 80),
+    ("refused 10, member 1 to 9", 250),
+];
+
 /// The list reader: its steps, and what it starts at.
 const LISTS: [(&str, u64); 36] = [
     ("list calls", 300_000),
@@ -136,7 +150,8 @@ const LISTS: [(&str, u64); 36] = [
 
 fn fields_agree(coding: Coding) {
     let outcome = fields::run(&LibraryCalls, &SecondCalls, coding, 1, 1_000_000);
-    let counts = reached(coding, outcome, &[&ANSWERS[..], &LISTS].concat());
+    let wanted = [&ANSWERS[..], &MEMBERS_OF_FIELDS, &LISTS].concat();
+    let counts = reached(coding, outcome, &wanted);
     for (sort, refused) in [
         (fields::ANSWERS, "refused 1"),
         (lists::CALLS, lists::REFUSED_1),
@@ -190,9 +205,21 @@ const READS: [(&str, u64); 32] = [
     ("room: none, answer 10", 600),
 ];
 
+/// Which members the refusals of reading are about.
+const MEMBERS_OF_READS: [(&str, u64); 8] = [
+    ("refused 8, member 0", 3000),
+    ("refused 8, member 1 to 9", 3000),
+    ("refused 8, member 10 or more", 40),
+    ("refused 9, member 0", 200),
+    ("refused 9, member 1 to 9", 400),
+    ("refused 10, member none", 1000),
+    ("refused 10, member 0", 150),
+    ("refused 10, member 1 to 9", 400),
+];
+
 fn reads_agree(coding: Coding) {
     let outcome = reads::run(&LibraryCalls, &SecondCalls, coding, 1, 400_000);
-    let counts = reached(coding, outcome, &READS);
+    let counts = reached(coding, outcome, &[&READS[..], &MEMBERS_OF_READS].concat());
     beyond_1(reads::CALLS, counts.named(reads::CALLS), counts.answers[1]);
 }
 

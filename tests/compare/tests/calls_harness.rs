@@ -1,10 +1,10 @@
 //! The side by side of the C interface must catch programs that are wrong:
 //! each program here is the second program with one fault.
 
-use compare::calls::{fields, reads, writes, Calls, SecondCalls, Writes};
+use compare::calls::{fields, reads, writes, Calls, Read, SecondCalls, Writes};
 use compare::coding::{Coding, CODINGS};
 use compare::judging;
-use compare::program::{Judge, Verdict};
+use compare::program::{Judge, Verdict, NO_MEMBER};
 use compare::schema::Packed;
 
 #[derive(Clone, Copy, Debug, PartialEq)]
@@ -21,6 +21,11 @@ enum Flaw {
     ListGoesOnAtTheEnd,
     ListFillsTheRest,
     ListStartsAtPlain,
+    NoMember,
+    MemberOneMore,
+    MemberOfEndByte,
+    MemberOf15,
+    NoMemberInLists,
     SheetOfZeros,
     SheetByteAfter,
     SheetOnRefusal,
@@ -41,6 +46,16 @@ enum Flaw {
 struct Flawed(Flaw);
 
 impl Flawed {
+    /// The verdict with the member that the program gives it.
+    fn judged(&self, verdict: Verdict) -> Verdict {
+        let numbers = [7, u64::from(verdict.number), 0, u64::from(verdict.member)];
+        let [_, _, _, member] = with_member(self.0, numbers);
+        Verdict {
+            member: member as u32,
+            ..verdict
+        }
+    }
+
     /// The schema under the coding that the program takes it for.
     fn taken(&self, schema: &Packed) -> Packed {
         let lawful = |coding: Coding| reference::lawful(coding.number(), &schema.bytes);
@@ -60,6 +75,21 @@ impl Flawed {
     }
 }
 
+const NONE: u64 = NO_MEMBER as u64;
+
+/// A refusal as its numbers, with the member that the program gives it.
+fn with_member(flaw: Flaw, refused: [u64; 4]) -> [u64; 4] {
+    let [case, number, place, member] = refused;
+    let member = match (flaw, number) {
+        (Flaw::NoMember, _) => NONE,
+        (Flaw::MemberOneMore, 8..=10) if member != NONE => member + 1,
+        (Flaw::MemberOfEndByte, 10) if member == NONE => 0,
+        (Flaw::MemberOf15, 15) => 0,
+        _ => member,
+    };
+    [case, number, place, member]
+}
+
 /// Changes a byte of an output, where it has that byte.
 fn change(output: &mut [u8], at: usize) {
     if let Some(byte) = output.get_mut(at) {
@@ -73,7 +103,8 @@ impl Judge for Flawed {
     }
 
     fn judge(&self, schema: &Packed, message: &[u8], budget: u32) -> Verdict {
-        SecondCalls.judge(&self.taken(schema), message, budget)
+        let verdict = SecondCalls.judge(&self.taken(schema), message, budget);
+        self.judged(verdict)
     }
 }
 
@@ -84,10 +115,11 @@ impl Calls for Flawed {
         match (self.0, answer) {
             (Flaw::AlwaysAbsent, _) => [5, 0, 0, 0],
             (Flaw::UnusedNumberLeft, [0, value, ..]) => [0, value, 1, 0],
-            (Flaw::HolderNotJudged, [7, 10, at, _]) => [7, 15, at, 0],
+            (Flaw::HolderNotJudged, [7, 10, at, _]) => [7, 15, at, NONE],
             (Flaw::PathOf97Taken, _) if path.len() == 97 => {
                 SecondCalls.field(schema, message, &path[..96])
             }
+            (flaw, [7, ..]) => with_member(flaw, answer),
             _ => answer,
         }
     }
@@ -119,7 +151,12 @@ impl Calls for Flawed {
             Flaw::ListStopsAtRefused => {
                 let answers = cases.chunks_exact_mut(4);
                 for case in answers.skip_while(|case| case[0] != 7).skip(1) {
-                    case.copy_from_slice(&[7, 15, 0, 0]);
+                    case.copy_from_slice(&[7, 15, 0, NONE]);
+                }
+            }
+            Flaw::NoMemberInLists => {
+                for case in cases.chunks_exact_mut(4).filter(|case| case[0] == 7) {
+                    case[3] = NONE;
                 }
             }
             Flaw::ListOneShort => return count.saturating_sub(1),
@@ -141,21 +178,21 @@ impl Calls for Flawed {
         count
     }
 
-    fn read(&self, schema: &Packed, message: &[u8], budget: u32, sheet: &mut [u8]) -> [u64; 4] {
+    fn read(&self, schema: &Packed, message: &[u8], budget: u32, sheet: &mut [u8]) -> Read {
         let schema = &self.taken(schema);
-        let answer = SecondCalls.read(schema, message, budget, sheet);
-        let [number, place, visits, length] = answer;
-        let used = length as usize;
+        let mut answer = SecondCalls.read(schema, message, budget, sheet);
+        answer.verdict = self.judged(answer.verdict);
+        let (number, used) = (answer.verdict.number, answer.length as usize);
         match self.0 {
             Flaw::SheetOfZeros => sheet[..used].fill(0),
             Flaw::SheetByteAfter if number == 0 => change(sheet, used),
             Flaw::SheetOnRefusal if number != 0 => change(sheet, 0),
-            Flaw::SheetLengthOnRefusal if number == 14 => return [14, place, visits, 1],
+            Flaw::SheetLengthOnRefusal if number == 14 => answer.length = 1,
             Flaw::SheetRoomOneMore if number == 14 => {
                 let mut more = vec![0; sheet.len() + 1];
                 return SecondCalls.read(schema, message, budget, &mut more);
             }
-            Flaw::NoVisitsAt14 if number == 14 => return [14, place, 0, length],
+            Flaw::NoVisitsAt14 if number == 14 => answer.verdict.visits = 0,
             _ => {}
         }
         answer
@@ -186,7 +223,7 @@ impl Writes for Flawed {
     }
 }
 
-const IN_FIELDS: [Flaw; 11] = [
+const IN_FIELDS: [Flaw; 16] = [
     Flaw::AlwaysAbsent,
     Flaw::UnusedNumberLeft,
     Flaw::HolderNotJudged,
@@ -198,7 +235,14 @@ const IN_FIELDS: [Flaw; 11] = [
     Flaw::ListGoesOnAtTheEnd,
     Flaw::ListFillsTheRest,
     Flaw::ListStartsAtPlain,
+    Flaw::NoMember,
+    Flaw::MemberOneMore,
+    Flaw::MemberOfEndByte,
+    Flaw::MemberOf15,
+    Flaw::NoMemberInLists,
 ];
+
+const IN_VERDICTS: [Flaw; 3] = [Flaw::NoMember, Flaw::MemberOneMore, Flaw::MemberOfEndByte];
 
 const IN_READS: [Flaw; 6] = [
     Flaw::SheetOfZeros,
@@ -244,7 +288,7 @@ fn catches(sort: &str, flaws: &[Flaw], run: Run) {
 
 #[test]
 fn judging_side_by_side_catches_flaws() {
-    catches("judging", &[], |flawed, coding| {
+    catches("judging", &IN_VERDICTS, |flawed, coding| {
         judging::run(flawed, &SecondCalls, coding, 9, CALLS / 10).map(drop)
     });
 }
@@ -258,9 +302,11 @@ fn fields_side_by_side_catch_flaws() {
 
 #[test]
 fn reads_side_by_side_catch_flaws() {
-    catches("reads", &IN_READS, |flawed, coding| {
-        reads::run(flawed, &SecondCalls, coding, 9, CALLS).map(drop)
-    });
+    catches(
+        "reads",
+        &[&IN_READS[..], &IN_VERDICTS].concat(),
+        |flawed, coding| reads::run(flawed, &SecondCalls, coding, 9, CALLS).map(drop),
+    );
 }
 
 #[test]

@@ -1,22 +1,23 @@
 //! The C interface at the largest sizes: messages that are full, sheets at and
 //! over the size, and sheets that would be far larger than their messages.
 
-use compare::calls::{Calls, LibraryCalls, Output, SecondCalls};
+use compare::calls::{Calls, LibraryCalls, Output, Read, SecondCalls};
 use compare::canonical;
 use compare::coding::{Coding, CODINGS};
+use compare::program::verdict;
 use compare::schema::*;
 use compare::value::Value;
 use std::time::{Duration, Instant};
 
 /// Reads with both into outputs of their own; gives number and length.
-fn read(schema: &Schema, message: &[u8], room: usize) -> (u64, usize) {
+fn read(schema: &Schema, message: &[u8], room: usize) -> (u32, usize) {
     let packed = schema.pack();
     let (mut sheet, mut expected) = (Output::new(room, 7), Output::new(room, 7));
     let given = LibraryCalls.read(&packed, message, u32::MAX, sheet.lent());
     let second = SecondCalls.read(&packed, message, u32::MAX, expected.lent());
     assert_eq!(given, second);
     assert!(sheet.whole() == expected.whole(), "outputs differ");
-    (given[0], given[3] as usize)
+    (given.verdict.number, given.length as usize)
 }
 
 /// A root and one object that is filled up to the largest message with bytes
@@ -141,7 +142,8 @@ fn one_text_named_often(coding: Coding) {
     let began = Instant::now();
     let given = LibraryCalls.read(&packed, &far_over, u32::MAX, &mut sheet);
     assert!(began.elapsed() < Duration::from_secs(2), "too much work");
-    assert_eq!(given, [14, 0, 2 + 1000 + 1_000_000, 0]);
+    let verdict = verdict(14, 0, 2 + 1000 + 1_000_000);
+    assert_eq!(given, Read { verdict, length: 0 });
     assert!(sheet.iter().all(|&byte| byte == 3));
 }
 
@@ -216,8 +218,8 @@ mod writing {
         let message = filled(&schema, Value::List(Vec::new()), most);
         let mut sheet = vec![0; SIZE_LIMIT];
         let packed = schema.pack();
-        let [_, _, _, length] = SecondCalls.read(&packed, &message, 2, &mut sheet);
-        let bytes = &sheet[..length as usize];
+        let read = SecondCalls.read(&packed, &message, 2, &mut sheet);
+        let bytes = &sheet[..read.length as usize];
         let used = before_content(coding) + (most * bits).div_ceil(8) as usize;
         assert_eq!(write(&schema, bytes, used), (0, used), "kind {kind}");
         assert_eq!(write(&schema, bytes, used - 1), (14, 0));

@@ -3,7 +3,7 @@
 
 use compare::canonical;
 use compare::coding::Coding::Bits48;
-use compare::program::{Answer, Judge, Library, Program, Second, Verdict};
+use compare::program::{refused, verdict, Answer, Judge, Library, Program, Second, Verdict};
 use compare::schema::{Packed, Record, Schema, Slot, Table, BOOL};
 use compare::schema_rules;
 use compare::sheet;
@@ -30,14 +30,6 @@ fn value() -> Value {
     Value::Table(vec![Value::Number(3), Value::Blob(b"ab".to_vec())])
 }
 
-fn verdict(number: u32, place: u64, visits: u32) -> Verdict {
-    Verdict {
-        number,
-        place,
-        visits,
-    }
-}
-
 #[test]
 fn own_model_gives_the_table_s_bytes() {
     let newer = schema_rules::parse(&newer()).expect("lawful");
@@ -62,7 +54,12 @@ fn judges_as_the_table_says(judge: &dyn Judge) {
     assert_eq!(by_newer(&MESSAGE, 1), verdict(4, 28, 1));
     assert_eq!(by_newer(&MESSAGE, 0), verdict(4, 10, 0));
     assert_eq!(judge.judge(&older(), &MESSAGE, 1), verdict(0, 0, 1));
-    assert_eq!(by_newer(&changed(14, 5), 2), verdict(8, 10, 1));
+    // The text is member 1.
+    let cut = Verdict {
+        member: 1,
+        ..verdict(8, 10, 1)
+    };
+    assert_eq!(by_newer(&changed(14, 5), 2), cut);
     assert_eq!(by_newer(&changed(14, 2), 2), verdict(0, 0, 1));
     assert_eq!(by_newer(&changed(14, 0), 2), verdict(0, 0, 1));
     assert_eq!(by_newer(&changed(40, 1), 2), verdict(10, 28, 2));
@@ -117,7 +114,6 @@ fn answers_the_table_s_fields(program: &dyn Program) {
         place,
         length,
     };
-    let refused = |number, place| Answer::Refused { number, place };
     assert_eq!(by_newer(&MESSAGE, &[]), object(16, 10, 8));
     assert_eq!(by_newer(&MESSAGE, &[0]), number);
     assert_eq!(by_newer(&MESSAGE, &[1]), object(13, 28, 2));
@@ -125,7 +121,12 @@ fn answers_the_table_s_fields(program: &dyn Program) {
     assert_eq!(program.text(&newer(), &MESSAGE, &[0]), None);
     assert_eq!(program.field(&older(), &MESSAGE, &[1]), refused(15, 10));
     assert_eq!(by_newer(&changed(14, 5), &[0]), number);
-    assert_eq!(by_newer(&changed(14, 5), &[1]), refused(8, 10));
+    let cut = Answer::Refused {
+        number: 8,
+        place: 10,
+        member: 1,
+    };
+    assert_eq!(by_newer(&changed(14, 5), &[1]), cut);
     assert_eq!(by_newer(&changed(14, 2), &[1]), Answer::Absent);
     assert_eq!(by_newer(&changed(14, 0), &[0]), Answer::Absent);
     assert_eq!(by_newer(&changed(40, 1), &[1]), refused(10, 28));

@@ -5,7 +5,7 @@ use compare::coding::CODINGS;
 use compare::counts::Counts;
 use compare::judging;
 use compare::laws::{self, Programs};
-use compare::program::{Answer, Judge, Program, Relations, Second, Verdict};
+use compare::program::{accepted, Answer, Judge, Program, Relations, Second, Verdict, NO_MEMBER};
 use compare::schema::Packed;
 use compare::side_by_side::side_by_side;
 
@@ -15,6 +15,10 @@ enum Flaw {
     RefusesEverything,
     VisitsOneMore,
     PlaceAlwaysZero,
+    MemberOneMore,
+    MemberAlwaysNone,
+    MemberOfEndByte,
+    MemberOfAcceptance,
     BudgetOneTooMany,
     UnknownAsAbsent,
     FixedSheet,
@@ -30,11 +34,14 @@ enum Flaw {
 
 struct Flawed(Flaw);
 
-fn accepted(visits: u32) -> Verdict {
-    Verdict {
-        number: 0,
-        place: 0,
-        visits,
+/// The member that a flawed program gives with a number.
+fn flawed_member(flaw: Flaw, number: u32, member: u32) -> u32 {
+    match flaw {
+        Flaw::MemberOneMore if member != NO_MEMBER => member + 1,
+        Flaw::MemberAlwaysNone => NO_MEMBER,
+        Flaw::MemberOfEndByte if number == 10 && member == NO_MEMBER => 0,
+        Flaw::MemberOfAcceptance if number == 0 => 0,
+        _ => member,
     }
 }
 
@@ -45,6 +52,10 @@ impl Judge for Flawed {
 
     fn judge(&self, schema: &Packed, message: &[u8], budget: u32) -> Verdict {
         let verdict = Second.judge(schema, message, budget);
+        let verdict = Verdict {
+            member: flawed_member(self.0, verdict.number, verdict.member),
+            ..verdict
+        };
         match self.0 {
             Flaw::AcceptsEverything => accepted(verdict.visits),
             Flaw::RefusesEverything if verdict.number == 0 => Verdict {
@@ -96,6 +107,18 @@ impl Program for Flawed {
                 bits,
                 width,
                 signed: true,
+            },
+            (
+                flaw,
+                Answer::Refused {
+                    number,
+                    place,
+                    member,
+                },
+            ) => Answer::Refused {
+                number,
+                place,
+                member: flawed_member(flaw, number, member),
             },
             (_, answer) => answer,
         }
@@ -150,11 +173,15 @@ impl Relations for Flawed {
     }
 }
 
-const IN_VERDICTS: [Flaw; 5] = [
+const IN_VERDICTS: [Flaw; 9] = [
     Flaw::AcceptsEverything,
     Flaw::RefusesEverything,
     Flaw::VisitsOneMore,
     Flaw::PlaceAlwaysZero,
+    Flaw::MemberOneMore,
+    Flaw::MemberAlwaysNone,
+    Flaw::MemberOfEndByte,
+    Flaw::MemberOfAcceptance,
     Flaw::BudgetOneTooMany,
 ];
 

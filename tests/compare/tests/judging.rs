@@ -1,5 +1,5 @@
-//! The proved library and the second program side by side: number, place and
-//! visits are equal on every message with every budget.
+//! The proved library and the second program side by side: number, place, member
+//! and visits are equal on every message with every budget.
 //!
 //! A longer run: `compare judge --cases 10000000 --seed S`, and with
 //! `--coding 32` under the older coding.
@@ -7,6 +7,7 @@
 use compare::calls::LibraryCalls;
 use compare::coding::{Coding, CODINGS};
 use compare::judging;
+use compare::members::NAMES;
 use compare::program::Second;
 use compare::subjects::{Sort, SORTS};
 use compare::tally::{Budget, Tally, NUMBERS};
@@ -18,6 +19,13 @@ const MESSAGES: u64 = 300_000;
 /// budget is rare there, and comes from the smaller ones.
 const NUMBERS_SEEN: [u64; NUMBERS] = [
     30_000, 20_000, 5000, 10_000, 0, 2000, 40_000, 20_000, 10_000, 1000, 2000,
+];
+
+/// At least so many refusals by 8, 9 and 10 with each range of members.
+const MEMBERS_SEEN: [(u32, [u64; 4]); 3] = [
+    (8, [0, 4000, 4000, 60]),
+    (9, [0, 300, 700, 20]),
+    (10, [1500, 200, 600, 20]),
 ];
 
 /// What the run did not reach often enough.
@@ -33,6 +41,13 @@ fn shortfalls(coding: Coding, tally: &Tally) -> Vec<String> {
     for number in (0..NUMBERS).filter(possible) {
         let least = NUMBERS_SEEN[number];
         need(format!("number {number}"), tally.of_number(number), least);
+    }
+    for (number, least) in MEMBERS_SEEN {
+        let number = number as usize;
+        for (at, count) in tally.members(number).into_iter().enumerate() {
+            let least = if possible(&number) { least[at] } else { 0 };
+            need(format!("{number}, member {}", NAMES[at]), count, least);
+        }
     }
     let beyond = tally.messages - tally.of_number(1);
     need("not refusal 1".to_string(), beyond, MESSAGES * 3 / 4);
@@ -76,6 +91,16 @@ fn agree(coding: Coding) {
     // Under no coding is any schema lawful.
     assert_eq!(tally.of(Sort::NoCoding, 1), tally.of_sort(Sort::NoCoding));
     assert_eq!(coding.is_older(), tally.of_number(9) == 0);
+    // 8 and 9 are always about a member, and only they and 10 are.
+    for number in (0..NUMBERS).filter(|number| *number != 10) {
+        let [none, some @ ..] = tally.members(number);
+        let without = if matches!(number, 8 | 9) {
+            none
+        } else {
+            some.iter().sum()
+        };
+        assert_eq!(without, 0, "members of {number}");
+    }
     let others = tally.of(Sort::OtherCoding, 1);
     assert_eq!(coding.is_older(), others > 0);
 }

@@ -1,12 +1,12 @@
 //! The proved library and the second program on messages at the largest size,
 //! on walks that double, and on schemas of the largest counts.
 
-use compare::calls::LibraryCalls;
+use compare::calls::{Calls, LibraryCalls};
 use compare::canonical;
 use compare::coding::{Coding, CODINGS};
 use compare::doubling;
 use compare::judging::same_verdict;
-use compare::program::{Second, Verdict};
+use compare::program::{verdict as verdict_of, Second, Verdict, NO_MEMBER};
 use compare::schema::*;
 use compare::subjects::{Sort, Subject};
 use compare::value::Value;
@@ -24,7 +24,9 @@ fn judged(schema: &Schema, message: &[u8], budget: u32) -> (u32, u64, u32) {
     }
 }
 
+/// Number, place and visits of a verdict without a member.
 fn parts(verdict: Verdict) -> (u32, u64, u32) {
+    assert_eq!(verdict.member, NO_MEMBER);
     (verdict.number, verdict.place, verdict.visits)
 }
 
@@ -108,6 +110,39 @@ fn walks_that_double() {
         let last = doubling::table_at(coding, levels);
         let short = judged(&schema, &message, visits - 1);
         assert_eq!(short, (4, last, visits - 1));
+    }
+}
+
+/// A list of unions that fills the message: each that has offset 0 is told from
+/// every other, the last one too.
+#[test]
+fn far_elements() {
+    let coding = Coding::Bits48;
+    let mut schema = root_with(coding, Record::plain(LIST, 0));
+    schema.lists = vec![Record::plain(UNION, 0)];
+    schema.unions = vec![vec![Record::plain(TEXT, 0)]];
+    let count = room(coding) / 8;
+    let message = filled(&schema, Value::List(Vec::new()), count);
+    let (packed, start) = (schema.pack(), second_at(coding) + coding.header() as u64);
+    for element in [0, 255, 256, 65_535, 65_536, 1 << 20, count - 1] {
+        let mut message = message.clone();
+        message[(start + 8 * element) as usize] = 1;
+        let subject = Subject {
+            sort: Sort::Written,
+            schema: packed.clone(),
+            message,
+        };
+        let verdict = same_verdict(&LibraryCalls, &Second, &subject, 2);
+        let expected = Verdict {
+            member: element as u32,
+            ..verdict_of(9, start - 10, 2)
+        };
+        assert_eq!(verdict, Ok(expected));
+        let mut steps = [0; 8];
+        let given = LibraryCalls.list(&packed, &subject.message, &[0], element, &mut steps);
+        let own = LibraryCalls.field(&packed, &subject.message, &[0, element as u32]);
+        assert_eq!((given, &steps[..4]), (count, &own[..]));
+        assert_eq!(own, [7, 9, start - 10, element]);
     }
 }
 

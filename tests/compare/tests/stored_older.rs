@@ -1,25 +1,38 @@
 //! The stored cases of the 32-bit coding that were worked out by hand, and more
 //! of the same: both programs answer as the documents say.
 
-use compare::calls::{Calls, LibraryCalls, SecondCalls, Writes};
-use compare::program::Verdict;
+use compare::calls::{Calls, LibraryCalls, Read, SecondCalls, Writes};
+use compare::program::{accepted, Verdict, NO_MEMBER};
 use compare::schema::Packed;
 use compare::stored::by_hand::{bytes, message, packed, REFUSED, SHEETS, TEXT};
 
 /// What both programs answer.
-fn judged(schema: &Packed, message: &[u8], budget: u32) -> (u32, u64, u32) {
-    let parts = |verdict: Verdict| (verdict.number, verdict.place, verdict.visits);
+fn both(schema: &Packed, message: &[u8], budget: u32) -> Verdict {
     let given = [&LibraryCalls as &dyn Calls, &SecondCalls]
-        .map(|program| parts(program.judge(schema, message, budget)));
+        .map(|program| program.judge(schema, message, budget));
     assert_eq!(given[0], given[1], "{schema}");
     given[0]
+}
+
+/// Number, place and visits of a verdict without a member.
+fn judged(schema: &Packed, message: &[u8], budget: u32) -> (u32, u64, u32) {
+    let given = both(schema, message, budget);
+    assert_eq!(given.member, NO_MEMBER, "{schema}");
+    (given.number, given.place, given.visits)
 }
 
 #[test]
 fn refusals() {
     for case in REFUSED {
-        let given = judged(&packed(case.schema), &message(case.message), case.budget);
-        assert_eq!(given, case.verdict, "{}", case.name);
+        let given = both(&packed(case.schema), &message(case.message), case.budget);
+        let (number, place, visits) = case.verdict;
+        let expected = Verdict {
+            number,
+            place,
+            member: case.member.unwrap_or(NO_MEMBER),
+            visits,
+        };
+        assert_eq!(given, expected, "{}", case.name);
     }
 }
 
@@ -46,12 +59,13 @@ fn sheets() {
     for case in SHEETS {
         let (schema, message) = (packed(case.schema), message(case.message));
         let sheet = bytes(case.sheet);
-        let accepted = (0, 0, case.visits);
-        assert_eq!(judged(&schema, &message, 9), accepted, "{}", case.name);
+        let verdict = accepted(case.visits);
+        assert_eq!(both(&schema, &message, 9), verdict, "{}", case.name);
         for program in [&LibraryCalls as &dyn Writes, &SecondCalls] {
             let mut read = vec![0xEE; sheet.len()];
             let answer = program.read(&schema, &message, case.visits, &mut read);
-            let expected = [0, 0, u64::from(case.visits), sheet.len() as u64];
+            let length = sheet.len() as u64;
+            let expected = Read { verdict, length };
             assert_eq!((answer, &read), (expected, &sheet), "{}", case.name);
             if case.written {
                 let mut written = vec![0xEE; message.len()];

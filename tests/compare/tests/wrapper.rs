@@ -72,7 +72,11 @@ impl Texts {
         let place = self.offset(number) as u64;
         match (number % 3, number % 7) {
             (0, _) => Answer::Absent,
-            (_, 0) => Answer::Refused { number: 6, place },
+            (_, 0) => Answer::Refused {
+                number: 6,
+                place,
+                member: None,
+            },
             _ => Answer::Object {
                 kind: 13,
                 place,

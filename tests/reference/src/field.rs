@@ -1,8 +1,8 @@
 //! One field by its path, and the list reader.
 
 use crate::message::{
-    find, is_nan, judge_struct, lead, member_lead, number, open, open_message, Lead, Object,
-    Refusal, NO_ENUM,
+    element_lead, find, is_nan, judge_struct, member_lead, number, open, open_message, Lead,
+    Object, Refusal, NO_ENUM,
 };
 use crate::schema::{Kind, Schema, Target};
 
@@ -34,9 +34,11 @@ pub enum Answer {
     },
     Absent,
     Unknown(u64),
+    /// The member is `NO_MEMBER` where the refusal has none.
     Refused {
         number: u32,
         place: u64,
+        member: u32,
     },
 }
 
@@ -45,6 +47,7 @@ impl From<Refusal> for Answer {
         Answer::Refused {
             number: refusal.number,
             place: refusal.place,
+            member: refusal.member,
         }
     }
 }
@@ -164,7 +167,7 @@ impl Path<'_> {
         let Some(member) = self.schema.table(index).members.get(step) else {
             return Err(Refusal::new(15, table.place));
         };
-        let Some(at) = find(self.message, table, &member.slot)? else {
+        let Some(at) = find(self.message, table, member)? else {
             return Ok(Part::Ends(Answer::Absent));
         };
         match member.record.kind {
@@ -173,7 +176,7 @@ impl Path<'_> {
                 Ok(Part::Value(Answer::Boolean(bit == 1)))
             }
             Kind::Struct(index) => {
-                judge_struct(self.schema, self.message, table, index, at)?;
+                judge_struct(self.schema, self.message, table, member.number, index, at)?;
                 Ok(Part::Struct(index, at))
             }
             Kind::Object(_) | Kind::Union(_) => {
@@ -192,12 +195,10 @@ impl Path<'_> {
                 Ok(Part::Value(Answer::Boolean(bit == 1)))
             }
             kind @ Kind::Object(_) => {
-                let size = self.schema.coding.offset();
-                self.reference(list, kind, list.start + step * size, depth)
+                self.reference(list, kind, self.schema.coding.offset(), step, depth)
             }
             kind @ Kind::Union(_) => {
-                let size = self.schema.coding.union();
-                self.reference(list, kind, list.start + step * size, depth)
+                self.reference(list, kind, self.schema.coding.union(), step, depth)
             }
             kind @ (Kind::Integer { bytes, .. } | Kind::Float { bytes }) => {
                 Ok(self.scalar(kind, list.start + step * usize::from(bytes), true))
@@ -206,9 +207,16 @@ impl Path<'_> {
         }
     }
 
-    /// An element that is a reference or a union.
-    fn reference(&self, list: &Object, kind: Kind, at: usize, depth: u32) -> Result<Part, Refusal> {
-        let lead = lead(self.schema, self.message, list, kind, at, None)?;
+    /// An element that is a reference or a union of `size` bytes.
+    fn reference(
+        &self,
+        list: &Object,
+        kind: Kind,
+        size: usize,
+        step: usize,
+        depth: u32,
+    ) -> Result<Part, Refusal> {
+        let lead = element_lead(self.schema, self.message, list, kind, size, step)?;
         self.follow(lead, depth)
     }
 

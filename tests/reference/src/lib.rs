@@ -33,6 +33,7 @@ mod write;
 
 pub use append::{appends, with_added, without_appended};
 pub use field::{field, text, Answer, ListReader};
+pub use message::NO_MEMBER;
 pub use schema::Schema;
 pub use sheet::read;
 pub use walk::{judge, judge_parsed, Verdict};

@@ -8,7 +8,7 @@ use reference::{appends, field, judge, read, with_added, without_appended, write
 
 const USAGE: &str = "\
 usage: reference [--coding 32] COMMAND; without it the coding is 48
-  reference judge SCHEMA MESSAGE BUDGET      prints number, place, visits
+  reference judge SCHEMA MESSAGE BUDGET      prints number, place, member, visits
   reference read SCHEMA MESSAGE BUDGET OUT   the same, and on 0 the sheet to OUT
   reference write SCHEMA SHEET OUT           prints number, and on 0 the message to OUT
   reference field SCHEMA MESSAGE N N N..     prints the answer at the path
@@ -104,7 +104,8 @@ fn carried(sheet: Option<Vec<u8>>, out: &str) -> Result<String, String> {
 }
 
 fn verdict_line(verdict: reference::Verdict) -> String {
-    format!("{} {} {}", verdict.number, verdict.place, verdict.visits)
+    let (number, place) = (verdict.number, verdict.place);
+    format!("{number} {place} {} {}", verdict.member, verdict.visits)
 }
 
 fn answer_line(answer: Answer) -> String {
@@ -127,7 +128,11 @@ fn answer_line(answer: Answer) -> String {
         Answer::Struct { place } => format!("struct {place}"),
         Answer::Absent => String::from("absent"),
         Answer::Unknown(number) => format!("unknown {number}"),
-        Answer::Refused { number, place } => format!("refused {number} {place}"),
+        Answer::Refused {
+            number,
+            place,
+            member,
+        } => format!("refused {number} {place} {member}"),
     }
 }
 

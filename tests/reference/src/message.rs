@@ -2,7 +2,7 @@
 //! element leads.
 
 use crate::coding::Coding;
-use crate::schema::{Kind, Member, Schema, Slot, Target};
+use crate::schema::{Kind, Member, Schema, Target};
 
 /// "Message and sheet: at most 16,777,215 bytes each."
 pub const SIZE: usize = 16_777_215;
@@ -17,16 +17,37 @@ const LIST_MAGIC: u32 = 0x3400_BB46;
 /// "Enum byte 255 is no value, everywhere."
 pub const NO_ENUM: u8 = 255;
 
-/// A refusal: its number and its place.
+/// "a text's end byte and every other answer carry 4,294,967,295"
+pub const NO_MEMBER: u32 = 4_294_967_295;
+
+/// A refusal: its number, its place and its member.
 #[derive(Clone, Copy, Debug, PartialEq, Eq)]
 pub struct Refusal {
     pub number: u32,
     pub place: u64,
+    pub member: u32,
 }
 
 impl Refusal {
+    /// A refusal of no member.
     pub fn new(number: u32, place: u64) -> Refusal {
-        Refusal { number, place }
+        let member = NO_MEMBER;
+        Refusal {
+            number,
+            place,
+            member,
+        }
+    }
+
+    /// "Refusals 8, 9 and 10 shall carry the member's or element's number in
+    /// its holder, counted from 0": each stands at that holder.
+    pub fn of_member(number: u32, holder: &Object, member: u32) -> Refusal {
+        let place = holder.place;
+        Refusal {
+            number,
+            place,
+            member,
+        }
     }
 }
 
@@ -245,7 +266,8 @@ fn open_header(
 /// inside is read; one cut by the end is refused. An optional flag of 1 whose
 /// value starts at or after the end is refused; with flag 0 the value may lie
 /// beyond the end but not be cut".
-pub fn find(message: &[u8], table: &Object, slot: &Slot) -> Result<Option<usize>, Refusal> {
+pub fn find(message: &[u8], table: &Object, member: &Member) -> Result<Option<usize>, Refusal> {
+    let slot = &member.slot;
     let set = match slot.flag {
         Some(flag) if flag.byte >= table.length => return Ok(None),
         Some(flag) => message[table.start + flag.byte] >> flag.bit & 1 == 1,
@@ -255,23 +277,25 @@ pub fn find(message: &[u8], table: &Object, slot: &Slot) -> Result<Option<usize>
     let beyond = slot.offset >= table.length;
     let cut = !beyond && slot.offset + slot.size > table.length;
     if cut || (beyond && set) {
-        return Err(Refusal::new(8, table.place));
+        return Err(Refusal::of_member(8, table, member.number));
     }
     Ok(set.then_some(table.start + slot.offset))
 }
 
-/// "struct boolean not 0 or 1": refused at the table that holds the struct.
+/// "struct boolean not 0 or 1": refused at the table that holds the struct. "A
+/// struct reports the table's member", whose number this is.
 pub fn judge_struct(
     schema: &Schema,
     message: &[u8],
     table: &Object,
+    number: u32,
     index: u8,
     at: usize,
 ) -> Result<(), Refusal> {
     let one = schema.structure(index);
     let bytes = &message[at..at + one.size];
     if one.bools.iter().any(|&at| bytes[usize::from(at)] > 1) {
-        return Err(Refusal::new(10, table.place));
+        return Err(Refusal::of_member(10, table, number));
     }
     Ok(())
 }
@@ -285,15 +309,33 @@ pub fn member_lead(
     at: usize,
 ) -> Result<Lead, Refusal> {
     let behind = member.record.in_place.then(|| table.end());
-    lead(schema, message, table, member.record.kind, at, behind)
+    let kind = member.record.kind;
+    lead(schema, message, table, member.number, kind, at, behind)
 }
 
-/// Where a reference or union leads that stands at `at` in its holder.
-/// `behind` is where in-place content starts, for a member in place.
-pub fn lead(
+/// Where an element of this number leads, in a list of references or unions of
+/// `size` bytes.
+pub fn element_lead(
+    schema: &Schema,
+    message: &[u8],
+    list: &Object,
+    kind: Kind,
+    size: usize,
+    number: usize,
+) -> Result<Lead, Refusal> {
+    let at = list.start + number * size;
+    // The list lies inside the message, so its number of elements is far below 2^32.
+    lead(schema, message, list, number as u32, kind, at, None)
+}
+
+/// Where a reference or union leads that stands at `at` in its holder and is
+/// its member or element of this number. `behind` is where in-place content
+/// starts, for a member in place.
+fn lead(
     schema: &Schema,
     message: &[u8],
     holder: &Object,
+    member: u32,
     kind: Kind,
     at: usize,
     behind: Option<usize>,
@@ -320,7 +362,7 @@ pub fn lead(
             length: number,
         },
         // "known union choice, not in place, offset 0"
-        None if number == 0 => return Err(Refusal::new(9, holder.place)),
+        None if number == 0 => return Err(Refusal::of_member(9, holder, member)),
         None => Spot::Offset(number),
     };
     Ok(Lead::Object {

@@ -68,6 +68,8 @@ pub struct Slot {
 }
 
 pub struct Member {
+    /// Its number in its table, counted from 0.
+    pub number: u32,
     pub record: Record,
     pub slot: Slot,
 }
@@ -324,7 +326,7 @@ fn parse_table(packed: &mut Packed, counts: &Counts, schema: &Schema) -> Option<
     let mut layout = Layout::default();
     let mut members = Vec::with_capacity(usize::from(count));
     let mut in_place = 0;
-    for _ in 0..count {
+    for number in 0..u32::from(count) {
         let record = parse_record(packed, counts)?;
         let refers = matches!(record.kind, Kind::Object(_) | Kind::Union(_));
         let is_enum = matches!(record.kind, Kind::Enum { .. });
@@ -338,7 +340,11 @@ fn parse_table(packed: &mut Packed, counts: &Counts, schema: &Schema) -> Option<
         }
         in_place += u32::from(record.in_place);
         let slot = layout.place(&record, schema);
-        members.push(Member { record, slot });
+        members.push(Member {
+            number,
+            record,
+            slot,
+        });
     }
     (in_place <= 1).then_some(Table {
         id,

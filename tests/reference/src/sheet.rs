@@ -2,8 +2,8 @@
 
 use crate::bits::{BitWriter, Full};
 use crate::message::{
-    find, is_nan, lead, member_lead, number, open, open_message, Lead, Object, Refusal, Spot,
-    NO_ENUM, SIZE,
+    element_lead, find, is_nan, member_lead, number, open, open_message, Lead, Object, Refusal,
+    Spot, NO_ENUM, SIZE,
 };
 use crate::schema::{Kind, Member, Schema, Target};
 use crate::walk::{judge_parsed, Verdict};
@@ -99,7 +99,7 @@ impl Sheet<'_> {
     /// "Table members in order, each with a 2-bit mark".
     fn table(&mut self, index: u8, table: &Object, depth: u32) -> Result<(), Stop> {
         for member in &self.schema.table(index).members {
-            match find(self.message, table, &member.slot)? {
+            match find(self.message, table, member)? {
                 Some(at) => self.member(member, table, at, depth)?,
                 None => self.out.put(ABSENT, 2)?,
             }
@@ -231,17 +231,16 @@ impl Sheet<'_> {
         Ok(())
     }
 
-    /// The elements of an offset list, `step` bytes each.
+    /// The elements of an offset list, `size` bytes each.
     fn references(
         &mut self,
         kind: Kind,
-        step: usize,
+        size: usize,
         list: &Object,
         depth: u32,
     ) -> Result<(), Stop> {
         for number in 0..list.length {
-            let at = list.start + number * step;
-            let lead = lead(self.schema, self.message, list, kind, at, None)?;
+            let lead = element_lead(self.schema, self.message, list, kind, size, number)?;
             self.follow(lead, depth)?;
         }
         Ok(())

@@ -1,15 +1,17 @@
 //! The walk: the verdict on a message.
 
 use crate::message::{
-    find, judge_struct, lead, member_lead, open, open_message, Lead, Object, Refusal, Spot,
+    element_lead, find, judge_struct, member_lead, open, open_message, Lead, Object, Refusal, Spot,
 };
 use crate::schema::{Kind, Schema, Target};
 
-/// "Judging answers number, place and visits".
+/// "Judging answers number, place and visits", and the member.
 #[derive(Clone, Copy, Debug, PartialEq, Eq)]
 pub struct Verdict {
     pub number: u32,
     pub place: u64,
+    /// The member's or element's number in its holder, or `NO_MEMBER`.
+    pub member: u32,
     pub visits: u32,
 }
 
@@ -18,6 +20,7 @@ impl Verdict {
         Verdict {
             number: refusal.number,
             place: refusal.place,
+            member: refusal.member,
             visits,
         }
     }
@@ -71,11 +74,13 @@ impl Walk<'_> {
     /// offset, and the arrival it leads to."
     fn table(&mut self, index: u8, table: &Object, depth: u32) -> Result<(), Refusal> {
         for member in &self.schema.table(index).members {
-            let Some(at) = find(self.message, table, &member.slot)? else {
+            let Some(at) = find(self.message, table, member)? else {
                 continue;
             };
             match member.record.kind {
-                Kind::Struct(index) => judge_struct(self.schema, self.message, table, index, at)?,
+                Kind::Struct(index) => {
+                    judge_struct(self.schema, self.message, table, member.number, index, at)?;
+                }
                 Kind::Object(_) | Kind::Union(_) => {
                     let lead = member_lead(self.schema, self.message, table, member, at)?;
                     self.follow(lead, depth)?;
@@ -89,12 +94,11 @@ impl Walk<'_> {
     /// Only references and unions lead anywhere; the rest needs no judging.
     fn list(&mut self, index: u8, list: &Object, depth: u32) -> Result<(), Refusal> {
         let kind = self.schema.element(index);
-        let Some(step) = self.schema.reference_size(kind) else {
+        let Some(size) = self.schema.reference_size(kind) else {
             return Ok(());
         };
         for number in 0..list.length {
-            let at = list.start + number * step;
-            let lead = lead(self.schema, self.message, list, kind, at, None)?;
+            let lead = element_lead(self.schema, self.message, list, kind, size, number)?;
             self.follow(lead, depth)?;
         }
         Ok(())

@@ -2,7 +2,7 @@
 
 mod common;
 
-use common::{hex, verdict};
+use common::{hex, verdict, verdict_of};
 use reference::{field, judge, read, write, Answer};
 
 fn o() -> Vec<u8> {
@@ -52,7 +52,8 @@ fn case_4_by_o_with_budget_1() {
 fn case_5_table_length_5() {
     let mut message = m();
     message[14] = 5;
-    assert_eq!(judge(48, &n(), &message, 2), verdict(8, 10, 1));
+    // The text is member 1.
+    assert_eq!(judge(48, &n(), &message, 2), verdict_of(8, 10, 1, 1));
 }
 
 #[test]
@@ -130,7 +131,7 @@ fn case_12_the_flag_in_one_byte_and_the_value_in_the_next() {
     // The flag without its value's byte.
     let mut short = common::Message::new(10);
     short.table(common::ID, 1).raw(&[0x80]);
-    assert_eq!(judge(48, &schema, &short.bytes, 1), verdict(8, 10, 1));
+    assert_eq!(judge(48, &schema, &short.bytes, 1), verdict_of(8, 10, 7, 1));
     // Flag 0: the value may lie beyond the end.
     let mut unset = common::Message::new(10);
     unset.table(common::ID, 1).raw(&[0x7F]);

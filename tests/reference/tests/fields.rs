@@ -5,10 +5,6 @@ mod common;
 use common::*;
 use reference::{field, text, Answer, ListReader};
 
-fn refused(number: u32, place: u64) -> Answer {
-    Answer::Refused { number, place }
-}
-
 fn unsigned(bits: u64, width: u32) -> Answer {
     Answer::Number {
         bits,
@@ -133,9 +129,9 @@ fn what_is_not_on_the_path_is_not_judged() {
     let at = |path: &[u32]| field(48, &schema, &message.bytes, path);
     assert_eq!(at(&[0]), refused(6, 3));
     assert_eq!(at(&[1]), unsigned(1, 16));
-    assert_eq!(at(&[2]), refused(10, 10));
-    assert_eq!(at(&[3]), refused(8, 10));
-    assert_eq!(at(&[3, 1]), refused(8, 10));
+    assert_eq!(at(&[2]), refused_of(10, 10, 2));
+    assert_eq!(at(&[3]), refused_of(8, 10, 3));
+    assert_eq!(at(&[3, 1]), refused_of(8, 10, 3));
     assert_eq!(at(&[4]), refused(15, 10));
 }
 
@@ -169,7 +165,7 @@ fn structs() {
     let mut wrong = message.clone();
     wrong.bytes[21] = 2;
     for path in [&[0][..], &[0, 0], &[0, 1, 2], &[0, 9], &[0, 0, 0]] {
-        assert_eq!(at(&wrong, path), refused(10, 10));
+        assert_eq!(at(&wrong, path), refused_of(10, 10, 0));
     }
     assert_eq!(at(&wrong, &[1, 0]), unsigned(6, 8));
     let mut unset = message;
@@ -309,8 +305,8 @@ fn unions() {
     assert_eq!(at(&[2, 3]), Answer::Absent);
     assert_eq!(at(&[3]), Answer::Unknown(4));
     assert_eq!(at(&[3, 3]), Answer::Unknown(4));
-    assert_eq!(at(&[4]), refused(9, 10));
-    assert_eq!(at(&[4, 0]), refused(9, 10));
+    assert_eq!(at(&[4]), refused_of(9, 10, 4));
+    assert_eq!(at(&[4, 0]), refused_of(9, 10, 4));
 }
 
 /// A table that leads to itself: the 33rd object is too deep.
@@ -397,7 +393,7 @@ fn the_list_reader() {
         [
             text,
             Answer::Absent,
-            refused(9, 66),
+            refused_of(9, 66, 2),
             Answer::Unknown(9),
             refused(15, 66)
         ]

@@ -30,10 +30,6 @@ fn changed(at: usize, byte: u8) -> Vec<u8> {
     message
 }
 
-fn refused(number: u32, place: u64) -> Answer {
-    Answer::Refused { number, place }
-}
-
 fn object(kind: u32, place: u64, length: u64) -> Answer {
     Answer::Object {
         kind,
@@ -109,11 +105,12 @@ fn messages_of_7_and_8_bytes() {
 fn cut_members() {
     for length in 3..6 {
         let cut = changed(12, length);
-        assert_eq!(judge(32, &n(), &cut, 2), verdict(8, 8, 1));
+        assert_eq!(judge(32, &n(), &cut, 2), verdict_of(8, 8, 1, 1));
         assert_eq!(field(32, &n(), &cut, &[0]), unsigned(3, 16));
-        assert_eq!(field(32, &n(), &cut, &[1]), refused(8, 8));
+        assert_eq!(field(32, &n(), &cut, &[1]), refused_of(8, 8, 1));
     }
-    assert_eq!(judge(32, &n(), &changed(12, 1), 2), verdict(8, 8, 1));
+    let number_cut = judge(32, &n(), &changed(12, 1), 2);
+    assert_eq!(number_cut, verdict_of(8, 8, 0, 1));
     let short = read(32, &n(), &changed(12, 2), 2, 9);
     assert_eq!(short, (verdict(0, 0, 1), hex("40 00 C0")));
     assert_eq!(
@@ -287,8 +284,11 @@ fn a_union_cut() {
     for (length, number) in [(1, 0), (2, 8), (4, 8), (6, 8), (7, 0), (8, 0)] {
         let mut message = union_message(0, 0, "");
         message[12] = length;
-        let place = if number == 0 { 0 } else { 8 };
-        assert_eq!(judge(32, &schema, &message, 2), verdict(number, place, 1));
+        let expected = match number {
+            0 => verdict(0, 0, 1),
+            _ => verdict_of(8, 8, 1, 1),
+        };
+        assert_eq!(judge(32, &schema, &message, 2), expected);
     }
     // Cut right behind the union, its content is what was the bool.
     let mut message = union_message(2, 1, "");
@@ -361,9 +361,9 @@ fn optional_members() {
     );
     assert_eq!(write(32, &schema, &sheet, 99), (0, both));
     let no_value = message("01");
-    assert_eq!(judge(32, &schema, &no_value, 1), verdict(8, 8, 1));
+    assert_eq!(judge(32, &schema, &no_value, 1), verdict_of(8, 8, 0, 1));
     let cut = message("00 00");
-    assert_eq!(judge(32, &schema, &cut, 1), verdict(8, 8, 1));
+    assert_eq!(judge(32, &schema, &cut, 1), verdict_of(8, 8, 0, 1));
     let no_flag = message("02");
     assert_eq!(judge(32, &schema, &no_flag, 1), verdict(0, 0, 1));
     assert_eq!(field(32, &schema, &no_flag, &[0]), Answer::Absent);

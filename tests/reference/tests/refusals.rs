@@ -3,14 +3,20 @@
 mod common;
 
 use common::*;
-use reference::{judge, read};
+use reference::{judge, read, NO_MEMBER};
 
 const MOST: usize = 16_777_215;
 
-/// Judged with all the budget there is.
+/// Judged with all the budget there is. 8 and 9 have a member, 10 may have one,
+/// and nothing else does.
 fn judged(schema: &[u8], message: &Message) -> (u32, u64, u32) {
     let verdict = judge(48, schema, &message.bytes, u32::MAX);
-    (verdict.number, verdict.place, verdict.visits)
+    let number = verdict.number;
+    if number != 10 {
+        let member = matches!(number, 8 | 9);
+        assert_eq!(verdict.member != NO_MEMBER, member);
+    }
+    (number, verdict.place, verdict.visits)
 }
 
 /// A table at 10 with one member of six bytes, which is a reference to `to`.

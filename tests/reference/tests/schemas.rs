@@ -3,7 +3,7 @@
 mod common;
 
 use common::*;
-use reference::{field, judge, lawful, read, write, Answer, ListReader, Schema};
+use reference::{field, judge, lawful, read, write, ListReader, Schema};
 
 fn tables(count: u32) -> Vec<(u32, Vec<u16>)> {
     (0..count).map(|id| (id, vec![])).collect()
@@ -249,10 +249,7 @@ fn an_unlawful_schema_is_1_everywhere() {
     assert_eq!(judge(48, &schema, &[], 0), verdict(1, 0, 0));
     assert_eq!(read(48, &schema, &[], 0, 0), (verdict(1, 0, 0), vec![]));
     assert_eq!(write(48, &schema, &[], 0), (1, vec![]));
-    let refused = Answer::Refused {
-        number: 1,
-        place: 0,
-    };
+    let refused = refused(1, 0);
     assert_eq!(field(48, &schema, &[], &[0; 97]), refused);
     assert_eq!(
         ListReader::new(48, &schema, &[], &[0; 97]).err(),

@@ -1,14 +1,14 @@
 //! The whole library at the desk, on files. See `USAGE`.
 
-use scalgo::{Answer, Coding};
+use scalgo::{Answer, Coding, Verdict};
 use std::process::ExitCode;
 
 const USAGE: &str = "\
 usage: scalgo-desk [--coding 32] COMMAND; without it the coding is 48
-  scalgo-desk judge SCHEMA MESSAGE          prints number, place, visits
+  scalgo-desk judge SCHEMA MESSAGE          prints number, place, visits, and the member, if any
   scalgo-desk field SCHEMA MESSAGE N N N..  prints what stands at the path
   scalgo-desk list SCHEMA MESSAGE N N N..   prints what each element of the list is
-  scalgo-desk read SCHEMA MESSAGE SHEET     prints number, place, visits, length; writes SHEET
+  scalgo-desk read SCHEMA MESSAGE SHEET     prints the same with the length; writes SHEET
   scalgo-desk write SCHEMA SHEET MESSAGE    prints number, length; writes MESSAGE
 SCHEMA, MESSAGE and SHEET are files; a refusal writes none. The budget is 100000.";
 
@@ -45,8 +45,7 @@ fn command(coding: Coding, words: &[&str]) -> Result<String, String> {
     match words {
         ["judge", schema, message] => {
             let verdict = scalgo::judge(coding, &load(schema)?, &load(message)?, BUDGET);
-            let (number, place, visits) = (verdict.number, verdict.place, verdict.visits);
-            Ok(format!("{number} {place} {visits}\n"))
+            Ok(format!("{}\n", verdict_line(verdict, "")))
         }
         ["field", schema, message, path @ ..] => {
             let (schema, message, path) = (load(schema)?, load(message)?, numbers(path)?);
@@ -85,8 +84,8 @@ fn read(coding: Coding, schema: &[u8], message: &[u8], file: &str) -> Result<Str
     if verdict.accepted() {
         save(file, &sheet[..answer.length])?;
     }
-    let (number, place, visits) = (verdict.number, verdict.place, verdict.visits);
-    Ok(format!("{number} {place} {visits} {}\n", answer.length))
+    let length = format!(" {}", answer.length);
+    Ok(format!("{}\n", verdict_line(verdict, &length)))
 }
 
 fn write(coding: Coding, schema: &[u8], sheet: &[u8], file: &str) -> Result<String, String> {
@@ -96,6 +95,17 @@ fn write(coding: Coding, schema: &[u8], sheet: &[u8], file: &str) -> Result<Stri
         save(file, &message[..answer.length])?;
     }
     Ok(format!("{} {}\n", answer.number, answer.length))
+}
+
+/// A verdict's numbers, what is said behind them, and the member.
+fn verdict_line(verdict: Verdict, more: &str) -> String {
+    let (number, place, visits) = (verdict.number, verdict.place, verdict.visits);
+    format!("{number} {place} {visits}{more}{}", member(verdict.member))
+}
+
+/// The member in words, where there is one.
+fn member(number: Option<u32>) -> String {
+    number.map_or(String::new(), |number| format!(", member {number}"))
 }
 
 /// An answer in words.
@@ -124,7 +134,11 @@ fn line(answer: Answer) -> String {
         Answer::Struct { place } => format!("struct at {place}"),
         Answer::Absent => "absent".to_string(),
         Answer::Unknown(number) => format!("unknown {number}"),
-        Answer::Refused { number, place } => format!("refused: {number} at {place}"),
+        Answer::Refused {
+            number,
+            place,
+            member: part,
+        } => format!("refused: {number} at {place}{}", member(part)),
     }
 }
 

@@ -69,6 +69,9 @@ enum-known-answer-7 c = search needs
 wide-requires-4 : tie.Need-wide-requires-4
 wide-requires-4 c κs = search needs
 
+cast-case-with-2 : tie.Need-cast-case-with-2
+cast-case-with-2 c = search needs
+
 case-with-requires-8 : tie.Need-case-with-requires-8
 case-with-requires-8 c κs = search needs
 
@@ -122,6 +125,7 @@ case-of-spec =
     case-with-requires-7
     enum-known-answer-7
     wide-requires-4
+    cast-case-with-2
     case-with-requires-8
     returns
     returns-2

@@ -6,50 +6,50 @@ use Rattle.field.proofs.verdict_of.Tie as tie
 enum-told : tie.Need-enum-told
 enum-told c = search needs
 
-unspent-requires : tie.Need-unspent-requires
-unspent-requires c κs = search needs
+passed-requires : tie.Need-passed-requires
+passed-requires c κs = search needs
 
 enum-told-2 : tie.Need-enum-told-2
 enum-told-2 c = search needs
 
-unspent-requires-2 : tie.Need-unspent-requires-2
-unspent-requires-2 c κs = search needs
+passed-requires-2 : tie.Need-passed-requires-2
+passed-requires-2 c κs = search needs
 
 enum-told-3 : tie.Need-enum-told-3
 enum-told-3 c = search needs
 
-unspent-requires-3 : tie.Need-unspent-requires-3
-unspent-requires-3 c κs = search needs
+passed-requires-3 : tie.Need-passed-requires-3
+passed-requires-3 c κs = search needs
 
 enum-told-4 : tie.Need-enum-told-4
 enum-told-4 c = search needs
 
-unspent-requires-4 : tie.Need-unspent-requires-4
-unspent-requires-4 c κs = search needs
+passed-requires-4 : tie.Need-passed-requires-4
+passed-requires-4 c κs = search needs
 
 enum-told-5 : tie.Need-enum-told-5
 enum-told-5 c = search needs
 
-unspent-requires-5 : tie.Need-unspent-requires-5
-unspent-requires-5 c κs = search needs
+passed-requires-5 : tie.Need-passed-requires-5
+passed-requires-5 c κs = search needs
 
 enum-told-6 : tie.Need-enum-told-6
 enum-told-6 c = search needs
 
-unspent-requires-6 : tie.Need-unspent-requires-6
-unspent-requires-6 c κs = search needs
+passed-requires-6 : tie.Need-passed-requires-6
+passed-requires-6 c κs = search needs
 
 enum-told-7 : tie.Need-enum-told-7
 enum-told-7 c = search needs
 
-unspent-requires-7 : tie.Need-unspent-requires-7
-unspent-requires-7 c κs = search needs
+passed-requires-7 : tie.Need-passed-requires-7
+passed-requires-7 c κs = search needs
 
 enum-known-answer : tie.Need-enum-known-answer
 enum-known-answer c = search needs
 
-unspent-requires-8 : tie.Need-unspent-requires-8
-unspent-requires-8 c κs = search needs
+unspent-requires : tie.Need-unspent-requires
+unspent-requires c κs = search needs
 
 returns : tie.Need-returns
 returns c = search verdict-boolean
@@ -80,21 +80,21 @@ verdict-of-spec =
     tie.close
     (tie.spec
     enum-told
-    unspent-requires
+    passed-requires
     enum-told-2
-    unspent-requires-2
+    passed-requires-2
     enum-told-3
-    unspent-requires-3
+    passed-requires-3
     enum-told-4
-    unspent-requires-4
+    passed-requires-4
     enum-told-5
-    unspent-requires-5
+    passed-requires-5
     enum-told-6
-    unspent-requires-6
+    passed-requires-6
     enum-told-7
-    unspent-requires-7
+    passed-requires-7
     enum-known-answer
-    unspent-requires-8
+    unspent-requires
     returns
     returns-2
     returns-3

@@ -7,8 +7,8 @@ use Rattle.field_arrival.proofs.choose.Tie as tie
 enum-known-p : tie.Need-enum-known-p
 enum-known-p c = search needs
 
-refuse-requires : tie.Need-refuse-requires
-refuse-requires c κs = search needs
+refuse-part-requires : tie.Need-refuse-part-requires
+refuse-part-requires c κs = search needs
 
 returns : tie.Need-returns
 returns c = search choose-none
@@ -33,7 +33,7 @@ choose-spec =
     tie.close
     (tie.spec
     enum-known-p
-    refuse-requires
+    refuse-part-requires
     returns
     arrive-requires
     enum-known-p-2

@@ -6,8 +6,8 @@ use Rattle.field_arrival.proofs.follow.Tie as tie
 enum-known-step : tie.Need-enum-known-step
 enum-known-step c = search needs
 
-refuse-requires : tie.Need-refuse-requires
-refuse-requires c κs = search needs
+refuse-part-requires : tie.Need-refuse-part-requires
+refuse-part-requires c κs = search needs
 
 enum-told : tie.Need-enum-told
 enum-told c = search needs
@@ -59,7 +59,7 @@ follow-spec =
     tie.close
     (tie.spec
     enum-known-step
-    refuse-requires
+    refuse-part-requires
     enum-told
     enum-known-step-2
     enum-known-step-3

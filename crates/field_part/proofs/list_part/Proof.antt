@@ -1,5 +1,5 @@
 use Rattle.field_part.proofs.PartCases.{list-none, list-there, element-step-within}
-use Rattle.field_part.proofs.ElementSound.{element-sound, elements-there}
+use Rattle.field_part.proofs.ElementSound.{element-sound, elements-there, element-number}
 use borrow.Author.Needs.{needs}
 use Rattle.field_part.proofs.list_part.Statement.{statement}
 use Rattle.field_part.proofs.list_part.Tie as tie
@@ -16,6 +16,9 @@ element-requires c κs = search needs
 element-step-requires : tie.Need-element-step-requires
 element-step-requires c κs = search (element-sound, elements-there, needs)
 
+cast-number : tie.Need-cast-number
+cast-number c = record { fits = search element-number }
+
 follow-requires : tie.Need-follow-requires
 follow-requires c κs = search (element-step-within, needs)
 
@@ -30,5 +33,6 @@ list-part-spec =
     returns
     element-requires
     element-step-requires
+    cast-number
     follow-requires
     returns-2)

@@ -19,6 +19,9 @@ field-requires c κs = search needs
 field-at-requires : tie.Need-field-at-requires
 field-at-requires c κs = ((c .before .before .before .before .before .before .pre .0, c .before .before .before .before .before .before .pre .2, c .before .before .before .before .before .before .pre .3, c .before .before .before .before .before .before .pre .4), (omega (arith, c .before .before .field-count .ensures .0, c .before .if1 .left), omega (arith, c .before .before .field-count .ensures .1, c .before .if1 .left), c .field .ensures))
 
+cast-t13 : tie.Need-cast-t13
+cast-t13 c = search needs
+
 follow-requires : tie.Need-follow-requires
 follow-requires c κs = search needs
 
@@ -34,5 +37,6 @@ struct-part-spec =
     returns
     field-requires
     field-at-requires
+    cast-t13
     follow-requires
     returns-2)

@@ -19,6 +19,9 @@ member-requires c κs = search needs
 member-at-requires : tie.Need-member-at-requires
 member-at-requires c κs = (c .before .before .before .before .before .before .pre, (omega (arith, c .before .before .member-count .ensures .0, c .before .if1 .left), omega (arith, c .before .before .member-count .ensures .1, c .before .if1 .left), c .member .ensures))
 
+cast-t14 : tie.Need-cast-t14
+cast-t14 c = search needs
+
 follow-requires : tie.Need-follow-requires
 follow-requires c κs = search needs
 
@@ -34,5 +37,6 @@ table-part-spec =
     returns
     member-requires
     member-at-requires
+    cast-t14
     follow-requires
     returns-2)

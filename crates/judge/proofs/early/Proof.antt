@@ -6,7 +6,7 @@ use Rattle.judge.proofs.early.Reads as reads
 use Rattle.judge.proofs.early.Lts as lts
 
 returns : tie.Need-returns
-unfolding W.early W.nothing
+unfolding W.early W.nothing W.noMember
 returns c = search needs
 
 pub early-spec : {M : Type 1} → statement M

@@ -41,6 +41,9 @@ returns c = search row-ended
 record-place-requires : tie.Need-record-place-requires Inv-loop μ-loop
 record-place-requires c κs = (omega arith, c .before .before .before .before .before .before .before .pre .0 .small, omega (arith, c .before .before .before .before .before .before .before .pre .0 .few))
 
+cast-row-member : tie.Need-cast-row-member Inv-loop μ-loop
+cast-row-member c = search needs
+
 row-member-requires : tie.Need-row-member-requires Inv-loop μ-loop
 row-member-requires c κs = ((c .before .before .before .before .before .before .before .before .pre .1, omega (arith, c .before .before .before .before .before .before .before .before .pre .0 .inside, c .record-place .ensures .1), row-here _ _ (c .before .before .before .before .before .before .before .before .pre .0) _ (c .before .before .before .if1 .taken) _ (c .record-place .ensures .1)), (c .before .before .before .before .before .before .before .before .pre .2, c .before .before .before .before .before .before .before .before .pre .3, omega (arith, c .before .if2 .left)))
 
@@ -84,6 +87,7 @@ row-members-spec =
     going-requires
     returns
     record-place-requires
+    cast-row-member
     row-member-requires
     returns-2
     byte-in-requires

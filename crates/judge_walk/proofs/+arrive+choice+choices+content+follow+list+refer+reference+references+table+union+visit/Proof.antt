@@ -13,7 +13,7 @@ use Rattle.outcome.proofs.ArrivalCases.{visit-stopped, visit-refused, visit-con
 use Rattle.message_object.proofs.OpenCases.{list-counted-of, table-counted-of, opened-fits, offset-small, inplace-first, inplace-length, list-fits, table-fits}
 use Rattle.judge_walk.proofs.WalkCases.{arrive-text, arrive-offset, arrive-inplace, content-text, content-bytes, content-list, content-table, follow-absent, follow-value, follow-unknown, follow-struct, follow-refused, follow-object, follow-choice, object-small, object-place, choice-small, choice-place, union-none, union-offset, union-inplace}
 use Rattle.judge_rows.proofs.MemberCases.{members-start, members-ended, members-done, members-stopped, members-turn, members-nowhere}
-use Rattle.judge_walk.proofs.ListCases.{list-flat, list-objects, list-unions, objects-sound, unions-counted, objects-there, unions-there, references-texts, choices-stopped, choices-turn, choice-none, choice-unknown, choice-known, choice-sound}
+use Rattle.judge_walk.proofs.ListCases.{list-flat, list-objects, list-unions, objects-sound, unions-counted, objects-there, unions-there, references-texts, choice-number, choices-stopped, choices-turn, choice-none, choice-unknown, choice-known, choice-sound}
 use Rattle.judge_text.proofs.ElementCases.{value-there, value-fits, value-next, elements-start, elements-done, references-stopped, references-turn, refer-none, refer-object}
 use Rattle.coding.specs.declared.Kind.the-variants.{OfObject, OfUnion}
 use Prim.Native.Nat.{_+_, _-_, _*_, _≤_}
@@ -319,6 +319,9 @@ choices-union-size-requires t c κs = search needs
 choices-loop-holds : (t : ℕ) → choices-lts.Need-loop-holds (choices-R t) (choices-at t) choices.Post choices-Inv-loop choices-μ-loop
 choices-loop-holds t c = (omega arith, omega arith, search elements-start)
 
+choices-cast-t16 : (t : ℕ) → choices-lts.Need-cast-t16 (choices-R t) (choices-at t) choices.Post choices-Inv-loop choices-μ-loop
+choices-cast-t16 t c = record { fits = choice-number _ _ _ _ _ (c .if1 .taken) (c .before .before .before .before .before .before .before .pre .1 .4) (c .before .before .before .before .before .before .before .pre .1 .2) }
+
 choices-choice-requires : (t : ℕ) → choices-lts.Need-choice-requires (choices-R t) (choices-at t) choices.Post choices-Inv-loop choices-μ-loop
 choices-choice-requires t c κs = (omega arith, (c .before .before .before .before .before .before .before .pre .1 .0, c .before .before .before .before .before .before .before .pre .1 .1, c .before .before .before .before .before .before .before .pre .1 .2, c .before .before .before .before .before .before .before .pre .1 .3, search value-there))
 
@@ -536,7 +539,7 @@ reference-refer-requires : (t : ℕ) → reference-lts.Need-refer-requires (refe
 reference-refer-requires t c κs = (omega arith, (c .before .before .before .before .before .before .before .before .before .before .before .before .before .pre .1 .0 .0, c .before .before .before .before .before .before .before .before .before .before .before .before .before .pre .1 .0 .1, c .before .before .before .before .before .before .before .before .before .before .before .before .before .pre .1 .0 .2, same-sound _ _ _ (c .before .before .object-at .ensures) (c .before .before .before .before .before .before .before .before .before .before .before .before .before .pre .1 .1 .0), c .before .before .before .offset-in .ensures .1))
 
 reference-returns-4 : (t : ℕ) → reference-lts.Need-returns-4 (reference-R t) (reference-at t) reference.Post
-reference-returns-4 t c = search reference-here
+reference-returns-4 t c = reference-here _ _ _ _ _ _ _ _ _ (c .before .before .before .before .before .before .before .before .before .before .before .before .before .before .pre .1 .0 .4) _ (c .before .before .before .before .before .before .before .before .if1 .left) (c .before .before .before .before .before .before .if2 .left) _ (c .before .before .before .before .offset-in .ensures .0) _ (c .before .before .before .object-at .ensures) (c .refer .ensures)
 
 abbrev references-Inv-loop : references-lts.InvT-loop
 references-Inv-loop b dir m l ob x o v₀ at₀ j₀ v at j =
@@ -631,6 +634,9 @@ table-record-place-requires t c κs = (omega arith, c .before .before .before .b
 table-refers-requires : (t : ℕ) → table-lts.Need-refers-requires (table-R t) (table-at t) table.Post table-Inv-loop table-μ-loop
 table-refers-requires t c κs = omega (arith, record-whole _ _ _ (c .before .before .before .before .before .before .before .before .before .before .before .before .pre .1 .3) _ (c .before .before .before .before .before .before .before .before .member-count .ensures .0) (c .before .before .before .before .loop-test .taken) _ (c .before .before .before .before .before .before .before .table-place .ensures) _ (c .record-place .ensures .1))
 
+table-cast-t24 : (t : ℕ) → table-lts.Need-cast-t24 (table-R t) (table-at t) table.Post table-Inv-loop table-μ-loop
+table-cast-t24 t c = record { fits = omega (arith, c .before .before .before .before .before .before .loop-test .taken, c .before .before .before .before .before .before .before .before .before .before .member-count .ensures .1) }
+
 table-reference-requires : (t : ℕ) → table-lts.Need-reference-requires (table-R t) (table-at t) table.Post table-Inv-loop table-μ-loop
 table-reference-requires t c κs = (omega arith, ((c .before .before .before .before .before .before .before .before .before .before .before .before .before .before .pre .1 .0, c .before .before .before .before .before .before .before .before .before .before .before .before .before .before .pre .1 .1, c .before .before .before .before .before .before .before .before .before .before .before .before .before .before .pre .1 .2, record-whole _ _ _ (c .before .before .before .before .before .before .before .before .before .before .before .before .before .before .pre .1 .3) _ (c .before .before .before .before .before .before .before .before .before .before .member-count .ensures .0) (c .before .before .before .before .before .before .loop-test .taken) _ (c .before .before .before .before .before .before .before .before .before .table-place .ensures) _ (c .before .before .record-place .ensures .1), c .before .refers .ensures (c .if2 .taken)), (reference-sound _ _ _ (c .before .before .before .before .before .before .before .before .before .before .before .before .before .before .pre .1 .3) _ (c .before .before .before .before .before .before .before .before .before .before .member-count .ensures .0) (c .before .before .before .before .before .before .loop-test .taken) _ (c .before .before .before .before .before .before .before .before .before .table-place .ensures) _ _ (c .before .before .before .before .before .before .before .before .before .before .before .before .before .before .pre .1 .0) (c .before .before .record-place .ensures .0) (c .before .refers .ensures (c .if2 .taken)), c .before .before .before .before .before .before .before .before .before .before .before .before .before .before .pre .1 .4, omega (arith, c .before .before .before .before .before .before .before .loop .inv .1 .end, c .before .before .before .before .before .before .before .before .before .before .member-count .ensures .1))))
 
@@ -663,6 +669,9 @@ table-loop-less-2 t c = search needs
 
 table-loop-again-2 : (t : ℕ) → table-lts.Need-loop-again-2 (table-R t) (table-at t) table.Post table-Inv-loop table-μ-loop
 table-loop-again-2 t c = (omega arith, c .before .before .before .lead-member .ensures .laid, members-nowhere _ _ _ _ _ _ _ _ _ _ _ _ (c .before .before .before .before .before .before .before .before .before .before .before .loop .inv .2) _ (c .before .before .before .before .before .before .before .before .before .before .before .before .before .before .member-count .ensures .0) (c .before .before .before .before .before .before .before .before .before .before .loop-test .taken) _ (c .before .before .before .lead-member .ensures .step-is) (c .before .before .leads-nowhere .ensures (c .before .if4 .taken)) _ (c .before .before .before .lead-member .ensures .next-is))
+
+table-cast-t27 : (t : ℕ) → table-lts.Need-cast-t27 (table-R t) (table-at t) table.Post table-Inv-loop table-μ-loop
+table-cast-t27 t c = record { fits = omega (arith, c .before .before .before .before .before .before .before .before .before .loop-test .taken, c .before .before .before .before .before .before .before .before .before .before .before .before .before .member-count .ensures .1) }
 
 table-follow-requires : (t : ℕ) → table-lts.Need-follow-requires (table-R t) (table-at t) table.Post table-Inv-loop table-μ-loop
 table-follow-requires t c κs = (omega (arith, c .before .before .before .before .before .before .before .before .before .before .before .before .before .before .before .before .before .pre .0), (c .before .before .before .before .before .before .before .before .before .before .before .before .before .before .before .before .before .pre .1 .0, c .before .before .before .before .before .before .before .before .before .before .before .before .before .before .before .before .before .pre .1 .1, c .before .before .before .before .before .before .before .before .before .before .before .before .before .before .before .before .before .pre .1 .2, c .before .before .lead-member .ensures .small))
@@ -792,6 +801,7 @@ pub +arrive+choice+choices+content+follow+list+refer+reference+references+table+
     choices-μ-loop
     (choices-union-size-requires t)
     (choices-loop-holds t)
+    (choices-cast-t16 t)
     (choices-choice-requires t)
     (choices-returns t)
     (choices-add-at t)
@@ -916,6 +926,7 @@ pub +arrive+choice+choices+content+follow+list+refer+reference+references+table+
     (table-returns t)
     (table-record-place-requires t)
     (table-refers-requires t)
+    (table-cast-t24 t)
     (table-reference-requires t)
     (table-returns-2 t)
     (table-after-bytes-requires t)
@@ -927,6 +938,7 @@ pub +arrive+choice+choices+content+follow+list+refer+reference+references+table+
     (table-add-j-2 t)
     (table-loop-less-2 t)
     (table-loop-again-2 t)
+    (table-cast-t27 t)
     (table-follow-requires t)
     (table-returns-3 t)
     (table-add-j-3 t)

@@ -18,7 +18,7 @@ cast-result c = search needs
 returns : tie.Need-returns
 returns c =
     let e = judge-by _ _ (c .before .before .width-of .ensures) _ _ _ _ (c .before .judge .ensures) in
-    (ap (λ (v : Verdict). v .number) e, (ap (λ (v : Verdict). v .place) e, ap (λ (v : Verdict). v .visits) e))
+    (ap (λ (v : Verdict). v .number) e, (ap (λ (v : Verdict). v .place) e, (ap (λ (v : Verdict). v .member) e, ap (λ (v : Verdict). v .visits) e)))
 
 pub scalgo-judge-spec : {M : Type 1} → statement M
 scalgo-judge-spec = tie.close (tie.spec width-of-requires judge-requires cast-result returns)

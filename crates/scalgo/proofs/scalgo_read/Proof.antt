@@ -27,8 +27,11 @@ returns c =
       (
         ap (λ (x : ReadAnswer). x .verdict .place) e,
         (
-          ap (λ (x : ReadAnswer). x .verdict .visits) e,
-          (ap (λ (x : ReadAnswer). x .length) e, read-out-by _ _ w _ _ _ _ _ (read .1)),
+          ap (λ (x : ReadAnswer). x .verdict .member) e,
+          (
+            ap (λ (x : ReadAnswer). x .verdict .visits) e,
+            (ap (λ (x : ReadAnswer). x .length) e, read-out-by _ _ w _ _ _ _ _ (read .1)),
+          ),
         ),
       ),
     )

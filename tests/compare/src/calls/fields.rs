@@ -200,6 +200,9 @@ fn ask(run: &mut Run, rng: &mut Rng, place: &Place, path: &[u32]) -> Result<[u64
 fn note(counts: &mut Counts, path: &[u32], answer: [u64; 4], part: [u64; 3]) {
     counts.note(ANSWERS);
     counts.note(&sort_of(answer));
+    if let [7, number, _, member] = answer {
+        counts.member(number as u32, member as u32);
+    }
     match path.len() {
         0 => counts.note("paths: empty"),
         1..=31 => {}

@@ -1,6 +1,6 @@
 //! The proved library, called as a C program calls it.
 
-use super::{Calls, Writes};
+use super::{Calls, Read, Writes};
 use crate::program::{Judge, Verdict};
 use crate::schema::Packed;
 // The archive is linked with the wrapper.
@@ -15,6 +15,7 @@ extern "C" {
         message_len: usize,
         budget: u32,
         place: *mut u64,
+        member: *mut u32,
         visits: *mut u32,
     ) -> u32;
 
@@ -66,6 +67,7 @@ extern "C" {
         sheet: *mut u8,
         room: usize,
         place: *mut u64,
+        member: *mut u32,
         visits: *mut u32,
         length: *mut u64,
     ) -> u32;
@@ -94,9 +96,9 @@ impl Judge for LibraryCalls {
     }
 
     fn judge(&self, schema: &Packed, message: &[u8], budget: u32) -> Verdict {
-        let (mut place, mut visits) = (UNSET, UNSET as u32);
+        let (mut place, mut member, mut visits) = (UNSET, UNSET as u32, UNSET as u32);
         // SAFETY: each slice is given as its pointer and its length and is not written to during
-        // the call; the two numbers are this function's own.
+        // the call; the three numbers are this function's own.
         let number = unsafe {
             scalgo_judge(
                 schema.coding,
@@ -106,12 +108,14 @@ impl Judge for LibraryCalls {
                 message.len(),
                 budget,
                 &mut place,
+                &mut member,
                 &mut visits,
             )
         };
         Verdict {
             number,
             place,
+            member,
             visits,
         }
     }
@@ -120,7 +124,7 @@ impl Judge for LibraryCalls {
 impl Calls for LibraryCalls {
     fn field(&self, schema: &Packed, message: &[u8], path: &[u32]) -> [u64; 4] {
         let (mut a, mut b, mut c) = (UNSET, UNSET, UNSET);
-        // SAFETY: as in `judge`, with three numbers.
+        // SAFETY: as in `judge`.
         let case = unsafe {
             scalgo_field(
                 schema.coding,
@@ -182,8 +186,9 @@ impl Calls for LibraryCalls {
         }
     }
 
-    fn read(&self, schema: &Packed, message: &[u8], budget: u32, sheet: &mut [u8]) -> [u64; 4] {
-        let (mut place, mut visits, mut length) = (UNSET, UNSET as u32, UNSET);
+    fn read(&self, schema: &Packed, message: &[u8], budget: u32, sheet: &mut [u8]) -> Read {
+        let (mut place, mut member, mut visits) = (UNSET, UNSET as u32, UNSET as u32);
+        let mut length = UNSET;
         // SAFETY: as in `judge`; the sheet is lent to this function alone.
         let number = unsafe {
             scalgo_read(
@@ -196,11 +201,18 @@ impl Calls for LibraryCalls {
                 sheet.as_mut_ptr(),
                 sheet.len(),
                 &mut place,
+                &mut member,
                 &mut visits,
                 &mut length,
             )
         };
-        [u64::from(number), place, u64::from(visits), length]
+        let verdict = Verdict {
+            number,
+            place,
+            member,
+            visits,
+        };
+        Read { verdict, length }
     }
 }
 

@@ -2,6 +2,8 @@
 //! own paths.
 
 use super::fields::{sort_of, Place, Run};
+use super::second::numbers;
+use crate::program::refused;
 use crate::rng::Rng;
 
 /// What the calls of the list reader are counted as, and those of an unlawful schema.
@@ -100,10 +102,11 @@ fn started_nowhere(
     whole: [u64; 4],
     answers: &[[u64; 4]],
 ) -> Result<(), String> {
+    let no_part = |at: u64| numbers(refused(15, at));
     let allowed: &[[u64; 4]] = match whole {
         [7, ..] => &[whole],
-        [3, 15, at, 0] => &[[7, 15, at, 0], [7, 15, 0, 0]],
-        _ => &[[7, 15, 0, 0]],
+        [3, 15, at, 0] => &[no_part(at), no_part(0)],
+        _ => &[no_part(0)],
     };
     for answer in answers {
         if !allowed.contains(answer) {
@@ -138,7 +141,7 @@ fn by_elements(
         element.push(number as u32);
         let (schema, message) = (&place.subject.schema, &place.subject.message);
         let own = run.first.field(schema, message, &element);
-        let ended = number == length && own != [7, 15, at, 0];
+        let ended = number == length && own != numbers(refused(15, at));
         if own != *answer || ended {
             let (one, two) = (format!("{answer:?}"), format!("its own path: {own:?}"));
             return Err(place.report(&format!("step {step} from {from}"), path, &one, &two));

@@ -10,11 +10,18 @@ pub mod writes;
 
 use crate::coding::Coding;
 use crate::counts::Counts;
-use crate::program::Judge;
+use crate::program::{Judge, Verdict};
 use crate::schema::Packed;
 
 pub use library::LibraryCalls;
 pub use second::SecondCalls;
+
+/// What reading a message to its sheet stores.
+#[derive(Clone, Copy, Debug, PartialEq, Eq)]
+pub struct Read {
+    pub verdict: Verdict,
+    pub length: u64,
+}
 
 /// The calls that read.
 pub trait Calls: Judge {
@@ -32,8 +39,8 @@ pub trait Calls: Judge {
         from: u64,
         cases: &mut [u64],
     ) -> u64;
-    /// A message to its sheet: number, place, visits and length.
-    fn read(&self, schema: &Packed, message: &[u8], budget: u32, sheet: &mut [u8]) -> [u64; 4];
+    /// A message to its sheet.
+    fn read(&self, schema: &Packed, message: &[u8], budget: u32, sheet: &mut [u8]) -> Read;
 }
 
 /// The call that writes, and those that read what was written.

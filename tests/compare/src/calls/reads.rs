@@ -85,8 +85,10 @@ fn one(
     let given = run.first.read(schema, message, budget, sheet.lent());
     let second = run.second.read(schema, message, budget, expected.lent());
     run.counts.note(CALLS);
-    run.counts.note(&format!("{sort}, answer {}", given[0]));
-    run.counts.answer(given[0] as u32);
+    let number = given.verdict.number;
+    run.counts.note(&format!("{sort}, answer {number}"));
+    run.counts.answer(number);
+    run.counts.member(number, given.verdict.member);
     if given == second && sheet.whole() == expected.whole() {
         return Ok(());
     }

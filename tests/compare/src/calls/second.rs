@@ -1,6 +1,6 @@
 //! What the second program says, in the C interface's numbers.
 
-use super::{Calls, Writes};
+use super::{Calls, Read, Writes};
 use crate::program::{Judge, Second, Verdict};
 use crate::schema::Packed;
 use reference::{Answer, ListReader};
@@ -26,7 +26,11 @@ pub fn numbers(answer: Answer) -> [u64; 4] {
         Answer::Struct { place } => [4, place, 0, 0],
         Answer::Absent => [5, 0, 0, 0],
         Answer::Unknown(number) => [6, number, 0, 0],
-        Answer::Refused { number, place } => [7, u64::from(number), place, 0],
+        Answer::Refused {
+            number,
+            place,
+            member,
+        } => [7, u64::from(number), place, u64::from(member)],
     }
 }
 
@@ -92,12 +96,12 @@ impl Calls for SecondCalls {
         length
     }
 
-    fn read(&self, schema: &Packed, message: &[u8], budget: u32, sheet: &mut [u8]) -> [u64; 4] {
+    fn read(&self, schema: &Packed, message: &[u8], budget: u32, sheet: &mut [u8]) -> Read {
         let (verdict, read) =
             reference::read(schema.coding, &schema.bytes, message, budget, sheet.len());
         sheet[..read.len()].copy_from_slice(&read);
-        let (number, visits) = (u64::from(verdict.number), u64::from(verdict.visits));
-        [number, verdict.place, visits, read.len() as u64]
+        let length = read.len() as u64;
+        Read { verdict, length }
     }
 }
 

@@ -7,6 +7,7 @@ use crate::counts::Counts;
 use crate::damage;
 use crate::laws::hex;
 use crate::message_gen;
+use crate::program::accepted;
 use crate::rng::Rng;
 use crate::schema::{Packed, Schema, SIZE_LIMIT};
 use crate::schema_faults;
@@ -183,16 +184,17 @@ fn one(
 fn read_back(run: &mut Run, subject: &Subject, message: &[u8]) -> Result<(), String> {
     let length = subject.sheet.len();
     let mut back = Output::new(length, 0);
-    let [number, place, visits, read] =
-        run.first
-            .read(&subject.schema, message, u32::MAX, back.lent());
+    let read = run
+        .first
+        .read(&subject.schema, message, u32::MAX, back.lent());
     run.counts.note("round trips");
-    let whole = read == length as u64 && back.front(length) == subject.sheet;
-    if number == 0 && place == 0 && visits > 0 && whole {
+    let verdict = read.verdict;
+    let whole = read.length == length as u64 && back.front(length) == subject.sheet;
+    if verdict == accepted(verdict.visits) && verdict.visits > 0 && whole {
         return Ok(());
     }
     Err(format!(
-        "{}: read back with {number} {place} {visits} and {read} bytes\n  \
+        "{}: read back as {read:?}\n  \
          sheet read: {}\n  sheet: {}\n  schema: {}\n  message: {}",
         subject.sort,
         hex(back.front(length)),

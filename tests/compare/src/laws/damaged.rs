@@ -41,8 +41,9 @@ fn one(
     let (again, given) = context.read(packed, bytes, BUDGET, SIZE_LIMIT);
     same("reading gives the verdict", &verdict, &again, data)?;
     if verdict.number == 4 {
-        return same("visits of a spent budget", &BUDGET, &verdict.visits, data);
+        return spent("visits of a spent budget", BUDGET, verdict, data);
     }
+    members_of_refusals(verdict, data)?;
     other_budgets(context, packed, bytes, verdict, data)?;
     if verdict.number != 0 {
         context.counts.note("damaged messages refused");
@@ -50,6 +51,17 @@ fn one(
         return fields_of_refused(context, schema, packed, bytes, verdict, value);
     }
     accepted_one(context, schema, packed, bytes, &given, verdict.visits)
+}
+
+/// 8 and 9 are about a member, 10 may be, and nothing else is.
+fn members_of_refusals(verdict: Verdict, data: Data) -> Checked {
+    let has_one = verdict.member != NO_MEMBER;
+    let fits = match verdict.number {
+        8 | 9 => has_one,
+        10 => true,
+        _ => !has_one,
+    };
+    same("a member of 8, 9 and 10 alone", &true, &fits, data)
 }
 
 /// An accepted message: its sheet is lawful and all else agrees with it.
@@ -102,8 +114,7 @@ fn fields_of_refused(
         let answer = context.field(packed, bytes, &path);
         let number = verdict.number;
         if number <= 3 && path.len() <= paths::PATH_LIMIT {
-            let refused = Answer::Refused { number, place: 0 };
-            same("a field of a bad start", &refused, &answer, data)?;
+            same("a field of a bad start", &refused(number, 0), &answer, data)?;
         }
         let Ok(steps) = context.program.list_steps(packed, bytes, &path, 4) else {
             continue;
@@ -138,8 +149,7 @@ fn other_budgets(
         let budget = context.rng.below(verdict.visits as usize) as u32;
         for budget in [verdict.visits - 1, budget] {
             let short = context.judge(packed, bytes, budget);
-            let given = (short.number, short.visits);
-            same("budget too small", &(4, budget), &given, data)?;
+            spent("budget too small", budget, short, data)?;
         }
     }
     Ok(())

@@ -133,13 +133,10 @@ fn one_list(
         (Answer::Object { place, .. }, Some((_, count))) => {
             context.counts.note("list readers stepped through");
             let mut answers = element_answers(context, packed, message, path, count);
-            answers.resize(steps, Answer::Refused { number: 15, place });
+            answers.resize(steps, refused(15, place));
             Ok(answers)
         }
-        _ => Err(Answer::Refused {
-            number: 15,
-            place: 0,
-        }),
+        _ => Err(refused(15, 0)),
     };
     if let Err(answer) = &given {
         context.counts.note("list readers refused");

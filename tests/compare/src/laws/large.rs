@@ -126,8 +126,12 @@ fn shared_text(context: &mut Context) -> Checked {
         let verdict = context.judge(&packed, &message, visits);
         same("a text named often", &accepted(visits), &verdict, data)?;
         let (verdict, sheet) = context.read(&packed, &message, visits, SIZE_LIMIT + 1000);
-        let given = (verdict.number, verdict.place, verdict.visits);
-        same("its sheet", &(number, 0, visits), &given, data)?;
+        same(
+            "its sheet",
+            &super::verdict(number, 0, visits),
+            &verdict,
+            data,
+        )?;
         let length = if number == 0 { SIZE_LIMIT } else { 0 };
         same("its sheet's length", &length, &sheet.len(), data)?;
     }
@@ -212,11 +216,9 @@ fn longest_path(context: &mut Context) -> Checked {
     };
     let given = context.field(&packed, &message, &path);
     same("the longest path", &answer, &given, data)?;
-    let place = 0;
     path.push(0);
-    let refused = Answer::Refused { number: 15, place };
     let given = context.field(&packed, &message, &path);
-    same("a path one longer", &refused, &given, data)
+    same("a path one longer", &refused(15, 0), &given, data)
 }
 
 /// Lists that each name the next table twice, so that the walk doubles 15
@@ -231,12 +233,9 @@ fn doubling(context: &mut Context) -> Checked {
     let verdict = context.judge(&packed, &message, u32::MAX);
     same("a walk that doubles", &accepted(visits), &verdict, data)?;
     let verdict = context.judge(&packed, &message, visits - 1);
-    let last = Verdict {
-        number: 4,
-        place: doubling::table_at(context.coding, levels),
-        visits: visits - 1,
-    };
-    same("a walk that doubles, cut short", &last, &verdict, data)
+    let last = doubling::table_at(context.coding, levels);
+    let short = super::verdict(4, last, visits - 1);
+    same("a walk that doubles, cut short", &short, &verdict, data)
 }
 
 /// A sheet of exactly the largest size, whose message is smaller, and one a

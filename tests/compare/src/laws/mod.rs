@@ -13,7 +13,8 @@ mod wild;
 
 use crate::coding::Coding;
 use crate::counts::Counts;
-use crate::program::{accepted, refused_at_start, Answer, Program, Relations, Verdict};
+use crate::program::{accepted, refused, refused_at_start, verdict, NO_MEMBER};
+use crate::program::{Answer, Program, Relations, Verdict};
 use crate::rng::Rng;
 use crate::schema::Packed;
 use std::fmt::{Debug, Write};
@@ -125,6 +126,11 @@ pub fn same<T: PartialEq + Debug>(law: &str, expected: &T, given: &T, data: Data
         &format!("expected {expected:?}\n  given {given:?}"),
         data,
     )
+}
+
+/// Fails unless a verdict is that of a spent budget, wherever that shows.
+pub fn spent(law: &str, budget: u32, given: Verdict, data: Data) -> Checked {
+    same(law, &verdict(4, given.place, budget), &given, data)
 }
 
 /// Fails unless both are the same bytes.

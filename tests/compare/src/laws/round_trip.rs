@@ -61,8 +61,7 @@ pub fn reading(
         same_bytes("the sheet read", sheet, &given, data)?;
     }
     let short = context.judge(packed, message, visits - 1);
-    let given = (short.number, short.visits);
-    same("budget one less", &(4, visits - 1), &given, data)?;
+    spent("budget one less", visits - 1, short, data)?;
     let refused = context.read(packed, message, visits - 1, sheet.len());
     same("budget one less", &(short, Vec::new()), &refused, data)?;
     if sheet.is_empty() {

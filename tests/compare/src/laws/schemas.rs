@@ -77,8 +77,7 @@ fn judged(context: &mut Context, packed: &Packed, lawful: bool) -> Checked {
 
 /// Neither a field nor a list is read by an unlawful schema.
 fn fields_refused(context: &mut Context, packed: &Packed, message: &[u8], data: Data) -> Checked {
-    let (number, place) = (1, 0);
-    let answer = Answer::Refused { number, place };
+    let answer = refused(1, 0);
     let steps = context.rng.pick(&[0, 3, 97]);
     let path = vec![0; steps];
     let field = context.field(packed, message, &path);

@@ -36,7 +36,7 @@ pub fn refused(context: &mut Context, packed: &Packed, message: &[u8], number: u
     let read = context.read(packed, message, 5, SIZE_LIMIT);
     same("reading a bad start", &(verdict, Vec::new()), &read, data)?;
     for (steps, number) in [(0, number), (2, number), (96, number), (97, 15), (300, 15)] {
-        let answer = Answer::Refused { number, place: 0 };
+        let answer = super::refused(number, 0);
         let path = vec![0; steps];
         let field = context.field(packed, message, &path);
         same("a field of a bad start", &answer, &field, data)?;

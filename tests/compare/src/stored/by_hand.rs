@@ -13,6 +13,7 @@ pub struct Refused {
     pub budget: u32,
     /// Number, place and visits.
     pub verdict: (u32, u64, u32),
+    pub member: Option<u32>,
 }
 
 /// A message that is accepted after so many visits, its sheet, and whether it
@@ -185,6 +186,7 @@ pub const REFUSED: [Refused; 23] = [
         message: "06000000 0300 16000000 F5C812D8 02000000 616200",
         budget: 1,
         verdict: (4, 22, 1),
+        member: None,
     },
     Refused {
         name: "the root is not visited",
@@ -192,6 +194,7 @@ pub const REFUSED: [Refused; 23] = [
         message: "06000000 0300 16000000 F5C812D8 02000000 616200",
         budget: 0,
         verdict: (4, 8, 0),
+        member: None,
     },
     Refused {
         name: "a text at 7",
@@ -199,6 +202,7 @@ pub const REFUSED: [Refused; 23] = [
         message: "06000000 0300 07000000 F5C812D8 02000000 616200",
         budget: 9,
         verdict: (6, 7, 2),
+        member: None,
     },
     Refused {
         name: "a text at 8, where the root is",
@@ -206,6 +210,7 @@ pub const REFUSED: [Refused; 23] = [
         message: "06000000 0300 08000000 F5C812D8 02000000 616200",
         budget: 9,
         verdict: (7, 8, 2),
+        member: None,
     },
     Refused {
         name: "a text at 25, the last header that fits",
@@ -213,6 +218,7 @@ pub const REFUSED: [Refused; 23] = [
         message: "06000000 0300 19000000 F5C812D8 02000000 616200",
         budget: 9,
         verdict: (7, 25, 2),
+        member: None,
     },
     Refused {
         name: "a text at 26",
@@ -220,6 +226,7 @@ pub const REFUSED: [Refused; 23] = [
         message: "06000000 0300 1A000000 F5C812D8 02000000 616200",
         budget: 9,
         verdict: (6, 26, 2),
+        member: None,
     },
     Refused {
         name: "a text without its end byte",
@@ -227,6 +234,7 @@ pub const REFUSED: [Refused; 23] = [
         message: "06000000 0300 16000000 F5C812D8 02000000 6162",
         budget: 9,
         verdict: (6, 22, 2),
+        member: None,
     },
     Refused {
         name: "a text with another end byte",
@@ -234,6 +242,7 @@ pub const REFUSED: [Refused; 23] = [
         message: "06000000 0300 16000000 F5C812D8 02000000 616201",
         budget: 9,
         verdict: (10, 22, 2),
+        member: None,
     },
     Refused {
         name: "a text's offset cut",
@@ -241,6 +250,7 @@ pub const REFUSED: [Refused; 23] = [
         message: "05000000 0300 16000000 F5C812D8 02000000 616200",
         budget: 9,
         verdict: (8, 8, 1),
+        member: Some(1),
     },
     Refused {
         name: "a root longer than the message",
@@ -248,6 +258,7 @@ pub const REFUSED: [Refused; 23] = [
         message: "07000000 0300 00000000",
         budget: 9,
         verdict: (6, 8, 1),
+        member: None,
     },
     Refused {
         name: "a text in place that is not visited",
@@ -255,6 +266,7 @@ pub const REFUSED: [Refused; 23] = [
         message: "07000000 05 02000000 3412 616200",
         budget: 1,
         verdict: (4, 23, 1),
+        member: None,
     },
     Refused {
         name: "a text in place without its end byte",
@@ -262,6 +274,7 @@ pub const REFUSED: [Refused; 23] = [
         message: "07000000 05 02000000 3412 6162",
         budget: 9,
         verdict: (6, 23, 2),
+        member: None,
     },
     Refused {
         name: "a shorter root, whose text stands at 21 and ends with 61",
@@ -269,6 +282,7 @@ pub const REFUSED: [Refused; 23] = [
         message: "05000000 05 02000000 3412 616200",
         budget: 9,
         verdict: (10, 21, 2),
+        member: None,
     },
     Refused {
         name: "a text's length cut",
@@ -276,6 +290,7 @@ pub const REFUSED: [Refused; 23] = [
         message: "04000000 05 02000000 3412 616200",
         budget: 9,
         verdict: (8, 8, 1),
+        member: Some(1),
     },
     Refused {
         name: "a union cut",
@@ -283,6 +298,7 @@ pub const REFUSED: [Refused; 23] = [
         message: "06000000 05 0100 02000000 616200",
         budget: 9,
         verdict: (8, 8, 1),
+        member: Some(1),
     },
     Refused {
         name: "an empty text in a union without its end byte",
@@ -290,6 +306,7 @@ pub const REFUSED: [Refused; 23] = [
         message: "07000000 05 0100 00000000",
         budget: 9,
         verdict: (6, 23, 2),
+        member: None,
     },
     Refused {
         name: "the largest length in a union",
@@ -297,6 +314,7 @@ pub const REFUSED: [Refused; 23] = [
         message: "07000000 05 0100 FFFFFFFF 616200",
         budget: 9,
         verdict: (6, 23, 2),
+        member: None,
     },
     Refused {
         name: "a member cut in a union's table",
@@ -304,6 +322,7 @@ pub const REFUSED: [Refused; 23] = [
         message: "06000000 0100 01000000 34",
         budget: 9,
         verdict: (8, 22, 2),
+        member: Some(0),
     },
     Refused {
         name: "a third element, which is the text's magic",
@@ -311,6 +330,7 @@ pub const REFUSED: [Refused; 23] = [
         message: "04000000 14000000 46BB0034 03000000 24000000 00000000 F5C812D8 02000000 616200",
         budget: 9,
         verdict: (6, 0xD812_C8F5, 4),
+        member: None,
     },
     Refused {
         name: "five elements, one more than fit",
@@ -318,6 +338,7 @@ pub const REFUSED: [Refused; 23] = [
         message: "04000000 14000000 46BB0034 05000000 24000000 00000000 F5C812D8 02000000 616200",
         budget: 9,
         verdict: (6, 20, 2),
+        member: None,
     },
     Refused {
         name: "a flag of 1 and the value past the end",
@@ -325,6 +346,7 @@ pub const REFUSED: [Refused; 23] = [
         message: "01000000 01",
         budget: 9,
         verdict: (8, 8, 1),
+        member: Some(0),
     },
     Refused {
         name: "a value behind a flag of 0 cut",
@@ -332,6 +354,7 @@ pub const REFUSED: [Refused; 23] = [
         message: "02000000 00 00",
         budget: 9,
         verdict: (8, 8, 1),
+        member: Some(0),
     },
     Refused {
         name: "a struct's bool of 2",
@@ -339,6 +362,7 @@ pub const REFUSED: [Refused; 23] = [
         message: "01000000 02",
         budget: 9,
         verdict: (10, 8, 1),
+        member: Some(0),
     },
 ];
 

@@ -9,6 +9,7 @@ mod builder;
 pub mod by_hand;
 mod depth;
 mod lists;
+pub mod members;
 mod objects;
 mod schemas;
 mod starts;

@@ -3,7 +3,7 @@
 
 #![allow(dead_code)]
 
-use reference::Verdict;
+use reference::{Answer, Verdict, NO_MEMBER};
 
 pub const BOOL: u16 = 0;
 pub const U8: u16 = 1 << 11;
@@ -215,12 +215,32 @@ impl Sheet {
     }
 }
 
-/// A verdict from its three numbers.
+/// A verdict that carries no member.
 pub fn verdict(number: u32, place: u64, visits: u32) -> Verdict {
+    verdict_of(number, place, NO_MEMBER, visits)
+}
+
+/// A verdict from its four numbers.
+pub fn verdict_of(number: u32, place: u64, member: u32, visits: u32) -> Verdict {
     Verdict {
         number,
         place,
+        member,
         visits,
+    }
+}
+
+/// The refusal of a field that carries no member.
+pub fn refused(number: u32, place: u64) -> Answer {
+    refused_of(number, place, NO_MEMBER)
+}
+
+/// The refusal of a field from its three numbers.
+pub fn refused_of(number: u32, place: u64, member: u32) -> Answer {
+    Answer::Refused {
+        number,
+        place,
+        member,
     }
 }
 
