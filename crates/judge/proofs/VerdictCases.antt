@@ -26,11 +26,11 @@ use Rattle.outcome.specs.Answers.{walkedOf}
 use Rattle.judge.proofs.NumberCases.{NumberSmall, walk-small}
 
 pub walk-is : (o : ℕ) (b m : List ℕ) (budget : Budget) (ob : Object) (p : Place) → ob ≡ O.Table (P.parse b .root) → p ≡ W.rootPlace o m → (r : Walked)
-    → r ≡ W.visit 32 o (P.parse b) m budget ob p (record { visits = 0 }) → r ≡ W.walk o (P.parse b) m budget
+    → r ≡ W.visit 32 o (P.parse b) m budget ob p (record { visits = 0; content = 0 }) → r ≡ W.walk o (P.parse b) m budget
 unfolding W.walk W.nothing deepest
 walk-is o b m budget ob p eo ep r e =
-    e ∙ ap (λ (q : Object). W.visit 32 o (P.parse b) m budget q p (record { visits = 0 })) eo
-    ∙ ap (λ (q : Place). W.visit 32 o (P.parse b) m budget (O.Table (P.parse b .root)) q (record { visits = 0 })) ep
+    e ∙ ap (λ (q : Object). W.visit 32 o (P.parse b) m budget q p (record { visits = 0; content = 0 })) eo
+    ∙ ap (λ (q : Place). W.visit 32 o (P.parse b) m budget (O.Table (P.parse b .root)) q (record { visits = 0; content = 0 })) ep
 
 -- a message within the size
 module _ (o : ℕ) (m : List ℕ) (t : Bool) (et : t ≡ W.sizeOk o m) (f : t ≡ true) where
@@ -64,11 +64,11 @@ unfolding W.verdict
 verdict-unlawful o b dir m budget t j f r e = simp (← (j .is), f) e
 
 module _ (w : Outcome) where
-  pub verdict-going : w .code ≡ 0 → record { number = 0; place = 0; member = 4294967295; visits = w .spent .visits } ≡ W.verdictOf (walkedOf w)
+  pub verdict-going : w .code ≡ 0 → record { number = 0; place = 0; member = 4294967295; visits = w .spent .visits; content = w .spent .content } ≡ W.verdictOf (walkedOf w)
   unfolding W.verdictOf W.noMember walkedOf
   verdict-going e = simp (eq-eqb _ _ e)
 
-  pub verdict-refused : (w .code ≡ 0 → ⊥) → record { number = w .code - 1; place = w .place; member = w .member; visits = w .spent .visits } ≡ W.verdictOf (walkedOf w)
+  pub verdict-refused : (w .code ≡ 0 → ⊥) → record { number = w .code - 1; place = w .place; member = w .member; visits = w .spent .visits; content = w .spent .content } ≡ W.verdictOf (walkedOf w)
   unfolding W.verdictOf walkedOf
   verdict-refused f = simp (ne-eqb _ _ f)
 

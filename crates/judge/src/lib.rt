@@ -24,6 +24,7 @@ fn verdict_of(w: Outcome) -> Verdict
             place: 0,
             member: outcome::NO_MEMBER,
             visits: s.visits,
+            content: s.content,
         };
     }
     Verdict {
@@ -31,6 +32,7 @@ fn verdict_of(w: Outcome) -> Verdict
         place: w.place,
         member: w.member,
         visits: s.visits,
+        content: s.content,
     }
 }
 
@@ -43,6 +45,7 @@ fn early(n: u8) -> Verdict
         place: 0,
         member: outcome::NO_MEMBER,
         visits: 0,
+        content: 0,
     }
 }
 
@@ -57,7 +60,11 @@ fn walk_from_root(b: &[u8], dir: &[u16], m: &[u8], budget: Budget, o: usize) -> 
         budget,
         depth: outcome::DEEPEST,
     };
-    judge_walk::visit(b, dir, m, l, ob, p, Spent { visits: 0 }, o)
+    let nothing = Spent {
+        visits: 0,
+        content: 0,
+    };
+    judge_walk::visit(b, dir, m, l, ob, p, nothing, o)
 }
 
 // The verdict by a schema that was judged before: internal, since no user can show that it was.

@@ -84,15 +84,19 @@ fn visit_row(b: &[u8], m: &[u8], l: Limits, k: Rows, x: usize, s: Spent, o: usiz
         return g;
     }
     let t = g.spent;
-    match message_object::open_table(b, m, k.table, k.id, x, o) {
+    match message_object::fit_table(b, m, k.table, k.id, x, o) {
         Opened::Refused(e) => outcome::refuse(e, x, t),
         Opened::Content(start, n) => {
+            let h = outcome::admit(l, x, n, t);
+            if h.code != 0 {
+                return h;
+            }
             let y = Content {
                 holder: x,
                 start,
                 length: n,
             };
-            row_members(b, m, outcome::below(l), k, y, t, o)
+            row_members(b, m, outcome::below(l), k, y, h.spent, o)
         }
     }
 }

@@ -9,6 +9,7 @@ use outcome::Limits;
 use outcome::Outcome;
 ghost use mathlib.Core.Path.{_≡_};
 ghost use Prim.Native.Nat.{_+_, _*_, _<_, _^_};
+ghost use lib.ListN.{length};
 ghost use Rattle.outcome.specs.Answers as As;
 ghost use Rattle.judge_text.specs.Texts as Ts;
 ghost use Rattle.wire.specs.Sizes.{WithinSize, Width, HasOffsets};
@@ -25,6 +26,18 @@ pub fn is_text(ob: Object) -> bool
     }
 }
 
+// The test of a text's bytes, once its length was charged.
+pub fn text_end(m: &[u8], x: Content, s: Spent) -> Outcome
+    requires { ⌜ x .start + x .length < length (now m) ⌝ }
+    ensures { λ r. ⌜ As.walkedOf r ≡ As.textEnd (now (m .entry)) (x .holder) (x .start) (x .length) s ⌝ }
+{
+    let fit = Opened::Content(x.start, x.length);
+    match message_object::bytes_tested(m, Object::Text, fit) {
+        Opened::Refused(e) => outcome::refuse(e, x.holder, s),
+        Opened::Content(_, _) => outcome::going(s),
+    }
+}
+
 // An arrival at the text at offset x.
 pub fn visit_text(b: &[u8], m: &[u8], l: Limits, x: usize, s: Spent, o: usize) -> Outcome
     requires { ⌜ (Width o) × (x < 2 ^ 48) ⌝ }
@@ -35,9 +48,20 @@ pub fn visit_text(b: &[u8], m: &[u8], l: Limits, x: usize, s: Spent, o: usize) -
         return g;
     }
     let t = g.spent;
-    match message_object::open_text(b, m, x, o) {
+    match message_object::fit_text(b, m, x, o) {
         Opened::Refused(e) => outcome::refuse(e, x, t),
-        Opened::Content(_, _) => outcome::going(t),
+        Opened::Content(start, n) => {
+            let y = Content {
+                holder: x,
+                start,
+                length: n,
+            };
+            let h = outcome::admit(l, x, n, t);
+            if h.code != 0 {
+                return h;
+            }
+            text_end(m, y, h.spent)
+        }
     }
 }
 

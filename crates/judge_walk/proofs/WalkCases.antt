@@ -35,26 +35,6 @@ module _ (o d : ℕ) (S : Schema) (m : List ℕ) (b : Budget) (ob : Object) (p :
   pub arrive-inplace : (a n : ℕ) → p ≡ InPlace a n → r ≡ W.visit d o S m b ob (InPlace a n) s → r ≡ W.visit d o S m b ob p s
   arrive-inplace a n e f = rw e f
 
--- ---- content by the object
-module _ (child : W.Child) (o : ℕ) (S : Schema) (m : List ℕ) (ob : Object) (holder start n : ℕ) (s : Spent) where
-  pub content-text : ob ≡ O.Text → (r : Walked) → r ≡ Going s → r ≡ W.content child o S m ob holder start n s
-  unfolding W.content
-  content-text e r f = rw e f
-
-  pub content-bytes : ob ≡ O.Bytes → (r : Walked) → r ≡ Going s → r ≡ W.content child o S m ob holder start n s
-  unfolding W.content
-  content-bytes e r f = rw e f
-
-  module _ (r : Walked) (i j : ℕ) (ej : j ≡ i) where
-    pub content-list : ob ≡ O.List i → r ≡ W.elements child o S m holder start (Sc.elementOf S j) n 0 s → r ≡ W.content child o S m ob holder start n s
-    unfolding W.content
-    content-list e f = rw e (f ∙ ap (λ (k : ℕ). W.elements child o S m holder start (Sc.elementOf S k) n 0 s) ej)
-
-    pub content-table : ob ≡ O.Table i → r ≡ W.members child o S m holder start n L.begin 0 (Sc.tableOf S j .members) s
-        → r ≡ W.content child o S m ob holder start n s
-    unfolding W.content
-    content-table e f = rw e (f ∙ ap (λ (k : ℕ). W.members child o S m holder start n L.begin 0 (Sc.tableOf S k .members) s) ej)
-
 -- ---- what a step leads to
 module _ (child : W.Child) (holder j : ℕ) (step : Step) (s : Spent) where
   module _ (r : Walked) where

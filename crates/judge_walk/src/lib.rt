@@ -6,6 +6,7 @@ use coding::Opened;
 use coding::Place;
 use coding::Spent;
 use coding::Step;
+use message_header::Header;
 use outcome::Content;
 use outcome::Limits;
 use outcome::Outcome;
@@ -24,6 +25,7 @@ ghost use Rattle.schema.specs.Directory.{Accepted};
 ghost use Rattle.message_step.specs.Lead as D;
 ghost use Rattle.outcome.specs.Answers as As;
 ghost use Rattle.judge_member.specs.Records as Rs;
+ghost use Rattle.judge_walk.specs.Held as Hd;
 ghost use Rattle.wire.specs.Sizes.{WithinSize, Width, HasUnion, HasOffsets, HasUnions};
 
 // Where the walk stands in a table: the number of the member that comes next, the place of its record in the schema, and the
@@ -49,6 +51,17 @@ fn leads_nowhere(step: Step) -> bool
     }
 }
 
+// Whether content of `size` bytes fits, and its charge for n of them.
+fn held(m: &[u8], l: Limits, x: Content, size: usize, n: usize, s: Spent) -> Outcome
+    requires { ⌜ (x .start < 2 ^ 60) × (size < 2 ^ 61) ⌝ }
+    ensures { λ r. ⌜ As.walkedOf r ≡ Hd.held (now (m .entry)) l (x .holder) (x .start) size n s ⌝ }
+{
+    match message_header::fits(m, x.start, size, n) {
+        Opened::Refused(e) => outcome::refuse(e, x.holder, s),
+        Opened::Content(_, _) => outcome::admit(l, x.holder, n, s),
+    }
+}
+
 // An arrival at an object, with this one counted in the depth that is left.
 pub fn visit(
     b: &[u8],
@@ -69,9 +82,9 @@ pub fn visit(
         return g;
     }
     let t = g.spent;
-    match message_object::open_object(b, dir, m, ob, p, o) {
-        Opened::Refused(e) => outcome::refuse(e, at, t),
-        Opened::Content(start, n) => {
+    match message_object::content_at(b, dir, m, ob, p, o) {
+        Header::Refused(e) => outcome::refuse(e, at, t),
+        Header::Content(start, n) => {
             let x = Content {
                 holder: at,
                 start,
@@ -82,7 +95,7 @@ pub fn visit(
     }
 }
 
-// An object's content. Texts and bytes have no parts.
+// An object's content: whether it fits, its charge, the test of its bytes, and its parts. Texts and bytes have none.
 fn content(
     b: &[u8],
     dir: &[u16],
@@ -94,14 +107,34 @@ fn content(
     o: usize,
 ) -> Outcome
     requires { ⌜ (Accepted (now b) (now dir)) × (Width o) × (WithinSize (now m)) × (ObjectSound (P.parse (now b)) ob) ⌝ }
-    requires { ⌜ x .start + W.contentSize o (P.parse (now b)) ob (x .length) ≤ length (now m) ⌝ }
+    requires { ⌜ (x .start < 2 ^ 60) × (x .length < 2 ^ 48) ⌝ }
     ensures { λ r. ⌜ As.walkedOf r ≡ As.contentBy o (now (b .entry)) (now (m .entry)) l ob x s ⌝ }
 {
     match ob {
-        Object::Text => outcome::going(s),
-        Object::Bytes => outcome::going(s),
-        Object::List(i) => list(b, dir, m, l, wire::index(i), x, s, o),
-        Object::Table(t) => table(b, dir, m, l, wire::index(t), x, s, o),
+        Object::Text => {
+            let g = held(m, l, x, message_header::text_size(x.length), x.length, s);
+            if g.code != 0 {
+                return g;
+            }
+            judge_text::text_end(m, x, g.spent)
+        }
+        Object::Bytes => held(m, l, x, x.length, x.length, s),
+        Object::List(i) => {
+            let k = wire::index(i);
+            let size = message_header::list_size(b, dir, k, x.length, o);
+            let g = held(m, l, x, size, size, s);
+            if g.code != 0 {
+                return g;
+            }
+            list(b, dir, m, l, k, x, g.spent, o)
+        }
+        Object::Table(t) => {
+            let g = held(m, l, x, x.length, x.length, s);
+            if g.code != 0 {
+                return g;
+            }
+            table(b, dir, m, l, wire::index(t), x, g.spent, o)
+        }
     }
 }
 

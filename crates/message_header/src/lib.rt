@@ -6,6 +6,8 @@ ghost use mathlib.Core.Path.{_≡_};
 ghost use Prim.Native.Nat.{_+_, _*_, _<_, _≤_, _^_};
 ghost use lib.ListN.{length};
 ghost use Rattle.coding.specs.Packed as P;
+ghost use Rattle.coding.specs.Schema as Sc;
+ghost use Rattle.coding.specs.Step as T;
 ghost use Rattle.coding.specs.Walk as W;
 ghost use Rattle.laws.specs.Sound.{ObjectSound};
 ghost use Rattle.schema.specs.Directory.{Accepted};
@@ -139,6 +141,15 @@ pub fn text_size(n: usize) -> usize
     n + 1
 }
 
+// The bytes of the n elements of list i.
+pub fn list_size(b: &[u8], dir: &[u16], i: usize, n: usize, o: usize) -> usize
+    requires { ⌜ (Accepted (now b) (now dir)) × (Width o) × (i < P.listCount (now b)) × (n < 2 ^ 48) ⌝ }
+    ensures { λ r. ⌜ (r ≡ T.elementsSize o (P.parse (now (b .entry))) (Sc.elementOf (P.parse (now (b .entry))) i) n) × (r < 2 ^ 61) ⌝ }
+{
+    let k = schema::element(b, dir, i);
+    message_layout::elements_size(b, dir, k, n, o)
+}
+
 // The bytes of an object's content of length n.
 fn content_size(b: &[u8], dir: &[u16], ob: Object, n: usize, o: usize) -> usize
     requires { ⌜ (Accepted (now b) (now dir)) × (Width o) × (ObjectSound (P.parse (now b)) ob) × (n < 2 ^ 48) ⌝ }
@@ -147,10 +158,7 @@ fn content_size(b: &[u8], dir: &[u16], ob: Object, n: usize, o: usize) -> usize
     match ob {
         Object::Text => text_size(n),
         Object::Bytes => n,
-        Object::List(i) => {
-            let k = schema::element(b, dir, wire::index(i));
-            message_layout::elements_size(b, dir, k, n, o)
-        }
+        Object::List(i) => list_size(b, dir, wire::index(i), n, o),
         Object::Table(_) => n,
     }
 }

@@ -1,7 +1,7 @@
 -- A walker's answer; what an arrival is charged; the walk's definitions by what the walkers are given.
 -- `o` is the width of an offset in bytes.
 use Prim.Native.Nat.{ℕ, zero, suc, _-_}
-use mathlib.Core.List.{List}
+use mathlib.Core.List.{List, []}
 use lib.Dec.{eqb}
 use Rattle.coding.specs.Lists.{pick}
 use Rattle.coding.specs.Schema as Sc
@@ -17,6 +17,7 @@ use Rattle.coding.specs.declared.Cursor.{Cursor}
 use Rattle.coding.specs.declared.Place.{Place}
 use Rattle.coding.specs.declared.Place.the-variants.{ByOffset}
 use Rattle.coding.specs.declared.Step.{Step}
+use Rattle.coding.specs.declared.Opened.the-variants as Op
 use Rattle.coding.specs.declared.Spent.{Spent}
 use Rattle.coding.specs.declared.Walked.{Walked}
 use Rattle.coding.specs.declared.Walked.the-variants.{Going, Refused}
@@ -40,6 +41,15 @@ within (suc d) ob p s = Going s
 unfoldable pub charged : Limits → ℕ → Spent → Walked
 charged l at s = W.counted (within (l .depth)) (l .budget) O.Text (ByOffset at) s
 
+-- what `Walk.admit` does with content that fits and adds n bytes, of an object at `at`, before it tests anything of it. It is said of
+-- bytes, which have no test and no parts: whatever the object, this comes first.
+unfoldable pub admitted : Limits → ℕ → ℕ → Spent → Walked
+admitted l at n s = W.admit W.tooDeep 0 (P.parse []) [] (l .budget) O.Bytes at (Op.Content 0 n) s
+
+-- the test of a text's bytes once its length is charged; a text has no parts
+unfoldable pub textEnd : List ℕ → ℕ → ℕ → ℕ → Spent → Walked
+textEnd m holder start n s = pick (W.endOk m O.Text start n) (Going s) (W.refuse 10 holder s)
+
 -- how far the walk may go from an object that was arrived at
 abbrev pub deeper : Limits → Limits
 deeper l = record { budget = l .budget; depth = l .depth - 1 }
@@ -49,9 +59,10 @@ deeper l = record { budget = l .budget; depth = l .depth - 1 }
 abbrev pub visitBy : ℕ → List ℕ → List ℕ → Limits → W.Child
 visitBy o b m l = W.visit (l .depth) o (P.parse b) m (l .budget)
 
--- an object's content
+-- an object's content: whether it fits, its charge, the test of its bytes, and its parts
 abbrev pub contentBy : ℕ → List ℕ → List ℕ → Limits → Object → Content → Spent → Walked
-contentBy o b m l ob x s = W.content (visitBy o b m l) o (P.parse b) m ob (x .holder) (x .start) (x .length) s
+contentBy o b m l ob x s =
+    W.admit (visitBy o b m l) o (P.parse b) m (l .budget) ob (x .holder) (W.fitContent o (P.parse b) m ob (x .start) (x .length)) s
 
 -- the members of table t
 abbrev pub membersBy : ℕ → List ℕ → List ℕ → Limits → ℕ → Content → Spent → Walked

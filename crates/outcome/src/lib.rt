@@ -1,9 +1,10 @@
-// What a walker answers, how far it may go, and what it is charged for an arrival.
+// What a walker answers, how far it may go, and what it is charged for an arrival and for content.
 use coding::Budget;
 use coding::Spent;
 use coding::Walked;
 ghost use mathlib.Core.Path.{_≡_};
-ghost use Prim.Native.Nat.{_<_};
+ghost use Prim.Native.Nat.{_+_, _<_};
+ghost use lib.Dec.{leb};
 ghost use Rattle.coding.specs.Walk as W;
 ghost use Rattle.outcome.specs.Answers as As;
 
@@ -79,7 +80,7 @@ pub fn refuse_part(n: u8, part: Part, s: Spent) -> Outcome
 }
 
 // ---- an arrival
-// Charges an arrival at the object at `at`, before anything of it is read: the budget, one visit, then the depth.
+// Charges an arrival at the object at `at`, before anything of it is read: the budget of visits, one visit, then the depth.
 pub fn charge(l: Limits, at: usize, s: Spent) -> Outcome
     ensures { λ r. ⌜ As.walkedOf r ≡ As.charged l at s ⌝ }
 {
@@ -88,11 +89,41 @@ pub fn charge(l: Limits, at: usize, s: Spent) -> Outcome
     if budget.visits <= visits {
         return refuse(4, at, s);
     }
-    let t = Spent { visits: visits + 1 };
+    let t = Spent {
+        visits: visits + 1,
+        content: s.content,
+    };
     if l.depth == 0 {
         return refuse(5, at, t);
     }
     going(t)
+}
+
+// Whether n bytes more are within an allowance. The sum may be more than its type holds.
+fn allowed(allowance: u64, content: u64, n: u64) -> bool
+    ensures { λ r. ⌜ r ≡ leb (content + n) allowance ⌝ }
+{
+    if allowance < content {
+        return false;
+    }
+    n <= allowance - content
+}
+
+// Charges the content of the object at `at`, n bytes that fit, before they are tested.
+pub fn admit(l: Limits, at: usize, n: usize, s: Spent) -> Outcome
+    ensures { λ r. ⌜ As.walkedOf r ≡ As.admitted l at n s ⌝ }
+{
+    let budget = l.budget;
+    let content = s.content;
+    let length = n as u64;
+    if allowed(budget.content, content, length) {
+        let t = Spent {
+            visits: s.visits,
+            content: content + length,
+        };
+        return going(t);
+    }
+    refuse(17, at, s)
 }
 
 // How far the walk may go from an object that was arrived at.

@@ -43,6 +43,7 @@ fn no_room(v: Verdict) -> ReadAnswer
         place: 0,
         member: wire::NO_MEMBER,
         visits: v.visits,
+        content: v.content,
     };
     ReadAnswer {
         verdict: refusal,
@@ -116,6 +117,7 @@ pub fn read(b: &[u8], m: &[u8], budget: Budget, out: &mut [u8], o: usize) -> Rea
         place: 0,
         member: wire::NO_MEMBER,
         visits: 0,
+        content: 0,
     };
     ReadAnswer {
         verdict: refusal,

@@ -1,12 +1,13 @@
-use Rattle.outcome.proofs.ArrivalCases.{offset-stopped, offset-refused, table-judged, charged-deep}
-use Rattle.message_object.proofs.OpenCases.{table-opened}
+use Rattle.outcome.proofs.ArrivalCases.{offset-stopped, offset-refused, table-unpaid, table-paid, charged-deep}
+use Rattle.message_object.proofs.OpenCases.{table-found}
 use borrow.Author.Needs.{needs}
 use Rattle.judge_rows.proofs.visit_row.Statement.{statement}
 use Rattle.judge_rows.proofs.visit_row.Tie as tie
 use Rattle.judge_rows.proofs.visit_row.Reads as reads
 use Rattle.judge_rows.proofs.visit_row.Lts as lts
 use Rattle.judge_rows.proofs.row_members.Reads as row-members-reads
-use Rattle.message_object.proofs.open_table.Reads as open-table-reads
+use Rattle.message_object.proofs.fit_table.Reads as fit-table-reads
+use Rattle.outcome.proofs.admit.Reads as admit-reads
 use Rattle.outcome.proofs.below.Reads as below-reads
 use Rattle.outcome.proofs.charge.Reads as charge-reads
 use Rattle.outcome.proofs.refuse.Reads as refuse-reads
@@ -17,8 +18,8 @@ charge-requires c κs = search needs
 returns : tie.Need-returns
 returns c = search offset-stopped
 
-open-table-requires : tie.Need-open-table-requires
-open-table-requires c κs = search needs
+fit-table-requires : tie.Need-fit-table-requires
+fit-table-requires c κs = search needs
 
 enum-known-e : tie.Need-enum-known-e
 enum-known-e c = search needs
@@ -29,17 +30,23 @@ refuse-requires c κs = search needs
 enum-known-start : tie.Need-enum-known-start
 enum-known-start c = search needs
 
+admit-requires : tie.Need-admit-requires
+admit-requires c κs = search needs
+
+returns-2 : tie.Need-returns-2
+returns-2 c = search table-unpaid
+
 below-requires : tie.Need-below-requires
 below-requires c κs = search charged-deep
 
 row-members-requires : tie.Need-row-members-requires
-row-members-requires c κs = search (table-opened, needs)
-
-returns-2 : tie.Need-returns-2
-returns-2 c = search offset-refused
+row-members-requires c κs = (c .before .before .before .before .before .before .before .before .before .before .before .before .before .before .pre .0, c .before .before .before .before .before .before .before .before .before .before .before .before .before .before .pre .1, c .before .before .before .before .before .before .before .before .before .before .before .before .before .before .pre .2, table-found _ _ _ _ _ _ _ _ (c .before .before .before .before .before .before .before .fit-table .ensures) (c .before .before .before .before .before .start .given .1))
 
 returns-3 : tie.Need-returns-3
-returns-3 c = search table-judged
+returns-3 c = search offset-refused
+
+returns-4 : tie.Need-returns-4
+returns-4 c = table-paid _ _ _ _ _ _ _ (c .before .before .before .before .before .before .before .before .before .before .before .before .charge .ensures) (c .before .before .before .before .before .before .before .before .before .before .if1 .left) _ _ _ (c .before .before .before .before .before .before .start .given .1) _ (c .before .before .before .before .admit .ensures) _ (c .before .before .before .before .before .before .before .before .fit-table .ensures) (c .before .before .if2 .left) _ (c .before .below .ensures) _ (c .row-members .ensures)
 
 pub visit-row-spec : {M : Type 1} → statement M
 visit-row-spec =
@@ -47,11 +54,13 @@ visit-row-spec =
     (tie.spec
     charge-requires
     returns
-    open-table-requires
+    fit-table-requires
     enum-known-e
     refuse-requires
     enum-known-start
+    admit-requires
+    returns-2
     below-requires
     row-members-requires
-    returns-2
-    returns-3)
+    returns-3
+    returns-4)

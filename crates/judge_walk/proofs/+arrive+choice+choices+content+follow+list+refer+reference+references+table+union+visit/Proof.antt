@@ -9,9 +9,10 @@ use Rattle.coding.specs.Schema as Sc
 use Rattle.coding.specs.Walk as W
 use Rattle.message_layout.specs.Bounds.{Laid}
 use Rattle.outcome.specs.Answers as As
-use Rattle.outcome.proofs.ArrivalCases.{visit-stopped, visit-refused, visit-content, charged-deep, deeper-falls}
-use Rattle.message_object.proofs.OpenCases.{list-counted-of, table-counted-of, opened-fits, offset-small, inplace-first, inplace-length, list-fits, table-fits}
-use Rattle.judge_walk.proofs.WalkCases.{arrive-text, arrive-offset, arrive-inplace, content-text, content-bytes, content-list, content-table, follow-absent, follow-value, follow-unknown, follow-struct, follow-refused, follow-object, follow-choice, object-small, object-place, choice-small, choice-place, union-none, union-offset, union-inplace}
+use Rattle.outcome.proofs.ArrivalCases.{visit-stopped, charged-deep, deeper-falls}
+use Rattle.message_object.proofs.OpenCases.{list-counted-of, table-counted-of, small-start, small-length, offset-small, inplace-first, inplace-length}
+use Rattle.judge_walk.proofs.HeldCases.{header-refused, header-content, held-fits, held-within, held-end, text-stopped, text-tested, bytes-held, list-stopped, list-entered, table-stopped, table-entered}
+use Rattle.judge_walk.proofs.WalkCases.{arrive-text, arrive-offset, arrive-inplace, follow-absent, follow-value, follow-unknown, follow-struct, follow-refused, follow-object, follow-choice, object-small, object-place, choice-small, choice-place, union-none, union-offset, union-inplace}
 use Rattle.judge_rows.proofs.MemberCases.{members-start, members-ended, members-done, members-stopped, members-turn, members-nowhere}
 use Rattle.judge_walk.proofs.ListCases.{list-flat, list-objects, list-unions, objects-sound, unions-counted, objects-there, unions-there, references-texts, choice-number, choices-stopped, choices-turn, choice-none, choice-unknown, choice-known, choice-sound}
 use Rattle.judge_text.proofs.ElementCases.{value-there, value-fits, value-next, elements-start, elements-done, references-stopped, references-turn, refer-none, refer-object}
@@ -62,13 +63,17 @@ use Rattle.judge_member.proofs.refers.Reads as refers-reads
 use Rattle.judge_rows.proofs.row_references.Reads as row-references-reads
 use Rattle.judge_text.proofs.is_text.Reads as is-text-reads
 use Rattle.judge_text.proofs.refer_text.Reads as refer-text-reads
+use Rattle.judge_text.proofs.text_end.Reads as text-end-reads
 use Rattle.judge_text.proofs.texts.Reads as texts-reads
 use Rattle.judge_text.proofs.visit_text.Reads as visit-text-reads
+use Rattle.judge_walk.proofs.held.Reads as held-reads
 use Rattle.judge_walk.proofs.leads_nowhere.Reads as leads-nowhere-reads
+use Rattle.message_header.proofs.list_size.Reads as list-size-reads
+use Rattle.message_header.proofs.text_size.Reads as text-size-reads
 use Rattle.message_layout.proofs.after_bytes.Reads as after-bytes-reads
 use Rattle.message_layout.proofs.begin.Reads as begin-reads
 use Rattle.message_layout.proofs.bit_byte.Reads as bit-byte-reads
-use Rattle.message_object.proofs.open_object.Reads as open-object-reads
+use Rattle.message_object.proofs.content_at.Reads as content-at-reads
 use Rattle.message_object.proofs.placed.Reads as placed-reads
 use Rattle.outcome.proofs.below.Reads as below-reads
 use Rattle.outcome.proofs.charge.Reads as charge-reads
@@ -218,7 +223,7 @@ abbrev choices-R : ℕ → choices-lts.Claims
 choices-R t = (union-size-reads.Asked, union-size-reads.Learnt, choice-below t, choice.Post, going-reads.Asked, going-reads.Learnt)
 
 abbrev content-R : ℕ → content-lts.Claims
-content-R t = (going-reads.Asked, going-reads.Learnt, index-reads.Asked, index-reads.Learnt, list-below t, list.Post, table-below t, table.Post)
+content-R t = (text-size-reads.Asked, text-size-reads.Learnt, held-reads.Asked, held-reads.Learnt, text-end-reads.Asked, text-end-reads.Learnt, index-reads.Asked, index-reads.Learnt, list-size-reads.Asked, list-size-reads.Learnt, list-below t, list.Post, table-below t, table.Post)
 
 abbrev follow-R : ℕ → follow-lts.Claims
 follow-R t = (refuse-part-reads.Asked, refuse-part-reads.Learnt, going-reads.Asked, going-reads.Learnt, arrive-below t, arrive.Post, union-below t, union.Post)
@@ -242,7 +247,7 @@ abbrev union-R : ℕ → union-lts.Claims
 union-R t = (refuse-part-reads.Asked, refuse-part-reads.Learnt, visit-below t, visit.Post)
 
 abbrev visit-R : ℕ → visit-lts.Claims
-visit-R t = (placed-reads.Asked, placed-reads.Learnt, charge-reads.Asked, charge-reads.Learnt, open-object-reads.Asked, open-object-reads.Learnt, refuse-reads.Asked, refuse-reads.Learnt, below-reads.Asked, below-reads.Learnt, content-below t, content.Post)
+visit-R t = (placed-reads.Asked, placed-reads.Learnt, charge-reads.Asked, charge-reads.Learnt, content-at-reads.Asked, content-at-reads.Learnt, refuse-reads.Asked, refuse-reads.Learnt, below-reads.Asked, below-reads.Learnt, content-below t, content.Post)
 
 arrive-enum-known-p : (t : ℕ) → arrive-lts.Need-enum-known-p (arrive-R t) (arrive-at t) arrive.Post
 arrive-enum-known-p t c = search needs
@@ -349,14 +354,23 @@ choices-returns-2 t c = search elements-done
 content-enum-told : (t : ℕ) → content-lts.Need-enum-told (content-R t) (content-at t) content.Post
 content-enum-told t c = search needs
 
-content-going-requires : (t : ℕ) → content-lts.Need-going-requires (content-R t) (content-at t) content.Post
-content-going-requires t c κs = search needs
+content-text-size-requires : (t : ℕ) → content-lts.Need-text-size-requires (content-R t) (content-at t) content.Post
+content-text-size-requires t c κs = search needs
+
+content-held-requires : (t : ℕ) → content-lts.Need-held-requires (content-R t) (content-at t) content.Post
+content-held-requires t c κs = search needs
+
+content-returns : (t : ℕ) → content-lts.Need-returns (content-R t) (content-at t) content.Post
+content-returns t c = search text-stopped
+
+content-text-end-requires : (t : ℕ) → content-lts.Need-text-end-requires (content-R t) (content-at t) content.Post
+content-text-end-requires t c κs = search held-end
 
 content-enum-told-2 : (t : ℕ) → content-lts.Need-enum-told-2 (content-R t) (content-at t) content.Post
 content-enum-told-2 t c = search needs
 
-content-going-requires-2 : (t : ℕ) → content-lts.Need-going-requires-2 (content-R t) (content-at t) content.Post
-content-going-requires-2 t c κs = search needs
+content-held-requires-2 : (t : ℕ) → content-lts.Need-held-requires-2 (content-R t) (content-at t) content.Post
+content-held-requires-2 t c κs = search needs
 
 content-enum-known-ob : (t : ℕ) → content-lts.Need-enum-known-ob (content-R t) (content-at t) content.Post
 content-enum-known-ob t c = search needs
@@ -364,29 +378,44 @@ content-enum-known-ob t c = search needs
 content-index-requires : (t : ℕ) → content-lts.Need-index-requires (content-R t) (content-at t) content.Post
 content-index-requires t c κs = search needs
 
+content-list-size-requires : (t : ℕ) → content-lts.Need-list-size-requires (content-R t) (content-at t) content.Post
+content-list-size-requires t c κs = search (list-counted-of, needs)
+
+content-held-requires-3 : (t : ℕ) → content-lts.Need-held-requires-3 (content-R t) (content-at t) content.Post
+content-held-requires-3 t c κs = search needs
+
+content-returns-2 : (t : ℕ) → content-lts.Need-returns-2 (content-R t) (content-at t) content.Post
+content-returns-2 t c = search list-stopped
+
 content-list-requires : (t : ℕ) → content-lts.Need-list-requires (content-R t) (content-at t) content.Post
-content-list-requires t c κs = search (list-counted-of, list-fits, needs)
+content-list-requires t c κs = (omega arith, ((c .before .before .before .before .before .before .before .before .before .before .before .pre .1 .0 .0, c .before .before .before .before .before .before .before .before .before .before .before .pre .1 .0 .1, c .before .before .before .before .before .before .before .before .before .before .before .pre .1 .0 .2, search list-counted-of), held-within _ _ _ _ _ _ _ _ (c .before .before .before .list-size .ensures .0) _ (c .before .before .held3 .ensures) (c .if2 .left)))
 
 content-enum-known-ob-2 : (t : ℕ) → content-lts.Need-enum-known-ob-2 (content-R t) (content-at t) content.Post
 content-enum-known-ob-2 t c = search needs
+
+content-held-requires-4 : (t : ℕ) → content-lts.Need-held-requires-4 (content-R t) (content-at t) content.Post
+content-held-requires-4 t c κs = search needs
+
+content-returns-3 : (t : ℕ) → content-lts.Need-returns-3 (content-R t) (content-at t) content.Post
+content-returns-3 t c = search table-stopped
 
 content-index-requires-2 : (t : ℕ) → content-lts.Need-index-requires-2 (content-R t) (content-at t) content.Post
 content-index-requires-2 t c κs = search needs
 
 content-table-requires : (t : ℕ) → content-lts.Need-table-requires (content-R t) (content-at t) content.Post
-content-table-requires t c κs = search (table-counted-of, table-fits, needs)
-
-content-returns : (t : ℕ) → content-lts.Need-returns (content-R t) (content-at t) content.Post
-content-returns t c = search content-text
-
-content-returns-2 : (t : ℕ) → content-lts.Need-returns-2 (content-R t) (content-at t) content.Post
-content-returns-2 t c = search content-bytes
-
-content-returns-3 : (t : ℕ) → content-lts.Need-returns-3 (content-R t) (content-at t) content.Post
-content-returns-3 t c = search content-list
+content-table-requires t c κs = (omega arith, (c .before .before .before .before .before .before .before .before .before .before .pre .1 .0 .0, c .before .before .before .before .before .before .before .before .before .before .pre .1 .0 .1, c .before .before .before .before .before .before .before .before .before .before .pre .1 .0 .2, search table-counted-of, held-fits _ _ _ _ _ _ _ _ (c .before .before .before .held4 .ensures) (c .before .if3 .left)))
 
 content-returns-4 : (t : ℕ) → content-lts.Need-returns-4 (content-R t) (content-at t) content.Post
-content-returns-4 t c = search content-table
+content-returns-4 t c = search text-tested
+
+content-returns-5 : (t : ℕ) → content-lts.Need-returns-5 (content-R t) (content-at t) content.Post
+content-returns-5 t c = search bytes-held
+
+content-returns-6 : (t : ℕ) → content-lts.Need-returns-6 (content-R t) (content-at t) content.Post
+content-returns-6 t c = search list-entered
+
+content-returns-7 : (t : ℕ) → content-lts.Need-returns-7 (content-R t) (content-at t) content.Post
+content-returns-7 t c = search table-entered
 
 follow-enum-known-step : (t : ℕ) → follow-lts.Need-enum-known-step (follow-R t) (follow-at t) follow.Post
 follow-enum-known-step t c = search needs
@@ -727,8 +756,8 @@ visit-charge-requires t c κs = search needs
 visit-returns : (t : ℕ) → visit-lts.Need-returns (visit-R t) (visit-at t) visit.Post
 visit-returns t c = search visit-stopped
 
-visit-open-object-requires : (t : ℕ) → visit-lts.Need-open-object-requires (visit-R t) (visit-at t) visit.Post
-visit-open-object-requires t c κs = search needs
+visit-content-at-requires : (t : ℕ) → visit-lts.Need-content-at-requires (visit-R t) (visit-at t) visit.Post
+visit-content-at-requires t c κs = search needs
 
 visit-enum-known-e : (t : ℕ) → visit-lts.Need-enum-known-e (visit-R t) (visit-at t) visit.Post
 visit-enum-known-e t c = search needs
@@ -743,13 +772,13 @@ visit-below-requires : (t : ℕ) → visit-lts.Need-below-requires (visit-R t) (
 visit-below-requires t c κs = search charged-deep
 
 visit-content-requires : (t : ℕ) → visit-lts.Need-content-requires (visit-R t) (visit-at t) visit.Post
-visit-content-requires t c κs = (omega (arith, c .before .before .before .before .before .before .before .before .before .before .before .before .before .pre .0, deeper-falls _ _ (c .below .ensures) (charged-deep _ _ _ _ (c .before .before .before .before .before .before .before .before .charge .ensures) (c .before .before .before .before .before .before .if1 .left))), ((c .before .before .before .before .before .before .before .before .before .before .before .before .before .pre .1 .0, c .before .before .before .before .before .before .before .before .before .before .before .before .before .pre .1 .1, c .before .before .before .before .before .before .before .before .before .before .before .before .before .pre .1 .2, c .before .before .before .before .before .before .before .before .before .before .before .before .before .pre .1 .3), search opened-fits))
+visit-content-requires t c κs = (omega (arith, c .before .before .before .before .before .before .before .before .before .before .before .before .before .pre .0, deeper-falls _ _ (c .below .ensures) (charged-deep _ _ _ _ (c .before .before .before .before .before .before .before .before .charge .ensures) (c .before .before .before .before .before .before .if1 .left))), ((c .before .before .before .before .before .before .before .before .before .before .before .before .before .pre .1 .0, c .before .before .before .before .before .before .before .before .before .before .before .before .before .pre .1 .1, c .before .before .before .before .before .before .before .before .before .before .before .before .before .pre .1 .2, c .before .before .before .before .before .before .before .before .before .before .before .before .before .pre .1 .3), (small-start _ _ _ (c .before .before .before .before .content-at .ensures .1) (c .before .before .start .given .1), small-length _ _ _ (c .before .before .before .before .content-at .ensures .1) (c .before .before .start .given .1))))
 
 visit-returns-2 : (t : ℕ) → visit-lts.Need-returns-2 (visit-R t) (visit-at t) visit.Post
-visit-returns-2 t c = search visit-refused
+visit-returns-2 t c = search header-refused
 
 visit-returns-3 : (t : ℕ) → visit-lts.Need-returns-3 (visit-R t) (visit-at t) visit.Post
-visit-returns-3 t c = search visit-content
+visit-returns-3 t c = search header-content
 
 pub +arrive+choice+choices+content+follow+list+refer+reference+references+table+union+visit-spec :
     {M : Type 1} → statement M
@@ -814,19 +843,27 @@ pub +arrive+choice+choices+content+follow+list+refer+reference+references+table+
     (content-at t)
     content.Post
     (content-enum-told t)
-    (content-going-requires t)
+    (content-text-size-requires t)
+    (content-held-requires t)
+    (content-returns t)
+    (content-text-end-requires t)
     (content-enum-told-2 t)
-    (content-going-requires-2 t)
+    (content-held-requires-2 t)
     (content-enum-known-ob t)
     (content-index-requires t)
+    (content-list-size-requires t)
+    (content-held-requires-3 t)
+    (content-returns-2 t)
     (content-list-requires t)
     (content-enum-known-ob-2 t)
+    (content-held-requires-4 t)
+    (content-returns-3 t)
     (content-index-requires-2 t)
     (content-table-requires t)
-    (content-returns t)
-    (content-returns-2 t)
-    (content-returns-3 t)
-    (content-returns-4 t))
+    (content-returns-4 t)
+    (content-returns-5 t)
+    (content-returns-6 t)
+    (content-returns-7 t))
     (λ t. follow-lts.spec (follow-R t)
     (follow-at t)
     follow.Post
@@ -963,7 +1000,7 @@ pub +arrive+choice+choices+content+follow+list+refer+reference+references+table+
     (visit-placed-requires t)
     (visit-charge-requires t)
     (visit-returns t)
-    (visit-open-object-requires t)
+    (visit-content-at-requires t)
     (visit-enum-known-e t)
     (visit-refuse-requires t)
     (visit-enum-known-start t)

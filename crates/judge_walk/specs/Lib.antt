@@ -1,0 +1,2 @@
+-- What comes before the parts of any object.
+pub mod Held
