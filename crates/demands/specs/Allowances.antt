@@ -60,6 +60,12 @@ olderMessage =
     0xB3 ∷ 0xC4 ∷ 0xC0 ∷ 0xB5 ∷ 8 ∷ 0 ∷ 0 ∷ 0 ∷ 0x45 ∷ 0x43 ∷ 0x49 ∷ 0x4C ∷ 6 ∷ 0 ∷ 0 ∷ 0 ∷ 3 ∷ 0 ∷ 22 ∷ 0 ∷ 0 ∷ 0
     ∷ 0xF5 ∷ 0xC8 ∷ 0x12 ∷ 0xD8 ∷ 2 ∷ 0 ∷ 0 ∷ 0 ∷ 0x61 ∷ 0x62 ∷ 0 ∷ []
 
+-- a list of two absent texts under the older coding, at 20
+abbrev olderList : List ℕ
+olderList =
+    0xB3 ∷ 0xC4 ∷ 0xC0 ∷ 0xB5 ∷ 8 ∷ 0 ∷ 0 ∷ 0 ∷ 0x45 ∷ 0x43 ∷ 0x49 ∷ 0x4C ∷ 4 ∷ 0 ∷ 0 ∷ 0 ∷ 20 ∷ 0 ∷ 0 ∷ 0
+    ∷ 0x46 ∷ 0xBB ∷ 0x00 ∷ 0x34 ∷ 2 ∷ 0 ∷ 0 ∷ 0 ∷ 0 ∷ 0 ∷ 0 ∷ 0 ∷ 0 ∷ 0 ∷ 0 ∷ 0 ∷ []
+
 -- ---- what the definitions give
 told : Verdict → List ℕ
 told v = v .number ∷ v .place ∷ v .visits ∷ v .content ∷ []
@@ -118,6 +124,9 @@ allowanceCases =
     -- under the older coding the fixed part has 6 bytes
     ∷ case (judgedOlder N olderMessage 2 8) (0 ∷ 0 ∷ 2 ∷ 8 ∷ [])
     ∷ case (judgedOlder N olderMessage 2 7) (17 ∷ 22 ∷ 2 ∷ 6 ∷ [])
+    -- and two offsets take eight
+    ∷ case (judgedOlder (listed 0x68) olderList 2 12) (0 ∷ 0 ∷ 2 ∷ 12 ∷ [])
+    ∷ case (judgedOlder (listed 0x68) olderList 2 11) (17 ∷ 20 ∷ 2 ∷ 4 ∷ [])
     ∷ []
 
 -- ---- what comes first

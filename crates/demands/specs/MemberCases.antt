@@ -96,6 +96,7 @@ walkCases =
     ∷ case (judged N (take 40 M) 2) (6 ∷ 28 ∷ 0xFFFF_FFFF ∷ 2 ∷ [])
     ∷ case (judged N (set M 28 0) 2) (7 ∷ 28 ∷ 0xFFFF_FFFF ∷ 2 ∷ [])
     ∷ case (judged N M 1) (4 ∷ 28 ∷ 0xFFFF_FFFF ∷ 1 ∷ [])
+    ∷ case (told (Walk.verdict Bytes.u48 N M (Walk.allowing 2 9))) (17 ∷ 28 ∷ 0xFFFF_FFFF ∷ 2 ∷ [])
     ∷ case (judged N M 2) (0 ∷ 0 ∷ 0xFFFF_FFFF ∷ 2 ∷ [])
     ∷ case (judged N [] 2) (2 ∷ 0 ∷ 0xFFFF_FFFF ∷ 0 ∷ [])
     ∷ []
