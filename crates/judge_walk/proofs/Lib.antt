@@ -1,4 +1,4 @@
-pub mod HeldCases
+pub mod AdmitCases
 pub mod WalkCases
 pub mod ListCases
 pub mod ReferenceCases

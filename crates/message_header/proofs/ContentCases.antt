@@ -54,6 +54,24 @@ module _ (o : ℕ) (S : Schema) (ob : Object) (n : ℕ) where
   unfolding W.contentSize
   size-table i e = rw e
 
+-- ---- what each object's content adds
+module _ (o : ℕ) (S : Schema) (ob : Object) (n : ℕ) where
+  pub length-text : ob ≡ O.Text → n ≡ W.contentLength o S ob n
+  unfolding W.contentLength
+  length-text e = rw e
+
+  pub length-bytes : ob ≡ O.Bytes → n ≡ W.contentLength o S ob n
+  unfolding W.contentLength
+  length-bytes e = rw e
+
+  pub length-list : (i j : ℕ) → ob ≡ O.List i → j ≡ i → (x : ℕ) → x ≡ T.elementsSize o S (Sc.elementOf S j) n → x ≡ W.contentLength o S ob n
+  unfolding W.contentLength
+  length-list i j e ej x ex = rw e (ex ∙ ap (λ (q : ℕ). T.elementsSize o S (Sc.elementOf S q) n) ej)
+
+  pub length-table : (i : ℕ) → ob ≡ O.Table i → n ≡ W.contentLength o S ob n
+  unfolding W.contentLength
+  length-table i e = rw e
+
 -- ---- a list's element
 pub list-counted : (b : List ℕ) (i j : ℕ) → ObjectSound (P.parse b) (O.List i) → j ≡ i → j < P.listCount b
 list-counted b i j h e = rw e (list-index b i h)

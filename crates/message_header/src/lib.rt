@@ -163,6 +163,19 @@ fn content_size(b: &[u8], dir: &[u16], ob: Object, n: usize, o: usize) -> usize
     }
 }
 
+// What an object's content of length n adds to the content that is spent.
+pub fn content_length(b: &[u8], dir: &[u16], ob: Object, n: usize, o: usize) -> usize
+    requires { ⌜ (Accepted (now b) (now dir)) × (Width o) × (ObjectSound (P.parse (now b)) ob) × (n < 2 ^ 48) ⌝ }
+    ensures { λ r. ⌜ r ≡ W.contentLength o (P.parse (now (b .entry))) ob n ⌝ }
+{
+    match ob {
+        Object::Text => n,
+        Object::Bytes => n,
+        Object::List(i) => list_size(b, dir, wire::index(i), n, o),
+        Object::Table(_) => n,
+    }
+}
+
 // Content of `size` bytes and length n at `start`, if it fits.
 pub fn fits(m: &[u8], start: usize, size: usize, n: usize) -> Opened
     requires { ⌜ (start < 2 ^ 60) × (size < 2 ^ 61) ⌝ }

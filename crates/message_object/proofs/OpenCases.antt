@@ -30,7 +30,7 @@ use Rattle.message_header.specs.declared.Header.{Header}
 use Rattle.message_header.specs.declared.Header.the-variants as Hd
 use Rattle.message_header.specs.Headers.{headerOf, fitted, Small, EndInside}
 use Rattle.message_header.proofs.ContentCases.{list-there, fit-is, size-text, size-table}
-use Rattle.message_object.specs.Fit.{announced, EndsInside}
+use Rattle.message_object.specs.Fit.{announced, EndsInside, LengthSmall}
 
 -- ---- the header of each object
 module _ (o : ℕ) (S : Schema) (m : List ℕ) (ob : Object) (x : ℕ) (r : Header) where
@@ -100,6 +100,18 @@ module _ (o : ℕ) (S : Schema) (m : List ℕ) (ob : Object) (p : Place) where
 
     pub placed-fit : (start n : ℕ) (r : Opened) → g ≡ Hd.Content start n → r ≡ W.fitContent o S m ob start n → r ≡ W.fitObject o S m ob p
     placed-fit start n r f q = q ∙ sym (ap (announced o S m ob) f) ∙ eg
+
+-- the length that was found is the one that was announced
+pub length-found : (o : ℕ) (S : Schema) (m : List ℕ) (ob : Object) (start n : ℕ) → n < 2 ^ 48 → (r : Opened) → r ≡ W.fitContent o S m ob start n → LengthSmall r
+unfolding W.fitContent
+length-found o S m ob start n h r e = subst LengthSmall (sym e) (by (leb (start + W.contentSize o S ob n) (length m)))
+  where
+    by : (t : Bool) → LengthSmall (pick t (Op.Content start n) (Op.Refused 6))
+    by true = h
+    by false = tt
+
+pub length-small : (g : Opened) (start n : ℕ) → LengthSmall g → g ≡ Op.Content start n → n < 2 ^ 48
+length-small g start n h e = subst LengthSmall e h
 
 -- a text by its offset
 module _ (o : ℕ) (S : Schema) (m : List ℕ) (x : ℕ) (g : Header) (eg : g ≡ headerOf o 0xD812C8F5 (4 + o) m x) where

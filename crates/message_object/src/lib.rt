@@ -35,7 +35,7 @@ fn header_of(b: &[u8], dir: &[u16], m: &[u8], ob: Object, at: usize, o: usize) -
 
 // Where the content of the object at a place starts, and its length: behind its header, or in place. Both ways meet here, so that
 // the compiler makes one piece of what follows.
-pub fn content_at(b: &[u8], dir: &[u16], m: &[u8], ob: Object, p: Place, o: usize) -> Header
+fn content_at(b: &[u8], dir: &[u16], m: &[u8], ob: Object, p: Place, o: usize) -> Header
     requires { ⌜ (Accepted (now b) (now dir)) × (Width o) × (ObjectSound (P.parse (now b)) ob) × D.PlaceSmall p ⌝ }
     ensures { λ r. ⌜ (Fs.announced o (P.parse (now (b .entry))) (now (m .entry)) ob r ≡ W.fitObject o (P.parse (now (b .entry))) (now (m .entry)) ob p) × Hs.Small r ⌝ }
 {
@@ -48,7 +48,7 @@ pub fn content_at(b: &[u8], dir: &[u16], m: &[u8], ob: Object, p: Place, o: usiz
 // An object at its place: offset and header, magic, content.
 pub fn fit_object(b: &[u8], dir: &[u16], m: &[u8], ob: Object, p: Place, o: usize) -> Opened
     requires { ⌜ (Accepted (now b) (now dir)) × (Width o) × (ObjectSound (P.parse (now b)) ob) × D.PlaceSmall p ⌝ }
-    ensures { λ r. ⌜ r ≡ W.fitObject o (P.parse (now (b .entry))) (now (m .entry)) ob p ⌝ }
+    ensures { λ r. ⌜ (r ≡ W.fitObject o (P.parse (now (b .entry))) (now (m .entry)) ob p) × Fs.LengthSmall r ⌝ }
 {
     match content_at(b, dir, m, ob, p, o) {
         Header::Refused(e) => Opened::Refused(e),

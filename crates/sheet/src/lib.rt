@@ -92,7 +92,7 @@ fn read_judged(
     ensures { λ r. ⌜ r ≡ M.readAnswer o (now (b .entry)) (now (m .entry)) budget (now (out .entry)) ⌝ }
     ensures { λ _. ⌜ now (out .exit) ≡ M.readOut o (now (b .entry)) (now (m .entry)) budget (now (out .entry)) ⌝ }
 {
-    let v = judge::judged(b, dir, m, budget, o);
+    let v = judge::judged(b, dir, m, budget.visits, budget.content, o);
     if v.number == 0 {
         return read_accepted(b, dir, m, v, out, o);
     }

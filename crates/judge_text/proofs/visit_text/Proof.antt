@@ -1,4 +1,4 @@
-use Rattle.outcome.proofs.ArrivalCases.{offset-stopped, offset-refused, text-unpaid, text-paid}
+use Rattle.outcome.proofs.ArrivalCases.{offset-stopped, offset-refused, not-more, text-unpaid, text-paid}
 use Rattle.message_object.proofs.OpenCases.{text-found}
 use borrow.Author.Needs.{needs}
 use Rattle.judge_text.proofs.visit_text.Statement.{statement}
@@ -22,11 +22,17 @@ refuse-requires c κs = search needs
 enum-known-start : tie.Need-enum-known-start
 enum-known-start c = search needs
 
-admit-requires : tie.Need-admit-requires
-admit-requires c κs = search needs
+exceeds-requires : tie.Need-exceeds-requires
+exceeds-requires c κs = search needs
+
+refuse-requires-2 : tie.Need-refuse-requires-2
+refuse-requires-2 c κs = search needs
 
 returns-2 : tie.Need-returns-2
 returns-2 c = search text-unpaid
+
+rest-requires : tie.Need-rest-requires
+rest-requires c κs = search not-more
 
 text-end-requires : tie.Need-text-end-requires
 text-end-requires c κs = search text-found
@@ -47,8 +53,10 @@ visit-text-spec =
     enum-known-e
     refuse-requires
     enum-known-start
-    admit-requires
+    exceeds-requires
+    refuse-requires-2
     returns-2
+    rest-requires
     text-end-requires
     returns-3
     returns-4)

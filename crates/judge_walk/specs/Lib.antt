@@ -1,2 +1,0 @@
--- What comes before the parts of any object.
-pub mod Held
