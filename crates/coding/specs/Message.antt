@@ -252,7 +252,8 @@ writeRoom (refused n) room = record { number = n; length = 0 }
 writeRoom (message m) room =
     pick (leb (length m) room) (record { number = 0; length = length m }) (record { number = 14; length = 0 })
 
--- number, place and visits of the writer's answer: "with visits 0"; the table gives each of its refusals the place 0
+-- number, place, visits and content of the writer's answer: "with visits 0", and content 0; the table gives each of its refusals the
+-- place 0
 unfoldable pub writeVerdict : WriteAnswer → Verdict
 writeVerdict a = early (a .number)
 

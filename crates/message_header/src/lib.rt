@@ -5,6 +5,7 @@ use coding::Opened;
 ghost use mathlib.Core.Path.{_≡_};
 ghost use Prim.Native.Nat.{_+_, _*_, _<_, _≤_, _^_};
 ghost use lib.ListN.{length};
+ghost use Rattle.coding.specs.Bytes as B;
 ghost use Rattle.coding.specs.Packed as P;
 ghost use Rattle.coding.specs.Schema as Sc;
 ghost use Rattle.coding.specs.Step as T;
@@ -21,6 +22,17 @@ pub enum Header {
     Content(usize, usize),
 }
 
+// The length in the header at `at`, behind its magic. Six bytes are the upper ones of the eight that end with them: one load.
+fn length_in(m: &[u8], at: usize, o: usize) -> usize
+    requires { ⌜ (Width o) × (at < 2 ^ 48) × (at + (4 + o) ≤ length (now m)) ⌝ }
+    ensures { λ r. ⌜ (r ≡ B.le (now (m .entry)) (at + 4) o) × (r < 2 ^ 48) ⌝ }
+{
+    if o == wire::U48 {
+        return (wire::u64_in(m, at + 2) >> 16) as usize;
+    }
+    wire::offset_in(m, at + wire::MAGIC, o)
+}
+
 // A header of `size` bytes: a magic, and behind it a length.
 fn read_header(m: &[u8], at: usize, magic: u64, size: usize, o: usize) -> Header
     requires { ⌜ (Width o) × (at < 2 ^ 48) × (4 + o ≤ size) × (size < 2 ^ 16) ⌝ }
@@ -35,7 +47,7 @@ fn read_header(m: &[u8], at: usize, magic: u64, size: usize, o: usize) -> Header
     if wire::u32_in(m, at) != magic {
         return Header::Refused(7);
     }
-    Header::Content(at + size, wire::offset_in(m, at + wire::MAGIC, o))
+    Header::Content(at + size, length_in(m, at, o))
 }
 
 // Text: length bytes and one zero byte.
