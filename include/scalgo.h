@@ -4,8 +4,8 @@
  * - A pointer to bytes comes with their number. It must not be NULL, even with length 0; then
  *   nothing is read or written through it.
  * - So does a pointer to 32-bit or 64-bit numbers; it must be aligned for them.
- * - A pointer to one number must not be NULL, must be aligned for that number, and must point to
- *   nothing else that the call is given. The number is written on every return.
+ * - A pointer to one number or to a verdict must not be NULL, must be aligned for it, and must point
+ *   to nothing else that the call is given. All of it is written on every return.
  * - A buffer that a call writes must not overlap anything else that the call is given.
  * - Nothing else may write the bytes during a call. The library writes only through pointers that
  *   are not const, keeps no pointer after the call, holds no state and allocates nothing, so that
@@ -39,7 +39,7 @@ enum {
                                   place, a table in place or a list of unions */
     SCALGO_MESSAGE_SIZE = 2,   /* the message is under 10 or 8 bytes, or over 16,777,215 */
     SCALGO_MESSAGE_MAGIC = 3,  /* wrong message magic */
-    SCALGO_BUDGET = 4,         /* budget spent */
+    SCALGO_BUDGET = 4,         /* visits spent */
     SCALGO_DEPTH = 5,          /* deeper than 32 objects */
     SCALGO_FIT = 6,            /* an offset under 10 or 8, or a header or content that does not fit */
     SCALGO_OBJECT_MAGIC = 7,   /* wrong object magic */
@@ -50,11 +50,35 @@ enum {
     SCALGO_WRITABLE = 12,      /* the sheet is lawful but not writable */
     SCALGO_WRITTEN_SIZE = 13,  /* the message would be over 16,777,215 bytes */
     SCALGO_ROOM = 14,          /* no room in the output, or a sheet over 16,777,215 bytes */
-    SCALGO_PATH = 15           /* a path's step has no such part, or a path over 96 numbers */
+    SCALGO_PATH = 15,          /* a path's step has no such part, or a path over 96 numbers */
+    SCALGO_CONTENT = 17        /* content spent */
 };
 
 /* The member of an answer that is about none: 4,294,967,295. */
 #define SCALGO_NO_MEMBER UINT32_MAX
+
+/* The largest content allowance; no walk spends as much. */
+#define SCALGO_ALL_CONTENT UINT64_MAX
+
+/* What scalgo_judge and scalgo_read say of a message.
+ *
+ * number: what the function answers.
+ * place: where the object of a refusal from 4 to 10 or by 17 stands, counted from the message's first
+ *         byte: its offset as stored, or where its content starts if it is in place. With 8 it is
+ *         the table, with 9 the object that holds the union. It is what the message says and may
+ *         lie past the message's end. 0 with the other numbers.
+ * member: which part of the object at that place is refused, counted from 0: with 8 the table's
+ *         member, with 9 the table's member or the list's element, with 10 the table's member that
+ *         is a struct. SCALGO_NO_MEMBER with 10 for a text's end byte, and with the other numbers.
+ * visits: the objects visited, each arrival at a shared object counted; an arrival refused by 4 is
+ *         not counted.
+ * content: the content bytes of the objects visited, each arrival counted: a text's (without its end
+ *         byte) or bytes' length, the bytes of a list's elements (eight bools take one), a table's
+ *         fixed part. An arrival refused by 5, 6, 7 or 17 adds none.
+ */
+typedef struct {
+    uint64_t number, place, member, visits, content;
+} scalgo_verdict;
 
 /* What scalgo_field answers, and the first of the four numbers of a step of scalgo_list. An enum is
  * an unsigned number of 8 bits; a union with a known choice is its object. */
@@ -71,33 +95,29 @@ enum {
     SCALGO_CASE_REFUSED = 7    /* a: one of the numbers above; b: its place; c: its member */
 };
 
-/* Judges a message by a packed schema and answers 0 to 10 of the numbers above.
+/* Judges a message by a packed schema and answers 0 to 10 of the numbers above, or 17.
  *
- * budget: how many objects may be visited, each arrival at a shared object counted.
- * *place: where the object of a refusal from 4 to 10 stands, counted from the message's first
- *         byte: its offset as stored, or where its content starts if it is in place. With 8 it is
- *         the table, with 9 the object that holds the union. It is what the message says and may
- *         lie past the message's end. 0 with the other numbers.
- * *member: which part of the object at *place is refused, counted from 0: with 8 the table's member,
- *         with 9 the table's member or the list's element, with 10 the table's member that is a
- *         struct. SCALGO_NO_MEMBER with 10 for a text's end byte, and with the other numbers.
- * *visits: the objects visited; an arrival refused for the budget is not counted.
+ * visits: how many objects may be visited; the next is refused by 4 before it is looked at.
+ * content: how many content bytes the visited objects may have in all; an object that fits the message
+ *         and with which there would be more is refused by 17, before its bytes are judged.
+ *         SCALGO_ALL_CONTENT allows any.
+ * *verdict: the number and all that there is to say of it.
  */
 uint32_t scalgo_judge(uint32_t coding, const uint8_t *schema, size_t schema_len,
                       const uint8_t *message, size_t message_len,
-                      uint32_t budget, uint64_t *place, uint32_t *member, uint32_t *visits);
+                      uint32_t visits, uint64_t content, scalgo_verdict *verdict);
 
 /* Reads one field and answers its case.
  *
  * path: a number for each table member, list element or struct member on the way from the root
  *       table, counted from 0; a union is passed through without one. An empty path leads to the
- *       root table. Only what is on the path is judged, without a budget. Where something on the
+ *       root table. Only what is on the path is judged, without an allowance. Where something on the
  *       way is absent or unknown, that is the answer, whatever numbers are left.
  * *a, *b, *c: what the case has; 0 where it has no such number.
  *
- * A refusal is 1, 2 or 3, 5 to 10 or 15. With 5 to 10 its place is as of scalgo_judge; with 15 it
- * is that of the last object judged; it is 0 with 1, 2 and 3 and with a path over 96 numbers. Its
- * member is as of scalgo_judge: SCALGO_NO_MEMBER with 1 to 7 and 15.
+ * A refusal is 1, 2 or 3, 5 to 10 or 15. With 5 to 10 its place is as in a verdict; with 15 it is
+ * that of the last object judged; it is 0 with 1, 2 and 3 and with a path over 96 numbers. Its
+ * member is as in a verdict: SCALGO_NO_MEMBER with 1 to 7 and 15.
  */
 uint32_t scalgo_field(uint32_t coding, const uint8_t *schema, size_t schema_len,
                       const uint8_t *message, size_t message_len,
@@ -134,18 +154,19 @@ uint64_t scalgo_list(uint32_t coding, const uint8_t *schema, size_t schema_len,
                      const uint32_t *path, size_t path_len,
                      uint64_t from, uint64_t *cases, size_t cases_len);
 
-/* Reads a message to its value sheet and answers 0 to 10 as scalgo_judge does, or 14.
+/* Reads a message to its value sheet and answers 0 to 10 or 17 as scalgo_judge does, or 14.
  *
- * budget, *place, *member, *visits: as of scalgo_judge; with 14 the place is 0, there is no member,
- *         and the visits are those of the accepted message.
+ * visits, content: as of scalgo_judge.
+ * *verdict: as of scalgo_judge; with 14 the place is 0, there is no member, and visits and content
+ *         are those of the accepted message.
  * sheet, room: where the sheet goes. With a refusal it is unchanged; else its first *length bytes
  *         are the sheet, and the bytes after them keep what they held.
  * *length: the bytes of the sheet; 0 with a refusal.
  */
 uint32_t scalgo_read(uint32_t coding, const uint8_t *schema, size_t schema_len,
                      const uint8_t *message, size_t message_len,
-                     uint32_t budget, uint8_t *sheet, size_t room,
-                     uint64_t *place, uint32_t *member, uint32_t *visits, uint64_t *length);
+                     uint32_t visits, uint64_t content, uint8_t *sheet, size_t room,
+                     scalgo_verdict *verdict, uint64_t *length);
 
 /* Writes a value sheet as a message and answers 0, 1, 11, 12, 13 or 14. The root table is put at 10
  * or 8.

@@ -1,7 +1,7 @@
-//! The verdict on a message.
+//! Judging a message.
 
-use crate::answer::member;
-use crate::Coding;
+use crate::verdict::Stored;
+use crate::{Budget, Coding, Verdict};
 
 extern "C" {
     fn scalgo_judge(
@@ -10,56 +10,48 @@ extern "C" {
         schema_len: usize,
         message: *const u8,
         message_len: usize,
-        budget: u32,
-        place: *mut u64,
-        member: *mut u32,
-        visits: *mut u32,
+        visits: u32,
+        content: u64,
+        verdict: *mut Stored,
     ) -> u32;
 }
 
-/// What judging a message answers.
-#[derive(Clone, Copy, Debug, PartialEq, Eq)]
-pub struct Verdict {
-    /// 0 where the message is accepted, else the number of the first refusal.
-    pub number: u32,
-    /// Where the object of the refusal stands, counted from the message's first byte.
-    pub place: u64,
-    /// Which member or element of that object is refused, counted from 0: with 8, 9 and 10, a text's
-    /// end byte aside. Of a struct it is the table's member.
-    pub member: Option<u32>,
-    /// The objects visited, a shared one at each arrival.
-    pub visits: u32,
-}
-
-impl Verdict {
-    /// Is the message accepted?
-    pub fn accepted(&self) -> bool {
-        self.number == 0
-    }
-}
-
-/// Judges a message by a packed schema. At most `budget` objects are visited.
-pub fn judge(coding: Coding, schema: &[u8], message: &[u8], budget: u32) -> Verdict {
-    let (mut place, mut part, mut visits) = (0, 0, 0);
+/// Judges a message by a packed schema, within a budget.
+///
+/// ```
+/// # let schema = b"\x00\x00\x00\x01\x00\x4C\x49\x43\x45\x02\x10\x00\x68\x00";
+/// # let message = b"\xB3\xC4\xC0\xB5\x0A\x00\x00\x00\x00\x00\
+/// #     \x45\x43\x49\x4C\x08\x00\x00\x00\x00\x00\x03\x00\x1C\x00\x00\x00\x00\x00\
+/// #     \xF5\xC8\x12\xD8\x02\x00\x00\x00\x00\x00ab\x00";
+/// use scalgo::{judge, Budget, Coding::Bits48};
+///
+/// // The table's fixed part has 8 bytes and the text 2.
+/// let enough = Budget { visits: 2, content: 10 };
+/// let verdict = judge(Bits48, schema, message, enough);
+/// assert!(verdict.accepted());
+/// assert_eq!((verdict.visits, verdict.content), (2, 10));
+///
+/// // With one visit less it is refused by 4, with one byte less by 17, both at the text.
+/// let one = judge(Bits48, schema, message, Budget { visits: 1, ..enough });
+/// assert_eq!((one.number, one.place, one.visits, one.content), (4, 28, 1, 8));
+/// let nine = judge(Bits48, schema, message, Budget { content: 9, ..enough });
+/// assert_eq!((nine.number, nine.place, nine.visits, nine.content), (17, 28, 2, 8));
+/// ```
+pub fn judge(coding: Coding, schema: &[u8], message: &[u8], budget: Budget) -> Verdict {
+    let mut stored = Stored::default();
     // SAFETY: each slice is given as its pointer, which is not null, and its length; no one writes
-    // to either during the call; the three numbers are this function's own; nothing is kept.
-    let number = unsafe {
+    // to either during the call; the verdict is this function's own; nothing is kept.
+    unsafe {
         scalgo_judge(
             coding.number(),
             schema.as_ptr(),
             schema.len(),
             message.as_ptr(),
             message.len(),
-            budget,
-            &mut place,
-            &mut part,
-            &mut visits,
+            budget.visits,
+            budget.content,
+            &mut stored,
         )
     };
-    Verdict {
-        number,
-        place,
-        member: member(u64::from(part)),
-        visits,
-    }
+    stored.into()
 }

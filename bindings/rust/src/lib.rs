@@ -18,7 +18,7 @@
 //! | 1 | the schema is not lawful under the coding | 0 |
 //! | 2 | the message is under 10 or 8 bytes, or over 16,777,215 | 0 |
 //! | 3 | wrong message magic | 0 |
-//! | 4 | the budget is spent | the object not visited |
+//! | 4 | the visits are spent | the object not visited |
 //! | 5 | deeper than 32 objects | the object |
 //! | 6 | an offset under 10 or 8, or a header or content that does not fit | the object |
 //! | 7 | wrong object magic | the object |
@@ -30,6 +30,7 @@
 //! | 13 | the message would be over 16,777,215 bytes | 0 |
 //! | 14 | no room in the output, or a sheet over 16,777,215 bytes | 0 |
 //! | 15 | a step that has no such part, or a path over 96 numbers | the last object judged; 0 for length |
+//! | 17 | the content is spent | the object with which it would be passed |
 //!
 //! With 8, 9 and 10 there is a member too: the number of the table's member or the list's element that
 //! is refused. A text's end byte has none.
@@ -37,7 +38,7 @@
 //! # Example
 //!
 //! ```
-//! use scalgo::{judge, Coding};
+//! use scalgo::{judge, Budget, Coding};
 //!
 //! // A table with a U16 and a text, and a message of the two.
 //! let schema = b"\x00\x00\x00\x01\x00\x4C\x49\x43\x45\x02\x10\x00\x68\x00";
@@ -45,11 +46,13 @@
 //!     \x45\x43\x49\x4C\x08\x00\x00\x00\x00\x00\x03\x00\x1C\x00\x00\x00\x00\x00\
 //!     \xF5\xC8\x12\xD8\x02\x00\x00\x00\x00\x00ab\x00";
 //!
-//! let verdict = judge(Coding::Bits48, schema, message, 100);
+//! // At most 100 objects, and 1,000 bytes of content in all.
+//! let budget = Budget { visits: 100, content: 1000 };
+//! let verdict = judge(Coding::Bits48, schema, message, budget);
 //! assert!(verdict.accepted());
-//! assert_eq!(verdict.visits, 2);
+//! assert_eq!((verdict.visits, verdict.content), (2, 10));
 //!
-//! let cut = judge(Coding::Bits48, schema, &message[..40], 100);
+//! let cut = judge(Coding::Bits48, schema, &message[..40], budget);
 //! assert_eq!((cut.number, cut.place, cut.visits), (6, 28, 2));
 //!
 //! // The same in the older coding.
@@ -57,8 +60,8 @@
 //!     \x45\x43\x49\x4C\x06\x00\x00\x00\x03\x00\x16\x00\x00\x00\
 //!     \xF5\xC8\x12\xD8\x02\x00\x00\x00ab\x00";
 //!
-//! assert!(judge(Coding::Bits32, schema, older, 100).accepted());
-//! assert_eq!(judge(Coding::Bits48, schema, older, 100).number, 6);
+//! assert!(judge(Coding::Bits32, schema, older, budget).accepted());
+//! assert_eq!(judge(Coding::Bits48, schema, older, budget).number, 6);
 //! ```
 
 mod answer;
@@ -67,12 +70,14 @@ mod field;
 mod judge;
 mod list;
 mod read;
+mod verdict;
 mod write;
 
 pub use answer::Answer;
 pub use coding::Coding;
 pub use field::{field, text};
-pub use judge::{judge, Verdict};
+pub use judge::judge;
 pub use list::{list, List};
 pub use read::{read, ReadAnswer};
+pub use verdict::{Budget, Verdict};
 pub use write::{write, WriteAnswer};

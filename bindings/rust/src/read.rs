@@ -1,7 +1,7 @@
 //! A message to its value sheet.
 
-use crate::answer::member;
-use crate::{Coding, Verdict};
+use crate::verdict::Stored;
+use crate::{Budget, Coding, Verdict};
 
 extern "C" {
     fn scalgo_read(
@@ -10,12 +10,11 @@ extern "C" {
         schema_len: usize,
         message: *const u8,
         message_len: usize,
-        budget: u32,
+        visits: u32,
+        content: u64,
         sheet: *mut u8,
         room: usize,
-        place: *mut u64,
-        member: *mut u32,
-        visits: *mut u32,
+        verdict: *mut Stored,
         length: *mut u64,
     ) -> u32;
 }
@@ -23,7 +22,7 @@ extern "C" {
 /// What reading a message to a sheet answers.
 #[derive(Clone, Copy, Debug, PartialEq, Eq)]
 pub struct ReadAnswer {
-    /// The verdict on the message; 14, with the visits, where the sheet has no room.
+    /// The verdict on the message; 14, with visits and content, where the sheet has no room.
     pub verdict: Verdict,
     /// The bytes written; 0 with a refusal.
     pub length: usize,
@@ -37,54 +36,49 @@ pub struct ReadAnswer {
 /// # let message = b"\xB3\xC4\xC0\xB5\x0A\x00\x00\x00\x00\x00\
 /// #     \x45\x43\x49\x4C\x08\x00\x00\x00\x00\x00\x03\x00\x1C\x00\x00\x00\x00\x00\
 /// #     \xF5\xC8\x12\xD8\x02\x00\x00\x00\x00\x00ab\x00";
-/// use scalgo::{read, Coding::Bits48};
+/// use scalgo::{read, Budget, Coding::Bits48};
 ///
+/// let budget = Budget { visits: 2, content: 10 };
 /// let mut sheet = [0xEE; 12];
-/// let answer = read(Bits48, schema, message, 2, &mut sheet);
+/// let answer = read(Bits48, schema, message, budget, &mut sheet);
 /// assert!(answer.verdict.accepted());
 /// assert_eq!((answer.verdict.visits, answer.length), (2, 9));
 /// assert_eq!(sheet, *b"\x40\x00\xD0\x00\x00\x00\x26\x16\x20\xEE\xEE\xEE");
 ///
-/// // A budget of 1, and a sheet of 8 bytes.
-/// let spent = read(Bits48, schema, message, 1, &mut sheet).verdict;
+/// // One visit, and a sheet of 8 bytes.
+/// let spent = read(Bits48, schema, message, Budget::of_visits(1), &mut sheet).verdict;
 /// assert_eq!((spent.number, spent.place, spent.visits), (4, 28, 1));
-/// let short = read(Bits48, schema, message, 2, &mut sheet[..8]).verdict;
+/// let short = read(Bits48, schema, message, budget, &mut sheet[..8]).verdict;
 /// assert_eq!((short.number, short.place, short.visits), (14, 0, 2));
 /// ```
 pub fn read(
     coding: Coding,
     schema: &[u8],
     message: &[u8],
-    budget: u32,
+    budget: Budget,
     sheet: &mut [u8],
 ) -> ReadAnswer {
-    let (mut place, mut part, mut visits, mut length) = (0, 0, 0, 0);
+    let (mut stored, mut length) = (Stored::default(), 0);
     // SAFETY: each slice is given as its pointer, which is not null, and its length; no one writes
-    // to the shared ones during the call, and the sheet is lent to this function alone; the four
-    // numbers are this function's own; nothing is kept.
-    let number = unsafe {
+    // to the shared ones during the call, and the sheet is lent to this function alone; the
+    // verdict and the length are this function's own; nothing is kept.
+    unsafe {
         scalgo_read(
             coding.number(),
             schema.as_ptr(),
             schema.len(),
             message.as_ptr(),
             message.len(),
-            budget,
+            budget.visits,
+            budget.content,
             sheet.as_mut_ptr(),
             sheet.len(),
-            &mut place,
-            &mut part,
-            &mut visits,
+            &mut stored,
             &mut length,
         )
     };
     ReadAnswer {
-        verdict: Verdict {
-            number,
-            place,
-            member: member(u64::from(part)),
-            visits,
-        },
+        verdict: stored.into(),
         length: length as usize,
     }
 }

@@ -2,7 +2,7 @@
 //! the documents of the two codings, so the numbers stand beside each other here.
 
 use scalgo::Coding::{self, Bits32, Bits48};
-use scalgo::{field, judge, list, read, text, write, Answer, Verdict};
+use scalgo::{field, judge, list, read, text, write, Answer, Budget, Verdict};
 
 /// The same value in one of the codings.
 struct Example {
@@ -63,13 +63,19 @@ const EXAMPLES: [Example; 2] = [
 ];
 
 /// A verdict without a member.
-fn verdict(number: u32, place: u64, visits: u32) -> Verdict {
+fn verdict(number: u32, place: u64, visits: u32, content: u64) -> Verdict {
     Verdict {
         number,
         place,
         member: None,
         visits,
+        content,
     }
+}
+
+/// So many visits with all the content there is.
+fn visits(visits: u32) -> Budget {
+    Budget::of_visits(visits)
 }
 
 fn object(kind: u8, place: u64, length: u64) -> Answer {
@@ -92,7 +98,12 @@ fn refused(number: u32, place: u64) -> Answer {
 impl Example {
     /// Where the referenced text of `message` stands: behind the root's header, a U16 and an offset.
     fn text(&self) -> u64 {
-        2 * self.first + 2 + self.offset
+        2 * self.first + self.fixed()
+    }
+
+    /// The bytes of its root's fixed part.
+    fn fixed(&self) -> u64 {
+        2 + self.offset
     }
 }
 
@@ -111,33 +122,65 @@ fn numbers_of_the_codings() {
 #[test]
 fn verdicts() {
     for example in EXAMPLES {
-        let judged = |message: &[u8], budget| judge(example.coding, SCHEMA, message, budget);
-        let (message, text) = (example.message, example.text());
-        assert_eq!(judged(message, 2), verdict(0, 0, 2));
-        assert_eq!(judged(message, 1), verdict(4, text, 1));
-        assert_eq!(judged(message, 0), verdict(4, example.first, 0));
-        assert_eq!(
-            judged(&message[..message.len() - 1], 2),
-            verdict(6, text, 2)
-        );
+        let judged = |message: &[u8], many| judge(example.coding, SCHEMA, message, visits(many));
+        let (message, text, fixed) = (example.message, example.text(), example.fixed());
+        assert_eq!(judged(message, 2), verdict(0, 0, 2, fixed + 2));
+        assert_eq!(judged(message, 1), verdict(4, text, 1, fixed));
+        assert_eq!(judged(message, 0), verdict(4, example.first, 0, 0));
+        let shorter = &message[..message.len() - 1];
+        assert_eq!(judged(shorter, 2), verdict(6, text, 2, fixed));
         let first = example.first as usize;
-        assert_eq!(judged(&message[..first - 1], 2), verdict(2, 0, 0));
-        assert_eq!(judged(&message[..first], 2), verdict(6, example.first, 1));
+        assert_eq!(judged(&message[..first - 1], 2), verdict(2, 0, 0, 0));
+        let no_root = verdict(6, example.first, 1, 0);
+        assert_eq!(judged(&message[..first], 2), no_root);
         let mut small = message.to_vec();
         small[4] = first as u8 - 1;
-        assert_eq!(judged(&small, 2), verdict(6, example.first - 1, 1));
+        assert_eq!(judged(&small, 2), verdict(6, example.first - 1, 1, 0));
         let mut cut = message.to_vec();
         cut[first + 4] -= 1;
         // The text is member 1; the end byte is of no member.
         let of_text = Verdict {
             member: Some(1),
-            ..verdict(8, example.first, 1)
+            ..verdict(8, example.first, 1, fixed - 1)
         };
         assert_eq!(judged(&cut, 2), of_text);
         let mut end = message.to_vec();
         end[message.len() - 1] = 1;
-        assert_eq!(judged(&end, 2), verdict(10, text, 2));
+        assert_eq!(judged(&end, 2), verdict(10, text, 2, fixed + 2));
     }
+}
+
+/// The fixed part and the text's two bytes: with one less the text is refused, or the root.
+#[test]
+fn content_allowances() {
+    for example in EXAMPLES {
+        let (message, text, fixed) = (example.message, example.text(), example.fixed());
+        let (accepted, first) = (verdict(0, 0, 2, fixed + 2), example.first);
+        let (at_text, at_root) = (verdict(17, text, 2, fixed), verdict(17, first, 1, 0));
+        for (content, expected) in [
+            (u64::MAX, accepted),
+            (fixed + 2, accepted),
+            (fixed + 1, at_text),
+            (fixed, at_text),
+            (fixed - 1, at_root),
+            (0, at_root),
+        ] {
+            let budget = Budget { visits: 2, content };
+            let given = judge(example.coding, SCHEMA, message, budget);
+            assert_eq!(given, expected);
+            let mut sheet = [0xEE; 9];
+            let answer = read(example.coding, SCHEMA, message, budget, &mut sheet);
+            let length = if expected.accepted() { 9 } else { 0 };
+            assert_eq!((answer.verdict, answer.length), (expected, length));
+            assert_eq!(sheet == [0xEE; 9], length == 0);
+        }
+        // The visits are spent first.
+        let (visits, content) = (1, fixed);
+        let budget = Budget { visits, content };
+        let given = judge(example.coding, SCHEMA, message, budget);
+        assert_eq!(given, verdict(4, text, 1, fixed));
+    }
+    assert_eq!(Budget::LARGEST, visits(u32::MAX));
 }
 
 /// A message of one coding is none of the other.
@@ -146,11 +189,11 @@ fn messages_of_the_other_coding() {
     let [newer, older] = EXAMPLES;
     // The root is at 10 here too, but its length ends at 18: the reference is the two bytes of 3
     // and the first two of the offset.
-    let given = judge(Bits32, SCHEMA, newer.message, 2);
-    assert_eq!(given, verdict(6, 0x001C_0003, 2));
+    let given = judge(Bits32, SCHEMA, newer.message, visits(2));
+    assert_eq!(given, verdict(6, 0x001C_0003, 2, 8));
     // The root's offset is 8 and the first two bytes of the root's id.
-    let given = judge(Bits48, SCHEMA, older.message, 2);
-    assert_eq!(given, verdict(6, 0x4345_0000_0008, 1));
+    let given = judge(Bits48, SCHEMA, older.message, visits(2));
+    assert_eq!(given, verdict(6, 0x4345_0000_0008, 1, 0));
 }
 
 #[test]
@@ -193,11 +236,12 @@ fn members() {
             let (place, member) = (example.first, Some(member));
             let expected = Verdict {
                 member,
-                ..verdict(number, place, 1)
+                ..verdict(number, place, 1, fixed.len() as u64)
             };
             let message = message(fixed);
-            assert_eq!(judge(example.coding, schema, &message, 9), expected);
-            let answer = read(example.coding, schema, &message, 9, &mut [0; 9]);
+            let given = judge(example.coding, schema, &message, visits(9));
+            assert_eq!(given, expected);
+            let answer = read(example.coding, schema, &message, visits(9), &mut [0; 9]);
             assert_eq!((answer.verdict, answer.length), (expected, 0));
             let refused = Answer::Refused {
                 number,
@@ -221,9 +265,9 @@ fn elements() {
     let member = Some(1);
     let expected = Verdict {
         member,
-        ..verdict(9, 26, 2)
+        ..verdict(9, 26, 2, 6 + 16)
     };
-    assert_eq!(judge(Bits48, schema, message, 9), expected);
+    assert_eq!(judge(Bits48, schema, message, visits(9)), expected);
     let elements = list(Bits48, schema, message, &[0]).expect("a list");
     let (number, place) = (9, 26);
     let refused = Answer::Refused {
@@ -242,14 +286,17 @@ fn unions_in_place() {
     for example in EXAMPLES {
         let (coding, message) = (example.coding, example.union);
         // The root's header, a U8, a choice and a length.
-        let place = 2 * example.first + 3 + example.offset;
-        assert_eq!(judge(coding, IN_PLACE, message, 2), verdict(0, 0, 2));
-        assert_eq!(judge(coding, IN_PLACE, message, 1), verdict(4, place, 1));
+        let fixed = 3 + example.offset;
+        let place = 2 * example.first + fixed;
+        let accepted = verdict(0, 0, 2, fixed + 2);
+        assert_eq!(judge(coding, IN_PLACE, message, visits(2)), accepted);
+        let spent = verdict(4, place, 1, fixed);
+        assert_eq!(judge(coding, IN_PLACE, message, visits(1)), spent);
         assert_eq!(field(coding, IN_PLACE, message, &[1]), object(13, place, 2));
         assert_eq!(text(coding, IN_PLACE, message, &[1]), Some(&b"ab"[..]));
         let mut sheet = [0xEE; 11];
-        let answer = read(coding, IN_PLACE, message, 2, &mut sheet);
-        assert_eq!((answer.verdict, answer.length), (verdict(0, 0, 2), 10));
+        let answer = read(coding, IN_PLACE, message, visits(2), &mut sheet);
+        assert_eq!((answer.verdict, answer.length), (accepted, 10));
         assert_eq!(sheet, *b"\x41\x50\x00\x10\x00\x00\x00\x26\x16\x20\xEE");
         let mut written = vec![0xEE; message.len()];
         let answer = write(coding, IN_PLACE, UNION_SHEET, &mut written);
@@ -279,11 +326,14 @@ fn sheets_and_messages() {
     for example in EXAMPLES {
         let (coding, message) = (example.coding, example.message);
         let mut sheet = [0xEE; 10];
-        let answer = read(coding, SCHEMA, message, 2, &mut sheet);
-        assert_eq!((answer.verdict, answer.length), (verdict(0, 0, 2), 9));
+        let answer = read(coding, SCHEMA, message, visits(2), &mut sheet);
+        let content = example.fixed() + 2;
+        let accepted = verdict(0, 0, 2, content);
+        assert_eq!((answer.verdict, answer.length), (accepted, 9));
         assert_eq!((&sheet[..9], sheet[9]), (SHEET, 0xEE));
-        let short = read(coding, SCHEMA, message, 2, &mut sheet[..8]);
-        assert_eq!((short.verdict, short.length), (verdict(14, 0, 2), 0));
+        let short = read(coding, SCHEMA, message, visits(2), &mut sheet[..8]);
+        let no_room = verdict(14, 0, 2, content);
+        assert_eq!((short.verdict, short.length), (no_room, 0));
         let mut written = vec![0xEE; message.len() + 1];
         let answer = write(coding, SCHEMA, SHEET, &mut written);
         assert_eq!((answer.number, answer.length), (0, message.len()));
@@ -304,14 +354,16 @@ fn schemas_of_one_coding() {
     for schema in schemas {
         // The start says 8, where the coding of 48 bits has no object.
         let message = b"\xB3\xC4\xC0\xB5\x08\0\0\0\0\0";
-        assert_eq!(judge(Bits48, schema, message, 2), verdict(6, 8, 1));
-        assert_eq!(judge(Bits32, schema, message, 2), verdict(1, 0, 0));
+        let small = verdict(6, 8, 1, 0);
+        assert_eq!(judge(Bits48, schema, message, visits(2)), small);
+        let not_lawful = verdict(1, 0, 0, 0);
+        assert_eq!(judge(Bits32, schema, message, visits(2)), not_lawful);
         assert_eq!(field(Bits32, schema, message, &[0; 97]), refused(1, 0));
         assert_eq!(text(Bits32, schema, message, &[0]), None);
         let none = list(Bits32, schema, message, &[0]).err();
         assert_eq!(none, Some(refused(1, 0)));
-        let answer = read(Bits32, schema, message, 2, &mut [0; 9]);
-        assert_eq!((answer.verdict, answer.length), (verdict(1, 0, 0), 0));
+        let answer = read(Bits32, schema, message, visits(2), &mut [0; 9]);
+        assert_eq!((answer.verdict, answer.length), (not_lawful, 0));
         let answer = write(Bits32, schema, &[0], &mut [0; 99]);
         assert_eq!((answer.number, answer.length), (1, 0));
     }

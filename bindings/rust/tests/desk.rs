@@ -46,7 +46,7 @@ fn prints(folder: &Path, words: &str, expected: &str) {
 #[test]
 fn judging_and_fields() {
     let folder = folder("fields");
-    prints(&folder, "judge schema message", "0 0 2");
+    prints(&folder, "judge schema message", "0 0 2 10");
     prints(&folder, "field schema message", "table at 10, length 8");
     let number = "unsigned number of 16 bits: 3";
     prints(&folder, "field schema message 0", number);
@@ -55,18 +55,18 @@ fn judging_and_fields() {
     prints(&folder, "field schema message 2", "refused: 15 at 10");
     prints(&folder, "list schema message 1", "refused: 15 at 0");
     fs::write(folder.join("message"), &MESSAGE[..40]).expect("a file is written");
-    prints(&folder, "judge schema message", "6 28 2");
+    prints(&folder, "judge schema message", "6 28 2 8");
     prints(&folder, "field schema message 1", "refused: 6 at 28");
-    prints(&folder, "judge message schema", "1 0 0");
+    prints(&folder, "judge message schema", "1 0 0 0");
     // The text is cut by a fixed part of 5 bytes.
     let mut cut = MESSAGE.to_vec();
     cut[14] = 5;
     fs::write(folder.join("message"), cut).expect("a file is written");
-    prints(&folder, "judge schema message", "8 10 1, member 1");
+    prints(&folder, "judge schema message", "8 10 1 5, member 1");
     let refused = "refused: 8 at 10, member 1";
     prints(&folder, "field schema message 1", refused);
     prints(&folder, "list schema message 1", refused);
-    let read = "8 10 1 0, member 1";
+    let read = "8 10 1 5 0, member 1";
     prints(&folder, "read schema message read", read);
 }
 
@@ -89,11 +89,11 @@ fn a_list() {
 #[test]
 fn reading_to_a_sheet() {
     let folder = folder("sheets");
-    prints(&folder, "read schema message read", "0 0 2 9");
+    prints(&folder, "read schema message read", "0 0 2 10 9");
     assert_eq!(fs::read(folder.join("read")).expect("a sheet"), SHEET);
     fs::write(folder.join("message"), &MESSAGE[..40]).expect("a file is written");
     fs::remove_file(folder.join("read")).expect("the sheet goes away");
-    prints(&folder, "read schema message read", "6 28 2 0");
+    prints(&folder, "read schema message read", "6 28 2 8 0");
     assert!(!folder.join("read").exists());
 }
 
@@ -107,6 +107,40 @@ fn writing_a_message() {
     assert!(!folder.join("written").exists());
 }
 
+/// The text is refused with one visit, or with two and less content than its fixed part and its two
+/// bytes; the root with less than its fixed part.
+#[test]
+fn allowances() {
+    let folder = folder("allowances");
+    for (flags, verdict) in [
+        ("--visits 2 --content 10", "0 0 2 10"),
+        ("--visits 1", "4 28 1 8"),
+        ("--visits 0", "4 10 0 0"),
+        ("--content 9", "17 28 2 8"),
+        ("--content 7", "17 10 1 0"),
+        ("--content 0 --visits 0", "4 10 0 0"),
+        ("--content 9 --visits 1", "4 28 1 8"),
+        (
+            "--content 18446744073709551615 --visits 4294967295",
+            "0 0 2 10",
+        ),
+        ("--coding 32 --content 8", "6 1835011 2 8"),
+        ("--content 7 --coding 32", "17 10 1 0"),
+    ] {
+        prints(&folder, &format!("{flags} judge schema message"), verdict);
+        let length = if verdict.starts_with("0 ") { 9 } else { 0 };
+        let read = format!("{flags} read schema message read");
+        prints(&folder, &read, &format!("{verdict} {length}"));
+    }
+    // Fields have no allowance.
+    let text = "text at 28, length 2: ab";
+    prints(
+        &folder,
+        "--visits 0 --content 0 field schema message 1",
+        text,
+    );
+}
+
 #[test]
 fn wrong_words_and_missing_files() {
     let folder = folder("wrong");
@@ -117,6 +151,12 @@ fn wrong_words_and_missing_files() {
         "--coding 33 judge schema message",
         "--coding x judge schema message",
         "--coding 32",
+        "--visits 4294967296 judge schema message",
+        "--visits -1 judge schema message",
+        "--content 18446744073709551616 judge schema message",
+        "--content judge schema message",
+        "--content 5",
+        "--budget 5 judge schema message",
         "judge schema message --coding 32",
     ] {
         assert_eq!(run(&folder, words), (String::new(), false));
@@ -126,16 +166,16 @@ fn wrong_words_and_missing_files() {
 #[test]
 fn the_older_coding() {
     let folder = folder("older");
-    prints(&folder, "--coding 32 judge schema older", "0 0 2");
-    prints(&folder, "--coding 48 judge schema message", "0 0 2");
-    prints(&folder, "--coding 32 judge schema message", "6 1835011 2");
+    prints(&folder, "--coding 32 judge schema older", "0 0 2 8");
+    prints(&folder, "--coding 48 judge schema message", "0 0 2 10");
+    prints(&folder, "--coding 32 judge schema message", "6 1835011 2 8");
     let root = "table at 8, length 6";
     prints(&folder, "--coding 32 field schema older", root);
     let text = "text at 22, length 2: ab";
     prints(&folder, "--coding 32 field schema older 1", text);
     let none = "refused: 15 at 0";
     prints(&folder, "--coding 32 list schema older 1", none);
-    prints(&folder, "--coding 32 read schema older read", "0 0 2 9");
+    prints(&folder, "--coding 32 read schema older read", "0 0 2 8 9");
     assert_eq!(fs::read(folder.join("read")).expect("a sheet"), SHEET);
     prints(&folder, "--coding 32 write schema sheet written", "0 33");
     let written = fs::read(folder.join("written")).expect("bytes");
@@ -143,5 +183,5 @@ fn the_older_coding() {
     // A union that is not in place.
     let union = b"\x00\x00\x01\x01\x00\x01\x68\x00\x4C\x49\x43\x45\x01\x88\x00";
     fs::write(folder.join("schema"), union).expect("a file is written");
-    prints(&folder, "--coding 32 judge schema older", "1 0 0");
+    prints(&folder, "--coding 32 judge schema older", "1 0 0 0");
 }

@@ -1,6 +1,7 @@
 // Judges stored cases. cases.bin, in the folder it is run in, holds for each case its coding (48 or 32), the length of its schema,
-// the length of its message and its budget, four bytes each, the lowest first, and then the bytes of both. For each case the program
-// prints number, place and visits on a line. A case that the file does not hold whole, or with a length over 64 KiB, ends the run.
+// the length of its message and its budget, four bytes each, the lowest first, and then the bytes of both. Each case
+// has the largest content allowance, and the program prints its number, place and visits on a line. A case that the file does not
+// hold whole, or with a length over 64 KiB, ends the run.
 use coding::Budget;
 use libc::STDOUT_FILENO;
 ghost use Rattle.io.specs.Counts.{Counts};
@@ -36,8 +37,12 @@ fn print(n: u64, end: u8) {
     io::write_all(STDOUT_FILENO, &last);
 }
 
-fn verdict(schema: &[u8], message: &[u8], budget: u32, o: usize) {
-    let v = judge::judge(schema, message, Budget { visits: budget }, o);
+fn verdict(schema: &[u8], message: &[u8], visits: u32, o: usize) {
+    let budget = Budget {
+        visits,
+        content: u64::MAX,
+    };
+    let v = judge::judge(schema, message, budget, o);
     print(v.number as u64, b' ');
     print(v.place as u64, b' ');
     print(v.visits as u64, b'\n');

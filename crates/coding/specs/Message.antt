@@ -252,7 +252,8 @@ writeRoom (refused n) room = record { number = n; length = 0 }
 writeRoom (message m) room =
     pick (leb (length m) room) (record { number = 0; length = length m }) (record { number = 14; length = 0 })
 
--- number, place and visits of the writer's answer: "with visits 0"; the table gives each of its refusals the place 0
+-- number, place, visits and content of the writer's answer: "with visits 0", and content 0; the table gives each of its refusals the
+-- place 0
 unfoldable pub writeVerdict : WriteAnswer → Verdict
 writeVerdict a = early (a .number)
 
@@ -278,8 +279,8 @@ messageSheet o b m = sheetOf (parse b) (messageRead o (parse b) m)
 unfoldable pub fitsRoom : List ℕ → List ℕ → Bool
 fitsRoom s out = leb (length s) largest && leb (length s) (length out)
 
--- "Reading to a sheet gives the verdict's refusal first, then 14 with the full visits."; "On success a written length is
--- given ...; on refusal the length is 0"
+-- "Reading to a sheet gives the verdict's refusal first, then 14 with the full visits.", and with the full content (02, K7: "The
+-- verdict record reports both."); "On success a written length is given ...; on refusal the length is 0"
 unfoldable pub readAnswer : ℕ → List ℕ → List ℕ → Budget → List ℕ → ReadAnswer
 readAnswer o b m budget out =
     pick (eqb (verdict o b m budget .number) 0)

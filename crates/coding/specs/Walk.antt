@@ -62,6 +62,14 @@ contentSize o S O.Bytes n = n
 contentSize o S (O.List i) n = elementsSize o S (elementOf S i) n
 contentSize o S (O.Table i) n = n
 
+-- what an arrival adds to the content that is spent. 02, K7: "Each arrival whose content fits adds its content length: bytes,
+-- text without its end byte, list element bytes, fixed part"; bools are packed, and the bytes that they take are charged
+unfoldable pub contentLength : ℕ → Schema → Object → ℕ → ℕ
+contentLength o S O.Text n = n
+contentLength o S O.Bytes n = n
+contentLength o S (O.List i) n = elementsSize o S (elementOf S i) n
+contentLength o S (O.Table i) n = n
+
 -- refusal 10: "text end byte not 0"
 unfoldable pub endOk : List ℕ → Object → ℕ → ℕ → Bool
 endOk m O.Text start n = eqb (getD m (start + n) 0) 0
@@ -88,7 +96,8 @@ unfoldable pub bytesTested : List ℕ → Object → Opened → Opened
 bytesTested m ob (Op.Refused n) = Op.Refused n
 bytesTested m ob (Op.Content start n) = pick (endOk m ob start n) (Op.Content start n) (Op.Refused 10)
 
--- "Judged at an arrival: ... offset and header fit, magic, content fit, text's end byte."
+-- "Judged at an arrival: ... offset and header fit, magic, content fit, text's end byte.", with nothing charged: one field is
+-- read "without budget"
 unfoldable pub openObject : ℕ → Schema → List ℕ → Object → Place → Opened
 openObject o S m ob p = bytesTested m ob (fitObject o S m ob p)
 
@@ -106,7 +115,8 @@ refusal n at = record { number = n; place = at; member = noMember }
 abbrev pub partRefusal : ℕ → ℕ → ℕ → Refusal
 partRefusal n holder j = record { number = n; place = holder; member = j }
 
--- a refusal with its number and place, after what was spent: "Judging answers number, place and visits"
+-- a refusal with its number and place, after what was spent: "Judging answers number, place and visits"; 02, K7: "The verdict
+-- record reports both."
 unfoldable pub refuse : ℕ → ℕ → Spent → Walked
 refuse n at s = Refused (refusal n at) s
 
@@ -168,26 +178,46 @@ unfoldable pub enter : Child → ℕ → Schema → List ℕ → Object → ℕ 
 enter child o S m ob holder (Op.Refused n) s = refuse n holder s
 enter child o S m ob holder (Op.Content start n) s = content child o S m ob holder start n s
 
--- an arrival after budget and depth: "offset and header fit, magic, content fit, text's end byte. Then each member or
--- element in turn"
-unfoldable pub arrive : Child → ℕ → Schema → List ℕ → Child
-arrive child o S m ob p s = enter child o S m ob (placed p) (openObject o S m ob p) s
+-- ---- an arrival: the two allowances
+-- "Budget: any 32-bit unsigned number."; 02, K7: "a content allowance, any 64-bit unsigned number, beside visits": so many
+-- visits, and so many bytes of content
+abbrev pub allowing : ℕ → ℕ → Budget
+allowing n c = record { visits = n; content = c }
+
+-- 02, K7: "the counter's cases and the desk program hand in the largest content allowance"
+unfoldable pub mostContent : ℕ
+mostContent = 18446744073709551615
+
+-- what is spent with so many visits and so many bytes of content
+abbrev pub spending : ℕ → ℕ → Spent
+spending n c = record { visits = n; content = c }
+
+-- what is spent with one arrival more: "Every arrival at an object counts one visit"
+unfoldable pub oneMore : Spent → Spent
+oneMore s = spending (s .visits + 1) (s .content)
+
+-- what is spent with so many bytes of content more: 02, K7, "adds its content length"
+unfoldable pub withContent : ℕ → Spent → Spent
+withContent c s = spending (s .visits) (s .content + c)
+
+-- what the fit found at the object at `holder`: a refusal, at the "object"; or content, which is charged before its bytes are
+-- tested. 02, K7: "17, exactly if the sum would pass the allowance, at the object, after content fits and before its bytes are
+-- judged; such an arrival counts as a visit but adds no content". So a text refused by 10 has added its length.
+unfoldable pub admit : Child → ℕ → Schema → List ℕ → Budget → Object → ℕ → Opened → Spent → Walked
+admit child o S m b ob holder (Op.Refused n) s = refuse n holder s
+admit child o S m b ob holder (Op.Content start n) s =
+    pick (leb (s .content + contentLength o S ob n) (b .content))
+    (enter child o S m ob holder (bytesTested m ob (Op.Content start n)) (withContent (contentLength o S ob n) s))
+    (refuse 17 holder s)
+
+-- an arrival after visits and depth: "offset and header fit, magic, content fit", the content allowance, "text's end byte. Then
+-- each member or element in turn"
+unfoldable pub arrive : Child → ℕ → Schema → List ℕ → Budget → Child
+arrive child o S m b ob p s = admit child o S m b ob (placed p) (fitObject o S m ob p) s
 
 -- refusal 5: "deeper than 32", at the "object"
 unfoldable pub tooDeep : Child
 tooDeep ob p s = refuse 5 (placed p) s
-
--- "Budget: any 32-bit unsigned number.": a budget of so many visits
-abbrev pub allowing : ℕ → Budget
-allowing n = record { visits = n }
-
--- what is spent with so many visits
-abbrev pub spending : ℕ → Spent
-spending n = record { visits = n }
-
--- what is spent with one arrival more: "Every arrival at an object counts one visit"
-unfoldable pub oneMore : Spent → Spent
-oneMore s = spending (s .visits + 1)
 
 -- "Every arrival at an object counts one visit"; refusal 4: "budget spent", at the "object not visited"; "an arrival refused
 -- by 4 isn't counted"
@@ -196,10 +226,11 @@ counted child b ob p s =
     pick (ltb (s .visits) (b .visits)) (child ob p (oneMore s)) (refuse 4 (placed p) s)
 
 -- an arrival with d objects of depth left, this one counted: "budget, depth, offset and header fit, magic, content fit,
--- text's end byte. Then each member or element in turn". "following a reference or entering in-place content adds 1".
+-- text's end byte. Then each member or element in turn", and before the end byte the content allowance (02, K7). "following a
+-- reference or entering in-place content adds 1".
 unfoldable pub visit : ℕ → ℕ → Schema → List ℕ → Budget → Child
 visit zero o S m b = counted tooDeep b
-visit (suc d) o S m b = counted (arrive (visit d o S m b) o S m) b
+visit (suc d) o S m b = counted (arrive (visit d o S m b) o S m b) b
 
 -- "Start: magic 0xB5C0C4B3, U48 root offset."
 unfoldable pub rootPlace : ℕ → List ℕ → Place
@@ -207,7 +238,7 @@ rootPlace o m = ByOffset (le m 4 o)
 
 -- before the first arrival nothing is spent
 unfoldable pub nothing : Spent
-nothing = spending 0
+nothing = spending 0 0
 
 -- "From the root, members and elements in order": the arrival at the root table, with nothing spent; "Depth: 32 objects,
 -- the root being 1"
@@ -215,9 +246,11 @@ unfoldable pub walk : ℕ → Schema → List ℕ → Budget → Walked
 walk o S m b = visit deepest o S m b (O.Table (S .root)) (rootPlace o m) nothing
 
 -- ---- the verdict
--- "Judging answers number, place and visits", and the member (02, K6): of a refusal, after what was spent
+-- "Judging answers number, place and visits", and the member (02, K6): of a refusal, after what was spent; 02, K7: "The verdict
+-- record reports both."
 abbrev pub verdictAt : Refusal → Spent → Verdict
-verdictAt r s = record { number = r .number; place = r .place; member = r .member; visits = s .visits }
+verdictAt r s =
+    record { number = r .number; place = r .place; member = r .member; visits = s .visits; content = s .content }
 
 -- a number at place 0, about no member: "accepted", or a refusal at 0, after what was spent
 abbrev pub atZero : ℕ → Spent → Verdict
@@ -228,11 +261,11 @@ unfoldable pub verdictOf : Walked → Verdict
 verdictOf (Going s) = atZero 0 s
 verdictOf (Refused r s) = verdictAt r s
 
--- what a verdict says was spent: "Judging answers number, place and visits"
+-- what a verdict says was spent: "Judging answers number, place and visits"; 02, K7: "The verdict record reports both."
 abbrev pub spentOf : Verdict → Spent
-spentOf v = spending (v .visits)
+spentOf v = spending (v .visits) (v .content)
 
--- a number with place 0 and visits 0: "Before the walk, 1, 2, 3 are tried in order with visits 0." The writer's and the
+-- a number with place 0, visits 0 and content 0: "Before the walk, 1, 2, 3 are tried in order with visits 0." The writer's and the
 -- field's answers at place 0 have the same form.
 unfoldable pub early : ℕ → Verdict
 early n = atZero n nothing

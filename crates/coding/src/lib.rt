@@ -89,14 +89,16 @@ pub enum Opened {
     Content(usize, usize),
 }
 
-// What may be spent.
+// What may be spent: visits, and bytes of content.
 pub struct Budget {
     pub visits: u32,
+    pub content: u64,
 }
 
 // What the walk has spent so far.
 pub struct Spent {
     pub visits: u32,
+    pub content: u64,
 }
 
 // Its number and place, and the number in its holder of the member or element that it is about; 4294967295 where it is about none.
@@ -131,9 +133,10 @@ pub struct Verdict {
     pub place: usize,
     pub member: u32,
     pub visits: u32,
+    pub content: u64,
 }
 
-// Reading to a sheet: the verdict, or 14 with its visits, and the length of what was written.
+// Reading to a sheet: the verdict, or 14 with what it spent, and the length of what was written.
 pub struct ReadAnswer {
     pub verdict: Verdict,
     pub length: usize,

@@ -17,7 +17,7 @@ use Rattle.coding.specs.Structs.{flatWidth}
 use Rattle.coding.specs.Layout.{width, flatIsBool, isBool, begin, afterMember}
 use Rattle.coding.specs.Step.{memberStep, elementStep, elementsSize}
 use Rattle.coding.specs.Walk as W
-use Rattle.coding.specs.Walk.{placed, magic, headerSize, startSize, contentSize, endOk, fitContent, fitObject, bytesTested, openObject, refuse, refusePart, andThen, followChoice, follow, content, enter, arrive, tooDeep, oneMore, counted, visit, rootPlace, nothing, walk, verdictOf, early, sizeOk, startOk, verdict}
+use Rattle.coding.specs.Walk.{placed, magic, headerSize, startSize, contentSize, contentLength, endOk, fitContent, fitObject, bytesTested, refuse, refusePart, andThen, followChoice, follow, content, enter, withContent, admit, arrive, tooDeep, oneMore, counted, visit, rootPlace, nothing, walk, verdictOf, early, sizeOk, startOk, verdict}
 use Rattle.coding.specs.Value.{count}
 use Rattle.coding.specs.Read as R
 use Rattle.coding.specs.Read.{stepRead, structRead, membersRead, elementsRead, contentRead, placeRead, read, messageRead}
@@ -172,39 +172,52 @@ module _ (S : Schema) (G : Sound S) (m : List ℕ) (small : (i : ℕ) → getD m
     unfolding Enters enter
     content-enters ob holder start n s l = content-ends ob holder start n s l
 
-    -- the same where the bytes are tested yet
-    Fits : Object → ℕ → ℕ → ℕ → Spent → Opened → Type 0
-    Fits ob holder start n s fit = Enters ob holder start n s (bytesTested m ob fit)
+    -- the same where the content is not charged and the bytes are not tested yet
+    Fits : Budget → Object → ℕ → ℕ → ℕ → Spent → Opened → Type 0
+    Fits b ob holder start n s fit =
+        Ends (ContentShown shown S ob (contentRead reader o S m ob start n)) (admit child o S m b ob holder fit s)
 
-    refused-fits : (ob : Object) (holder start n k : ℕ) (s : Spent) → 0 < k → Fits ob holder start n s (Op.Refused k)
-    unfolding Fits bytesTested
-    refused-fits ob holder start n k s l = refused-enters ob holder start n k s l
+    refused-fits : (b : Budget) (ob : Object) (holder start n k : ℕ) (s : Spent) → 0 < k → Fits b ob holder start n s (Op.Refused k)
+    unfolding Fits admit
+    refused-fits b ob holder start n k s l = refuse-ends k holder s l
 
-    content-fits : (ob : Object) (holder start n : ℕ) (s : Spent) → Fits ob holder start n s (fitContent o S m ob start n)
-    unfolding Fits fitContent bytesTested
-    content-fits ob holder start n s =
-        let P = Enters ob holder start n s in
-        pick-holds (λ x. P (bytesTested m ob x)) (leb (start + contentSize o S ob n) (length m)) (Op.Content start n) (Op.Refused 6)
+    charged-fits : (b : Budget) (ob : Object) (holder start n : ℕ) (s : Spent) → start + contentSize o S ob n ≤ length m
+        → Fits b ob holder start n s (Op.Content start n)
+    unfolding Fits admit bytesTested Enters
+    charged-fits b ob holder start n s l =
+        let P = ContentShown shown S ob (contentRead reader o S m ob start n) in
+        let c = contentLength o S ob n in
+        pick-holds (Ends P) (leb (s .content + c) (b .content))
+        (enter child o S m ob holder (pick (endOk m ob start n) (Op.Content start n) (Op.Refused 10)) (withContent c s)) (refuse 17 holder s)
         (λ e.
-        pick-holds P (endOk m ob start n) (Op.Content start n) (Op.Refused 10)
-        (λ t. content-enters ob holder start n s (leb-true (start + contentSize o S ob n) (length m) e))
-        (λ t. refused-enters ob holder start n 10 s (omega arith)))
-        (λ e. refused-enters ob holder start n 6 s (omega arith))
+        pick-holds (Enters ob holder start n (withContent c s)) (endOk m ob start n) (Op.Content start n) (Op.Refused 10)
+        (λ t. content-enters ob holder start n (withContent c s) l)
+        (λ t. refused-enters ob holder start n 10 (withContent c s) (omega arith)))
+        (λ e. refuse-ends 17 holder s (omega arith))
 
-    arrival-ends : (ob : Object) (p : Place) (s : Spent) → Ends (ContentShown shown S ob (placeRead reader o S m ob p)) (arrive child o S m ob p s)
-    unfolding arrive placed openObject fitObject placeRead Enters Fits
-    arrival-ends ob (ByOffset x) s =
+    content-fits : (b : Budget) (ob : Object) (holder start n : ℕ) (s : Spent)
+        → Fits b ob holder start n s (fitContent o S m ob start n)
+    unfolding fitContent
+    content-fits b ob holder start n s =
+        pick-holds (Fits b ob holder start n s) (leb (start + contentSize o S ob n) (length m)) (Op.Content start n) (Op.Refused 6)
+        (λ e. charged-fits b ob holder start n s (leb-true (start + contentSize o S ob n) (length m) e))
+        (λ e. refused-fits b ob holder start n 6 s (omega arith))
+
+    arrival-ends : (b : Budget) (ob : Object) (p : Place) (s : Spent)
+        → Ends (ContentShown shown S ob (placeRead reader o S m ob p)) (arrive child o S m b ob p s)
+    unfolding arrive placed fitObject placeRead Fits
+    arrival-ends b ob (ByOffset x) s =
         let start = x + headerSize o in
         let n = le m (x + 4) o in
-        let P = Fits ob x start n s in
+        let P = Fits b ob x start n s in
         let opened = fitContent o S m ob start n in
         let inner = pick (eqb (le m x 4) (magic S ob)) opened (Op.Refused 7) in
         pick-holds P (leb (startSize o) x && leb start (length m)) inner (Op.Refused 6)
         (λ e.
-        pick-holds P (eqb (le m x 4) (magic S ob)) opened (Op.Refused 7) (λ t. content-fits ob x start n s)
-        (λ t. refused-fits ob x start n 7 s (omega arith)))
-        (λ e. refused-fits ob x start n 6 s (omega arith))
-    arrival-ends ob (InPlace a n) s = content-fits ob a a n s
+        pick-holds P (eqb (le m x 4) (magic S ob)) opened (Op.Refused 7) (λ t. content-fits b ob x start n s)
+        (λ t. refused-fits b ob x start n 7 s (omega arith)))
+        (λ e. refused-fits b ob x start n 6 s (omega arith))
+    arrival-ends b ob (InPlace a n) s = content-fits b ob a a n s
 
   counted-ends : (P : Type 0) (child : W.Child) (b : Budget) (ob : Object) (p : Place) → ((s : Spent) → Ends P (child ob p s))
       → (s : Spent) → Ends P (counted child b ob p s)
@@ -217,8 +230,8 @@ module _ (S : Schema) (G : Sound S) (m : List ℕ) (small : (i : ℕ) → getD m
   unfolding visit read tooDeep
   object-ends b zero ob p = counted-ends ⊥ tooDeep b ob p (λ s. refuse-ends 5 (placed p) s (omega arith))
   object-ends b (suc d) ob p =
-      counted-ends (Shown (suc d) S ob (read (suc d) o S m ob p)) (arrive (visit d o S m b) o S m) b ob p
-      (λ s. arrival-ends (Shown d S) (visit d o S m b) (read d o S m) (λ k q t. object-ends b d k q t) ob p s)
+      counted-ends (Shown (suc d) S ob (read (suc d) o S m ob p)) (arrive (visit d o S m b) o S m b) b ob p
+      (λ s. arrival-ends (Shown d S) (visit d o S m b) (read d o S m) (λ k q t. object-ends b d k q t) b ob p s)
 
   -- the values of a message, or a refusal
   pub walk-ends : (b : Budget) → Ends (Shown deepest S (O.Table (S .root)) (messageRead o S m)) (walk o S m b)

@@ -1,7 +1,7 @@
 -- What is reached in a message and what is lawful, apart from the walk, with no order and nothing handed on: the root is
--- reached, and so is whatever a part of a reached object leads to; and how many arrivals there are, a shared object counted at
--- each. `o` is the width of an offset in bytes.
-use Prim.Native.Nat.{ℕ, zero, suc, _≤_, _<_, _+_}
+-- reached, and so is whatever a part of a reached object leads to; and what the arrivals cost, a shared object at each of its
+-- arrivals. `o` is the width of an offset in bytes.
+use Prim.Native.Nat.{ℕ, zero, suc, _≤_, _<_}
 use mathlib.Core.List.{List}
 use mathlib.Core.Bool.{true}
 use mathlib.Core.Path.{_≡_}
@@ -12,7 +12,7 @@ use Rattle.coding.specs.Packed.{parse}
 use Rattle.coding.specs.Lawful.{lawful}
 use Rattle.coding.specs.Layout.{begin, afterMembers}
 use Rattle.coding.specs.Step.{memberStep, elementStep}
-use Rattle.coding.specs.Walk.{openObject, rootPlace, sizeOk, startOk}
+use Rattle.coding.specs.Walk.{contentLength, fitObject, openObject, spending, nothing, rootPlace, sizeOk, startOk}
 use Rattle.coding.specs.declared.Object.{Object}
 use Rattle.coding.specs.declared.Object.the-variants as Ob
 use Rattle.coding.specs.declared.Member.{Member}
@@ -24,6 +24,8 @@ use Rattle.coding.specs.declared.Step.the-variants as St
 use Rattle.coding.specs.declared.Opened.{Opened}
 use Rattle.coding.specs.declared.Opened.the-variants as Op
 use Rattle.coding.specs.declared.Budget.{Budget}
+use Rattle.coding.specs.declared.Spent.{Spent}
+use Rattle.demands.specs.Spending.{plus}
 
 -- ---- the parts of an object: the members of a table, the elements of a list
 -- how many there are, of an object of length n
@@ -82,40 +84,54 @@ pub record LawfulObject (o : ℕ) (S : Schema) (m : List ℕ) (ob : Object) (p :
   pub opens : openObject o S m ob p ≡ Op.Content start size
   pub parts : (j : ℕ) → j < partCount S ob size → LawfulStep (partStep o S m ob start size j)
 
--- ---- how many arrivals there are, "shared objects each time, in-place ones too"
--- the sum of f at each number below n
-unfoldable pub sum : (ℕ → ℕ) → ℕ → ℕ
-sum f zero = 0
-sum f (suc n) = f 0 + sum (λ j. f (suc j)) n
+-- ---- what the arrivals cost, "shared objects each time, in-place ones too"
+-- what f costs at each number below n, together
+unfoldable pub sum : (ℕ → Spent) → ℕ → Spent
+sum f zero = nothing
+sum f (suc n) = plus (f 0) (sum (λ j. f (suc j)) n)
 
--- what an object or a step leads to, given how many arrivals come of each object
-unfoldable pub arrivalsAt : (Object → Place → ℕ) → Step → ℕ
-arrivalsAt child (St.Refused n) = 0
-arrivalsAt child St.Absent = 0
-arrivalsAt child (St.Value x) = 0
-arrivalsAt child (St.Unknown x) = 0
-arrivalsAt child (St.Struct i at) = 0
-arrivalsAt child (St.Object ob p) = child ob p
-arrivalsAt child (St.Choice c ob p) = child ob p
+-- what a step leads to, given what each object costs
+unfoldable pub costAt : (Object → Place → Spent) → Step → Spent
+costAt child (St.Refused n) = nothing
+costAt child St.Absent = nothing
+costAt child (St.Value x) = nothing
+costAt child (St.Unknown x) = nothing
+costAt child (St.Struct i at) = nothing
+costAt child (St.Object ob p) = child ob p
+costAt child (St.Choice c ob p) = child ob p
 
-unfoldable pub arrivalsIn : (Object → Place → ℕ) → ℕ → Schema → List ℕ → Object → Opened → ℕ
-arrivalsIn child o S m ob (Op.Refused n) = 0
-arrivalsIn child o S m ob (Op.Content start n) =
-    sum (λ j. arrivalsAt child (partStep o S m ob start n j)) (partCount S ob n)
+-- the parts of an object that was opened
+unfoldable pub costIn : (Object → Place → Spent) → ℕ → Schema → List ℕ → Object → Opened → Spent
+costIn child o S m ob (Op.Refused n) = nothing
+costIn child o S m ob (Op.Content start n) = sum (λ j. costAt child (partStep o S m ob start n j)) (partCount S ob n)
 
--- the arrivals at an object and below it, d objects deep
-unfoldable pub arrivals : ℕ → ℕ → Schema → List ℕ → Object → Place → ℕ
-arrivals zero o S m ob p = 0
-arrivals (suc d) o S m ob p = 1 + arrivalsIn (arrivals d o S m) o S m ob (openObject o S m ob p)
+-- 02, K7: "Each arrival whose content fits adds its content length"
+unfoldable pub charge : ℕ → Schema → Object → Opened → ℕ
+charge o S ob (Op.Refused n) = 0
+charge o S ob (Op.Content start n) = contentLength o S ob n
 
-unfoldable pub messageArrivals : ℕ → Schema → List ℕ → ℕ
-messageArrivals o S m = arrivals deepest o S m (Ob.Table (S .root)) (rootPlace o m)
+-- the arrivals at an object and below it, d objects deep: "Every arrival at an object counts one visit", and adds its content
+unfoldable pub cost : ℕ → ℕ → Schema → List ℕ → Object → Place → Spent
+cost zero o S m ob p = nothing
+cost (suc d) o S m ob p =
+    plus (spending 1 (charge o S ob (fitObject o S m ob p))) (costIn (cost d o S m) o S m ob (openObject o S m ob p))
 
--- ---- accepted
+unfoldable pub messageCost : ℕ → Schema → List ℕ → Spent
+messageCost o S m = cost deepest o S m (Ob.Table (S .root)) (rootPlace o m)
+
+-- how many arrivals there are, and the content of all of them
+abbrev pub messageArrivals : ℕ → Schema → List ℕ → ℕ
+messageArrivals o S m = messageCost o S m .visits
+
+abbrev pub messageContent : ℕ → Schema → List ℕ → ℕ
+messageContent o S m = messageCost o S m .content
+
+-- ---- accepted. 02, K7: ""Budget" in the demands and K4 now means both allowances"
 pub record Accepted (o : ℕ) (S : Schema) (m : List ℕ) (b : Budget) : Type 0 where
   pub depth : (d : ℕ) (ob : Object) (p : Place) → Arrives o S m d ob p → d ≤ deepest
   pub lawful : (d : ℕ) (ob : Object) (p : Place) → Arrives o S m d ob p → LawfulObject o S m ob p
-  pub budget : messageArrivals o S m ≤ b .visits
+  pub visits : messageArrivals o S m ≤ b .visits
+  pub content : messageContent o S m ≤ b .content
 
 -- a message that a schema's bytes and a budget accept
 pub record LawfulMessage (o : ℕ) (b m : List ℕ) (budget : Budget) : Type 0 where

@@ -15,7 +15,7 @@ use Rattle.coding.specs.Schema.{Schema, structOf, fieldOf, elementOf, tableOf, 
 use Rattle.coding.specs.Structs.{lower, byIndex, total, structSize}
 use Rattle.coding.specs.Layout.{begin, afterMembers}
 use Rattle.coding.specs.Step.{enumStep, fieldStep, memberStep, elementStep}
-use Rattle.coding.specs.Walk.{placed, refusal, partRefusal, magic, headerSize, startSize, contentSize, endOk, fitContent, fitObject, bytesTested, openObject, refuse, refusePart, follow, followChoice, members, elements, content, enter, arrive, tooDeep, oneMore, counted, visit, rootPlace, nothing, walk}
+use Rattle.coding.specs.Walk.{placed, refusal, partRefusal, magic, headerSize, startSize, contentSize, contentLength, endOk, fitContent, fitObject, bytesTested, openObject, refuse, refusePart, follow, followChoice, members, elements, content, enter, withContent, admit, arrive, tooDeep, oneMore, counted, visit, rootPlace, nothing, walk}
 use Rattle.coding.specs.Value as Tree
 use Rattle.coding.specs.Read as Read
 use Rattle.coding.specs.Field as Field
@@ -100,34 +100,44 @@ place-present child o S m ob (InPlace a n) = content-present child o S m ob a n
 module _ (o : ℕ) (S : Schema) (m : List ℕ) (b : Budget) where
   -- ---- an arrival
   module _ (d : ℕ) (ob : Object) (at : ℕ) (s t : Spent) where
-    content-shows : (start n : ℕ) → enter (visit d o S m b) o S m ob at (bytesTested m ob (fitContent o S m ob start n)) s ≡ Going t
+    content-shows : (start n : ℕ) → admit (visit d o S m b) o S m b ob at (fitContent o S m ob start n) s ≡ Going t
         → Shows o S m b (Field.opened ob at d (bytesTested m ob (fitContent o S m ob start n))) (E.Part.object ob (Read.contentRead (Read.read d o S m) o S m ob start n))
-    unfolding fitContent bytesTested enter Field.opened
+    unfolding fitContent bytesTested admit enter Field.opened
     content-shows start n e = by (leb (start + contentSize o S ob n) (length m)) refl e
       where
-        tested : (g : Bool) → start + contentSize o S ob n ≤ length m
-            → enter (visit d o S m b) o S m ob at (pick g (Op.Content start n) (Op.Refused 10)) s ≡ Going t
+        tested : (g : Bool) (u : Spent) → start + contentSize o S ob n ≤ length m
+            → enter (visit d o S m b) o S m ob at (pick g (Op.Content start n) (Op.Refused 10)) u ≡ Going t
             → Shows o S m b (Field.opened ob at d (pick g (Op.Content start n) (Op.Refused 10)))
             (E.Part.object ob (Read.contentRead (Read.read d o S m) o S m ob start n))
-        tested true h q = within ob at start n d s t q h
-        tested false h q = absurd (refuse-going _ _ _ _ q)
+        tested true u h q = within ob at start n d u t q h
+        tested false u h q = absurd (refuse-going _ _ _ _ q)
+
+        charged : (g : Bool) → start + contentSize o S ob n ≤ length m
+            → pick g
+            (enter (visit d o S m b) o S m ob at (bytesTested m ob (Op.Content start n)) (withContent (contentLength o S ob n) s))
+            (refuse 17 at s)
+            ≡ Going t
+            → Shows o S m b (Field.opened ob at d (bytesTested m ob (Op.Content start n)))
+            (E.Part.object ob (Read.contentRead (Read.read d o S m) o S m ob start n))
+        charged true h q = tested (endOk m ob start n) (withContent (contentLength o S ob n) s) h q
+        charged false h q = absurd (refuse-going _ _ _ _ q)
 
         by : (f : Bool) → leb (start + contentSize o S ob n) (length m) ≡ f
-            → enter (visit d o S m b) o S m ob at (bytesTested m ob (pick f (Op.Content start n) (Op.Refused 6))) s ≡ Going t
+            → admit (visit d o S m b) o S m b ob at (pick f (Op.Content start n) (Op.Refused 6)) s ≡ Going t
             → Shows o S m b (Field.opened ob at d (bytesTested m ob (pick f (Op.Content start n) (Op.Refused 6))))
             (E.Part.object ob (Read.contentRead (Read.read d o S m) o S m ob start n))
-        by true h q = tested (endOk m ob start n) (leb-true _ _ h) q
+        by true h q = charged (leb (s .content + contentLength o S ob n) (b .content)) (leb-true _ _ h) q
         by false h q = absurd (refuse-going _ _ _ _ q)
 
-    open-shows : (p : Place) → enter (visit d o S m b) o S m ob at (openObject o S m ob p) s ≡ Going t
+    open-shows : (p : Place) → admit (visit d o S m b) o S m b ob at (fitObject o S m ob p) s ≡ Going t
         → Shows o S m b (Field.opened ob at d (openObject o S m ob p)) (E.Part.object ob (Read.placeRead (Read.read d o S m) o S m ob p))
-    unfolding openObject fitObject bytesTested Read.placeRead enter
+    unfolding openObject fitObject bytesTested Read.placeRead admit
     open-shows (InPlace a n) e = content-shows a n e
     open-shows (ByOffset x) e =
         by (leb (startSize o) x && leb (x + headerSize o) (length m)) (eqb (le m x 4) (magic S ob)) e
       where
         by : (f g : Bool)
-            → enter (visit d o S m b) o S m ob at (bytesTested m ob (pick f (pick g (fitContent o S m ob (x + headerSize o) (le m (x + 4) o)) (Op.Refused 7)) (Op.Refused 6))) s ≡ Going t
+            → admit (visit d o S m b) o S m b ob at (pick f (pick g (fitContent o S m ob (x + headerSize o) (le m (x + 4) o)) (Op.Refused 7)) (Op.Refused 6)) s ≡ Going t
             → Shows o S m b (Field.opened ob at d (bytesTested m ob (pick f (pick g (fitContent o S m ob (x + headerSize o) (le m (x + 4) o)) (Op.Refused 7)) (Op.Refused 6))))
             (E.Part.object ob (Read.contentRead (Read.read d o S m) o S m ob (x + headerSize o) (le m (x + 4) o)))
         by true true q = content-shows (x + headerSize o) (le m (x + 4) o) q
@@ -150,7 +160,7 @@ module _ (o : ℕ) (S : Schema) (m : List ℕ) (b : Budget) where
   arrived-shows (suc d) ob p s t e = by (ltb (s .visits) (b .visits)) e
     where
       by : (f : Bool)
-          → pick f (enter (visit d o S m b) o S m ob (placed p) (openObject o S m ob p) (oneMore s)) (refuse 4 (placed p) s) ≡ Going t
+          → pick f (admit (visit d o S m b) o S m b ob (placed p) (fitObject o S m ob p) (oneMore s)) (refuse 4 (placed p) s) ≡ Going t
           → Shows o S m b (Field.opened ob (placed p) d (openObject o S m ob p)) (E.Part.object ob (Read.placeRead (Read.read d o S m) o S m ob p))
       by true q = open-shows d ob (placed p) (oneMore s) t p q
       by false q = absurd (refuse-going _ _ _ _ q)

@@ -1,5 +1,5 @@
--- The theorems. A reader's way in: Counter, OlderCoding, Traps, FieldCases, MemberCases, Members, Sheets, Reached, RoundTrip,
--- Appending, NewerAgrees, Fields, Texts, SheetText, ListReader, Utf8, Utf8Cases; the other modules are their lemmas.
+-- The theorems. A reader's way in: Counter, OlderCoding, Traps, FieldCases, MemberCases, Allowances, Members, Sheets, Reached,
+-- RoundTrip, Appending, NewerAgrees, Fields, Texts, SheetText, ListReader, Utf8, Utf8Cases; the other modules are their lemmas.
 pub mod Counter
 pub mod Traps
 pub mod OlderCoding
@@ -13,6 +13,7 @@ pub mod Sheets
 pub mod RefusalNumbers
 pub mod Members
 pub mod MemberCases
+pub mod Spending
 pub mod Arrivals
 pub mod ArrivalsWalk
 pub mod Reached
@@ -24,7 +25,8 @@ pub mod Writes
 pub mod StructHold
 pub mod TreeHold
 pub mod TreeRead
-pub mod TreeArrivals
+pub mod InTurn
+pub mod TreeLengths
 pub mod TreeWalk
 pub mod WrittenParts
 pub mod WrittenSteps
@@ -38,6 +40,7 @@ pub mod TreeTrip
 pub mod WrittenSheet
 pub mod RoundTrip
 pub mod RoundTripCases
+pub mod Allowances
 pub mod SameLayout
 pub mod SameStep
 pub mod OlderAccepts

@@ -62,7 +62,7 @@ told : Verdict → List ℕ
 told v = v .number ∷ v .place ∷ v .member ∷ v .visits ∷ []
 
 judged : List ℕ → List ℕ → ℕ → List ℕ
-judged b m n = told (Walk.verdict Bytes.u48 b m (Walk.allowing n))
+judged b m n = told (Walk.verdict Bytes.u48 b m (Walk.allowing n Walk.mostContent))
 
 answered : Answer → List ℕ
 answered a = Field.caseNumbers (Field.answerCase a)
@@ -96,6 +96,7 @@ walkCases =
     ∷ case (judged N (take 40 M) 2) (6 ∷ 28 ∷ 0xFFFF_FFFF ∷ 2 ∷ [])
     ∷ case (judged N (set M 28 0) 2) (7 ∷ 28 ∷ 0xFFFF_FFFF ∷ 2 ∷ [])
     ∷ case (judged N M 1) (4 ∷ 28 ∷ 0xFFFF_FFFF ∷ 1 ∷ [])
+    ∷ case (told (Walk.verdict Bytes.u48 N M (Walk.allowing 2 9))) (17 ∷ 28 ∷ 0xFFFF_FFFF ∷ 2 ∷ [])
     ∷ case (judged N M 2) (0 ∷ 0 ∷ 0xFFFF_FFFF ∷ 2 ∷ [])
     ∷ case (judged N [] 2) (2 ∷ 0 ∷ 0xFFFF_FFFF ∷ 0 ∷ [])
     ∷ []
@@ -117,5 +118,5 @@ fieldCases =
 
 -- THE CLAIM: each case gives what the paper says.
 pub memberCases : map (λ c. c .given) (walkCases ++ fieldCases) ≡ map (λ c. c .expected) (walkCases ++ fieldCases)
-unfolding walkCases fieldCases told judged answered field stepped Lists.every Lists.run Bytes.le Bytes.leBytes Bytes.bitAt Bytes.isNaN Bytes.noFloat Bytes.largest Bytes.deepest Bytes.u48 Bytes.u32 Bytes.widthKnown Schema.structOf Schema.elementOf Schema.casesOf Schema.tableOf Schema.fieldOf Schema.caseOf Schema.plainBool Schema.memberOf Structs.lower Structs.byIndex Structs.flatWidth Structs.total Structs.sizeBy Structs.structSize Structs.flatOk Structs.flatsOk Structs.okBy Structs.structOk Packed.kindAt Packed.optionalAt Packed.inplaceAt Packed.zeroAt Packed.argumentAt Packed.widthOf Packed.flatOf Packed.objectOf Packed.kindOf Packed.flatAt Packed.objectAt Packed.elementAt Packed.memberAt Packed.records Packed.recordPlace Packed.blocks Packed.structPlace Packed.listPlace Packed.unionPlace Packed.tablePlace Packed.idAt Packed.recordsAt Packed.tableAt Packed.parse Lawful.countsOk Lawful.blocksOk Lawful.placesOk Lawful.shapeOk Lawful.argumentOk Lawful.kindOk Lawful.optionalOk Lawful.inplaceOk Lawful.flagsOk Lawful.recordOk Lawful.firstOk Lawful.recordsOk Lawful.inplaces Lawful.structLawful Lawful.listLawful Lawful.unionLawful Lawful.tableLawful Lawful.idDiffers Lawful.idLawful Lawful.rulesOk Lawful.wellFormed Lawful.olderMember Lawful.olderElement Lawful.olderTable Lawful.olderOk Lawful.lawful Layout.flatIsBool Layout.isBool Layout.width Layout.flatTakesFlag Layout.takesFlag Layout.hasFlag Layout.begin Layout.bitByte Layout.bitIndex Layout.afterBit Layout.afterBytes Layout.afterFlag Layout.bitSlot Layout.slotOf Layout.afterValue Layout.memberSlot Layout.placementOf Layout.afterMember Layout.afterMembers Layout.fixedSize Step.enumStep Step.floatStep Step.structTested Step.placeOf Step.objectStep Step.unionStep Step.flatStep Step.fieldStep Step.valueStep Step.inside Step.flagged Step.placedStep Step.memberStep Step.elementPlace Step.elementStep Step.elementsSize Walk.placed Walk.magic Walk.headerSize Walk.startSize Walk.contentSize Walk.endOk Walk.fitContent Walk.fitObject Walk.bytesTested Walk.openObject Walk.refuse Walk.andThen Walk.refusePart Walk.followChoice Walk.follow Walk.members Walk.elements Walk.content Walk.enter Walk.arrive Walk.tooDeep Walk.oneMore Walk.counted Walk.visit Walk.rootPlace Walk.nothing Walk.walk Walk.verdictOf Walk.early Walk.sizeOk Walk.startOk Walk.verdict Walk.noMember Field.noPart Field.opened Field.arrived Field.partRefused Field.chosen Field.stepped Field.structPart Field.objectPart Field.partOf Field.along Field.found Field.flatAnswer Field.valueAnswer Field.recordKind Field.answerOf Field.answerVerdict Field.before Field.fieldFound Field.field Field.answerCase Field.caseNumbers Field.readerOf Field.readerStart Field.listFound Field.leads Field.listGives Field.readerGives
+unfolding walkCases fieldCases told judged answered field stepped Lists.every Lists.run Bytes.le Bytes.leBytes Bytes.bitAt Bytes.isNaN Bytes.noFloat Bytes.largest Bytes.deepest Bytes.u48 Bytes.u32 Bytes.widthKnown Schema.structOf Schema.elementOf Schema.casesOf Schema.tableOf Schema.fieldOf Schema.caseOf Schema.plainBool Schema.memberOf Structs.lower Structs.byIndex Structs.flatWidth Structs.total Structs.sizeBy Structs.structSize Structs.flatOk Structs.flatsOk Structs.okBy Structs.structOk Packed.kindAt Packed.optionalAt Packed.inplaceAt Packed.zeroAt Packed.argumentAt Packed.widthOf Packed.flatOf Packed.objectOf Packed.kindOf Packed.flatAt Packed.objectAt Packed.elementAt Packed.memberAt Packed.records Packed.recordPlace Packed.blocks Packed.structPlace Packed.listPlace Packed.unionPlace Packed.tablePlace Packed.idAt Packed.recordsAt Packed.tableAt Packed.parse Lawful.countsOk Lawful.blocksOk Lawful.placesOk Lawful.shapeOk Lawful.argumentOk Lawful.kindOk Lawful.optionalOk Lawful.inplaceOk Lawful.flagsOk Lawful.recordOk Lawful.firstOk Lawful.recordsOk Lawful.inplaces Lawful.structLawful Lawful.listLawful Lawful.unionLawful Lawful.tableLawful Lawful.idDiffers Lawful.idLawful Lawful.rulesOk Lawful.wellFormed Lawful.olderMember Lawful.olderElement Lawful.olderTable Lawful.olderOk Lawful.lawful Layout.flatIsBool Layout.isBool Layout.width Layout.flatTakesFlag Layout.takesFlag Layout.hasFlag Layout.begin Layout.bitByte Layout.bitIndex Layout.afterBit Layout.afterBytes Layout.afterFlag Layout.bitSlot Layout.slotOf Layout.afterValue Layout.memberSlot Layout.placementOf Layout.afterMember Layout.afterMembers Layout.fixedSize Step.enumStep Step.floatStep Step.structTested Step.placeOf Step.objectStep Step.unionStep Step.flatStep Step.fieldStep Step.valueStep Step.inside Step.flagged Step.placedStep Step.memberStep Step.elementPlace Step.elementStep Step.elementsSize Walk.placed Walk.magic Walk.headerSize Walk.startSize Walk.contentSize Walk.contentLength Walk.endOk Walk.fitContent Walk.fitObject Walk.bytesTested Walk.openObject Walk.refuse Walk.andThen Walk.refusePart Walk.followChoice Walk.follow Walk.members Walk.elements Walk.content Walk.enter Walk.withContent Walk.admit Walk.arrive Walk.tooDeep Walk.oneMore Walk.mostContent Walk.counted Walk.visit Walk.rootPlace Walk.nothing Walk.walk Walk.verdictOf Walk.early Walk.sizeOk Walk.startOk Walk.verdict Walk.noMember Field.noPart Field.opened Field.arrived Field.partRefused Field.chosen Field.stepped Field.structPart Field.objectPart Field.partOf Field.along Field.found Field.flatAnswer Field.valueAnswer Field.recordKind Field.answerOf Field.answerVerdict Field.before Field.fieldFound Field.field Field.answerCase Field.caseNumbers Field.readerOf Field.readerStart Field.listFound Field.leads Field.listGives Field.readerGives
 memberCases = refl

@@ -4,13 +4,13 @@ use Prim.Native.Nat.{ℕ, zero, suc, _+_}
 use mathlib.Core.Path.{_≡_, refl}
 use mathlib.Core.List.{List, [], _∷_}
 use mathlib.Core.Bool.{Bool, true, false}
-use lib.Dec.{ltb, eqb}
+use lib.Dec.{ltb, leb, eqb}
 use Rattle.coding.specs.Lists.{pick}
 use Rattle.coding.specs.Bytes.{deepest}
 use Rattle.coding.specs.Schema.{Schema, elementOf, tableOf}
 use Rattle.coding.specs.Layout.{begin, afterMember}
 use Rattle.coding.specs.Step.{memberStep, elementStep}
-use Rattle.coding.specs.Walk.{placed, refuse, andThen, Child, refusePart, followChoice, follow, members, elements, content, openObject, enter, arrive, tooDeep, oneMore, counted, visit, rootPlace, nothing, walk, verdictOf}
+use Rattle.coding.specs.Walk.{placed, contentLength, fitObject, bytesTested, refuse, andThen, Child, refusePart, followChoice, follow, members, elements, content, enter, withContent, admit, arrive, tooDeep, oneMore, counted, visit, rootPlace, nothing, walk, verdictOf}
 use Rattle.coding.specs.declared.Object.{Object}
 use Rattle.coding.specs.declared.Object.the-variants as O
 use Rattle.coding.specs.declared.Kind.{Kind}
@@ -37,7 +37,7 @@ noting f (Refused r s) = Refused (record { number = r .number; place = r .place;
 -- the walk, each arrival of which notes what f says: `λ r. noMember` is the walk before K6
 unfoldable pub visitNoting : (Refusal → ℕ) → ℕ → ℕ → Schema → List ℕ → Budget → Child
 visitNoting f zero o S m b ob p s = noting f (counted tooDeep b ob p s)
-visitNoting f (suc d) o S m b ob p s = noting f (counted (arrive (visitNoting f d o S m b) o S m) b ob p s)
+visitNoting f (suc d) o S m b ob p s = noting f (counted (arrive (visitNoting f d o S m b) o S m b) b ob p s)
 
 unfoldable pub walkNoting : (Refusal → ℕ) → ℕ → Schema → List ℕ → Budget → Walked
 walkNoting f o S m b = visitNoting f deepest o S m b (O.Table (S .root)) (rootPlace o m) nothing
@@ -113,9 +113,19 @@ module _ (child child′ : Child) (H : (ob : Object) (p : Place) (s : Spent) →
   enter-alike ob holder (Op.Refused n) s = same (refuse n holder s)
   enter-alike ob holder (Op.Content start n) s = content-alike ob holder start n s
 
-  arrive-alike : (ob : Object) (p : Place) (s : Spent) → Alike (arrive child o S m ob p s) (arrive child′ o S m ob p s)
+  admit-alike : (b : Budget) (ob : Object) (holder : ℕ) (w : Opened) (s : Spent)
+      → Alike (admit child o S m b ob holder w s) (admit child′ o S m b ob holder w s)
+  unfolding admit
+  admit-alike b ob holder (Op.Refused n) s = same (refuse n holder s)
+  admit-alike b ob holder (Op.Content start n) s =
+      let c = contentLength o S ob n in
+      pick-alike (leb (s .content + c) (b .content))
+      (enter-alike ob holder (bytesTested m ob (Op.Content start n)) (withContent c s)) (same (refuse 17 holder s))
+
+  arrive-alike : (b : Budget) (ob : Object) (p : Place) (s : Spent)
+      → Alike (arrive child o S m b ob p s) (arrive child′ o S m b ob p s)
   unfolding arrive
-  arrive-alike ob p s = enter-alike ob (placed p) (openObject o S m ob p) s
+  arrive-alike b ob p s = admit-alike b ob (placed p) (fitObject o S m ob p) s
 
 counted-alike : (child child′ : Child) → ((ob : Object) (p : Place) (s : Spent) → Alike (child ob p s) (child′ ob p s)) → (b : Budget)
     (ob : Object) (p : Place) (s : Spent) → Alike (counted child b ob p s) (counted child′ b ob p s)
@@ -130,7 +140,7 @@ visit-alike f zero o S m b ob p s = noting-alike f (same (counted tooDeep b ob p
 visit-alike f (suc d) o S m b ob p s =
     noting-alike f
     (counted-alike _ _
-    (arrive-alike (visitNoting f d o S m b) (visit d o S m b) (visit-alike f d o S m b) o S m)
+    (arrive-alike (visitNoting f d o S m b) (visit d o S m b) (visit-alike f d o S m b) o S m b)
     b ob p s)
 
 -- two verdicts agree in all parts but the member
@@ -138,11 +148,12 @@ pub record AgreeBut (v w : Verdict) : Type 0 where
   pub number : v .number ≡ w .number
   pub place : v .place ≡ w .place
   pub visits : v .visits ≡ w .visits
+  pub content : v .content ≡ w .content
 
 verdict-alike : {w w′ : Walked} → Alike w w′ → AgreeBut (verdictOf w) (verdictOf w′)
 unfolding verdictOf
-verdict-alike goes = record { number = refl; place = refl; visits = refl }
-verdict-alike (stops n p) = record { number = n; place = p; visits = refl }
+verdict-alike goes = record { number = refl; place = refl; visits = refl; content = refl }
+verdict-alike (stops n p) = record { number = n; place = p; visits = refl; content = refl }
 
 -- the theorem: whatever is noted as the member, the verdicts agree in all other parts
 pub old-and-new-agree : (f : Refusal → ℕ) (o : ℕ) (S : Schema) (m : List ℕ) (b : Budget)

@@ -9,7 +9,7 @@ use Rattle.coding.specs.Lists.{pick}
 use Rattle.coding.specs.Bytes.{le, deepest}
 use Rattle.coding.specs.Schema.{Schema}
 use Rattle.coding.specs.Layout.{begin, afterMember}
-use Rattle.coding.specs.Walk.{placed, magic, headerSize, startSize, contentSize, endOk, fitContent, fitObject, bytesTested, openObject, refuse, andThen, Child, refusePart, followChoice, follow, members, elements, content, enter, arrive, oneMore, counted, visit, rootPlace, nothing, walk}
+use Rattle.coding.specs.Walk.{placed, magic, headerSize, startSize, contentSize, contentLength, endOk, fitContent, fitObject, bytesTested, refuse, andThen, Child, refusePart, followChoice, follow, members, elements, content, enter, withContent, admit, arrive, oneMore, counted, visit, rootPlace, nothing, walk}
 use Rattle.coding.specs.Append.{Extends, rest, more, KindAppends, MemberAppends, SchemaAppends}
 use Rattle.coding.specs.declared.Object.{Object}
 use Rattle.coding.specs.declared.Object.the-variants as Ob
@@ -26,9 +26,9 @@ use Rattle.coding.specs.declared.Spent.{Spent}
 use Rattle.coding.specs.declared.Walked.{Walked}
 use Rattle.coding.specs.declared.Walked.the-variants.{Going, Refused}
 use Rattle.laws.specs.Sound.{All, ObjectSound, KindSound, MemberSound, Sound}
-use Rattle.demands.specs.SameLayout.{element-same, table-same, after-member-same}
+use Rattle.demands.specs.SameLayout.{element-same, table-same, after-member-same, content-length-same}
 use Rattle.demands.specs.SameStep.{SameStep, refused, no-value, value, enum-value, enum-appended, enum-unknown, struct-value, object-value, choice, choice-appended, choice-unknown, member-step-same, element-step-same}
-use Rattle.demands.specs.OlderAccepts.{open-same}
+use Rattle.demands.specs.OlderAccepts.{fit-same}
 use Rattle.demands.specs.PlainMessage.{Objects, stepPlain, membersPlain, elementsPlain, contentPlain, placePlain, plain, messagePlain}
 use Rattle.demands.specs.AddedMembers.{full-past, walk-added}
 
@@ -90,44 +90,47 @@ module _ (o : ℕ) (O N : Schema) (sound : Sound O) (G : SchemaAppends O N) (m :
       members-same (table-same O N sound G i q .members) (sound .tables i .members) holder start n begin h 0 s
 
   -- at an arrival, what was opened stands where the plain content does
-  content-enters : (ob : Object) → ObjectSound O ob → (holder start n : ℕ) → contentPlain P o O m ob start n → (s : Spent)
-      → enter new o N m ob holder (bytesTested m ob (fitContent o O m ob start n)) s
-      ≡ enter old o O m ob holder (bytesTested m ob (fitContent o O m ob start n)) s
-  unfolding enter fitContent bytesTested
-  content-enters ob q holder start n h s = by (leb (start + contentSize o O ob n) (length m))
+  content-admits : (b : Budget) (ob : Object) → ObjectSound O ob → (holder start n : ℕ) → contentPlain P o O m ob start n
+      → (s : Spent)
+      → admit new o N m b ob holder (fitContent o O m ob start n) s ≡ admit old o O m b ob holder (fitContent o O m ob start n) s
+  unfolding admit enter fitContent bytesTested
+  content-admits b ob q holder start n h s = by (leb (start + contentSize o O ob n) (length m))
     where
-      tested : (u : Bool)
-          → enter new o N m ob holder (pick u (Op.Content start n) (Op.Refused 10)) s
-          ≡ enter old o O m ob holder (pick u (Op.Content start n) (Op.Refused 10)) s
-      tested true = content-same ob q holder start n h s
-      tested false = refl
+      tested : (u : Bool) (t : Spent)
+          → enter new o N m ob holder (pick u (Op.Content start n) (Op.Refused 10)) t
+          ≡ enter old o O m ob holder (pick u (Op.Content start n) (Op.Refused 10)) t
+      tested true t = content-same ob q holder start n h t
+      tested false t = refl
 
       by : (t : Bool)
-          → enter new o N m ob holder (bytesTested m ob (pick t (Op.Content start n) (Op.Refused 6))) s
-          ≡ enter old o O m ob holder (bytesTested m ob (pick t (Op.Content start n) (Op.Refused 6))) s
-      by true = tested (endOk m ob start n)
+          → admit new o N m b ob holder (pick t (Op.Content start n) (Op.Refused 6)) s
+          ≡ admit old o O m b ob holder (pick t (Op.Content start n) (Op.Refused 6)) s
+      by true =
+          rw (content-length-same O N sound G o ob q n)
+          (ap (λ (w : Walked). pick (leb (s .content + contentLength o N ob n) (b .content)) w (refuse 17 holder s))
+          (tested (endOk m ob start n) (withContent (contentLength o N ob n) s)))
       by false = refl
 
-  place-enters : (ob : Object) → ObjectSound O ob → (p : Place) → placePlain P o O m ob p → (s : Spent)
-      → enter new o N m ob (placed p) (openObject o O m ob p) s ≡ enter old o O m ob (placed p) (openObject o O m ob p) s
-  unfolding openObject fitObject placePlain placed
-  place-enters ob q (ByOffset x) h s = by (leb (startSize o) x && leb (x + headerSize o) (length m)) (eqb (le m x 4) (magic O ob))
+  place-admits : (b : Budget) (ob : Object) → ObjectSound O ob → (p : Place) → placePlain P o O m ob p → (s : Spent)
+      → admit new o N m b ob (placed p) (fitObject o O m ob p) s ≡ admit old o O m b ob (placed p) (fitObject o O m ob p) s
+  unfolding fitObject placePlain placed
+  place-admits b ob q (ByOffset x) h s = by (leb (startSize o) x && leb (x + headerSize o) (length m)) (eqb (le m x 4) (magic O ob))
     where
       opened : Opened
       opened = fitContent o O m ob (x + headerSize o) (le m (x + 4) o)
 
       by : (t u : Bool)
-          → enter new o N m ob x (bytesTested m ob (pick t (pick u opened (Op.Refused 7)) (Op.Refused 6))) s
-          ≡ enter old o O m ob x (bytesTested m ob (pick t (pick u opened (Op.Refused 7)) (Op.Refused 6))) s
-      by true true = content-enters ob q x (x + headerSize o) (le m (x + 4) o) h s
-      by true false = unfold enter bytesTested in refl
-      by false u = unfold enter bytesTested in refl
-  place-enters ob q (InPlace a n) h s = content-enters ob q a a n h s
+          → admit new o N m b ob x (pick t (pick u opened (Op.Refused 7)) (Op.Refused 6)) s
+          ≡ admit old o O m b ob x (pick t (pick u opened (Op.Refused 7)) (Op.Refused 6)) s
+      by true true = content-admits b ob q x (x + headerSize o) (le m (x + 4) o) h s
+      by true false = unfold admit in refl
+      by false u = unfold admit in refl
+  place-admits b ob q (InPlace a n) h s = content-admits b ob q a a n h s
 
-  arrive-same : (ob : Object) → ObjectSound O ob → (p : Place) → placePlain P o O m ob p → (s : Spent)
-      → arrive new o N m ob p s ≡ arrive old o O m ob p s
+  arrive-same : (b : Budget) (ob : Object) → ObjectSound O ob → (p : Place) → placePlain P o O m ob p → (s : Spent)
+      → arrive new o N m b ob p s ≡ arrive old o O m b ob p s
   unfolding arrive
-  arrive-same ob q p h s = rw (← open-same o O N sound G m ob q p) (place-enters ob q p h s)
+  arrive-same b ob q p h s = rw (← fit-same o O N sound G m ob q p) (place-admits b ob q p h s)
 
 module _ (o : ℕ) (O N : Schema) (sound : Sound O) (G : SchemaAppends O N) (m : List ℕ) (b : Budget) where
   visit-same : (d : ℕ) (ob : Object) → ObjectSound O ob → (p : Place) → plain d o O m ob p → (s : Spent)
@@ -136,7 +139,7 @@ module _ (o : ℕ) (O N : Schema) (sound : Sound O) (G : SchemaAppends O N) (m :
   visit-same zero ob q p h s = refl
   visit-same (suc d) ob q p h s =
       ap (λ (w : Walked). pick (ltb (s .visits) (b .visits)) w (refuse 4 (placed p) s))
-      (arrive-same o O N sound G m (plain d o O m) (visit d o O m b) (visit d o N m b) (visit-same d) ob q p h
+      (arrive-same o O N sound G m (plain d o O m) (visit d o O m b) (visit d o N m b) (visit-same d) b ob q p h
       (oneMore s))
 
   -- the newer's walk is the older's

@@ -1,5 +1,5 @@
 -- Demand 3, second half: whatever message the writer made under the older schema, the newer accepts with every budget with
--- which the older does (and gives the same visits); the newer's sheet is the older's with the added members, as bytes.
+-- which the older does (and spends the same of both); the newer's sheet is the older's with the added members, as bytes.
 -- What a sheet is with the added members is said in coding's Append; which messages are plain in PlainMessage.
 use Prim.Native.Nat.{ℕ, _<_}
 use mathlib.Core.List.{List}
@@ -63,7 +63,7 @@ module _ (o : ℕ) (older newer : List ℕ) (older-bytes : AreBytes older) (appe
 
 -- ---- of every message that the writer made under the older schema: m is the message of the sheet s
 pub record NewerAgrees (o : ℕ) (older newer s m : List ℕ) : Type 0 where
-  -- the same number, place and visits with every budget: what the older accepts, the newer does too
+  -- the same number, place, member, visits and content with every budget: what the older accepts, the newer does too
   pub verdicts : (b : Budget) → verdict o newer m b ≡ verdict o older m b
   -- the older's sheet is the one that was written, and the newer's is that one with the added members
   pub older-sheet : messageSheet o older m ≡ s

@@ -103,13 +103,13 @@ newer-computed : Message.messageSheet Bytes.u48 newer message ≡ 0x6A ∷ 0x54 
 unfolding Lists.run Bytes.le Bytes.bitAt Bytes.isNaN Bytes.deepest Bytes.u48 Bytes.u32 Bytes.widthKnown Schema.structOf Schema.elementOf Schema.casesOf Schema.tableOf Schema.caseOf Structs.lower Structs.byIndex Structs.flatWidth Structs.total Structs.sizeBy Structs.structSize Structs.flatOk Structs.flatsOk Structs.okBy Structs.structOk Packed.kindAt Packed.optionalAt Packed.inplaceAt Packed.argumentAt Packed.widthOf Packed.flatOf Packed.objectOf Packed.kindOf Packed.flatAt Packed.objectAt Packed.elementAt Packed.memberAt Packed.records Packed.recordPlace Packed.blocks Packed.structPlace Packed.listPlace Packed.unionPlace Packed.tablePlace Packed.idAt Packed.recordsAt Packed.tableAt Packed.parse Layout.flatIsBool Layout.isBool Layout.width Layout.flatTakesFlag Layout.takesFlag Layout.hasFlag Layout.begin Layout.bitByte Layout.bitIndex Layout.afterBit Layout.afterBytes Layout.afterFlag Layout.bitSlot Layout.slotOf Layout.afterValue Layout.memberSlot Layout.placementOf Layout.afterMember Step.enumStep Step.floatStep Step.structTested Step.placeOf Step.objectStep Step.unionStep Step.flatStep Step.fieldStep Step.valueStep Step.inside Step.flagged Step.placedStep Step.memberStep Step.elementPlace Step.elementStep Walk.headerSize Walk.rootPlace Value.asNumber Value.asBlob Value.asRow Value.asObject Value.first Value.others Value.count Read.stepRead Read.fieldsRead Read.readBy Read.structRead Read.membersRead Read.elementsRead Read.contentRead Read.placeRead Read.read Read.messageRead Bits.bitsOf Bits.bits Bits.value Bits.pack Bits.byteCount Bits.packed Sheet.markBits Sheet.flatBits Sheet.fieldBits Sheet.fieldsBits Sheet.bitsBy Sheet.structBits Sheet.bodyBits Sheet.flatUnknown Sheet.unknownWidth Sheet.partBits Sheet.flatUnmarked Sheet.unmarked Sheet.elementBits Sheet.membersBits Sheet.elementsBits Sheet.blobBits Sheet.contentBits Sheet.encode Sheet.sheetBits Sheet.sheetOf Message.messageSheet
 newer-computed = refl
 
--- the older accepts with two visits, and so does the newer
+-- the older accepts with two visits and fixed parts of 7 bytes and 1, and so does the newer
 abbrev two : Budget
-two = Walk.allowing 2
+two = Walk.allowing 2 Walk.mostContent
 
-older-accepts : Walk.verdict Bytes.u48 older message two ≡ Walk.atZero 0 (Walk.spending 2)
-unfolding Lists.every Lists.run Bytes.le Bytes.bitAt Bytes.isNaN Bytes.largest Bytes.deepest Bytes.u48 Bytes.u32 Bytes.widthKnown Schema.structOf Schema.elementOf Schema.casesOf Schema.tableOf Schema.caseOf Structs.lower Structs.byIndex Structs.flatWidth Structs.total Structs.sizeBy Structs.structSize Structs.flatOk Structs.flatsOk Structs.okBy Structs.structOk Packed.kindAt Packed.optionalAt Packed.inplaceAt Packed.zeroAt Packed.argumentAt Packed.widthOf Packed.flatOf Packed.objectOf Packed.kindOf Packed.flatAt Packed.objectAt Packed.elementAt Packed.memberAt Packed.records Packed.recordPlace Packed.blocks Packed.structPlace Packed.listPlace Packed.unionPlace Packed.tablePlace Packed.idAt Packed.recordsAt Packed.tableAt Packed.parse Lawful.countsOk Lawful.blocksOk Lawful.placesOk Lawful.shapeOk Lawful.argumentOk Lawful.kindOk Lawful.optionalOk Lawful.inplaceOk Lawful.flagsOk Lawful.recordOk Lawful.firstOk Lawful.recordsOk Lawful.inplaces Lawful.structLawful Lawful.listLawful Lawful.unionLawful Lawful.tableLawful Lawful.idDiffers Lawful.idLawful Lawful.rulesOk Lawful.wellFormed Lawful.olderMember Lawful.olderElement Lawful.olderTable Lawful.olderOk Lawful.lawful Layout.flatIsBool Layout.isBool Layout.width Layout.flatTakesFlag Layout.takesFlag Layout.hasFlag Layout.begin Layout.bitByte Layout.bitIndex Layout.afterBit Layout.afterBytes Layout.afterFlag Layout.bitSlot Layout.slotOf Layout.afterValue Layout.memberSlot Layout.placementOf Layout.afterMember Step.enumStep Step.floatStep Step.structTested Step.placeOf Step.objectStep Step.unionStep Step.flatStep Step.valueStep Step.inside Step.flagged Step.placedStep Step.memberStep Step.elementPlace Step.elementStep Step.elementsSize Walk.placed Walk.magic Walk.headerSize Walk.startSize Walk.contentSize Walk.endOk Walk.fitContent Walk.fitObject Walk.bytesTested Walk.openObject Walk.refuse Walk.andThen Walk.refusePart Walk.followChoice Walk.follow Walk.members Walk.elements Walk.content Walk.enter Walk.arrive Walk.tooDeep Walk.oneMore Walk.counted Walk.visit Walk.rootPlace Walk.nothing Walk.walk Walk.verdictOf Walk.early Walk.sizeOk Walk.startOk Walk.verdict
+older-accepts : Walk.verdict Bytes.u48 older message two ≡ Walk.atZero 0 (Walk.spending 2 8)
+unfolding Lists.every Lists.run Bytes.le Bytes.bitAt Bytes.isNaN Bytes.largest Bytes.deepest Bytes.u48 Bytes.u32 Bytes.widthKnown Schema.structOf Schema.elementOf Schema.casesOf Schema.tableOf Schema.caseOf Structs.lower Structs.byIndex Structs.flatWidth Structs.total Structs.sizeBy Structs.structSize Structs.flatOk Structs.flatsOk Structs.okBy Structs.structOk Packed.kindAt Packed.optionalAt Packed.inplaceAt Packed.zeroAt Packed.argumentAt Packed.widthOf Packed.flatOf Packed.objectOf Packed.kindOf Packed.flatAt Packed.objectAt Packed.elementAt Packed.memberAt Packed.records Packed.recordPlace Packed.blocks Packed.structPlace Packed.listPlace Packed.unionPlace Packed.tablePlace Packed.idAt Packed.recordsAt Packed.tableAt Packed.parse Lawful.countsOk Lawful.blocksOk Lawful.placesOk Lawful.shapeOk Lawful.argumentOk Lawful.kindOk Lawful.optionalOk Lawful.inplaceOk Lawful.flagsOk Lawful.recordOk Lawful.firstOk Lawful.recordsOk Lawful.inplaces Lawful.structLawful Lawful.listLawful Lawful.unionLawful Lawful.tableLawful Lawful.idDiffers Lawful.idLawful Lawful.rulesOk Lawful.wellFormed Lawful.olderMember Lawful.olderElement Lawful.olderTable Lawful.olderOk Lawful.lawful Layout.flatIsBool Layout.isBool Layout.width Layout.flatTakesFlag Layout.takesFlag Layout.hasFlag Layout.begin Layout.bitByte Layout.bitIndex Layout.afterBit Layout.afterBytes Layout.afterFlag Layout.bitSlot Layout.slotOf Layout.afterValue Layout.memberSlot Layout.placementOf Layout.afterMember Step.enumStep Step.floatStep Step.structTested Step.placeOf Step.objectStep Step.unionStep Step.flatStep Step.valueStep Step.inside Step.flagged Step.placedStep Step.memberStep Step.elementPlace Step.elementStep Step.elementsSize Walk.placed Walk.magic Walk.headerSize Walk.startSize Walk.contentSize Walk.contentLength Walk.endOk Walk.fitContent Walk.fitObject Walk.bytesTested Walk.openObject Walk.refuse Walk.andThen Walk.refusePart Walk.followChoice Walk.follow Walk.members Walk.elements Walk.content Walk.enter Walk.withContent Walk.admit Walk.arrive Walk.tooDeep Walk.oneMore Walk.mostContent Walk.counted Walk.visit Walk.rootPlace Walk.nothing Walk.walk Walk.verdictOf Walk.early Walk.sizeOk Walk.startOk Walk.verdict
 older-accepts = refl
 
-pub newer-accepts : Walk.verdict Bytes.u48 newer message two ≡ Walk.atZero 0 (Walk.spending 2)
+pub newer-accepts : Walk.verdict Bytes.u48 newer message two ≡ Walk.atZero 0 (Walk.spending 2 8)
 newer-accepts = agrees .verdicts two ∙ older-accepts

@@ -1,19 +1,18 @@
 -- What a newer schema accepts with a budget, an older one accepts with the same budget: the older's walk is within the
 -- newer's.
-use Prim.Native.Nat.{ℕ, zero, suc, _≤_, _+_}
-use native.Mathlib.Nat.{le-refl, le-trans}
+use Prim.Native.Nat.{ℕ, zero, suc, _+_}
 use native.Mathlib.Omega.{arith}
 use mathlib.Core.List.{List, [], _∷_}
 use mathlib.Core.Bool.{Bool, true, false}
-use mathlib.Core.Path.{_≡_, refl, ap, subst}
-use lib.Dec.{ltb, eqb}
-use borrow.Author.Tests.{ltb-true, lt-ltb}
+use mathlib.Core.Path.{_≡_, refl, subst}
+use lib.Dec.{ltb, leb, eqb}
+use borrow.Author.Tests.{ltb-true, lt-ltb, leb-true, le-leb}
 use Rattle.coding.specs.Lists.{pick}
 use Rattle.coding.specs.Bytes.{le, deepest}
 use Rattle.coding.specs.Schema.{Schema, elementOf, tableOf}
 use Rattle.coding.specs.Layout.{begin, afterMember}
 use Rattle.coding.specs.Step.{memberStep, elementStep}
-use Rattle.coding.specs.Walk.{placed, headerSize, fitContent, fitObject, bytesTested, openObject, refuse, andThen, Child, refusePart, followChoice, follow, members, elements, content, enter, arrive, tooDeep, oneMore, counted, visit, rootPlace, nothing, walk}
+use Rattle.coding.specs.Walk.{placed, headerSize, contentLength, fitContent, fitObject, bytesTested, refuse, andThen, Child, refusePart, followChoice, follow, members, elements, content, enter, withContent, admit, arrive, tooDeep, oneMore, counted, visit, rootPlace, nothing, walk}
 use Rattle.coding.specs.Append.{Extends, rest, more, KindAppends, MemberAppends, SchemaAppends}
 use Rattle.coding.specs.declared.Object.{Object}
 use Rattle.coding.specs.declared.Object.the-variants as Ob
@@ -32,31 +31,32 @@ use Rattle.coding.specs.declared.Refusal.{Refusal}
 use Rattle.coding.specs.declared.Walked.{Walked}
 use Rattle.coding.specs.declared.Walked.the-variants.{Going, Refused}
 use Rattle.laws.specs.Sound.{All, ObjectSound, KindSound, MemberSound, Sound}
-use Rattle.demands.specs.SameLayout.{element-same, table-same, after-member-same, content-size-same, magic-same}
+use Rattle.demands.specs.Spending.{NoMore, no-more-refl, no-more-trans, one-more-up, with-content-up, one-more-within, with-content-within}
+use Rattle.demands.specs.SameLayout.{element-same, table-same, after-member-same, content-size-same, content-length-same, magic-same}
 use Rattle.demands.specs.SameStep.{SameStep, refused, no-value, value, enum-value, enum-appended, enum-unknown, struct-value, object-value, choice, choice-appended, choice-unknown, member-step-same, element-step-same}
 
--- if the second walk goes on, the first does, and has spent no more
+-- if the second walk goes on, the first does, and has spent no more of either
 pub data Within : Walked → Walked → Type 0 where
   stopped : {a : Walked} {r : Refusal} {s : Spent} → Within a (Refused r s)
-  going : {s s′ : Spent} → s .visits ≤ s′ .visits → Within (Going s) (Going s′)
+  going : {s s′ : Spent} → NoMore s s′ → Within (Going s) (Going s′)
 
 pick-within : (t : Bool) {a a′ b b′ : Walked} → Within a a′ → Within b b′ → Within (pick t a b) (pick t a′ b′)
 pick-within true x y = x
 pick-within false x y = y
 
 then-within : {a a′ : Walked} {next next′ : Spent → Walked} → Within a a′
-    → ((s s′ : Spent) → s .visits ≤ s′ .visits → Within (next s) (next′ s′)) → Within (andThen a next) (andThen a′ next′)
+    → ((s s′ : Spent) → NoMore s s′ → Within (next s) (next′ s′)) → Within (andThen a next) (andThen a′ next′)
 unfolding andThen
 then-within stopped f = stopped
 then-within (going {s} {s′} h) f = f s s′ h
 
-from-within : {s t : Spent} {a : Walked} → s .visits ≤ t .visits → Within (Going t) a → Within (Going s) a
+from-within : {s t : Spent} {a : Walked} → NoMore s t → Within (Going t) a → Within (Going s) a
 from-within h stopped = stopped
-from-within h (going l) = going (le-trans h l)
+from-within h (going l) = going (no-more-trans h l)
 
 -- ---- what is spent never falls
 stay : {s : Spent} → Within (Going s) (Going s)
-stay {s} = going (le-refl (s .visits))
+stay {s} = going (no-more-refl s)
 
 pick-up : (t : Bool) {s : Spent} {a b : Walked} → Within (Going s) a → Within (Going s) b → Within (Going s) (pick t a b)
 pick-up true x y = x
@@ -114,15 +114,25 @@ module _ (child : Child) (U : (ob : Object) (p : Place) (s : Spent) → Within (
   enter-up ob holder (Op.Refused n) s = refuse-up n holder s
   enter-up ob holder (Op.Content start n) s = content-up ob holder start n s
 
-  arrive-up : (ob : Object) (p : Place) (s : Spent) → Within (Going s) (arrive child o S m ob p s)
+  admit-up : (b : Budget) (ob : Object) (holder : ℕ) (p : Opened) (s : Spent)
+      → Within (Going s) (admit child o S m b ob holder p s)
+  unfolding admit
+  admit-up b ob holder (Op.Refused n) s = refuse-up n holder s
+  admit-up b ob holder (Op.Content start n) s =
+      let c = contentLength o S ob n in
+      pick-up (leb (s .content + c) (b .content))
+      (from-within (with-content-up c s) (enter-up ob holder (bytesTested m ob (Op.Content start n)) (withContent c s)))
+      (refuse-up 17 holder s)
+
+  arrive-up : (b : Budget) (ob : Object) (p : Place) (s : Spent) → Within (Going s) (arrive child o S m b ob p s)
   unfolding arrive
-  arrive-up ob p s = enter-up ob (placed p) (openObject o S m ob p) s
+  arrive-up b ob p s = admit-up b ob (placed p) (fitObject o S m ob p) s
 
 counted-up : (child : Child) → ((ob : Object) (p : Place) (s : Spent) → Within (Going s) (child ob p s))
     → (b : Budget) (ob : Object) (p : Place) (s : Spent) → Within (Going s) (counted child b ob p s)
-unfolding counted oneMore
+unfolding counted
 counted-up child U b ob p s =
-    pick-up (ltb (s .visits) (b .visits)) (from-within (omega arith) (U ob p (oneMore s))) (refuse-up 4 (placed p) s)
+    pick-up (ltb (s .visits) (b .visits)) (from-within (one-more-up s) (U ob p (oneMore s))) (refuse-up 4 (placed p) s)
 
 too-deep-up : {a : Walked} (ob : Object) (p : Place) (s : Spent) → Within a (tooDeep ob p s)
 unfolding tooDeep
@@ -133,7 +143,7 @@ visit-up : (d o : ℕ) (S : Schema) (m : List ℕ) (b : Budget) (ob : Object) (p
 unfolding visit
 visit-up zero o S m b ob p s = counted-up tooDeep (λ ob p s. too-deep-up ob p s) b ob p s
 visit-up (suc d) o S m b ob p s =
-    counted-up (arrive (visit d o S m b) o S m) (arrive-up (visit d o S m b) (visit-up d o S m b) o S m) b ob p s
+    counted-up (arrive (visit d o S m b) o S m b) (arrive-up (visit d o S m b) (visit-up d o S m b) o S m b) b ob p s
 
 -- ---- the older's walk beside the newer's
 module _ (o : ℕ) (O N : Schema) (sound : Sound O) (G : SchemaAppends O N) (m : List ℕ) where
@@ -141,26 +151,22 @@ module _ (o : ℕ) (O N : Schema) (sound : Sound O) (G : SchemaAppends O N) (m :
   unfolding fitContent
   fit-content-same ob h start n = rw (content-size-same O N sound G o ob h n)
 
-  fit-same : (ob : Object) → ObjectSound O ob → (p : Place) → fitObject o O m ob p ≡ fitObject o N m ob p
+  pub fit-same : (ob : Object) → ObjectSound O ob → (p : Place) → fitObject o O m ob p ≡ fitObject o N m ob p
   unfolding fitObject
   fit-same ob h (ByOffset x) = rw (magic-same O N sound G ob h, fit-content-same ob h (x + headerSize o) (le m (x + 4) o))
   fit-same ob h (InPlace a n) = fit-content-same ob h a n
 
-  pub open-same : (ob : Object) → ObjectSound O ob → (p : Place) → openObject o O m ob p ≡ openObject o N m ob p
-  unfolding openObject
-  open-same ob h p = ap (bytesTested m ob) (fit-same ob h p)
-
   module _ (old new : Child) (U : (ob : Object) (p : Place) (s : Spent) → Within (Going s) (new ob p s))
-      (H : (ob : Object) → ObjectSound O ob → (p : Place) (s s′ : Spent) → s .visits ≤ s′ .visits
+      (H : (ob : Object) → ObjectSound O ob → (p : Place) (s s′ : Spent) → NoMore s s′
       → Within (old ob p s) (new ob p s′)) where
-    choice-within : (ob : Object) → ObjectSound O ob → (holder j : ℕ) (p : Place) (s s′ : Spent) → s .visits ≤ s′ .visits
+    choice-within : (ob : Object) → ObjectSound O ob → (holder j : ℕ) (p : Place) (s s′ : Spent) → NoMore s s′
         → Within (followChoice old holder j ob p s) (followChoice new holder j ob p s′)
     unfolding followChoice refusePart
     choice-within ob q holder j (ByOffset x) s s′ h =
         pick-within (eqb x 0) stopped (H ob q (ByOffset x) s s′ h)
     choice-within ob q holder j (InPlace a n) s s′ h = H ob q (InPlace a n) s s′ h
 
-    follow-within : {k : Kind} {a b : Step} → SameStep O k a b → (holder j : ℕ) (s s′ : Spent) → s .visits ≤ s′ .visits
+    follow-within : {k : Kind} {a b : Step} → SameStep O k a b → (holder j : ℕ) (s s′ : Spent) → NoMore s s′
         → Within (follow old holder j a s) (follow new holder j b s′)
     unfolding follow refusePart
     follow-within (refused {n}) holder j s s′ h = stopped
@@ -176,7 +182,7 @@ module _ (o : ℕ) (O N : Schema) (sound : Sound O) (G : SchemaAppends O N) (m :
     follow-within choice-unknown holder j s s′ h = going h
 
     members-within : {rs rs′ : List Member} → Extends MemberAppends rs rs′ → All (MemberSound O) rs → (holder start n : ℕ) (c : Cursor)
-        (j : ℕ) (s s′ : Spent) → s .visits ≤ s′ .visits
+        (j : ℕ) (s s′ : Spent) → NoMore s s′
         → Within (members old o O m holder start n c j rs s) (members new o N m holder start n c j rs′ s′)
     unfolding members
     members-within (rest {ys}) a holder start n c j s s′ h = from-within h (members-up new U o N m holder start n c j ys s′)
@@ -186,7 +192,7 @@ module _ (o : ℕ) (O N : Schema) (sound : Sound O) (G : SchemaAppends O N) (m :
         rw (after-member-same O N sound G o q (a .0) c)
         (members-within l (a .1) holder start n (afterMember o N y c) (j + 1) t t′ g))
 
-    elements-within : {k k′ : Kind} → KindAppends k k′ → KindSound O k → (holder start n i : ℕ) (s s′ : Spent) → s .visits ≤ s′ .visits
+    elements-within : {k k′ : Kind} → KindAppends k k′ → KindSound O k → (holder start n i : ℕ) (s s′ : Spent) → NoMore s s′
         → Within (elements old o O m holder start k n i s) (elements new o N m holder start k′ n i s′)
     unfolding elements
     elements-within q a holder start zero i s s′ h = going h
@@ -194,7 +200,7 @@ module _ (o : ℕ) (O N : Schema) (sound : Sound O) (G : SchemaAppends O N) (m :
         then-within (follow-within (element-step-same O N sound G m o q a start i) holder i s s′ h)
         (λ t t′ g. elements-within q a holder start n (i + 1) t t′ g)
 
-    content-within : (ob : Object) → ObjectSound O ob → (holder start n : ℕ) (s s′ : Spent) → s .visits ≤ s′ .visits
+    content-within : (ob : Object) → ObjectSound O ob → (holder start n : ℕ) (s s′ : Spent) → NoMore s s′
         → Within (content old o O m ob holder start n s) (content new o N m ob holder start n s′)
     unfolding content
     content-within Ob.Text q holder start n s s′ h = going h
@@ -204,22 +210,46 @@ module _ (o : ℕ) (O N : Schema) (sound : Sound O) (G : SchemaAppends O N) (m :
     content-within (Ob.Table i) q holder start n s s′ h =
         members-within (table-same O N sound G i q .members) (sound .tables i .members) holder start n begin 0 s s′ h
 
-    enter-within : (ob : Object) → ObjectSound O ob → (holder : ℕ) (p : Opened) (s s′ : Spent) → s .visits ≤ s′ .visits
+    enter-within : (ob : Object) → ObjectSound O ob → (holder : ℕ) (p : Opened) (s s′ : Spent) → NoMore s s′
         → Within (enter old o O m ob holder p s) (enter new o N m ob holder p s′)
     unfolding enter
     enter-within ob q holder (Op.Refused n) s s′ h = refuse-up n holder s′
     enter-within ob q holder (Op.Content start n) s s′ h = content-within ob q holder start n s s′ h
 
-    arrive-within : (ob : Object) → ObjectSound O ob → (p : Place) (s s′ : Spent) → s .visits ≤ s′ .visits
-        → Within (arrive old o O m ob p s) (arrive new o N m ob p s′)
-    unfolding arrive
-    arrive-within ob q p s s′ h = rw (open-same ob q p) (enter-within ob q (placed p) (openObject o N m ob p) s s′ h)
+    -- the content allowance's test: if the newer passes it, so does the older
+    admit-within : (b : Budget) (ob : Object) → ObjectSound O ob → (holder : ℕ) (p : Opened) (s s′ : Spent) → NoMore s s′
+        → Within (admit old o O m b ob holder p s) (admit new o N m b ob holder p s′)
+    unfolding admit
+    admit-within b ob q holder (Op.Refused n) s s′ h = refuse-up n holder s′
+    admit-within b ob q holder (Op.Content start n) s s′ h =
+        rw (content-length-same O N sound G o ob q n) (by (leb (s′ .content + contentLength o N ob n) (b .content)) refl)
+      where
+        by : (t : Bool) → leb (s′ .content + contentLength o N ob n) (b .content) ≡ t
+            → Within
+            (pick (leb (s .content + contentLength o N ob n) (b .content))
+            (enter old o O m ob holder (bytesTested m ob (Op.Content start n)) (withContent (contentLength o N ob n) s))
+            (refuse 17 holder s))
+            (pick t
+            (enter new o N m ob holder (bytesTested m ob (Op.Content start n)) (withContent (contentLength o N ob n) s′))
+            (refuse 17 holder s′))
+        by true e =
+            let l = leb-true (s′ .content + contentLength o N ob n) (b .content) e in
+            rw (le-leb (s .content + contentLength o N ob n) (b .content) (omega (arith, h .content)))
+            (enter-within ob q holder (bytesTested m ob (Op.Content start n))
+            (withContent (contentLength o N ob n) s) (withContent (contentLength o N ob n) s′)
+            (with-content-within (contentLength o N ob n) h))
+        by false e = refuse-up 17 holder s′
 
--- the budget's test: if the newer passes it, so does the older
-counted-within : (old new : Child) (b : Budget) (ob : Object) (p : Place) (s s′ : Spent) → s .visits ≤ s′ .visits
-    → ((t t′ : Spent) → t .visits ≤ t′ .visits → Within (old ob p t) (new ob p t′))
+    arrive-within : (b : Budget) (ob : Object) → ObjectSound O ob → (p : Place) (s s′ : Spent) → NoMore s s′
+        → Within (arrive old o O m b ob p s) (arrive new o N m b ob p s′)
+    unfolding arrive
+    arrive-within b ob q p s s′ h = rw (fit-same ob q p) (admit-within b ob q (placed p) (fitObject o N m ob p) s s′ h)
+
+-- the test of the visits: if the newer passes it, so does the older
+counted-within : (old new : Child) (b : Budget) (ob : Object) (p : Place) (s s′ : Spent) → NoMore s s′
+    → ((t t′ : Spent) → NoMore t t′ → Within (old ob p t) (new ob p t′))
     → Within (counted old b ob p s) (counted new b ob p s′)
-unfolding counted oneMore
+unfolding counted
 counted-within old new b ob p s s′ h H = by (ltb (s′ .visits) (b .visits)) refl
   where
     by : (t : Bool) → ltb (s′ .visits) (b .visits) ≡ t
@@ -227,29 +257,29 @@ counted-within old new b ob p s s′ h H = by (ltb (s′ .visits) (b .visits)) r
         (pick (ltb (s .visits) (b .visits)) (old ob p (oneMore s)) (refuse 4 (placed p) s))
         (pick t (new ob p (oneMore s′)) (refuse 4 (placed p) s′))
     by true e =
-        rw (lt-ltb (s .visits) (b .visits) (omega (arith, ltb-true (s′ .visits) (b .visits) e)))
-        (H (oneMore s) (oneMore s′) (omega arith))
+        rw (lt-ltb (s .visits) (b .visits) (omega (arith, h .visits, ltb-true (s′ .visits) (b .visits) e)))
+        (H (oneMore s) (oneMore s′) (one-more-within h))
     by false e = refuse-up 4 (placed p) s′
 
 module _ (o : ℕ) (O N : Schema) (sound : Sound O) (G : SchemaAppends O N) (m : List ℕ) (b : Budget) where
-  pub visit-within : (d : ℕ) (ob : Object) → ObjectSound O ob → (p : Place) (s s′ : Spent) → s .visits ≤ s′ .visits
+  pub visit-within : (d : ℕ) (ob : Object) → ObjectSound O ob → (p : Place) (s s′ : Spent) → NoMore s s′
       → Within (visit d o O m b ob p s) (visit d o N m b ob p s′)
   unfolding visit
   visit-within zero ob q p s s′ h = counted-within tooDeep tooDeep b ob p s s′ h (λ t t′ g. too-deep-up ob p t′)
   visit-within (suc d) ob q p s s′ h =
-      counted-within (arrive (visit d o O m b) o O m) (arrive (visit d o N m b) o N m) b ob p s s′ h
-      (λ t t′ g. arrive-within o O N sound G m (visit d o O m b) (visit d o N m b) (visit-up d o N m b) (visit-within d) ob q p t t′ g)
+      counted-within (arrive (visit d o O m b) o O m b) (arrive (visit d o N m b) o N m b) b ob p s s′ h
+      (λ t t′ g. arrive-within o O N sound G m (visit d o O m b) (visit d o N m b) (visit-up d o N m b) (visit-within d) b ob q p t t′ g)
 
   pub walk-within : Within (walk o O m b) (walk o N m b)
-  unfolding walk nothing
+  unfolding walk
   walk-within =
       subst (λ (r : ℕ). Within (visit deepest o O m b (Ob.Table (O .root)) (rootPlace o m) nothing) (visit deepest o N m b (Ob.Table r) (rootPlace o m) nothing)) (G .root)
-      (visit-within deepest (Ob.Table (O .root)) (sound .root) (rootPlace o m) nothing nothing (le-refl 0))
+      (visit-within deepest (Ob.Table (O .root)) (sound .root) (rootPlace o m) nothing nothing (no-more-refl nothing))
 
-  -- whatever the newer accepts, the older accepts
-  pub older-accepts : (s : Spent) → walk o N m b ≡ Going s → (t : Spent) × (walk o O m b ≡ Going t) × (t .visits ≤ s .visits)
+  -- whatever the newer accepts, the older accepts, and has spent no more of either
+  pub older-accepts : (s : Spent) → walk o N m b ≡ Going s → (t : Spent) × (walk o O m b ≡ Going t) × NoMore t s
   older-accepts s e = accepts walk-within s e
     where
-      accepts : {x y : Walked} → Within x y → (s : Spent) → y ≡ Going s → (t : Spent) × (x ≡ Going t) × (t .visits ≤ s .visits)
+      accepts : {x y : Walked} → Within x y → (s : Spent) → y ≡ Going s → (t : Spent) × (x ≡ Going t) × NoMore t s
       accepts (stopped {r} {s = u}) s e = let z : _≡_ {A = ℕ} 0 1 = cc in absurd (omega arith)
-      accepts (going {s = t} {s′ = u} l) s e = (t, refl, subst (λ (v : Spent). t .visits ≤ v .visits) (let z : u ≡ s = cc in z) l)
+      accepts (going {s = t} {s′ = u} l) s e = (t, refl, subst (λ (v : Spent). NoMore t v) (let z : u ≡ s = cc in z) l)

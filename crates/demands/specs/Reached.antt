@@ -1,18 +1,18 @@
--- Demand 2: a message is accepted exactly when every object reached by its schema is lawful, within depth and budget; and its
--- visits are then the arrivals, "shared objects each time". What is reached, lawful and counted is said in Arrivals, apart from
--- the walk. `o` is the width of an offset in bytes.
+-- Demand 2: a message is accepted exactly when every object reached by its schema is lawful, within depth and budget, which means
+-- both allowances (02, K7); its visits are then the arrivals, "shared objects each time", and its content is that of the arrivals.
+-- What is reached, lawful and counted is said in Arrivals, apart from the walk. `o` is the width of an offset in bytes.
 use Prim.Native.Nat.{ℕ, _<_, _≤_}
 use native.Mathlib.Omega.{arith}
 use mathlib.Core.List.{List}
 use mathlib.Core.Bool.{Bool, true, false}
-use mathlib.Core.Path.{_≡_, refl, ap, _∙_, subst}
+use mathlib.Core.Path.{_≡_, refl, sym, ap, _∙_, subst}
 use mathlib.Core.Logic.{_↔_}
 use Rattle.coding.specs.Lists.{pick}
 use Rattle.coding.specs.Bytes.{deepest}
 use Rattle.coding.specs.Schema.{Schema}
 use Rattle.coding.specs.Packed.{parse}
 use Rattle.coding.specs.Lawful.{lawful}
-use Rattle.coding.specs.Walk.{rootPlace, spending, nothing, walk, atZero, verdictOf, early, sizeOk, startOk, verdict}
+use Rattle.coding.specs.Walk.{rootPlace, nothing, walk, atZero, verdictOf, early, sizeOk, startOk, verdict}
 use Rattle.coding.specs.declared.Object.the-variants as Ob
 use Rattle.coding.specs.declared.Budget.{Budget}
 use Rattle.coding.specs.declared.Spent.{Spent}
@@ -20,64 +20,66 @@ use Rattle.coding.specs.declared.Refusal.{Refusal}
 use Rattle.coding.specs.declared.Walked.{Walked}
 use Rattle.coding.specs.declared.Walked.the-variants.{Going, Refused}
 use Rattle.coding.specs.declared.Verdict.{Verdict}
-use Rattle.demands.specs.Arrivals.{root, arrivals, messageArrivals, Accepted, LawfulMessage}
-use Rattle.demands.specs.ArrivalsWalk.{Judged, goes, stops, LawfulDown, visit-judged, arrivals-same, down-arrives, down-depth, down-lawful, arrives-down}
+use Rattle.demands.specs.Spending.{allowed, Affords, nothing-plus, nothing-least}
+use Rattle.demands.specs.Arrivals.{root, cost, messageCost, messageArrivals, messageContent, Accepted, LawfulMessage}
+use Rattle.demands.specs.ArrivalsWalk.{Judged, goes, stops, LawfulDown, visit-judged, cost-same, down-arrives, down-depth, down-lawful, arrives-down}
 
 -- ---- the walk
 module _ (o : ℕ) (S : Schema) (m : List ℕ) (b : Budget) where
-  walk-judged : Judged b (LawfulDown deepest o S m (Ob.Table (S .root)) (rootPlace o m)) (messageArrivals o S m)
+  walk-judged : Judged b (LawfulDown deepest o S m (Ob.Table (S .root)) (rootPlace o m)) (messageCost o S m)
       nothing (walk o S m b)
-  unfolding walk nothing messageArrivals
+  unfolding walk messageCost
   walk-judged =
-      visit-judged deepest o S m b (Ob.Table (S .root)) (rootPlace o m) nothing (omega arith)
+      visit-judged deepest o S m b (Ob.Table (S .root)) (rootPlace o m) nothing (nothing-least (allowed b))
 
-  -- what the walk accepts is accepted, and it has spent the arrivals
-  pub walk-accepts : (s : Spent) → walk o S m b ≡ Going s → Accepted o S m b × (s .visits ≡ messageArrivals o S m)
-  unfolding nothing
+  -- what the walk accepts is accepted, and it has spent what the arrivals cost
+  pub walk-accepts : (s : Spent) → walk o S m b ≡ Going s → Accepted o S m b × (s ≡ messageCost o S m)
   walk-accepts s e = by (walk o S m b) e walk-judged
     where
       by : (w : Walked) → w ≡ Going s
-          → Judged b (LawfulDown deepest o S m (Ob.Table (S .root)) (rootPlace o m)) (messageArrivals o S m) nothing w
-          → Accepted o S m b × (s .visits ≡ messageArrivals o S m)
+          → Judged b (LawfulDown deepest o S m (Ob.Table (S .root)) (rootPlace o m)) (messageCost o S m) nothing w
+          → Accepted o S m b × (s ≡ messageCost o S m)
       by w q (stops r t y n) = let z : _≡_ {A = ℕ} 0 1 = cc in absurd (omega arith)
       by w q (goes t f h x) =
           let z : t ≡ s = cc in
-          let v : t .visits ≡ s .visits = ap (λ (u : Spent). u .visits) z in (
+          let c : t ≡ messageCost o S m = f ∙ nothing-plus (messageCost o S m) in
+          let l = subst (λ (u : Spent). Affords b u) c h in (
             record {
               depth = λ d ob p a. let y = down-arrives o S m x a in down-depth o S m d (y .0) ob p (y .1) (y .2);
               lawful = λ d ob p a. let y = down-arrives o S m x a in down-lawful o S m (y .0) ob p (y .2);
-              budget = omega arith;
+              visits = l .visits;
+              content = l .content;
             },
-            omega arith,
+            sym z ∙ c,
           )
 
-  -- what is accepted the walk accepts, and it has spent the arrivals
-  pub accepted-walks : Accepted o S m b → (s : Spent) × (walk o S m b ≡ Going s) × (s .visits ≡ messageArrivals o S m)
-  unfolding nothing
+  -- what is accepted the walk accepts, and it has spent what the arrivals cost
+  pub accepted-walks : Accepted o S m b → walk o S m b ≡ Going (messageCost o S m)
   accepted-walks h = by (walk o S m b) walk-judged
     where
       by : (w : Walked)
-          → Judged b (LawfulDown deepest o S m (Ob.Table (S .root)) (rootPlace o m)) (messageArrivals o S m) nothing w
-          → (s : Spent) × (w ≡ Going s) × (s .visits ≡ messageArrivals o S m)
-      by w (goes t f g x) = (t, refl, omega arith)
+          → Judged b (LawfulDown deepest o S m (Ob.Table (S .root)) (rootPlace o m)) (messageCost o S m) nothing w
+          → w ≡ Going (messageCost o S m)
+      by w (goes t f g x) = ap (λ (u : Spent). Going u) (f ∙ nothing-plus (messageCost o S m))
       by w (stops r t z n) =
           absurd (n
           (arrives-down o S m (h .depth) (h .lawful) deepest 1 (Ob.Table (S .root)) (rootPlace o m) root (omega arith))
-          (let g = h .budget in omega arith))
+          (subst (λ (u : Spent). Affords b u) (sym (nothing-plus (messageCost o S m)))
+          (record { visits = h .visits; content = h .content })))
 
-  -- the arrivals are all there are: counting deeper gives no more
+  -- the arrivals are all there are: going deeper costs no more
   pub accepted-count : Accepted o S m b → (d : ℕ) → deepest ≤ d
-      → arrivals d o S m (Ob.Table (S .root)) (rootPlace o m) ≡ messageArrivals o S m
-  unfolding messageArrivals
+      → cost d o S m (Ob.Table (S .root)) (rootPlace o m) ≡ messageCost o S m
+  unfolding messageCost
   accepted-count h d l =
-      arrivals-same deepest d o S m (Ob.Table (S .root)) (rootPlace o m) l
+      cost-same deepest d o S m (Ob.Table (S .root)) (rootPlace o m) l
       (arrives-down o S m (h .depth) (h .lawful) deepest 1 (Ob.Table (S .root)) (rootPlace o m) root (omega arith))
 
   walk-refuses : (r : Refusal) (t : Spent) → walk o S m b ≡ Refused r t → 0 < r .number
   walk-refuses r t e = by (walk o S m b) e walk-judged
     where
       by : (w : Walked) → w ≡ Refused r t
-          → Judged b (LawfulDown deepest o S m (Ob.Table (S .root)) (rootPlace o m)) (messageArrivals o S m) nothing w
+          → Judged b (LawfulDown deepest o S m (Ob.Table (S .root)) (rootPlace o m)) (messageCost o S m) nothing w
           → 0 < r .number
       by w q (goes u f g x) = let z : _≡_ {A = ℕ} 0 1 = cc in absurd (omega arith)
       by w q (stops s u z n) = let y : s ≡ r = cc in subst (λ (x : Refusal). 0 < x .number) y z
@@ -116,11 +118,10 @@ module _ (o : ℕ) (b m : List ℕ) (budget : Budget) where
   walks-verdict e f q s x = rw (e, f, q, x)
 
   pub lawful-verdict : LawfulMessage o b m budget
-      → verdict o b m budget ≡ atZero 0 (spending (messageArrivals o (parse b) m))
+      → verdict o b m budget ≡ atZero 0 (messageCost o (parse b) m)
   unfolding verdictOf
   lawful-verdict h =
-      let y = accepted-walks o (parse b) m budget (h .objects) in
-      walks-verdict (h .schema) (h .size) (h .start) (y .0) (y .1) ∙ ap (λ (v : ℕ). atZero 0 (spending v)) (y .2)
+      walks-verdict (h .schema) (h .size) (h .start) (messageCost o (parse b) m) (accepted-walks o (parse b) m budget (h .objects))
 
   verdict-lawful : verdict o b m budget .number ≡ 0 → LawfulMessage o b m budget
   verdict-lawful h =
@@ -133,10 +134,13 @@ module _ (o : ℕ) (b m : List ℕ) (budget : Budget) where
       }
 
   -- THE CLAIM: number 0 exactly when the schema is lawful, the message has its size and start, and every object reached is
-  -- lawful, within depth and budget
+  -- lawful, within depth and both allowances
   pub accepted-exactly : (verdict o b m budget .number ≡ 0) ↔ LawfulMessage o b m budget
   accepted-exactly = (verdict-lawful, λ h. ap (λ (v : Verdict). v .number) (lawful-verdict h))
 
-  -- and then the visits are the arrivals
+  -- and then the visits are the arrivals, and the content is that of the arrivals, together
   pub accepted-visits : verdict o b m budget .number ≡ 0 → verdict o b m budget .visits ≡ messageArrivals o (parse b) m
   accepted-visits h = ap (λ (v : Verdict). v .visits) (lawful-verdict (verdict-lawful h))
+
+  pub accepted-content : verdict o b m budget .number ≡ 0 → verdict o b m budget .content ≡ messageContent o (parse b) m
+  accepted-content h = ap (λ (v : Verdict). v .content) (lawful-verdict (verdict-lawful h))

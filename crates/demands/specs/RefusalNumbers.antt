@@ -11,7 +11,7 @@ use Rattle.coding.specs.Schema.{Schema, casesOf}
 use Rattle.coding.specs.Structs.{structOk}
 use Rattle.coding.specs.Layout.{hasFlag, placementOf}
 use Rattle.coding.specs.Step.{enumStep, floatStep, objectStep, unionStep, flatStep, valueStep, structTested, inside, flagged, placedStep, memberStep, elementPlace, elementStep}
-use Rattle.coding.specs.Walk.{magic, headerSize, startSize, contentSize, endOk, fitContent, fitObject, bytesTested, openObject}
+use Rattle.coding.specs.Walk.{magic, headerSize, startSize, contentSize, endOk, fitContent, fitObject, bytesTested}
 use Rattle.coding.specs.declared.Flat.{Flat}
 use Rattle.coding.specs.declared.Flat.the-variants as F
 use Rattle.coding.specs.declared.Object.{Object}
@@ -110,7 +110,7 @@ unfolding fitContent
 content-numbered o S m ob start n =
     pick-has NumberedOpened (leb (start + contentSize o S ob n) (length m)) {x = Op.Content start n} {y = Op.Refused 6} tt (omega arith)
 
-fit-numbered : (o : ℕ) (S : Schema) (m : List ℕ) (ob : Object) (p : Place) → NumberedOpened (fitObject o S m ob p)
+pub fit-numbered : (o : ℕ) (S : Schema) (m : List ℕ) (ob : Object) (p : Place) → NumberedOpened (fitObject o S m ob p)
 unfolding fitObject
 fit-numbered o S m ob (ByOffset x) =
     pick-has NumberedOpened (leb (startSize o) x && leb (x + headerSize o) (length m)) {y = Op.Refused 6}
@@ -119,12 +119,8 @@ fit-numbered o S m ob (ByOffset x) =
     (omega arith)
 fit-numbered o S m ob (InPlace a n) = content-numbered o S m ob a n
 
-bytes-numbered : (m : List ℕ) (ob : Object) (x : Opened) → NumberedOpened x → NumberedOpened (bytesTested m ob x)
+pub bytes-numbered : (m : List ℕ) (ob : Object) (x : Opened) → NumberedOpened x → NumberedOpened (bytesTested m ob x)
 unfolding bytesTested
 bytes-numbered m ob (Op.Refused n) h = h
 bytes-numbered m ob (Op.Content start n) h =
     pick-has NumberedOpened (endOk m ob start n) {x = Op.Content start n} {y = Op.Refused 10} tt (omega arith)
-
-pub open-numbered : (o : ℕ) (S : Schema) (m : List ℕ) (ob : Object) (p : Place) → NumberedOpened (openObject o S m ob p)
-unfolding openObject
-open-numbered o S m ob p = bytes-numbered m ob _ (fit-numbered o S m ob p)

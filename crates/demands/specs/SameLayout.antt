@@ -10,7 +10,7 @@ use Rattle.coding.specs.Schema.{Schema, Table, structOf, elementOf, casesOf, ta
 use Rattle.coding.specs.Structs.{flatWidth, total, sizeBy, structSize, flatOk, flatsOk, okBy, always, structOk}
 use Rattle.coding.specs.Layout.{bitSlot, flatIsBool, isBool, width, flatTakesFlag, takesFlag, hasFlag, afterFlag, slotOf, afterValue, memberSlot, afterMember}
 use Rattle.coding.specs.Step.{elementPlace, elementsSize}
-use Rattle.coding.specs.Walk.{magic, contentSize}
+use Rattle.coding.specs.Walk.{magic, contentSize, contentLength}
 use Rattle.coding.specs.Append.{Extends, rest, more, Alike, done, also, FlatAppends, boolean, integer, float, enumerated, struct, KindAppends, flat, object, union, MemberAppends, SameObject, TableAppends, SchemaAppends}
 use Rattle.coding.specs.declared.Flat.{Flat}
 use Rattle.coding.specs.declared.Object.{Object}
@@ -183,6 +183,13 @@ module _ (O N : Schema) (sound : Sound O) (G : SchemaAppends O N) where
     content-size-same Ob.Bytes h n = refl
     content-size-same (Ob.List i) h n = elements-size-same (element-same i h) (sound .lists i .kind) n
     content-size-same (Ob.Table i) h n = refl
+
+    pub content-length-same : (ob : Object) → ObjectSound O ob → (n : ℕ) → contentLength o O ob n ≡ contentLength o N ob n
+    unfolding contentLength
+    content-length-same Ob.Text h n = refl
+    content-length-same Ob.Bytes h n = refl
+    content-length-same (Ob.List i) h n = elements-size-same (element-same i h) (sound .lists i .kind) n
+    content-length-same (Ob.Table i) h n = refl
 
   pub magic-same : (ob : Object) → ObjectSound O ob → magic O ob ≡ magic N ob
   unfolding magic

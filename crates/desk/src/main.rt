@@ -1,5 +1,6 @@
 // The desk program: judges message.bin by schema.bin, both in the folder it is run in, under the coding of 48 bits, with a budget of
-// 100000, and prints number, place and visits. A file that cannot be read or is over 64 KiB counts as one that is not lawful: 1 or 2.
+// 100000 visits and the largest content allowance, and prints number, place and visits. A file that cannot be read or is over 64 KiB
+// counts as one that is not lawful: 1 or 2.
 use coding::Budget;
 use libc::STDOUT_FILENO;
 ghost use Rattle.io.specs.Counts.{Counts};
@@ -52,12 +53,11 @@ fn main() {
     let s = load(b"schema.bin", &mut schema);
     let mut message = [0u8; 65537];
     let m = load(b"message.bin", &mut message);
-    let v = judge::judge(
-        &schema[..s],
-        &message[..m],
-        Budget { visits: 100000 },
-        wire::U48,
-    );
+    let budget = Budget {
+        visits: 100000,
+        content: u64::MAX,
+    };
+    let v = judge::judge(&schema[..s], &message[..m], budget, wire::U48);
     print(v.number as u64, b' ');
     print(v.place as u64, b' ');
     print(v.visits as u64, b'\n');

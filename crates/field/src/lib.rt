@@ -80,7 +80,7 @@ pub fn field(b: &[u8], m: &[u8], path: &[u32], o: usize) -> Answer
     answer_of(b, m, found, o)
 }
 
-// ---- the answer's number, place, member and visits
+// ---- the answer's verdict
 // The refusal n at a place, about no member, as an answer.
 pub fn refused(n: u8, at: usize) -> Answer
     ensures { λ r. ⌜ r ≡ Answer.Refused (W.refusal n at) ⌝ }
@@ -93,7 +93,7 @@ pub fn refused(n: u8, at: usize) -> Answer
     Answer::Refused(why)
 }
 
-// A refusal without visits: one field is read without budget.
+// A refusal with nothing spent: one field is read without budget.
 fn unspent(why: Refusal) -> Verdict
     ensures { λ r. ⌜ r ≡ W.verdictAt why W.nothing ⌝ }
 {
@@ -102,10 +102,11 @@ fn unspent(why: Refusal) -> Verdict
         place: why.place,
         member: why.member,
         visits: 0,
+        content: 0,
     }
 }
 
-// The verdict of what is no refusal: 0 at 0, about no member, without visits.
+// The verdict of what is no refusal: 0 at 0, about no member, with nothing spent.
 fn passed() -> Verdict
     ensures { λ r. ⌜ r ≡ W.early 0 ⌝ }
 {
@@ -114,10 +115,11 @@ fn passed() -> Verdict
         place: 0,
         member: wire::NO_MEMBER,
         visits: 0,
+        content: 0,
     }
 }
 
-// Number, place, member and visits of a field's answer: 0 at 0 for what is no refusal.
+// The verdict of a field's answer: 0 at 0 for what is no refusal.
 pub fn verdict_of(answer: Answer) -> Verdict
     ensures { λ r. ⌜ r ≡ F.answerVerdict answer ⌝ }
 {

@@ -1,2 +1,3 @@
 pub mod NumberCases
+pub mod CountCases
 pub mod VerdictCases

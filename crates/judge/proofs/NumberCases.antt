@@ -83,10 +83,6 @@ module _ (o : ℕ) (S : Schema) (m : List ℕ) (ob : Object) where
       by true = tt
       by false = omega arith
 
-  open-number : (p : Place) → OpenNumber (W.openObject o S m ob p)
-  unfolding W.openObject
-  open-number p = bytes-number (W.fitObject o S m ob p) (fit-number p)
-
 -- ---- steps
 flat-number : (m : List ℕ) (k : Flat) (none : Bool) (at bit : ℕ) → StepNumber (T.flatStep m k none at bit)
 unfolding T.flatStep T.floatStep T.enumStep
@@ -227,9 +223,18 @@ module _ (child : W.Child) (small : (ob : Object) (p : Place) (s : Spent) → Nu
   enter-small o S m ob holder (Op.Refused n) s h = refuse-small n holder s h
   enter-small o S m ob holder (Op.Content start n) s h = content-small o S m ob holder start n s
 
-  arrive-small : (o : ℕ) (S : Schema) (m : List ℕ) (ob : Object) (p : Place) (s : Spent) → NumberSmall (W.arrive child o S m ob p s)
+  admit-small : (o : ℕ) (S : Schema) (m : List ℕ) (b : Budget) (ob : Object) (holder : ℕ) (g : Opened) (s : Spent) → OpenNumber g
+      → NumberSmall (W.admit child o S m b ob holder g s)
+  unfolding W.admit
+  admit-small o S m b ob holder (Op.Refused n) s h = refuse-small n holder s h
+  admit-small o S m b ob holder (Op.Content start n) s h =
+      pick-holds NumberSmall (leb (s .content + W.contentLength o S ob n) (b .content)) _ (W.refuse 17 holder s)
+      (λ _. enter-small o S m ob holder (W.bytesTested m ob (Op.Content start n)) _ (bytes-number o S m ob (Op.Content start n) tt))
+      (λ _. refuse-small 17 holder s (omega arith))
+
+  arrive-small : (o : ℕ) (S : Schema) (m : List ℕ) (b : Budget) (ob : Object) (p : Place) (s : Spent) → NumberSmall (W.arrive child o S m b ob p s)
   unfolding W.arrive
-  arrive-small o S m ob p s = enter-small o S m ob (W.placed p) (W.openObject o S m ob p) s (open-number o S m ob p)
+  arrive-small o S m b ob p s = admit-small o S m b ob (W.placed p) (W.fitObject o S m ob p) s (fit-number o S m ob p)
 
   counted-small : (b : Budget) (ob : Object) (p : Place) (s : Spent) → NumberSmall (W.counted child b ob p s)
   unfolding W.counted
@@ -244,7 +249,7 @@ deep-small ob p s = refuse-small 5 (W.placed p) s (omega arith)
 visit-small : (o d : ℕ) (S : Schema) (m : List ℕ) (b : Budget) (ob : Object) (p : Place) (s : Spent) → NumberSmall (W.visit d o S m b ob p s)
 unfolding W.visit
 visit-small o zero S m b ob p s = counted-small W.tooDeep deep-small b ob p s
-visit-small o (suc d) S m b ob p s = counted-small (W.arrive (W.visit d o S m b) o S m) (arrive-small (W.visit d o S m b) (visit-small o d S m b) o S m) b ob p s
+visit-small o (suc d) S m b ob p s = counted-small (W.arrive (W.visit d o S m b) o S m b) (arrive-small (W.visit d o S m b) (visit-small o d S m b) o S m b) b ob p s
 
 pub walk-small : (o : ℕ) (S : Schema) (m : List ℕ) (b : Budget) → NumberSmall (W.walk o S m b)
 unfolding W.walk

@@ -22,15 +22,40 @@ use Rattle.coding.specs.declared.Walked.{Walked}
 use Rattle.coding.specs.declared.Walked.the-variants.{Going, Refused}
 use Rattle.schema.specs.Directory.{AcceptedUnder, Judged}
 use Rattle.outcome.specs.declared.Outcome.{Outcome}
-use Rattle.outcome.specs.Answers.{walkedOf}
+use Rattle.outcome.specs.Answers.{walkedOf, leftOf}
+use Rattle.outcome.specs.Left as Left
 use Rattle.judge.proofs.NumberCases.{NumberSmall, walk-small}
+use Rattle.judge.proofs.CountCases.{Within, visit-spent, visit-left}
 
-pub walk-is : (o : ℕ) (b m : List ℕ) (budget : Budget) (ob : Object) (p : Place) → ob ≡ O.Table (P.parse b .root) → p ≡ W.rootPlace o m → (r : Walked)
-    → r ≡ W.visit 32 o (P.parse b) m budget ob p (record { visits = 0 }) → r ≡ W.walk o (P.parse b) m budget
-unfolding W.walk W.nothing deepest
-walk-is o b m budget ob p eo ep r e =
-    e ∙ ap (λ (q : Object). W.visit 32 o (P.parse b) m budget q p (record { visits = 0 })) eo
-    ∙ ap (λ (q : Place). W.visit 32 o (P.parse b) m budget (O.Table (P.parse b .root)) q (record { visits = 0 })) ep
+-- ---- the walk from the root, where nothing is spent
+module _ (o : ℕ) (b m : List ℕ) (v c : ℕ) (ob : Object) (p : Place) (eo : ob ≡ O.Table (P.parse b .root)) (ep : p ≡ W.rootPlace o m) (w : Outcome)
+    (e : walkedOf w ≡ Left.visit 32 o (P.parse b) m ob p (W.spending v c)) where
+  pub walk-is : W.walk o (P.parse b) m (W.allowing v c) ≡ Left.spentOf (W.allowing v c) (walkedOf w)
+  unfolding W.walk deepest
+  walk-is =
+      ap (λ (q : Object). W.visit 32 o (P.parse b) m (W.allowing v c) q (W.rootPlace o m) W.nothing) (sym eo)
+      ∙ ap (λ (q : Place). W.visit 32 o (P.parse b) m (W.allowing v c) ob q W.nothing) (sym ep)
+      ∙ visit-spent 32 o (P.parse b) m v c ob p
+      ∙ ap (Left.spentOf (W.allowing v c)) (sym e)
+
+  left : Within (W.allowing v c) (walkedOf w)
+  left = subst (Within (W.allowing v c)) (sym e) (visit-left 32 o (P.parse b) m v c ob p)
+
+  both : (w .visits ≤ v) × (w .content ≤ c)
+  unfolding walkedOf
+  both = by (eqb (w .code) 0) left
+    where
+      by : (t : Bool)
+          → Within (W.allowing v c) (pick t (Going (leftOf w)) (Refused (record { number = w .code - 1; place = w .place; member = w .member }) (leftOf w)))
+          → (w .visits ≤ v) × (w .content ≤ c)
+      by true h = h
+      by false h = h
+
+  pub walk-visits : w .visits ≤ v
+  walk-visits = both .0
+
+  pub walk-content : w .content ≤ c
+  walk-content = both .1
 
 -- a message within the size
 module _ (o : ℕ) (m : List ℕ) (t : Bool) (et : t ≡ W.sizeOk o m) (f : t ≡ true) where
@@ -51,9 +76,9 @@ module _ (o : ℕ) (b dir m : List ℕ) (a : AcceptedUnder o b dir) (budget : Bu
   verdict-size h e = simp (a .lawful, ← eq, h) e
 
   module _ (h : q ≡ true) (t : Bool) (et : t ≡ W.startOk m) where
-    pub verdict-walk : t ≡ true → (w : Walked) → w ≡ W.walk o (P.parse b) m budget → r ≡ W.verdictOf w → r ≡ W.verdict o b m budget
+    pub verdict-walk : t ≡ true → (w : Walked) → W.walk o (P.parse b) m budget ≡ w → r ≡ W.verdictOf w → r ≡ W.verdict o b m budget
     unfolding W.verdict
-    verdict-walk f w ew e = simp (a .lawful, ← eq, h, ← et, f, ← ew) e
+    verdict-walk f w ew e = simp (a .lawful, ← eq, h, ← et, f, ew) e
 
     pub verdict-other : t ≡ false → r ≡ W.early 3 → r ≡ W.verdict o b m budget
     unfolding W.verdict
@@ -63,22 +88,26 @@ pub verdict-unlawful : (o : ℕ) (b dir m : List ℕ) (budget : Budget) (t : Boo
 unfolding W.verdict
 verdict-unlawful o b dir m budget t j f r e = simp (← (j .is), f) e
 
-module _ (w : Outcome) where
-  pub verdict-going : w .code ≡ 0 → record { number = 0; place = 0; member = 4294967295; visits = w .spent .visits } ≡ W.verdictOf (walkedOf w)
-  unfolding W.verdictOf W.noMember walkedOf
+module _ (w : Outcome) (v c : ℕ) where
+  pub verdict-going : w .code ≡ 0
+      → record { number = 0; place = 0; member = 4294967295; visits = v - w .visits; content = c - w .content }
+      ≡ W.verdictOf (Left.spentOf (W.allowing v c) (walkedOf w))
+  unfolding W.verdictOf W.noMember walkedOf Left.spentOf
   verdict-going e = simp (eq-eqb _ _ e)
 
-  pub verdict-refused : (w .code ≡ 0 → ⊥) → record { number = w .code - 1; place = w .place; member = w .member; visits = w .spent .visits } ≡ W.verdictOf (walkedOf w)
-  unfolding W.verdictOf walkedOf
+  pub verdict-refused : (w .code ≡ 0 → ⊥)
+      → record { number = w .code - 1; place = w .place; member = w .member; visits = v - w .visits; content = c - w .content }
+      ≡ W.verdictOf (Left.spentOf (W.allowing v c) (walkedOf w))
+  unfolding W.verdictOf walkedOf Left.spentOf
   verdict-refused f = simp (ne-eqb _ _ f)
 
-  pub code-small : (o : ℕ) (S : Schema) (m : List ℕ) (b : Budget) → walkedOf w ≡ W.walk o S m b → w .code ≤ 256
-  unfolding walkedOf
-  code-small o S m b e = by (eqb (w .code) 0) refl
+  pub code-small : (o : ℕ) (S : Schema) (m : List ℕ) → W.walk o S m (W.allowing v c) ≡ Left.spentOf (W.allowing v c) (walkedOf w) → w .code ≤ 256
+  unfolding walkedOf Left.spentOf
+  code-small o S m e = by (eqb (w .code) 0) refl
     where
       by : (t : Bool) → eqb (w .code) 0 ≡ t → w .code ≤ 256
       by true q = let z = eqb-true (w .code) 0 q in omega arith
       by false q =
-          let y : NumberSmall (pick (eqb (w .code) 0) (Going (w .spent)) (Refused (record { number = w .code - 1; place = w .place; member = w .member }) (w .spent))) = subst NumberSmall (sym e) (walk-small o S m b) in
+          let y : NumberSmall (Left.spentOf (W.allowing v c) (pick (eqb (w .code) 0) (Going (leftOf w)) (Refused (record { number = w .code - 1; place = w .place; member = w .member }) (leftOf w)))) = subst NumberSmall e (walk-small o S m (W.allowing v c)) in
           let z : w .code - 1 < 256 = rw q at y in
           omega arith

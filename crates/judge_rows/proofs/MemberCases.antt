@@ -20,7 +20,7 @@ use Rattle.coding.specs.declared.Walked.{Walked}
 use Rattle.coding.specs.declared.Walked.the-variants.{Going}
 use Rattle.message_step.specs.Lead.{leadOf}
 use Rattle.outcome.specs.declared.Outcome.{Outcome}
-use Rattle.outcome.specs.Answers.{walkedOf}
+use Rattle.outcome.specs.Answers.{walkedOf, leftOf}
 use Rattle.outcome.proofs.AnswerCases.{goes, stops}
 use Rattle.judge_rows.proofs.EndCases.{Ended, members-past}
 
@@ -83,11 +83,11 @@ module _ (child : W.Child) (o : ℕ) (S : Schema) (m : List ℕ) (holder start n
 
       pub members-turn : g .code ≡ 0 → (next : Cursor) → next ≡ L.afterMember o S (Sc.memberOf S t j) c
           → W.members child o S m holder start n L.begin 0 (Sc.tableOf S t .members) s
-          ≡ W.members child o S m holder start n next (j + 1) (drop (j + 1) (Sc.tableOf S t .members)) (g .spent)
+          ≡ W.members child o S m holder start n next (j + 1) (drop (j + 1) (Sc.tableOf S t .members)) (leftOf g)
       members-turn f next en =
           split ∙ goes g behind f
-          ∙ ap (λ (q : Cursor). W.members child o S m holder start n q (j + 1) (drop (suc j) (Sc.tableOf S t .members)) (g .spent)) (sym en)
-          ∙ ap (λ (k : ℕ). W.members child o S m holder start n next (j + 1) (drop k (Sc.tableOf S t .members)) (g .spent)) (sym (add-one j))
+          ∙ ap (λ (q : Cursor). W.members child o S m holder start n q (j + 1) (drop (suc j) (Sc.tableOf S t .members)) (leftOf g)) (sym en)
+          ∙ ap (λ (k : ℕ). W.members child o S m holder start n next (j + 1) (drop k (Sc.tableOf S t .members)) (leftOf g)) (sym (add-one j))
 
     -- a member that leads nowhere
     pub members-nowhere : j < count → (step : Step) → step ≡ leadOf (T.memberStep o S m start n c (Sc.memberOf S t j)) → step ≡ St.Absent
@@ -96,4 +96,4 @@ module _ (child : W.Child) (o : ℕ) (S : Schema) (m : List ℕ) (holder start n
         ≡ W.members child o S m holder start n next (j + 1) (drop (j + 1) (Sc.tableOf S t .members)) v
     unfolding walkedOf W.follow
     members-nowhere h step es e next en =
-        members-turn h step es (record { code = 0; place = 0; member = 0; spent = v }) (sym (ap (λ (q : Step). W.follow child holder j q v) e)) refl next en
+        members-turn h step es (record { code = 0; place = 0; member = 0; visits = v .visits; content = v .content }) (sym (ap (λ (q : Step). W.follow child holder j q v) e)) refl next en

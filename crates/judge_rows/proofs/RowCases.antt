@@ -28,7 +28,7 @@ use Rattle.laws.specs.Parsed.{members-length}
 use Rattle.message_step.specs.Lead.{leadOf}
 use Rattle.outcome.specs.declared.Content.{Content}
 use Rattle.outcome.specs.declared.Outcome.{Outcome}
-use Rattle.outcome.specs.Answers.{walkedOf, referred}
+use Rattle.outcome.specs.Answers.{walkedOf, leftOf, referred}
 use Rattle.judge_text.proofs.ElementCases.{follow-offset}
 use Rattle.message_layout.specs.Bounds.{Laid}
 use Rattle.judge_member.specs.declared.Rows.{Rows}
@@ -203,7 +203,7 @@ module _ (o : ℕ) (child : W.Child) (b m : List ℕ) (x : Content) (k : Rows) (
 
     pub row-turn : g .code ≡ 0 → at ≡ k .first + 4 + 1 + 2 * j → (z : ℕ) → z ≡ getD b at 0 → (y : ℕ) → y ≡ z → (w : ℕ) → w ≡ rowWidth o y → w < 256
         → W.members child o (P.parse b) m (x .holder) (x .start) (x .length) L.begin 0 (Sc.tableOf (P.parse b) (k .table) .members) s
-        ≡ W.members child o (P.parse b) m (x .holder) (x .start) (x .length) (noBool (end + w)) (j + 1) (drop (j + 1) (Sc.tableOf (P.parse b) (k .table) .members)) (g .spent)
+        ≡ W.members child o (P.parse b) m (x .holder) (x .start) (x .length) (noBool (end + w)) (j + 1) (drop (j + 1) (Sc.tableOf (P.parse b) (k .table) .members)) (leftOf g)
     row-turn f e z ez y ey w ew lw =
         let lf : RowMember y = row-read b k lt j h at e z ez y ey in
         members-turn child o (P.parse b) m (x .holder) (x .start) (x .length) (k .table) s (noBool end) j v inv (k .count) (row-count b k lt) h

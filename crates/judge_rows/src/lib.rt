@@ -3,10 +3,8 @@ use coding::Kind;
 use coding::Object;
 use coding::Opened;
 use coding::Place;
-use coding::Spent;
 use judge_member::Rows;
 use outcome::Content;
-use outcome::Limits;
 use outcome::Outcome;
 use outcome::Part;
 ghost use mathlib.Core.Path.{_≡_};
@@ -15,6 +13,7 @@ ghost use lib.ListN.{length, getD};
 ghost use Rattle.coding.specs.Packed as P;
 ghost use Rattle.laws.specs.Sound.{ObjectSound};
 ghost use Rattle.schema.specs.Directory.{Accepted};
+ghost use Rattle.coding.specs.Walk as W;
 ghost use Rattle.outcome.specs.Answers as As;
 ghost use Rattle.judge_member.specs.Records as Rs;
 ghost use Rattle.wire.specs.Sizes.{WithinSize, Width, HasOffsets};
@@ -24,17 +23,18 @@ ghost use Rattle.wire.specs.Sizes.{WithinSize, Width, HasOffsets};
 fn row_member(
     b: &[u8],
     m: &[u8],
-    l: Limits,
+    depth: usize,
     at: usize,
     j: u32,
     x: Content,
     end: usize,
-    s: Spent,
+    visits: u32,
+    content: u64,
     o: usize,
 ) -> Outcome
     requires { ⌜ (Width o) × (at < length (now b)) × (Rs.RowMember (getD (now b) at 0)) ⌝ }
     requires { ⌜ (WithinSize (now m)) × (x .start + x .length ≤ length (now m)) × (end < x .length) ⌝ }
-    ensures { λ r. ⌜ As.walkedOf r ≡ As.followBy o (now (b .entry)) (now (m .entry)) l (As.partOf x j) (As.memberBy o (now (b .entry)) (now (m .entry)) x (Rs.noBool end) (P.memberAt (now (b .entry)) at)) s ⌝ }
+    ensures { λ r. ⌜ As.walkedOf r ≡ As.followBy o (now (b .entry)) (now (m .entry)) depth (As.partOf x j) (As.memberBy o (now (b .entry)) (now (m .entry)) x (Rs.noBool end) (P.memberAt (now (b .entry)) at)) (W.spending visits content) ⌝ }
 {
     let h = wire::index(wire::byte_in(b, at));
     if x.length < end + judge_member::row_width(h, o) {
@@ -42,90 +42,149 @@ fn row_member(
             holder: x.holder,
             number: j,
         };
-        return outcome::refuse_part(8, part, s);
+        return outcome::refuse_part(8, part, visits, content);
     }
     if judge_member::is_text_reference(h) {
-        return judge_text::refer_text(b, m, l, wire::offset_in(m, x.start + end, o), s, o);
+        return judge_text::refer_text(
+            b,
+            m,
+            depth,
+            wire::offset_in(m, x.start + end, o),
+            visits,
+            content,
+            o,
+        );
     }
-    outcome::going(s)
+    outcome::going(visits, content)
 }
 
 // The members of a row table.
-fn row_members(b: &[u8], m: &[u8], l: Limits, k: Rows, x: Content, s: Spent, o: usize) -> Outcome
+fn row_members(
+    b: &[u8],
+    m: &[u8],
+    depth: usize,
+    k: Rows,
+    x: Content,
+    visits: u32,
+    content: u64,
+    o: usize,
+) -> Outcome
     requires { ⌜ (Rs.RowTable (now b) k) × (Width o) × (WithinSize (now m)) × (x .start + x .length ≤ length (now m)) ⌝ }
-    ensures { λ r. ⌜ As.walkedOf r ≡ As.membersBy o (now (b .entry)) (now (m .entry)) l (k .table) x s ⌝ }
+    ensures { λ r. ⌜ As.walkedOf r ≡ As.membersBy o (now (b .entry)) (now (m .entry)) depth (k .table) x (W.spending visits content) ⌝ }
 {
     let mut end: usize = 0;
-    let mut v = s;
+    let mut v = visits;
+    let mut w = content;
     let mut j: usize = 0;
     while j < k.count {
         if x.length <= end {
-            return outcome::going(v);
+            return outcome::going(v, w);
         }
         let at = schema::record_place(4, k.first, j);
-        let g = row_member(b, m, l, at, j as u32, x, end, v, o);
+        let g = row_member(b, m, depth, at, j as u32, x, end, v, w, o);
         if g.code != 0 {
             return g;
         }
-        v = g.spent;
+        v = g.visits;
+        w = g.content;
         end += judge_member::row_width(wire::index(wire::byte_in(b, at)), o);
         j += 1;
     }
-    outcome::going(v)
+    outcome::going(v, w)
 }
 
 // An arrival at a row table at offset x.
-fn visit_row(b: &[u8], m: &[u8], l: Limits, k: Rows, x: usize, s: Spent, o: usize) -> Outcome
+fn visit_row(
+    b: &[u8],
+    m: &[u8],
+    depth: usize,
+    k: Rows,
+    x: usize,
+    visits: u32,
+    content: u64,
+    o: usize,
+) -> Outcome
     requires { ⌜ (Rs.RowTable (now b) k) × (Width o) × (WithinSize (now m)) × (x < 2 ^ 48) ⌝ }
-    ensures { λ r. ⌜ As.walkedOf r ≡ As.visitBy o (now (b .entry)) (now (m .entry)) l (Object.Table (k .table)) (Place.ByOffset x) s ⌝ }
+    ensures { λ r. ⌜ As.walkedOf r ≡ As.visitBy o (now (b .entry)) (now (m .entry)) depth (Object.Table (k .table)) (Place.ByOffset x) (W.spending visits content) ⌝ }
 {
-    let g = outcome::charge(l, x, s);
+    let g = outcome::charge(depth, x, visits, content);
     if g.code != 0 {
         return g;
     }
-    let t = g.spent;
-    match message_object::open_table(b, m, k.table, k.id, x, o) {
-        Opened::Refused(e) => outcome::refuse(e, x, t),
+    match message_object::fit_table(b, m, k.table, k.id, x, o) {
+        Opened::Refused(e) => outcome::refuse(e, x, g.visits, g.content),
         Opened::Content(start, n) => {
+            if outcome::exceeds(n, g.content) {
+                return outcome::refuse(outcome::TOO_MUCH, x, g.visits, g.content);
+            }
             let y = Content {
                 holder: x,
                 start,
                 length: n,
             };
-            row_members(b, m, outcome::below(l), k, y, t, o)
+            row_members(
+                b,
+                m,
+                outcome::below(depth),
+                k,
+                y,
+                g.visits,
+                outcome::rest(n, g.content),
+                o,
+            )
         }
     }
 }
 
 // What offset x leads to where a row table is meant: nothing, or an arrival.
-fn refer_row(b: &[u8], m: &[u8], l: Limits, k: Rows, x: usize, s: Spent, o: usize) -> Outcome
+fn refer_row(
+    b: &[u8],
+    m: &[u8],
+    depth: usize,
+    k: Rows,
+    x: usize,
+    visits: u32,
+    content: u64,
+    o: usize,
+) -> Outcome
     requires { ⌜ (Rs.RowTable (now b) k) × (Width o) × (WithinSize (now m)) × (x < 2 ^ 48) ⌝ }
-    ensures { λ r. ⌜ As.walkedOf r ≡ As.referred (As.visitBy o (now (b .entry)) (now (m .entry)) l) (Object.Table (k .table)) x s ⌝ }
+    ensures { λ r. ⌜ As.walkedOf r ≡ As.referred (As.visitBy o (now (b .entry)) (now (m .entry)) depth) (Object.Table (k .table)) x (W.spending visits content) ⌝ }
 {
     if x == 0 {
-        return outcome::going(s);
+        return outcome::going(visits, content);
     }
-    visit_row(b, m, l, k, x, s, o)
+    visit_row(b, m, depth, k, x, visits, content, o)
 }
 
 // The tables of a list of a row table, by their offsets.
-fn row_tables(b: &[u8], m: &[u8], l: Limits, k: Rows, x: Content, s: Spent, o: usize) -> Outcome
+fn row_tables(
+    b: &[u8],
+    m: &[u8],
+    depth: usize,
+    k: Rows,
+    x: Content,
+    visits: u32,
+    content: u64,
+    o: usize,
+) -> Outcome
     requires { ⌜ (Rs.RowTable (now b) k) × (Width o) × (WithinSize (now m)) × (HasOffsets o (now m) (x .start) (x .length)) ⌝ }
-    ensures { λ r. ⌜ As.walkedOf r ≡ As.elementsBy o (now (b .entry)) (now (m .entry)) l (Kind.OfObject (Object.Table (k .table))) x s ⌝ }
+    ensures { λ r. ⌜ As.walkedOf r ≡ As.elementsBy o (now (b .entry)) (now (m .entry)) depth (Kind.OfObject (Object.Table (k .table))) x (W.spending visits content) ⌝ }
 {
-    let mut v = s;
+    let mut v = visits;
+    let mut w = content;
     let mut at = x.start;
     let mut j: usize = 0;
     while j < x.length {
-        let g = refer_row(b, m, l, k, wire::offset_in(m, at, o), v, o);
+        let g = refer_row(b, m, depth, k, wire::offset_in(m, at, o), v, w, o);
         if g.code != 0 {
             return g;
         }
-        v = g.spent;
+        v = g.visits;
+        w = g.content;
         at += o;
         j += 1;
     }
-    outcome::going(v)
+    outcome::going(v, w)
 }
 
 // The objects of a list, where they are row tables.
@@ -133,19 +192,29 @@ pub fn row_references(
     b: &[u8],
     dir: &[u16],
     m: &[u8],
-    l: Limits,
+    depth: usize,
     ob: Object,
     x: Content,
-    s: Spent,
+    visits: u32,
+    content: u64,
     o: usize,
 ) -> Outcome
     requires { ⌜ (Accepted (now b) (now dir)) × (Width o) × (WithinSize (now m)) × (ObjectSound (P.parse (now b)) ob) × (HasOffsets o (now m) (x .start) (x .length)) × (Rs.RowObject (now b) ob) ⌝ }
-    ensures { λ r. ⌜ As.walkedOf r ≡ As.elementsBy o (now (b .entry)) (now (m .entry)) l (Kind.OfObject ob) x s ⌝ }
+    ensures { λ r. ⌜ As.walkedOf r ≡ As.elementsBy o (now (b .entry)) (now (m .entry)) depth (Kind.OfObject ob) x (W.spending visits content) ⌝ }
 {
     match ob {
-        Object::Text => outcome::going(s),
-        Object::Bytes => outcome::going(s),
-        Object::List(_) => outcome::going(s),
-        Object::Table(t) => row_tables(b, m, l, judge_member::rows_of(b, dir, t), x, s, o),
+        Object::Text => outcome::going(visits, content),
+        Object::Bytes => outcome::going(visits, content),
+        Object::List(_) => outcome::going(visits, content),
+        Object::Table(t) => row_tables(
+            b,
+            m,
+            depth,
+            judge_member::rows_of(b, dir, t),
+            x,
+            visits,
+            content,
+            o,
+        ),
     }
 }

@@ -23,7 +23,7 @@ use Rattle.coding.specs.declared.Walked.{Walked}
 use Rattle.coding.specs.declared.Walked.the-variants.{Going}
 use Rattle.wire.specs.Products.{times-more, times-within}
 use Rattle.outcome.specs.declared.Outcome.{Outcome}
-use Rattle.outcome.specs.Answers.{walkedOf, referred}
+use Rattle.outcome.specs.Answers.{walkedOf, leftOf, referred}
 use Rattle.outcome.proofs.AnswerCases.{goes, stops}
 
 -- ---- from element j on
@@ -53,7 +53,7 @@ module _ (child : W.Child) (o : ℕ) (S : Schema) (m : List ℕ) (holder start :
       pub elements-stopped : (g .code ≡ 0 → ⊥) → walkedOf g ≡ W.elements child o S m holder start k n 0 s
       elements-stopped f = sym (turned ∙ stops g rest f)
 
-      pub elements-turn : g .code ≡ 0 → W.elements child o S m holder start k n 0 s ≡ W.elements child o S m holder start k (n - (j + 1)) (j + 1) (g .spent)
+      pub elements-turn : g .code ≡ 0 → W.elements child o S m holder start k n 0 s ≡ W.elements child o S m holder start k (n - (j + 1)) (j + 1) (leftOf g)
       elements-turn f = turned ∙ goes g rest f
 
 -- ---- values of w bytes, one behind the other
@@ -104,5 +104,5 @@ module _ (o : ℕ) (child : W.Child) (S : Schema) (m : List ℕ) (holder start :
   references-stopped f = elements-stopped child o S m holder start (OfObject ob) n s j v inv h g by-step f
 
   pub references-turn : g .code ≡ 0
-      → W.elements child o S m holder start (OfObject ob) n 0 s ≡ W.elements child o S m holder start (OfObject ob) (n - (j + 1)) (j + 1) (g .spent)
+      → W.elements child o S m holder start (OfObject ob) n 0 s ≡ W.elements child o S m holder start (OfObject ob) (n - (j + 1)) (j + 1) (leftOf g)
   references-turn f = elements-turn child o S m holder start (OfObject ob) n s j v inv h g by-step f

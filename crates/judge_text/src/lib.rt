@@ -3,12 +3,12 @@ use coding::Kind;
 use coding::Object;
 use coding::Opened;
 use coding::Place;
-use coding::Spent;
 use outcome::Content;
-use outcome::Limits;
 use outcome::Outcome;
 ghost use mathlib.Core.Path.{_≡_};
 ghost use Prim.Native.Nat.{_+_, _*_, _<_, _^_};
+ghost use lib.ListN.{length};
+ghost use Rattle.coding.specs.Walk as W;
 ghost use Rattle.outcome.specs.Answers as As;
 ghost use Rattle.judge_text.specs.Texts as Ts;
 ghost use Rattle.wire.specs.Sizes.{WithinSize, Width, HasOffsets};
@@ -25,49 +25,96 @@ pub fn is_text(ob: Object) -> bool
     }
 }
 
-// An arrival at the text at offset x.
-pub fn visit_text(b: &[u8], m: &[u8], l: Limits, x: usize, s: Spent, o: usize) -> Outcome
-    requires { ⌜ (Width o) × (x < 2 ^ 48) ⌝ }
-    ensures { λ r. ⌜ As.walkedOf r ≡ As.visitBy o (now (b .entry)) (now (m .entry)) l Object.Text (Place.ByOffset x) s ⌝ }
+// The test of a text's bytes, once its length was charged.
+pub fn text_end(m: &[u8], x: Content, visits: u32, content: u64) -> Outcome
+    requires { ⌜ x .start + x .length < length (now m) ⌝ }
+    ensures { λ r. ⌜ As.walkedOf r ≡ As.textEnd (now (m .entry)) (x .holder) (x .start) (x .length) (W.spending visits content) ⌝ }
 {
-    let g = outcome::charge(l, x, s);
+    let fit = Opened::Content(x.start, x.length);
+    match message_object::bytes_tested(m, Object::Text, fit) {
+        Opened::Refused(e) => outcome::refuse(e, x.holder, visits, content),
+        Opened::Content(_, _) => outcome::going(visits, content),
+    }
+}
+
+// An arrival at the text at offset x.
+pub fn visit_text(
+    b: &[u8],
+    m: &[u8],
+    depth: usize,
+    x: usize,
+    visits: u32,
+    content: u64,
+    o: usize,
+) -> Outcome
+    requires { ⌜ (Width o) × (x < 2 ^ 48) ⌝ }
+    ensures { λ r. ⌜ As.walkedOf r ≡ As.visitBy o (now (b .entry)) (now (m .entry)) depth Object.Text (Place.ByOffset x) (W.spending visits content) ⌝ }
+{
+    let g = outcome::charge(depth, x, visits, content);
     if g.code != 0 {
         return g;
     }
-    let t = g.spent;
-    match message_object::open_text(b, m, x, o) {
-        Opened::Refused(e) => outcome::refuse(e, x, t),
-        Opened::Content(_, _) => outcome::going(t),
+    match message_object::fit_text(b, m, x, o) {
+        Opened::Refused(e) => outcome::refuse(e, x, g.visits, g.content),
+        Opened::Content(start, n) => {
+            if outcome::exceeds(n, g.content) {
+                return outcome::refuse(outcome::TOO_MUCH, x, g.visits, g.content);
+            }
+            let y = Content {
+                holder: x,
+                start,
+                length: n,
+            };
+            text_end(m, y, g.visits, outcome::rest(n, g.content))
+        }
     }
 }
 
 // What offset x leads to where a text is meant: nothing, or an arrival.
-pub fn refer_text(b: &[u8], m: &[u8], l: Limits, x: usize, s: Spent, o: usize) -> Outcome
+pub fn refer_text(
+    b: &[u8],
+    m: &[u8],
+    depth: usize,
+    x: usize,
+    visits: u32,
+    content: u64,
+    o: usize,
+) -> Outcome
     requires { ⌜ (Width o) × (x < 2 ^ 48) ⌝ }
-    ensures { λ r. ⌜ As.walkedOf r ≡ As.referred (As.visitBy o (now (b .entry)) (now (m .entry)) l) Object.Text x s ⌝ }
+    ensures { λ r. ⌜ As.walkedOf r ≡ As.referred (As.visitBy o (now (b .entry)) (now (m .entry)) depth) Object.Text x (W.spending visits content) ⌝ }
 {
     if x == 0 {
-        return outcome::going(s);
+        return outcome::going(visits, content);
     }
-    visit_text(b, m, l, x, s, o)
+    visit_text(b, m, depth, x, visits, content, o)
 }
 
 // The texts of a list, by their offsets.
-pub fn texts(b: &[u8], m: &[u8], l: Limits, x: Content, s: Spent, o: usize) -> Outcome
+pub fn texts(
+    b: &[u8],
+    m: &[u8],
+    depth: usize,
+    x: Content,
+    visits: u32,
+    content: u64,
+    o: usize,
+) -> Outcome
     requires { ⌜ (Width o) × (WithinSize (now m)) × (HasOffsets o (now m) (x .start) (x .length)) ⌝ }
-    ensures { λ r. ⌜ As.walkedOf r ≡ As.elementsBy o (now (b .entry)) (now (m .entry)) l (Kind.OfObject Object.Text) x s ⌝ }
+    ensures { λ r. ⌜ As.walkedOf r ≡ As.elementsBy o (now (b .entry)) (now (m .entry)) depth (Kind.OfObject Object.Text) x (W.spending visits content) ⌝ }
 {
-    let mut v = s;
+    let mut v = visits;
+    let mut w = content;
     let mut at = x.start;
     let mut j: usize = 0;
     while j < x.length {
-        let g = refer_text(b, m, l, wire::offset_in(m, at, o), v, o);
+        let g = refer_text(b, m, depth, wire::offset_in(m, at, o), v, w, o);
         if g.code != 0 {
             return g;
         }
-        v = g.spent;
+        v = g.visits;
+        w = g.content;
         at += o;
         j += 1;
     }
-    outcome::going(v)
+    outcome::going(v, w)
 }

@@ -1,3 +1,4 @@
+pub mod AdmitCases
 pub mod WalkCases
 pub mod ListCases
 pub mod ReferenceCases

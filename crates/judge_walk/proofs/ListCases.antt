@@ -33,7 +33,7 @@ use Rattle.laws.specs.SoundAt.{union-index, case-sound-at}
 use Rattle.schema.specs.Directory.{Accepted, accepted-sound}
 use Rattle.wire.specs.Numbers.{Number}
 use Rattle.outcome.specs.declared.Outcome.{Outcome}
-use Rattle.outcome.specs.Answers.{walkedOf}
+use Rattle.outcome.specs.Answers.{walkedOf, leftOf}
 use Rattle.judge_text.specs.Texts.{isText}
 use Rattle.message_header.proofs.SizeCases.{element-flat, element-object, element-union, list-kind}
 use Rattle.judge_member.proofs.RowRecords.{object-kind, union-kind}
@@ -150,7 +150,7 @@ module _ (o : ℕ) (child : W.Child) (S : Schema) (m : List ℕ) (holder start i
   choices-stopped f = elements-stopped child o S m holder start (OfUnion i) n s j v inv h g by-choice f
 
   pub choices-turn : g .code ≡ 0
-      → W.elements child o S m holder start (OfUnion i) n 0 s ≡ W.elements child o S m holder start (OfUnion i) (n - (j + 1)) (j + 1) (g .spent)
+      → W.elements child o S m holder start (OfUnion i) n 0 s ≡ W.elements child o S m holder start (OfUnion i) (n - (j + 1)) (j + 1) (leftOf g)
   choices-turn f = elements-turn child o S m holder start (OfUnion i) n s j v inv h g by-choice f
 
 module _ (o : ℕ) (child : W.Child) (m : List ℕ) (holder j : ℕ) (cases : List Object) (at : ℕ) (s : Spent) (c : ℕ) (nc : Number m at 2 c) where

@@ -31,7 +31,7 @@ use Rattle.schema.specs.Directory.{Accepted, Block}
 use Rattle.message_step.specs.Lead.{leadOf}
 use Rattle.outcome.specs.declared.Content.{Content}
 use Rattle.outcome.specs.declared.Outcome.{Outcome}
-use Rattle.outcome.specs.Answers.{walkedOf, referred}
+use Rattle.outcome.specs.Answers.{walkedOf, leftOf, referred}
 use Rattle.judge_text.specs.Texts.{isText}
 use Rattle.judge_text.proofs.ElementCases.{follow-offset}
 use Rattle.judge_member.specs.Records.{Refers}
@@ -130,7 +130,7 @@ module _ (o : ℕ) (child : W.Child) (b m : List ℕ) (holder start n t : ℕ) (
 
   pub reference-turn : g .code ≡ 0 → Refers (getD b at 0) → (next : Cursor) → next ≡ L.afterBytes o c
       → W.members child o (P.parse b) m holder start n L.begin 0 (Sc.tableOf (P.parse b) t .members) s
-      ≡ W.members child o (P.parse b) m holder start n next (j + 1) (drop (j + 1) (Sc.tableOf (P.parse b) t .members)) (g .spent)
+      ≡ W.members child o (P.parse b) m holder start n next (j + 1) (drop (j + 1) (Sc.tableOf (P.parse b) t .members)) (leftOf g)
   reference-turn f p next en =
       members-turn child o (P.parse b) m holder start n t s c j v inv count ec h
       (leadOf (T.memberStep o (P.parse b) m start n c (Sc.memberOf (P.parse b) t j))) refl g led f next

@@ -14,46 +14,26 @@ use Rattle.coding.specs.declared.Place.{Place}
 use Rattle.coding.specs.declared.Place.the-variants.{ByOffset, InPlace}
 use Rattle.coding.specs.declared.Step.{Step}
 use Rattle.coding.specs.declared.Step.the-variants as St
-use Rattle.coding.specs.declared.Budget.{Budget}
 use Rattle.coding.specs.declared.Spent.{Spent}
 use Rattle.coding.specs.declared.Walked.{Walked}
 use Rattle.coding.specs.declared.Walked.the-variants.{Going}
 use Rattle.laws.specs.Sound.{ObjectSound}
 use Rattle.message_step.specs.Lead.{PlaceSmall, StepSmall}
+use Rattle.outcome.specs.Left as Left
 use Rattle.judge_text.specs.Texts.{isText}
 use Rattle.judge_text.proofs.TextCases.{text-only}
 
 -- ---- an arrival by its place
-module _ (o d : ℕ) (S : Schema) (m : List ℕ) (b : Budget) (ob : Object) (p : Place) (s : Spent) (r : Walked) where
-  pub arrive-text : (x : ℕ) → p ≡ ByOffset x → (t : Bool) → t ≡ isText ob → t ≡ true → r ≡ W.visit d o S m b O.Text (ByOffset x) s
-      → r ≡ W.visit d o S m b ob p s
-  arrive-text x e t et h f = rw e (f ∙ ap (λ (q : Object). W.visit d o S m b q (ByOffset x) s) (sym (text-only ob t et h)))
+module _ (o d : ℕ) (S : Schema) (m : List ℕ) (ob : Object) (p : Place) (s : Spent) (r : Walked) where
+  pub arrive-text : (x : ℕ) → p ≡ ByOffset x → (t : Bool) → t ≡ isText ob → t ≡ true → r ≡ Left.visit d o S m O.Text (ByOffset x) s
+      → r ≡ Left.visit d o S m ob p s
+  arrive-text x e t et h f = rw e (f ∙ ap (λ (q : Object). Left.visit d o S m q (ByOffset x) s) (sym (text-only ob t et h)))
 
-  pub arrive-offset : (x : ℕ) → p ≡ ByOffset x → r ≡ W.visit d o S m b ob (ByOffset x) s → r ≡ W.visit d o S m b ob p s
+  pub arrive-offset : (x : ℕ) → p ≡ ByOffset x → r ≡ Left.visit d o S m ob (ByOffset x) s → r ≡ Left.visit d o S m ob p s
   arrive-offset x e f = rw e f
 
-  pub arrive-inplace : (a n : ℕ) → p ≡ InPlace a n → r ≡ W.visit d o S m b ob (InPlace a n) s → r ≡ W.visit d o S m b ob p s
+  pub arrive-inplace : (a n : ℕ) → p ≡ InPlace a n → r ≡ Left.visit d o S m ob (InPlace a n) s → r ≡ Left.visit d o S m ob p s
   arrive-inplace a n e f = rw e f
-
--- ---- content by the object
-module _ (child : W.Child) (o : ℕ) (S : Schema) (m : List ℕ) (ob : Object) (holder start n : ℕ) (s : Spent) where
-  pub content-text : ob ≡ O.Text → (r : Walked) → r ≡ Going s → r ≡ W.content child o S m ob holder start n s
-  unfolding W.content
-  content-text e r f = rw e f
-
-  pub content-bytes : ob ≡ O.Bytes → (r : Walked) → r ≡ Going s → r ≡ W.content child o S m ob holder start n s
-  unfolding W.content
-  content-bytes e r f = rw e f
-
-  module _ (r : Walked) (i j : ℕ) (ej : j ≡ i) where
-    pub content-list : ob ≡ O.List i → r ≡ W.elements child o S m holder start (Sc.elementOf S j) n 0 s → r ≡ W.content child o S m ob holder start n s
-    unfolding W.content
-    content-list e f = rw e (f ∙ ap (λ (k : ℕ). W.elements child o S m holder start (Sc.elementOf S k) n 0 s) ej)
-
-    pub content-table : ob ≡ O.Table i → r ≡ W.members child o S m holder start n L.begin 0 (Sc.tableOf S j .members) s
-        → r ≡ W.content child o S m ob holder start n s
-    unfolding W.content
-    content-table e f = rw e (f ∙ ap (λ (k : ℕ). W.members child o S m holder start n L.begin 0 (Sc.tableOf S k .members) s) ej)
 
 -- ---- what a step leads to
 module _ (child : W.Child) (holder j : ℕ) (step : Step) (s : Spent) where

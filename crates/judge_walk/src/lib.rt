@@ -4,10 +4,8 @@ use coding::Kind;
 use coding::Object;
 use coding::Opened;
 use coding::Place;
-use coding::Spent;
 use coding::Step;
 use outcome::Content;
-use outcome::Limits;
 use outcome::Outcome;
 use outcome::Part;
 ghost use mathlib.Core.Path.{_≡_};
@@ -54,54 +52,70 @@ pub fn visit(
     b: &[u8],
     dir: &[u16],
     m: &[u8],
-    l: Limits,
+    depth: usize,
     ob: Object,
     p: Place,
-    s: Spent,
+    visits: u32,
+    content: u64,
     o: usize,
 ) -> Outcome
     requires { ⌜ (Accepted (now b) (now dir)) × (Width o) × (WithinSize (now m)) × (ObjectSound (P.parse (now b)) ob) × D.PlaceSmall p ⌝ }
-    ensures { λ r. ⌜ As.walkedOf r ≡ As.visitBy o (now (b .entry)) (now (m .entry)) l ob p s ⌝ }
+    ensures { λ r. ⌜ As.walkedOf r ≡ As.visitBy o (now (b .entry)) (now (m .entry)) depth ob p (W.spending visits content) ⌝ }
 {
     let at = message_object::placed(p);
-    let g = outcome::charge(l, at, s);
+    let g = outcome::charge(depth, at, visits, content);
     if g.code != 0 {
         return g;
     }
-    let t = g.spent;
-    match message_object::open_object(b, dir, m, ob, p, o) {
-        Opened::Refused(e) => outcome::refuse(e, at, t),
+    match message_object::fit_object(b, dir, m, ob, p, o) {
+        Opened::Refused(e) => outcome::refuse(e, at, g.visits, g.content),
         Opened::Content(start, n) => {
             let x = Content {
                 holder: at,
                 start,
                 length: n,
             };
-            content(b, dir, m, outcome::below(l), ob, x, t, o)
+            admit(
+                b,
+                dir,
+                m,
+                outcome::below(depth),
+                ob,
+                x,
+                g.visits,
+                g.content,
+                o,
+            )
         }
     }
 }
 
-// An object's content. Texts and bytes have no parts.
-fn content(
+// An object's content, which fits: its charge, the test of its bytes, and its parts. Texts and bytes have none.
+fn admit(
     b: &[u8],
     dir: &[u16],
     m: &[u8],
-    l: Limits,
+    depth: usize,
     ob: Object,
     x: Content,
-    s: Spent,
+    visits: u32,
+    content: u64,
     o: usize,
 ) -> Outcome
     requires { ⌜ (Accepted (now b) (now dir)) × (Width o) × (WithinSize (now m)) × (ObjectSound (P.parse (now b)) ob) ⌝ }
-    requires { ⌜ x .start + W.contentSize o (P.parse (now b)) ob (x .length) ≤ length (now m) ⌝ }
-    ensures { λ r. ⌜ As.walkedOf r ≡ As.contentBy o (now (b .entry)) (now (m .entry)) l ob x s ⌝ }
+    requires { ⌜ (x .start + W.contentSize o (P.parse (now b)) ob (x .length) ≤ length (now m)) × (x .length < 2 ^ 48) ⌝ }
+    ensures { λ r. ⌜ As.walkedOf r ≡ As.contentBy o (now (b .entry)) (now (m .entry)) depth ob x (W.spending visits content) ⌝ }
 {
+    let n = message_header::content_length(b, dir, ob, x.length, o);
+    if outcome::exceeds(n, content) {
+        return outcome::refuse(outcome::TOO_MUCH, x.holder, visits, content);
+    }
+    let left = outcome::rest(n, content);
     match ob {
-        Object::Text => outcome::going(s),
-        Object::Bytes => outcome::going(s),
-        Object::List(i) => list(b, dir, m, l, wire::index(i), x, s, o),
-        Object::Table(t) => table(b, dir, m, l, wire::index(t), x, s, o),
+        Object::Text => judge_text::text_end(m, x, visits, left),
+        Object::Bytes => outcome::going(visits, left),
+        Object::List(i) => list(b, dir, m, depth, wire::index(i), x, visits, left, o),
+        Object::Table(t) => table(b, dir, m, depth, wire::index(t), x, visits, left, o),
     }
 }
 
@@ -110,23 +124,25 @@ fn table(
     b: &[u8],
     dir: &[u16],
     m: &[u8],
-    l: Limits,
+    depth: usize,
     t: usize,
     x: Content,
-    s: Spent,
+    visits: u32,
+    content: u64,
     o: usize,
 ) -> Outcome
     requires { ⌜ (Accepted (now b) (now dir)) × (Width o) × (WithinSize (now m)) × (t < P.tableCount (now b)) × (x .start + x .length ≤ length (now m)) ⌝ }
-    ensures { λ r. ⌜ As.walkedOf r ≡ As.membersBy o (now (b .entry)) (now (m .entry)) l t x s ⌝ }
+    ensures { λ r. ⌜ As.walkedOf r ≡ As.membersBy o (now (b .entry)) (now (m .entry)) depth t x (W.spending visits content) ⌝ }
 {
     let count = schema::member_count(b, dir, t);
     let first = schema::table_place(b, dir, t);
     let mut c = message_layout::begin();
-    let mut v = s;
+    let mut v = visits;
+    let mut w = content;
     let mut j: usize = 0;
     while j < count {
         if x.length <= message_layout::bit_byte(c) {
-            return outcome::going(v);
+            return outcome::going(v, w);
         }
         let at = schema::record_place(4, first, j);
         if judge_member::refers(b, at) {
@@ -135,11 +151,12 @@ fn table(
                 record: at,
                 cursor: c,
             };
-            let g = reference(b, dir, m, l, x, k, v, o);
+            let g = reference(b, dir, m, depth, x, k, v, w, o);
             if g.code != 0 {
                 return g;
             }
-            v = g.spent;
+            v = g.visits;
+            w = g.content;
             c = message_layout::after_bytes(c, o);
             j += 1;
             continue;
@@ -155,15 +172,16 @@ fn table(
             holder: x.holder,
             number: j as u32,
         };
-        let g = follow(b, dir, m, l, part, step, v, o);
+        let g = follow(b, dir, m, depth, part, step, v, w, o);
         if g.code != 0 {
             return g;
         }
-        v = g.spent;
+        v = g.visits;
+        w = g.content;
         c = q.next;
         j += 1;
     }
-    outcome::going(v)
+    outcome::going(v, w)
 }
 
 // The object by its offset of the member that comes next.
@@ -171,34 +189,35 @@ fn reference(
     b: &[u8],
     dir: &[u16],
     m: &[u8],
-    l: Limits,
+    depth: usize,
     x: Content,
     k: Standing,
-    s: Spent,
+    visits: u32,
+    content: u64,
     o: usize,
 ) -> Outcome
     requires { ⌜ (Accepted (now b) (now dir)) × (Width o) × (WithinSize (now m)) × (k .record + 1 < length (now b)) × (Rs.Refers (getD (now b) (k .record) 0)) ⌝ }
     requires { ⌜ (ObjectSound (P.parse (now b)) (P.objectAt (now b) (k .record))) × (x .start + x .length ≤ length (now m)) × (k .cursor .end < 2 ^ 58) ⌝ }
-    ensures { λ r. ⌜ As.walkedOf r ≡ As.followBy o (now (b .entry)) (now (m .entry)) l (As.partOf x (k .number)) (As.memberBy o (now (b .entry)) (now (m .entry)) x (k .cursor) (P.memberAt (now (b .entry)) (k .record))) s ⌝ }
+    ensures { λ r. ⌜ As.walkedOf r ≡ As.followBy o (now (b .entry)) (now (m .entry)) depth (As.partOf x (k .number)) (As.memberBy o (now (b .entry)) (now (m .entry)) x (k .cursor) (P.memberAt (now (b .entry)) (k .record))) (W.spending visits content) ⌝ }
 {
     let c = k.cursor;
     let end = c.end;
     if x.length <= end {
-        return outcome::going(s);
+        return outcome::going(visits, content);
     }
     if x.length < end + o {
         let part = Part {
             holder: x.holder,
             number: k.number,
         };
-        return outcome::refuse_part(8, part, s);
+        return outcome::refuse_part(8, part, visits, content);
     }
     let y = wire::offset_in(m, x.start + end, o);
     let ob = schema::object_at(b, k.record);
     if judge_text::is_text(ob) {
-        return judge_text::refer_text(b, m, l, y, s, o);
+        return judge_text::refer_text(b, m, depth, y, visits, content, o);
     }
-    refer(b, dir, m, l, ob, y, s, o)
+    refer(b, dir, m, depth, ob, y, visits, content, o)
 }
 
 // The elements of list i.
@@ -206,26 +225,37 @@ fn list(
     b: &[u8],
     dir: &[u16],
     m: &[u8],
-    l: Limits,
+    depth: usize,
     i: usize,
     x: Content,
-    s: Spent,
+    visits: u32,
+    content: u64,
     o: usize,
 ) -> Outcome
     requires { ⌜ (Accepted (now b) (now dir)) × (Width o) × (WithinSize (now m)) × (i < P.listCount (now b)) ⌝ }
     requires { ⌜ x .start + T.elementsSize o (P.parse (now b)) (Sc.elementOf (P.parse (now b)) i) (x .length) ≤ length (now m) ⌝ }
-    ensures { λ r. ⌜ As.walkedOf r ≡ As.elementsBy o (now (b .entry)) (now (m .entry)) l (Sc.elementOf (P.parse (now (b .entry))) i) x s ⌝ }
+    ensures { λ r. ⌜ As.walkedOf r ≡ As.elementsBy o (now (b .entry)) (now (m .entry)) depth (Sc.elementOf (P.parse (now (b .entry))) i) x (W.spending visits content) ⌝ }
 {
     let at = schema::list_place(b, dir, i);
     let k = schema::kind_at(b, at);
     if schema::is_flat_kind(k) {
-        return outcome::going(s);
+        return outcome::going(visits, content);
     }
     if schema::is_object_kind(k) {
-        return references(b, dir, m, l, schema::object_at(b, at), x, s, o);
+        return references(
+            b,
+            dir,
+            m,
+            depth,
+            schema::object_at(b, at),
+            x,
+            visits,
+            content,
+            o,
+        );
     }
     let u = wire::index(schema::argument_at(b, at));
-    choices(b, dir, m, l, u, x, s, o)
+    choices(b, dir, m, depth, u, x, visits, content, o)
 }
 
 // The objects of a list, by their offsets.
@@ -233,34 +263,37 @@ fn references(
     b: &[u8],
     dir: &[u16],
     m: &[u8],
-    l: Limits,
+    depth: usize,
     ob: Object,
     x: Content,
-    s: Spent,
+    visits: u32,
+    content: u64,
     o: usize,
 ) -> Outcome
     requires { ⌜ (Accepted (now b) (now dir)) × (Width o) × (WithinSize (now m)) × (ObjectSound (P.parse (now b)) ob) × (HasOffsets o (now m) (x .start) (x .length)) ⌝ }
-    ensures { λ r. ⌜ As.walkedOf r ≡ As.elementsBy o (now (b .entry)) (now (m .entry)) l (Kind.OfObject ob) x s ⌝ }
+    ensures { λ r. ⌜ As.walkedOf r ≡ As.elementsBy o (now (b .entry)) (now (m .entry)) depth (Kind.OfObject ob) x (W.spending visits content) ⌝ }
 {
     if judge_text::is_text(ob) {
-        return judge_text::texts(b, m, l, x, s, o);
+        return judge_text::texts(b, m, depth, x, visits, content, o);
     }
     if judge_member::is_row_table(b, dir, ob) {
-        return judge_rows::row_references(b, dir, m, l, ob, x, s, o);
+        return judge_rows::row_references(b, dir, m, depth, ob, x, visits, content, o);
     }
-    let mut v = s;
+    let mut v = visits;
+    let mut w = content;
     let mut at = x.start;
     let mut j: usize = 0;
     while j < x.length {
-        let g = refer(b, dir, m, l, ob, wire::offset_in(m, at, o), v, o);
+        let g = refer(b, dir, m, depth, ob, wire::offset_in(m, at, o), v, w, o);
         if g.code != 0 {
             return g;
         }
-        v = g.spent;
+        v = g.visits;
+        w = g.content;
         at += o;
         j += 1;
     }
-    outcome::going(v)
+    outcome::going(v, w)
 }
 
 // What offset x leads to: nothing, or an arrival.
@@ -268,19 +301,20 @@ fn refer(
     b: &[u8],
     dir: &[u16],
     m: &[u8],
-    l: Limits,
+    depth: usize,
     ob: Object,
     x: usize,
-    s: Spent,
+    visits: u32,
+    content: u64,
     o: usize,
 ) -> Outcome
     requires { ⌜ (Accepted (now b) (now dir)) × (Width o) × (WithinSize (now m)) × (ObjectSound (P.parse (now b)) ob) × (x < 2 ^ 48) ⌝ }
-    ensures { λ r. ⌜ As.walkedOf r ≡ As.referred (As.visitBy o (now (b .entry)) (now (m .entry)) l) ob x s ⌝ }
+    ensures { λ r. ⌜ As.walkedOf r ≡ As.referred (As.visitBy o (now (b .entry)) (now (m .entry)) depth) ob x (W.spending visits content) ⌝ }
 {
     if x == 0 {
-        return outcome::going(s);
+        return outcome::going(visits, content);
     }
-    visit(b, dir, m, l, ob, Place::ByOffset(x), s, o)
+    visit(b, dir, m, depth, ob, Place::ByOffset(x), visits, content, o)
 }
 
 // The choices of a list of union i.
@@ -288,17 +322,19 @@ fn choices(
     b: &[u8],
     dir: &[u16],
     m: &[u8],
-    l: Limits,
+    depth: usize,
     i: usize,
     x: Content,
-    s: Spent,
+    visits: u32,
+    content: u64,
     o: usize,
 ) -> Outcome
     requires { ⌜ (Accepted (now b) (now dir)) × (Width o) × (WithinSize (now m)) × (i < P.unionCount (now b)) × (HasUnions o (now m) (x .start) (x .length)) ⌝ }
-    ensures { λ r. ⌜ As.walkedOf r ≡ As.elementsBy o (now (b .entry)) (now (m .entry)) l (Kind.OfUnion i) x s ⌝ }
+    ensures { λ r. ⌜ As.walkedOf r ≡ As.elementsBy o (now (b .entry)) (now (m .entry)) depth (Kind.OfUnion i) x (W.spending visits content) ⌝ }
 {
     let size = wire::union_size(o);
-    let mut v = s;
+    let mut v = visits;
+    let mut w = content;
     let mut at = x.start;
     let mut j: usize = 0;
     while j < x.length {
@@ -306,15 +342,16 @@ fn choices(
             holder: x.holder,
             number: j as u32,
         };
-        let g = choice(b, dir, m, l, i, part, at, v, o);
+        let g = choice(b, dir, m, depth, i, part, at, v, w, o);
         if g.code != 0 {
             return g;
         }
-        v = g.spent;
+        v = g.visits;
+        w = g.content;
         at += size;
         j += 1;
     }
-    outcome::going(v)
+    outcome::going(v, w)
 }
 
 // What the choice of union i at `at` leads to, an element of a list.
@@ -322,26 +359,38 @@ fn choice(
     b: &[u8],
     dir: &[u16],
     m: &[u8],
-    l: Limits,
+    depth: usize,
     i: usize,
     part: Part,
     at: usize,
-    s: Spent,
+    visits: u32,
+    content: u64,
     o: usize,
 ) -> Outcome
     requires { ⌜ (Accepted (now b) (now dir)) × (Width o) × (WithinSize (now m)) × (i < P.unionCount (now b)) × (HasUnion o (now m) at) ⌝ }
-    ensures { λ r. ⌜ As.walkedOf r ≡ As.followBy o (now (b .entry)) (now (m .entry)) l part (T.unionStep (Sc.casesOf (P.parse (now (b .entry))) i) false 0 (B.le (now (m .entry)) at 2) (B.le (now (m .entry)) (at + 2) o)) s ⌝ }
+    ensures { λ r. ⌜ As.walkedOf r ≡ As.followBy o (now (b .entry)) (now (m .entry)) depth part (T.unionStep (Sc.casesOf (P.parse (now (b .entry))) i) false 0 (B.le (now (m .entry)) at 2) (B.le (now (m .entry)) (at + 2) o)) (W.spending visits content) ⌝ }
 {
     let c = wire::u16_in(m, at) as usize;
     if c == 0 {
-        return outcome::going(s);
+        return outcome::going(visits, content);
     }
     if schema::case_count(b, dir, i) < c {
-        return outcome::going(s);
+        return outcome::going(visits, content);
     }
     let ob = schema::union_case(b, dir, i, c);
     let x = wire::offset_in(m, at + 2, o);
-    union(b, dir, m, l, part, ob, Place::ByOffset(x), s, o)
+    union(
+        b,
+        dir,
+        m,
+        depth,
+        part,
+        ob,
+        Place::ByOffset(x),
+        visits,
+        content,
+        o,
+    )
 }
 
 // What the step of a part leads to.
@@ -349,23 +398,24 @@ fn follow(
     b: &[u8],
     dir: &[u16],
     m: &[u8],
-    l: Limits,
+    depth: usize,
     part: Part,
     step: Step,
-    s: Spent,
+    visits: u32,
+    content: u64,
     o: usize,
 ) -> Outcome
     requires { ⌜ (Accepted (now b) (now dir)) × (Width o) × (WithinSize (now m)) × D.StepSmall (P.parse (now b)) step ⌝ }
-    ensures { λ r. ⌜ As.walkedOf r ≡ As.followBy o (now (b .entry)) (now (m .entry)) l part step s ⌝ }
+    ensures { λ r. ⌜ As.walkedOf r ≡ As.followBy o (now (b .entry)) (now (m .entry)) depth part step (W.spending visits content) ⌝ }
 {
     match step {
-        Step::Refused(e) => outcome::refuse_part(e, part, s),
-        Step::Absent => outcome::going(s),
-        Step::Value(_) => outcome::going(s),
-        Step::Unknown(_) => outcome::going(s),
-        Step::Struct(_, _) => outcome::going(s),
-        Step::Object(ob, p) => arrive(b, dir, m, l, ob, p, s, o),
-        Step::Choice(_, ob, p) => union(b, dir, m, l, part, ob, p, s, o),
+        Step::Refused(e) => outcome::refuse_part(e, part, visits, content),
+        Step::Absent => outcome::going(visits, content),
+        Step::Value(_) => outcome::going(visits, content),
+        Step::Unknown(_) => outcome::going(visits, content),
+        Step::Struct(_, _) => outcome::going(visits, content),
+        Step::Object(ob, p) => arrive(b, dir, m, depth, ob, p, visits, content, o),
+        Step::Choice(_, ob, p) => union(b, dir, m, depth, part, ob, p, visits, content, o),
     }
 }
 
@@ -374,23 +424,34 @@ fn arrive(
     b: &[u8],
     dir: &[u16],
     m: &[u8],
-    l: Limits,
+    depth: usize,
     ob: Object,
     p: Place,
-    s: Spent,
+    visits: u32,
+    content: u64,
     o: usize,
 ) -> Outcome
     requires { ⌜ (Accepted (now b) (now dir)) × (Width o) × (WithinSize (now m)) × (ObjectSound (P.parse (now b)) ob) × D.PlaceSmall p ⌝ }
-    ensures { λ r. ⌜ As.walkedOf r ≡ As.visitBy o (now (b .entry)) (now (m .entry)) l ob p s ⌝ }
+    ensures { λ r. ⌜ As.walkedOf r ≡ As.visitBy o (now (b .entry)) (now (m .entry)) depth ob p (W.spending visits content) ⌝ }
 {
     match p {
         Place::ByOffset(x) => {
             if judge_text::is_text(ob) {
-                return judge_text::visit_text(b, m, l, x, s, o);
+                return judge_text::visit_text(b, m, depth, x, visits, content, o);
             }
-            visit(b, dir, m, l, ob, Place::ByOffset(x), s, o)
+            visit(b, dir, m, depth, ob, Place::ByOffset(x), visits, content, o)
         }
-        Place::InPlace(a, n) => visit(b, dir, m, l, ob, Place::InPlace(a, n), s, o),
+        Place::InPlace(a, n) => visit(
+            b,
+            dir,
+            m,
+            depth,
+            ob,
+            Place::InPlace(a, n),
+            visits,
+            content,
+            o,
+        ),
     }
 }
 
@@ -399,23 +460,34 @@ fn union(
     b: &[u8],
     dir: &[u16],
     m: &[u8],
-    l: Limits,
+    depth: usize,
     part: Part,
     ob: Object,
     p: Place,
-    s: Spent,
+    visits: u32,
+    content: u64,
     o: usize,
 ) -> Outcome
     requires { ⌜ (Accepted (now b) (now dir)) × (Width o) × (WithinSize (now m)) × (ObjectSound (P.parse (now b)) ob) × D.PlaceSmall p ⌝ }
-    ensures { λ r. ⌜ As.walkedOf r ≡ As.chooseBy o (now (b .entry)) (now (m .entry)) l part ob p s ⌝ }
+    ensures { λ r. ⌜ As.walkedOf r ≡ As.chooseBy o (now (b .entry)) (now (m .entry)) depth part ob p (W.spending visits content) ⌝ }
 {
     match p {
         Place::ByOffset(x) => {
             if x == 0 {
-                return outcome::refuse_part(9, part, s);
+                return outcome::refuse_part(9, part, visits, content);
             }
-            visit(b, dir, m, l, ob, Place::ByOffset(x), s, o)
+            visit(b, dir, m, depth, ob, Place::ByOffset(x), visits, content, o)
         }
-        Place::InPlace(a, n) => visit(b, dir, m, l, ob, Place::InPlace(a, n), s, o),
+        Place::InPlace(a, n) => visit(
+            b,
+            dir,
+            m,
+            depth,
+            ob,
+            Place::InPlace(a, n),
+            visits,
+            content,
+            o,
+        ),
     }
 }

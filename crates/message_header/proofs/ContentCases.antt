@@ -46,13 +46,31 @@ module _ (o : ℕ) (S : Schema) (ob : Object) (n : ℕ) where
   unfolding W.contentSize
   size-bytes e = rw e
 
-  pub size-list : (i j : ℕ) → ob ≡ O.List i → j ≡ i → (k : Kind) → k ≡ Sc.elementOf S j → (x : ℕ) → x ≡ T.elementsSize o S k n → x ≡ W.contentSize o S ob n
+  pub size-list : (i j : ℕ) → ob ≡ O.List i → j ≡ i → (x : ℕ) → x ≡ T.elementsSize o S (Sc.elementOf S j) n → x ≡ W.contentSize o S ob n
   unfolding W.contentSize
-  size-list i j e ej k ek x ex = rw e (ex ∙ ap (λ (q : Kind). T.elementsSize o S q n) (ek ∙ ap (Sc.elementOf S) ej))
+  size-list i j e ej x ex = rw e (ex ∙ ap (λ (q : ℕ). T.elementsSize o S (Sc.elementOf S q) n) ej)
 
   pub size-table : (i : ℕ) → ob ≡ O.Table i → n ≡ W.contentSize o S ob n
   unfolding W.contentSize
   size-table i e = rw e
+
+-- ---- what each object's content adds
+module _ (o : ℕ) (S : Schema) (ob : Object) (n : ℕ) where
+  pub length-text : ob ≡ O.Text → n ≡ W.contentLength o S ob n
+  unfolding W.contentLength
+  length-text e = rw e
+
+  pub length-bytes : ob ≡ O.Bytes → n ≡ W.contentLength o S ob n
+  unfolding W.contentLength
+  length-bytes e = rw e
+
+  pub length-list : (i j : ℕ) → ob ≡ O.List i → j ≡ i → (x : ℕ) → x ≡ T.elementsSize o S (Sc.elementOf S j) n → x ≡ W.contentLength o S ob n
+  unfolding W.contentLength
+  length-list i j e ej x ex = rw e (ex ∙ ap (λ (q : ℕ). T.elementsSize o S (Sc.elementOf S q) n) ej)
+
+  pub length-table : (i : ℕ) → ob ≡ O.Table i → n ≡ W.contentLength o S ob n
+  unfolding W.contentLength
+  length-table i e = rw e
 
 -- ---- a list's element
 pub list-counted : (b : List ℕ) (i j : ℕ) → ObjectSound (P.parse b) (O.List i) → j ≡ i → j < P.listCount b
@@ -60,6 +78,9 @@ list-counted b i j h e = rw e (list-index b i h)
 
 pub list-there : (b : List ℕ) (ob : Object) (i j : ℕ) → ObjectSound (P.parse b) ob → ob ≡ O.List i → j ≡ i → j < P.listCount b
 list-there b ob i j h e f = list-counted b i j (subst (ObjectSound (P.parse b)) e h) f
+
+pub list-is : (o : ℕ) (S : Schema) (i n : ℕ) (k : Kind) → k ≡ Sc.elementOf S i → (x : ℕ) → x ≡ T.elementsSize o S k n → x ≡ T.elementsSize o S (Sc.elementOf S i) n
+list-is o S i n k ek x ex = ex ∙ ap (λ (q : Kind). T.elementsSize o S q n) ek
 
 pub element-sound : (b dir : List ℕ) → Accepted b dir → (i : ℕ) (k : Kind) → k ≡ Sc.elementOf (P.parse b) i → KindSound (P.parse b) k
 element-sound b dir a i k e = rw e (accepted-sound b dir a .lists i .kind)

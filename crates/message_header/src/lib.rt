@@ -5,7 +5,10 @@ use coding::Opened;
 ghost use mathlib.Core.Path.{_≡_};
 ghost use Prim.Native.Nat.{_+_, _*_, _<_, _≤_, _^_};
 ghost use lib.ListN.{length};
+ghost use Rattle.coding.specs.Bytes as B;
 ghost use Rattle.coding.specs.Packed as P;
+ghost use Rattle.coding.specs.Schema as Sc;
+ghost use Rattle.coding.specs.Step as T;
 ghost use Rattle.coding.specs.Walk as W;
 ghost use Rattle.laws.specs.Sound.{ObjectSound};
 ghost use Rattle.schema.specs.Directory.{Accepted};
@@ -17,6 +20,17 @@ ghost use Rattle.message_header.specs.Headers as Hs;
 pub enum Header {
     Refused(u8),
     Content(usize, usize),
+}
+
+// The length in the header at `at`, behind its magic. Six bytes are the upper ones of the eight that end with them: one load.
+fn length_in(m: &[u8], at: usize, o: usize) -> usize
+    requires { ⌜ (Width o) × (at < 2 ^ 48) × (at + (4 + o) ≤ length (now m)) ⌝ }
+    ensures { λ r. ⌜ (r ≡ B.le (now (m .entry)) (at + 4) o) × (r < 2 ^ 48) ⌝ }
+{
+    if o == wire::U48 {
+        return (wire::u64_in(m, at + 2) >> 16) as usize;
+    }
+    wire::offset_in(m, at + wire::MAGIC, o)
 }
 
 // A header of `size` bytes: a magic, and behind it a length.
@@ -33,7 +47,7 @@ fn read_header(m: &[u8], at: usize, magic: u64, size: usize, o: usize) -> Header
     if wire::u32_in(m, at) != magic {
         return Header::Refused(7);
     }
-    Header::Content(at + size, wire::offset_in(m, at + wire::MAGIC, o))
+    Header::Content(at + size, length_in(m, at, o))
 }
 
 // Text: length bytes and one zero byte.
@@ -139,6 +153,15 @@ pub fn text_size(n: usize) -> usize
     n + 1
 }
 
+// The bytes of the n elements of list i.
+pub fn list_size(b: &[u8], dir: &[u16], i: usize, n: usize, o: usize) -> usize
+    requires { ⌜ (Accepted (now b) (now dir)) × (Width o) × (i < P.listCount (now b)) × (n < 2 ^ 48) ⌝ }
+    ensures { λ r. ⌜ (r ≡ T.elementsSize o (P.parse (now (b .entry))) (Sc.elementOf (P.parse (now (b .entry))) i) n) × (r < 2 ^ 61) ⌝ }
+{
+    let k = schema::element(b, dir, i);
+    message_layout::elements_size(b, dir, k, n, o)
+}
+
 // The bytes of an object's content of length n.
 fn content_size(b: &[u8], dir: &[u16], ob: Object, n: usize, o: usize) -> usize
     requires { ⌜ (Accepted (now b) (now dir)) × (Width o) × (ObjectSound (P.parse (now b)) ob) × (n < 2 ^ 48) ⌝ }
@@ -147,10 +170,20 @@ fn content_size(b: &[u8], dir: &[u16], ob: Object, n: usize, o: usize) -> usize
     match ob {
         Object::Text => text_size(n),
         Object::Bytes => n,
-        Object::List(i) => {
-            let k = schema::element(b, dir, wire::index(i));
-            message_layout::elements_size(b, dir, k, n, o)
-        }
+        Object::List(i) => list_size(b, dir, wire::index(i), n, o),
+        Object::Table(_) => n,
+    }
+}
+
+// What an object's content of length n adds to the content that is spent.
+pub fn content_length(b: &[u8], dir: &[u16], ob: Object, n: usize, o: usize) -> usize
+    requires { ⌜ (Accepted (now b) (now dir)) × (Width o) × (ObjectSound (P.parse (now b)) ob) × (n < 2 ^ 48) ⌝ }
+    ensures { λ r. ⌜ r ≡ W.contentLength o (P.parse (now (b .entry))) ob n ⌝ }
+{
+    match ob {
+        Object::Text => n,
+        Object::Bytes => n,
+        Object::List(i) => list_size(b, dir, wire::index(i), n, o),
         Object::Table(_) => n,
     }
 }

@@ -30,7 +30,7 @@ use Rattle.message_header.specs.declared.Header.{Header}
 use Rattle.message_header.specs.declared.Header.the-variants as Hd
 use Rattle.message_header.specs.Headers.{headerOf, fitted, Small, EndInside}
 use Rattle.message_header.proofs.ContentCases.{list-there, fit-is, size-text, size-table}
-use Rattle.message_object.specs.Fit.{announced, EndsInside}
+use Rattle.message_object.specs.Fit.{announced, EndsInside, LengthSmall}
 
 -- ---- the header of each object
 module _ (o : ℕ) (S : Schema) (m : List ℕ) (ob : Object) (x : ℕ) (r : Header) where
@@ -101,6 +101,18 @@ module _ (o : ℕ) (S : Schema) (m : List ℕ) (ob : Object) (p : Place) where
     pub placed-fit : (start n : ℕ) (r : Opened) → g ≡ Hd.Content start n → r ≡ W.fitContent o S m ob start n → r ≡ W.fitObject o S m ob p
     placed-fit start n r f q = q ∙ sym (ap (announced o S m ob) f) ∙ eg
 
+-- the length that was found is the one that was announced
+pub length-found : (o : ℕ) (S : Schema) (m : List ℕ) (ob : Object) (start n : ℕ) → n < 2 ^ 48 → (r : Opened) → r ≡ W.fitContent o S m ob start n → LengthSmall r
+unfolding W.fitContent
+length-found o S m ob start n h r e = subst LengthSmall (sym e) (by (leb (start + W.contentSize o S ob n) (length m)))
+  where
+    by : (t : Bool) → LengthSmall (pick t (Op.Content start n) (Op.Refused 6))
+    by true = h
+    by false = tt
+
+pub length-small : (g : Opened) (start n : ℕ) → LengthSmall g → g ≡ Op.Content start n → n < 2 ^ 48
+length-small g start n h e = subst LengthSmall e h
+
 -- a text by its offset
 module _ (o : ℕ) (S : Schema) (m : List ℕ) (x : ℕ) (g : Header) (eg : g ≡ headerOf o 0xD812C8F5 (4 + o) m x) where
   pub text-header-refused : (n : ℕ) → g ≡ Hd.Refused n → Op.Refused n ≡ W.fitObject o S m O.Text (ByOffset x)
@@ -145,16 +157,6 @@ pub opened-is : (o : ℕ) (S : Schema) (m : List ℕ) (ob : Object) (p : Place) 
 unfolding W.openObject
 opened-is o S m ob p fit r e f = f ∙ ap (W.bytesTested m ob) e
 
--- of a table's bytes nothing is tested
-table-untested : (m : List ℕ) (t : ℕ) (fit : Opened) → W.bytesTested m (O.Table t) fit ≡ fit
-unfolding W.bytesTested W.endOk
-table-untested m t (Op.Refused n) = refl
-table-untested m t (Op.Content start n) = refl
-
-pub table-opened-is : (o : ℕ) (S : Schema) (m : List ℕ) (t x : ℕ) (r : Opened) → r ≡ W.fitObject o S m (O.Table t) (ByOffset x)
-    → r ≡ W.openObject o S m (O.Table t) (ByOffset x)
-table-opened-is o S m t x r e = opened-is o S m (O.Table t) (ByOffset x) r r e (sym (table-untested m t r))
-
 -- ---- content that fits lies within the message
 content-fits : (o : ℕ) (S : Schema) (m : List ℕ) (ob : Object) (a k start n : ℕ) → W.fitContent o S m ob a k ≡ Op.Content start n
     → start + W.contentSize o S ob n ≤ length m
@@ -185,6 +187,16 @@ pub fit-fits : (o : ℕ) (S : Schema) (m : List ℕ) (ob : Object) (p : Place) (
     → start + W.contentSize o S ob n ≤ length m
 fit-fits o S m ob p g start n eg e = object-fits o S m ob p start n (sym eg ∙ e)
 
+pub text-found : (o : ℕ) (S : Schema) (m : List ℕ) (x : ℕ) (g : Opened) (start n : ℕ) → g ≡ W.fitObject o S m O.Text (ByOffset x) → g ≡ Op.Content start n
+    → start + n < length m
+unfolding W.contentSize
+text-found o S m x g start n eg e = let h : start + (n + 1) ≤ length m = fit-fits o S m O.Text (ByOffset x) g start n eg e in omega arith
+
+pub table-found : (o : ℕ) (S : Schema) (m : List ℕ) (t x : ℕ) (g : Opened) (start n : ℕ) → g ≡ W.fitObject o S m (O.Table t) (ByOffset x) → g ≡ Op.Content start n
+    → start + n ≤ length m
+unfolding W.contentSize
+table-found o S m t x g start n eg e = fit-fits o S m (O.Table t) (ByOffset x) g start n eg e
+
 -- the end byte of a text is there
 ends-inside : (o : ℕ) (S : Schema) (m : List ℕ) (ob : Object) (start n : ℕ) → start + W.contentSize o S ob n ≤ length m → EndInside m ob start n
 unfolding W.contentSize
@@ -212,11 +224,11 @@ pub opened-fits : (o : ℕ) (S : Schema) (m : List ℕ) (ob : Object) (p : Place
 unfolding W.openObject
 opened-fits o S m ob p g start n eg e = object-fits o S m ob p start n (tested-same m ob (W.fitObject o S m ob p) start n (sym eg ∙ e))
 
-pub table-opened : (o : ℕ) (S : Schema) (m : List ℕ) (t x : ℕ) (g : Opened) (start n : ℕ) → g ≡ W.openObject o S m (O.Table t) (ByOffset x) → g ≡ Op.Content start n → start + n ≤ length m
+-- what the content of a text, of a list and of a table takes
+pub text-fits : (o : ℕ) (S : Schema) (ob : Object) (start n c : ℕ) → ob ≡ O.Text → start + W.contentSize o S ob n ≤ c → start + n < c
 unfolding W.contentSize
-table-opened o S m t x g start n eg e = opened-fits o S m (O.Table t) (ByOffset x) g start n eg e
+text-fits o S ob start n c e h = let z : start + (n + 1) ≤ c = subst (λ (y : Object). start + W.contentSize o S y n ≤ c) e h in omega arith
 
--- what the content of a list and of a table takes
 pub list-fits : (o : ℕ) (S : Schema) (ob : Object) (start n c i j : ℕ) → ob ≡ O.List i → j ≡ i → start + W.contentSize o S ob n ≤ c
     → start + T.elementsSize o S (Sc.elementOf S j) n ≤ c
 unfolding W.contentSize

@@ -1,5 +1,5 @@
 -- What a header announces, and content that fits: its bytes may be tested.
-use Prim.Native.Nat.{ℕ}
+use Prim.Native.Nat.{ℕ, _^_, _<_}
 use mathlib.Core.List.{List}
 use Rattle.coding.specs.Schema.{Schema}
 use Rattle.coding.specs.Walk.{fitContent}
@@ -19,3 +19,8 @@ announced o S m ob (Hd.Content start n) = fitContent o S m ob start n
 abbrev pub EndsInside : List ℕ → Object → Opened → Type 0
 EndsInside m ob (Op.Refused n) = Unit {0}
 EndsInside m ob (Op.Content start n) = EndInside m ob start n
+
+-- the length that was found is small
+abbrev pub LengthSmall : Opened → Type 0
+LengthSmall (Op.Refused n) = Unit {0}
+LengthSmall (Op.Content start n) = n < 2 ^ 48

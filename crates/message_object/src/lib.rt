@@ -48,7 +48,7 @@ fn content_at(b: &[u8], dir: &[u16], m: &[u8], ob: Object, p: Place, o: usize) -
 // An object at its place: offset and header, magic, content.
 pub fn fit_object(b: &[u8], dir: &[u16], m: &[u8], ob: Object, p: Place, o: usize) -> Opened
     requires { ⌜ (Accepted (now b) (now dir)) × (Width o) × (ObjectSound (P.parse (now b)) ob) × D.PlaceSmall p ⌝ }
-    ensures { λ r. ⌜ r ≡ W.fitObject o (P.parse (now (b .entry))) (now (m .entry)) ob p ⌝ }
+    ensures { λ r. ⌜ (r ≡ W.fitObject o (P.parse (now (b .entry))) (now (m .entry)) ob p) × Fs.LengthSmall r ⌝ }
 {
     match content_at(b, dir, m, ob, p, o) {
         Header::Refused(e) => Opened::Refused(e),
@@ -107,23 +107,6 @@ pub fn open_object(b: &[u8], dir: &[u16], m: &[u8], ob: Object, p: Place, o: usi
 {
     let fit = fit_object(b, dir, m, ob, p, o);
     bytes_tested(m, ob, fit)
-}
-
-// The text at an offset, opened.
-pub fn open_text(b: &[u8], m: &[u8], x: usize, o: usize) -> Opened
-    requires { ⌜ (Width o) × (x < 2 ^ 48) ⌝ }
-    ensures { λ r. ⌜ r ≡ W.openObject o (P.parse (now (b .entry))) (now (m .entry)) Object.Text (Place.ByOffset x) ⌝ }
-{
-    let fit = fit_text(b, m, x, o);
-    bytes_tested(m, Object::Text, fit)
-}
-
-// Table t with its id, at an offset, opened: of its bytes nothing is tested.
-pub fn open_table(b: &[u8], m: &[u8], t: u8, id: u64, x: usize, o: usize) -> Opened
-    requires { ⌜ (Width o) × (x < 2 ^ 48) × (id ≡ Sc.tableOf (P.parse (now b)) t .id) ⌝ }
-    ensures { λ r. ⌜ r ≡ W.openObject o (P.parse (now (b .entry))) (now (m .entry)) (Object.Table t) (Place.ByOffset x) ⌝ }
-{
-    fit_table(b, m, t, id, x, o)
 }
 
 // ---- places

@@ -1,7 +1,8 @@
--- A walker's answer; what an arrival is charged; the walk's definitions by what the walkers are given.
+-- A walker's answer; what an arrival is charged; the walk's definitions by what the walkers are given. A walker is given, and
+-- answers, what is left of both allowances.
 -- `o` is the width of an offset in bytes.
 use Prim.Native.Nat.{ℕ, zero, suc, _-_}
-use mathlib.Core.List.{List}
+use mathlib.Core.List.{List, []}
 use lib.Dec.{eqb}
 use Rattle.coding.specs.Lists.{pick}
 use Rattle.coding.specs.Schema as Sc
@@ -17,18 +18,23 @@ use Rattle.coding.specs.declared.Cursor.{Cursor}
 use Rattle.coding.specs.declared.Place.{Place}
 use Rattle.coding.specs.declared.Place.the-variants.{ByOffset}
 use Rattle.coding.specs.declared.Step.{Step}
+use Rattle.coding.specs.declared.Opened.the-variants as Op
 use Rattle.coding.specs.declared.Spent.{Spent}
 use Rattle.coding.specs.declared.Walked.{Walked}
 use Rattle.coding.specs.declared.Walked.the-variants.{Going, Refused}
-use Rattle.outcome.specs.declared.Limits.{Limits}
 use Rattle.outcome.specs.declared.Content.{Content}
 use Rattle.outcome.specs.declared.Part.{Part}
 use Rattle.outcome.specs.declared.Outcome.{Outcome}
+use Rattle.outcome.specs.Left as Left
+
+-- what an answer says is left
+abbrev pub leftOf : Outcome → Spent
+leftOf w = W.spending (w .visits) (w .content)
 
 -- a walker's answer: 0 to go on, or a refusal's number and 1
 unfoldable pub walkedOf : Outcome → Walked
 walkedOf w =
-    pick (eqb (w .code) 0) (Going (w .spent)) (Refused (record { number = w .code - 1; place = w .place; member = w .member }) (w .spent))
+    pick (eqb (w .code) 0) (Going (leftOf w)) (Refused (record { number = w .code - 1; place = w .place; member = w .member }) (leftOf w))
 
 -- ---- what an arrival is charged
 -- an object with d objects of depth left, itself counted: too deep, or to be opened
@@ -36,31 +42,32 @@ unfoldable pub within : ℕ → W.Child
 within zero ob p s = W.tooDeep ob p s
 within (suc d) ob p s = Going s
 
--- what `Walk.visit` does at an object at `at` before it reads anything of it, whatever the object
-unfoldable pub charged : Limits → ℕ → Spent → Walked
-charged l at s = W.counted (within (l .depth)) (l .budget) O.Text (ByOffset at) s
+-- what `Left.visit` does at an object at `at` before it reads anything of it, whatever the object
+unfoldable pub charged : ℕ → ℕ → Spent → Walked
+charged d at s = Left.counted (within d) O.Text (ByOffset at) s
 
--- how far the walk may go from an object that was arrived at
-abbrev pub deeper : Limits → Limits
-deeper l = record { budget = l .budget; depth = l .depth - 1 }
+-- the test of a text's bytes once its length is charged; a text has no parts
+unfoldable pub textEnd : List ℕ → ℕ → ℕ → ℕ → Spent → Walked
+textEnd m holder start n s = pick (W.endOk m O.Text start n) (Going s) (W.refuse 10 holder s)
 
--- ---- the walk of the message m by the packed schema b
+-- ---- the walk of the message m by the packed schema b, with d objects of depth left
 -- an arrival
-abbrev pub visitBy : ℕ → List ℕ → List ℕ → Limits → W.Child
-visitBy o b m l = W.visit (l .depth) o (P.parse b) m (l .budget)
+abbrev pub visitBy : ℕ → List ℕ → List ℕ → ℕ → W.Child
+visitBy o b m d = Left.visit d o (P.parse b) m
 
--- an object's content
-abbrev pub contentBy : ℕ → List ℕ → List ℕ → Limits → Object → Content → Spent → Walked
-contentBy o b m l ob x s = W.content (visitBy o b m l) o (P.parse b) m ob (x .holder) (x .start) (x .length) s
+-- an object's content, which fits: its charge, the test of its bytes, and its parts
+abbrev pub contentBy : ℕ → List ℕ → List ℕ → ℕ → Object → Content → Spent → Walked
+contentBy o b m d ob x s =
+    Left.admit (visitBy o b m d) o (P.parse b) m ob (x .holder) (Op.Content (x .start) (x .length)) s
 
 -- the members of table t
-abbrev pub membersBy : ℕ → List ℕ → List ℕ → Limits → ℕ → Content → Spent → Walked
-membersBy o b m l t x s =
-    W.members (visitBy o b m l) o (P.parse b) m (x .holder) (x .start) (x .length) L.begin 0 (Sc.tableOf (P.parse b) t .members) s
+abbrev pub membersBy : ℕ → List ℕ → List ℕ → ℕ → ℕ → Content → Spent → Walked
+membersBy o b m d t x s =
+    W.members (visitBy o b m d) o (P.parse b) m (x .holder) (x .start) (x .length) L.begin 0 (Sc.tableOf (P.parse b) t .members) s
 
 -- the elements of a list
-abbrev pub elementsBy : ℕ → List ℕ → List ℕ → Limits → Kind → Content → Spent → Walked
-elementsBy o b m l k x s = W.elements (visitBy o b m l) o (P.parse b) m (x .holder) (x .start) k (x .length) 0 s
+abbrev pub elementsBy : ℕ → List ℕ → List ℕ → ℕ → Kind → Content → Spent → Walked
+elementsBy o b m d k x s = W.elements (visitBy o b m d) o (P.parse b) m (x .holder) (x .start) k (x .length) 0 s
 
 -- the step of a member of a table with that content, before which the cursor stands
 abbrev pub memberBy : ℕ → List ℕ → List ℕ → Content → Cursor → Member → Step
@@ -71,12 +78,12 @@ abbrev pub partOf : Content → ℕ → Part
 partOf x j = record { holder = x .holder; number = j }
 
 -- what a part's step leads to
-abbrev pub followBy : ℕ → List ℕ → List ℕ → Limits → Part → Step → Spent → Walked
-followBy o b m l part step s = W.follow (visitBy o b m l) (part .holder) (part .number) step s
+abbrev pub followBy : ℕ → List ℕ → List ℕ → ℕ → Part → Step → Spent → Walked
+followBy o b m d part step s = W.follow (visitBy o b m d) (part .holder) (part .number) step s
 
 -- the object of a part that is a union's known choice
-abbrev pub chooseBy : ℕ → List ℕ → List ℕ → Limits → Part → Object → Place → Spent → Walked
-chooseBy o b m l part ob p s = W.followChoice (visitBy o b m l) (part .holder) (part .number) ob p s
+abbrev pub chooseBy : ℕ → List ℕ → List ℕ → ℕ → Part → Object → Place → Spent → Walked
+chooseBy o b m d part ob p s = W.followChoice (visitBy o b m d) (part .holder) (part .number) ob p s
 
 -- the object that an offset leads to: none where it is 0, else an arrival. No part can be refused by it.
 unfoldable pub referred : W.Child → Object → ℕ → Spent → Walked

@@ -7,7 +7,7 @@ use mathlib.Core.Option.{some}
 use Prim.Native.Nat.{ℕ, _≤_}
 use lib.ListN.{length, take}
 use Rattle.coding.specs.Packed.{parse}
-use Rattle.coding.specs.Walk.{spending, atZero, verdict}
+use Rattle.coding.specs.Walk.{atZero, verdict}
 use Rattle.coding.specs.Read.{messageRead}
 use Rattle.coding.specs.Sheet.{sheetTree}
 use Rattle.coding.specs.Message.{messageSheet, readAnswer, readOut}
@@ -18,17 +18,18 @@ use Rattle.coding.specs.declared.Answer.the-variants as A
 use Rattle.coding.specs.declared.Budget.{Budget}
 use Rattle.coding.specs.declared.Refusal.{Refusal}
 use Rattle.coding.specs.declared.Span.{Span}
+use Rattle.coding.specs.declared.Spent.{Spent}
 use Rattle.coding.specs.declared.Verdict.{Verdict}
 use Rattle.coding.specs.declared.ReadAnswer.{ReadAnswer}
-use Rattle.demands.specs.Arrivals.{LawfulMessage, messageArrivals}
-use Rattle.demands.specs.Reached.{accepted-exactly, accepted-visits, lawful-verdict}
+use Rattle.demands.specs.Arrivals.{LawfulMessage}
+use Rattle.demands.specs.Reached.{accepted-exactly, accepted-visits, accepted-content, lawful-verdict}
 use Rattle.demands.specs.Sheets.{verdict-sheet-lawful}
 use Rattle.demands.specs.Appending.{AreBytes, OlderAgrees, older-accepts, older-agrees}
 use Rattle.demands.specs.FieldEntries.{shown}
 use Rattle.demands.specs.Fields.{sheet-entry, field-refusal}
 use Rattle.demands.specs.Texts.{IsText, part-answers, text-part}
 use Rattle.demands.specs.SheetText.{sheet-text}
-use Rattle.promises.specs.Words.{Accepts, Fits, NoRoom, HandsOut, entryAt, textAt}
+use Rattle.promises.specs.Words.{Accepts, costs, arrivals, contents, Fits, NoRoom, HandsOut, entryAt, textAt}
 use Rattle.promises.proofs.Reading.{handed, hands-out, read-or-room, fits-read, read-fits, no-room}
 
 -- ---- judging
@@ -36,13 +37,17 @@ module _ (o : ℕ) (b m : List ℕ) (budget : Budget) (r : Verdict) (e : r ≡ v
   pub judges-exactly : (r .number ≡ 0) ↔ LawfulMessage o b m budget
   judges-exactly = rw e (accepted-exactly o b m budget)
 
-  pub judges-arrivals : r .number ≡ 0 → r .visits ≡ messageArrivals o (parse b) m
+  pub judges-arrivals : r .number ≡ 0 → r .visits ≡ arrivals o b m
   judges-arrivals = rw e (accepted-visits o b m budget)
+
+  pub judges-content : r .number ≡ 0 → r .content ≡ contents o b m
+  judges-content = rw e (accepted-content o b m budget)
 
 module _ (o : ℕ) (older newer m : List ℕ) (budget : Budget) (older-bytes : AreBytes older) (r s : Verdict) (er : r ≡ verdict o older m budget)
     (es : s ≡ verdict o newer m budget) where
-  pub both-judge : Appends o older newer → s .number ≡ 0 → (r .number ≡ 0) × (r .visits ≤ s .visits)
-  both-judge appends = rw (er, es) (older-accepts o older newer older-bytes appends m budget)
+  pub both-judge : Appends o older newer → s .number ≡ 0 → (r .number ≡ 0) × (r .visits ≤ s .visits) × (r .content ≤ s .content)
+  both-judge appends =
+      rw (er, es) (λ h. let y = older-accepts o older newer older-bytes appends m budget h in (y .0, y .1 .visits, y .1 .content))
 
 -- ---- reading to a sheet
 module _ (o : ℕ) (b m : List ℕ) (budget : Budget) (out : List ℕ) (a : ReadAnswer) (ea : a ≡ readAnswer o b m budget out) where
@@ -53,12 +58,18 @@ module _ (o : ℕ) (b m : List ℕ) (budget : Budget) (out : List ℕ) (a : Read
     λ h. fits-read o b m budget out a ea (accepted-exactly o b m budget .1 (h .0)) (h .1 .0) (h .1 .1),
   )
 
-  pub reads-arrivals : a .verdict .number ≡ 0 → a .verdict .visits ≡ messageArrivals o (parse b) m
+  pub reads-arrivals : a .verdict .number ≡ 0 → a .verdict .visits ≡ arrivals o b m
   reads-arrivals h =
-      let y = handed o b m budget out a _ ea refl h in y .visits ∙ accepted-visits o b m budget (y .accepted)
+      let y = handed o b m budget out a _ ea refl h in
+      ap (λ (x : Spent). x .visits) (y .spent) ∙ accepted-visits o b m budget (y .accepted)
+
+  pub reads-content : a .verdict .number ≡ 0 → a .verdict .content ≡ contents o b m
+  reads-content h =
+      let y = handed o b m budget out a _ ea refl h in
+      ap (λ (x : Spent). x .content) (y .spent) ∙ accepted-content o b m budget (y .accepted)
 
   pub reads-room : LawfulMessage o b m budget → NoRoom (messageSheet o b m) out
-      → a ≡ record { verdict = atZero 14 (spending (messageArrivals o (parse b) m)); length = 0 }
+      → a ≡ record { verdict = atZero 14 (costs o b m); length = 0 }
   reads-room h = no-room o b m budget out _ a ea (lawful-verdict o b m budget h)
 
 module _ (o : ℕ) (b m : List ℕ) (schema-bytes : AreBytes b) (message-bytes : AreBytes m) (budget : Budget) (out : List ℕ) (a : ReadAnswer) (out′ : List ℕ)

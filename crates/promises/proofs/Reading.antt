@@ -8,13 +8,14 @@ use native.Mathlib.Omega.{arith}
 use lib.ListN.{length, take, drop}
 use lib.Seq.{take-append-seam}
 use lib.Dec.{leb, eqb}
-use borrow.Author.Tests.{eqb-true, eqb-false, eq-eqb, leb-true, le-leb, lt-leb}
+use borrow.Author.Tests.{eqb-true, eqb-false, eq-eqb, ne-eqb, leb-true, le-leb, lt-leb}
 use Rattle.coding.specs.Lists.{pick}
 use Rattle.coding.specs.Bytes.{largest}
-use Rattle.coding.specs.Walk.{spending, atZero, spentOf, verdict}
+use Rattle.coding.specs.Walk.{atZero, spentOf, verdict}
 use Rattle.coding.specs.Message.{messageSheet, fitsRoom, readAnswer, readOut}
 use Rattle.coding.specs.declared.Budget.{Budget}
 use Rattle.coding.specs.declared.ReadAnswer.{ReadAnswer}
+use Rattle.coding.specs.declared.Spent.{Spent}
 use Rattle.coding.specs.declared.Verdict.{Verdict}
 use Rattle.promises.specs.Words.{NoRoom, HandsOut, KeepsOnRefusal}
 
@@ -23,7 +24,7 @@ pub record Handed (o : ℕ) (b m : List ℕ) (budget : Budget) (a : ReadAnswer) 
   pub accepted : verdict o b m budget .number ≡ 0
   pub sheet : take (a .length) out ≡ messageSheet o b m
   pub sized : length (messageSheet o b m) ≤ largest
-  pub visits : a .verdict .visits ≡ verdict o b m budget .visits
+  pub spent : spentOf (a .verdict) ≡ spentOf (verdict o b m budget)
 
 fits-size : (l : List ℕ) (t : Bool) → leb (length l) largest && t ≡ true → length l ≤ largest
 fits-size l t h = by (leb (length l) largest) refl h
@@ -67,7 +68,7 @@ module _ (o : ℕ) (b m : List ℕ) (budget : Budget) (out : List ℕ) where
       → Handed o b m budget (answerBy s t) (outBy s t)
   unfolding fitsRoom
   handed-by true true e f h =
-      record { accepted = h; sheet = take-append-seam sheet (drop (length sheet) out); sized = fits-size sheet _ f; visits = refl }
+      record { accepted = h; sheet = take-append-seam sheet (drop (length sheet) out); sized = fits-size sheet _ f; spent = refl }
   handed-by true false e f h = absurd (omega arith)
   handed-by false t e f h = absurd (eqb-false _ _ e h)
 
@@ -83,14 +84,14 @@ module _ (o : ℕ) (b m : List ℕ) (budget : Budget) (out : List ℕ) where
   hands-out a out′ ea eo h = handed a out′ ea eo h .sheet
 
   read-by : (s t : Bool) → eqb (judged .number) 0 ≡ s → judged .number ≡ 0
-      → ((answerBy s t .verdict .number ≡ 0) ⊎ (answerBy s t .verdict .number ≡ 14)) × (answerBy s t .verdict .visits ≡ judged .visits)
+      → ((answerBy s t .verdict .number ≡ 0) ⊎ (answerBy s t .verdict .number ≡ 14)) × (spentOf (answerBy s t .verdict) ≡ spentOf judged)
   read-by true true e h = (inl h, refl)
   read-by true false e h = (inr refl, refl)
   read-by false t e h = (inl h, refl)
 
-  -- an accepted message is read, or there is no room; either way with the full visits
+  -- an accepted message is read, or there is no room; either way with all that was spent
   pub read-or-room : (a : ReadAnswer) → a ≡ readAnswer o b m budget out → judged .number ≡ 0
-      → ((a .verdict .number ≡ 0) ⊎ (a .verdict .number ≡ 14)) × (a .verdict .visits ≡ judged .visits)
+      → ((a .verdict .number ≡ 0) ⊎ (a .verdict .number ≡ 14)) × (spentOf (a .verdict) ≡ spentOf judged)
   unfolding readAnswer
   read-or-room a ea h = rw ea (read-by _ (fitsRoom sheet out) refl h)
 
@@ -115,11 +116,20 @@ module _ (o : ℕ) (b m : List ℕ) (budget : Budget) (out : List ℕ) where
   unfolding readAnswer
   read-fits a ea h = fits-by _ _ refl refl (ap (λ (x : ReadAnswer). x .verdict .number) (sym ea) ∙ h)
 
-  -- "then 14 with the full visits"
-  pub no-room : (n : ℕ) (a : ReadAnswer) → a ≡ readAnswer o b m budget out → judged ≡ atZero 0 (spending n)
-      → NoRoom sheet out → a ≡ record { verdict = atZero 14 (spending n); length = 0 }
+  -- "then 14 with the full visits", and the full content
+  pub no-room : (t : Spent) (a : ReadAnswer) → a ≡ readAnswer o b m budget out → judged ≡ atZero 0 t
+      → NoRoom sheet out → a ≡ record { verdict = atZero 14 t; length = 0 }
   unfolding readAnswer
-  no-room n a ea h x = ea ∙ rw (h, not-fits sheet out x)
+  no-room t a ea h x = ea ∙ rw (h, not-fits sheet out x)
+
+  -- "Reading to a sheet gives the verdict's refusal first"
+  pub gives-refusal : (a : ReadAnswer) → a ≡ readAnswer o b m budget out → (judged .number ≡ 0 → ⊥) → a ≡ record { verdict = judged; length = 0 }
+  unfolding readAnswer
+  gives-refusal a ea h = ea ∙ rw (ne-eqb (judged .number) 0 h)
+
+  pub keeps-output : (out′ : List ℕ) → out′ ≡ readOut o b m budget out → (judged .number ≡ 0 → ⊥) → out′ ≡ out
+  unfolding readOut
+  keeps-output out′ eo h = eo ∙ rw (ne-eqb (judged .number) 0 h)
 
   kept-by : (s t : Bool) → eqb (judged .number) 0 ≡ s → (answerBy s t .verdict .number ≡ 0 → ⊥)
       → (answerBy s t .length ≡ 0) × (outBy s t ≡ out)

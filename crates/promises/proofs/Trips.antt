@@ -1,12 +1,13 @@
 -- The demands of writing, of what the writer and then the reader answer.
-use mathlib.Core.Path.{_≡_, sym, ap, _∙_}
+use mathlib.Core.Path.{_≡_, sym, ap, _∙_, subst}
 use mathlib.Core.List.{List, _++_}
 use mathlib.Core.Logic.{_⊎_}
-use Prim.Native.Nat.{ℕ, _<_, _≤_}
+use Prim.Native.Nat.{ℕ, suc, _+_, _<_, _≤_}
+use native.Mathlib.Omega.{arith}
 use lib.ListN.{length, take, drop}
 use borrow.Author.Tests.{le-leb}
 use Rattle.coding.specs.Packed.{parse}
-use Rattle.coding.specs.Walk.{refusal, spending, verdictAt, atZero, verdict}
+use Rattle.coding.specs.Walk.{refusal, spending, verdictAt, atZero, spentOf, verdict}
 use Rattle.coding.specs.Value.{Value}
 use Rattle.coding.specs.Message.{message, messageOf, messageSheet, written, writeRoom, writeOver, writeAnswer, writeOut, readAnswer, readOut}
 use Rattle.coding.specs.Append.{Appends, sheetWith}
@@ -15,11 +16,14 @@ use Rattle.coding.specs.declared.Verdict.{Verdict}
 use Rattle.coding.specs.declared.ReadAnswer.{ReadAnswer}
 use Rattle.coding.specs.declared.WriteAnswer.{WriteAnswer}
 use Rattle.demands.specs.Appending.{AreBytes}
-use Rattle.demands.specs.RoundTrip.{enough, written-layout, written-verdict, written-sheet, written-too-little, written-answer, written-out}
+use Rattle.demands.specs.InTurn.{total}
+use Rattle.demands.specs.RoundTrip.{sheetLengths, enough, Short, no-visit, no-content, written-layout, written-verdict, written-sheet}
+use Rattle.demands.specs.RoundTrip.{written-too-little, written-few-visits, written-little-content, written-answer, written-out}
+use Rattle.demands.specs.Spending.{Affords}
 use Rattle.demands.specs.NewerAgrees.{newer-agrees}
 use Rattle.demands.specs.WrittenSheet.{WrittenAs, written-as}
 use Rattle.promises.specs.Words.{Fits, HandsOut, Writable, layoutOf}
-use Rattle.promises.proofs.Reading.{hands-out, read-or-room}
+use Rattle.promises.proofs.Reading.{hands-out, read-or-room, gives-refusal, keeps-output}
 use Rattle.promises.proofs.Writing.{made}
 
 -- ---- writing
@@ -37,30 +41,57 @@ pub lays-out-only : (o : ℕ) (b s out : List ℕ) (a : WriteAnswer) → a ≡ w
 lays-out-only o b s out a ea out′ eo h = written-as o b s (take (a .length) out′) (made o b s out a ea out′ eo h)
 
 -- ---- writing, then reading
+-- with less of either allowance there is a refusal
+short-number : (budget : Budget) (cs : List ℕ) (v : Verdict) → Short budget cs v → v .number ≡ 0 → ⊥
+short-number budget cs v (no-visit at l c e) h = let z : v .number ≡ 4 = ap (λ (x : Verdict). x .number) e in omega arith
+short-number budget cs v (no-content at k l n c m e) h = let z : v .number ≡ 17 = ap (λ (x : Verdict). x .number) e in omega arith
+
 module _ (o : ℕ) (b s : List ℕ) (schema-bytes : AreBytes b) (sheet-bytes : AreBytes s) (room room′ : List ℕ) (w : WriteAnswer)
     (ew : w ≡ writeAnswer o b s room) (er : room′ ≡ writeOut o b s room) (h : w .number ≡ 0) where
   is-made : written o b s ≡ message (take (w .length) room′)
   is-made = made o b s room w ew room′ er h
 
-  -- the rules give the sheet o of which the message was made
+  -- the rules give the sheet of which the message was made
   pub trip-sheet : messageSheet o b (take (w .length) room′) ≡ s
   trip-sheet = written-sheet o b s (take (w .length) room′) schema-bytes sheet-bytes is-made
 
   module _ (budget : Budget) (out out′ : List ℕ) (a : ReadAnswer) (ea : a ≡ readAnswer o b (take (w .length) room′) budget out)
       (eo : out′ ≡ readOut o b (take (w .length) room′) budget out) where
-    pub reads-back : enough b s ≤ budget .visits → length s ≤ length out
-        → (a ≡ record { verdict = atZero 0 (spending (enough b s)); length = length s }) × (out′ ≡ s ++ drop (length s) out)
+    pub reads-back : Affords budget (enough o b s) → length s ≤ length out
+        → (a ≡ record { verdict = atZero 0 (enough o b s); length = length s }) × (out′ ≡ s ++ drop (length s) out)
     reads-back l r = (
       ea ∙ written-answer o b s (take (w .length) room′) schema-bytes sheet-bytes is-made budget out l r,
       eo ∙ written-out o b s (take (w .length) room′) schema-bytes sheet-bytes is-made budget out l r,
     )
 
-    pub spends-all : budget .visits < enough b s
-        → (at : ℕ) × (a ≡ record { verdict = verdictAt (refusal 4 at) (spending (budget .visits)); length = 0 }) × (out′ ≡ out)
+    pub falls-short : (budget .visits < enough o b s .visits) ⊎ (budget .content < enough o b s .content)
+        → Short budget (sheetLengths o b s) (a .verdict) × (a .length ≡ 0) × (out′ ≡ out)
+    falls-short l =
+        let m = take (w .length) room′ in
+        let t = written-too-little o b s m schema-bytes sheet-bytes is-made budget l in
+        let n = short-number budget (sheetLengths o b s) (verdict o b m budget) t in
+        let e = gives-refusal o b m budget out a ea n in (
+          subst (λ (x : Verdict). Short budget (sheetLengths o b s) x) (sym (ap (λ (x : ReadAnswer). x .verdict) e)) t,
+          ap (λ (x : ReadAnswer). x .length) e,
+          keeps-output o b m budget out out′ eo n,
+        )
+
+    pub few-visits : budget .visits < enough o b s .visits → enough o b s .content ≤ budget .content
+        → (at : ℕ) × (a ≡ record { verdict = verdictAt (refusal 4 at) (spending (budget .visits) (total (take (budget .visits) (sheetLengths o b s)))); length = 0 })
+        × (out′ ≡ out)
     unfolding readAnswer readOut
-    spends-all l =
-        let t = written-too-little o b s (take (w .length) room′) schema-bytes sheet-bytes is-made budget l in
+    few-visits l c =
+        let t = written-few-visits o b s (take (w .length) room′) schema-bytes sheet-bytes is-made budget l c in
         (t .0, ea ∙ rw (t .1), eo ∙ rw (t .1))
+
+    pub little-content : enough o b s .visits ≤ budget .visits → budget .content < enough o b s .content
+        → (k at : ℕ) × (total (take k (sheetLengths o b s)) ≤ budget .content) × (budget .content < total (take (suc k) (sheetLengths o b s)))
+        × (a ≡ record { verdict = verdictAt (refusal 17 at) (spending (k + 1) (total (take k (sheetLengths o b s)))); length = 0 })
+        × (out′ ≡ out)
+    unfolding readAnswer readOut
+    little-content l c =
+        let t = written-little-content o b s (take (w .length) room′) schema-bytes sheet-bytes is-made budget l c in
+        (t .0, t .3 .0, t .1, t .2, ea ∙ rw (t .3 .1), eo ∙ rw (t .3 .1))
 
   -- ---- writing under the older schema, then reading by the newer
   module _ (newer : List ℕ) (appends : Appends o b newer) where
@@ -74,14 +105,14 @@ module _ (o : ℕ) (b s : List ℕ) (schema-bytes : AreBytes b) (sheet-bytes : A
 
     module _ (budget : Budget) (out out′ : List ℕ) (a : ReadAnswer) (ea : a ≡ readAnswer o newer (take (w .length) room′) budget out)
         (eo : out′ ≡ readOut o newer (take (w .length) room′) budget out) where
-      pub reads-added : enough b s ≤ budget .visits
-          → ((a .verdict .number ≡ 0) ⊎ (a .verdict .number ≡ 14)) × (a .verdict .visits ≡ enough b s)
+      pub reads-added : Affords budget (enough o b s)
+          → ((a .verdict .number ≡ 0) ⊎ (a .verdict .number ≡ 14)) × (spentOf (a .verdict) ≡ enough o b s)
       reads-added l =
           let m = take (w .length) room′ in
           let agrees = newer-agrees o b newer s m schema-bytes sheet-bytes appends is-made in
           let v = agrees .verdicts budget ∙ written-verdict o b s m schema-bytes sheet-bytes is-made budget l in
           let y = read-or-room o newer m budget out a ea (ap (λ (x : Verdict). x .number) v) in
-          (y .0, y .1 ∙ ap (λ (x : Verdict). x .visits) v)
+          (y .0, y .1 ∙ ap (λ (x : Verdict). spentOf x) v)
 
       pub hands-added : HandsOut a out′ (sheetWith o b newer s)
       hands-added h = hands-out o newer (take (w .length) room′) budget out a out′ ea eo h ∙ added-sheet

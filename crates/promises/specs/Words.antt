@@ -24,7 +24,8 @@ use Rattle.coding.specs.declared.Found.the-variants as Fd
 use Rattle.coding.specs.declared.Answer.{Answer}
 use Rattle.coding.specs.declared.Budget.{Budget}
 use Rattle.coding.specs.declared.ReadAnswer.{ReadAnswer}
-use Rattle.demands.specs.Arrivals.{messageArrivals}
+use Rattle.coding.specs.declared.Spent.{Spent}
+use Rattle.demands.specs.Arrivals.{messageCost}
 use Rattle.demands.specs.FieldEntries.{Entry}
 use Rattle.demands.specs.Fields.{sheetEntry}
 use Rattle.demands.specs.SheetText.{sheetText}
@@ -43,9 +44,15 @@ after x = x .exit .now
 abbrev pub Accepts : ℕ → List ℕ → List ℕ → Budget → Type 0
 Accepts o b m budget = verdict o b m budget .number ≡ 0
 
--- the arrivals of the walk
+-- what the arrivals of the walk cost: how many there are, and their content
+abbrev pub costs : ℕ → List ℕ → List ℕ → Spent
+costs o b m = messageCost o (parse b) m
+
 abbrev pub arrivals : ℕ → List ℕ → List ℕ → ℕ
-arrivals o b m = messageArrivals o (parse b) m
+arrivals o b m = costs o b m .visits
+
+abbrev pub contents : ℕ → List ℕ → List ℕ → ℕ
+contents o b m = costs o b m .content
 
 -- the tree of values that a message holds
 abbrev pub values : ℕ → List ℕ → List ℕ → Value

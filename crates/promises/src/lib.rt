@@ -1,5 +1,6 @@
 // What the papers demand of the running functions. Each function here calls public functions of the library, and its contract is
-// the demand itself, in the words of `coding` and `demands`: it follows from the contracts of what is called and a theorem.
+// the demand itself, in the words of `coding` and `demands`: it follows from the contracts of what is called and a theorem. A budget
+// is both allowances (02, K7).
 use coding::Answer;
 use coding::Budget;
 use coding::ReadAnswer;
@@ -14,7 +15,7 @@ ghost use mathlib.Core.List.{[], _∷_, _++_};
 ghost use mathlib.Core.Logic.{_↔_, _⊎_};
 ghost use mathlib.Core.Option.{some};
 ghost use mathlib.Core.Bool.{true};
-ghost use Prim.Native.Nat.{ℕ, _+_, _/_, _<_, _≤_};
+ghost use Prim.Native.Nat.{ℕ, suc, _+_, _/_, _<_, _≤_};
 ghost use lib.ListN.{length, take, drop};
 ghost use Rattle.coding.specs.Append as Ap;
 ghost use Rattle.coding.specs.Field as F;
@@ -23,21 +24,25 @@ ghost use Rattle.coding.specs.Value.{Value};
 ghost use Rattle.coding.specs.Walk as W;
 ghost use Rattle.demands.specs.Arrivals.{LawfulMessage};
 ghost use Rattle.demands.specs.FieldEntries.{shown};
-ghost use Rattle.demands.specs.RoundTrip.{enough};
+ghost use Rattle.demands.specs.InTurn.{total};
+ghost use Rattle.demands.specs.RoundTrip.{enough, sheetLengths, Short};
+ghost use Rattle.demands.specs.Spending.{Affords};
 ghost use Rattle.demands.specs.Texts.{IsText};
 ghost use Rattle.demands.specs.WrittenSheet.{WrittenAs};
 ghost use Rattle.promises.specs.Reader.{Stepped};
-ghost use Rattle.promises.specs.Words.{given, after, Accepts, arrivals, values, treeOf, Fits, NoRoom, HandsOut, KeepsOnRefusal};
+ghost use Rattle.promises.specs.Words.{given, after, Accepts, costs, arrivals, contents, values, treeOf, Fits, NoRoom, HandsOut, KeepsOnRefusal};
 ghost use Rattle.promises.specs.Words.{entryAt, textAt, LeadsToList, HoldsAnswers, Writable, layoutOf};
 
 // Judging a message.
 pub fn judged(schema: &[u8], message: &[u8], budget: Budget, o: usize) -> Verdict
-    // "Judging answers number, place and visits", as the walk gives them, of refusals too
+    // "Judging answers number, place and visits", the member and the content (02, K6 and K7), as the walk gives them, of refusals too
     ensures whole { λ r. ⌜ r ≡ W.verdict o (given schema) (given message) budget ⌝ }
     // a message is accepted exactly when every object reached by its schema is lawful, within depth and budget
     ensures exactly { λ r. ⌜ (r .number ≡ 0) ↔ LawfulMessage o (given schema) (given message) budget ⌝ }
     // "visits in the verdict equal the arrivals of the walk's definition, shared objects counted each time"
     ensures arrivals { λ r. ⌜ (r .number ≡ 0 → r .visits ≡ arrivals o (given schema) (given message)) ⌝ }
+    // "Each arrival whose content fits adds its content length": the content in the verdict is that of these arrivals together
+    ensures content { λ r. ⌜ (r .number ≡ 0 → r .content ≡ contents o (given schema) (given message)) ⌝ }
 {
     judge::judge(schema, message, budget, o)
 }
@@ -52,8 +57,10 @@ pub fn read(schema: &[u8], message: &[u8], budget: Budget, out: &mut [u8], o: us
     ensures exactly { λ r. ⌜ (r .verdict .number ≡ 0) ↔ ((LawfulMessage o (given schema) (given message) budget) × (Fits (M.messageSheet o (given schema) (given message)) (given out))) ⌝ }
     // "visits in the verdict equal the arrivals of the walk's definition, shared objects counted each time"
     ensures arrivals { λ r. ⌜ (r .verdict .number ≡ 0 → r .verdict .visits ≡ arrivals o (given schema) (given message)) ⌝ }
-    // "then 14 with the full visits"
-    ensures room { λ r. ⌜ (LawfulMessage o (given schema) (given message) budget → NoRoom (M.messageSheet o (given schema) (given message)) (given out) → r ≡ record { verdict = W.atZero 14 (W.spending (arrivals o (given schema) (given message))); length = 0 }) ⌝ }
+    // "Each arrival whose content fits adds its content length": the content in the verdict is that of these arrivals together
+    ensures content { λ r. ⌜ (r .verdict .number ≡ 0 → r .verdict .content ≡ contents o (given schema) (given message)) ⌝ }
+    // "then 14 with the full visits", and the full content
+    ensures room { λ r. ⌜ (LawfulMessage o (given schema) (given message) budget → NoRoom (M.messageSheet o (given schema) (given message)) (given out) → r ≡ record { verdict = W.atZero 14 (costs o (given schema) (given message)); length = 0 }) ⌝ }
     // "on refusal the length is 0 and the output is unchanged"
     ensures kept { λ r. ⌜ KeepsOnRefusal (r .verdict .number) (r .length) (given out) (after out) ⌝ }
     // what is handed out is the sheet of the rules
@@ -81,8 +88,8 @@ pub fn judged_by_both(
     // each verdict is the definition's
     ensures by_older { λ r. ⌜ r .older ≡ W.verdict o (given older) (given message) budget ⌝ }
     ensures by_newer { λ r. ⌜ r .newer ≡ W.verdict o (given newer) (given message) budget ⌝ }
-    // whatever bytes the newer accepts with a budget, the older accepts with the same budget
-    ensures accepts { λ r. ⌜ (Ap.Appends o (given older) (given newer) → r .newer .number ≡ 0 → (r .older .number ≡ 0) × (r .older .visits ≤ r .newer .visits)) ⌝ }
+    // whatever bytes the newer accepts with a budget, the older accepts with the same budget, and spends no more of either
+    ensures accepts { λ r. ⌜ (Ap.Appends o (given older) (given newer) → r .newer .number ≡ 0 → (r .older .number ≡ 0) × (r .older .visits ≤ r .newer .visits) × (r .older .content ≤ r .newer .content)) ⌝ }
 {
     let by_older = judge::judge(older, message, budget, o);
     let by_newer = judge::judge(newer, message, budget, o);
@@ -299,11 +306,15 @@ pub fn write_then_read(
     ensures read { λ r. ⌜ r .read ≡ M.readAnswer o (given schema) (take (r .written .length) (after room)) budget (given out) ⌝ }
     ensures output { λ r. ⌜ after out ≡ M.readOut o (given schema) (take (r .written .length) (after room)) budget (given out) ⌝ }
     // reading that message with enough budget gives the same sheet
-    ensures same { λ r. ⌜ (r .written .number ≡ 0 → enough (given schema) (given sheet) ≤ budget .visits → length (given sheet) ≤ length (given out) → (r .read ≡ record { verdict = W.atZero 0 (W.spending (enough (given schema) (given sheet))); length = length (given sheet) }) × (after out ≡ given sheet ++ drop (length (given sheet)) (given out))) ⌝ }
+    ensures same { λ r. ⌜ (r .written .number ≡ 0 → Affords budget (enough o (given schema) (given sheet)) → length (given sheet) ≤ length (given out) → (r .read ≡ record { verdict = W.atZero 0 (enough o (given schema) (given sheet)); length = length (given sheet) }) × (after out ≡ given sheet ++ drop (length (given sheet)) (given out))) ⌝ }
     // the rules give that sheet of the message, with any budget and any room
     ensures sheet { λ r. ⌜ (r .written .number ≡ 0 → M.messageSheet o (given schema) (take (r .written .length) (after room)) ≡ given sheet) ⌝ }
-    // with less the answer is 4, and the whole budget is spent
-    ensures less { λ r. ⌜ (r .written .number ≡ 0 → budget .visits < enough (given schema) (given sheet) → (at : ℕ) × (r .read ≡ record { verdict = W.verdictAt (W.refusal 4 at) (W.spending (budget .visits)); length = 0 }) × (after out ≡ given out)) ⌝ }
+    // with less of either allowance the answer is 4 or 17, and `Short` says what is spent then
+    ensures less { λ r. ⌜ (r .written .number ≡ 0 → (budget .visits < enough o (given schema) (given sheet) .visits) ⊎ (budget .content < enough o (given schema) (given sheet) .content) → Short budget (sheetLengths o (given schema) (given sheet)) (r .read .verdict) × (r .read .length ≡ 0) × (after out ≡ given out)) ⌝ }
+    // with less visits and enough content it is 4, and all visits are spent
+    ensures few_visits { λ r. ⌜ (r .written .number ≡ 0 → budget .visits < enough o (given schema) (given sheet) .visits → enough o (given schema) (given sheet) .content ≤ budget .content → (at : ℕ) × (r .read ≡ record { verdict = W.verdictAt (W.refusal 4 at) (W.spending (budget .visits) (total (take (budget .visits) (sheetLengths o (given schema) (given sheet))))); length = 0 }) × (after out ≡ given out)) ⌝ }
+    // with enough visits and less content it is 17, at the first object with which the content would pass the allowance
+    ensures little_content { λ r. ⌜ (r .written .number ≡ 0 → enough o (given schema) (given sheet) .visits ≤ budget .visits → budget .content < enough o (given schema) (given sheet) .content → (k at : ℕ) × (total (take k (sheetLengths o (given schema) (given sheet))) ≤ budget .content) × (budget .content < total (take (suc k) (sheetLengths o (given schema) (given sheet)))) × (r .read ≡ record { verdict = W.verdictAt (W.refusal 17 at) (W.spending (k + 1) (total (take k (sheetLengths o (given schema) (given sheet))))); length = 0 }) × (after out ≡ given out)) ⌝ }
 {
     let written = write::write(schema, sheet, room, o);
     let n = written.length;
@@ -326,8 +337,8 @@ pub fn write_then_read_newer(
     ensures message { λ _. ⌜ after room ≡ M.writeOut o (given older) (given sheet) (given room) ⌝ }
     ensures read { λ r. ⌜ r .read ≡ M.readAnswer o (given newer) (take (r .written .length) (after room)) budget (given out) ⌝ }
     ensures output { λ r. ⌜ after out ≡ M.readOut o (given newer) (take (r .written .length) (after room)) budget (given out) ⌝ }
-    // the newer reads the message with as many visits as the older, if its sheet has room
-    ensures accepts { λ r. ⌜ (Ap.Appends o (given older) (given newer) → r .written .number ≡ 0 → enough (given older) (given sheet) ≤ budget .visits → ((r .read .verdict .number ≡ 0) ⊎ (r .read .verdict .number ≡ 14)) × (r .read .verdict .visits ≡ enough (given older) (given sheet))) ⌝ }
+    // the newer reads the message and spends as much of both as the older, if its sheet has room
+    ensures accepts { λ r. ⌜ (Ap.Appends o (given older) (given newer) → r .written .number ≡ 0 → Affords budget (enough o (given older) (given sheet)) → ((r .read .verdict .number ≡ 0) ⊎ (r .read .verdict .number ≡ 14)) × (W.spentOf (r .read .verdict) ≡ enough o (given older) (given sheet))) ⌝ }
     // the newer's sheet is the older's with the added members, as bytes: what is handed out
     ensures added { λ r. ⌜ (Ap.Appends o (given older) (given newer) → r .written .number ≡ 0 → HandsOut (r .read) (after out) (Ap.sheetWith o (given older) (given newer) (given sheet))) ⌝ }
     // and what the rules give of the message, with any budget and any room
@@ -361,7 +372,7 @@ pub fn write_then_judge(
     ensures by_older { λ r. ⌜ r .older ≡ W.verdict o (given older) (take (r .written .length) (after room)) budget ⌝ }
     ensures by_newer { λ r. ⌜ r .newer ≡ W.verdict o (given newer) (take (r .written .length) (after room)) budget ⌝ }
     // whatever message the writer made under the older schema, the newer accepts with every budget with which the older does (and
-    // gives the same visits): the whole verdict is the same
+    // spends the same of both): the whole verdict is the same
     ensures same { λ r. ⌜ (Ap.Appends o (given older) (given newer) → r .written .number ≡ 0 → r .newer ≡ r .older) ⌝ }
 {
     let written = write::write(older, sheet, room, o);

@@ -1,6 +1,7 @@
 // The library's C interface: thin, no logic. include/scalgo.h declares it. The number `coding` says the coding, 48 or 32; any other
 // names none, and no schema is lawful then.
 use coding::Budget;
+use coding::Verdict;
 ghost use mathlib.Core.Path.{_≡_};
 ghost use Prim.Native.Nat.{_+_, _≤_};
 ghost use lib.ListN as N;
@@ -9,28 +10,37 @@ ghost use Rattle.coding.specs.Field as F;
 ghost use Rattle.coding.specs.Lists.{pick};
 ghost use Rattle.coding.specs.Message as M;
 ghost use Rattle.coding.specs.Walk as W;
+ghost use Rattle.scalgo.specs.Numbers.{verdictNumbers};
 
-// Judges a message by a packed schema: answers the number, and stores place, member and visits.
+// Stores a verdict's number, place, member, visits and content.
+fn store(v: Verdict, to: &mut [u64; 5])
+    ensures { λ _. ⌜ now (to .exit) ≡ verdictNumbers v ⌝ }
+{
+    *to = [
+        v.number as u64,
+        v.place as u64,
+        v.member as u64,
+        v.visits as u64,
+        v.content,
+    ];
+}
+
+// Judges a message by a packed schema within two allowances: answers the number, and stores the verdict.
 #[no_mangle]
 pub extern "C" fn scalgo_judge(
     coding: u32,
     schema: &[u8],
     message: &[u8],
-    budget: u32,
-    place: &mut u64,
-    member: &mut u32,
-    visits: &mut u32,
+    visits: u32,
+    content: u64,
+    verdict: &mut [u64; 5],
 ) -> u32
-    ensures { λ r. ⌜ r ≡ W.verdict (B.widthOf coding) (now (schema .entry)) (now (message .entry)) (record { visits = budget }) .number ⌝ }
-    ensures { λ _. ⌜ now (place .exit) ≡ W.verdict (B.widthOf coding) (now (schema .entry)) (now (message .entry)) (record { visits = budget }) .place ⌝ }
-    ensures { λ _. ⌜ now (member .exit) ≡ W.verdict (B.widthOf coding) (now (schema .entry)) (now (message .entry)) (record { visits = budget }) .member ⌝ }
-    ensures { λ _. ⌜ now (visits .exit) ≡ W.verdict (B.widthOf coding) (now (schema .entry)) (now (message .entry)) (record { visits = budget }) .visits ⌝ }
+    ensures { λ r. ⌜ r ≡ W.verdict (B.widthOf coding) (now (schema .entry)) (now (message .entry)) (W.allowing visits content) .number ⌝ }
+    ensures { λ _. ⌜ now (verdict .exit) ≡ verdictNumbers (W.verdict (B.widthOf coding) (now (schema .entry)) (now (message .entry)) (W.allowing visits content)) ⌝ }
 {
     let o = wire::width_of(coding);
-    let v = judge::judge(schema, message, Budget { visits: budget }, o);
-    *place = v.place as u64;
-    *member = v.member;
-    *visits = v.visits;
+    let v = judge::judge(schema, message, Budget { visits, content }, o);
+    store(v, verdict);
     v.number as u32
 }
 
@@ -99,34 +109,29 @@ pub extern "C" fn scalgo_list(
     field_list::read_list(schema, message, path, from as usize, cases, o) as u64
 }
 
-// Reads a message to its value sheet: answers the number, and stores place, member, visits and the sheet's length.
+// Reads a message to its value sheet within two allowances: answers the number, and stores the verdict and the sheet's length.
 #[no_mangle]
 pub extern "C" fn scalgo_read(
     coding: u32,
     schema: &[u8],
     message: &[u8],
-    budget: u32,
+    visits: u32,
+    content: u64,
     sheet: &mut [u8],
-    place: &mut u64,
-    member: &mut u32,
-    visits: &mut u32,
+    verdict: &mut [u64; 5],
     length: &mut u64,
 ) -> u32
-    ensures { λ r. ⌜ r ≡ M.readAnswer (B.widthOf coding) (now (schema .entry)) (now (message .entry)) (record { visits = budget }) (now (sheet .entry)) .verdict .number ⌝ }
-    ensures { λ _. ⌜ now (place .exit) ≡ M.readAnswer (B.widthOf coding) (now (schema .entry)) (now (message .entry)) (record { visits = budget }) (now (sheet .entry)) .verdict .place ⌝ }
-    ensures { λ _. ⌜ now (member .exit) ≡ M.readAnswer (B.widthOf coding) (now (schema .entry)) (now (message .entry)) (record { visits = budget }) (now (sheet .entry)) .verdict .member ⌝ }
-    ensures { λ _. ⌜ now (visits .exit) ≡ M.readAnswer (B.widthOf coding) (now (schema .entry)) (now (message .entry)) (record { visits = budget }) (now (sheet .entry)) .verdict .visits ⌝ }
-    ensures { λ _. ⌜ now (length .exit) ≡ M.readAnswer (B.widthOf coding) (now (schema .entry)) (now (message .entry)) (record { visits = budget }) (now (sheet .entry)) .length ⌝ }
-    ensures { λ _. ⌜ now (sheet .exit) ≡ M.readOut (B.widthOf coding) (now (schema .entry)) (now (message .entry)) (record { visits = budget }) (now (sheet .entry)) ⌝ }
+    ensures { λ r. ⌜ r ≡ M.readAnswer (B.widthOf coding) (now (schema .entry)) (now (message .entry)) (W.allowing visits content) (now (sheet .entry)) .verdict .number ⌝ }
+    ensures { λ _. ⌜ now (verdict .exit) ≡ verdictNumbers (M.readAnswer (B.widthOf coding) (now (schema .entry)) (now (message .entry)) (W.allowing visits content) (now (sheet .entry)) .verdict) ⌝ }
+    ensures { λ _. ⌜ now (length .exit) ≡ M.readAnswer (B.widthOf coding) (now (schema .entry)) (now (message .entry)) (W.allowing visits content) (now (sheet .entry)) .length ⌝ }
+    ensures { λ _. ⌜ now (sheet .exit) ≡ M.readOut (B.widthOf coding) (now (schema .entry)) (now (message .entry)) (W.allowing visits content) (now (sheet .entry)) ⌝ }
 {
     let o = wire::width_of(coding);
-    let answer = sheet::read(schema, message, Budget { visits: budget }, sheet, o);
-    let verdict = answer.verdict;
-    *place = verdict.place as u64;
-    *member = verdict.member;
-    *visits = verdict.visits;
+    let answer = sheet::read(schema, message, Budget { visits, content }, sheet, o);
+    let v = answer.verdict;
+    store(v, verdict);
     *length = answer.length as u64;
-    verdict.number as u32
+    v.number as u32
 }
 
 // Writes a value sheet as a message: answers the number, and stores the message's length.

@@ -200,44 +200,49 @@ module _ (o : ℕ) (S : Schema) (sound : Sound S) (m : List ℕ) (child : W.Chil
   content-says (O.List i) holder start n s l h = elements-say holder start (Sc.elementOf S i) n 0 s (sound .lists i .kind) (sound .lists i .scalar)
   content-says (O.Table i) holder start n s l h = members-say holder start n L.begin 0 (Sc.tableOf S i .members) s (sound .tables i .members) h
 
-  open-says : (ob : Object) (holder start n : ℕ) (s : Spent) → ObjectSound S ob
-      → Says (D.Entered o good S m ob start n) (W.enter child o S m ob holder (W.bytesTested m ob (W.fitContent o S m ob start n)) s)
-  unfolding W.enter W.bytesTested W.fitContent
-  open-says ob holder start n s l = by (leb (start + W.contentSize o S ob n) (length m)) refl
+  -- an object whose content fits is charged, and then its bytes are tested
+  open-says : (b : Budget) (ob : Object) (holder start n : ℕ) (s : Spent) → ObjectSound S ob
+      → Says (D.Entered o good S m ob start n) (W.admit child o S m b ob holder (W.fitContent o S m ob start n) s)
+  unfolding W.admit W.enter W.bytesTested W.fitContent
+  open-says b ob holder start n s l = by (leb (start + W.contentSize o S ob n) (length m)) refl
     where
-      tested : (t : Bool) → start + W.contentSize o S ob n ≤ length m
-          → Says (D.Entered o good S m ob start n) (W.enter child o S m ob holder (pick t (Op.Content start n) (Op.Refused 10)) s)
-      tested true h =
+      tested : (t : Bool) (v : Spent) → start + W.contentSize o S ob n ≤ length m
+          → Says (D.Entered o good S m ob start n) (W.enter child o S m ob holder (pick t (Op.Content start n) (Op.Refused 10)) v)
+      tested true v h =
           says-map (D.ContentReadable o good S m ob start n) (D.Entered o good S m ob start n) (λ q. record { sound = l; inside = h; parts = q })
-          (W.content child o S m ob holder start n s) (content-says ob holder start n s l h)
-      tested false h = refuse-says (D.Entered o good S m ob start n) 10 holder s (λ z. omega arith)
+          (W.content child o S m ob holder start n v) (content-says ob holder start n v l h)
+      tested false v h = refuse-says (D.Entered o good S m ob start n) 10 holder v (λ z. omega arith)
 
       by : (t : Bool) → leb (start + W.contentSize o S ob n) (length m) ≡ t
-          → Says (D.Entered o good S m ob start n) (W.enter child o S m ob holder (W.bytesTested m ob (pick t (Op.Content start n) (Op.Refused 6))) s)
-      by true e = tested (W.endOk m ob start n) (leb-true _ _ e)
+          → Says (D.Entered o good S m ob start n) (W.admit child o S m b ob holder (pick t (Op.Content start n) (Op.Refused 6)) s)
+      by true e =
+          let v = W.withContent (W.contentLength o S ob n) s in
+          pick-says (D.Entered o good S m ob start n) (leb (s .content + W.contentLength o S ob n) (b .content))
+          (W.enter child o S m ob holder (W.bytesTested m ob (Op.Content start n)) v) (W.refuse 17 holder s)
+          (λ _. tested (W.endOk m ob start n) v (leb-true _ _ e)) (refuse-says (D.Entered o good S m ob start n) 17 holder s (λ z. omega arith))
       by false e = refuse-says (D.Entered o good S m ob start n) 6 holder s (λ z. omega arith)
 
-  arrive-says : (ob : Object) (p : Place) (s : Spent) → ObjectSound S ob
-      → Says (D.HeaderInside o m p × D.Entered o good S m ob (D.startOf o p) (D.lengthOf o m p)) (W.arrive child o S m ob p s)
-  unfolding W.arrive W.openObject W.fitObject W.bytesTested W.enter D.HeaderInside D.startOf D.lengthOf W.placed
-  arrive-says ob (ByOffset x) s l = by (leb (W.startSize o) x) (leb (x + W.headerSize o) (length m)) (eqb (le m x 4) (W.magic S ob)) refl
+  arrive-says : (b : Budget) (ob : Object) (p : Place) (s : Spent) → ObjectSound S ob
+      → Says (D.HeaderInside o m p × D.Entered o good S m ob (D.startOf o p) (D.lengthOf o m p)) (W.arrive child o S m b ob p s)
+  unfolding W.arrive W.admit W.fitObject D.HeaderInside D.startOf D.lengthOf W.placed
+  arrive-says b ob (ByOffset x) s l = by (leb (W.startSize o) x) (leb (x + W.headerSize o) (length m)) (eqb (le m x 4) (W.magic S ob)) refl
     where
       by : (t u v : Bool) → leb (x + W.headerSize o) (length m) ≡ u
           → Says ((x + W.headerSize o ≤ length m) × D.Entered o good S m ob (x + W.headerSize o) (le m (x + 4) o))
-          (W.enter child o S m ob x
-          (W.bytesTested m ob (pick (t && u) (pick v (W.fitContent o S m ob (x + W.headerSize o) (le m (x + 4) o)) (Op.Refused 7)) (Op.Refused 6))) s)
+          (W.admit child o S m b ob x
+          (pick (t && u) (pick v (W.fitContent o S m ob (x + W.headerSize o) (le m (x + 4) o)) (Op.Refused 7)) (Op.Refused 6)) s)
       by true true true e =
           let h = leb-true _ _ e in
           says-map (D.Entered o good S m ob (x + W.headerSize o) (le m (x + 4) o))
           ((x + W.headerSize o ≤ length m) × D.Entered o good S m ob (x + W.headerSize o) (le m (x + 4) o)) (λ q. (h, q))
-          (W.enter child o S m ob x (W.bytesTested m ob (W.fitContent o S m ob (x + W.headerSize o) (le m (x + 4) o))) s)
-          (open-says ob x (x + W.headerSize o) (le m (x + 4) o) s l)
+          (W.admit child o S m b ob x (W.fitContent o S m ob (x + W.headerSize o) (le m (x + 4) o)) s)
+          (open-says b ob x (x + W.headerSize o) (le m (x + 4) o) s l)
       by true true false e = refuse-says _ 7 x s (λ z. omega arith)
       by true false v e = refuse-says _ 6 x s (λ z. omega arith)
       by false u v e = refuse-says _ 6 x s (λ z. omega arith)
-  arrive-says ob (InPlace a n) s l =
+  arrive-says b ob (InPlace a n) s l =
       says-map (D.Entered o good S m ob a n) (Unit {0} × D.Entered o good S m ob a n) (λ q. (tt, q))
-      (W.enter child o S m ob a (W.bytesTested m ob (W.fitContent o S m ob a n)) s) (open-says ob a a n s l)
+      (W.admit child o S m b ob a (W.fitContent o S m ob a n) s) (open-says b ob a a n s l)
 
 pub visit-says : (o : ℕ) (S : Schema) → Sound S → (m : List ℕ) (b : Budget) (d : ℕ) (ob : Object) (p : Place) (s : Spent) → ObjectSound S ob
     → Says (D.ObjectReadable o d S m ob p) (W.visit d o S m b ob p s)
@@ -247,6 +252,6 @@ visit-says o S sound m b zero ob p s l =
     (λ _. refuse-says ⊥ 5 (W.placed p) (W.oneMore s) (λ e. omega arith)) (refuse-says ⊥ 4 (W.placed p) s (λ e. omega arith))
 visit-says o S sound m b (suc d) ob p s l =
     pick-says (D.HeaderInside o m p × D.Entered o (D.ObjectReadable o d S m) S m ob (D.startOf o p) (D.lengthOf o m p)) (ltb (s .visits) (b .visits))
-    (W.arrive (W.visit d o S m b) o S m ob p (W.oneMore s)) (W.refuse 4 (W.placed p) s)
-    (λ _. arrive-says o S sound m (W.visit d o S m b) (D.ObjectReadable o d S m) (λ ob′ p′ s′ l′. visit-says o S sound m b d ob′ p′ s′ l′) ob p (W.oneMore s) l)
+    (W.arrive (W.visit d o S m b) o S m b ob p (W.oneMore s)) (W.refuse 4 (W.placed p) s)
+    (λ _. arrive-says o S sound m (W.visit d o S m b) (D.ObjectReadable o d S m) (λ ob′ p′ s′ l′. visit-says o S sound m b d ob′ p′ s′ l′) b ob p (W.oneMore s) l)
     (refuse-says _ 4 (W.placed p) s (λ e. omega arith))

@@ -202,7 +202,7 @@ pub schema-accepted : (w : ℕ) (b dir : List ℕ) (t : Bool) → Judged w b dir
 schema-accepted w b dir t j e = j .right e
 
 abbrev unlawfulSchema : Verdict
-unlawfulSchema = record { number = 1; place = 0; member = 4294967295; visits = 0 }
+unlawfulSchema = record { number = 1; place = 0; member = 4294967295; visits = 0; content = 0 }
 
 unlawful : (w : ℕ) (b dir m : List ℕ) (budget : Budget) (t : Bool) → Judged w b dir t → t ≡ false → W.verdict w b m budget ≡ unlawfulSchema
 unfolding W.verdict W.early W.nothing W.noMember

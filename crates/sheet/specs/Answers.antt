@@ -9,7 +9,7 @@ use Rattle.coding.specs.Message.{fitsRoom}
 use Rattle.coding.specs.declared.Verdict.{Verdict}
 use Rattle.coding.specs.declared.ReadAnswer.{ReadAnswer}
 
--- refusal 14, with the verdict's visits
+-- refusal 14, with what the verdict says was spent
 unfoldable pub noRoom : Verdict → ReadAnswer
 noRoom v = record { verdict = atZero 14 (spentOf v); length = 0 }
 

@@ -43,6 +43,7 @@ fn no_room(v: Verdict) -> ReadAnswer
         place: 0,
         member: wire::NO_MEMBER,
         visits: v.visits,
+        content: v.content,
     };
     ReadAnswer {
         verdict: refusal,
@@ -91,7 +92,7 @@ fn read_judged(
     ensures { λ r. ⌜ r ≡ M.readAnswer o (now (b .entry)) (now (m .entry)) budget (now (out .entry)) ⌝ }
     ensures { λ _. ⌜ now (out .exit) ≡ M.readOut o (now (b .entry)) (now (m .entry)) budget (now (out .entry)) ⌝ }
 {
-    let v = judge::judged(b, dir, m, budget, o);
+    let v = judge::judged(b, dir, m, budget.visits, budget.content, o);
     if v.number == 0 {
         return read_accepted(b, dir, m, v, out, o);
     }
@@ -116,6 +117,7 @@ pub fn read(b: &[u8], m: &[u8], budget: Budget, out: &mut [u8], o: usize) -> Rea
         place: 0,
         member: wire::NO_MEMBER,
         visits: 0,
+        content: 0,
     };
     ReadAnswer {
         verdict: refusal,

@@ -128,7 +128,7 @@ pub fn write(b: &[u8], s: &[u8], out: &mut [u8], o: usize) -> WriteAnswer
     refused(1)
 }
 
-// Number, place, member and visits of a writer's answer: 0 or the refusal's number, at 0, about no member, with no visits.
+// The verdict of a writer's answer: 0 or the refusal's number, at 0, about no member, with nothing spent.
 pub fn verdict_of(answer: WriteAnswer) -> Verdict
     ensures { λ r. ⌜ r ≡ M.writeVerdict answer ⌝ }
 {
@@ -137,5 +137,6 @@ pub fn verdict_of(answer: WriteAnswer) -> Verdict
         place: 0,
         member: wire::NO_MEMBER,
         visits: 0,
+        content: 0,
     }
 }

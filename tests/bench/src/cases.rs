@@ -6,6 +6,7 @@ use crate::schema::{
     UNION,
 };
 use reference::{Verdict, NO_MEMBER};
+use scalgo::Budget;
 use scalgo::Coding::{self, Bits32, Bits48};
 
 #[derive(Clone)]
@@ -14,13 +15,44 @@ pub struct Case {
     pub coding: Coding,
     pub schema: Vec<u8>,
     pub message: Vec<u8>,
-    pub budget: u32,
-    pub expected: Verdict,
+    pub budget: Budget,
+    pub expected: Expected,
+}
+
+/// What both programs must answer, about no member; of content where it is said.
+#[derive(Clone, Copy, Debug)]
+pub struct Expected {
+    pub number: u32,
+    pub place: u64,
+    pub visits: u32,
+    pub content: Option<u64>,
+}
+
+impl Expected {
+    fn new(number: u32, place: usize, visits: u32) -> Expected {
+        Expected {
+            number,
+            place: place as u64,
+            visits,
+            content: None,
+        }
+    }
+
+    pub fn is(&self, given: &Verdict) -> bool {
+        let expected = Verdict {
+            number: self.number,
+            place: self.place,
+            member: NO_MEMBER,
+            visits: self.visits,
+            content: self.content.unwrap_or(given.content),
+        };
+        expected == *given
+    }
 }
 
 impl Case {
     /// A message in its coding, of which the name tells where it is the older one.
-    fn new(name: &str, schema: Vec<u8>, message: Message, expected: Verdict) -> Case {
+    fn new(name: &str, schema: Vec<u8>, message: Message, expected: Expected) -> Case {
         let coding = message.coding();
         let name = match coding {
             Bits48 => name.to_string(),
@@ -31,29 +63,19 @@ impl Case {
             coding,
             schema,
             message: message.finish(),
-            budget: u32::MAX,
+            budget: Budget::LARGEST,
             expected,
         }
     }
 
     /// A message that is accepted after so many visits.
     pub fn accepted(name: &str, schema: &Schema, message: Message, visits: u32) -> Case {
-        Case::new(name, schema.pack(), message, verdict(0, 0, visits))
+        Case::new(name, schema.pack(), message, Expected::new(0, 0, visits))
     }
 
     /// A schema that is not lawful.
     fn not_lawful(name: &str, schema: Vec<u8>, message: Message) -> Case {
-        Case::new(name, schema, message, verdict(1, 0, 0))
-    }
-}
-
-/// A verdict that is about no member.
-fn verdict(number: u32, place: u64, visits: u32) -> Verdict {
-    Verdict {
-        number,
-        place,
-        member: NO_MEMBER,
-        visits,
+        Case::new(name, schema, message, Expected::new(1, 0, 0))
     }
 }
 
@@ -81,6 +103,9 @@ pub const CASES: &[fn() -> Case] = &[
     deep_booleans,
     deep_layout,
     shared,
+    || blob(Bits48),
+    || blob(Bits32),
+    || whole_blob(Bits48),
 ];
 
 /// How many of a kind a schema may have.
@@ -501,10 +526,63 @@ fn shared() -> Case {
         message.set_offset(outer + 6 * number, list);
         message.set_offset(inner + 6 * number, text);
     }
-    let expected = verdict(4, text as u64, BUDGET);
+    let expected = Expected::new(4, text, BUDGET);
     let name = "(h) a shared text, 1,000,000 visits";
     Case {
-        budget: BUDGET,
+        budget: Budget::of_visits(BUDGET),
         ..Case::new(name, schema.pack(), message, expected)
     }
+}
+
+/// A list that names one blob of 10 MB 100,000 times: the message, and where the blob stands.
+fn put_blob(coding: Coding) -> (Schema, Message, usize) {
+    let schema = Schema {
+        lists: vec![plain(BYTES)],
+        tables: vec![root(0)],
+        ..Schema::default()
+    };
+    let mut message = Message::new(coding);
+    let width = message.width();
+    let references = put_list(&mut message, ELEMENTS, width);
+    let blob = message.end();
+    for number in 0..ELEMENTS {
+        message.set_offset(references + width * number, blob);
+    }
+    message.header(BYTES_MAGIC, BLOB);
+    message.zeros(BLOB);
+    (schema, message, blob)
+}
+
+const BLOB: usize = 10_000_000;
+
+/// With an allowance of 100 MB the tenth visit of the blob is refused, since the root and the list
+/// have their content too.
+pub fn blob(coding: Coding) -> Case {
+    let (schema, message, blob) = put_blob(coding);
+    let content = message.width() * (1 + ELEMENTS) + 9 * BLOB;
+    let expected = Expected {
+        content: Some(content as u64),
+        ..Expected::new(17, blob, 2 + 10)
+    };
+    let budget = Budget {
+        content: 10 * BLOB as u64,
+        ..Budget::LARGEST
+    };
+    let name = "(i) 100,000 times 10 MB, 100 MB allowed";
+    Case {
+        budget,
+        ..Case::new(name, schema.pack(), message, expected)
+    }
+}
+
+/// The same with all allowed.
+pub fn whole_blob(coding: Coding) -> Case {
+    let (schema, message, _) = put_blob(coding);
+    let content = message.width() * (1 + ELEMENTS) + ELEMENTS * BLOB;
+    let expected = Expected {
+        content: Some(content as u64),
+        ..Expected::new(0, 0, 2 + ELEMENTS as u32)
+    };
+    let name = "(i) the same, all allowed";
+    Case::new(name, schema.pack(), message, expected)
 }

@@ -21,13 +21,29 @@ use tasks::{Task, SUMMED};
 use timing::Plan;
 
 fn ours(case: &Case) -> Verdict {
-    let verdict = scalgo::judge(case.coding, &case.schema, &case.message, case.budget);
+    of_wrapper(scalgo::judge(
+        case.coding,
+        &case.schema,
+        &case.message,
+        case.budget,
+    ))
+}
+
+/// The wrapper's verdict as the second program's.
+fn of_wrapper(verdict: scalgo::Verdict) -> Verdict {
     Verdict {
         number: verdict.number,
         place: verdict.place,
         member: verdict.member.unwrap_or(NO_MEMBER),
         visits: verdict.visits,
+        content: verdict.content,
     }
+}
+
+/// The wrapper's budget as the second program's.
+fn second_budget(budget: scalgo::Budget) -> reference::Budget {
+    let scalgo::Budget { visits, content } = budget;
+    reference::Budget { visits, content }
 }
 
 fn second(case: &Case) -> Verdict {
@@ -35,14 +51,14 @@ fn second(case: &Case) -> Verdict {
         case.coding.number(),
         &case.schema,
         &case.message,
-        case.budget,
+        second_budget(case.budget),
     )
 }
 
 /// What is wrong with the verdicts, if anything is.
 fn fault(case: &Case) -> Option<String> {
     let (ours, second) = (ours(case), second(case));
-    if ours == case.expected && second == case.expected {
+    if ours == second && case.expected.is(&ours) {
         return None;
     }
     Some(format!(
@@ -179,11 +195,18 @@ fn stacks_of(case: &Case) -> [usize; 4] {
         }),
         stack::touched(&|| {
             let mut sheet = vec![0; ROOM];
-            black_box(scalgo::read(case.coding, schema, message, 100, &mut sheet));
+            let budget = scalgo::Budget::LARGEST;
+            black_box(scalgo::read(
+                case.coding,
+                schema,
+                message,
+                budget,
+                &mut sheet,
+            ));
         }),
         stack::touched(&|| {
-            let coding = case.coding.number();
-            black_box(reference::read(coding, schema, message, 100, ROOM));
+            let (coding, budget) = (case.coding.number(), reference::Budget::LARGEST);
+            black_box(reference::read(coding, schema, message, budget, ROOM));
         }),
     ]
 }
@@ -257,7 +280,12 @@ fn all(plan: &Plan) -> bool {
 
 #[cfg(test)]
 mod tests {
-    use super::{depth, fault, stack, tasks, CASES};
+    use super::cases::{self, Case};
+    use super::timing::{self, Plan};
+    use super::{depth, fault, ours, stack, tasks, CASES};
+    use scalgo::Coding::Bits48;
+    use std::cell::RefCell;
+    use std::hint::black_box;
 
     #[test]
     fn both_programs_give_the_expected_verdicts() {
@@ -272,6 +300,41 @@ mod tests {
     fn both_programs_do_the_same_tasks() {
         let faults: Vec<String> = tasks::all().filter_map(|task| task.fault()).collect();
         assert!(faults.is_empty(), "{}", faults.join("\n"));
+    }
+
+    /// The best time of some calls, in nanoseconds.
+    fn best(call: &dyn Fn()) -> f64 {
+        timing::in_turn(&Plan::quick(), call, call).0.best
+    }
+
+    /// A blob named 100,000 times and refused at its tenth visit takes a small part of the time of all
+    /// its visits, and reading it to a sheet a small part of that of copying it once.
+    #[test]
+    fn refused_content_takes_the_time_of_its_visits() {
+        let (refused, whole) = (cases::blob(Bits48), cases::whole_blob(Bits48));
+        let judged = |case: &Case| {
+            best(&|| {
+                black_box(ours(black_box(case)));
+            })
+        };
+        let (few, all) = (judged(&refused), judged(&whole));
+        assert!(20.0 * few < all, "{few} ns of {all} ns");
+        let output = RefCell::new(vec![0; refused.message.len()]);
+        let read = best(&|| {
+            let Case {
+                coding,
+                schema,
+                message,
+                budget,
+                ..
+            } = &refused;
+            let sheet = &mut output.borrow_mut();
+            black_box(scalgo::read(*coding, schema, message, *budget, sheet));
+        });
+        let copied = best(&|| {
+            output.borrow_mut().copy_from_slice(&refused.message);
+        });
+        assert!(20.0 * read < copied, "{read} ns of {copied} ns");
     }
 
     #[test]

@@ -1,10 +1,13 @@
 //! Fields, lists, sheets and messages written: what is timed apart from judging.
 
-use crate::cases::{self, Case};
+use crate::cases::{self, Case, Expected};
 use crate::message::{Message, LIST_MAGIC};
 use crate::schema::{
     plain, Record, Schema, Table, BOOL, ENUM, F32, F64, LIST, TABLE, TEXT, U16, U32, U64, U8,
 };
+use crate::{of_wrapper, second_budget};
+use reference::Verdict;
+use scalgo::Budget;
 use scalgo::Coding::{Bits32, Bits48};
 use std::cell::RefCell;
 use std::hint::black_box;
@@ -73,6 +76,8 @@ const WHOLES: &[fn() -> Case] = &[
 pub fn all() -> impl Iterator<Item = Task> {
     let parts = PARTS.iter().map(|build| build());
     let reads = WHOLES.iter().map(|build| read(build()));
+    let refused = [Bits48, Bits32].map(|coding| read_refused(cases::blob(coding)));
+    let reads = reads.chain(refused);
     let writes = WHOLES.iter().map(|build| write(build()));
     parts.chain(reads).chain(writes)
 }
@@ -273,7 +278,8 @@ const ROOM: usize = 16_777_215;
 /// The sheet of a message.
 fn sheet_of(case: &Case) -> Vec<u8> {
     let coding = case.coding.number();
-    reference::read(coding, &case.schema, &case.message, case.budget, ROOM).1
+    let budget = reference::Budget::LARGEST;
+    reference::read(coding, &case.schema, &case.message, budget, ROOM).1
 }
 
 /// A message to its sheet. The library is lent its output; the second program makes its own.
@@ -288,19 +294,52 @@ fn read(case: Case) -> Task {
     let ours = move || {
         let mut output = output.borrow_mut();
         let (schema, message) = (&case.schema, &case.message);
-        let answer = scalgo::read(case.coding, schema, message, u32::MAX, &mut output);
+        let answer = scalgo::read(case.coding, schema, message, Budget::LARGEST, &mut output);
         let number = u64::from(answer.verdict.number);
         outcome(&[number, answer.length as u64], &output[..answer.length])
     };
     let second = move || {
         let (schema, message) = (&same_case.schema, &same_case.message);
         let coding = same_case.coding.number();
-        let (verdict, sheet) = reference::read(coding, schema, message, u32::MAX, room);
+        let budget = reference::Budget::LARGEST;
+        let (verdict, sheet) = reference::read(coding, schema, message, budget, room);
         outcome(&[u64::from(verdict.number), sheet.len() as u64], &sheet)
     };
     Task {
         name,
         bytes,
+        ours: Box::new(ours),
+        second: Box::new(second),
+    }
+}
+
+/// A message that is refused for its content: the same refusal, and nothing of the sheet is written,
+/// though there is room for a sheet of the largest size.
+fn read_refused(case: Case) -> Task {
+    const KEPT: u8 = 0xEE;
+    let output = RefCell::new(vec![KEPT; ROOM]);
+    let (name, same_case) = (format!("reading {}", case.name), case.clone());
+    let refusal = |expected: &Expected, verdict: Verdict, written: bool| {
+        let sound = expected.is(&verdict) && !written;
+        numbers(&[u64::from(!sound), verdict.content])
+    };
+    let ours = move || {
+        let mut output = output.borrow_mut();
+        let (schema, message) = (&case.schema, &case.message);
+        let answer = scalgo::read(case.coding, schema, message, case.budget, &mut output);
+        let summed = SUMMED.with_borrow(|summed| *summed);
+        let written = answer.length > 0 || summed && output.iter().any(|byte| *byte != KEPT);
+        refusal(&case.expected, of_wrapper(answer.verdict), written)
+    };
+    let second = move || {
+        let (schema, message) = (&same_case.schema, &same_case.message);
+        let (coding, budget) = (same_case.coding.number(), second_budget(same_case.budget));
+        let (verdict, sheet) = reference::read(coding, schema, message, budget, ROOM);
+        refusal(&same_case.expected, verdict, !sheet.is_empty())
+    };
+    Task {
+        name,
+        bytes: 0,
         ours: Box::new(ours),
         second: Box::new(second),
     }

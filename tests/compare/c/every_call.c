@@ -99,14 +99,23 @@ static const uint8_t *changed(const struct coded *in, size_t at, uint8_t byte) {
     return copy;
 }
 
+/* Prints what was stored, behind what was answered. */
+static void print_verdict(uint32_t answered, const scalgo_verdict *verdict) {
+    uint64_t numbers[6] = {answered, verdict->number, verdict->place, verdict->member,
+                           verdict->visits, verdict->content};
+    print_numbers(numbers, 6);
+}
+
+static void judge_within(uint32_t coding, const uint8_t *schema, size_t schema_len,
+                         const uint8_t *bytes, size_t len, uint32_t visits, uint64_t content) {
+    scalgo_verdict verdict = {99, 99, 99, 99, 99};
+    uint32_t number = scalgo_judge(coding, schema, schema_len, bytes, len, visits, content, &verdict);
+    print_verdict(number, &verdict);
+}
+
 static void judge(uint32_t coding, const uint8_t *schema, size_t schema_len, const uint8_t *bytes,
-                  size_t len, uint32_t budget) {
-    uint64_t place = 99;
-    uint32_t member = 99, visits = 99;
-    uint32_t number = scalgo_judge(coding, schema, schema_len, bytes, len, budget, &place, &member,
-                                   &visits);
-    uint64_t numbers[4] = {number, place, member, visits};
-    print_numbers(numbers, 4);
+                  size_t len, uint32_t visits) {
+    judge_within(coding, schema, schema_len, bytes, len, visits, SCALGO_ALL_CONTENT);
 }
 
 static void judges(const struct coded *in) {
@@ -178,23 +187,35 @@ static void lists(const struct coded *in) {
     list_from(in->coding, texts, sizeof texts, in->list, in->under, 0, 1);
 }
 
-static void read_with(uint32_t coding, const struct coded *in, uint32_t budget, size_t room) {
+static void read_with(uint32_t coding, const struct coded *in, uint32_t visits, uint64_t content,
+                      size_t room) {
     uint8_t sheet[12];
-    uint64_t place = 99, length = 99;
-    uint32_t member = 99, visits = 99;
+    scalgo_verdict verdict = {99, 99, 99, 99, 99};
+    uint64_t length = 99;
     memset(sheet, 0xEE, sizeof sheet);
-    uint32_t number = scalgo_read(coding, newer, sizeof newer, in->message, in->message_len, budget,
-                                  sheet, room, &place, &member, &visits, &length);
-    uint64_t numbers[5] = {number, place, member, visits, length};
-    print_numbers(numbers, 5);
+    uint32_t number = scalgo_read(coding, newer, sizeof newer, in->message, in->message_len, visits,
+                                  content, sheet, room, &verdict, &length);
+    print_verdict(number, &verdict);
+    print_numbers(&length, 1);
     print_bytes(sheet, sizeof sheet);
 }
 
 static void reads(const struct coded *in) {
-    read_with(in->coding, in, 2, 12);
-    read_with(in->coding, in, 2, 9);
-    read_with(in->coding, in, 2, 8);
-    read_with(in->coding, in, 1, 12);
+    read_with(in->coding, in, 2, SCALGO_ALL_CONTENT, 12);
+    read_with(in->coding, in, 2, SCALGO_ALL_CONTENT, 9);
+    read_with(in->coding, in, 2, SCALGO_ALL_CONTENT, 8);
+    read_with(in->coding, in, 1, SCALGO_ALL_CONTENT, 12);
+}
+
+/* The content is the root's fixed part and the text's two bytes: all of it, a byte less, and a byte
+ * less than the fixed part. */
+static void contents(const struct coded *in) {
+    uint64_t fixed = in->message[in->length_at];
+    uint64_t allowed[] = {fixed + 2, fixed + 1, fixed - 1};
+    for (size_t i = 0; i < 3; i++) {
+        judge_within(in->coding, newer, sizeof newer, in->message, in->message_len, 2, allowed[i]);
+        read_with(in->coding, in, 2, allowed[i], 12);
+    }
 }
 
 /* The sheet of the message, and a byte more. */
@@ -240,7 +261,7 @@ static void no_coding(uint32_t coding) {
     judge(coding, newer, sizeof newer, in->message, in->message_len, 2);
     field(coding, newer, sizeof newer, in->message, in->message_len, path, 1);
     list_from(coding, texts, sizeof texts, in->list, in->list_len, 0, 2);
-    read_with(coding, in, 2, 12);
+    read_with(coding, in, 2, SCALGO_ALL_CONTENT, 12);
     write_with(coding, sheet, 9, 43);
 }
 
@@ -250,6 +271,7 @@ int main(void) {
         fields(&codings[i]);
         lists(&codings[i]);
         reads(&codings[i]);
+        contents(&codings[i]);
         writes(&codings[i]);
         unions(&codings[i]);
         members(&codings[i]);

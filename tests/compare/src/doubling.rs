@@ -3,6 +3,7 @@
 
 use crate::canonical::{magic, MESSAGE_MAGIC};
 use crate::coding::Coding;
+use crate::program::Budget;
 use crate::schema::{root_with, Record, Schema, LIST, TABLE};
 
 /// A root with a list of tables like itself.
@@ -18,6 +19,16 @@ pub fn schema(coding: Coding) -> Schema {
 pub fn table_at(coding: Coding, level: u64) -> u64 {
     let (offset, header) = (coding.offset() as u64, coding.header() as u64);
     header + level * (header + offset + header + 2 * offset)
+}
+
+/// What the walk spends: each level has twice the tables of the one before, and
+/// as many lists of two below it.
+pub fn spent(coding: Coding, levels: u64) -> Budget {
+    let (tables, lists) = ((2 << levels) - 1, (1 << levels) - 1);
+    Budget {
+        visits: (tables + lists) as u32,
+        content: coding.offset() as u64 * (tables + 2 * lists),
+    }
 }
 
 /// The tables of levels 0 to `levels`, the last without a list.

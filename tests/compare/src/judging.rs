@@ -1,22 +1,19 @@
 //! Two judges given the same messages with the same budgets: number, place,
-//! member and visits must be equal.
+//! member, visits and content must be equal.
 
 use crate::coding::Coding;
 use crate::laws::hex;
-use crate::program::{Judge, Verdict};
+use crate::program::{Budget, Judge, Verdict, AMPLE};
 use crate::rng::Rng;
 use crate::subjects::{self, Subject};
-use crate::tally::{Budget, Tally};
-
-/// Damage may share objects so that a walk grows without end.
-const AMPLE: u32 = 3000;
+use crate::tally::{Allowed, Tally};
 
 /// Judges a subject with both; gives the verdict of both.
 pub fn same_verdict(
     first: &dyn Judge,
     second: &dyn Judge,
     subject: &Subject,
-    budget: u32,
+    budget: Budget,
 ) -> Result<Verdict, String> {
     let one = first.judge(&subject.schema, &subject.message, budget);
     let two = second.judge(&subject.schema, &subject.message, budget);
@@ -24,7 +21,7 @@ pub fn same_verdict(
         return Ok(one);
     }
     Err(format!(
-        "{:?}, budget {budget}\n  {}: {one:?}\n  {}: {two:?}\n  schema: {}\n  message: {}",
+        "{:?}, {budget:?}\n  {}: {one:?}\n  {}: {two:?}\n  schema: {}\n  message: {}",
         subject.sort,
         first.name(),
         second.name(),
@@ -33,15 +30,32 @@ pub fn same_verdict(
     ))
 }
 
-/// The budgets to try where an ample one gave this verdict.
-fn budgets(verdict: Verdict) -> Vec<(Budget, u32)> {
-    let mut out = vec![(Budget::None, 0), (Budget::One, 1)];
-    if verdict.visits > 0 {
-        out.push((Budget::OneLess, verdict.visits - 1));
+/// The budgets to try where an ample one gave this verdict: either allowance
+/// around what it spent, with enough of the other, and some of both.
+fn budgets(rng: &mut Rng, verdict: Verdict) -> Vec<(Allowed, Budget)> {
+    let Verdict {
+        visits, content, ..
+    } = verdict;
+    let of_content = |content| Budget { content, ..AMPLE };
+    let some = Budget {
+        visits: rng.below(visits as usize + 2) as u32,
+        content: rng.below(content as usize + 2) as u64,
+    };
+    let mut out = vec![
+        (Allowed::NoVisit, Budget::of_visits(0)),
+        (Allowed::OneVisit, Budget::of_visits(1)),
+        (Allowed::NoContent, of_content(0)),
+        (Allowed::Some, some),
+    ];
+    if visits > 0 {
+        out.push((Allowed::VisitLess, Budget::of_visits(visits - 1)));
+    }
+    if content > 0 {
+        out.push((Allowed::ByteLess, of_content(content - 1)));
     }
     if verdict.number != 4 {
-        out.push((Budget::Exact, verdict.visits));
-        out.push((Budget::Largest, u32::MAX));
+        out.push((Allowed::Exact, Budget { visits, content }));
+        out.push((Allowed::Largest, Budget::LARGEST));
     }
     out
 }
@@ -50,15 +64,16 @@ fn budgets(verdict: Verdict) -> Vec<(Budget, u32)> {
 pub fn on_subject(
     first: &dyn Judge,
     second: &dyn Judge,
+    rng: &mut Rng,
     subject: &Subject,
     tally: &mut Tally,
 ) -> Result<(), String> {
     let verdict = same_verdict(first, second, subject, AMPLE)?;
     tally.message(subject.sort, verdict);
-    tally.call(Budget::Ample, verdict);
-    for (budget, visits) in budgets(verdict) {
-        let verdict = same_verdict(first, second, subject, visits)?;
-        tally.call(budget, verdict);
+    tally.call(Allowed::Ample, verdict);
+    for (allowed, budget) in budgets(rng, verdict) {
+        let verdict = same_verdict(first, second, subject, budget)?;
+        tally.call(allowed, verdict);
     }
     Ok(())
 }
@@ -73,7 +88,7 @@ pub fn on_round(
 ) -> Result<(), String> {
     let mut rng = Rng::for_case(seed, round);
     for subject in subjects::of_round(coding, &mut rng) {
-        on_subject(first, second, &subject, tally)
+        on_subject(first, second, &mut rng, &subject, tally)
             .map_err(|report| format!("seed {seed} round {round}: {report}"))?;
     }
     Ok(())

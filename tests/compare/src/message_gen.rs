@@ -5,7 +5,7 @@ use crate::canonical::{magic, MESSAGE_MAGIC};
 use crate::canvas::{Canvas, Late, Pattern, Spot};
 use crate::coding::Coding;
 use crate::message_faults::{may_be_absent, Fault, FaultKind};
-use crate::program::verdict;
+use crate::program::{verdict, Budget};
 use crate::rng::Rng;
 use crate::schema::*;
 use crate::value::Value;
@@ -30,8 +30,8 @@ pub struct Wild {
     pub value: Value,
     /// The objects in walk order; those after a fault may be missing.
     pub arrivals: Vec<Arrival>,
-    /// The place of every arrival that the walk makes.
-    pub walked: Vec<u64>,
+    /// Every arrival that the walk makes.
+    pub walked: Vec<Step>,
     /// So many objects of the value are arrivals of the same number.
     pub sure: usize,
     pub number: u32,
@@ -41,15 +41,38 @@ pub struct Wild {
     pub spots: Vec<Spot>,
 }
 
+/// An arrival's place and the content it adds: none where it is refused before.
+#[derive(Clone, Copy, Debug)]
+pub struct Step {
+    pub place: u64,
+    pub content: u64,
+}
+
 impl Wild {
+    /// What the whole walk spends.
+    pub fn spent(&self) -> Budget {
+        Budget {
+            visits: self.walked.len() as u32,
+            content: self.walked.iter().map(|step| step.content).sum(),
+        }
+    }
+
     /// The verdict with this budget.
-    pub fn expected(&self, budget: u32) -> Verdict {
-        match self.walked.get(budget as usize) {
-            Some(place) => verdict(4, *place, budget),
-            None => Verdict {
-                member: self.member,
-                ..verdict(self.number, self.place, self.walked.len() as u32)
-            },
+    pub fn expected(&self, budget: Budget) -> Verdict {
+        let (mut visits, mut content) = (0, 0);
+        for step in &self.walked {
+            if visits == budget.visits {
+                return verdict(4, step.place, visits, content);
+            }
+            visits += 1;
+            if content + step.content > budget.content {
+                return verdict(17, step.place, visits, content);
+            }
+            content += step.content;
+        }
+        Verdict {
+            member: self.member,
+            ..verdict(self.number, self.place, visits, content)
         }
     }
 }
@@ -589,7 +612,7 @@ impl Layouter<'_> {
         let place = match (self.outcome, number) {
             (Some(outcome), _) => self.arrivals[outcome.arrival].place,
             (None, 0) => 0,
-            (None, _) => walked[walked.len() - 1],
+            (None, _) => walked[walked.len() - 1].place,
         };
         Wild {
             bytes,
@@ -665,11 +688,9 @@ impl Layouter<'_> {
         }
     }
 
-    /// The places the walk arrives at, and the number it ends with.
-    fn walked(&mut self) -> (Vec<u64>, u32) {
-        let mut walk: Vec<(u64, u32)> = (self.arrivals.iter())
-            .map(|arrival| (arrival.place, arrival.depth))
-            .collect();
+    /// The arrivals of the walk, and the number it ends with.
+    fn walked(&mut self) -> (Vec<Step>, u32) {
+        let mut walk: Vec<(Step, u32)> = (0..self.arrivals.len()).map(|i| self.seen(i)).collect();
         if let Some((target, before)) = self.cycle {
             walk = self.around(target, before);
         }
@@ -689,18 +710,37 @@ impl Layouter<'_> {
             (None, Some(_)) => 5,
             (None, None) => 0,
         };
-        (walk.into_iter().map(|(place, _)| place).collect(), number)
+        // An arrival that is too deep or does not fit adds nothing.
+        if let (Some((last, _)), 5..=7) = (walk.last_mut(), number) {
+            last.content = 0;
+        }
+        (walk.into_iter().map(|(step, _)| step).collect(), number)
+    }
+
+    /// An arrival and its depth.
+    fn seen(&self, index: usize) -> (Step, u32) {
+        let arrival = &self.arrivals[index];
+        let content = self
+            .schema
+            .content(arrival.kind, arrival.argument, arrival.length);
+        let step = Step {
+            place: arrival.place,
+            content,
+        };
+        (step, arrival.depth)
     }
 
     /// The arrivals of a walk that goes round until it is too deep.
-    fn around(&self, target: usize, before: usize) -> Vec<(u64, u32)> {
+    fn around(&self, target: usize, before: usize) -> Vec<(Step, u32)> {
         let holder = self.fault.map_or(0, |fault| fault.object);
-        let step = self.arrivals[holder].depth + 1 - self.arrivals[target].depth;
-        let seen = |i: usize| (self.arrivals[i].place, self.arrivals[i].depth);
-        let mut walk: Vec<(u64, u32)> = (0..before).map(seen).collect();
+        let deeper = self.arrivals[holder].depth + 1 - self.arrivals[target].depth;
+        let mut walk: Vec<(Step, u32)> = (0..before).map(|i| self.seen(i)).collect();
         let mut round = 1;
         while walk.iter().all(|(_, depth)| *depth <= DEPTH_LIMIT) {
-            walk.extend((target..before).map(|i| (seen(i).0, seen(i).1 + round * step)));
+            for i in target..before {
+                let (step, depth) = self.seen(i);
+                walk.push((step, depth + round * deeper));
+            }
             round += 1;
         }
         walk

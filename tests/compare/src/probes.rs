@@ -5,7 +5,7 @@ use crate::damage;
 use crate::message_faults;
 use crate::message_gen::{self, Wild};
 use crate::paths;
-use crate::program::{Answer, Program, Verdict};
+use crate::program::{Answer, Budget, Program, Verdict, AMPLE};
 use crate::rng::Rng;
 use crate::schema::{Packed, Schema, SIZE_LIMIT};
 use crate::schema_faults;
@@ -17,8 +17,8 @@ use crate::value::{objects, Value};
 /// What is asked of a program about a schema and a message or a sheet.
 #[derive(Clone, Debug)]
 pub enum Question {
-    Judge { budget: u32 },
-    Read { budget: u32, room: usize },
+    Judge { budget: Budget },
+    Read { budget: Budget, room: usize },
     Write { room: usize },
     Field { path: Vec<u32> },
     Text { path: Vec<u32> },
@@ -105,20 +105,29 @@ pub fn random_probes(coding: Coding, rng: &mut Rng) -> Vec<Probe> {
 }
 
 /// Messages near a value, with budgets that walk them to the end or nearly.
-fn some_messages(rng: &mut Rng, schema: &Schema, value: &Value) -> Vec<(Vec<u8>, Vec<u32>)> {
+fn some_messages(rng: &mut Rng, schema: &Schema, value: &Value) -> Vec<(Vec<u8>, Vec<Budget>)> {
     let whole = message_gen::lay_out(schema, rng, value.clone(), None);
     let sites = message_faults::sites(schema, value);
     let fault = Some(rng.pick(&sites));
     let faulty = message_gen::lay_out(schema, rng, value.clone(), fault);
     let mut out = Vec::new();
     for wild in [whole, faulty] {
-        let visits = wild.walked.len() as u32;
-        let less = visits.saturating_sub(1);
+        let exact = wild.spent();
+        let Budget { visits, content } = exact;
+        let fewer = Budget::of_visits(visits.saturating_sub(1));
+        let less = Budget {
+            content: content.saturating_sub(1),
+            ..AMPLE
+        };
         for bytes in damaged(schema.coding, rng, &wild) {
-            let budget = rng.pick(&[0, 1, 50, 3000]);
-            out.push((bytes, vec![budget, visits]));
+            let budget = Budget {
+                visits: rng.pick(&[0, 1, 50, 3000]),
+                content: rng.pick(&[0, content, less.content, u64::MAX, u64::MAX]),
+            };
+            out.push((bytes, vec![budget, exact]));
         }
-        out.push((wild.bytes, vec![0, less, visits, u32::MAX]));
+        let budgets = vec![fewer, less, exact, Budget::LARGEST];
+        out.push((wild.bytes, budgets));
     }
     out
 }
@@ -128,7 +137,7 @@ fn damaged(coding: Coding, rng: &mut Rng, wild: &Wild) -> Vec<Vec<u8>> {
     (0..3).map(|_| damaged()).collect()
 }
 
-fn questions(rng: &mut Rng, schema: &Schema, value: &Value, budgets: &[u32]) -> Vec<Question> {
+fn questions(rng: &mut Rng, schema: &Schema, value: &Value, budgets: &[Budget]) -> Vec<Question> {
     let length = sheet::encode(schema, value).len();
     let mut out = Vec::new();
     for &budget in budgets {

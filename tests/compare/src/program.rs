@@ -1,27 +1,31 @@
 //! Programs under test, and running two of them side by side.
 
 use crate::schema::Packed;
-pub use reference::{Answer, Verdict, NO_MEMBER};
+pub use reference::{Answer, Budget, Verdict, NO_MEMBER};
 use std::cell::RefCell;
 
+/// Enough for all but walks that grow without end, since damage may share objects.
+pub const AMPLE: Budget = Budget::of_visits(3000);
+
 /// A verdict without a member.
-pub fn verdict(number: u32, place: u64, visits: u32) -> Verdict {
+pub fn verdict(number: u32, place: u64, visits: u32, content: u64) -> Verdict {
     Verdict {
         number,
         place,
         member: NO_MEMBER,
         visits,
+        content,
     }
 }
 
 /// The verdict of an accepted message.
-pub fn accepted(visits: u32) -> Verdict {
-    verdict(0, 0, visits)
+pub fn accepted(visits: u32, content: u64) -> Verdict {
+    verdict(0, 0, visits, content)
 }
 
 /// The verdict of a message refused before the walk.
 pub fn refused_at_start(number: u32) -> Verdict {
-    verdict(number, 0, 0)
+    verdict(number, 0, 0, 0)
 }
 
 /// The refusal of a field without a member.
@@ -38,9 +42,14 @@ pub trait Judge {
     /// What reports call it.
     fn name(&self) -> &'static str;
     /// Judges a message.
-    fn judge(&self, schema: &Packed, message: &[u8], budget: u32) -> Verdict;
+    fn judge(&self, schema: &Packed, message: &[u8], budget: Budget) -> Verdict;
     /// Judges by a schema unpacked beforehand, where the program can.
-    fn judge_unpacked(&self, _schema: &Packed, _message: &[u8], _budget: u32) -> Option<Verdict> {
+    fn judge_unpacked(
+        &self,
+        _schema: &Packed,
+        _message: &[u8],
+        _budget: Budget,
+    ) -> Option<Verdict> {
         None
     }
 }
@@ -48,8 +57,13 @@ pub trait Judge {
 /// A program that judges, reads, writes and answers fields.
 pub trait Program: Judge {
     /// Reads a message to a sheet; no bytes on refusal.
-    fn read(&self, schema: &Packed, message: &[u8], budget: u32, room: usize)
-        -> (Verdict, Vec<u8>);
+    fn read(
+        &self,
+        schema: &Packed,
+        message: &[u8],
+        budget: Budget,
+        room: usize,
+    ) -> (Verdict, Vec<u8>);
     /// Writes a sheet to a message; no bytes on refusal.
     fn write(&self, schema: &Packed, sheet: &[u8], room: usize) -> (u32, Vec<u8>);
     /// Answers one field.
@@ -91,7 +105,8 @@ impl Judge for Library {
         "proved library"
     }
 
-    fn judge(&self, schema: &Packed, message: &[u8], budget: u32) -> Verdict {
+    fn judge(&self, schema: &Packed, message: &[u8], budget: Budget) -> Verdict {
+        let budget = to_wrapper(budget);
         of_wrapper(scalgo::judge(
             coding(schema),
             &schema.bytes,
@@ -101,6 +116,11 @@ impl Judge for Library {
     }
 }
 
+/// The second program's budget as the wrapper's.
+fn to_wrapper(Budget { visits, content }: Budget) -> scalgo::Budget {
+    scalgo::Budget { visits, content }
+}
+
 /// The wrapper's verdict as the second program's.
 fn of_wrapper(verdict: scalgo::Verdict) -> Verdict {
     Verdict {
@@ -108,6 +128,7 @@ fn of_wrapper(verdict: scalgo::Verdict) -> Verdict {
         place: verdict.place,
         member: verdict.member.unwrap_or(NO_MEMBER),
         visits: verdict.visits,
+        content: verdict.content,
     }
 }
 
@@ -170,9 +191,10 @@ impl Program for Library {
         &self,
         schema: &Packed,
         message: &[u8],
-        budget: u32,
+        budget: Budget,
         room: usize,
     ) -> (Verdict, Vec<u8>) {
+        let budget = to_wrapper(budget);
         let (verdict, sheet) = with_room(room, |sheet| {
             let answer = scalgo::read(coding(schema), &schema.bytes, message, budget, sheet);
             (answer.verdict, answer.length)
@@ -220,11 +242,11 @@ impl Judge for Second {
         "second program"
     }
 
-    fn judge(&self, schema: &Packed, message: &[u8], budget: u32) -> Verdict {
+    fn judge(&self, schema: &Packed, message: &[u8], budget: Budget) -> Verdict {
         reference::judge(schema.coding, &schema.bytes, message, budget)
     }
 
-    fn judge_unpacked(&self, schema: &Packed, message: &[u8], budget: u32) -> Option<Verdict> {
+    fn judge_unpacked(&self, schema: &Packed, message: &[u8], budget: Budget) -> Option<Verdict> {
         let schema = reference::Schema::parse(schema.coding, &schema.bytes)?;
         Some(reference::judge_parsed(&schema, message, budget))
     }
@@ -235,7 +257,7 @@ impl Program for Second {
         &self,
         schema: &Packed,
         message: &[u8],
-        budget: u32,
+        budget: Budget,
         room: usize,
     ) -> (Verdict, Vec<u8>) {
         reference::read(schema.coding, &schema.bytes, message, budget, room)

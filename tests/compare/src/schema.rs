@@ -283,6 +283,17 @@ impl Schema {
         }
     }
 
+    /// The content bytes of an object of this length: a text's without its end byte.
+    pub fn content(&self, kind: u8, argument: u8, length: u64) -> u64 {
+        match kind {
+            LIST => {
+                let element = self.lists[usize::from(argument)];
+                (length * self.element_bits(&element)).div_ceil(8)
+            }
+            _ => length,
+        }
+    }
+
     /// The places of a table's members, and the size of its full fixed part.
     pub fn slots(&self, table: u8) -> (Vec<Slot>, usize) {
         let mut placer = Placer::new();

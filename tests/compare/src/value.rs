@@ -1,5 +1,6 @@
 //! Values as trees: what a message says, apart from how it is laid out.
 
+use crate::program::Budget;
 use crate::schema::*;
 
 /// One entry of a sheet: a table member, an element or a struct member.
@@ -44,6 +45,39 @@ pub fn objects(value: &Value) -> usize {
         Value::Blob(_) => 1,
         Value::List(parts) | Value::Table(parts) => 1 + parts.iter().map(objects).sum::<usize>(),
         Value::Union(_, object) => objects(object),
+        _ => 0,
+    }
+}
+
+/// What is spent on the message that is written of a root value: its objects, and
+/// their content with each fixed part in full.
+pub fn spent(schema: &Schema, root: &Value) -> Budget {
+    Budget {
+        visits: objects(root) as u32,
+        content: content_below(schema, &Record::plain(TABLE, schema.root), root),
+    }
+}
+
+fn content_below(schema: &Schema, record: &Record, value: &Value) -> u64 {
+    let argument = usize::from(record.argument);
+    match value {
+        Value::Blob(bytes) => bytes.len() as u64,
+        Value::List(parts) => {
+            let element = &schema.lists[argument];
+            let below = parts
+                .iter()
+                .map(|part| content_below(schema, element, part));
+            schema.content(LIST, record.argument, parts.len() as u64) + below.sum::<u64>()
+        }
+        Value::Table(parts) => {
+            let members = schema.tables[argument].members.iter().zip(parts);
+            let below = members.map(|(member, part)| content_below(schema, member, part));
+            schema.slots(record.argument).1 as u64 + below.sum::<u64>()
+        }
+        Value::Union(choice, object) => {
+            let case = &schema.unions[argument][usize::from(*choice) - 1];
+            content_below(schema, case, object)
+        }
         _ => 0,
     }
 }

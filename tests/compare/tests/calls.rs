@@ -170,7 +170,7 @@ fn fields_texts_and_lists_under_32_bits() {
     fields_agree(Coding::Bits32);
 }
 
-const READS: [(&str, u64); 32] = [
+const READS: [(&str, u64); 34] = [
     ("accepted: Written", 2500),
     ("accepted: Wild", 3500),
     ("accepted: Damaged", 5000),
@@ -189,7 +189,8 @@ const READS: [(&str, u64); 32] = [
     ("room: some less, answer 14", 15_000),
     ("room: none, answer 14", 15_000),
     ("room: none, answer 0", 300),
-    ("budget: less, answer 4", 15_000),
+    ("visits: less, answer 4", 15_000),
+    ("content: less, answer 17", 15_000),
     ("room: some, answer 1", 10_000),
     ("room: some, answer 2", 2000),
     ("room: some, answer 3", 3000),
@@ -202,7 +203,8 @@ const READS: [(&str, u64); 32] = [
     ("room: none, answer 4", 10_000),
     ("room: none, answer 6", 10_000),
     ("room: none, answer 9", 300),
-    ("room: none, answer 10", 600),
+    ("room: none, answer 10", 300),
+    ("room: none, answer 17", 5000),
 ];
 
 /// Which members the refusals of reading are about.

@@ -4,7 +4,7 @@
 use compare::calls::{fields, reads, writes, Calls, Read, SecondCalls, Writes};
 use compare::coding::{Coding, CODINGS};
 use compare::judging;
-use compare::program::{Judge, Verdict, NO_MEMBER};
+use compare::program::{Budget, Judge, Verdict, NO_MEMBER};
 use compare::schema::Packed;
 
 #[derive(Clone, Copy, Debug, PartialEq)]
@@ -26,12 +26,17 @@ enum Flaw {
     MemberOfEndByte,
     MemberOf15,
     NoMemberInLists,
+    ContentIgnored,
+    OneByteTooMany,
+    ContentOneMore,
+    VisitOf17NotCounted,
     SheetOfZeros,
     SheetByteAfter,
     SheetOnRefusal,
     SheetLengthOnRefusal,
     SheetRoomOneMore,
     NoVisitsAt14,
+    NoContentAt14,
     WritesNothing,
     MessageByteAfter,
     MessageOnRefusal,
@@ -46,13 +51,29 @@ enum Flaw {
 struct Flawed(Flaw);
 
 impl Flawed {
-    /// The verdict with the member that the program gives it.
-    fn judged(&self, verdict: Verdict) -> Verdict {
-        let numbers = [7, u64::from(verdict.number), 0, u64::from(verdict.member)];
+    /// The verdict with what the program changes in it.
+    fn judged(&self, mut verdict: Verdict) -> Verdict {
+        let number = u64::from(verdict.number);
+        let numbers = [7, number, 0, u64::from(verdict.member)];
         let [_, _, _, member] = with_member(self.0, numbers);
-        Verdict {
-            member: member as u32,
-            ..verdict
+        verdict.member = member as u32;
+        match (self.0, number) {
+            (Flaw::ContentOneMore, 0) => verdict.content += 1,
+            (Flaw::VisitOf17NotCounted, 17) => verdict.visits -= 1,
+            _ => {}
+        }
+        verdict
+    }
+
+    /// The budget that the program goes by.
+    fn budget(&self, budget: Budget) -> Budget {
+        match self.0 {
+            Flaw::ContentIgnored => Budget::of_visits(budget.visits),
+            Flaw::OneByteTooMany => Budget {
+                content: budget.content.saturating_add(1),
+                ..budget
+            },
+            _ => budget,
         }
     }
 
@@ -102,8 +123,8 @@ impl Judge for Flawed {
         "flawed program"
     }
 
-    fn judge(&self, schema: &Packed, message: &[u8], budget: u32) -> Verdict {
-        let verdict = SecondCalls.judge(&self.taken(schema), message, budget);
+    fn judge(&self, schema: &Packed, message: &[u8], budget: Budget) -> Verdict {
+        let verdict = SecondCalls.judge(&self.taken(schema), message, self.budget(budget));
         self.judged(verdict)
     }
 }
@@ -178,8 +199,8 @@ impl Calls for Flawed {
         count
     }
 
-    fn read(&self, schema: &Packed, message: &[u8], budget: u32, sheet: &mut [u8]) -> Read {
-        let schema = &self.taken(schema);
+    fn read(&self, schema: &Packed, message: &[u8], budget: Budget, sheet: &mut [u8]) -> Read {
+        let (schema, budget) = (&self.taken(schema), self.budget(budget));
         let mut answer = SecondCalls.read(schema, message, budget, sheet);
         answer.verdict = self.judged(answer.verdict);
         let (number, used) = (answer.verdict.number, answer.length as usize);
@@ -193,6 +214,7 @@ impl Calls for Flawed {
                 return SecondCalls.read(schema, message, budget, &mut more);
             }
             Flaw::NoVisitsAt14 if number == 14 => answer.verdict.visits = 0,
+            Flaw::NoContentAt14 if number == 14 => answer.verdict.content = 0,
             _ => {}
         }
         answer
@@ -242,15 +264,24 @@ const IN_FIELDS: [Flaw; 16] = [
     Flaw::NoMemberInLists,
 ];
 
-const IN_VERDICTS: [Flaw; 3] = [Flaw::NoMember, Flaw::MemberOneMore, Flaw::MemberOfEndByte];
+const IN_VERDICTS: [Flaw; 7] = [
+    Flaw::NoMember,
+    Flaw::MemberOneMore,
+    Flaw::MemberOfEndByte,
+    Flaw::ContentIgnored,
+    Flaw::OneByteTooMany,
+    Flaw::ContentOneMore,
+    Flaw::VisitOf17NotCounted,
+];
 
-const IN_READS: [Flaw; 6] = [
+const IN_READS: [Flaw; 7] = [
     Flaw::SheetOfZeros,
     Flaw::SheetByteAfter,
     Flaw::SheetOnRefusal,
     Flaw::SheetLengthOnRefusal,
     Flaw::SheetRoomOneMore,
     Flaw::NoVisitsAt14,
+    Flaw::NoContentAt14,
 ];
 
 const IN_WRITES: [Flaw; 6] = [

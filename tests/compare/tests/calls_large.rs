@@ -4,7 +4,7 @@
 use compare::calls::{Calls, LibraryCalls, Output, Read, SecondCalls};
 use compare::canonical;
 use compare::coding::{Coding, CODINGS};
-use compare::program::verdict;
+use compare::program::{verdict, Budget};
 use compare::schema::*;
 use compare::value::Value;
 use std::time::{Duration, Instant};
@@ -13,8 +13,8 @@ use std::time::{Duration, Instant};
 fn read(schema: &Schema, message: &[u8], room: usize) -> (u32, usize) {
     let packed = schema.pack();
     let (mut sheet, mut expected) = (Output::new(room, 7), Output::new(room, 7));
-    let given = LibraryCalls.read(&packed, message, u32::MAX, sheet.lent());
-    let second = SecondCalls.read(&packed, message, u32::MAX, expected.lent());
+    let given = LibraryCalls.read(&packed, message, Budget::LARGEST, sheet.lent());
+    let second = SecondCalls.read(&packed, message, Budget::LARGEST, expected.lent());
     assert_eq!(given, second);
     assert!(sheet.whole() == expected.whole(), "outputs differ");
     (given.verdict.number, given.length as usize)
@@ -140,11 +140,34 @@ fn one_text_named_often(coding: Coding) {
     let far_over = naming(&schema, 65_530, 1000, 1000);
     let mut sheet = vec![3; SIZE_LIMIT];
     let began = Instant::now();
-    let given = LibraryCalls.read(&packed, &far_over, u32::MAX, &mut sheet);
+    let given = LibraryCalls.read(&packed, &far_over, Budget::LARGEST, &mut sheet);
     assert!(began.elapsed() < Duration::from_secs(2), "too much work");
-    let verdict = verdict(14, 0, 2 + 1000 + 1_000_000);
-    assert_eq!(given, Read { verdict, length: 0 });
+    // A root, a list of lists, 1,000 times the list and 1,000,000 times the text.
+    let offsets = (1 + 1000 + 1_000_000) * coding.offset() as u64;
+    let content = offsets + 65_530 * 1_000_000;
+    let no_room = verdict(14, 0, 2 + 1000 + 1_000_000, content);
+    let (verdict, length) = (no_room, 0);
+    assert_eq!(given, Read { verdict, length });
+    refused_by_content(&schema, &far_over, &mut sheet);
     assert!(sheet.iter().all(|&byte| byte == 3));
+}
+
+/// With an allowance of 10,000,000 bytes the same is refused by 17 at the text.
+fn refused_by_content(schema: &Schema, message: &[u8], sheet: &mut [u8]) {
+    let (packed, coding) = (schema.pack(), schema.coding);
+    let budget = Budget {
+        content: 10_000_000,
+        ..Budget::LARGEST
+    };
+    let given = LibraryCalls.read(&packed, message, budget, sheet);
+    assert_eq!(given, SecondCalls.read(&packed, message, budget, sheet));
+    // The root, both lists, and then the text until it would pass.
+    let before = (1 + 1000 + 1000) * coding.offset() as u64;
+    let texts = (10_000_000 - before) / 65_530;
+    let place = message.len() - 65_531 - coding.header();
+    let spent = before + texts * 65_530;
+    let verdict = verdict(17, place as u64, 3 + texts as u32 + 1, spent);
+    assert_eq!(given, Read { verdict, length: 0 });
 }
 
 /// A list of 100,000 texts of which every fifth is refused, from every place.
@@ -218,7 +241,7 @@ mod writing {
         let message = filled(&schema, Value::List(Vec::new()), most);
         let mut sheet = vec![0; SIZE_LIMIT];
         let packed = schema.pack();
-        let read = SecondCalls.read(&packed, &message, 2, &mut sheet);
+        let read = SecondCalls.read(&packed, &message, Budget::LARGEST, &mut sheet);
         let bytes = &sheet[..read.length as usize];
         let used = before_content(coding) + (most * bits).div_ceil(8) as usize;
         assert_eq!(write(&schema, bytes, used), (0, used), "kind {kind}");

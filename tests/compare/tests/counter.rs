@@ -3,7 +3,8 @@
 
 use compare::canonical;
 use compare::coding::Coding::Bits48;
-use compare::program::{refused, verdict, Answer, Judge, Library, Program, Second, Verdict};
+use compare::program::{refused, verdict, Answer, Budget, Judge, Library, Program};
+use compare::program::{Second, Verdict};
 use compare::schema::{Packed, Record, Schema, Slot, Table, BOOL};
 use compare::schema_rules;
 use compare::sheet;
@@ -48,24 +49,27 @@ fn changed(at: usize, byte: u8) -> Vec<u8> {
     message
 }
 
+/// "the counter's cases ... hand in the largest content allowance".
 fn judges_as_the_table_says(judge: &dyn Judge) {
-    let by_newer = |message: &[u8], budget| judge.judge(&newer(), message, budget);
-    assert_eq!(by_newer(&MESSAGE, 2), verdict(0, 0, 2));
-    assert_eq!(by_newer(&MESSAGE, 1), verdict(4, 28, 1));
-    assert_eq!(by_newer(&MESSAGE, 0), verdict(4, 10, 0));
-    assert_eq!(judge.judge(&older(), &MESSAGE, 1), verdict(0, 0, 1));
+    let by_newer =
+        |message: &[u8], visits| judge.judge(&newer(), message, Budget::of_visits(visits));
+    assert_eq!(by_newer(&MESSAGE, 2), verdict(0, 0, 2, 10));
+    assert_eq!(by_newer(&MESSAGE, 1), verdict(4, 28, 1, 8));
+    assert_eq!(by_newer(&MESSAGE, 0), verdict(4, 10, 0, 0));
+    let by_older = judge.judge(&older(), &MESSAGE, Budget::of_visits(1));
+    assert_eq!(by_older, verdict(0, 0, 1, 8));
     // The text is member 1.
     let cut = Verdict {
         member: 1,
-        ..verdict(8, 10, 1)
+        ..verdict(8, 10, 1, 5)
     };
     assert_eq!(by_newer(&changed(14, 5), 2), cut);
-    assert_eq!(by_newer(&changed(14, 2), 2), verdict(0, 0, 1));
-    assert_eq!(by_newer(&changed(14, 0), 2), verdict(0, 0, 1));
-    assert_eq!(by_newer(&changed(40, 1), 2), verdict(10, 28, 2));
-    assert_eq!(by_newer(&MESSAGE[..40], 2), verdict(6, 28, 2));
-    assert_eq!(by_newer(&[], 2), verdict(2, 0, 0));
-    assert_eq!(by_newer(&changed(22, 9), 2), verdict(6, 9, 2));
+    assert_eq!(by_newer(&changed(14, 2), 2), verdict(0, 0, 1, 2));
+    assert_eq!(by_newer(&changed(14, 0), 2), verdict(0, 0, 1, 0));
+    assert_eq!(by_newer(&changed(40, 1), 2), verdict(10, 28, 2, 10));
+    assert_eq!(by_newer(&MESSAGE[..40], 2), verdict(6, 28, 2, 8));
+    assert_eq!(by_newer(&[], 2), verdict(2, 0, 0, 0));
+    assert_eq!(by_newer(&changed(22, 9), 2), verdict(6, 9, 2, 8));
 }
 
 #[test]
@@ -79,16 +83,17 @@ fn library_judges_as_the_table_says() {
 }
 
 fn gives_the_table_s_sheets(program: &dyn Program) {
-    let read = program.read(&newer(), &MESSAGE, 2, 9);
-    assert_eq!(read, (verdict(0, 0, 2), SHEET.to_vec()));
-    let read = program.read(&older(), &MESSAGE, 1, 3);
-    assert_eq!(read, (verdict(0, 0, 1), vec![0x40, 0, 0xC0]));
-    let read = program.read(&newer(), &changed(14, 2), 2, 9);
-    assert_eq!(read, (verdict(0, 0, 1), vec![0x40, 0, 0xC0]));
-    let read = program.read(&newer(), &changed(14, 0), 2, 9);
-    assert_eq!(read, (verdict(0, 0, 1), vec![0]));
-    let read = program.read(&newer(), &MESSAGE, 2, 8);
-    assert_eq!(read, (verdict(14, 0, 2), Vec::new()));
+    let [one, two] = [1, 2].map(Budget::of_visits);
+    let read = program.read(&newer(), &MESSAGE, two, 9);
+    assert_eq!(read, (verdict(0, 0, 2, 10), SHEET.to_vec()));
+    let read = program.read(&older(), &MESSAGE, one, 3);
+    assert_eq!(read, (verdict(0, 0, 1, 8), vec![0x40, 0, 0xC0]));
+    let read = program.read(&newer(), &changed(14, 2), two, 9);
+    assert_eq!(read, (verdict(0, 0, 1, 2), vec![0x40, 0, 0xC0]));
+    let read = program.read(&newer(), &changed(14, 0), two, 9);
+    assert_eq!(read, (verdict(0, 0, 1, 0), vec![0]));
+    let read = program.read(&newer(), &MESSAGE, two, 8);
+    assert_eq!(read, (verdict(14, 0, 2, 10), Vec::new()));
 }
 
 #[test]

@@ -5,7 +5,8 @@ use compare::coding::CODINGS;
 use compare::counts::Counts;
 use compare::judging;
 use compare::laws::{self, Programs};
-use compare::program::{accepted, Answer, Judge, Program, Relations, Second, Verdict, NO_MEMBER};
+use compare::program::{accepted, Answer, Budget, Judge, Program, Relations, Second};
+use compare::program::{Verdict, NO_MEMBER};
 use compare::schema::Packed;
 use compare::side_by_side::side_by_side;
 
@@ -19,7 +20,13 @@ enum Flaw {
     MemberAlwaysNone,
     MemberOfEndByte,
     MemberOfAcceptance,
-    BudgetOneTooMany,
+    OneVisitTooMany,
+    OneByteTooMany,
+    OneByteTooFew,
+    ContentIgnored,
+    ContentOneMore,
+    ContentOf17,
+    VisitOf17NotCounted,
     UnknownAsAbsent,
     FixedSheet,
     WritesNothing,
@@ -33,6 +40,27 @@ enum Flaw {
 }
 
 struct Flawed(Flaw);
+
+/// The budget that a flawed program goes by.
+fn flawed_budget(flaw: Flaw, budget: Budget) -> Budget {
+    let Budget { visits, content } = budget;
+    match flaw {
+        Flaw::OneVisitTooMany => Budget {
+            visits: visits.saturating_add(1),
+            ..budget
+        },
+        Flaw::OneByteTooMany => Budget {
+            content: content.saturating_add(1),
+            ..budget
+        },
+        Flaw::OneByteTooFew => Budget {
+            content: content.saturating_sub(1),
+            ..budget
+        },
+        Flaw::ContentIgnored => Budget::of_visits(visits),
+        _ => budget,
+    }
+}
 
 /// The member that a flawed program gives with a number.
 fn flawed_member(flaw: Flaw, number: u32, member: u32) -> u32 {
@@ -50,29 +78,21 @@ impl Judge for Flawed {
         "flawed program"
     }
 
-    fn judge(&self, schema: &Packed, message: &[u8], budget: u32) -> Verdict {
-        let verdict = Second.judge(schema, message, budget);
-        let verdict = Verdict {
-            member: flawed_member(self.0, verdict.number, verdict.member),
-            ..verdict
-        };
+    fn judge(&self, schema: &Packed, message: &[u8], budget: Budget) -> Verdict {
+        let mut verdict = Second.judge(schema, message, flawed_budget(self.0, budget));
+        let number = verdict.number;
+        verdict.member = flawed_member(self.0, number, verdict.member);
         match self.0 {
-            Flaw::AcceptsEverything => accepted(verdict.visits),
-            Flaw::RefusesEverything if verdict.number == 0 => Verdict {
-                number: 6,
-                ..verdict
-            },
-            Flaw::VisitsOneMore if verdict.number == 10 => Verdict {
-                visits: verdict.visits + 1,
-                ..verdict
-            },
-            Flaw::PlaceAlwaysZero => Verdict {
-                place: 0,
-                ..verdict
-            },
-            Flaw::BudgetOneTooMany => Second.judge(schema, message, budget.saturating_add(1)),
-            _ => verdict,
+            Flaw::AcceptsEverything => return accepted(verdict.visits, verdict.content),
+            Flaw::RefusesEverything if number == 0 => verdict.number = 6,
+            Flaw::VisitsOneMore if number == 10 => verdict.visits += 1,
+            Flaw::PlaceAlwaysZero => verdict.place = 0,
+            Flaw::ContentOneMore if number == 0 => verdict.content += 1,
+            Flaw::ContentOf17 if number == 17 => verdict.content += 1,
+            Flaw::VisitOf17NotCounted if number == 17 => verdict.visits -= 1,
+            _ => {}
         }
+        verdict
     }
 }
 
@@ -81,7 +101,7 @@ impl Program for Flawed {
         &self,
         schema: &Packed,
         message: &[u8],
-        budget: u32,
+        budget: Budget,
         room: usize,
     ) -> (Verdict, Vec<u8>) {
         let (verdict, sheet) = Second.read(schema, message, budget, room);
@@ -173,7 +193,7 @@ impl Relations for Flawed {
     }
 }
 
-const IN_VERDICTS: [Flaw; 9] = [
+const IN_VERDICTS: [Flaw; 15] = [
     Flaw::AcceptsEverything,
     Flaw::RefusesEverything,
     Flaw::VisitsOneMore,
@@ -182,7 +202,13 @@ const IN_VERDICTS: [Flaw; 9] = [
     Flaw::MemberAlwaysNone,
     Flaw::MemberOfEndByte,
     Flaw::MemberOfAcceptance,
-    Flaw::BudgetOneTooMany,
+    Flaw::OneVisitTooMany,
+    Flaw::OneByteTooMany,
+    Flaw::OneByteTooFew,
+    Flaw::ContentIgnored,
+    Flaw::ContentOneMore,
+    Flaw::ContentOf17,
+    Flaw::VisitOf17NotCounted,
 ];
 
 const IN_OTHER_CALLS: [Flaw; 6] = [

@@ -1,5 +1,5 @@
-//! The proved library and the second program side by side: number, place, member
-//! and visits are equal on every message with every budget.
+//! The proved library and the second program side by side: number, place, member,
+//! visits and content are equal on every message with every budget.
 //!
 //! A longer run: `compare judge --cases 10000000 --seed S`, and with
 //! `--coding 32` under the older coding.
@@ -10,15 +10,26 @@ use compare::judging;
 use compare::members::NAMES;
 use compare::program::Second;
 use compare::subjects::{Sort, SORTS};
-use compare::tally::{Budget, Tally, NUMBERS};
+use compare::tally::{Allowed, Tally, NUMBERS};
 
 const SEED: u64 = 1;
 const MESSAGES: u64 = 300_000;
 
 /// At least so many messages of each number with an ample budget; a spent
 /// budget is rare there, and comes from the smaller ones.
-const NUMBERS_SEEN: [u64; NUMBERS] = [
-    30_000, 20_000, 5000, 10_000, 0, 2000, 40_000, 20_000, 10_000, 1000, 2000,
+const NUMBERS_SEEN: [u64; NUMBERS.len()] = [
+    30_000, 20_000, 5000, 10_000, 0, 2000, 40_000, 20_000, 10_000, 1000, 2000, 0,
+];
+
+/// At least so many calls that spent an allowance.
+const SPENT_SEEN: [(Allowed, u32, u64); 7] = [
+    (Allowed::NoVisit, 4, 50_000),
+    (Allowed::OneVisit, 4, 50_000),
+    (Allowed::VisitLess, 4, 50_000),
+    (Allowed::NoContent, 17, 50_000),
+    (Allowed::ByteLess, 17, 50_000),
+    (Allowed::Some, 4, 20_000),
+    (Allowed::Some, 17, 20_000),
 ];
 
 /// At least so many refusals by 8, 9 and 10 with each range of members.
@@ -37,13 +48,12 @@ fn shortfalls(coding: Coding, tally: &Tally) -> Vec<String> {
         }
     };
     // Unions of the older coding have no offset that could be 0.
-    let possible = |number: &usize| !(coding.is_older() && *number == 9);
-    for number in (0..NUMBERS).filter(possible) {
-        let least = NUMBERS_SEEN[number];
-        need(format!("number {number}"), tally.of_number(number), least);
+    let possible = |number: &u32| !(coding.is_older() && *number == 9);
+    let numbers = NUMBERS.iter().zip(NUMBERS_SEEN);
+    for (number, least) in numbers.filter(|(number, _)| possible(number)) {
+        need(format!("number {number}"), tally.of_number(*number), least);
     }
     for (number, least) in MEMBERS_SEEN {
-        let number = number as usize;
         for (at, count) in tally.members(number).into_iter().enumerate() {
             let least = if possible(&number) { least[at] } else { 0 };
             need(format!("{number}, member {}", NAMES[at]), count, least);
@@ -51,8 +61,9 @@ fn shortfalls(coding: Coding, tally: &Tally) -> Vec<String> {
     }
     let beyond = tally.messages - tally.of_number(1);
     need("not refusal 1".to_string(), beyond, MESSAGES * 3 / 4);
-    for budget in [Budget::None, Budget::OneLess, Budget::One] {
-        need(format!("{budget:?} spent"), tally.with(budget, 4), 50_000);
+    for (allowed, number, least) in SPENT_SEEN {
+        let name = format!("{allowed:?}, number {number}");
+        need(name, tally.with(allowed, number), least);
     }
     for sort in SORTS {
         let least = if sort == Sort::NoCoding { 1000 } else { 5000 };
@@ -71,10 +82,17 @@ fn shortfalls(coding: Coding, tally: &Tally) -> Vec<String> {
 /// A walk that an ample budget takes to its end is the same with a budget of
 /// just its visits and with the largest.
 fn budgets_change_nothing(tally: &Tally) {
-    for number in (0..NUMBERS).filter(|number| *number != 4) {
+    for number in NUMBERS.into_iter().filter(|number| *number != 4) {
         let messages = tally.of_number(number);
-        assert_eq!(tally.with(Budget::Exact, number), messages);
-        assert_eq!(tally.with(Budget::Largest, number), messages);
+        assert_eq!(tally.with(Allowed::Exact, number), messages);
+        assert_eq!(tally.with(Allowed::Largest, number), messages);
+    }
+    // With less of either that is what is spent.
+    for number in NUMBERS {
+        let [fewer, less] =
+            [Allowed::VisitLess, Allowed::ByteLess].map(|allowed| tally.with(allowed, number));
+        assert!(number == 4 || fewer == 0, "{number} with a visit less");
+        assert!(number == 17 || less == 0, "{number} with a byte less");
     }
 }
 
@@ -92,7 +110,7 @@ fn agree(coding: Coding) {
     assert_eq!(tally.of(Sort::NoCoding, 1), tally.of_sort(Sort::NoCoding));
     assert_eq!(coding.is_older(), tally.of_number(9) == 0);
     // 8 and 9 are always about a member, and only they and 10 are.
-    for number in (0..NUMBERS).filter(|number| *number != 10) {
+    for number in NUMBERS.into_iter().filter(|number| *number != 10) {
         let [none, some @ ..] = tally.members(number);
         let without = if matches!(number, 8 | 9) {
             none

@@ -6,28 +6,40 @@ use compare::canonical;
 use compare::coding::{Coding, CODINGS};
 use compare::doubling;
 use compare::judging::same_verdict;
-use compare::program::{verdict as verdict_of, Second, Verdict, NO_MEMBER};
+use compare::program::{accepted, verdict, Budget, Second, Verdict};
 use compare::schema::*;
 use compare::subjects::{Sort, Subject};
 use compare::value::Value;
 
-/// What both judges answer.
-fn judged(schema: &Schema, message: &[u8], budget: u32) -> (u32, u64, u32) {
+/// What both judges answer with so many visits and all content.
+fn judged(schema: &Schema, message: &[u8], visits: u32) -> Verdict {
+    judged_with(schema, message, Budget::of_visits(visits))
+}
+
+fn judged_with(schema: &Schema, message: &[u8], budget: Budget) -> Verdict {
     let subject = Subject {
         sort: Sort::Written,
         schema: schema.pack(),
         message: message.to_vec(),
     };
     match same_verdict(&LibraryCalls, &Second, &subject, budget) {
-        Ok(verdict) => parts(verdict),
+        Ok(verdict) => verdict,
         Err(report) => panic!("{report}"),
     }
 }
 
-/// Number, place and visits of a verdict without a member.
-fn parts(verdict: Verdict) -> (u32, u64, u32) {
-    assert_eq!(verdict.member, NO_MEMBER);
-    (verdict.number, verdict.place, verdict.visits)
+/// Accepted with two visits and just so much content; with a byte less the
+/// second object is refused, and the root has been visited.
+fn takes(schema: &Schema, message: &[u8], content: u64) {
+    let (visits, coding) = (2, schema.coding);
+    let exact = Budget { visits, content };
+    let given = judged_with(schema, message, exact);
+    assert_eq!(given, accepted(2, content));
+    assert_eq!(judged(schema, message, 2), given);
+    let content = content - 1;
+    let short = judged_with(schema, message, Budget { visits, content });
+    let root = coding.offset() as u64;
+    assert_eq!(short, verdict(17, second_at(coding), 2, root));
 }
 
 /// Where the second object stands, behind the start and the root.
@@ -57,12 +69,13 @@ fn objects_that_fill_the_largest_message() {
         for (kind, length) in lengths {
             let schema = root_with(coding, Record::plain(kind, 0));
             let message = |length| filled(&schema, Value::Blob(Vec::new()), length);
-            let place = second_at(coding);
-            assert_eq!(judged(&schema, &message(length), 2), (0, 0, 2));
-            assert_eq!(judged(&schema, &message(length + 1), 2), (6, place, 2));
+            let (place, root) = (second_at(coding), coding.offset() as u64);
+            takes(&schema, &message(length), root + length);
+            let long = judged(&schema, &message(length + 1), 2);
+            assert_eq!(long, verdict(6, place, 2, root));
             let mut over = message(length);
             over.push(0);
-            assert_eq!(judged(&schema, &over, 2), (2, 0, 0));
+            assert_eq!(judged(&schema, &over, 2), verdict(2, 0, 0, 0));
         }
     }
 }
@@ -89,27 +102,75 @@ fn fill_a_list(coding: Coding, kind: u8) {
         TEXT => u64::from(coding.number()),
         _ => 32,
     };
-    let (most, place) = (8 * room(coding) / bits, second_at(coding));
+    let (most, root) = (8 * room(coding) / bits, coding.offset() as u64);
     let message = |length| filled(&schema, Value::List(Vec::new()), length);
-    assert_eq!(judged(&schema, &message(most), 2), (0, 0, 2));
-    assert_eq!(judged(&schema, &message(most + 1), 2), (6, place, 2));
-    let largest = message(coding.largest());
-    assert_eq!(judged(&schema, &largest, 2), (6, place, 2));
+    takes(&schema, &message(most), root + (most * bits).div_ceil(8));
+    for length in [most + 1, coding.largest()] {
+        let long = judged(&schema, &message(length), 2);
+        assert_eq!(long, verdict(6, second_at(coding), 2, root));
+    }
 }
 
 /// Lists that each name the next table twice: the walk doubles at each level.
 #[test]
 fn walks_that_double() {
     let levels = 15;
-    let visits = 3 * (1 << levels) - 2;
     for coding in CODINGS {
         let schema = doubling::schema(coding);
         let message = doubling::message(&schema, levels);
-        assert_eq!(judged(&schema, &message, u32::MAX), (0, 0, visits));
-        assert_eq!(judged(&schema, &message, visits), (0, 0, visits));
+        let exact = doubling::spent(coding, levels);
+        let Budget { visits, content } = exact;
+        for budget in [exact, Budget::LARGEST] {
+            let given = judged_with(&schema, &message, budget);
+            assert_eq!(given, accepted(visits, content));
+        }
         let last = doubling::table_at(coding, levels);
+        let before = content - coding.offset() as u64;
         let short = judged(&schema, &message, visits - 1);
-        assert_eq!(short, (4, last, visits - 1));
+        assert_eq!(short, verdict(4, last, visits - 1, before));
+        let less = Budget {
+            content: content - 1,
+            ..exact
+        };
+        let short = judged_with(&schema, &message, less);
+        assert_eq!(short, verdict(17, last, visits, before));
+    }
+}
+
+/// Bytes named by every element of a list: content of more than 32 bits, of
+/// which just so much is enough, and no less.
+#[test]
+fn a_large_blob_named_often() {
+    let (length, count) = (8_000_000, 1_000_000);
+    for coding in CODINGS {
+        let mut schema = root_with(coding, Record::plain(LIST, 0));
+        schema.lists = vec![Record::plain(BYTES, 0)];
+        let empty = Value::Table(vec![Value::List(Vec::new())]);
+        let mut message = canonical::message(&schema, &empty);
+        let (list, offset) = (message.len() - coding.header(), coding.offset() as u64);
+        message[list + 4..].copy_from_slice(&coding.bytes(count));
+        let blob = message.len() as u64 + count * offset;
+        let names = coding.bytes(blob).repeat(count as usize);
+        message.extend(names);
+        message.extend_from_slice(&0xDCDB_BE10u32.to_le_bytes());
+        message.extend(coding.bytes(length));
+        message.resize(message.len() + length as usize, 7);
+        let before = offset + count * offset;
+        let exact = Budget {
+            visits: 2 + count as u32,
+            content: before + count * length,
+        };
+        let given = judged_with(&schema, &message, exact);
+        assert_eq!(given, accepted(exact.visits, exact.content));
+        let at = |content| judged_with(&schema, &message, Budget { content, ..exact });
+        for many in [0, 1, 9, 536, 537, count - 1] {
+            let spent = before + many * length;
+            let refused = verdict(17, blob, 3 + many as u32, spent);
+            assert_eq!(at(spent), refused, "{many}");
+            assert_eq!(at(spent + length - 1), refused, "{many}");
+        }
+        let some = at(1 << 32);
+        assert_eq!((some.number, some.content >> 32), (17, 0));
     }
 }
 
@@ -132,12 +193,12 @@ fn far_elements() {
             schema: packed.clone(),
             message,
         };
-        let verdict = same_verdict(&LibraryCalls, &Second, &subject, 2);
+        let given = same_verdict(&LibraryCalls, &Second, &subject, Budget::LARGEST);
         let expected = Verdict {
             member: element as u32,
-            ..verdict_of(9, start - 10, 2)
+            ..verdict(9, start - 10, 2, 6 + 8 * count)
         };
-        assert_eq!(verdict, Ok(expected));
+        assert_eq!(given, Ok(expected));
         let mut steps = [0; 8];
         let given = LibraryCalls.list(&packed, &subject.message, &[0], element, &mut steps);
         let own = LibraryCalls.field(&packed, &subject.message, &[0, element as u32]);
@@ -165,7 +226,8 @@ fn the_largest_schema() {
         };
         let value = Value::Table(vec![Value::Bool(true); 64]);
         let message = canonical::message(&schema, &value);
-        assert_eq!(judged(&schema, &message, 1), (0, 0, 1));
+        // 64 bools take eight bytes.
+        assert_eq!(judged(&schema, &message, 1), accepted(1, 8));
         for extra in [1, 1000, 1 << 20] {
             let mut packed = schema.pack();
             packed.bytes.resize(packed.bytes.len() + extra, 0);
@@ -174,8 +236,8 @@ fn the_largest_schema() {
                 schema: packed,
                 message: message.clone(),
             };
-            let verdict = same_verdict(&LibraryCalls, &Second, &subject, 1);
-            assert_eq!(verdict.map(parts), Ok((1, 0, 0)));
+            let given = same_verdict(&LibraryCalls, &Second, &subject, Budget::LARGEST);
+            assert_eq!(given, Ok(verdict(1, 0, 0, 0)));
         }
     }
 }

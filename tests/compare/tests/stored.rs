@@ -4,7 +4,7 @@
 
 use compare::calls::LibraryCalls;
 use compare::coding::{Coding, CODINGS};
-use compare::program::Judge;
+use compare::program::{Budget, Judge};
 use compare::stored::{self, Case};
 use std::collections::{BTreeMap, BTreeSet};
 use std::fs;
@@ -58,7 +58,8 @@ fn stored_files_are_what_the_tool_makes() {
 #[test]
 fn library_answers_the_stored_cases_alike() {
     for case in stored::cases() {
-        let given = LibraryCalls.judge(&case.schema, &case.message, case.budget);
+        let budget = Budget::of_visits(case.budget);
+        let given = LibraryCalls.judge(&case.schema, &case.message, budget);
         let (coding, group) = (case.schema.coding, &case.group);
         assert_eq!(given, case.verdict(), "{coding}: {group}: {}", case.name);
     }

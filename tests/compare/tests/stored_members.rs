@@ -2,7 +2,7 @@
 //! as the request says, judging, reading to a sheet and reading a field.
 
 use compare::calls::{Calls, LibraryCalls, Read, SecondCalls};
-use compare::program::{verdict, Verdict, NO_MEMBER};
+use compare::program::{verdict, Budget, Verdict, AMPLE, NO_MEMBER};
 use compare::stored::members::REFUSED;
 
 #[test]
@@ -13,14 +13,18 @@ fn members() {
         let member = case.member.unwrap_or(NO_MEMBER);
         let expected = Verdict {
             member,
-            ..verdict(number, place, visits)
+            ..verdict(number, place, visits, case.content)
         };
+        let (visits, content) = (visits, case.content);
+        let exact = Budget { visits, content };
         for program in [&LibraryCalls as &dyn Calls, &SecondCalls] {
-            let judged = program.judge(&schema, &message, 9);
-            assert_eq!(judged, expected, "{}", case.name);
-            let (verdict, length) = (expected, 0);
-            let read = program.read(&schema, &message, 9, &mut [0; 99]);
-            assert_eq!(read, Read { verdict, length }, "{}", case.name);
+            for budget in [AMPLE, exact] {
+                let judged = program.judge(&schema, &message, budget);
+                assert_eq!(judged, expected, "{}", case.name);
+                let (verdict, length) = (expected, 0);
+                let read = program.read(&schema, &message, budget, &mut [0; 99]);
+                assert_eq!(read, Read { verdict, length }, "{}", case.name);
+            }
             let answer = program.field(&schema, &message, case.path);
             let refused = [7, u64::from(number), place, u64::from(member)];
             assert_eq!(answer, refused, "{}", case.name);

@@ -2,37 +2,48 @@
 //! of the same: both programs answer as the documents say.
 
 use compare::calls::{Calls, LibraryCalls, Read, SecondCalls, Writes};
-use compare::program::{accepted, Verdict, NO_MEMBER};
+use compare::program::{accepted, Budget, Verdict, AMPLE, NO_MEMBER};
 use compare::schema::Packed;
 use compare::stored::by_hand::{bytes, message, packed, REFUSED, SHEETS, TEXT};
 
 /// What both programs answer.
-fn both(schema: &Packed, message: &[u8], budget: u32) -> Verdict {
+fn both(schema: &Packed, message: &[u8], budget: Budget) -> Verdict {
     let given = [&LibraryCalls as &dyn Calls, &SecondCalls]
         .map(|program| program.judge(schema, message, budget));
     assert_eq!(given[0], given[1], "{schema}");
     given[0]
 }
 
-/// Number, place and visits of a verdict without a member.
-fn judged(schema: &Packed, message: &[u8], budget: u32) -> (u32, u64, u32) {
-    let given = both(schema, message, budget);
-    assert_eq!(given.member, NO_MEMBER, "{schema}");
+/// Number, place and visits of a verdict without a member and content.
+fn judged(schema: &Packed, message: &[u8]) -> (u32, u64, u32) {
+    let given = both(schema, message, AMPLE);
+    let none = (given.member, given.content);
+    assert_eq!(none, (NO_MEMBER, 0), "{schema}");
     (given.number, given.place, given.visits)
 }
 
 #[test]
 fn refusals() {
     for case in REFUSED {
-        let given = both(&packed(case.schema), &message(case.message), case.budget);
+        let (schema, message) = (packed(case.schema), message(case.message));
         let (number, place, visits) = case.verdict;
         let expected = Verdict {
             number,
             place,
             member: case.member.unwrap_or(NO_MEMBER),
             visits,
+            content: case.content,
         };
-        assert_eq!(given, expected, "{}", case.name);
+        let budget = Budget::of_visits(case.budget);
+        assert_eq!(both(&schema, &message, budget), expected, "{}", case.name);
+        // Just as much content is enough, and a byte less is not.
+        let content = case.content;
+        let exact = Budget { content, ..budget };
+        assert_eq!(both(&schema, &message, exact), expected, "{}", case.name);
+        if let Some(content) = content.checked_sub(1) {
+            let less = both(&schema, &message, Budget { content, ..budget });
+            assert_eq!(less.number, 17, "{}", case.name);
+        }
     }
 }
 
@@ -40,7 +51,7 @@ fn refusals() {
 #[test]
 fn starts() {
     let schema = packed(TEXT);
-    let at = |start: &str| judged(&schema, &bytes(start), 9);
+    let at = |start: &str| judged(&schema, &bytes(start));
     assert_eq!(at(""), (2, 0, 0));
     assert_eq!(at("B3C4C0B5 080000"), (2, 0, 0));
     assert_eq!(at("B3C4C0B5 08000000"), (6, 8, 1));
@@ -59,11 +70,12 @@ fn sheets() {
     for case in SHEETS {
         let (schema, message) = (packed(case.schema), message(case.message));
         let sheet = bytes(case.sheet);
-        let verdict = accepted(case.visits);
-        assert_eq!(both(&schema, &message, 9), verdict, "{}", case.name);
+        let (visits, content) = (case.visits, case.content);
+        let (verdict, exact) = (accepted(visits, content), Budget { visits, content });
+        assert_eq!(both(&schema, &message, AMPLE), verdict, "{}", case.name);
         for program in [&LibraryCalls as &dyn Writes, &SecondCalls] {
             let mut read = vec![0xEE; sheet.len()];
-            let answer = program.read(&schema, &message, case.visits, &mut read);
+            let answer = program.read(&schema, &message, exact, &mut read);
             let length = sheet.len() as u64;
             let expected = Read { verdict, length };
             assert_eq!((answer, &read), (expected, &sheet), "{}", case.name);
@@ -88,16 +100,16 @@ fn schemas() {
         "00010101 00 8800 01 6800 4C494345 00",
     ] {
         let schema = packed(digits);
-        assert_eq!(judged(&schema, &message, 9), (1, 0, 0));
+        assert_eq!(judged(&schema, &message), (1, 0, 0));
         let lawful = Packed {
             coding: 48,
             ..schema
         };
-        assert_eq!(judged(&lawful, &message, 9), (6, 0x4345_0000_0008, 1));
+        assert_eq!(judged(&lawful, &message), (6, 0x4345_0000_0008, 1));
     }
     // Neither is a coding, whatever the schema.
     for coding in [0, 31, 33, 47, 49, u32::MAX] {
         let bytes = bytes(TEXT);
-        assert_eq!(judged(&Packed { coding, bytes }, &message, 9), (1, 0, 0));
+        assert_eq!(judged(&Packed { coding, bytes }, &message), (1, 0, 0));
     }
 }

@@ -36,7 +36,7 @@ pub use field::{field, text, Answer, ListReader};
 pub use message::NO_MEMBER;
 pub use schema::Schema;
 pub use sheet::read;
-pub use walk::{judge, judge_parsed, Verdict};
+pub use walk::{judge, judge_parsed, Budget, Verdict};
 pub use write::write;
 
 /// Is the schema lawful under this coding?

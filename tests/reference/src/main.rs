@@ -4,18 +4,20 @@
 
 use std::process::ExitCode;
 
-use reference::{appends, field, judge, read, with_added, without_appended, write, Answer};
+use reference::{appends, field, judge, read, with_added, without_appended, write};
+use reference::{Answer, Budget};
 
 const USAGE: &str = "\
 usage: reference [--coding 32] COMMAND; without it the coding is 48
-  reference judge SCHEMA MESSAGE BUDGET      prints number, place, member, visits
-  reference read SCHEMA MESSAGE BUDGET OUT   the same, and on 0 the sheet to OUT
-  reference write SCHEMA SHEET OUT           prints number, and on 0 the message to OUT
-  reference field SCHEMA MESSAGE N N N..     prints the answer at the path
-  reference appends OLD NEW                  prints yes or no
-  reference without OLD NEW SHEET OUT        the newer sheet without the appended members
-  reference with OLD NEW SHEET OUT           the older sheet with the added members
-SCHEMA, MESSAGE, SHEET, OLD, NEW and OUT are files; the others are numbers.";
+  reference judge SCHEMA MESSAGE VISITS CONTENT      prints number, place, member, visits, content
+  reference read SCHEMA MESSAGE VISITS CONTENT OUT   the same, and on 0 the sheet to OUT
+  reference write SCHEMA SHEET OUT                   prints number, and on 0 the message to OUT
+  reference field SCHEMA MESSAGE N N N..             prints the answer at the path
+  reference appends OLD NEW                          prints yes or no
+  reference without OLD NEW SHEET OUT                the newer sheet without the appended members
+  reference with OLD NEW SHEET OUT                   the older sheet with the added members
+SCHEMA, MESSAGE, SHEET, OLD, NEW and OUT are files; the others are numbers, VISITS and CONTENT
+the two allowances.";
 
 fn main() -> ExitCode {
     let arguments: Vec<String> = std::env::args().skip(1).collect();
@@ -43,18 +45,15 @@ fn run(words: &[&str]) -> Result<String, String> {
 /// A command under the coding of this number.
 fn command(coding: u32, words: &[&str]) -> Result<String, String> {
     match words {
-        ["judge", schema, message, budget] => {
+        ["judge", schema, message, visits, content] => {
             let (schema, message) = (load(schema)?, load(message)?);
-            Ok(verdict_line(judge(
-                coding,
-                &schema,
-                &message,
-                number(budget)?,
-            )))
+            let budget = budget(visits, content)?;
+            Ok(verdict_line(judge(coding, &schema, &message, budget)))
         }
-        ["read", schema, message, budget, out] => {
+        ["read", schema, message, visits, content, out] => {
             let (schema, message) = (load(schema)?, load(message)?);
-            let (verdict, sheet) = read(coding, &schema, &message, number(budget)?, usize::MAX);
+            let budget = budget(visits, content)?;
+            let (verdict, sheet) = read(coding, &schema, &message, budget, usize::MAX);
             if verdict.number == 0 {
                 save(out, &sheet)?;
             }
@@ -69,12 +68,8 @@ fn command(coding: u32, words: &[&str]) -> Result<String, String> {
         }
         ["field", schema, message, path @ ..] => {
             let path: Result<Vec<u32>, String> = path.iter().map(|word| number(word)).collect();
-            Ok(answer_line(field(
-                coding,
-                &load(schema)?,
-                &load(message)?,
-                &path?,
-            )))
+            let (schema, message) = (load(schema)?, load(message)?);
+            Ok(answer_line(field(coding, &schema, &message, &path?)))
         }
         ["appends", old, new] => {
             let yes = appends(coding, &load(old)?, &load(new)?);
@@ -104,8 +99,9 @@ fn carried(sheet: Option<Vec<u8>>, out: &str) -> Result<String, String> {
 }
 
 fn verdict_line(verdict: reference::Verdict) -> String {
-    let (number, place) = (verdict.number, verdict.place);
-    format!("{number} {place} {} {}", verdict.member, verdict.visits)
+    let (number, place, member) = (verdict.number, verdict.place, verdict.member);
+    let (visits, content) = (verdict.visits, verdict.content);
+    format!("{number} {place} {member} {visits} {content}")
 }
 
 fn answer_line(answer: Answer) -> String {
@@ -144,7 +140,13 @@ fn save(file: &str, bytes: &[u8]) -> Result<(), String> {
     std::fs::write(file, bytes).map_err(|trouble| format!("{file}: {trouble}"))
 }
 
-fn number(word: &str) -> Result<u32, String> {
+fn budget(visits: &str, content: &str) -> Result<Budget, String> {
+    let (visits, content) = (number(visits)?, number(content)?);
+    Ok(Budget { visits, content })
+}
+
+fn number<N: std::str::FromStr>(word: &str) -> Result<N, String> {
+    let bits = 8 * size_of::<N>();
     word.parse()
-        .map_err(|_| format!("{word}: not a 32-bit unsigned number"))
+        .map_err(|_| format!("{word}: not a {bits}-bit unsigned number"))
 }

@@ -83,7 +83,8 @@ pub struct Object {
 }
 
 impl Object {
-    /// Where a table's fixed part ends: its in-place content starts there.
+    /// Where a table's fixed part ends: its in-place content starts there. A
+    /// text's end byte stands there.
     pub fn end(&self) -> usize {
         self.start + self.length
     }
@@ -182,12 +183,11 @@ fn element_size(coding: Coding, element: Kind) -> u64 {
     }
 }
 
-/// The bytes of an object's content. A length of 48 bits keeps this far below
-/// 2^64.
-pub fn content_bytes(schema: &Schema, target: Target, length: u64) -> u64 {
+/// "its content length: bytes, text without its end byte, list element bytes,
+/// fixed part". A length of 48 bits keeps this far below 2^64.
+pub fn content_length(schema: &Schema, target: Target, length: u64) -> u64 {
     match target {
-        Target::Text => length + 1,
-        Target::Bytes | Target::Table(_) => length,
+        Target::Text | Target::Bytes | Target::Table(_) => length,
         Target::List(index) => list_bytes(schema.coding, schema.element(index), length),
     }
 }
@@ -214,6 +214,19 @@ pub fn open(
     spot: Spot,
     depth: u32,
 ) -> Result<Object, Refusal> {
+    let object = fit(schema, message, target, spot, depth)?;
+    judge_end(message, &object)?;
+    Ok(object)
+}
+
+/// Depth, offset and header fit, magic, content fit.
+pub fn fit(
+    schema: &Schema,
+    message: &[u8],
+    target: Target,
+    spot: Spot,
+    depth: u32,
+) -> Result<Object, Refusal> {
     let place = spot.place();
     if depth > DEPTH {
         return Err(Refusal::new(5, place));
@@ -222,21 +235,27 @@ pub fn open(
         Spot::Offset(offset) => open_header(schema, message, target, offset)?,
         Spot::InPlace { start, length } => (start, length),
     };
-    let bytes = content_bytes(schema, target, length);
+    // "Text: length bytes and one zero byte."
+    let end = u64::from(target == Target::Text);
+    let bytes = content_length(schema, target, length) + end;
     if bytes > (message.len() - start) as u64 {
         return Err(Refusal::new(6, place));
-    }
-    // No element is under a bit, so a length that fits is below 2^27.
-    let length = length as usize;
-    if target == Target::Text && message[start + length] != 0 {
-        return Err(Refusal::new(10, place));
     }
     Ok(Object {
         target,
         place,
         start,
-        length,
+        // No element is under a bit, so a length that fits is below 2^27.
+        length: length as usize,
     })
+}
+
+/// "text's end byte"
+pub fn judge_end(message: &[u8], object: &Object) -> Result<(), Refusal> {
+    if object.target == Target::Text && message[object.end()] != 0 {
+        return Err(Refusal::new(10, object.place));
+    }
+    Ok(())
 }
 
 /// "An offset under 10 is not lawful where an object is required." "Offsets

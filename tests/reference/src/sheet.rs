@@ -6,7 +6,7 @@ use crate::message::{
     Spot, NO_ENUM, SIZE,
 };
 use crate::schema::{Kind, Member, Schema, Target};
-use crate::walk::{judge_parsed, Verdict};
+use crate::walk::{judge_parsed, Budget, Verdict};
 
 /// "2-bit mark: 0 absent, 1 present, 2 unknown, 3 not lawful".
 pub const ABSENT: u64 = 0;
@@ -15,16 +15,16 @@ pub const UNKNOWN: u64 = 2;
 
 /// Reads a message to its value sheet: the verdict and, where it is 0, the
 /// sheet. "Reading to a sheet gives the verdict's refusal first, then 14 with
-/// the full visits", where the sheet is over the size or over `room`.
+/// the full visits" and content, where the sheet is over the size or over `room`.
 pub fn read(
     coding: u32,
     schema: &[u8],
     message: &[u8],
-    budget: u32,
+    budget: Budget,
     room: usize,
 ) -> (Verdict, Vec<u8>) {
     let Some(schema) = Schema::parse(coding, schema) else {
-        return (Verdict::new(Refusal::new(1, 0), 0), Vec::new());
+        return (Verdict::not_lawful(), Vec::new());
     };
     let verdict = judge_parsed(&schema, message, budget);
     if verdict.number != 0 {
@@ -32,12 +32,9 @@ pub fn read(
     }
     match sheet_of(&schema, message, room.min(SIZE)) {
         Ok(sheet) => (verdict, sheet),
-        Err(Stop::Full) => (
-            Verdict::new(Refusal::new(14, 0), verdict.visits),
-            Vec::new(),
-        ),
+        Err(Stop::Full) => (verdict.refused(Refusal::new(14, 0)), Vec::new()),
         // An accepted message has no refusal in it.
-        Err(Stop::Refused(refusal)) => (Verdict::new(refusal, verdict.visits), Vec::new()),
+        Err(Stop::Refused(refusal)) => (verdict.refused(refusal), Vec::new()),
     }
 }
 

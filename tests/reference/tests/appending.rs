@@ -3,7 +3,7 @@
 mod common;
 
 use common::*;
-use reference::{appends, read, with_added, without_appended, write};
+use reference::{appends, with_added, without_appended, write};
 
 fn older() -> Parts {
     Parts {

@@ -4,7 +4,7 @@
 mod common;
 
 use common::*;
-use reference::{appends, field, judge, lawful, read, with_added, without_appended, write};
+use reference::{appends, field, lawful, with_added, without_appended, write};
 use reference::{Answer, ListReader};
 
 /// A small generator of random numbers.

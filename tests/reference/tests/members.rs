@@ -5,7 +5,7 @@
 mod common;
 
 use common::*;
-use reference::{field, judge, read, ListReader, Verdict};
+use reference::{field, ListReader, Verdict};
 
 /// A schema whose root has the given members. Struct 1 is a struct of a bool and
 /// a U8, and a bool; table 1 has a U8, a U16 and struct 1.

@@ -4,7 +4,7 @@
 mod common;
 
 use common::*;
-use reference::{appends, field, judge, lawful, read, text, with_added, without_appended, write};
+use reference::{appends, field, lawful, text, with_added, without_appended, write};
 use reference::{Answer, ListReader};
 
 /// A table with a U16, and the same with a text after it.

@@ -3,7 +3,7 @@
 mod common;
 
 use common::*;
-use reference::{judge, read, NO_MEMBER};
+use reference::NO_MEMBER;
 
 const MOST: usize = 16_777_215;
 

@@ -3,7 +3,7 @@
 mod common;
 
 use common::*;
-use reference::{field, judge, lawful, read, write, ListReader, Schema};
+use reference::{field, lawful, write, ListReader, Schema};
 
 fn tables(count: u32) -> Vec<(u32, Vec<u16>)> {
     (0..count).map(|id| (id, vec![])).collect()

@@ -3,7 +3,6 @@
 mod common;
 
 use common::*;
-use reference::{judge, read};
 
 /// Reads with all the budget and room there is; the message is accepted.
 fn sheet_of(schema: &[u8], message: &Message) -> Vec<u8> {

@@ -3,7 +3,7 @@
 mod common;
 
 use common::*;
-use reference::{judge, lawful, read, write};
+use reference::{lawful, write};
 
 /// Writes a sheet, and reads the message back to the same sheet.
 fn written(schema: &[u8], sheet: &Sheet) -> Vec<u8> {

@@ -1,18 +1,24 @@
 //! The whole library at the desk, on files. See `USAGE`.
 
-use scalgo::{Answer, Coding, Verdict};
+use scalgo::{Answer, Budget, Coding, Verdict};
 use std::process::ExitCode;
+use std::str::FromStr;
 
 const USAGE: &str = "\
-usage: scalgo-desk [--coding 32] COMMAND; without it the coding is 48
-  scalgo-desk judge SCHEMA MESSAGE          prints number, place, visits, and the member, if any
+usage: scalgo-desk [--coding 32] [--visits N] [--content N] COMMAND
+  scalgo-desk judge SCHEMA MESSAGE          prints number, place, visits, content, and any member
   scalgo-desk field SCHEMA MESSAGE N N N..  prints what stands at the path
   scalgo-desk list SCHEMA MESSAGE N N N..   prints what each element of the list is
   scalgo-desk read SCHEMA MESSAGE SHEET     prints the same with the length; writes SHEET
   scalgo-desk write SCHEMA SHEET MESSAGE    prints number, length; writes MESSAGE
-SCHEMA, MESSAGE and SHEET are files; a refusal writes none. The budget is 100000.";
+SCHEMA, MESSAGE and SHEET are files; a refusal writes none. The coding is 48 unless it is said, and
+100000 objects may be visited, with content of as many bytes as there are.";
 
-const BUDGET: u32 = 100_000;
+/// What the words before the command say, or else 48 bits, 100,000 visits and all content.
+struct Asked {
+    coding: Coding,
+    budget: Budget,
+}
 
 /// The most bytes of a sheet or a message.
 const SIZE: usize = 16_777_215;
@@ -33,18 +39,27 @@ fn main() -> ExitCode {
 }
 
 /// Runs one command and gives what it prints.
-fn run(words: &[&str]) -> Result<String, String> {
-    match words {
-        ["--coding", word, words @ ..] => command(coding(word)?, words),
-        _ => command(Coding::Bits48, words),
+fn run(mut words: &[&str]) -> Result<String, String> {
+    let mut asked = Asked {
+        coding: Coding::Bits48,
+        budget: Budget::of_visits(100_000),
+    };
+    while let [flag @ ("--coding" | "--visits" | "--content"), word, rest @ ..] = words {
+        match *flag {
+            "--coding" => asked.coding = coding(word)?,
+            "--visits" => asked.budget.visits = number(word)?,
+            _ => asked.budget.content = number(word)?,
+        }
+        words = rest;
     }
+    command(&asked, words)
 }
 
-/// A command under a coding.
-fn command(coding: Coding, words: &[&str]) -> Result<String, String> {
+fn command(asked: &Asked, words: &[&str]) -> Result<String, String> {
+    let (coding, budget) = (asked.coding, asked.budget);
     match words {
         ["judge", schema, message] => {
-            let verdict = scalgo::judge(coding, &load(schema)?, &load(message)?, BUDGET);
+            let verdict = scalgo::judge(coding, &load(schema)?, &load(message)?, budget);
             Ok(format!("{}\n", verdict_line(verdict, "")))
         }
         ["field", schema, message, path @ ..] => {
@@ -55,7 +70,7 @@ fn command(coding: Coding, words: &[&str]) -> Result<String, String> {
             let (schema, message, path) = (load(schema)?, load(message)?, numbers(path)?);
             Ok(list(coding, &schema, &message, &path))
         }
-        ["read", schema, message, sheet] => read(coding, &load(schema)?, &load(message)?, sheet),
+        ["read", schema, message, sheet] => read(asked, &load(schema)?, &load(message)?, sheet),
         ["write", schema, sheet, message] => write(coding, &load(schema)?, &load(sheet)?, message),
         _ => Err(USAGE.to_string()),
     }
@@ -77,9 +92,9 @@ fn list(coding: Coding, schema: &[u8], message: &[u8], path: &[u32]) -> String {
     }
 }
 
-fn read(coding: Coding, schema: &[u8], message: &[u8], file: &str) -> Result<String, String> {
+fn read(asked: &Asked, schema: &[u8], message: &[u8], file: &str) -> Result<String, String> {
     let mut sheet = vec![0; SIZE];
-    let answer = scalgo::read(coding, schema, message, BUDGET, &mut sheet);
+    let answer = scalgo::read(asked.coding, schema, message, asked.budget, &mut sheet);
     let verdict = answer.verdict;
     if verdict.accepted() {
         save(file, &sheet[..answer.length])?;
@@ -99,8 +114,10 @@ fn write(coding: Coding, schema: &[u8], sheet: &[u8], file: &str) -> Result<Stri
 
 /// A verdict's numbers, what is said behind them, and the member.
 fn verdict_line(verdict: Verdict, more: &str) -> String {
-    let (number, place, visits) = (verdict.number, verdict.place, verdict.visits);
-    format!("{number} {place} {visits}{more}{}", member(verdict.member))
+    let (number, place) = (verdict.number, verdict.place);
+    let (visits, content) = (verdict.visits, verdict.content);
+    let member = member(verdict.member);
+    format!("{number} {place} {visits} {content}{more}{member}")
 }
 
 /// The member in words, where there is one.
@@ -170,7 +187,12 @@ fn coding(word: &str) -> Result<Coding, String> {
     coding.ok_or_else(|| format!("{word}: no coding"))
 }
 
+fn number<N: FromStr>(word: &str) -> Result<N, String> {
+    let bits = 8 * size_of::<N>();
+    let parsed = word.parse();
+    parsed.map_err(|_| format!("{word}: no number of {bits} bits"))
+}
+
 fn numbers(words: &[&str]) -> Result<Vec<u32>, String> {
-    let number = |word: &&str| word.parse().map_err(|_| format!("{word}: no path number"));
-    words.iter().map(number).collect()
+    words.iter().map(|word| number(word)).collect()
 }

@@ -2,8 +2,6 @@ use Rattle.coding.specs.Walk as W
 use borrow.Author.Needs.{needs}
 use Rattle.judge.proofs.early.Statement.{statement}
 use Rattle.judge.proofs.early.Tie as tie
-use Rattle.judge.proofs.early.Reads as reads
-use Rattle.judge.proofs.early.Lts as lts
 
 returns : tie.Need-returns
 unfolding W.early W.nothing W.noMember

@@ -3,11 +3,6 @@ use Rattle.judge.proofs.VerdictCases.{verdict-unlawful}
 use borrow.Author.Needs.{needs}
 use Rattle.judge.proofs.judge.Statement.{statement}
 use Rattle.judge.proofs.judge.Tie as tie
-use Rattle.judge.proofs.judge.Reads as reads
-use Rattle.judge.proofs.judge.Lts as lts
-use Rattle.judge.proofs.early.Reads as early-reads
-use Rattle.judge.proofs.judged.Reads as judged-reads
-use Rattle.schema_lawful.proofs.judge_schema.Reads as judge-schema-reads
 
 slice-aggregate-judge-schema : tie.Need-slice-aggregate-judge-schema
 slice-aggregate-judge-schema c = search needs

@@ -2,13 +2,6 @@ use Rattle.judge.proofs.VerdictCases.{size-start, size-magic, size-larg
 use borrow.Author.Needs.{needs}
 use Rattle.judge.proofs.judged.Statement.{statement}
 use Rattle.judge.proofs.judged.Tie as tie
-use Rattle.judge.proofs.judged.Reads as reads
-use Rattle.judge.proofs.judged.Lts as lts
-use Rattle.judge.proofs.early.Reads as early-reads
-use Rattle.judge.proofs.verdict_of.Reads as verdict-of-reads
-use Rattle.judge.proofs.walk_from_root.Reads as walk-from-root-reads
-use Rattle.message_start.proofs.size_ok.Reads as size-ok-reads
-use Rattle.message_start.proofs.start_ok.Reads as start-ok-reads
 
 size-ok-requires : tie.Need-size-ok-requires
 size-ok-requires c κs = search needs
@@ -20,7 +13,7 @@ walk-from-root-requires : tie.Need-walk-from-root-requires
 walk-from-root-requires c κs = search (size-start, size-largest, needs)
 
 verdict-of-requires : tie.Need-verdict-of-requires
-verdict-of-requires c κs = code-small _ _ _ _ _ (c .walk-from-root .ensures)
+verdict-of-requires c κs = search (code-small, needs)
 
 returns : tie.Need-returns
 returns c = search verdict-walk

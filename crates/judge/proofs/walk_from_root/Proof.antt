@@ -1,12 +1,7 @@
-use Rattle.judge.proofs.VerdictCases.{walk-is}
+use Rattle.judge.proofs.VerdictCases.{walk-is, walk-visits, walk-content}
 use borrow.Author.Needs.{needs}
 use Rattle.judge.proofs.walk_from_root.Statement.{statement}
 use Rattle.judge.proofs.walk_from_root.Tie as tie
-use Rattle.judge.proofs.walk_from_root.Reads as reads
-use Rattle.judge.proofs.walk_from_root.Lts as lts
-use Rattle.message_start.proofs.root_object.Reads as root-object-reads
-use Rattle.message_start.proofs.root_place.Reads as root-place-reads
-use Rattle.judge_walk.proofs.visit.Reads as visit-reads
 
 root-object-requires : tie.Need-root-object-requires
 root-object-requires c κs = search needs
@@ -18,7 +13,8 @@ visit-requires : tie.Need-visit-requires
 visit-requires c κs = search needs
 
 returns : tie.Need-returns
-returns c = search walk-is
+returns c = search (walk-is, walk-visits, walk-content)
 
 pub walk-from-root-spec : {M : Type 1} → statement M
-walk-from-root-spec = tie.close (tie.spec root-object-requires root-place-requires visit-requires returns)
+walk-from-root-spec =
+    tie.close (tie.spec root-object-requires root-place-requires visit-requires returns)

@@ -21,13 +21,13 @@ use Rattle.wire.proofs.byte_in.Reads as byte-in-reads
 use Rattle.wire.proofs.index.Reads as index-reads
 
 abbrev Inv-loop : tie.InvT-loop
-Inv-loop b m l k x o end₀ v₀ j₀ end v j =
+Inv-loop b m d k x vs cs o end₀ v₀ c₀ j₀ end v c j =
     (j ≤ k .count) × (end ≤ 256 * j)
-    × (As.membersBy o b m l (k .table) x v₀
-    ≡ W.members (As.visitBy o b m l) o (P.parse b) m (x .holder) (x .start) (x .length) (Rs.noBool end) j (drop j (Sc.tableOf (P.parse b) (k .table) .members)) v)
+    × (As.membersBy o b m d (k .table) x (W.spending vs cs)
+    ≡ W.members (As.visitBy o b m d) o (P.parse b) m (x .holder) (x .start) (x .length) (Rs.noBool end) j (drop j (Sc.tableOf (P.parse b) (k .table) .members)) (W.spending v c))
 
 abbrev μ-loop : tie.MeasureT-loop
-μ-loop b m l k x o end₀ v₀ j₀ end v j = k .count - j
+μ-loop b m d k x vs cs o end₀ v₀ c₀ j₀ end v c j = k .count - j
 
 loop-holds : tie.Need-loop-holds Inv-loop μ-loop
 loop-holds c = (omega arith, omega arith, search row-start)
@@ -51,16 +51,16 @@ returns-2 : tie.Need-returns-2 Inv-loop μ-loop
 returns-2 c = row-stopped _ _ _ _ _ _ _ (c .before .before .before .before .before .before .before .before .before .before .before .pre .0) _ _ _ (c .before .before .before .before .before .before .before .before .loop .inv .2) (c .before .before .before .before .before .before .if1 .taken) _ (c .before .before .before .record-place .ensures .0) _ (c .before .before .row-member .ensures) (c .if3 .taken)
 
 byte-in-requires : tie.Need-byte-in-requires Inv-loop μ-loop
-byte-in-requires c κs = omega (arith, c .before .before .before .before .before .before .before .before .before .before .before .before .pre .0 .inside, c .before .before .before .before .record-place .ensures .1)
+byte-in-requires c κs = omega (arith, c .before .before .before .before .before .before .before .before .before .before .before .pre .0 .inside, c .before .before .before .record-place .ensures .1)
 
 index-requires : tie.Need-index-requires Inv-loop μ-loop
 index-requires c κs = search needs
 
 row-width-requires : tie.Need-row-width-requires Inv-loop μ-loop
-row-width-requires c κs = (row-read _ _ (c .before .before .before .before .before .before .before .before .before .before .before .before .before .before .pre .0) _ (c .before .before .before .before .before .before .before .before .before .if1 .taken) _ (c .before .before .before .before .before .before .record-place .ensures .1) _ (c .before .byte-in .ensures) _ (c .index .ensures .0), c .before .before .before .before .before .before .before .before .before .before .before .before .before .before .pre .1)
+row-width-requires c κs = (row-read _ _ (c .before .before .before .before .before .before .before .before .before .before .before .before .before .pre .0) _ (c .before .before .before .before .before .before .before .before .if1 .taken) _ (c .before .before .before .before .before .record-place .ensures .1) _ (c .before .byte-in .ensures) _ (c .index .ensures .0), c .before .before .before .before .before .before .before .before .before .before .before .before .before .pre .1)
 
 add-end : tie.Need-add-end Inv-loop μ-loop
-add-end c = omega (arith, c .row-width .ensures .1, c .before .before .before .before .before .before .before .before .before .before .before .before .before .before .before .pre .0 .few, c .before .before .before .before .before .before .before .before .before .before .before .before .loop .inv .1)
+add-end c = omega (arith, c .row-width .ensures .1, c .before .before .before .before .before .before .before .before .before .before .before .before .before .before .pre .0 .few, c .before .before .before .before .before .before .before .before .before .before .before .loop .inv .1)
 
 add-j : tie.Need-add-j Inv-loop μ-loop
 add-j c = search needs
@@ -69,7 +69,7 @@ loop-less : tie.Need-loop-less Inv-loop μ-loop
 loop-less c = search needs
 
 loop-again : tie.Need-loop-again Inv-loop μ-loop
-loop-again c = (omega arith, omega (arith, c .row-width .ensures .1, c .before .before .before .before .before .before .before .before .before .before .before .before .loop .inv .1), row-turn _ _ _ _ _ _ _ (c .before .before .before .before .before .before .before .before .before .before .before .before .before .before .before .pre .0) _ _ _ (c .before .before .before .before .before .before .before .before .before .before .before .before .loop .inv .2) (c .before .before .before .before .before .before .before .before .before .before .if1 .taken) _ (c .before .before .before .before .before .before .before .record-place .ensures .0) _ (c .before .before .before .before .before .before .row-member .ensures) (c .before .before .before .before .if3 .left) (c .before .before .before .before .before .before .before .record-place .ensures .1) _ (c .before .before .byte-in .ensures) _ (c .before .index .ensures .0) _ (c .row-width .ensures .0) (c .row-width .ensures .1))
+loop-again c = (omega arith, omega (arith, c .row-width .ensures .1, c .before .before .before .before .before .before .before .before .before .before .before .loop .inv .1), row-turn _ _ _ _ _ _ _ (c .before .before .before .before .before .before .before .before .before .before .before .before .before .before .pre .0) _ _ _ (c .before .before .before .before .before .before .before .before .before .before .before .loop .inv .2) (c .before .before .before .before .before .before .before .before .before .if1 .taken) _ (c .before .before .before .before .before .before .record-place .ensures .0) _ (c .before .before .before .before .before .row-member .ensures) (c .before .before .before .if3 .left) (c .before .before .before .before .before .before .record-place .ensures .1) _ (c .before .before .byte-in .ensures) _ (c .before .index .ensures .0) _ (c .row-width .ensures .0) (c .row-width .ensures .1))
 
 going-requires-2 : tie.Need-going-requires-2 Inv-loop μ-loop
 going-requires-2 c κs = search needs

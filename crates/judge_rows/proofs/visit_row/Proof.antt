@@ -1,15 +1,8 @@
-use Rattle.outcome.proofs.ArrivalCases.{offset-stopped, offset-refused, table-judged, charged-deep}
-use Rattle.message_object.proofs.OpenCases.{table-opened}
+use Rattle.outcome.proofs.ArrivalCases.{offset-stopped, offset-refused, table-unpaid, table-paid, charged-deep, not-more}
+use Rattle.message_object.proofs.OpenCases.{table-found}
 use borrow.Author.Needs.{needs}
 use Rattle.judge_rows.proofs.visit_row.Statement.{statement}
 use Rattle.judge_rows.proofs.visit_row.Tie as tie
-use Rattle.judge_rows.proofs.visit_row.Reads as reads
-use Rattle.judge_rows.proofs.visit_row.Lts as lts
-use Rattle.judge_rows.proofs.row_members.Reads as row-members-reads
-use Rattle.message_object.proofs.open_table.Reads as open-table-reads
-use Rattle.outcome.proofs.below.Reads as below-reads
-use Rattle.outcome.proofs.charge.Reads as charge-reads
-use Rattle.outcome.proofs.refuse.Reads as refuse-reads
 
 charge-requires : tie.Need-charge-requires
 charge-requires c κs = search needs
@@ -17,8 +10,8 @@ charge-requires c κs = search needs
 returns : tie.Need-returns
 returns c = search offset-stopped
 
-open-table-requires : tie.Need-open-table-requires
-open-table-requires c κs = search needs
+fit-table-requires : tie.Need-fit-table-requires
+fit-table-requires c κs = search needs
 
 enum-known-e : tie.Need-enum-known-e
 enum-known-e c = search needs
@@ -29,17 +22,29 @@ refuse-requires c κs = search needs
 enum-known-start : tie.Need-enum-known-start
 enum-known-start c = search needs
 
+exceeds-requires : tie.Need-exceeds-requires
+exceeds-requires c κs = search needs
+
+refuse-requires-2 : tie.Need-refuse-requires-2
+refuse-requires-2 c κs = search needs
+
+returns-2 : tie.Need-returns-2
+returns-2 c = search table-unpaid
+
 below-requires : tie.Need-below-requires
 below-requires c κs = search charged-deep
 
-row-members-requires : tie.Need-row-members-requires
-row-members-requires c κs = search (table-opened, needs)
+rest-requires : tie.Need-rest-requires
+rest-requires c κs = search not-more
 
-returns-2 : tie.Need-returns-2
-returns-2 c = search offset-refused
+row-members-requires : tie.Need-row-members-requires
+row-members-requires c κs = search (table-found, needs)
 
 returns-3 : tie.Need-returns-3
-returns-3 c = search table-judged
+returns-3 c = search offset-refused
+
+returns-4 : tie.Need-returns-4
+returns-4 c = search table-paid
 
 pub visit-row-spec : {M : Type 1} → statement M
 visit-row-spec =
@@ -47,11 +52,15 @@ visit-row-spec =
     (tie.spec
     charge-requires
     returns
-    open-table-requires
+    fit-table-requires
     enum-known-e
     refuse-requires
     enum-known-start
-    below-requires
-    row-members-requires
+    exceeds-requires
+    refuse-requires-2
     returns-2
-    returns-3)
+    below-requires
+    rest-requires
+    row-members-requires
+    returns-3
+    returns-4)

@@ -17,13 +17,13 @@ use Rattle.outcome.proofs.going.Reads as going-reads
 use Rattle.wire.proofs.offset_in.Reads as offset-in-reads
 
 abbrev Inv-loop : tie.InvT-loop
-Inv-loop b m l x o v₀ at₀ j₀ v at j =
+Inv-loop b m d x vs cs o v₀ c₀ at₀ j₀ v c at j =
     (j ≤ x .length) × (at ≡ x .start + o * j)
-    × (As.elementsBy o b m l (OfObject O.Text) x v₀
-    ≡ W.elements (As.visitBy o b m l) o (P.parse b) m (x .holder) (x .start) (OfObject O.Text) (x .length - j) j v)
+    × (As.elementsBy o b m d (OfObject O.Text) x (W.spending vs cs)
+    ≡ W.elements (As.visitBy o b m d) o (P.parse b) m (x .holder) (x .start) (OfObject O.Text) (x .length - j) j (W.spending v c))
 
 abbrev μ-loop : tie.MeasureT-loop
-μ-loop b m l x o v₀ at₀ j₀ v at j = x .length - j
+μ-loop b m d x vs cs o v₀ c₀ at₀ j₀ v c at j = x .length - j
 
 loop-holds : tie.Need-loop-holds Inv-loop μ-loop
 loop-holds c = (omega arith, omega arith, search elements-start)

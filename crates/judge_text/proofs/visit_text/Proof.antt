@@ -1,13 +1,8 @@
-use Rattle.outcome.proofs.ArrivalCases.{offset-stopped, offset-refused, text-judged}
+use Rattle.outcome.proofs.ArrivalCases.{offset-stopped, offset-refused, not-more, text-unpaid, text-paid}
+use Rattle.message_object.proofs.OpenCases.{text-found}
 use borrow.Author.Needs.{needs}
 use Rattle.judge_text.proofs.visit_text.Statement.{statement}
 use Rattle.judge_text.proofs.visit_text.Tie as tie
-use Rattle.judge_text.proofs.visit_text.Reads as reads
-use Rattle.judge_text.proofs.visit_text.Lts as lts
-use Rattle.message_object.proofs.open_text.Reads as open-text-reads
-use Rattle.outcome.proofs.charge.Reads as charge-reads
-use Rattle.outcome.proofs.going.Reads as going-reads
-use Rattle.outcome.proofs.refuse.Reads as refuse-reads
 
 charge-requires : tie.Need-charge-requires
 charge-requires c κs = search needs
@@ -15,8 +10,8 @@ charge-requires c κs = search needs
 returns : tie.Need-returns
 returns c = search offset-stopped
 
-open-text-requires : tie.Need-open-text-requires
-open-text-requires c κs = search needs
+fit-text-requires : tie.Need-fit-text-requires
+fit-text-requires c κs = search needs
 
 enum-known-e : tie.Need-enum-known-e
 enum-known-e c = search needs
@@ -24,17 +19,29 @@ enum-known-e c = search needs
 refuse-requires : tie.Need-refuse-requires
 refuse-requires c κs = search needs
 
-enum-told : tie.Need-enum-told
-enum-told c = search needs
+enum-known-start : tie.Need-enum-known-start
+enum-known-start c = search needs
 
-going-requires : tie.Need-going-requires
-going-requires c κs = search needs
+exceeds-requires : tie.Need-exceeds-requires
+exceeds-requires c κs = search needs
+
+refuse-requires-2 : tie.Need-refuse-requires-2
+refuse-requires-2 c κs = search needs
 
 returns-2 : tie.Need-returns-2
-returns-2 c = search offset-refused
+returns-2 c = search text-unpaid
+
+rest-requires : tie.Need-rest-requires
+rest-requires c κs = search not-more
+
+text-end-requires : tie.Need-text-end-requires
+text-end-requires c κs = search text-found
 
 returns-3 : tie.Need-returns-3
-returns-3 c = search text-judged
+returns-3 c = search offset-refused
+
+returns-4 : tie.Need-returns-4
+returns-4 c = search text-paid
 
 pub visit-text-spec : {M : Type 1} → statement M
 visit-text-spec =
@@ -42,10 +49,14 @@ visit-text-spec =
     (tie.spec
     charge-requires
     returns
-    open-text-requires
+    fit-text-requires
     enum-known-e
     refuse-requires
-    enum-told
-    going-requires
+    enum-known-start
+    exceeds-requires
+    refuse-requires-2
     returns-2
-    returns-3)
+    rest-requires
+    text-end-requires
+    returns-3
+    returns-4)

@@ -1,6 +1,6 @@
 -- `message_header::content_size` meets its contract, by the object.
 use native.Mathlib.Omega.{arith}
-use Rattle.message_header.proofs.ContentCases.{size-text, size-bytes, size-list, size-table, list-there, element-sound}
+use Rattle.message_header.proofs.ContentCases.{size-text, size-bytes, size-list, size-table, list-there}
 use borrow.Author.Needs.{needs}
 use Rattle.message_header.proofs.content_size.Statement.{statement}
 use Rattle.message_header.proofs.content_size.Tie as tie
@@ -20,11 +20,8 @@ enum-known-ob c = search needs
 index-requires : tie.Need-index-requires
 index-requires c κs = search needs
 
-element-requires : tie.Need-element-requires
-element-requires c κs = search (list-there, needs)
-
-elements-size-requires : tie.Need-elements-size-requires
-elements-size-requires c κs = search (element-sound, needs)
+list-size-requires : tie.Need-list-size-requires
+list-size-requires c κs = search (list-there, needs)
 
 enum-told-3 : tie.Need-enum-told-3
 enum-told-3 c = search needs
@@ -50,8 +47,7 @@ content-size-spec =
     enum-told-2
     enum-known-ob
     index-requires
-    element-requires
-    elements-size-requires
+    list-size-requires
     enum-told-3
     returns
     returns-2

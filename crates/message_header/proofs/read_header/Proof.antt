@@ -26,17 +26,14 @@ returns-3 c = (search header-other, tt)
 add-t6 : tie.Need-add-t6
 add-t6 c = search needs
 
-add-offset-in : tie.Need-add-offset-in
-add-offset-in c = search needs
-
-offset-in-requires : tie.Need-offset-in-requires
-offset-in-requires c κs = search needs
+length-in-requires : tie.Need-length-in-requires
+length-in-requires c κs = search needs
 
 returns-4 : tie.Need-returns-4
 returns-4 c =
     let i = c .before .before .before .before in (
       header-good _ _ _ _ _ _ (i .before .start-size .ensures) (i .if1 .left) (c .before .before .before .if2 .left) _ (c .before .before .u32-in .ensures)
-          (c .before .if3 .left) _ (c .offset-in .ensures .0),
+          (c .before .if3 .left) _ (c .length-in .ensures .0),
       (omega arith, search needs),
     )
 
@@ -51,6 +48,5 @@ read-header-spec =
     u32-in-requires
     returns-3
     add-t6
-    add-offset-in
-    offset-in-requires
+    length-in-requires
     returns-4)

@@ -1,4 +1,4 @@
-use Rattle.message_object.proofs.OpenCases.{placed-refused, placed-fit, small-start, small-length}
+use Rattle.message_object.proofs.OpenCases.{placed-refused, placed-fit, small-start, small-length, length-found}
 use borrow.Author.Needs.{needs}
 use Rattle.message_object.proofs.fit_object.Statement.{statement}
 use Rattle.message_object.proofs.fit_object.Tie as tie
@@ -20,10 +20,10 @@ fit-content-requires : tie.Need-fit-content-requires
 fit-content-requires c κs = search (small-start, small-length, needs)
 
 returns : tie.Need-returns
-returns c = search placed-refused
+returns c = (search placed-refused, tt)
 
 returns-2 : tie.Need-returns-2
-returns-2 c = search placed-fit
+returns-2 c = search (placed-fit, length-found, small-length)
 
 pub fit-object-spec : {M : Type 1} → statement M
 fit-object-spec =

@@ -2,8 +2,6 @@ use mathlib.Core.Path.{refl}
 use Rattle.outcome.specs.Answers as As
 use Rattle.outcome.proofs.going.Statement.{statement}
 use Rattle.outcome.proofs.going.Tie as tie
-use Rattle.outcome.proofs.going.Reads as reads
-use Rattle.outcome.proofs.going.Lts as lts
 
 returns : tie.Need-returns
 unfolding As.walkedOf

@@ -1,4 +1,4 @@
-use Rattle.promises.proofs.Promised.{judges-exactly, judges-arrivals}
+use Rattle.promises.proofs.Promised.{judges-exactly, judges-arrivals, judges-content}
 use borrow.Author.Needs.{needs}
 use Rattle.promises.proofs.judged.Statement.{statement}
 use Rattle.promises.proofs.judged.Tie as tie
@@ -9,7 +9,10 @@ judge-requires c κs = search needs
 returns : tie.Need-returns
 returns c = (
   c .judge .ensures,
-  (judges-exactly _ _ _ _ _ (c .judge .ensures), judges-arrivals _ _ _ _ _ (c .judge .ensures)),
+  (
+    judges-exactly _ _ _ _ _ (c .judge .ensures),
+    (judges-arrivals _ _ _ _ _ (c .judge .ensures), judges-content _ _ _ _ _ (c .judge .ensures)),
+  ),
 )
 
 pub judged-spec : {M : Type 1} → statement M

@@ -1,4 +1,4 @@
-use Rattle.promises.proofs.Promised.{reads-exactly, reads-arrivals, reads-room, reads-lawful}
+use Rattle.promises.proofs.Promised.{reads-exactly, reads-arrivals, reads-content, reads-room, reads-lawful}
 use Rattle.promises.proofs.Reading.{hands-out, refused-kept}
 use borrow.Author.Needs.{needs}
 use Rattle.promises.proofs.read.Statement.{statement}
@@ -24,10 +24,13 @@ returns c =
           (
             reads-arrivals _ _ _ _ _ _ ea,
             (
-              reads-room _ _ _ _ _ _ ea,
+              reads-content _ _ _ _ _ _ ea,
               (
-                refused-kept _ _ _ _ _ _ _ ea eo,
-                (hands-out _ _ _ _ _ _ _ ea eo, reads-lawful _ _ _ (λ i. schema-known .given i .fits) (λ i. message-known .given i .fits) _ _ _ _ ea eo),
+                reads-room _ _ _ _ _ _ ea,
+                (
+                  refused-kept _ _ _ _ _ _ _ ea eo,
+                  (hands-out _ _ _ _ _ _ _ ea eo, reads-lawful _ _ _ (λ i. schema-known .given i .fits) (λ i. message-known .given i .fits) _ _ _ _ ea eo),
+                ),
               ),
             ),
           ),

@@ -1,4 +1,4 @@
-use Rattle.promises.proofs.Trips.{reads-back, trip-sheet, spends-all}
+use Rattle.promises.proofs.Trips.{reads-back, trip-sheet, falls-short, few-visits, little-content}
 use Rattle.promises.proofs.Writing.{within-room, part-length}
 use borrow.Author.Needs.{needs}
 use Rattle.promises.proofs.write_then_read.Statement.{statement}
@@ -41,7 +41,13 @@ returns c =
               λ h. reads-back _ _ _ (λ i. schema-known .given i .fits) (λ i. sheet-known .given i .fits) _ _ _ ew er h _ _ _ _ ea eo,
               (
                 λ h. trip-sheet _ _ _ (λ i. schema-known .given i .fits) (λ i. sheet-known .given i .fits) _ _ _ ew er h,
-                λ h. spends-all _ _ _ (λ i. schema-known .given i .fits) (λ i. sheet-known .given i .fits) _ _ _ ew er h _ _ _ _ ea eo,
+                (
+                  λ h. falls-short _ _ _ (λ i. schema-known .given i .fits) (λ i. sheet-known .given i .fits) _ _ _ ew er h _ _ _ _ ea eo,
+                  (
+                    λ h. few-visits _ _ _ (λ i. schema-known .given i .fits) (λ i. sheet-known .given i .fits) _ _ _ ew er h _ _ _ _ ea eo,
+                    λ h. little-content _ _ _ (λ i. schema-known .given i .fits) (λ i. sheet-known .given i .fits) _ _ _ ew er h _ _ _ _ ea eo,
+                  ),
+                ),
               ),
             ),
           ),

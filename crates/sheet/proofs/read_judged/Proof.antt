@@ -16,7 +16,7 @@ returns : tie.Need-returns
 returns c = (search read-answer, search read-over)
 
 returns-2 : tie.Need-returns-2
-returns-2 c = (search refused-answer, search refused-over)
+returns-2 c = (search refused-answer, refused-over _ _ _ _ _ _ (c .before .before .judged .ensures) (c .if1 .left))
 
 pub read-judged-spec : {M : Type 1} → statement M
 read-judged-spec = tie.close (tie.spec judged-requires read-accepted-requires same-length returns returns-2)

@@ -1,7 +1,7 @@
 //! The proved library, called as a C program calls it.
 
 use super::{Calls, Read, Writes};
-use crate::program::{Judge, Verdict};
+use crate::program::{Budget, Judge, Verdict};
 use crate::schema::Packed;
 // The archive is linked with the wrapper.
 use scalgo as _;
@@ -13,10 +13,9 @@ extern "C" {
         schema_len: usize,
         message: *const u8,
         message_len: usize,
-        budget: u32,
-        place: *mut u64,
-        member: *mut u32,
-        visits: *mut u32,
+        visits: u32,
+        content: u64,
+        verdict: *mut Stored,
     ) -> u32;
 
     fn scalgo_field(
@@ -63,12 +62,11 @@ extern "C" {
         schema_len: usize,
         message: *const u8,
         message_len: usize,
-        budget: u32,
+        visits: u32,
+        content: u64,
         sheet: *mut u8,
         room: usize,
-        place: *mut u64,
-        member: *mut u32,
-        visits: *mut u32,
+        verdict: *mut Stored,
         length: *mut u64,
     ) -> u32;
 
@@ -87,6 +85,41 @@ extern "C" {
 /// What a number holds before a call that must store one.
 const UNSET: u64 = 0x5A5A_5A5A_5A5A_5A5A;
 
+/// A verdict as C has it.
+#[repr(C)]
+struct Stored {
+    number: u64,
+    place: u64,
+    member: u64,
+    visits: u64,
+    content: u64,
+}
+
+impl Stored {
+    /// What a verdict holds before a call.
+    const UNSET: Stored = Stored {
+        number: UNSET,
+        place: UNSET,
+        member: UNSET,
+        visits: UNSET,
+        content: UNSET,
+    };
+
+    /// The verdict of a call that answered this number. Where the one stored is
+    /// another, or one of 32 bits is larger, the number is none of any answer's.
+    fn verdict(&self, answered: u32) -> Verdict {
+        let narrow = |number: u64| number <= u64::from(u32::MAX);
+        let fits = self.number == u64::from(answered) && narrow(self.member) && narrow(self.visits);
+        Verdict {
+            number: if fits { answered } else { u32::MAX },
+            place: self.place,
+            member: self.member as u32,
+            visits: self.visits as u32,
+            content: self.content,
+        }
+    }
+}
+
 /// The proved library.
 pub struct LibraryCalls;
 
@@ -95,10 +128,10 @@ impl Judge for LibraryCalls {
         "proved library"
     }
 
-    fn judge(&self, schema: &Packed, message: &[u8], budget: u32) -> Verdict {
-        let (mut place, mut member, mut visits) = (UNSET, UNSET as u32, UNSET as u32);
+    fn judge(&self, schema: &Packed, message: &[u8], budget: Budget) -> Verdict {
+        let mut stored = Stored::UNSET;
         // SAFETY: each slice is given as its pointer and its length and is not written to during
-        // the call; the three numbers are this function's own.
+        // the call; what is stored is this function's own.
         let number = unsafe {
             scalgo_judge(
                 schema.coding,
@@ -106,18 +139,12 @@ impl Judge for LibraryCalls {
                 schema.bytes.len(),
                 message.as_ptr(),
                 message.len(),
-                budget,
-                &mut place,
-                &mut member,
-                &mut visits,
+                budget.visits,
+                budget.content,
+                &mut stored,
             )
         };
-        Verdict {
-            number,
-            place,
-            member,
-            visits,
-        }
+        stored.verdict(number)
     }
 }
 
@@ -186,9 +213,8 @@ impl Calls for LibraryCalls {
         }
     }
 
-    fn read(&self, schema: &Packed, message: &[u8], budget: u32, sheet: &mut [u8]) -> Read {
-        let (mut place, mut member, mut visits) = (UNSET, UNSET as u32, UNSET as u32);
-        let mut length = UNSET;
+    fn read(&self, schema: &Packed, message: &[u8], budget: Budget, sheet: &mut [u8]) -> Read {
+        let (mut stored, mut length) = (Stored::UNSET, UNSET);
         // SAFETY: as in `judge`; the sheet is lent to this function alone.
         let number = unsafe {
             scalgo_read(
@@ -197,21 +223,15 @@ impl Calls for LibraryCalls {
                 schema.bytes.len(),
                 message.as_ptr(),
                 message.len(),
-                budget,
+                budget.visits,
+                budget.content,
                 sheet.as_mut_ptr(),
                 sheet.len(),
-                &mut place,
-                &mut member,
-                &mut visits,
+                &mut stored,
                 &mut length,
             )
         };
-        let verdict = Verdict {
-            number,
-            place,
-            member,
-            visits,
-        };
+        let verdict = stored.verdict(number);
         Read { verdict, length }
     }
 }

@@ -10,7 +10,7 @@ pub mod writes;
 
 use crate::coding::Coding;
 use crate::counts::Counts;
-use crate::program::{Judge, Verdict};
+use crate::program::{Budget, Judge, Verdict};
 use crate::schema::Packed;
 
 pub use library::LibraryCalls;
@@ -40,7 +40,7 @@ pub trait Calls: Judge {
         cases: &mut [u64],
     ) -> u64;
     /// A message to its sheet.
-    fn read(&self, schema: &Packed, message: &[u8], budget: u32, sheet: &mut [u8]) -> Read;
+    fn read(&self, schema: &Packed, message: &[u8], budget: Budget, sheet: &mut [u8]) -> Read;
 }
 
 /// The call that writes, and those that read what was written.

@@ -5,15 +5,13 @@ use super::{Calls, Output};
 use crate::coding::Coding;
 use crate::counts::Counts;
 use crate::laws::hex;
+use crate::program::{Budget, AMPLE};
 use crate::rng::Rng;
 use crate::schema::SIZE_LIMIT;
 use crate::subjects::{self, Subject};
 
 /// What the calls are counted as.
 pub const CALLS: &str = "reads";
-
-/// Damage may share objects so that a walk grows without end.
-const AMPLE: u32 = 3000;
 
 /// Two programs, and what was seen of them.
 pub type Run<'a> = super::Run<'a, dyn Calls + 'a>;
@@ -49,26 +47,50 @@ fn on_subject(run: &mut Run, rng: &mut Rng, subject: &Subject) -> Result<(), Str
         AMPLE,
         SIZE_LIMIT,
     );
-    let (length, visits) = (sheet.len(), verdict.visits);
+    let (length, visits, content) = (sheet.len(), verdict.visits, verdict.content);
+    let exact = Budget { visits, content };
     if verdict.number != 0 {
         run.counts.note(&format!("refused: {:?}", subject.sort));
-        let (budget, room) = (rng.pick(&[AMPLE, 0, 1, visits]), rng.below(80));
+        let room = rng.below(80);
         one(run, rng, subject, (AMPLE, room), "room: some")?;
+        let budgets = [exact, less_visits(rng, exact), less_content(rng, exact)];
+        let budget = rng.pick(&budgets);
         return one(run, rng, subject, (budget, 0), "room: none");
     }
     run.counts.note(&format!("accepted: {:?}", subject.sort));
     let larger = length + 1 + rng.below(40);
-    one(run, rng, subject, (visits, length), "room: exact")?;
+    one(run, rng, subject, (exact, length), "room: exact")?;
     one(run, rng, subject, (AMPLE, larger), "room: larger")?;
-    one(run, rng, subject, (u32::MAX, 0), "room: none")?;
+    one(run, rng, subject, (Budget::LARGEST, 0), "room: none")?;
     if length > 0 {
-        one(run, rng, subject, (visits, length - 1), "room: one less")?;
+        one(run, rng, subject, (exact, length - 1), "room: one less")?;
         let less = rng.below(length);
-        one(run, rng, subject, (u32::MAX, less), "room: some less")?;
+        one(
+            run,
+            rng,
+            subject,
+            (Budget::LARGEST, less),
+            "room: some less",
+        )?;
     }
-    let less = rng.pick(&[0, visits - 1, visits / 2]);
-    let room = rng.pick(&[0, length, larger]);
-    one(run, rng, subject, (less, room), "budget: less")
+    let rooms = [0, length, larger];
+    let fewer = (less_visits(rng, exact), rng.pick(&rooms));
+    one(run, rng, subject, fewer, "visits: less")?;
+    let less = (less_content(rng, exact), rng.pick(&rooms));
+    one(run, rng, subject, less, "content: less")
+}
+
+/// Fewer visits than it takes, or none where it takes none, and all content.
+fn less_visits(rng: &mut Rng, exact: Budget) -> Budget {
+    let visits = exact.visits;
+    Budget::of_visits(rng.pick(&[0, 1.min(visits), visits.saturating_sub(1), visits / 2]))
+}
+
+/// Less content than it takes, or none where it takes none, and enough visits.
+fn less_content(rng: &mut Rng, exact: Budget) -> Budget {
+    let most = exact.content.saturating_sub(1);
+    let content = rng.pick(&[0, most, most, most / 2]);
+    Budget { content, ..AMPLE }
 }
 
 /// One call of both with a budget and a room.
@@ -76,7 +98,7 @@ fn one(
     run: &mut Run,
     rng: &mut Rng,
     subject: &Subject,
-    (budget, room): (u32, usize),
+    (budget, room): (Budget, usize),
     sort: &str,
 ) -> Result<(), String> {
     let fill = rng.bits() as u8;
@@ -93,7 +115,7 @@ fn one(
         return Ok(());
     }
     Err(format!(
-        "{:?}, budget {budget}, room {room}\n  {}: {given:?}\n  {}: {second:?}\n  \
+        "{:?}, {budget:?}, room {room}\n  {}: {given:?}\n  {}: {second:?}\n  \
          output:   {}\n  expected: {}\n  schema: {}\n  message: {}",
         subject.sort,
         run.first.name(),

@@ -1,7 +1,7 @@
 //! What the second program says, in the C interface's numbers.
 
 use super::{Calls, Read, Writes};
-use crate::program::{Judge, Second, Verdict};
+use crate::program::{Budget, Judge, Second, Verdict};
 use crate::schema::Packed;
 use reference::{Answer, ListReader};
 
@@ -46,7 +46,7 @@ impl Judge for SecondCalls {
         Second.name()
     }
 
-    fn judge(&self, schema: &Packed, message: &[u8], budget: u32) -> Verdict {
+    fn judge(&self, schema: &Packed, message: &[u8], budget: Budget) -> Verdict {
         Second.judge(schema, message, budget)
     }
 }
@@ -96,7 +96,7 @@ impl Calls for SecondCalls {
         length
     }
 
-    fn read(&self, schema: &Packed, message: &[u8], budget: u32, sheet: &mut [u8]) -> Read {
+    fn read(&self, schema: &Packed, message: &[u8], budget: Budget, sheet: &mut [u8]) -> Read {
         let (verdict, read) =
             reference::read(schema.coding, &schema.bytes, message, budget, sheet.len());
         sheet[..read.len()].copy_from_slice(&read);

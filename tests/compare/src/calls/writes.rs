@@ -7,7 +7,7 @@ use crate::counts::Counts;
 use crate::damage;
 use crate::laws::hex;
 use crate::message_gen;
-use crate::program::accepted;
+use crate::program::{accepted, Budget, AMPLE};
 use crate::rng::Rng;
 use crate::schema::{Packed, Schema, SIZE_LIMIT};
 use crate::schema_faults;
@@ -122,7 +122,7 @@ fn read_from_damaged(rng: &mut Rng, schema: &Schema, value: Value) -> Option<Vec
     let wild = message_gen::lay_out(schema, rng, value, None);
     let bytes = damage::message(schema.coding, rng, &wild.bytes, &wild.spots);
     let packed = schema.pack();
-    let (verdict, sheet) = reference::read(packed.coding, &packed.bytes, &bytes, 3000, 1 << 16);
+    let (verdict, sheet) = reference::read(packed.coding, &packed.bytes, &bytes, AMPLE, 1 << 16);
     (verdict.number == 0).then_some(sheet)
 }
 
@@ -186,11 +186,12 @@ fn read_back(run: &mut Run, subject: &Subject, message: &[u8]) -> Result<(), Str
     let mut back = Output::new(length, 0);
     let read = run
         .first
-        .read(&subject.schema, message, u32::MAX, back.lent());
+        .read(&subject.schema, message, Budget::LARGEST, back.lent());
     run.counts.note("round trips");
     let verdict = read.verdict;
     let whole = read.length == length as u64 && back.front(length) == subject.sheet;
-    if verdict == accepted(verdict.visits) && verdict.visits > 0 && whole {
+    let spent = accepted(verdict.visits, verdict.content);
+    if verdict == spent && verdict.visits > 0 && whole {
         return Ok(());
     }
     Err(format!(

@@ -9,10 +9,8 @@ use crate::schema_faults;
 use crate::schema_gen;
 use crate::schema_rules;
 use crate::sheet;
-use crate::value::{objects, Value};
+use crate::value::{self, objects, Value};
 use crate::value_gen::{self, Purpose};
-
-const BUDGET: u32 = 3000;
 
 /// A schema and one that appends to it.
 struct Pair {
@@ -72,11 +70,10 @@ fn forward(context: &mut Context, pair: &Pair) -> Checked {
     let size = value_gen::some_size(&mut context.rng);
     let value = value_gen::root_value(&pair.newer, &mut context.rng, Purpose::Wild, size);
     let wild = message_gen::lay_out(&pair.newer, &mut context.rng, value, None);
-    let visits = wild.walked.len() as u32;
-    forward_one(context, pair, &wild.bytes, visits, Some(&wild.value))?;
+    forward_one(context, pair, &wild.bytes, wild.spent(), Some(&wild.value))?;
     for _ in 0..2 {
         let bytes = damage::message(context.coding, &mut context.rng, &wild.bytes, &wild.spots);
-        forward_one(context, pair, &bytes, BUDGET, None)?;
+        forward_one(context, pair, &bytes, AMPLE, None)?;
     }
     Ok(())
 }
@@ -85,7 +82,7 @@ fn forward_one(
     context: &mut Context,
     pair: &Pair,
     bytes: &[u8],
-    budget: u32,
+    budget: Budget,
     value: Option<&Value>,
 ) -> Checked {
     let data: Data = &[
@@ -105,10 +102,7 @@ fn forward_one(
     let old_value = append_gen::without_appended(&pair.older, &root, value.unwrap_or(&new_value));
     let expected = sheet::encode(&pair.older, &old_value);
     let visits = objects(&old_value) as u32;
-    for budget in [verdict.visits, budget, visits] {
-        let verdict = context.judge(&pair.old, bytes, budget);
-        same("the older accepts too", &accepted(visits), &verdict, data)?;
-    }
+    cheaper(context, pair, bytes, budget, (verdict, visits))?;
     let (_, old_sheet) = context.read(&pair.old, bytes, budget, SIZE_LIMIT);
     same_bytes("the older's sheet", &expected, &old_sheet, data)?;
     let relations = context.relations;
@@ -119,6 +113,34 @@ fn forward_one(
         &cut,
         data,
     )
+}
+
+/// The older accepts with what the newer spent and with its own, which is no more
+/// of either allowance.
+fn cheaper(
+    context: &mut Context,
+    pair: &Pair,
+    bytes: &[u8],
+    budget: Budget,
+    (newer, visits): (Verdict, u32),
+) -> Checked {
+    let data: Data = &[
+        ("older", &pair.old.bytes),
+        ("newer", &pair.new.bytes),
+        ("m", bytes),
+    ];
+    let spent = |verdict: Verdict| Budget {
+        visits: verdict.visits,
+        content: verdict.content,
+    };
+    let older = context.judge(&pair.old, bytes, budget);
+    for budget in [spent(newer), spent(older), Budget::LARGEST] {
+        let verdict = context.judge(&pair.old, bytes, budget);
+        let expected = accepted(visits, older.content);
+        same("the older accepts too", &expected, &verdict, data)?;
+    }
+    let no_more = older.visits <= newer.visits && older.content <= newer.content;
+    same("the older spends no more", &true, &no_more, data)
 }
 
 /// What was written by the older, the newer accepts.
@@ -137,10 +159,10 @@ fn backward(context: &mut Context, pair: &Pair) -> Checked {
     let root = Record::plain(TABLE, pair.older.root);
     let new_value = append_gen::with_added(&pair.older, &pair.newer, &root, &value);
     let expected = sheet::encode(&pair.newer, &new_value);
-    let visits = objects(&value) as u32;
-    let accepted = accepted(visits);
-    let more = visits + context.rng.range(0, 100) as u32;
-    for budget in [visits, more, u32::MAX] {
+    // The newer spends what the older does.
+    let exact = value::spent(&pair.older, &value);
+    let (accepted, more) = (accepted_with(exact), or_more(&mut context.rng, exact));
+    for budget in [exact, more, Budget::LARGEST] {
         for schema in [&pair.old, &pair.new] {
             let verdict = context.judge(schema, &message, budget);
             same("older and newer accept", &accepted, &verdict, data)?;

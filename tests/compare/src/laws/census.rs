@@ -66,15 +66,9 @@ fn extent(schema: &Schema, arrival: &Arrival) -> (u64, u64) {
     } else {
         schema.coding.header()
     };
-    let content = match arrival.kind {
-        TEXT => arrival.length + 1,
-        LIST => {
-            let element = schema.lists[usize::from(arrival.argument)];
-            (arrival.length * schema.element_bits(&element)).div_ceil(8)
-        }
-        _ => arrival.length,
-    };
-    (arrival.place, arrival.place + header as u64 + content)
+    let content = schema.content(arrival.kind, arrival.argument, arrival.length);
+    let end = u64::from(arrival.kind == TEXT);
+    (arrival.place, arrival.place + header as u64 + content + end)
 }
 
 /// Counts objects that are reached again, and those that overlap others.

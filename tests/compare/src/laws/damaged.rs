@@ -11,9 +11,6 @@ use crate::sheet;
 use crate::value::{objects, writable, Value};
 use crate::value_gen::{self, Purpose};
 
-/// Damage may share objects so that a walk grows without end.
-const BUDGET: u32 = 3000;
-
 /// One message with several damages of it.
 pub fn check(context: &mut Context) -> Checked {
     let schema = schema_gen::lawful_schema(context.coding, &mut context.rng);
@@ -37,11 +34,11 @@ fn one(
     value: &Value,
 ) -> Checked {
     let data: Data = &[("schema", &packed.bytes), ("message", bytes)];
-    let verdict = context.judge(packed, bytes, BUDGET);
-    let (again, given) = context.read(packed, bytes, BUDGET, SIZE_LIMIT);
+    let verdict = context.judge(packed, bytes, AMPLE);
+    let (again, given) = context.read(packed, bytes, AMPLE, SIZE_LIMIT);
     same("reading gives the verdict", &verdict, &again, data)?;
     if verdict.number == 4 {
-        return spent("visits of a spent budget", BUDGET, verdict, data);
+        return visits_spent("visits of a spent budget", AMPLE.visits, verdict, data);
     }
     members_of_refusals(verdict, data)?;
     other_budgets(context, packed, bytes, verdict, data)?;
@@ -132,7 +129,8 @@ fn fields_of_refused(
     Ok(())
 }
 
-/// A larger budget changes nothing, nor does one just large enough.
+/// A larger budget changes nothing, nor does one just large enough; with less of
+/// either allowance that is what is spent.
 fn other_budgets(
     context: &mut Context,
     packed: &Packed,
@@ -140,16 +138,28 @@ fn other_budgets(
     verdict: Verdict,
     data: Data,
 ) -> Checked {
-    let more = verdict.visits + context.rng.range(0, 200) as u32;
-    for budget in [verdict.visits, more, u32::MAX] {
+    let Verdict {
+        visits, content, ..
+    } = verdict;
+    let exact = Budget { visits, content };
+    let more = or_more(&mut context.rng, exact);
+    for budget in [exact, more, Budget::LARGEST] {
         let other = context.judge(packed, bytes, budget);
         same("budget changed", &verdict, &other, data)?;
     }
-    if verdict.visits > 0 {
-        let budget = context.rng.below(verdict.visits as usize) as u32;
-        for budget in [verdict.visits - 1, budget] {
+    if visits > 0 {
+        let some = context.rng.below(visits as usize) as u32;
+        for visits in [visits - 1, some] {
+            let short = context.judge(packed, bytes, Budget { visits, ..exact });
+            visits_spent("too few visits", visits, short, data)?;
+        }
+    }
+    if content > 0 {
+        let some = context.rng.below(content as usize) as u64;
+        for content in [content - 1, some] {
+            let budget = Budget { content, ..exact };
             let short = context.judge(packed, bytes, budget);
-            spent("budget too small", budget, short, data)?;
+            content_spent("too little content", budget, short, data)?;
         }
     }
     Ok(())

@@ -5,7 +5,7 @@ use crate::canonical;
 use crate::doubling;
 use crate::schema::*;
 use crate::sheet;
-use crate::value::Value;
+use crate::value::{self, Value};
 
 /// Runs the large cases once.
 pub fn run(programs: &Programs, coding: Coding, counts: &mut Counts) -> Result<(), String> {
@@ -66,11 +66,13 @@ fn text_at_the_limit(context: &mut Context) -> Checked {
             data,
         )?;
         same("exactly the size", &SIZE_LIMIT, &message.len(), data)?;
-        let (verdict, back) = context.read(&packed, &message, 2, bytes.len());
+        let spent = value::spent(&schema, &value);
+        let (verdict, back) = context.read(&packed, &message, spent, bytes.len());
+        let read = (verdict, back == bytes);
         same(
             "reading the size",
-            &(0, true),
-            &(verdict.number, back == bytes),
+            &(accepted_with(spent), true),
+            &read,
             data,
         )?;
     }
@@ -122,16 +124,16 @@ fn shared_text(context: &mut Context) -> Checked {
     let blob = (8 * SIZE_LIMIT - bits) / 8;
     for (count, blob, number) in [(count, blob, 0), (count, blob + 1, 14), (300, 0, 14)] {
         let message = naming_one_text(&schema, text, count, blob);
+        // The root, the list, the text each time, and the blob.
         let visits = 3 + count as u32;
-        let verdict = context.judge(&packed, &message, visits);
-        same("a text named often", &accepted(visits), &verdict, data)?;
-        let (verdict, sheet) = context.read(&packed, &message, visits, SIZE_LIMIT + 1000);
-        same(
-            "its sheet",
-            &super::verdict(number, 0, visits),
-            &verdict,
-            data,
-        )?;
+        let content = ((2 + count) * context.coding.offset() + count * text + blob) as u64;
+        let spent = Budget { visits, content };
+        let verdict = context.judge(&packed, &message, spent);
+        let expected = accepted(visits, content);
+        same("a text named often", &expected, &verdict, data)?;
+        let (verdict, sheet) = context.read(&packed, &message, spent, SIZE_LIMIT + 1000);
+        let expected = super::verdict(number, 0, visits, content);
+        same("its sheet", &expected, &verdict, data)?;
         let length = if number == 0 { SIZE_LIMIT } else { 0 };
         same("its sheet's length", &length, &sheet.len(), data)?;
     }
@@ -166,13 +168,9 @@ fn sizes(context: &mut Context) -> Checked {
     let mut message = canonical::message(&schema, &value);
     message.resize(SIZE_LIMIT, 0xAA);
     let data: Data = &[("schema", &packed.bytes)];
-    let verdict = context.judge(&packed, &message, 2);
-    same(
-        "a message of the size",
-        &(0, 2),
-        &(verdict.number, verdict.visits),
-        data,
-    )?;
+    let verdict = context.judge(&packed, &message, AMPLE);
+    let expected = accepted(2, context.coding.offset() as u64 + 100);
+    same("a message of the size", &expected, &verdict, data)?;
     message.push(0);
     starts::refused(context, &packed, &message, 2)?;
     let mut bytes = sheet::encode(&schema, &value);
@@ -228,14 +226,24 @@ fn doubling(context: &mut Context) -> Checked {
     let packed = schema.pack();
     let levels = 15;
     let message = doubling::message(&schema, levels);
-    let visits = 3 * (1 << levels) - 2;
+    let spent = doubling::spent(context.coding, levels);
+    let Budget { visits, content } = spent;
     let data: Data = &[("schema", &packed.bytes), ("message", &message)];
-    let verdict = context.judge(&packed, &message, u32::MAX);
-    same("a walk that doubles", &accepted(visits), &verdict, data)?;
-    let verdict = context.judge(&packed, &message, visits - 1);
+    for budget in [spent, Budget::LARGEST] {
+        let verdict = context.judge(&packed, &message, budget);
+        let expected = accepted(visits, content);
+        same("a walk that doubles", &expected, &verdict, data)?;
+    }
+    // The last table is not visited, or is and adds nothing.
     let last = doubling::table_at(context.coding, levels);
-    let short = super::verdict(4, last, visits - 1);
-    same("a walk that doubles, cut short", &short, &verdict, data)
+    let before = content - context.coding.offset() as u64;
+    let verdict = context.judge(&packed, &message, Budget::of_visits(visits - 1));
+    let short = super::verdict(4, last, visits - 1, before);
+    same("a walk that doubles, a visit less", &short, &verdict, data)?;
+    let content = content - 1;
+    let verdict = context.judge(&packed, &message, Budget { visits, content });
+    let short = super::verdict(17, last, visits, before);
+    same("a walk that doubles, a byte less", &short, &verdict, data)
 }
 
 /// A sheet of exactly the largest size, whose message is smaller, and one a
@@ -264,9 +272,15 @@ fn sheet_at_the_limit(context: &mut Context) -> Checked {
         if number == 0 {
             let expected = canonical::message(&schema, &value);
             same("its message", &true, &(message == expected), data)?;
-            let (verdict, back) = context.read(&packed, &message, 3, SIZE_LIMIT);
-            let given = (verdict.number, back == bytes);
-            same("reading it back", &(0, true), &given, data)?;
+            let spent = value::spent(&schema, &value);
+            let (verdict, back) = context.read(&packed, &message, spent, SIZE_LIMIT);
+            let given = (verdict, back == bytes);
+            same(
+                "reading it back",
+                &(accepted_with(spent), true),
+                &given,
+                data,
+            )?;
         }
     }
     Ok(())

@@ -14,7 +14,7 @@ mod wild;
 use crate::coding::Coding;
 use crate::counts::Counts;
 use crate::program::{accepted, refused, refused_at_start, verdict, NO_MEMBER};
-use crate::program::{Answer, Program, Relations, Verdict};
+use crate::program::{Answer, Budget, Program, Relations, Verdict, AMPLE};
 use crate::rng::Rng;
 use crate::schema::Packed;
 use std::fmt::{Debug, Write};
@@ -61,13 +61,19 @@ pub struct Context<'a> {
 }
 
 impl Context<'_> {
-    fn judge(&mut self, schema: &Packed, message: &[u8], budget: u32) -> Verdict {
+    fn judge(&mut self, schema: &Packed, message: &[u8], budget: Budget) -> Verdict {
         let verdict = self.program.judge(schema, message, budget);
         self.counts.answer(verdict.number);
         verdict
     }
 
-    fn read(&mut self, s: &Packed, message: &[u8], budget: u32, room: usize) -> (Verdict, Vec<u8>) {
+    fn read(
+        &mut self,
+        s: &Packed,
+        message: &[u8],
+        budget: Budget,
+        room: usize,
+    ) -> (Verdict, Vec<u8>) {
         let (verdict, sheet) = self.program.read(s, message, budget, room);
         self.counts.answer(verdict.number);
         (verdict, sheet)
@@ -128,9 +134,32 @@ pub fn same<T: PartialEq + Debug>(law: &str, expected: &T, given: &T, data: Data
     )
 }
 
-/// Fails unless a verdict is that of a spent budget, wherever that shows.
-pub fn spent(law: &str, budget: u32, given: Verdict, data: Data) -> Checked {
-    same(law, &verdict(4, given.place, budget), &given, data)
+/// The same or somewhat more of both allowances.
+pub fn or_more(rng: &mut Rng, budget: Budget) -> Budget {
+    Budget {
+        visits: budget.visits + rng.range(0, 200) as u32,
+        content: budget.content + rng.range(0, 200) as u64,
+    }
+}
+
+/// The verdict of a message that is accepted and spends this.
+pub fn accepted_with(spent: Budget) -> Verdict {
+    accepted(spent.visits, spent.content)
+}
+
+/// Fails unless a verdict is that of spent visits, wherever that shows.
+pub fn visits_spent(law: &str, visits: u32, given: Verdict, data: Data) -> Checked {
+    let expected = verdict(4, given.place, visits, given.content);
+    same(law, &expected, &given, data)
+}
+
+/// Fails unless a verdict is that of spent content, wherever that shows: no more
+/// is spent than is allowed, and no more visits than with enough.
+pub fn content_spent(law: &str, budget: Budget, given: Verdict, data: Data) -> Checked {
+    let expected = verdict(17, given.place, given.visits, given.content);
+    same(law, &expected, &given, data)?;
+    let within = given.content <= budget.content && given.visits <= budget.visits;
+    same(law, &true, &within, data)
 }
 
 /// Fails unless both are the same bytes.

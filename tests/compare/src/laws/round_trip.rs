@@ -4,7 +4,7 @@ use super::*;
 use crate::canonical;
 use crate::schema_gen;
 use crate::sheet;
-use crate::value::objects;
+use crate::value;
 use crate::value_gen::{self, Purpose};
 
 /// One writable sheet.
@@ -15,7 +15,7 @@ pub fn check(context: &mut Context) -> Checked {
     let packed = schema.pack();
     let sheet = sheet::encode(&schema, &value);
     let message = canonical::message(&schema, &value);
-    let visits = objects(&value) as u32;
+    let spent = value::spent(&schema, &value);
     if crate::value::depth(&value) == 32 {
         context.counts.note("writable values of depth 32");
     }
@@ -25,7 +25,7 @@ pub fn check(context: &mut Context) -> Checked {
         ("message", &message),
     ];
     writing(context, &packed, &sheet, &message, data)?;
-    reading(context, &packed, &sheet, &message, visits, data)
+    reading(context, &packed, &sheet, &message, spent, data)
 }
 
 /// Writing gives the message where there is room for it.
@@ -43,27 +43,37 @@ pub fn writing(
     same("writing without room", &(14, Vec::new()), &refused, data)
 }
 
-/// Judging and reading the message accept it with just enough.
+/// Judging and reading the message accept it with just enough, and with less of
+/// either allowance refuse it.
 pub fn reading(
     context: &mut Context,
     packed: &Packed,
     sheet: &[u8],
     message: &[u8],
-    visits: u32,
+    exact: Budget,
     data: Data,
 ) -> Checked {
-    let accepted = accepted(visits);
-    for budget in [visits, u32::MAX] {
+    let accepted = accepted_with(exact);
+    for budget in [exact, Budget::LARGEST] {
         let verdict = context.judge(packed, message, budget);
         same("judging with enough budget", &accepted, &verdict, data)?;
         let (verdict, given) = context.read(packed, message, budget, sheet.len());
         same("reading with enough room", &accepted, &verdict, data)?;
         same_bytes("the sheet read", sheet, &given, data)?;
     }
-    let short = context.judge(packed, message, visits - 1);
-    spent("budget one less", visits - 1, short, data)?;
-    let refused = context.read(packed, message, visits - 1, sheet.len());
-    same("budget one less", &(short, Vec::new()), &refused, data)?;
+    let visits = exact.visits - 1;
+    let fewer = Budget { visits, ..exact };
+    let short = context.judge(packed, message, fewer);
+    visits_spent("a visit less", visits, short, data)?;
+    let refused = context.read(packed, message, fewer, sheet.len());
+    same("a visit less", &(short, Vec::new()), &refused, data)?;
+    if let Some(content) = exact.content.checked_sub(1) {
+        let less = Budget { content, ..exact };
+        let short = context.judge(packed, message, less);
+        content_spent("a byte less", less, short, data)?;
+        let refused = context.read(packed, message, less, sheet.len());
+        same("a byte less", &(short, Vec::new()), &refused, data)?;
+    }
     if sheet.is_empty() {
         return Ok(());
     }
@@ -71,6 +81,6 @@ pub fn reading(
         number: 14,
         ..accepted
     };
-    let refused = context.read(packed, message, visits, sheet.len() - 1);
+    let refused = context.read(packed, message, exact, sheet.len() - 1);
     same("no room", &(no_room, Vec::new()), &refused, data)
 }

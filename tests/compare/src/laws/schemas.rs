@@ -47,7 +47,7 @@ fn judged(context: &mut Context, packed: &Packed, lawful: bool) -> Checked {
     same("lawful", &lawful, &context.relations.lawful(packed), data)?;
     let length = context.rng.range(0, 60);
     let message = context.rng.bytes(length);
-    let verdict = context.judge(packed, &message, 10);
+    let verdict = context.judge(packed, &message, AMPLE);
     if lawful {
         let expected = if length < context.coding.header() {
             2
@@ -58,7 +58,7 @@ fn judged(context: &mut Context, packed: &Packed, lawful: bool) -> Checked {
     }
     let refused = refused_at_start(1);
     same("judging by an unlawful schema", &refused, &verdict, data)?;
-    let read = context.read(packed, &message, 10, 100);
+    let read = context.read(packed, &message, AMPLE, 100);
     same(
         "reading by an unlawful schema",
         &(refused, Vec::new()),

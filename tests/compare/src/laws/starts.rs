@@ -29,11 +29,15 @@ pub fn check(context: &mut Context) -> Checked {
 pub fn refused(context: &mut Context, packed: &Packed, message: &[u8], number: u32) -> Checked {
     let data: Data = &[("schema", &packed.bytes), ("message", message)];
     let verdict = refused_at_start(number);
-    for budget in [0, 5, u32::MAX] {
+    let nothing = Budget {
+        visits: 0,
+        content: 0,
+    };
+    for budget in [nothing, Budget::of_visits(5), Budget::LARGEST] {
         let given = context.judge(packed, message, budget);
         same("judging a bad start", &verdict, &given, data)?;
     }
-    let read = context.read(packed, message, 5, SIZE_LIMIT);
+    let read = context.read(packed, message, nothing, SIZE_LIMIT);
     same("reading a bad start", &(verdict, Vec::new()), &read, data)?;
     for (steps, number) in [(0, number), (2, number), (96, number), (97, 15), (300, 15)] {
         let answer = super::refused(number, 0);

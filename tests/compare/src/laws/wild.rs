@@ -58,14 +58,39 @@ fn choose_fault(schema: &Schema, context: &mut Context, value: &Value) -> Option
     Some(fault)
 }
 
+/// Budgets around what the walk spends: visits alone, content alone, and both.
+fn budgets(rng: &mut Rng, exact: Budget) -> [Budget; 12] {
+    let Budget { visits, content } = exact;
+    let some = |rng: &mut Rng| Budget {
+        visits: rng.below(visits as usize + 1) as u32,
+        content: rng.below(content as usize + 1) as u64,
+    };
+    let of_content = |content| Budget {
+        content,
+        ..Budget::LARGEST
+    };
+    [
+        Budget::LARGEST,
+        exact,
+        Budget::of_visits(visits.saturating_sub(1)),
+        Budget::of_visits(some(rng).visits),
+        Budget::of_visits(1),
+        Budget::of_visits(0),
+        of_content(content.saturating_sub(1)),
+        of_content(some(rng).content),
+        of_content(some(rng).content),
+        of_content(0),
+        some(rng),
+        some(rng),
+    ]
+}
+
 /// The verdicts with many budgets.
 fn verdicts(context: &mut Context, packed: &Packed, wild: &Wild, data: Data) -> Checked {
-    let visits = wild.walked.len() as u32;
-    let some = context.rng.below(visits as usize + 1) as u32;
-    for budget in [u32::MAX, visits, visits.saturating_sub(1), some, 1, 0] {
+    for budget in budgets(&mut context.rng, wild.spent()) {
         let expected = wild.expected(budget);
         let verdict = context.judge(packed, &wild.bytes, budget);
-        let law = format!("verdict with budget {budget}, fault {:?}", wild.fault);
+        let law = format!("verdict with {budget:?}, fault {:?}", wild.fault);
         same(&law, &expected, &verdict, data)?;
         if let Some(again) = context.program.judge_unpacked(packed, &wild.bytes, budget) {
             same("judging by an unpacked schema", &expected, &again, data)?;
@@ -92,20 +117,20 @@ fn sheet_of(
     data: Data,
 ) -> Checked {
     let expected = sheet::encode(schema, &wild.value);
-    let visits = wild.walked.len() as u32;
-    let read = context.read(packed, &wild.bytes, visits, expected.len());
+    let exact = wild.spent();
+    let read = context.read(packed, &wild.bytes, exact, expected.len());
     same(
         "reading an accepted message",
-        &wild.expected(visits),
+        &wild.expected(exact),
         &read.0,
         data,
     )?;
     same_bytes("the sheet of a wild message", &expected, &read.1, data)?;
     if !expected.is_empty() {
-        let read = context.read(packed, &wild.bytes, visits, expected.len() - 1);
+        let read = context.read(packed, &wild.bytes, exact, expected.len() - 1);
         let no_room = Verdict {
             number: 14,
-            ..wild.expected(visits)
+            ..wild.expected(exact)
         };
         same("reading without room", &(no_room, Vec::new()), &read, data)?;
     }

@@ -14,15 +14,17 @@ pub struct Refused {
     /// Number, place and visits.
     pub verdict: (u32, u64, u32),
     pub member: Option<u32>,
+    pub content: u64,
 }
 
-/// A message that is accepted after so many visits, its sheet, and whether it
-/// is what is written of that.
+/// A message that is accepted after so many visits, with so much content, its
+/// sheet, and whether it is what is written of that.
 pub struct Sheet {
     pub name: &'static str,
     pub schema: &'static str,
     pub message: &'static str,
     pub visits: u32,
+    pub content: u64,
     pub sheet: &'static str,
     pub written: bool,
 }
@@ -54,6 +56,7 @@ pub const SHEETS: [Sheet; 16] = [
         schema: TEXT,
         message: "06000000 0300 16000000 F5C812D8 02000000 616200",
         visits: 2,
+        content: 8,
         sheet: "4000D0000000261620",
         written: true,
     },
@@ -62,6 +65,7 @@ pub const SHEETS: [Sheet; 16] = [
         schema: TEXT,
         message: "02000000 0300",
         visits: 1,
+        content: 2,
         sheet: "4000C0",
         written: false,
     },
@@ -70,6 +74,7 @@ pub const SHEETS: [Sheet; 16] = [
         schema: TEXT,
         message: "00000000",
         visits: 1,
+        content: 0,
         sheet: "00",
         written: false,
     },
@@ -78,6 +83,7 @@ pub const SHEETS: [Sheet; 16] = [
         schema: TEXT_IN_PLACE,
         message: "07000000 05 02000000 3412 616200",
         visits: 2,
+        content: 9,
         sheet: "41500000002616 2448D0",
         written: true,
     },
@@ -86,6 +92,7 @@ pub const SHEETS: [Sheet; 16] = [
         schema: TEXT_IN_PLACE,
         message: "07000000 05 00000000 3412",
         visits: 1,
+        content: 7,
         sheet: "414448D0",
         written: true,
     },
@@ -94,6 +101,7 @@ pub const SHEETS: [Sheet; 16] = [
         schema: UNION,
         message: "07000000 05 0100 02000000 616200",
         visits: 2,
+        content: 9,
         sheet: "41500010000000261620",
         written: true,
     },
@@ -102,6 +110,7 @@ pub const SHEETS: [Sheet; 16] = [
         schema: UNION,
         message: "07000000 05 0000 C8000000",
         visits: 1,
+        content: 7,
         sheet: "4140",
         written: false,
     },
@@ -110,6 +119,7 @@ pub const SHEETS: [Sheet; 16] = [
         schema: UNION,
         message: "07000000 05 0200 C8000000",
         visits: 1,
+        content: 7,
         sheet: "41600020",
         written: false,
     },
@@ -118,6 +128,7 @@ pub const SHEETS: [Sheet; 16] = [
         schema: UNION,
         message: "07000000 05 0100 00000000 00",
         visits: 2,
+        content: 7,
         sheet: "4150001000000000",
         written: true,
     },
@@ -126,6 +137,7 @@ pub const SHEETS: [Sheet; 16] = [
         schema: UNION,
         message: "01000000 05",
         visits: 1,
+        content: 1,
         sheet: "4140",
         written: false,
     },
@@ -134,6 +146,7 @@ pub const SHEETS: [Sheet; 16] = [
         schema: UNION_OF_TABLE,
         message: "06000000 0100 02000000 3412",
         visits: 2,
+        content: 8,
         sheet: "4000512340",
         written: true,
     },
@@ -142,6 +155,7 @@ pub const SHEETS: [Sheet; 16] = [
         schema: LIST,
         message: "04000000 14000000 46BB0034 02000000 24000000 00000000 F5C812D8 02000000 616200",
         visits: 3,
+        content: 14,
         sheet: "4000000090000000261620",
         written: true,
     },
@@ -150,6 +164,7 @@ pub const SHEETS: [Sheet; 16] = [
         schema: LIST_IN_PLACE,
         message: "04000000 02000000 0100 FFFF",
         visits: 2,
+        content: 8,
         sheet: "40000000 80007FFFC0",
         written: true,
     },
@@ -158,6 +173,7 @@ pub const SHEETS: [Sheet; 16] = [
         schema: OPTIONAL,
         message: "03000000 07 3412",
         visits: 1,
+        content: 3,
         sheet: "448D18",
         written: true,
     },
@@ -166,6 +182,7 @@ pub const SHEETS: [Sheet; 16] = [
         schema: OPTIONAL,
         message: "01000000 02",
         visits: 1,
+        content: 1,
         sheet: "10",
         written: false,
     },
@@ -174,6 +191,7 @@ pub const SHEETS: [Sheet; 16] = [
         schema: STRUCT,
         message: "01000000 01",
         visits: 1,
+        content: 1,
         sheet: "60",
         written: true,
     },
@@ -187,6 +205,7 @@ pub const REFUSED: [Refused; 23] = [
         budget: 1,
         verdict: (4, 22, 1),
         member: None,
+        content: 6,
     },
     Refused {
         name: "the root is not visited",
@@ -195,6 +214,7 @@ pub const REFUSED: [Refused; 23] = [
         budget: 0,
         verdict: (4, 8, 0),
         member: None,
+        content: 0,
     },
     Refused {
         name: "a text at 7",
@@ -203,6 +223,7 @@ pub const REFUSED: [Refused; 23] = [
         budget: 9,
         verdict: (6, 7, 2),
         member: None,
+        content: 6,
     },
     Refused {
         name: "a text at 8, where the root is",
@@ -211,6 +232,7 @@ pub const REFUSED: [Refused; 23] = [
         budget: 9,
         verdict: (7, 8, 2),
         member: None,
+        content: 6,
     },
     Refused {
         name: "a text at 25, the last header that fits",
@@ -219,6 +241,7 @@ pub const REFUSED: [Refused; 23] = [
         budget: 9,
         verdict: (7, 25, 2),
         member: None,
+        content: 6,
     },
     Refused {
         name: "a text at 26",
@@ -227,6 +250,7 @@ pub const REFUSED: [Refused; 23] = [
         budget: 9,
         verdict: (6, 26, 2),
         member: None,
+        content: 6,
     },
     Refused {
         name: "a text without its end byte",
@@ -235,6 +259,7 @@ pub const REFUSED: [Refused; 23] = [
         budget: 9,
         verdict: (6, 22, 2),
         member: None,
+        content: 6,
     },
     Refused {
         name: "a text with another end byte",
@@ -243,6 +268,7 @@ pub const REFUSED: [Refused; 23] = [
         budget: 9,
         verdict: (10, 22, 2),
         member: None,
+        content: 8,
     },
     Refused {
         name: "a text's offset cut",
@@ -251,6 +277,7 @@ pub const REFUSED: [Refused; 23] = [
         budget: 9,
         verdict: (8, 8, 1),
         member: Some(1),
+        content: 5,
     },
     Refused {
         name: "a root longer than the message",
@@ -259,6 +286,7 @@ pub const REFUSED: [Refused; 23] = [
         budget: 9,
         verdict: (6, 8, 1),
         member: None,
+        content: 0,
     },
     Refused {
         name: "a text in place that is not visited",
@@ -267,6 +295,7 @@ pub const REFUSED: [Refused; 23] = [
         budget: 1,
         verdict: (4, 23, 1),
         member: None,
+        content: 7,
     },
     Refused {
         name: "a text in place without its end byte",
@@ -275,6 +304,7 @@ pub const REFUSED: [Refused; 23] = [
         budget: 9,
         verdict: (6, 23, 2),
         member: None,
+        content: 7,
     },
     Refused {
         name: "a shorter root, whose text stands at 21 and ends with 61",
@@ -283,6 +313,7 @@ pub const REFUSED: [Refused; 23] = [
         budget: 9,
         verdict: (10, 21, 2),
         member: None,
+        content: 7,
     },
     Refused {
         name: "a text's length cut",
@@ -291,6 +322,7 @@ pub const REFUSED: [Refused; 23] = [
         budget: 9,
         verdict: (8, 8, 1),
         member: Some(1),
+        content: 4,
     },
     Refused {
         name: "a union cut",
@@ -299,6 +331,7 @@ pub const REFUSED: [Refused; 23] = [
         budget: 9,
         verdict: (8, 8, 1),
         member: Some(1),
+        content: 6,
     },
     Refused {
         name: "an empty text in a union without its end byte",
@@ -307,6 +340,7 @@ pub const REFUSED: [Refused; 23] = [
         budget: 9,
         verdict: (6, 23, 2),
         member: None,
+        content: 7,
     },
     Refused {
         name: "the largest length in a union",
@@ -315,6 +349,7 @@ pub const REFUSED: [Refused; 23] = [
         budget: 9,
         verdict: (6, 23, 2),
         member: None,
+        content: 7,
     },
     Refused {
         name: "a member cut in a union's table",
@@ -323,6 +358,7 @@ pub const REFUSED: [Refused; 23] = [
         budget: 9,
         verdict: (8, 22, 2),
         member: Some(0),
+        content: 7,
     },
     Refused {
         name: "a third element, which is the text's magic",
@@ -331,6 +367,7 @@ pub const REFUSED: [Refused; 23] = [
         budget: 9,
         verdict: (6, 0xD812_C8F5, 4),
         member: None,
+        content: 18,
     },
     Refused {
         name: "five elements, one more than fit",
@@ -339,6 +376,7 @@ pub const REFUSED: [Refused; 23] = [
         budget: 9,
         verdict: (6, 20, 2),
         member: None,
+        content: 4,
     },
     Refused {
         name: "a flag of 1 and the value past the end",
@@ -347,6 +385,7 @@ pub const REFUSED: [Refused; 23] = [
         budget: 9,
         verdict: (8, 8, 1),
         member: Some(0),
+        content: 1,
     },
     Refused {
         name: "a value behind a flag of 0 cut",
@@ -355,6 +394,7 @@ pub const REFUSED: [Refused; 23] = [
         budget: 9,
         verdict: (8, 8, 1),
         member: Some(0),
+        content: 2,
     },
     Refused {
         name: "a struct's bool of 2",
@@ -363,6 +403,7 @@ pub const REFUSED: [Refused; 23] = [
         budget: 9,
         verdict: (10, 8, 1),
         member: Some(0),
+        content: 1,
     },
 ];
 

@@ -15,6 +15,7 @@ pub struct Refused {
     /// Number, place and visits.
     pub verdict: (u32, u64, u32),
     pub member: Option<u32>,
+    pub content: u64,
     /// A path that is refused likewise.
     pub path: &'static [u32],
 }
@@ -36,6 +37,7 @@ pub const REFUSED: [Refused; 11] = [
         message: "050000000000 01 0200 0300",
         verdict: (8, 10, 1),
         member: Some(2),
+        content: 5,
         path: &[2],
     },
     Refused {
@@ -44,6 +46,7 @@ pub const REFUSED: [Refused; 11] = [
         message: "010000000000 02",
         verdict: (8, 10, 1),
         member: Some(1),
+        content: 1,
         path: &[1],
     },
     Refused {
@@ -52,6 +55,7 @@ pub const REFUSED: [Refused; 11] = [
         message: "070000000000 05 1B0000000000 07000000 040000000000 0100 0000",
         verdict: (8, 27, 2),
         member: Some(1),
+        content: 11,
         path: &[1, 1],
     },
     Refused {
@@ -60,6 +64,7 @@ pub const REFUSED: [Refused; 11] = [
         message: "090000000000 05 0100 020000000000 0700",
         verdict: (8, 29, 2),
         member: Some(1),
+        content: 11,
         path: &[2, 1],
     },
     Refused {
@@ -68,6 +73,7 @@ pub const REFUSED: [Refused; 11] = [
         message: "090000000000 05 0100 000000000000",
         verdict: (9, 10, 1),
         member: Some(1),
+        content: 9,
         path: &[1],
     },
     Refused {
@@ -77,6 +83,7 @@ pub const REFUSED: [Refused; 11] = [
                   0000 000000000000 0200 000000000000 0100 000000000000",
         verdict: (9, 26, 2),
         member: Some(2),
+        content: 30,
         path: &[0, 2],
     },
     Refused {
@@ -85,6 +92,7 @@ pub const REFUSED: [Refused; 11] = [
         message: "060000000000 020000000000 0000 000000000000 0100 000000000000",
         verdict: (9, 26, 2),
         member: Some(1),
+        content: 22,
         path: &[0, 1],
     },
     Refused {
@@ -93,6 +101,7 @@ pub const REFUSED: [Refused; 11] = [
         message: "060000000000 0300 07 05 02 09",
         verdict: (10, 10, 1),
         member: Some(2),
+        content: 6,
         path: &[2, 1, 0],
     },
     Refused {
@@ -101,6 +110,7 @@ pub const REFUSED: [Refused; 11] = [
         message: "080000000000 0300 1C0000000000 F5C812D8 020000000000 6162 01",
         verdict: (10, 28, 2),
         member: None,
+        content: 10,
         path: &[1],
     },
     Refused {
@@ -109,6 +119,7 @@ pub const REFUSED: [Refused; 11] = [
         message: "080000000000 0300 020000000000 6162 01",
         verdict: (10, 28, 2),
         member: None,
+        content: 10,
         path: &[1],
     },
     Refused {
@@ -117,6 +128,7 @@ pub const REFUSED: [Refused; 11] = [
         message: "080000000000 0300 1C0000000000 F5C812D9 020000000000 6162 00",
         verdict: (7, 28, 2),
         member: None,
+        content: 8,
         path: &[1],
     },
 ];

@@ -17,7 +17,7 @@ mod structs;
 mod tables;
 
 use crate::coding::{Coding, CODINGS};
-use crate::program::{Judge, Second, Verdict};
+use crate::program::{Budget, Judge, Second, Verdict};
 use crate::schema::Packed;
 use std::fmt::Write;
 use std::fs;
@@ -31,13 +31,15 @@ pub struct Case {
     pub name: String,
     pub schema: Packed,
     pub message: Vec<u8>,
+    /// The visits; of content there may be as much as there is.
     pub budget: u32,
 }
 
 impl Case {
     /// What the second program answers.
     pub fn verdict(&self) -> Verdict {
-        Second.judge(&self.schema, &self.message, self.budget)
+        let budget = Budget::of_visits(self.budget);
+        Second.judge(&self.schema, &self.message, budget)
     }
 }
 

@@ -3,7 +3,7 @@
 
 #![allow(dead_code)]
 
-use reference::{Answer, Verdict, NO_MEMBER};
+use reference::{Answer, Budget, Verdict, NO_MEMBER};
 
 pub const BOOL: u16 = 0;
 pub const U8: u16 = 1 << 11;
@@ -215,18 +215,61 @@ impl Sheet {
     }
 }
 
+/// Judges with the largest content allowance. Its content is left out of the
+/// answer, but tried: just so much is enough, and with less the answer is 17.
+pub fn judge(coding: u32, schema: &[u8], message: &[u8], visits: u32) -> Verdict {
+    let judged = |content| reference::judge(coding, schema, message, Budget { visits, content });
+    without_content(judged)
+}
+
+/// Reads to a sheet likewise.
+pub fn read(
+    coding: u32,
+    schema: &[u8],
+    message: &[u8],
+    visits: u32,
+    room: usize,
+) -> (Verdict, Vec<u8>) {
+    let budget = |content| Budget { visits, content };
+    let mut sheet = Vec::new();
+    let verdict = without_content(|content| {
+        let (verdict, read) = reference::read(coding, schema, message, budget(content), room);
+        if content == u64::MAX {
+            sheet = read;
+        }
+        verdict
+    });
+    (verdict, sheet)
+}
+
+/// The verdict with the largest content allowance, and 0 in place of its content.
+fn without_content(mut judged: impl FnMut(u64) -> Verdict) -> Verdict {
+    let verdict = judged(u64::MAX);
+    assert_eq!(judged(verdict.content), verdict);
+    if let Some(less) = verdict.content.checked_sub(1) {
+        let short = judged(less);
+        assert_eq!((short.number, short.member), (17, NO_MEMBER));
+        assert!(short.visits <= verdict.visits && short.content <= less);
+    }
+    Verdict {
+        content: 0,
+        ..verdict
+    }
+}
+
 /// A verdict that carries no member.
 pub fn verdict(number: u32, place: u64, visits: u32) -> Verdict {
     verdict_of(number, place, NO_MEMBER, visits)
 }
 
-/// A verdict from its four numbers.
+/// A verdict from its four numbers; its content is left out.
 pub fn verdict_of(number: u32, place: u64, member: u32, visits: u32) -> Verdict {
     Verdict {
         number,
         place,
         member,
         visits,
+        content: 0,
     }
 }
 

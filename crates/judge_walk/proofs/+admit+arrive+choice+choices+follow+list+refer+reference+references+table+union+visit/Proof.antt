@@ -9,9 +9,10 @@ use Rattle.coding.specs.Schema as Sc
 use Rattle.coding.specs.Walk as W
 use Rattle.message_layout.specs.Bounds.{Laid}
 use Rattle.outcome.specs.Answers as As
-use Rattle.outcome.proofs.ArrivalCases.{visit-stopped, visit-refused, visit-content, charged-deep, deeper-falls}
-use Rattle.message_object.proofs.OpenCases.{list-counted-of, table-counted-of, opened-fits, offset-small, inplace-first, inplace-length, list-fits, table-fits}
-use Rattle.judge_walk.proofs.WalkCases.{arrive-text, arrive-offset, arrive-inplace, content-text, content-bytes, content-list, content-table, follow-absent, follow-value, follow-unknown, follow-struct, follow-refused, follow-object, follow-choice, object-small, object-place, choice-small, choice-place, union-none, union-offset, union-inplace}
+use Rattle.outcome.proofs.ArrivalCases.{visit-stopped, visit-refused, charged-deep, not-more}
+use Rattle.message_object.proofs.OpenCases.{fit-fits, length-small, text-fits, list-fits, table-fits, list-counted-of, table-counted-of, offset-small, inplace-first, inplace-length}
+use Rattle.judge_walk.proofs.AdmitCases.{visit-content, below-falls, admit-unpaid, admit-text, admit-bytes, admit-list, admit-table}
+use Rattle.judge_walk.proofs.WalkCases.{arrive-text, arrive-offset, arrive-inplace, follow-absent, follow-value, follow-unknown, follow-struct, follow-refused, follow-object, follow-choice, object-small, object-place, choice-small, choice-place, union-none, union-offset, union-inplace}
 use Rattle.judge_rows.proofs.MemberCases.{members-start, members-ended, members-done, members-stopped, members-turn, members-nowhere}
 use Rattle.judge_walk.proofs.ListCases.{list-flat, list-objects, list-unions, objects-sound, unions-counted, objects-there, unions-there, references-texts, choice-number, choices-stopped, choices-turn, choice-none, choice-unknown, choice-known, choice-sound}
 use Rattle.judge_text.proofs.ElementCases.{value-there, value-fits, value-next, elements-start, elements-done, references-stopped, references-turn, refer-none, refer-object}
@@ -20,61 +21,65 @@ use Prim.Native.Nat.{_+_, _-_, _*_, _≤_}
 use Prim.Native.Nat.{ℕ, _<_}
 use borrow.Fn.Kinds.{In}
 use borrow.Fn.PlainCycle.{Measures, is, falls, and}
+use Rattle.judge_walk.proofs.admit.Reads as admit
+use Rattle.judge_walk.proofs.admit.Kinds as admit-kinds
+use Rattle.judge_walk.proofs.+admit+arrive+choice+choices+follow+list+refer+reference+references+table+union+visit.Lts-admit as admit-lts
 use Rattle.judge_walk.proofs.arrive.Reads as arrive
 use Rattle.judge_walk.proofs.arrive.Kinds as arrive-kinds
-use Rattle.judge_walk.proofs.+arrive+choice+choices+content+follow+list+refer+reference+references+table+union+visit.Lts-arrive as arrive-lts
+use Rattle.judge_walk.proofs.+admit+arrive+choice+choices+follow+list+refer+reference+references+table+union+visit.Lts-arrive as arrive-lts
 use Rattle.judge_walk.proofs.choice.Reads as choice
 use Rattle.judge_walk.proofs.choice.Kinds as choice-kinds
-use Rattle.judge_walk.proofs.+arrive+choice+choices+content+follow+list+refer+reference+references+table+union+visit.Lts-choice as choice-lts
+use Rattle.judge_walk.proofs.+admit+arrive+choice+choices+follow+list+refer+reference+references+table+union+visit.Lts-choice as choice-lts
 use Rattle.judge_walk.proofs.choices.Reads as choices
 use Rattle.judge_walk.proofs.choices.Kinds as choices-kinds
-use Rattle.judge_walk.proofs.+arrive+choice+choices+content+follow+list+refer+reference+references+table+union+visit.Lts-choices as choices-lts
-use Rattle.judge_walk.proofs.content.Reads as content
-use Rattle.judge_walk.proofs.content.Kinds as content-kinds
-use Rattle.judge_walk.proofs.+arrive+choice+choices+content+follow+list+refer+reference+references+table+union+visit.Lts-content as content-lts
+use Rattle.judge_walk.proofs.+admit+arrive+choice+choices+follow+list+refer+reference+references+table+union+visit.Lts-choices as choices-lts
 use Rattle.judge_walk.proofs.follow.Reads as follow
 use Rattle.judge_walk.proofs.follow.Kinds as follow-kinds
-use Rattle.judge_walk.proofs.+arrive+choice+choices+content+follow+list+refer+reference+references+table+union+visit.Lts-follow as follow-lts
+use Rattle.judge_walk.proofs.+admit+arrive+choice+choices+follow+list+refer+reference+references+table+union+visit.Lts-follow as follow-lts
 use Rattle.judge_walk.proofs.list.Reads as list
 use Rattle.judge_walk.proofs.list.Kinds as list-kinds
-use Rattle.judge_walk.proofs.+arrive+choice+choices+content+follow+list+refer+reference+references+table+union+visit.Lts-list as list-lts
+use Rattle.judge_walk.proofs.+admit+arrive+choice+choices+follow+list+refer+reference+references+table+union+visit.Lts-list as list-lts
 use Rattle.judge_walk.proofs.refer.Reads as refer
 use Rattle.judge_walk.proofs.refer.Kinds as refer-kinds
-use Rattle.judge_walk.proofs.+arrive+choice+choices+content+follow+list+refer+reference+references+table+union+visit.Lts-refer as refer-lts
+use Rattle.judge_walk.proofs.+admit+arrive+choice+choices+follow+list+refer+reference+references+table+union+visit.Lts-refer as refer-lts
 use Rattle.judge_walk.proofs.reference.Reads as reference
 use Rattle.judge_walk.proofs.reference.Kinds as reference-kinds
-use Rattle.judge_walk.proofs.+arrive+choice+choices+content+follow+list+refer+reference+references+table+union+visit.Lts-reference as reference-lts
+use Rattle.judge_walk.proofs.+admit+arrive+choice+choices+follow+list+refer+reference+references+table+union+visit.Lts-reference as reference-lts
 use Rattle.judge_walk.proofs.references.Reads as references
 use Rattle.judge_walk.proofs.references.Kinds as references-kinds
-use Rattle.judge_walk.proofs.+arrive+choice+choices+content+follow+list+refer+reference+references+table+union+visit.Lts-references as references-lts
+use Rattle.judge_walk.proofs.+admit+arrive+choice+choices+follow+list+refer+reference+references+table+union+visit.Lts-references as references-lts
 use Rattle.judge_walk.proofs.table.Reads as table
 use Rattle.judge_walk.proofs.table.Kinds as table-kinds
-use Rattle.judge_walk.proofs.+arrive+choice+choices+content+follow+list+refer+reference+references+table+union+visit.Lts-table as table-lts
+use Rattle.judge_walk.proofs.+admit+arrive+choice+choices+follow+list+refer+reference+references+table+union+visit.Lts-table as table-lts
 use Rattle.judge_walk.proofs.union.Reads as union
 use Rattle.judge_walk.proofs.union.Kinds as union-kinds
-use Rattle.judge_walk.proofs.+arrive+choice+choices+content+follow+list+refer+reference+references+table+union+visit.Lts-union as union-lts
+use Rattle.judge_walk.proofs.+admit+arrive+choice+choices+follow+list+refer+reference+references+table+union+visit.Lts-union as union-lts
 use Rattle.judge_walk.proofs.visit.Reads as visit
 use Rattle.judge_walk.proofs.visit.Kinds as visit-kinds
-use Rattle.judge_walk.proofs.+arrive+choice+choices+content+follow+list+refer+reference+references+table+union+visit.Lts-visit as visit-lts
+use Rattle.judge_walk.proofs.+admit+arrive+choice+choices+follow+list+refer+reference+references+table+union+visit.Lts-visit as visit-lts
 use Rattle.judge_member.proofs.is_row_table.Reads as is-row-table-reads
 use Rattle.judge_member.proofs.lead_member.Reads as lead-member-reads
 use Rattle.judge_member.proofs.refers.Reads as refers-reads
 use Rattle.judge_rows.proofs.row_references.Reads as row-references-reads
 use Rattle.judge_text.proofs.is_text.Reads as is-text-reads
 use Rattle.judge_text.proofs.refer_text.Reads as refer-text-reads
+use Rattle.judge_text.proofs.text_end.Reads as text-end-reads
 use Rattle.judge_text.proofs.texts.Reads as texts-reads
 use Rattle.judge_text.proofs.visit_text.Reads as visit-text-reads
 use Rattle.judge_walk.proofs.leads_nowhere.Reads as leads-nowhere-reads
+use Rattle.message_header.proofs.content_length.Reads as content-length-reads
 use Rattle.message_layout.proofs.after_bytes.Reads as after-bytes-reads
 use Rattle.message_layout.proofs.begin.Reads as begin-reads
 use Rattle.message_layout.proofs.bit_byte.Reads as bit-byte-reads
-use Rattle.message_object.proofs.open_object.Reads as open-object-reads
+use Rattle.message_object.proofs.fit_object.Reads as fit-object-reads
 use Rattle.message_object.proofs.placed.Reads as placed-reads
 use Rattle.outcome.proofs.below.Reads as below-reads
 use Rattle.outcome.proofs.charge.Reads as charge-reads
+use Rattle.outcome.proofs.exceeds.Reads as exceeds-reads
 use Rattle.outcome.proofs.going.Reads as going-reads
 use Rattle.outcome.proofs.refuse.Reads as refuse-reads
 use Rattle.outcome.proofs.refuse_part.Reads as refuse-part-reads
+use Rattle.outcome.proofs.rest.Reads as rest-reads
 use Rattle.schema.proofs.argument_at.Reads as argument-at-reads
 use Rattle.schema.proofs.case_count.Reads as case-count-reads
 use Rattle.schema.proofs.is_flat_kind.Reads as is-flat-kind-reads
@@ -90,48 +95,54 @@ use Rattle.wire.proofs.index.Reads as index-reads
 use Rattle.wire.proofs.offset_in.Reads as offset-in-reads
 use Rattle.wire.proofs.u16_in.Reads as u16-in-reads
 use Rattle.wire.proofs.union_size.Reads as union-size-reads
-use Rattle.judge_walk.proofs.+arrive+choice+choices+content+follow+list+refer+reference+references+table+union+visit.{
+use Rattle.judge_walk.proofs.+admit+arrive+choice+choices+follow+list+refer+reference+references+table+union+visit.{
   statement,
 }
-use Rattle.judge_walk.proofs.+arrive+choice+choices+content+follow+list+refer+reference+references+table+union+visit.Tie.{
+use Rattle.judge_walk.proofs.+admit+arrive+choice+choices+follow+list+refer+reference+references+table+union+visit.Tie.{
   close,
 }
 
+abbrev μ-admit : Measures 3 admit-kinds.ps ℕ
+μ-admit κs a = 16 * a .1 .1 .1 .0 + 8
+
 abbrev μ-arrive : Measures 3 arrive-kinds.ps ℕ
-μ-arrive κs a = 16 * a .1 .1 .1 .0 .depth + 4
+μ-arrive κs a = 16 * a .1 .1 .1 .0 + 4
 
 abbrev μ-choice : Measures 3 choice-kinds.ps ℕ
-μ-choice κs a = 16 * a .1 .1 .1 .0 .depth + 5
+μ-choice κs a = 16 * a .1 .1 .1 .0 + 5
 
 abbrev μ-choices : Measures 3 choices-kinds.ps ℕ
-μ-choices κs a = 16 * a .1 .1 .1 .0 .depth + 6
-
-abbrev μ-content : Measures 3 content-kinds.ps ℕ
-μ-content κs a = 16 * a .1 .1 .1 .0 .depth + 8
+μ-choices κs a = 16 * a .1 .1 .1 .0 + 6
 
 abbrev μ-follow : Measures 3 follow-kinds.ps ℕ
-μ-follow κs a = 16 * a .1 .1 .1 .0 .depth + 5
+μ-follow κs a = 16 * a .1 .1 .1 .0 + 5
 
 abbrev μ-list : Measures 3 list-kinds.ps ℕ
-μ-list κs a = 16 * a .1 .1 .1 .0 .depth + 7
+μ-list κs a = 16 * a .1 .1 .1 .0 + 7
 
 abbrev μ-refer : Measures 3 refer-kinds.ps ℕ
-μ-refer κs a = 16 * a .1 .1 .1 .0 .depth + 4
+μ-refer κs a = 16 * a .1 .1 .1 .0 + 4
 
 abbrev μ-reference : Measures 3 reference-kinds.ps ℕ
-μ-reference κs a = 16 * a .1 .1 .1 .0 .depth + 5
+μ-reference κs a = 16 * a .1 .1 .1 .0 + 5
 
 abbrev μ-references : Measures 3 references-kinds.ps ℕ
-μ-references κs a = 16 * a .1 .1 .1 .0 .depth + 6
+μ-references κs a = 16 * a .1 .1 .1 .0 + 6
 
 abbrev μ-table : Measures 3 table-kinds.ps ℕ
-μ-table κs a = 16 * a .1 .1 .1 .0 .depth + 7
+μ-table κs a = 16 * a .1 .1 .1 .0 + 7
 
 abbrev μ-union : Measures 3 union-kinds.ps ℕ
-μ-union κs a = 16 * a .1 .1 .1 .0 .depth + 4
+μ-union κs a = 16 * a .1 .1 .1 .0 + 4
 
 abbrev μ-visit : Measures 3 visit-kinds.ps ℕ
-μ-visit κs a = 16 * a .1 .1 .1 .0 .depth + 0
+μ-visit κs a = 16 * a .1 .1 .1 .0 + 0
+
+abbrev admit-at : ℕ → In 3 admit-kinds.ps
+admit-at t = and 3 admit-kinds.ps (is 3 admit-kinds.ps μ-admit t) admit.Pre
+
+abbrev admit-below : ℕ → In 3 admit-kinds.ps
+admit-below t = and 3 admit-kinds.ps (falls 3 admit-kinds.ps _<_ μ-admit t) admit.Pre
 
 abbrev arrive-at : ℕ → In 3 arrive-kinds.ps
 arrive-at t = and 3 arrive-kinds.ps (is 3 arrive-kinds.ps μ-arrive t) arrive.Pre
@@ -150,12 +161,6 @@ choices-at t = and 3 choices-kinds.ps (is 3 choices-kinds.ps μ-choices t) choic
 
 abbrev choices-below : ℕ → In 3 choices-kinds.ps
 choices-below t = and 3 choices-kinds.ps (falls 3 choices-kinds.ps _<_ μ-choices t) choices.Pre
-
-abbrev content-at : ℕ → In 3 content-kinds.ps
-content-at t = and 3 content-kinds.ps (is 3 content-kinds.ps μ-content t) content.Pre
-
-abbrev content-below : ℕ → In 3 content-kinds.ps
-content-below t = and 3 content-kinds.ps (falls 3 content-kinds.ps _<_ μ-content t) content.Pre
 
 abbrev follow-at : ℕ → In 3 follow-kinds.ps
 follow-at t = and 3 follow-kinds.ps (is 3 follow-kinds.ps μ-follow t) follow.Pre
@@ -208,6 +213,9 @@ visit-at t = and 3 visit-kinds.ps (is 3 visit-kinds.ps μ-visit t) visit.Pre
 abbrev visit-below : ℕ → In 3 visit-kinds.ps
 visit-below t = and 3 visit-kinds.ps (falls 3 visit-kinds.ps _<_ μ-visit t) visit.Pre
 
+abbrev admit-R : ℕ → admit-lts.Claims
+admit-R t = (content-length-reads.Asked, content-length-reads.Learnt, exceeds-reads.Asked, exceeds-reads.Learnt, refuse-reads.Asked, refuse-reads.Learnt, rest-reads.Asked, rest-reads.Learnt, text-end-reads.Asked, text-end-reads.Learnt, going-reads.Asked, going-reads.Learnt, index-reads.Asked, index-reads.Learnt, list-below t, list.Post, table-below t, table.Post)
+
 abbrev arrive-R : ℕ → arrive-lts.Claims
 arrive-R t = (is-text-reads.Asked, is-text-reads.Learnt, visit-text-reads.Asked, visit-text-reads.Learnt, visit-below t, visit.Post)
 
@@ -216,9 +224,6 @@ choice-R t = (u16-in-reads.Asked, u16-in-reads.Learnt, going-reads.Asked, going-
 
 abbrev choices-R : ℕ → choices-lts.Claims
 choices-R t = (union-size-reads.Asked, union-size-reads.Learnt, choice-below t, choice.Post, going-reads.Asked, going-reads.Learnt)
-
-abbrev content-R : ℕ → content-lts.Claims
-content-R t = (going-reads.Asked, going-reads.Learnt, index-reads.Asked, index-reads.Learnt, list-below t, list.Post, table-below t, table.Post)
 
 abbrev follow-R : ℕ → follow-lts.Claims
 follow-R t = (refuse-part-reads.Asked, refuse-part-reads.Learnt, going-reads.Asked, going-reads.Learnt, arrive-below t, arrive.Post, union-below t, union.Post)
@@ -242,7 +247,64 @@ abbrev union-R : ℕ → union-lts.Claims
 union-R t = (refuse-part-reads.Asked, refuse-part-reads.Learnt, visit-below t, visit.Post)
 
 abbrev visit-R : ℕ → visit-lts.Claims
-visit-R t = (placed-reads.Asked, placed-reads.Learnt, charge-reads.Asked, charge-reads.Learnt, open-object-reads.Asked, open-object-reads.Learnt, refuse-reads.Asked, refuse-reads.Learnt, below-reads.Asked, below-reads.Learnt, content-below t, content.Post)
+visit-R t = (placed-reads.Asked, placed-reads.Learnt, charge-reads.Asked, charge-reads.Learnt, fit-object-reads.Asked, fit-object-reads.Learnt, refuse-reads.Asked, refuse-reads.Learnt, below-reads.Asked, below-reads.Learnt, admit-below t, admit.Post)
+
+admit-content-length-requires : (t : ℕ) → admit-lts.Need-content-length-requires (admit-R t) (admit-at t) admit.Post
+admit-content-length-requires t c κs = search needs
+
+admit-exceeds-requires : (t : ℕ) → admit-lts.Need-exceeds-requires (admit-R t) (admit-at t) admit.Post
+admit-exceeds-requires t c κs = search needs
+
+admit-refuse-requires : (t : ℕ) → admit-lts.Need-refuse-requires (admit-R t) (admit-at t) admit.Post
+admit-refuse-requires t c κs = search needs
+
+admit-returns : (t : ℕ) → admit-lts.Need-returns (admit-R t) (admit-at t) admit.Post
+admit-returns t c = search admit-unpaid
+
+admit-rest-requires : (t : ℕ) → admit-lts.Need-rest-requires (admit-R t) (admit-at t) admit.Post
+admit-rest-requires t c κs = search not-more
+
+admit-enum-told : (t : ℕ) → admit-lts.Need-enum-told (admit-R t) (admit-at t) admit.Post
+admit-enum-told t c = search needs
+
+admit-text-end-requires : (t : ℕ) → admit-lts.Need-text-end-requires (admit-R t) (admit-at t) admit.Post
+admit-text-end-requires t c κs = search text-fits
+
+admit-enum-told-2 : (t : ℕ) → admit-lts.Need-enum-told-2 (admit-R t) (admit-at t) admit.Post
+admit-enum-told-2 t c = search needs
+
+admit-going-requires : (t : ℕ) → admit-lts.Need-going-requires (admit-R t) (admit-at t) admit.Post
+admit-going-requires t c κs = search needs
+
+admit-enum-known-ob : (t : ℕ) → admit-lts.Need-enum-known-ob (admit-R t) (admit-at t) admit.Post
+admit-enum-known-ob t c = search needs
+
+admit-index-requires : (t : ℕ) → admit-lts.Need-index-requires (admit-R t) (admit-at t) admit.Post
+admit-index-requires t c κs = search needs
+
+admit-list-requires : (t : ℕ) → admit-lts.Need-list-requires (admit-R t) (admit-at t) admit.Post
+admit-list-requires t c κs = search (list-counted-of, list-fits, needs)
+
+admit-enum-known-ob-2 : (t : ℕ) → admit-lts.Need-enum-known-ob-2 (admit-R t) (admit-at t) admit.Post
+admit-enum-known-ob-2 t c = search needs
+
+admit-index-requires-2 : (t : ℕ) → admit-lts.Need-index-requires-2 (admit-R t) (admit-at t) admit.Post
+admit-index-requires-2 t c κs = search needs
+
+admit-table-requires : (t : ℕ) → admit-lts.Need-table-requires (admit-R t) (admit-at t) admit.Post
+admit-table-requires t c κs = search (table-counted-of, table-fits, needs)
+
+admit-returns-2 : (t : ℕ) → admit-lts.Need-returns-2 (admit-R t) (admit-at t) admit.Post
+admit-returns-2 t c = search admit-text
+
+admit-returns-3 : (t : ℕ) → admit-lts.Need-returns-3 (admit-R t) (admit-at t) admit.Post
+admit-returns-3 t c = search admit-bytes
+
+admit-returns-4 : (t : ℕ) → admit-lts.Need-returns-4 (admit-R t) (admit-at t) admit.Post
+admit-returns-4 t c = search admit-list
+
+admit-returns-5 : (t : ℕ) → admit-lts.Need-returns-5 (admit-R t) (admit-at t) admit.Post
+admit-returns-5 t c = search admit-table
 
 arrive-enum-known-p : (t : ℕ) → arrive-lts.Need-enum-known-p (arrive-R t) (arrive-at t) arrive.Post
 arrive-enum-known-p t c = search needs
@@ -305,13 +367,12 @@ choice-returns-3 : (t : ℕ) → choice-lts.Need-returns-3 (choice-R t) (choice-
 choice-returns-3 t c = search choice-known
 
 abbrev choices-Inv-loop : choices-lts.InvT-loop
-choices-Inv-loop b dir m l i x o size v₀ at₀ j₀ v at j =
-    (j ≤ x .length) × (at ≡ x .start + (2 + o) * j)
-    × (As.elementsBy o b m l (OfUnion i) x v₀
-    ≡ W.elements (As.visitBy o b m l) o (P.parse b) m (x .holder) (x .start) (OfUnion i) (x .length - j) j v)
+choices-Inv-loop b dir m depth i x visits content o size v₀ w₀ at₀ j₀ v w at j = (j ≤ x .length) × (at ≡ x .start + (2 + o) * j)
+    × (As.elementsBy o b m depth (OfUnion i) x (W.spending visits content)
+    ≡ W.elements (As.visitBy o b m depth) o (P.parse b) m (x .holder) (x .start) (OfUnion i) (x .length - j) j (W.spending v w))
 
 abbrev choices-μ-loop : choices-lts.MeasureT-loop
-choices-μ-loop b dir m l i x o size v₀ at₀ j₀ v at j = x .length - j
+choices-μ-loop b dir m depth i x visits content o size v₀ w₀ at₀ j₀ v w at j = x .length - j
 
 choices-union-size-requires : (t : ℕ) → choices-lts.Need-union-size-requires (choices-R t) (choices-at t) choices.Post choices-Inv-loop choices-μ-loop
 choices-union-size-requires t c κs = search needs
@@ -319,8 +380,8 @@ choices-union-size-requires t c κs = search needs
 choices-loop-holds : (t : ℕ) → choices-lts.Need-loop-holds (choices-R t) (choices-at t) choices.Post choices-Inv-loop choices-μ-loop
 choices-loop-holds t c = (omega arith, omega arith, search elements-start)
 
-choices-cast-t16 : (t : ℕ) → choices-lts.Need-cast-t16 (choices-R t) (choices-at t) choices.Post choices-Inv-loop choices-μ-loop
-choices-cast-t16 t c = record { fits = choice-number _ _ _ _ _ (c .if1 .taken) (c .before .before .before .before .before .before .before .pre .1 .4) (c .before .before .before .before .before .before .before .pre .1 .2) }
+choices-cast-t18 : (t : ℕ) → choices-lts.Need-cast-t18 (choices-R t) (choices-at t) choices.Post choices-Inv-loop choices-μ-loop
+choices-cast-t18 t c = record { fits = choice-number _ _ _ _ _ (c .if1 .taken) (c .before .before .before .before .before .before .before .pre .1 .4) (c .before .before .before .before .before .before .before .pre .1 .2) }
 
 choices-choice-requires : (t : ℕ) → choices-lts.Need-choice-requires (choices-R t) (choices-at t) choices.Post choices-Inv-loop choices-μ-loop
 choices-choice-requires t c κs = (omega arith, (c .before .before .before .before .before .before .before .pre .1 .0, c .before .before .before .before .before .before .before .pre .1 .1, c .before .before .before .before .before .before .before .pre .1 .2, c .before .before .before .before .before .before .before .pre .1 .3, search value-there))
@@ -329,7 +390,7 @@ choices-returns : (t : ℕ) → choices-lts.Need-returns (choices-R t) (choices-
 choices-returns t c = search choices-stopped
 
 choices-add-at : (t : ℕ) → choices-lts.Need-add-at (choices-R t) (choices-at t) choices.Post choices-Inv-loop choices-μ-loop
-choices-add-at t c = record { fits = omega (arith, c .before .before .before .before .before .before .before .union-size .ensures, value-fits _ _ _ _ _ _ (c .before .before .before .before .before .before .loop .inv .1) (c .before .before .before .before .if1 .taken) (c .before .before .before .before .before .before .before .before .before .before .before .pre .1 .4) (c .before .before .before .before .before .before .before .before .before .before .before .pre .1 .2)) }
+choices-add-at t c = record { fits = omega (arith, c .before .before .before .before .before .before .union-size .ensures, value-fits _ _ _ _ _ _ (c .before .before .before .before .before .loop .inv .1) (c .before .before .before .if1 .taken) (c .before .before .before .before .before .before .before .before .before .before .pre .1 .4) (c .before .before .before .before .before .before .before .before .before .before .pre .1 .2)) }
 
 choices-add-j : (t : ℕ) → choices-lts.Need-add-j (choices-R t) (choices-at t) choices.Post choices-Inv-loop choices-μ-loop
 choices-add-j t c = search needs
@@ -338,55 +399,13 @@ choices-loop-less : (t : ℕ) → choices-lts.Need-loop-less (choices-R t) (choi
 choices-loop-less t c = search needs
 
 choices-loop-again : (t : ℕ) → choices-lts.Need-loop-again (choices-R t) (choices-at t) choices.Post choices-Inv-loop choices-μ-loop
-choices-loop-again t c = (omega arith, omega (arith, c .before .before .before .before .before .before .before .union-size .ensures, value-next _ _ _ _ (c .before .before .before .before .before .before .loop .inv .1)), search choices-turn)
+choices-loop-again t c = (omega arith, omega (arith, c .before .before .before .before .before .before .union-size .ensures, value-next _ _ _ _ (c .before .before .before .before .before .loop .inv .1)), search choices-turn)
 
 choices-going-requires : (t : ℕ) → choices-lts.Need-going-requires (choices-R t) (choices-at t) choices.Post choices-Inv-loop choices-μ-loop
 choices-going-requires t c κs = search needs
 
 choices-returns-2 : (t : ℕ) → choices-lts.Need-returns-2 (choices-R t) (choices-at t) choices.Post choices-Inv-loop choices-μ-loop
 choices-returns-2 t c = search elements-done
-
-content-enum-told : (t : ℕ) → content-lts.Need-enum-told (content-R t) (content-at t) content.Post
-content-enum-told t c = search needs
-
-content-going-requires : (t : ℕ) → content-lts.Need-going-requires (content-R t) (content-at t) content.Post
-content-going-requires t c κs = search needs
-
-content-enum-told-2 : (t : ℕ) → content-lts.Need-enum-told-2 (content-R t) (content-at t) content.Post
-content-enum-told-2 t c = search needs
-
-content-going-requires-2 : (t : ℕ) → content-lts.Need-going-requires-2 (content-R t) (content-at t) content.Post
-content-going-requires-2 t c κs = search needs
-
-content-enum-known-ob : (t : ℕ) → content-lts.Need-enum-known-ob (content-R t) (content-at t) content.Post
-content-enum-known-ob t c = search needs
-
-content-index-requires : (t : ℕ) → content-lts.Need-index-requires (content-R t) (content-at t) content.Post
-content-index-requires t c κs = search needs
-
-content-list-requires : (t : ℕ) → content-lts.Need-list-requires (content-R t) (content-at t) content.Post
-content-list-requires t c κs = search (list-counted-of, list-fits, needs)
-
-content-enum-known-ob-2 : (t : ℕ) → content-lts.Need-enum-known-ob-2 (content-R t) (content-at t) content.Post
-content-enum-known-ob-2 t c = search needs
-
-content-index-requires-2 : (t : ℕ) → content-lts.Need-index-requires-2 (content-R t) (content-at t) content.Post
-content-index-requires-2 t c κs = search needs
-
-content-table-requires : (t : ℕ) → content-lts.Need-table-requires (content-R t) (content-at t) content.Post
-content-table-requires t c κs = search (table-counted-of, table-fits, needs)
-
-content-returns : (t : ℕ) → content-lts.Need-returns (content-R t) (content-at t) content.Post
-content-returns t c = search content-text
-
-content-returns-2 : (t : ℕ) → content-lts.Need-returns-2 (content-R t) (content-at t) content.Post
-content-returns-2 t c = search content-bytes
-
-content-returns-3 : (t : ℕ) → content-lts.Need-returns-3 (content-R t) (content-at t) content.Post
-content-returns-3 t c = search content-list
-
-content-returns-4 : (t : ℕ) → content-lts.Need-returns-4 (content-R t) (content-at t) content.Post
-content-returns-4 t c = search content-table
 
 follow-enum-known-step : (t : ℕ) → follow-lts.Need-enum-known-step (follow-R t) (follow-at t) follow.Post
 follow-enum-known-step t c = search needs
@@ -542,13 +561,12 @@ reference-returns-4 : (t : ℕ) → reference-lts.Need-returns-4 (reference-R t)
 reference-returns-4 t c = reference-here _ _ _ _ _ _ _ _ _ (c .before .before .before .before .before .before .before .before .before .before .before .before .before .before .pre .1 .0 .4) _ (c .before .before .before .before .before .before .before .before .if1 .left) (c .before .before .before .before .before .before .if2 .left) _ (c .before .before .before .before .offset-in .ensures .0) _ (c .before .before .before .object-at .ensures) (c .refer .ensures)
 
 abbrev references-Inv-loop : references-lts.InvT-loop
-references-Inv-loop b dir m l ob x o v₀ at₀ j₀ v at j =
-    (j ≤ x .length) × (at ≡ x .start + o * j)
-    × (As.elementsBy o b m l (OfObject ob) x v₀
-    ≡ W.elements (As.visitBy o b m l) o (P.parse b) m (x .holder) (x .start) (OfObject ob) (x .length - j) j v)
+references-Inv-loop b dir m depth ob x visits content o v₀ w₀ at₀ j₀ v w at j = (j ≤ x .length) × (at ≡ x .start + o * j)
+    × (As.elementsBy o b m depth (OfObject ob) x (W.spending visits content)
+    ≡ W.elements (As.visitBy o b m depth) o (P.parse b) m (x .holder) (x .start) (OfObject ob) (x .length - j) j (W.spending v w))
 
 abbrev references-μ-loop : references-lts.MeasureT-loop
-references-μ-loop b dir m l ob x o v₀ at₀ j₀ v at j = x .length - j
+references-μ-loop b dir m depth ob x visits content o v₀ w₀ at₀ j₀ v w at j = x .length - j
 
 references-is-text-requires : (t : ℕ) → references-lts.Need-is-text-requires (references-R t) (references-at t) references.Post references-Inv-loop references-μ-loop
 references-is-text-requires t c κs = search needs
@@ -581,7 +599,7 @@ references-returns-3 : (t : ℕ) → references-lts.Need-returns-3 (references-R
 references-returns-3 t c = search references-stopped
 
 references-add-at : (t : ℕ) → references-lts.Need-add-at (references-R t) (references-at t) references.Post references-Inv-loop references-μ-loop
-references-add-at t c = record { fits = search value-fits }
+references-add-at t c = record { fits = value-fits _ _ _ _ _ _ (c .before .before .before .before .before .before .loop .inv .1) (c .before .before .before .before .if3 .taken) (c .before .before .before .before .before .before .before .before .before .before .before .before .before .before .pre .1 .4) (c .before .before .before .before .before .before .before .before .before .before .before .before .before .before .pre .1 .2) }
 
 references-add-j : (t : ℕ) → references-lts.Need-add-j (references-R t) (references-at t) references.Post references-Inv-loop references-μ-loop
 references-add-j t c = search needs
@@ -599,13 +617,12 @@ references-returns-4 : (t : ℕ) → references-lts.Need-returns-4 (references-R
 references-returns-4 t c = search elements-done
 
 abbrev table-Inv-loop : table-lts.InvT-loop
-table-Inv-loop b dir m l t x o count first c₀ v₀ j₀ c v j =
-    (j ≤ count) × Laid (4097 * j) c
-    × (As.membersBy o b m l t x v₀
-    ≡ W.members (As.visitBy o b m l) o (P.parse b) m (x .holder) (x .start) (x .length) c j (drop j (Sc.tableOf (P.parse b) t .members)) v)
+table-Inv-loop b dir m depth t x visits content o count first c₀ v₀ w₀ j₀ c v w j = (j ≤ count) × Laid (4097 * j) c
+    × (As.membersBy o b m depth t x (W.spending visits content)
+    ≡ W.members (As.visitBy o b m depth) o (P.parse b) m (x .holder) (x .start) (x .length) c j (drop j (Sc.tableOf (P.parse b) t .members)) (W.spending v w))
 
 abbrev table-μ-loop : table-lts.MeasureT-loop
-table-μ-loop b dir m l t x o count first c₀ v₀ j₀ c v j = count - j
+table-μ-loop b dir m depth t x visits content o count first c₀ v₀ w₀ j₀ c v w j = count - j
 
 table-member-count-requires : (t : ℕ) → table-lts.Need-member-count-requires (table-R t) (table-at t) table.Post table-Inv-loop table-μ-loop
 table-member-count-requires t c κs = search needs
@@ -634,8 +651,8 @@ table-record-place-requires t c κs = (omega arith, c .before .before .before .b
 table-refers-requires : (t : ℕ) → table-lts.Need-refers-requires (table-R t) (table-at t) table.Post table-Inv-loop table-μ-loop
 table-refers-requires t c κs = omega (arith, record-whole _ _ _ (c .before .before .before .before .before .before .before .before .before .before .before .before .pre .1 .3) _ (c .before .before .before .before .before .before .before .before .member-count .ensures .0) (c .before .before .before .before .loop-test .taken) _ (c .before .before .before .before .before .before .before .table-place .ensures) _ (c .record-place .ensures .1))
 
-table-cast-t24 : (t : ℕ) → table-lts.Need-cast-t24 (table-R t) (table-at t) table.Post table-Inv-loop table-μ-loop
-table-cast-t24 t c = record { fits = omega (arith, c .before .before .before .before .before .before .loop-test .taken, c .before .before .before .before .before .before .before .before .before .before .member-count .ensures .1) }
+table-cast-t26 : (t : ℕ) → table-lts.Need-cast-t26 (table-R t) (table-at t) table.Post table-Inv-loop table-μ-loop
+table-cast-t26 t c = record { fits = omega (arith, c .before .before .before .before .before .before .loop-test .taken, c .before .before .before .before .before .before .before .before .before .before .member-count .ensures .1) }
 
 table-reference-requires : (t : ℕ) → table-lts.Need-reference-requires (table-R t) (table-at t) table.Post table-Inv-loop table-μ-loop
 table-reference-requires t c κs = (omega arith, ((c .before .before .before .before .before .before .before .before .before .before .before .before .before .before .pre .1 .0, c .before .before .before .before .before .before .before .before .before .before .before .before .before .before .pre .1 .1, c .before .before .before .before .before .before .before .before .before .before .before .before .before .before .pre .1 .2, record-whole _ _ _ (c .before .before .before .before .before .before .before .before .before .before .before .before .before .before .pre .1 .3) _ (c .before .before .before .before .before .before .before .before .before .before .member-count .ensures .0) (c .before .before .before .before .before .before .loop-test .taken) _ (c .before .before .before .before .before .before .before .before .before .table-place .ensures) _ (c .before .before .record-place .ensures .1), c .before .refers .ensures (c .if2 .taken)), (reference-sound _ _ _ (c .before .before .before .before .before .before .before .before .before .before .before .before .before .before .pre .1 .3) _ (c .before .before .before .before .before .before .before .before .before .before .member-count .ensures .0) (c .before .before .before .before .before .before .loop-test .taken) _ (c .before .before .before .before .before .before .before .before .before .table-place .ensures) _ _ (c .before .before .before .before .before .before .before .before .before .before .before .before .before .before .pre .1 .0) (c .before .before .record-place .ensures .0) (c .before .refers .ensures (c .if2 .taken)), c .before .before .before .before .before .before .before .before .before .before .before .before .before .before .pre .1 .4, omega (arith, c .before .before .before .before .before .before .before .loop .inv .1 .end, c .before .before .before .before .before .before .before .before .before .before .member-count .ensures .1))))
@@ -644,7 +661,7 @@ table-returns-2 : (t : ℕ) → table-lts.Need-returns-2 (table-R t) (table-at t
 table-returns-2 t c = reference-stopped _ _ _ _ _ _ _ _ _ _ _ _ (c .before .before .before .before .before .before .before .before .before .before .loop .inv .2) _ (c .before .before .before .before .before .before .before .before .before .before .before .before .before .member-count .ensures .0) (c .before .before .before .before .before .before .before .before .before .loop-test .taken) (c .before .before .before .before .before .before .before .before .before .before .before .before .before .before .before .before .before .pre .1 .3) _ (c .before .before .before .before .before .before .before .before .before .before .before .before .table-place .ensures) _ (c .before .before .before .before .before .record-place .ensures .0) _ (c .before .before .reference .ensures) (c .if3 .taken)
 
 table-after-bytes-requires : (t : ℕ) → table-lts.Need-after-bytes-requires (table-R t) (table-at t) table.Post table-Inv-loop table-μ-loop
-table-after-bytes-requires t c κs = (c .before .before .before .before .before .before .before .before .before .before .before .loop .inv .1 .byte, c .before .before .before .before .before .before .before .before .before .before .before .loop .inv .1 .bit, omega (arith, c .before .before .before .before .before .before .before .before .before .before .before .loop .inv .1 .end, c .before .before .before .before .before .before .before .before .before .before .before .before .before .before .member-count .ensures .1), omega (arith, c .before .before .before .before .before .before .before .before .before .before .before .before .before .before .before .before .before .before .pre .1 .1 .1))
+table-after-bytes-requires t c κs = (c .before .before .before .before .before .before .before .before .before .before .loop .inv .1 .byte, c .before .before .before .before .before .before .before .before .before .before .loop .inv .1 .bit, omega (arith, c .before .before .before .before .before .before .before .before .before .before .loop .inv .1 .end, c .before .before .before .before .before .before .before .before .before .before .before .before .before .member-count .ensures .1), omega (arith, c .before .before .before .before .before .before .before .before .before .before .before .before .before .before .before .before .before .pre .1 .1 .1))
 
 table-add-j : (t : ℕ) → table-lts.Need-add-j (table-R t) (table-at t) table.Post table-Inv-loop table-μ-loop
 table-add-j t c = search needs
@@ -653,7 +670,7 @@ table-loop-less : (t : ℕ) → table-lts.Need-loop-less (table-R t) (table-at t
 table-loop-less t c = search needs
 
 table-loop-again : (t : ℕ) → table-lts.Need-loop-again (table-R t) (table-at t) table.Post table-Inv-loop table-μ-loop
-table-loop-again t c = (omega arith, reference-laid _ _ _ _ (c .before .before .before .before .before .before .before .before .before .before .before .before .before .before .before .before .before .before .before .pre .1 .1 .1) (c .before .before .before .before .before .before .before .before .before .before .before .before .loop .inv .1) (c .after-bytes .ensures .1), reference-turn _ _ _ _ _ _ _ _ _ _ _ _ (c .before .before .before .before .before .before .before .before .before .before .before .before .loop .inv .2) _ (c .before .before .before .before .before .before .before .before .before .before .before .before .before .before .before .member-count .ensures .0) (c .before .before .before .before .before .before .before .before .before .before .before .loop-test .taken) (c .before .before .before .before .before .before .before .before .before .before .before .before .before .before .before .before .before .before .before .pre .1 .3) _ (c .before .before .before .before .before .before .before .before .before .before .before .before .before .before .table-place .ensures) _ (c .before .before .before .before .before .before .before .record-place .ensures .0) _ (c .before .before .before .before .reference .ensures) (c .before .before .if3 .left) (c .before .before .before .before .before .before .refers .ensures (c .before .before .before .before .before .if2 .taken)) _ (c .after-bytes .ensures .0))
+table-loop-again t c = (omega arith, reference-laid _ _ _ _ (c .before .before .before .before .before .before .before .before .before .before .before .before .before .before .before .before .before .before .pre .1 .1 .1) (c .before .before .before .before .before .before .before .before .before .before .before .loop .inv .1) (c .after-bytes .ensures .1), reference-turn _ _ _ _ _ _ _ _ _ _ _ _ (c .before .before .before .before .before .before .before .before .before .before .before .loop .inv .2) _ (c .before .before .before .before .before .before .before .before .before .before .before .before .before .before .member-count .ensures .0) (c .before .before .before .before .before .before .before .before .before .before .loop-test .taken) (c .before .before .before .before .before .before .before .before .before .before .before .before .before .before .before .before .before .before .pre .1 .3) _ (c .before .before .before .before .before .before .before .before .before .before .before .before .before .table-place .ensures) _ (c .before .before .before .before .before .before .record-place .ensures .0) _ (c .before .before .before .reference .ensures) (c .before .if3 .left) (c .before .before .before .before .before .refers .ensures (c .before .before .before .before .if2 .taken)) _ (c .after-bytes .ensures .0))
 
 table-lead-member-requires : (t : ℕ) → table-lts.Need-lead-member-requires (table-R t) (table-at t) table.Post table-Inv-loop table-μ-loop
 table-lead-member-requires t c κs = ((c .before .before .before .before .before .before .before .before .before .before .before .before .before .before .pre .1 .0, c .before .before .before .before .before .before .before .before .before .before .before .before .before .before .pre .1 .1, c .before .before .before .before .before .before .before .before .before .before .before .before .before .before .pre .1 .3, omega (arith, c .before .before .before .before .before .before .before .before .before .before .member-count .ensures .0), omega (arith, c .before .before .before .before .before .before .before .before .before .before .member-count .ensures .1)), (omega (arith, c .before .before .before .before .before .before .before .before .before .before .before .before .before .before .pre .1 .4), omega (arith, c .before .before .before .before .before .before .before .before .before .before .before .before .before .before .pre .1 .2), c .before .before .before .before .before .before .before .loop .inv .1))
@@ -670,8 +687,8 @@ table-loop-less-2 t c = search needs
 table-loop-again-2 : (t : ℕ) → table-lts.Need-loop-again-2 (table-R t) (table-at t) table.Post table-Inv-loop table-μ-loop
 table-loop-again-2 t c = (omega arith, c .before .before .before .lead-member .ensures .laid, members-nowhere _ _ _ _ _ _ _ _ _ _ _ _ (c .before .before .before .before .before .before .before .before .before .before .before .loop .inv .2) _ (c .before .before .before .before .before .before .before .before .before .before .before .before .before .before .member-count .ensures .0) (c .before .before .before .before .before .before .before .before .before .before .loop-test .taken) _ (c .before .before .before .lead-member .ensures .step-is) (c .before .before .leads-nowhere .ensures (c .before .if4 .taken)) _ (c .before .before .before .lead-member .ensures .next-is))
 
-table-cast-t27 : (t : ℕ) → table-lts.Need-cast-t27 (table-R t) (table-at t) table.Post table-Inv-loop table-μ-loop
-table-cast-t27 t c = record { fits = omega (arith, c .before .before .before .before .before .before .before .before .before .loop-test .taken, c .before .before .before .before .before .before .before .before .before .before .before .before .before .member-count .ensures .1) }
+table-cast-t29 : (t : ℕ) → table-lts.Need-cast-t29 (table-R t) (table-at t) table.Post table-Inv-loop table-μ-loop
+table-cast-t29 t c = record { fits = omega (arith, c .before .before .before .before .before .before .before .before .before .loop-test .taken, c .before .before .before .before .before .before .before .before .before .before .before .before .before .member-count .ensures .1) }
 
 table-follow-requires : (t : ℕ) → table-lts.Need-follow-requires (table-R t) (table-at t) table.Post table-Inv-loop table-μ-loop
 table-follow-requires t c κs = (omega (arith, c .before .before .before .before .before .before .before .before .before .before .before .before .before .before .before .before .before .pre .0), (c .before .before .before .before .before .before .before .before .before .before .before .before .before .before .before .before .before .pre .1 .0, c .before .before .before .before .before .before .before .before .before .before .before .before .before .before .before .before .before .pre .1 .1, c .before .before .before .before .before .before .before .before .before .before .before .before .before .before .before .before .before .pre .1 .2, c .before .before .lead-member .ensures .small))
@@ -686,7 +703,7 @@ table-loop-less-3 : (t : ℕ) → table-lts.Need-loop-less-3 (table-R t) (table-
 table-loop-less-3 t c = search needs
 
 table-loop-again-3 : (t : ℕ) → table-lts.Need-loop-again-3 (table-R t) (table-at t) table.Post table-Inv-loop table-μ-loop
-table-loop-again-3 t c = (omega arith, c .before .before .before .before .before .before .before .lead-member .ensures .laid, members-turn _ _ _ _ _ _ _ _ _ _ _ _ (c .before .before .before .before .before .before .before .before .before .before .before .before .before .before .before .loop .inv .2) _ (c .before .before .before .before .before .before .before .before .before .before .before .before .before .before .before .before .before .before .member-count .ensures .0) (c .before .before .before .before .before .before .before .before .before .before .before .before .before .before .loop-test .taken) _ (c .before .before .before .before .before .before .before .lead-member .ensures .step-is) _ (c .before .before .before .before .follow .ensures) (c .before .before .if5 .left) _ (c .before .before .before .before .before .before .before .lead-member .ensures .next-is))
+table-loop-again-3 t c = (omega arith, c .before .before .before .before .before .before .lead-member .ensures .laid, members-turn _ _ _ _ _ _ _ _ _ _ _ _ (c .before .before .before .before .before .before .before .before .before .before .before .before .before .before .loop .inv .2) _ (c .before .before .before .before .before .before .before .before .before .before .before .before .before .before .before .before .before .member-count .ensures .0) (c .before .before .before .before .before .before .before .before .before .before .before .before .before .loop-test .taken) _ (c .before .before .before .before .before .before .lead-member .ensures .step-is) _ (c .before .before .before .follow .ensures) (c .before .if5 .left) _ (c .before .before .before .before .before .before .lead-member .ensures .next-is))
 
 table-going-requires-2 : (t : ℕ) → table-lts.Need-going-requires-2 (table-R t) (table-at t) table.Post table-Inv-loop table-μ-loop
 table-going-requires-2 t c κs = search needs
@@ -727,8 +744,8 @@ visit-charge-requires t c κs = search needs
 visit-returns : (t : ℕ) → visit-lts.Need-returns (visit-R t) (visit-at t) visit.Post
 visit-returns t c = search visit-stopped
 
-visit-open-object-requires : (t : ℕ) → visit-lts.Need-open-object-requires (visit-R t) (visit-at t) visit.Post
-visit-open-object-requires t c κs = search needs
+visit-fit-object-requires : (t : ℕ) → visit-lts.Need-fit-object-requires (visit-R t) (visit-at t) visit.Post
+visit-fit-object-requires t c κs = search needs
 
 visit-enum-known-e : (t : ℕ) → visit-lts.Need-enum-known-e (visit-R t) (visit-at t) visit.Post
 visit-enum-known-e t c = search needs
@@ -742,8 +759,8 @@ visit-enum-known-start t c = search needs
 visit-below-requires : (t : ℕ) → visit-lts.Need-below-requires (visit-R t) (visit-at t) visit.Post
 visit-below-requires t c κs = search charged-deep
 
-visit-content-requires : (t : ℕ) → visit-lts.Need-content-requires (visit-R t) (visit-at t) visit.Post
-visit-content-requires t c κs = (omega (arith, c .before .before .before .before .before .before .before .before .before .before .before .before .before .pre .0, deeper-falls _ _ (c .below .ensures) (charged-deep _ _ _ _ (c .before .before .before .before .before .before .before .before .charge .ensures) (c .before .before .before .before .before .before .if1 .left))), ((c .before .before .before .before .before .before .before .before .before .before .before .before .before .pre .1 .0, c .before .before .before .before .before .before .before .before .before .before .before .before .before .pre .1 .1, c .before .before .before .before .before .before .before .before .before .before .before .before .before .pre .1 .2, c .before .before .before .before .before .before .before .before .before .before .before .before .before .pre .1 .3), search opened-fits))
+visit-admit-requires : (t : ℕ) → visit-lts.Need-admit-requires (visit-R t) (visit-at t) visit.Post
+visit-admit-requires t c κs = (omega (arith, c .before .before .before .before .before .before .before .before .before .before .before .before .pre .0, below-falls _ _ (c .below .ensures) (charged-deep _ _ _ _ (c .before .before .before .before .before .before .before .charge .ensures) (c .before .before .before .before .before .if1 .left))), ((c .before .before .before .before .before .before .before .before .before .before .before .before .pre .1 .0, c .before .before .before .before .before .before .before .before .before .before .before .before .pre .1 .1, c .before .before .before .before .before .before .before .before .before .before .before .before .pre .1 .2, c .before .before .before .before .before .before .before .before .before .before .before .before .pre .1 .3), (search fit-fits, length-small _ _ _ (c .before .before .before .before .fit-object .ensures .1) (c .before .before .start .given .1))))
 
 visit-returns-2 : (t : ℕ) → visit-lts.Need-returns-2 (visit-R t) (visit-at t) visit.Post
 visit-returns-2 t c = search visit-refused
@@ -751,14 +768,14 @@ visit-returns-2 t c = search visit-refused
 visit-returns-3 : (t : ℕ) → visit-lts.Need-returns-3 (visit-R t) (visit-at t) visit.Post
 visit-returns-3 t c = search visit-content
 
-pub +arrive+choice+choices+content+follow+list+refer+reference+references+table+union+visit-spec :
+pub +admit+arrive+choice+choices+follow+list+refer+reference+references+table+union+visit-spec :
     {M : Type 1} → statement M
-+arrive+choice+choices+content+follow+list+refer+reference+references+table+union+visit-spec =
++admit+arrive+choice+choices+follow+list+refer+reference+references+table+union+visit-spec =
     close
+    μ-admit
     μ-arrive
     μ-choice
     μ-choices
-    μ-content
     μ-follow
     μ-list
     μ-refer
@@ -767,6 +784,28 @@ pub +arrive+choice+choices+content+follow+list+refer+reference+references+table+
     μ-table
     μ-union
     μ-visit
+    (λ t. admit-lts.spec (admit-R t)
+    (admit-at t)
+    admit.Post
+    (admit-content-length-requires t)
+    (admit-exceeds-requires t)
+    (admit-refuse-requires t)
+    (admit-returns t)
+    (admit-rest-requires t)
+    (admit-enum-told t)
+    (admit-text-end-requires t)
+    (admit-enum-told-2 t)
+    (admit-going-requires t)
+    (admit-enum-known-ob t)
+    (admit-index-requires t)
+    (admit-list-requires t)
+    (admit-enum-known-ob-2 t)
+    (admit-index-requires-2 t)
+    (admit-table-requires t)
+    (admit-returns-2 t)
+    (admit-returns-3 t)
+    (admit-returns-4 t)
+    (admit-returns-5 t))
     (λ t. arrive-lts.spec (arrive-R t)
     (arrive-at t)
     arrive.Post
@@ -793,15 +832,14 @@ pub +arrive+choice+choices+content+follow+list+refer+reference+references+table+
     (choice-offset-in-requires t)
     (choice-union-requires t)
     (choice-returns-3 t))
-    (λ t. choices-lts.spec
-    (choices-R t)
+    (λ t. choices-lts.spec (choices-R t)
     (choices-at t)
     choices.Post
     choices-Inv-loop
     choices-μ-loop
     (choices-union-size-requires t)
     (choices-loop-holds t)
-    (choices-cast-t16 t)
+    (choices-cast-t18 t)
     (choices-choice-requires t)
     (choices-returns t)
     (choices-add-at t)
@@ -810,23 +848,6 @@ pub +arrive+choice+choices+content+follow+list+refer+reference+references+table+
     (choices-loop-again t)
     (choices-going-requires t)
     (choices-returns-2 t))
-    (λ t. content-lts.spec (content-R t)
-    (content-at t)
-    content.Post
-    (content-enum-told t)
-    (content-going-requires t)
-    (content-enum-told-2 t)
-    (content-going-requires-2 t)
-    (content-enum-known-ob t)
-    (content-index-requires t)
-    (content-list-requires t)
-    (content-enum-known-ob-2 t)
-    (content-index-requires-2 t)
-    (content-table-requires t)
-    (content-returns t)
-    (content-returns-2 t)
-    (content-returns-3 t)
-    (content-returns-4 t))
     (λ t. follow-lts.spec (follow-R t)
     (follow-at t)
     follow.Post
@@ -926,7 +947,7 @@ pub +arrive+choice+choices+content+follow+list+refer+reference+references+table+
     (table-returns t)
     (table-record-place-requires t)
     (table-refers-requires t)
-    (table-cast-t24 t)
+    (table-cast-t26 t)
     (table-reference-requires t)
     (table-returns-2 t)
     (table-after-bytes-requires t)
@@ -938,7 +959,7 @@ pub +arrive+choice+choices+content+follow+list+refer+reference+references+table+
     (table-add-j-2 t)
     (table-loop-less-2 t)
     (table-loop-again-2 t)
-    (table-cast-t27 t)
+    (table-cast-t29 t)
     (table-follow-requires t)
     (table-returns-3 t)
     (table-add-j-3 t)
@@ -963,11 +984,11 @@ pub +arrive+choice+choices+content+follow+list+refer+reference+references+table+
     (visit-placed-requires t)
     (visit-charge-requires t)
     (visit-returns t)
-    (visit-open-object-requires t)
+    (visit-fit-object-requires t)
     (visit-enum-known-e t)
     (visit-refuse-requires t)
     (visit-enum-known-start t)
     (visit-below-requires t)
-    (visit-content-requires t)
+    (visit-admit-requires t)
     (visit-returns-2 t)
     (visit-returns-3 t)
