@@ -102,7 +102,7 @@ choice-unknown-tested S s pos u whole x next taken n en t et w′ f′ n′ e1 e
     by false = refl
 
 -- ---- extents of what was tested
-plain-surveyed : (s : List ℕ) (p : Parsed Bool) (tw tf : Bool) (tn : ℕ) → TestedAt s p tw tf tn → (w : Bool) (e : Extent) (n : ℕ) → w ≡ tw → n ≡ tn → Fits (plain tf) e
+pub plain-surveyed : (s : List ℕ) (p : Parsed Bool) (tw tf : Bool) (tn : ℕ) → TestedAt s p tw tf tn → (w : Bool) (e : Extent) (n : ℕ) → w ≡ tw → n ≡ tn → Fits (plain tf) e
     → SurveyedAt s (plainOf p) w e n
 unfolding plainOf bind
 plain-surveyed s p tw tf tn t w e n ew en f =
