@@ -400,6 +400,31 @@ fn plain_of(t: Tested) -> Surveyed
     }
 }
 
+// The same answer, field by field: so the compiler keeps it in registers, where a copy as a whole goes through memory.
+fn kept(x: Surveyed) -> Surveyed
+    ensures { λ r. ⌜ (r .whole ≡ x .whole) × (r .extent ≡ x .extent) × (r .next ≡ x .next) ⌝ }
+{
+    let e = x.extent;
+    let chain = e.chain;
+    let length = e.length;
+    let below = e.below;
+    let width = e.width;
+    let writable = e.writable;
+    let next = x.next;
+    let whole = x.whole;
+    Surveyed {
+        extent: Extent {
+            chain,
+            length,
+            below,
+            width,
+            writable,
+        },
+        next,
+        whole,
+    }
+}
+
 // A count of bytes, to one past the size.
 pub fn capped(n: usize) -> usize
     ensures { λ r. ⌜ (r ≡ Sv.capped n) × (r ≤ 16777216) ⌝ }
@@ -1094,8 +1119,8 @@ fn body(
 {
     match k {
         Kind::OfFlat(f) => plain_of(flat_test(b, dir, s, pos, optional, f)),
-        Kind::OfObject(ob) => refer(b, dir, s, d, ob, inplace, false, pos, o),
-        Kind::OfUnion(u) => choice(b, dir, s, d, wire::index(u), inplace, pos, o),
+        Kind::OfObject(ob) => kept(refer(b, dir, s, d, ob, inplace, false, pos, o)),
+        Kind::OfUnion(u) => kept(choice(b, dir, s, d, wire::index(u), inplace, pos, o)),
     }
 }
 

@@ -73,6 +73,7 @@ use Rattle.write_measure.proofs.simple_members.Reads as simple-members-
 use Rattle.write_measure.proofs.unknown.Reads as unknown-reads
 use Rattle.write_measure.proofs.may_lack.Reads as may-lack-reads
 use Rattle.write_measure.proofs.opened.Reads as opened-reads
+use Rattle.write_measure.proofs.kept.Reads as kept-reads
 use Rattle.write_measure.proofs.is_simple.Reads as is-simple-reads
 use Rattle.write_measure.proofs.simple_elements.Reads as simple-elements-reads
 use Rattle.write_measure.proofs.plain.Reads as plain-reads
@@ -205,7 +206,7 @@ abbrev table-found-R : ℕ → table-found-lts.Claims
 table-found-R t = (fixed-size-reads.Asked, fixed-size-reads.Learnt, table-below t, table.Post)
 
 abbrev body-R : ℕ → body-lts.Claims
-body-R t = (flat-test-reads.Asked, flat-test-reads.Learnt, plain-of-reads.Asked, plain-of-reads.Learnt, refer-below t, refer.Post, index-reads.Asked, index-reads.Learnt, choice-below t, choice.Post)
+body-R t = (flat-test-reads.Asked, flat-test-reads.Learnt, plain-of-reads.Asked, plain-of-reads.Learnt, refer-below t, refer.Post, kept-reads.Asked, kept-reads.Learnt, index-reads.Asked, index-reads.Learnt, choice-below t, choice.Post)
 
 abbrev choice-R : ℕ → choice-lts.Claims
 choice-R t = (case-count-reads.Asked, case-count-reads.Learnt, take-number-reads.Asked, take-number-reads.Learnt, unlawful-reads.Asked, unlawful-reads.Learnt, union-case-reads.Asked, union-case-reads.Learnt, refer-below t, refer.Post)
@@ -243,6 +244,9 @@ body-enum-known-k-2 t c = search needs
 body-refer-requires : (t : ℕ) → body-lts.Need-refer-requires (body-R t) (body-at t) body.Post
 body-refer-requires t c κs = search (kind-object, needs)
 
+body-kept-requires : (t : ℕ) → body-lts.Need-kept-requires (body-R t) (body-at t) body.Post
+body-kept-requires t c κs = search needs
+
 body-enum-known-k-3 : (t : ℕ) → body-lts.Need-enum-known-k-3 (body-R t) (body-at t) body.Post
 body-enum-known-k-3 t c = search needs
 
@@ -251,6 +255,9 @@ body-index-requires t c κs = search needs
 
 body-choice-requires : (t : ℕ) → body-lts.Need-choice-requires (body-R t) (body-at t) body.Post
 body-choice-requires t c κs = search (union-counted, needs)
+
+body-kept-requires-2 : (t : ℕ) → body-lts.Need-kept-requires-2 (body-R t) (body-at t) body.Post
+body-kept-requires-2 t c κs = search needs
 
 body-returns : (t : ℕ) → body-lts.Need-returns (body-R t) (body-at t) body.Post
 body-returns t c = search body-flat
@@ -642,9 +649,11 @@ pub +body+choice+list+marked-row+member-part+object+part+refer+row+rows+table+ta
     (body-plain-of-requires t)
     (body-enum-known-k-2 t)
     (body-refer-requires t)
+    (body-kept-requires t)
     (body-enum-known-k-3 t)
     (body-index-requires t)
     (body-choice-requires t)
+    (body-kept-requires-2 t)
     (body-returns t)
     (body-returns-2 t)
     (body-returns-3 t))
