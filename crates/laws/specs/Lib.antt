@@ -7,6 +7,7 @@ pub mod BitLists
 pub mod Lists
 pub mod Parsed
 pub mod Rules
+pub mod DirectRules
 pub mod RecordSound
 pub mod Sizes
 pub mod LawfulSound
