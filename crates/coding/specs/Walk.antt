@@ -2,7 +2,7 @@
 -- `o` is the width of an offset in bytes. Where a sentence says U48, the older coding has a U32 (02, K5).
 use Prim.Native.Nat.{ℕ, zero, suc, _+_, _*_}
 use mathlib.Core.List.{List, [], _∷_}
-use mathlib.Core.Bool.{Bool, true, _&&_}
+use mathlib.Core.Bool.{Bool, true, false, _&&_}
 use lib.ListN.{length, getD}
 use lib.Dec.{ltb, leb, eqb}
 use Rattle.coding.specs.Lists.{pick}
@@ -122,6 +122,14 @@ headerTested o S m (O.List i) at fit = fit
 headerTested o S m (O.Table i) at fit = fit
 headerTested o S m (O.DirectList t) at fit = directHeader o S m t at fit
 
+-- 02, K1: a direct list is "never in place"; no lawful schema leads to one there, and it would not fit
+unfoldable pub standsInPlace : Object → Bool
+standsInPlace O.Text = true
+standsInPlace O.Bytes = true
+standsInPlace (O.List i) = true
+standsInPlace (O.Table i) = true
+standsInPlace (O.DirectList t) = false
+
 -- "offset and header fit, magic, content fit"; refusals 6 "offset under 10, or header or content does not fit" and 7 "wrong
 -- object magic". "Offsets count from the message's first byte." In place there is no header.
 unfoldable pub fitObject : ℕ → Schema → List ℕ → Object → Place → Opened
@@ -131,7 +139,7 @@ fitObject o S m ob (ByOffset x) =
     (headerTested o S m ob x (fitContent o S m ob x (x + headerSize o ob) (le m (x + 4) o)))
     (Op.Refused 7))
     (Op.Refused 6)
-fitObject o S m ob (InPlace a n) = fitContent o S m ob a a n
+fitObject o S m ob (InPlace a n) = pick (standsInPlace ob) (fitContent o S m ob a a n) (Op.Refused 6)
 
 -- "text's end byte": the test of an object's bytes once its content fits, of a text its end byte; refusal 10, "text end
 -- byte not 0"

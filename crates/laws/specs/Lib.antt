@@ -13,3 +13,4 @@ pub mod Sizes
 pub mod LawfulSound
 pub mod StructBooleans
 pub mod SoundAt
+pub mod DirectPlaces
