@@ -14,3 +14,4 @@ pub mod LawfulSound
 pub mod StructBooleans
 pub mod SoundAt
 pub mod DirectPlaces
+pub mod FixedSizes
