@@ -1,4 +1,5 @@
--- How long a fixed part is: 64 members of at most 4,097 bytes each, so that its length fits in the U32 of a direct list's header.
+-- How long a full fixed part is: 64 members of at most 4,097 bytes each, so that its length fits in the U32 of a direct list's header;
+-- and, of a direct list's table, which has a member, a byte at least.
 use mathlib.Core.Path.{_≡_, refl}
 use mathlib.Core.Bool.{Bool, true, false}
 use mathlib.Core.Logic.{_⊎_, inl, inr}
@@ -17,7 +18,7 @@ use Rattle.coding.specs.declared.Kind.{Kind}
 use Rattle.coding.specs.declared.Kind.the-variants.{OfFlat, OfObject, OfUnion}
 use Rattle.coding.specs.declared.Member.{Member}
 use Rattle.coding.specs.declared.Cursor.{Cursor}
-use Rattle.laws.specs.Sound.{All, FlatSound, KindSound, MemberSound, Sound}
+use Rattle.laws.specs.Sound.{All, DirectSound, FlatSound, KindSound, MemberSound, Sound}
 
 after-bit : (c : Cursor) → afterBit c .end ≤ c .end + 1
 unfolding afterBit
@@ -37,7 +38,7 @@ after-flag r c = by (hasFlag r)
     by true = after-bit c
     by false = omega arith
 
-module _ (o : ℕ) (narrow : o ≤ 6) (S : Schema) (G : Sound S) where
+module _ (o : ℕ) (narrow : 2 + o ≤ 4096) (S : Schema) (G : Sound S) where
   flat-narrow : (k : Flat) → FlatSound (length (S .structs)) k → flatWidth (structSize S) k ≤ 4096
   unfolding flatWidth
   flat-narrow Boolean s = omega arith
@@ -76,3 +77,88 @@ module _ (o : ℕ) (narrow : o ≤ 6) (S : Schema) (G : Sound S) where
   unfolding fixedSize begin
   fixed-small i =
       omega (arith, after-members (tableOf S i .members) (G .tables i .members) begin, G .tables i .few)
+
+-- ---- at least a byte
+module _ (o : ℕ) (S : Schema) (G : Sound S) (wide : 0 < o) where
+  flat-wide : (k : Flat) → FlatSound (length (S .structs)) k → 0 < flatWidth (structSize S) k
+  unfolding flatWidth
+  flat-wide Boolean ok = omega arith
+  flat-wide (Integer s w) ok = ok .0
+  flat-wide (Float w) (inl e) = omega arith
+  flat-wide (Float w) (inr e) = omega arith
+  flat-wide (Enumerated n) ok = omega arith
+  flat-wide (Struct i) ok = G .structs i .some ok
+
+  pub kind-wide : (k : Kind) → KindSound S k → 0 < width o S k
+  unfolding width
+  kind-wide (OfFlat k) ok = flat-wide k ok
+  kind-wide (OfObject ob) ok = wide
+  kind-wide (OfUnion i) ok = omega arith
+
+  -- the cursor never goes back
+  bit-up : (c : Cursor) → c .end ≤ afterBit c .end
+  unfolding afterBit
+  bit-up c = by (ltb (c .bit) 8)
+    where
+      by : (t : Bool)
+          → c .end
+          ≤ pick {A = Cursor} t (record { end = c .end; byte = c .byte; bit = c .bit + 1 })
+          (record { end = c .end + 1; byte = c .end; bit = 1 })
+          .end
+      by true = omega arith
+      by false = omega arith
+
+  flag-up : (r : Member) (c : Cursor) → c .end ≤ afterFlag r c .end
+  unfolding afterFlag
+  flag-up r c = by (hasFlag r)
+    where
+      by : (t : Bool) → c .end ≤ pick {A = Cursor} t (afterBit c) c .end
+      by true = bit-up c
+      by false = omega arith
+
+  value-up : (k : Kind) (c : Cursor) → c .end ≤ afterValue o S k c .end
+  unfolding afterValue afterBytes
+  value-up k c = by (isBool k)
+    where
+      by : (t : Bool)
+          → c .end ≤ pick {A = Cursor} t (afterBit c) (record { end = c .end + width o S k; byte = c .byte; bit = c .bit }) .end
+      by true = bit-up c
+      by false = omega arith
+
+  members-up : (rs : List Member) (c : Cursor) → c .end ≤ afterMembers o S rs c .end
+  unfolding afterMembers afterMember
+  members-up [] c = omega arith
+  members-up (r ∷ rs) c =
+      omega (arith, flag-up r c, value-up (r .kind) (afterFlag r c), members-up rs (afterMember o S r c))
+
+  -- the first member
+  first-value : (k : Kind) → KindSound S k → 0 < afterValue o S k begin .end
+  unfolding afterValue afterBytes begin afterBit
+  first-value k ok = by (isBool k)
+    where
+      by : (t : Bool)
+          → 0
+          < pick {A = Cursor} t (record { end = 1; byte = 0; bit = 1 }) (record { end = 0 + width o S k; byte = 0; bit = 8 }) .end
+      by true = omega arith
+      by false = omega (arith, kind-wide k ok)
+
+  first-flag : (k : Kind) → 0 < afterValue o S k (afterBit begin) .end
+  first-flag k = let b : 0 < afterBit begin .end = (unfold afterBit begin in omega arith) in omega (arith, value-up k (afterBit begin))
+
+  first-some : (r : Member) → MemberSound S r → 0 < afterMember o S r begin .end
+  unfolding afterMember afterFlag
+  first-some r ok = by (hasFlag r)
+    where
+      by : (t : Bool) → 0 < afterValue o S (r .kind) (pick {A = Cursor} t (afterBit begin) begin) .end
+      by true = first-flag (r .kind)
+      by false = first-value (r .kind) (ok .kind)
+
+  members-some : (rs : List Member) → All (MemberSound S) rs → 0 < length rs → 0 < afterMembers o S rs begin .end
+  unfolding afterMembers
+  members-some [] ok l = absurd (omega arith)
+  members-some (r ∷ rs) ok l = omega (arith, first-some r (ok .0), members-up rs (afterMember o S r begin))
+
+  -- a direct list's element takes a byte at least
+  pub direct-wide : (t : ℕ) → DirectSound S t → 0 < fixedSize o S (tableOf S t .members)
+  unfolding fixedSize
+  direct-wide t d = members-some (tableOf S t .members) (G .tables t .members) (d .some)
