@@ -32,6 +32,7 @@ pub mod WrittenParts
 pub mod WrittenSteps
 pub mod WrittenTables
 pub mod WrittenLists
+pub mod WrittenDirects
 pub mod WrittenBytes
 pub mod WrittenTree
 pub mod WrittenMessage
