@@ -191,7 +191,7 @@ module _ (b : Budget) (P : Object → Place → Type 0) (k : Object → Place �
     directs-judged t w zero at f q s h = judged-stay s h (λ j l. absurd (omega arith))
     directs-judged t w (suc n) at f q s h =
         let first : f 0 ≡ St.Object (Ob.Table t) (InPlace at w) =
-            q 0 ∙ ap (λ (x : ℕ). St.Object (Ob.Table t) (InPlace x w)) (element-first at w) in
+        q 0 ∙ ap (λ (x : ℕ). St.Object (Ob.Table t) (InPlace x w)) (element-first at w) in
         next-part f n
         (subst (λ (st : Step). Judged b (PartLawful P st) (costAt k st) s (child (Ob.Table t) (InPlace at w) s)) (sym first)
         (follow-judged 0 0 (St.Object (Ob.Table t) (InPlace at w)) tt s h))
