@@ -91,9 +91,7 @@ objectPart o S m (O.Table i) at start n d j =
     (memberStep o S m start n (afterMembers o S (take j (tableOf S i .members)) begin) (memberOf S i j)))
     (noPart at)
 objectPart o S m (O.DirectList t) at start n d j =
-    pick (ltb j n)
-    (arrived d o S m (O.Table t) (InPlace (start + elementSize o m at * j) (elementSize o m at)))
-    (noPart at)
+    pick (ltb j n) (arrived d o S m (O.Table t) (InPlace (start + elementSize o m at * j) (elementSize o m at))) (noPart at)
 
 -- one number more. "An absent or unknown place ends it, whatever steps remain.", and so does a refusal. A value has no
 -- part: refusal 15.

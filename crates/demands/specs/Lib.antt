@@ -3,6 +3,7 @@
 pub mod Counter
 pub mod Traps
 pub mod OlderCoding
+pub mod DirectLists
 pub mod FieldCases
 pub mod Shown
 pub mod SheetDecode

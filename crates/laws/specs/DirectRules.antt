@@ -1,6 +1,6 @@
 -- What the rules of direct lists (02, K1) say of the typed schema.
 use mathlib.Core.Path.{_≡_, refl, sym, _∙_}
-use mathlib.Core.Bool.{Bool, true, false, _&&_, not}
+use mathlib.Core.Bool.{Bool, true, false, _&&_, and-false, not}
 use mathlib.Core.List.{List}
 use Prim.Native.Nat.{ℕ, zero, suc, _+_, _<_, _≤_}
 use native.Mathlib.Numerals.{add-one}
@@ -104,16 +104,19 @@ module _ (b : List ℕ) (e : L.olderOk b ≡ true) where
   unfolding L.olderOk
   older-rest = both-right (every (λ i. L.olderElement b (P.listPlace b i)) (P.listCount b)) _ e
 
+  -- an element of kind 18 is none that the rule lets through
+  older-element : (at : ℕ) → L.olderElement b at ≡ true → P.kindAt b at ≡ 18 → ⊥
+  unfolding L.olderElement
+  older-element at h z = never (simp (eq-eqb _ _ z, and-false) at h)
+
   older-list : (i : ℕ) → i < P.listCount b → KindNotDirect (Sc.elementOf (P.parse b) i)
-  unfolding L.olderOk L.olderElement P.elementAt
+  unfolding L.olderOk P.elementAt
   older-list i l =
       let at : ℕ = P.listPlace b i in
-      let h : (not (eqb (P.kindAt b at) 17) && not (eqb (P.kindAt b at) 18)) ≡ true =
-      every-at (λ j. L.olderElement b (P.listPlace b j)) (P.listCount b) i
-      (both-left (every (λ j. L.olderElement b (P.listPlace b j)) (P.listCount b)) _ e) l in
+      let f : ℕ → Bool = λ j. L.olderElement b (P.listPlace b j) in
       rw (Pa.element-at b i l)
       (kind-not-direct (P.kindAt b at) (P.argumentAt b at)
-      (eqb-false _ _ (not-true _ (both-right (not (eqb (P.kindAt b at) 17)) _ h))))
+      (older-element at (every-at f (P.listCount b) i (both-left (every f (P.listCount b)) _ e) l)))
 
   older-list-past : (i : ℕ) → P.listCount b ≤ i → KindNotDirect (Sc.elementOf (P.parse b) i)
   unfolding Sc.plainBool
