@@ -27,7 +27,7 @@ use Rattle.demands.specs.Traps.{table, u48, rooted, case}
 
 -- ---- schemas
 -- the root has one member, by its first byte, with the argument 1; the second table has n members by their records
-abbrev tables : ℕ → ℕ → List ℕ → List ℕ
+abbrev pub tables : ℕ → ℕ → List ℕ → List ℕ
 tables first n records =
     0 ∷ 0 ∷ 0 ∷ 2 ∷ 0 ∷ 0x4C ∷ 0x49 ∷ 0x43 ∷ 0x45 ∷ 1 ∷ first ∷ 1 ∷ 0x53 ∷ 0x45 ∷ 0x41 ∷ 0x54 ∷ n ∷ records
 
@@ -69,11 +69,11 @@ loneUnion = 0 ∷ 0 ∷ 1 ∷ 1 ∷ 0 ∷ 1 ∷ 0x90 ∷ 0 ∷ 0x4C ∷ 0x49 ∷
 
 -- ---- messages
 -- a direct list's header, its count, id and size under 256, and what follows it: "18 bytes before the first"
-abbrev header : ℕ → ℕ → List ℕ → List ℕ
+abbrev pub header : ℕ → ℕ → List ℕ → List ℕ
 header n w rest = 0x05 ∷ 0xCC ∷ 0xC6 ∷ 0xE2 ∷ u48 n ++ (0x54 ∷ 0x41 ∷ 0x45 ∷ 0x53 ∷ w ∷ 0 ∷ 0 ∷ 0 ∷ rest)
 
 -- the root at 10 with a fixed part of 6 bytes, and the direct list at 26: its elements from 44 on
-abbrev listed : ℕ → ℕ → List ℕ → List ℕ
+abbrev pub listed : ℕ → ℕ → List ℕ → List ℕ
 listed n w rest = rooted 6 (u48 26 ++ header n w rest)
 
 -- two elements of 8 bytes, at 44 and 52: 3 and the text "a" at 60; 5 and no text

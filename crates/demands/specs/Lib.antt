@@ -1,4 +1,4 @@
--- The theorems. A reader's way in: Counter, OlderCoding, Traps, FieldCases, MemberCases, Allowances, Members, Sheets, Reached,
+-- The theorems. A reader's way in: Counter, OlderCoding, DirectLists, Traps, FieldCases, MemberCases, Allowances, Members, Sheets, Reached,
 -- RoundTrip, Appending, NewerAgrees, Fields, Texts, SheetText, ListReader, Utf8, Utf8Cases; the other modules are their lemmas.
 pub mod Counter
 pub mod Traps
@@ -56,6 +56,7 @@ pub mod NewerReads
 pub mod WrittenPlain
 pub mod NewerAgrees
 pub mod NewerCases
+pub mod DirectTrips
 pub mod FieldEntries
 pub mod GoingOn
 pub mod StepKinds
