@@ -28,7 +28,7 @@ use Rattle.coding.specs.declared.Walked.{Walked}
 use Rattle.coding.specs.declared.Verdict.{Verdict}
 use Rattle.laws.specs.Sound.{Sound}
 use Rattle.laws.specs.LawfulSound.{lawful-sound}
-use Rattle.laws.specs.Rules.{lawful-width, lawful-wide}
+use Rattle.laws.specs.Rules.{lawful-width, lawful-wide, lawful-narrow}
 use Rattle.laws.specs.Bits.{Byte}
 use Rattle.laws.specs.All.{index-all}
 use Rattle.demands.specs.Sheets.{ShownAtRoot, encode-decode-sized}
@@ -105,11 +105,6 @@ unfolding largest
 within-width o n (inl e) h = rw e (omega arith)
 within-width o n (inr e) h = rw e (omega arith)
 
--- an offset is no longer than a struct may be
-within-table : (o : ℕ) → (o ≡ 4) ⊎ (o ≡ 6) → 2 + o ≤ 4096
-within-table o (inl e) = omega arith
-within-table o (inr e) = omega arith
-
 -- a verdict where the schema, the size and the start are in order
 verdict-walks : (o : ℕ) (b m : List ℕ) (budget : Budget) → lawful o b ≡ true → startSize o ≤ length m → length m ≤ largest
     → le m 0 4 ≡ 0xB5C0_C4B3 → verdict o b m budget ≡ verdictOf (walk o (parse b) m budget)
@@ -124,9 +119,6 @@ module _ (o : ℕ) (b s : List ℕ) (v : Value) (schema-bytes : (i : ℕ) → ge
   wide : 0 < o
   wide = lawful-wide o b good
 
-  narrow : 2 + o ≤ 4096
-  narrow = within-table o (lawful-width o b good)
-
   sound : Sound (parse b)
   sound = lawful-sound o b schema-bytes good
 
@@ -134,17 +126,17 @@ module _ (o : ℕ) (b s : List ℕ) (v : Value) (schema-bytes : (i : ℕ) → ge
   shown = encode-decode-sized (parse b) sound s v sheet-bytes decoded
 
   writes : Writes deepest o (parse b) (O.Table (parse b .root)) v
-  writes = shown-writes (parse b) sound o deepest (O.Table (parse b .root)) v (sound .root) (shown .0) fit
+  writes = shown-writes (parse b) sound o (lawful-narrow o b good) deepest (O.Table (parse b .root)) v (sound .root) (shown .0) fit
 
   small : 8 * length (messageOf o (parse b) v) < 256 ^ o
   small = within-width o (length (messageOf o (parse b) v)) (lawful-width o b good) sized
 
   tree-holds : (le (messageOf o (parse b) v) 0 4 ≡ 0xB5C0_C4B3)
       × HoldsTree deepest o (parse b) (messageOf o (parse b) v) (O.Table (parse b .root)) v (rootPlace o (messageOf o (parse b) v))
-  tree-holds = message-holds o (parse b) sound v writes wide narrow small
+  tree-holds = message-holds o (parse b) sound v writes wide small
 
   tree-reads : messageRead o (parse b) (messageOf o (parse b) v) ≡ v
-  tree-reads = written-reads o (parse b) sound v writes wide narrow small
+  tree-reads = written-reads o (parse b) sound v writes wide small
 
   tree-bytes : (i : ℕ) → getD (messageOf o (parse b) v) i 0 < 256
   tree-bytes = index-all Byte 0 (messageOf o (parse b) v) (omega arith) (message-bytes o (parse b) sound v writes)
@@ -162,7 +154,7 @@ module _ (o : ℕ) (b s : List ℕ) (v : Value) (schema-bytes : (i : ℕ) → ge
       let m = messageOf o (parse b) v in
       let e = spend budget (rootLengths o (parse b) v) nothing in
       rw (lengths-are, verdict-walks o b m budget good tree-long sized (tree-holds .0))
-      (ends-answers e (walk o (parse b) m budget) (written-walks o (parse b) sound v writes wide narrow small budget))
+      (ends-answers e (walk o (parse b) m budget) (written-walks o (parse b) sound v writes wide small budget))
 
   tree-sheet : messageSheet o b (messageOf o (parse b) v) ≡ s
   unfolding messageSheet

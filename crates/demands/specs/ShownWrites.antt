@@ -2,7 +2,7 @@
 use mathlib.Core.Path.{_≡_, refl, subst}
 use mathlib.Core.List.{List}
 use mathlib.Core.Bool.{Bool, true, false, _&&_}
-use Prim.Native.Nat.{ℕ, zero, suc, _*_, _^_, _<_}
+use Prim.Native.Nat.{ℕ, zero, suc, _+_, _*_, _^_, _<_, _≤_}
 use native.Mathlib.Omega.{arith}
 use lib.Dec.{ltb}
 use borrow.Author.Tests.{ltb-true, not-true}
@@ -23,6 +23,7 @@ use Rattle.coding.specs.declared.Kind.the-variants.{OfFlat, OfObject, OfUnion}
 use Rattle.coding.specs.declared.Member.{Member}
 use Rattle.laws.specs.Sound.{All, FlatSound, ObjectSound, KindSound, MemberSound, NotDirect, MayStandInPlace, NoStruct, Sound}
 use Rattle.laws.specs.SoundAt.{case-sound-at, case-not-direct-at}
+use Rattle.laws.specs.FixedSizes.{fixed-small}
 use Rattle.laws.specs.Lists.{never, both-left, both-right}
 use Rattle.laws.specs.Structs.{index-holds}
 use Rattle.demands.specs.Shown.{Objects, FlatShown, FlatsShown, boolean, integer, float, no-enum, enum, unknown-enum, struct, no-flat, flats, PartShown, no-part, flat, object, choice, unknown-choice, MembersShown, no-member, members, ElementsShown, no-element, elements, DirectsShown, no-direct, directs, ContentShown, text, bytes, list, table, direct-list, Shown}
@@ -81,7 +82,7 @@ module _ (S : Schema) (sound : Sound S) where
       allKnown (knownBy S) (λ j t h. row-writes j t h) i
 
   -- ---- members and elements
-  module _ (o : ℕ) (child : Objects) (test : Test) (G : Objects)
+  module _ (o : ℕ) (narrow : 2 + o ≤ 4096) (child : Objects) (test : Test) (G : Objects)
       (inner : (ob : Object) (v : Value) → ObjectSound S ob → child ob v → test ob v ≡ true → G ob v)
       (there : (ob : Object) (v : Value) → child ob v → present v ≡ true) where
     no-flat-writes : (k : Flat) (optional inplace : Bool) → flatWritable S optional k absent ≡ true
@@ -182,7 +183,8 @@ module _ (S : Schema) (sound : Sound S) where
     content-writes ok (bytes h l) e = W.bytes h
     content-writes ok (list {i = i} l h) e = W.list (elements-write (sound .lists i .kind) (sound .lists i .scalar) h e)
     content-writes ok (table {i = i} h) e = W.table (members-write (sound .tables i .members) h e)
-    content-writes ok (direct-list l h) e = W.direct-list ok l (directs-write (ok .table) h e)
+    content-writes ok (direct-list {t = t} l h) e =
+        W.direct-list ok (omega (arith, fixed-small o narrow S sound t)) l (directs-write (ok .table) h e)
 
   content-there : {child : Objects} {ob : Object} {v : Value} → ContentShown child S ob v → present v ≡ true
   unfolding present
@@ -196,8 +198,9 @@ module _ (S : Schema) (sound : Sound S) where
   shown-there zero ob v h = absurd h
   shown-there (suc d) ob v h = content-there h
 
-  pub shown-writes : (o d : ℕ) (ob : Object) (v : Value) → ObjectSound S ob → Shown d S ob v → writable d o S ob v ≡ true → Writes d o S ob v
+  pub shown-writes : (o : ℕ) → 2 + o ≤ 4096 → (d : ℕ) (ob : Object) (v : Value) → ObjectSound S ob → Shown d S ob v → writable d o S ob v ≡ true
+      → Writes d o S ob v
   unfolding writable
-  shown-writes o zero ob v ok h e = absurd h
-  shown-writes o (suc d) ob v ok h e =
-      content-writes o (Shown d S) (writable d o S) (Writes d o S) (shown-writes o d) (shown-there d) ok h e
+  shown-writes o narrow zero ob v ok h e = absurd h
+  shown-writes o narrow (suc d) ob v ok h e =
+      content-writes o narrow (Shown d S) (writable d o S) (Writes d o S) (shown-writes o narrow d) (shown-there d) ok h e

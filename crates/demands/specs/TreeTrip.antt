@@ -2,7 +2,7 @@
 -- over it arrives at the tree's objects in turn.
 use mathlib.Core.Path.{_≡_}
 use mathlib.Core.List.{List}
-use Prim.Native.Nat.{ℕ, _+_, _*_, _^_, _<_, _≤_}
+use Prim.Native.Nat.{ℕ, _*_, _^_, _<_}
 use lib.ListN.{length}
 use Rattle.coding.specs.Bytes.{deepest}
 use Rattle.coding.specs.Schema.{Schema}
@@ -26,16 +26,16 @@ rootLengths o S v = treeLengths deepest o S (O.Table (S .root)) v
 
 -- for a message that this width can address
 module _ (o : ℕ) (S : Schema) (sound : Sound S) (v : Value) (w : Writes deepest o S (O.Table (S .root)) v) (wide : 0 < o)
-    (narrow : 2 + o ≤ 4096) (small : 8 * length (messageOf o S v) < 256 ^ o) where
+    (small : 8 * length (messageOf o S v) < 256 ^ o) where
   pub written-reads : messageRead o S (messageOf o S v) ≡ v
   unfolding messageRead
   written-reads =
       let m = messageOf o S v in
-      tree-read o S m deepest (O.Table (S .root)) v (rootPlace o m) (message-holds o S sound v w wide narrow small .1)
+      tree-read o S m deepest (O.Table (S .root)) v (rootPlace o m) (message-holds o S sound v w wide small .1)
 
   -- with every budget the walk comes to what the lengths come to
   pub written-walks : (b : Budget) → Ends (spend b (rootLengths o S v) nothing) (walk o S (messageOf o S v) b)
   unfolding walk
   written-walks b =
       let m = messageOf o S v in
-      tree-passes o S m b deepest (O.Table (S .root)) v (rootPlace o m) (message-holds o S sound v w wide narrow small .1) nothing
+      tree-passes o S m b deepest (O.Table (S .root)) v (rootPlace o m) (message-holds o S sound v w wide small .1) nothing

@@ -6,7 +6,7 @@ use Prim.Native.Nat.{ℕ, zero, suc, _^_, _<_, _≤_}
 use lib.ListN.{length}
 use Rattle.coding.specs.Bytes.{isNaN}
 use Rattle.coding.specs.Schema.{Schema, structOf, elementOf, casesOf, caseOf, tableOf}
-use Rattle.coding.specs.Layout.{flatTakesFlag}
+use Rattle.coding.specs.Layout.{flatTakesFlag, fixedSize}
 use Rattle.coding.specs.Value.{Value, Values, absent, number, blob, row, chosen, none, _then_, present, asNumber, count}
 use Rattle.coding.specs.Walk.{standsInPlace}
 use Rattle.coding.specs.Message.{lengthOf}
@@ -82,8 +82,8 @@ pub data ContentWrites (child : Objects) (o : ℕ) (S : Schema) : Object → Val
   list : {i : ℕ} {vs : Values} → ElementsWrite child o S (elementOf S i) vs → ContentWrites child o S (O.List i) (row vs)
   table : {i : ℕ} {vs : Values} → MembersWrite child o S (tableOf S i .members) vs
       → ContentWrites child o S (O.Table i) (row vs)
-  direct-list : {t : ℕ} {vs : Values} → DirectSound S t → count vs < 2 ^ 32 → DirectsWrite child t vs
-      → ContentWrites child o S (O.DirectList t) (row vs)
+  direct-list : {t : ℕ} {vs : Values} → DirectSound S t → fixedSize o S (tableOf S t .members) < 2 ^ 32 → count vs < 2 ^ 32
+      → DirectsWrite child t vs → ContentWrites child o S (O.DirectList t) (row vs)
 
 -- v can be written as an object, with d objects of depth, this one counted
 abbrev pub Writes : ℕ → ℕ → Schema → Objects

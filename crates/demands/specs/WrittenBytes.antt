@@ -104,7 +104,7 @@ module _ (S : Schema) (sound : Sound S) where
     content-bytes (bytes h) = (h, tt)
     content-bytes (list {i = i} h) = elements-bytes (sound .lists i .kind) h
     content-bytes (table {i = i} h) = members-bytes (sound .tables i .members) h
-    content-bytes (direct-list {t = t} d l h) =
+    content-bytes (direct-list {t = t} d f l h) =
         unfold directSlots in
         (leBytes-bytes 4 (tableOf S t .id), (leBytes-bytes 4 (fixedSize o S (tableOf S t .members)), directs-bytes h))
 

@@ -17,7 +17,7 @@ use Rattle.coding.specs.declared.Object.the-variants as O
 use Rattle.coding.specs.declared.Cursor.{Cursor}
 use Rattle.coding.specs.declared.Place.the-variants.{InPlace}
 use Rattle.laws.specs.Sound.{DirectSound, Sound, inplaceCount}
-use Rattle.laws.specs.FixedSizes.{fixed-small, direct-wide}
+use Rattle.laws.specs.FixedSizes.{direct-wide}
 use Rattle.demands.specs.Holds.{Holds, length-leBytes, holds-le}
 use Rattle.demands.specs.AtCursor.{At, at-fits, at-bytes, at-part, at-end}
 use Rattle.demands.specs.Writes.{Objects, DirectsWrite, no-direct, directs}
@@ -49,13 +49,13 @@ module _ (o : ℕ) (S : Schema) (m : List ℕ) (P : Planner) (G : Objects) (belo
       )
 
 -- behind the magic and the count: the table's id, the full size, and the elements
-module _ (o : ℕ) (S : Schema) (sound : Sound S) (wide : 0 < o) (narrow : 2 + o ≤ 4096) (m : List ℕ) (P : Planner) (G : Objects) (below : Below)
+module _ (o : ℕ) (S : Schema) (sound : Sound S) (wide : 0 < o) (m : List ℕ) (P : Planner) (G : Objects) (below : Below)
     (inner : Inner o S m P G below) where
-  header-holds : (t x z : ℕ) (vs : Values) → At o m (x + (4 + o)) begin z z (directSlots P o S t vs)
+  header-holds : (t x z : ℕ) (vs : Values) → fixedSize o S (tableOf S t .members) < 2 ^ 32 → At o m (x + (4 + o)) begin z z (directSlots P o S t vs)
       → (elementId o m x ≡ tableOf S t .id) × (elementSize o m x ≡ fixedSize o S (tableOf S t .members))
       × At o m (x + (4 + o)) (afterBytes 4 (afterBytes 4 begin)) z z (directsSlots P t vs)
   unfolding directSlots begin afterBytes elementId elementSize
-  header-holds t x z vs a =
+  header-holds t x z vs f a =
       let s = x + (4 + o) in
       let id = tableOf S t .id in
       let n = fixedSize o S (tableOf S t .members) in
@@ -67,7 +67,7 @@ module _ (o : ℕ) (S : Schema) (sound : Sound S) (wide : 0 < o) (narrow : 2 + o
       let c = at-bytes o m s (afterBytes 4 begin) z z (leBytes 4 n) (directsSlots P t vs) b1 in
       let c1 = rw (length-leBytes 4 n) at (c .1) in (
         holds-le m 4 s id (omega arith) (rw s0 at (b .0)),
-        holds-le m 4 (x + (8 + o)) n (omega (arith, fixed-small o narrow S sound t)) (rw s4 at (c .0)),
+        holds-le m 4 (x + (8 + o)) n (omega arith) (rw s4 at (c .0)),
         c1,
       )
 
@@ -75,15 +75,16 @@ module _ (o : ℕ) (S : Schema) (sound : Sound S) (wide : 0 < o) (narrow : 2 + o
   few : (n w l : ℕ) → 0 < w → n * w ≤ l → n ≤ l
   few n w l h k = omega (arith, le-mul-of-pos-right n h)
 
-  pub direct-holds : {vs : Values} (t x z : ℕ) → DirectSound S t → count vs < 2 ^ 32 → DirectsWrite G t vs
+  pub direct-holds : {vs : Values} (t x z : ℕ) → DirectSound S t → fixedSize o S (tableOf S t .members) < 2 ^ 32 → count vs < 2 ^ 32
+      → DirectsWrite G t vs
       → At o m (x + (4 + o)) begin z z (directSlots P o S t vs)
       → ContentHolds below o S m (O.DirectList t) (row vs) x (x + headerSize o (O.DirectList t)) (count vs) × (count vs ≤ length m)
       × (x + headerSize o (O.DirectList t) ≤ length m)
   unfolding headerSize begin afterBytes mostElements
-  direct-holds {vs} t x z d l h a =
+  direct-holds {vs} t x z d f l h a =
       let s = x + (4 + o) in
       let w = fixedSize o S (tableOf S t .members) in
-      let p = header-holds t x z vs a in
+      let p = header-holds t x z vs f a in
       let c = afterBytes 4 (afterBytes 4 begin) in
       let e = directs-hold o S m P G below inner t (d .outside) s z z c h (p .2) in
       let e1 = e .1 in

@@ -82,12 +82,12 @@ module _ (o : ℕ) (S : Schema) (sound : Sound S) (d : ℕ) (v : Value) (w : Wri
   made-long : startSize o ≤ length made
   made-long = omega (arith, length-layout o (packBits 0 (startSlots rootSlots)), start-width o rootSlots)
 
-  made-holds : 0 < o → 2 + o ≤ 4096 → 8 * length made < 256 ^ o
+  made-holds : 0 < o → 8 * length made < 256 ^ o
       → (le made 0 4 ≡ 0xB5C0_C4B3) × HoldsTree d o S made (O.Table (S .root)) v (ByOffset (le made 4 o))
-  made-holds wide narrow small =
+  made-holds wide small =
       let a = start-parts o made rootSlots (start-at o rootSlots root-bytes (omega arith)) in
       let x = le made 4 o in
-      (a .0, tree-inner o S sound wide narrow made small d .by-offset (O.Table (S .root)) v x _ w (a .1) (a .2))
+      (a .0, tree-inner o S sound wide made small d .by-offset (O.Table (S .root)) v x _ w (a .1) (a .2))
 
 -- ---- the message
 module _ (o : ℕ) (S : Schema) (sound : Sound S) (v : Value) (w : Writes deepest o S (O.Table (S .root)) v) where
@@ -99,8 +99,8 @@ module _ (o : ℕ) (S : Schema) (sound : Sound S) (v : Value) (w : Writes deepes
   unfolding messageOf
   message-long = made-long o S sound deepest v w
 
-  pub message-holds : 0 < o → 2 + o ≤ 4096 → 8 * length (messageOf o S v) < 256 ^ o
+  pub message-holds : 0 < o → 8 * length (messageOf o S v) < 256 ^ o
       → (le (messageOf o S v) 0 4 ≡ 0xB5C0_C4B3)
       × HoldsTree deepest o S (messageOf o S v) (O.Table (S .root)) v (rootPlace o (messageOf o S v))
   unfolding messageOf rootPlace
-  message-holds wide narrow small = made-holds o S sound deepest v w wide narrow small
+  message-holds wide small = made-holds o S sound deepest v w wide small

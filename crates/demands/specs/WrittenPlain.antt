@@ -24,6 +24,7 @@ use Rattle.coding.specs.declared.Place.{Place}
 use Rattle.coding.specs.declared.Place.the-variants.{InPlace}
 use Rattle.coding.specs.declared.Step.{Step}
 use Rattle.laws.specs.LawfulSound.{lawful-sound}
+use Rattle.laws.specs.Rules.{lawful-narrow}
 use Rattle.demands.specs.Appending.{AreBytes}
 use Rattle.demands.specs.AtCursor.{unused-bit}
 use Rattle.demands.specs.Writes.{FlatWrites, FlatsWrite, PartWrites, MembersWrite, ElementsWrite, DirectsWrite, ContentWrites, Writes}
@@ -85,7 +86,7 @@ module _ (G : W.Objects) (inner : (ob : Object) (v : Value) → G ob v → Known
   content-known (W.bytes h) = tt
   content-known (W.list h) = elements-known h
   content-known (W.table h) = members-known h
-  content-known (W.direct-list d l h) = directs-known h
+  content-known (W.direct-list d f l h) = directs-known h
 
 writes-known : (d o : ℕ) (S : Schema) (ob : Object) (v : Value) → Writes d o S ob v → Known v
 writes-known zero o S ob v h = absurd h
@@ -148,10 +149,11 @@ unfolding messagePlain
 written-plain o b s m schema-bytes sheet-bytes made =
     let root = O.Table (parse b .root) in
     let sound = lawful-sound o b schema-bytes (written-as o b s m made .schema) in
+    let narrow = lawful-narrow o b (written-as o b s m made .schema) in
     let w = written-as o b s m made in
     let h = written-holds o b s m schema-bytes sheet-bytes made in
     let fit = subst (λ (v : Value). writable deepest o (parse b) root v ≡ true) (Option·some-injective (w .tree) (h .0) (sym (w .decoded) ∙ h .1)) (w .fit) in
-    let writes = shown-writes (parse b) sound o deepest root (h .0) (sound .root) (h .2) fit in
+    let writes = shown-writes (parse b) sound o narrow deepest root (h .0) (sound .root) (h .2) fit in
     tree-plain deepest o (parse b) m root (h .0) (rootPlace o m) (h .3) (writes-known deepest o (parse b) root (h .0) writes)
 
 -- the sheet's tree is what the message reads as

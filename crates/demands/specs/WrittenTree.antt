@@ -51,7 +51,7 @@ module _ (o : ℕ) (m : List ℕ) (small : 8 * length m < 256 ^ o) where
   unfolding begin
   behind x z s a = let h = at-fits o m (x + (4 + o)) begin z z s a in omega arith
 
-module _ (o : ℕ) (S : Schema) (sound : Sound S) (wide : 0 < o) (narrow : 2 + o ≤ 4096) (m : List ℕ) (small : 8 * length m < 256 ^ o) where
+module _ (o : ℕ) (S : Schema) (sound : Sound S) (wide : 0 < o) (m : List ℕ) (small : 8 * length m < 256 ^ o) where
   module _ (P : Planner) (G : Objects) (below : Below) (inner : Inner o S m P G below) where
     -- a table, where its members in place stand behind it, if it has one
     table-holds : {vs : Values} (i at start z e : ℕ) → MembersWrite G o S (tableOf S i .members) vs
@@ -106,7 +106,7 @@ module _ (o : ℕ) (S : Schema) (sound : Sound S) (wide : 0 < o) (narrow : 2 + o
         let t = table-holds i at start z z h (λ l. refl) a in
         let ends = t .1 in
         (t .0, omega arith)
-    content-holds at start z stands (W.direct-list d l h) a = never stands
+    content-holds at start z stands (W.direct-list d f l h) a = never stands
 
     -- behind the magic and the length
     offset-content : {ob : Object} {v : Value} (x z : ℕ) → ContentWrites G o S ob v → At o m (x + (4 + o)) begin z z (contentSlots P o S ob v)
@@ -117,9 +117,9 @@ module _ (o : ℕ) (S : Schema) (sound : Sound S) (wide : 0 < o) (narrow : 2 + o
     offset-content x z (W.bytes {l = l} h) a = let c = content-holds x (x + (4 + o)) z refl (W.bytes h) a in (c .0, c .1, behind o m small x z _ a)
     offset-content x z (list h) a = let c = content-holds x (x + (4 + o)) z refl (list h) a in (c .0, c .1, behind o m small x z _ a)
     offset-content x z (table h) a = let c = content-holds x (x + (4 + o)) z refl (table h) a in (c .0, c .1, behind o m small x z _ a)
-    offset-content x z (W.direct-list {t = t} {vs = vs} d l h) a =
+    offset-content x z (W.direct-list {t = t} {vs = vs} d f l h) a =
         unfold contentSlots asRow lengthOf in
-        let c = direct-holds o S sound wide narrow m P G below inner t x z d l h a in
+        let c = direct-holds o S sound wide m P G below inner t x z d f l h a in
         (c .0, within o m small (count vs) (c .1), c .2)
 
   magic-small : (ob : Object) → magic S ob < 256 ^ 4

@@ -3,7 +3,7 @@ use mathlib.Core.Path.{_≡_, refl}
 use mathlib.Core.Bool.{Bool, true, false, _&&_}
 use mathlib.Core.Logic.{_⊎_, inl, inr}
 use mathlib.Core.List.{List}
-use Prim.Native.Nat.{ℕ, _<_, _≤_}
+use Prim.Native.Nat.{ℕ, _+_, _<_, _≤_}
 use lib.ListN.{length}
 use native.Mathlib.Omega.{arith}
 use lib.Dec.{eqb, leb}
@@ -110,6 +110,14 @@ pub lawful-wide : (o : ℕ) (b : List ℕ) → L.lawful o b ≡ true → 0 < o
 lawful-wide o b e = by (lawful-width o b e)
   where
     by : (o ≡ 4) ⊎ (o ≡ 6) → 0 < o
+    by (inl h) = omega arith
+    by (inr h) = omega arith
+
+-- a union, which has a choice and an offset, is no longer than a struct may be
+pub lawful-narrow : (o : ℕ) (b : List ℕ) → L.lawful o b ≡ true → 2 + o ≤ 4096
+lawful-narrow o b e = by (lawful-width o b e)
+  where
+    by : (o ≡ 4) ⊎ (o ≡ 6) → 2 + o ≤ 4096
     by (inl h) = omega arith
     by (inr h) = omega arith
 
