@@ -1,6 +1,6 @@
 -- The walk beside what is reached: it goes to its end exactly when all that it reaches is lawful and within the budget, and
 -- has spent what the arrivals cost then.
-use Prim.Native.Nat.{ℕ, zero, suc, _≤_, _<_, _+_, _*_}
+use Prim.Native.Nat.{ℕ, zero, suc, _≤_, _<_, _+_}
 use native.Mathlib.Nat.{add-zero}
 use native.Mathlib.Omega.{arith}
 use mathlib.Core.List.{List, [], _∷_}

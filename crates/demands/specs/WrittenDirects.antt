@@ -1,11 +1,11 @@
 -- The writer's slots of a direct list: what its header says, and its elements, each a table's full fixed part, one behind the other.
-use mathlib.Core.Path.{_≡_, refl, sym, ap, subst}
+use mathlib.Core.Path.{_≡_, refl, subst}
 use mathlib.Core.List.{List}
 use Prim.Native.Nat.{ℕ, suc, _+_, _*_, _^_, _<_, _≤_}
 use native.Mathlib.Nat.{mul-comm, mul-suc, le-mul-of-pos-right}
 use native.Mathlib.Omega.{arith}
 use lib.ListN.{length}
-use Rattle.coding.specs.Bytes.{le, leBytes}
+use Rattle.coding.specs.Bytes.{leBytes}
 use Rattle.coding.specs.Schema.{Schema, tableOf}
 use Rattle.coding.specs.Layout.{begin, afterBytes, fixedSize}
 use Rattle.coding.specs.Walk.{headerSize, elementId, elementSize, mostElements}
@@ -15,10 +15,9 @@ use Rattle.coding.specs.Cells.Slots.{bytes}
 use Rattle.coding.specs.Message.{Planner, directsSlots, directSlots}
 use Rattle.coding.specs.declared.Object.the-variants as O
 use Rattle.coding.specs.declared.Cursor.{Cursor}
-use Rattle.coding.specs.declared.Place.the-variants.{InPlace}
 use Rattle.laws.specs.Sound.{DirectSound, Sound, inplaceCount}
 use Rattle.laws.specs.FixedSizes.{direct-wide}
-use Rattle.demands.specs.Holds.{Holds, length-leBytes, holds-le}
+use Rattle.demands.specs.Holds.{length-leBytes, holds-le}
 use Rattle.demands.specs.AtCursor.{At, at-fits, at-bytes, at-part, at-end}
 use Rattle.demands.specs.Writes.{Objects, DirectsWrite, no-direct, directs}
 use Rattle.demands.specs.TreeHold.{Below, DirectsHold, ContentHolds}

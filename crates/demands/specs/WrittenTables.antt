@@ -7,11 +7,9 @@ use Prim.Native.Nat.{ℕ, _+_, _<_, _≤_}
 use native.Mathlib.Omega.{arith}
 use lib.Dec.{ltb}
 use borrow.Author.Tests.{le-leb, lt-leb, eq-eqb, ltb-true}
-use lib.ListN.{length}
 use Rattle.coding.specs.Lists.{pick}
 use Rattle.coding.specs.Bytes.{bitAt}
 use Rattle.coding.specs.Schema.{Schema}
-use Rattle.coding.specs.Structs.{flatWidth, structSize}
 use Rattle.coding.specs.Layout as L
 use Rattle.coding.specs.Layout.{bitSlot, placementOf, bitByte, bitIndex, afterBit, afterBytes, isBool, slotOf, afterValue, flatTakesFlag, takesFlag, hasFlag, afterFlag, memberSlot, afterMember, afterMembers}
 use Rattle.coding.specs.Step.{valueStep, structTested, inside, flagged, placedStep, memberStep}
@@ -20,15 +18,13 @@ use Rattle.coding.specs.Cells.{Slots}
 use Rattle.coding.specs.Cells.Slots.{bit}
 use Rattle.coding.specs.Message.{Planner, valueSlots, flagOf, memberSlots, membersSlots}
 use Rattle.coding.specs.declared.Flat.{Flat}
-use Rattle.coding.specs.declared.Flat.the-variants as F
 use Rattle.coding.specs.declared.Kind.{Kind}
-use Rattle.coding.specs.declared.Kind.the-variants.{OfFlat, OfObject, OfUnion}
 use Rattle.coding.specs.declared.Member.{Member}
 use Rattle.coding.specs.declared.Cursor.{Cursor}
 use Rattle.coding.specs.declared.Slot.{Slot}
 use Rattle.coding.specs.declared.Step.{Step}
 use Rattle.coding.specs.declared.Step.the-variants as St
-use Rattle.laws.specs.Sound.{All, FlatSound, KindSound, MemberSound, Sound, inplaceCount}
+use Rattle.laws.specs.Sound.{All, KindSound, MemberSound, Sound, inplaceCount}
 use Rattle.laws.specs.Lists.{never, both-right}
 use Rattle.laws.specs.FixedSizes.{kind-wide}
 use Rattle.demands.specs.AtCursor.{At, Sane, at-fits, at-sane, at-bit, at-end}

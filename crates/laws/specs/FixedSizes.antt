@@ -1,8 +1,7 @@
 -- How long a full fixed part is: 64 members of at most 4,097 bytes each, so that its length fits in the U32 of a direct list's header;
 -- and, of a direct list's table, which has a member, a byte at least.
-use mathlib.Core.Path.{_≡_, refl}
 use mathlib.Core.Bool.{Bool, true, false}
-use mathlib.Core.Logic.{_⊎_, inl, inr}
+use mathlib.Core.Logic.{inl, inr}
 use mathlib.Core.List.{List, [], _∷_}
 use Prim.Native.Nat.{ℕ, _+_, _*_, _<_, _≤_}
 use native.Mathlib.Omega.{arith}
