@@ -18,6 +18,7 @@ pub mod Spending
 pub mod Arrivals
 pub mod ArrivalsWalk
 pub mod Reached
+pub mod DirectElements
 pub mod Holds
 pub mod CellsHold
 pub mod SlotsHold

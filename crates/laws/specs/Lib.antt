@@ -14,4 +14,5 @@ pub mod LawfulSound
 pub mod StructBooleans
 pub mod SoundAt
 pub mod DirectPlaces
+pub mod DirectFits
 pub mod FixedSizes
