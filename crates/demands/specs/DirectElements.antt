@@ -1,6 +1,6 @@
 -- 02, K1: at the arrival at an element of a direct list only 4, 5 and 17 can come. The list's own fit is the fit of its elements, and an
 -- element has no header; so an arrival tests the budget, the depth and the content allowance, and then goes to the members.
-use mathlib.Core.Path.{_≡_, refl, ap, _∙_}
+use mathlib.Core.Path.{_≡_, ap}
 use mathlib.Core.List.{List}
 use Prim.Native.Nat.{ℕ, suc, _+_, _*_, _<_}
 use lib.ListN.{length}
