@@ -17,7 +17,7 @@ use Rattle.coding.specs.declared.Opened.the-variants as Op
 use Rattle.coding.specs.declared.Budget.{Budget}
 use Rattle.coding.specs.declared.Spent.{Spent}
 use Rattle.laws.specs.DirectPlaces.{element-fits}
-use Rattle.laws.specs.DirectFits.{direct-fits, element-of, element-visit}
+use Rattle.demands.specs.DirectFits.{direct-fits, element-of, element-visit}
 
 -- a direct list's bytes are not tested: where it opens, it fits
 opened-fits : (m : List ℕ) (t start n : ℕ) (u : Opened) → bytesTested m (O.DirectList t) u ≡ Op.Content start n → u ≡ Op.Content start n
@@ -43,7 +43,7 @@ module _ (o : ℕ) (S : Schema) (m : List ℕ) (t : ℕ) (p : Place) (start n : 
   element-opens j l = ap (bytesTested m (O.Table t)) (element-of o S m t p start n j fits l)
 
   -- and the arrival there is refused by 4 or by 17, or goes to the members, one deeper; with no depth left it is 4 or 5
-  -- (`element-deep` in laws' DirectFits)
+  -- (`element-deep` in DirectFits)
   pub element-arrives : (b : Budget) (d : ℕ) (s : Spent) (j : ℕ) → j < n
       → visit (suc d) o S m b (O.Table t) (InPlace (place j) size) s
       ≡ pick (ltb (s .visits) (b .visits))

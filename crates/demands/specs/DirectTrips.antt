@@ -2,7 +2,7 @@
 -- something, and comes to the bytes that were worked out by hand.
 use mathlib.Core.Path.{_≡_, refl, ap, _∙_}
 use mathlib.Core.List.{List, [], _∷_}
-use mathlib.Core.Bool.{true}
+use mathlib.Core.Bool.{true, false}
 use Prim.Native.Nat.{ℕ, _<_}
 use native.Mathlib.Omega.{arith}
 use lib.ListN.{getD, take}
@@ -21,8 +21,12 @@ use Rattle.coding.specs.Bits as Bits
 use Rattle.coding.specs.Sheet as Sheet
 use Rattle.coding.specs.Cells as Cells
 use Rattle.coding.specs.Message as Message
+use Rattle.coding.specs.Field as Field
 use Rattle.coding.specs.Append as Append
 use Rattle.coding.specs.Append.{rest, more, boolean, integer, flat, object, Appends, SchemaAppends}
+use Rattle.coding.specs.declared.Object.the-variants as Ob
+use Rattle.coding.specs.declared.Place.the-variants.{InPlace}
+use Rattle.coding.specs.declared.Found.the-variants as Fd
 use Rattle.coding.specs.declared.Budget.{Budget}
 use Rattle.coding.specs.declared.Spent.{Spent}
 use Rattle.coding.specs.declared.Verdict.{Verdict}
@@ -32,6 +36,12 @@ use Rattle.demands.specs.RoundTrip.{optionLengths, sheetLengths, enough,
 use Rattle.demands.specs.Appending.{OlderAgrees, older-agrees}
 use Rattle.demands.specs.AppendingCases.{bytes}
 use Rattle.demands.specs.NewerAgrees.{NewerAgrees, newer-agrees}
+use Rattle.demands.specs.Arrivals.{partCount, memberAt, directAt, partStep, by-reference, Arrives, root, below, LawfulObject, LawfulMessage}
+use Rattle.demands.specs.Reached.{accepted-exactly}
+use Rattle.demands.specs.FieldEntries as E
+use Rattle.demands.specs.FieldEntries.{Entry, shown}
+use Rattle.demands.specs.Fields.{treeEntry, sheetEntry, sheet-entry}
+use Rattle.demands.specs.ListReader.{gives-path}
 use Rattle.demands.specs.DirectLists.{tables, listed}
 
 -- a direct list of a bool and a U16; the newer's table has a bool and a U8 more
@@ -161,3 +171,30 @@ older-reads =
 pub older-sheet : Message.messageSheet Bytes.u48 older longer ≡ 0x40 ∷ 0x00 ∷ 0x00 ∷ 0x00 ∷ 0x5A ∷ 0x00 ∷ 0x06 ∷ []
 unfolding Lists.every Lists.run Bytes.le Bytes.leBytes Bytes.bitAt Bytes.isNaN Bytes.noFloat Bytes.largest Bytes.deepest Bytes.u48 Bytes.u32 Bytes.widthKnown Schema.structOf Schema.elementOf Schema.casesOf Schema.tableOf Schema.fieldOf Schema.caseOf Schema.plainBool Schema.memberOf Structs.lower Structs.byIndex Structs.flatWidth Structs.total Structs.sizeBy Structs.structSize Structs.flatOk Structs.flatsOk Structs.okBy Structs.structOk Packed.kindAt Packed.optionalAt Packed.inplaceAt Packed.zeroAt Packed.argumentAt Packed.widthOf Packed.flatOf Packed.objectOf Packed.kindOf Packed.flatAt Packed.objectAt Packed.elementAt Packed.memberAt Packed.records Packed.recordPlace Packed.blocks Packed.structPlace Packed.listPlace Packed.unionPlace Packed.tablePlace Packed.idAt Packed.recordsAt Packed.tableAt Packed.parse Lawful.countsOk Lawful.blocksOk Lawful.placesOk Lawful.shapeOk Lawful.argumentOk Lawful.kindOk Lawful.optionalOk Lawful.inplaceOk Lawful.flagsOk Lawful.recordOk Lawful.firstOk Lawful.recordsOk Lawful.inplaces Lawful.directTable Lawful.heldUnion Lawful.directOk Lawful.structLawful Lawful.listLawful Lawful.unionLawful Lawful.tableLawful Lawful.idDiffers Lawful.idLawful Lawful.rulesOk Lawful.wellFormed Lawful.olderMember Lawful.olderElement Lawful.olderUnion Lawful.olderTable Lawful.olderOk Lawful.lawful Layout.flatIsBool Layout.isBool Layout.width Layout.flatTakesFlag Layout.takesFlag Layout.hasFlag Layout.begin Layout.bitByte Layout.bitIndex Layout.afterBit Layout.afterBytes Layout.afterFlag Layout.bitSlot Layout.slotOf Layout.afterValue Layout.memberSlot Layout.placementOf Layout.afterMember Layout.afterMembers Layout.fixedSize Step.enumStep Step.floatStep Step.structTested Step.placeOf Step.objectStep Step.unionStep Step.flatStep Step.fieldStep Step.valueStep Step.inside Step.flagged Step.placedStep Step.memberStep Step.elementPlace Step.elementStep Step.elementsSize Walk.placed Walk.magic Walk.headerSize Walk.elementId Walk.elementSize Walk.mostElements Walk.startSize Walk.contentSize Walk.contentLength Walk.endOk Walk.fitContent Walk.directHeader Walk.headerTested Walk.standsInPlace Walk.fitObject Walk.bytesTested Walk.openObject Walk.refuse Walk.andThen Walk.refusePart Walk.followChoice Walk.follow Walk.members Walk.elements Walk.directs Walk.content Walk.enter Walk.withContent Walk.admit Walk.arrive Walk.tooDeep Walk.oneMore Walk.mostContent Walk.counted Walk.visit Walk.rootPlace Walk.nothing Walk.walk Walk.verdictOf Walk.early Walk.sizeOk Walk.startOk Walk.verdict Value.asNumber Value.asBlob Value.asRow Value.asObject Value.present Value.known Value.first Value.others Value.count Read.stepRead Read.fieldsRead Read.readBy Read.structRead Read.membersRead Read.elementsRead Read.directsRead Read.contentRead Read.placeRead Read.read Read.messageRead Bits.bitsOf Bits.bits Bits.value Bits.pack Bits.byteCount Bits.packed Bits.allZero Sheet.markBits Sheet.flatBits Sheet.fieldBits Sheet.fieldsBits Sheet.bitsBy Sheet.structBits Sheet.bodyBits Sheet.flatUnknown Sheet.unknownWidth Sheet.partBits Sheet.flatUnmarked Sheet.unmarked Sheet.elementBits Sheet.membersBits Sheet.elementsBits Sheet.directsBits Sheet.blobBits Sheet.contentBits Sheet.encode Sheet.sheetBits Sheet.sheetOf Sheet.bind Sheet.takeNumber Sheet.takeBytes Sheet.takeValue Sheet.takeIf Sheet.takeMark Sheet.unknownEnum Sheet.takeUnknownEnum Sheet.takeEnum Sheet.takeFlat Sheet.takeField Sheet.takeFields Sheet.takeBy Sheet.takeStruct Sheet.takeChoice Sheet.takeBody Sheet.takeUnknownFlat Sheet.takeUnknown Sheet.takePart Sheet.takeElement Sheet.takeMembers Sheet.takeElements Sheet.takeDirects Sheet.takeBlob Sheet.takeContent Sheet.decode Sheet.closed Sheet.treeOf Sheet.sheetTree Message.messageSheet
 older-sheet = refl
+
+-- ---- what is reached: the second element is an arrival, one deeper than its list and placed at its first byte
+pub element-arrives : Arrives Bytes.u48 (Packed.parse older) message 3 (Ob.Table 1) (InPlace 47 3)
+unfolding partCount memberAt directAt partStep Lists.every Lists.run Bytes.le Bytes.leBytes Bytes.bitAt Bytes.isNaN Bytes.noFloat Bytes.largest Bytes.deepest Bytes.u48 Bytes.u32 Bytes.widthKnown Schema.structOf Schema.elementOf Schema.casesOf Schema.tableOf Schema.fieldOf Schema.caseOf Schema.plainBool Schema.memberOf Structs.lower Structs.byIndex Structs.flatWidth Structs.total Structs.sizeBy Structs.structSize Structs.flatOk Structs.flatsOk Structs.okBy Structs.structOk Packed.kindAt Packed.optionalAt Packed.inplaceAt Packed.zeroAt Packed.argumentAt Packed.widthOf Packed.flatOf Packed.objectOf Packed.kindOf Packed.flatAt Packed.objectAt Packed.elementAt Packed.memberAt Packed.records Packed.recordPlace Packed.blocks Packed.structPlace Packed.listPlace Packed.unionPlace Packed.tablePlace Packed.idAt Packed.recordsAt Packed.tableAt Packed.parse Lawful.countsOk Lawful.blocksOk Lawful.placesOk Lawful.shapeOk Lawful.argumentOk Lawful.kindOk Lawful.optionalOk Lawful.inplaceOk Lawful.flagsOk Lawful.recordOk Lawful.firstOk Lawful.recordsOk Lawful.inplaces Lawful.directTable Lawful.heldUnion Lawful.directOk Lawful.structLawful Lawful.listLawful Lawful.unionLawful Lawful.tableLawful Lawful.idDiffers Lawful.idLawful Lawful.rulesOk Lawful.wellFormed Lawful.olderMember Lawful.olderElement Lawful.olderUnion Lawful.olderTable Lawful.olderOk Lawful.lawful Layout.flatIsBool Layout.isBool Layout.width Layout.flatTakesFlag Layout.takesFlag Layout.hasFlag Layout.begin Layout.bitByte Layout.bitIndex Layout.afterBit Layout.afterBytes Layout.afterFlag Layout.bitSlot Layout.slotOf Layout.afterValue Layout.memberSlot Layout.placementOf Layout.afterMember Layout.afterMembers Layout.fixedSize Step.enumStep Step.floatStep Step.structTested Step.placeOf Step.objectStep Step.unionStep Step.flatStep Step.fieldStep Step.valueStep Step.inside Step.flagged Step.placedStep Step.memberStep Step.elementPlace Step.elementStep Step.elementsSize Walk.placed Walk.magic Walk.headerSize Walk.elementId Walk.elementSize Walk.mostElements Walk.startSize Walk.contentSize Walk.contentLength Walk.endOk Walk.fitContent Walk.directHeader Walk.headerTested Walk.standsInPlace Walk.fitObject Walk.bytesTested Walk.openObject Walk.refuse Walk.andThen Walk.refusePart Walk.followChoice Walk.follow Walk.members Walk.elements Walk.directs Walk.content Walk.enter Walk.withContent Walk.admit Walk.arrive Walk.tooDeep Walk.oneMore Walk.mostContent Walk.counted Walk.visit Walk.rootPlace Walk.nothing Walk.walk Walk.verdictOf Walk.early Walk.sizeOk Walk.startOk Walk.verdict
+element-arrives = below 44 2 1 (below 20 6 0 root refl (omega arith) by-reference) refl (omega arith) by-reference
+
+-- so it is lawful, where the message is accepted
+pub reached : LawfulMessage Bytes.u48 older message (Walk.allowing 4 12)
+reached = accepted-exactly Bytes.u48 older message (Walk.allowing 4 12) .0 (ap (λ (v : Verdict). v .number) accepted)
+
+pub element-lawful : LawfulObject Bytes.u48 (Packed.parse older) message (Ob.Table 1) (InPlace 47 3)
+element-lawful = reached .objects .lawful 3 (Ob.Table 1) (InPlace 47 3) element-arrives
+
+-- ---- a field of the second element is the sheet's entry there
+pub element-entry : shown (Field.field Bytes.u48 older message (0 ∷ 1 ∷ 1 ∷ [])) ≡ Entry.number 5 16 false
+unfolding sheetEntry treeEntry E.flatPart E.kindPart E.partHere E.valueAt E.structPart E.objectPart E.partOf E.partAlong E.flatEntry E.objectEntry E.entryOf E.entryAt Lists.every Lists.run Bytes.le Bytes.leBytes Bytes.bitAt Bytes.isNaN Bytes.noFloat Bytes.largest Bytes.deepest Bytes.u48 Bytes.u32 Bytes.widthKnown Schema.structOf Schema.elementOf Schema.casesOf Schema.tableOf Schema.fieldOf Schema.caseOf Schema.plainBool Schema.memberOf Structs.lower Structs.byIndex Structs.flatWidth Structs.total Structs.sizeBy Structs.structSize Structs.flatOk Structs.flatsOk Structs.okBy Structs.structOk Packed.kindAt Packed.optionalAt Packed.inplaceAt Packed.zeroAt Packed.argumentAt Packed.widthOf Packed.flatOf Packed.objectOf Packed.kindOf Packed.flatAt Packed.objectAt Packed.elementAt Packed.memberAt Packed.records Packed.recordPlace Packed.blocks Packed.structPlace Packed.listPlace Packed.unionPlace Packed.tablePlace Packed.idAt Packed.recordsAt Packed.tableAt Packed.parse Lawful.countsOk Lawful.blocksOk Lawful.placesOk Lawful.shapeOk Lawful.argumentOk Lawful.kindOk Lawful.optionalOk Lawful.inplaceOk Lawful.flagsOk Lawful.recordOk Lawful.firstOk Lawful.recordsOk Lawful.inplaces Lawful.directTable Lawful.heldUnion Lawful.directOk Lawful.structLawful Lawful.listLawful Lawful.unionLawful Lawful.tableLawful Lawful.idDiffers Lawful.idLawful Lawful.rulesOk Lawful.wellFormed Lawful.olderMember Lawful.olderElement Lawful.olderUnion Lawful.olderTable Lawful.olderOk Lawful.lawful Layout.flatIsBool Layout.isBool Layout.width Layout.flatTakesFlag Layout.takesFlag Layout.hasFlag Layout.begin Layout.bitByte Layout.bitIndex Layout.afterBit Layout.afterBytes Layout.afterFlag Layout.bitSlot Layout.slotOf Layout.afterValue Layout.memberSlot Layout.placementOf Layout.afterMember Layout.afterMembers Layout.fixedSize Step.enumStep Step.floatStep Step.structTested Step.placeOf Step.objectStep Step.unionStep Step.flatStep Step.fieldStep Step.valueStep Step.inside Step.flagged Step.placedStep Step.memberStep Step.elementPlace Step.elementStep Step.elementsSize Walk.placed Walk.magic Walk.headerSize Walk.elementId Walk.elementSize Walk.mostElements Walk.startSize Walk.contentSize Walk.contentLength Walk.endOk Walk.fitContent Walk.directHeader Walk.headerTested Walk.standsInPlace Walk.fitObject Walk.bytesTested Walk.openObject Walk.refuse Walk.andThen Walk.refusePart Walk.followChoice Walk.follow Walk.members Walk.elements Walk.directs Walk.content Walk.enter Walk.withContent Walk.admit Walk.arrive Walk.tooDeep Walk.oneMore Walk.mostContent Walk.counted Walk.visit Walk.rootPlace Walk.nothing Walk.walk Walk.verdictOf Walk.early Walk.sizeOk Walk.startOk Walk.verdict Value.asNumber Value.asBlob Value.asRow Value.asObject Value.present Value.known Value.first Value.others Value.count Read.stepRead Read.fieldsRead Read.readBy Read.structRead Read.membersRead Read.elementsRead Read.directsRead Read.contentRead Read.placeRead Read.read Read.messageRead Bits.bitsOf Bits.bits Bits.value Bits.pack Bits.byteCount Bits.packed Bits.allZero Sheet.markBits Sheet.flatBits Sheet.fieldBits Sheet.fieldsBits Sheet.bitsBy Sheet.structBits Sheet.bodyBits Sheet.flatUnknown Sheet.unknownWidth Sheet.partBits Sheet.flatUnmarked Sheet.unmarked Sheet.elementBits Sheet.membersBits Sheet.elementsBits Sheet.directsBits Sheet.blobBits Sheet.contentBits Sheet.encode Sheet.sheetBits Sheet.sheetOf Sheet.bind Sheet.takeNumber Sheet.takeBytes Sheet.takeValue Sheet.takeIf Sheet.takeMark Sheet.unknownEnum Sheet.takeUnknownEnum Sheet.takeEnum Sheet.takeFlat Sheet.takeField Sheet.takeFields Sheet.takeBy Sheet.takeStruct Sheet.takeChoice Sheet.takeBody Sheet.takeUnknownFlat Sheet.takeUnknown Sheet.takePart Sheet.takeElement Sheet.takeMembers Sheet.takeElements Sheet.takeDirects Sheet.takeBlob Sheet.takeContent Sheet.decode Sheet.closed Sheet.treeOf Sheet.sheetTree Message.messageSheet
+element-entry =
+    sheet-entry Bytes.u48 older message schema-bytes (bytes message refl) (Walk.allowing 4 12) (ap (λ (v : Verdict). v .number) accepted)
+    (0 ∷ 1 ∷ 1 ∷ []) (omega arith)
+
+-- ---- the list reader has the direct list, and its step at the second element answers as that element's path
+reader-has : Field.readerStart Bytes.u48 older message (0 ∷ []) ≡ Fd.Object (Ob.DirectList 1) 26 44 2 30
+unfolding Lists.every Lists.run Bytes.le Bytes.leBytes Bytes.bitAt Bytes.isNaN Bytes.noFloat Bytes.largest Bytes.deepest Bytes.u48 Bytes.u32 Bytes.widthKnown Schema.structOf Schema.elementOf Schema.casesOf Schema.tableOf Schema.fieldOf Schema.caseOf Schema.plainBool Schema.memberOf Structs.lower Structs.byIndex Structs.flatWidth Structs.total Structs.sizeBy Structs.structSize Structs.flatOk Structs.flatsOk Structs.okBy Structs.structOk Packed.kindAt Packed.optionalAt Packed.inplaceAt Packed.zeroAt Packed.argumentAt Packed.widthOf Packed.flatOf Packed.objectOf Packed.kindOf Packed.flatAt Packed.objectAt Packed.elementAt Packed.memberAt Packed.records Packed.recordPlace Packed.blocks Packed.structPlace Packed.listPlace Packed.unionPlace Packed.tablePlace Packed.idAt Packed.recordsAt Packed.tableAt Packed.parse Lawful.countsOk Lawful.blocksOk Lawful.placesOk Lawful.shapeOk Lawful.argumentOk Lawful.kindOk Lawful.optionalOk Lawful.inplaceOk Lawful.flagsOk Lawful.recordOk Lawful.firstOk Lawful.recordsOk Lawful.inplaces Lawful.directTable Lawful.heldUnion Lawful.directOk Lawful.structLawful Lawful.listLawful Lawful.unionLawful Lawful.tableLawful Lawful.idDiffers Lawful.idLawful Lawful.rulesOk Lawful.wellFormed Lawful.olderMember Lawful.olderElement Lawful.olderUnion Lawful.olderTable Lawful.olderOk Lawful.lawful Layout.flatIsBool Layout.isBool Layout.width Layout.flatTakesFlag Layout.takesFlag Layout.hasFlag Layout.begin Layout.bitByte Layout.bitIndex Layout.afterBit Layout.afterBytes Layout.afterFlag Layout.bitSlot Layout.slotOf Layout.afterValue Layout.memberSlot Layout.placementOf Layout.afterMember Layout.afterMembers Layout.fixedSize Step.enumStep Step.floatStep Step.structTested Step.placeOf Step.objectStep Step.unionStep Step.flatStep Step.fieldStep Step.valueStep Step.inside Step.flagged Step.placedStep Step.memberStep Step.elementPlace Step.elementStep Step.elementsSize Walk.placed Walk.magic Walk.headerSize Walk.elementId Walk.elementSize Walk.mostElements Walk.startSize Walk.contentSize Walk.contentLength Walk.endOk Walk.fitContent Walk.directHeader Walk.headerTested Walk.standsInPlace Walk.fitObject Walk.bytesTested Walk.openObject Walk.refuse Walk.andThen Walk.refusePart Walk.followChoice Walk.follow Walk.members Walk.elements Walk.directs Walk.content Walk.enter Walk.withContent Walk.admit Walk.arrive Walk.tooDeep Walk.oneMore Walk.mostContent Walk.counted Walk.visit Walk.rootPlace Walk.nothing Walk.walk Walk.verdictOf Walk.early Walk.sizeOk Walk.startOk Walk.verdict Field.noPart Field.opened Field.arrived Field.partRefused Field.chosen Field.stepped Field.structPart Field.objectPart Field.partOf Field.along Field.found Field.flatAnswer Field.valueAnswer Field.recordKind Field.answerOf Field.answerVerdict Field.before Field.fieldFound Field.field Field.answerCase Field.caseNumbers Field.listFound Field.leads Field.readerOf Field.readerStart Field.listGives Field.readerGives Field.listCount Field.readerCount
+reader-has = refl
+
+pub reader-gives : Field.readerGives Bytes.u48 older message (0 ∷ []) 1 ≡ Field.field Bytes.u48 older message (0 ∷ 1 ∷ [])
+reader-gives = gives-path Bytes.u48 older message (0 ∷ []) (Ob.DirectList 1) 26 44 2 30 reader-has 1

@@ -18,7 +18,6 @@ pub mod Spending
 pub mod Arrivals
 pub mod ArrivalsWalk
 pub mod Reached
-pub mod DirectElements
 pub mod Holds
 pub mod CellsHold
 pub mod SlotsHold
@@ -57,7 +56,6 @@ pub mod NewerReads
 pub mod WrittenPlain
 pub mod NewerAgrees
 pub mod NewerCases
-pub mod DirectTrips
 pub mod FieldEntries
 pub mod GoingOn
 pub mod StepKinds
@@ -67,6 +65,9 @@ pub mod Fields
 pub mod Texts
 pub mod SheetText
 pub mod ListReader
+pub mod DirectFits
+pub mod DirectElements
+pub mod DirectTrips
 pub mod Utf8States
 pub mod Utf8Encoding
 pub mod Utf8

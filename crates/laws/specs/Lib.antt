@@ -14,5 +14,4 @@ pub mod LawfulSound
 pub mod StructBooleans
 pub mod SoundAt
 pub mod DirectPlaces
-pub mod DirectFits
 pub mod FixedSizes
