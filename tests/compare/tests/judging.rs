@@ -9,7 +9,7 @@ use compare::coding::{Coding, CODINGS};
 use compare::judging;
 use compare::members::NAMES;
 use compare::program::Second;
-use compare::subjects::{Sort, SORTS};
+use compare::subjects::{Sort, DIRECT_SORTS, SORTS};
 use compare::tally::{Allowed, Tally, NUMBERS};
 
 const SEED: u64 = 1;
@@ -39,6 +39,23 @@ const MEMBERS_SEEN: [(u32, [u64; 4]); 3] = [
     (10, [1500, 200, 600, 20]),
 ];
 
+/// At least so many messages with a changed direct list that got a number.
+const DIRECT_SEEN: [(Sort, u32, u64); 13] = [
+    (Sort::DirectMagic, 7, 1000),
+    (Sort::DirectId, 7, 1000),
+    (Sort::DirectCountOver, 6, 1000),
+    (Sort::DirectCount, 0, 200),
+    (Sort::DirectCount, 4, 50),
+    (Sort::DirectCount, 6, 500),
+    (Sort::DirectNoSize, 0, 800),
+    (Sort::DirectCutSize, 8, 500),
+    (Sort::DirectFullSize, 0, 400),
+    (Sort::DirectLongerSize, 0, 150),
+    (Sort::DirectLongerSize, 6, 150),
+    (Sort::DirectLargeSize, 0, 100),
+    (Sort::DirectLargeSize, 6, 800),
+];
+
 /// What the run did not reach often enough.
 fn shortfalls(coding: Coding, tally: &Tally) -> Vec<String> {
     let mut short = Vec::new();
@@ -66,8 +83,19 @@ fn shortfalls(coding: Coding, tally: &Tally) -> Vec<String> {
         need(name, tally.with(allowed, number), least);
     }
     for sort in SORTS {
-        let least = if sort == Sort::NoCoding { 1000 } else { 5000 };
+        let least = match sort {
+            Sort::NoCoding => 1000,
+            _ if DIRECT_SORTS.contains(&sort) && coding.is_older() => 0,
+            _ if DIRECT_SORTS.contains(&sort) => 1500,
+            _ => 5000,
+        };
         need(format!("{sort:?}"), tally.of_sort(sort), least);
+    }
+    if !coding.is_older() {
+        for (sort, number, least) in DIRECT_SEEN {
+            let name = format!("{sort:?}, number {number}");
+            need(name, tally.of(sort, number), least);
+        }
     }
     for number in [0, 5, 6, 7, 8, 9, 10].into_iter().filter(possible) {
         let name = format!("damaged, number {number}");
@@ -106,6 +134,9 @@ fn agree(coding: Coding) {
     budgets_change_nothing(&tally);
     let short = shortfalls(coding, &tally);
     assert!(short.is_empty(), "not reached often enough: {short:#?}");
+    for sort in DIRECT_SORTS {
+        assert_eq!(coding.is_older(), tally.of_sort(sort) == 0, "{sort:?}");
+    }
     // Under no coding is any schema lawful.
     assert_eq!(tally.of(Sort::NoCoding, 1), tally.of_sort(Sort::NoCoding));
     assert_eq!(coding.is_older(), tally.of_number(9) == 0);

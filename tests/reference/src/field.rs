@@ -344,6 +344,13 @@ impl<'a> ListReader<'a> {
         Err(Refusal::new(15, 0).into())
     }
 
+    /// Moves on by so many elements, as that many steps do: "after the last it
+    /// ... stays". A direct list may have more than can be stepped through.
+    pub fn skip(&mut self, elements: u64) {
+        let left = (self.list.length - self.next) as u64;
+        self.next += elements.min(left) as usize;
+    }
+
     /// "Each step answers as that element's path would and moves on, refused
     /// or not; after the last it answers 15 at the list and stays."
     pub fn step(&mut self) -> Answer {

@@ -325,6 +325,16 @@ fn four_billion_elements_of_no_bytes() {
     assert_eq!(answer(&[0, 4_294_967_294]), object(16, 44, 0));
     assert_eq!(answer(&[0, 4_294_967_294, 1]), Answer::Absent);
     assert_eq!(answer(&[0, 4_294_967_295]), common::refused(15, 26));
+    let schema = plan();
+    let mut reader = ListReader::new(48, &schema, &message.bytes, &[0]).unwrap();
+    for _ in 0..3 {
+        assert_eq!(reader.step(), object(16, 44, 0));
+    }
+    reader.skip(4_294_967_291);
+    assert_eq!(reader.step(), object(16, 44, 0));
+    assert_eq!(reader.step(), common::refused(15, 26));
+    reader.skip(u64::MAX);
+    assert_eq!(reader.step(), common::refused(15, 26));
 }
 
 /// 64 marks an element are 16 bytes, so that a million of them are 16 MB.
