@@ -194,10 +194,13 @@ fn build(coding: Coding, rng: &mut Rng, counts: &Counts) -> Schema {
         let members = Vec::new();
         schema.tables.push(Table { id, members });
     }
+    let sizes: Vec<usize> = (0..counts.tables)
+        .map(|_| member_count(rng, counts.members))
+        .collect();
     // Some tables have a first member now, so that elements and cases may be
     // direct lists of them.
-    for i in 0..counts.tables {
-        if rng.coin() {
+    for (i, size) in sizes.iter().enumerate() {
+        if *size > 0 && rng.coin() {
             let first = member(rng, &schema, false);
             schema.tables[i].members.push(first);
         }
@@ -210,9 +213,8 @@ fn build(coding: Coding, rng: &mut Rng, counts: &Counts) -> Schema {
         let cases = rng.range(1, most);
         schema.unions[i] = (0..cases).map(|_| case(rng, &schema, i)).collect();
     }
-    for i in 0..counts.tables {
-        let count = member_count(rng, counts.members);
-        while schema.tables[i].members.len() < count {
+    for (i, size) in sizes.into_iter().enumerate() {
+        while schema.tables[i].members.len() < size {
             let may_be_in_place = schema.may_hold_in_place(i);
             let member = member(rng, &schema, may_be_in_place);
             schema.tables[i].members.push(member);

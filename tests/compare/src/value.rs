@@ -124,6 +124,22 @@ where
     }
 }
 
+/// Whether a value has a direct list with an element.
+pub fn has_direct_elements(schema: &Schema, root: &Value) -> bool {
+    let mut found = false;
+    let record = Record::plain(TABLE, schema.root);
+    visit(
+        schema,
+        &record,
+        &mut root.clone(),
+        &mut |_, record, value| {
+            let some = matches!(value, Value::List(parts) if !parts.is_empty());
+            found |= record.kind == DIRECT && some;
+        },
+    );
+    found
+}
+
 /// Whether the entry can stand in a message to be written.
 fn entry_writable(schema: &Schema, holder: Holder, record: &Record, value: &Value) -> bool {
     let plain = record.kind <= F64 || record.kind == STRUCT;

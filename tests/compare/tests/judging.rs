@@ -13,7 +13,7 @@ use compare::subjects::{Sort, DIRECT_SORTS, SORTS};
 use compare::tally::{Allowed, Tally, NUMBERS};
 
 const SEED: u64 = 1;
-const MESSAGES: u64 = 300_000;
+const MESSAGES: u64 = 400_000;
 
 /// At least so many messages of each number with an ample budget; a spent
 /// budget is rare there, and comes from the smaller ones.
