@@ -6,6 +6,7 @@ use compare::coding::{Coding, CODINGS};
 use compare::judging;
 use compare::program::{Budget, Judge, Verdict, NO_MEMBER};
 use compare::schema::Packed;
+use compare::schema_rules;
 
 #[derive(Clone, Copy, Debug, PartialEq)]
 enum Flaw {
@@ -46,6 +47,11 @@ enum Flaw {
     CodingIgnored,
     AnyCodingTaken,
     CodingGuessed,
+    NoDirectLists,
+    DirectAsList,
+    DirectElementAsDirect,
+    DirectHeaderOf10,
+    NoListReaderAtDirect,
 }
 
 struct Flawed(Flaw);
@@ -79,6 +85,9 @@ impl Flawed {
 
     /// The schema under the coding that the program takes it for.
     fn taken(&self, schema: &Packed) -> Packed {
+        if self.0 == Flaw::NoDirectLists && has_direct_lists(schema) {
+            return schema.with(Vec::new());
+        }
         let lawful = |coding: Coding| reference::lawful(coding.number(), &schema.bytes);
         let given = Coding::of(schema.coding);
         let taken = match self.0 {
@@ -94,6 +103,12 @@ impl Flawed {
             None => schema.clone(),
         }
     }
+}
+
+/// Whether a lawful schema has a direct list.
+fn has_direct_lists(schema: &Packed) -> bool {
+    let parsed = schema_rules::parse(schema);
+    parsed.is_some_and(|schema| (0..schema.tables.len()).any(|table| schema.is_direct(table)))
 }
 
 const NONE: u64 = NO_MEMBER as u64;
@@ -140,6 +155,15 @@ impl Calls for Flawed {
             (Flaw::PathOf97Taken, _) if path.len() == 97 => {
                 SecondCalls.field(schema, message, &path[..96])
             }
+            (Flaw::DirectAsList, [3, 18, at, length]) => [3, 15, at, length],
+            (Flaw::DirectElementAsDirect, [3, 16, at, length]) => {
+                let held_by = path.split_last().map_or(&[][..], |(_, holder)| holder);
+                match SecondCalls.field(schema, message, held_by) {
+                    [3, 18, ..] => [3, 18, at, length],
+                    _ => answer,
+                }
+            }
+            (Flaw::DirectHeaderOf10, [3, 18, at, length]) => [3, 18, at + 8, length],
             (flaw, [7, ..]) => with_member(flaw, answer),
             _ => answer,
         }
@@ -178,6 +202,14 @@ impl Calls for Flawed {
             Flaw::NoMemberInLists => {
                 for case in cases.chunks_exact_mut(4).filter(|case| case[0] == 7) {
                     case[3] = NONE;
+                }
+            }
+            Flaw::NoListReaderAtDirect => {
+                if let [3, 18, ..] = SecondCalls.field(schema, message, path) {
+                    for case in cases.chunks_exact_mut(4) {
+                        case.copy_from_slice(&[7, 15, 0, NONE]);
+                    }
+                    return 0;
                 }
             }
             Flaw::ListOneShort => return count.saturating_sub(1),
@@ -293,6 +325,16 @@ const IN_WRITES: [Flaw; 6] = [
     Flaw::NotWritableFirst,
 ];
 
+/// What the side by side of fields must catch in direct lists, which the older
+/// coding does not have.
+const IN_DIRECT_LISTS: [Flaw; 5] = [
+    Flaw::NoDirectLists,
+    Flaw::DirectAsList,
+    Flaw::DirectElementAsDirect,
+    Flaw::DirectHeaderOf10,
+    Flaw::NoListReaderAtDirect,
+];
+
 /// What every side by side must catch.
 const IN_CODINGS: [Flaw; 3] = [
     Flaw::CodingIgnored,
@@ -329,6 +371,21 @@ fn fields_side_by_side_catch_flaws() {
     catches("fields", &IN_FIELDS, |flawed, coding| {
         fields::run(flawed, &SecondCalls, coding, 9, CALLS).map(drop)
     });
+}
+
+/// A program without direct lists is caught by every side by side.
+#[test]
+fn direct_lists_side_by_side_catch_flaws() {
+    let coding = Coding::Bits48;
+    for flaw in IN_DIRECT_LISTS {
+        let outcome = fields::run(&Flawed(flaw), &SecondCalls, coding, 9, CALLS);
+        assert!(outcome.is_err(), "fields miss {flaw:?}");
+    }
+    let without = &Flawed(Flaw::NoDirectLists);
+    let judged = judging::run(without, &SecondCalls, coding, 9, CALLS / 10);
+    let read = reads::run(without, &SecondCalls, coding, 9, CALLS);
+    let written = writes::run(without, &SecondCalls, coding, 9, CALLS);
+    assert!(judged.is_err() && read.is_err() && written.is_err());
 }
 
 #[test]
