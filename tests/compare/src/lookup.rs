@@ -163,11 +163,7 @@ impl<'a> Known<'a> {
         }
         let record = crate::paths::part_record(self.schema, &node.record, node.value, at);
         let before: usize = parts[..at].iter().map(objects).sum();
-        let held = match (node.record.kind, record.in_place) {
-            (DIRECT, _) => Held::Direct,
-            (_, true) => Held::InPlace,
-            (_, false) => Held::ByOffset,
-        };
+        let held = Held::of(&node.record, &record);
         let child = |record: Record, value: &'a Value| Node {
             index: node.index + 1 + before,
             depth: node.depth + 1,

@@ -74,6 +74,17 @@ pub enum Held {
     Direct,
 }
 
+impl Held {
+    /// How an object holds a part of this record.
+    pub fn of(holder: &Record, part: &Record) -> Held {
+        match (holder.kind, part.in_place) {
+            (DIRECT, _) => Held::Direct,
+            (_, true) => Held::InPlace,
+            (_, false) => Held::ByOffset,
+        }
+    }
+}
+
 /// One of the faults, of a kind chosen first, so that rare kinds come up too.
 pub fn choose(schema: &Schema, rng: &mut Rng, root: &Value) -> Fault {
     let sites = sites(schema, root);

@@ -95,15 +95,13 @@ pub fn shortfalls(coding: Coding, counts: &Counts) -> Vec<String> {
     for (number, count) in answers.filter(|(number, _)| *number != UNUSED) {
         need(format!("answers with number {number}"), *count, 100);
     }
+    for kind in [13, 14, 15, 16, 18] {
+        let count = counts.by_offset[kind];
+        need(format!("kind {kind} by offset"), count, 2000);
+    }
     for kind in 13..=16 {
-        need(
-            format!("kind {kind} by offset"),
-            counts.by_offset[kind],
-            2000,
-        );
         need(format!("kind {kind} in place"), counts.in_place[kind], 500);
     }
-    need("kind 18 by offset".into(), counts.by_offset[18], 5000);
     for (name, least) in NAMED {
         need(name.to_string(), counts.named(name), least);
     }

@@ -189,22 +189,7 @@ fn build(coding: Coding, rng: &mut Rng, counts: &Counts) -> Schema {
     // Elements and cases may name parts that come later: fill in the counts.
     schema.lists = vec![Record::plain(BOOL, 0); counts.lists];
     schema.unions = vec![vec![Record::plain(TEXT, 0)]; counts.unions];
-    for _ in 0..counts.tables {
-        let id = table_id(rng, &schema);
-        let members = Vec::new();
-        schema.tables.push(Table { id, members });
-    }
-    let sizes: Vec<usize> = (0..counts.tables)
-        .map(|_| member_count(rng, counts.members))
-        .collect();
-    // Some tables have a first member now, so that elements and cases may be
-    // direct lists of them.
-    for (i, size) in sizes.iter().enumerate() {
-        if *size > 0 && rng.coin() {
-            let first = member(rng, &schema, false);
-            schema.tables[i].members.push(first);
-        }
-    }
+    let sizes = begin_tables(rng, &mut schema, counts);
     for i in 0..counts.lists {
         schema.lists[i] = element(rng, &schema);
     }
@@ -222,6 +207,26 @@ fn build(coding: Coding, rng: &mut Rng, counts: &Counts) -> Schema {
     }
     schema.root = rng.below(counts.tables) as u8;
     schema
+}
+
+/// Adds tables and says how many members each is to have. Some have their first
+/// one now, so that elements and cases may be direct lists of them.
+fn begin_tables(rng: &mut Rng, schema: &mut Schema, counts: &Counts) -> Vec<usize> {
+    for _ in 0..counts.tables {
+        let id = table_id(rng, schema);
+        let members = Vec::new();
+        schema.tables.push(Table { id, members });
+    }
+    let sizes: Vec<usize> = (0..counts.tables)
+        .map(|_| member_count(rng, counts.members))
+        .collect();
+    for (i, size) in sizes.iter().enumerate() {
+        if *size > 0 && rng.coin() {
+            let first = member(rng, schema, false);
+            schema.tables[i].members.push(first);
+        }
+    }
+    sizes
 }
 
 fn member_count(rng: &mut Rng, most: usize) -> usize {

@@ -126,6 +126,18 @@ fn with_member(flaw: Flaw, refused: [u64; 4]) -> [u64; 4] {
     [case, number, place, member]
 }
 
+/// Whether a path leads to a direct list.
+fn is_direct(schema: &Packed, message: &[u8], path: &[u32]) -> bool {
+    matches!(SecondCalls.field(schema, message, path), [3, 18, ..])
+}
+
+/// What a list reader says where there is no list.
+fn no_list(cases: &mut [u64]) -> u64 {
+    let answers = cases.chunks_exact_mut(4);
+    answers.for_each(|case| case.copy_from_slice(&[7, 15, 0, NONE]));
+    0
+}
+
 /// Changes a byte of an output, where it has that byte.
 fn change(output: &mut [u8], at: usize) {
     if let Some(byte) = output.get_mut(at) {
@@ -156,13 +168,10 @@ impl Calls for Flawed {
                 SecondCalls.field(schema, message, &path[..96])
             }
             (Flaw::DirectAsList, [3, 18, at, length]) => [3, 15, at, length],
-            (Flaw::DirectElementAsDirect, [3, 16, at, length]) => {
-                let held_by = path.split_last().map_or(&[][..], |(_, holder)| holder);
-                match SecondCalls.field(schema, message, held_by) {
-                    [3, 18, ..] => [3, 18, at, length],
-                    _ => answer,
-                }
-            }
+            (Flaw::DirectElementAsDirect, [3, 16, at, length]) => match path.split_last() {
+                Some((_, list)) if is_direct(schema, message, list) => [3, 18, at, length],
+                _ => answer,
+            },
             (Flaw::DirectHeaderOf10, [3, 18, at, length]) => [3, 18, at + 8, length],
             (flaw, [7, ..]) => with_member(flaw, answer),
             _ => answer,
@@ -191,25 +200,19 @@ impl Calls for Flawed {
         cases: &mut [u64],
     ) -> u64 {
         let schema = &self.taken(schema);
+        if self.0 == Flaw::NoListReaderAtDirect && is_direct(schema, message, path) {
+            return no_list(cases);
+        }
         let count = SecondCalls.list(schema, message, path, from, cases);
         match self.0 {
             Flaw::ListStopsAtRefused => {
                 let answers = cases.chunks_exact_mut(4);
-                for case in answers.skip_while(|case| case[0] != 7).skip(1) {
-                    case.copy_from_slice(&[7, 15, 0, NONE]);
-                }
+                let after = answers.skip_while(|case| case[0] != 7).skip(1);
+                after.for_each(|case| case.copy_from_slice(&[7, 15, 0, NONE]));
             }
             Flaw::NoMemberInLists => {
                 for case in cases.chunks_exact_mut(4).filter(|case| case[0] == 7) {
                     case[3] = NONE;
-                }
-            }
-            Flaw::NoListReaderAtDirect => {
-                if let [3, 18, ..] = SecondCalls.field(schema, message, path) {
-                    for case in cases.chunks_exact_mut(4) {
-                        case.copy_from_slice(&[7, 15, 0, NONE]);
-                    }
-                    return 0;
                 }
             }
             Flaw::ListOneShort => return count.saturating_sub(1),
@@ -217,8 +220,7 @@ impl Calls for Flawed {
                 SecondCalls.list(schema, message, path, count - 1, cases);
             }
             Flaw::ListFillsTheRest => {
-                let rest = cases.len() % 4;
-                let whole = cases.len() - rest;
+                let whole = cases.len() - cases.len() % 4;
                 cases[whole..].fill(0);
             }
             Flaw::ListStartsAtPlain if count == 0 => {

@@ -56,6 +56,16 @@ const DIRECT_SEEN: [(Sort, u32, u64); 13] = [
     (Sort::DirectLargeSize, 6, 800),
 ];
 
+/// At least so many messages of a sort.
+fn least(coding: Coding, sort: Sort) -> u64 {
+    match sort {
+        Sort::NoCoding => 1000,
+        _ if !DIRECT_SORTS.contains(&sort) => 5000,
+        _ if coding.is_older() => 0,
+        _ => 1500,
+    }
+}
+
 /// What the run did not reach often enough.
 fn shortfalls(coding: Coding, tally: &Tally) -> Vec<String> {
     let mut short = Vec::new();
@@ -82,21 +92,6 @@ fn shortfalls(coding: Coding, tally: &Tally) -> Vec<String> {
         let name = format!("{allowed:?}, number {number}");
         need(name, tally.with(allowed, number), least);
     }
-    for sort in SORTS {
-        let least = match sort {
-            Sort::NoCoding => 1000,
-            _ if DIRECT_SORTS.contains(&sort) && coding.is_older() => 0,
-            _ if DIRECT_SORTS.contains(&sort) => 1500,
-            _ => 5000,
-        };
-        need(format!("{sort:?}"), tally.of_sort(sort), least);
-    }
-    if !coding.is_older() {
-        for (sort, number, least) in DIRECT_SEEN {
-            let name = format!("{sort:?}, number {number}");
-            need(name, tally.of(sort, number), least);
-        }
-    }
     for number in [0, 5, 6, 7, 8, 9, 10].into_iter().filter(possible) {
         let name = format!("damaged, number {number}");
         need(name, tally.of(Sort::Damaged, number), 500);
@@ -104,7 +99,28 @@ fn shortfalls(coding: Coding, tally: &Tally) -> Vec<String> {
     let name = "damaged schemas still lawful".to_string();
     let lawful = tally.of_sort(Sort::DamagedSchema) - tally.of(Sort::DamagedSchema, 1);
     need(name, lawful, 1000);
+    for (name, count, least) in of_sorts(coding, tally) {
+        need(name, count, least);
+    }
     short
+}
+
+/// How many messages of each sort there are to be, and of direct lists that got a
+/// number.
+fn of_sorts(coding: Coding, tally: &Tally) -> Vec<(String, u64, u64)> {
+    let every = |sort| {
+        (
+            format!("{sort:?}"),
+            tally.of_sort(sort),
+            least(coding, sort),
+        )
+    };
+    let direct = DIRECT_SEEN.map(|(sort, number, least)| {
+        let least = if coding.is_older() { 0 } else { least };
+        let name = format!("{sort:?}, number {number}");
+        (name, tally.of(sort, number), least)
+    });
+    SORTS.into_iter().map(every).chain(direct).collect()
 }
 
 /// A walk that an ample budget takes to its end is the same with a budget of

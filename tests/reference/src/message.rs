@@ -263,11 +263,7 @@ pub fn fit(
     if depth > DEPTH {
         return Err(Refusal::new(5, place));
     }
-    let Said {
-        start,
-        length,
-        size,
-    } = match spot {
+    let said = match spot {
         Spot::Offset(offset) => open_header(schema, message, target, offset)?,
         Spot::InPlace { start, length } => Said {
             start,
@@ -275,24 +271,17 @@ pub fn fit(
             size: 0,
         },
     };
-    let bytes = match target {
-        // "Text: length bytes and one zero byte."
-        Target::Text => length + 1,
-        // Two numbers of 32 bits.
-        Target::Direct(_) => length * size,
-        _ => content_length(schema, target, length),
-    };
-    if bytes > (message.len() - start) as u64 {
+    if said.bytes(schema, target) > (message.len() - said.start) as u64 {
         return Err(Refusal::new(6, place));
     }
     Ok(Object {
         target,
         place,
-        start,
+        start: said.start,
         // Below 2^32 in a direct list. No other element is under a bit, so that
         // a length that fits is below 2^27.
-        length: length as usize,
-        size: size as usize,
+        length: said.length as usize,
+        size: said.size as usize,
     })
 }
 
@@ -302,6 +291,19 @@ struct Said {
     start: usize,
     length: u64,
     size: u64,
+}
+
+impl Said {
+    /// The bytes that the content takes.
+    fn bytes(&self, schema: &Schema, target: Target) -> u64 {
+        match target {
+            // "Text: length bytes and one zero byte."
+            Target::Text => self.length + 1,
+            // Two numbers of 32 bits.
+            Target::Direct(_) => self.length * self.size,
+            _ => content_length(schema, target, self.length),
+        }
+    }
 }
 
 /// "text's end byte"

@@ -352,28 +352,35 @@ fn a_sheet_over_the_size() {
     assert_eq!(sheet.len(), 16_777_205);
 }
 
+/// Tables, each in the one before, and a direct list in the last: the message, and
+/// where the list stands. Each element is a reference to bytes.
+fn chain(tables: u64, count: u64, element: u64) -> (Message, u64) {
+    let mut message = Message::new(10);
+    for number in 1..tables {
+        message.table(ID, 12).u48(10 + 22 * number).u48(0);
+    }
+    let list = 10 + 22 * tables;
+    message.table(ID, 12).u48(0).u48(list);
+    message.direct_head(count, ELEMENT, 6);
+    for _ in 0..count {
+        message.u48(element);
+    }
+    (message, list)
+}
+
+fn chain_schema() -> Vec<u8> {
+    Parts {
+        tables: vec![(ID, vec![table(0), direct(1)]), (ELEMENT, vec![BYTES])],
+        ..Parts::default()
+    }
+    .pack()
+}
+
 /// "one deeper": 30 tables and a direct list, whose element is the 32nd; with one
 /// more the element is too deep, but not a list of none.
 #[test]
 fn the_depth_of_an_element() {
-    let schema = Parts {
-        tables: vec![(ID, vec![table(0), direct(1)]), (ELEMENT, vec![BYTES])],
-        ..Parts::default()
-    }
-    .pack();
-    let chain = |tables: u64, count: u64, element: u64| {
-        let mut message = Message::new(10);
-        for number in 1..tables {
-            message.table(ID, 12).u48(10 + 22 * number).u48(0);
-        }
-        let list = 10 + 22 * tables;
-        message.table(ID, 12).u48(0).u48(list);
-        message.direct_head(count, ELEMENT, 6);
-        for _ in 0..count {
-            message.u48(element);
-        }
-        (message, list)
-    };
+    let schema = chain_schema();
     let (message, list) = chain(30, 2, 0);
     assert_eq!(
         judged(&schema, &message.bytes),
@@ -403,11 +410,7 @@ fn the_depth_of_an_element() {
 /// A sheet likewise: an element at depth 33 is 11, an empty list at 32 is not.
 #[test]
 fn the_depth_of_a_sheet() {
-    let schema = Parts {
-        tables: vec![(ID, vec![table(0), direct(1)]), (ELEMENT, vec![BYTES])],
-        ..Parts::default()
-    }
-    .pack();
+    let schema = chain_schema();
     let chain = |tables: usize, count: u64| {
         let mut sheet = Sheet::new();
         for _ in 1..tables {
@@ -464,16 +467,24 @@ fn which_schemas_are_lawful() {
     assert!(!put(in_place(direct(1))));
     assert!(!put(optional(direct(1))));
     assert!(!put(direct(1) | 0x100));
-    // A table of direct lists of itself, and two of each other.
-    assert!(with(&|parts| parts.tables[0].1 = vec![direct(0)]));
-    assert!(with(&|parts| {
-        parts.tables[0].1 = vec![direct(1)];
-        parts.tables[1].1 = vec![direct(0)];
-    }));
-    // Its own table may come to have a member in place.
-    assert!(!with(&|parts| {
-        parts.tables[0].1 = vec![direct(0), in_place(BYTES)];
-    }));
+}
+
+/// A table of direct lists of itself, and two of each other.
+#[test]
+fn tables_of_direct_lists_of_themselves() {
+    let with = |first: &[u16], second: &[u16]| {
+        let tables = vec![(ID, first.to_vec()), (ELEMENT, second.to_vec())];
+        let parts = Parts {
+            tables,
+            ..Parts::default()
+        };
+        lawful(48, &parts.pack())
+    };
+    assert!(with(&[direct(0)], &[]));
+    assert!(with(&[direct(1)], &[direct(0)]));
+    assert!(with(&[direct(1), direct(0)], &[direct(1)]));
+    assert!(!with(&[direct(0), in_place(BYTES)], &[]));
+    assert!(!with(&[direct(1)], &[direct(0), in_place(BYTES)]));
 }
 
 /// A union with a case of kind 18: "nor a case of a union that a table holds in
@@ -699,11 +710,9 @@ fn the_full_size_is_written() {
     assert_eq!((number, message), (0, expected.bytes));
 }
 
-/// What elements refer to comes behind the list, in walk order, each followed by
-/// its own: a direct list in the first element before the text of the second.
-#[test]
-fn what_elements_refer_to() {
-    let schema = Parts {
+/// Elements of a text and a direct list of a U8 and a text.
+fn two_levels() -> Vec<u8> {
+    Parts {
         tables: vec![
             (ID, vec![direct(1), BYTES]),
             (ELEMENT, vec![TEXT, direct(2)]),
@@ -711,41 +720,53 @@ fn what_elements_refer_to() {
         ],
         ..Parts::default()
     }
-    .pack();
+    .pack()
+}
+
+/// Its message: the lists at 32 and 86.
+fn two_levels_written() -> Message {
+    let mut message = Message::new(10);
+    message.table(ID, 12).u48(32).u48(143);
+    // Two elements of twelve bytes, at 50 and 62.
+    message.direct_head(2, ELEMENT, 12);
+    message.u48(74).u48(86).u48(131).u48(0);
+    message.text("a");
+    // Two elements of seven bytes, at 104 and 111.
+    message.direct_head(2, 0x0909_0909, 7);
+    message.raw(&[5]).u48(0).raw(&[6]).u48(118);
+    message.text("bc").text("d");
+    message.bytes_head(1).raw(b"e");
+    assert_eq!(message.here(), 154);
+    message
+}
+
+/// What elements refer to comes behind the list, in walk order, each followed by
+/// its own: a direct list in the first element before the text of the second.
+#[test]
+fn what_elements_refer_to() {
+    let (schema, expected) = (two_levels(), two_levels_written());
     let sheet = Sheet::new().here().put(2, 32);
     let sheet = sheet.here().text("a").here().put(2, 32);
     let sheet = sheet.here().put(5, 8).absent();
     let sheet = sheet.here().put(6, 8).here().text("bc");
     let sheet = sheet.here().text("d").absent();
     let sheet = sheet.here().text("e");
-    let mut expected = Message::new(10);
-    expected.table(ID, 12).u48(32).u48(143);
-    // Two elements of twelve bytes, at 50 and 62.
-    expected.direct_head(2, ELEMENT, 12);
-    expected.u48(74).u48(86).u48(131).u48(0);
-    expected.text("a");
-    // Two elements of seven bytes, at 104 and 111.
-    expected.direct_head(2, 0x0909_0909, 7);
-    expected.raw(&[5]).u48(0).raw(&[6]).u48(118);
-    expected.text("bc").text("d");
-    expected.bytes_head(1).raw(b"e");
-    assert_eq!(expected.here(), 154);
     let (number, message) = write(48, &schema, &sheet.done(), 154);
     assert_eq!((number, &message), (0, &expected.bytes));
     assert_eq!(sheet_of(&schema, &message), sheet.done());
-    // Root, list, element, "a", inner list, its first, its second, "bc", the
-    // second element, "d", "e".
+}
+
+/// Root, list, element, "a", inner list, its first, its second, "bc", the second
+/// element, "d", "e".
+#[test]
+fn the_walk_of_two_levels() {
+    let (schema, message) = (two_levels(), two_levels_written().bytes);
     let content = 12 + 12 + 1 + 7 + 7 + 2 + 12 + 1 + 1;
     assert_eq!(judged(&schema, &message), plain(0, 0, 11, content));
-    let four = |visits, place| {
-        let verdict = spent(&schema, &message, visits, u64::MAX);
-        assert_eq!((verdict.0, verdict.1), (4, place));
-    };
-    for (visits, place) in [(2, 50), (3, 74), (4, 86), (5, 104), (6, 111), (7, 118)] {
-        four(visits, place);
-    }
-    for (visits, place) in [(8, 62), (9, 131), (10, 143)] {
-        four(visits, place);
+    let places = [10, 32, 50, 74, 86, 104, 111, 118, 62, 131, 143];
+    for (visits, place) in places.into_iter().enumerate() {
+        let verdict = spent(&schema, &message, visits as u32, u64::MAX);
+        assert_eq!((verdict.0, verdict.1, verdict.3), (4, place, visits as u32));
     }
     let deep = field(48, &schema, &message, &[0, 0, 1, 1, 1]);
     assert_eq!(deep, object(13, 118, 2));

@@ -22,10 +22,8 @@ pub fn at_list(
     path: &[u32],
     whole: [u64; 4],
 ) -> Result<(), String> {
-    let length = match whole {
-        [3, 15 | 18, _, length] => length,
-        _ => 3,
-    };
+    let is_list = matches!(whole, [3, 15 | 18, ..]);
+    let length = if is_list { whole[3] } else { 3 };
     let from = first_element(rng, length);
     let left = length.saturating_sub(from).min(12) as usize;
     let steps = rng.range(0, left + 2);
@@ -50,13 +48,11 @@ pub fn at_list(
     if count == 0 {
         return started_nowhere(run, place, path, whole, &answers);
     }
-    run.counts.note(match whole[1] {
-        18 => "direct lists",
+    run.counts.note(match (whole[1], length) {
+        (18, 0..=0x100_0000) => "direct lists",
+        (18, _) => "direct lists of over 16,777,216 elements",
         _ => "lists",
     });
-    if length > 1 << 24 {
-        run.counts.note("direct lists of over 16,777,216 elements");
-    }
     by_elements(run, place, path, whole, from, &answers)
 }
 

@@ -81,14 +81,13 @@ fn of_round(coding: Coding, rng: &mut Rng) -> Vec<Subject> {
     let broken = schema_faults::damaged(rng, &packed);
     let direct = has_direct_elements(&schema, &writable) && has_direct_elements(&schema, &any);
     for (sort, sheet) in sheets {
-        let by_broken = rng.one_in(12);
+        let (sort, schema) = match rng.one_in(12) {
+            true => ("by a damaged schema", broken.clone()),
+            false => (sort, packed.clone()),
+        };
         out.push(Subject {
-            sort: if by_broken {
-                "by a damaged schema"
-            } else {
-                sort
-            },
-            schema: if by_broken { &broken } else { &packed }.clone(),
+            sort,
+            schema,
             sheet,
             direct,
         });
