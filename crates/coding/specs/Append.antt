@@ -76,7 +76,8 @@ pub record SchemaAppends (older newer : Schema) : Type 0 where
   pub unions : Extends (Extends SameObject) (older .unions) (newer .unions)
   pub tables : Extends TableAppends (older .tables) (newer .tables)
 
--- the older and the newer schema as bytes, under one coding: "Both are lawful."
+-- the older and the newer schema as bytes, under one coding: "Both are lawful."; 02, K1: "Demand 3 reads over these schemas too;
+-- appending an in-place member there isn't lawful.": the newer schema is not, by Lawful.directTable
 pub record Appends (o : ℕ) (older newer : List ℕ) : Type 0 where
   pub older-lawful : lawful o older ≡ true
   pub newer-lawful : lawful o newer ≡ true
@@ -156,7 +157,8 @@ unfoldable pub withoutElements : Change → Schema → Kind → Values → Value
 withoutElements child S k none = none
 withoutElements child S k (v then vs) = withoutPart child S k v then withoutElements child S k vs
 
--- the elements of a direct list of table t, or with the added members: each is a table; "All else stays."
+-- the elements of a direct list of table t, "without the appended members" or "with the added members": each is a table; "All else
+-- stays."
 unfoldable pub inElements : Change → ℕ → Values → Values
 inElements child t none = none
 inElements child t (v then vs) = child (O.Table t) v then inElements child t vs

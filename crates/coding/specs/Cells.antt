@@ -9,7 +9,8 @@ use Rattle.coding.specs.Bytes.{leBytes}
 
 -- ---- bytes, references and in-place contents
 -- a sequence: the end; some bytes; a reference to an object, of o bytes; a content "in place", which stands behind the
--- whole sequence and takes no bytes where it is named; a sequence that stands here, before the rest
+-- whole sequence and takes no bytes where it is named; a sequence that stands here, before the rest, for an element of a direct list:
+-- "This is done as described in the Tables section except that the MAGIC and size are skipped." (000)
 pub data Cells : Type 0 where
   end : Cells
   bytes : List ℕ → Cells → Cells

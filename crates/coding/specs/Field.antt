@@ -229,7 +229,7 @@ unfoldable pub fieldText : ℕ → List ℕ → List ℕ → List ℕ → List �
 fieldText o b m path = textOf m (fieldSpan o b m path)
 
 -- ---- the list reader
--- "a list whose elements are of kinds 13 to 17": whether an element is of these
+-- "a list whose elements are of kinds 13 to 17": whether an element is of these; 02, K1: "direct lists and lists of them too"
 unfoldable pub leads : Kind → Bool
 leads (OfFlat k) = false
 leads (OfObject ob) = true

@@ -1,5 +1,5 @@
 -- Which bytes are a lawful schema under a coding: all that paper 01 says under "Schema, packed most significant bit first",
--- and what 02, K5 asks under the older coding.
+-- what 02, K1 says of direct lists, and what 02, K5 asks under the older coding.
 use Prim.Native.Nat.{ℕ, zero, suc, _+_}
 use mathlib.Core.List.{List}
 use mathlib.Core.Bool.{Bool, true, false, _&&_, not}
@@ -153,7 +153,7 @@ rulesOk b =
     && (every (unionLawful b) (unionCount b)
     && (every (tableLawful b) (tableCount b) && every (idLawful b) (tableCount b))))
 
--- all that paper 01 says of a schema, whatever the coding
+-- all that papers 01 and 02 say of a schema, whatever the coding
 unfoldable pub wellFormed : List ℕ → Bool
 wellFormed b = shapeOk b && rulesOk b
 

@@ -37,7 +37,7 @@ placed (ByOffset x) = x
 placed (InPlace a n) = a
 
 -- "Each kind of object owns its own magic and header length: text 0xD812C8F5, bytes 0xDCDBBE10, list 0x3400BB46, table
--- its id; then U48 length."
+-- its id; then U48 length."; 02, K1: "magic 0xE2C6CC05"
 unfoldable pub magic : Schema → Object → ℕ
 magic S O.Text = 0xD812_C8F5
 magic S O.Bytes = 0xDCDB_BE10

@@ -66,7 +66,8 @@ pub struct Placement {
 
 // ---- the walk
 
-// Where an object stands: its offset; or, in place, where its content starts and the length that its holder gives.
+// Where an object stands: its offset; or, in place, where its content starts and the length that its holder gives. An element of a
+// direct list stands in place in the list.
 pub enum Place {
     ByOffset(usize),
     InPlace(usize, usize),
