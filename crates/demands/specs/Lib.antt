@@ -67,6 +67,7 @@ pub mod SheetText
 pub mod ListReader
 pub mod DirectFits
 pub mod DirectElements
+pub mod DirectPlaced
 pub mod DirectTrips
 pub mod Utf8States
 pub mod Utf8Encoding
