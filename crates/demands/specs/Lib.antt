@@ -3,7 +3,6 @@
 pub mod Counter
 pub mod Traps
 pub mod OlderCoding
-pub mod DirectLists
 pub mod FieldCases
 pub mod Shown
 pub mod SheetDecode
@@ -65,8 +64,10 @@ pub mod Fields
 pub mod Texts
 pub mod SheetText
 pub mod ListReader
+pub mod DirectLists
 pub mod DirectFits
 pub mod DirectElements
+pub mod DirectPlaced
 pub mod DirectTrips
 pub mod Utf8States
 pub mod Utf8Encoding
