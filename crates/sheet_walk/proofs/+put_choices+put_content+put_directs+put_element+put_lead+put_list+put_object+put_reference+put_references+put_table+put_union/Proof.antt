@@ -15,87 +15,93 @@ use Rattle.message_step.proofs.Inside.{union-counted}
 use Rattle.sheet_values.proofs.Remaining.{Remaining, remaining-over}
 use Rattle.sheet_walk.specs.MessageBits as A
 use Rattle.sheet_walk.specs.Readable as D
-use Rattle.sheet_walk.proofs.Objects.{member-sound-of, object-none, header-there, content-readable, object-content, content-text, content-bytes, content-list, content-table, table-counted, table-inside, table-readable, list-counted, list-inside, list-readable}
+use Rattle.sheet_walk.proofs.Objects.{placed-low, content-direct, direct-counted, direct-inside, direct-readable, member-sound-of, object-none, header-there, content-readable, object-content, content-text, content-bytes, content-list, content-table, table-counted, table-inside, table-readable, list-counted, list-inside, list-readable}
 use Rattle.sheet_walk.proofs.Values.{reference-none, reference-there, element-there, element-readable, reference-readable, choice-none, choice-unknown, choice-known, case-readable}
 use Rattle.sheet_walk.proofs.Parts.{members-start, readable-start, member-readable, rest-readable, members-turn, members-done, coded-rest, coded-turn, elements-start, elements-readable, elements-rest, elements-done, integer-eight, element-sound, list-few, list-start, list-bools, list-numbers, elements-inside, elements-given}
 use Rattle.sheet_walk.proofs.Blobs.{blob-inside, blob-referred}
 use Rattle.sheet_walk.proofs.Runs.{list-bytes, element-flat, list-flats}
 use Rattle.sheet_walk.proofs.References.{run-inside, run-next, offset-readable, offsets-turn, offsets-inside, offsets-given, list-offsets, chosen-readable, choices-turn, choices-inside, choices-given, list-choices}
 use Rattle.sheet_walk.proofs.CodedMembers.{coded-laid, coded-member}
-use Rattle.sheet_walk.proofs.Leads.{lead-known, lead-above, flat-member, lead-next, lead-past, chosen-given, lead-chosen, referred-given, lead-referred, lead-counted, union-inside, object-inside, lead-laid, lead-readable, lead-rest, lead-turn}
+use Rattle.sheet_walk.proofs.Directs.{directs-start, directs-readable, directs-over, directs-done, direct-some, direct-members, direct-rest, direct-turn}
+use Rattle.sheet_walk.proofs.Leads.{lead-above, flat-member, lead-next, lead-past, chosen-given, lead-chosen, referred-given, lead-referred, lead-counted, union-inside, object-inside, lead-laid, lead-readable, lead-rest, lead-turn}
 use borrow.Fn.Kinds.{In}
 use borrow.Fn.PlainCycle.{Measures, is, falls, and}
 use Rattle.sheet_walk.proofs.put_choices.Reads as put-choices
 use Rattle.sheet_walk.proofs.put_choices.Kinds as put-choices-kinds
-use Rattle.sheet_walk.proofs.+put_choices+put_content+put_element+put_lead+put_list+put_object+put_reference+put_references+put_table+put_union.Lts-put_choices as put-choices-lts
+use Rattle.sheet_walk.proofs.+put_choices+put_content+put_directs+put_element+put_lead+put_list+put_object+put_reference+put_references+put_table+put_union.Lts-put_choices as put-choices-lts
 use Rattle.sheet_walk.proofs.put_content.Reads as put-content
 use Rattle.sheet_walk.proofs.put_content.Kinds as put-content-kinds
-use Rattle.sheet_walk.proofs.+put_choices+put_content+put_element+put_lead+put_list+put_object+put_reference+put_references+put_table+put_union.Lts-put_content as put-content-lts
+use Rattle.sheet_walk.proofs.+put_choices+put_content+put_directs+put_element+put_lead+put_list+put_object+put_reference+put_references+put_table+put_union.Lts-put_content as put-content-lts
+use Rattle.sheet_walk.proofs.put_directs.Reads as put-directs
+use Rattle.sheet_walk.proofs.put_directs.Kinds as put-directs-kinds
+use Rattle.sheet_walk.proofs.+put_choices+put_content+put_directs+put_element+put_lead+put_list+put_object+put_reference+put_references+put_table+put_union.Lts-put_directs as put-directs-lts
 use Rattle.sheet_walk.proofs.put_element.Reads as put-element
 use Rattle.sheet_walk.proofs.put_element.Kinds as put-element-kinds
-use Rattle.sheet_walk.proofs.+put_choices+put_content+put_element+put_lead+put_list+put_object+put_reference+put_references+put_table+put_union.Lts-put_element as put-element-lts
+use Rattle.sheet_walk.proofs.+put_choices+put_content+put_directs+put_element+put_lead+put_list+put_object+put_reference+put_references+put_table+put_union.Lts-put_element as put-element-lts
 use Rattle.sheet_walk.proofs.put_lead.Reads as put-lead
 use Rattle.sheet_walk.proofs.put_lead.Kinds as put-lead-kinds
-use Rattle.sheet_walk.proofs.+put_choices+put_content+put_element+put_lead+put_list+put_object+put_reference+put_references+put_table+put_union.Lts-put_lead as put-lead-lts
+use Rattle.sheet_walk.proofs.+put_choices+put_content+put_directs+put_element+put_lead+put_list+put_object+put_reference+put_references+put_table+put_union.Lts-put_lead as put-lead-lts
 use Rattle.sheet_walk.proofs.put_list.Reads as put-list
 use Rattle.sheet_walk.proofs.put_list.Kinds as put-list-kinds
-use Rattle.sheet_walk.proofs.+put_choices+put_content+put_element+put_lead+put_list+put_object+put_reference+put_references+put_table+put_union.Lts-put_list as put-list-lts
+use Rattle.sheet_walk.proofs.+put_choices+put_content+put_directs+put_element+put_lead+put_list+put_object+put_reference+put_references+put_table+put_union.Lts-put_list as put-list-lts
 use Rattle.sheet_walk.proofs.put_object.Reads as put-object
 use Rattle.sheet_walk.proofs.put_object.Kinds as put-object-kinds
-use Rattle.sheet_walk.proofs.+put_choices+put_content+put_element+put_lead+put_list+put_object+put_reference+put_references+put_table+put_union.Lts-put_object as put-object-lts
+use Rattle.sheet_walk.proofs.+put_choices+put_content+put_directs+put_element+put_lead+put_list+put_object+put_reference+put_references+put_table+put_union.Lts-put_object as put-object-lts
 use Rattle.sheet_walk.proofs.put_reference.Reads as put-reference
 use Rattle.sheet_walk.proofs.put_reference.Kinds as put-reference-kinds
-use Rattle.sheet_walk.proofs.+put_choices+put_content+put_element+put_lead+put_list+put_object+put_reference+put_references+put_table+put_union.Lts-put_reference as put-reference-lts
+use Rattle.sheet_walk.proofs.+put_choices+put_content+put_directs+put_element+put_lead+put_list+put_object+put_reference+put_references+put_table+put_union.Lts-put_reference as put-reference-lts
 use Rattle.sheet_walk.proofs.put_references.Reads as put-references
 use Rattle.sheet_walk.proofs.put_references.Kinds as put-references-kinds
-use Rattle.sheet_walk.proofs.+put_choices+put_content+put_element+put_lead+put_list+put_object+put_reference+put_references+put_table+put_union.Lts-put_references as put-references-lts
+use Rattle.sheet_walk.proofs.+put_choices+put_content+put_directs+put_element+put_lead+put_list+put_object+put_reference+put_references+put_table+put_union.Lts-put_references as put-references-lts
 use Rattle.sheet_walk.proofs.put_table.Reads as put-table
 use Rattle.sheet_walk.proofs.put_table.Kinds as put-table-kinds
-use Rattle.sheet_walk.proofs.+put_choices+put_content+put_element+put_lead+put_list+put_object+put_reference+put_references+put_table+put_union.Lts-put_table as put-table-lts
+use Rattle.sheet_walk.proofs.+put_choices+put_content+put_directs+put_element+put_lead+put_list+put_object+put_reference+put_references+put_table+put_union.Lts-put_table as put-table-lts
 use Rattle.sheet_walk.proofs.put_union.Reads as put-union
 use Rattle.sheet_walk.proofs.put_union.Kinds as put-union-kinds
-use Rattle.sheet_walk.proofs.+put_choices+put_content+put_element+put_lead+put_list+put_object+put_reference+put_references+put_table+put_union.Lts-put_union as put-union-lts
+use Rattle.sheet_walk.proofs.+put_choices+put_content+put_directs+put_element+put_lead+put_list+put_object+put_reference+put_references+put_table+put_union.Lts-put_union as put-union-lts
 use Rattle.bitio.proofs.write.Reads as write-reads
 use Rattle.bitio.proofs.write_blob.Reads as write-blob-reads
-use Rattle.sheet_walk.proofs.behind_coded.Reads as behind-coded-reads
+use Rattle.message_header.proofs.element_size.Reads as element-size-reads
 use Rattle.message_layout.proofs.after_bytes.Reads as after-bytes-reads
-use Rattle.sheet_walk.proofs.code_at.Reads as code-at-reads
-use Rattle.schema.proofs.integer_width.Reads as integer-width-reads
-use Rattle.schema.proofs.is_blob.Reads as is-blob-reads
-use Rattle.sheet_walk.proofs.lead_width.Reads as lead-width-reads
-use Rattle.sheet_walk.proofs.content_of.Reads as content-of-reads
-use Rattle.sheet_walk.proofs.member_at.Reads as member-at-reads
-use Rattle.sheet_walk.proofs.put_blob_reference.Reads as put-blob-reference-reads
-use Rattle.schema.proofs.is_flat_kind.Reads as is-flat-kind-reads
-use Rattle.schema.proofs.is_union_kind.Reads as is-union-kind-reads
-use Rattle.sheet_walk.proofs.put_coded.Reads as put-coded-reads
-use Rattle.sheet_walk.proofs.put_flats.Reads as put-flats-reads
-use Rattle.sheet_walk.proofs.put_flat_member.Reads as put-flat-member-reads
 use Rattle.message_layout.proofs.begin.Reads as begin-reads
 use Rattle.message_layout.proofs.is_bool.Reads as is-bool-reads
-use Rattle.sheet_values.proofs.number64.Reads as number64-reads
-use Rattle.sheet_lists.proofs.put_bools.Reads as put-bools-reads
-use Rattle.sheet_values.proofs.put_marked.Reads as put-marked-reads
-use Rattle.sheet_lists.proofs.put_numbers.Reads as put-numbers-reads
+use Rattle.message_object.proofs.placed.Reads as placed-reads
+use Rattle.message_step.proofs.place_of.Reads as place-of-reads
 use Rattle.schema.proofs.argument_at.Reads as argument-at-reads
 use Rattle.schema.proofs.case_count.Reads as case-count-reads
 use Rattle.schema.proofs.element.Reads as element-reads
 use Rattle.schema.proofs.inplace_at.Reads as inplace-at-reads
+use Rattle.schema.proofs.integer_width.Reads as integer-width-reads
+use Rattle.schema.proofs.is_blob.Reads as is-blob-reads
+use Rattle.schema.proofs.is_flat_kind.Reads as is-flat-kind-reads
+use Rattle.schema.proofs.is_union_kind.Reads as is-union-kind-reads
 use Rattle.schema.proofs.kind_at.Reads as kind-at-reads
 use Rattle.schema.proofs.member_count.Reads as member-count-reads
 use Rattle.schema.proofs.object_at.Reads as object-at-reads
 use Rattle.schema.proofs.record_place.Reads as record-place-reads
 use Rattle.schema.proofs.table_place.Reads as table-place-reads
 use Rattle.schema.proofs.union_case.Reads as union-case-reads
-use Rattle.message_step.proofs.place_of.Reads as place-of-reads
+use Rattle.sheet_lists.proofs.put_bools.Reads as put-bools-reads
+use Rattle.sheet_lists.proofs.put_numbers.Reads as put-numbers-reads
+use Rattle.sheet_values.proofs.number64.Reads as number64-reads
+use Rattle.sheet_values.proofs.put_marked.Reads as put-marked-reads
+use Rattle.sheet_walk.proofs.behind_coded.Reads as behind-coded-reads
+use Rattle.sheet_walk.proofs.code_at.Reads as code-at-reads
+use Rattle.sheet_walk.proofs.content_of.Reads as content-of-reads
+use Rattle.sheet_walk.proofs.lead_width.Reads as lead-width-reads
+use Rattle.sheet_walk.proofs.member_at.Reads as member-at-reads
+use Rattle.sheet_walk.proofs.put_blob_reference.Reads as put-blob-reference-reads
+use Rattle.sheet_walk.proofs.put_coded.Reads as put-coded-reads
+use Rattle.sheet_walk.proofs.put_flat_member.Reads as put-flat-member-reads
+use Rattle.sheet_walk.proofs.put_flats.Reads as put-flats-reads
 use Rattle.wire.proofs.index.Reads as index-reads
-use Rattle.wire.proofs.u16_in.Reads as u16-in-reads
 use Rattle.wire.proofs.offset_in.Reads as offset-in-reads
+use Rattle.wire.proofs.u16_in.Reads as u16-in-reads
 use Rattle.wire.proofs.union_size.Reads as union-size-reads
-use Rattle.sheet_walk.proofs.+put_choices+put_content+put_element+put_lead+put_list+put_object+put_reference+put_references+put_table+put_union.{
+use Rattle.sheet_walk.proofs.+put_choices+put_content+put_directs+put_element+put_lead+put_list+put_object+put_reference+put_references+put_table+put_union.{
   statement,
 }
-use Rattle.sheet_walk.proofs.+put_choices+put_content+put_element+put_lead+put_list+put_object+put_reference+put_references+put_table+put_union.Tie.{
+use Rattle.sheet_walk.proofs.+put_choices+put_content+put_directs+put_element+put_lead+put_list+put_object+put_reference+put_references+put_table+put_union.Tie.{
   close,
 }
 
@@ -104,6 +110,9 @@ abbrev μ-put-choices : Measures 4 put-choices-kinds.ps ℕ
 
 abbrev μ-put-content : Measures 4 put-content-kinds.ps ℕ
 μ-put-content κs a = 8 * a .1 .1 .1 .1 .0 + 6
+
+abbrev μ-put-directs : Measures 4 put-directs-kinds.ps ℕ
+μ-put-directs κs a = 8 * a .1 .1 .1 .1 .0 + 5
 
 abbrev μ-put-element : Measures 4 put-element-kinds.ps ℕ
 μ-put-element κs a = 8 * a .1 .1 .1 .1 .0 + 2
@@ -135,11 +144,7 @@ put-choices-at t =
 
 abbrev put-choices-below : ℕ → In 4 put-choices-kinds.ps
 put-choices-below t =
-    and
-    4
-    put-choices-kinds.ps
-    (falls 4 put-choices-kinds.ps _<_ μ-put-choices t)
-    put-choices.Pre
+    and 4 put-choices-kinds.ps (falls 4 put-choices-kinds.ps _<_ μ-put-choices t) put-choices.Pre
 
 abbrev put-content-at : ℕ → In 4 put-content-kinds.ps
 put-content-at t =
@@ -147,23 +152,33 @@ put-content-at t =
 
 abbrev put-content-below : ℕ → In 4 put-content-kinds.ps
 put-content-below t =
-    and
-    4
-    put-content-kinds.ps
-    (falls 4 put-content-kinds.ps _<_ μ-put-content t)
-    put-content.Pre
+    and 4 put-content-kinds.ps (falls 4 put-content-kinds.ps _<_ μ-put-content t) put-content.Pre
+
+abbrev put-directs-at : ℕ → In 4 put-directs-kinds.ps
+put-directs-at t =
+    and 4 put-directs-kinds.ps (is 4 put-directs-kinds.ps μ-put-directs t) put-directs.Pre
+
+abbrev put-directs-below : ℕ → In 4 put-directs-kinds.ps
+put-directs-below t =
+    and 4 put-directs-kinds.ps (falls 4 put-directs-kinds.ps _<_ μ-put-directs t) put-directs.Pre
+
+abbrev put-element-at : ℕ → In 4 put-element-kinds.ps
+put-element-at t =
+    and 4 put-element-kinds.ps (is 4 put-element-kinds.ps μ-put-element t) put-element.Pre
+
+abbrev put-element-below : ℕ → In 4 put-element-kinds.ps
+put-element-below t =
+    and 4 put-element-kinds.ps (falls 4 put-element-kinds.ps _<_ μ-put-element t) put-element.Pre
 
 abbrev put-lead-at : ℕ → In 4 put-lead-kinds.ps
-put-lead-at t =
-    and 4 put-lead-kinds.ps (is 4 put-lead-kinds.ps μ-put-lead t) put-lead.Pre
+put-lead-at t = and 4 put-lead-kinds.ps (is 4 put-lead-kinds.ps μ-put-lead t) put-lead.Pre
 
 abbrev put-lead-below : ℕ → In 4 put-lead-kinds.ps
 put-lead-below t =
     and 4 put-lead-kinds.ps (falls 4 put-lead-kinds.ps _<_ μ-put-lead t) put-lead.Pre
 
 abbrev put-list-at : ℕ → In 4 put-list-kinds.ps
-put-list-at t =
-    and 4 put-list-kinds.ps (is 4 put-list-kinds.ps μ-put-list t) put-list.Pre
+put-list-at t = and 4 put-list-kinds.ps (is 4 put-list-kinds.ps μ-put-list t) put-list.Pre
 
 abbrev put-list-below : ℕ → In 4 put-list-kinds.ps
 put-list-below t =
@@ -175,19 +190,11 @@ put-object-at t =
 
 abbrev put-object-below : ℕ → In 4 put-object-kinds.ps
 put-object-below t =
-    and
-    4
-    put-object-kinds.ps
-    (falls 4 put-object-kinds.ps _<_ μ-put-object t)
-    put-object.Pre
+    and 4 put-object-kinds.ps (falls 4 put-object-kinds.ps _<_ μ-put-object t) put-object.Pre
 
 abbrev put-reference-at : ℕ → In 4 put-reference-kinds.ps
 put-reference-at t =
-    and
-    4
-    put-reference-kinds.ps
-    (is 4 put-reference-kinds.ps μ-put-reference t)
-    put-reference.Pre
+    and 4 put-reference-kinds.ps (is 4 put-reference-kinds.ps μ-put-reference t) put-reference.Pre
 
 abbrev put-reference-below : ℕ → In 4 put-reference-kinds.ps
 put-reference-below t =
@@ -196,22 +203,6 @@ put-reference-below t =
     put-reference-kinds.ps
     (falls 4 put-reference-kinds.ps _<_ μ-put-reference t)
     put-reference.Pre
-
-abbrev put-element-at : ℕ → In 4 put-element-kinds.ps
-put-element-at t =
-    and
-    4
-    put-element-kinds.ps
-    (is 4 put-element-kinds.ps μ-put-element t)
-    put-element.Pre
-
-abbrev put-element-below : ℕ → In 4 put-element-kinds.ps
-put-element-below t =
-    and
-    4
-    put-element-kinds.ps
-    (falls 4 put-element-kinds.ps _<_ μ-put-element t)
-    put-element.Pre
 
 abbrev put-references-at : ℕ → In 4 put-references-kinds.ps
 put-references-at t =
@@ -230,16 +221,14 @@ put-references-below t =
     put-references.Pre
 
 abbrev put-table-at : ℕ → In 4 put-table-kinds.ps
-put-table-at t =
-    and 4 put-table-kinds.ps (is 4 put-table-kinds.ps μ-put-table t) put-table.Pre
+put-table-at t = and 4 put-table-kinds.ps (is 4 put-table-kinds.ps μ-put-table t) put-table.Pre
 
 abbrev put-table-below : ℕ → In 4 put-table-kinds.ps
 put-table-below t =
     and 4 put-table-kinds.ps (falls 4 put-table-kinds.ps _<_ μ-put-table t) put-table.Pre
 
 abbrev put-union-at : ℕ → In 4 put-union-kinds.ps
-put-union-at t =
-    and 4 put-union-kinds.ps (is 4 put-union-kinds.ps μ-put-union t) put-union.Pre
+put-union-at t = and 4 put-union-kinds.ps (is 4 put-union-kinds.ps μ-put-union t) put-union.Pre
 
 abbrev put-union-below : ℕ → In 4 put-union-kinds.ps
 put-union-below t =
@@ -249,7 +238,13 @@ abbrev put-choices-R : ℕ → put-choices-lts.Claims
 put-choices-R t = (union-size-reads.Asked, union-size-reads.Learnt, u16-in-reads.Asked, u16-in-reads.Learnt, offset-in-reads.Asked, offset-in-reads.Learnt, put-union-below t, put-union.Post)
 
 abbrev put-content-R : ℕ → put-content-lts.Claims
-put-content-R t = (write-blob-reads.Asked, write-blob-reads.Learnt, index-reads.Asked, index-reads.Learnt, put-list-below t, put-list.Post, put-table-below t, put-table.Post)
+put-content-R t = (write-blob-reads.Asked, write-blob-reads.Learnt, index-reads.Asked, index-reads.Learnt, put-list-below t, put-list.Post, put-table-below t, put-table.Post, element-size-reads.Asked, element-size-reads.Learnt, put-directs-below t, put-directs.Post)
+
+abbrev put-directs-R : ℕ → put-directs-lts.Claims
+put-directs-R t = (number64-reads.Asked, number64-reads.Learnt, write-reads.Asked, write-reads.Learnt, put-table-below t, put-table.Post)
+
+abbrev put-element-R : ℕ → put-element-lts.Claims
+put-element-R t = (write-reads.Asked, write-reads.Learnt, put-object-below t, put-object.Post)
 
 abbrev put-lead-R : ℕ → put-lead-lts.Claims
 put-lead-R t = (kind-at-reads.Asked, kind-at-reads.Learnt, lead-width-reads.Asked, lead-width-reads.Learnt, write-reads.Asked, write-reads.Learnt, inplace-at-reads.Asked, inplace-at-reads.Learnt, is-union-kind-reads.Asked, is-union-kind-reads.Learnt, argument-at-reads.Asked, argument-at-reads.Learnt, index-reads.Asked, index-reads.Learnt, u16-in-reads.Asked, u16-in-reads.Learnt, offset-in-reads.Asked, offset-in-reads.Learnt, put-union-below t, put-union.Post, object-at-reads.Asked, object-at-reads.Learnt, is-blob-reads.Asked, is-blob-reads.Learnt, put-blob-reference-reads.Asked, put-blob-reference-reads.Learnt, put-reference-below t, put-reference.Post)
@@ -258,10 +253,7 @@ abbrev put-list-R : ℕ → put-list-lts.Claims
 put-list-R t = (element-reads.Asked, element-reads.Learnt, integer-width-reads.Asked, integer-width-reads.Learnt, write-blob-reads.Asked, write-blob-reads.Learnt, number64-reads.Asked, number64-reads.Learnt, write-reads.Asked, write-reads.Learnt, is-bool-reads.Asked, is-bool-reads.Learnt, put-bools-reads.Asked, put-bools-reads.Learnt, put-numbers-reads.Asked, put-numbers-reads.Learnt, put-flats-reads.Asked, put-flats-reads.Learnt, put-references-below t, put-references.Post, index-reads.Asked, index-reads.Learnt, put-choices-below t, put-choices.Post)
 
 abbrev put-object-R : ℕ → put-object-lts.Claims
-put-object-R t = (content-of-reads.Asked, content-of-reads.Learnt, put-content-below t, put-content.Post)
-
-abbrev put-element-R : ℕ → put-element-lts.Claims
-put-element-R t = (write-reads.Asked, write-reads.Learnt, put-object-below t, put-object.Post)
+put-object-R t = (placed-reads.Asked, placed-reads.Learnt, content-of-reads.Asked, content-of-reads.Learnt, put-content-below t, put-content.Post)
 
 abbrev put-reference-R : ℕ → put-reference-lts.Claims
 put-reference-R t = (write-reads.Asked, write-reads.Learnt, place-of-reads.Asked, place-of-reads.Learnt, put-object-below t, put-object.Post)
@@ -379,6 +371,18 @@ put-content-put-table-requires t c κs =
     let q = c .before .before .before .before .before .before .before .before .before .pre .1 in
     (omega (arith, c .before .before .before .before .before .before .before .before .before .pre .0), (q .0, ((q .1 .0 .0, q .1 .0 .1, q .1 .0 .2, search (table-counted, q .1 .1, c .before .before .before .ob2 .given .1, c .index2 .ensures .0), search (table-inside, q .1 .1, c .before .before .before .ob2 .given .1, c .index2 .ensures .0)), search (table-readable, q .1 .1, c .before .before .before .ob2 .given .1, c .index2 .ensures .0))))
 
+put-content-enum-known-ob-3 : (t : ℕ) → put-content-lts.Need-enum-known-ob-3 (put-content-R t) (put-content-at t) put-content.Post
+put-content-enum-known-ob-3 t c = search needs
+
+put-content-element-size-requires : (t : ℕ) → put-content-lts.Need-element-size-requires (put-content-R t) (put-content-at t) put-content.Post
+put-content-element-size-requires t c κs = search needs
+
+put-content-index-requires-3 : (t : ℕ) → put-content-lts.Need-index-requires-3 (put-content-R t) (put-content-at t) put-content.Post
+put-content-index-requires-3 t c κs = search needs
+
+put-content-put-directs-requires : (t : ℕ) → put-content-lts.Need-put-directs-requires (put-content-R t) (put-content-at t) put-content.Post
+put-content-put-directs-requires t c κs = (search needs, (search needs, ((search needs, search needs, search needs, search direct-counted, search direct-inside), search direct-readable)))
+
 put-content-same-length : (t : ℕ) → put-content-lts.Need-same-length (put-content-R t) (put-content-at t) put-content.Post
 put-content-same-length t c = search needs
 
@@ -403,6 +407,101 @@ put-content-same-length-4 t c = search needs
 put-content-returns-4 : (t : ℕ) → put-content-lts.Need-returns-4 (put-content-R t) (put-content-at t) put-content.Post
 put-content-returns-4 t c = search content-table
 
+put-content-same-length-5 : (t : ℕ) → put-content-lts.Need-same-length-5 (put-content-R t) (put-content-at t) put-content.Post
+put-content-same-length-5 t c = search needs
+
+put-content-returns-5 : (t : ℕ) → put-content-lts.Need-returns-5 (put-content-R t) (put-content-at t) put-content.Post
+put-content-returns-5 t c = search content-direct
+
+abbrev put-directs-Inv-loop : put-directs-lts.InvT-loop
+put-directs-Inv-loop b dir m out₀ d t w pos o n p₀ start j₀ out p at j =
+    Room out p × (j ≤ n) × (length out ≡ length out₀) × (at ≡ start + w * j)
+    × D.DirectsReadable (D.ObjectReadable o d (P.parse b) m) t w (n - j) at
+    × Remaining out₀ p₀ (A.directsAt o d (P.parse b) m t w n start) out p (A.directsAt o d (P.parse b) m t w (n - j) at)
+
+abbrev put-directs-μ-loop : put-directs-lts.MeasureT-loop
+put-directs-μ-loop b dir m out₀ d t w pos o n p₀ start j₀ out p at j = n - j
+
+put-directs-number64-requires : (t : ℕ) → put-directs-lts.Need-number64-requires (put-directs-R t) (put-directs-at t) put-directs.Post put-directs-Inv-loop put-directs-μ-loop
+put-directs-number64-requires t c κs = search needs
+
+put-directs-write-requires : (t : ℕ) → put-directs-lts.Need-write-requires (put-directs-R t) (put-directs-at t) put-directs.Post put-directs-Inv-loop put-directs-μ-loop
+put-directs-write-requires t c κs = search needs
+
+put-directs-loop-holds : (t : ℕ) → put-directs-lts.Need-loop-holds (put-directs-R t) (put-directs-at t) put-directs.Post put-directs-Inv-loop put-directs-μ-loop
+put-directs-loop-holds t c = (search room-next, omega arith, refl, omega arith, search directs-readable, search directs-start)
+
+put-directs-same-length : (t : ℕ) → put-directs-lts.Need-same-length (put-directs-R t) (put-directs-at t) put-directs.Post put-directs-Inv-loop put-directs-μ-loop
+put-directs-same-length t c = search needs
+
+put-directs-returns : (t : ℕ) → put-directs-lts.Need-returns (put-directs-R t) (put-directs-at t) put-directs.Post put-directs-Inv-loop put-directs-μ-loop
+put-directs-returns t c = search directs-over
+
+put-directs-sub-put-table : (t : ℕ) → put-directs-lts.Need-sub-put-table (put-directs-R t) (put-directs-at t) put-directs.Post put-directs-Inv-loop put-directs-μ-loop
+put-directs-sub-put-table t c = let f = direct-some _ _ _ _ _ _ _ _ _ (c .before .before .loop-test .taken) (c .before .before .before .loop .inv .4) in omega (arith, f)
+
+put-directs-put-table-requires : (t : ℕ) → put-directs-lts.Need-put-table-requires (put-directs-R t) (put-directs-at t) put-directs.Post put-directs-Inv-loop put-directs-μ-loop
+put-directs-put-table-requires t c κs =
+    let q = c .before .before .before .before .before .before .before .before .before .before .before .before .before .pre .1 in
+    let inv = c .before .before .before .loop .inv in
+    let less = c .before .before .loop-test .taken in
+    let f = direct-some _ _ _ _ _ _ _ _ _ less (inv .4) in
+    (omega (arith, c .before .before .before .before .before .before .before .before .before .before .before .before .before .pre .0, f), (inv .0, ((q .1 .0 .0, q .1 .0 .1, q .1 .0 .2, q .1 .0 .3, run-inside _ _ _ _ _ less (inv .3) _ (q .1 .0 .4)), direct-members _ _ _ _ _ _ _ _ _ less (inv .4))))
+
+put-directs-add-at : (t : ℕ) → put-directs-lts.Need-add-at (put-directs-R t) (put-directs-at t) put-directs.Post put-directs-Inv-loop put-directs-μ-loop
+put-directs-add-at t c =
+    let q = c .before .before .before .before .before .before .before .before .before .before .before .before .before .before .before .before .pre .1 .1 .0 in
+    omega (arith, run-inside _ _ _ _ _ (c .before .before .before .before .before .loop-test .taken) (c .before .before .before .before .before .before .loop .inv .3) _ (q .4), q .2)
+
+put-directs-add-j : (t : ℕ) → put-directs-lts.Need-add-j (put-directs-R t) (put-directs-at t) put-directs.Post put-directs-Inv-loop put-directs-μ-loop
+put-directs-add-j t c = search needs
+
+put-directs-loop-less : (t : ℕ) → put-directs-lts.Need-loop-less (put-directs-R t) (put-directs-at t) put-directs.Post put-directs-Inv-loop put-directs-μ-loop
+put-directs-loop-less t c = search needs
+
+put-directs-loop-again : (t : ℕ) → put-directs-lts.Need-loop-again (put-directs-R t) (put-directs-at t) put-directs.Post put-directs-Inv-loop put-directs-μ-loop
+put-directs-loop-again t c =
+    let inv = c .before .before .before .before .before .before .loop .inv in
+    let less = c .before .before .before .before .before .loop-test .taken in
+    let put = c .before .before .put-table .ensures in (
+      search (room-next, inv .0, put),
+      omega (arith, less),
+      omega (arith, put .len, inv .2),
+      run-next _ _ _ _ _ less (inv .3),
+      search (direct-rest, less, inv .4),
+      search (direct-turn, less, inv .4, inv .5, inv .0, put),
+    )
+
+put-directs-same-length-2 : (t : ℕ) → put-directs-lts.Need-same-length-2 (put-directs-R t) (put-directs-at t) put-directs.Post put-directs-Inv-loop put-directs-μ-loop
+put-directs-same-length-2 t c = search needs
+
+put-directs-returns-2 : (t : ℕ) → put-directs-lts.Need-returns-2 (put-directs-R t) (put-directs-at t) put-directs.Post put-directs-Inv-loop put-directs-μ-loop
+put-directs-returns-2 t c = search directs-done
+
+put-element-write-requires : (t : ℕ) → put-element-lts.Need-write-requires (put-element-R t) (put-element-at t) put-element.Post
+put-element-write-requires t c κs = search needs
+
+put-element-same-length : (t : ℕ) → put-element-lts.Need-same-length (put-element-R t) (put-element-at t) put-element.Post
+put-element-same-length t c = search needs
+
+put-element-returns : (t : ℕ) → put-element-lts.Need-returns (put-element-R t) (put-element-at t) put-element.Post
+put-element-returns t c = search reference-none
+
+put-element-write-requires-2 : (t : ℕ) → put-element-lts.Need-write-requires-2 (put-element-R t) (put-element-at t) put-element.Post
+put-element-write-requires-2 t c κs = search needs
+
+put-element-put-object-requires : (t : ℕ) → put-element-lts.Need-put-object-requires (put-element-R t) (put-element-at t) put-element.Post
+put-element-put-object-requires t c κs =
+    let q = c .before .before .before .before .before .before .before .before .before .before .pre .1 in
+    let fall = c .before .before .before .before .before .before .before .before .before .before .pre .0 in
+    (omega (arith, fall), (search (room-next, q .0, c .before .before .before .write2 .ensures), ((q .1 .0 .0, q .1 .0 .1, q .1 .0 .2), search (element-readable, q .1 .1, c .before .before .before .before .before .if1 .left))))
+
+put-element-same-length-2 : (t : ℕ) → put-element-lts.Need-same-length-2 (put-element-R t) (put-element-at t) put-element.Post
+put-element-same-length-2 t c = search needs
+
+put-element-returns-2 : (t : ℕ) → put-element-lts.Need-returns-2 (put-element-R t) (put-element-at t) put-element.Post
+put-element-returns-2 t c = search element-there
+
 put-lead-add-tail : (t : ℕ) → put-lead-lts.Need-add-tail (put-lead-R t) (put-lead-at t) put-lead.Post
 put-lead-add-tail t c = search needs
 
@@ -413,7 +512,7 @@ put-lead-lead-width-requires : (t : ℕ) → put-lead-lts.Need-lead-width-requir
 put-lead-lead-width-requires t c κs = search needs
 
 put-lead-add-if1 : (t : ℕ) → put-lead-lts.Need-add-if1 (put-lead-R t) (put-lead-at t) put-lead.Post
-put-lead-add-if1 t c = omega (arith, c .before .before .before .before .before .before .before .pre .1 .1 .1 .0 .3, c .lead-width .ensures .2)
+put-lead-add-if1 t c = omega (arith, c .before .before .before .before .before .before .before .pre .1 .1 .1 .0 .2, c .lead-width .ensures .2)
 
 put-lead-write-requires : (t : ℕ) → put-lead-lts.Need-write-requires (put-lead-R t) (put-lead-at t) put-lead.Post
 put-lead-write-requires t c κs = search needs
@@ -463,7 +562,7 @@ put-lead-put-union-requires t c κs =
         q .0,
         (
           (q .1 .0 .0, q .1 .0 .1, q .1 .0 .2, search (lead-counted, kind, told, chosen, q .1 .0 .4, argument, index)),
-          search (chosen-given, kind, q .1 .1 .0 .1, q .1 .1 .0 .2, c .before .before .before .before .before .before .before .before .before .before .before .lead-width .ensures .0, c .before .before .before .before .before .before .before .before .before .if1 .left, c .before .before .before .before .before .before .before .before .before .before .before .lead-width .ensures .1, c .before .before .before .before .before .before .before .before .inplace-at .ensures, told, chosen, argument, index, c .before .before .u16-in .ensures, c .before .offset-in .ensures .0, q .1 .1 .1),
+          search (chosen-given, kind, q .1 .1 .0 .1, c .before .before .before .before .before .before .before .before .before .before .before .lead-width .ensures .0, c .before .before .before .before .before .before .before .before .before .if1 .left, c .before .before .before .before .before .before .before .before .before .before .before .lead-width .ensures .1, c .before .before .before .before .before .before .before .before .inplace-at .ensures, told, chosen, argument, index, c .before .before .u16-in .ensures, c .before .offset-in .ensures .0, q .1 .1 .1),
         ),
       ),
     )
@@ -474,7 +573,7 @@ put-lead-same-length-2 t c = search needs
 put-lead-returns-2 : (t : ℕ) → put-lead-lts.Need-returns-2 (put-lead-R t) (put-lead-at t) put-lead.Post
 put-lead-returns-2 t c =
     let q = c .before .before .before .before .before .before .before .before .before .before .before .before .before .before .before .before .before .before .before .before .before .pre .1 .1 .1 in
-    search (lead-chosen, c .before .before .before .before .before .before .before .before .before .before .before .before .before .before .before .kind-at .ensures .0, q .0 .1, q .0 .2, c .before .before .before .before .before .before .before .before .before .before .before .before .before .before .lead-width .ensures .0, c .before .before .before .before .before .before .before .before .before .before .before .before .if1 .left, c .before .before .before .before .before .before .before .before .before .before .before .before .before .before .lead-width .ensures .1, c .before .before .before .before .before .before .before .before .before .before .before .inplace-at .ensures, c .before .before .before .before .before .before .before .before .before .is-union-kind .ensures, c .before .before .before .before .before .before .before .before .if2 .taken, c .before .before .before .before .before .before .before .argument-at .ensures, c .before .before .before .before .before .before .index .ensures .0, c .before .before .before .before .before .u16-in .ensures, c .before .before .before .before .offset-in .ensures .0, c .before .before .put-union .ensures)
+    search (lead-chosen, c .before .before .before .before .before .before .before .before .before .before .before .before .before .before .before .kind-at .ensures .0, q .0 .1, c .before .before .before .before .before .before .before .before .before .before .before .before .before .before .lead-width .ensures .0, c .before .before .before .before .before .before .before .before .before .before .before .before .if1 .left, c .before .before .before .before .before .before .before .before .before .before .before .before .before .before .lead-width .ensures .1, c .before .before .before .before .before .before .before .before .before .before .before .inplace-at .ensures, c .before .before .before .before .before .before .before .before .before .is-union-kind .ensures, c .before .before .before .before .before .before .before .before .if2 .taken, c .before .before .before .before .before .before .before .argument-at .ensures, c .before .before .before .before .before .before .index .ensures .0, c .before .before .before .before .before .u16-in .ensures, c .before .before .before .before .offset-in .ensures .0, c .before .before .put-union .ensures)
 
 put-lead-offset-in-requires-2 : (t : ℕ) → put-lead-lts.Need-offset-in-requires-2 (put-lead-R t) (put-lead-at t) put-lead.Post
 put-lead-offset-in-requires-2 t c κs =
@@ -490,7 +589,7 @@ put-lead-is-blob-requires t c κs = search needs
 put-lead-put-blob-reference-requires : (t : ℕ) → put-lead-lts.Need-put-blob-reference-requires (put-lead-R t) (put-lead-at t) put-lead.Post
 put-lead-put-blob-reference-requires t c κs =
     let q = c .before .before .before .before .before .before .before .before .before .before .before .before .before .before .before .before .before .before .pre .1 in
-    (q .0, ((q .1 .0 .1, q .1 .0 .2), blob-inside _ _ _ _ _ _ _ _ (referred-given _ _ _ _ (c .before .before .before .before .before .before .before .before .before .before .before .before .kind-at .ensures .0) (q .1 .1 .0 .1) (q .1 .1 .0 .2) _ (c .before .before .before .before .before .before .before .before .before .before .before .lead-width .ensures .0) _ _ _ _ _ (c .before .before .before .before .before .before .before .before .before .if1 .left) (c .before .before .before .before .before .before .before .before .before .before .before .lead-width .ensures .1) _ (c .before .before .before .before .before .before .before .before .inplace-at .ensures) _ (c .before .before .before .before .before .before .is-union-kind .ensures) (c .before .before .before .before .before .if2 .left) _ (c .before .before .before .object-at .ensures) _ (c .before .before .before .before .offset-in2 .ensures .0) (q .1 .1 .1)) (sym (c .before .before .is-blob .ensures) ∙ c .before .if3 .taken)))
+    (q .0, ((q .1 .0 .1, q .1 .0 .2), blob-inside _ _ _ _ _ _ _ _ (referred-given _ _ _ _ (c .before .before .before .before .before .before .before .before .before .before .before .before .kind-at .ensures .0) (q .1 .1 .0 .1) _ (c .before .before .before .before .before .before .before .before .before .before .before .lead-width .ensures .0) _ _ _ _ _ (c .before .before .before .before .before .before .before .before .before .if1 .left) (c .before .before .before .before .before .before .before .before .before .before .before .lead-width .ensures .1) _ (c .before .before .before .before .before .before .before .before .inplace-at .ensures) _ (c .before .before .before .before .before .before .is-union-kind .ensures) (c .before .before .before .before .before .if2 .left) _ (c .before .before .before .object-at .ensures) _ (c .before .before .before .before .offset-in2 .ensures .0) (q .1 .1 .1)) (sym (c .before .before .is-blob .ensures) ∙ c .before .if3 .taken)))
 
 put-lead-same-length-3 : (t : ℕ) → put-lead-lts.Need-same-length-3 (put-lead-R t) (put-lead-at t) put-lead.Post
 put-lead-same-length-3 t c = search needs
@@ -498,13 +597,13 @@ put-lead-same-length-3 t c = search needs
 put-lead-returns-3 : (t : ℕ) → put-lead-lts.Need-returns-3 (put-lead-R t) (put-lead-at t) put-lead.Post
 put-lead-returns-3 t c =
     let q = c .before .before .before .before .before .before .before .before .before .before .before .before .before .before .before .before .before .before .before .before .before .pre .1 in
-    lead-referred _ _ _ _ (c .before .before .before .before .before .before .before .before .before .before .before .before .before .before .before .kind-at .ensures .0) (q .1 .1 .0 .1) (q .1 .1 .0 .2) _ (c .before .before .before .before .before .before .before .before .before .before .before .before .before .before .lead-width .ensures .0) _ _ _ _ _ (c .before .before .before .before .before .before .before .before .before .before .before .before .if1 .left) (c .before .before .before .before .before .before .before .before .before .before .before .before .before .before .lead-width .ensures .1) _ (c .before .before .before .before .before .before .before .before .before .before .before .inplace-at .ensures) _ (c .before .before .before .before .before .before .before .before .before .is-union-kind .ensures) (c .before .before .before .before .before .before .before .before .if2 .left) _ (c .before .before .before .before .before .before .object-at .ensures) _ (c .before .before .before .before .before .before .before .offset-in2 .ensures .0) _ _ _ _
-    (blob-referred _ _ _ _ _ _ _ _ (referred-given _ _ _ _ (c .before .before .before .before .before .before .before .before .before .before .before .before .before .before .before .kind-at .ensures .0) (q .1 .1 .0 .1) (q .1 .1 .0 .2) _ (c .before .before .before .before .before .before .before .before .before .before .before .before .before .before .lead-width .ensures .0) _ _ _ _ _ (c .before .before .before .before .before .before .before .before .before .before .before .before .if1 .left) (c .before .before .before .before .before .before .before .before .before .before .before .before .before .before .lead-width .ensures .1) _ (c .before .before .before .before .before .before .before .before .before .before .before .inplace-at .ensures) _ (c .before .before .before .before .before .before .before .before .before .is-union-kind .ensures) (c .before .before .before .before .before .before .before .before .if2 .left) _ (c .before .before .before .before .before .before .object-at .ensures) _ (c .before .before .before .before .before .before .before .offset-in2 .ensures .0) (q .1 .1 .1)) (sym (c .before .before .before .before .before .is-blob .ensures) ∙ c .before .before .before .before .if3 .taken) _ _ _ _ (c .before .before .put-blob-reference .ensures))
+    lead-referred _ _ _ _ (c .before .before .before .before .before .before .before .before .before .before .before .before .before .before .before .kind-at .ensures .0) (q .1 .1 .0 .1) _ (c .before .before .before .before .before .before .before .before .before .before .before .before .before .before .lead-width .ensures .0) _ _ _ _ _ (c .before .before .before .before .before .before .before .before .before .before .before .before .if1 .left) (c .before .before .before .before .before .before .before .before .before .before .before .before .before .before .lead-width .ensures .1) _ (c .before .before .before .before .before .before .before .before .before .before .before .inplace-at .ensures) _ (c .before .before .before .before .before .before .before .before .before .is-union-kind .ensures) (c .before .before .before .before .before .before .before .before .if2 .left) _ (c .before .before .before .before .before .before .object-at .ensures) _ (c .before .before .before .before .before .before .before .offset-in2 .ensures .0) _ _ _ _
+    (blob-referred _ _ _ _ _ _ _ _ (referred-given _ _ _ _ (c .before .before .before .before .before .before .before .before .before .before .before .before .before .before .before .kind-at .ensures .0) (q .1 .1 .0 .1) _ (c .before .before .before .before .before .before .before .before .before .before .before .before .before .before .lead-width .ensures .0) _ _ _ _ _ (c .before .before .before .before .before .before .before .before .before .before .before .before .if1 .left) (c .before .before .before .before .before .before .before .before .before .before .before .before .before .before .lead-width .ensures .1) _ (c .before .before .before .before .before .before .before .before .before .before .before .inplace-at .ensures) _ (c .before .before .before .before .before .before .before .before .before .is-union-kind .ensures) (c .before .before .before .before .before .before .before .before .if2 .left) _ (c .before .before .before .before .before .before .object-at .ensures) _ (c .before .before .before .before .before .before .before .offset-in2 .ensures .0) (q .1 .1 .1)) (sym (c .before .before .before .before .before .is-blob .ensures) ∙ c .before .before .before .before .if3 .taken) _ _ _ _ (c .before .before .put-blob-reference .ensures))
 
 put-lead-put-reference-requires : (t : ℕ) → put-lead-lts.Need-put-reference-requires (put-lead-R t) (put-lead-at t) put-lead.Post
 put-lead-put-reference-requires t c κs =
     let q = c .before .before .before .before .before .before .before .before .before .before .before .before .before .before .before .before .before .before .pre .1 in
-    (omega (arith, c .before .before .before .before .before .before .before .before .before .before .before .before .before .before .before .before .before .before .pre .0), (q .0, ((q .1 .0 .0, q .1 .0 .1, q .1 .0 .2), referred-given _ _ _ _ (c .before .before .before .before .before .before .before .before .before .before .before .before .kind-at .ensures .0) (q .1 .1 .0 .1) (q .1 .1 .0 .2) _ (c .before .before .before .before .before .before .before .before .before .before .before .lead-width .ensures .0) _ _ _ _ _ (c .before .before .before .before .before .before .before .before .before .if1 .left) (c .before .before .before .before .before .before .before .before .before .before .before .lead-width .ensures .1) _ (c .before .before .before .before .before .before .before .before .inplace-at .ensures) _ (c .before .before .before .before .before .before .is-union-kind .ensures) (c .before .before .before .before .before .if2 .left) _ (c .before .before .before .object-at .ensures) _ (c .before .before .before .before .offset-in2 .ensures .0) (q .1 .1 .1))))
+    (omega (arith, c .before .before .before .before .before .before .before .before .before .before .before .before .before .before .before .before .before .before .pre .0), (q .0, ((q .1 .0 .0, q .1 .0 .1, q .1 .0 .2), referred-given _ _ _ _ (c .before .before .before .before .before .before .before .before .before .before .before .before .kind-at .ensures .0) (q .1 .1 .0 .1) _ (c .before .before .before .before .before .before .before .before .before .before .before .lead-width .ensures .0) _ _ _ _ _ (c .before .before .before .before .before .before .before .before .before .if1 .left) (c .before .before .before .before .before .before .before .before .before .before .before .lead-width .ensures .1) _ (c .before .before .before .before .before .before .before .before .inplace-at .ensures) _ (c .before .before .before .before .before .before .is-union-kind .ensures) (c .before .before .before .before .before .if2 .left) _ (c .before .before .before .object-at .ensures) _ (c .before .before .before .before .offset-in2 .ensures .0) (q .1 .1 .1))))
 
 put-lead-same-length-4 : (t : ℕ) → put-lead-lts.Need-same-length-4 (put-lead-R t) (put-lead-at t) put-lead.Post
 put-lead-same-length-4 t c = search needs
@@ -512,7 +611,7 @@ put-lead-same-length-4 t c = search needs
 put-lead-returns-4 : (t : ℕ) → put-lead-lts.Need-returns-4 (put-lead-R t) (put-lead-at t) put-lead.Post
 put-lead-returns-4 t c =
     let q = c .before .before .before .before .before .before .before .before .before .before .before .before .before .before .before .before .before .before .before .before .before .pre .1 in
-    lead-referred _ _ _ _ (c .before .before .before .before .before .before .before .before .before .before .before .before .before .before .before .kind-at .ensures .0) (q .1 .1 .0 .1) (q .1 .1 .0 .2) _ (c .before .before .before .before .before .before .before .before .before .before .before .before .before .before .lead-width .ensures .0) _ _ _ _ _ (c .before .before .before .before .before .before .before .before .before .before .before .before .if1 .left) (c .before .before .before .before .before .before .before .before .before .before .before .before .before .before .lead-width .ensures .1) _ (c .before .before .before .before .before .before .before .before .before .before .before .inplace-at .ensures) _ (c .before .before .before .before .before .before .before .before .before .is-union-kind .ensures) (c .before .before .before .before .before .before .before .before .if2 .left) _ (c .before .before .before .before .before .before .object-at .ensures) _ (c .before .before .before .before .before .before .before .offset-in2 .ensures .0) _ _ _ _ (c .before .before .put-reference .ensures)
+    lead-referred _ _ _ _ (c .before .before .before .before .before .before .before .before .before .before .before .before .before .before .before .kind-at .ensures .0) (q .1 .1 .0 .1) _ (c .before .before .before .before .before .before .before .before .before .before .before .before .before .before .lead-width .ensures .0) _ _ _ _ _ (c .before .before .before .before .before .before .before .before .before .before .before .before .if1 .left) (c .before .before .before .before .before .before .before .before .before .before .before .before .before .before .lead-width .ensures .1) _ (c .before .before .before .before .before .before .before .before .before .before .before .inplace-at .ensures) _ (c .before .before .before .before .before .before .before .before .before .is-union-kind .ensures) (c .before .before .before .before .before .before .before .before .if2 .left) _ (c .before .before .before .before .before .before .object-at .ensures) _ (c .before .before .before .before .before .before .before .offset-in2 .ensures .0) _ _ _ _ (c .before .before .put-reference .ensures)
 
 put-list-element-requires : (t : ℕ) → put-list-lts.Need-element-requires (put-list-R t) (put-list-at t) put-list.Post
 put-list-element-requires t c κs = search needs
@@ -624,46 +723,35 @@ put-list-returns-6 t c = search list-choices
 put-object-returns : (t : ℕ) → put-object-lts.Need-returns (put-object-R t) (put-object-at t) put-object.Post
 put-object-returns t c = search object-none
 
-put-object-sub-put-content : (t : ℕ) → put-object-lts.Need-sub-put-content (put-object-R t) (put-object-at t) put-object.Post
-put-object-sub-put-content t c = search needs
+put-object-placed-requires : (t : ℕ) → put-object-lts.Need-placed-requires (put-object-R t) (put-object-at t) put-object.Post
+put-object-placed-requires t c κs = search needs
 
 put-object-content-of-requires : (t : ℕ) → put-object-lts.Need-content-of-requires (put-object-R t) (put-object-at t) put-object.Post
 put-object-content-of-requires t c κs = (search needs, search header-there, search needs)
 
+put-object-sub-put-content : (t : ℕ) → put-object-lts.Need-sub-put-content (put-object-R t) (put-object-at t) put-object.Post
+put-object-sub-put-content t c = search needs
+
 put-object-put-content-requires : (t : ℕ) → put-object-lts.Need-put-content-requires (put-object-R t) (put-object-at t) put-object.Post
 put-object-put-content-requires t c κs =
-    let q = c .before .before .before .before .before .before .before .pre .1 in
-    (omega (arith, c .before .before .before .before .before .before .before .pre .0, c .before .before .if1 .left), (q .0, ((q .1 .0 .0, q .1 .0 .1, q .1 .0 .2), search (content-readable, q .1 .1, c .before .before .if1 .left, c .content-of .ensures .0, c .content-of .ensures .1))))
+    let q = c .before .before .before .before .before .before .before .before .pre .1 in
+    let some = c .before .before .before .if1 .left in
+    let place = c .before .before .placed .ensures in (
+      omega (arith, c .before .before .before .before .before .before .before .before .pre .0, some),
+      (
+        q .0,
+        (
+          (q .1 .0 .0, q .1 .0 .1, q .1 .0 .2, search (placed-low, q .1 .1, some, q .1 .0 .2, place)),
+          search (content-readable, q .1 .1, some, place, c .before .content-of .ensures .0, c .before .content-of .ensures .1),
+        ),
+      ),
+    )
 
 put-object-same-length : (t : ℕ) → put-object-lts.Need-same-length (put-object-R t) (put-object-at t) put-object.Post
 put-object-same-length t c = search needs
 
 put-object-returns-2 : (t : ℕ) → put-object-lts.Need-returns-2 (put-object-R t) (put-object-at t) put-object.Post
 put-object-returns-2 t c = search object-content
-
-put-element-write-requires : (t : ℕ) → put-element-lts.Need-write-requires (put-element-R t) (put-element-at t) put-element.Post
-put-element-write-requires t c κs = search needs
-
-put-element-same-length : (t : ℕ) → put-element-lts.Need-same-length (put-element-R t) (put-element-at t) put-element.Post
-put-element-same-length t c = search needs
-
-put-element-returns : (t : ℕ) → put-element-lts.Need-returns (put-element-R t) (put-element-at t) put-element.Post
-put-element-returns t c = search reference-none
-
-put-element-write-requires-2 : (t : ℕ) → put-element-lts.Need-write-requires-2 (put-element-R t) (put-element-at t) put-element.Post
-put-element-write-requires-2 t c κs = search needs
-
-put-element-put-object-requires : (t : ℕ) → put-element-lts.Need-put-object-requires (put-element-R t) (put-element-at t) put-element.Post
-put-element-put-object-requires t c κs =
-    let q = c .before .before .before .before .before .before .before .before .before .before .pre .1 in
-    let fall = c .before .before .before .before .before .before .before .before .before .before .pre .0 in
-    (omega (arith, fall), (search (room-next, q .0, c .before .before .before .write2 .ensures), ((q .1 .0 .0, q .1 .0 .1, q .1 .0 .2), search (element-readable, q .1 .1, c .before .before .before .before .before .if1 .left))))
-
-put-element-same-length-2 : (t : ℕ) → put-element-lts.Need-same-length-2 (put-element-R t) (put-element-at t) put-element.Post
-put-element-same-length-2 t c = search needs
-
-put-element-returns-2 : (t : ℕ) → put-element-lts.Need-returns-2 (put-element-R t) (put-element-at t) put-element.Post
-put-element-returns-2 t c = search element-there
 
 put-reference-write-requires : (t : ℕ) → put-reference-lts.Need-write-requires (put-reference-R t) (put-reference-at t) put-reference.Post
 put-reference-write-requires t c κs = search needs
@@ -835,14 +923,13 @@ put-table-put-lead-requires t c κs =
     let block = c .before .before .before .before .before .before .before .before .before .before .before .table-place .ensures in
     let place = c .before .before .before .before .before .before .record-place .ensures in
     let is = coded-member _ _ _ (q .1 .0 .3) _ (count .0) less _ block _ (place .0) in
-    let above = lead-above _ _ _ (c .before .before .before .kind-at .ensures .0) _ (c .before .before .is-flat-kind .ensures) (c .before .if3 .taken) in
-    let known = lead-known _ _ (q .1 .0 .0) _ _ (q .1 .0 .3) _ (count .0) less _ block _ (place .0) in (
+    let above = lead-above _ _ _ (c .before .before .before .kind-at .ensures .0) _ (c .before .before .is-flat-kind .ensures) (c .before .if3 .taken) in (
       omega (arith, c .before .before .before .before .before .before .before .before .before .before .before .before .before .before .before .before .before .pre .0),
       (
         inv .0,
         (
           (q .1 .0 .0, q .1 .0 .1, q .1 .0 .2, record-whole _ _ _ (q .1 .0 .3) _ (count .0) less _ block _ (place .1), member-sound-of _ _ (q .1 .0 .0) _ _ _ is (omega (arith, count .0, less)) .kind),
-          ((q .1 .0 .4, above, known, omega (arith, inv .3 .end, count .1, less)), search (lead-readable, count .0, less, inv .4, is)),
+          ((q .1 .0 .4, above, omega (arith, inv .3 .end, count .1, less)), search (lead-readable, count .0, less, inv .4, is)),
         ),
       ),
     )
@@ -873,9 +960,8 @@ put-table-loop-again-2 t c =
     let width = c .before .lead-width .ensures in
     let put = c .before .before .before .before .put-lead .ensures in
     let is = coded-member _ _ _ (q .1 .0 .3) _ count less _ block _ place in
-    let known = lead-known _ _ (q .1 .0 .0) _ _ (q .1 .0 .3) _ count less _ block _ place in
     let above = lead-above _ _ _ kind _ (c .before .before .before .before .before .before .before .is-flat-kind .ensures) (c .before .before .before .before .before .before .if3 .taken) in
-    let next = lead-next _ _ _ _ kind above known _ (width .0) _ _ (c .after-bytes .ensures .0) in (
+    let next = lead-next _ _ _ _ kind above _ (width .0) _ _ (c .after-bytes .ensures .0) in (
       search (room-next, inv .0, put),
       omega (arith, less),
       omega (arith, put .len, inv .2),
@@ -976,12 +1062,13 @@ put-union-same-length-3 t c = search needs
 put-union-returns-3 : (t : ℕ) → put-union-lts.Need-returns-3 (put-union-R t) (put-union-at t) put-union.Post
 put-union-returns-3 t c = search choice-known
 
-pub +put-choices+put-content+put-element+put-lead+put-list+put-object+put-reference+put-references+put-table+put-union-spec :
+pub +put-choices+put-content+put-directs+put-element+put-lead+put-list+put-object+put-reference+put-references+put-table+put-union-spec :
     {M : Type 1} → statement M
-+put-choices+put-content+put-element+put-lead+put-list+put-object+put-reference+put-references+put-table+put-union-spec =
++put-choices+put-content+put-directs+put-element+put-lead+put-list+put-object+put-reference+put-references+put-table+put-union-spec =
     close
     μ-put-choices
     μ-put-content
+    μ-put-directs
     μ-put-element
     μ-put-lead
     μ-put-list
@@ -1022,6 +1109,10 @@ pub +put-choices+put-content+put-element+put-lead+put-list+put-object+put-refere
     (put-content-enum-known-ob-2 t)
     (put-content-index-requires-2 t)
     (put-content-put-table-requires t)
+    (put-content-enum-known-ob-3 t)
+    (put-content-element-size-requires t)
+    (put-content-index-requires-3 t)
+    (put-content-put-directs-requires t)
     (put-content-same-length t)
     (put-content-returns t)
     (put-content-same-length-2 t)
@@ -1029,7 +1120,27 @@ pub +put-choices+put-content+put-element+put-lead+put-list+put-object+put-refere
     (put-content-same-length-3 t)
     (put-content-returns-3 t)
     (put-content-same-length-4 t)
-    (put-content-returns-4 t))
+    (put-content-returns-4 t)
+    (put-content-same-length-5 t)
+    (put-content-returns-5 t))
+    (λ t. put-directs-lts.spec (put-directs-R t)
+    (put-directs-at t)
+    put-directs.Post
+    put-directs-Inv-loop
+    put-directs-μ-loop
+    (put-directs-number64-requires t)
+    (put-directs-write-requires t)
+    (put-directs-loop-holds t)
+    (put-directs-same-length t)
+    (put-directs-returns t)
+    (put-directs-sub-put-table t)
+    (put-directs-put-table-requires t)
+    (put-directs-add-at t)
+    (put-directs-add-j t)
+    (put-directs-loop-less t)
+    (put-directs-loop-again t)
+    (put-directs-same-length-2 t)
+    (put-directs-returns-2 t))
     (λ t. put-element-lts.spec (put-element-R t)
     (put-element-at t)
     put-element.Post
@@ -1104,8 +1215,9 @@ pub +put-choices+put-content+put-element+put-lead+put-list+put-object+put-refere
     (put-object-at t)
     put-object.Post
     (put-object-returns t)
-    (put-object-sub-put-content t)
+    (put-object-placed-requires t)
     (put-object-content-of-requires t)
+    (put-object-sub-put-content t)
     (put-object-put-content-requires t)
     (put-object-same-length t)
     (put-object-returns-2 t))
@@ -1169,7 +1281,7 @@ pub +put-choices+put-content+put-element+put-lead+put-list+put-object+put-refere
     (put-table-loop-again-3 t)
     (put-table-same-length-2 t)
     (put-table-returns-2 t))
-    (λ t. put-union-lts.spec (put-union-R t)
+    λ t. put-union-lts.spec (put-union-R t)
     (put-union-at t)
     put-union.Post
     (put-union-write-requires t)
@@ -1186,4 +1298,4 @@ pub +put-choices+put-content+put-element+put-lead+put-list+put-object+put-refere
     (put-union-put-marked-requires-2 t)
     (put-union-put-object-requires t)
     (put-union-same-length-3 t)
-    (put-union-returns-3 t))
+    (put-union-returns-3 t)
