@@ -63,6 +63,8 @@ use Rattle.judge_walk.proofs.+admit+arrive+choice+choices+directs+eleme
 use Rattle.judge_walk.proofs.visit.Reads as visit
 use Rattle.judge_walk.proofs.visit.Kinds as visit-kinds
 use Rattle.judge_walk.proofs.+admit+arrive+choice+choices+directs+elements+follow+list+refer+reference+references+table+union+visit.Lts-visit as visit-lts
+use Rattle.judge_direct.proofs.count.Reads as count-reads
+use Rattle.judge_direct.proofs.only_count.Reads as only-count-reads
 use Rattle.judge_member.proofs.is_row_table.Reads as is-row-table-reads
 use Rattle.judge_member.proofs.lead_member.Reads as lead-member-reads
 use Rattle.judge_member.proofs.refers.Reads as refers-reads
@@ -252,7 +254,7 @@ abbrev choices-R : ℕ → choices-lts.Claims
 choices-R t = (union-size-reads.Asked, union-size-reads.Learnt, choice-below t, choice.Post, going-reads.Asked, going-reads.Learnt)
 
 abbrev directs-R : ℕ → directs-lts.Claims
-directs-R t = (element-size-reads.Asked, element-size-reads.Learnt, elements-below t, elements.Post)
+directs-R t = (element-size-reads.Asked, element-size-reads.Learnt, only-count-reads.Asked, only-count-reads.Learnt, count-reads.Asked, count-reads.Learnt, elements-below t, elements.Post)
 
 abbrev elements-R : ℕ → elements-lts.Claims
 elements-R t = (visit-below t, visit.Post, going-reads.Asked, going-reads.Learnt)
@@ -451,11 +453,20 @@ choices-returns-2 t c = search elements-done
 directs-element-size-requires : (t : ℕ) → directs-lts.Need-element-size-requires (directs-R t) (directs-at t) directs.Post
 directs-element-size-requires t c κs = search needs
 
-directs-elements-requires : (t : ℕ) → directs-lts.Need-elements-requires (directs-R t) (directs-at t) directs.Post
-directs-elements-requires t c κs = search (direct-table, directs-there, needs)
+directs-only-count-requires : (t : ℕ) → directs-lts.Need-only-count-requires (directs-R t) (directs-at t) directs.Post
+directs-only-count-requires t c κs = search (direct-table, needs)
+
+directs-count-requires : (t : ℕ) → directs-lts.Need-count-requires (directs-R t) (directs-at t) directs.Post
+directs-count-requires t c κs = (search needs, search directs-there, c .before .only-count .ensures (c .if1 .taken))
 
 directs-returns : (t : ℕ) → directs-lts.Need-returns (directs-R t) (directs-at t) directs.Post
 directs-returns t c = search directs-sized
+
+directs-elements-requires : (t : ℕ) → directs-lts.Need-elements-requires (directs-R t) (directs-at t) directs.Post
+directs-elements-requires t c κs = search (direct-table, directs-there, needs)
+
+directs-returns-2 : (t : ℕ) → directs-lts.Need-returns-2 (directs-R t) (directs-at t) directs.Post
+directs-returns-2 t c = search directs-sized
 
 abbrev elements-Inv-loop : elements-lts.InvT-loop
 elements-Inv-loop b dir m depth t w x visits content o v₀ c₀ at₀ j₀ v c at j = (j ≤ x .length) × (at ≡ x .start + w * j)
@@ -942,8 +953,11 @@ pub +admit+arrive+choice+choices+directs+elements+follow+list+refer+reference+re
     (directs-at t)
     directs.Post
     (directs-element-size-requires t)
+    (directs-only-count-requires t)
+    (directs-count-requires t)
+    (directs-returns t)
     (directs-elements-requires t)
-    (directs-returns t))
+    (directs-returns-2 t))
     (λ t. elements-lts.spec
     (visit-below t, visit.Post, going-reads.Asked, going-reads.Learnt)
     (elements-at t)
