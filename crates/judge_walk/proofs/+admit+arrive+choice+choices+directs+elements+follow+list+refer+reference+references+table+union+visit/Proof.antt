@@ -1,3 +1,4 @@
+use Rattle.judge_walk.proofs.DirectCases.{directs-start, directs-done, directs-stopped, directs-turn, directs-sized, directs-there, direct-place, direct-size, direct-table, direct-sound, direct-held}
 use Rattle.judge_walk.proofs.ReferenceCases.{reference-past, reference-cut, reference-here, reference-text, reference-sound, reference-stopped, reference-turn, reference-laid, same-sound}
 use Rattle.schema.specs.Records.{record-whole}
 use mathlib.Core.Path.{_≡_}
@@ -10,53 +11,60 @@ use Rattle.coding.specs.Walk as W
 use Rattle.message_layout.specs.Bounds.{Laid}
 use Rattle.outcome.specs.Answers as As
 use Rattle.outcome.proofs.ArrivalCases.{visit-stopped, visit-refused, charged-deep, not-more}
-use Rattle.message_object.proofs.OpenCases.{fit-fits, length-small, text-fits, list-fits, table-fits, list-counted-of, table-counted-of, offset-small, inplace-first, inplace-length}
-use Rattle.judge_walk.proofs.AdmitCases.{visit-content, below-falls, admit-unpaid, admit-text, admit-bytes, admit-list, admit-table}
+use Rattle.message_object.proofs.OpenCases.{length-small, placed-small, text-fits, list-fits, table-fits, list-counted-of, table-counted-of, offset-small, inplace-first, inplace-length}
+use Rattle.judge_walk.proofs.AdmitCases.{visit-content, below-falls, admit-unpaid, admit-text, admit-bytes, admit-list, admit-table, admit-direct, held-fits}
 use Rattle.judge_walk.proofs.WalkCases.{arrive-text, arrive-offset, arrive-inplace, follow-absent, follow-value, follow-unknown, follow-struct, follow-refused, follow-object, follow-choice, object-small, object-place, choice-small, choice-place, union-none, union-offset, union-inplace}
 use Rattle.judge_rows.proofs.MemberCases.{members-start, members-ended, members-done, members-stopped, members-turn, members-nowhere}
 use Rattle.judge_walk.proofs.ListCases.{list-flat, list-objects, list-unions, objects-sound, unions-counted, objects-there, unions-there, references-texts, choice-number, choices-stopped, choices-turn, choice-none, choice-unknown, choice-known, choice-sound}
 use Rattle.judge_text.proofs.ElementCases.{value-there, value-fits, value-next, elements-start, elements-done, references-stopped, references-turn, refer-none, refer-object}
 use Rattle.coding.specs.declared.Kind.the-variants.{OfObject, OfUnion}
-use Prim.Native.Nat.{_+_, _-_, _*_, _≤_}
-use Prim.Native.Nat.{ℕ, _<_}
+use Prim.Native.Nat.{ℕ, _+_, _-_, _*_, _<_, _≤_}
 use borrow.Fn.Kinds.{In}
 use borrow.Fn.PlainCycle.{Measures, is, falls, and}
 use Rattle.judge_walk.proofs.admit.Reads as admit
 use Rattle.judge_walk.proofs.admit.Kinds as admit-kinds
-use Rattle.judge_walk.proofs.+admit+arrive+choice+choices+follow+list+refer+reference+references+table+union+visit.Lts-admit as admit-lts
+use Rattle.judge_walk.proofs.+admit+arrive+choice+choices+directs+elements+follow+list+refer+reference+references+table+union+visit.Lts-admit as admit-lts
 use Rattle.judge_walk.proofs.arrive.Reads as arrive
 use Rattle.judge_walk.proofs.arrive.Kinds as arrive-kinds
-use Rattle.judge_walk.proofs.+admit+arrive+choice+choices+follow+list+refer+reference+references+table+union+visit.Lts-arrive as arrive-lts
+use Rattle.judge_walk.proofs.+admit+arrive+choice+choices+directs+elements+follow+list+refer+reference+references+table+union+visit.Lts-arrive as arrive-lts
 use Rattle.judge_walk.proofs.choice.Reads as choice
 use Rattle.judge_walk.proofs.choice.Kinds as choice-kinds
-use Rattle.judge_walk.proofs.+admit+arrive+choice+choices+follow+list+refer+reference+references+table+union+visit.Lts-choice as choice-lts
+use Rattle.judge_walk.proofs.+admit+arrive+choice+choices+directs+elements+follow+list+refer+reference+references+table+union+visit.Lts-choice as choice-lts
 use Rattle.judge_walk.proofs.choices.Reads as choices
 use Rattle.judge_walk.proofs.choices.Kinds as choices-kinds
-use Rattle.judge_walk.proofs.+admit+arrive+choice+choices+follow+list+refer+reference+references+table+union+visit.Lts-choices as choices-lts
+use Rattle.judge_walk.proofs.+admit+arrive+choice+choices+directs+elements+follow+list+refer+reference+references+table+union+visit.Lts-choices as choices-lts
+use Rattle.judge_walk.proofs.directs.Reads as directs
+use Rattle.judge_walk.proofs.directs.Kinds as directs-kinds
+use Rattle.judge_walk.proofs.+admit+arrive+choice+choices+directs+elements+follow+list+refer+reference+references+table+union+visit.Lts-directs as directs-lts
+use Rattle.judge_walk.proofs.elements.Reads as elements
+use Rattle.judge_walk.proofs.elements.Kinds as elements-kinds
+use Rattle.judge_walk.proofs.+admit+arrive+choice+choices+directs+elements+follow+list+refer+reference+references+table+union+visit.Lts-elements as elements-lts
 use Rattle.judge_walk.proofs.follow.Reads as follow
 use Rattle.judge_walk.proofs.follow.Kinds as follow-kinds
-use Rattle.judge_walk.proofs.+admit+arrive+choice+choices+follow+list+refer+reference+references+table+union+visit.Lts-follow as follow-lts
+use Rattle.judge_walk.proofs.+admit+arrive+choice+choices+directs+elements+follow+list+refer+reference+references+table+union+visit.Lts-follow as follow-lts
 use Rattle.judge_walk.proofs.list.Reads as list
 use Rattle.judge_walk.proofs.list.Kinds as list-kinds
-use Rattle.judge_walk.proofs.+admit+arrive+choice+choices+follow+list+refer+reference+references+table+union+visit.Lts-list as list-lts
+use Rattle.judge_walk.proofs.+admit+arrive+choice+choices+directs+elements+follow+list+refer+reference+references+table+union+visit.Lts-list as list-lts
 use Rattle.judge_walk.proofs.refer.Reads as refer
 use Rattle.judge_walk.proofs.refer.Kinds as refer-kinds
-use Rattle.judge_walk.proofs.+admit+arrive+choice+choices+follow+list+refer+reference+references+table+union+visit.Lts-refer as refer-lts
+use Rattle.judge_walk.proofs.+admit+arrive+choice+choices+directs+elements+follow+list+refer+reference+references+table+union+visit.Lts-refer as refer-lts
 use Rattle.judge_walk.proofs.reference.Reads as reference
 use Rattle.judge_walk.proofs.reference.Kinds as reference-kinds
-use Rattle.judge_walk.proofs.+admit+arrive+choice+choices+follow+list+refer+reference+references+table+union+visit.Lts-reference as reference-lts
+use Rattle.judge_walk.proofs.+admit+arrive+choice+choices+directs+elements+follow+list+refer+reference+references+table+union+visit.Lts-reference as reference-lts
 use Rattle.judge_walk.proofs.references.Reads as references
 use Rattle.judge_walk.proofs.references.Kinds as references-kinds
-use Rattle.judge_walk.proofs.+admit+arrive+choice+choices+follow+list+refer+reference+references+table+union+visit.Lts-references as references-lts
+use Rattle.judge_walk.proofs.+admit+arrive+choice+choices+directs+elements+follow+list+refer+reference+references+table+union+visit.Lts-references as references-lts
 use Rattle.judge_walk.proofs.table.Reads as table
 use Rattle.judge_walk.proofs.table.Kinds as table-kinds
-use Rattle.judge_walk.proofs.+admit+arrive+choice+choices+follow+list+refer+reference+references+table+union+visit.Lts-table as table-lts
+use Rattle.judge_walk.proofs.+admit+arrive+choice+choices+directs+elements+follow+list+refer+reference+references+table+union+visit.Lts-table as table-lts
 use Rattle.judge_walk.proofs.union.Reads as union
 use Rattle.judge_walk.proofs.union.Kinds as union-kinds
-use Rattle.judge_walk.proofs.+admit+arrive+choice+choices+follow+list+refer+reference+references+table+union+visit.Lts-union as union-lts
+use Rattle.judge_walk.proofs.+admit+arrive+choice+choices+directs+elements+follow+list+refer+reference+references+table+union+visit.Lts-union as union-lts
 use Rattle.judge_walk.proofs.visit.Reads as visit
 use Rattle.judge_walk.proofs.visit.Kinds as visit-kinds
-use Rattle.judge_walk.proofs.+admit+arrive+choice+choices+follow+list+refer+reference+references+table+union+visit.Lts-visit as visit-lts
+use Rattle.judge_walk.proofs.+admit+arrive+choice+choices+directs+elements+follow+list+refer+reference+references+table+union+visit.Lts-visit as visit-lts
+use Rattle.judge_direct.proofs.count.Reads as count-reads
+use Rattle.judge_direct.proofs.only_count.Reads as only-count-reads
 use Rattle.judge_member.proofs.is_row_table.Reads as is-row-table-reads
 use Rattle.judge_member.proofs.lead_member.Reads as lead-member-reads
 use Rattle.judge_member.proofs.refers.Reads as refers-reads
@@ -68,6 +76,7 @@ use Rattle.judge_text.proofs.texts.Reads as texts-reads
 use Rattle.judge_text.proofs.visit_text.Reads as visit-text-reads
 use Rattle.judge_walk.proofs.leads_nowhere.Reads as leads-nowhere-reads
 use Rattle.message_header.proofs.content_length.Reads as content-length-reads
+use Rattle.message_header.proofs.element_size.Reads as element-size-reads
 use Rattle.message_layout.proofs.after_bytes.Reads as after-bytes-reads
 use Rattle.message_layout.proofs.begin.Reads as begin-reads
 use Rattle.message_layout.proofs.bit_byte.Reads as bit-byte-reads
@@ -95,10 +104,10 @@ use Rattle.wire.proofs.index.Reads as index-reads
 use Rattle.wire.proofs.offset_in.Reads as offset-in-reads
 use Rattle.wire.proofs.u16_in.Reads as u16-in-reads
 use Rattle.wire.proofs.union_size.Reads as union-size-reads
-use Rattle.judge_walk.proofs.+admit+arrive+choice+choices+follow+list+refer+reference+references+table+union+visit.{
+use Rattle.judge_walk.proofs.+admit+arrive+choice+choices+directs+elements+follow+list+refer+reference+references+table+union+visit.{
   statement,
 }
-use Rattle.judge_walk.proofs.+admit+arrive+choice+choices+follow+list+refer+reference+references+table+union+visit.Tie.{
+use Rattle.judge_walk.proofs.+admit+arrive+choice+choices+directs+elements+follow+list+refer+reference+references+table+union+visit.Tie.{
   close,
 }
 
@@ -113,6 +122,12 @@ abbrev μ-choice : Measures 3 choice-kinds.ps ℕ
 
 abbrev μ-choices : Measures 3 choices-kinds.ps ℕ
 μ-choices κs a = 16 * a .1 .1 .1 .0 + 6
+
+abbrev μ-directs : Measures 3 directs-kinds.ps ℕ
+μ-directs κs a = 16 * a .1 .1 .1 .0 + 7
+
+abbrev μ-elements : Measures 3 elements-kinds.ps ℕ
+μ-elements κs a = 16 * a .1 .1 .1 .0 + 6
 
 abbrev μ-follow : Measures 3 follow-kinds.ps ℕ
 μ-follow κs a = 16 * a .1 .1 .1 .0 + 5
@@ -161,6 +176,19 @@ choices-at t = and 3 choices-kinds.ps (is 3 choices-kinds.ps μ-choices t) choic
 
 abbrev choices-below : ℕ → In 3 choices-kinds.ps
 choices-below t = and 3 choices-kinds.ps (falls 3 choices-kinds.ps _<_ μ-choices t) choices.Pre
+
+abbrev directs-at : ℕ → In 3 directs-kinds.ps
+directs-at t = and 3 directs-kinds.ps (is 3 directs-kinds.ps μ-directs t) directs.Pre
+
+abbrev directs-below : ℕ → In 3 directs-kinds.ps
+directs-below t = and 3 directs-kinds.ps (falls 3 directs-kinds.ps _<_ μ-directs t) directs.Pre
+
+abbrev elements-at : ℕ → In 3 elements-kinds.ps
+elements-at t = and 3 elements-kinds.ps (is 3 elements-kinds.ps μ-elements t) elements.Pre
+
+abbrev elements-below : ℕ → In 3 elements-kinds.ps
+elements-below t =
+    and 3 elements-kinds.ps (falls 3 elements-kinds.ps _<_ μ-elements t) elements.Pre
 
 abbrev follow-at : ℕ → In 3 follow-kinds.ps
 follow-at t = and 3 follow-kinds.ps (is 3 follow-kinds.ps μ-follow t) follow.Pre
@@ -214,7 +242,7 @@ abbrev visit-below : ℕ → In 3 visit-kinds.ps
 visit-below t = and 3 visit-kinds.ps (falls 3 visit-kinds.ps _<_ μ-visit t) visit.Pre
 
 abbrev admit-R : ℕ → admit-lts.Claims
-admit-R t = (content-length-reads.Asked, content-length-reads.Learnt, exceeds-reads.Asked, exceeds-reads.Learnt, refuse-reads.Asked, refuse-reads.Learnt, rest-reads.Asked, rest-reads.Learnt, text-end-reads.Asked, text-end-reads.Learnt, going-reads.Asked, going-reads.Learnt, index-reads.Asked, index-reads.Learnt, list-below t, list.Post, table-below t, table.Post)
+admit-R t = (content-length-reads.Asked, content-length-reads.Learnt, exceeds-reads.Asked, exceeds-reads.Learnt, refuse-reads.Asked, refuse-reads.Learnt, rest-reads.Asked, rest-reads.Learnt, text-end-reads.Asked, text-end-reads.Learnt, going-reads.Asked, going-reads.Learnt, index-reads.Asked, index-reads.Learnt, list-below t, list.Post, table-below t, table.Post, directs-below t, directs.Post)
 
 abbrev arrive-R : ℕ → arrive-lts.Claims
 arrive-R t = (is-text-reads.Asked, is-text-reads.Learnt, visit-text-reads.Asked, visit-text-reads.Learnt, visit-below t, visit.Post)
@@ -224,6 +252,12 @@ choice-R t = (u16-in-reads.Asked, u16-in-reads.Learnt, going-reads.Asked, going-
 
 abbrev choices-R : ℕ → choices-lts.Claims
 choices-R t = (union-size-reads.Asked, union-size-reads.Learnt, choice-below t, choice.Post, going-reads.Asked, going-reads.Learnt)
+
+abbrev directs-R : ℕ → directs-lts.Claims
+directs-R t = (element-size-reads.Asked, element-size-reads.Learnt, only-count-reads.Asked, only-count-reads.Learnt, count-reads.Asked, count-reads.Learnt, elements-below t, elements.Post)
+
+abbrev elements-R : ℕ → elements-lts.Claims
+elements-R t = (visit-below t, visit.Post, going-reads.Asked, going-reads.Learnt)
 
 abbrev follow-R : ℕ → follow-lts.Claims
 follow-R t = (refuse-part-reads.Asked, refuse-part-reads.Learnt, going-reads.Asked, going-reads.Learnt, arrive-below t, arrive.Post, union-below t, union.Post)
@@ -294,6 +328,12 @@ admit-index-requires-2 t c κs = search needs
 admit-table-requires : (t : ℕ) → admit-lts.Need-table-requires (admit-R t) (admit-at t) admit.Post
 admit-table-requires t c κs = search (table-counted-of, table-fits, needs)
 
+admit-enum-known-ob-3 : (t : ℕ) → admit-lts.Need-enum-known-ob-3 (admit-R t) (admit-at t) admit.Post
+admit-enum-known-ob-3 t c = search needs
+
+admit-directs-requires : (t : ℕ) → admit-lts.Need-directs-requires (admit-R t) (admit-at t) admit.Post
+admit-directs-requires t c κs = search (direct-sound, direct-held, needs)
+
 admit-returns-2 : (t : ℕ) → admit-lts.Need-returns-2 (admit-R t) (admit-at t) admit.Post
 admit-returns-2 t c = search admit-text
 
@@ -305,6 +345,9 @@ admit-returns-4 t c = search admit-list
 
 admit-returns-5 : (t : ℕ) → admit-lts.Need-returns-5 (admit-R t) (admit-at t) admit.Post
 admit-returns-5 t c = search admit-table
+
+admit-returns-6 : (t : ℕ) → admit-lts.Need-returns-6 (admit-R t) (admit-at t) admit.Post
+admit-returns-6 t c = search admit-direct
 
 arrive-enum-known-p : (t : ℕ) → arrive-lts.Need-enum-known-p (arrive-R t) (arrive-at t) arrive.Post
 arrive-enum-known-p t c = search needs
@@ -406,6 +449,59 @@ choices-going-requires t c κs = search needs
 
 choices-returns-2 : (t : ℕ) → choices-lts.Need-returns-2 (choices-R t) (choices-at t) choices.Post choices-Inv-loop choices-μ-loop
 choices-returns-2 t c = search elements-done
+
+directs-element-size-requires : (t : ℕ) → directs-lts.Need-element-size-requires (directs-R t) (directs-at t) directs.Post
+directs-element-size-requires t c κs = search needs
+
+directs-only-count-requires : (t : ℕ) → directs-lts.Need-only-count-requires (directs-R t) (directs-at t) directs.Post
+directs-only-count-requires t c κs = search (direct-table, needs)
+
+directs-count-requires : (t : ℕ) → directs-lts.Need-count-requires (directs-R t) (directs-at t) directs.Post
+directs-count-requires t c κs = (search needs, search directs-there, c .before .only-count .ensures (c .if1 .taken))
+
+directs-returns : (t : ℕ) → directs-lts.Need-returns (directs-R t) (directs-at t) directs.Post
+directs-returns t c = search directs-sized
+
+directs-elements-requires : (t : ℕ) → directs-lts.Need-elements-requires (directs-R t) (directs-at t) directs.Post
+directs-elements-requires t c κs = search (direct-table, directs-there, needs)
+
+directs-returns-2 : (t : ℕ) → directs-lts.Need-returns-2 (directs-R t) (directs-at t) directs.Post
+directs-returns-2 t c = search directs-sized
+
+abbrev elements-Inv-loop : elements-lts.InvT-loop
+elements-Inv-loop b dir m depth t w x visits content o v₀ c₀ at₀ j₀ v c at j = (j ≤ x .length) × (at ≡ x .start + w * j)
+    × (As.directsBy o b m depth t w x (W.spending visits content)
+    ≡ W.directs (As.visitBy o b m depth) t w (x .length - j) at (W.spending v c))
+
+abbrev elements-μ-loop : elements-lts.MeasureT-loop
+elements-μ-loop b dir m depth t w x visits content o v₀ c₀ at₀ j₀ v c at j = x .length - j
+
+elements-loop-holds : (t : ℕ) → elements-lts.Need-loop-holds (elements-R t) (elements-at t) elements.Post elements-Inv-loop elements-μ-loop
+elements-loop-holds t c = (omega arith, omega arith, search directs-start)
+
+elements-visit-requires : (t : ℕ) → elements-lts.Need-visit-requires (elements-R t) (elements-at t) elements.Post elements-Inv-loop elements-μ-loop
+elements-visit-requires t c κs = search (direct-place, direct-size, needs)
+
+elements-returns : (t : ℕ) → elements-lts.Need-returns (elements-R t) (elements-at t) elements.Post elements-Inv-loop elements-μ-loop
+elements-returns t c = search directs-stopped
+
+elements-add-at : (t : ℕ) → elements-lts.Need-add-at (elements-R t) (elements-at t) elements.Post elements-Inv-loop elements-μ-loop
+elements-add-at t c = record { fits = search value-fits }
+
+elements-add-j : (t : ℕ) → elements-lts.Need-add-j (elements-R t) (elements-at t) elements.Post elements-Inv-loop elements-μ-loop
+elements-add-j t c = search needs
+
+elements-loop-less : (t : ℕ) → elements-lts.Need-loop-less (elements-R t) (elements-at t) elements.Post elements-Inv-loop elements-μ-loop
+elements-loop-less t c = search needs
+
+elements-loop-again : (t : ℕ) → elements-lts.Need-loop-again (elements-R t) (elements-at t) elements.Post elements-Inv-loop elements-μ-loop
+elements-loop-again t c = (omega arith, search value-next, search directs-turn)
+
+elements-going-requires : (t : ℕ) → elements-lts.Need-going-requires (elements-R t) (elements-at t) elements.Post elements-Inv-loop elements-μ-loop
+elements-going-requires t c κs = search needs
+
+elements-returns-2 : (t : ℕ) → elements-lts.Need-returns-2 (elements-R t) (elements-at t) elements.Post elements-Inv-loop elements-μ-loop
+elements-returns-2 t c = search directs-done
 
 follow-enum-known-step : (t : ℕ) → follow-lts.Need-enum-known-step (follow-R t) (follow-at t) follow.Post
 follow-enum-known-step t c = search needs
@@ -760,7 +856,7 @@ visit-below-requires : (t : ℕ) → visit-lts.Need-below-requires (visit-R t) (
 visit-below-requires t c κs = search charged-deep
 
 visit-admit-requires : (t : ℕ) → visit-lts.Need-admit-requires (visit-R t) (visit-at t) visit.Post
-visit-admit-requires t c κs = (omega (arith, c .before .before .before .before .before .before .before .before .before .before .before .before .pre .0, below-falls _ _ (c .below .ensures) (charged-deep _ _ _ _ (c .before .before .before .before .before .before .before .charge .ensures) (c .before .before .before .before .before .if1 .left))), ((c .before .before .before .before .before .before .before .before .before .before .before .before .pre .1 .0, c .before .before .before .before .before .before .before .before .before .before .before .before .pre .1 .1, c .before .before .before .before .before .before .before .before .before .before .before .before .pre .1 .2, c .before .before .before .before .before .before .before .before .before .before .before .before .pre .1 .3), (search fit-fits, length-small _ _ _ (c .before .before .before .before .fit-object .ensures .1) (c .before .before .start .given .1))))
+visit-admit-requires t c κs = (omega (arith, c .before .before .before .before .before .before .before .before .before .before .before .before .pre .0, below-falls _ _ (c .below .ensures) (charged-deep _ _ _ _ (c .before .before .before .before .before .before .before .charge .ensures) (c .before .before .before .before .before .if1 .left))), ((c .before .before .before .before .before .before .before .before .before .before .before .before .pre .1 .0, c .before .before .before .before .before .before .before .before .before .before .before .before .pre .1 .1, c .before .before .before .before .before .before .before .before .before .before .before .before .pre .1 .2, c .before .before .before .before .before .before .before .before .before .before .before .before .pre .1 .3), (search held-fits, length-small _ _ _ (c .before .before .before .before .fit-object .ensures .1) (c .before .before .start .given .1), search placed-small)))
 
 visit-returns-2 : (t : ℕ) → visit-lts.Need-returns-2 (visit-R t) (visit-at t) visit.Post
 visit-returns-2 t c = search visit-refused
@@ -768,14 +864,16 @@ visit-returns-2 t c = search visit-refused
 visit-returns-3 : (t : ℕ) → visit-lts.Need-returns-3 (visit-R t) (visit-at t) visit.Post
 visit-returns-3 t c = search visit-content
 
-pub +admit+arrive+choice+choices+follow+list+refer+reference+references+table+union+visit-spec :
+pub +admit+arrive+choice+choices+directs+elements+follow+list+refer+reference+references+table+union+visit-spec :
     {M : Type 1} → statement M
-+admit+arrive+choice+choices+follow+list+refer+reference+references+table+union+visit-spec =
++admit+arrive+choice+choices+directs+elements+follow+list+refer+reference+references+table+union+visit-spec =
     close
     μ-admit
     μ-arrive
     μ-choice
     μ-choices
+    μ-directs
+    μ-elements
     μ-follow
     μ-list
     μ-refer
@@ -802,10 +900,13 @@ pub +admit+arrive+choice+choices+follow+list+refer+reference+references+table+un
     (admit-enum-known-ob-2 t)
     (admit-index-requires-2 t)
     (admit-table-requires t)
+    (admit-enum-known-ob-3 t)
+    (admit-directs-requires t)
     (admit-returns-2 t)
     (admit-returns-3 t)
     (admit-returns-4 t)
-    (admit-returns-5 t))
+    (admit-returns-5 t)
+    (admit-returns-6 t))
     (λ t. arrive-lts.spec (arrive-R t)
     (arrive-at t)
     arrive.Post
@@ -848,6 +949,30 @@ pub +admit+arrive+choice+choices+follow+list+refer+reference+references+table+un
     (choices-loop-again t)
     (choices-going-requires t)
     (choices-returns-2 t))
+    (λ t. directs-lts.spec (directs-R t)
+    (directs-at t)
+    directs.Post
+    (directs-element-size-requires t)
+    (directs-only-count-requires t)
+    (directs-count-requires t)
+    (directs-returns t)
+    (directs-elements-requires t)
+    (directs-returns-2 t))
+    (λ t. elements-lts.spec
+    (visit-below t, visit.Post, going-reads.Asked, going-reads.Learnt)
+    (elements-at t)
+    elements.Post
+    elements-Inv-loop
+    elements-μ-loop
+    (elements-loop-holds t)
+    (elements-visit-requires t)
+    (elements-returns t)
+    (elements-add-at t)
+    (elements-add-j t)
+    (elements-loop-less t)
+    (elements-loop-again t)
+    (elements-going-requires t)
+    (elements-returns-2 t))
     (λ t. follow-lts.spec (follow-R t)
     (follow-at t)
     follow.Post
