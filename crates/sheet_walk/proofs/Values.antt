@@ -17,6 +17,7 @@ use Rattle.coding.specs.declared.Object.{Object}
 use Rattle.coding.specs.declared.Kind.{Kind}
 use Rattle.coding.specs.declared.Kind.the-variants.{OfObject, OfUnion}
 use Rattle.coding.specs.declared.Place.{Place}
+use Rattle.coding.specs.declared.Place.the-variants.{ByOffset}
 use Rattle.coding.specs.declared.Step.{Step}
 use Rattle.coding.specs.declared.Step.the-variants as St
 use Rattle.message_step.proofs.StepCases as C
@@ -46,6 +47,15 @@ pub reference-readable : (o d : ℕ) (S : Schema) (m : List ℕ) (ob : Object) (
     → D.StepReadable (D.ObjectReadable o d S m) S m (T.objectStep ob inplace tail x) → (x ≡ 0 → ⊥) → place ≡ T.placeOf inplace tail x → D.ObjectReadable o d S m ob place
 reference-readable o d S m ob inplace tail x place h e ep =
     object-readable o d S m (T.objectStep ob inplace tail x) h ob place (sym (object-there inplace tail x ob e place ep))
+
+-- ---- an element, by its offset
+pub element-there : (o d : ℕ) (S : Schema) (m : List ℕ) (ob : Object) (x : ℕ) (out out₁ : List ℕ) (p q : ℕ) → (x ≡ 0 → ⊥) → Room out p → (out₂ : List ℕ) (r : ℕ)
+    → Puts out p (bitsOf 2 1) out₁ q → Puts out₁ q (A.objectAt o d S m ob (ByOffset x)) out₂ r → Puts out p (A.referenceAt o d S m ob false 0 x) out₂ r
+element-there o d S m ob x out out₁ p q e = reference-there o d S m ob false 0 x out out₁ p q e (ByOffset x) (unfold T.placeOf in refl)
+
+pub element-readable : (o d : ℕ) (S : Schema) (m : List ℕ) (ob : Object) (x : ℕ)
+    → D.StepReadable (D.ObjectReadable o d S m) S m (T.objectStep ob false 0 x) → (x ≡ 0 → ⊥) → D.ObjectReadable o d S m ob (ByOffset x)
+element-readable o d S m ob x h e = reference-readable o d S m ob false 0 x (ByOffset x) h e (unfold T.placeOf in refl)
 
 -- ---- a union
 module _ (o d : ℕ) (S : Schema) (m : List ℕ) (u : ℕ) (inplace : Bool) (tail c x : ℕ) where

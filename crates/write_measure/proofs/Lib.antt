@@ -3,3 +3,4 @@ pub mod ExtentCases
 pub mod PartCases
 pub mod ObjectCases
 pub mod SimpleCases
+pub mod ElementCases

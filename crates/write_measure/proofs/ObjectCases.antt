@@ -26,7 +26,6 @@ use Rattle.laws.specs.SoundAt.{member-sound-at, list-index, table-index}
 use Rattle.schema.specs.Directory.{Accepted, accepted-sound}
 use Rattle.bitio.specs.Taken.{TakenNumber}
 use Rattle.write_measure.specs.Survey.{opened, joined, referred, Surveyor, surveyObject, surveyPart, surveyElement, surveyMembers, surveyElements, surveyBlob, surveyContent, survey}
-use Rattle.write_measure.specs.UnmarkedElements.{unmarkedBits, passed, unmarked-elements}
 use Rattle.write_measure.specs.Surveyed.{Small, Fits, SurveyedAt}
 use Rattle.write_measure.specs.declared.Extent.{Extent}
 use Rattle.write_measure.proofs.PartCases.{refer-surveyed}
@@ -93,9 +92,6 @@ module _ (o : ℕ) (child : Surveyor) (S : Schema) (s : List ℕ) (t at : ℕ) w
           ∙ ap (λ (m : ℕ). surveyMembers child o S (drop m (Sc.tableOf S t .members)) g (drop next (bits s))) (sym (add-one j))
 
 -- ---- the elements of a list, from element j on
-pub marked : (k : Kind) (t : Bool) → t ≡ unmarked k → t ≡ false → unmarked k ≡ false
-marked k t e h = sym e ∙ h
-
 module _ (o : ℕ) (child : Surveyor) (S : Schema) (s : List ℕ) (i at : ℕ) where
   module _ (whole : Bool) (n first : ℕ) (taken : TakenNumber s at 32 whole n first) where
     pub elements-cut : at ≤ 8 * length s → not whole ≡ true → (w : Bool) (e : Extent) (m : ℕ) → w ≡ false → m ≡ at → Small e
@@ -114,19 +110,15 @@ module _ (o : ℕ) (child : Surveyor) (S : Schema) (s : List ℕ) (i at : ℕ) w
         ∙ ap (λ (y : Extent). surveyElements child o S k n y (drop first (bits s))) (sym (f .is))
         ∙ ap (λ (y : ℕ). surveyElements child o S k y a (drop first (bits s))) e)
 
-    -- without marks
-    pub elements-unmarked : not whole ≡ false → (k : Kind) → k ≡ Sc.elementOf S i → (z : ℕ) → z ≡ T.elementsSize o S k n → (a : Extent) → Fits (opened n z) a
-        → (t : Bool) → t ≡ unmarked k → t ≡ true → (u : ℕ) → u ≡ unmarkedBits k → (w : Bool) (e : Extent) (m : ℕ)
-        → SurveyedAt s (passed (n * u) a (drop first (bits s))) w e m → SurveyedAt s (surveyContent child o S (O.List i) (drop at (bits s))) w e m
+    -- simple ones
+    pub elements-simple : not whole ≡ false → (k : Kind) → k ≡ Sc.elementOf S i → (z : ℕ) → z ≡ T.elementsSize o S k n → (w : Bool) (e : Extent) (m : ℕ)
+        → SurveyedAt s (surveyElements child o S k n (opened n z) (drop first (bits s))) w e m → SurveyedAt s (surveyContent child o S (O.List i) (drop at (bits s))) w e m
     unfolding surveyContent bind
-    elements-unmarked h k ek z ez a f t et ht u eu w e m q =
+    elements-simple h k ek z ez w e m q =
         record {
           is = rw (taken .number, not-false whole h)
               (ap (λ (y : Kind). surveyElements child o S y n (opened n (T.elementsSize o S y n)) (drop first (bits s))) (sym ek)
-              ∙ unmarked-elements child o S k (sym et ∙ ht) n n (T.elementsSize o S k n) (drop first (bits s))
-              ∙ ap (λ (y : ℕ). passed (n * y) (opened n (T.elementsSize o S k n)) (drop first (bits s))) (sym eu)
-              ∙ ap (λ (y : ℕ). passed (n * u) (opened n y) (drop first (bits s))) (sym ez)
-              ∙ ap (λ (y : Extent). passed (n * u) y (drop first (bits s))) (sym (f .is)) ∙ q .is);
+              ∙ ap (λ (y : ℕ). surveyElements child o S k n (opened n y) (drop first (bits s))) (sym ez) ∙ q .is);
           inside = q .inside;
           small = q .small;
         }
@@ -136,16 +128,9 @@ module _ (o : ℕ) (child : Surveyor) (S : Schema) (s : List ℕ) (i at : ℕ) w
         → (t : ℕ) → (t < 256 → k ≡ OfObject (O.Table t)) → t < 256 → (w : Bool) (e : Extent) (m : ℕ)
         → SurveyedAt s (surveyElements child o S (OfObject (O.Table t)) n (opened n z) (drop first (bits s))) w e m
         → SurveyedAt s (surveyContent child o S (O.List i) (drop at (bits s))) w e m
-    unfolding surveyContent bind
     elements-rows h k ek z ez t et ht w e m q =
-        record {
-          is = rw (taken .number, not-false whole h)
-              (ap (λ (y : Kind). surveyElements child o S y n (opened n (T.elementsSize o S y n)) (drop first (bits s))) (sym ek)
-              ∙ ap (λ (y : ℕ). surveyElements child o S k n (opened n y) (drop first (bits s))) (sym ez)
-              ∙ ap (λ (y : Kind). surveyElements child o S y n (opened n z) (drop first (bits s))) (et ht) ∙ q .is);
-          inside = q .inside;
-          small = q .small;
-        }
+        elements-simple h k ek z ez w e m
+        (subst (λ (y : Kind). SurveyedAt s (surveyElements child o S y n (opened n z) (drop first (bits s))) w e m) (sym (et ht)) q)
 
 pub row-counted : (b dir : List ℕ) → Accepted b dir → (i : ℕ) (k : Kind) → k ≡ Sc.elementOf (P.parse b) i → (t : ℕ) → (t < 256 → k ≡ OfObject (O.Table t)) → t < 256
     → t < P.tableCount b

@@ -102,7 +102,7 @@ choice-unknown-tested S s pos u whole x next taken n en t et w′ f′ n′ e1 e
     by false = refl
 
 -- ---- extents of what was tested
-plain-surveyed : (s : List ℕ) (p : Parsed Bool) (tw tf : Bool) (tn : ℕ) → TestedAt s p tw tf tn → (w : Bool) (e : Extent) (n : ℕ) → w ≡ tw → n ≡ tn → Fits (plain tf) e
+pub plain-surveyed : (s : List ℕ) (p : Parsed Bool) (tw tf : Bool) (tn : ℕ) → TestedAt s p tw tf tn → (w : Bool) (e : Extent) (n : ℕ) → w ≡ tw → n ≡ tn → Fits (plain tf) e
     → SurveyedAt s (plainOf p) w e n
 unfolding plainOf bind
 plain-surveyed s p tw tf tn t w e n ew en f =
@@ -269,15 +269,21 @@ module _ (o : ℕ) (child : Surveyor) (S : Schema) (s : List ℕ) (k : Kind) (op
   unfolding surveyBody
   body-flat f q tw tf tn t ew en fit = rw q (plain-surveyed s (surveyFlat (surveyStruct S) optional f (drop pos (bits s))) tw tf tn t w e n ew en fit)
 
-  pub body-object : (ob : Object) → k ≡ OfObject ob → SurveyedAt s (surveyObject child o inplace false ob (drop pos (bits s))) w e n
-      → SurveyedAt s (surveyBody child o S k optional inplace (drop pos (bits s))) w e n
-  unfolding surveyBody
-  body-object ob q t = rw q t
+  module _ (w₀ : Bool) (e₀ : Extent) (n₀ : ℕ) (ew : w ≡ w₀) (ee : e ≡ e₀) (en : n ≡ n₀) where
+    same : (p : Parsed Extent) → SurveyedAt s p w₀ e₀ n₀ → SurveyedAt s p w e n
+    same p t = rw (ew, ee, en) t
 
-  pub body-union : (u j : ℕ) → k ≡ OfUnion u → j ≡ u → SurveyedAt s (surveyChoice child o inplace (Sc.casesOf S j) (drop pos (bits s))) w e n
-      → SurveyedAt s (surveyBody child o S k optional inplace (drop pos (bits s))) w e n
-  unfolding surveyBody
-  body-union u j q ej t = rw q (subst (λ (a : ℕ). SurveyedAt s (surveyChoice child o inplace (Sc.casesOf S a) (drop pos (bits s))) w e n) ej t)
+    pub body-object : (ob : Object) → k ≡ OfObject ob → SurveyedAt s (surveyObject child o inplace false ob (drop pos (bits s))) w₀ e₀ n₀
+        → SurveyedAt s (surveyBody child o S k optional inplace (drop pos (bits s))) w e n
+    unfolding surveyBody
+    body-object ob q t = rw q (same (surveyObject child o inplace false ob (drop pos (bits s))) t)
+
+    pub body-union : (u j : ℕ) → k ≡ OfUnion u → j ≡ u → SurveyedAt s (surveyChoice child o inplace (Sc.casesOf S j) (drop pos (bits s))) w₀ e₀ n₀
+        → SurveyedAt s (surveyBody child o S k optional inplace (drop pos (bits s))) w e n
+    unfolding surveyBody
+    body-union u j q ej t =
+        rw q (same (surveyChoice child o inplace (Sc.casesOf S u) (drop pos (bits s)))
+        (subst (λ (a : ℕ). SurveyedAt s (surveyChoice child o inplace (Sc.casesOf S a) (drop pos (bits s))) w₀ e₀ n₀) ej t))
 
 -- ---- with its mark
 module _ (o : ℕ) (child : Surveyor) (S : Schema) (s : List ℕ) (k : Kind) (optional inplace : Bool) (pos : ℕ) (whole : Bool) (x next : ℕ)
@@ -328,7 +334,7 @@ module _ (o : ℕ) (child : Surveyor) (S : Schema) (s : List ℕ) (ob : Object) 
         → SurveyedAt s (surveyPart child o S (OfObject ob) optional inplace (drop pos (bits s))) w e n
     object-there z t =
         part-there o child S s (OfObject ob) optional inplace pos whole x next taken h h0 w e n z
-        (body-object o child S s (OfObject ob) optional inplace next w e n ob refl t)
+        (body-object o child S s (OfObject ob) optional inplace next w e n w e n refl refl refl ob refl t)
 
     pub object-bad : (x ≡ 1 → ⊥) → pos ≤ 8 * length s → w ≡ false → n ≡ pos → Small e
         → SurveyedAt s (surveyPart child o S (OfObject ob) optional inplace (drop pos (bits s))) w e n

@@ -10,5 +10,6 @@ pub mod SurveyObjects
 pub mod Surveyed
 pub mod UnmarkedElements
 pub mod BlobReferred
+pub mod SimpleElements
 pub mod SimpleMembers
 pub mod SurveyBy

@@ -2,7 +2,7 @@
 -- for the sheet s from bit `pos` on. `o` is the width of an offset in bytes; d objects may stand below.
 use Prim.Native.Nat.{ℕ, _*_, _≤_}
 use mathlib.Core.List.{List}
-use mathlib.Core.Bool.{Bool, false}
+use mathlib.Core.Bool.{Bool, true, false}
 use lib.ListN.{length, drop}
 use Rattle.coding.specs.Bits.{bits}
 use Rattle.coding.specs.Schema.{casesOf, tableOf}
@@ -39,6 +39,10 @@ module _ (b : List ℕ) where
 
   abbrev pub flatMarked : ℕ → List ℕ → Parsed Bool
   flatMarked at xs = flatPart (surveyStruct (parse b)) (optionalAt b at) (flatAt b at) xs
+
+  -- a flat element with its mark
+  abbrev pub flatElement : Flat → List ℕ → Parsed Bool
+  flatElement k xs = flatPart (surveyStruct (parse b)) true k xs
 
   -- an unknown choice of union u; and the unknown number of a member or element
   abbrev pub unknownChoice : ℕ → List ℕ → Parsed Bool

@@ -19,9 +19,10 @@ ghost use Rattle.coding.specs.Lists.{pick};
 ghost use Rattle.coding.specs.Schema as Sc;
 ghost use Rattle.coding.specs.Step as T;
 ghost use lib.Dec.{ltb};
-ghost use Rattle.laws.specs.Sound.{FlatSound, ObjectSound, KindSound, MemberSound};
+ghost use Rattle.laws.specs.Sound.{FlatSound, ObjectSound, KindSound, MemberSound, FlatScalar, NoStruct};
 ghost use Rattle.message_layout.specs.Bounds.{Laid};
 ghost use Rattle.schema.specs.Directory.{Accepted};
+ghost use Rattle.schema.specs.Kinds.{isBlob};
 ghost use Rattle.wire.specs.Sizes.{Width};
 ghost use Rattle.write_measure.specs.Survey as Sv;
 ghost use Rattle.write_measure.specs.SurveyBy as By;
@@ -29,6 +30,7 @@ ghost use Rattle.write_measure.specs.UnmarkedElements.{unmarkedBits, pas
 ghost use Rattle.write_measure.specs.BlobReferred.{BlobEnd, blobReferred};
 ghost use Rattle.write_measure.specs.Surveyed.{Small, Fits};
 ghost use Rattle.write_measure.specs.SimpleMembers.{WholeBytes};
+ghost use Rattle.write_measure.specs.SimpleElements.{isSimple};
 
 // What an object of the sheet takes: whether it can be written; the length that its header gives; the bytes of its content
 // (width), of the contents in place behind it (chain), and of the objects that these refer to (below). The last two count to
@@ -398,6 +400,31 @@ fn plain_of(t: Tested) -> Surveyed
     }
 }
 
+// The same answer, field by field: so the compiler keeps it in registers, where a copy as a whole goes through memory.
+fn kept(x: Surveyed) -> Surveyed
+    ensures { λ r. ⌜ (r .whole ≡ x .whole) × (r .extent ≡ x .extent) × (r .next ≡ x .next) ⌝ }
+{
+    let e = x.extent;
+    let chain = e.chain;
+    let length = e.length;
+    let below = e.below;
+    let width = e.width;
+    let writable = e.writable;
+    let next = x.next;
+    let whole = x.whole;
+    Surveyed {
+        extent: Extent {
+            chain,
+            length,
+            below,
+            width,
+            writable,
+        },
+        next,
+        whole,
+    }
+}
+
 // A count of bytes, to one past the size.
 pub fn capped(n: usize) -> usize
     ensures { λ r. ⌜ (r ≡ Sv.capped n) × (r ≤ 16777216) ⌝ }
@@ -649,7 +676,7 @@ fn blob(s: &[u8], pos: usize, more: usize) -> Surveyed
 
 // The bytes that an object has behind its own: 1 of a text, 0 of bytes; 2 where it is neither.
 fn blob_end(ob: Object) -> usize
-    ensures { λ r. ⌜ BlobEnd ob r × (r ≤ 2) ⌝ }
+    ensures { λ r. ⌜ BlobEnd ob r × (r ≤ 2) × (isBlob ob ≡ true → r < 2) ⌝ }
 {
     match ob {
         Object::Text => 1,
@@ -827,6 +854,183 @@ fn simple_members(
     }
 }
 
+// ---- simple elements: flat values, texts and bytes, which need no walk to other objects either.
+// A list's float or enum, present, behind its mark: no other flat element has one.
+fn scalar_test(b: &[u8], s: &[u8], k: Flat, pos: usize) -> Tested
+    requires { ⌜ (FlatSound (length (P.parse (now b) .structs)) k) × (FlatScalar k) × (Sh.flatUnmarked k ≡ false) × By.Inside (now s) pos ⌝ }
+    ensures { λ r. ⌜ By.Tests (now (s .entry)) pos (By.flat (now (b .entry)) true k) r ⌝ }
+{
+    match k {
+        Flat::Boolean => not_lawful(pos),
+        Flat::Integer(_, _) => not_lawful(pos),
+        Flat::Float(w) => float_number(s, pos, true, w),
+        Flat::Enumerated(n) => enum_known(s, pos, n),
+        Flat::Struct(_) => not_lawful(pos),
+    }
+}
+
+// A list's float or enum: its mark, and what the mark says comes next.
+fn scalar_element(b: &[u8], s: &[u8], k: Flat, pos: usize) -> Tested
+    requires { ⌜ (FlatSound (length (P.parse (now b) .structs)) k) × (FlatScalar k) × (Sh.flatUnmarked k ≡ false) × By.Inside (now s) pos ⌝ }
+    ensures { λ r. ⌜ By.Tests (now (s .entry)) pos (By.flatElement (now (b .entry)) k) r ⌝ }
+{
+    let x = bitio::take_number(s, pos, 2);
+    if !x.whole {
+        return not_lawful(pos);
+    }
+    let mark = x.value;
+    let next = x.next;
+    if mark == 0 {
+        return Tested {
+            whole: true,
+            fine: true,
+            next: next,
+        };
+    }
+    if mark == 1 {
+        return scalar_test(b, s, k, next);
+    }
+    if mark == 2 {
+        return flat_unknown(s, next, k);
+    }
+    not_lawful(pos)
+}
+
+// n floats or enums of a list, with the extent of what stands before them.
+fn scalar_elements(
+    b: &[u8],
+    s: &[u8],
+    d: usize,
+    k: Flat,
+    n: usize,
+    e: Extent,
+    at: usize,
+    o: usize,
+) -> Surveyed
+    requires { ⌜ (FlatSound (length (P.parse (now b) .structs)) k) × (FlatScalar k) × (Sh.flatUnmarked k ≡ false) × (By.Inside (now s) at) × Small e ⌝ }
+    ensures { λ r. ⌜ By.Surveys (now (s .entry)) at (By.elements o d (now (b .entry)) (Kind.OfFlat k) n e) r ⌝ }
+{
+    let mut a = e;
+    let mut pos = at;
+    let mut j: usize = 0;
+    while j < n {
+        let x = scalar_element(b, s, k, pos);
+        if !x.whole {
+            return unlawful(at);
+        }
+        pos = x.next;
+        a = joined_plain(a, x.fine);
+        j += 1;
+    }
+    Surveyed {
+        whole: true,
+        extent: a,
+        next: pos,
+    }
+}
+
+// An element that refers to a text or bytes, with `more` bytes behind its own: its mark, and its content if it is present.
+fn blob_element(
+    b: &[u8],
+    s: &[u8],
+    d: usize,
+    ob: Object,
+    more: usize,
+    pos: usize,
+    o: usize,
+) -> Surveyed
+    requires { ⌜ (Width o) × (By.Inside (now s) pos) × (BlobEnd ob more) × (more < 2) ⌝ }
+    ensures { λ r. ⌜ By.Surveys (now (s .entry)) pos (By.part o d (now (b .entry)) (Kind.OfObject ob) true false) r ⌝ }
+{
+    let x = bitio::take_number(s, pos, 2);
+    if !x.whole {
+        return unlawful(pos);
+    }
+    let mark = x.value;
+    let next = x.next;
+    if mark == 0 {
+        return Surveyed {
+            whole: true,
+            extent: plain(true),
+            next: next,
+        };
+    }
+    if mark == 1 {
+        return refer_blob(s, d, more, false, false, next, o);
+    }
+    unlawful(pos)
+}
+
+// n elements that refer to texts or bytes, with the extent of what stands before them.
+fn blob_elements(
+    b: &[u8],
+    s: &[u8],
+    d: usize,
+    ob: Object,
+    n: usize,
+    e: Extent,
+    at: usize,
+    o: usize,
+) -> Surveyed
+    requires { ⌜ (Width o) × (isBlob ob ≡ true) × (By.Inside (now s) at) × Small e ⌝ }
+    ensures { λ r. ⌜ By.Surveys (now (s .entry)) at (By.elements o d (now (b .entry)) (Kind.OfObject ob) n e) r ⌝ }
+{
+    let more = blob_end(ob);
+    let mut a = e;
+    let mut pos = at;
+    let mut j: usize = 0;
+    while j < n {
+        let x = blob_element(b, s, d, ob, more, pos, o);
+        if !x.whole {
+            return unlawful(at);
+        }
+        pos = x.next;
+        a = joined(a, x.extent);
+        j += 1;
+    }
+    Surveyed {
+        whole: true,
+        extent: a,
+        next: pos,
+    }
+}
+
+// Whether elements of kind k are simple.
+fn is_simple(k: Kind) -> bool
+    ensures { λ r. ⌜ r ≡ isSimple k ⌝ }
+{
+    match k {
+        Kind::OfFlat(_) => true,
+        Kind::OfObject(ob) => schema::is_blob(ob),
+        Kind::OfUnion(_) => false,
+    }
+}
+
+// The n elements of a list that are simple, and take `total` bytes in the list.
+fn simple_elements(
+    b: &[u8],
+    s: &[u8],
+    d: usize,
+    k: Kind,
+    n: usize,
+    total: usize,
+    at: usize,
+    o: usize,
+) -> Surveyed
+    requires { ⌜ (Width o) × (KindSound (P.parse (now b)) k) × (NoStruct k) × (isSimple k ≡ true) × (By.Inside (now s) at) × (n < 2 ^ 32) × (total < 2 ^ 48) ⌝ }
+    ensures { λ r. ⌜ By.Surveys (now (s .entry)) at (By.elements o d (now (b .entry)) k n (Sv.opened n total)) r ⌝ }
+{
+    let first = opened(n, total);
+    if unmarked(k) {
+        return pass(s, at, unmarked_bits(k), n, first);
+    }
+    match k {
+        Kind::OfFlat(f) => scalar_elements(b, s, d, f, n, first, at, o),
+        Kind::OfObject(ob) => blob_elements(b, s, d, ob, n, first, at, o),
+        Kind::OfUnion(_) => unlawful(at),
+    }
+}
+
 // The unknown number of a member or an element: an enum's, or a union's choice.
 fn unknown(b: &[u8], dir: &[u16], s: &[u8], pos: usize, k: Kind) -> Surveyed
     requires { ⌜ (Accepted (now b) (now dir)) × (KindSound (P.parse (now b)) k) × By.Inside (now s) pos ⌝ }
@@ -915,8 +1119,8 @@ fn body(
 {
     match k {
         Kind::OfFlat(f) => plain_of(flat_test(b, dir, s, pos, optional, f)),
-        Kind::OfObject(ob) => refer(b, dir, s, d, ob, inplace, false, pos, o),
-        Kind::OfUnion(u) => choice(b, dir, s, d, wire::index(u), inplace, pos, o),
+        Kind::OfObject(ob) => kept(refer(b, dir, s, d, ob, inplace, false, pos, o)),
+        Kind::OfUnion(u) => kept(choice(b, dir, s, d, wire::index(u), inplace, pos, o)),
     }
 }
 
@@ -1144,11 +1348,10 @@ fn list(b: &[u8], dir: &[u16], s: &[u8], d: usize, i: usize, at: usize, o: usize
     if t < 256 {
         return rows(b, dir, s, d, t, n, total, y.next, o);
     }
-    let first = opened(n, total);
-    if unmarked(k) {
-        return pass(s, y.next, unmarked_bits(k), n, first);
+    if is_simple(k) {
+        return simple_elements(b, s, d, k, n, total, y.next, o);
     }
-    let mut a = first;
+    let mut a = opened(n, total);
     let mut pos = y.next;
     let mut j: usize = 0;
     while j < n {

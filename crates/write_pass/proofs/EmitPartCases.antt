@@ -214,6 +214,16 @@ module _ (o : ℕ) (child : Emitter) (measure : Surveyor) (S : Schema) (s : List
   unfolding emitBody extra
   body-union u j e ej t = rw e (subst (λ (a : ℕ). EmittedAt s (emitChoice child measure o S inplace (Sc.casesOf S a) (stateOf c out) (drop pos (bits s))) pos c o w q out₁ n) ej t)
 
+  -- with its answer copied
+  module _ (w₀ : Bool) (q₀ : Places) (n₀ : ℕ) (ew : w ≡ w₀) (eq : q ≡ q₀) (en : n ≡ n₀) where
+    pub kept-object : (ob : Object) → k ≡ OfObject ob → EmittedAt s (emitRefer child measure o S inplace ob (stateOf c out) (drop pos (bits s))) pos c o w₀ q₀ out₁ n₀
+        → EmittedAt s (emitBody child measure o S k inplace (stateOf c out) (drop pos (bits s))) pos c (extra o k) w q out₁ n
+    kept-object ob e t = body-object ob e (rw (ew, eq, en) t)
+
+    pub kept-union : (u j : ℕ) → k ≡ OfUnion u → j ≡ u → EmittedAt s (emitChoice child measure o S inplace (Sc.casesOf S j) (stateOf c out) (drop pos (bits s))) pos c o w₀ q₀ out₁ n₀
+        → EmittedAt s (emitBody child measure o S k inplace (stateOf c out) (drop pos (bits s))) pos c (extra o k) w q out₁ n
+    kept-union u j e ej t = body-union u j e ej (rw (ew, eq, en) t)
+
 -- ---- with its mark
 module _ (o : ℕ) (child : Emitter) (measure : Surveyor) (S : Schema) (s : List ℕ) (r : Member) (c : Places) (out : List ℕ) (pos : ℕ) (room : Room s pos c)
     (whole : Bool) (x next : ℕ) (taken : TakenNumber s pos 2 whole x next) where

@@ -5,6 +5,7 @@ use mathlib.Core.List.{List}
 use Prim.Native.Nat.{ℕ, _+_, _^_, _<_, _≤_}
 use native.Mathlib.Omega.{arith}
 use Rattle.coding.specs.Bytes.{largest}
+use Rattle.coding.specs.Lists.{pick}
 use Rattle.coding.specs.Schema as Sc
 use Rattle.coding.specs.Schema.{Schema}
 use Rattle.coding.specs.Layout.{hasFlag}
@@ -61,13 +62,15 @@ module _ (S : Schema) (ob : Object) where
 
 -- ---- references
 module _ (o : ℕ) (inplace : Bool) (x : Extent) (c r : Places) (out out₁ : List ℕ) where
-  pub referred-content : inplace ≡ true → Stood o (putNumber o (x .length) (stateOf c out)) (stateOf r out₁) c r → Stood o (referred o inplace x (stateOf c out)) (stateOf r out₁) c r
+  pub referred-by : (y : ℕ) → y ≡ pick inplace (x .length) (c .next) → Stood o (putNumber o y (stateOf c out)) (stateOf r out₁) c r
+      → Stood o (referred o inplace x (stateOf c out)) (stateOf r out₁) c r
   unfolding referred
-  referred-content e t = rw e t
-
-  pub referred-object : inplace ≡ false → Stood o (putNumber o (c .next) (stateOf c out)) (stateOf r out₁) c r → Stood o (referred o inplace x (stateOf c out)) (stateOf r out₁) c r
-  unfolding referred
-  referred-object e t = rw e t
+  referred-by y e t =
+      subst (λ (st : State). Stood o st (stateOf r out₁) c r) (ap (λ (z : ℕ). putNumber o z (stateOf c out)) e ∙ by inplace) t
+    where
+      by : (u : Bool) → putNumber o (pick u (x .length) (c .next)) (stateOf c out) ≡ pick u (putNumber o (x .length) (stateOf c out)) (putNumber o (c .next) (stateOf c out))
+      by true = refl
+      by false = refl
 
 -- ---- contents
 held-none : (r : Places) → r .free ≡ 0 → r .held ≡ 0 → HeldOk r

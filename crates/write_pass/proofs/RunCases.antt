@@ -1,5 +1,5 @@
 -- The ways out of the pass over a run of numbers, one lemma for each.
-use mathlib.Core.Path.{_≡_, refl, sym, ap, _∙_}
+use mathlib.Core.Path.{_≡_, refl, sym, ap, _∙_, subst}
 use mathlib.Core.Bool.{Bool, true, false, not}
 use mathlib.Core.List.{List, []}
 use Prim.Native.Nat.{ℕ, suc, _+_, _-_, _*_, _^_, _<_, _≤_}
@@ -255,6 +255,12 @@ module _ (s : List ℕ) (w n : ℕ) (c : Places) (o : List ℕ) (pos : ℕ) (t :
       → EmittedAt s (emitUnmarked w n (stateOf c o) (drop pos (bits s))) pos c 0 t q o₁ m
   unfolding emitUnmarked
   unmarked-integers e em = rw (ne-eqb w 0 e) em
+
+  -- by a width that is named
+  pub unmarked-named : (w ≡ 0 → ⊥) → (v : ℕ) → w ≡ v → EmittedAt s (emitRun (8 * v) (putNumber v) n (stateOf c o) (drop pos (bits s))) pos c 0 t q o₁ m
+      → EmittedAt s (emitUnmarked w n (stateOf c o) (drop pos (bits s))) pos c 0 t q o₁ m
+  unmarked-named h v e em =
+      unmarked-integers h (subst (λ (y : ℕ). EmittedAt s (emitRun (8 * y) (putNumber y) n (stateOf c o) (drop pos (bits s))) pos c 0 t q o₁ m) (sym e) em)
 
 module _ (k : Kind) (w : ℕ) (ew : w ≡ integerWidth k) where
   pub integer-wide : (b dir : List ℕ) → Accepted b dir → (i : ℕ) → k ≡ Sc.elementOf (parse b) i → w ≤ 8

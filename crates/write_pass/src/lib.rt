@@ -16,6 +16,7 @@ ghost use Prim.Native.Nat.{ℕ, _+_, _-_, _*_, _%_, _<_, _≤_, _^_};
 ghost use lib.ListN.{length, drop};
 ghost use Rattle.coding.specs.Bytes as B;
 ghost use Rattle.coding.specs.Bits.{bits};
+ghost use Rattle.coding.specs.Lists.{pick};
 ghost use Rattle.coding.specs.Packed as P;
 ghost use Rattle.coding.specs.Schema as Sc;
 ghost use Rattle.coding.specs.Sheet as Sh;
@@ -462,7 +463,7 @@ fn emit_bits(s: &[u8], out: &mut [u8], n: usize, c: Places, pos: usize) -> Emitt
     stored(p, at)
 }
 
-// n integers of w bytes, or n bools where w is 0.
+// n integers of w bytes, or n bools where w is 0. Each width is named for speed: the compiler makes a loop for each.
 fn emit_unmarked(s: &[u8], out: &mut [u8], w: usize, n: usize, c: Places, pos: usize) -> Emitted
     requires { ⌜ w ≤ 8 ⌝ }
     requires { ⌜ Room (now s) pos c ⌝ }
@@ -470,6 +471,15 @@ fn emit_unmarked(s: &[u8], out: &mut [u8], w: usize, n: usize, c: Places, pos: u
 {
     if w == 0 {
         return emit_bits(s, out, n, c, pos);
+    }
+    if w == 8 {
+        return emit_run(s, out, 8, n, c, pos);
+    }
+    if w == 4 {
+        return emit_run(s, out, 4, n, c, pos);
+    }
+    if w == 2 {
+        return emit_run(s, out, 2, n, c, pos);
     }
     emit_run(s, out, w, n, c, pos)
 }
@@ -566,16 +576,20 @@ fn object_magic(b: &[u8], dir: &[u16], ob: Object) -> u64
     }
 }
 
-// What refers to an object: its offset, or its length in place.
+// The number that refers to an object: its offset, or its length in place.
+fn reference(inplace: bool, e: Extent, c: Places) -> usize
+    ensures { λ r. ⌜ r ≡ pick inplace (e .length) (c .next) ⌝ }
+{
+    if inplace { e.length } else { c.next }
+}
+
+// What refers to an object.
 fn put_reference(out: &mut [u8], inplace: bool, e: Extent, c: Places, o: usize) -> Places
     requires { ⌜ (Width o) × (c .at < 2 ^ 61) ⌝ }
     ensures { λ r. ⌜ Stood o (Eg.referred o inplace e (stateOf c (now (out .entry)))) (stateOf r (now (out .exit))) c r ⌝ }
 {
-    if inplace {
-        return write_store::put_offset(out, c, e.length as u64, o);
-    }
-    let x = c.next as u64;
-    write_store::put_offset(out, c, x, o)
+    let x = reference(inplace, e, c);
+    write_store::put_offset(out, c, x as u64, o)
 }
 
 // A header at the next object's place, by the object's magic and extent; behind it the content goes on. All types of objects
@@ -950,6 +964,19 @@ fn emit_terminal(
 }
 
 // ---- members, elements and objects
+// The same answer, field by field, for speed.
+fn kept(x: Emitted) -> Emitted
+    ensures { λ r. ⌜ (r .whole ≡ x .whole) × (r .places ≡ x .places) × (r .next ≡ x .next) ⌝ }
+{
+    let next = x.next;
+    let whole = x.whole;
+    Emitted {
+        places: write_store::copied(x.places),
+        next,
+        whole,
+    }
+}
+
 // An object by its offset or in place: measured, and then what refers to it and the object itself.
 fn emit_refer(
     b: &[u8],
@@ -1053,8 +1080,19 @@ fn emit_body(
 {
     match k {
         Kind::OfFlat(_) => not_lawful(c, pos),
-        Kind::OfObject(ob) => emit_refer(b, dir, s, out, d, ob, inplace, c, pos, o),
-        Kind::OfUnion(u) => emit_choice(b, dir, s, out, d, wire::index(u), inplace, c, pos, o),
+        Kind::OfObject(ob) => kept(emit_refer(b, dir, s, out, d, ob, inplace, c, pos, o)),
+        Kind::OfUnion(u) => kept(emit_choice(
+            b,
+            dir,
+            s,
+            out,
+            d,
+            wire::index(u),
+            inplace,
+            c,
+            pos,
+            o,
+        )),
     }
 }
 

@@ -97,6 +97,10 @@ one-stored w x b o o₁ at e eb f = f ∙ ap (set o at) eb ∙ ap (λ (k : ℕ).
 pub width-stored : (v w x : ℕ) (o o₁ : List ℕ) (at : ℕ) → w ≡ v → o₁ ≡ sets o at (leBytes v x) → o₁ ≡ sets o at (leBytes w x)
 width-stored v w x o o₁ at e f = f ∙ ap (λ (k : ℕ). sets o at (leBytes k x)) (sym e)
 
+-- a width that is not six is four
+pub narrow-stored : (o x : ℕ) (out out₁ : List ℕ) (at : ℕ) → (o ≡ 6 → ⊥) → 4 ≤ o → o ≤ 6 → o % 2 ≡ 0 → out₁ ≡ sets out at (leBytes 4 x) → out₁ ≡ sets out at (leBytes o x)
+narrow-stored o x out out₁ at h l u q f = let e : o ≡ 4 = omega arith in width-stored 4 o x out out₁ at e f
+
 -- ---- a part of the buffer that was lent, and filled
 lent : (o ys bs : List ℕ) (at n : ℕ) → at + n ≤ length o → length bs ≡ n → ys ≡ bs → putMid at (at + n - at) o ys ≡ sets o at bs
 lent o ys bs at n h l e =

@@ -17,7 +17,8 @@ use borrow.Fn.Kinds.{In}
 use borrow.Fn.PlainCycle.{Measures, is, falls, and}
 use Rattle.write_measure.proofs.PartCases.{kind-flat, kind-object, union-counted, case-sound, body-flat, body-object, body-union, choice-cut, choice-zero, choice-above, choice-known, part-cut, part-none, part-there, part-unknown, part-bad, refer-surveyed, refer-blob, object-none, object-there, object-bad}
 use Rattle.write_measure.proofs.ExtentCases.{size-short}
-use Rattle.write_measure.proofs.ObjectCases.{list-counted, table-counted, element-sound, member-kind, member-counted, members-start, members-done, elements-cut, elements-start, elements-unmarked, elements-rows, row-counted, row-deep, row-there, rows-start, object-marked, marked, elements-done, elements-stopped, elements-turn, object-deep, object-text, object-bytes, object-list, object-table}
+use Rattle.write_measure.proofs.ObjectCases.{list-counted, table-counted, element-sound, member-kind, member-counted, members-start, members-done, elements-cut, elements-start, elements-simple, elements-rows, row-counted, row-deep, row-there, rows-start, object-marked, elements-done, elements-stopped, elements-turn, object-deep, object-text, object-bytes, object-list, object-table}
+use Rattle.write_measure.proofs.ElementCases.{simple-is, not-simple, element-no-struct}
 use Rattle.write_measure.proofs.SimpleCases.{members-few, table-cut, table-ended, table-stopped, table-turn}
 use Rattle.write_measure.proofs.body.Reads as body
 use Rattle.write_measure.proofs.body.Kinds as body-kinds
@@ -62,8 +63,6 @@ use Rattle.schema.proofs.member.Reads as member-reads
 use Rattle.schema.proofs.member_count.Reads as member-count-reads
 use Rattle.schema.proofs.union_case.Reads as union-case-reads
 use Rattle.wire.proofs.index.Reads as index-reads
-use Rattle.write_measure.proofs.unmarked.Reads as unmarked-reads
-use Rattle.write_measure.proofs.unmarked_bits.Reads as unmarked-bits-reads
 use Rattle.write_measure.proofs.blob.Reads as blob-reads
 use Rattle.write_measure.proofs.blob_end.Reads as blob-end-reads
 use Rattle.message_layout.proofs.elements_size.Reads as elements-size-reads
@@ -74,7 +73,9 @@ use Rattle.write_measure.proofs.simple_members.Reads as simple-members-
 use Rattle.write_measure.proofs.unknown.Reads as unknown-reads
 use Rattle.write_measure.proofs.may_lack.Reads as may-lack-reads
 use Rattle.write_measure.proofs.opened.Reads as opened-reads
-use Rattle.write_measure.proofs.pass.Reads as pass-reads
+use Rattle.write_measure.proofs.kept.Reads as kept-reads
+use Rattle.write_measure.proofs.is_simple.Reads as is-simple-reads
+use Rattle.write_measure.proofs.simple_elements.Reads as simple-elements-reads
 use Rattle.write_measure.proofs.plain.Reads as plain-reads
 use Rattle.write_measure.proofs.plain_of.Reads as plain-of-reads
 use Rattle.write_measure.proofs.refer_blob.Reads as refer-blob-reads
@@ -205,13 +206,13 @@ abbrev table-found-R : ℕ → table-found-lts.Claims
 table-found-R t = (fixed-size-reads.Asked, fixed-size-reads.Learnt, table-below t, table.Post)
 
 abbrev body-R : ℕ → body-lts.Claims
-body-R t = (flat-test-reads.Asked, flat-test-reads.Learnt, plain-of-reads.Asked, plain-of-reads.Learnt, refer-below t, refer.Post, index-reads.Asked, index-reads.Learnt, choice-below t, choice.Post)
+body-R t = (flat-test-reads.Asked, flat-test-reads.Learnt, plain-of-reads.Asked, plain-of-reads.Learnt, refer-below t, refer.Post, kept-reads.Asked, kept-reads.Learnt, index-reads.Asked, index-reads.Learnt, choice-below t, choice.Post)
 
 abbrev choice-R : ℕ → choice-lts.Claims
 choice-R t = (case-count-reads.Asked, case-count-reads.Learnt, take-number-reads.Asked, take-number-reads.Learnt, unlawful-reads.Asked, unlawful-reads.Learnt, union-case-reads.Asked, union-case-reads.Learnt, refer-below t, refer.Post)
 
 abbrev list-R : ℕ → list-lts.Claims
-list-R t = (take-number-reads.Asked, take-number-reads.Learnt, unlawful-reads.Asked, unlawful-reads.Learnt, element-reads.Asked, element-reads.Learnt, elements-size-reads.Asked, elements-size-reads.Learnt, table-in-reads.Asked, table-in-reads.Learnt, rows-below t, rows.Post, opened-reads.Asked, opened-reads.Learnt, unmarked-reads.Asked, unmarked-reads.Learnt, unmarked-bits-reads.Asked, unmarked-bits-reads.Learnt, pass-reads.Asked, pass-reads.Learnt, part-below t, part.Post, joined-reads.Asked, joined-reads.Learnt)
+list-R t = (take-number-reads.Asked, take-number-reads.Learnt, unlawful-reads.Asked, unlawful-reads.Learnt, element-reads.Asked, element-reads.Learnt, elements-size-reads.Asked, elements-size-reads.Learnt, table-in-reads.Asked, table-in-reads.Learnt, rows-below t, rows.Post, is-simple-reads.Asked, is-simple-reads.Learnt, simple-elements-reads.Asked, simple-elements-reads.Learnt, opened-reads.Asked, opened-reads.Learnt, part-below t, part.Post, joined-reads.Asked, joined-reads.Learnt)
 
 abbrev object-R : ℕ → object-lts.Claims
 object-R t = (unlawful-reads.Asked, unlawful-reads.Learnt, blob-reads.Asked, blob-reads.Learnt, index-reads.Asked, index-reads.Learnt, list-below t, list.Post, table-found-below t, table-found.Post)
@@ -243,6 +244,9 @@ body-enum-known-k-2 t c = search needs
 body-refer-requires : (t : ℕ) → body-lts.Need-refer-requires (body-R t) (body-at t) body.Post
 body-refer-requires t c κs = search (kind-object, needs)
 
+body-kept-requires : (t : ℕ) → body-lts.Need-kept-requires (body-R t) (body-at t) body.Post
+body-kept-requires t c κs = search needs
+
 body-enum-known-k-3 : (t : ℕ) → body-lts.Need-enum-known-k-3 (body-R t) (body-at t) body.Post
 body-enum-known-k-3 t c = search needs
 
@@ -251,6 +255,9 @@ body-index-requires t c κs = search needs
 
 body-choice-requires : (t : ℕ) → body-lts.Need-choice-requires (body-R t) (body-at t) body.Post
 body-choice-requires t c κs = search (union-counted, needs)
+
+body-kept-requires-2 : (t : ℕ) → body-lts.Need-kept-requires-2 (body-R t) (body-at t) body.Post
+body-kept-requires-2 t c κs = search needs
 
 body-returns : (t : ℕ) → body-lts.Need-returns (body-R t) (body-at t) body.Post
 body-returns t c = search body-flat
@@ -295,12 +302,12 @@ choice-returns-4 : (t : ℕ) → choice-lts.Need-returns-4 (choice-R t) (choice-
 choice-returns-4 t c = search choice-known
 
 abbrev list-Inv-loop : list-lts.InvT-loop
-list-Inv-loop b dir s d i at o n k total u a₀ pos₀ j₀ a pos j =
+list-Inv-loop b dir s d i at o n k total t a₀ pos₀ j₀ a pos j =
     (j ≤ n) × (n < 2 ^ 32) × (length s ≤ 16777215) × (at ≤ 8 * length s) × (pos ≤ 8 * length s) × Small a × (unmarked k ≡ false)
     × (surveyContent (survey d o (P.parse b)) o (P.parse b) (O.List i) (drop at (bits s)) ≡ surveyElements (survey d o (P.parse b)) o (P.parse b) k (n - j) a (drop pos (bits s)))
 
 abbrev list-μ-loop : list-lts.MeasureT-loop
-list-μ-loop b dir s d i at o n k total u a₀ pos₀ j₀ a pos j = n - j
+list-μ-loop b dir s d i at o n k total t a₀ pos₀ j₀ a pos j = n - j
 
 list-take-number-requires : (t : ℕ) → list-lts.Need-take-number-requires (list-R t) (list-at t) list.Post list-Inv-loop list-μ-loop
 list-take-number-requires t c κs = search needs
@@ -326,23 +333,20 @@ list-rows-requires t c κs = (search needs, (search needs, search needs, search 
 list-returns-2 : (t : ℕ) → list-lts.Need-returns-2 (list-R t) (list-at t) list.Post list-Inv-loop list-μ-loop
 list-returns-2 t c = search elements-rows
 
+list-is-simple-requires : (t : ℕ) → list-lts.Need-is-simple-requires (list-R t) (list-at t) list.Post list-Inv-loop list-μ-loop
+list-is-simple-requires t c κs = search needs
+
+list-simple-elements-requires : (t : ℕ) → list-lts.Need-simple-elements-requires (list-R t) (list-at t) list.Post list-Inv-loop list-μ-loop
+list-simple-elements-requires t c κs = search (element-sound, element-no-struct, simple-is, size-short, needs)
+
+list-returns-3 : (t : ℕ) → list-lts.Need-returns-3 (list-R t) (list-at t) list.Post list-Inv-loop list-μ-loop
+list-returns-3 t c = search elements-simple
+
 list-opened-requires : (t : ℕ) → list-lts.Need-opened-requires (list-R t) (list-at t) list.Post list-Inv-loop list-μ-loop
 list-opened-requires t c κs = search needs
 
-list-unmarked-requires : (t : ℕ) → list-lts.Need-unmarked-requires (list-R t) (list-at t) list.Post list-Inv-loop list-μ-loop
-list-unmarked-requires t c κs = search needs
-
-list-unmarked-bits-requires : (t : ℕ) → list-lts.Need-unmarked-bits-requires (list-R t) (list-at t) list.Post list-Inv-loop list-μ-loop
-list-unmarked-bits-requires t c κs = search needs
-
-list-pass-requires : (t : ℕ) → list-lts.Need-pass-requires (list-R t) (list-at t) list.Post list-Inv-loop list-μ-loop
-list-pass-requires t c κs = ((c .before .before .before .before .before .before .before .before .before .before .before .before .before .before .pre .1 .3 .0, c .before .before .before .before .before .before .before .before .before .before .take-number .ensures .inside), search needs, search (needs, c .before .before .before .before .before .before .before .before .before .before .take-number .ensures), search needs)
-
-list-returns-3 : (t : ℕ) → list-lts.Need-returns-3 (list-R t) (list-at t) list.Post list-Inv-loop list-μ-loop
-list-returns-3 t c = search elements-unmarked
-
 list-loop-holds : (t : ℕ) → list-lts.Need-loop-holds (list-R t) (list-at t) list.Post list-Inv-loop list-μ-loop
-list-loop-holds t c = (search needs, search needs, search needs, search needs, search needs, search needs, search marked, search elements-start)
+list-loop-holds t c = (search needs, search needs, search needs, search needs, search needs, search needs, search not-simple, search elements-start)
 
 list-part-requires : (t : ℕ) → list-lts.Need-part-requires (list-R t) (list-at t) list.Post list-Inv-loop list-μ-loop
 list-part-requires t c κs = (search needs, (search needs, search needs, search element-sound, (search needs, search needs)))
@@ -645,9 +649,11 @@ pub +body+choice+list+marked-row+member-part+object+part+refer+row+rows+table+ta
     (body-plain-of-requires t)
     (body-enum-known-k-2 t)
     (body-refer-requires t)
+    (body-kept-requires t)
     (body-enum-known-k-3 t)
     (body-index-requires t)
     (body-choice-requires t)
+    (body-kept-requires-2 t)
     (body-returns t)
     (body-returns-2 t)
     (body-returns-3 t))
@@ -678,11 +684,10 @@ pub +body+choice+list+marked-row+member-part+object+part+refer+row+rows+table+ta
     (list-table-in-requires t)
     (list-rows-requires t)
     (list-returns-2 t)
-    (list-opened-requires t)
-    (list-unmarked-requires t)
-    (list-unmarked-bits-requires t)
-    (list-pass-requires t)
+    (list-is-simple-requires t)
+    (list-simple-elements-requires t)
     (list-returns-3 t)
+    (list-opened-requires t)
     (list-loop-holds t)
     (list-part-requires t)
     (list-unlawful-requires-2 t)

@@ -1,6 +1,7 @@
 use borrow.Author.Needs.{needs}
 use native.Mathlib.Omega.{arith}
 use Rattle.write_measure.proofs.PartCases.{end-text, end-bytes, end-other}
+use Rattle.write_measure.proofs.ElementCases.{blob-list, blob-table}
 use Rattle.write_measure.proofs.blob_end.Statement.{statement}
 use Rattle.write_measure.proofs.blob_end.Tie as tie
 use Rattle.write_measure.proofs.blob_end.Reads as reads
@@ -19,16 +20,16 @@ enum-told-4 : tie.Need-enum-told-4
 enum-told-4 c = search needs
 
 returns : tie.Need-returns
-returns c = (search end-text, omega arith)
+returns c = (search end-text, omega arith, λ h. omega arith)
 
 returns-2 : tie.Need-returns-2
-returns-2 c = (search end-bytes, omega arith)
+returns-2 c = (search end-bytes, omega arith, λ h. omega arith)
 
 returns-3 : tie.Need-returns-3
-returns-3 c = (search end-other, omega arith)
+returns-3 c = (search end-other, omega arith, search blob-list)
 
 returns-4 : tie.Need-returns-4
-returns-4 c = (search end-other, omega arith)
+returns-4 c = (search end-other, omega arith, search blob-table)
 
 pub blob-end-spec : {M : Type 1} → statement M
 blob-end-spec =

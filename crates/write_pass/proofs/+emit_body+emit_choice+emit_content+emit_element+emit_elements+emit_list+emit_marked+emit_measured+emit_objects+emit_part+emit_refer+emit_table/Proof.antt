@@ -15,7 +15,7 @@ use Rattle.write_pass.specs.Emitting.{Room}
 use Rattle.write_measure.proofs.PartCases.{kind-flat, kind-object, union-counted, case-sound}
 use Rattle.write_measure.proofs.ObjectCases.{list-counted, table-counted, element-sound, member-kind, member-counted}
 use Rattle.write_pass.proofs.EmitRoom.{room-taken, room-choice, room-open, room-copied, room-below, stood-next, stood-tail}
-use Rattle.write_pass.proofs.EmitPartCases.{choice-cut, choice-zero, choice-above, choice-known, body-no-flat, body-object, body-union, unflagged-cut, unflagged-there, unflagged-bad, unflagged-none, unflagged-pass, room-lacked, terminal-told, terminal-refers, object-refers, union-refers, element-flat, element-refers, not-unmarked, flat-marked, flat-scalar, marked-cut, marked-there, marked-none, marked-bad}
+use Rattle.write_pass.proofs.EmitPartCases.{choice-cut, choice-zero, choice-above, choice-known, body-no-flat, kept-object, kept-union, unflagged-cut, unflagged-there, unflagged-bad, unflagged-none, unflagged-pass, room-lacked, terminal-told, terminal-refers, object-refers, union-refers, element-flat, element-refers, not-unmarked, flat-marked, flat-scalar, marked-cut, marked-there, marked-none, marked-bad}
 use Rattle.write_pass.proofs.EmitObjectCases.{refer-cut, refer-done, members-start, members-done, members-stopped, members-turn, refers-stopped, refers-turn, element-scalar, elements-cut, list-elements, list-objects, list-flats, element-object, element-flat-sound, element-flat-scalar, element-flat-marked, elements-start, elements-done, elements-stopped, elements-turn, content-deep, content-text, content-bytes, content-list, content-table}
 use Rattle.write_pass.proofs.RunCases.{integer-wide, list-octets, list-run}
 use borrow.Fn.Kinds.{In}
@@ -77,6 +77,7 @@ use Rattle.write_pass.proofs.known_size.Reads as known-size-reads
 use Rattle.write_pass.proofs.lack.Reads as lack-reads
 use Rattle.write_pass.proofs.measure.Reads as measure-reads
 use Rattle.write_pass.proofs.measure_by.Reads as measure-by-reads
+use Rattle.write_pass.proofs.kept.Reads as kept-reads
 use Rattle.write_pass.proofs.not_lawful.Reads as not-lawful-reads
 use Rattle.write_pass.proofs.open.Reads as open-reads
 use Rattle.write_pass.proofs.pass.Reads as pass-reads
@@ -228,7 +229,7 @@ emit-table-below t =
     and 4 emit-table-kinds.ps (falls 4 emit-table-kinds.ps _<_ μ-emit-table t) emit-table.Pre
 
 abbrev emit-body-R : ℕ → emit-body-lts.Claims
-emit-body-R t = (not-lawful-reads.Asked, not-lawful-reads.Learnt, emit-refer-below t, emit-refer.Post, index-reads.Asked, index-reads.Learnt, emit-choice-below t, emit-choice.Post)
+emit-body-R t = (not-lawful-reads.Asked, not-lawful-reads.Learnt, emit-refer-below t, emit-refer.Post, kept-reads.Asked, kept-reads.Learnt, index-reads.Asked, index-reads.Learnt, emit-choice-below t, emit-choice.Post)
 
 abbrev emit-choice-R : ℕ → emit-choice-lts.Claims
 emit-choice-R t = (case-count-reads.Asked, case-count-reads.Learnt, take-number-reads.Asked, take-number-reads.Learnt, not-lawful-reads.Asked, not-lawful-reads.Learnt, union-case-reads.Asked, union-case-reads.Learnt, put-number-reads.Asked, put-number-reads.Learnt, emit-refer-below t, emit-refer.Post)
@@ -275,6 +276,9 @@ emit-body-enum-known-k t c = search needs
 emit-body-emit-refer-requires : (t : ℕ) → emit-body-lts.Need-emit-refer-requires (emit-body-R t) (emit-body-at t) emit-body.Post
 emit-body-emit-refer-requires t c κs = search (kind-object, needs)
 
+emit-body-kept-requires : (t : ℕ) → emit-body-lts.Need-kept-requires (emit-body-R t) (emit-body-at t) emit-body.Post
+emit-body-kept-requires t c κs = search needs
+
 emit-body-enum-known-k-2 : (t : ℕ) → emit-body-lts.Need-enum-known-k-2 (emit-body-R t) (emit-body-at t) emit-body.Post
 emit-body-enum-known-k-2 t c = search needs
 
@@ -283,6 +287,9 @@ emit-body-index-requires t c κs = search needs
 
 emit-body-emit-choice-requires : (t : ℕ) → emit-body-lts.Need-emit-choice-requires (emit-body-R t) (emit-body-at t) emit-body.Post
 emit-body-emit-choice-requires t c κs = search (union-counted, needs)
+
+emit-body-kept-requires-2 : (t : ℕ) → emit-body-lts.Need-kept-requires-2 (emit-body-R t) (emit-body-at t) emit-body.Post
+emit-body-kept-requires-2 t c κs = search needs
 
 emit-body-same-length : (t : ℕ) → emit-body-lts.Need-same-length (emit-body-R t) (emit-body-at t) emit-body.Post
 emit-body-same-length t c = search needs
@@ -294,10 +301,10 @@ emit-body-same-length-2 : (t : ℕ) → emit-body-lts.Need-same-length-2 (emit-b
 emit-body-same-length-2 t c = search needs
 
 emit-body-returns-2 : (t : ℕ) → emit-body-lts.Need-returns-2 (emit-body-R t) (emit-body-at t) emit-body.Post
-emit-body-returns-2 t c = search body-object
+emit-body-returns-2 t c = search kept-object
 
 emit-body-returns-3 : (t : ℕ) → emit-body-lts.Need-returns-3 (emit-body-R t) (emit-body-at t) emit-body.Post
-emit-body-returns-3 t c = search body-union
+emit-body-returns-3 t c = search kept-union
 
 emit-choice-case-count-requires : (t : ℕ) → emit-choice-lts.Need-case-count-requires (emit-choice-R t) (emit-choice-at t) emit-choice.Post
 emit-choice-case-count-requires t c κs = search needs
@@ -832,9 +839,11 @@ pub +emit-body+emit-choice+emit-content+emit-element+emit-elements+emit-list+emi
     (emit-body-not-lawful-requires t)
     (emit-body-enum-known-k t)
     (emit-body-emit-refer-requires t)
+    (emit-body-kept-requires t)
     (emit-body-enum-known-k-2 t)
     (emit-body-index-requires t)
     (emit-body-emit-choice-requires t)
+    (emit-body-kept-requires-2 t)
     (emit-body-returns t)
     (emit-body-same-length t)
     (emit-body-returns-2 t)

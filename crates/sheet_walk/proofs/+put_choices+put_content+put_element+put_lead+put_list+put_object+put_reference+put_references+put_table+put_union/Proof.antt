@@ -16,7 +16,7 @@ use Rattle.sheet_values.proofs.Remaining.{Remaining, remaining-over}
 use Rattle.sheet_walk.specs.MessageBits as A
 use Rattle.sheet_walk.specs.Readable as D
 use Rattle.sheet_walk.proofs.Objects.{member-sound-of, object-none, header-there, content-readable, object-content, content-text, content-bytes, content-list, content-table, table-counted, table-inside, table-readable, list-counted, list-inside, list-readable}
-use Rattle.sheet_walk.proofs.Values.{reference-none, reference-there, reference-readable, choice-none, choice-unknown, choice-known, case-readable}
+use Rattle.sheet_walk.proofs.Values.{reference-none, reference-there, element-there, element-readable, reference-readable, choice-none, choice-unknown, choice-known, case-readable}
 use Rattle.sheet_walk.proofs.Parts.{members-start, readable-start, member-readable, rest-readable, members-turn, members-done, coded-rest, coded-turn, elements-start, elements-readable, elements-rest, elements-done, integer-eight, element-sound, list-few, list-start, list-bools, list-numbers, elements-inside, elements-given}
 use Rattle.sheet_walk.proofs.Blobs.{blob-inside, blob-referred}
 use Rattle.sheet_walk.proofs.Runs.{list-bytes, element-flat, list-flats}
@@ -27,31 +27,34 @@ use borrow.Fn.Kinds.{In}
 use borrow.Fn.PlainCycle.{Measures, is, falls, and}
 use Rattle.sheet_walk.proofs.put_choices.Reads as put-choices
 use Rattle.sheet_walk.proofs.put_choices.Kinds as put-choices-kinds
-use Rattle.sheet_walk.proofs.+put_choices+put_content+put_lead+put_list+put_object+put_reference+put_references+put_table+put_union.Lts-put_choices as put-choices-lts
+use Rattle.sheet_walk.proofs.+put_choices+put_content+put_element+put_lead+put_list+put_object+put_reference+put_references+put_table+put_union.Lts-put_choices as put-choices-lts
 use Rattle.sheet_walk.proofs.put_content.Reads as put-content
 use Rattle.sheet_walk.proofs.put_content.Kinds as put-content-kinds
-use Rattle.sheet_walk.proofs.+put_choices+put_content+put_lead+put_list+put_object+put_reference+put_references+put_table+put_union.Lts-put_content as put-content-lts
+use Rattle.sheet_walk.proofs.+put_choices+put_content+put_element+put_lead+put_list+put_object+put_reference+put_references+put_table+put_union.Lts-put_content as put-content-lts
+use Rattle.sheet_walk.proofs.put_element.Reads as put-element
+use Rattle.sheet_walk.proofs.put_element.Kinds as put-element-kinds
+use Rattle.sheet_walk.proofs.+put_choices+put_content+put_element+put_lead+put_list+put_object+put_reference+put_references+put_table+put_union.Lts-put_element as put-element-lts
 use Rattle.sheet_walk.proofs.put_lead.Reads as put-lead
 use Rattle.sheet_walk.proofs.put_lead.Kinds as put-lead-kinds
-use Rattle.sheet_walk.proofs.+put_choices+put_content+put_lead+put_list+put_object+put_reference+put_references+put_table+put_union.Lts-put_lead as put-lead-lts
+use Rattle.sheet_walk.proofs.+put_choices+put_content+put_element+put_lead+put_list+put_object+put_reference+put_references+put_table+put_union.Lts-put_lead as put-lead-lts
 use Rattle.sheet_walk.proofs.put_list.Reads as put-list
 use Rattle.sheet_walk.proofs.put_list.Kinds as put-list-kinds
-use Rattle.sheet_walk.proofs.+put_choices+put_content+put_lead+put_list+put_object+put_reference+put_references+put_table+put_union.Lts-put_list as put-list-lts
+use Rattle.sheet_walk.proofs.+put_choices+put_content+put_element+put_lead+put_list+put_object+put_reference+put_references+put_table+put_union.Lts-put_list as put-list-lts
 use Rattle.sheet_walk.proofs.put_object.Reads as put-object
 use Rattle.sheet_walk.proofs.put_object.Kinds as put-object-kinds
-use Rattle.sheet_walk.proofs.+put_choices+put_content+put_lead+put_list+put_object+put_reference+put_references+put_table+put_union.Lts-put_object as put-object-lts
+use Rattle.sheet_walk.proofs.+put_choices+put_content+put_element+put_lead+put_list+put_object+put_reference+put_references+put_table+put_union.Lts-put_object as put-object-lts
 use Rattle.sheet_walk.proofs.put_reference.Reads as put-reference
 use Rattle.sheet_walk.proofs.put_reference.Kinds as put-reference-kinds
-use Rattle.sheet_walk.proofs.+put_choices+put_content+put_lead+put_list+put_object+put_reference+put_references+put_table+put_union.Lts-put_reference as put-reference-lts
+use Rattle.sheet_walk.proofs.+put_choices+put_content+put_element+put_lead+put_list+put_object+put_reference+put_references+put_table+put_union.Lts-put_reference as put-reference-lts
 use Rattle.sheet_walk.proofs.put_references.Reads as put-references
 use Rattle.sheet_walk.proofs.put_references.Kinds as put-references-kinds
-use Rattle.sheet_walk.proofs.+put_choices+put_content+put_lead+put_list+put_object+put_reference+put_references+put_table+put_union.Lts-put_references as put-references-lts
+use Rattle.sheet_walk.proofs.+put_choices+put_content+put_element+put_lead+put_list+put_object+put_reference+put_references+put_table+put_union.Lts-put_references as put-references-lts
 use Rattle.sheet_walk.proofs.put_table.Reads as put-table
 use Rattle.sheet_walk.proofs.put_table.Kinds as put-table-kinds
-use Rattle.sheet_walk.proofs.+put_choices+put_content+put_lead+put_list+put_object+put_reference+put_references+put_table+put_union.Lts-put_table as put-table-lts
+use Rattle.sheet_walk.proofs.+put_choices+put_content+put_element+put_lead+put_list+put_object+put_reference+put_references+put_table+put_union.Lts-put_table as put-table-lts
 use Rattle.sheet_walk.proofs.put_union.Reads as put-union
 use Rattle.sheet_walk.proofs.put_union.Kinds as put-union-kinds
-use Rattle.sheet_walk.proofs.+put_choices+put_content+put_lead+put_list+put_object+put_reference+put_references+put_table+put_union.Lts-put_union as put-union-lts
+use Rattle.sheet_walk.proofs.+put_choices+put_content+put_element+put_lead+put_list+put_object+put_reference+put_references+put_table+put_union.Lts-put_union as put-union-lts
 use Rattle.bitio.proofs.write.Reads as write-reads
 use Rattle.bitio.proofs.write_blob.Reads as write-blob-reads
 use Rattle.sheet_walk.proofs.behind_coded.Reads as behind-coded-reads
@@ -89,10 +92,10 @@ use Rattle.wire.proofs.index.Reads as index-reads
 use Rattle.wire.proofs.u16_in.Reads as u16-in-reads
 use Rattle.wire.proofs.offset_in.Reads as offset-in-reads
 use Rattle.wire.proofs.union_size.Reads as union-size-reads
-use Rattle.sheet_walk.proofs.+put_choices+put_content+put_lead+put_list+put_object+put_reference+put_references+put_table+put_union.{
+use Rattle.sheet_walk.proofs.+put_choices+put_content+put_element+put_lead+put_list+put_object+put_reference+put_references+put_table+put_union.{
   statement,
 }
-use Rattle.sheet_walk.proofs.+put_choices+put_content+put_lead+put_list+put_object+put_reference+put_references+put_table+put_union.Tie.{
+use Rattle.sheet_walk.proofs.+put_choices+put_content+put_element+put_lead+put_list+put_object+put_reference+put_references+put_table+put_union.Tie.{
   close,
 }
 
@@ -101,6 +104,9 @@ abbrev μ-put-choices : Measures 4 put-choices-kinds.ps ℕ
 
 abbrev μ-put-content : Measures 4 put-content-kinds.ps ℕ
 μ-put-content κs a = 8 * a .1 .1 .1 .1 .0 + 6
+
+abbrev μ-put-element : Measures 4 put-element-kinds.ps ℕ
+μ-put-element κs a = 8 * a .1 .1 .1 .1 .0 + 2
 
 abbrev μ-put-lead : Measures 4 put-lead-kinds.ps ℕ
 μ-put-lead κs a = 8 * a .1 .1 .1 .1 .0 + 3
@@ -191,6 +197,22 @@ put-reference-below t =
     (falls 4 put-reference-kinds.ps _<_ μ-put-reference t)
     put-reference.Pre
 
+abbrev put-element-at : ℕ → In 4 put-element-kinds.ps
+put-element-at t =
+    and
+    4
+    put-element-kinds.ps
+    (is 4 put-element-kinds.ps μ-put-element t)
+    put-element.Pre
+
+abbrev put-element-below : ℕ → In 4 put-element-kinds.ps
+put-element-below t =
+    and
+    4
+    put-element-kinds.ps
+    (falls 4 put-element-kinds.ps _<_ μ-put-element t)
+    put-element.Pre
+
 abbrev put-references-at : ℕ → In 4 put-references-kinds.ps
 put-references-at t =
     and
@@ -238,11 +260,14 @@ put-list-R t = (element-reads.Asked, element-reads.Learnt, integer-width-reads.A
 abbrev put-object-R : ℕ → put-object-lts.Claims
 put-object-R t = (content-of-reads.Asked, content-of-reads.Learnt, put-content-below t, put-content.Post)
 
+abbrev put-element-R : ℕ → put-element-lts.Claims
+put-element-R t = (write-reads.Asked, write-reads.Learnt, put-object-below t, put-object.Post)
+
 abbrev put-reference-R : ℕ → put-reference-lts.Claims
 put-reference-R t = (write-reads.Asked, write-reads.Learnt, place-of-reads.Asked, place-of-reads.Learnt, put-object-below t, put-object.Post)
 
 abbrev put-references-R : ℕ → put-references-lts.Claims
-put-references-R t = (offset-in-reads.Asked, offset-in-reads.Learnt, put-reference-below t, put-reference.Post)
+put-references-R t = (offset-in-reads.Asked, offset-in-reads.Learnt, put-element-below t, put-element.Post)
 
 abbrev put-table-R : ℕ → put-table-lts.Claims
 put-table-R t = (member-count-reads.Asked, member-count-reads.Learnt, table-place-reads.Asked, table-place-reads.Learnt, begin-reads.Asked, begin-reads.Learnt, record-place-reads.Asked, record-place-reads.Learnt, code-at-reads.Asked, code-at-reads.Learnt, put-coded-reads.Asked, put-coded-reads.Learnt, behind-coded-reads.Asked, behind-coded-reads.Learnt, kind-at-reads.Asked, kind-at-reads.Learnt, is-flat-kind-reads.Asked, is-flat-kind-reads.Learnt, put-lead-below t, put-lead.Post, lead-width-reads.Asked, lead-width-reads.Learnt, after-bytes-reads.Asked, after-bytes-reads.Learnt, member-at-reads.Asked, member-at-reads.Learnt, put-flat-member-reads.Asked, put-flat-member-reads.Learnt)
@@ -616,6 +641,30 @@ put-object-same-length t c = search needs
 put-object-returns-2 : (t : ℕ) → put-object-lts.Need-returns-2 (put-object-R t) (put-object-at t) put-object.Post
 put-object-returns-2 t c = search object-content
 
+put-element-write-requires : (t : ℕ) → put-element-lts.Need-write-requires (put-element-R t) (put-element-at t) put-element.Post
+put-element-write-requires t c κs = search needs
+
+put-element-same-length : (t : ℕ) → put-element-lts.Need-same-length (put-element-R t) (put-element-at t) put-element.Post
+put-element-same-length t c = search needs
+
+put-element-returns : (t : ℕ) → put-element-lts.Need-returns (put-element-R t) (put-element-at t) put-element.Post
+put-element-returns t c = search reference-none
+
+put-element-write-requires-2 : (t : ℕ) → put-element-lts.Need-write-requires-2 (put-element-R t) (put-element-at t) put-element.Post
+put-element-write-requires-2 t c κs = search needs
+
+put-element-put-object-requires : (t : ℕ) → put-element-lts.Need-put-object-requires (put-element-R t) (put-element-at t) put-element.Post
+put-element-put-object-requires t c κs =
+    let q = c .before .before .before .before .before .before .before .before .before .before .pre .1 in
+    let fall = c .before .before .before .before .before .before .before .before .before .before .pre .0 in
+    (omega (arith, fall), (search (room-next, q .0, c .before .before .before .write2 .ensures), ((q .1 .0 .0, q .1 .0 .1, q .1 .0 .2), search (element-readable, q .1 .1, c .before .before .before .before .before .if1 .left))))
+
+put-element-same-length-2 : (t : ℕ) → put-element-lts.Need-same-length-2 (put-element-R t) (put-element-at t) put-element.Post
+put-element-same-length-2 t c = search needs
+
+put-element-returns-2 : (t : ℕ) → put-element-lts.Need-returns-2 (put-element-R t) (put-element-at t) put-element.Post
+put-element-returns-2 t c = search element-there
+
 put-reference-write-requires : (t : ℕ) → put-reference-lts.Need-write-requires (put-reference-R t) (put-reference-at t) put-reference.Post
 put-reference-write-requires t c κs = search needs
 
@@ -666,8 +715,8 @@ put-references-offset-in-requires t c κs =
     let q = c .before .before .before .before .before .before .before .pre .1 .1 .0 in
     (q .1, run-inside _ _ _ _ _ (c .before .loop-test .taken) (c .before .before .loop .inv .3) _ (q .3))
 
-put-references-put-reference-requires : (t : ℕ) → put-references-lts.Need-put-reference-requires (put-references-R t) (put-references-at t) put-references.Post put-references-Inv-loop put-references-μ-loop
-put-references-put-reference-requires t c κs =
+put-references-put-element-requires : (t : ℕ) → put-references-lts.Need-put-element-requires (put-references-R t) (put-references-at t) put-references.Post put-references-Inv-loop put-references-μ-loop
+put-references-put-element-requires t c κs =
     let q = c .before .before .before .before .before .before .before .before .before .pre .1 in
     let inv = c .before .before .before .before .loop .inv in
     (omega (arith, c .before .before .before .before .before .before .before .before .before .pre .0), (inv .0, ((q .1 .0 .0, q .1 .0 .1, q .1 .0 .2), offset-readable _ _ _ _ _ _ _ _ (c .before .before .before .loop-test .taken) (inv .4) _ _ (inv .3) (c .before .offset-in .ensures .0))))
@@ -687,7 +736,7 @@ put-references-loop-again : (t : ℕ) → put-references-lts.Need-loop-again (pu
 put-references-loop-again t c =
     let inv = c .before .before .before .before .before .before .before .loop .inv in
     let less = c .before .before .before .before .before .before .loop-test .taken in
-    let put = c .before .before .put-reference .ensures in (
+    let put = c .before .before .put-element .ensures in (
       search (room-next, inv .0, put),
       omega (arith, less),
       omega (arith, put .len, inv .2),
@@ -927,12 +976,13 @@ put-union-same-length-3 t c = search needs
 put-union-returns-3 : (t : ℕ) → put-union-lts.Need-returns-3 (put-union-R t) (put-union-at t) put-union.Post
 put-union-returns-3 t c = search choice-known
 
-pub +put-choices+put-content+put-lead+put-list+put-object+put-reference+put-references+put-table+put-union-spec :
+pub +put-choices+put-content+put-element+put-lead+put-list+put-object+put-reference+put-references+put-table+put-union-spec :
     {M : Type 1} → statement M
-+put-choices+put-content+put-lead+put-list+put-object+put-reference+put-references+put-table+put-union-spec =
++put-choices+put-content+put-element+put-lead+put-list+put-object+put-reference+put-references+put-table+put-union-spec =
     close
     μ-put-choices
     μ-put-content
+    μ-put-element
     μ-put-lead
     μ-put-list
     μ-put-object
@@ -980,6 +1030,16 @@ pub +put-choices+put-content+put-lead+put-list+put-object+put-reference+put-refe
     (put-content-returns-3 t)
     (put-content-same-length-4 t)
     (put-content-returns-4 t))
+    (λ t. put-element-lts.spec (put-element-R t)
+    (put-element-at t)
+    put-element.Post
+    (put-element-write-requires t)
+    (put-element-same-length t)
+    (put-element-returns t)
+    (put-element-write-requires-2 t)
+    (put-element-put-object-requires t)
+    (put-element-same-length-2 t)
+    (put-element-returns-2 t))
     (λ t. put-lead-lts.spec (put-lead-R t)
     (put-lead-at t)
     put-lead.Post
@@ -1069,7 +1129,7 @@ pub +put-choices+put-content+put-lead+put-list+put-object+put-reference+put-refe
     (put-references-same-length t)
     (put-references-returns t)
     (put-references-offset-in-requires t)
-    (put-references-put-reference-requires t)
+    (put-references-put-element-requires t)
     (put-references-add-at t)
     (put-references-add-j t)
     (put-references-loop-less t)
