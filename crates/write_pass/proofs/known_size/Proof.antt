@@ -26,6 +26,9 @@ index-requires c κs = search needs
 known-table-requires : tie.Need-known-table-requires
 known-table-requires c κs = search (table-counted, needs)
 
+enum-told-4 : tie.Need-enum-told-4
+enum-told-4 c = search needs
+
 returns : tie.Need-returns
 returns c = search known-none
 
@@ -38,6 +41,9 @@ returns-3 c = search known-none
 returns-4 : tie.Need-returns-4
 returns-4 c = search known-table
 
+returns-5 : tie.Need-returns-5
+returns-5 c = search known-none
+
 pub known-size-spec : {M : Type 1} → statement M
 known-size-spec =
     tie.close
@@ -48,7 +54,9 @@ known-size-spec =
     enum-known-ob
     index-requires
     known-table-requires
+    enum-told-4
     returns
     returns-2
     returns-3
-    returns-4)
+    returns-4
+    returns-5)

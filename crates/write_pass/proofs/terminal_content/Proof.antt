@@ -1,5 +1,5 @@
 use borrow.Author.Needs.{needs}
-use Rattle.write_pass.proofs.EmitObjectCases.{content-deep, content-text, content-bytes, content-no-list, content-no-table}
+use Rattle.write_pass.proofs.EmitObjectCases.{content-deep, content-text, content-bytes, content-no-list, content-no-table, content-no-direct}
 use Rattle.write_pass.proofs.terminal_content.Statement.{statement}
 use Rattle.write_pass.proofs.terminal_content.Tie as tie
 use Rattle.write_pass.proofs.terminal_content.Reads as reads
@@ -38,6 +38,12 @@ enum-told-4 c = search needs
 not-lawful-requires-3 : tie.Need-not-lawful-requires-3
 not-lawful-requires-3 c κs = search needs
 
+enum-told-5 : tie.Need-enum-told-5
+enum-told-5 c = search needs
+
+not-lawful-requires-4 : tie.Need-not-lawful-requires-4
+not-lawful-requires-4 c κs = search needs
+
 same-length : tie.Need-same-length
 same-length c = search needs
 
@@ -56,6 +62,9 @@ returns-4 c = search content-no-list
 returns-5 : tie.Need-returns-5
 returns-5 c = search content-no-table
 
+returns-6 : tie.Need-returns-6
+returns-6 c = search content-no-direct
+
 pub terminal-content-spec : {M : Type 1} → statement M
 terminal-content-spec =
     tie.close
@@ -70,9 +79,12 @@ terminal-content-spec =
     not-lawful-requires-2
     enum-told-4
     not-lawful-requires-3
+    enum-told-5
+    not-lawful-requires-4
     same-length
     returns-2
     same-length-2
     returns-3
     returns-4
-    returns-5)
+    returns-5
+    returns-6)

@@ -1,3 +1,4 @@
+use Rattle.write_pass.proofs.EmitDirectCases.{direct-room, direct-deep, direct-cut, direct-done, directs-cut, directs-listed, directs-start, directs-low, directs-room, directs-done, directs-stopped, directs-turn}
 use Prim.Native.Nat.{ℕ, _+_, _-_, _*_, _^_, _<_, _≤_}
 use mathlib.Core.Path.{_≡_, _∙_}
 use native.Mathlib.Omega.{arith}
@@ -9,87 +10,100 @@ use Rattle.coding.specs.Schema as Sc
 use Rattle.coding.specs.declared.Object.the-variants as O
 use Rattle.coding.specs.declared.Kind.the-variants.{OfObject}
 use Rattle.write_measure.specs.Survey.{survey}
-use Rattle.write_pass.specs.EmitSheet.{emitMembers, emitElements, emitContent, emit}
+use Rattle.write_pass.specs.EmitSheet.{emitMembers, emitElements, emitDirects, emitContent, emit}
 use Rattle.write_store.specs.Storing.{stateOf}
 use Rattle.write_pass.specs.Emitting.{Room}
 use Rattle.write_measure.proofs.PartCases.{kind-flat, kind-object, union-counted, case-sound}
-use Rattle.write_measure.proofs.ObjectCases.{list-counted, table-counted, element-sound, member-kind, member-counted}
+use Rattle.write_measure.proofs.ObjectCases.{list-counted, table-counted, direct-counted, element-sound, member-kind, member-counted}
 use Rattle.write_pass.proofs.EmitRoom.{room-taken, room-choice, room-open, room-copied, room-below, stood-next, stood-tail}
 use Rattle.write_pass.proofs.EmitPartCases.{choice-cut, choice-zero, choice-above, choice-known, body-no-flat, kept-object, kept-union, unflagged-cut, unflagged-there, unflagged-bad, unflagged-none, unflagged-pass, room-lacked, terminal-told, terminal-refers, object-refers, union-refers, element-flat, element-refers, not-unmarked, flat-marked, flat-scalar, marked-cut, marked-there, marked-none, marked-bad}
-use Rattle.write_pass.proofs.EmitObjectCases.{refer-cut, refer-done, members-start, members-done, members-stopped, members-turn, refers-stopped, refers-turn, element-scalar, elements-cut, list-elements, list-objects, list-flats, element-object, element-flat-sound, element-flat-scalar, element-flat-marked, elements-start, elements-done, elements-stopped, elements-turn, content-deep, content-text, content-bytes, content-list, content-table}
+use Rattle.write_pass.proofs.EmitObjectCases.{refer-cut, refer-done, members-start, members-done, members-stopped, members-turn, refers-stopped, refers-turn, element-scalar, elements-cut, list-elements, list-objects, list-flats, element-object, element-flat-sound, element-flat-scalar, element-flat-marked, elements-start, elements-done, elements-stopped, elements-turn, content-deep, content-text, content-bytes, content-list, content-table, content-direct}
 use Rattle.write_pass.proofs.RunCases.{integer-wide, list-octets, list-run}
+use Prim.Native.Nat.{ℕ, _<_}
 use borrow.Fn.Kinds.{In}
 use borrow.Fn.PlainCycle.{Measures, is, falls, and}
 use Rattle.write_pass.proofs.emit_body.Reads as emit-body
 use Rattle.write_pass.proofs.emit_body.Kinds as emit-body-kinds
-use Rattle.write_pass.proofs.+emit_body+emit_choice+emit_content+emit_element+emit_elements+emit_list+emit_marked+emit_measured+emit_objects+emit_part+emit_refer+emit_table.Lts-emit_body as emit-body-lts
+use Rattle.write_pass.proofs.+emit_body+emit_choice+emit_content+emit_direct+emit_direct_list+emit_directs+emit_element+emit_elements+emit_list+emit_marked+emit_measured+emit_objects+emit_part+emit_refer+emit_table.Lts-emit_body as emit-body-lts
 use Rattle.write_pass.proofs.emit_choice.Reads as emit-choice
 use Rattle.write_pass.proofs.emit_choice.Kinds as emit-choice-kinds
-use Rattle.write_pass.proofs.+emit_body+emit_choice+emit_content+emit_element+emit_elements+emit_list+emit_marked+emit_measured+emit_objects+emit_part+emit_refer+emit_table.Lts-emit_choice as emit-choice-lts
+use Rattle.write_pass.proofs.+emit_body+emit_choice+emit_content+emit_direct+emit_direct_list+emit_directs+emit_element+emit_elements+emit_list+emit_marked+emit_measured+emit_objects+emit_part+emit_refer+emit_table.Lts-emit_choice as emit-choice-lts
 use Rattle.write_pass.proofs.emit_content.Reads as emit-content
 use Rattle.write_pass.proofs.emit_content.Kinds as emit-content-kinds
-use Rattle.write_pass.proofs.+emit_body+emit_choice+emit_content+emit_element+emit_elements+emit_list+emit_marked+emit_measured+emit_objects+emit_part+emit_refer+emit_table.Lts-emit_content as emit-content-lts
+use Rattle.write_pass.proofs.+emit_body+emit_choice+emit_content+emit_direct+emit_direct_list+emit_directs+emit_element+emit_elements+emit_list+emit_marked+emit_measured+emit_objects+emit_part+emit_refer+emit_table.Lts-emit_content as emit-content-lts
+use Rattle.write_pass.proofs.emit_direct.Reads as emit-direct
+use Rattle.write_pass.proofs.emit_direct.Kinds as emit-direct-kinds
+use Rattle.write_pass.proofs.+emit_body+emit_choice+emit_content+emit_direct+emit_direct_list+emit_directs+emit_element+emit_elements+emit_list+emit_marked+emit_measured+emit_objects+emit_part+emit_refer+emit_table.Lts-emit_direct as emit-direct-lts
+use Rattle.write_pass.proofs.emit_direct_list.Reads as emit-direct-list
+use Rattle.write_pass.proofs.emit_direct_list.Kinds as emit-direct-list-kinds
+use Rattle.write_pass.proofs.+emit_body+emit_choice+emit_content+emit_direct+emit_direct_list+emit_directs+emit_element+emit_elements+emit_list+emit_marked+emit_measured+emit_objects+emit_part+emit_refer+emit_table.Lts-emit_direct_list as emit-direct-list-lts
+use Rattle.write_pass.proofs.emit_directs.Reads as emit-directs
+use Rattle.write_pass.proofs.emit_directs.Kinds as emit-directs-kinds
+use Rattle.write_pass.proofs.+emit_body+emit_choice+emit_content+emit_direct+emit_direct_list+emit_directs+emit_element+emit_elements+emit_list+emit_marked+emit_measured+emit_objects+emit_part+emit_refer+emit_table.Lts-emit_directs as emit-directs-lts
 use Rattle.write_pass.proofs.emit_element.Reads as emit-element
 use Rattle.write_pass.proofs.emit_element.Kinds as emit-element-kinds
-use Rattle.write_pass.proofs.+emit_body+emit_choice+emit_content+emit_element+emit_elements+emit_list+emit_marked+emit_measured+emit_objects+emit_part+emit_refer+emit_table.Lts-emit_element as emit-element-lts
+use Rattle.write_pass.proofs.+emit_body+emit_choice+emit_content+emit_direct+emit_direct_list+emit_directs+emit_element+emit_elements+emit_list+emit_marked+emit_measured+emit_objects+emit_part+emit_refer+emit_table.Lts-emit_element as emit-element-lts
 use Rattle.write_pass.proofs.emit_elements.Reads as emit-elements
 use Rattle.write_pass.proofs.emit_elements.Kinds as emit-elements-kinds
-use Rattle.write_pass.proofs.+emit_body+emit_choice+emit_content+emit_element+emit_elements+emit_list+emit_marked+emit_measured+emit_objects+emit_part+emit_refer+emit_table.Lts-emit_elements as emit-elements-lts
+use Rattle.write_pass.proofs.+emit_body+emit_choice+emit_content+emit_direct+emit_direct_list+emit_directs+emit_element+emit_elements+emit_list+emit_marked+emit_measured+emit_objects+emit_part+emit_refer+emit_table.Lts-emit_elements as emit-elements-lts
 use Rattle.write_pass.proofs.emit_list.Reads as emit-list
 use Rattle.write_pass.proofs.emit_list.Kinds as emit-list-kinds
-use Rattle.write_pass.proofs.+emit_body+emit_choice+emit_content+emit_element+emit_elements+emit_list+emit_marked+emit_measured+emit_objects+emit_part+emit_refer+emit_table.Lts-emit_list as emit-list-lts
+use Rattle.write_pass.proofs.+emit_body+emit_choice+emit_content+emit_direct+emit_direct_list+emit_directs+emit_element+emit_elements+emit_list+emit_marked+emit_measured+emit_objects+emit_part+emit_refer+emit_table.Lts-emit_list as emit-list-lts
 use Rattle.write_pass.proofs.emit_marked.Reads as emit-marked
 use Rattle.write_pass.proofs.emit_marked.Kinds as emit-marked-kinds
-use Rattle.write_pass.proofs.+emit_body+emit_choice+emit_content+emit_element+emit_elements+emit_list+emit_marked+emit_measured+emit_objects+emit_part+emit_refer+emit_table.Lts-emit_marked as emit-marked-lts
+use Rattle.write_pass.proofs.+emit_body+emit_choice+emit_content+emit_direct+emit_direct_list+emit_directs+emit_element+emit_elements+emit_list+emit_marked+emit_measured+emit_objects+emit_part+emit_refer+emit_table.Lts-emit_marked as emit-marked-lts
 use Rattle.write_pass.proofs.emit_measured.Reads as emit-measured
 use Rattle.write_pass.proofs.emit_measured.Kinds as emit-measured-kinds
-use Rattle.write_pass.proofs.+emit_body+emit_choice+emit_content+emit_element+emit_elements+emit_list+emit_marked+emit_measured+emit_objects+emit_part+emit_refer+emit_table.Lts-emit_measured as emit-measured-lts
+use Rattle.write_pass.proofs.+emit_body+emit_choice+emit_content+emit_direct+emit_direct_list+emit_directs+emit_element+emit_elements+emit_list+emit_marked+emit_measured+emit_objects+emit_part+emit_refer+emit_table.Lts-emit_measured as emit-measured-lts
 use Rattle.write_pass.proofs.emit_objects.Reads as emit-objects
 use Rattle.write_pass.proofs.emit_objects.Kinds as emit-objects-kinds
-use Rattle.write_pass.proofs.+emit_body+emit_choice+emit_content+emit_element+emit_elements+emit_list+emit_marked+emit_measured+emit_objects+emit_part+emit_refer+emit_table.Lts-emit_objects as emit-objects-lts
+use Rattle.write_pass.proofs.+emit_body+emit_choice+emit_content+emit_direct+emit_direct_list+emit_directs+emit_element+emit_elements+emit_list+emit_marked+emit_measured+emit_objects+emit_part+emit_refer+emit_table.Lts-emit_objects as emit-objects-lts
 use Rattle.write_pass.proofs.emit_part.Reads as emit-part
 use Rattle.write_pass.proofs.emit_part.Kinds as emit-part-kinds
-use Rattle.write_pass.proofs.+emit_body+emit_choice+emit_content+emit_element+emit_elements+emit_list+emit_marked+emit_measured+emit_objects+emit_part+emit_refer+emit_table.Lts-emit_part as emit-part-lts
+use Rattle.write_pass.proofs.+emit_body+emit_choice+emit_content+emit_direct+emit_direct_list+emit_directs+emit_element+emit_elements+emit_list+emit_marked+emit_measured+emit_objects+emit_part+emit_refer+emit_table.Lts-emit_part as emit-part-lts
 use Rattle.write_pass.proofs.emit_refer.Reads as emit-refer
 use Rattle.write_pass.proofs.emit_refer.Kinds as emit-refer-kinds
-use Rattle.write_pass.proofs.+emit_body+emit_choice+emit_content+emit_element+emit_elements+emit_list+emit_marked+emit_measured+emit_objects+emit_part+emit_refer+emit_table.Lts-emit_refer as emit-refer-lts
+use Rattle.write_pass.proofs.+emit_body+emit_choice+emit_content+emit_direct+emit_direct_list+emit_directs+emit_element+emit_elements+emit_list+emit_marked+emit_measured+emit_objects+emit_part+emit_refer+emit_table.Lts-emit_refer as emit-refer-lts
 use Rattle.write_pass.proofs.emit_table.Reads as emit-table
 use Rattle.write_pass.proofs.emit_table.Kinds as emit-table-kinds
-use Rattle.write_pass.proofs.+emit_body+emit_choice+emit_content+emit_element+emit_elements+emit_list+emit_marked+emit_measured+emit_objects+emit_part+emit_refer+emit_table.Lts-emit_table as emit-table-lts
+use Rattle.write_pass.proofs.+emit_body+emit_choice+emit_content+emit_direct+emit_direct_list+emit_directs+emit_element+emit_elements+emit_list+emit_marked+emit_measured+emit_objects+emit_part+emit_refer+emit_table.Lts-emit_table as emit-table-lts
 use Rattle.bitio.proofs.take_number.Reads as take-number-reads
 use Rattle.schema.proofs.case_count.Reads as case-count-reads
 use Rattle.schema.proofs.element.Reads as element-reads
+use Rattle.schema.proofs.integer_width.Reads as integer-width-reads
 use Rattle.schema.proofs.member.Reads as member-reads
 use Rattle.schema.proofs.member_count.Reads as member-count-reads
 use Rattle.schema.proofs.union_case.Reads as union-case-reads
-use Rattle.write_measure.proofs.unmarked.Reads as unmarked-reads
 use Rattle.wire.proofs.index.Reads as index-reads
+use Rattle.write_measure.proofs.unmarked.Reads as unmarked-reads
 use Rattle.write_pass.proofs.close.Reads as close-reads
 use Rattle.write_pass.proofs.emit_bytes.Reads as emit-bytes-reads
-use Rattle.write_pass.proofs.emit_terminal.Reads as emit-terminal-reads
-use Rattle.write_pass.proofs.emit_marked_flat.Reads as emit-marked-flat-reads
-use Rattle.write_pass.proofs.is_terminal.Reads as is-terminal-reads
-use Rattle.write_pass.proofs.emit_unmarked.Reads as emit-unmarked-reads
 use Rattle.write_pass.proofs.emit_flats.Reads as emit-flats-reads
+use Rattle.write_pass.proofs.emit_marked_flat.Reads as emit-marked-flat-reads
+use Rattle.write_pass.proofs.emit_terminal.Reads as emit-terminal-reads
 use Rattle.write_pass.proofs.emit_text.Reads as emit-text-reads
-use Rattle.schema.proofs.integer_width.Reads as integer-width-reads
+use Rattle.write_pass.proofs.emit_unmarked.Reads as emit-unmarked-reads
+use Rattle.write_pass.proofs.is_terminal.Reads as is-terminal-reads
+use Rattle.write_pass.proofs.kept.Reads as kept-reads
 use Rattle.write_pass.proofs.known_size.Reads as known-size-reads
 use Rattle.write_pass.proofs.lack.Reads as lack-reads
 use Rattle.write_pass.proofs.measure.Reads as measure-reads
 use Rattle.write_pass.proofs.measure_by.Reads as measure-by-reads
-use Rattle.write_pass.proofs.kept.Reads as kept-reads
 use Rattle.write_pass.proofs.not_lawful.Reads as not-lawful-reads
 use Rattle.write_pass.proofs.open.Reads as open-reads
 use Rattle.write_pass.proofs.pass.Reads as pass-reads
-use Rattle.write_store.proofs.copied.Reads as copied-reads
-use Rattle.write_store.proofs.put_number.Reads as put-number-reads
-use Rattle.write_store.proofs.put_offset.Reads as put-offset-reads
+use Rattle.write_pass.proofs.put_direct.Reads as put-direct-reads
 use Rattle.write_pass.proofs.put_reference.Reads as put-reference-reads
 use Rattle.write_pass.proofs.stored.Reads as stored-reads
-use Rattle.write_pass.proofs.+emit_body+emit_choice+emit_content+emit_element+emit_elements+emit_list+emit_marked+emit_measured+emit_objects+emit_part+emit_refer+emit_table.{
+use Rattle.write_store.proofs.copied.Reads as copied-reads
+use Rattle.write_store.proofs.enter_part.Reads as enter-part-reads
+use Rattle.write_store.proofs.leave_part.Reads as leave-part-reads
+use Rattle.write_store.proofs.put_number.Reads as put-number-reads
+use Rattle.write_store.proofs.put_offset.Reads as put-offset-reads
+use Rattle.write_pass.proofs.+emit_body+emit_choice+emit_content+emit_direct+emit_direct_list+emit_directs+emit_element+emit_elements+emit_list+emit_marked+emit_measured+emit_objects+emit_part+emit_refer+emit_table.{
   statement,
 }
-use Rattle.write_pass.proofs.+emit_body+emit_choice+emit_content+emit_element+emit_elements+emit_list+emit_marked+emit_measured+emit_objects+emit_part+emit_refer+emit_table.Tie.{
+use Rattle.write_pass.proofs.+emit_body+emit_choice+emit_content+emit_direct+emit_direct_list+emit_directs+emit_element+emit_elements+emit_list+emit_marked+emit_measured+emit_objects+emit_part+emit_refer+emit_table.Tie.{
   close,
 }
 
@@ -101,6 +115,15 @@ abbrev μ-emit-choice : Measures 4 emit-choice-kinds.ps ℕ
 
 abbrev μ-emit-content : Measures 4 emit-content-kinds.ps ℕ
 μ-emit-content κs a = 16 * a .1 .1 .1 .1 .0 + 0
+
+abbrev μ-emit-direct : Measures 4 emit-direct-kinds.ps ℕ
+μ-emit-direct κs a = 16 * a .1 .1 .1 .1 .0 + 1
+
+abbrev μ-emit-direct-list : Measures 4 emit-direct-list-kinds.ps ℕ
+μ-emit-direct-list κs a = 16 * a .1 .1 .1 .1 .0 + 3
+
+abbrev μ-emit-directs : Measures 4 emit-directs-kinds.ps ℕ
+μ-emit-directs κs a = 16 * a .1 .1 .1 .1 .0 + 2
 
 abbrev μ-emit-element : Measures 4 emit-element-kinds.ps ℕ
 μ-emit-element κs a = 16 * a .1 .1 .1 .1 .0 + 6
@@ -156,6 +179,42 @@ emit-content-below t =
     (falls 4 emit-content-kinds.ps _<_ μ-emit-content t)
     emit-content.Pre
 
+abbrev emit-direct-at : ℕ → In 4 emit-direct-kinds.ps
+emit-direct-at t =
+    and 4 emit-direct-kinds.ps (is 4 emit-direct-kinds.ps μ-emit-direct t) emit-direct.Pre
+
+abbrev emit-direct-below : ℕ → In 4 emit-direct-kinds.ps
+emit-direct-below t =
+    and 4 emit-direct-kinds.ps (falls 4 emit-direct-kinds.ps _<_ μ-emit-direct t) emit-direct.Pre
+
+abbrev emit-direct-list-at : ℕ → In 4 emit-direct-list-kinds.ps
+emit-direct-list-at t =
+    and
+    4
+    emit-direct-list-kinds.ps
+    (is 4 emit-direct-list-kinds.ps μ-emit-direct-list t)
+    emit-direct-list.Pre
+
+abbrev emit-direct-list-below : ℕ → In 4 emit-direct-list-kinds.ps
+emit-direct-list-below t =
+    and
+    4
+    emit-direct-list-kinds.ps
+    (falls 4 emit-direct-list-kinds.ps _<_ μ-emit-direct-list t)
+    emit-direct-list.Pre
+
+abbrev emit-directs-at : ℕ → In 4 emit-directs-kinds.ps
+emit-directs-at t =
+    and 4 emit-directs-kinds.ps (is 4 emit-directs-kinds.ps μ-emit-directs t) emit-directs.Pre
+
+abbrev emit-directs-below : ℕ → In 4 emit-directs-kinds.ps
+emit-directs-below t =
+    and
+    4
+    emit-directs-kinds.ps
+    (falls 4 emit-directs-kinds.ps _<_ μ-emit-directs t)
+    emit-directs.Pre
+
 abbrev emit-element-at : ℕ → In 4 emit-element-kinds.ps
 emit-element-at t =
     and 4 emit-element-kinds.ps (is 4 emit-element-kinds.ps μ-emit-element t) emit-element.Pre
@@ -169,10 +228,16 @@ emit-element-below t =
     emit-element.Pre
 
 abbrev emit-elements-at : ℕ → In 4 emit-elements-kinds.ps
-emit-elements-at t = and 4 emit-elements-kinds.ps (is 4 emit-elements-kinds.ps μ-emit-elements t) emit-elements.Pre
+emit-elements-at t =
+    and 4 emit-elements-kinds.ps (is 4 emit-elements-kinds.ps μ-emit-elements t) emit-elements.Pre
 
 abbrev emit-elements-below : ℕ → In 4 emit-elements-kinds.ps
-emit-elements-below t = and 4 emit-elements-kinds.ps (falls 4 emit-elements-kinds.ps _<_ μ-emit-elements t) emit-elements.Pre
+emit-elements-below t =
+    and
+    4
+    emit-elements-kinds.ps
+    (falls 4 emit-elements-kinds.ps _<_ μ-emit-elements t)
+    emit-elements.Pre
 
 abbrev emit-list-at : ℕ → In 4 emit-list-kinds.ps
 emit-list-at t = and 4 emit-list-kinds.ps (is 4 emit-list-kinds.ps μ-emit-list t) emit-list.Pre
@@ -182,10 +247,12 @@ emit-list-below t =
     and 4 emit-list-kinds.ps (falls 4 emit-list-kinds.ps _<_ μ-emit-list t) emit-list.Pre
 
 abbrev emit-marked-at : ℕ → In 4 emit-marked-kinds.ps
-emit-marked-at t = and 4 emit-marked-kinds.ps (is 4 emit-marked-kinds.ps μ-emit-marked t) emit-marked.Pre
+emit-marked-at t =
+    and 4 emit-marked-kinds.ps (is 4 emit-marked-kinds.ps μ-emit-marked t) emit-marked.Pre
 
 abbrev emit-marked-below : ℕ → In 4 emit-marked-kinds.ps
-emit-marked-below t = and 4 emit-marked-kinds.ps (falls 4 emit-marked-kinds.ps _<_ μ-emit-marked t) emit-marked.Pre
+emit-marked-below t =
+    and 4 emit-marked-kinds.ps (falls 4 emit-marked-kinds.ps _<_ μ-emit-marked t) emit-marked.Pre
 
 abbrev emit-measured-at : ℕ → In 4 emit-measured-kinds.ps
 emit-measured-at t =
@@ -200,10 +267,16 @@ emit-measured-below t =
     emit-measured.Pre
 
 abbrev emit-objects-at : ℕ → In 4 emit-objects-kinds.ps
-emit-objects-at t = and 4 emit-objects-kinds.ps (is 4 emit-objects-kinds.ps μ-emit-objects t) emit-objects.Pre
+emit-objects-at t =
+    and 4 emit-objects-kinds.ps (is 4 emit-objects-kinds.ps μ-emit-objects t) emit-objects.Pre
 
 abbrev emit-objects-below : ℕ → In 4 emit-objects-kinds.ps
-emit-objects-below t = and 4 emit-objects-kinds.ps (falls 4 emit-objects-kinds.ps _<_ μ-emit-objects t) emit-objects.Pre
+emit-objects-below t =
+    and
+    4
+    emit-objects-kinds.ps
+    (falls 4 emit-objects-kinds.ps _<_ μ-emit-objects t)
+    emit-objects.Pre
 
 abbrev emit-part-at : ℕ → In 4 emit-part-kinds.ps
 emit-part-at t = and 4 emit-part-kinds.ps (is 4 emit-part-kinds.ps μ-emit-part t) emit-part.Pre
@@ -235,7 +308,16 @@ abbrev emit-choice-R : ℕ → emit-choice-lts.Claims
 emit-choice-R t = (case-count-reads.Asked, case-count-reads.Learnt, take-number-reads.Asked, take-number-reads.Learnt, not-lawful-reads.Asked, not-lawful-reads.Learnt, union-case-reads.Asked, union-case-reads.Learnt, put-number-reads.Asked, put-number-reads.Learnt, emit-refer-below t, emit-refer.Post)
 
 abbrev emit-content-R : ℕ → emit-content-lts.Claims
-emit-content-R t = (not-lawful-reads.Asked, not-lawful-reads.Learnt, emit-text-reads.Asked, emit-text-reads.Learnt, emit-bytes-reads.Asked, emit-bytes-reads.Learnt, index-reads.Asked, index-reads.Learnt, emit-list-below t, emit-list.Post, emit-table-below t, emit-table.Post)
+emit-content-R t = (not-lawful-reads.Asked, not-lawful-reads.Learnt, emit-text-reads.Asked, emit-text-reads.Learnt, emit-bytes-reads.Asked, emit-bytes-reads.Learnt, index-reads.Asked, index-reads.Learnt, emit-list-below t, emit-list.Post, emit-table-below t, emit-table.Post, emit-direct-list-below t, emit-direct-list.Post)
+
+abbrev emit-direct-R : ℕ → emit-direct-lts.Claims
+emit-direct-R t = (not-lawful-reads.Asked, not-lawful-reads.Learnt, enter-part-reads.Asked, enter-part-reads.Learnt, emit-table-below t, emit-table.Post, leave-part-reads.Asked, leave-part-reads.Learnt, stored-reads.Asked, stored-reads.Learnt)
+
+abbrev emit-direct-list-R : ℕ → emit-direct-list-lts.Claims
+emit-direct-list-R t = (take-number-reads.Asked, take-number-reads.Learnt, not-lawful-reads.Asked, not-lawful-reads.Learnt, put-direct-reads.Asked, put-direct-reads.Learnt, emit-directs-below t, emit-directs.Post)
+
+abbrev emit-directs-R : ℕ → emit-directs-lts.Claims
+emit-directs-R t = (emit-direct-below t, emit-direct.Post, not-lawful-reads.Asked, not-lawful-reads.Learnt, copied-reads.Asked, copied-reads.Learnt, stored-reads.Asked, stored-reads.Learnt)
 
 abbrev emit-element-R : ℕ → emit-element-lts.Claims
 emit-element-R t = (emit-marked-flat-reads.Asked, emit-marked-flat-reads.Learnt, emit-part-below t, emit-part.Post)
@@ -249,14 +331,14 @@ emit-list-R t = (element-reads.Asked, element-reads.Learnt, integer-width-reads.
 abbrev emit-marked-R : ℕ → emit-marked-lts.Claims
 emit-marked-R t = (take-number-reads.Asked, take-number-reads.Learnt, not-lawful-reads.Asked, not-lawful-reads.Learnt, measure-by-reads.Asked, measure-by-reads.Learnt, emit-measured-below t, emit-measured.Post, put-offset-reads.Asked, put-offset-reads.Learnt, stored-reads.Asked, stored-reads.Learnt)
 
+abbrev emit-measured-R : ℕ → emit-measured-lts.Claims
+emit-measured-R t = (put-reference-reads.Asked, put-reference-reads.Learnt, open-reads.Asked, open-reads.Learnt, emit-content-below t, emit-content.Post, not-lawful-reads.Asked, not-lawful-reads.Learnt, close-reads.Asked, close-reads.Learnt, stored-reads.Asked, stored-reads.Learnt)
+
 abbrev emit-objects-R : ℕ → emit-objects-lts.Claims
 emit-objects-R t = (known-size-reads.Asked, known-size-reads.Learnt, emit-marked-below t, emit-marked.Post, not-lawful-reads.Asked, not-lawful-reads.Learnt, copied-reads.Asked, copied-reads.Learnt, stored-reads.Asked, stored-reads.Learnt)
 
 abbrev emit-part-R : ℕ → emit-part-lts.Claims
 emit-part-R t = (take-number-reads.Asked, take-number-reads.Learnt, not-lawful-reads.Asked, not-lawful-reads.Learnt, emit-body-below t, emit-body.Post, lack-reads.Asked, lack-reads.Learnt, stored-reads.Asked, stored-reads.Learnt, pass-reads.Asked, pass-reads.Learnt)
-
-abbrev emit-measured-R : ℕ → emit-measured-lts.Claims
-emit-measured-R t = (put-reference-reads.Asked, put-reference-reads.Learnt, open-reads.Asked, open-reads.Learnt, emit-content-below t, emit-content.Post, not-lawful-reads.Asked, not-lawful-reads.Learnt, close-reads.Asked, close-reads.Learnt, stored-reads.Asked, stored-reads.Learnt)
 
 abbrev emit-refer-R : ℕ → emit-refer-lts.Claims
 emit-refer-R t = (measure-reads.Asked, measure-reads.Learnt, emit-measured-below t, emit-measured.Post)
@@ -291,17 +373,17 @@ emit-body-emit-choice-requires t c κs = search (union-counted, needs)
 emit-body-kept-requires-2 : (t : ℕ) → emit-body-lts.Need-kept-requires-2 (emit-body-R t) (emit-body-at t) emit-body.Post
 emit-body-kept-requires-2 t c κs = search needs
 
-emit-body-same-length : (t : ℕ) → emit-body-lts.Need-same-length (emit-body-R t) (emit-body-at t) emit-body.Post
-emit-body-same-length t c = search needs
-
 emit-body-returns : (t : ℕ) → emit-body-lts.Need-returns (emit-body-R t) (emit-body-at t) emit-body.Post
 emit-body-returns t c = search body-no-flat
 
-emit-body-same-length-2 : (t : ℕ) → emit-body-lts.Need-same-length-2 (emit-body-R t) (emit-body-at t) emit-body.Post
-emit-body-same-length-2 t c = search needs
+emit-body-same-length : (t : ℕ) → emit-body-lts.Need-same-length (emit-body-R t) (emit-body-at t) emit-body.Post
+emit-body-same-length t c = search needs
 
 emit-body-returns-2 : (t : ℕ) → emit-body-lts.Need-returns-2 (emit-body-R t) (emit-body-at t) emit-body.Post
 emit-body-returns-2 t c = search kept-object
+
+emit-body-same-length-2 : (t : ℕ) → emit-body-lts.Need-same-length-2 (emit-body-R t) (emit-body-at t) emit-body.Post
+emit-body-same-length-2 t c = search needs
 
 emit-body-returns-3 : (t : ℕ) → emit-body-lts.Need-returns-3 (emit-body-R t) (emit-body-at t) emit-body.Post
 emit-body-returns-3 t c = search kept-union
@@ -387,6 +469,18 @@ emit-content-index-requires-2 t c κs = search needs
 emit-content-emit-table-requires : (t : ℕ) → emit-content-lts.Need-emit-table-requires (emit-content-R t) (emit-content-at t) emit-content.Post
 emit-content-emit-table-requires t c κs = search (table-counted, needs)
 
+emit-content-enum-known-ob-3 : (t : ℕ) → emit-content-lts.Need-enum-known-ob-3 (emit-content-R t) (emit-content-at t) emit-content.Post
+emit-content-enum-known-ob-3 t c = search needs
+
+emit-content-sub-emit-direct-list : (t : ℕ) → emit-content-lts.Need-sub-emit-direct-list (emit-content-R t) (emit-content-at t) emit-content.Post
+emit-content-sub-emit-direct-list t c = search needs
+
+emit-content-index-requires-3 : (t : ℕ) → emit-content-lts.Need-index-requires-3 (emit-content-R t) (emit-content-at t) emit-content.Post
+emit-content-index-requires-3 t c κs = search needs
+
+emit-content-emit-direct-list-requires : (t : ℕ) → emit-content-lts.Need-emit-direct-list-requires (emit-content-R t) (emit-content-at t) emit-content.Post
+emit-content-emit-direct-list-requires t c κs = search (direct-counted, needs)
+
 emit-content-same-length : (t : ℕ) → emit-content-lts.Need-same-length (emit-content-R t) (emit-content-at t) emit-content.Post
 emit-content-same-length t c = search needs
 
@@ -410,6 +504,113 @@ emit-content-same-length-4 t c = search needs
 
 emit-content-returns-5 : (t : ℕ) → emit-content-lts.Need-returns-5 (emit-content-R t) (emit-content-at t) emit-content.Post
 emit-content-returns-5 t c = search content-table
+
+emit-content-same-length-5 : (t : ℕ) → emit-content-lts.Need-same-length-5 (emit-content-R t) (emit-content-at t) emit-content.Post
+emit-content-same-length-5 t c = search needs
+
+emit-content-returns-6 : (t : ℕ) → emit-content-lts.Need-returns-6 (emit-content-R t) (emit-content-at t) emit-content.Post
+emit-content-returns-6 t c = search content-direct
+
+emit-direct-not-lawful-requires : (t : ℕ) → emit-direct-lts.Need-not-lawful-requires (emit-direct-R t) (emit-direct-at t) emit-direct.Post
+emit-direct-not-lawful-requires t c κs = search needs
+
+emit-direct-returns : (t : ℕ) → emit-direct-lts.Need-returns (emit-direct-R t) (emit-direct-at t) emit-direct.Post
+emit-direct-returns t c = search direct-deep
+
+emit-direct-enter-part-requires : (t : ℕ) → emit-direct-lts.Need-enter-part-requires (emit-direct-R t) (emit-direct-at t) emit-direct.Post
+emit-direct-enter-part-requires t c κs = search needs
+
+emit-direct-sub-emit-table : (t : ℕ) → emit-direct-lts.Need-sub-emit-table (emit-direct-R t) (emit-direct-at t) emit-direct.Post
+emit-direct-sub-emit-table t c = search needs
+
+emit-direct-emit-table-requires : (t : ℕ) → emit-direct-lts.Need-emit-table-requires (emit-direct-R t) (emit-direct-at t) emit-direct.Post
+emit-direct-emit-table-requires t c κs = search (direct-room, needs)
+
+emit-direct-not-lawful-requires-2 : (t : ℕ) → emit-direct-lts.Need-not-lawful-requires-2 (emit-direct-R t) (emit-direct-at t) emit-direct.Post
+emit-direct-not-lawful-requires-2 t c κs = search needs
+
+emit-direct-same-length : (t : ℕ) → emit-direct-lts.Need-same-length (emit-direct-R t) (emit-direct-at t) emit-direct.Post
+emit-direct-same-length t c = search needs
+
+emit-direct-returns-2 : (t : ℕ) → emit-direct-lts.Need-returns-2 (emit-direct-R t) (emit-direct-at t) emit-direct.Post
+emit-direct-returns-2 t c = search (direct-cut, c .before .before .before .before .before .before .before .before .before .before .before .before .before .pre .1 .1, c .before .before .before .before .before .before .before .before .if1 .left, c .before .before .before .before .before .before .before .enter-part .ensures, c .before .before .before .before .before .emit-table .ensures, c .before .if2 .taken, c .not-lawful2 .ensures .0, c .not-lawful2 .ensures .1, c .not-lawful2 .ensures .2)
+
+emit-direct-leave-part-requires : (t : ℕ) → emit-direct-lts.Need-leave-part-requires (emit-direct-R t) (emit-direct-at t) emit-direct.Post
+emit-direct-leave-part-requires t c κs = search needs
+
+emit-direct-stored-requires : (t : ℕ) → emit-direct-lts.Need-stored-requires (emit-direct-R t) (emit-direct-at t) emit-direct.Post
+emit-direct-stored-requires t c κs = search needs
+
+emit-direct-same-length-2 : (t : ℕ) → emit-direct-lts.Need-same-length-2 (emit-direct-R t) (emit-direct-at t) emit-direct.Post
+emit-direct-same-length-2 t c = search needs
+
+emit-direct-returns-3 : (t : ℕ) → emit-direct-lts.Need-returns-3 (emit-direct-R t) (emit-direct-at t) emit-direct.Post
+emit-direct-returns-3 t c = search (direct-done, c .before .before .before .before .before .before .before .before .before .before .before .before .before .before .pre .1 .1, c .before .before .before .before .before .before .before .before .before .if1 .left, c .before .before .before .before .before .before .before .before .enter-part .ensures, c .before .before .before .before .before .before .emit-table .ensures, c .before .before .if2 .left, c .before .leave-part .ensures, c .stored .ensures .0, c .stored .ensures .1, c .stored .ensures .2)
+
+emit-direct-list-take-number-requires : (t : ℕ) → emit-direct-list-lts.Need-take-number-requires (emit-direct-list-R t) (emit-direct-list-at t) emit-direct-list.Post
+emit-direct-list-take-number-requires t c κs = search needs
+
+emit-direct-list-not-lawful-requires : (t : ℕ) → emit-direct-list-lts.Need-not-lawful-requires (emit-direct-list-R t) (emit-direct-list-at t) emit-direct-list.Post
+emit-direct-list-not-lawful-requires t c κs = search needs
+
+emit-direct-list-returns : (t : ℕ) → emit-direct-list-lts.Need-returns (emit-direct-list-R t) (emit-direct-list-at t) emit-direct-list.Post
+emit-direct-list-returns t c = search directs-cut
+
+emit-direct-list-put-direct-requires : (t : ℕ) → emit-direct-list-lts.Need-put-direct-requires (emit-direct-list-R t) (emit-direct-list-at t) emit-direct-list.Post
+emit-direct-list-put-direct-requires t c κs = search (directs-low, needs)
+
+emit-direct-list-emit-directs-requires : (t : ℕ) → emit-direct-list-lts.Need-emit-directs-requires (emit-direct-list-R t) (emit-direct-list-at t) emit-direct-list.Post
+emit-direct-list-emit-directs-requires t c κs = search (directs-room, needs)
+
+emit-direct-list-same-length : (t : ℕ) → emit-direct-list-lts.Need-same-length (emit-direct-list-R t) (emit-direct-list-at t) emit-direct-list.Post
+emit-direct-list-same-length t c = search needs
+
+emit-direct-list-returns-2 : (t : ℕ) → emit-direct-list-lts.Need-returns-2 (emit-direct-list-R t) (emit-direct-list-at t) emit-direct-list.Post
+emit-direct-list-returns-2 t c = search (directs-listed, c .before .before .before .before .before .before .before .before .before .before .take-number .ensures, c .before .before .before .before .before .before .before .before .before .before .before .before .before .before .before .pre .1 .1, c .before .before .before .before .before .before .before .before .if1 .left, c .before .before .before .before .before .before .put-direct .ensures, c .before .before .emit-directs .ensures)
+
+abbrev emit-directs-Inv-loop : emit-directs-lts.InvT-loop
+emit-directs-Inv-loop b dir s out₀ d t n c pos o p₀ at₀ j₀ out p at j =
+    (j ≤ n) × (n < 2 ^ 32) × (length out ≡ length out₀) × Room s pos c × Room s at p × (p .at + 8192 * pos ≤ c .at + 8192 * at)
+    × (emitDirects (emit d o (P.parse b)) t n (stateOf c out₀) (drop pos (bits s)) ≡ emitDirects (emit d o (P.parse b)) t (n - j) (stateOf p out) (drop at (bits s)))
+
+abbrev emit-directs-μ-loop : emit-directs-lts.MeasureT-loop
+emit-directs-μ-loop b dir s out₀ d t n c pos o p₀ at₀ j₀ out p at j = n - j
+
+emit-directs-loop-holds : (t : ℕ) → emit-directs-lts.Need-loop-holds (emit-directs-R t) (emit-directs-at t) emit-directs.Post emit-directs-Inv-loop emit-directs-μ-loop
+emit-directs-loop-holds t c = (search needs, search needs, search needs, search needs, search needs, search needs, search directs-start)
+
+emit-directs-emit-direct-requires : (t : ℕ) → emit-directs-lts.Need-emit-direct-requires (emit-directs-R t) (emit-directs-at t) emit-directs.Post emit-directs-Inv-loop emit-directs-μ-loop
+emit-directs-emit-direct-requires t c κs = search needs
+
+emit-directs-not-lawful-requires : (t : ℕ) → emit-directs-lts.Need-not-lawful-requires (emit-directs-R t) (emit-directs-at t) emit-directs.Post emit-directs-Inv-loop emit-directs-μ-loop
+emit-directs-not-lawful-requires t c κs = search needs
+
+emit-directs-same-length : (t : ℕ) → emit-directs-lts.Need-same-length (emit-directs-R t) (emit-directs-at t) emit-directs.Post emit-directs-Inv-loop emit-directs-μ-loop
+emit-directs-same-length t c = search needs
+
+emit-directs-returns : (t : ℕ) → emit-directs-lts.Need-returns (emit-directs-R t) (emit-directs-at t) emit-directs.Post emit-directs-Inv-loop emit-directs-μ-loop
+emit-directs-returns t c = search directs-stopped
+
+emit-directs-copied-requires : (t : ℕ) → emit-directs-lts.Need-copied-requires (emit-directs-R t) (emit-directs-at t) emit-directs.Post emit-directs-Inv-loop emit-directs-μ-loop
+emit-directs-copied-requires t c κs = search needs
+
+emit-directs-add-j : (t : ℕ) → emit-directs-lts.Need-add-j (emit-directs-R t) (emit-directs-at t) emit-directs.Post emit-directs-Inv-loop emit-directs-μ-loop
+emit-directs-add-j t c = search needs
+
+emit-directs-loop-less : (t : ℕ) → emit-directs-lts.Need-loop-less (emit-directs-R t) (emit-directs-at t) emit-directs.Post emit-directs-Inv-loop emit-directs-μ-loop
+emit-directs-loop-less t c = search needs
+
+emit-directs-loop-again : (t : ℕ) → emit-directs-lts.Need-loop-again (emit-directs-R t) (emit-directs-at t) emit-directs.Post emit-directs-Inv-loop emit-directs-μ-loop
+emit-directs-loop-again t c = (search needs, search needs, search needs, search needs, search room-copied, search needs, search directs-turn)
+
+emit-directs-stored-requires : (t : ℕ) → emit-directs-lts.Need-stored-requires (emit-directs-R t) (emit-directs-at t) emit-directs.Post emit-directs-Inv-loop emit-directs-μ-loop
+emit-directs-stored-requires t c κs = search needs
+
+emit-directs-same-length-2 : (t : ℕ) → emit-directs-lts.Need-same-length-2 (emit-directs-R t) (emit-directs-at t) emit-directs.Post emit-directs-Inv-loop emit-directs-μ-loop
+emit-directs-same-length-2 t c = search needs
+
+emit-directs-returns-2 : (t : ℕ) → emit-directs-lts.Need-returns-2 (emit-directs-R t) (emit-directs-at t) emit-directs.Post emit-directs-Inv-loop emit-directs-μ-loop
+emit-directs-returns-2 t c = search directs-done
 
 emit-element-enum-known-k : (t : ℕ) → emit-element-lts.Need-enum-known-k (emit-element-R t) (emit-element-at t) emit-element.Post
 emit-element-enum-known-k t c = search needs
@@ -605,6 +806,36 @@ emit-marked-not-lawful-requires-2 t c κs = search needs
 emit-marked-returns-4 : (t : ℕ) → emit-marked-lts.Need-returns-4 (emit-marked-R t) (emit-marked-at t) emit-marked.Post
 emit-marked-returns-4 t c = search marked-bad
 
+emit-measured-put-reference-requires : (t : ℕ) → emit-measured-lts.Need-put-reference-requires (emit-measured-R t) (emit-measured-at t) emit-measured.Post
+emit-measured-put-reference-requires t c κs = search (room-below, needs)
+
+emit-measured-open-requires : (t : ℕ) → emit-measured-lts.Need-open-requires (emit-measured-R t) (emit-measured-at t) emit-measured.Post
+emit-measured-open-requires t c κs = (c .before .before .before .before .before .before .before .before .before .pre .1 .0 .0, c .before .before .before .before .before .before .before .before .before .pre .1 .0 .1, c .before .before .before .before .before .before .before .before .before .pre .1 .0 .2, c .before .before .before .before .before .before .before .before .before .pre .1 .0 .3 .small, search (stood-next, c .before .before .before .before .before .before .before .before .before .pre .1 .1, c .before .before .before .put-reference .ensures), search (stood-tail, c .before .before .before .before .before .before .before .before .before .pre .1 .1, c .before .before .before .put-reference .ensures))
+
+emit-measured-emit-content-requires : (t : ℕ) → emit-measured-lts.Need-emit-content-requires (emit-measured-R t) (emit-measured-at t) emit-measured.Post
+emit-measured-emit-content-requires t c κs = (omega (arith, c .before .before .before .before .before .before .before .before .before .before .before .before .before .pre .0), ((c .before .before .before .before .before .before .before .before .before .before .before .before .before .pre .1 .0 .0, c .before .before .before .before .before .before .before .before .before .before .before .before .before .pre .1 .0 .1, c .before .before .before .before .before .before .before .before .before .before .before .before .before .pre .1 .0 .2), search (room-open, c .before .before .before .before .before .before .before .before .before .before .before .before .before .pre .1 .1, c .before .before .before .open .ensures, c .before .before .before .before .before .before .before .before .before .before .before .before .before .pre .1 .0 .1 .1)))
+
+emit-measured-not-lawful-requires : (t : ℕ) → emit-measured-lts.Need-not-lawful-requires (emit-measured-R t) (emit-measured-at t) emit-measured.Post
+emit-measured-not-lawful-requires t c κs = search needs
+
+emit-measured-same-length : (t : ℕ) → emit-measured-lts.Need-same-length (emit-measured-R t) (emit-measured-at t) emit-measured.Post
+emit-measured-same-length t c = search needs
+
+emit-measured-returns : (t : ℕ) → emit-measured-lts.Need-returns (emit-measured-R t) (emit-measured-at t) emit-measured.Post
+emit-measured-returns t c = search (refer-cut, c .before .before .before .before .before .before .before .before .before .before .before .before .before .before .before .before .before .before .before .pre .1 .0 .0, c .before .before .before .before .before .before .before .before .before .before .before .before .before .before .before .before .before .before .before .pre .1 .1, c .before .before .before .before .before .before .before .before .before .before .before .before .before .before .before .before .before .before .before .pre .1 .0 .3, c .before .before .before .before .before .before .before .before .before .before .before .before .before .put-reference .ensures, c .before .before .before .before .before .before .before .before .before .open .ensures, c .before .before .before .before .before .emit-content .ensures, c .before .if1 .taken, c .not-lawful .ensures .0, c .not-lawful .ensures .1, c .not-lawful .ensures .2)
+
+emit-measured-close-requires : (t : ℕ) → emit-measured-lts.Need-close-requires (emit-measured-R t) (emit-measured-at t) emit-measured.Post
+emit-measured-close-requires t c κs = search needs
+
+emit-measured-stored-requires : (t : ℕ) → emit-measured-lts.Need-stored-requires (emit-measured-R t) (emit-measured-at t) emit-measured.Post
+emit-measured-stored-requires t c κs = search needs
+
+emit-measured-same-length-2 : (t : ℕ) → emit-measured-lts.Need-same-length-2 (emit-measured-R t) (emit-measured-at t) emit-measured.Post
+emit-measured-same-length-2 t c = c .before .before .before .before .before .before .emit-content .kept .1 .1 .1 .0 ∙ c .before .before .before .before .before .before .before .before .before .before .open .kept .1 .1 .0 ∙ c .before .before .before .before .before .before .before .before .before .before .before .before .before .before .put-reference .kept .0
+
+emit-measured-returns-2 : (t : ℕ) → emit-measured-lts.Need-returns-2 (emit-measured-R t) (emit-measured-at t) emit-measured.Post
+emit-measured-returns-2 t c = search (refer-done, c .before .before .before .before .before .before .before .before .before .before .before .before .before .before .before .before .before .before .before .before .pre .1 .0 .0, c .before .before .before .before .before .before .before .before .before .before .before .before .before .before .before .before .before .before .before .before .pre .1 .1, c .before .before .before .before .before .before .before .before .before .before .before .before .before .before .before .before .before .before .before .before .pre .1 .0 .3, c .before .before .before .before .before .before .before .before .before .before .before .before .before .before .put-reference .ensures, c .before .before .before .before .before .before .before .before .before .before .open .ensures, c .before .before .before .before .before .before .emit-content .ensures, c .before .before .if1 .left, c .before .close .ensures, c .stored .ensures .0, c .stored .ensures .1, c .stored .ensures .2)
+
 abbrev emit-objects-Inv-loop : emit-objects-lts.InvT-loop
 emit-objects-Inv-loop b dir s out₀ d ob n c pos o size p₀ at₀ j₀ out p at j =
     (j ≤ n) × (n < 2 ^ 32) × (length out ≡ length out₀) × Room s pos c × Room s at p × (p .at + 8192 * pos ≤ c .at + 8192 * at)
@@ -697,36 +928,6 @@ emit-part-same-length-3 t c = search needs
 emit-part-returns-5 : (t : ℕ) → emit-part-lts.Need-returns-5 (emit-part-R t) (emit-part-at t) emit-part.Post
 emit-part-returns-5 t c = search (unflagged-pass, c .before .before .before .before .before .before .before .before .before .before .before .before .before .before .before .before .before .before .pre .1 .1, c .before .before .before .before .before .before .before .before .before .before .before .before .before .take-number .ensures, c .before .before .before .before .before .before .before .before .before .before .before .if1 .left, c .before .before .before .before .before .before .before .before .before .before .if2 .left, c .before .before .before .before .before .before .before .before .before .if3 .left, c .before .before .before .before .before .before .before .lack .ensures, c .before .before .before .before .if4 .left, c .before .before .pass .ensures)
 
-emit-measured-put-reference-requires : (t : ℕ) → emit-measured-lts.Need-put-reference-requires (emit-measured-R t) (emit-measured-at t) emit-measured.Post
-emit-measured-put-reference-requires t c κs = search (room-below, needs)
-
-emit-measured-open-requires : (t : ℕ) → emit-measured-lts.Need-open-requires (emit-measured-R t) (emit-measured-at t) emit-measured.Post
-emit-measured-open-requires t c κs = (c .before .before .before .before .before .before .before .before .before .pre .1 .0 .0, c .before .before .before .before .before .before .before .before .before .pre .1 .0 .1, c .before .before .before .before .before .before .before .before .before .pre .1 .0 .2, c .before .before .before .before .before .before .before .before .before .pre .1 .0 .3 .small, search (stood-next, c .before .before .before .before .before .before .before .before .before .pre .1 .1, c .before .before .before .put-reference .ensures), search (stood-tail, c .before .before .before .before .before .before .before .before .before .pre .1 .1, c .before .before .before .put-reference .ensures))
-
-emit-measured-emit-content-requires : (t : ℕ) → emit-measured-lts.Need-emit-content-requires (emit-measured-R t) (emit-measured-at t) emit-measured.Post
-emit-measured-emit-content-requires t c κs = (omega (arith, c .before .before .before .before .before .before .before .before .before .before .before .before .before .pre .0), ((c .before .before .before .before .before .before .before .before .before .before .before .before .before .pre .1 .0 .0, c .before .before .before .before .before .before .before .before .before .before .before .before .before .pre .1 .0 .1, c .before .before .before .before .before .before .before .before .before .before .before .before .before .pre .1 .0 .2), search (room-open, c .before .before .before .before .before .before .before .before .before .before .before .before .before .pre .1 .1, c .before .before .before .open .ensures, c .before .before .before .before .before .before .before .before .before .before .before .before .before .pre .1 .0 .1 .1)))
-
-emit-measured-not-lawful-requires : (t : ℕ) → emit-measured-lts.Need-not-lawful-requires (emit-measured-R t) (emit-measured-at t) emit-measured.Post
-emit-measured-not-lawful-requires t c κs = search needs
-
-emit-measured-same-length : (t : ℕ) → emit-measured-lts.Need-same-length (emit-measured-R t) (emit-measured-at t) emit-measured.Post
-emit-measured-same-length t c = search needs
-
-emit-measured-returns : (t : ℕ) → emit-measured-lts.Need-returns (emit-measured-R t) (emit-measured-at t) emit-measured.Post
-emit-measured-returns t c = search (refer-cut, c .before .before .before .before .before .before .before .before .before .before .before .before .before .before .before .before .before .before .before .pre .1 .0 .0, c .before .before .before .before .before .before .before .before .before .before .before .before .before .before .before .before .before .before .before .pre .1 .1, c .before .before .before .before .before .before .before .before .before .before .before .before .before .before .before .before .before .before .before .pre .1 .0 .3, c .before .before .before .before .before .before .before .before .before .before .before .before .before .put-reference .ensures, c .before .before .before .before .before .before .before .before .before .open .ensures, c .before .before .before .before .before .emit-content .ensures, c .before .if1 .taken, c .not-lawful .ensures .0, c .not-lawful .ensures .1, c .not-lawful .ensures .2)
-
-emit-measured-close-requires : (t : ℕ) → emit-measured-lts.Need-close-requires (emit-measured-R t) (emit-measured-at t) emit-measured.Post
-emit-measured-close-requires t c κs = search needs
-
-emit-measured-stored-requires : (t : ℕ) → emit-measured-lts.Need-stored-requires (emit-measured-R t) (emit-measured-at t) emit-measured.Post
-emit-measured-stored-requires t c κs = search needs
-
-emit-measured-same-length-2 : (t : ℕ) → emit-measured-lts.Need-same-length-2 (emit-measured-R t) (emit-measured-at t) emit-measured.Post
-emit-measured-same-length-2 t c = c .before .before .before .before .before .before .emit-content .kept .1 .1 .1 .0 ∙ c .before .before .before .before .before .before .before .before .before .before .open .kept .1 .1 .0 ∙ c .before .before .before .before .before .before .before .before .before .before .before .before .before .before .put-reference .kept .0
-
-emit-measured-returns-2 : (t : ℕ) → emit-measured-lts.Need-returns-2 (emit-measured-R t) (emit-measured-at t) emit-measured.Post
-emit-measured-returns-2 t c = search (refer-done, c .before .before .before .before .before .before .before .before .before .before .before .before .before .before .before .before .before .before .before .before .pre .1 .0 .0, c .before .before .before .before .before .before .before .before .before .before .before .before .before .before .before .before .before .before .before .before .pre .1 .1, c .before .before .before .before .before .before .before .before .before .before .before .before .before .before .before .before .before .before .before .before .pre .1 .0 .3, c .before .before .before .before .before .before .before .before .before .before .before .before .before .before .put-reference .ensures, c .before .before .before .before .before .before .before .before .before .before .open .ensures, c .before .before .before .before .before .before .emit-content .ensures, c .before .before .if1 .left, c .before .close .ensures, c .stored .ensures .0, c .stored .ensures .1, c .stored .ensures .2)
-
 emit-refer-measure-requires : (t : ℕ) → emit-refer-lts.Need-measure-requires (emit-refer-R t) (emit-refer-at t) emit-refer.Post
 emit-refer-measure-requires t c κs = search needs
 
@@ -816,13 +1017,16 @@ emit-table-same-length-3 t c = search needs
 emit-table-returns-3 : (t : ℕ) → emit-table-lts.Need-returns-3 (emit-table-R t) (emit-table-at t) emit-table.Post emit-table-Inv-loop emit-table-μ-loop
 emit-table-returns-3 t c = search members-done
 
-pub +emit-body+emit-choice+emit-content+emit-element+emit-elements+emit-list+emit-marked+emit-measured+emit-objects+emit-part+emit-refer+emit-table-spec :
+pub +emit-body+emit-choice+emit-content+emit-direct+emit-direct-list+emit-directs+emit-element+emit-elements+emit-list+emit-marked+emit-measured+emit-objects+emit-part+emit-refer+emit-table-spec :
     {M : Type 1} → statement M
-+emit-body+emit-choice+emit-content+emit-element+emit-elements+emit-list+emit-marked+emit-measured+emit-objects+emit-part+emit-refer+emit-table-spec =
++emit-body+emit-choice+emit-content+emit-direct+emit-direct-list+emit-directs+emit-element+emit-elements+emit-list+emit-marked+emit-measured+emit-objects+emit-part+emit-refer+emit-table-spec =
     close
     μ-emit-body
     μ-emit-choice
     μ-emit-content
+    μ-emit-direct
+    μ-emit-direct-list
+    μ-emit-directs
     μ-emit-element
     μ-emit-elements
     μ-emit-list
@@ -882,6 +1086,10 @@ pub +emit-body+emit-choice+emit-content+emit-element+emit-elements+emit-list+emi
     (emit-content-sub-emit-table t)
     (emit-content-index-requires-2 t)
     (emit-content-emit-table-requires t)
+    (emit-content-enum-known-ob-3 t)
+    (emit-content-sub-emit-direct-list t)
+    (emit-content-index-requires-3 t)
+    (emit-content-emit-direct-list-requires t)
     (emit-content-same-length t)
     (emit-content-returns-2 t)
     (emit-content-same-length-2 t)
@@ -889,7 +1097,51 @@ pub +emit-body+emit-choice+emit-content+emit-element+emit-elements+emit-list+emi
     (emit-content-same-length-3 t)
     (emit-content-returns-4 t)
     (emit-content-same-length-4 t)
-    (emit-content-returns-5 t))
+    (emit-content-returns-5 t)
+    (emit-content-same-length-5 t)
+    (emit-content-returns-6 t))
+    (λ t. emit-direct-lts.spec (emit-direct-R t)
+    (emit-direct-at t)
+    emit-direct.Post
+    (emit-direct-not-lawful-requires t)
+    (emit-direct-returns t)
+    (emit-direct-enter-part-requires t)
+    (emit-direct-sub-emit-table t)
+    (emit-direct-emit-table-requires t)
+    (emit-direct-not-lawful-requires-2 t)
+    (emit-direct-same-length t)
+    (emit-direct-returns-2 t)
+    (emit-direct-leave-part-requires t)
+    (emit-direct-stored-requires t)
+    (emit-direct-same-length-2 t)
+    (emit-direct-returns-3 t))
+    (λ t. emit-direct-list-lts.spec (emit-direct-list-R t)
+    (emit-direct-list-at t)
+    emit-direct-list.Post
+    (emit-direct-list-take-number-requires t)
+    (emit-direct-list-not-lawful-requires t)
+    (emit-direct-list-returns t)
+    (emit-direct-list-put-direct-requires t)
+    (emit-direct-list-emit-directs-requires t)
+    (emit-direct-list-same-length t)
+    (emit-direct-list-returns-2 t))
+    (λ t. emit-directs-lts.spec (emit-directs-R t)
+    (emit-directs-at t)
+    emit-directs.Post
+    emit-directs-Inv-loop
+    emit-directs-μ-loop
+    (emit-directs-loop-holds t)
+    (emit-directs-emit-direct-requires t)
+    (emit-directs-not-lawful-requires t)
+    (emit-directs-same-length t)
+    (emit-directs-returns t)
+    (emit-directs-copied-requires t)
+    (emit-directs-add-j t)
+    (emit-directs-loop-less t)
+    (emit-directs-loop-again t)
+    (emit-directs-stored-requires t)
+    (emit-directs-same-length-2 t)
+    (emit-directs-returns-2 t))
     (λ t. emit-element-lts.spec (emit-element-R t)
     (emit-element-at t)
     emit-element.Post
