@@ -10,7 +10,7 @@ use Rattle.coding.specs.declared.Object.{Object}
 use Rattle.coding.specs.declared.Object.the-variants as O
 use Rattle.coding.specs.declared.Spent.{Spent}
 use Rattle.coding.specs.declared.Walked.{Walked}
-use Rattle.laws.specs.Sound.{ObjectSound, DirectSound}
+use Rattle.laws.specs.Sound.{ObjectSound}
 
 -- ---- the size that the header gives
 pub directs-sized : (child : W.Child) (o : ℕ) (m : List ℕ) (holder t w n start : ℕ) (s : Spent) → w ≡ W.elementSize o m holder → (r : Walked) → r ≡ W.directs child t w n start s
