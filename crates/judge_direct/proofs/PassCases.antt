@@ -11,9 +11,7 @@ use lib.Dec.{ltb, leb}
 use borrow.Author.Tests.{lt-ltb, le-ltb, le-leb, lt-leb}
 use Rattle.coding.specs.Lists.{pick}
 use Rattle.coding.specs.Packed as P
-use Rattle.coding.specs.Schema as Sc
 use Rattle.coding.specs.Schema.{Schema}
-use Rattle.coding.specs.Layout as L
 use Rattle.coding.specs.Walk as W
 use Rattle.coding.specs.declared.Object.the-variants as O
 use Rattle.coding.specs.declared.Place.the-variants.{InPlace, ByOffset}
@@ -21,9 +19,8 @@ use Rattle.coding.specs.declared.Spent.{Spent}
 use Rattle.coding.specs.declared.Walked.{Walked}
 use Rattle.coding.specs.declared.Walked.the-variants.{Going, Refused}
 use Rattle.wire.specs.Products.{times-more, times-within}
-use Rattle.outcome.specs.declared.Outcome.{Outcome}
 use Rattle.outcome.specs.Left as Left
-use Rattle.outcome.specs.Answers.{walkedOf, within, charged}
+use Rattle.outcome.specs.Answers.{within, charged}
 use Rattle.judge_direct.specs.Direct.{pass, passes, Afforded, Silent}
 
 -- ---- how many the content has room for

@@ -4,69 +4,82 @@ use mathlib.Core.Bool.{Bool, true, false, _&&_}
 use mathlib.Core.List.{List}
 use Prim.Native.Nat.{ℕ, _+_, _*_, _^_, _<_, _≤_}
 use native.Mathlib.Omega.{arith}
-use lib.ListN.{length, getD, drop}
+use lib.ListN.{length, getD}
 use lib.Dec.{ltb, leb, eqb}
-use borrow.Author.Tests.{le-leb, lt-leb}
+use borrow.Author.Tests.{le-leb, lt-leb, eqb-true}
 use Rattle.coding.specs.Lists.{pick}
 use Rattle.coding.specs.Bytes.{le, isNaN}
 use Rattle.coding.specs.Schema as Sc
 use Rattle.coding.specs.Schema.{Schema}
 use Rattle.coding.specs.Packed as P
 use Rattle.coding.specs.Layout as L
+use Rattle.coding.specs.Structs.{structOk}
 use Rattle.coding.specs.Step as T
-use Rattle.coding.specs.Walk as W
 use Rattle.coding.specs.declared.Flat.{Flat}
 use Rattle.coding.specs.declared.Flat.the-variants as F
-use Rattle.coding.specs.declared.Object.{Object}
 use Rattle.coding.specs.declared.Object.the-variants as O
 use Rattle.coding.specs.declared.Kind.{Kind}
-use Rattle.coding.specs.declared.Kind.the-variants.{OfFlat, OfObject, OfUnion}
+use Rattle.coding.specs.declared.Kind.the-variants.{OfFlat}
 use Rattle.coding.specs.declared.Member.{Member}
 use Rattle.coding.specs.declared.Cursor.{Cursor}
 use Rattle.coding.specs.declared.Slot.{Slot}
-use Rattle.coding.specs.declared.Placement.{Placement}
 use Rattle.coding.specs.declared.Step.{Step}
 use Rattle.coding.specs.declared.Step.the-variants as St
-use Rattle.coding.specs.declared.Spent.{Spent}
 use Rattle.coding.specs.declared.Walked.the-variants.{Going}
 use Rattle.laws.specs.Lists.{never}
-use Rattle.laws.specs.Sound.{ObjectSound}
-use Rattle.laws.specs.SoundAt.{table-index}
+use Rattle.laws.specs.Sound.{ObjectSound, KindSound}
+use Rattle.laws.specs.SoundAt.{struct-index, table-index}
+use Rattle.schema.specs.Representatives.{Represents}
 use Rattle.message_layout.specs.Bounds.{Laid, Stands}
 use Rattle.message_step.specs.Lead.{leadOf}
 use Rattle.judge_rows.proofs.MemberCases.{members-start, members-ended, members-done, members-nowhere}
-use Rattle.judge_direct.specs.Direct.{flatScalar, scalar, uncut, Quiet, Led, Onto, Silent}
+use Rattle.judge_direct.specs.Direct.{Harmless, uncut, Quiet, Led, Onto, Silent}
 
 -- ---- a kind
-module _ (k : Kind) where
-  module _ (f : Flat) (e : k ≡ OfFlat f) where
-    pub scalar-bool : f ≡ F.Boolean → true ≡ scalar k
-    unfolding scalar flatScalar
-    scalar-bool g = rw e (rw g)
+module _ (S : Schema) (k : Kind) (f : Flat) (e : k ≡ OfFlat f) where
+  by-flat : ((m : List ℕ) (none : Bool) (at bit : ℕ) → leadOf (T.structTested S m (T.flatStep m f none at bit)) ≡ St.Absent) → Harmless S k
+  unfolding T.valueStep
+  by-flat h = record { nowhere = λ o m none inplace tail at bit. rw e (h m none at bit) }
 
-    pub scalar-integer : (s : Bool) (w : ℕ) → f ≡ F.Integer s w → true ≡ scalar k
-    unfolding scalar flatScalar
-    scalar-integer s w g = rw e (rw g)
+  pub harmless-bool : f ≡ F.Boolean → Harmless S k
+  unfolding T.flatStep T.structTested leadOf
+  harmless-bool g = by-flat (λ m none at bit. rw g refl)
 
-    pub scalar-float : (w : ℕ) → f ≡ F.Float w → true ≡ scalar k
-    unfolding scalar flatScalar
-    scalar-float w g = rw e (rw g)
+  pub harmless-integer : (s : Bool) (w : ℕ) → f ≡ F.Integer s w → Harmless S k
+  unfolding T.flatStep T.structTested leadOf
+  harmless-integer s w g = by-flat (λ m none at bit. rw g refl)
 
-    pub scalar-enum : (n : ℕ) → f ≡ F.Enumerated n → true ≡ scalar k
-    unfolding scalar flatScalar
-    scalar-enum n g = rw e (rw g)
+  pub harmless-float : (w : ℕ) → f ≡ F.Float w → Harmless S k
+  unfolding T.flatStep T.floatStep T.structTested leadOf
+  harmless-float w g = by-flat (λ m none at bit. rw g (by m at (none && isNaN w (le m at w))))
+    where
+      by : (m : List ℕ) (at : ℕ) (t : Bool) → leadOf (T.structTested S m (pick t St.Absent (St.Value (le m at w)))) ≡ St.Absent
+      by m at true = refl
+      by m at false = refl
 
-    pub scalar-struct : (i : ℕ) → f ≡ F.Struct i → false ≡ scalar k
-    unfolding scalar flatScalar
-    scalar-struct i g = rw e (rw g)
+  pub harmless-enum : (n : ℕ) → f ≡ F.Enumerated n → Harmless S k
+  unfolding T.flatStep T.enumStep T.structTested leadOf
+  harmless-enum n g = by-flat (λ m none at bit. rw g (by m at (eqb (getD m at 0) 255) (ltb (getD m at 0) n)))
+    where
+      by : (m : List ℕ) (at : ℕ) (t u : Bool) → leadOf (T.structTested S m (pick t St.Absent (pick u (St.Value (getD m at 0)) (St.Unknown (getD m at 0))))) ≡ St.Absent
+      by m at true u = refl
+      by m at false true = refl
+      by m at false false = refl
 
-  pub scalar-object : (ob : Object) → k ≡ OfObject ob → false ≡ scalar k
-  unfolding scalar
-  scalar-object ob e = rw e
+  -- a struct without a bool
+  pub harmless-struct : (i j r : ℕ) → f ≡ F.Struct i → j ≡ i → Represents S j r → (t : Bool) → t ≡ eqb r 65535 → t ≡ true → Harmless S k
+  unfolding T.flatStep T.structTested leadOf
+  harmless-struct i j r g ej R t et h =
+      by-flat (λ m none at bit. rw g (by m at (structOk S m i at) (ap (λ (q : ℕ). structOk S m q at) (sym ej) ∙ R .none (eqb-true r 65535 (sym et ∙ h)) m at)))
+    where
+      by : (m : List ℕ) (at : ℕ) (u : Bool) → u ≡ true → leadOf (pick u (St.Struct i at) (St.Refused 10)) ≡ St.Absent
+      by m at true q = refl
+      by m at false q = never q
 
-  pub scalar-union : (i : ℕ) → k ≡ OfUnion i → false ≡ scalar k
-  unfolding scalar
-  scalar-union i e = rw e
+pub struct-counted : (b : List ℕ) (k : Kind) (f : Flat) (i j : ℕ) → KindSound (P.parse b) k → k ≡ OfFlat f → f ≡ F.Struct i → j ≡ i → j < P.structCount b
+struct-counted b k f i j h e g ej =
+    let q : i < length (P.parse b .structs) = subst (λ (y : Flat). KindSound (P.parse b) (OfFlat y)) g (subst (KindSound (P.parse b)) e h) in
+    rw ej (struct-index b i q)
 
 -- ---- a slot
 module _ (w : ℕ) (slot : Slot) where
@@ -79,30 +92,6 @@ module _ (w : ℕ) (slot : Slot) where
   uncut-inside h r f = simp (lt-leb w (slot .at) h) f
 
 -- ---- its step
-flat-nowhere : (S : Schema) (m : List ℕ) (k : Flat) (none : Bool) (at bit : ℕ) → flatScalar k ≡ true → leadOf (T.structTested S m (T.flatStep m k none at bit)) ≡ St.Absent
-unfolding flatScalar T.flatStep T.floatStep T.enumStep T.structTested leadOf
-flat-nowhere S m F.Boolean none at bit h = refl
-flat-nowhere S m (F.Integer s w) none at bit h = refl
-flat-nowhere S m (F.Float w) none at bit h = by (none && isNaN w (le m at w))
-  where
-    by : (t : Bool) → leadOf (T.structTested S m (pick t St.Absent (St.Value (le m at w)))) ≡ St.Absent
-    by true = refl
-    by false = refl
-flat-nowhere S m (F.Enumerated n) none at bit h = by (eqb (getD m at 0) 255) (ltb (getD m at 0) n)
-  where
-    by : (t u : Bool) → leadOf (T.structTested S m (pick t St.Absent (pick u (St.Value (getD m at 0)) (St.Unknown (getD m at 0))))) ≡ St.Absent
-    by true u = refl
-    by false true = refl
-    by false false = refl
-flat-nowhere S m (F.Struct i) none at bit h = never h
-
-value-nowhere : (o : ℕ) (S : Schema) (m : List ℕ) (k : Kind) (none inplace : Bool) (tail at bit : ℕ) → scalar k ≡ true
-    → leadOf (T.structTested S m (T.valueStep o S m k none inplace tail at bit)) ≡ St.Absent
-unfolding scalar T.valueStep
-value-nowhere o S m (OfFlat k) none inplace tail at bit h = flat-nowhere S m k none at bit h
-value-nowhere o S m (OfObject ob) none inplace tail at bit h = never h
-value-nowhere o S m (OfUnion i) none inplace tail at bit h = never h
-
 inside-nowhere : (S : Schema) (m : List ℕ) (w : ℕ) (slot : Slot) (here : Step) → uncut w slot ≡ true → leadOf (T.structTested S m here) ≡ St.Absent
     → leadOf (T.structTested S m (T.inside w slot St.Absent here)) ≡ St.Absent
 unfolding uncut T.inside T.structTested leadOf
@@ -113,12 +102,12 @@ inside-nowhere S m w slot here h e = by (leb w (slot .at)) (leb (slot .at + slot
     by false true g = e
     by false false g = never g
 
-quiet-nowhere : (o : ℕ) (S : Schema) (m : List ℕ) (start w : ℕ) (c : Cursor) (r : Member) → Quiet r w (L.memberSlot o S r c)
+quiet-nowhere : (o : ℕ) (S : Schema) (m : List ℕ) (start w : ℕ) (c : Cursor) (r : Member) → Quiet S r w (L.memberSlot o S r c)
     → leadOf (T.memberStep o S m start w c r) ≡ St.Absent
 unfolding T.memberStep T.placedStep L.placementOf
 quiet-nowhere o S m start w c r q =
     by (L.hasFlag r) (L.memberSlot o S r c) (q .plain) (q .whole)
-    (value-nowhere o S m (r .kind) (r .optional) (r .inplace) (start + w) (start + L.memberSlot o S r c .at) (L.memberSlot o S r c .bit) (q .value))
+    (q .value .nowhere o m (r .optional) (r .inplace) (start + w) (start + L.memberSlot o S r c .at) (L.memberSlot o S r c .bit))
   where
     by : (f : Bool) (slot : Slot) → f ≡ false → uncut w slot ≡ true
         → leadOf (T.structTested S m (T.valueStep o S m (r .kind) (r .optional) (r .inplace) (start + w) (start + slot .at) (slot .bit))) ≡ St.Absent
@@ -132,17 +121,17 @@ quiet-nowhere o S m start w c r q =
     by false slot e u h =
         inside-nowhere S m w slot (T.valueStep o S m (r .kind) (r .optional) (r .inplace) (start + w) (start + slot .at) (slot .bit)) u h
 
-pub quiet-is : (r : Member) (w : ℕ) (slot : Slot) (f : Bool) → f ≡ L.hasFlag r → f ≡ false → (t : Bool) → t ≡ scalar (r .kind) → t ≡ true → (u : Bool) → u ≡ uncut w slot → u ≡ true
-    → Quiet r w slot
-quiet-is r w slot f ef zf t et zt u eu zu = record { plain = sym ef ∙ zf; value = sym et ∙ zt; whole = sym eu ∙ zu }
+pub quiet-is : (S : Schema) (r : Member) (w : ℕ) (slot : Slot) (f : Bool) → f ≡ L.hasFlag r → f ≡ false → Harmless S (r .kind) → (u : Bool) → u ≡ uncut w slot → u ≡ true
+    → Quiet S r w slot
+quiet-is S r w slot f ef zf h u eu zu = record { plain = sym ef ∙ zf; value = h; whole = sym eu ∙ zu }
 
 -- ---- member j of a table
 pub quiet-led : (o : ℕ) (b : List ℕ) (t j w : ℕ) (c : Cursor) (r : Member) → r ≡ Sc.memberOf (P.parse b) t j → Laid (4097 * j) c → (slot : Slot) (next : Cursor)
-    → Stands (L.memberSlot o (P.parse b) r c) (L.afterMember o (P.parse b) r c) (c .end + 1) slot next → (q : Bool) → (q ≡ true → Quiet r w slot) → Led o b t j w c q next
+    → Stands (L.memberSlot o (P.parse b) r c) (L.afterMember o (P.parse b) r c) (c .end + 1) slot next → (q : Bool) → (q ≡ true → Quiet (P.parse b) r w slot) → Led o b t j w c q next
 quiet-led o b t j w c r er lc slot next st q h =
     record {
       nowhere = λ z m start. subst (λ (k : Member). leadOf (T.memberStep o (P.parse b) m start w c k) ≡ St.Absent) er
-          (quiet-nowhere o (P.parse b) m start w c r (subst (λ (k : Slot). Quiet r w k) (st .slot-is) (h z)));
+          (quiet-nowhere o (P.parse b) m start w c r (subst (λ (k : Slot). Quiet (P.parse b) r w k) (st .slot-is) (h z)));
       next-is = st .next-is ∙ ap (λ (k : Member). L.afterMember o (P.parse b) k c) er;
       laid = quiet-laid;
     }

@@ -2,20 +2,17 @@
 -- `o` is the width of an offset in bytes, w the bytes of an element.
 use Prim.Native.Nat.{ℕ, zero, suc, _+_, _-_, _*_, _<_, _≤_}
 use mathlib.Core.Path.{_≡_}
-use mathlib.Core.Bool.{Bool, true, false, _&&_, not}
+use mathlib.Core.Bool.{Bool, true, false}
 use mathlib.Core.List.{List}
 use lib.Dec.{ltb, leb}
 use lib.ListN.{drop}
 use Rattle.coding.specs.Lists.{pick}
 use Rattle.coding.specs.Packed.{parse}
-use Rattle.coding.specs.Schema.{tableOf, memberOf}
+use Rattle.coding.specs.Schema.{Schema, tableOf, memberOf}
 use Rattle.coding.specs.Layout as L
-use Rattle.coding.specs.Step.{memberStep}
+use Rattle.coding.specs.Step.{memberStep, valueStep, structTested}
 use Rattle.coding.specs.Walk as W
-use Rattle.coding.specs.declared.Flat.{Flat}
-use Rattle.coding.specs.declared.Flat.the-variants as F
 use Rattle.coding.specs.declared.Kind.{Kind}
-use Rattle.coding.specs.declared.Kind.the-variants.{OfFlat, OfObject, OfUnion}
 use Rattle.coding.specs.declared.Member.{Member}
 use Rattle.coding.specs.declared.Cursor.{Cursor}
 use Rattle.coding.specs.declared.Slot.{Slot}
@@ -46,27 +43,18 @@ pub record Afforded (w n content k : ℕ) : Type 0 where
   pub full : k < n → content < w * k + w
 
 -- ---- which they are
--- a number, a float, an enum or a bool
-unfoldable pub flatScalar : Flat → Bool
-flatScalar F.Boolean = true
-flatScalar (F.Integer s w) = true
-flatScalar (F.Float w) = true
-flatScalar (F.Enumerated n) = true
-flatScalar (F.Struct i) = false
-
-unfoldable pub scalar : Kind → Bool
-scalar (OfFlat k) = flatScalar k
-scalar (OfObject ob) = false
-scalar (OfUnion i) = false
+-- a value of the kind leads nowhere and is not refused, whatever stands there
+pub record Harmless (S : Schema) (k : Kind) : Type 0 where
+  pub nowhere : (o : ℕ) (m : List ℕ) (none inplace : Bool) (tail at bit : ℕ) → leadOf (structTested S m (valueStep o S m k none inplace tail at bit)) ≡ St.Absent
 
 -- a slot that ends within w bytes, or starts past them
 unfoldable pub uncut : ℕ → Slot → Bool
 uncut w slot = pick (leb w (slot .at)) true (leb (slot .at + slot .size) w)
 
--- a scalar without a flag, in a slot that is not cut
-pub record Quiet (r : Member) (w : ℕ) (slot : Slot) : Type 0 where
+-- such a value without a flag, in a slot that is not cut
+pub record Quiet (S : Schema) (r : Member) (w : ℕ) (slot : Slot) : Type 0 where
   pub plain : L.hasFlag r ≡ false
-  pub value : scalar (r .kind) ≡ true
+  pub value : Harmless S (r .kind)
   pub whole : uncut w slot ≡ true
 
 -- member j of table t, before which the cursor stands, leads nowhere in a fixed part of w bytes, whatever stands there; and the cursor behind

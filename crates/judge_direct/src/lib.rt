@@ -15,7 +15,7 @@ ghost use lib.ListN.{length};
 ghost use Rattle.coding.specs.Packed as P;
 ghost use Rattle.coding.specs.Schema as Sc;
 ghost use Rattle.coding.specs.Walk as W;
-ghost use Rattle.laws.specs.Sound.{ObjectSound};
+ghost use Rattle.laws.specs.Sound.{ObjectSound, KindSound, MemberSound};
 ghost use Rattle.message_layout.specs.Bounds.{Laid};
 ghost use Rattle.schema.specs.Directory.{Accepted};
 ghost use Rattle.outcome.specs.Answers as As;
@@ -23,9 +23,11 @@ ghost use Rattle.judge_direct.specs.Direct as Ds;
 ghost use Rattle.wire.specs.Sizes.{WithinSize, Width};
 
 // ---- whether they only count
-// Whether a kind is a number, a float, an enum or a bool.
-fn is_scalar(k: Kind) -> bool
-    ensures { λ r. ⌜ r ≡ Ds.scalar k ⌝ }
+// Whether a value of the kind leads nowhere and is not refused, whatever stands there: a number, a float, an enum, a bool, or a
+// struct without a bool.
+fn is_harmless(b: &[u8], dir: &[u16], k: Kind) -> bool
+    requires { ⌜ (Accepted (now b) (now dir)) × (KindSound (P.parse (now b)) k) ⌝ }
+    ensures { λ r. ⌜ (r ≡ true → Ds.Harmless (P.parse (now (b .entry))) k) ⌝ }
 {
     match k {
         Kind::OfFlat(f) => match f {
@@ -33,7 +35,7 @@ fn is_scalar(k: Kind) -> bool
             Flat::Integer(_, _) => true,
             Flat::Float(_) => true,
             Flat::Enumerated(_) => true,
-            Flat::Struct(_) => false,
+            Flat::Struct(i) => schema::representative(b, dir, wire::index(i)) == schema::NO_BOOL,
         },
         Kind::OfObject(_) => false,
         Kind::OfUnion(_) => false,
@@ -51,17 +53,16 @@ fn is_uncut(w: usize, slot: Slot) -> bool
     slot.at + slot.size <= w
 }
 
-// Whether a member in that slot of a fixed part of w bytes leads nowhere, whatever stands there: a scalar without a flag that
-// is not cut.
-fn is_quiet(r: Member, w: usize, slot: Slot) -> bool
-    requires { ⌜ (slot .at < 2 ^ 60) × (slot .size ≤ 4096) ⌝ }
-    ensures { λ q. ⌜ (q ≡ true → Ds.Quiet r w slot) ⌝ }
+// Whether a member in that slot of a fixed part of w bytes leads nowhere, whatever stands there: it has no flag and is not cut.
+fn is_quiet(b: &[u8], dir: &[u16], r: Member, w: usize, slot: Slot) -> bool
+    requires { ⌜ (Accepted (now b) (now dir)) × (MemberSound (P.parse (now b)) r) × (slot .at < 2 ^ 60) × (slot .size ≤ 4096) ⌝ }
+    ensures { λ q. ⌜ (q ≡ true → Ds.Quiet (P.parse (now (b .entry))) r w slot) ⌝ }
 {
     if message_layout::has_flag(r) {
         return false;
     }
     let k = r.kind;
-    if is_scalar(k) {
+    if is_harmless(b, dir, k) {
         return is_uncut(w, slot);
     }
     false
@@ -92,7 +93,7 @@ fn quiet_member(
     let placement = p.placement;
     let slot = placement.value;
     QuietMember {
-        quiet: is_quiet(r, w, slot),
+        quiet: is_quiet(b, dir, r, w, slot),
         next,
     }
 }

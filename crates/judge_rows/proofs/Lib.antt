@@ -1,3 +1,4 @@
 pub mod EndCases
 pub mod MemberCases
 pub mod RowCases
+pub mod DirectCases

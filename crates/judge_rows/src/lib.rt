@@ -219,3 +219,94 @@ pub fn row_references(
         Object::DirectList(_) => outcome::going(visits, content),
     }
 }
+
+// An arrival at a row table of w bytes in place, which lie within the message.
+fn enter_row(
+    b: &[u8],
+    m: &[u8],
+    depth: usize,
+    k: Rows,
+    at: usize,
+    w: usize,
+    visits: u32,
+    content: u64,
+    o: usize,
+) -> Outcome
+    requires { ⌜ (Rs.RowTable (now b) k) × (Width o) × (WithinSize (now m)) × (at + w ≤ length (now m)) ⌝ }
+    ensures { λ r. ⌜ As.walkedOf r ≡ As.visitBy o (now (b .entry)) (now (m .entry)) depth (Object.Table (k .table)) (Place.InPlace at w) (W.spending visits content) ⌝ }
+{
+    let g = outcome::charge(depth, at, visits, content);
+    if g.code != 0 {
+        return g;
+    }
+    if outcome::exceeds(w, g.content) {
+        return outcome::refuse(outcome::TOO_MUCH, at, g.visits, g.content);
+    }
+    let y = Content {
+        holder: at,
+        start: at,
+        length: w,
+    };
+    row_members(
+        b,
+        m,
+        outcome::below(depth),
+        k,
+        y,
+        g.visits,
+        outcome::rest(w, g.content),
+        o,
+    )
+}
+
+// The elements of a direct list of a row table, of w bytes each.
+fn row_elements(
+    b: &[u8],
+    m: &[u8],
+    depth: usize,
+    k: Rows,
+    w: usize,
+    x: Content,
+    visits: u32,
+    content: u64,
+    o: usize,
+) -> Outcome
+    requires { ⌜ (Rs.RowTable (now b) k) × (Width o) × (WithinSize (now m)) × (x .start + w * x .length ≤ length (now m)) ⌝ }
+    ensures { λ r. ⌜ As.walkedOf r ≡ As.directsBy o (now (b .entry)) (now (m .entry)) depth (k .table) w x (W.spending visits content) ⌝ }
+{
+    let mut v = visits;
+    let mut c = content;
+    let mut at = x.start;
+    let mut j: usize = 0;
+    while j < x.length {
+        let g = enter_row(b, m, depth, k, at, w, v, c, o);
+        if g.code != 0 {
+            return g;
+        }
+        v = g.visits;
+        c = g.content;
+        at += w;
+        j += 1;
+    }
+    outcome::going(v, c)
+}
+
+// The elements of a direct list of table t, of w bytes each, where it is a row table.
+pub fn row_directs(
+    b: &[u8],
+    dir: &[u16],
+    m: &[u8],
+    depth: usize,
+    t: u8,
+    w: usize,
+    x: Content,
+    visits: u32,
+    content: u64,
+    o: usize,
+) -> Outcome
+    requires { ⌜ (Accepted (now b) (now dir)) × (Width o) × (WithinSize (now m)) × (ObjectSound (P.parse (now b)) (Object.Table t)) × (Rs.RowObject (now b) (Object.Table t)) × (x .start + w * x .length ≤ length (now m)) ⌝ }
+    ensures { λ r. ⌜ As.walkedOf r ≡ As.directsBy o (now (b .entry)) (now (m .entry)) depth t w x (W.spending visits content) ⌝ }
+{
+    let k = judge_member::rows_of(b, dir, t);
+    row_elements(b, m, depth, k, w, x, visits, content, o)
+}

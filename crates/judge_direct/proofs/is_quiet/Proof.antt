@@ -10,14 +10,14 @@ has-flag-requires c κs = search needs
 returns : tie.Need-returns
 returns c = λ e. never e
 
-is-scalar-requires : tie.Need-is-scalar-requires
-is-scalar-requires c κs = search needs
+is-harmless-requires : tie.Need-is-harmless-requires
+is-harmless-requires c κs = search needs
 
 is-uncut-requires : tie.Need-is-uncut-requires
 is-uncut-requires c κs = search needs
 
 returns-2 : tie.Need-returns-2
-returns-2 c = λ e. search quiet-is
+returns-2 c = λ e. search (quiet-is, c .before .before .is-harmless .ensures (c .before .if2 .taken))
 
 returns-3 : tie.Need-returns-3
 returns-3 c = λ e. never e
@@ -25,4 +25,4 @@ returns-3 c = λ e. never e
 pub is-quiet-spec : {M : Type 1} → statement M
 is-quiet-spec =
     tie.close
-    (tie.spec has-flag-requires returns is-scalar-requires is-uncut-requires returns-2 returns-3)
+    (tie.spec has-flag-requires returns is-harmless-requires is-uncut-requires returns-2 returns-3)

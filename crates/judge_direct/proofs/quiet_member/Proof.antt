@@ -11,7 +11,7 @@ place-member-requires : tie.Need-place-member-requires
 place-member-requires c κs = search (member-sound-of, laid-end, needs)
 
 is-quiet-requires : tie.Need-is-quiet-requires
-is-quiet-requires c κs = search needs
+is-quiet-requires c κs = search (member-sound-of, needs)
 
 returns : tie.Need-returns
 returns c = search quiet-led
