@@ -9,11 +9,11 @@ use lib.Dec.{leb}
 use Rattle.coding.specs.Lists.{pick}
 use Rattle.coding.specs.Bytes.{leBytes}
 use Rattle.coding.specs.Schema.{Schema, elementOf, casesOf, caseOf, tableOf}
-use Rattle.coding.specs.Layout.{hasFlag, fixedSize}
+use Rattle.coding.specs.Layout.{hasFlag}
 use Rattle.coding.specs.Walk.{magic}
 use Rattle.coding.specs.Value.{Value, Values, absent, unknown, blob, row, chosen, present, asNumber, asBlob, asRow, asObject, first, others}
 use Rattle.coding.specs.Cells.{width, chain, Slots, packBits}
-use Rattle.coding.specs.Cells.Slots.{end, bytes, bit, reference, inPlace, part}
+use Rattle.coding.specs.Cells.Slots.{end, bytes, bit, reference, inPlace}
 use Rattle.coding.specs.Sheet.{Parsed, fail, got, bind, takeNumber, takeBytes, unknownEnum, takeUnknownEnum, Decoder, takeChoice, takeBody, takeUnknownFlat, takeUnknown, takePart, unmarked, takeElement, takeMembers, takeElements, takeBlob, takeDirects, takeContent}
 use Rattle.coding.specs.Message.{lengthOf, Test, zeros, numberOr, flatSlots, Planner, objectSlots, referSlots, valueSlots, flagOf, memberSlots, membersSlots, elementsSlots, directsSlots, directSlots, contentSlots}
 use Rattle.coding.specs.declared.Flat.{Flat}

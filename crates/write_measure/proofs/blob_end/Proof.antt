@@ -4,8 +4,6 @@ use Rattle.write_measure.proofs.PartCases.{end-text, end-bytes, end-oth
 use Rattle.write_measure.proofs.ElementCases.{blob-list, blob-table, blob-direct}
 use Rattle.write_measure.proofs.blob_end.Statement.{statement}
 use Rattle.write_measure.proofs.blob_end.Tie as tie
-use Rattle.write_measure.proofs.blob_end.Reads as reads
-use Rattle.write_measure.proofs.blob_end.Lts as lts
 
 enum-told : tie.Need-enum-told
 enum-told c = search needs

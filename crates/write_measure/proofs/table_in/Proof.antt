@@ -2,9 +2,6 @@ use borrow.Author.Needs.{needs}
 use Rattle.write_measure.proofs.PartCases.{not-less, table-index-in}
 use Rattle.write_measure.proofs.table_in.Statement.{statement}
 use Rattle.write_measure.proofs.table_in.Tie as tie
-use Rattle.write_measure.proofs.table_in.Reads as reads
-use Rattle.write_measure.proofs.table_in.Lts as lts
-use Rattle.wire.proofs.index.Reads as index-reads
 
 enum-told : tie.Need-enum-told
 enum-told c = search needs

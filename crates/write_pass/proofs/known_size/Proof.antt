@@ -3,10 +3,6 @@ use Rattle.write_measure.proofs.ObjectCases.{table-counted}
 use Rattle.write_pass.proofs.MeasureCases.{known-none, known-table}
 use Rattle.write_pass.proofs.known_size.Statement.{statement}
 use Rattle.write_pass.proofs.known_size.Tie as tie
-use Rattle.write_pass.proofs.known_size.Reads as reads
-use Rattle.write_pass.proofs.known_size.Lts as lts
-use Rattle.write_pass.proofs.known_table.Reads as known-table-reads
-use Rattle.wire.proofs.index.Reads as index-reads
 
 enum-told : tie.Need-enum-told
 enum-told c = search needs

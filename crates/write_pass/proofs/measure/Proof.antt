@@ -3,13 +3,6 @@ use Rattle.write_measure.proofs.ObjectCases.{list-counted}
 use Rattle.write_pass.proofs.MeasureCases.{measured-text, measured-bytes, measured-list, measured-table, measured-direct, table-sound, direct-sound}
 use Rattle.write_pass.proofs.measure.Statement.{statement}
 use Rattle.write_pass.proofs.measure.Tie as tie
-use Rattle.write_pass.proofs.measure.Reads as reads
-use Rattle.write_pass.proofs.measure.Lts as lts
-use Rattle.wire.proofs.index.Reads as index-reads
-use Rattle.write_pass.proofs.measure_blob.Reads as measure-blob-reads
-use Rattle.write_pass.proofs.measure_list.Reads as measure-list-reads
-use Rattle.write_pass.proofs.measure_direct.Reads as measure-direct-reads
-use Rattle.write_pass.proofs.measure_table.Reads as measure-table-reads
 
 enum-told : tie.Need-enum-told
 enum-told c = search needs

@@ -2,9 +2,6 @@ use borrow.Author.Needs.{needs}
 use Rattle.write_pass.proofs.MeasureCases.{measured-text, measured-bytes, measured-no-list, measured-no-table, measured-no-direct}
 use Rattle.write_pass.proofs.measure_terminal.Statement.{statement}
 use Rattle.write_pass.proofs.measure_terminal.Tie as tie
-use Rattle.write_pass.proofs.measure_terminal.Reads as reads
-use Rattle.write_pass.proofs.measure_terminal.Lts as lts
-use Rattle.write_pass.proofs.measure_blob.Reads as measure-blob-reads
 
 enum-told : tie.Need-enum-told
 enum-told c = search needs

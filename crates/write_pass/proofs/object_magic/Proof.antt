@@ -3,10 +3,6 @@ use Rattle.write_measure.proofs.ObjectCases.{table-counted}
 use Rattle.write_pass.proofs.OpenCases.{magic-text, magic-bytes, magic-list, magic-table, magic-direct}
 use Rattle.write_pass.proofs.object_magic.Statement.{statement}
 use Rattle.write_pass.proofs.object_magic.Tie as tie
-use Rattle.write_pass.proofs.object_magic.Reads as reads
-use Rattle.write_pass.proofs.object_magic.Lts as lts
-use Rattle.schema.proofs.table_id.Reads as table-id-reads
-use Rattle.wire.proofs.index.Reads as index-reads
 
 enum-told : tie.Need-enum-told
 enum-told c = search needs

@@ -2,11 +2,6 @@ use borrow.Author.Needs.{needs}
 use Rattle.write_pass.proofs.EmitObjectCases.{content-deep, content-text, content-bytes, content-no-list, content-no-table, content-no-direct}
 use Rattle.write_pass.proofs.terminal_content.Statement.{statement}
 use Rattle.write_pass.proofs.terminal_content.Tie as tie
-use Rattle.write_pass.proofs.terminal_content.Reads as reads
-use Rattle.write_pass.proofs.terminal_content.Lts as lts
-use Rattle.write_pass.proofs.emit_bytes.Reads as emit-bytes-reads
-use Rattle.write_pass.proofs.emit_text.Reads as emit-text-reads
-use Rattle.write_pass.proofs.not_lawful.Reads as not-lawful-reads
 
 not-lawful-requires : tie.Need-not-lawful-requires
 not-lawful-requires c κs = search needs

@@ -2,8 +2,6 @@ use borrow.Author.Needs.{needs}
 use Rattle.write_pass.proofs.OpenCases.{magic-text, magic-bytes, magic-no-list, magic-no-table, magic-no-direct}
 use Rattle.write_pass.proofs.terminal_magic.Statement.{statement}
 use Rattle.write_pass.proofs.terminal_magic.Tie as tie
-use Rattle.write_pass.proofs.terminal_magic.Reads as reads
-use Rattle.write_pass.proofs.terminal_magic.Lts as lts
 
 enum-told : tie.Need-enum-told
 enum-told c = search needs
