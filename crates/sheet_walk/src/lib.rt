@@ -728,7 +728,8 @@ fn put_table(
     p
 }
 
-// The elements of a direct list of table t, each of w bytes, behind their count.
+// The elements of a direct list of table t, each of w bytes, behind their count. Their table has a member, so that each takes bits, and
+// the loop ends soon past the limit, however many they are.
 fn put_directs(
     b: &[u8],
     dir: &[u16],
