@@ -26,8 +26,8 @@ extern "C" {
  * other number no schema is lawful. */
 enum {
     SCALGO_CODING_48 = 48,     /* offsets and lengths of 48 bits */
-    SCALGO_CODING_32 = 32      /* the older coding: offsets and lengths of 32 bits, and unions always
-                                  in place */
+    SCALGO_CODING_32 = 32      /* the older coding: offsets and lengths of 32 bits, unions always in
+                                  place, and no direct lists */
 };
 
 /* What scalgo_judge, scalgo_read and scalgo_write answer, and the number of a refused case of
@@ -36,13 +36,14 @@ enum {
 enum {
     SCALGO_ACCEPTED = 0,
     SCALGO_SCHEMA = 1,         /* the schema is not lawful; under 32 bits also one with a union not in
-                                  place, a table in place or a list of unions */
+                                  place, a table in place, a list of unions or a direct list */
     SCALGO_MESSAGE_SIZE = 2,   /* the message is under 10 or 8 bytes, or over 16,777,215 */
     SCALGO_MESSAGE_MAGIC = 3,  /* wrong message magic */
     SCALGO_BUDGET = 4,         /* visits spent */
     SCALGO_DEPTH = 5,          /* deeper than 32 objects */
-    SCALGO_FIT = 6,            /* an offset under 10 or 8, or a header or content that does not fit */
-    SCALGO_OBJECT_MAGIC = 7,   /* wrong object magic */
+    SCALGO_FIT = 6,            /* an offset under 10 or 8, a header or content that does not fit, or a
+                                  direct list's count over 4,294,967,295 */
+    SCALGO_OBJECT_MAGIC = 7,   /* wrong object magic, or a direct list with another table's id */
     SCALGO_CUT = 8,            /* a member cut by its table's end, or a flag without its value */
     SCALGO_UNION_OFFSET = 9,   /* a known union choice, not in place, with offset 0; never under 32 bits */
     SCALGO_BYTE = 10,          /* a struct's boolean not 0 or 1, or a text's end byte not 0 */
@@ -64,17 +65,18 @@ enum {
  *
  * number: what the function answers.
  * place: where the object of a refusal from 4 to 10 or by 17 stands, counted from the message's first
- *         byte: its offset as stored, or where its content starts if it is in place. With 8 it is
- *         the table, with 9 the object that holds the union. It is what the message says and may
- *         lie past the message's end. 0 with the other numbers.
+ *         byte: its offset as stored, or where its content starts if it is in place or an element of
+ *         a direct list. With 8 it is the table, with 9 the object that holds the union. It is what
+ *         the message says and may lie past the message's end. 0 with the other numbers.
  * member: which part of the object at that place is refused, counted from 0: with 8 the table's
  *         member, with 9 the table's member or the list's element, with 10 the table's member that
  *         is a struct. SCALGO_NO_MEMBER with 10 for a text's end byte, and with the other numbers.
  * visits: the objects visited, each arrival at a shared object counted; an arrival refused by 4 is
- *         not counted.
+ *         not counted. A direct list is one, and each of its elements, a table, is one more.
  * content: the content bytes of the objects visited, each arrival counted: a text's (without its end
  *         byte) or bytes' length, the bytes of a list's elements (eight bools take one), a table's
- *         fixed part. An arrival refused by 5, 6, 7 or 17 adds none.
+ *         fixed part. A direct list itself adds none, each of its elements its size. An arrival
+ *         refused by 5, 6, 7 or 17 adds none.
  */
 typedef struct {
     uint64_t number, place, member, visits, content;
@@ -86,9 +88,11 @@ enum {
     SCALGO_CASE_BOOLEAN = 0,   /* a: the value */
     SCALGO_CASE_NUMBER = 1,    /* a: its bits, zero above the width; b: its width in bits; c: 1 if it is signed */
     SCALGO_CASE_FLOAT = 2,     /* a: its bits; b: its width in bits */
-    SCALGO_CASE_OBJECT = 3,    /* a: 13 text, 14 bytes, 15 list, 16 table; b: its place; c: its length: a
-                                  text's or bytes' bytes (a text's end byte is not counted), a list's
-                                  elements, the bytes of a table's fixed part */
+    SCALGO_CASE_OBJECT = 3,    /* a: 13 text, 14 bytes, 15 list, 16 table, 18 direct list; b: its place;
+                                  c: its length: a text's or bytes' bytes (a text's end byte is not
+                                  counted), a list's or direct list's elements, the bytes of a table's
+                                  fixed part. A direct list's element is a table: 16, its first byte
+                                  and its size */
     SCALGO_CASE_STRUCT = 4,    /* a: its place */
     SCALGO_CASE_ABSENT = 5,
     SCALGO_CASE_UNKNOWN = 6,   /* an enum or a union's choice that the schema does not know; a: the number */
@@ -109,10 +113,10 @@ uint32_t scalgo_judge(uint32_t coding, const uint8_t *schema, size_t schema_len,
 
 /* Reads one field and answers its case.
  *
- * path: a number for each table member, list element or struct member on the way from the root
- *       table, counted from 0; a union is passed through without one. An empty path leads to the
- *       root table. Only what is on the path is judged, without an allowance. Where something on the
- *       way is absent or unknown, that is the answer, whatever numbers are left.
+ * path: a number for each table member, element of a list or direct list, or struct member on the
+ *       way from the root table, counted from 0; a union is passed through without one. An empty path
+ *       leads to the root table. Only what is on the path is judged, without an allowance. Where
+ *       something on the way is absent or unknown, that is the answer, whatever numbers are left.
  * *a, *b, *c: what the case has; 0 where it has no such number.
  *
  * A refusal is 1, 2 or 3, 5 to 10 or 15. With 5 to 10 its place is as in a verdict; with 15 it is
@@ -136,8 +140,9 @@ uint32_t scalgo_text(uint32_t coding, const uint8_t *schema, size_t schema_len,
                      const uint32_t *path, size_t path_len,
                      uint64_t *start, uint64_t *length);
 
-/* Reads many elements of a list of texts, bytes, lists, tables or unions: steps of a list reader
- * that starts at element `from`. Answers how many elements the list has.
+/* Reads many elements of a direct list, or of a list of texts, bytes, lists, tables, unions or direct
+ * lists: steps of a list reader that starts at element `from`. Answers how many elements the list
+ * has. A direct list may have 4,294,967,295 elements of no bytes each in a small message.
  *
  * path: as of scalgo_field, to the list.
  * cases, cases_len: four numbers a step: what scalgo_field answers at the path of that element,

@@ -9,7 +9,8 @@ pub enum Answer {
     Number { bits: u64, width: u32, signed: bool },
     /// A float: its bits, and its width in bits.
     Float { bits: u64, width: u32 },
-    /// An object: its record kind (13 text, 14 bytes, 15 list, 16 table), its place and its length.
+    /// An object: its record kind (13 text, 14 bytes, 15 list, 16 table, 18 direct list), its place
+    /// and its length. An element of a direct list is a table: its first byte and its size.
     Object { kind: u8, place: u64, length: u64 },
     /// A struct, where it starts.
     Struct { place: u64 },
@@ -35,6 +36,9 @@ pub(crate) fn member(number: u64) -> Option<u32> {
 
 /// The record kind of a list.
 pub(crate) const LIST: u8 = 15;
+
+/// The record kind of a direct list.
+pub(crate) const DIRECT_LIST: u8 = 18;
 
 /// The refusal of a step that has no such part.
 pub(crate) const NO_PART: u32 = 15;

@@ -20,8 +20,8 @@
 //! | 3 | wrong message magic | 0 |
 //! | 4 | the visits are spent | the object not visited |
 //! | 5 | deeper than 32 objects | the object |
-//! | 6 | an offset under 10 or 8, or a header or content that does not fit | the object |
-//! | 7 | wrong object magic | the object |
+//! | 6 | an offset under 10 or 8, a header or content that does not fit, or a direct list's count over 4,294,967,295 | the object |
+//! | 7 | wrong object magic, or a direct list with another table's id | the object |
 //! | 8 | a member cut by its table's end, or a flag without its value | the table |
 //! | 9 | a known union choice, not in place, with offset 0; never under 32 bits | the holder |
 //! | 10 | a struct's boolean not 0 or 1, or a text's end byte not 0 | the object |

@@ -1,6 +1,6 @@
 //! The elements of a list.
 
-use crate::answer::{LIST, NO_PART};
+use crate::answer::{DIRECT_LIST, LIST, NO_PART};
 use crate::{field, Answer, Coding};
 use std::fmt;
 use std::iter::FusedIterator;
@@ -23,8 +23,8 @@ extern "C" {
 /// The answers fetched with one call, which judges the schema and follows the path once.
 const HELD: usize = 64;
 
-/// The elements of a list of texts, bytes, lists, tables or unions, each answered as by
-/// [`field`] at its own path. A refused element does not end it.
+/// The elements of a direct list, or of a list of texts, bytes, lists, tables, unions or direct
+/// lists, each answered as by [`field`] at its own path. A refused element does not end it.
 #[derive(Clone)]
 pub struct List<'a> {
     coding: Coding,
@@ -40,9 +40,9 @@ pub struct List<'a> {
     held: [[u64; 4]; HELD],
 }
 
-/// Starts at a path that leads to a list whose elements are texts, bytes, lists, tables or unions.
-/// A refused path gives its own refusal, any other 15 at 0; then there is nothing to step through,
-/// and every step from that path would be refused so.
+/// Starts at a path that leads to a direct list, or to a list whose elements are texts, bytes, lists,
+/// tables, unions or direct lists. A refused path gives its own refusal, any other 15 at 0; then there
+/// is nothing to step through, and every step from that path would be refused so.
 ///
 /// ```
 /// use scalgo::{list, Answer, Coding::Bits48};
@@ -95,7 +95,9 @@ pub fn list<'a>(
 fn ends_at_once(first: Answer, whole: Answer) -> bool {
     match whole {
         Answer::Object {
-            kind: LIST, place, ..
+            kind: LIST | DIRECT_LIST,
+            place,
+            ..
         } => {
             first
                 == Answer::Refused {

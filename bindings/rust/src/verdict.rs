@@ -32,11 +32,11 @@ pub struct Verdict {
     /// Which member or element of that object is refused, counted from 0: with 8, 9 and 10, a text's
     /// end byte aside. Of a struct it is the table's member.
     pub member: Option<u32>,
-    /// The objects visited, a shared one at each arrival.
+    /// The objects visited, a shared one at each arrival; a direct list and each of its elements.
     pub visits: u32,
     /// The content bytes of the objects visited, at each arrival: a text's or bytes' length, the
-    /// bytes of a list's elements, a table's fixed part. An object that is refused by 5, 6, 7 or 17
-    /// adds none.
+    /// bytes of a list's elements, a table's fixed part. A direct list itself adds none, each of its
+    /// elements its size. An object that is refused by 5, 6, 7 or 17 adds none.
     pub content: u64,
 }
 

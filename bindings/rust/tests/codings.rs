@@ -343,13 +343,15 @@ fn sheets_and_messages() {
     }
 }
 
-/// A union not in place, a table in place and a list of unions: lawful under 48 bits alone.
+/// A union not in place, a table in place, a list of unions and a direct list: lawful under 48 bits
+/// alone.
 #[test]
 fn schemas_of_one_coding() {
-    let schemas: [&[u8]; 3] = [
+    let schemas: [&[u8]; 4] = [
         b"\x00\x00\x01\x01\x00\x01\x68\x00\x4C\x49\x43\x45\x01\x88\x00",
         b"\x00\x00\x00\x01\x00\x4C\x49\x43\x45\x01\x82\x00",
         b"\x00\x01\x01\x01\x00\x88\x00\x01\x68\x00\x4C\x49\x43\x45\x00",
+        b"\x00\x00\x00\x01\x00\x4C\x49\x43\x45\x01\x90\x00",
     ];
     for schema in schemas {
         // The start says 8, where the coding of 48 bits has no object.

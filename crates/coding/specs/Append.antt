@@ -76,7 +76,8 @@ pub record SchemaAppends (older newer : Schema) : Type 0 where
   pub unions : Extends (Extends SameObject) (older .unions) (newer .unions)
   pub tables : Extends TableAppends (older .tables) (newer .tables)
 
--- the older and the newer schema as bytes, under one coding: "Both are lawful."
+-- the older and the newer schema as bytes, under one coding: "Both are lawful."; 02, K1: "Demand 3 reads over these schemas too;
+-- appending an in-place member there isn't lawful.": the newer schema is not, by Lawful.directTable
 pub record Appends (o : ℕ) (older newer : List ℕ) : Type 0 where
   pub older-lawful : lawful o older ≡ true
   pub newer-lawful : lawful o newer ≡ true
@@ -156,12 +157,19 @@ unfoldable pub withoutElements : Change → Schema → Kind → Values → Value
 withoutElements child S k none = none
 withoutElements child S k (v then vs) = withoutPart child S k v then withoutElements child S k vs
 
+-- the elements of a direct list of table t, "without the appended members" or "with the added members": each is a table; "All else
+-- stays."
+unfoldable pub inElements : Change → ℕ → Values → Values
+inElements child t none = none
+inElements child t (v then vs) = child (O.Table t) v then inElements child t vs
+
 -- an object's content; "All else stays."
 unfoldable pub withoutContent : Change → Schema → Change
 withoutContent child S O.Text v = v
 withoutContent child S O.Bytes v = v
 withoutContent child S (O.List i) v = inRow (withoutElements child S (elementOf S i)) v
 withoutContent child S (O.Table i) v = inRow (withoutMembers child S (tableOf S i .members)) v
+withoutContent child S (O.DirectList t) v = inRow (inElements child t) v
 
 -- an object, with d objects of depth left, this one counted: "every table in it loses the entries after its old ones",
 -- however deep it stands. No lawful sheet goes deeper.
@@ -218,6 +226,7 @@ withContent child o S T O.Bytes v = v
 withContent child o S T (O.List i) v = inRow (withElements child S (elementOf S i)) v
 withContent child o S T (O.Table i) v =
     inRow (withMembers child o S T (tableOf S i .members) begin (addedMembers S T i)) v
+withContent child o S T (O.DirectList t) v = inRow (inElements child t) v
 
 -- an object, with d objects of depth left, this one counted: "every table gets their entries", however deep it stands. No
 -- lawful sheet goes deeper.

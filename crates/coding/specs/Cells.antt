@@ -9,12 +9,14 @@ use Rattle.coding.specs.Bytes.{leBytes}
 
 -- ---- bytes, references and in-place contents
 -- a sequence: the end; some bytes; a reference to an object, of o bytes; a content "in place", which stands behind the
--- whole sequence and takes no bytes where it is named
+-- whole sequence and takes no bytes where it is named; a sequence that stands here, before the rest, for an element of a direct list:
+-- "This is done as described in the Tables section except that the MAGIC and size are skipped." (000)
 pub data Cells : Type 0 where
   end : Cells
   bytes : List ℕ → Cells → Cells
   reference : Cells → Cells → Cells
   inPlace : Cells → Cells → Cells
+  part : Cells → Cells → Cells
 
 -- ---- the lengths of the three parts
 -- the bytes of the sequence itself: "An object is written"
@@ -23,6 +25,7 @@ width o end = 0
 width o (bytes bs c) = length bs + width o c
 width o (reference k c) = o + width o c
 width o (inPlace k c) = width o c
+width o (part k c) = width o k + width o c
 
 -- the bytes of its "chain of in-place contents", each followed by its own
 unfoldable pub chain : ℕ → Cells → ℕ
@@ -30,6 +33,7 @@ chain o end = 0
 chain o (bytes bs c) = chain o c
 chain o (reference k c) = chain o c
 chain o (inPlace k c) = width o k + chain o k + chain o c
+chain o (part k c) = chain o k + chain o c
 
 -- the bytes of "the objects that these refer to", the sequence and its chain, "each followed by its own"
 unfoldable pub below : ℕ → Cells → ℕ
@@ -37,6 +41,7 @@ below o end = 0
 below o (bytes bs c) = below o c
 below o (reference k c) = width o k + chain o k + below o k + below o c
 below o (inPlace k c) = below o k + below o c
+below o (part k c) = below o k + below o c
 
 -- ---- the same three as bytes, where the first object that is referred to stands at s, and the others behind it "in walk
 -- order": what a content in place refers to comes where its member stands
@@ -46,6 +51,7 @@ widthBytes o s end = []
 widthBytes o s (bytes bs c) = bs ++ widthBytes o s c
 widthBytes o s (reference k c) = leBytes o s ++ widthBytes o (s + (width o k + chain o k + below o k)) c
 widthBytes o s (inPlace k c) = widthBytes o (s + below o k) c
+widthBytes o s (part k c) = widthBytes o s k ++ widthBytes o (s + below o k) c
 
 -- its "chain of in-place contents behind it"
 unfoldable pub chainBytes : ℕ → ℕ → Cells → List ℕ
@@ -53,6 +59,7 @@ chainBytes o s end = []
 chainBytes o s (bytes bs c) = chainBytes o s c
 chainBytes o s (reference k c) = chainBytes o (s + (width o k + chain o k + below o k)) c
 chainBytes o s (inPlace k c) = widthBytes o s k ++ (chainBytes o s k ++ chainBytes o (s + below o k) c)
+chainBytes o s (part k c) = chainBytes o s k ++ chainBytes o (s + below o k) c
 
 -- "the objects that these refer to in walk order, each followed by its own before the next"
 unfoldable pub belowBytes : ℕ → ℕ → Cells → List ℕ
@@ -63,6 +70,7 @@ belowBytes o s (reference k c) =
     ++ (chainBytes o (s + (width o k + chain o k)) k
     ++ (belowBytes o (s + (width o k + chain o k)) k ++ belowBytes o (s + (width o k + chain o k + below o k)) c))
 belowBytes o s (inPlace k c) = belowBytes o s k ++ belowBytes o (s + below o k) c
+belowBytes o s (part k c) = belowBytes o s k ++ belowBytes o (s + below o k) c
 
 -- all of it, the sequence at 0: "with its chain of in-place contents behind it; then the objects that these refer to"
 unfoldable pub layout : ℕ → Cells → List ℕ
@@ -72,13 +80,14 @@ layout o c =
 
 -- ---- with single bits: "the next free bit, lowest first, of the last bool byte; if none is free a zeroed byte is
 -- appended"
--- as Cells, and a bit, which is 0 or 1
+-- as Cells, and a bit, which is 0 or 1; a part has bool bytes of its own, as an element of a direct list has
 pub data Slots : Type 0 where
   end : Slots
   bytes : List ℕ → Slots → Slots
   bit : ℕ → Slots → Slots
   reference : Slots → Slots → Slots
   inPlace : Slots → Slots → Slots
+  part : Slots → Slots → Slots
 
 -- the next n bits as a number, the first being the lowest: "lowest first"; "Every unused bit ... is zero"
 unfoldable pub gather : ℕ → Slots → ℕ
@@ -88,6 +97,7 @@ gather zero (bit x s) = 0
 gather (suc n) (bit x s) = x + 2 * gather n s
 gather n (Slots.reference k s) = gather n s
 gather n (Slots.inPlace k s) = gather n s
+gather n (Slots.part k s) = gather n s
 
 -- the bits in their bytes, where f bits of "the last bool byte" are free: the first bit of a byte appends it, filled with
 -- up to seven more
@@ -98,3 +108,4 @@ packBits zero (bit x s) = Cells.bytes ((x + 2 * gather 7 s) ∷ []) (packBits 7 
 packBits (suc f) (bit x s) = packBits f s
 packBits f (Slots.reference k s) = Cells.reference (packBits 0 k) (packBits f s)
 packBits f (Slots.inPlace k s) = Cells.inPlace (packBits 0 k) (packBits f s)
+packBits f (Slots.part k s) = Cells.part (packBits 0 k) (packBits f s)

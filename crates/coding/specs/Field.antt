@@ -13,7 +13,7 @@ use Rattle.coding.specs.Lawful.{lawful}
 use Rattle.coding.specs.Structs.{total, structSize}
 use Rattle.coding.specs.Layout.{begin, afterMembers}
 use Rattle.coding.specs.Step.{fieldStep, memberStep, elementStep}
-use Rattle.coding.specs.Walk.{placed, refusal, partRefusal, openObject, rootPlace, nothing, verdictAt, early, sizeOk, startOk}
+use Rattle.coding.specs.Walk.{placed, refusal, partRefusal, elementSize, openObject, rootPlace, nothing, verdictAt, early, sizeOk, startOk}
 use Rattle.coding.specs.declared.Flat.{Flat}
 use Rattle.coding.specs.declared.Flat.the-variants as F
 use Rattle.coding.specs.declared.Object.{Object}
@@ -78,7 +78,8 @@ structPart o S m i at holder j =
     (stepped 0 o S m holder j (OfFlat (fieldOf S i j)) (fieldStep m (fieldOf S i j) (at + total (structSize S) (take j (structOf S i)))))
     (noPart holder)
 
--- member or element j of an object at a place. "A holder is judged before 15 is given at it."
+-- member or element j of an object at a place. "A holder is judged before 15 is given at it." An element of a direct list is a table
+-- "placed at its first byte" (02, K1).
 unfoldable pub objectPart : ℕ → Schema → List ℕ → Object → ℕ → ℕ → ℕ → ℕ → ℕ → Found
 objectPart o S m O.Text at start n d j = noPart at
 objectPart o S m O.Bytes at start n d j = noPart at
@@ -89,6 +90,8 @@ objectPart o S m (O.Table i) at start n d j =
     (stepped d o S m at j (memberOf S i j .kind)
     (memberStep o S m start n (afterMembers o S (take j (tableOf S i .members)) begin) (memberOf S i j)))
     (noPart at)
+objectPart o S m (O.DirectList t) at start n d j =
+    pick (ltb j n) (arrived d o S m (O.Table t) (InPlace (start + elementSize o m at * j) (elementSize o m at))) (noPart at)
 
 -- one number more. "An absent or unknown place ends it, whatever steps remain.", and so does a refusal. A value has no
 -- part: refusal 15.
@@ -126,12 +129,13 @@ valueAnswer (OfFlat k) x = flatAnswer k x
 valueAnswer (OfObject ob) x = A.Absent
 valueAnswer (OfUnion i) x = A.Absent
 
--- the kind in "an object's kind, place and length": "13 text, 14 bytes, 15 list, 16 table"
+-- the kind in "an object's kind, place and length": "13 text, 14 bytes, 15 list, 16 table"; 02, K1: "kind 18"
 unfoldable pub recordKind : Object → ℕ
 recordKind O.Text = 13
 recordKind O.Bytes = 14
 recordKind (O.List i) = 15
 recordKind (O.Table i) = 16
+recordKind (O.DirectList t) = 18
 
 -- the answer for what a path has come to, in the sentence's words: "an object's kind, place and length, a struct's place,
 -- absent, unknown with its number, or a refusal"
@@ -201,6 +205,7 @@ objectSpan O.Text start n = spanAt start n
 objectSpan O.Bytes start n = spanAt start n
 objectSpan (O.List i) start n = noSpan
 objectSpan (O.Table i) start n = noSpan
+objectSpan (O.DirectList t) start n = noSpan
 
 -- the part that a path has come to: "texts and bytes" only
 unfoldable pub foundSpan : Found → Span
@@ -224,18 +229,20 @@ unfoldable pub fieldText : ℕ → List ℕ → List ℕ → List ℕ → List �
 fieldText o b m path = textOf m (fieldSpan o b m path)
 
 -- ---- the list reader
--- "a list whose elements are of kinds 13 to 17": whether an element is of these
+-- "a list whose elements are of kinds 13 to 17": whether an element is of these; 02, K1: "direct lists and lists of them too"
 unfoldable pub leads : Kind → Bool
 leads (OfFlat k) = false
 leads (OfObject ob) = true
 leads (OfUnion i) = true
 
--- an object, if it is "a list whose elements are of kinds 13 to 17"; otherwise "any other answer is 15 at 0"
+-- an object, if it is "a list whose elements are of kinds 13 to 17"; otherwise "any other answer is 15 at 0"; 02, K1: "The list reader
+-- takes direct lists and lists of them too."
 unfoldable pub listFound : Schema → Object → ℕ → ℕ → ℕ → ℕ → Found
 listFound S O.Text at start n d = before 15
 listFound S O.Bytes at start n d = before 15
 listFound S (O.List i) at start n d = pick (leads (elementOf S i)) (Fd.Object (O.List i) at start n d) (before 15)
 listFound S (O.Table i) at start n d = before 15
+listFound S (O.DirectList t) at start n d = Fd.Object (O.DirectList t) at start n d
 
 -- "It starts from a path to a list whose elements are of kinds 13 to 17; a refused path gives its own refusal, any other
 -- answer is 15 at 0."

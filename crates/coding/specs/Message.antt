@@ -18,7 +18,7 @@ use Rattle.coding.specs.Walk.{magic, atZero, spentOf, verdict, early}
 use Rattle.coding.specs.Value.{Value, Values, none, _then_, asNumber, asBlob, asRow, asObject, present, known, first, others, count}
 use Rattle.coding.specs.Read.{messageRead}
 use Rattle.coding.specs.Sheet.{sheetOf, sheetTree}
-use Rattle.coding.specs.Cells.{Slots, end, bytes, bit, reference, inPlace, packBits, layout}
+use Rattle.coding.specs.Cells.{Slots, end, bytes, bit, reference, inPlace, part, packBits, layout}
 use Rattle.coding.specs.declared.Flat.{Flat}
 use Rattle.coding.specs.declared.Flat.the-variants.{Boolean, Integer, Float, Enumerated, Struct}
 use Rattle.coding.specs.declared.Object.{Object}
@@ -38,6 +38,7 @@ lengthOf o S O.Text v = length (asBlob v)
 lengthOf o S O.Bytes v = length (asBlob v)
 lengthOf o S (O.List i) v = count (asRow v)
 lengthOf o S (O.Table i) v = fixedSize o S (tableOf S i .members)
+lengthOf o S (O.DirectList t) v = count (asRow v)
 
 -- ---- writable: "Not writable: an unknown mark; an absent plain bool, integer, struct or float member; a present NaN in an
 -- optional float member or as a list element (not inside a struct); a present in-place text, bytes, list or table of length
@@ -100,12 +101,18 @@ unfoldable pub elementsWritable : Test → ℕ → Schema → Kind → Values �
 elementsWritable child o S k none = true
 elementsWritable child o S k (v then vs) = valueWritable child o S k true false v && elementsWritable child o S k vs
 
+-- every element of a direct list of table t: 02, K1, "the elements without marks"
+unfoldable pub directsWritable : Test → ℕ → Values → Bool
+directsWritable child t none = true
+directsWritable child t (v then vs) = child (O.Table t) v && directsWritable child t vs
+
 -- an object's content; every text and bytes can be written: "a text is any bytes"
 unfoldable pub contentWritable : Test → ℕ → Schema → Test
 contentWritable child o S O.Text v = true
 contentWritable child o S O.Bytes v = true
 contentWritable child o S (O.List i) v = elementsWritable child o S (elementOf S i) (asRow v)
 contentWritable child o S (O.Table i) v = membersWritable child o S (tableOf S i .members) (asRow v)
+contentWritable child o S (O.DirectList t) v = directsWritable child t (asRow v)
 
 -- whether refusal 12, "sheet lawful but not writable", does not arise in an object, with d objects of depth left, this one
 -- counted
@@ -161,7 +168,8 @@ flatSlots S (Struct i) v rest = bytes (pick (present v) (structBytes S i v) (zer
 abbrev pub Planner : Type 0
 Planner = Object → Value → Slots
 
--- an object with its header: "its own magic and header length ...; then U48 length"
+-- an object with its header: "its own magic and header length ...; then U48 length". What a direct list's header says more stands
+-- with its elements.
 unfoldable pub objectSlots : Planner → ℕ → Schema → Object → Value → Slots
 objectSlots child o S ob v = bytes (leBytes 4 (magic S ob)) (bytes (leBytes o (lengthOf o S ob v)) (child ob v))
 
@@ -205,12 +213,24 @@ unfoldable pub elementsSlots : Planner → ℕ → Schema → Kind → Values �
 elementsSlots child o S k none = end
 elementsSlots child o S k (v then vs) = valueSlots child o S k false v (elementsSlots child o S k vs)
 
+-- 02, K1: "then the elements without headers": the elements of a direct list of table t, each a table's fixed part
+unfoldable pub directsSlots : Planner → ℕ → Values → Slots
+directsSlots child t none = end
+directsSlots child t (v then vs) = part (child (O.Table t) v) (directsSlots child t vs)
+
+-- what follows the count of a direct list: 02, K1, "U32 table id, U32 size, then the elements without headers"; "The writer uses
+-- the full size."
+unfoldable pub directSlots : Planner → ℕ → Schema → ℕ → Values → Slots
+directSlots child o S t vs =
+    bytes (leBytes 4 (tableOf S t .id)) (bytes (leBytes 4 (fixedSize o S (tableOf S t .members))) (directsSlots child t vs))
+
 -- an object's content: "Text: length bytes and one zero byte. Bytes: length bytes."; a list's elements; a table's members
 unfoldable pub contentSlots : Planner → ℕ → Schema → Planner
 contentSlots child o S O.Text v = bytes (asBlob v) (bytes (0 ∷ []) end)
 contentSlots child o S O.Bytes v = bytes (asBlob v) end
 contentSlots child o S (O.List i) v = elementsSlots child o S (elementOf S i) (asRow v)
 contentSlots child o S (O.Table i) v = membersSlots child o S (tableOf S i .members) (asRow v)
+contentSlots child o S (O.DirectList t) v = directSlots child o S t (asRow v)
 
 -- an object's content, with d objects of depth left, this one counted: "Depth: 32 objects, the root being 1". No lawful
 -- sheet goes deeper.

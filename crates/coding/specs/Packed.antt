@@ -73,23 +73,25 @@ flatOf k a =
     (pick (ltb k 11) (Float (widthOf k))
     (pick (eqb k 11) (Enumerated a) (Struct a)))))
 
--- "13 text, 14 bytes, 15 list, 16 table": the same of these
+-- "13 text, 14 bytes, 15 list, 16 table": the same of these; 02, K1: "kind 18, argument a table"
 unfoldable pub objectOf : ℕ → ℕ → Object
-objectOf k a = pick (eqb k 13) O.Text (pick (eqb k 14) O.Bytes (pick (eqb k 15) (O.List a) (O.Table a)))
+objectOf k a =
+    pick (eqb k 13) O.Text
+    (pick (eqb k 14) O.Bytes (pick (eqb k 15) (O.List a) (pick (eqb k 18) (O.DirectList a) (O.Table a))))
 
 -- the same of all kinds, with "17 union"
 unfoldable pub kindOf : ℕ → ℕ → Kind
-kindOf k a = pick (ltb k 13) (OfFlat (flatOf k a)) (pick (ltb k 17) (OfObject (objectOf k a)) (OfUnion a))
+kindOf k a = pick (ltb k 13) (OfFlat (flatOf k a)) (pick (eqb k 17) (OfUnion a) (OfObject (objectOf k a)))
 
 -- the record at a place as a struct's member: "Struct members: kinds 0 to 12"
 unfoldable pub flatAt : List ℕ → ℕ → Flat
 flatAt b at = flatOf (kindAt b at) (argumentAt b at)
 
--- the record at a place as a union's case: "Union cases: 13 to 16."
+-- the record at a place as a union's case: "Union cases: 13 to 16."; 02, K1: "a table member, list element or union case"
 unfoldable pub objectAt : List ℕ → ℕ → Object
 objectAt b at = objectOf (kindAt b at) (argumentAt b at)
 
--- the record at a place as a list's element, or a table member's kind: "List elements: 0 to 11 and 13 to 17."
+-- the record at a place as a list's element, or a table member's kind: "List elements: 0 to 11 and 13 to 17.", and 18 (02, K1)
 unfoldable pub elementAt : List ℕ → ℕ → Kind
 elementAt b at = kindOf (kindAt b at) (argumentAt b at)
 

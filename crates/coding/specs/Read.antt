@@ -8,7 +8,7 @@ use Rattle.coding.specs.Schema.{Schema, structOf, elementOf, tableOf}
 use Rattle.coding.specs.Structs.{byIndex, flatWidth, structSize}
 use Rattle.coding.specs.Layout.{begin, afterMember}
 use Rattle.coding.specs.Step.{fieldStep, memberStep, elementStep}
-use Rattle.coding.specs.Walk.{headerSize, rootPlace}
+use Rattle.coding.specs.Walk.{headerSize, elementSize, rootPlace}
 use Rattle.coding.specs.Value.{Value, Values, absent, unknown, number, blob, row, chosen, none, _then_}
 use Rattle.coding.specs.declared.Flat.{Flat}
 use Rattle.coding.specs.declared.Object.{Object}
@@ -74,18 +74,24 @@ elementsRead child o S m start k zero i = none
 elementsRead child o S m start k (suc n) i =
     stepRead (structRead S m) child (elementStep o S m k start i) then elementsRead child o S m start k n (i + 1)
 
--- an object's content of length n at `start`: "Text: length bytes and one zero byte. Bytes: length bytes."; a text's value
--- is "the bytes" without the zero byte
-unfoldable pub contentRead : Child → ℕ → Schema → List ℕ → Object → ℕ → ℕ → Value
-contentRead child o S m O.Text start n = blob (take n (drop start m))
-contentRead child o S m O.Bytes start n = blob (take n (drop start m))
-contentRead child o S m (O.List i) start n = row (elementsRead child o S m start (elementOf S i) n 0)
-contentRead child o S m (O.Table i) start n = row (membersRead child o S m start n begin (tableOf S i .members))
+-- 02, K1: "then the elements without headers": n elements of a direct list of table t, each of w bytes, the first at a place
+unfoldable pub directsRead : Child → ℕ → ℕ → ℕ → ℕ → Values
+directsRead child t w zero at = none
+directsRead child t w (suc n) at = child (O.Table t) (InPlace at w) then directsRead child t w n (at + w)
+
+-- the content of length n at `start` of the object at a place: "Text: length bytes and one zero byte. Bytes: length bytes."; a
+-- text's value is "the bytes" without the zero byte
+unfoldable pub contentRead : Child → ℕ → Schema → List ℕ → Object → ℕ → ℕ → ℕ → Value
+contentRead child o S m O.Text at start n = blob (take n (drop start m))
+contentRead child o S m O.Bytes at start n = blob (take n (drop start m))
+contentRead child o S m (O.List i) at start n = row (elementsRead child o S m start (elementOf S i) n 0)
+contentRead child o S m (O.Table i) at start n = row (membersRead child o S m start n begin (tableOf S i .members))
+contentRead child o S m (O.DirectList t) at start n = row (directsRead child t (elementSize o m at) n start)
 
 -- an object at its place: behind its magic and "then U48 length", or in place "the content without magic and length"
 unfoldable pub placeRead : Child → ℕ → Schema → List ℕ → Child
-placeRead child o S m ob (ByOffset x) = contentRead child o S m ob (x + headerSize o) (le m (x + 4) o)
-placeRead child o S m ob (InPlace a n) = contentRead child o S m ob a n
+placeRead child o S m ob (ByOffset x) = contentRead child o S m ob x (x + headerSize o ob) (le m (x + 4) o)
+placeRead child o S m ob (InPlace a n) = contentRead child o S m ob a a n
 
 -- an object with d objects of depth left, this one counted: "Depth: 32 objects, the root being 1". No accepted message goes
 -- deeper.

@@ -126,12 +126,19 @@ elementsBits child S k (v then vs) = elementBits child S k v ++ elementsBits chi
 unfoldable pub blobBits : List ℕ → List ℕ
 blobBits l = bitsOf 32 (length l) ++ bits l
 
--- "text or bytes a 32-bit length and the bytes; list a 32-bit count and elements; table its members"
+-- 02, K1: "A sheet holds a 32-bit count and the elements without marks.": the elements of a direct list of table t
+unfoldable pub directsBits : Encoder → ℕ → Values → List ℕ
+directsBits child t none = []
+directsBits child t (v then vs) = child (O.Table t) v ++ directsBits child t vs
+
+-- "text or bytes a 32-bit length and the bytes; list a 32-bit count and elements; table its members"; 02, K1: "a 32-bit count and
+-- the elements without marks"
 unfoldable pub contentBits : Encoder → Schema → Object → Value → List ℕ
 contentBits child S O.Text v = blobBits (asBlob v)
 contentBits child S O.Bytes v = blobBits (asBlob v)
 contentBits child S (O.List i) v = bitsOf 32 (count (asRow v)) ++ elementsBits child S (elementOf S i) (asRow v)
 contentBits child S (O.Table i) v = membersBits child S (tableOf S i .members) (asRow v)
+contentBits child S (O.DirectList t) v = bitsOf 32 (count (asRow v)) ++ directsBits child t (asRow v)
 
 -- an object's bits, with d objects of depth left, this one counted: "Depth: 32 objects, the root being 1". No lawful sheet
 -- goes deeper.
@@ -282,13 +289,22 @@ takeElements child S k (suc n) xs =
 unfoldable pub takeBlob : List ℕ → Parsed Value
 takeBlob xs = bind (takeNumber 32 xs) (λ n ys. bind (takeBytes n ys) (λ l zs. got (blob l) zs))
 
--- "text or bytes a 32-bit length and the bytes; list a 32-bit count and elements; table its members"
+-- 02, K1: "a 32-bit count and the elements without marks": n elements of a direct list of table t
+unfoldable pub takeDirects : Decoder → ℕ → ℕ → List ℕ → Parsed Values
+takeDirects child t zero xs = got none xs
+takeDirects child t (suc n) xs =
+    bind (child (O.Table t) xs) (λ v ys. bind (takeDirects child t n ys) (λ vs zs. got (v then vs) zs))
+
+-- "text or bytes a 32-bit length and the bytes; list a 32-bit count and elements; table its members"; 02, K1: "a 32-bit count and
+-- the elements without marks"
 unfoldable pub takeContent : Decoder → Schema → Object → List ℕ → Parsed Value
 takeContent child S O.Text xs = takeBlob xs
 takeContent child S O.Bytes xs = takeBlob xs
 takeContent child S (O.List i) xs =
     bind (takeNumber 32 xs) (λ n ys. bind (takeElements child S (elementOf S i) n ys) (λ vs zs. got (row vs) zs))
 takeContent child S (O.Table i) xs = bind (takeMembers child S (tableOf S i .members) xs) (λ vs ys. got (row vs) ys)
+takeContent child S (O.DirectList t) xs =
+    bind (takeNumber 32 xs) (λ n ys. bind (takeDirects child t n ys) (λ vs zs. got (row vs) zs))
 
 -- an object's content, with d objects of depth left, this one counted; refusal 11: "deeper than 32"
 unfoldable pub decode : ℕ → Schema → Object → List ℕ → Parsed Value

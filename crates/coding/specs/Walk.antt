@@ -1,8 +1,8 @@
 -- The walk: which objects a message leads to, in which order, and the first refusal.
 -- `o` is the width of an offset in bytes. Where a sentence says U48, the older coding has a U32 (02, K5).
-use Prim.Native.Nat.{ℕ, zero, suc, _+_}
+use Prim.Native.Nat.{ℕ, zero, suc, _+_, _*_}
 use mathlib.Core.List.{List, [], _∷_}
-use mathlib.Core.Bool.{Bool, true, _&&_}
+use mathlib.Core.Bool.{Bool, true, false, _&&_}
 use lib.ListN.{length, getD}
 use lib.Dec.{ltb, leb, eqb}
 use Rattle.coding.specs.Lists.{pick}
@@ -37,17 +37,36 @@ placed (ByOffset x) = x
 placed (InPlace a n) = a
 
 -- "Each kind of object owns its own magic and header length: text 0xD812C8F5, bytes 0xDCDBBE10, list 0x3400BB46, table
--- its id; then U48 length."
+-- its id; then U48 length."; 02, K1: "magic 0xE2C6CC05"
 unfoldable pub magic : Schema → Object → ℕ
 magic S O.Text = 0xD812_C8F5
 magic S O.Bytes = 0xDCDB_BE10
 magic S (O.List i) = 0x3400_BB46
 magic S (O.Table i) = tableOf S i .id
+magic S (O.DirectList t) = 0xE2C6_CC05
 
--- the magic and a length, of every object so far: "Each kind of object owns its own magic and header length", "then U48
--- length"; 02, K5: "8-byte headers"
-unfoldable pub headerSize : ℕ → ℕ
-headerSize o = 4 + o
+-- "Each kind of object owns its own magic and header length": the magic and "then U48 length"; 02, K5: "8-byte headers"; 02, K1, of a
+-- direct list: "magic 0xE2C6CC05, U48 count, U32 table id, U32 size, then the elements without headers, 18 bytes before the
+-- first"
+unfoldable pub headerSize : ℕ → Object → ℕ
+headerSize o O.Text = 4 + o
+headerSize o O.Bytes = 4 + o
+headerSize o (O.List i) = 4 + o
+headerSize o (O.Table i) = 4 + o
+headerSize o (O.DirectList t) = 4 + o + 8
+
+-- "U32 table id": what the header of the direct list at a place says of its elements' table
+unfoldable pub elementId : ℕ → List ℕ → ℕ → ℕ
+elementId o m at = le m (at + (4 + o)) 4
+
+-- "U32 size": the bytes of each element of the direct list at a place. 02, K1: "The size comes from the message, so elements may
+-- be shorter or longer than the schema."
+unfoldable pub elementSize : ℕ → List ℕ → ℕ → ℕ
+elementSize o m at = le m (at + (8 + o)) 4
+
+-- the most elements of a direct list: "a count over 4,294,967,295 is 6"
+unfoldable pub mostElements : ℕ
+mostElements = 4294967295
 
 -- the message's start: "magic 0xB5C0C4B3, U48 root offset"; 02, K5: "an 8-byte message start". An object stands behind it:
 -- "An offset under 10 is not lawful where an object is required."; 02, K5: "Offsets under 8 are unlawful there (6)"
@@ -55,20 +74,24 @@ unfoldable pub startSize : ℕ → ℕ
 startSize o = 4 + o
 
 -- the bytes of an object's content, by its length. "Text: length bytes and one zero byte. Bytes: length bytes."; "List:
--- length elements."; "Table: length bytes of fixed part."; "A text keeps its zero byte unless it is absent.", in place too
-unfoldable pub contentSize : ℕ → Schema → Object → ℕ → ℕ
-contentSize o S O.Text n = n + 1
-contentSize o S O.Bytes n = n
-contentSize o S (O.List i) n = elementsSize o S (elementOf S i) n
-contentSize o S (O.Table i) n = n
+-- length elements."; "Table: length bytes of fixed part."; "A text keeps its zero byte unless it is absent.", in place too. Of the
+-- direct list at a place, as many elements of the size that its header gives.
+unfoldable pub contentSize : ℕ → Schema → List ℕ → Object → ℕ → ℕ → ℕ
+contentSize o S m O.Text at n = n + 1
+contentSize o S m O.Bytes at n = n
+contentSize o S m (O.List i) at n = elementsSize o S (elementOf S i) n
+contentSize o S m (O.Table i) at n = n
+contentSize o S m (O.DirectList t) at n = n * elementSize o m at
 
 -- what an arrival adds to the content that is spent. 02, K7: "Each arrival whose content fits adds its content length: bytes,
--- text without its end byte, list element bytes, fixed part"; bools are packed, and the bytes that they take are charged
+-- text without its end byte, list element bytes, fixed part; a direct list itself adds 0"; bools are packed, and the bytes that
+-- they take are charged
 unfoldable pub contentLength : ℕ → Schema → Object → ℕ → ℕ
 contentLength o S O.Text n = n
 contentLength o S O.Bytes n = n
 contentLength o S (O.List i) n = elementsSize o S (elementOf S i) n
 contentLength o S (O.Table i) n = n
+contentLength o S (O.DirectList t) n = 0
 
 -- refusal 10: "text end byte not 0"
 unfoldable pub endOk : List ℕ → Object → ℕ → ℕ → Bool
@@ -76,19 +99,47 @@ endOk m O.Text start n = eqb (getD m (start + n) 0) 0
 endOk m O.Bytes start n = true
 endOk m (O.List i) start n = true
 endOk m (O.Table i) start n = true
+endOk m (O.DirectList t) start n = true
 
--- "content fit": content of length n at `start`; refusal 6, "content does not fit"
-unfoldable pub fitContent : ℕ → Schema → List ℕ → Object → ℕ → ℕ → Opened
-fitContent o S m ob start n = pick (leb (start + contentSize o S ob n) (length m)) (Op.Content start n) (Op.Refused 6)
+-- "content fit": content of length n at `start`, of the object at a place; refusal 6, "content does not fit"
+unfoldable pub fitContent : ℕ → Schema → List ℕ → Object → ℕ → ℕ → ℕ → Opened
+fitContent o S m ob at start n =
+    pick (leb (start + contentSize o S m ob at n) (length m)) (Op.Content start n) (Op.Refused 6)
+
+-- what the header of a direct list of table t at a place says more. 02, K1: "wrong element id is 7, then a count over 4,294,967,295 is
+-- 6, both at the list's arrival, after its magic and before content fit": `fit` is the content fit
+unfoldable pub directHeader : ℕ → Schema → List ℕ → ℕ → ℕ → Opened → Opened
+directHeader o S m t at fit =
+    pick (eqb (elementId o m at) (tableOf S t .id))
+    (pick (leb (le m (at + 4) o) mostElements) fit (Op.Refused 6))
+    (Op.Refused 7)
+
+-- the same of any object at a place: only a direct list's header says more than magic and length
+unfoldable pub headerTested : ℕ → Schema → List ℕ → Object → ℕ → Opened → Opened
+headerTested o S m O.Text at fit = fit
+headerTested o S m O.Bytes at fit = fit
+headerTested o S m (O.List i) at fit = fit
+headerTested o S m (O.Table i) at fit = fit
+headerTested o S m (O.DirectList t) at fit = directHeader o S m t at fit
+
+-- 02, K1: a direct list is "never in place"; no lawful schema leads to one there, and it would not fit
+unfoldable pub standsInPlace : Object → Bool
+standsInPlace O.Text = true
+standsInPlace O.Bytes = true
+standsInPlace (O.List i) = true
+standsInPlace (O.Table i) = true
+standsInPlace (O.DirectList t) = false
 
 -- "offset and header fit, magic, content fit"; refusals 6 "offset under 10, or header or content does not fit" and 7 "wrong
 -- object magic". "Offsets count from the message's first byte." In place there is no header.
 unfoldable pub fitObject : ℕ → Schema → List ℕ → Object → Place → Opened
 fitObject o S m ob (ByOffset x) =
-    pick (leb (startSize o) x && leb (x + headerSize o) (length m))
-    (pick (eqb (le m x 4) (magic S ob)) (fitContent o S m ob (x + headerSize o) (le m (x + 4) o)) (Op.Refused 7))
+    pick (leb (startSize o) x && leb (x + headerSize o ob) (length m))
+    (pick (eqb (le m x 4) (magic S ob))
+    (headerTested o S m ob x (fitContent o S m ob x (x + headerSize o ob) (le m (x + 4) o)))
+    (Op.Refused 7))
     (Op.Refused 6)
-fitObject o S m ob (InPlace a n) = fitContent o S m ob a n
+fitObject o S m ob (InPlace a n) = pick (standsInPlace ob) (fitContent o S m ob a a n) (Op.Refused 6)
 
 -- "text's end byte": the test of an object's bytes once its content fits, of a text its end byte; refusal 10, "text end
 -- byte not 0"
@@ -165,6 +216,12 @@ elements child o S m holder start k zero i s = Going s
 elements child o S m holder start k (suc n) i s =
     andThen (follow child holder i (elementStep o S m k start i) s) (elements child o S m holder start k n (i + 1))
 
+-- 02, K1: "The list is one visit, each element one more and one deeper, placed at its first byte.": n elements of a direct list of
+-- table t, each of w bytes, the first at a place. Each is a table's fixed part without a header.
+unfoldable pub directs : Child → ℕ → ℕ → ℕ → ℕ → Spent → Walked
+directs child t w zero at s = Going s
+directs child t w (suc n) at s = andThen (child (O.Table t) (InPlace at w) s) (directs child t w n (at + w))
+
 -- "tables lead to lists and unions, and those lead back to tables": what the content of the object at `holder` leads to;
 -- texts and bytes lead to nothing
 unfoldable pub content : Child → ℕ → Schema → List ℕ → Object → ℕ → ℕ → ℕ → Spent → Walked
@@ -172,6 +229,7 @@ content child o S m O.Text holder start n s = Going s
 content child o S m O.Bytes holder start n s = Going s
 content child o S m (O.List i) holder start n s = elements child o S m holder start (elementOf S i) n 0 s
 content child o S m (O.Table i) holder start n s = members child o S m holder start n begin 0 (tableOf S i .members) s
+content child o S m (O.DirectList t) holder start n s = directs child t (elementSize o m holder) n start s
 
 -- what the arrival found at the object at `holder`: a refusal, at the "object", or the content
 unfoldable pub enter : Child → ℕ → Schema → List ℕ → Object → ℕ → Opened → Spent → Walked

@@ -12,12 +12,13 @@ pub enum Flat {
     Struct(u8),
 }
 
-// What a reference leads to. A list and a table have their index.
+// What a reference leads to. A list and a table have their index, a direct list has that of its elements' table.
 pub enum Object {
     Text,
     Bytes,
     List(u8),
     Table(u8),
+    DirectList(u8),
 }
 
 // What a table member or a list element is. A union has its index.
@@ -65,7 +66,8 @@ pub struct Placement {
 
 // ---- the walk
 
-// Where an object stands: its offset; or, in place, where its content starts and the length that its holder gives.
+// Where an object stands: its offset; or, in place, where its content starts and the length that its holder gives. An element of a
+// direct list stands in place in the list.
 pub enum Place {
     ByOffset(usize),
     InPlace(usize, usize),
@@ -149,7 +151,7 @@ pub struct WriteAnswer {
 }
 
 // One field: a boolean; a number's bits, its width in bits and whether it has a sign; a float's bits and its width; an
-// object's record kind (13 to 16), place and length; a struct's place; absent; unknown with its number; a refusal.
+// object's record kind (13 to 16, 18), place and length; a struct's place; absent; unknown with its number; a refusal.
 pub enum Answer {
     Boolean(bool),
     Number(u64, u8, bool),

@@ -1,7 +1,7 @@
 -- The values of an accepted message are values that the schema can show.
 use mathlib.Core.Path.{_≡_, refl, sym, ap, subst}
 use mathlib.Core.List.{List, [], _∷_}
-use mathlib.Core.Bool.{Bool, true, false, _&&_}
+use mathlib.Core.Bool.{Bool, true, false, _&&_, false≢true}
 use mathlib.Core.Logic.{_⊎_, inl, inr}
 use Prim.Native.Nat.{ℕ, zero, suc, _+_, _*_, _^_, _<_, _≤_}
 use native.Mathlib.Omega.{arith}
@@ -17,10 +17,10 @@ use Rattle.coding.specs.Structs.{flatWidth}
 use Rattle.coding.specs.Layout.{width, flatIsBool, isBool, begin, afterMember}
 use Rattle.coding.specs.Step.{memberStep, elementStep, elementsSize}
 use Rattle.coding.specs.Walk as W
-use Rattle.coding.specs.Walk.{placed, magic, headerSize, startSize, contentSize, contentLength, endOk, fitContent, fitObject, bytesTested, refuse, refusePart, andThen, followChoice, follow, content, enter, withContent, admit, arrive, tooDeep, oneMore, counted, visit, rootPlace, nothing, walk, verdictOf, early, sizeOk, startOk, verdict}
+use Rattle.coding.specs.Walk.{placed, magic, headerSize, elementId, elementSize, mostElements, startSize, contentSize, contentLength, endOk, fitContent, directHeader, headerTested, standsInPlace, fitObject, bytesTested, refuse, refusePart, andThen, followChoice, follow, content, enter, withContent, admit, arrive, tooDeep, oneMore, counted, visit, rootPlace, nothing, walk, verdictOf, early, sizeOk, startOk, verdict}
 use Rattle.coding.specs.Value.{count}
 use Rattle.coding.specs.Read as R
-use Rattle.coding.specs.Read.{stepRead, structRead, membersRead, elementsRead, contentRead, placeRead, read, messageRead}
+use Rattle.coding.specs.Read.{stepRead, structRead, membersRead, elementsRead, directsRead, contentRead, placeRead, read, messageRead}
 use Rattle.coding.specs.declared.Flat.the-variants.{Boolean, Integer, Float, Enumerated, Struct}
 use Rattle.coding.specs.declared.Object.{Object}
 use Rattle.coding.specs.declared.Object.the-variants as O
@@ -43,7 +43,7 @@ use Rattle.laws.specs.Sound.{All, KindSound, NoStruct, Sound}
 use Rattle.laws.specs.Lists.{both-right, pick-holds}
 use Rattle.laws.specs.All.{all-take, all-drop, all-index}
 use Rattle.laws.specs.Bits.{Byte}
-use Rattle.demands.specs.Shown.{Objects, PartShown, no-part, flat, object, choice, unknown-choice, MembersShown, no-member, members, ElementsShown, no-element, elements, ContentShown, text, bytes, list, table, Shown}
+use Rattle.demands.specs.Shown.{Objects, PartShown, no-part, flat, object, choice, unknown-choice, MembersShown, no-member, members, ElementsShown, no-element, elements, DirectsShown, no-direct, directs, ContentShown, text, bytes, list, table, direct-list, Shown}
 use Rattle.demands.specs.StepShown.{StepShown, step-refused, step-absent, step-value, step-unknown, step-struct, step-object, step-choice, step-unknown-choice, member-step, element-step, element-present}
 
 -- ---- how a walk ends: it goes on, and P holds, or it is refused by a number
@@ -75,6 +75,27 @@ map-ends f (stops n) = stops n
 pub ends-going : {P : Type 0} {w : Walked} {s : Spent} → w ≡ Going s → Ends P w → P
 ends-going e (goes p) = p
 ends-going e (stops n) = absurd (let z : _≡_ {A = ℕ} 0 1 = cc in omega arith)
+
+-- a direct list's count was tested
+abbrev Few : Object → ℕ → Type 0
+Few O.Text n = Unit {0}
+Few O.Bytes n = Unit {0}
+Few (O.List i) n = Unit {0}
+Few (O.Table i) n = Unit {0}
+Few (O.DirectList t) n = n ≤ mostElements
+
+most : (n : ℕ) → n ≤ mostElements → n < 2 ^ 32
+unfolding mostElements
+most n h = omega arith
+
+-- no direct list stands in place
+stands-few : (ob : Object) (n : ℕ) → standsInPlace ob ≡ true → Few ob n
+unfolding standsInPlace
+stands-few O.Text n e = tt
+stands-few O.Bytes n e = tt
+stands-few (O.List i) n e = tt
+stands-few (O.Table i) n e = tt
+stands-few (O.DirectList t) n e = absurd (false≢true e)
 
 module _ (S : Schema) (G : Sound S) (m : List ℕ) (small : (i : ℕ) → getD m i 0 < 256) (sized : length m ≤ largest) (o : ℕ) (wide : 0 < o) where
   -- ---- counts
@@ -148,76 +169,112 @@ module _ (S : Schema) (G : Sound S) (m : List ℕ) (small : (i : ℕ) → getD m
     elements-count k start zero i = refl
     elements-count k start (suc n) i = ap suc (elements-count k start n (i + 1))
 
-    content-ends : (ob : Object) (holder start n : ℕ) (s : Spent) → start + contentSize o S ob n ≤ length m
-        → Ends (ContentShown shown S ob (contentRead reader o S m ob start n)) (content child o S m ob holder start n s)
+    directs-ends : (t w n at : ℕ) (s : Spent) → Ends (DirectsShown shown t (directsRead reader t w n at)) (W.directs child t w n at s)
+    unfolding W.directs directsRead
+    directs-ends t w zero at s = goes no-direct
+    directs-ends t w (suc n) at s =
+        map-ends (λ h. directs (h .0) (h .1)) (then-ends (below (O.Table t) (InPlace at w) s) (directs-ends t w n (at + w)))
+
+    directs-count : (t w n at : ℕ) → count (directsRead reader t w n at) ≡ n
+    unfolding directsRead count
+    directs-count t w zero at = refl
+    directs-count t w (suc n) at = ap suc (directs-count t w n (at + w))
+
+    content-ends : (ob : Object) (holder start n : ℕ) (s : Spent) → start + contentSize o S m ob holder n ≤ length m → Few ob n
+        → Ends (ContentShown shown S ob (contentRead reader o S m ob holder start n)) (content child o S m ob holder start n s)
     unfolding content contentRead contentSize
-    content-ends O.Text holder start n s l = goes (text (blob-bytes start n) (blob-few start n))
-    content-ends O.Bytes holder start n s l = goes (bytes (blob-bytes start n) (blob-few start n))
-    content-ends (O.List i) holder start n s l =
+    content-ends O.Text holder start n s l f = goes (text (blob-bytes start n) (blob-few start n))
+    content-ends O.Bytes holder start n s l f = goes (bytes (blob-bytes start n) (blob-few start n))
+    content-ends (O.List i) holder start n s l f =
         let few = count-few (elementOf S i) (G .lists i .kind) (G .lists i .scalar) n (omega arith) in
         let vs = elementsRead reader o S m start (elementOf S i) n 0 in
         map-ends (λ h. list {vs = vs} (rw (elements-count (elementOf S i) start n 0) few) h) (elements-ends (elementOf S i) holder start n 0 s)
-    content-ends (O.Table i) holder start n s l = map-ends (λ h. table h) (members-ends (tableOf S i .members) holder start n begin 0 s)
+    content-ends (O.Table i) holder start n s l f = map-ends (λ h. table h) (members-ends (tableOf S i .members) holder start n begin 0 s)
+    content-ends (O.DirectList t) holder start n s l f =
+        let w = elementSize o m holder in
+        let vs = directsRead reader t w n start in
+        map-ends (λ h. direct-list {vs = vs} (rw (directs-count t w n start) (most n f)) h) (directs-ends t w n start s)
 
     -- an arrival that found content of length n at `start`, or a refusal
     Enters : Object → ℕ → ℕ → ℕ → Spent → Opened → Type 0
-    Enters ob holder start n s opened = Ends (ContentShown shown S ob (contentRead reader o S m ob start n)) (enter child o S m ob holder opened s)
+    Enters ob holder start n s opened = Ends (ContentShown shown S ob (contentRead reader o S m ob holder start n)) (enter child o S m ob holder opened s)
 
     refused-enters : (ob : Object) (holder start n k : ℕ) (s : Spent) → 0 < k → Enters ob holder start n s (Op.Refused k)
     unfolding Enters enter
     refused-enters ob holder start n k s l = refuse-ends k holder s l
 
-    content-enters : (ob : Object) (holder start n : ℕ) (s : Spent) → start + contentSize o S ob n ≤ length m
+    content-enters : (ob : Object) (holder start n : ℕ) (s : Spent) → start + contentSize o S m ob holder n ≤ length m → Few ob n
         → Enters ob holder start n s (Op.Content start n)
     unfolding Enters enter
-    content-enters ob holder start n s l = content-ends ob holder start n s l
+    content-enters ob holder start n s l f = content-ends ob holder start n s l f
 
     -- the same where the content is not charged and the bytes are not tested yet
     Fits : Budget → Object → ℕ → ℕ → ℕ → Spent → Opened → Type 0
     Fits b ob holder start n s fit =
-        Ends (ContentShown shown S ob (contentRead reader o S m ob start n)) (admit child o S m b ob holder fit s)
+        Ends (ContentShown shown S ob (contentRead reader o S m ob holder start n)) (admit child o S m b ob holder fit s)
 
     refused-fits : (b : Budget) (ob : Object) (holder start n k : ℕ) (s : Spent) → 0 < k → Fits b ob holder start n s (Op.Refused k)
     unfolding Fits admit
     refused-fits b ob holder start n k s l = refuse-ends k holder s l
 
-    charged-fits : (b : Budget) (ob : Object) (holder start n : ℕ) (s : Spent) → start + contentSize o S ob n ≤ length m
+    charged-fits : (b : Budget) (ob : Object) (holder start n : ℕ) (s : Spent) → start + contentSize o S m ob holder n ≤ length m → Few ob n
         → Fits b ob holder start n s (Op.Content start n)
     unfolding Fits admit bytesTested Enters
-    charged-fits b ob holder start n s l =
-        let P = ContentShown shown S ob (contentRead reader o S m ob start n) in
+    charged-fits b ob holder start n s l f =
+        let P = ContentShown shown S ob (contentRead reader o S m ob holder start n) in
         let c = contentLength o S ob n in
         pick-holds (Ends P) (leb (s .content + c) (b .content))
         (enter child o S m ob holder (pick (endOk m ob start n) (Op.Content start n) (Op.Refused 10)) (withContent c s)) (refuse 17 holder s)
         (λ e.
         pick-holds (Enters ob holder start n (withContent c s)) (endOk m ob start n) (Op.Content start n) (Op.Refused 10)
-        (λ t. content-enters ob holder start n (withContent c s) l)
+        (λ t. content-enters ob holder start n (withContent c s) l f)
         (λ t. refused-enters ob holder start n 10 (withContent c s) (omega arith)))
         (λ e. refuse-ends 17 holder s (omega arith))
 
-    content-fits : (b : Budget) (ob : Object) (holder start n : ℕ) (s : Spent)
-        → Fits b ob holder start n s (fitContent o S m ob start n)
+    content-fits : (b : Budget) (ob : Object) (holder start n : ℕ) (s : Spent) → Few ob n
+        → Fits b ob holder start n s (fitContent o S m ob holder start n)
     unfolding fitContent
-    content-fits b ob holder start n s =
-        pick-holds (Fits b ob holder start n s) (leb (start + contentSize o S ob n) (length m)) (Op.Content start n) (Op.Refused 6)
-        (λ e. charged-fits b ob holder start n s (leb-true (start + contentSize o S ob n) (length m) e))
+    content-fits b ob holder start n s f =
+        pick-holds (Fits b ob holder start n s) (leb (start + contentSize o S m ob holder n) (length m)) (Op.Content start n) (Op.Refused 6)
+        (λ e. charged-fits b ob holder start n s (leb-true (start + contentSize o S m ob holder n) (length m) e) f)
         (λ e. refused-fits b ob holder start n 6 s (omega arith))
+
+    -- what a direct list's header says more
+    header-fits : (b : Budget) (ob : Object) (x start : ℕ) (s : Spent) (fit : Opened)
+        → (Few ob (le m (x + 4) o) → Fits b ob x start (le m (x + 4) o) s fit)
+        → Fits b ob x start (le m (x + 4) o) s (headerTested o S m ob x fit)
+    unfolding headerTested directHeader
+    header-fits b O.Text x start s fit h = h tt
+    header-fits b O.Bytes x start s fit h = h tt
+    header-fits b (O.List i) x start s fit h = h tt
+    header-fits b (O.Table i) x start s fit h = h tt
+    header-fits b (O.DirectList t) x start s fit h =
+        let n = le m (x + 4) o in
+        let P = Fits b (O.DirectList t) x start n s in
+        pick-holds P (eqb (elementId o m x) (tableOf S t .id)) (pick (leb n mostElements) fit (Op.Refused 6)) (Op.Refused 7)
+        (λ e.
+        pick-holds P (leb n mostElements) fit (Op.Refused 6) (λ f. h (leb-true n mostElements f))
+        (λ f. refused-fits b (O.DirectList t) x start n 6 s (omega arith)))
+        (λ e. refused-fits b (O.DirectList t) x start n 7 s (omega arith))
 
     arrival-ends : (b : Budget) (ob : Object) (p : Place) (s : Spent)
         → Ends (ContentShown shown S ob (placeRead reader o S m ob p)) (arrive child o S m b ob p s)
     unfolding arrive placed fitObject placeRead Fits
     arrival-ends b ob (ByOffset x) s =
-        let start = x + headerSize o in
+        let start = x + headerSize o ob in
         let n = le m (x + 4) o in
         let P = Fits b ob x start n s in
-        let opened = fitContent o S m ob start n in
+        let fit = fitContent o S m ob x start n in
+        let opened = headerTested o S m ob x fit in
         let inner = pick (eqb (le m x 4) (magic S ob)) opened (Op.Refused 7) in
         pick-holds P (leb (startSize o) x && leb start (length m)) inner (Op.Refused 6)
         (λ e.
-        pick-holds P (eqb (le m x 4) (magic S ob)) opened (Op.Refused 7) (λ t. content-fits b ob x start n s)
+        pick-holds P (eqb (le m x 4) (magic S ob)) opened (Op.Refused 7) (λ t. header-fits b ob x start s fit (content-fits b ob x start n s))
         (λ t. refused-fits b ob x start n 7 s (omega arith)))
         (λ e. refused-fits b ob x start n 6 s (omega arith))
-    arrival-ends b ob (InPlace a n) s = content-fits b ob a a n s
+    arrival-ends b ob (InPlace a n) s =
+        pick-holds (Fits b ob a a n s) (standsInPlace ob) (fitContent o S m ob a a n) (Op.Refused 6)
+        (λ e. content-fits b ob a a n s (stands-few ob n e)) (λ e. refused-fits b ob a a n 6 s (omega arith))
 
   counted-ends : (P : Type 0) (child : W.Child) (b : Budget) (ob : Object) (p : Place) → ((s : Spent) → Ends P (child ob p s))
       → (s : Spent) → Ends P (counted child b ob p s)

@@ -14,7 +14,7 @@ use Rattle.coding.specs.Bytes.{deepest}
 use Rattle.coding.specs.Schema.{Schema, elementOf, tableOf}
 use Rattle.coding.specs.Layout.{begin, afterMember, afterMembers}
 use Rattle.coding.specs.Step.{memberStep, elementStep}
-use Rattle.coding.specs.Walk.{placed, contentLength, fitObject, bytesTested, openObject, refuse, andThen, Child, refusePart, followChoice, follow, members, elements, content, enter, spending, oneMore, withContent, admit, arrive, tooDeep, counted, visit, rootPlace, nothing}
+use Rattle.coding.specs.Walk.{placed, elementSize, contentLength, fitObject, bytesTested, openObject, refuse, andThen, Child, refusePart, followChoice, follow, members, elements, directs, content, enter, spending, oneMore, withContent, admit, arrive, tooDeep, counted, visit, rootPlace, nothing}
 use Rattle.coding.specs.declared.Object.{Object}
 use Rattle.coding.specs.declared.Object.the-variants as Ob
 use Rattle.coding.specs.declared.Kind.{Kind}
@@ -31,9 +31,10 @@ use Rattle.coding.specs.declared.Spent.{Spent}
 use Rattle.coding.specs.declared.Refusal.{Refusal}
 use Rattle.coding.specs.declared.Walked.{Walked}
 use Rattle.coding.specs.declared.Walked.the-variants.{Going, Refused}
+use Rattle.laws.specs.DirectPlaces.{element-first, element-next}
 use Rattle.demands.specs.Spending.{plus, Affords, no-more-trans, plus-nothing, plus-plus, plus-part, one-more-plus, with-content-plus, arrival-plus, one-more-affords, with-content-affords, no-visit, no-content}
 use Rattle.demands.specs.RefusalNumbers.{NumberedStep, NumberedOpened, member-numbered, element-numbered, fit-numbered, bytes-numbered}
-use Rattle.demands.specs.Arrivals.{partCount, memberAt, partStep, LeadsTo, by-reference, by-choice, Arrives, root, below, LawfulStep, LawfulObject, sum, costAt, costIn, charge, cost}
+use Rattle.demands.specs.Arrivals.{partCount, memberAt, directAt, partStep, LeadsTo, by-reference, by-choice, Arrives, root, below, LawfulStep, LawfulObject, sum, costAt, costIn, charge, cost}
 
 -- ---- a walk that is judged
 -- a walk from s that goes on exactly when P holds and k more is within the budget, and has spent that then
@@ -99,14 +100,14 @@ pub record PartLawful (P : Object → Place → Type 0) (st : Step) : Type 0 whe
   pub step : LawfulStep st
   pub object : (ob : Object) (p : Place) → LeadsTo st ob p → P ob p
 
-abbrev pub ContentLawful : (Object → Place → Type 0) → ℕ → Schema → List ℕ → Object → Opened → Type 0
-ContentLawful P o S m ob (Op.Refused n) = ⊥
-ContentLawful P o S m ob (Op.Content start n) = (j : ℕ) → j < partCount S ob n → PartLawful P (partStep o S m ob start n j)
+abbrev pub ContentLawful : (Object → Place → Type 0) → ℕ → Schema → List ℕ → Object → ℕ → Opened → Type 0
+ContentLawful P o S m ob at (Op.Refused n) = ⊥
+ContentLawful P o S m ob at (Op.Content start n) = (j : ℕ) → j < partCount S ob n → PartLawful P (partStep o S m ob at start n j)
 
 -- an object and all that is reached from it, d objects deep, is lawful
 unfoldable pub LawfulDown : ℕ → ℕ → Schema → List ℕ → Object → Place → Type 0
 LawfulDown zero o S m ob p = ⊥
-LawfulDown (suc d) o S m ob p = ContentLawful (LawfulDown d o S m) o S m ob (openObject o S m ob p)
+LawfulDown (suc d) o S m ob p = ContentLawful (LawfulDown d o S m) o S m ob (placed p) (openObject o S m ob p)
 
 module _ (b : Budget) (P : Object → Place → Type 0) (k : Object → Place → Spent) (child : Child)
     (H : (ob : Object) (p : Place) (s : Spent) → Affords b s → Judged b (P ob p) (k ob p) s (child ob p s)) where
@@ -184,10 +185,23 @@ module _ (b : Budget) (P : Object → Place → Type 0) (k : Object → Place �
         (λ t g. elements-judged holder start e n (i + 1) (λ j. f (suc j))
         (λ j. q (suc j) ∙ ap (elementStep o S m e start) (omega arith)) t g)
 
-    content-judged : (ob : Object) (holder start n : ℕ) (s : Spent) → Affords b s
-        → Judged b (EachPart (partStep o S m ob start n) (partCount S ob n))
-        (sum (λ j. costAt k (partStep o S m ob start n j)) (partCount S ob n)) s
-        (content child o S m ob holder start n s)
+    directs-judged : (t w n at : ℕ) (f : ℕ → Step) → ((j : ℕ) → f j ≡ directAt t w at j) → (s : Spent) → Affords b s
+        → Judged b (EachPart f n) (sum (λ j. costAt k (f j)) n) s (directs child t w n at s)
+    unfolding directs EachPart sum directAt follow
+    directs-judged t w zero at f q s h = judged-stay s h (λ j l. absurd (omega arith))
+    directs-judged t w (suc n) at f q s h =
+        let first : f 0 ≡ St.Object (Ob.Table t) (InPlace at w) =
+        q 0 ∙ ap (λ (x : ℕ). St.Object (Ob.Table t) (InPlace x w)) (element-first at w) in
+        next-part f n
+        (subst (λ (st : Step). Judged b (PartLawful P st) (costAt k st) s (child (Ob.Table t) (InPlace at w) s)) (sym first)
+        (follow-judged 0 0 (St.Object (Ob.Table t) (InPlace at w)) tt s h))
+        (λ u g. directs-judged t w n (at + w) (λ j. f (suc j))
+        (λ j. q (suc j) ∙ ap (λ (x : ℕ). St.Object (Ob.Table t) (InPlace x w)) (element-next at w j)) u g)
+
+    content-judged : (ob : Object) (at start n : ℕ) (s : Spent) → Affords b s
+        → Judged b (EachPart (partStep o S m ob at start n) (partCount S ob n))
+        (sum (λ j. costAt k (partStep o S m ob at start n j)) (partCount S ob n)) s
+        (content child o S m ob at start n s)
     unfolding content partStep partCount sum EachPart
     content-judged Ob.Text holder start n s h = judged-stay s h (λ j l. absurd (omega arith))
     content-judged Ob.Bytes holder start n s h = judged-stay s h (λ j l. absurd (omega arith))
@@ -195,34 +209,36 @@ module _ (b : Budget) (P : Object → Place → Type 0) (k : Object → Place �
         elements-judged holder start (elementOf S i) n 0 (elementStep o S m (elementOf S i) start)
         (λ j. ap (elementStep o S m (elementOf S i) start) (omega arith)) s h
     content-judged (Ob.Table i) holder start n s h = members-judged holder start n begin 0 (tableOf S i .members) s h
+    content-judged (Ob.DirectList t) at start n s h =
+        directs-judged t (elementSize o m at) n start (directAt t (elementSize o m at) start) (λ j. refl) s h
 
-    enter-judged : (ob : Object) (holder : ℕ) (p : Opened) → NumberedOpened p → (s : Spent) → Affords b s
-        → Judged b (ContentLawful P o S m ob p) (costIn k o S m ob p) s (enter child o S m ob holder p s)
+    enter-judged : (ob : Object) (at : ℕ) (p : Opened) → NumberedOpened p → (s : Spent) → Affords b s
+        → Judged b (ContentLawful P o S m ob at p) (costIn k o S m ob at p) s (enter child o S m ob at p s)
     unfolding enter costIn EachPart
     enter-judged ob holder (Op.Refused n) z s h = judged-refuse nothing s n holder z (λ q g. q)
     enter-judged ob holder (Op.Content start n) z s h = content-judged ob holder start n s h
 
-    admit-judged : (ob : Object) (holder : ℕ) (u : Opened) → NumberedOpened u → (s : Spent) → Affords b s
-        → Judged b (ContentLawful P o S m ob (bytesTested m ob u))
-        (plus (spending 0 (charge o S ob u)) (costIn k o S m ob (bytesTested m ob u))) s (admit child o S m b ob holder u s)
+    admit-judged : (ob : Object) (at : ℕ) (u : Opened) → NumberedOpened u → (s : Spent) → Affords b s
+        → Judged b (ContentLawful P o S m ob at (bytesTested m ob u))
+        (plus (spending 0 (charge o S ob u)) (costIn k o S m ob at (bytesTested m ob u))) s (admit child o S m b ob at u s)
     unfolding admit charge
     admit-judged ob holder (Op.Refused n) z s h = unfold bytesTested in judged-refuse _ s n holder z (λ q g. q)
-    admit-judged ob holder (Op.Content start n) z s h = by (leb (s .content + contentLength o S ob n) (b .content)) refl
+    admit-judged ob at (Op.Content start n) z s h = by (leb (s .content + contentLength o S ob n) (b .content)) refl
       where
         by : (t : Bool) → leb (s .content + contentLength o S ob n) (b .content) ≡ t
-            → Judged b (ContentLawful P o S m ob (bytesTested m ob (Op.Content start n)))
-            (plus (spending 0 (contentLength o S ob n)) (costIn k o S m ob (bytesTested m ob (Op.Content start n)))) s
+            → Judged b (ContentLawful P o S m ob at (bytesTested m ob (Op.Content start n)))
+            (plus (spending 0 (contentLength o S ob n)) (costIn k o S m ob at (bytesTested m ob (Op.Content start n)))) s
             (pick t
-            (enter child o S m ob holder (bytesTested m ob (Op.Content start n)) (withContent (contentLength o S ob n) s))
-            (refuse 17 holder s))
+            (enter child o S m ob at (bytesTested m ob (Op.Content start n)) (withContent (contentLength o S ob n) s))
+            (refuse 17 at s))
         by true e =
-            judged-from (with-content-plus (contentLength o S ob n) s (costIn k o S m ob (bytesTested m ob (Op.Content start n))))
-            (enter-judged ob holder (bytesTested m ob (Op.Content start n)) (bytes-numbered m ob (Op.Content start n) tt)
+            judged-from (with-content-plus (contentLength o S ob n) s (costIn k o S m ob at (bytesTested m ob (Op.Content start n))))
+            (enter-judged ob at (bytesTested m ob (Op.Content start n)) (bytes-numbered m ob (Op.Content start n) tt)
             (withContent (contentLength o S ob n) s)
             (with-content-affords b (contentLength o S ob n) s h (leb-true (s .content + contentLength o S ob n) (b .content) e)))
         by false e =
-            judged-refuse _ s 17 holder (omega arith)
-            (λ q g. no-content b (contentLength o S ob n) s (costIn k o S m ob (bytesTested m ob (Op.Content start n)))
+            judged-refuse _ s 17 at (omega arith)
+            (λ q g. no-content b (contentLength o S ob n) s (costIn k o S m ob at (bytesTested m ob (Op.Content start n)))
             (leb-false (s .content + contentLength o S ob n) (b .content) e) g)
 
 -- ---- an arrival
@@ -246,7 +262,7 @@ visit-judged zero o S m b ob p s h =
     judged-never (counted-judged b ⊥ nothing tooDeep ob p (λ t g. judged-refuse nothing t 5 (placed p) (omega arith) (λ q l. q)) s h)
 visit-judged (suc d) o S m b ob p s h =
     let u = fitObject o S m ob p in
-    let parts = costIn (cost d o S m) o S m ob (bytesTested m ob u) in
+    let parts = costIn (cost d o S m) o S m ob (placed p) (bytesTested m ob u) in
     judged-from (ap (plus s) (arrival-plus (charge o S ob u) parts))
     (counted-judged b (LawfulDown (suc d) o S m ob p) (plus (spending 0 (charge o S ob u)) parts)
     (arrive (visit d o S m b) o S m b) ob p
@@ -280,14 +296,14 @@ cost-same (suc d) (suc e) o S m ob p h x =
     ap (plus (spending 1 (charge o S ob (fitObject o S m ob p))))
     (opened (openObject o S m ob p) x (λ ob′ p′ y. cost-same d e o S m ob′ p′ (omega arith) y))
   where
-    opened : (u : Opened) → ContentLawful (LawfulDown d o S m) o S m ob u
+    opened : (u : Opened) → ContentLawful (LawfulDown d o S m) o S m ob (placed p) u
         → ((ob′ : Object) (p′ : Place) → LawfulDown d o S m ob′ p′ → cost e o S m ob′ p′ ≡ cost d o S m ob′ p′)
-        → costIn (cost e o S m) o S m ob u ≡ costIn (cost d o S m) o S m ob u
+        → costIn (cost e o S m) o S m ob (placed p) u ≡ costIn (cost d o S m) o S m ob (placed p) u
     opened (Op.Refused n) c q = refl
     opened (Op.Content start n) c q =
         sum-same _ _ (partCount S ob n)
         (λ j l.
-        at-same (cost e o S m) (cost d o S m) (partStep o S m ob start n j) (λ ob′ p′ t. q ob′ p′ (c j l .object ob′ p′ t)))
+        at-same (cost e o S m) (cost d o S m) (partStep o S m ob (placed p) start n j) (λ ob′ p′ t. q ob′ p′ (c j l .object ob′ p′ t)))
 
 -- ---- from any depth left to all arrivals, and back
 module _ (o : ℕ) (S : Schema) (m : List ℕ) where
@@ -299,10 +315,10 @@ module _ (o : ℕ) (S : Schema) (m : List ℕ) where
   down-arrives h (below {d} {ob} {ob′} {p} {p′} start n j a e l q) =
       let x = down-arrives h a in step (x .0) (x .1) (x .2)
     where
-      content : (left : ℕ) (u : Opened) → u ≡ Op.Content start n → ContentLawful (LawfulDown left o S m) o S m ob u
+      content : (left : ℕ) (u : Opened) → u ≡ Op.Content start n → ContentLawful (LawfulDown left o S m) o S m ob (placed p) u
           → LawfulDown left o S m ob′ p′
       content left u f c =
-          subst (λ (v : Opened). ContentLawful (LawfulDown left o S m) o S m ob v) f c j l .object ob′ p′ q
+          subst (λ (v : Opened). ContentLawful (LawfulDown left o S m) o S m ob (placed p) v) f c j l .object ob′ p′ q
 
       step : (left : ℕ) → d + left ≡ suc deepest → LawfulDown left o S m ob p
           → (left : ℕ) × (suc d + left ≡ suc deepest) × LawfulDown left o S m ob′ p′
@@ -319,7 +335,7 @@ module _ (o : ℕ) (S : Schema) (m : List ℕ) where
   down-lawful zero ob p x = absurd x
   down-lawful (suc left) ob p x = opened (openObject o S m ob p) refl x
     where
-      opened : (u : Opened) → openObject o S m ob p ≡ u → ContentLawful (LawfulDown left o S m) o S m ob u → LawfulObject o S m ob p
+      opened : (u : Opened) → openObject o S m ob p ≡ u → ContentLawful (LawfulDown left o S m) o S m ob (placed p) u → LawfulObject o S m ob p
       opened (Op.Refused n) e c = absurd c
       opened (Op.Content start n) e c = record { start = start; size = n; opens = e; parts = λ j l. c j l .step }
 
@@ -331,7 +347,7 @@ module _ (o : ℕ) (S : Schema) (m : List ℕ) where
   arrives-down depth lawful zero d ob p a e = let l = depth d ob p a in absurd (omega arith)
   arrives-down depth lawful (suc left) d ob p a e =
       let x = lawful d ob p a in
-      subst (λ (u : Opened). ContentLawful (LawfulDown left o S m) o S m ob u) (sym (x .opens))
+      subst (λ (u : Opened). ContentLawful (LawfulDown left o S m) o S m ob (placed p) u) (sym (x .opens))
       (λ j l.
       record {
         step = x .parts j l;

@@ -14,7 +14,7 @@ use Rattle.coding.specs.Bytes.{le, bitAt}
 use Rattle.coding.specs.Walk.{startSize, headerSize}
 use Rattle.coding.specs.Layout.{begin, bitByte, bitIndex, afterBit, afterBytes}
 use Rattle.coding.specs.Cells.{width, chain, Slots, packBits}
-use Rattle.coding.specs.Cells.Slots.{end, bytes, bit, reference, inPlace}
+use Rattle.coding.specs.Cells.Slots.{end, bytes, bit, reference, inPlace, part}
 use Rattle.coding.specs.declared.Cursor.{Cursor}
 use Rattle.demands.specs.Holds.{Holds}
 use Rattle.demands.specs.SlotsHold.{SlotsHold}
@@ -63,6 +63,8 @@ module _ (o : ℕ) (m : List ℕ) where
   slots-fit e p l (suc f) (bit x s) h = slots-fit e p l f s (h .1)
   slots-fit e p l f (reference k s) h = omega (arith, slots-fit e (p + o) l f s (h .2))
   slots-fit e p l f (inPlace k s) h = slots-fit (e + width o (packBits 0 k) + chain o (packBits 0 k)) p l f s (h .1)
+  slots-fit e p l f (part k s) h =
+      omega (arith, slots-fit (e + chain o (packBits 0 k)) (p + width o (packBits 0 k)) l f s (h .1))
 
   module _ (start : ℕ) (c : Cursor) (z e : ℕ) where
     pub at-fits : (s : Slots) → At o m start c z e s → (start + c .end ≤ z) × (z ≤ length m)
@@ -203,6 +205,39 @@ module _ (o : ℕ) (m : List ℕ) where
         holds = a .holds .1;
       },
     )
+
+    -- a sequence of its own, and behind it the rest
+    pub at-part : (k s : Slots) → At o m start c z e (part k s)
+        → At o m (start + c .end) begin (start + c .end + width o (packBits 0 k)) e k
+        × At o m start (afterBytes (width o (packBits 0 k)) c) z (e + chain o (packBits 0 k)) s
+    unfolding width packBits begin afterBytes
+    at-part k s a =
+        let h1 = a .place in
+        let h2 = a .ends in
+        let w = width o (packBits 0 k) in (
+          record {
+            p = start + c .end;
+            l = 0;
+            f = 0;
+            place = omega arith;
+            free = refl;
+            last = λ b. absurd (omega arith);
+            before = λ b. absurd (omega arith);
+            ends = refl;
+            holds = subst (λ (n : ℕ). SlotsHold o m e n 0 0 k) (a .place) (a .holds .0);
+          },
+          record {
+            p = a .p + w;
+            l = a .l;
+            f = a .f;
+            place = omega arith;
+            free = a .free;
+            last = a .last;
+            before = λ b. let q = a .before b in omega arith;
+            ends = omega arith;
+            holds = a .holds .1;
+          },
+        )
 
     end-at : (p l f : ℕ) → f + c .bit ≡ 8 → (0 < f → l ≡ start + c .byte) → SlotsHold o m e p l f end → Unused m start c
     end-at p l zero free last h = record { zero = λ b. absurd (omega arith) }

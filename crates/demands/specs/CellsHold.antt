@@ -8,7 +8,7 @@ use lib.ListN.{length, length-append}
 use Rattle.coding.specs.Bytes.{le, leBytes}
 use Rattle.coding.specs.Walk.{startSize, headerSize}
 use Rattle.coding.specs.Cells.{Cells, width, chain, below, widthBytes, chainBytes, belowBytes, layout}
-use Rattle.coding.specs.Cells.Cells.{end, bytes, reference, inPlace}
+use Rattle.coding.specs.Cells.Cells.{end, bytes, reference, inPlace, part}
 use Rattle.laws.specs.Sound.{All}
 use Rattle.laws.specs.Bits.{Byte}
 use Rattle.laws.specs.All.{all-append}
@@ -21,6 +21,7 @@ CellsHold o m p e (bytes bs c) = Holds m p bs × CellsHold o m (p + length bs) e
 CellsHold o m p e (reference k c) =
     (startSize o ≤ le m p o) × CellsHold o m (le m p o) (le m p o + width o k) k × CellsHold o m (p + o) e c
 CellsHold o m p e (inPlace k c) = CellsHold o m e (e + width o k) k × CellsHold o m p (e + width o k + chain o k) c
+CellsHold o m p e (part k c) = CellsHold o m p e k × CellsHold o m (p + width o k) (e + chain o k) c
 
 -- ---- lengths
 module _ (o : ℕ) where
@@ -32,6 +33,9 @@ module _ (o : ℕ) where
       let s' = s + (width o k + chain o k + below o k) in
       omega (arith, length-append (leBytes o s) (widthBytes o s' c), length-leBytes o s, length-widthBytes s' c)
   length-widthBytes s (inPlace k c) = length-widthBytes (s + below o k) c
+  length-widthBytes s (part k c) =
+      let t = s + below o k in
+      omega (arith, length-append (widthBytes o s k) (widthBytes o t c), length-widthBytes s k, length-widthBytes t c)
 
   pub length-chainBytes : (s : ℕ) (c : Cells) → length (chainBytes o s c) ≡ chain o c
   unfolding chainBytes chain
@@ -50,6 +54,9 @@ module _ (o : ℕ) where
         length-chainBytes s k,
         length-chainBytes (s + below o k) c,
       )
+  length-chainBytes s (part k c) =
+      let t = s + below o k in
+      omega (arith, length-append (chainBytes o s k) (chainBytes o t c), length-chainBytes s k, length-chainBytes t c)
 
   pub length-belowBytes : (s : ℕ) (c : Cells) → length (belowBytes o s c) ≡ below o c
   unfolding belowBytes below
@@ -75,6 +82,9 @@ module _ (o : ℕ) where
         length-belowBytes s k,
         length-belowBytes (s + below o k) c,
       )
+  length-belowBytes s (part k c) =
+      let t = s + below o k in
+      omega (arith, length-append (belowBytes o s k) (belowBytes o t c), length-belowBytes s k, length-belowBytes t c)
 
   pub length-layout : (c : Cells) → length (layout o c) ≡ width o c + chain o c + below o c
   unfolding layout
@@ -133,6 +143,18 @@ module _ (o : ℕ) (m : List ℕ) (small : length m < 256 ^ o) where
         ih,
         cells-hold p (e + width o k + chain o k) t c (omega arith) w (rw (length-widthBytes, length-chainBytes) at h2) (rw length-belowBytes at b1),
       )
+  cells-hold p e s (part k c) ten w h b =
+      let t = s + below o k in
+      let wk = widthBytes o s k in
+      let ck = chainBytes o s k in
+      let bk = belowBytes o s k in (
+        cells-hold p e s k ten (holds-left m p wk (widthBytes o t c) w) (holds-left m e ck (chainBytes o t c) h)
+            (holds-left m s bk (belowBytes o t c) b),
+        cells-hold (p + width o k) (e + chain o k) t c (omega arith)
+            (rw length-widthBytes at (holds-right m p wk (widthBytes o t c) w))
+            (rw length-chainBytes at (holds-right m e ck (chainBytes o t c) h))
+            (rw length-belowBytes at (holds-right m s bk (belowBytes o t c) b)),
+      )
 
 -- the whole of it: a layout holds its cells
 pub layout-holds : (o : ℕ) (c : Cells) → startSize o ≤ width o c → length (layout o c) < 256 ^ o
@@ -159,6 +181,7 @@ CellsBytes end = Unit {0}
 CellsBytes (bytes bs c) = All Byte bs × CellsBytes c
 CellsBytes (reference k c) = CellsBytes k × CellsBytes c
 CellsBytes (inPlace k c) = CellsBytes k × CellsBytes c
+CellsBytes (part k c) = CellsBytes k × CellsBytes c
 
 module _ (o : ℕ) where
   widthBytes-bytes : (s : ℕ) (c : Cells) → CellsBytes c → All Byte (widthBytes o s c)
@@ -169,6 +192,9 @@ module _ (o : ℕ) where
       let t = s + (width o k + chain o k + below o k) in
       all-append Byte (leBytes o s) (widthBytes o t c) (leBytes-bytes o s) (widthBytes-bytes t c (h .1))
   widthBytes-bytes s (inPlace k c) h = widthBytes-bytes (s + below o k) c (h .1)
+  widthBytes-bytes s (part k c) h =
+      let t = s + below o k in
+      all-append Byte (widthBytes o s k) (widthBytes o t c) (widthBytes-bytes s k (h .0)) (widthBytes-bytes t c (h .1))
 
   chainBytes-bytes : (s : ℕ) (c : Cells) → CellsBytes c → All Byte (chainBytes o s c)
   unfolding chainBytes
@@ -178,6 +204,9 @@ module _ (o : ℕ) where
   chainBytes-bytes s (inPlace k c) h =
       all-append Byte (widthBytes o s k) (chainBytes o s k ++ chainBytes o (s + below o k) c) (widthBytes-bytes s k (h .0))
       (all-append Byte (chainBytes o s k) (chainBytes o (s + below o k) c) (chainBytes-bytes s k (h .0)) (chainBytes-bytes (s + below o k) c (h .1)))
+  chainBytes-bytes s (part k c) h =
+      let t = s + below o k in
+      all-append Byte (chainBytes o s k) (chainBytes o t c) (chainBytes-bytes s k (h .0)) (chainBytes-bytes t c (h .1))
 
   belowBytes-bytes : (s : ℕ) (c : Cells) → CellsBytes c → All Byte (belowBytes o s c)
   unfolding belowBytes
@@ -192,6 +221,9 @@ module _ (o : ℕ) where
       (all-append Byte (belowBytes o s' k) bt (belowBytes-bytes s' k (h .0)) (belowBytes-bytes t c (h .1))))
   belowBytes-bytes s (inPlace k c) h =
       all-append Byte (belowBytes o s k) (belowBytes o (s + below o k) c) (belowBytes-bytes s k (h .0)) (belowBytes-bytes (s + below o k) c (h .1))
+  belowBytes-bytes s (part k c) h =
+      let t = s + below o k in
+      all-append Byte (belowBytes o s k) (belowBytes o t c) (belowBytes-bytes s k (h .0)) (belowBytes-bytes t c (h .1))
 
   pub layout-bytes : (c : Cells) → CellsBytes c → All Byte (layout o c)
   unfolding layout

@@ -18,8 +18,8 @@ use Rattle.coding.specs.declared.Answer.{Answer}
 use Rattle.coding.specs.declared.Answer.the-variants as A
 
 -- ---- entries
--- A boolean; a number's bits, its width in bits and whether it has a sign; a float's bits and its width; a text, bytes or a
--- list with its record kind and its length; a table, whose sheet does not show the length of its fixed part; a struct; no
+-- A boolean; a number's bits, its width in bits and whether it has a sign; a float's bits and its width; a text, bytes, a
+-- list or a direct list with its record kind and its length; a table, whose sheet does not show the length of its fixed part; a struct; no
 -- value; an unknown enum or choice; no such part; any other refusal, which is no entry of a sheet.
 pub data Entry : Type 0 where
   boolean : Bool → Entry
@@ -93,6 +93,7 @@ objectPart S O.Bytes vs j = Part.noPart
 objectPart S (O.List i) vs j = pick (ltb j (Tree.count vs)) (partHere S (elementOf S i) (valueAt vs j)) Part.noPart
 objectPart S (O.Table i) vs j =
     pick (ltb j (length (tableOf S i .members))) (partHere S (memberOf S i j .kind) (valueAt vs j)) Part.noPart
+objectPart S (O.DirectList t) vs j = pick (ltb j (Tree.count vs)) (Part.object (O.Table t) (valueAt vs j)) Part.noPart
 
 -- "An absent or unknown place ends it, whatever steps remain."
 unfoldable pub partOf : Schema → Part → ℕ → Part
@@ -115,12 +116,13 @@ flatEntry (F.Float w) x = Entry.float x (8 * w)
 flatEntry (F.Enumerated n) x = Entry.number x 8 false
 flatEntry (F.Struct i) x = Entry.absent
 
--- "13 text, 14 bytes, 15 list, 16 table"; a text's or bytes' length, a list's count
+-- "13 text, 14 bytes, 15 list, 16 table"; 02, K1: "kind 18"; a text's or bytes' length, a list's or a direct list's count
 unfoldable pub objectEntry : Object → Tree.Value → Entry
 objectEntry O.Text v = Entry.object 13 (length (Tree.asBlob v))
 objectEntry O.Bytes v = Entry.object 14 (length (Tree.asBlob v))
 objectEntry (O.List i) v = Entry.object 15 (Tree.count (Tree.asRow v))
 objectEntry (O.Table i) v = Entry.table
+objectEntry (O.DirectList t) v = Entry.object 18 (Tree.count (Tree.asRow v))
 
 unfoldable pub entryOf : Part → Entry
 entryOf Part.noPart = Entry.noPart

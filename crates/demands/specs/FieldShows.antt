@@ -3,7 +3,7 @@
 use mathlib.Core.Path.{_≡_, refl, sym, subst, ap}
 use mathlib.Core.List.{List, [], _∷_}
 use mathlib.Core.Bool.{Bool, true, false, _&&_}
-use Prim.Native.Nat.{ℕ, zero, suc, _+_, _<_, _≤_}
+use Prim.Native.Nat.{ℕ, zero, suc, _+_, _*_, _<_, _≤_}
 use native.Mathlib.Omega.{arith}
 use native.Mathlib.Nat.{zero-add}
 use lib.ListN.{length, getD, take, drop, length-take, length-drop}
@@ -15,7 +15,7 @@ use Rattle.coding.specs.Schema.{Schema, structOf, fieldOf, elementOf, tableOf, 
 use Rattle.coding.specs.Structs.{lower, byIndex, total, structSize}
 use Rattle.coding.specs.Layout.{begin, afterMembers}
 use Rattle.coding.specs.Step.{enumStep, fieldStep, memberStep, elementStep}
-use Rattle.coding.specs.Walk.{placed, refusal, partRefusal, magic, headerSize, startSize, contentSize, contentLength, endOk, fitContent, fitObject, bytesTested, openObject, refuse, refusePart, follow, followChoice, members, elements, content, enter, withContent, admit, arrive, tooDeep, oneMore, counted, visit, rootPlace, nothing, walk}
+use Rattle.coding.specs.Walk.{placed, refusal, partRefusal, magic, headerSize, elementId, elementSize, mostElements, startSize, contentSize, contentLength, endOk, fitContent, directHeader, headerTested, standsInPlace, fitObject, bytesTested, openObject, refuse, refusePart, follow, followChoice, members, elements, directs, content, enter, withContent, admit, arrive, tooDeep, oneMore, counted, visit, rootPlace, nothing, walk}
 use Rattle.coding.specs.Value as Tree
 use Rattle.coding.specs.Read as Read
 use Rattle.coding.specs.Field as Field
@@ -23,7 +23,7 @@ use Rattle.laws.specs.Lists.{all-at}
 use Rattle.laws.specs.Structs.{lower-is}
 use Rattle.laws.specs.Sound.{FlatSound, FlatScalar, Sound}
 use Rattle.demands.specs.FieldEntries as E
-use Rattle.demands.specs.GoingOn.{GoesOn, refuse-going, refuse-part-going, members-going, elements-going, members-at, elements-at, elements-count, fields-at}
+use Rattle.demands.specs.GoingOn.{GoesOn, refuse-going, refuse-part-going, members-going, elements-going, directs-going, directs-at, directs-count, members-at, elements-at, elements-count, fields-at}
 use Rattle.demands.specs.StepKinds.{OfKind, member-kind, element-kind, refused, absent, unknown, value, struct, object, choice}
 use Rattle.coding.specs.declared.Flat.{Flat}
 use Rattle.coding.specs.declared.Flat.the-variants as F
@@ -35,6 +35,7 @@ use Rattle.coding.specs.declared.Place.{Place}
 use Rattle.coding.specs.declared.Place.the-variants.{ByOffset, InPlace}
 use Rattle.coding.specs.declared.Step.{Step}
 use Rattle.coding.specs.declared.Step.the-variants as St
+use Rattle.coding.specs.declared.Opened.{Opened}
 use Rattle.coding.specs.declared.Opened.the-variants as Op
 use Rattle.coding.specs.declared.Budget.{Budget}
 use Rattle.coding.specs.declared.Spent.{Spent}
@@ -57,8 +58,8 @@ pub data Shows (o : ℕ) (S : Schema) (m : List ℕ) (b : Budget) : Found → E.
   bits : (k : Flat) (x holder : ℕ) → Shows o S m b (Fd.Value (OfFlat k) x holder) (E.Part.value k x)
   fields : (i at holder : ℕ) → Shows o S m b (Fd.Struct i at holder) (E.Part.struct i (fieldsOf S m i at))
   within : (ob : Object) (at start n d : ℕ) (s t : Spent)
-      → content (visit d o S m b) o S m ob at start n s ≡ Going t → start + contentSize o S ob n ≤ length m
-      → Shows o S m b (Fd.Object ob at start n d) (E.Part.object ob (Read.contentRead (Read.read d o S m) o S m ob start n))
+      → content (visit d o S m b) o S m ob at start n s ≡ Going t → start + contentSize o S m ob at n ≤ length m
+      → Shows o S m b (Fd.Object ob at start n d) (E.Part.object ob (Read.contentRead (Read.read d o S m) o S m ob at start n))
 
 -- the tree of a struct of a lower index
 inner-tree : (S : Schema) (m : List ℕ) (i j at : ℕ) → j < i → Tree.row (fieldsOf S m j at) ≡ lower Read.noStruct (Read.readBy S m) i j at
@@ -83,66 +84,112 @@ scalar-part (F.Float w) x h = refl
 scalar-part (F.Enumerated n) x h = refl
 scalar-part (F.Struct i) x h = absurd h
 
-content-present : (child : Read.Child) (o : ℕ) (S : Schema) (m : List ℕ) (ob : Object) (start n : ℕ)
-    → Tree.present (Read.contentRead child o S m ob start n) ≡ true
+content-present : (child : Read.Child) (o : ℕ) (S : Schema) (m : List ℕ) (ob : Object) (at start n : ℕ)
+    → Tree.present (Read.contentRead child o S m ob at start n) ≡ true
 unfolding Read.contentRead Tree.present
-content-present child o S m O.Text start n = refl
-content-present child o S m O.Bytes start n = refl
-content-present child o S m (O.List i) start n = refl
-content-present child o S m (O.Table i) start n = refl
+content-present child o S m O.Text at start n = refl
+content-present child o S m O.Bytes at start n = refl
+content-present child o S m (O.List i) at start n = refl
+content-present child o S m (O.Table i) at start n = refl
+content-present child o S m (O.DirectList t) at start n = refl
 
 place-present : (child : Read.Child) (o : ℕ) (S : Schema) (m : List ℕ) (ob : Object) (p : Place)
     → Tree.present (Read.placeRead child o S m ob p) ≡ true
 unfolding Read.placeRead
-place-present child o S m ob (ByOffset x) = content-present child o S m ob (x + headerSize o) (le m (x + 4) o)
-place-present child o S m ob (InPlace a n) = content-present child o S m ob a n
+place-present child o S m ob (ByOffset x) = content-present child o S m ob x (x + headerSize o ob) (le m (x + 4) o)
+place-present child o S m ob (InPlace a n) = content-present child o S m ob a a n
 
 module _ (o : ℕ) (S : Schema) (m : List ℕ) (b : Budget) where
   -- ---- an arrival
   module _ (d : ℕ) (ob : Object) (at : ℕ) (s t : Spent) where
-    content-shows : (start n : ℕ) → admit (visit d o S m b) o S m b ob at (fitContent o S m ob start n) s ≡ Going t
-        → Shows o S m b (Field.opened ob at d (bytesTested m ob (fitContent o S m ob start n))) (E.Part.object ob (Read.contentRead (Read.read d o S m) o S m ob start n))
+    content-shows : (start n : ℕ) → admit (visit d o S m b) o S m b ob at (fitContent o S m ob at start n) s ≡ Going t
+        → Shows o S m b (Field.opened ob at d (bytesTested m ob (fitContent o S m ob at start n))) (E.Part.object ob (Read.contentRead (Read.read d o S m) o S m ob at start n))
     unfolding fitContent bytesTested admit enter Field.opened
-    content-shows start n e = by (leb (start + contentSize o S ob n) (length m)) refl e
+    content-shows start n e = by (leb (start + contentSize o S m ob at n) (length m)) refl e
       where
-        tested : (g : Bool) (u : Spent) → start + contentSize o S ob n ≤ length m
+        tested : (g : Bool) (u : Spent) → start + contentSize o S m ob at n ≤ length m
             → enter (visit d o S m b) o S m ob at (pick g (Op.Content start n) (Op.Refused 10)) u ≡ Going t
             → Shows o S m b (Field.opened ob at d (pick g (Op.Content start n) (Op.Refused 10)))
-            (E.Part.object ob (Read.contentRead (Read.read d o S m) o S m ob start n))
+            (E.Part.object ob (Read.contentRead (Read.read d o S m) o S m ob at start n))
         tested true u h q = within ob at start n d u t q h
         tested false u h q = absurd (refuse-going _ _ _ _ q)
 
-        charged : (g : Bool) → start + contentSize o S ob n ≤ length m
+        charged : (g : Bool) → start + contentSize o S m ob at n ≤ length m
             → pick g
             (enter (visit d o S m b) o S m ob at (bytesTested m ob (Op.Content start n)) (withContent (contentLength o S ob n) s))
             (refuse 17 at s)
             ≡ Going t
             → Shows o S m b (Field.opened ob at d (bytesTested m ob (Op.Content start n)))
-            (E.Part.object ob (Read.contentRead (Read.read d o S m) o S m ob start n))
+            (E.Part.object ob (Read.contentRead (Read.read d o S m) o S m ob at start n))
         charged true h q = tested (endOk m ob start n) (withContent (contentLength o S ob n) s) h q
         charged false h q = absurd (refuse-going _ _ _ _ q)
 
-        by : (f : Bool) → leb (start + contentSize o S ob n) (length m) ≡ f
+        by : (f : Bool) → leb (start + contentSize o S m ob at n) (length m) ≡ f
             → admit (visit d o S m b) o S m b ob at (pick f (Op.Content start n) (Op.Refused 6)) s ≡ Going t
             → Shows o S m b (Field.opened ob at d (bytesTested m ob (pick f (Op.Content start n) (Op.Refused 6))))
-            (E.Part.object ob (Read.contentRead (Read.read d o S m) o S m ob start n))
+            (E.Part.object ob (Read.contentRead (Read.read d o S m) o S m ob at start n))
         by true h q = charged (leb (s .content + contentLength o S ob n) (b .content)) (leb-true _ _ h) q
         by false h q = absurd (refuse-going _ _ _ _ q)
 
-    open-shows : (p : Place) → admit (visit d o S m b) o S m b ob at (fitObject o S m ob p) s ≡ Going t
-        → Shows o S m b (Field.opened ob at d (openObject o S m ob p)) (E.Part.object ob (Read.placeRead (Read.read d o S m) o S m ob p))
-    unfolding openObject fitObject bytesTested Read.placeRead admit
-    open-shows (InPlace a n) e = content-shows a n e
-    open-shows (ByOffset x) e =
-        by (leb (startSize o) x && leb (x + headerSize o) (length m)) (eqb (le m x 4) (magic S ob)) e
+    -- what a direct list's header says more
+    header-shows : (v : Tree.Value) (fit : Opened)
+        → (admit (visit d o S m b) o S m b ob at fit s ≡ Going t
+        → Shows o S m b (Field.opened ob at d (bytesTested m ob fit)) (E.Part.object ob v))
+        → admit (visit d o S m b) o S m b ob at (headerTested o S m ob at fit) s ≡ Going t
+        → Shows o S m b (Field.opened ob at d (bytesTested m ob (headerTested o S m ob at fit))) (E.Part.object ob v)
+    unfolding headerTested directHeader
+    header-shows v fit h = of ob h
       where
-        by : (f g : Bool)
-            → admit (visit d o S m b) o S m b ob at (pick f (pick g (fitContent o S m ob (x + headerSize o) (le m (x + 4) o)) (Op.Refused 7)) (Op.Refused 6)) s ≡ Going t
-            → Shows o S m b (Field.opened ob at d (bytesTested m ob (pick f (pick g (fitContent o S m ob (x + headerSize o) (le m (x + 4) o)) (Op.Refused 7)) (Op.Refused 6))))
-            (E.Part.object ob (Read.contentRead (Read.read d o S m) o S m ob (x + headerSize o) (le m (x + 4) o)))
-        by true true q = content-shows (x + headerSize o) (le m (x + 4) o) q
-        by true false q = absurd (refuse-going _ _ _ _ q)
-        by false g q = absurd (refuse-going _ _ _ _ q)
+        of : (x : Object)
+            → (admit (visit d o S m b) o S m b x at fit s ≡ Going t → Shows o S m b (Field.opened x at d (bytesTested m x fit)) (E.Part.object x v))
+            → admit (visit d o S m b) o S m b x at (headerTested o S m x at fit) s ≡ Going t
+            → Shows o S m b (Field.opened x at d (bytesTested m x (headerTested o S m x at fit))) (E.Part.object x v)
+        of O.Text h e = h e
+        of O.Bytes h e = h e
+        of (O.List i) h e = h e
+        of (O.Table i) h e = h e
+        of (O.DirectList r) h e =
+            by (eqb (elementId o m at) (tableOf S r .id)) (leb (le m (at + 4) o) mostElements) e
+          where
+            by : (f g : Bool)
+                → admit (visit d o S m b) o S m b (O.DirectList r) at (pick f (pick g fit (Op.Refused 6)) (Op.Refused 7)) s ≡ Going t
+                → Shows o S m b (Field.opened (O.DirectList r) at d (bytesTested m (O.DirectList r) (pick f (pick g fit (Op.Refused 6)) (Op.Refused 7))))
+                (E.Part.object (O.DirectList r) v)
+            by true true q = h q
+            by true false q = absurd (unfold admit in refuse-going _ _ _ _ q)
+            by false g q = absurd (unfold admit in refuse-going _ _ _ _ q)
+
+  module _ (d : ℕ) (ob : Object) (s t : Spent) where
+    open-shows : (p : Place) → admit (visit d o S m b) o S m b ob (placed p) (fitObject o S m ob p) s ≡ Going t
+        → Shows o S m b (Field.opened ob (placed p) d (openObject o S m ob p)) (E.Part.object ob (Read.placeRead (Read.read d o S m) o S m ob p))
+    unfolding openObject fitObject Read.placeRead placed
+    open-shows (InPlace a n) e = by (standsInPlace ob) e
+      where
+        by : (f : Bool) → admit (visit d o S m b) o S m b ob a (pick f (fitContent o S m ob a a n) (Op.Refused 6)) s ≡ Going t
+            → Shows o S m b (Field.opened ob a d (bytesTested m ob (pick f (fitContent o S m ob a a n) (Op.Refused 6))))
+            (E.Part.object ob (Read.contentRead (Read.read d o S m) o S m ob a a n))
+        by true q = content-shows d ob a s t a n q
+        by false q = absurd (unfold admit in refuse-going _ _ _ _ q)
+    open-shows (ByOffset x) e =
+        by (leb (startSize o) x && leb (x + headerSize o ob) (length m)) (eqb (le m x 4) (magic S ob)) e
+      where
+        start : ℕ
+        start = x + headerSize o ob
+
+        n : ℕ
+        n = le m (x + 4) o
+
+        fit : Opened
+        fit = headerTested o S m ob x (fitContent o S m ob x start n)
+
+        by : (f g : Bool) → admit (visit d o S m b) o S m b ob x (pick f (pick g fit (Op.Refused 7)) (Op.Refused 6)) s ≡ Going t
+            → Shows o S m b (Field.opened ob x d (bytesTested m ob (pick f (pick g fit (Op.Refused 7)) (Op.Refused 6))))
+            (E.Part.object ob (Read.contentRead (Read.read d o S m) o S m ob x start n))
+        by true true q =
+            header-shows d ob x s t (Read.contentRead (Read.read d o S m) o S m ob x start n) (fitContent o S m ob x start n)
+            (content-shows d ob x s t start n) q
+        by true false q = absurd (unfold admit in refuse-going _ _ _ _ q)
+        by false g q = absurd (unfold admit in refuse-going _ _ _ _ q)
 
   -- with no depth left nothing goes on
   too-deep : (ob : Object) (p : Place) (s t : Spent) → visit zero o S m b ob p s ≡ Going t → ⊥
@@ -162,7 +209,7 @@ module _ (o : ℕ) (S : Schema) (m : List ℕ) (b : Budget) where
       by : (f : Bool)
           → pick f (admit (visit d o S m b) o S m b ob (placed p) (fitObject o S m ob p) (oneMore s)) (refuse 4 (placed p) s) ≡ Going t
           → Shows o S m b (Field.opened ob (placed p) d (openObject o S m ob p)) (E.Part.object ob (Read.placeRead (Read.read d o S m) o S m ob p))
-      by true q = open-shows d ob (placed p) (oneMore s) t p q
+      by true q = open-shows d ob (oneMore s) t p q
       by false q = absurd (refuse-going _ _ _ _ q)
 
   read-present : (d : ℕ) (ob : Object) (p : Place) (s t : Spent) → visit d o S m b ob p s ≡ Going t
@@ -295,15 +342,39 @@ module _ (o : ℕ) (S : Schema) (m : List ℕ) (b : Budget) where
           (member-kind S o m start n (afterMembers o S (take j (tableOf S i .members)) begin) (memberOf S i j))
           (rw zero-add at (members-going (visit d o S m b) o S m at start n (tableOf S i .members) begin 0 s t e j (ltb-true _ _ h))))
 
+  direct-shows : (r at start n d : ℕ) (s t : Spent)
+      → directs (visit d o S m b) r (elementSize o m at) n start s ≡ Going t → (j : ℕ)
+      → Shows o S m b
+      (pick (ltb j n) (Field.arrived d o S m (O.Table r) (InPlace (start + elementSize o m at * j) (elementSize o m at))) (Field.noPart at))
+      (pick (ltb j (Tree.count (Read.directsRead (Read.read d o S m) r (elementSize o m at) n start)))
+      (E.Part.object (O.Table r) (E.valueAt (Read.directsRead (Read.read d o S m) r (elementSize o m at) n start) j))
+      E.Part.noPart)
+  unfolding Field.noPart
+  direct-shows r at start n d s t e j =
+      rw (directs-count (Read.read d o S m) r (elementSize o m at) n start) (by (ltb j n) refl)
+    where
+      w : ℕ
+      w = elementSize o m at
+
+      by : (f : Bool) → ltb j n ≡ f
+          → Shows o S m b (pick f (Field.arrived d o S m (O.Table r) (InPlace (start + w * j) w)) (Field.noPart at))
+          (pick f (E.Part.object (O.Table r) (E.valueAt (Read.directsRead (Read.read d o S m) r w n start) j)) E.Part.noPart)
+      by false h = no-part at
+      by true h =
+          let g = directs-going (visit d o S m b) r w n start s t e j (ltb-true _ _ h) in
+          rw (directs-at (Read.read d o S m) r w n start j (ltb-true _ _ h))
+          (arrived-shows d (O.Table r) (InPlace (start + w * j) w) (g .from) (g .to) (g .goes))
+
   object-shows : (ob : Object) (at start n d : ℕ) (s t : Spent)
       → content (visit d o S m b) o S m ob at start n s ≡ Going t → (j : ℕ)
       → Shows o S m b (Field.objectPart o S m ob at start n d j)
-      (E.objectPart S ob (Tree.asRow (Read.contentRead (Read.read d o S m) o S m ob start n)) j)
+      (E.objectPart S ob (Tree.asRow (Read.contentRead (Read.read d o S m) o S m ob at start n)) j)
   unfolding Field.objectPart E.objectPart Field.noPart content Read.contentRead Tree.asRow
   object-shows O.Text at start n d s t e j = no-part at
   object-shows O.Bytes at start n d s t e j = no-part at
   object-shows (O.List i) at start n d s t e j = list-shows i at start n d s t e j
   object-shows (O.Table i) at start n d s t e j = table-shows i at start n d s t e j
+  object-shows (O.DirectList r) at start n d s t e j = direct-shows r at start n d s t e j
 
   module _ (sound : Sound S) where
     part-shows : {f : Found} {p : E.Part} → Shows o S m b f p → (j : ℕ) → Shows o S m b (Field.partOf o S m f j) (E.partOf S p j)
@@ -335,22 +406,25 @@ module _ (o : ℕ) (S : Schema) (m : List ℕ) (b : Budget) where
   part-length : (start n : ℕ) → start + n ≤ length m → n ≡ length (take n (drop start m))
   part-length start n h = simp (length-take, length-drop) (omega arith)
 
-  object-entry : (child : Read.Child) (ob : Object) (at start n : ℕ) → start + contentSize o S ob n ≤ length m
-      → E.shown (A.Object (Field.recordKind ob) at n) ≡ E.objectEntry ob (Read.contentRead child o S m ob start n)
+  object-entry : (child : Read.Child) (ob : Object) (at start n : ℕ) → start + contentSize o S m ob at n ≤ length m
+      → E.shown (A.Object (Field.recordKind ob) at n) ≡ E.objectEntry ob (Read.contentRead child o S m ob at start n)
   unfolding E.shown Field.recordKind E.objectEntry Read.contentRead contentSize Tree.asBlob Tree.asRow
   object-entry child O.Text at start n h = ap (E.Entry.object 13) (part-length start n (omega arith))
   object-entry child O.Bytes at start n h = ap (E.Entry.object 14) (part-length start n h)
   object-entry child (O.List i) at start n h =
       ap (E.Entry.object 15) (sym (elements-count child o S m start (elementOf S i) n 0))
   object-entry child (O.Table i) at start n h = refl
+  object-entry child (O.DirectList r) at start n h =
+      ap (E.Entry.object 18) (sym (directs-count child r (elementSize o m at) n start))
 
-  object-text : (child : Read.Child) (ob : Object) (start n : ℕ)
-      → Field.textOf m (Field.objectSpan ob start n) ≡ Tree.asBlob (Read.contentRead child o S m ob start n)
+  object-text : (child : Read.Child) (ob : Object) (at start n : ℕ)
+      → Field.textOf m (Field.objectSpan ob start n) ≡ Tree.asBlob (Read.contentRead child o S m ob at start n)
   unfolding Field.textOf Field.objectSpan Field.spanAt Field.noSpan Read.contentRead Tree.asBlob
-  object-text child O.Text start n = refl
-  object-text child O.Bytes start n = refl
-  object-text child (O.List i) start n = refl
-  object-text child (O.Table i) start n = refl
+  object-text child O.Text at start n = refl
+  object-text child O.Bytes at start n = refl
+  object-text child (O.List i) at start n = refl
+  object-text child (O.Table i) at start n = refl
+  object-text child (O.DirectList t) at start n = refl
 
   pub shows-entry : {f : Found} {p : E.Part} → Shows o S m b f p → E.shown (Field.answerOf f) ≡ E.entryOf p
   unfolding E.shown Field.answerOf Field.valueAnswer E.entryOf
@@ -368,7 +442,7 @@ module _ (o : ℕ) (S : Schema) (m : List ℕ) (b : Budget) where
   shows-text (unknown-number x) = refl
   shows-text (bits k x holder) = refl
   shows-text (fields i at holder) = refl
-  shows-text (within ob at start n d s t e fits) = object-text (Read.read d o S m) ob start n
+  shows-text (within ob at start n d s t e fits) = object-text (Read.read d o S m) ob at start n
 
   flat-refusal : (k : Flat) (x : ℕ) (r : Refusal) → Field.flatAnswer k x ≡ A.Refused r → r .number ≡ 15
   unfolding Field.flatAnswer

@@ -1,7 +1,7 @@
 -- A walk that goes on has gone on at every member and element of what it judged; and what is read at each of them.
-use mathlib.Core.Path.{_≡_, refl, subst, ap}
+use mathlib.Core.Path.{_≡_, refl, sym, subst, ap, _∙_}
 use mathlib.Core.List.{List, [], _∷_}
-use Prim.Native.Nat.{ℕ, zero, suc, _+_, _<_}
+use Prim.Native.Nat.{ℕ, zero, suc, _+_, _*_, _<_}
 use native.Mathlib.Omega.{arith}
 use native.Mathlib.Nat.{add-zero, add-assoc}
 use lib.ListN.{length, getD, take}
@@ -9,15 +9,20 @@ use Rattle.coding.specs.Schema.{Schema, plainBool}
 use Rattle.coding.specs.Structs.{flatWidth, total, structSize}
 use Rattle.coding.specs.Layout.{afterMember, afterMembers}
 use Rattle.coding.specs.Step.{fieldStep, memberStep, elementStep}
-use Rattle.coding.specs.Walk.{Child, refuse, refusePart, andThen, follow, members, elements}
+use Rattle.coding.specs.Walk.{Child, refuse, refusePart, andThen, follow, members, elements, directs}
 use Rattle.coding.specs.Value as Tree
 use Rattle.coding.specs.Read as Read
+use Rattle.laws.specs.DirectPlaces.{element-first, element-next}
 use Rattle.demands.specs.FieldEntries.{valueAt}
 use Rattle.coding.specs.declared.Flat.{Flat}
 use Rattle.coding.specs.declared.Flat.the-variants as F
+use Rattle.coding.specs.declared.Object.{Object}
+use Rattle.coding.specs.declared.Object.the-variants as O
 use Rattle.coding.specs.declared.Kind.{Kind}
 use Rattle.coding.specs.declared.Member.{Member}
 use Rattle.coding.specs.declared.Cursor.{Cursor}
+use Rattle.coding.specs.declared.Place.{Place}
+use Rattle.coding.specs.declared.Place.the-variants.{InPlace}
 use Rattle.coding.specs.declared.Step.{Step}
 use Rattle.coding.specs.declared.Spent.{Spent}
 use Rattle.coding.specs.declared.Refusal.{Refusal}
@@ -81,7 +86,38 @@ module _ (child : Child) (o : ℕ) (S : Schema) (m : List ℕ) (holder start n :
       subst (λ (x : ℕ). GoesOn child holder x (elementStep o S m k start x)) (shift i j)
       (elements-going k count (i + 1) (b .middle) t (b .second) j (omega arith))
 
+-- ---- the elements of a direct list: the walk has gone on from each
+pub record Arrived (child : Child) (ob : Object) (p : Place) : Type 0 where
+  pub from : Spent
+  pub to : Spent
+  pub goes : child ob p from ≡ Going to
+
+pub directs-going : (child : Child) (t w count at : ℕ) (s u : Spent) → directs child t w count at s ≡ Going u → (j : ℕ) → j < count
+    → Arrived child (O.Table t) (InPlace (at + w * j) w)
+unfolding directs
+directs-going child t w zero at s u e j l = absurd (omega arith)
+directs-going child t w (suc count) at s u e zero l =
+    let b = both _ _ _ e in record { from = s; to = b .middle; goes = rw (element-first at w) (b .first) }
+directs-going child t w (suc count) at s u e (suc j) l =
+    let b = both _ _ _ e in
+    subst (λ (x : ℕ). Arrived child (O.Table t) (InPlace x w)) (sym (element-next at w j))
+    (directs-going child t w count (at + w) (b .middle) u (b .second) j (omega arith))
+
 -- ---- what is read at each
+pub directs-at : (child : Read.Child) (t w count at j : ℕ) → j < count
+    → valueAt (Read.directsRead child t w count at) j ≡ child (O.Table t) (InPlace (at + w * j) w)
+unfolding Read.directsRead valueAt
+directs-at child t w zero at j l = absurd (omega arith)
+directs-at child t w (suc count) at zero l = rw (element-first at w)
+directs-at child t w (suc count) at (suc j) l =
+    directs-at child t w count (at + w) j (omega arith)
+    ∙ ap (λ (x : ℕ). child (O.Table t) (InPlace x w)) (sym (element-next at w j))
+
+pub directs-count : (child : Read.Child) (t w count at : ℕ) → Tree.count (Read.directsRead child t w count at) ≡ count
+unfolding Read.directsRead Tree.count
+directs-count child t w zero at = refl
+directs-count child t w (suc count) at = ap suc (directs-count child t w count (at + w))
+
 module _ (child : Read.Child) (o : ℕ) (S : Schema) (m : List ℕ) (start n : ℕ) where
   pub members-at : (rs : List Member) (c : Cursor) (j : ℕ) → j < length rs
       → valueAt (Read.membersRead child o S m start n c rs) j

@@ -1,4 +1,4 @@
--- The theorems. A reader's way in: Counter, OlderCoding, Traps, FieldCases, MemberCases, Allowances, Members, Sheets, Reached,
+-- The theorems. A reader's way in: Counter, OlderCoding, DirectLists, Traps, FieldCases, MemberCases, Allowances, Members, Sheets, Reached,
 -- RoundTrip, Appending, NewerAgrees, Fields, Texts, SheetText, ListReader, Utf8, Utf8Cases; the other modules are their lemmas.
 pub mod Counter
 pub mod Traps
@@ -32,6 +32,7 @@ pub mod WrittenParts
 pub mod WrittenSteps
 pub mod WrittenTables
 pub mod WrittenLists
+pub mod WrittenDirects
 pub mod WrittenBytes
 pub mod WrittenTree
 pub mod WrittenMessage
@@ -63,6 +64,11 @@ pub mod Fields
 pub mod Texts
 pub mod SheetText
 pub mod ListReader
+pub mod DirectLists
+pub mod DirectFits
+pub mod DirectElements
+pub mod DirectPlaced
+pub mod DirectTrips
 pub mod Utf8States
 pub mod Utf8Encoding
 pub mod Utf8

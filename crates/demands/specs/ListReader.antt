@@ -2,7 +2,7 @@
 -- its list answers from the list alone. A path to an object has at most 31 numbers, since each goes one object deeper, so the
 -- path of an element is never too long.
 -- `o` is the width of an offset in bytes.
-use mathlib.Core.Path.{_≡_, refl, sym, ap, _∙_}
+use mathlib.Core.Path.{_≡_, refl, sym, ap, _∙_, subst}
 use mathlib.Core.List.{List, [], _∷_, _++_}
 use mathlib.Core.Bool.{Bool, true, false}
 use mathlib.Core.Logic.{_⊎_, inl, inr}
@@ -20,7 +20,7 @@ use Rattle.coding.specs.Lawful.{lawful}
 use Rattle.coding.specs.Structs.{total, structSize}
 use Rattle.coding.specs.Layout.{begin, afterMembers}
 use Rattle.coding.specs.Step.{fieldStep, memberStep, elementStep}
-use Rattle.coding.specs.Walk.{placed, refusal, partRefusal, openObject, rootPlace, sizeOk, startOk}
+use Rattle.coding.specs.Walk.{placed, refusal, partRefusal, elementSize, openObject, rootPlace, sizeOk, startOk}
 use Rattle.coding.specs.Field as Field
 use Rattle.coding.specs.declared.Object.{Object}
 use Rattle.coding.specs.declared.Object.the-variants as O
@@ -100,6 +100,8 @@ module _ (o : ℕ) (S : Schema) (m : List ℕ) where
       (stepped-depth d at j (memberOf S i j .kind)
       (memberStep o S m start n (afterMembers o S (take j (tableOf S i .members)) begin) (memberOf S i j)))
       (none d 15 at)
+  object-depth (O.DirectList t) at start n d j =
+      either d (ltb j n) _ _ (arrived-depth d (O.Table t) (InPlace (start + elementSize o m at * j) (elementSize o m at))) (none d 15 at)
 
   struct-depth : (i at holder j : ℕ) → depth (Field.structPart o S m i at holder j) ≤ 0
   unfolding Field.structPart Field.noPart
@@ -185,36 +187,81 @@ refused-start S (Fd.Object (O.List i) at start n d) r e = inr (by (Field.leads (
     by : (t : Bool) → pick t (Fd.Object (O.List i) at start n d) (Fd.Refused (refusal 15 0)) ≡ Fd.Refused r → r ≡ refusal 15 0
     by true q = cc
     by false q = cc
+refused-start S (Fd.Object (O.DirectList t) at start n d) r e = inr (cc)
+
+-- what a reader goes over: "a list", or, by 02, K1, a direct list
+abbrev pub Listed : Object → Type 0
+Listed O.Text = ⊥
+Listed O.Bytes = ⊥
+Listed (O.List i) = Unit {0}
+Listed (O.Table i) = ⊥
+Listed (O.DirectList t) = Unit {0}
+
+nothing : {X : Type 0} → _≡_ {A = ℕ} 0 1 → X
+nothing z = absurd (omega arith)
+
+-- after its last part a list has no more
+listed-end : (o : ℕ) (S : Schema) (m : List ℕ) (ob : Object) → Listed ob → (at start n left j : ℕ) → n ≤ j
+    → Field.objectPart o S m ob at start n left j ≡ Fd.Refused (refusal 15 at)
+unfolding Field.objectPart Field.noPart
+listed-end o S m O.Text l at start n left j h = absurd l
+listed-end o S m O.Bytes l at start n left j h = absurd l
+listed-end o S m (O.List i) l at start n left j h = rw (le-ltb j n h)
+listed-end o S m (O.Table i) l at start n left j h = absurd l
+listed-end o S m (O.DirectList t) l at start n left j h = rw (le-ltb j n h)
 
 -- ---- a reader that has its list
-module _ (o : ℕ) (b m path : List ℕ) (i at start n left : ℕ)
-    (has : Field.readerStart o b m path ≡ Fd.Object (O.List i) at start n left) where
+module _ (o : ℕ) (b m path : List ℕ) (ob : Object) (at start n left : ℕ)
+    (has : Field.readerStart o b m path ≡ Fd.Object ob at start n left) where
   -- the path leads there: the schema is lawful, the path short, the message's size and start as they should be
   record Leads : Type 0 where
     schema : lawful o b ≡ true
     size : sizeOk o m ≡ true
     begins : startOk m ≡ true
-    leads : Field.found o (parse b) m path ≡ Fd.Object (O.List i) at start n left
+    leads : Field.found o (parse b) m path ≡ Fd.Object ob at start n left
 
-  same-list : (f : Found) → Field.readerOf (parse b) f ≡ Fd.Object (O.List i) at start n left
-      → f ≡ Fd.Object (O.List i) at start n left
+  same-list : (f : Found) → Field.readerOf (parse b) f ≡ Fd.Object ob at start n left
+      → f ≡ Fd.Object ob at start n left
   unfolding Field.readerOf Field.listFound Field.before
   same-list (Fd.Refused r) e = cc
   same-list Fd.Absent e = cc
   same-list (Fd.Unknown x) e = cc
   same-list (Fd.Value k x holder) e = cc
-  same-list (Fd.Struct i at holder) e = cc
+  same-list (Fd.Struct k x holder) e = cc
   same-list (Fd.Object O.Text x y z d) e = cc
   same-list (Fd.Object O.Bytes x y z d) e = cc
   same-list (Fd.Object (O.Table k) x y z d) e = cc
   same-list (Fd.Object (O.List k) x y z d) e = by (Field.leads (elementOf (parse b) k)) e
     where
-      by : (t : Bool) → pick t (Fd.Object (O.List k) x y z d) (Fd.Refused (refusal 15 0)) ≡ Fd.Object (O.List i) at start n left
-          → Fd.Object (O.List k) x y z d ≡ Fd.Object (O.List i) at start n left
+      by : (t : Bool) → pick t (Fd.Object (O.List k) x y z d) (Fd.Refused (refusal 15 0)) ≡ Fd.Object ob at start n left
+          → Fd.Object (O.List k) x y z d ≡ Fd.Object ob at start n left
       by true q = q
       by false q = cc
+  same-list (Fd.Object (O.DirectList k) x y z d) e = e
 
-  no-refusal : (r : Refusal) → Fd.Refused r ≡ Fd.Object (O.List i) at start n left → ⊥
+  -- and what it has is a list or a direct list
+  found-listed : (f : Found) → Field.readerOf (parse b) f ≡ Fd.Object ob at start n left → Listed ob
+  unfolding Field.readerOf Field.listFound Field.before
+  found-listed (Fd.Refused r) e = nothing (cc)
+  found-listed Fd.Absent e = nothing (cc)
+  found-listed (Fd.Unknown x) e = nothing (cc)
+  found-listed (Fd.Value k x holder) e = nothing (cc)
+  found-listed (Fd.Struct k x holder) e = nothing (cc)
+  found-listed (Fd.Object O.Text x y z d) e = nothing (cc)
+  found-listed (Fd.Object O.Bytes x y z d) e = nothing (cc)
+  found-listed (Fd.Object (O.Table k) x y z d) e = nothing (cc)
+  found-listed (Fd.Object (O.List k) x y z d) e = by (Field.leads (elementOf (parse b) k)) e
+    where
+      by : (t : Bool) → pick t (Fd.Object (O.List k) x y z d) (Fd.Refused (refusal 15 0)) ≡ Fd.Object ob at start n left → Listed ob
+      by true q = let h : O.List k ≡ ob = cc in subst Listed h tt
+      by false q = nothing (cc)
+  found-listed (Fd.Object (O.DirectList k) x y z d) e = let h : O.DirectList k ≡ ob = cc in subst Listed h tt
+
+  listed : Listed ob
+  unfolding Field.readerStart
+  listed = found-listed _ has
+
+  no-refusal : (r : Refusal) → Fd.Refused r ≡ Fd.Object ob at start n left → ⊥
   no-refusal r h = let z : _≡_ {A = ℕ} 0 1 = cc in omega arith
 
   reader-leads : Leads
@@ -223,7 +270,7 @@ module _ (o : ℕ) (b m path : List ℕ) (i at start n left : ℕ)
     where
       by : (l s z g : Bool) → lawful o b ≡ l → sizeOk o m ≡ z → startOk m ≡ g
           → pick l (pick s (pick z (pick g (Field.found o (parse b) m path) (Field.before 3)) (Field.before 2)) (Field.before 15)) (Field.before 1)
-          ≡ Fd.Object (O.List i) at start n left
+          ≡ Fd.Object ob at start n left
           → Leads
       by true true true true e f q h = record { schema = e; size = f; begins = q; leads = h }
       by true true true false e f q h = absurd (no-refusal _ h)
@@ -232,18 +279,18 @@ module _ (o : ℕ) (b m path : List ℕ) (i at start n left : ℕ)
       by false s z g e f q h = absurd (no-refusal _ h)
 
   -- "Each step answers as that element's path would"
-  pub reader-step : (j : ℕ) → Field.field o b m (path ++ j ∷ []) ≡ Field.answerOf (Field.objectPart o (parse b) m (O.List i) at start n left j)
+  pub reader-step : (j : ℕ) → Field.field o b m (path ++ j ∷ []) ≡ Field.answerOf (Field.objectPart o (parse b) m ob at start n left j)
   unfolding Field.field Field.fieldFound Field.partOf deepest
   reader-step j =
       let h = reader-leads in
-      let l = object-path o (parse b) m path (O.List i) at start n left (h .leads) in
+      let l = object-path o (parse b) m path ob at start n left (h .leads) in
       let s : length (path ++ j ∷ []) ≤ 96 = simp length-append (omega arith) in
       rw (h .schema, le-leb (length (path ++ j ∷ [])) 96 s, h .size, h .begins, found-last o (parse b) m path j, h .leads)
 
   -- "after the last it answers 15 at the list and stays"
   pub reader-end : (j : ℕ) → n ≤ j → Field.field o b m (path ++ j ∷ []) ≡ A.Refused (refusal 15 at)
-  unfolding Field.objectPart Field.noPart Field.answerOf
-  reader-end j l = rw (reader-step j, le-ltb j n l)
+  unfolding Field.answerOf
+  reader-end j l = reader-step j ∙ ap Field.answerOf (listed-end o (parse b) m ob listed at start n left j l)
 
   pub reader-stays : (j : ℕ) → n ≤ j → Field.readerNext n j ≡ j
   unfolding Field.readerNext
@@ -276,6 +323,12 @@ module _ (o : ℕ) (b m path : List ℕ) where
     pub starts-flat : (f : Flat) → elementOf (parse b) i ≡ OfFlat f → Field.readerStart o b m path ≡ Fd.Refused (refusal 15 0)
     unfolding Field.readerStart Field.readerOf Field.listFound Field.leads Field.before
     starts-flat f k = rw (e, k)
+
+  -- 02, K1: "The list reader takes direct lists and lists of them too."
+  pub starts-direct : (t at start n left : ℕ) → Field.fieldFound o b m path ≡ Fd.Object (O.DirectList t) at start n left
+      → Field.readerStart o b m path ≡ Fd.Object (O.DirectList t) at start n left
+  unfolding Field.readerStart Field.readerOf Field.listFound
+  starts-direct t at start n left e = rw e
 
   -- a reader with no list answers the refusal at every step
   pub gives-refusal : (r : Refusal) → Field.readerStart o b m path ≡ Fd.Refused r
@@ -316,6 +369,8 @@ module _ (o : ℕ) (S : Schema) (m : List ℕ) where
           ≡ Field.answerOf (Field.partOf o S m (pick t (Fd.Object (O.List i) at start n d) (Fd.Refused (refusal 15 0))) k)
       by true h = unfold Field.objectPart in rw (le-ltb j n h, le-ltb k n (omega arith))
       by false h = refl
+  list-stays (Fd.Object (O.DirectList t) at start n d) j k h l =
+      unfold Field.objectPart in rw (le-ltb j n h, le-ltb k n (omega arith))
 
 module _ (gives : ℕ → Answer) (n : ℕ) (stays : (j k : ℕ) → n ≤ j → j ≤ k → gives j ≡ gives k) where
   steps-length : (k j : ℕ) → length (Field.stepNumbers gives n j k) ≡ 4 * k

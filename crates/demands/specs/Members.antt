@@ -10,7 +10,7 @@ use Rattle.coding.specs.Bytes.{deepest}
 use Rattle.coding.specs.Schema.{Schema, elementOf, tableOf}
 use Rattle.coding.specs.Layout.{begin, afterMember}
 use Rattle.coding.specs.Step.{memberStep, elementStep}
-use Rattle.coding.specs.Walk.{placed, contentLength, fitObject, bytesTested, refuse, andThen, Child, refusePart, followChoice, follow, members, elements, content, enter, withContent, admit, arrive, tooDeep, oneMore, counted, visit, rootPlace, nothing, walk, verdictOf}
+use Rattle.coding.specs.Walk.{placed, elementSize, contentLength, fitObject, bytesTested, refuse, andThen, Child, refusePart, followChoice, follow, members, elements, directs, content, enter, withContent, admit, arrive, tooDeep, oneMore, counted, visit, rootPlace, nothing, walk, verdictOf}
 use Rattle.coding.specs.declared.Object.{Object}
 use Rattle.coding.specs.declared.Object.the-variants as O
 use Rattle.coding.specs.declared.Kind.{Kind}
@@ -99,6 +99,11 @@ module _ (child child′ : Child) (H : (ob : Object) (p : Place) (s : Spent) →
   elements-alike holder start k (suc n) i s =
       then-alike (follow-alike holder i (elementStep o S m k start i) s) (elements-alike holder start k n (i + 1))
 
+  directs-alike : (t w n at : ℕ) (s : Spent) → Alike (directs child t w n at s) (directs child′ t w n at s)
+  unfolding directs
+  directs-alike t w zero at s = goes
+  directs-alike t w (suc n) at s = then-alike (H (O.Table t) (InPlace at w) s) (directs-alike t w n (at + w))
+
   content-alike : (ob : Object) (holder start n : ℕ) (s : Spent)
       → Alike (content child o S m ob holder start n s) (content child′ o S m ob holder start n s)
   unfolding content
@@ -106,6 +111,7 @@ module _ (child child′ : Child) (H : (ob : Object) (p : Place) (s : Spent) →
   content-alike O.Bytes holder start n s = goes
   content-alike (O.List i) holder start n s = elements-alike holder start (elementOf S i) n 0 s
   content-alike (O.Table i) holder start n s = members-alike holder start n begin 0 (tableOf S i .members) s
+  content-alike (O.DirectList t) holder start n s = directs-alike t (elementSize o m holder) n start s
 
   enter-alike : (ob : Object) (holder : ℕ) (w : Opened) (s : Spent)
       → Alike (enter child o S m ob holder w s) (enter child′ o S m ob holder w s)

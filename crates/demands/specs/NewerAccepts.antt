@@ -7,9 +7,9 @@ use lib.ListN.{length}
 use lib.Dec.{ltb, leb, eqb}
 use Rattle.coding.specs.Lists.{pick}
 use Rattle.coding.specs.Bytes.{le, deepest}
-use Rattle.coding.specs.Schema.{Schema}
+use Rattle.coding.specs.Schema.{Schema, tableOf}
 use Rattle.coding.specs.Layout.{begin, afterMember}
-use Rattle.coding.specs.Walk.{placed, magic, headerSize, startSize, contentSize, contentLength, endOk, fitContent, fitObject, bytesTested, refuse, andThen, Child, refusePart, followChoice, follow, members, elements, content, enter, withContent, admit, arrive, oneMore, counted, visit, rootPlace, nothing, walk}
+use Rattle.coding.specs.Walk.{placed, magic, headerSize, elementId, elementSize, mostElements, startSize, contentSize, contentLength, endOk, fitContent, directHeader, headerTested, standsInPlace, fitObject, bytesTested, refuse, andThen, Child, refusePart, followChoice, follow, members, elements, directs, content, enter, withContent, admit, arrive, oneMore, counted, visit, rootPlace, nothing, walk}
 use Rattle.coding.specs.Append.{Extends, rest, more, KindAppends, MemberAppends, SchemaAppends}
 use Rattle.coding.specs.declared.Object.{Object}
 use Rattle.coding.specs.declared.Object.the-variants as Ob
@@ -29,7 +29,7 @@ use Rattle.laws.specs.Sound.{All, ObjectSound, KindSound, MemberSound, Sound}
 use Rattle.demands.specs.SameLayout.{element-same, table-same, after-member-same, content-length-same}
 use Rattle.demands.specs.SameStep.{SameStep, refused, no-value, value, enum-value, enum-appended, enum-unknown, struct-value, object-value, choice, choice-appended, choice-unknown, member-step-same, element-step-same}
 use Rattle.demands.specs.OlderAccepts.{fit-same}
-use Rattle.demands.specs.PlainMessage.{Objects, stepPlain, membersPlain, elementsPlain, contentPlain, placePlain, plain, messagePlain}
+use Rattle.demands.specs.PlainMessage.{Objects, stepPlain, membersPlain, elementsPlain, directsPlain, contentPlain, placePlain, plain, messagePlain}
 use Rattle.demands.specs.AddedMembers.{full-past, walk-added}
 
 then-same : {a b : Walked} (next next′ : Spent → Walked) → b ≡ a → ((s : Spent) → next′ s ≡ next s) → andThen b next′ ≡ andThen a next
@@ -79,7 +79,14 @@ module _ (o : ℕ) (O N : Schema) (sound : Sound O) (G : SchemaAppends O N) (m :
       then-same _ _ (follow-same (element-step-same O N sound G m o q a start i) (h .0) holder i s)
       (λ t. elements-same q a holder start n (i + 1) (h .1) t)
 
-  content-same : (ob : Object) → ObjectSound O ob → (holder start n : ℕ) → contentPlain P o O m ob start n → (s : Spent)
+  directs-same : (t : ℕ) → ObjectSound O (Ob.Table t) → (w n at : ℕ) → directsPlain P t w n at → (s : Spent)
+      → directs new t w n at s ≡ directs old t w n at s
+  unfolding directs directsPlain
+  directs-same t q w zero at h s = refl
+  directs-same t q w (suc n) at h s =
+      then-same _ _ (H (Ob.Table t) q (InPlace at w) (h .0) s) (λ u. directs-same t q w n (at + w) (h .1) u)
+
+  content-same : (ob : Object) → ObjectSound O ob → (holder start n : ℕ) → contentPlain P o O m ob holder start n → (s : Spent)
       → content new o N m ob holder start n s ≡ content old o O m ob holder start n s
   unfolding content contentPlain
   content-same Ob.Text q holder start n h s = refl
@@ -88,13 +95,14 @@ module _ (o : ℕ) (O N : Schema) (sound : Sound O) (G : SchemaAppends O N) (m :
       elements-same (element-same O N sound G i q) (sound .lists i .kind) holder start n 0 h s
   content-same (Ob.Table i) q holder start n h s =
       members-same (table-same O N sound G i q .members) (sound .tables i .members) holder start n begin h 0 s
+  content-same (Ob.DirectList t) q holder start n h s = directs-same t (q .table) (elementSize o m holder) n start h s
 
   -- at an arrival, what was opened stands where the plain content does
-  content-admits : (b : Budget) (ob : Object) → ObjectSound O ob → (holder start n : ℕ) → contentPlain P o O m ob start n
+  content-admits : (b : Budget) (ob : Object) → ObjectSound O ob → (holder start n : ℕ) → contentPlain P o O m ob holder start n
       → (s : Spent)
-      → admit new o N m b ob holder (fitContent o O m ob start n) s ≡ admit old o O m b ob holder (fitContent o O m ob start n) s
+      → admit new o N m b ob holder (fitContent o O m ob holder start n) s ≡ admit old o O m b ob holder (fitContent o O m ob holder start n) s
   unfolding admit enter fitContent bytesTested
-  content-admits b ob q holder start n h s = by (leb (start + contentSize o O ob n) (length m))
+  content-admits b ob q holder start n h s = by (leb (start + contentSize o O m ob holder n) (length m))
     where
       tested : (u : Bool) (t : Spent)
           → enter new o N m ob holder (pick u (Op.Content start n) (Op.Refused 10)) t
@@ -111,21 +119,48 @@ module _ (o : ℕ) (O N : Schema) (sound : Sound O) (G : SchemaAppends O N) (m :
           (tested (endOk m ob start n) (withContent (contentLength o N ob n) s)))
       by false = refl
 
+  -- what a direct list's header says more
+  header-admits : (b : Budget) (ob : Object) (holder : ℕ) (fit : Opened) (s : Spent)
+      → admit new o N m b ob holder fit s ≡ admit old o O m b ob holder fit s
+      → admit new o N m b ob holder (headerTested o O m ob holder fit) s ≡ admit old o O m b ob holder (headerTested o O m ob holder fit) s
+  unfolding headerTested directHeader
+  header-admits b Ob.Text holder fit s h = h
+  header-admits b Ob.Bytes holder fit s h = h
+  header-admits b (Ob.List i) holder fit s h = h
+  header-admits b (Ob.Table i) holder fit s h = h
+  header-admits b (Ob.DirectList t) holder fit s h =
+      by (eqb (elementId o m holder) (tableOf O t .id)) (leb (le m (holder + 4) o) mostElements)
+    where
+      by : (u v : Bool)
+          → admit new o N m b (Ob.DirectList t) holder (pick u (pick v fit (Op.Refused 6)) (Op.Refused 7)) s
+          ≡ admit old o O m b (Ob.DirectList t) holder (pick u (pick v fit (Op.Refused 6)) (Op.Refused 7)) s
+      by true true = h
+      by true false = unfold admit in refl
+      by false v = unfold admit in refl
+
   place-admits : (b : Budget) (ob : Object) → ObjectSound O ob → (p : Place) → placePlain P o O m ob p → (s : Spent)
       → admit new o N m b ob (placed p) (fitObject o O m ob p) s ≡ admit old o O m b ob (placed p) (fitObject o O m ob p) s
   unfolding fitObject placePlain placed
-  place-admits b ob q (ByOffset x) h s = by (leb (startSize o) x && leb (x + headerSize o) (length m)) (eqb (le m x 4) (magic O ob))
+  place-admits b ob q (ByOffset x) h s = by (leb (startSize o) x && leb (x + headerSize o ob) (length m)) (eqb (le m x 4) (magic O ob))
     where
       opened : Opened
-      opened = fitContent o O m ob (x + headerSize o) (le m (x + 4) o)
+      opened = headerTested o O m ob x (fitContent o O m ob x (x + headerSize o ob) (le m (x + 4) o))
 
       by : (t u : Bool)
           → admit new o N m b ob x (pick t (pick u opened (Op.Refused 7)) (Op.Refused 6)) s
           ≡ admit old o O m b ob x (pick t (pick u opened (Op.Refused 7)) (Op.Refused 6)) s
-      by true true = content-admits b ob q x (x + headerSize o) (le m (x + 4) o) h s
+      by true true =
+          header-admits b ob x (fitContent o O m ob x (x + headerSize o ob) (le m (x + 4) o)) s
+          (content-admits b ob q x (x + headerSize o ob) (le m (x + 4) o) h s)
       by true false = unfold admit in refl
       by false u = unfold admit in refl
-  place-admits b ob q (InPlace a n) h s = content-admits b ob q a a n h s
+  place-admits b ob q (InPlace a n) h s = by (standsInPlace ob)
+    where
+      by : (t : Bool)
+          → admit new o N m b ob a (pick t (fitContent o O m ob a a n) (Op.Refused 6)) s
+          ≡ admit old o O m b ob a (pick t (fitContent o O m ob a a n) (Op.Refused 6)) s
+      by true = content-admits b ob q a a n h s
+      by false = unfold admit in refl
 
   arrive-same : (b : Budget) (ob : Object) → ObjectSound O ob → (p : Place) → placePlain P o O m ob p → (s : Spent)
       → arrive new o N m b ob p s ≡ arrive old o O m b ob p s

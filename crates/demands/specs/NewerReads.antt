@@ -13,10 +13,10 @@ use Rattle.coding.specs.Schema.{Schema}
 use Rattle.coding.specs.Structs.{flatWidth, structSize}
 use Rattle.coding.specs.Layout.{begin, afterMember}
 use Rattle.coding.specs.Step.{enumStep, fieldStep}
-use Rattle.coding.specs.Walk.{headerSize, rootPlace}
+use Rattle.coding.specs.Walk.{headerSize, elementSize, rootPlace}
 use Rattle.coding.specs.Value.{Value, absent, row, _then_, first, others}
-use Rattle.coding.specs.Read.{Child, stepRead, noObject, fieldsRead, readBy, noStruct, structRead, membersRead, elementsRead, contentRead, placeRead, read, messageRead}
-use Rattle.coding.specs.Append.{Extends, rest, more, Alike, done, also, FlatAppends, boolean, integer, float, enumerated, struct, KindAppends, MemberAppends, SchemaAppends, inRow, Change, addedValues, withChoice, withPart, withMembers, withElements, addedMembers, withContent, withAdded}
+use Rattle.coding.specs.Read.{Child, stepRead, noObject, fieldsRead, readBy, noStruct, structRead, membersRead, elementsRead, directsRead, contentRead, placeRead, read, messageRead}
+use Rattle.coding.specs.Append.{Extends, rest, more, Alike, done, also, FlatAppends, boolean, integer, float, enumerated, struct, KindAppends, MemberAppends, SchemaAppends, inRow, Change, addedValues, withChoice, withPart, withMembers, withElements, inElements, addedMembers, withContent, withAdded}
 use Rattle.coding.specs.declared.Flat.{Flat}
 use Rattle.coding.specs.declared.Object.{Object}
 use Rattle.coding.specs.declared.Object.the-variants as Ob
@@ -32,7 +32,7 @@ use Rattle.laws.specs.Structs.{index-holds₂}
 use Rattle.laws.specs.Sound.{All, FlatSound, ObjectSound, KindSound, MemberSound, Sound}
 use Rattle.demands.specs.SameLayout.{flat-width, struct-same, struct-size-same, element-same, table-same, after-member-same}
 use Rattle.demands.specs.SameStep.{SameStep, refused, no-value, value, enum-value, enum-appended, enum-unknown, struct-value, object-value, choice, choice-appended, choice-unknown, member-step-same, element-step-same}
-use Rattle.demands.specs.PlainMessage.{Known, AllKnown, Objects, stepPlain, membersPlain, elementsPlain, contentPlain, placePlain, plain, messagePlain}
+use Rattle.demands.specs.PlainMessage.{Known, AllKnown, Objects, stepPlain, membersPlain, elementsPlain, directsPlain, contentPlain, placePlain, plain, messagePlain}
 use Rattle.demands.specs.AddedMembers.{full-past, read-added}
 
 -- ---- structs: what is known stays
@@ -95,6 +95,7 @@ with-absent (suc d) o O N Ob.Text = refl
 with-absent (suc d) o O N Ob.Bytes = refl
 with-absent (suc d) o O N (Ob.List i) = refl
 with-absent (suc d) o O N (Ob.Table i) = refl
+with-absent (suc d) o O N (Ob.DirectList t) = refl
 
 part-absent : (c : Change) → ((ob : Object) → c ob absent ≡ absent) → (S : Schema) (k : Kind) → withPart c S k absent ≡ absent
 unfolding withPart withChoice
@@ -138,21 +139,28 @@ module _ (o : ℕ) (O N : Schema) (sound : Sound O) (G : SchemaAppends O N) (m :
     elements-with q s start (suc n) i h =
         ap₂ _then_ (step-with (element-step-same O N sound G m o q s start i) (h .0)) (elements-with q s start n (i + 1) (h .1))
 
-    content-with : (ob : Object) → ObjectSound O ob → (start n : ℕ) → contentPlain P o O m ob start n
-        → contentRead b o N m ob start n ≡ withContent c o O N ob (contentRead a o O m ob start n)
+    directs-with : (t : ℕ) → ObjectSound O (Ob.Table t) → (w n at : ℕ) → directsPlain P t w n at
+        → directsRead b t w n at ≡ inElements c t (directsRead a t w n at)
+    unfolding directsRead inElements directsPlain
+    directs-with t q w zero at h = refl
+    directs-with t q w (suc n) at h = ap₂ _then_ (H (Ob.Table t) q (InPlace at w) (h .0)) (directs-with t q w n (at + w) (h .1))
+
+    content-with : (ob : Object) → ObjectSound O ob → (at start n : ℕ) → contentPlain P o O m ob at start n
+        → contentRead b o N m ob at start n ≡ withContent c o O N ob (contentRead a o O m ob at start n)
     unfolding contentRead withContent inRow contentPlain addedMembers
-    content-with Ob.Text q start n h = refl
-    content-with Ob.Bytes q start n h = refl
-    content-with (Ob.List i) q start n h =
+    content-with Ob.Text q at start n h = refl
+    content-with Ob.Bytes q at start n h = refl
+    content-with (Ob.List i) q at start n h =
         ap row (elements-with (element-same O N sound G i q) (sound .lists i .kind) start n 0 h)
-    content-with (Ob.Table i) q start n h =
+    content-with (Ob.Table i) q at start n h =
         ap row (members-with (table-same O N sound G i q .members) (sound .tables i .members) start n begin h)
+    content-with (Ob.DirectList t) q at start n h = ap row (directs-with t (q .table) (elementSize o m at) n start h)
 
     place-with : (ob : Object) → ObjectSound O ob → (p : Place) → placePlain P o O m ob p
         → placeRead b o N m ob p ≡ withContent c o O N ob (placeRead a o O m ob p)
     unfolding placeRead placePlain
-    place-with ob q (ByOffset x) h = content-with ob q (x + headerSize o) (le m (x + 4) o) h
-    place-with ob q (InPlace x n) h = content-with ob q x n h
+    place-with ob q (ByOffset x) h = content-with ob q x (x + headerSize o ob) (le m (x + 4) o) h
+    place-with ob q (InPlace x n) h = content-with ob q x x n h
 
   read-with : (d : ℕ) (ob : Object) → ObjectSound O ob → (p : Place) → plain d o O m ob p
       → read d o N m ob p ≡ withAdded d o O N ob (read d o O m ob p)

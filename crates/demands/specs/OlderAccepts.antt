@@ -12,7 +12,7 @@ use Rattle.coding.specs.Bytes.{le, deepest}
 use Rattle.coding.specs.Schema.{Schema, elementOf, tableOf}
 use Rattle.coding.specs.Layout.{begin, afterMember}
 use Rattle.coding.specs.Step.{memberStep, elementStep}
-use Rattle.coding.specs.Walk.{placed, headerSize, contentLength, fitContent, fitObject, bytesTested, refuse, andThen, Child, refusePart, followChoice, follow, members, elements, content, enter, withContent, admit, arrive, tooDeep, oneMore, counted, visit, rootPlace, nothing, walk}
+use Rattle.coding.specs.Walk.{placed, headerSize, elementSize, contentLength, fitContent, fitObject, bytesTested, refuse, andThen, Child, refusePart, followChoice, follow, members, elements, directs, content, enter, withContent, admit, arrive, tooDeep, oneMore, counted, visit, rootPlace, nothing, walk}
 use Rattle.coding.specs.Append.{Extends, rest, more, KindAppends, MemberAppends, SchemaAppends}
 use Rattle.coding.specs.declared.Object.{Object}
 use Rattle.coding.specs.declared.Object.the-variants as Ob
@@ -32,7 +32,7 @@ use Rattle.coding.specs.declared.Walked.{Walked}
 use Rattle.coding.specs.declared.Walked.the-variants.{Going, Refused}
 use Rattle.laws.specs.Sound.{All, ObjectSound, KindSound, MemberSound, Sound}
 use Rattle.demands.specs.Spending.{NoMore, no-more-refl, no-more-trans, one-more-up, with-content-up, one-more-within, with-content-within}
-use Rattle.demands.specs.SameLayout.{element-same, table-same, after-member-same, content-size-same, content-length-same, magic-same}
+use Rattle.demands.specs.SameLayout.{element-same, table-same, after-member-same, content-size-same, content-length-same, header-same, magic-same}
 use Rattle.demands.specs.SameStep.{SameStep, refused, no-value, value, enum-value, enum-appended, enum-unknown, struct-value, object-value, choice, choice-appended, choice-unknown, member-step-same, element-step-same}
 
 -- if the second walk goes on, the first does, and has spent no more of either
@@ -102,12 +102,18 @@ module _ (child : Child) (U : (ob : Object) (p : Place) (s : Spent) → Within (
   elements-up holder start k (suc n) i s =
       then-up (follow-up holder i (elementStep o S m k start i) s) (λ t. elements-up holder start k n (i + 1) t)
 
+  directs-up : (t w n at : ℕ) (s : Spent) → Within (Going s) (directs child t w n at s)
+  unfolding directs
+  directs-up t w zero at s = stay
+  directs-up t w (suc n) at s = then-up (U (Ob.Table t) (InPlace at w) s) (λ u. directs-up t w n (at + w) u)
+
   content-up : (ob : Object) (holder start n : ℕ) (s : Spent) → Within (Going s) (content child o S m ob holder start n s)
   unfolding content
   content-up Ob.Text holder start n s = stay
   content-up Ob.Bytes holder start n s = stay
   content-up (Ob.List i) holder start n s = elements-up holder start (elementOf S i) n 0 s
   content-up (Ob.Table i) holder start n s = members-up holder start n begin 0 (tableOf S i .members) s
+  content-up (Ob.DirectList t) holder start n s = directs-up t (elementSize o m holder) n start s
 
   enter-up : (ob : Object) (holder : ℕ) (p : Opened) (s : Spent) → Within (Going s) (enter child o S m ob holder p s)
   unfolding enter
@@ -147,14 +153,17 @@ visit-up (suc d) o S m b ob p s =
 
 -- ---- the older's walk beside the newer's
 module _ (o : ℕ) (O N : Schema) (sound : Sound O) (G : SchemaAppends O N) (m : List ℕ) where
-  fit-content-same : (ob : Object) → ObjectSound O ob → (start n : ℕ) → fitContent o O m ob start n ≡ fitContent o N m ob start n
+  fit-content-same : (ob : Object) → ObjectSound O ob → (at start n : ℕ) → fitContent o O m ob at start n ≡ fitContent o N m ob at start n
   unfolding fitContent
-  fit-content-same ob h start n = rw (content-size-same O N sound G o ob h n)
+  fit-content-same ob h at start n = rw (content-size-same O N sound G o m ob h at n)
 
   pub fit-same : (ob : Object) → ObjectSound O ob → (p : Place) → fitObject o O m ob p ≡ fitObject o N m ob p
   unfolding fitObject
-  fit-same ob h (ByOffset x) = rw (magic-same O N sound G ob h, fit-content-same ob h (x + headerSize o) (le m (x + 4) o))
-  fit-same ob h (InPlace a n) = fit-content-same ob h a n
+  fit-same ob h (ByOffset x) =
+      let start = x + headerSize o ob in
+      let n = le m (x + 4) o in
+      rw (magic-same O N sound G ob h, fit-content-same ob h x start n, header-same O N sound G o m ob h x (fitContent o N m ob x start n))
+  fit-same ob h (InPlace a n) = rw (fit-content-same ob h a a n)
 
   module _ (old new : Child) (U : (ob : Object) (p : Place) (s : Spent) → Within (Going s) (new ob p s))
       (H : (ob : Object) → ObjectSound O ob → (p : Place) (s s′ : Spent) → NoMore s s′
@@ -200,6 +209,13 @@ module _ (o : ℕ) (O N : Schema) (sound : Sound O) (G : SchemaAppends O N) (m :
         then-within (follow-within (element-step-same O N sound G m o q a start i) holder i s s′ h)
         (λ t t′ g. elements-within q a holder start n (i + 1) t t′ g)
 
+    directs-within : (t : ℕ) → ObjectSound O (Ob.Table t) → (w n at : ℕ) (s s′ : Spent) → NoMore s s′
+        → Within (directs old t w n at s) (directs new t w n at s′)
+    unfolding directs
+    directs-within t q w zero at s s′ h = going h
+    directs-within t q w (suc n) at s s′ h =
+        then-within (H (Ob.Table t) q (InPlace at w) s s′ h) (λ u u′ g. directs-within t q w n (at + w) u u′ g)
+
     content-within : (ob : Object) → ObjectSound O ob → (holder start n : ℕ) (s s′ : Spent) → NoMore s s′
         → Within (content old o O m ob holder start n s) (content new o N m ob holder start n s′)
     unfolding content
@@ -209,6 +225,7 @@ module _ (o : ℕ) (O N : Schema) (sound : Sound O) (G : SchemaAppends O N) (m :
         elements-within (element-same O N sound G i q) (sound .lists i .kind) holder start n 0 s s′ h
     content-within (Ob.Table i) q holder start n s s′ h =
         members-within (table-same O N sound G i q .members) (sound .tables i .members) holder start n begin 0 s s′ h
+    content-within (Ob.DirectList t) q holder start n s s′ h = directs-within t (q .table) (elementSize o m holder) n start s s′ h
 
     enter-within : (ob : Object) → ObjectSound O ob → (holder : ℕ) (p : Opened) (s s′ : Spent) → NoMore s s′
         → Within (enter old o O m ob holder p s) (enter new o N m ob holder p s′)

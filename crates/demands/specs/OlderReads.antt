@@ -13,10 +13,10 @@ use Rattle.coding.specs.Schema.{Schema, casesOf}
 use Rattle.coding.specs.Structs.{flatWidth, structSize}
 use Rattle.coding.specs.Layout.{begin, afterMember}
 use Rattle.coding.specs.Step.{enumStep, fieldStep}
-use Rattle.coding.specs.Walk.{headerSize, rootPlace}
+use Rattle.coding.specs.Walk.{headerSize, elementSize, rootPlace}
 use Rattle.coding.specs.Value.{Value, absent, number, row, _then_, first, others}
-use Rattle.coding.specs.Read.{Child, stepRead, noObject, fieldsRead, readBy, noStruct, structRead, membersRead, elementsRead, contentRead, placeRead, read, messageRead}
-use Rattle.coding.specs.Append.{Extends, rest, more, Alike, done, also, FlatAppends, boolean, integer, float, enumerated, struct, KindAppends, MemberAppends, SchemaAppends, withoutEnum, inRow, withoutFlat, withoutFields, withoutBy, same-value, withoutStruct, Change, withoutChoice, withoutPart, withoutMembers, withoutElements, withoutContent, without}
+use Rattle.coding.specs.Read.{Child, stepRead, noObject, fieldsRead, readBy, noStruct, structRead, membersRead, elementsRead, directsRead, contentRead, placeRead, read, messageRead}
+use Rattle.coding.specs.Append.{Extends, rest, more, Alike, done, also, FlatAppends, boolean, integer, float, enumerated, struct, KindAppends, MemberAppends, SchemaAppends, withoutEnum, inRow, withoutFlat, withoutFields, withoutBy, same-value, withoutStruct, Change, withoutChoice, withoutPart, withoutMembers, withoutElements, inElements, withoutContent, without}
 use Rattle.coding.specs.declared.Flat.{Flat}
 use Rattle.coding.specs.declared.Flat.the-variants.{Boolean, Integer, Float, Enumerated, Struct}
 use Rattle.coding.specs.declared.Object.{Object}
@@ -101,6 +101,7 @@ without-absent (suc d) S Ob.Text = refl
 without-absent (suc d) S Ob.Bytes = refl
 without-absent (suc d) S (Ob.List i) = refl
 without-absent (suc d) S (Ob.Table i) = refl
+without-absent (suc d) S (Ob.DirectList t) = refl
 
 part-absent : (c : Change) → ((ob : Object) → c ob absent ≡ absent) → (S : Schema) (k : Kind) → withoutPart c S k absent ≡ absent
 unfolding withoutPart withoutFlat withoutEnum withoutChoice
@@ -152,21 +153,28 @@ module _ (o : ℕ) (O N : Schema) (sound : Sound O) (G : SchemaAppends O N) (m :
     elements-without q s start (suc n) i =
         ap₂ _then_ (step-without (element-step-same O N sound G m o q s start i)) (elements-without q s start n (i + 1))
 
-    content-without : (ob : Object) → ObjectSound O ob → (start n : ℕ)
-        → contentRead a o O m ob start n ≡ withoutContent c O ob (contentRead b o N m ob start n)
+    directs-without : (t : ℕ) → ObjectSound O (Ob.Table t) → (w n at : ℕ)
+        → directsRead a t w n at ≡ inElements c t (directsRead b t w n at)
+    unfolding directsRead inElements
+    directs-without t q w zero at = refl
+    directs-without t q w (suc n) at = ap₂ _then_ (H (Ob.Table t) q (InPlace at w)) (directs-without t q w n (at + w))
+
+    content-without : (ob : Object) → ObjectSound O ob → (at start n : ℕ)
+        → contentRead a o O m ob at start n ≡ withoutContent c O ob (contentRead b o N m ob at start n)
     unfolding contentRead withoutContent inRow
-    content-without Ob.Text q start n = refl
-    content-without Ob.Bytes q start n = refl
-    content-without (Ob.List i) q start n =
+    content-without Ob.Text q at start n = refl
+    content-without Ob.Bytes q at start n = refl
+    content-without (Ob.List i) q at start n =
         ap row (elements-without (element-same O N sound G i q) (sound .lists i .kind) start n 0)
-    content-without (Ob.Table i) q start n =
+    content-without (Ob.Table i) q at start n =
         ap row (members-without (table-same O N sound G i q .members) (sound .tables i .members) start n begin)
+    content-without (Ob.DirectList t) q at start n = ap row (directs-without t (q .table) (elementSize o m at) n start)
 
     place-without : (ob : Object) → ObjectSound O ob → (p : Place)
         → placeRead a o O m ob p ≡ withoutContent c O ob (placeRead b o N m ob p)
     unfolding placeRead
-    place-without ob q (ByOffset x) = content-without ob q (x + headerSize o) (le m (x + 4) o)
-    place-without ob q (InPlace x n) = content-without ob q x n
+    place-without ob q (ByOffset x) = content-without ob q x (x + headerSize o ob) (le m (x + 4) o)
+    place-without ob q (InPlace x n) = content-without ob q x x n
 
   pub read-without : (d : ℕ) (ob : Object) → ObjectSound O ob → (p : Place)
       → read d o O m ob p ≡ without d O ob (read d o N m ob p)

@@ -8,7 +8,7 @@ use Rattle.coding.specs.Bytes.{le, bitAt, deepest}
 use Rattle.coding.specs.Schema.{Schema, elementOf, tableOf}
 use Rattle.coding.specs.Layout.{begin, afterMember}
 use Rattle.coding.specs.Step.{memberStep, elementStep}
-use Rattle.coding.specs.Walk.{headerSize, rootPlace}
+use Rattle.coding.specs.Walk.{headerSize, elementSize, rootPlace}
 use Rattle.coding.specs.Value.{Value, Values, absent, unknown, number, blob, row, chosen, none, _then_}
 use Rattle.coding.specs.Read.{structRead}
 use Rattle.coding.specs.declared.Object.{Object}
@@ -63,15 +63,20 @@ elementsPlain child o S m start k zero i = Unit {0}
 elementsPlain child o S m start k (suc n) i =
     stepPlain child S m (elementStep o S m k start i) × elementsPlain child o S m start k n (i + 1)
 
-unfoldable pub contentPlain : Objects → ℕ → Schema → List ℕ → Object → ℕ → ℕ → Type 0
-contentPlain child o S m Ob.Text start n = Unit {0}
-contentPlain child o S m Ob.Bytes start n = Unit {0}
-contentPlain child o S m (Ob.List i) start n = elementsPlain child o S m start (elementOf S i) n 0
-contentPlain child o S m (Ob.Table i) start n = membersPlain child o S m start n begin (tableOf S i .members)
+unfoldable pub directsPlain : Objects → ℕ → ℕ → ℕ → ℕ → Type 0
+directsPlain child t w zero at = Unit {0}
+directsPlain child t w (suc n) at = child (Ob.Table t) (InPlace at w) × directsPlain child t w n (at + w)
+
+unfoldable pub contentPlain : Objects → ℕ → Schema → List ℕ → Object → ℕ → ℕ → ℕ → Type 0
+contentPlain child o S m Ob.Text at start n = Unit {0}
+contentPlain child o S m Ob.Bytes at start n = Unit {0}
+contentPlain child o S m (Ob.List i) at start n = elementsPlain child o S m start (elementOf S i) n 0
+contentPlain child o S m (Ob.Table i) at start n = membersPlain child o S m start n begin (tableOf S i .members)
+contentPlain child o S m (Ob.DirectList t) at start n = directsPlain child t (elementSize o m at) n start
 
 unfoldable pub placePlain : Objects → ℕ → Schema → List ℕ → Objects
-placePlain child o S m ob (ByOffset x) = contentPlain child o S m ob (x + headerSize o) (le m (x + 4) o)
-placePlain child o S m ob (InPlace a n) = contentPlain child o S m ob a n
+placePlain child o S m ob (ByOffset x) = contentPlain child o S m ob x (x + headerSize o ob) (le m (x + 4) o)
+placePlain child o S m ob (InPlace a n) = contentPlain child o S m ob a a n
 
 -- an object with d objects of depth left
 unfoldable pub plain : ℕ → ℕ → Schema → List ℕ → Objects

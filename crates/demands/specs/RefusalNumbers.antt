@@ -7,14 +7,15 @@ use lib.ListN.{length, getD}
 use lib.Dec.{ltb, leb, eqb}
 use Rattle.coding.specs.Lists.{pick}
 use Rattle.coding.specs.Bytes.{le, bitAt, isNaN}
-use Rattle.coding.specs.Schema.{Schema, casesOf}
+use Rattle.coding.specs.Schema.{Schema, casesOf, tableOf}
 use Rattle.coding.specs.Structs.{structOk}
 use Rattle.coding.specs.Layout.{hasFlag, placementOf}
 use Rattle.coding.specs.Step.{enumStep, floatStep, objectStep, unionStep, flatStep, valueStep, structTested, inside, flagged, placedStep, memberStep, elementPlace, elementStep}
-use Rattle.coding.specs.Walk.{magic, headerSize, startSize, contentSize, endOk, fitContent, fitObject, bytesTested}
+use Rattle.coding.specs.Walk.{magic, headerSize, elementId, mostElements, startSize, contentSize, endOk, fitContent, directHeader, headerTested, standsInPlace, fitObject, bytesTested}
 use Rattle.coding.specs.declared.Flat.{Flat}
 use Rattle.coding.specs.declared.Flat.the-variants as F
 use Rattle.coding.specs.declared.Object.{Object}
+use Rattle.coding.specs.declared.Object.the-variants as Ob
 use Rattle.coding.specs.declared.Kind.{Kind}
 use Rattle.coding.specs.declared.Kind.the-variants.{OfFlat, OfObject, OfUnion}
 use Rattle.coding.specs.declared.Member.{Member}
@@ -105,19 +106,36 @@ pub element-numbered : (o : ℕ) (S : Schema) (m : List ℕ) (k : Kind) (start i
 unfolding elementStep
 element-numbered o S m k start i = tested-numbered S m _ (value-numbered o S m k true false 0 (elementPlace o S k start i) (i % 8))
 
-content-numbered : (o : ℕ) (S : Schema) (m : List ℕ) (ob : Object) (start n : ℕ) → NumberedOpened (fitContent o S m ob start n)
+content-numbered : (o : ℕ) (S : Schema) (m : List ℕ) (ob : Object) (at start n : ℕ) → NumberedOpened (fitContent o S m ob at start n)
 unfolding fitContent
-content-numbered o S m ob start n =
-    pick-has NumberedOpened (leb (start + contentSize o S ob n) (length m)) {x = Op.Content start n} {y = Op.Refused 6} tt (omega arith)
+content-numbered o S m ob at start n =
+    pick-has NumberedOpened (leb (start + contentSize o S m ob at n) (length m)) {x = Op.Content start n} {y = Op.Refused 6} tt (omega arith)
+
+-- what a direct list's header says more
+header-numbered : (o : ℕ) (S : Schema) (m : List ℕ) (ob : Object) (at : ℕ) (fit : Opened) → NumberedOpened fit
+    → NumberedOpened (headerTested o S m ob at fit)
+unfolding headerTested directHeader
+header-numbered o S m Ob.Text at fit h = h
+header-numbered o S m Ob.Bytes at fit h = h
+header-numbered o S m (Ob.List i) at fit h = h
+header-numbered o S m (Ob.Table i) at fit h = h
+header-numbered o S m (Ob.DirectList t) at fit h =
+    pick-has NumberedOpened (eqb (elementId o m at) (tableOf S t .id))
+    {x = pick (leb (le m (at + 4) o) mostElements) fit (Op.Refused 6)} {y = Op.Refused 7}
+    (pick-has NumberedOpened (leb (le m (at + 4) o) mostElements) {x = fit} {y = Op.Refused 6} h (omega arith))
+    (omega arith)
 
 pub fit-numbered : (o : ℕ) (S : Schema) (m : List ℕ) (ob : Object) (p : Place) → NumberedOpened (fitObject o S m ob p)
 unfolding fitObject
 fit-numbered o S m ob (ByOffset x) =
-    pick-has NumberedOpened (leb (startSize o) x && leb (x + headerSize o) (length m)) {y = Op.Refused 6}
-    (pick-has NumberedOpened (eqb (le m x 4) (magic S ob)) {x = fitContent o S m ob (x + headerSize o) (le m (x + 4) o)} {y = Op.Refused 7}
-    (content-numbered o S m ob (x + headerSize o) (le m (x + 4) o)) (omega arith))
+    let fit = fitContent o S m ob x (x + headerSize o ob) (le m (x + 4) o) in
+    pick-has NumberedOpened (leb (startSize o) x && leb (x + headerSize o ob) (length m)) {y = Op.Refused 6}
+    (pick-has NumberedOpened (eqb (le m x 4) (magic S ob)) {x = headerTested o S m ob x fit} {y = Op.Refused 7}
+    (header-numbered o S m ob x fit (content-numbered o S m ob x (x + headerSize o ob) (le m (x + 4) o))) (omega arith))
     (omega arith)
-fit-numbered o S m ob (InPlace a n) = content-numbered o S m ob a n
+fit-numbered o S m ob (InPlace a n) =
+    pick-has NumberedOpened (standsInPlace ob) {x = fitContent o S m ob a a n} {y = Op.Refused 6}
+    (content-numbered o S m ob a a n) (omega arith)
 
 pub bytes-numbered : (m : List ℕ) (ob : Object) (x : Opened) → NumberedOpened x → NumberedOpened (bytesTested m ob x)
 unfolding bytesTested

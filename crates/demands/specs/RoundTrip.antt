@@ -28,7 +28,7 @@ use Rattle.coding.specs.declared.Walked.{Walked}
 use Rattle.coding.specs.declared.Verdict.{Verdict}
 use Rattle.laws.specs.Sound.{Sound}
 use Rattle.laws.specs.LawfulSound.{lawful-sound}
-use Rattle.laws.specs.Rules.{lawful-width, lawful-wide}
+use Rattle.laws.specs.Rules.{lawful-width, lawful-wide, lawful-narrow}
 use Rattle.laws.specs.Bits.{Byte}
 use Rattle.laws.specs.All.{index-all}
 use Rattle.demands.specs.Sheets.{ShownAtRoot, encode-decode-sized}
@@ -126,7 +126,7 @@ module _ (o : ℕ) (b s : List ℕ) (v : Value) (schema-bytes : (i : ℕ) → ge
   shown = encode-decode-sized (parse b) sound s v sheet-bytes decoded
 
   writes : Writes deepest o (parse b) (O.Table (parse b .root)) v
-  writes = shown-writes (parse b) sound o deepest (O.Table (parse b .root)) v (shown .0) fit
+  writes = shown-writes (parse b) sound o (lawful-narrow o b good) deepest (O.Table (parse b .root)) v (sound .root) (shown .0) fit
 
   small : 8 * length (messageOf o (parse b) v) < 256 ^ o
   small = within-width o (length (messageOf o (parse b) v)) (lawful-width o b good) sized

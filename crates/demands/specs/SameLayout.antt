@@ -10,7 +10,7 @@ use Rattle.coding.specs.Schema.{Schema, Table, structOf, elementOf, casesOf, ta
 use Rattle.coding.specs.Structs.{flatWidth, total, sizeBy, structSize, flatOk, flatsOk, okBy, always, structOk}
 use Rattle.coding.specs.Layout.{bitSlot, flatIsBool, isBool, width, flatTakesFlag, takesFlag, hasFlag, afterFlag, slotOf, afterValue, memberSlot, afterMember}
 use Rattle.coding.specs.Step.{elementPlace, elementsSize}
-use Rattle.coding.specs.Walk.{magic, contentSize, contentLength}
+use Rattle.coding.specs.Walk.{magic, contentSize, contentLength, directHeader, headerTested}
 use Rattle.coding.specs.Append.{Extends, rest, more, Alike, done, also, FlatAppends, boolean, integer, float, enumerated, struct, KindAppends, flat, object, union, MemberAppends, SameObject, TableAppends, SchemaAppends}
 use Rattle.coding.specs.declared.Flat.{Flat}
 use Rattle.coding.specs.declared.Object.{Object}
@@ -18,6 +18,7 @@ use Rattle.coding.specs.declared.Object.the-variants as Ob
 use Rattle.coding.specs.declared.Kind.{Kind}
 use Rattle.coding.specs.declared.Member.{Member}
 use Rattle.coding.specs.declared.Cursor.{Cursor}
+use Rattle.coding.specs.declared.Opened.{Opened}
 use Rattle.laws.specs.Structs.{index-holds₂}
 use Rattle.laws.specs.Sound.{All, FlatSound, ObjectSound, KindSound, MemberSound, Sound}
 
@@ -177,12 +178,13 @@ module _ (O N : Schema) (sound : Sound O) (G : SchemaAppends O N) where
     elements-size-same r s n = rw (is-bool-same r, width-same r s)
 
     -- ---- an arrival
-    pub content-size-same : (ob : Object) → ObjectSound O ob → (n : ℕ) → contentSize o O ob n ≡ contentSize o N ob n
+    pub content-size-same : (m : List ℕ) (ob : Object) → ObjectSound O ob → (at n : ℕ) → contentSize o O m ob at n ≡ contentSize o N m ob at n
     unfolding contentSize
-    content-size-same Ob.Text h n = refl
-    content-size-same Ob.Bytes h n = refl
-    content-size-same (Ob.List i) h n = elements-size-same (element-same i h) (sound .lists i .kind) n
-    content-size-same (Ob.Table i) h n = refl
+    content-size-same m Ob.Text h at n = refl
+    content-size-same m Ob.Bytes h at n = refl
+    content-size-same m (Ob.List i) h at n = elements-size-same (element-same i h) (sound .lists i .kind) n
+    content-size-same m (Ob.Table i) h at n = refl
+    content-size-same m (Ob.DirectList t) h at n = refl
 
     pub content-length-same : (ob : Object) → ObjectSound O ob → (n : ℕ) → contentLength o O ob n ≡ contentLength o N ob n
     unfolding contentLength
@@ -190,6 +192,17 @@ module _ (O N : Schema) (sound : Sound O) (G : SchemaAppends O N) where
     content-length-same Ob.Bytes h n = refl
     content-length-same (Ob.List i) h n = elements-size-same (element-same i h) (sound .lists i .kind) n
     content-length-same (Ob.Table i) h n = refl
+    content-length-same (Ob.DirectList t) h n = refl
+
+    -- what a direct list's header says more: the table's id is the same
+    pub header-same : (m : List ℕ) (ob : Object) → ObjectSound O ob → (at : ℕ) (fit : Opened)
+        → headerTested o O m ob at fit ≡ headerTested o N m ob at fit
+    unfolding headerTested directHeader
+    header-same m Ob.Text h at fit = refl
+    header-same m Ob.Bytes h at fit = refl
+    header-same m (Ob.List i) h at fit = refl
+    header-same m (Ob.Table i) h at fit = refl
+    header-same m (Ob.DirectList t) h at fit = rw (table-same t (h .table) .id)
 
   pub magic-same : (ob : Object) → ObjectSound O ob → magic O ob ≡ magic N ob
   unfolding magic
@@ -197,3 +210,4 @@ module _ (O N : Schema) (sound : Sound O) (G : SchemaAppends O N) where
   magic-same Ob.Bytes h = refl
   magic-same (Ob.List i) h = refl
   magic-same (Ob.Table i) h = table-same i h .id
+  magic-same (Ob.DirectList t) h = refl

@@ -12,10 +12,11 @@ use Rattle.coding.specs.Lists.{pick}
 use Rattle.coding.specs.Schema.{Schema, structOf, elementOf, casesOf, caseOf}
 use Rattle.coding.specs.Value.{Value, Values, absent, unknown, number, blob, row, chosen, asNumber, asBlob, asRow, asObject, present, first, others, count}
 use Rattle.coding.specs.Bits.{bitsOf, bits}
-use Rattle.coding.specs.Sheet.{markBits, flatBits, fieldBits, fieldsBits, bitsBy, noBits, structBits, Encoder, bodyBits, flatUnknown, unknownWidth, partBits, unmarked, elementBits, membersBits, elementsBits, blobBits, contentBits, encode}
-use Rattle.coding.specs.Sheet.{Parsed, got, bind, takeNumber, takeBytes, takeValue, takeIf, takeMark, unknownEnum, takeUnknownEnum, takeEnum, takeFlat, takeField, takeFields, takeBy, takeNothing, takeStruct, Decoder, takeChoice, takeBody, takeUnknownFlat, takeUnknown, takePart, takeElement, takeMembers, takeElements, takeBlob, takeContent, decode}
+use Rattle.coding.specs.Sheet.{markBits, flatBits, fieldBits, fieldsBits, bitsBy, noBits, structBits, Encoder, bodyBits, flatUnknown, unknownWidth, partBits, unmarked, elementBits, membersBits, elementsBits, directsBits, blobBits, contentBits, encode}
+use Rattle.coding.specs.Sheet.{Parsed, got, bind, takeNumber, takeBytes, takeValue, takeIf, takeMark, unknownEnum, takeUnknownEnum, takeEnum, takeFlat, takeField, takeFields, takeBy, takeNothing, takeStruct, Decoder, takeChoice, takeBody, takeUnknownFlat, takeUnknown, takePart, takeElement, takeMembers, takeElements, takeDirects, takeBlob, takeContent, decode}
 use Rattle.coding.specs.declared.Flat.{Flat}
 use Rattle.coding.specs.declared.Object.{Object}
+use Rattle.coding.specs.declared.Object.the-variants as O
 use Rattle.coding.specs.declared.Kind.{Kind}
 use Rattle.coding.specs.declared.Kind.the-variants.{OfUnion}
 use Rattle.coding.specs.declared.Member.{Member}
@@ -23,7 +24,7 @@ use Rattle.laws.specs.Sound.{All, FlatSound, KindSound, MemberSound, Sound}
 use Rattle.laws.specs.All.{all-append}
 use Rattle.laws.specs.Bits.{Bit, Byte, bitsOf-length, bitsOf-bits, value-front, bits-length, bits-bits, pack-front}
 use Rattle.laws.specs.Structs.{index-holds₂}
-use Rattle.demands.specs.Shown.{FlatShown, boolean, integer, float, no-enum, enum, unknown-enum, struct, FlatsShown, no-flat, flats, Objects, PartShown, no-part, flat, object, choice, unknown-choice, MembersShown, no-member, members, ElementsShown, no-element, elements, ContentShown, text, bytes, list, table, Shown}
+use Rattle.demands.specs.Shown.{FlatShown, boolean, integer, float, no-enum, enum, unknown-enum, struct, FlatsShown, no-flat, flats, Objects, PartShown, no-part, flat, object, choice, unknown-choice, MembersShown, no-member, members, ElementsShown, no-element, elements, DirectsShown, no-direct, directs, ContentShown, text, bytes, list, table, direct-list, Shown}
 
 -- xs are bits that a decoder reads as a, and it leaves what follows them
 abbrev pub Spells : {A : Type 0} → (List ℕ → Parsed A) → List ℕ → A → Type 0
@@ -232,6 +233,16 @@ module _ (S : Schema) (G : Sound S) where
         let ys = elementsBits encoder S k vs in
         (all-append Bit xs ys (a .0) (b .0), λ r. rw (append-assoc xs ys r, a .1 (ys ++ r), b .1 r))
 
+    directs-spelt : {t : ℕ} {vs : Values} → DirectsShown child t vs → Spells (takeDirects decoder t (count vs)) (directsBits encoder t vs) vs
+    unfolding takeDirects directsBits count bind
+    directs-spelt no-direct = (tt, λ r. refl)
+    directs-spelt {t} (directs {v} {vs} h g) =
+        let a = below (O.Table t) v h .0 in
+        let b = directs-spelt g in
+        let xs = encoder (O.Table t) v in
+        let ys = directsBits encoder t vs in
+        (all-append Bit xs ys (a .0) (b .0), λ r. rw (append-assoc xs ys r, a .1 (ys ++ r), b .1 r))
+
     blob-spelt : (l : List ℕ) → All Byte l → length l < 2 ^ 32 → Spells takeBlob (blobBits l) (blob l)
     unfolding takeBlob blobBits bind
     blob-spelt l h s = (
@@ -258,6 +269,16 @@ module _ (S : Schema) (G : Sound S) where
     content-spelt (table {i} {vs} h) =
         let a = members-spelt (G .tables i .members) h in
         ((a .0, λ r. rw (a .1 r)), refl)
+    content-spelt (direct-list {t} {vs} s h) =
+        let a = directs-spelt h in
+        let n = bitsOf 32 (count vs) in
+        let xs = directsBits encoder t vs in (
+          (
+            all-append Bit n xs (bitsOf-bits 32 (count vs)) (a .0),
+            λ r. rw (append-assoc n xs r, number-read 32 (count vs) s (xs ++ r), a .1 r),
+          ),
+          refl,
+        )
 
   pub object-spelt : (d : ℕ) (ob : Object) (v : Value) → Shown d S ob v → Spells (decode d S ob) (encode d S ob v) v × (present v ≡ true)
   unfolding decode encode

@@ -11,8 +11,8 @@ use Rattle.coding.specs.Lists.{pick}
 use Rattle.coding.specs.Schema.{Schema, structOf, elementOf, casesOf, caseOf, tableOf}
 use Rattle.coding.specs.Value.{Value, absent, unknown, number, blob, asNumber, asBlob, asRow, asObject, present, first, others, count}
 use Rattle.coding.specs.Bits.{bitsOf, bits, value, pack}
-use Rattle.coding.specs.Sheet.{markBits, flatBits, fieldBits, fieldsBits, bitsBy, noBits, structBits, Encoder, bodyBits, flatUnknown, unknownWidth, partBits, unmarked, elementBits, membersBits, elementsBits, blobBits, contentBits, encode}
-use Rattle.coding.specs.Sheet.{Parsed, fail, got, bind, takeNumber, takeBytes, takeValue, takeIf, takeMark, unknownEnum, takeUnknownEnum, takeEnum, takeFlat, takeField, takeFields, takeBy, takeNothing, takeStruct, Decoder, takeChoice, takeBody, takeUnknownFlat, takeUnknown, takePart, takeElement, takeMembers, takeElements, takeBlob, takeContent, decode}
+use Rattle.coding.specs.Sheet.{markBits, flatBits, fieldBits, fieldsBits, bitsBy, noBits, structBits, Encoder, bodyBits, flatUnknown, unknownWidth, partBits, unmarked, elementBits, membersBits, elementsBits, directsBits, blobBits, contentBits, encode}
+use Rattle.coding.specs.Sheet.{Parsed, fail, got, bind, takeNumber, takeBytes, takeValue, takeIf, takeMark, unknownEnum, takeUnknownEnum, takeEnum, takeFlat, takeField, takeFields, takeBy, takeNothing, takeStruct, Decoder, takeChoice, takeBody, takeUnknownFlat, takeUnknown, takePart, takeElement, takeMembers, takeElements, takeDirects, takeBlob, takeContent, decode}
 use Rattle.coding.specs.declared.Flat.{Flat}
 use Rattle.coding.specs.declared.Flat.the-variants.{Boolean, Integer, Float, Enumerated, Struct}
 use Rattle.coding.specs.declared.Object.{Object}
@@ -25,7 +25,7 @@ use Rattle.laws.specs.Lists.{both-left, both-right}
 use Rattle.laws.specs.All.{all-drop}
 use Rattle.laws.specs.Bits.{Bit, Byte, front-lt, front-bits, bits-pack, pack-length, pack-bytes}
 use Rattle.laws.specs.Structs.{index-holds₂}
-use Rattle.demands.specs.Shown.{FlatShown, boolean, integer, float, no-enum, enum, unknown-enum, struct, FlatsShown, no-flat, flats, Objects, PartShown, no-part, flat, object, choice, unknown-choice, MembersShown, no-member, members, ElementsShown, no-element, elements, ContentShown, text, bytes, list, table, Shown}
+use Rattle.demands.specs.Shown.{FlatShown, boolean, integer, float, no-enum, enum, unknown-enum, struct, FlatsShown, no-flat, flats, Objects, PartShown, no-part, flat, object, choice, unknown-choice, MembersShown, no-member, members, ElementsShown, no-element, elements, DirectsShown, no-direct, directs, ContentShown, text, bytes, list, table, direct-list, Shown}
 use Rattle.demands.specs.SheetDecode.{mark-present}
 
 -- what is got has P, and its bits with what is left are what was read
@@ -287,6 +287,17 @@ module _ (S : Schema) (G : Sound S) where
         (λ vs q t f c.
         from-got (ap suc (t .0), elements (p .0) (p .1) (t .1)) (joined (elementBits encoder S k v) (elementsBits encoder S k vs) q e f) c))
 
+    directs-from : (t n : ℕ) (xs : List ℕ) → All Bit xs
+        → From (λ vs. (count vs ≡ n) × DirectsShown child t vs) (directsBits encoder t) xs (takeDirects decoder t n xs)
+    unfolding directsBits takeDirects count
+    directs-from t zero xs h = from-got (refl, no-direct) refl h
+    directs-from t (suc n) xs h =
+        from-bind (below (O.Table t) xs h)
+        (λ v r p e b.
+        from-bind (directs-from t n r b)
+        (λ vs q g f c.
+        from-got (ap suc (g .0), directs (p .0) (g .1)) (joined (encoder (O.Table t) v) (directsBits encoder t vs) q e f) c))
+
     -- an object that is there
     Content : Object → Value → Type 0
     Content ob v = ContentShown child S ob v × (present v ≡ true)
@@ -315,6 +326,13 @@ module _ (S : Schema) (G : Sound S) where
         (rw (t .0) (joined (bitsOf 32 n) (elementsBits encoder S (elementOf S i) vs) q e f)) c))
     content-from (O.Table i) xs h =
         from-bind (members-from (tableOf S i .members) (G .tables i .members) xs h) (λ vs r p e b. from-got (table p, refl) e b)
+    content-from (O.DirectList t) xs h =
+        from-bind (number-from 32 xs h)
+        (λ n r l e b.
+        from-bind (directs-from t n r b)
+        (λ vs q g f c.
+        from-got (direct-list (rw (g .0) l) (g .1), refl)
+        (rw (g .0) (joined (bitsOf 32 n) (directsBits encoder t vs) q e f)) c))
 
   pub object-from : (d : ℕ) (ob : Object) (xs : List ℕ) → All Bit xs
       → From (λ v. Shown d S ob v × (present v ≡ true)) (encode d S ob) xs (decode d S ob xs)

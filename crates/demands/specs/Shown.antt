@@ -60,13 +60,20 @@ pub data ElementsShown (child : Objects) (S : Schema) (k : Kind) : Values → Ty
   elements : {v : Value} {vs : Values} → PartShown child S k v → (unmarked k ≡ true → present v ≡ true)
       → ElementsShown child S k vs → ElementsShown child S k (v then vs)
 
--- ---- objects. "text or bytes a 32-bit length and the bytes; list a 32-bit count and elements; table its members"
+-- 02, K1: "the elements without marks": the elements of a direct list of table t, each a table that is there
+pub data DirectsShown (child : Objects) (t : ℕ) : Values → Type 0 where
+  no-direct : DirectsShown child t none
+  directs : {v : Value} {vs : Values} → child (O.Table t) v → DirectsShown child t vs → DirectsShown child t (v then vs)
+
+-- ---- objects. "text or bytes a 32-bit length and the bytes; list a 32-bit count and elements; table its members"; 02, K1: "a 32-bit
+-- count and the elements without marks"
 pub data ContentShown (child : Objects) (S : Schema) : Object → Value → Type 0 where
   text : {l : List ℕ} → All Byte l → length l < 2 ^ 32 → ContentShown child S O.Text (blob l)
   bytes : {l : List ℕ} → All Byte l → length l < 2 ^ 32 → ContentShown child S O.Bytes (blob l)
   list : {i : ℕ} {vs : Values} → count vs < 2 ^ 32 → ElementsShown child S (elementOf S i) vs
       → ContentShown child S (O.List i) (row vs)
   table : {i : ℕ} {vs : Values} → MembersShown child S (tableOf S i .members) vs → ContentShown child S (O.Table i) (row vs)
+  direct-list : {t : ℕ} {vs : Values} → count vs < 2 ^ 32 → DirectsShown child t vs → ContentShown child S (O.DirectList t) (row vs)
 
 -- v is a value that the schema can show at an object, with d objects of depth, this one counted
 abbrev pub Shown : ℕ → Schema → Objects

@@ -2,7 +2,7 @@
 use mathlib.Core.Path.{_≡_, refl, subst}
 use mathlib.Core.List.{List}
 use mathlib.Core.Bool.{Bool, true, false, _&&_}
-use Prim.Native.Nat.{ℕ, zero, suc, _*_, _^_, _<_}
+use Prim.Native.Nat.{ℕ, zero, suc, _+_, _*_, _^_, _<_, _≤_}
 use native.Mathlib.Omega.{arith}
 use lib.Dec.{ltb}
 use borrow.Author.Tests.{ltb-true, not-true}
@@ -12,18 +12,22 @@ use Rattle.coding.specs.Schema.{Schema, casesOf, caseOf}
 use Rattle.coding.specs.Layout.{flatTakesFlag}
 use Rattle.coding.specs.Value.{Value, Values, absent, row, asNumber, asRow, asObject, present, known, first, others}
 use Rattle.coding.specs.Sheet.{unmarked, flatUnmarked}
-use Rattle.coding.specs.Message.{lengthOf, flatKnown, flatsKnown, knownBy, allKnown, structKnown, flatWritable, Test, valueWritable, membersWritable, elementsWritable, contentWritable, writable}
+use Rattle.coding.specs.Walk.{standsInPlace}
+use Rattle.coding.specs.Message.{lengthOf, flatKnown, flatsKnown, knownBy, allKnown, structKnown, flatWritable, Test, valueWritable, membersWritable, elementsWritable, directsWritable, contentWritable, writable}
 use Rattle.coding.specs.declared.Flat.{Flat}
 use Rattle.coding.specs.declared.Flat.the-variants as F
 use Rattle.coding.specs.declared.Object.{Object}
+use Rattle.coding.specs.declared.Object.the-variants as O
 use Rattle.coding.specs.declared.Kind.{Kind}
 use Rattle.coding.specs.declared.Kind.the-variants.{OfFlat, OfObject, OfUnion}
 use Rattle.coding.specs.declared.Member.{Member}
-use Rattle.laws.specs.Sound.{All, FlatSound, NoStruct, Sound}
+use Rattle.laws.specs.Sound.{All, FlatSound, ObjectSound, KindSound, MemberSound, NotDirect, MayStandInPlace, NoStruct, Sound}
+use Rattle.laws.specs.SoundAt.{case-sound-at, case-not-direct-at}
+use Rattle.laws.specs.FixedSizes.{fixed-small}
 use Rattle.laws.specs.Lists.{never, both-left, both-right}
 use Rattle.laws.specs.Structs.{index-holds}
-use Rattle.demands.specs.Shown.{Objects, FlatShown, FlatsShown, boolean, integer, float, no-enum, enum, unknown-enum, struct, no-flat, flats, PartShown, no-part, flat, object, choice, unknown-choice, MembersShown, no-member, members, ElementsShown, no-element, elements, ContentShown, text, bytes, list, table, Shown}
-use Rattle.demands.specs.Writes.{FlatWrites, FlatsWrite, PartWrites, MembersWrite, ElementsWrite, ContentWrites, Writes}
+use Rattle.demands.specs.Shown.{Objects, FlatShown, FlatsShown, boolean, integer, float, no-enum, enum, unknown-enum, struct, no-flat, flats, PartShown, no-part, flat, object, choice, unknown-choice, MembersShown, no-member, members, ElementsShown, no-element, elements, DirectsShown, no-direct, directs, ContentShown, text, bytes, list, table, direct-list, Shown}
+use Rattle.demands.specs.Writes.{FlatWrites, FlatsWrite, PartWrites, MembersWrite, ElementsWrite, DirectsWrite, ContentWrites, Writes}
 use Rattle.demands.specs.Writes as W
 
 -- a number's bits and its bytes
@@ -36,6 +40,15 @@ bytes-small w x h = subst (λ (n : ℕ). x < n) (powers w) h
     powers : (w : ℕ) → 2 ^ (8 * w) ≡ 256 ^ w
     powers zero = refl
     powers (suc w) = let ih = powers w in rw (eight w) (omega arith)
+
+-- what is no direct list may stand in place
+stands-in-place : (ob : Object) → NotDirect ob → standsInPlace ob ≡ true
+unfolding standsInPlace
+stands-in-place O.Text h = refl
+stands-in-place O.Bytes h = refl
+stands-in-place (O.List i) h = refl
+stands-in-place (O.Table i) h = refl
+stands-in-place (O.DirectList t) h = absurd h
 
 -- ---- structs
 module _ (S : Schema) (sound : Sound S) where
@@ -69,8 +82,8 @@ module _ (S : Schema) (sound : Sound S) where
       allKnown (knownBy S) (λ j t h. row-writes j t h) i
 
   -- ---- members and elements
-  module _ (o : ℕ) (child : Objects) (test : Test) (G : Objects)
-      (inner : (ob : Object) (v : Value) → child ob v → test ob v ≡ true → G ob v)
+  module _ (o : ℕ) (narrow : 2 + o ≤ 4096) (child : Objects) (test : Test) (G : Objects)
+      (inner : (ob : Object) (v : Value) → ObjectSound S ob → child ob v → test ob v ≡ true → G ob v)
       (there : (ob : Object) (v : Value) → child ob v → present v ≡ true) where
     no-flat-writes : (k : Flat) (optional inplace : Bool) → flatWritable S optional k absent ≡ true
         → PartWrites G o S optional optional inplace (OfFlat k) absent
@@ -104,19 +117,21 @@ module _ (S : Schema) (sound : Sound S) where
     long-by true n e f = ltb-true 0 n e
     long-by false n e f = never f
 
-    part-writes : {k : Kind} {v : Value} (optional inplace : Bool) → PartShown child S k v → valueWritable test o S k optional inplace v ≡ true
-        → PartWrites G o S optional optional inplace k v
+    part-writes : {k : Kind} {v : Value} (optional inplace : Bool) → KindSound S k → (inplace ≡ true → MayStandInPlace S k)
+        → PartShown child S k v → valueWritable test o S k optional inplace v ≡ true → PartWrites G o S optional optional inplace k v
     unfolding valueWritable present asNumber asObject known
-    part-writes optional inplace (no-part {k = k}) e = no-part-writes k optional inplace e
-    part-writes optional inplace (flat h) e = flat-writes optional inplace h e
-    part-writes optional inplace (object {ob = ob} {v = v} h) e =
+    part-writes optional inplace s may (no-part {k = k}) e = no-part-writes k optional inplace e
+    part-writes optional inplace s may (flat h) e = flat-writes optional inplace h e
+    part-writes optional inplace s may (object {ob = ob} {v = v} h) e =
         let p = there ob v h in
         let n = lengthOf o S ob v in
         let q : (pick inplace (ltb 0 n) true && test ob v) ≡ true = rw p at e in
-        W.object (inner ob v h (both-right (pick inplace (ltb 0 n) true) (test ob v) q)) p
-        (long-by inplace n (both-left (pick inplace (ltb 0 n) true) (test ob v) q))
-    part-writes optional inplace (choice {i = i} {c = c} {v = v} l b h) e = W.choice l b (inner (caseOf (casesOf S i) c) v h e)
-    part-writes optional inplace (unknown-choice h l) e = never e
+        W.object (inner ob v s h (both-right (pick inplace (ltb 0 n) true) (test ob v) q)) p
+        (long-by inplace n (both-left (pick inplace (ltb 0 n) true) (test ob v) q)) (λ t. stands-in-place ob (may t))
+    part-writes optional inplace s may (choice {i = i} {c = c} {v = v} l b h) e =
+        W.choice l b (inner (caseOf (casesOf S i) c) v (case-sound-at S sound i c l b) h e)
+        (λ t. stands-in-place (caseOf (casesOf S i) c) (case-not-direct-at S i c l b (may t)))
+    part-writes optional inplace s may (unknown-choice h l) e = never e
 
     -- a bool or an integer of a list is there
     element-writes : {k : Kind} {v : Value} {nan inplace : Bool} → (unmarked k ≡ true → present v ≡ true) → NoStruct k → PartWrites G o S true nan inplace k v
@@ -130,33 +145,46 @@ module _ (S : Schema) (sound : Sound S) where
     element-writes b s (W.no-float e) = W.no-float e
     element-writes b s (W.flat h n) = W.flat h n
     element-writes b s W.no-object = W.no-object
-    element-writes b s (W.object g p l) = W.object g p l
+    element-writes b s (W.object g p l d) = W.object g p l d
     element-writes b s W.no-union = W.no-union
-    element-writes b s (W.choice l c g) = W.choice l c g
+    element-writes b s (W.choice l c g d) = W.choice l c g d
 
-    members-write : {rs : List Member} {vs : Values} → MembersShown child S rs vs → membersWritable test o S rs vs ≡ true → MembersWrite G o S rs vs
+    members-write : {rs : List Member} {vs : Values} → All (MemberSound S) rs → MembersShown child S rs vs → membersWritable test o S rs vs ≡ true → MembersWrite G o S rs vs
     unfolding membersWritable first others
-    members-write no-member e = W.no-member
-    members-write (members {r = r} {rs = rs} {v = v} {vs = vs} h hs) e =
+    members-write ok no-member e = W.no-member
+    members-write ok (members {r = r} {rs = rs} {v = v} {vs = vs} h hs) e =
         let a = valueWritable test o S (r .kind) (r .optional) (r .inplace) v in
         let b = membersWritable test o S rs vs in
-        W.members (part-writes (r .optional) (r .inplace) h (both-left a b e)) (members-write hs (both-right a b e))
+        W.members (part-writes (r .optional) (r .inplace) (ok .0 .kind) (ok .0 .inplace) h (both-left a b e))
+        (members-write (ok .1) hs (both-right a b e))
 
-    elements-write : {k : Kind} {vs : Values} → NoStruct k → ElementsShown child S k vs → elementsWritable test o S k vs ≡ true
+    elements-write : {k : Kind} {vs : Values} → KindSound S k → NoStruct k → ElementsShown child S k vs → elementsWritable test o S k vs ≡ true
         → ElementsWrite G o S k vs
     unfolding elementsWritable
-    elements-write s no-element e = W.no-element
-    elements-write {k} s (elements {v = v} {vs = vs} h there′ hs) e =
+    elements-write ok s no-element e = W.no-element
+    elements-write {k} ok s (elements {v = v} {vs = vs} h there′ hs) e =
         let a = valueWritable test o S k true false v in
         let b = elementsWritable test o S k vs in
-        W.elements (element-writes there′ s (part-writes true false h (both-left a b e))) (elements-write s hs (both-right a b e))
+        W.elements (element-writes there′ s (part-writes true false ok (λ f. never f) h (both-left a b e))) (elements-write ok s hs (both-right a b e))
 
-    content-writes : {ob : Object} {v : Value} → ContentShown child S ob v → contentWritable test o S ob v ≡ true → ContentWrites G o S ob v
+    directs-write : {t : ℕ} {vs : Values} → ObjectSound S (O.Table t) → DirectsShown child t vs → directsWritable test t vs ≡ true
+        → DirectsWrite G t vs
+    unfolding directsWritable
+    directs-write ok no-direct e = W.no-direct
+    directs-write {t} ok (directs {v = v} {vs = vs} h hs) e =
+        let a = test (O.Table t) v in
+        let b = directsWritable test t vs in
+        W.directs (inner (O.Table t) v ok h (both-left a b e)) (directs-write ok hs (both-right a b e))
+
+    content-writes : {ob : Object} {v : Value} → ObjectSound S ob → ContentShown child S ob v → contentWritable test o S ob v ≡ true
+        → ContentWrites G o S ob v
     unfolding contentWritable asRow
-    content-writes (text h l) e = W.text h
-    content-writes (bytes h l) e = W.bytes h
-    content-writes (list {i = i} l h) e = W.list (elements-write (sound .lists i .scalar) h e)
-    content-writes (table h) e = W.table (members-write h e)
+    content-writes ok (text h l) e = W.text h
+    content-writes ok (bytes h l) e = W.bytes h
+    content-writes ok (list {i = i} l h) e = W.list (elements-write (sound .lists i .kind) (sound .lists i .scalar) h e)
+    content-writes ok (table {i = i} h) e = W.table (members-write (sound .tables i .members) h e)
+    content-writes ok (direct-list {t = t} l h) e =
+        W.direct-list ok (omega (arith, fixed-small o narrow S sound t)) l (directs-write (ok .table) h e)
 
   content-there : {child : Objects} {ob : Object} {v : Value} → ContentShown child S ob v → present v ≡ true
   unfolding present
@@ -164,13 +192,15 @@ module _ (S : Schema) (sound : Sound S) where
   content-there (bytes h l) = refl
   content-there (list l h) = refl
   content-there (table h) = refl
+  content-there (direct-list l h) = refl
 
   shown-there : (d : ℕ) (ob : Object) (v : Value) → Shown d S ob v → present v ≡ true
   shown-there zero ob v h = absurd h
   shown-there (suc d) ob v h = content-there h
 
-  pub shown-writes : (o d : ℕ) (ob : Object) (v : Value) → Shown d S ob v → writable d o S ob v ≡ true → Writes d o S ob v
+  pub shown-writes : (o : ℕ) → 2 + o ≤ 4096 → (d : ℕ) (ob : Object) (v : Value) → ObjectSound S ob → Shown d S ob v → writable d o S ob v ≡ true
+      → Writes d o S ob v
   unfolding writable
-  shown-writes o zero ob v h e = absurd h
-  shown-writes o (suc d) ob v h e =
-      content-writes o (Shown d S) (writable d o S) (Writes d o S) (shown-writes o d) (shown-there d) h e
+  shown-writes o narrow zero ob v ok h e = absurd h
+  shown-writes o narrow (suc d) ob v ok h e =
+      content-writes o narrow (Shown d S) (writable d o S) (Writes d o S) (shown-writes o narrow d) (shown-there d) ok h e

@@ -8,7 +8,7 @@ use lib.ListN.{length, getD}
 use Rattle.coding.specs.Bytes.{le, bitAt}
 use Rattle.coding.specs.Walk.{startSize, headerSize}
 use Rattle.coding.specs.Cells.{width, chain, Slots, gather, packBits}
-use Rattle.coding.specs.Cells.Slots.{end, bytes, bit, reference, inPlace}
+use Rattle.coding.specs.Cells.Slots.{end, bytes, bit, reference, inPlace, part}
 use Rattle.laws.specs.Sound.{All}
 use Rattle.laws.specs.Bits.{Byte}
 use Rattle.demands.specs.Holds.{Holds}
@@ -21,6 +21,7 @@ SlotsBytes (bytes bs s) = All Byte bs × SlotsBytes s
 SlotsBytes (bit x s) = (x < 2) × SlotsBytes s
 SlotsBytes (reference k s) = SlotsBytes k × SlotsBytes s
 SlotsBytes (inPlace k s) = SlotsBytes k × SlotsBytes s
+SlotsBytes (part k s) = SlotsBytes k × SlotsBytes s
 
 gather-small : (n : ℕ) (s : Slots) → SlotsBytes s → gather n s < 2 ^ n
 unfolding gather
@@ -34,6 +35,7 @@ gather-small zero (bit x s) h = omega arith
 gather-small (suc n) (bit x s) h = omega (arith, gather-small n s (h .1), h .0)
 gather-small n (reference k s) h = gather-small n s (h .1)
 gather-small n (inPlace k s) h = gather-small n s (h .1)
+gather-small n (part k s) h = gather-small n s (h .1)
 
 pub pack-bytes : (f : ℕ) (s : Slots) → SlotsBytes s → CellsBytes (packBits f s)
 unfolding packBits
@@ -43,6 +45,7 @@ pack-bytes zero (bit x s) h = ((omega (arith, gather-small 7 s (h .1), h .0), tt
 pack-bytes (suc f) (bit x s) h = pack-bytes f s (h .1)
 pack-bytes f (reference k s) h = (pack-bytes 0 k (h .0), pack-bytes f s (h .1))
 pack-bytes f (inPlace k s) h = (pack-bytes 0 k (h .0), pack-bytes f s (h .1))
+pack-bytes f (part k s) h = (pack-bytes 0 k (h .0), pack-bytes f s (h .1))
 
 -- ---- a position: the next free byte p, the last bool byte l, and how many of its bits are free, f
 abbrev pub byteOf : ℕ → ℕ → ℕ → ℕ
@@ -72,6 +75,8 @@ SlotsHold o m e p l f (reference k s) =
     (startSize o ≤ le m p o) × SlotsHold o m (le m p o + width o (packBits 0 k)) (le m p o) 0 0 k × SlotsHold o m e (p + o) l f s
 SlotsHold o m e p l f (inPlace k s) =
     SlotsHold o m (e + width o (packBits 0 k)) e 0 0 k × SlotsHold o m (e + width o (packBits 0 k) + chain o (packBits 0 k)) p l f s
+SlotsHold o m e p l f (part k s) =
+    SlotsHold o m e p 0 0 k × SlotsHold o m (e + chain o (packBits 0 k)) (p + width o (packBits 0 k)) l f s
 
 -- what is left of the last bool byte are the bits to come
 abbrev pub Rest : List ℕ → ℕ → ℕ → Slots → Type 0
@@ -127,4 +132,8 @@ module _ (o : ℕ) (m : List ℕ) where
   slots-hold e p l f (inPlace k s) y r h = (
     slots-hold (e + width o (packBits 0 k)) e 0 0 k (y .0) tt (h .0),
     slots-hold (e + width o (packBits 0 k) + chain o (packBits 0 k)) p l f s (y .1) (rest-same m l f (inPlace k s) s refl r) (h .1),
+  )
+  slots-hold e p l f (part k s) y r h = (
+    slots-hold e p 0 0 k (y .0) tt (h .0),
+    slots-hold (e + chain o (packBits 0 k)) (p + width o (packBits 0 k)) l f s (y .1) (rest-same m l f (part k s) s refl r) (h .1),
   )

@@ -34,6 +34,10 @@ no-text-table : (k : ℕ) → k ≡ 16 → IsText k → ⊥
 no-text-table k e (inl f) = omega arith
 no-text-table k e (inr f) = omega arith
 
+no-text-direct : (k : ℕ) → k ≡ 18 → IsText k → ⊥
+no-text-direct k e (inl f) = omega arith
+no-text-direct k e (inr f) = omega arith
+
 -- ---- where there is a part, the answer is a text or bytes
 object-there : (ob : Object) (start n : ℕ) → Field.objectSpan ob start n .there ≡ true
     → IsText (Field.recordKind ob) × (Field.objectSpan ob start n .length ≡ n)
@@ -42,6 +46,7 @@ object-there O.Text start n h = (inl refl, refl)
 object-there O.Bytes start n h = (inr refl, refl)
 object-there (O.List i) start n h = nothing (cc)
 object-there (O.Table i) start n h = nothing (cc)
+object-there (O.DirectList t) start n h = nothing (cc)
 
 found-there : (f : Found) → Field.foundSpan f .there ≡ true
     → (k at : ℕ) × (Field.answerOf f ≡ A.Object k at (Field.foundSpan f .length)) × IsText k
@@ -63,6 +68,7 @@ object-text O.Text start n k e t = (refl, refl)
 object-text O.Bytes start n k e t = (refl, refl)
 object-text (O.List i) start n k e t = absurd (no-text k (sym e) t)
 object-text (O.Table i) start n k e t = absurd (no-text-table k (sym e) t)
+object-text (O.DirectList r) start n k e t = absurd (no-text-direct k (sym e) t)
 
 flat-object : (f : Flat) (x k at n : ℕ) → Field.flatAnswer f x ≡ A.Object k at n → _≡_ {A = ℕ} 0 1
 unfolding Field.flatAnswer

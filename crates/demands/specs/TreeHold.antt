@@ -4,13 +4,13 @@
 use mathlib.Core.Path.{_≡_}
 use mathlib.Core.List.{List, [], _∷_}
 use mathlib.Core.Bool.{true}
-use Prim.Native.Nat.{ℕ, zero, suc, _+_, _<_, _≤_}
+use Prim.Native.Nat.{ℕ, zero, suc, _+_, _*_, _<_, _≤_}
 use lib.ListN.{length, getD, take, drop}
 use Rattle.coding.specs.Bytes.{le}
 use Rattle.coding.specs.Schema.{Schema, elementOf, casesOf, caseOf, tableOf}
 use Rattle.coding.specs.Layout.{begin, afterMember, fixedSize}
 use Rattle.coding.specs.Step.{memberStep, elementStep, elementsSize}
-use Rattle.coding.specs.Walk.{startSize, headerSize, magic}
+use Rattle.coding.specs.Walk.{startSize, headerSize, elementId, elementSize, mostElements, standsInPlace, magic}
 use Rattle.coding.specs.Value.{Value, Values, absent, number, blob, row, chosen, none, _then_, present, count}
 use Rattle.coding.specs.Read.{structRead}
 use Rattle.coding.specs.declared.Flat.{Flat}
@@ -60,21 +60,31 @@ pub data ElementsHold (below : Below) (o : ℕ) (S : Schema) (m : List ℕ) (sta
   elements : {i : ℕ} {v : Value} {vs : Values} → Shows below S m k v (elementStep o S m k start i)
       → ElementsHold below o S m start k (i + 1) vs → ElementsHold below o S m start k i (v then vs)
 
--- content of length n from `start`
-pub data ContentHolds (below : Below) (o : ℕ) (S : Schema) (m : List ℕ) : Object → Value → ℕ → ℕ → Type 0 where
-  text : {l : List ℕ} {start n : ℕ} → take n (drop start m) ≡ l → start + (n + 1) ≤ length m → getD m (start + n) 0 ≡ 0
-      → ContentHolds below o S m O.Text (blob l) start n
-  bytes : {l : List ℕ} {start n : ℕ} → take n (drop start m) ≡ l → start + n ≤ length m
-      → ContentHolds below o S m O.Bytes (blob l) start n
-  list : {i start n : ℕ} {vs : Values} → count vs ≡ n → start + elementsSize o S (elementOf S i) n ≤ length m
-      → ElementsHold below o S m start (elementOf S i) 0 vs → ContentHolds below o S m (O.List i) (row vs) start n
-  table : {i start n : ℕ} {vs : Values} → fixedSize o S (tableOf S i .members) ≡ n → start + n ≤ length m
-      → MembersHold below o S m start n begin (tableOf S i .members) vs → ContentHolds below o S m (O.Table i) (row vs) start n
+-- the elements of a direct list of table t, each of w bytes, the first at a place
+pub data DirectsHold (below : Below) (t w : ℕ) : ℕ → Values → Type 0 where
+  no-direct : {at : ℕ} → DirectsHold below t w at none
+  directs : {at : ℕ} {v : Value} {vs : Values} → below (O.Table t) v (InPlace at w) → DirectsHold below t w (at + w) vs
+      → DirectsHold below t w at (v then vs)
+
+-- content of length n from `start`, of the object at a place
+pub data ContentHolds (below : Below) (o : ℕ) (S : Schema) (m : List ℕ) : Object → Value → ℕ → ℕ → ℕ → Type 0 where
+  text : {l : List ℕ} {at start n : ℕ} → take n (drop start m) ≡ l → start + (n + 1) ≤ length m → getD m (start + n) 0 ≡ 0
+      → ContentHolds below o S m O.Text (blob l) at start n
+  bytes : {l : List ℕ} {at start n : ℕ} → take n (drop start m) ≡ l → start + n ≤ length m
+      → ContentHolds below o S m O.Bytes (blob l) at start n
+  list : {i at start n : ℕ} {vs : Values} → count vs ≡ n → start + elementsSize o S (elementOf S i) n ≤ length m
+      → ElementsHold below o S m start (elementOf S i) 0 vs → ContentHolds below o S m (O.List i) (row vs) at start n
+  table : {i at start n : ℕ} {vs : Values} → fixedSize o S (tableOf S i .members) ≡ n → start + n ≤ length m
+      → MembersHold below o S m start n begin (tableOf S i .members) vs → ContentHolds below o S m (O.Table i) (row vs) at start n
+  direct-list : {t at start n : ℕ} {vs : Values} → count vs ≡ n → elementId o m at ≡ tableOf S t .id → n ≤ mostElements
+      → start + n * elementSize o m at ≤ length m → DirectsHold below t (elementSize o m at) start vs
+      → ContentHolds below o S m (O.DirectList t) (row vs) at start n
 
 pub data PlaceHolds (below : Below) (o : ℕ) (S : Schema) (m : List ℕ) : Object → Value → Place → Type 0 where
-  by-offset : {ob : Object} {v : Value} {x : ℕ} → startSize o ≤ x → x + headerSize o ≤ length m → le m x 4 ≡ magic S ob
-      → ContentHolds below o S m ob v (x + headerSize o) (le m (x + 4) o) → PlaceHolds below o S m ob v (ByOffset x)
-  in-place : {ob : Object} {v : Value} {a n : ℕ} → ContentHolds below o S m ob v a n → PlaceHolds below o S m ob v (InPlace a n)
+  by-offset : {ob : Object} {v : Value} {x : ℕ} → startSize o ≤ x → x + headerSize o ob ≤ length m → le m x 4 ≡ magic S ob
+      → ContentHolds below o S m ob v x (x + headerSize o ob) (le m (x + 4) o) → PlaceHolds below o S m ob v (ByOffset x)
+  in-place : {ob : Object} {v : Value} {a n : ℕ} → standsInPlace ob ≡ true → ContentHolds below o S m ob v a a n
+      → PlaceHolds below o S m ob v (InPlace a n)
 
 abbrev pub HoldsTree : ℕ → ℕ → Schema → List ℕ → Below
 HoldsTree zero o S m ob v p = ⊥

@@ -29,11 +29,16 @@ unfoldable pub elementsLengths : Lengths → Schema → Kind → Values → List
 elementsLengths child S k none = []
 elementsLengths child S k (v then vs) = partLengths child S k v ++ elementsLengths child S k vs
 
+unfoldable pub directsLengths : Lengths → ℕ → Values → List ℕ
+directsLengths child t none = []
+directsLengths child t (v then vs) = child (O.Table t) v ++ directsLengths child t vs
+
 unfoldable pub partsLengths : Lengths → Schema → Lengths
 partsLengths child S O.Text v = []
 partsLengths child S O.Bytes v = []
 partsLengths child S (O.List i) v = elementsLengths child S (elementOf S i) (asRow v)
 partsLengths child S (O.Table i) v = membersLengths child S (tableOf S i .members) (asRow v)
+partsLengths child S (O.DirectList t) v = directsLengths child t (asRow v)
 
 -- the object with all that it leads to, d objects deep
 unfoldable pub treeLengths : ℕ → ℕ → Schema → Lengths

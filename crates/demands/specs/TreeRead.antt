@@ -4,14 +4,17 @@ use mathlib.Core.List.{List}
 use Prim.Native.Nat.{ℕ, zero, suc}
 use Rattle.coding.specs.Schema.{Schema, elementOf}
 use Rattle.coding.specs.Value.{Value, Values, blob, row, chosen, _then_, count}
-use Rattle.coding.specs.Read.{Child, stepRead, structRead, membersRead, elementsRead, contentRead, placeRead, read}
+use Rattle.coding.specs.Walk.{elementSize}
+use Rattle.coding.specs.Read.{Child, stepRead, structRead, membersRead, elementsRead, directsRead, contentRead, placeRead, read}
 use Rattle.coding.specs.declared.Object.{Object}
+use Rattle.coding.specs.declared.Object.the-variants as O
 use Rattle.coding.specs.declared.Kind.{Kind}
 use Rattle.coding.specs.declared.Member.{Member}
 use Rattle.coding.specs.declared.Cursor.{Cursor}
 use Rattle.coding.specs.declared.Place.{Place}
+use Rattle.coding.specs.declared.Place.the-variants.{InPlace}
 use Rattle.coding.specs.declared.Step.{Step}
-use Rattle.demands.specs.TreeHold.{Below, Shows, nothing, scalar, struct, object, choice, MembersHold, no-member, members, ElementsHold, no-element, elements, ContentHolds, text, bytes, list, table, PlaceHolds, by-offset, in-place, HoldsTree}
+use Rattle.demands.specs.TreeHold.{Below, Shows, nothing, scalar, struct, object, choice, MembersHold, no-member, members, ElementsHold, no-element, elements, DirectsHold, no-direct, directs, ContentHolds, text, bytes, list, table, direct-list, PlaceHolds, by-offset, in-place, HoldsTree}
 
 module _ (below : Below) (o : ℕ) (S : Schema) (m : List ℕ) (child : Child)
     (inner : (ob : Object) (v : Value) (p : Place) → below ob v p → child ob p ≡ v) where
@@ -35,18 +38,27 @@ module _ (below : Below) (o : ℕ) (S : Schema) (m : List ℕ) (child : Child)
   elements-read no-element = refl
   elements-read (elements h hs) = ap₂ (λ (x : Value) (xs : Values). x then xs) (step-read h) (elements-read hs)
 
-  content-read : {ob : Object} {v : Value} {start n : ℕ} → ContentHolds below o S m ob v start n → contentRead child o S m ob start n ≡ v
+  directs-read : {t w at : ℕ} {vs : Values} → DirectsHold below t w at vs → directsRead child t w (count vs) at ≡ vs
+  unfolding directsRead count
+  directs-read no-direct = refl
+  directs-read {t} {w} (directs {at = at} {v = v} h hs) =
+      ap₂ (λ (x : Value) (xs : Values). x then xs) (inner (O.Table t) v (InPlace at w) h) (directs-read hs)
+
+  content-read : {ob : Object} {v : Value} {at start n : ℕ} → ContentHolds below o S m ob v at start n
+      → contentRead child o S m ob at start n ≡ v
   unfolding contentRead
   content-read (text h f e) = ap blob h
   content-read (bytes h f) = ap blob h
   content-read (list {i = i} {start = start} {n = n} {vs = vs} e f h) =
       ap (λ (x : ℕ). row (elementsRead child o S m start (elementOf S i) x 0)) (sym e) ∙ ap row (elements-read h)
   content-read (table e f h) = ap row (members-read h)
+  content-read (direct-list {t = t} {at = at} {start = start} e i l f h) =
+      ap (λ (x : ℕ). row (directsRead child t (elementSize o m at) x start)) (sym e) ∙ ap row (directs-read h)
 
   place-read : {ob : Object} {v : Value} {p : Place} → PlaceHolds below o S m ob v p → placeRead child o S m ob p ≡ v
   unfolding placeRead
   place-read (by-offset l f e h) = content-read h
-  place-read (in-place h) = content-read h
+  place-read (in-place e h) = content-read h
 
 pub tree-read : (o : ℕ) (S : Schema) (m : List ℕ) (d : ℕ) (ob : Object) (v : Value) (p : Place) → HoldsTree d o S m ob v p
     → read d o S m ob p ≡ v

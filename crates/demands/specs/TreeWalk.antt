@@ -1,22 +1,23 @@
 -- A walk over a message that holds a tree arrives at the tree's objects in turn: with each budget it comes to what their content
 -- lengths come to.
-use mathlib.Core.Path.{_≡_, refl, sym, ap, subst}
+use mathlib.Core.Path.{_≡_, refl, sym, ap, _∙_, subst}
 use mathlib.Core.List.{List, [], _∷_, _++_}
 use mathlib.Core.Bool.{Bool, true, false}
-use Prim.Native.Nat.{ℕ, zero, suc, _+_, _≤_}
+use Prim.Native.Nat.{ℕ, zero, suc, _+_, _*_, _≤_}
 use native.Mathlib.Omega.{arith}
 use lib.Dec.{ltb, leb}
 use borrow.Author.Tests.{le-leb, eq-eqb, ne-eqb}
 use lib.ListN.{length, getD, take, drop, length-take, length-drop}
 use Rattle.coding.specs.Lists.{pick}
 use Rattle.coding.specs.Bytes.{le}
-use Rattle.coding.specs.Schema.{Schema}
+use Rattle.coding.specs.Schema.{Schema, tableOf}
 use Rattle.coding.specs.Layout.{afterMember}
 use Rattle.coding.specs.Step.{memberStep, elementStep}
-use Rattle.coding.specs.Walk.{Child, placed, magic, headerSize, startSize, contentSize, contentLength, endOk, fitContent, fitObject, bytesTested, refuse, andThen, followChoice, follow, members, elements, content, enter, withContent, admit, arrive, oneMore, counted, visit}
+use Rattle.coding.specs.Walk.{Child, placed, magic, headerSize, elementId, elementSize, mostElements, startSize, contentSize, contentLength, endOk, fitContent, directHeader, headerTested, standsInPlace, fitObject, bytesTested, refuse, andThen, followChoice, follow, members, elements, directs, content, enter, withContent, admit, arrive, oneMore, counted, visit}
 use Rattle.coding.specs.Value.{Value, Values, absent, asNumber, asBlob, asRow, asObject, present, first, others, count}
 use Rattle.coding.specs.Message.{lengthOf}
 use Rattle.coding.specs.declared.Object.{Object}
+use Rattle.coding.specs.declared.Object.the-variants as O
 use Rattle.coding.specs.declared.Kind.{Kind}
 use Rattle.coding.specs.declared.Kind.the-variants.{OfFlat, OfObject, OfUnion}
 use Rattle.coding.specs.declared.Member.{Member}
@@ -24,14 +25,15 @@ use Rattle.coding.specs.declared.Cursor.{Cursor}
 use Rattle.coding.specs.declared.Place.{Place}
 use Rattle.coding.specs.declared.Place.the-variants.{ByOffset, InPlace}
 use Rattle.coding.specs.declared.Step.{Step}
+use Rattle.coding.specs.declared.Opened.{Opened}
 use Rattle.coding.specs.declared.Opened.the-variants as Op
 use Rattle.coding.specs.declared.Budget.{Budget}
 use Rattle.coding.specs.declared.Spent.{Spent}
 use Rattle.coding.specs.declared.Walked.{Walked}
 use Rattle.coding.specs.declared.Walked.the-variants.{Going}
 use Rattle.demands.specs.InTurn.{Ending, goes, stops, spend}
-use Rattle.demands.specs.TreeLengths.{Lengths, partLengths, membersLengths, elementsLengths, partsLengths, treeLengths}
-use Rattle.demands.specs.TreeHold.{Below, Somewhere, Shows, nothing, scalar, struct, object, choice, MembersHold, no-member, ElementsHold, no-element, ContentHolds, text, bytes, list, table, PlaceHolds, by-offset, in-place, HoldsTree}
+use Rattle.demands.specs.TreeLengths.{Lengths, partLengths, membersLengths, elementsLengths, directsLengths, partsLengths, treeLengths}
+use Rattle.demands.specs.TreeHold.{Below, Somewhere, Shows, nothing, scalar, struct, object, choice, MembersHold, no-member, ElementsHold, no-element, DirectsHold, no-direct, ContentHolds, text, bytes, list, table, direct-list, PlaceHolds, by-offset, in-place, HoldsTree}
 use Rattle.demands.specs.TreeHold as T
 
 -- the walk ends so
@@ -147,50 +149,80 @@ module _ (below : Below) (o : ℕ) (S : Schema) (m : List ℕ) (b : Budget) (chi
       pass-then b (partLengths lengths S k v) (elementsLengths lengths S k vs) (follow child holder i (elementStep o S m k start i))
       (elements child o S m holder start k (count vs) (i + 1)) (step-passes holder i h) (elements-pass holder hs)
 
-  content-passes : {ob : Object} {v : Value} {start n : ℕ} (holder : ℕ) → ContentHolds below o S m ob v start n
+  directs-pass : {t w at : ℕ} {vs : Values} → DirectsHold below t w at vs
+      → Passes b (directsLengths lengths t vs) (directs child t w (count vs) at)
+  unfolding directs directsLengths count
+  directs-pass no-direct = pass-none b
+  directs-pass {t} {w} (T.directs {at = at} {v = v} {vs = vs} h hs) =
+      pass-then b (lengths (O.Table t) v) (directsLengths lengths t vs) (child (O.Table t) (InPlace at w))
+      (directs child t w (count vs) (at + w)) (inner (O.Table t) v (InPlace at w) h) (directs-pass hs)
+
+  content-passes : {ob : Object} {v : Value} {start n : ℕ} (holder : ℕ) → ContentHolds below o S m ob v holder start n
       → Passes b (partsLengths lengths S ob v) (content child o S m ob holder start n)
   unfolding content partsLengths asRow
   content-passes holder (text h f e) = pass-none b
   content-passes holder (bytes h f) = pass-none b
   content-passes holder (list e f h) = rw (← e) (elements-pass holder h)
   content-passes holder (table e f h) = members-pass holder 0 h
+  content-passes holder (direct-list e i l f h) = rw (← e) (directs-pass h)
 
   -- the content fits, its bytes are in order, and its length is the value's
-  content-fits : {ob : Object} {v : Value} {start n : ℕ} → ContentHolds below o S m ob v start n
-      → fitContent o S m ob start n ≡ Op.Content start n
+  content-fits : {ob : Object} {v : Value} {at start n : ℕ} → ContentHolds below o S m ob v at start n
+      → fitContent o S m ob at start n ≡ Op.Content start n
   unfolding fitContent contentSize
   content-fits (text {start = start} {n = n} h f e) = rw (le-leb (start + (n + 1)) (length m) f)
   content-fits (bytes {start = start} {n = n} h f) = rw (le-leb (start + n) (length m) f)
   content-fits (list {i = i} {start = start} {n = n} e f h) = rw (le-leb _ (length m) f)
   content-fits (table {start = start} {n = n} e f h) = rw (le-leb (start + n) (length m) f)
+  content-fits (direct-list {at = at} {start = start} {n = n} e i l f h) = rw (le-leb (start + n * elementSize o m at) (length m) f)
 
-  content-tested : {ob : Object} {v : Value} {start n : ℕ} → ContentHolds below o S m ob v start n
+  -- what a direct list's header says more is in order
+  header-tested : {ob : Object} {v : Value} {at start n : ℕ} → ContentHolds below o S m ob v at start n → le m (at + 4) o ≡ n → (fit : Opened)
+      → headerTested o S m ob at fit ≡ fit
+  unfolding headerTested directHeader
+  header-tested (text h f e) q fit = refl
+  header-tested (bytes h f) q fit = refl
+  header-tested (list e f h) q fit = refl
+  header-tested (table e f h) q fit = refl
+  header-tested (direct-list {t = t} {at = at} e i l f h) q fit =
+      rw (eq-eqb (elementId o m at) (tableOf S t .id) i, le-leb (le m (at + 4) o) mostElements (omega arith))
+
+  content-tested : {ob : Object} {v : Value} {at start n : ℕ} → ContentHolds below o S m ob v at start n
       → bytesTested m ob (Op.Content start n) ≡ Op.Content start n
   unfolding bytesTested endOk
   content-tested (text {start = start} {n = n} h f e) = rw (eq-eqb (getD m (start + n) 0) 0 e)
   content-tested (bytes h f) = refl
   content-tested (list e f h) = refl
   content-tested (table e f h) = refl
+  content-tested (direct-list e i l f h) = refl
 
   part-length : (l : List ℕ) (start n : ℕ) → take n (drop start m) ≡ l → start + n ≤ length m → length l ≡ n
   part-length l start n e h = rw (← e) (simp (length-take, length-drop) (omega arith))
 
-  content-long : {ob : Object} {v : Value} {start n : ℕ} → ContentHolds below o S m ob v start n → lengthOf o S ob v ≡ n
+  content-long : {ob : Object} {v : Value} {at start n : ℕ} → ContentHolds below o S m ob v at start n → lengthOf o S ob v ≡ n
   unfolding lengthOf asBlob asRow
   content-long (text {l = l} {start = start} {n = n} h f e) = part-length l start n h (omega arith)
   content-long (bytes {l = l} {start = start} {n = n} h f) = part-length l start n h f
   content-long (list e f h) = e
   content-long (table e f h) = e
+  content-long (direct-list e i l f h) = e
 
-  offset-fits : {ob : Object} {v : Value} (x : ℕ) → startSize o ≤ x → x + headerSize o ≤ length m → le m x 4 ≡ magic S ob
-      → ContentHolds below o S m ob v (x + headerSize o) (le m (x + 4) o)
-      → fitObject o S m ob (ByOffset x) ≡ Op.Content (x + headerSize o) (le m (x + 4) o)
+  offset-fits : {ob : Object} {v : Value} (x : ℕ) → startSize o ≤ x → x + headerSize o ob ≤ length m → le m x 4 ≡ magic S ob
+      → ContentHolds below o S m ob v x (x + headerSize o ob) (le m (x + 4) o)
+      → fitObject o S m ob (ByOffset x) ≡ Op.Content (x + headerSize o ob) (le m (x + 4) o)
   unfolding fitObject
   offset-fits {ob} x l f e h =
-      rw (le-leb (startSize o) x l, le-leb (x + headerSize o) (length m) f, eq-eqb (le m x 4) (magic S ob) e) (content-fits h)
+      let fit = fitContent o S m ob x (x + headerSize o ob) (le m (x + 4) o) in
+      rw (le-leb (startSize o) x l, le-leb (x + headerSize o ob) (length m) f, eq-eqb (le m x 4) (magic S ob) e)
+      (header-tested h refl fit ∙ content-fits h)
+
+  in-place-fits : {ob : Object} {v : Value} (a n : ℕ) → standsInPlace ob ≡ true → ContentHolds below o S m ob v a a n
+      → fitObject o S m ob (InPlace a n) ≡ Op.Content a n
+  unfolding fitObject
+  in-place-fits a n e h = rw e (content-fits h)
 
   arrival-passes : (ob : Object) (v : Value) (p : Place) (start n : ℕ) → fitObject o S m ob p ≡ Op.Content start n
-      → ContentHolds below o S m ob v start n
+      → ContentHolds below o S m ob v (placed p) start n
       → Passes b (contentLength o S ob (lengthOf o S ob v) ∷ partsLengths lengths S ob v) (counted (arrive child o S m b) b ob p)
   arrival-passes ob v p start n e h =
       subst (λ (k : ℕ). Passes b (contentLength o S ob k ∷ partsLengths lengths S ob v) (counted (arrive child o S m b) b ob p))
@@ -199,10 +231,10 @@ module _ (below : Below) (o : ℕ) (S : Schema) (m : List ℕ) (b : Budget) (chi
 
   place-passes : {ob : Object} {v : Value} {p : Place} → PlaceHolds below o S m ob v p
       → Passes b (contentLength o S ob (lengthOf o S ob v) ∷ partsLengths lengths S ob v) (counted (arrive child o S m b) b ob p)
-  unfolding fitObject
+  unfolding placed
   place-passes (by-offset {ob = ob} {v = v} {x = x} l f e h) =
-      arrival-passes ob v (ByOffset x) (x + headerSize o) (le m (x + 4) o) (offset-fits x l f e h) h
-  place-passes (in-place {ob = ob} {v = v} {a = a} {n = n} h) = arrival-passes ob v (InPlace a n) a n (content-fits h) h
+      arrival-passes ob v (ByOffset x) (x + headerSize o ob) (le m (x + 4) o) (offset-fits x l f e h) h
+  place-passes (in-place {ob = ob} {v = v} {a = a} {n = n} e h) = arrival-passes ob v (InPlace a n) a n (in-place-fits a n e h) h
 
 pub tree-passes : (o : ℕ) (S : Schema) (m : List ℕ) (b : Budget) (d : ℕ) (ob : Object) (v : Value) (p : Place) → HoldsTree d o S m ob v p
     → Passes b (treeLengths d o S ob v) (visit d o S m b ob p)

@@ -6,8 +6,9 @@ use Prim.Native.Nat.{ℕ, zero, suc, _^_, _<_, _≤_}
 use lib.ListN.{length}
 use Rattle.coding.specs.Bytes.{isNaN}
 use Rattle.coding.specs.Schema.{Schema, structOf, elementOf, casesOf, caseOf, tableOf}
-use Rattle.coding.specs.Layout.{flatTakesFlag}
-use Rattle.coding.specs.Value.{Value, Values, absent, number, blob, row, chosen, none, _then_, present, asNumber}
+use Rattle.coding.specs.Layout.{flatTakesFlag, fixedSize}
+use Rattle.coding.specs.Value.{Value, Values, absent, number, blob, row, chosen, none, _then_, present, asNumber, count}
+use Rattle.coding.specs.Walk.{standsInPlace}
 use Rattle.coding.specs.Message.{lengthOf}
 use Rattle.coding.specs.declared.Flat.{Flat}
 use Rattle.coding.specs.declared.Flat.the-variants.{Boolean, Integer, Float, Enumerated, Struct}
@@ -16,7 +17,7 @@ use Rattle.coding.specs.declared.Object.the-variants as O
 use Rattle.coding.specs.declared.Kind.{Kind}
 use Rattle.coding.specs.declared.Kind.the-variants.{OfFlat, OfObject, OfUnion}
 use Rattle.coding.specs.declared.Member.{Member}
-use Rattle.laws.specs.Sound.{All}
+use Rattle.laws.specs.Sound.{All, DirectSound}
 use Rattle.laws.specs.Bits.{Byte}
 
 -- ---- what leads to no object, and a struct's members
@@ -53,10 +54,10 @@ pub data PartWrites (child : Objects) (o : ℕ) (S : Schema) (may nan inplace : 
   flat : {k : Flat} {v : Value} → FlatWrites S k v → NotNaN nan k v → PartWrites child o S may nan inplace (OfFlat k) v
   no-object : {ob : Object} → PartWrites child o S may nan inplace (OfObject ob) absent
   object : {ob : Object} {v : Value} → child ob v → present v ≡ true → (inplace ≡ true → 0 < lengthOf o S ob v)
-      → PartWrites child o S may nan inplace (OfObject ob) v
+      → (inplace ≡ true → standsInPlace ob ≡ true) → PartWrites child o S may nan inplace (OfObject ob) v
   no-union : {i : ℕ} → PartWrites child o S may nan inplace (OfUnion i) absent
   choice : {i c : ℕ} {v : Value} → 0 < c → c ≤ length (casesOf S i) → child (caseOf (casesOf S i) c) v
-      → PartWrites child o S may nan inplace (OfUnion i) (chosen c v)
+      → (inplace ≡ true → standsInPlace (caseOf (casesOf S i) c) ≡ true) → PartWrites child o S may nan inplace (OfUnion i) (chosen c v)
 
 pub data MembersWrite (child : Objects) (o : ℕ) (S : Schema) : List Member → Values → Type 0 where
   no-member : MembersWrite child o S [] none
@@ -69,6 +70,11 @@ pub data ElementsWrite (child : Objects) (o : ℕ) (S : Schema) (k : Kind) : Val
   elements : {v : Value} {vs : Values} → PartWrites child o S false true false k v → ElementsWrite child o S k vs
       → ElementsWrite child o S k (v then vs)
 
+-- the elements of a direct list of table t
+pub data DirectsWrite (child : Objects) (t : ℕ) : Values → Type 0 where
+  no-direct : DirectsWrite child t none
+  directs : {v : Value} {vs : Values} → child (O.Table t) v → DirectsWrite child t vs → DirectsWrite child t (v then vs)
+
 -- ---- objects
 pub data ContentWrites (child : Objects) (o : ℕ) (S : Schema) : Object → Value → Type 0 where
   text : {l : List ℕ} → All Byte l → ContentWrites child o S O.Text (blob l)
@@ -76,6 +82,8 @@ pub data ContentWrites (child : Objects) (o : ℕ) (S : Schema) : Object → Val
   list : {i : ℕ} {vs : Values} → ElementsWrite child o S (elementOf S i) vs → ContentWrites child o S (O.List i) (row vs)
   table : {i : ℕ} {vs : Values} → MembersWrite child o S (tableOf S i .members) vs
       → ContentWrites child o S (O.Table i) (row vs)
+  direct-list : {t : ℕ} {vs : Values} → DirectSound S t → fixedSize o S (tableOf S t .members) < 2 ^ 32 → count vs < 2 ^ 32
+      → DirectsWrite child t vs → ContentWrites child o S (O.DirectList t) (row vs)
 
 -- v can be written as an object, with d objects of depth, this one counted
 abbrev pub Writes : ℕ → ℕ → Schema → Objects

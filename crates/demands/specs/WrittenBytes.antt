@@ -6,16 +6,17 @@ use native.Mathlib.Omega.{arith}
 use lib.ListN.{length}
 use Rattle.coding.specs.Lists.{pick}
 use Rattle.coding.specs.Bytes.{noFloat}
-use Rattle.coding.specs.Schema.{Schema, casesOf, caseOf}
+use Rattle.coding.specs.Schema.{Schema, casesOf, caseOf, tableOf}
 use Rattle.coding.specs.Structs.{structSize}
-use Rattle.coding.specs.Layout.{hasFlag}
+use Rattle.coding.specs.Layout.{hasFlag, fixedSize}
 use Rattle.coding.specs.Walk.{magic}
 use Rattle.coding.specs.Value.{Value, Values, absent, row, present, asNumber, asBlob, asRow, asObject, first, others}
 use Rattle.coding.specs.Cells.{Slots}
-use Rattle.coding.specs.Message.{lengthOf, numberOr, zeros, flatSlots, Planner, objectSlots, referSlots, valueSlots, flagOf, memberSlots, membersSlots, elementsSlots, contentSlots, plan}
+use Rattle.coding.specs.Message.{lengthOf, numberOr, zeros, flatSlots, Planner, objectSlots, referSlots, valueSlots, flagOf, memberSlots, membersSlots, elementsSlots, directsSlots, directSlots, contentSlots, plan}
 use Rattle.coding.specs.declared.Flat.{Flat}
 use Rattle.coding.specs.declared.Flat.the-variants as F
 use Rattle.coding.specs.declared.Object.{Object}
+use Rattle.coding.specs.declared.Object.the-variants as O
 use Rattle.coding.specs.declared.Kind.{Kind}
 use Rattle.coding.specs.declared.Member.{Member}
 use Rattle.laws.specs.Sound.{All, FlatSound, KindSound, MemberSound, Sound}
@@ -24,7 +25,7 @@ use Rattle.laws.specs.All.{all-replicate}
 use Rattle.demands.specs.Holds.{leBytes-bytes}
 use Rattle.demands.specs.SlotsHold.{SlotsBytes}
 use Rattle.demands.specs.StructHold.{struct-holds}
-use Rattle.demands.specs.Writes.{Objects, FlatWrites, boolean, integer, float, no-enum, enum, struct, PartWrites, no-flat, no-float, flat, no-object, object, no-union, choice, MembersWrite, no-member, members, ElementsWrite, no-element, elements, ContentWrites, text, bytes, list, table, Writes}
+use Rattle.demands.specs.Writes.{Objects, FlatWrites, boolean, integer, float, no-enum, enum, struct, PartWrites, no-flat, no-float, flat, no-object, object, no-union, choice, MembersWrite, no-member, members, ElementsWrite, no-element, elements, DirectsWrite, no-direct, directs, ContentWrites, text, bytes, list, table, direct-list, Writes}
 
 zero-bytes : (n : ℕ) → All Byte (zeros n)
 zero-bytes n = all-replicate Byte n 0 (omega arith)
@@ -66,9 +67,9 @@ module _ (S : Schema) (sound : Sound S) where
     part-bytes rest ok (no-float {w = w} e) r = no-flat-bytes (F.Float w) rest r
     part-bytes rest ok (flat h n) r = flat-bytes rest ok h r
     part-bytes rest ok no-object r = (zero-bytes o, r)
-    part-bytes {inplace = inplace} rest ok (object {ob = ob} {v = v} g p l) r = rw p (refer-bytes inplace ob v rest g r)
+    part-bytes {inplace = inplace} rest ok (object {ob = ob} {v = v} g p l d) r = rw p (refer-bytes inplace ob v rest g r)
     part-bytes rest ok no-union r = (zero-bytes (2 + o), r)
-    part-bytes {inplace = inplace} rest ok (choice {i = i} {c = c} {v = v} l b g) r =
+    part-bytes {inplace = inplace} rest ok (choice {i = i} {c = c} {v = v} l b g d) r =
         (leBytes-bytes 2 c, refer-bytes inplace (caseOf (casesOf S i) c) v rest g r)
 
     flag-small : (t : Bool) → pick t 1 0 < 2
@@ -92,12 +93,20 @@ module _ (S : Schema) (sound : Sound S) where
     elements-bytes ok no-element = tt
     elements-bytes {k} ok (elements {v = v} {vs = vs} p ps) = part-bytes (elementsSlots P o S k vs) ok p (elements-bytes ok ps)
 
+    directs-bytes : {t : ℕ} {vs : Values} → DirectsWrite G t vs → SlotsBytes (directsSlots P t vs)
+    unfolding directsSlots
+    directs-bytes no-direct = tt
+    directs-bytes {t} (directs {v = v} g gs) = (inner (O.Table t) v g, directs-bytes gs)
+
     content-bytes : {ob : Object} {v : Value} → ContentWrites G o S ob v → SlotsBytes (contentSlots P o S ob v)
     unfolding contentSlots asBlob asRow
     content-bytes (text h) = (h, ((omega arith, tt), tt))
     content-bytes (bytes h) = (h, tt)
     content-bytes (list {i = i} h) = elements-bytes (sound .lists i .kind) h
     content-bytes (table {i = i} h) = members-bytes (sound .tables i .members) h
+    content-bytes (direct-list {t = t} d f l h) =
+        unfold directSlots in
+        (leBytes-bytes 4 (tableOf S t .id), (leBytes-bytes 4 (fixedSize o S (tableOf S t .members)), directs-bytes h))
 
   pub plan-bytes : (o d : ℕ) (ob : Object) (v : Value) → Writes d o S ob v → SlotsBytes (plan d o S ob v)
   unfolding plan

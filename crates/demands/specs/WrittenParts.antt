@@ -7,11 +7,11 @@ use native.Mathlib.Omega.{arith}
 use lib.ListN.{length, length-replicate}
 use Rattle.coding.specs.Lists.{pick}
 use Rattle.coding.specs.Bytes.{leBytes, noFloat}
-use Rattle.coding.specs.Schema.{Schema, casesOf, caseOf}
+use Rattle.coding.specs.Schema.{Schema, casesOf, caseOf, tableOf}
 use Rattle.coding.specs.Structs.{flatWidth, structSize}
 use Rattle.coding.specs.Layout as L
-use Rattle.coding.specs.Layout.{begin, afterBytes, isBool, flatIsBool, afterValue}
-use Rattle.coding.specs.Walk.{startSize, headerSize}
+use Rattle.coding.specs.Layout.{begin, afterBytes, isBool, flatIsBool, afterValue, fixedSize}
+use Rattle.coding.specs.Walk.{startSize, standsInPlace}
 use Rattle.coding.specs.Value.{Value, present, asNumber, asObject}
 use Rattle.coding.specs.Cells.{Slots, width}
 use Rattle.coding.specs.Cells.Slots.{bytes, bit, inPlace}
@@ -19,11 +19,12 @@ use Rattle.coding.specs.Message.{lengthOf, numberOr, structBytes, zeros, flatSl
 use Rattle.coding.specs.declared.Flat.{Flat}
 use Rattle.coding.specs.declared.Flat.the-variants as F
 use Rattle.coding.specs.declared.Object.{Object}
+use Rattle.coding.specs.declared.Object.the-variants as O
 use Rattle.coding.specs.declared.Kind.{Kind}
 use Rattle.coding.specs.declared.Kind.the-variants.{OfFlat, OfObject, OfUnion}
 use Rattle.coding.specs.declared.Cursor.{Cursor}
 use Rattle.coding.specs.declared.Place.the-variants.{ByOffset, InPlace}
-use Rattle.laws.specs.Sound.{Sound}
+use Rattle.laws.specs.Sound.{Sound, inplaceCount}
 use Rattle.demands.specs.Holds.{length-leBytes}
 use Rattle.laws.specs.Lists.{never}
 use Rattle.demands.specs.AtCursor.{At, at-bytes, at-bit, at-reference, at-inPlace}
@@ -41,8 +42,14 @@ after-two o c =
 pub record Inner (o : ℕ) (S : Schema) (m : List ℕ) (P : Planner) (G : Objects) (below : Below) : Type 0 where
   pub by-offset : (ob : Object) (v : Value) (x z : ℕ) → G ob v → startSize o ≤ x → At o m x begin z z (objectSlots P o S ob v)
       → below ob v (ByOffset x)
-  pub in-place : (ob : Object) (v : Value) (e z : ℕ) → G ob v → At o m e begin z z (P ob v) → below ob v (InPlace e (lengthOf o S ob v))
-  pub short : (ob : Object) (v : Value) (e z : ℕ) → G ob v → At o m e begin z z (P ob v) → lengthOf o S ob v < 256 ^ o
+  pub in-place : (ob : Object) (v : Value) (e z : ℕ) → standsInPlace ob ≡ true → G ob v → At o m e begin z z (P ob v)
+      → below ob v (InPlace e (lengthOf o S ob v))
+  pub short : (ob : Object) (v : Value) (e z : ℕ) → standsInPlace ob ≡ true → G ob v → At o m e begin z z (P ob v)
+      → lengthOf o S ob v < 256 ^ o
+  -- an element of a direct list: its table has no member in place, so that nothing need stand behind it
+  pub direct : (t : ℕ) (v : Value) (at z e : ℕ) → inplaceCount (tableOf S t .members) ≡ 0 → G (O.Table t) v
+      → At o m at begin z e (P (O.Table t) v)
+      → below (O.Table t) v (InPlace at (fixedSize o S (tableOf S t .members))) × (at + fixedSize o S (tableOf S t .members) ≡ z)
 
 -- the rest behind a part: its in-place content is where it was, unless the part has one itself
 abbrev pub Behind : ℕ → List ℕ → ℕ → Cursor → ℕ → ℕ → Bool → Slots → Type 0

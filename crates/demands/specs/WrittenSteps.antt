@@ -14,7 +14,7 @@ use Rattle.coding.specs.Layout.{afterBytes, isBool, flatIsBool, bitSlot, slotOf
 use Rattle.coding.specs.Step.{enumStep, floatStep, placeOf, objectStep, unionStep, flatStep, valueStep, structTested}
 use lib.Dec.{leb, eqb}
 use Rattle.coding.specs.Lists.{pick}
-use Rattle.coding.specs.Walk.{startSize}
+use Rattle.coding.specs.Walk.{startSize, standsInPlace}
 use Rattle.coding.specs.Value.{Value, absent, number, row, chosen, present, asNumber, asObject}
 use Rattle.coding.specs.Cells.{Slots}
 use Rattle.coding.specs.Cells.Slots.{bytes, bit, inPlace}
@@ -123,22 +123,22 @@ module _ (o : ℕ) (S : Schema) (sound : Sound S) (m : List ℕ) (P : Planner) (
   union-some cases inplace tail c d x e h b = let no : c ≡ 0 → ⊥ = λ q. omega arith in rw (e, ne-eqb c 0 no, le-leb c (length cases) b)
 
   -- an object's place, where its reference or length stands at the cursor
-  refer-held : (inplace : Bool) (ob : Object) (v : Value) (c : Cursor) (e tail : ℕ) (rest : Slots) → (inplace ≡ true → e ≡ tail) → G ob v
-      → At o m start c z e (referSlots P o S inplace ob v rest)
+  refer-held : (inplace : Bool) (ob : Object) (v : Value) (c : Cursor) (e tail : ℕ) (rest : Slots) → (inplace ≡ true → e ≡ tail)
+      → (inplace ≡ true → standsInPlace ob ≡ true) → G ob v → At o m start c z e (referSlots P o S inplace ob v rest)
       → below ob v (placeOf inplace tail (le m (start + c .end) o)) × (inplace ≡ false → 0 < le m (start + c .end) o)
       × (inplace ≡ true → le m (start + c .end) o ≡ lengthOf o S ob v)
   unfolding referSlots placeOf startSize
-  refer-held true ob v c e tail rest same g a =
+  refer-held true ob v c e tail rest same d g a =
       let n = lengthOf o S ob v in
       let h = at-bytes o m start c z e (leBytes o n) (inPlace (P ob v) rest) a in
       let b = rw (length-leBytes o n) at (h .1) in
       let i = at-inPlace o m start (afterBytes o c) z e (P ob v) rest b .0 in
-      let q = holds-le m o (start + c .end) n (inner .short ob v e _ g i) (h .0) in (
-        rw (q, ← same refl) (inner .in-place ob v e _ g i),
+      let q = holds-le m o (start + c .end) n (inner .short ob v e _ (d refl) g i) (h .0) in (
+        rw (q, ← same refl) (inner .in-place ob v e _ (d refl) g i),
         λ f. never (sym f),
         λ f. q,
       )
-  refer-held false ob v c e tail rest same g a =
+  refer-held false ob v c e tail rest same d g a =
       let h = at-reference o m start c z e (objectSlots P o S ob v) rest a in
       let l = h .0 in (
         inner .by-offset ob v (le m (start + c .end) o) _ g l (h .1),
@@ -156,26 +156,26 @@ module _ (o : ℕ) (S : Schema) (sound : Sound S) (m : List ℕ) (P : Planner) (
   somewhere false tail x f = f refl
 
   -- ---- a member or an element, whatever its kind
-  object-step : (inplace : Bool) (ob : Object) (v : Value) (c : Cursor) (e tail : ℕ) (rest : Slots) → (inplace ≡ true → e ≡ tail) → G ob v
-      → present v ≡ true → (inplace ≡ true → 0 < lengthOf o S ob v) → At o m start c z e (referSlots P o S inplace ob v rest)
+  object-step : (inplace : Bool) (ob : Object) (v : Value) (c : Cursor) (e tail : ℕ) (rest : Slots) → (inplace ≡ true → e ≡ tail)
+      → (inplace ≡ true → standsInPlace ob ≡ true) → G ob v → present v ≡ true → (inplace ≡ true → 0 < lengthOf o S ob v) → At o m start c z e (referSlots P o S inplace ob v rest)
       → Shows below S m (OfObject ob) v (objectStep ob inplace tail (le m (start + c .end) o))
-  object-step inplace ob v c e tail rest same g p long a =
-      let h = refer-held inplace ob v c e tail rest same g a in
+  object-step inplace ob v c e tail rest same d g p long a =
+      let h = refer-held inplace ob v c e tail rest same d g a in
       let x = le m (start + c .end) o in
       let q : 0 < x = positive inplace x (h .1) (λ t. let l = long t in let r = h .2 t in omega arith) in
       rw (object-some ob inplace tail x q) (T.object p (h .0))
 
   choice-step : (inplace : Bool) (i n : ℕ) (v : Value) (c : Cursor) (e tail : ℕ) (rest : Slots) → (inplace ≡ true → e ≡ tail) → 0 < n → n ≤ length (casesOf S i)
-      → G (caseOf (casesOf S i) n) v
+      → (inplace ≡ true → standsInPlace (caseOf (casesOf S i) n) ≡ true) → G (caseOf (casesOf S i) n) v
       → At o m start c z e (bytes (leBytes 2 n) (referSlots P o S inplace (caseOf (casesOf S i) n) v rest))
       → Shows below S m (OfUnion i) (chosen n v) (unionStep (casesOf S i) inplace tail (le m (start + c .end) 2) (le m (start + c .end + 2) o))
   unfolding afterBytes
-  choice-step inplace i n v c e tail rest same l b g a =
+  choice-step inplace i n v c e tail rest same l b d g a =
       let ob = caseOf (casesOf S i) n in
       let few = sound .unions i .few in
       let h = at-bytes o m start c z e (leBytes 2 n) (referSlots P o S inplace ob v rest) a in
       let r = rw (length-leBytes 2 n) at (h .1) in
-      let k = refer-held inplace ob v (afterBytes 2 c) e tail rest same g r in
+      let k = refer-held inplace ob v (afterBytes 2 c) e tail rest same d g r in
       let x = le m (start + c .end + 2) o in
       let q : le m (start + (c .end + 2)) o ≡ x =
       let s : start + (c .end + 2) ≡ start + c .end + 2 = omega arith in ap (λ (y : ℕ). le m y o) s in
@@ -210,11 +210,11 @@ module _ (o : ℕ) (S : Schema) (sound : Sound S) (m : List ℕ) (P : Planner) (
   value-step nan inplace c e tail rest ok same (no-object {ob = ob}) a =
       nothing-shows _ _
       (object-none ob inplace tail _ (holds-zeros m o o (start + c .end) (omega arith) (at-bytes o m start c z e (zeros o) rest a .0)))
-  value-step nan inplace c e tail rest ok same (W.object {ob = ob} {v = v} g p long) a =
-      rw (object-tested ob inplace tail _) (object-step inplace ob v c e tail rest same g p long (rw p at a))
+  value-step nan inplace c e tail rest ok same (W.object {ob = ob} {v = v} g p long d) a =
+      rw (object-tested ob inplace tail _) (object-step inplace ob v c e tail rest same d g p long (rw p at a))
   value-step nan inplace c e tail rest ok same (no-union {i = i}) a =
       nothing-shows _ _
       (union-none (casesOf S i) inplace tail _ _
       (holds-zeros m 2 (2 + o) (start + c .end) (omega arith) (at-bytes o m start c z e (zeros (2 + o)) rest a .0)))
-  value-step nan inplace c e tail rest ok same (W.choice {i = i} {c = n} {v = v} l b g) a =
-      rw (union-tested (casesOf S i) inplace tail _ _) (choice-step inplace i n v c e tail rest same l b g a)
+  value-step nan inplace c e tail rest ok same (W.choice {i = i} {c = n} {v = v} l b g d) a =
+      rw (union-tested (casesOf S i) inplace tail _ _) (choice-step inplace i n v c e tail rest same l b d g a)

@@ -7,11 +7,9 @@ use Prim.Native.Nat.{ℕ, _+_, _<_, _≤_}
 use native.Mathlib.Omega.{arith}
 use lib.Dec.{ltb}
 use borrow.Author.Tests.{le-leb, lt-leb, eq-eqb, ltb-true}
-use lib.ListN.{length}
 use Rattle.coding.specs.Lists.{pick}
 use Rattle.coding.specs.Bytes.{bitAt}
 use Rattle.coding.specs.Schema.{Schema}
-use Rattle.coding.specs.Structs.{flatWidth, structSize}
 use Rattle.coding.specs.Layout as L
 use Rattle.coding.specs.Layout.{bitSlot, placementOf, bitByte, bitIndex, afterBit, afterBytes, isBool, slotOf, afterValue, flatTakesFlag, takesFlag, hasFlag, afterFlag, memberSlot, afterMember, afterMembers}
 use Rattle.coding.specs.Step.{valueStep, structTested, inside, flagged, placedStep, memberStep}
@@ -20,16 +18,15 @@ use Rattle.coding.specs.Cells.{Slots}
 use Rattle.coding.specs.Cells.Slots.{bit}
 use Rattle.coding.specs.Message.{Planner, valueSlots, flagOf, memberSlots, membersSlots}
 use Rattle.coding.specs.declared.Flat.{Flat}
-use Rattle.coding.specs.declared.Flat.the-variants as F
 use Rattle.coding.specs.declared.Kind.{Kind}
-use Rattle.coding.specs.declared.Kind.the-variants.{OfFlat, OfObject, OfUnion}
 use Rattle.coding.specs.declared.Member.{Member}
 use Rattle.coding.specs.declared.Cursor.{Cursor}
 use Rattle.coding.specs.declared.Slot.{Slot}
 use Rattle.coding.specs.declared.Step.{Step}
 use Rattle.coding.specs.declared.Step.the-variants as St
-use Rattle.laws.specs.Sound.{All, FlatSound, KindSound, MemberSound, Sound, inplaceCount}
+use Rattle.laws.specs.Sound.{All, KindSound, MemberSound, Sound, inplaceCount}
 use Rattle.laws.specs.Lists.{never, both-right}
+use Rattle.laws.specs.FixedSizes.{kind-wide}
 use Rattle.demands.specs.AtCursor.{At, Sane, at-fits, at-sane, at-bit, at-end}
 use Rattle.demands.specs.Writes.{Objects, FlatWrites, boolean, integer, PartWrites, no-flat, no-float, flat, no-object, no-union, MembersWrite, no-member, members}
 use Rattle.demands.specs.Writes as W
@@ -85,21 +82,6 @@ bit-before : (c : Cursor) → Sane c → (bitByte c < afterBit c .end) × (c .en
 bit-before c s = bit-before-by c (ltb (c .bit) 8) refl s
 
 module _ (o : ℕ) (S : Schema) (sound : Sound S) (wide : 0 < o) where
-  flat-wide : (k : Flat) → FlatSound (length (S .structs)) k → 0 < flatWidth (structSize S) k
-  unfolding flatWidth
-  flat-wide F.Boolean ok = omega arith
-  flat-wide (F.Integer s w) ok = ok .0
-  flat-wide (F.Float w) (inl e) = omega arith
-  flat-wide (F.Float w) (inr e) = omega arith
-  flat-wide (F.Enumerated n) ok = omega arith
-  flat-wide (F.Struct i) ok = sound .structs i .some ok
-
-  pub kind-wide : (k : Kind) → KindSound S k → 0 < L.width o S k
-  unfolding L.width
-  kind-wide (OfFlat k) ok = flat-wide k ok
-  kind-wide (OfObject ob) ok = wide
-  kind-wide (OfUnion i) ok = omega arith
-
   -- the slot of a value lies before the cursor behind it
   slot-before-by : (k : Kind) (c : Cursor) (n : ℕ) (t : Bool) → isBool k ≡ t → KindSound S k → Sane c → afterValue o S k c .end ≤ n
       → (slotOf o S k c .at < n) × (slotOf o S k c .at + slotOf o S k c .size ≤ n)
@@ -109,7 +91,7 @@ module _ (o : ℕ) (S : Schema) (sound : Sound S) (wide : 0 < o) where
       let l : afterBit c .end ≤ n = rw e at h in
       rw e (omega arith, omega arith)
   slot-before-by k c n false e ok s h =
-      let w = kind-wide k ok in
+      let w = kind-wide o S sound wide k ok in
       let l : c .end + L.width o S k ≤ n = rw e at h in
       rw e (omega arith, omega arith)
 
@@ -149,9 +131,9 @@ split-part (no-flat e t) = inl (refl, e, t)
 split-part (no-float h) = inr (no-float h)
 split-part (flat h n) = inr (flat h n)
 split-part no-object = inr no-object
-split-part (W.object g p l) = inr (W.object g p l)
+split-part (W.object g p l d) = inr (W.object g p l d)
 split-part no-union = inr no-union
-split-part (W.choice l b g) = inr (W.choice l b g)
+split-part (W.choice l b g d) = inr (W.choice l b g d)
 
 flat-there : {S : Schema} {k : Flat} {v : Value} → flatTakesFlag k ≡ true → FlatWrites S k v → present v ≡ true
 unfolding flatTakesFlag present
@@ -169,9 +151,9 @@ there t (no-flat e f) = e
 there t (no-float h) = t
 there t (flat h n) = flat-there t h
 there t no-object = t
-there t (W.object g p l) = p
+there t (W.object g p l d) = p
 there t no-union = t
-there t (W.choice l b g) = refl
+there t (W.choice l b g d) = refl
 
 flag-absent : (v : Value) → v ≡ absent → flagOf v ≡ 0
 unfolding flagOf present

@@ -84,6 +84,10 @@ module _ (ob : Object) where
   unfolding Field.recordKind
   record-table i e = rw e
 
+  pub record-direct : (t : ℕ) → ob ≡ O.DirectList t → 18 ≡ Field.recordKind ob
+  unfolding Field.recordKind
+  record-direct t e = rw e
+
 -- ---- what was found
 module _ (f : Found) where
   pub answer-refused : (x : Refusal) → f ≡ Fd.Refused x → A.Refused x ≡ Field.answerOf f

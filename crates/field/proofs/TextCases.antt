@@ -40,6 +40,10 @@ module _ (ob : Object) (start n : ℕ) (r : Span) where
   unfolding Field.objectSpan
   span-table i e q = rw e q
 
+  pub span-direct : (t : ℕ) → ob ≡ O.DirectList t → r ≡ Field.noSpan → r ≡ Field.objectSpan ob start n
+  unfolding Field.objectSpan
+  span-direct t e q = rw e q
+
 module _ (f : Found) (r : Span) where
   pub span-refused : (x : Refusal) → f ≡ Fd.Refused x → r ≡ Field.noSpan → r ≡ Field.foundSpan f
   unfolding Field.foundSpan
@@ -72,13 +76,14 @@ span-found o b m path f e r q = q ∙ ap Field.foundSpan e
 
 -- it lies within the message
 module _ (o : ℕ) (S : Schema) (m : List ℕ) where
-  object-inside : (ob : Object) (start n : ℕ) → start + W.contentSize o S ob n ≤ length m
+  object-inside : (ob : Object) (at start n : ℕ) → start + W.contentSize o S m ob at n ≤ length m
       → Field.objectSpan ob start n .start + Field.objectSpan ob start n .length ≤ length m
   unfolding Field.objectSpan Field.spanAt Field.noSpan W.contentSize
-  object-inside O.Text start n h = omega arith
-  object-inside O.Bytes start n h = h
-  object-inside (O.List i) start n h = omega arith
-  object-inside (O.Table i) start n h = omega arith
+  object-inside O.Text at start n h = omega arith
+  object-inside O.Bytes at start n h = h
+  object-inside (O.List i) at start n h = omega arith
+  object-inside (O.Table i) at start n h = omega arith
+  object-inside (O.DirectList t) at start n h = omega arith
 
   found-inside : (f : Found) → FoundWithin o S m f → Field.foundSpan f .start + Field.foundSpan f .length ≤ length m
   unfolding Field.foundSpan Field.noSpan
@@ -87,7 +92,7 @@ module _ (o : ℕ) (S : Schema) (m : List ℕ) where
   found-inside (Fd.Unknown x) h = omega arith
   found-inside (Fd.Value k x holder) h = omega arith
   found-inside (Fd.Struct i at holder) h = omega arith
-  found-inside (Fd.Object ob at start n d) h = object-inside ob start n (h .1)
+  found-inside (Fd.Object ob at start n d) h = object-inside ob at start n (h .1)
 
   pub span-inside : (f : Found) → FoundWithin o S m f → (r : Span) → r ≡ Field.foundSpan f → r .start + r .length ≤ length m
   span-inside f h r e = subst (λ (x : Span). x .start + x .length ≤ length m) (sym e) (found-inside f h)

@@ -54,6 +54,7 @@ pub fn record_kind(ob: Object) -> u8
         Object::Bytes => 14,
         Object::List(_) => 15,
         Object::Table(_) => 16,
+        Object::DirectList(_) => 18,
     }
 }
 
@@ -209,6 +210,7 @@ fn object_span(ob: Object, start: usize, n: usize) -> Span
         Object::Bytes => span_at(start, n),
         Object::List(_) => no_span(),
         Object::Table(_) => no_span(),
+        Object::DirectList(_) => no_span(),
     }
 }
 

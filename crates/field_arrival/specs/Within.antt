@@ -1,5 +1,5 @@
 -- What a step and a path come to: indices are in range, and what is found lies within the message.
-use Prim.Native.Nat.{ℕ, _+_, _<_, _≤_}
+use Prim.Native.Nat.{ℕ, _+_, _^_, _<_, _≤_}
 use mathlib.Core.List.{List}
 use lib.ListN.{length, getD}
 use Rattle.coding.specs.Schema.{Schema}
@@ -29,14 +29,16 @@ StepWithin S m (St.Struct i at) = (i < length (S .structs)) × (at + structSize 
 StepWithin S m (St.Object ob p) = ObjectSound S ob × PlaceSmall p
 StepWithin S m (St.Choice c ob p) = ObjectSound S ob × PlaceSmall p
 
--- what a path has come to lies within the message; where that is an object, the message is within its size
+-- what a path has come to lies within the message; where that is an object, the message is within its size, and the object's place
+-- is a small number
 abbrev pub FoundWithin : ℕ → Schema → List ℕ → Found → Type 0
 FoundWithin o S m (Fd.Refused r) = Unit {0}
 FoundWithin o S m Fd.Absent = Unit {0}
 FoundWithin o S m (Fd.Unknown x) = Unit {0}
 FoundWithin o S m (Fd.Value k x holder) = KindSound S k
 FoundWithin o S m (Fd.Struct i at holder) = (i < length (S .structs)) × (at + structSize S i ≤ length m)
-FoundWithin o S m (Fd.Object ob at start n d) = ObjectSound S ob × (start + contentSize o S ob n ≤ length m) × (length m ≤ 16777215)
+FoundWithin o S m (Fd.Object ob at start n d) =
+    ObjectSound S ob × (start + contentSize o S m ob at n ≤ length m) × (length m ≤ 16777215) × (at < 2 ^ 60)
 
 -- the same by the schema in bytes b
 abbrev pub StepIn : List ℕ → List ℕ → Step → Type 0

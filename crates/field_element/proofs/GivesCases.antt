@@ -46,6 +46,7 @@ list-reads S O.Bytes at start n d = tt
 list-reads S (O.List i) at start n d =
     pick-holds Reads (Field.leads (Sc.elementOf S i)) (Fd.Object (O.List i) at start n d) (Fd.Refused (W.refusal 15 0)) (λ e. tt) (λ e. tt)
 list-reads S (O.Table i) at start n d = tt
+list-reads S (O.DirectList t) at start n d = tt
 
 of-reads : (S : Schema) (f : Found) → Reads (Field.readerOf S f)
 unfolding Field.readerOf Field.before
@@ -151,6 +152,10 @@ module _ (o : ℕ) (S : Schema) (m : List ℕ) (ob : Object) (at start n d j : �
   pub the-list : (i x : ℕ) → ob ≡ O.List i → x ≡ i → r ≡ Field.answerOf (Field.objectPart o S m (O.List x) at start n d j)
       → r ≡ Field.answerOf (Field.objectPart o S m ob at start n d j)
   the-list i x e ex f = f ∙ ap (λ (q : Object). Field.answerOf (Field.objectPart o S m q at start n d j)) (ap O.List ex ∙ sym e)
+
+  pub the-direct : (t : ℕ) → ob ≡ O.DirectList t → r ≡ Field.answerOf (Field.objectPart o S m (O.DirectList t) at start n d j)
+      → r ≡ Field.answerOf (Field.objectPart o S m ob at start n d j)
+  the-direct t e f = rw e f
 
 -- ---- what the reader goes over
 module _ (o : ℕ) (S : Schema) (m : List ℕ) (list : Found) (j : ℕ) where

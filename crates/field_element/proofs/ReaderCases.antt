@@ -64,6 +64,10 @@ module _ (S : Schema) (ob : Object) (at start n d : ℕ) where
       let z : Field.leads (Sc.elementOf S i) ≡ true = ap (λ (x : ℕ). Field.leads (Sc.elementOf S x)) (sym ej) ∙ ap Field.leads (sym ek) ∙ sym et ∙ f in
       rw e (simp z)
 
+  pub list-direct : (t : ℕ) → ob ≡ O.DirectList t → Fd.Object (O.DirectList t) at start n d ≡ Field.listFound S ob at start n d
+  unfolding Field.listFound
+  list-direct t e = rw e
+
 -- ---- what a reader starts from
 module _ (S : Schema) (f : Found) where
   pub from-refused : (x : Refusal) → f ≡ Fd.Refused x → Fd.Refused x ≡ Field.readerOf S f
@@ -99,6 +103,7 @@ list-within o S m O.Bytes at start n d h = tt
 list-within o S m (O.List i) at start n d h =
     pick-holds (FoundWithin o S m) (Field.leads (Sc.elementOf S i)) (Fd.Object (O.List i) at start n d) (Fd.Refused (W.refusal 15 0)) (λ e. h) (λ e. tt)
 list-within o S m (O.Table i) at start n d h = tt
+list-within o S m (O.DirectList t) at start n d h = h
 
 pub object-list-within : (o : ℕ) (S : Schema) (m : List ℕ) (f : Found) → FoundWithin o S m f → (ob : Object) (at start n d : ℕ) → f ≡ Fd.Object ob at start n d
     → (r : Found) → r ≡ Field.listFound S ob at start n d → FoundWithin o S m r

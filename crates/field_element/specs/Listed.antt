@@ -13,12 +13,13 @@ use Rattle.coding.specs.declared.Found.the-variants as Fd
 use Rattle.coding.specs.declared.Answer.{Answer}
 use Rattle.coding.specs.declared.Answer.the-variants as A
 
--- what a list reader starts from: a list, or a refusal
+-- what a list reader starts from: a list, a direct list, or a refusal
 abbrev pub Listed : Object → Type 0
 Listed O.Text = ⊥
 Listed O.Bytes = ⊥
 Listed (O.List i) = Unit {0}
 Listed (O.Table i) = ⊥
+Listed (O.DirectList t) = Unit {0}
 
 abbrev pub Reads : Found → Type 0
 Reads (Fd.Refused r) = Unit {0}

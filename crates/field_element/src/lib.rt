@@ -7,7 +7,7 @@ use coding::Opened;
 use coding::Place;
 use field_arrival::Content;
 ghost use mathlib.Core.Path.{_≡_};
-ghost use Prim.Native.Nat.{_+_, _<_, _≤_, _^_};
+ghost use Prim.Native.Nat.{_+_, _*_, _<_, _≤_, _^_};
 ghost use lib.ListN.{length};
 ghost use Rattle.coding.specs.Bytes as B;
 ghost use Rattle.coding.specs.Field as F;
@@ -34,7 +34,7 @@ fn leads(k: Kind) -> bool
     }
 }
 
-// The object, if it is a list whose elements lead to objects; otherwise the refusal 15 at 0.
+// The object, if it is a list whose elements lead to objects, or a direct list; otherwise the refusal 15 at 0.
 fn list_of(b: &[u8], dir: &[u16], ob: Object, c: Content) -> Found
     requires { ⌜ (Accepted (now b) (now dir)) × ObjectSound (P.parse (now b)) ob ⌝ }
     ensures { λ r. ⌜ r ≡ F.listFound (P.parse (now (b .entry))) ob (c .place) (c .start) (c .length) (c .left) ⌝ }
@@ -49,6 +49,9 @@ fn list_of(b: &[u8], dir: &[u16], ob: Object, c: Content) -> Found
             field_arrival::refuse(15, 0)
         }
         Object::Table(_) => field_arrival::refuse(15, 0),
+        Object::DirectList(t) => {
+            Found::Object(Object::DirectList(t), c.place, c.start, c.length, c.left)
+        }
     }
 }
 
@@ -161,6 +164,16 @@ fn element_answer(
     }
 }
 
+// The answer of element j of a direct list of table t.
+fn direct_answer(b: &[u8], dir: &[u16], m: &[u8], t: u8, c: Content, j: usize, o: usize) -> Answer
+    requires { ⌜ (Accepted (now b) (now dir)) × (Width o) × (Readable (now m)) × (ObjectSound (P.parse (now b)) (Object.Table t)) × (c .place < 2 ^ 60) ⌝ }
+    requires { ⌜ c .start + c .length * W.elementSize o (now m) (c .place) ≤ length (now m) ⌝ }
+    ensures { λ r. ⌜ r ≡ F.answerOf (objectPartBy o (now (b .entry)) (now (m .entry)) (Object.DirectList t) c j) ⌝ }
+{
+    let f = field_part::direct_part(b, dir, m, t, c, j, o);
+    field::answer_of(b, m, f, o)
+}
+
 // The answer of the step at element j of an object that is a list.
 fn list_answer(
     b: &[u8],
@@ -171,8 +184,8 @@ fn list_answer(
     j: usize,
     o: usize,
 ) -> Answer
-    requires { ⌜ (Accepted (now b) (now dir)) × (Width o) × (Readable (now m)) × (ObjectSound (P.parse (now b)) ob) × (Listed ob) ⌝ }
-    requires { ⌜ c .start + W.contentSize o (P.parse (now b)) ob (c .length) ≤ length (now m) ⌝ }
+    requires { ⌜ (Accepted (now b) (now dir)) × (Width o) × (Readable (now m)) × (ObjectSound (P.parse (now b)) ob) × (Listed ob) × (c .place < 2 ^ 60) ⌝ }
+    requires { ⌜ c .start + W.contentSize o (P.parse (now b)) (now m) ob (c .place) (c .length) ≤ length (now m) ⌝ }
     ensures { λ r. ⌜ r ≡ F.answerOf (objectPartBy o (now (b .entry)) (now (m .entry)) ob c j) ⌝ }
 {
     match ob {
@@ -180,6 +193,7 @@ fn list_answer(
         Object::Bytes => Answer::Absent,
         Object::List(i) => element_answer(b, dir, m, wire::index(i), c, j, o),
         Object::Table(_) => Answer::Absent,
+        Object::DirectList(t) => direct_answer(b, dir, m, t, c, j, o),
     }
 }
 

@@ -1,7 +1,7 @@
 -- What a path comes to lies within the message.
 use mathlib.Core.Path.{_≡_, refl}
 use mathlib.Core.List.{List}
-use Prim.Native.Nat.{ℕ, zero, suc, _+_, _<_, _≤_}
+use Prim.Native.Nat.{ℕ, zero, suc, _+_, _*_, _^_, _<_, _≤_}
 use lib.ListN.{length, take}
 use lib.Dec.{ltb, eqb}
 use borrow.Author.Tests.{ltb-true}
@@ -28,30 +28,33 @@ use Rattle.coding.specs.declared.Found.the-variants as Fd
 use Rattle.laws.specs.Sound.{Sound, ObjectSound, KindSound}
 use Rattle.laws.specs.SoundAt.{member-sound-at}
 use Rattle.laws.specs.Lists.{pick-holds}
-use Rattle.message_object.proofs.OpenCases.{opened-fits}
+use Rattle.message_step.specs.Lead.{PlaceSmall}
+use Rattle.message_object.proofs.OpenCases.{opened-fits, placed-small}
 use Rattle.schema.specs.Directory.{Accepted, accepted-sound}
 use Rattle.field_arrival.specs.Within.{Readable, StepWithin, FoundWithin}
+use Rattle.field_part.proofs.DirectCases.{direct-small}
 use Rattle.field_part.proofs.StepsWithin.{member-within, element-within, field-within, field-sound}
 
 module _ (o : ℕ) (S : Schema) (m : List ℕ) (size : length m ≤ 16777215) where
-  opened-within : (ob : Object) (at d : ℕ) (w : Opened) → ObjectSound S ob
-      → ((start n : ℕ) → w ≡ Op.Content start n → start + W.contentSize o S ob n ≤ length m) → FoundWithin o S m (Field.opened ob at d w)
+  opened-within : (ob : Object) (at d : ℕ) (w : Opened) → ObjectSound S ob → at < 2 ^ 60
+      → ((start n : ℕ) → w ≡ Op.Content start n → start + W.contentSize o S m ob at n ≤ length m) → FoundWithin o S m (Field.opened ob at d w)
   unfolding Field.opened
-  opened-within ob at d (Op.Refused n) s h = tt
-  opened-within ob at d (Op.Content start n) s h = (s, h start n refl, size)
+  opened-within ob at d (Op.Refused n) s l h = tt
+  opened-within ob at d (Op.Content start n) s l h = (s, h start n refl, size, l)
 
-  arrived-within : (d : ℕ) (ob : Object) (p : Place) → ObjectSound S ob → FoundWithin o S m (Field.arrived d o S m ob p)
+  arrived-within : (d : ℕ) (ob : Object) (p : Place) → ObjectSound S ob → PlaceSmall p → FoundWithin o S m (Field.arrived d o S m ob p)
   unfolding Field.arrived
-  arrived-within zero ob p s = tt
-  arrived-within (suc d) ob p s =
-      opened-within ob (W.placed p) d (W.openObject o S m ob p) s (λ start n e. opened-fits o S m ob p (W.openObject o S m ob p) start n refl e)
+  arrived-within zero ob p s l = tt
+  arrived-within (suc d) ob p s l =
+      opened-within ob (W.placed p) d (W.openObject o S m ob p) s (placed-small p l (W.placed p) refl)
+      (λ start n e. opened-fits o S m ob p (W.openObject o S m ob p) start n refl e)
 
-  chosen-within : (d holder j : ℕ) (ob : Object) (p : Place) → ObjectSound S ob → FoundWithin o S m (Field.chosen d o S m holder j ob p)
+  chosen-within : (d holder j : ℕ) (ob : Object) (p : Place) → ObjectSound S ob → PlaceSmall p → FoundWithin o S m (Field.chosen d o S m holder j ob p)
   unfolding Field.chosen Field.partRefused
-  chosen-within d holder j ob (ByOffset x) s =
+  chosen-within d holder j ob (ByOffset x) s l =
       pick-holds (FoundWithin o S m) (eqb x 0) (Field.partRefused 9 holder j) (Field.arrived d o S m ob (ByOffset x)) (λ e. tt)
-      (λ e. arrived-within d ob (ByOffset x) s)
-  chosen-within d holder j ob (InPlace a n) s = arrived-within d ob (InPlace a n) s
+      (λ e. arrived-within d ob (ByOffset x) s l)
+  chosen-within d holder j ob (InPlace a n) s l = arrived-within d ob (InPlace a n) s l
 
   stepped-within : (d holder j : ℕ) (k : Kind) → KindSound S k → (step : Step) → StepWithin S m step
       → FoundWithin o S m (Field.stepped d o S m holder j k step)
@@ -61,8 +64,8 @@ module _ (o : ℕ) (S : Schema) (m : List ℕ) (size : length m ≤ 16777215) wh
   stepped-within d holder j k s (St.Value x) h = s
   stepped-within d holder j k s (St.Unknown x) h = tt
   stepped-within d holder j k s (St.Struct i at) h = h
-  stepped-within d holder j k s (St.Object ob p) h = arrived-within d ob p (h .0)
-  stepped-within d holder j k s (St.Choice c ob p) h = chosen-within d holder j ob p (h .0)
+  stepped-within d holder j k s (St.Object ob p) h = arrived-within d ob p (h .0) (h .1)
+  stepped-within d holder j k s (St.Choice c ob p) h = chosen-within d holder j ob p (h .0) (h .1)
 
 module _ (o : ℕ) (most : o ≤ 6) (S : Schema) (sound : Sound S) (m : List ℕ) (readable : Readable m) where
   struct-within : (i at holder j : ℕ) → i < length (S .structs) → at + structSize S i ≤ length m → FoundWithin o S m (Field.structPart o S m i at holder j)
@@ -87,7 +90,18 @@ module _ (o : ℕ) (most : o ≤ 6) (S : Schema) (sound : Sound S) (m : List ℕ
       (element-within S sound m readable o most (Sc.elementOf S i) (sound .lists i .kind) start n j h (ltb-true j n e)))
       (λ e. tt)
 
-  object-within : (ob : Object) (at start n d j : ℕ) → ObjectSound S ob → start + W.contentSize o S ob n ≤ length m
+  direct-within : (t at start n d j : ℕ) → ObjectSound S (O.Table t) → start + n * W.elementSize o m at ≤ length m
+      → FoundWithin o S m (Field.objectPart o S m (O.DirectList t) at start n d j)
+  unfolding Field.objectPart Field.noPart
+  direct-within t at start n d j s h =
+      pick-holds (FoundWithin o S m) (ltb j n)
+      (Field.arrived d o S m (O.Table t) (InPlace (start + W.elementSize o m at * j) (W.elementSize o m at)))
+      (Fd.Refused (W.refusal 15 at))
+      (λ e. arrived-within o S m (readable .size) d (O.Table t) (InPlace (start + W.elementSize o m at * j) (W.elementSize o m at)) s
+      (direct-small m readable start n (W.elementSize o m at) j h (ltb-true j n e)))
+      (λ e. tt)
+
+  object-within : (ob : Object) (at start n d j : ℕ) → ObjectSound S ob → start + W.contentSize o S m ob at n ≤ length m
       → FoundWithin o S m (Field.objectPart o S m ob at start n d j)
   unfolding Field.objectPart Field.noPart W.contentSize
   object-within O.Text at start n d j s h = tt
@@ -102,6 +116,7 @@ module _ (o : ℕ) (most : o ≤ 6) (S : Schema) (sound : Sound S) (m : List ℕ
       stepped-within o S m (readable .size) d at j (Sc.memberOf S i j .kind) (g .kind) _
       (member-within S sound m readable o most (Sc.memberOf S i j) g start n (L.afterMembers o S (take j (Sc.tableOf S i .members)) L.begin) h))
       (λ e. tt)
+  object-within (O.DirectList t) at start n d j s h = direct-within t at start n d j (s .table) h
 
   part-within : (f : Found) (j : ℕ) → FoundWithin o S m f → FoundWithin o S m (Field.partOf o S m f j)
   unfolding Field.partOf Field.noPart
@@ -113,9 +128,9 @@ module _ (o : ℕ) (most : o ≤ 6) (S : Schema) (sound : Sound S) (m : List ℕ
   part-within (Fd.Object ob at start n d) j h = object-within ob at start n d j (h .0) (h .1)
 
 -- ---- as the code has it
-pub arrival-within : (o : ℕ) (b : List ℕ) (m : List ℕ) → Readable m → (d : ℕ) (ob : Object) (p : Place) (f : Found) → ObjectSound (P.parse b) ob
+pub arrival-within : (o : ℕ) (b : List ℕ) (m : List ℕ) → Readable m → (d : ℕ) (ob : Object) (p : Place) (f : Found) → ObjectSound (P.parse b) ob → PlaceSmall p
     → f ≡ Field.arrived d o (P.parse b) m ob p → FoundWithin o (P.parse b) m f
-arrival-within o b m r d ob p f s e = rw e (arrived-within o (P.parse b) m (r .size) d ob p s)
+arrival-within o b m r d ob p f s l e = rw e (arrived-within o (P.parse b) m (r .size) d ob p s l)
 
 pub next-within : (o : ℕ) (b dir m : List ℕ) → o ≤ 6 → Accepted b dir → Readable m → (f : Found) → FoundWithin o (P.parse b) m f → (j : ℕ) (g : Found)
     → g ≡ Field.partOf o (P.parse b) m f j → FoundWithin o (P.parse b) m g
@@ -125,3 +140,8 @@ pub element-found-within : (o : ℕ) (b dir m : List ℕ) → o ≤ 6 → Accept
     → start + T.elementsSize o (P.parse b) (Sc.elementOf (P.parse b) i) n ≤ length m → (g : Found)
     → g ≡ Field.objectPart o (P.parse b) m (O.List i) at start n d j → FoundWithin o (P.parse b) m g
 element-found-within o b dir m most a r i at start n d j h g e = rw e (list-within o most (P.parse b) (accepted-sound b dir a) m r i at start n d j h)
+
+pub direct-found-within : (o : ℕ) (b dir m : List ℕ) → o ≤ 6 → Accepted b dir → Readable m → (t at start n d j : ℕ) → ObjectSound (P.parse b) (O.Table t)
+    → start + n * W.elementSize o m at ≤ length m → (g : Found) → g ≡ Field.objectPart o (P.parse b) m (O.DirectList t) at start n d j
+    → FoundWithin o (P.parse b) m g
+direct-found-within o b dir m most a r t at start n d j s h g e = rw e (direct-within o most (P.parse b) (accepted-sound b dir a) m r t at start n d j s h)

@@ -1,4 +1,5 @@
 pub mod StepsWithin
+pub mod DirectCases
 pub mod FoundsWithin
 pub mod PartCases
 pub mod ElementSound

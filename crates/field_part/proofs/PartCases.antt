@@ -256,11 +256,14 @@ module _ (o : ℕ) (S : Schema) (m : List ℕ) (f : Found) (within : FoundWithin
   pub object-index : (ob : Object) (at start n d : ℕ) → f ≡ Fd.Object ob at start n d → ObjectSound S ob
   object-index ob at start n d e = subst (FoundWithin o S m) e within .0
 
-  pub object-fits : (ob : Object) (at start n d : ℕ) → f ≡ Fd.Object ob at start n d → start + W.contentSize o S ob n ≤ length m
+  pub object-fits : (ob : Object) (at start n d : ℕ) → f ≡ Fd.Object ob at start n d → start + W.contentSize o S m ob at n ≤ length m
   object-fits ob at start n d e = subst (FoundWithin o S m) e within .1
 
   pub object-size : (ob : Object) (at start n d : ℕ) → f ≡ Fd.Object ob at start n d → length m ≤ 16777215
   object-size ob at start n d e = subst (FoundWithin o S m) e within .2
+
+  pub object-place : (ob : Object) (at start n d : ℕ) → f ≡ Fd.Object ob at start n d → at < 2 ^ 60
+  object-place ob at start n d e = subst (FoundWithin o S m) e within .3
 
 -- ---- all members before member j
 pub size-done : (S : Schema) (s size i j : ℕ) → size ≡ total (structSize S) (take i (Sc.structOf S s)) → i ≤ j → j ≤ i

@@ -5,6 +5,7 @@ use coding::Found;
 use coding::Kind;
 use coding::Member;
 use coding::Object;
+use coding::Place;
 use coding::Step;
 use field_arrival::Content;
 use field_arrival::Part;
@@ -185,10 +186,24 @@ pub fn list_part(b: &[u8], dir: &[u16], m: &[u8], i: usize, c: Content, j: usize
     field_arrival::follow(b, dir, m, part, step, o)
 }
 
+// Element j of a direct list of table t: a table in place, of as many bytes as the list's header gives.
+pub fn direct_part(b: &[u8], dir: &[u16], m: &[u8], t: u8, c: Content, j: usize, o: usize) -> Found
+    requires { ⌜ (Accepted (now b) (now dir)) × (Width o) × (Readable (now m)) × (ObjectSound (P.parse (now b)) (Object.Table t)) × (c .place < 2 ^ 60) ⌝ }
+    requires { ⌜ c .start + c .length * W.elementSize o (now m) (c .place) ≤ length (now m) ⌝ }
+    ensures { λ r. ⌜ r ≡ objectPartBy o (now (b .entry)) (now (m .entry)) (Object.DirectList t) c j ⌝ }
+{
+    if c.length <= j {
+        return field_arrival::refuse(15, c.place);
+    }
+    let w = message_header::element_size(m, c.place, o);
+    let p = Place::InPlace(c.start + w * j, w);
+    field_arrival::arrive(b, dir, m, c.left, Object::Table(t), p, o)
+}
+
 // Part j of an object: a text and bytes have none.
 fn object_part(b: &[u8], dir: &[u16], m: &[u8], ob: Object, c: Content, j: usize, o: usize) -> Found
-    requires { ⌜ (Accepted (now b) (now dir)) × (Width o) × (Readable (now m)) × (ObjectSound (P.parse (now b)) ob) ⌝ }
-    requires { ⌜ c .start + W.contentSize o (P.parse (now b)) ob (c .length) ≤ length (now m) ⌝ }
+    requires { ⌜ (Accepted (now b) (now dir)) × (Width o) × (Readable (now m)) × (ObjectSound (P.parse (now b)) ob) × (c .place < 2 ^ 60) ⌝ }
+    requires { ⌜ c .start + W.contentSize o (P.parse (now b)) (now m) ob (c .place) (c .length) ≤ length (now m) ⌝ }
     ensures { λ r. ⌜ r ≡ objectPartBy o (now (b .entry)) (now (m .entry)) ob c j ⌝ }
 {
     match ob {
@@ -196,6 +211,7 @@ fn object_part(b: &[u8], dir: &[u16], m: &[u8], ob: Object, c: Content, j: usize
         Object::Bytes => field_arrival::refuse(15, c.place),
         Object::List(i) => list_part(b, dir, m, wire::index(i), c, j, o),
         Object::Table(t) => table_part(b, dir, m, wire::index(t), c, j, o),
+        Object::DirectList(t) => direct_part(b, dir, m, t, c, j, o),
     }
 }
 

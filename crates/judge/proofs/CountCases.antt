@@ -82,6 +82,11 @@ module _ (b : Budget) (child child′ : W.Child) (H : (ob : Object) (p : Place) 
   elements-counts holder start e (suc n) i s l k =
       then-counts (follow-counts holder i (elementStep o S m e start i) s l k) (elements-counts holder start e n (i + 1))
 
+  directs-counts : (t w n at : ℕ) (s l : Spent) → Makes b s l → Counts b (W.directs child t w n at s) (W.directs child′ t w n at l)
+  unfolding W.directs
+  directs-counts t w zero at s l k = goes k
+  directs-counts t w (suc n) at s l k = then-counts (H (O.Table t) (InPlace at w) s l k) (directs-counts t w n (at + w))
+
   content-counts : (ob : Object) (holder start n : ℕ) (s l : Spent) → Makes b s l
       → Counts b (W.content child o S m ob holder start n s) (W.content child′ o S m ob holder start n l)
   unfolding W.content
@@ -89,6 +94,7 @@ module _ (b : Budget) (child child′ : W.Child) (H : (ob : Object) (p : Place) 
   content-counts O.Bytes holder start n s l k = goes k
   content-counts (O.List i) holder start n s l k = elements-counts holder start (elementOf S i) n 0 s l k
   content-counts (O.Table i) holder start n s l k = members-counts holder start n begin 0 (tableOf S i .members) s l k
+  content-counts (O.DirectList t) holder start n s l k = directs-counts t (W.elementSize o m holder) n start s l k
 
   enter-counts : (ob : Object) (holder : ℕ) (w : Opened) (s l : Spent) → Makes b s l
       → Counts b (W.enter child o S m ob holder w s) (W.enter child′ o S m ob holder w l)

@@ -53,10 +53,24 @@ OpenNumber (Op.Refused n) = n < 256
 OpenNumber (Op.Content start n) = Unit {0}
 
 -- ---- opening
+unless : (t : Bool) (k : ℕ) (g : Opened) → k < 256 → OpenNumber g → OpenNumber (pick t g (Op.Refused k))
+unless true k g l h = h
+unless false k g l h = l
+
+header-number : (o : ℕ) (S : Schema) (m : List ℕ) (ob : Object) (at : ℕ) (g : Opened) → OpenNumber g → OpenNumber (W.headerTested o S m ob at g)
+unfolding W.headerTested W.directHeader
+header-number o S m O.Text at g h = h
+header-number o S m O.Bytes at g h = h
+header-number o S m (O.List i) at g h = h
+header-number o S m (O.Table i) at g h = h
+header-number o S m (O.DirectList t) at g h =
+    unless (eqb (W.elementId o m at) (Sc.tableOf S t .id)) 7 (pick (leb (le m (at + 4) o) W.mostElements) g (Op.Refused 6)) (omega arith)
+    (unless (leb (le m (at + 4) o) W.mostElements) 6 g (omega arith) h)
+
 module _ (o : ℕ) (S : Schema) (m : List ℕ) (ob : Object) where
-  content-number : (start n : ℕ) → OpenNumber (W.fitContent o S m ob start n)
+  content-number : (at start n : ℕ) → OpenNumber (W.fitContent o S m ob at start n)
   unfolding W.fitContent
-  content-number start n = by (leb (start + W.contentSize o S ob n) (length m))
+  content-number at start n = by (leb (start + W.contentSize o S m ob at n) (length m))
     where
       by : (t : Bool) → OpenNumber (pick t (Op.Content start n) (Op.Refused 6))
       by true = tt
@@ -65,14 +79,14 @@ module _ (o : ℕ) (S : Schema) (m : List ℕ) (ob : Object) where
   fit-number : (p : Place) → OpenNumber (W.fitObject o S m ob p)
   unfolding W.fitObject
   fit-number (ByOffset x) =
-      by (leb (W.startSize o) x && leb (x + W.headerSize o) (length m)) (eqb (le m x 4) (W.magic S ob))
-      (W.fitContent o S m ob (x + W.headerSize o) (le m (x + 4) o)) (content-number (x + W.headerSize o) (le m (x + 4) o))
+      by (leb (W.startSize o) x && leb (x + W.headerSize o ob) (length m)) (eqb (le m x 4) (W.magic S ob)) _
+      (header-number o S m ob x _ (content-number x (x + W.headerSize o ob) (le m (x + 4) o)))
     where
       by : (t u : Bool) (g : Opened) → OpenNumber g → OpenNumber (pick t (pick u g (Op.Refused 7)) (Op.Refused 6))
       by true true g h = h
       by true false g h = omega arith
       by false u g h = omega arith
-  fit-number (InPlace a n) = content-number a n
+  fit-number (InPlace a n) = unless (W.standsInPlace ob) 6 _ (omega arith) (content-number a a n)
 
   bytes-number : (g : Opened) → OpenNumber g → OpenNumber (W.bytesTested m ob g)
   unfolding W.bytesTested
@@ -211,12 +225,19 @@ module _ (child : W.Child) (small : (ob : Object) (p : Place) (s : Spent) → Nu
       then-small (W.follow child holder i (T.elementStep o S m k start i) s) (W.elements child o S m holder start k n (i + 1))
       (follow-small holder i (T.elementStep o S m k start i) s (element-number o S m k start i)) (λ v. elements-small o S m holder start k n (i + 1) v)
 
+  directs-small : (t w n at : ℕ) (s : Spent) → NumberSmall (W.directs child t w n at s)
+  unfolding W.directs
+  directs-small t w zero at s = tt
+  directs-small t w (suc n) at s =
+      then-small (child (O.Table t) (InPlace at w) s) (W.directs child t w n (at + w)) (small (O.Table t) (InPlace at w) s) (λ v. directs-small t w n (at + w) v)
+
   content-small : (o : ℕ) (S : Schema) (m : List ℕ) (ob : Object) (holder start n : ℕ) (s : Spent) → NumberSmall (W.content child o S m ob holder start n s)
   unfolding W.content
   content-small o S m O.Text holder start n s = tt
   content-small o S m O.Bytes holder start n s = tt
   content-small o S m (O.List i) holder start n s = elements-small o S m holder start (Sc.elementOf S i) n 0 s
   content-small o S m (O.Table i) holder start n s = members-small o S m holder start n L.begin 0 (Sc.tableOf S i .members) s
+  content-small o S m (O.DirectList t) holder start n s = directs-small t (W.elementSize o m holder) n start s
 
   enter-small : (o : ℕ) (S : Schema) (m : List ℕ) (ob : Object) (holder : ℕ) (g : Opened) (s : Spent) → OpenNumber g → NumberSmall (W.enter child o S m ob holder g s)
   unfolding W.enter

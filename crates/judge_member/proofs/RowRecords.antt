@@ -6,7 +6,7 @@ use Prim.Native.Nat.{ℕ, _+_, _*_, _/_, _%_, _<_, _≤_}
 use native.Mathlib.Omega.{arith}
 use lib.ListN.{getD}
 use lib.Dec.{eqb, ltb}
-use borrow.Author.Tests.{eqb-true, eqb-false, ltb-true, ltb-false}
+use borrow.Author.Tests.{eqb-true, eqb-false, ltb-false}
 use Rattle.coding.specs.Schema as Sc
 use Rattle.coding.specs.Packed as P
 use Rattle.coding.specs.declared.Object.{Object}
@@ -30,20 +30,29 @@ module _ (k : ℕ) where
       by true q n = never n
       by false q n = ltb-false k 13 q
 
-  pub object-kind : (not (ltb k 13) && ltb k 17) ≡ true → (13 ≤ k) × (k < 17)
-  object-kind f = (no-flat (both-left (not (ltb k 13)) (ltb k 17) f), ltb-true k 17 (both-right (not (ltb k 13)) (ltb k 17) f))
-
-  pub union-kind : ltb k 13 ≡ false → (not (ltb k 13) && ltb k 17) ≡ false → 17 ≤ k
-  union-kind e f = by (ltb k 17) refl
+  no-union : (not (eqb k 17)) ≡ true → (k ≡ 17 → ⊥)
+  no-union = by (eqb k 17) refl
     where
-      by : (t : Bool) → ltb k 17 ≡ t → 17 ≤ k
-      by true q = never (sym f ∙ ap (λ (u : Bool). not u && ltb k 17) e ∙ q)
-      by false q = ltb-false k 17 q
+      by : (t : Bool) → eqb k 17 ≡ t → not t ≡ true → (k ≡ 17 → ⊥)
+      by true q n = never n
+      by false q n = eqb-false k 17 q
 
-pub refers-is : (h y x : ℕ) → y ≡ x → h ≡ y → (z : ℕ) → z ≡ h % 8 → z ≡ 0 → (k : ℕ) → k ≡ h / 8 → (not (ltb k 13) && ltb k 17) ≡ true → Refers x
+  pub object-kind : (not (ltb k 13) && not (eqb k 17)) ≡ true → (13 ≤ k) × (k ≡ 17 → ⊥)
+  object-kind f = (no-flat (both-left (not (ltb k 13)) (not (eqb k 17)) f), no-union (both-right (not (ltb k 13)) (not (eqb k 17)) f))
+
+  pub union-kind : ltb k 13 ≡ false → (not (ltb k 13) && not (eqb k 17)) ≡ false → k ≡ 17
+  union-kind e f = by (eqb k 17) refl
+    where
+      by : (t : Bool) → eqb k 17 ≡ t → k ≡ 17
+      by true q = eqb-true k 17 q
+      by false q = never (sym f ∙ ap (λ (u : Bool). not u && not (eqb k 17)) e ∙ ap (λ (u : Bool). not u) q)
+
+pub refers-is : (h y x : ℕ) → y ≡ x → h ≡ y → (z : ℕ) → z ≡ h % 8 → z ≡ 0 → (k : ℕ) → k ≡ h / 8 → (not (ltb k 13) && not (eqb k 17)) ≡ true → Refers x
 refers-is h y x ey eh z ez e k ek f =
     let q = object-kind k f in
-    record { low = omega arith; high = omega arith; flags = omega arith }
+    let l = q .0 in
+    let g : x / 8 ≡ k = omega arith in
+    record { low = omega arith; other = λ w. q .1 (sym g ∙ w); flags = omega arith }
 
 pub text-byte : (h : ℕ) (t : Bool) → t ≡ isTextReference h → t ≡ true → h ≡ 104
 unfolding isTextReference

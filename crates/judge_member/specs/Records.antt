@@ -37,7 +37,7 @@ isTextReference h = eqb h 104
 -- an object by its offset, neither optional nor in place
 pub record Refers (h : ℕ) : Type 0 where
   pub low : 13 ≤ h / 8
-  pub high : h / 8 < 17
+  pub other : h / 8 ≡ 17 → ⊥
   pub flags : h % 8 ≡ 0
 
 -- ---- row tables
@@ -73,6 +73,7 @@ RowObject b O.Text = ⊥
 RowObject b O.Bytes = ⊥
 RowObject b (O.List i) = ⊥
 RowObject b (O.Table t) = RowMembers b (tablePlace b t) (records b 4 (tablePlace b t))
+RowObject b (O.DirectList t) = ⊥
 
 -- a cursor with no bool before it
 abbrev pub noBool : ℕ → Cursor

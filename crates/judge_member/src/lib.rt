@@ -160,6 +160,7 @@ pub fn is_row_table(b: &[u8], dir: &[u16], ob: Object) -> bool
             let first = schema::table_place(b, dir, wire::index(t));
             all_row_members(b, first, schema::records(b, 4, first))
         }
+        Object::DirectList(_) => false,
     }
 }
 

@@ -227,6 +227,9 @@ module _ (o : ℕ) (child : W.Child) (b m : List ℕ) (holder start : ℕ) (ob :
     pub row-no-list : (i : ℕ) → ob ≡ O.List i → r ≡ W.elements child o (P.parse b) m holder start (OfObject ob) n 0 s
     row-no-list i e = absurd (subst (RowObject b) e lf)
 
+    pub row-no-direct : (t : ℕ) → ob ≡ O.DirectList t → r ≡ W.elements child o (P.parse b) m holder start (OfObject ob) n 0 s
+    row-no-direct t e = absurd (subst (RowObject b) e lf)
+
 pub row-sound : (b : List ℕ) (ob : Object) (t : ℕ) → ob ≡ O.Table t → ObjectSound (P.parse b) ob → ObjectSound (P.parse b) (O.Table t)
 row-sound b ob t e h = subst (ObjectSound (P.parse b)) e h
 

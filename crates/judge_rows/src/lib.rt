@@ -216,5 +216,6 @@ pub fn row_references(
             content,
             o,
         ),
+        Object::DirectList(_) => outcome::going(visits, content),
     }
 }

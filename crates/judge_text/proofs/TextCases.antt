@@ -23,6 +23,7 @@ text-only O.Text t e h = refl
 text-only O.Bytes t e h = let z : _≡_ {A = Bool} false true = sym e ∙ h in let y : _≡_ {A = ℕ} 0 1 = cc in absurd (omega arith)
 text-only (O.List i) t e h = let z : _≡_ {A = Bool} false true = sym e ∙ h in let y : _≡_ {A = ℕ} 0 1 = cc in absurd (omega arith)
 text-only (O.Table i) t e h = let z : _≡_ {A = Bool} false true = sym e ∙ h in let y : _≡_ {A = ℕ} 0 1 = cc in absurd (omega arith)
+text-only (O.DirectList i) t e h = let z : _≡_ {A = Bool} false true = sym e ∙ h in let y : _≡_ {A = ℕ} 0 1 = cc in absurd (omega arith)
 
 -- ---- the test of its bytes
 module _ (m : List ℕ) (holder start n : ℕ) (s : Spent) (q : Opened) (eq : q ≡ W.bytesTested m O.Text (Op.Content start n)) (r : Walked) where

@@ -8,3 +8,4 @@ isText O.Text = true
 isText O.Bytes = false
 isText (O.List i) = false
 isText (O.Table i) = false
+isText (O.DirectList t) = false

@@ -22,6 +22,7 @@ pub fn is_text(ob: Object) -> bool
         Object::Bytes => false,
         Object::List(_) => false,
         Object::Table(_) => false,
+        Object::DirectList(_) => false,
     }
 }
 

@@ -1,10 +1,11 @@
 -- The ways out of an arrival and of an object's content, one lemma for each: the charge, the test of its bytes, and its parts.
-use mathlib.Core.Path.{_≡_, sym, ap, _∙_}
+use mathlib.Core.Path.{_≡_, sym, ap, _∙_, subst}
 use mathlib.Core.Bool.{Bool, true, false}
 use mathlib.Core.List.{List}
-use Prim.Native.Nat.{ℕ, _-_, _<_}
+use Prim.Native.Nat.{ℕ, _+_, _-_, _<_, _≤_}
 use native.Mathlib.Omega.{arith}
 use lib.Dec.{ltb}
+use lib.ListN.{length}
 use borrow.Author.Tests.{ltb-true}
 use Rattle.coding.specs.Schema as Sc
 use Rattle.coding.specs.Schema.{Schema}
@@ -21,6 +22,7 @@ use Rattle.coding.specs.declared.Walked.the-variants.{Going}
 use Rattle.outcome.specs.declared.Outcome.{Outcome}
 use Rattle.outcome.specs.Left as Left
 use Rattle.outcome.specs.Answers.{walkedOf, leftOf, charged, textEnd}
+use Rattle.message_object.proofs.OpenCases.{fit-fits}
 use Rattle.outcome.proofs.ArrivalCases.{visit-found, admit-past, admit-entered, not-more, text-entered}
 
 -- ---- an arrival at content that fits
@@ -31,6 +33,12 @@ visit-content o S m ob p d s at e g eg z q eq r start n ew k ek f =
     visit-found o S m ob p d s at e g eg z q eq r
     (f ∙ ap (λ (i : ℕ). Left.admit (Left.visit i o S m) o S m ob at (Op.Content start n) (leftOf g)) ek
     ∙ ap (λ (w : Opened). Left.admit (Left.visit (d - 1) o S m) o S m ob at w (leftOf g)) (sym ew))
+
+-- it lies within the message
+pub held-fits : (o : ℕ) (S : Schema) (m : List ℕ) (ob : Object) (p : Place) (at : ℕ) → at ≡ W.placed p → (g : Opened) (start n : ℕ) → g ≡ W.fitObject o S m ob p
+    → g ≡ Op.Content start n → start + W.contentSize o S m ob at n ≤ length m
+held-fits o S m ob p at e g start n eg ew =
+    subst (λ (i : ℕ). start + W.contentSize o S m ob i n ≤ length m) (sym e) (fit-fits o S m ob p g start n eg ew)
 
 -- what is left below is less
 pub below-falls : (d k : ℕ) → k ≡ d - 1 → 0 < d → k < d
@@ -65,3 +73,8 @@ module _ (child : W.Child) (o : ℕ) (S : Schema) (m : List ℕ) (ob : Object) (
         → r ≡ Left.admit child o S m ob holder (Op.Content start n) (W.spending v c)
     unfolding W.bytesTested W.endOk W.enter W.content
     admit-table i j e ej f = paid (rw e (f ∙ ap (λ (q : ℕ). W.members child o S m holder start n L.begin 0 (Sc.tableOf S q .members) (W.spending v l)) ej))
+
+    pub admit-direct : (i : ℕ) → ob ≡ O.DirectList i → r ≡ W.directs child i (W.elementSize o m holder) n start (W.spending v l)
+        → r ≡ Left.admit child o S m ob holder (Op.Content start n) (W.spending v c)
+    unfolding W.bytesTested W.endOk W.enter W.content
+    admit-direct i e f = paid (rw e f)

@@ -2,3 +2,4 @@ pub mod AdmitCases
 pub mod WalkCases
 pub mod ListCases
 pub mod ReferenceCases
+pub mod DirectCases

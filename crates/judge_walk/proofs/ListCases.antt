@@ -82,7 +82,7 @@ list-flat o b dir a child m holder start i n s l at ea k ek t et h r f =
 
 -- what is not flat is an object or a union
 module _ (b : List ℕ) (i : ℕ) (l : i < P.listCount b) (at : ℕ) (ea : at ≡ P.listPlace b i) (k : ℕ) (ek : k ≡ P.kindAt b at) (t : Bool) (et : t ≡ ltb k 13) (ft : t ≡ false) (q : Bool)
-    (eq : q ≡ (not (ltb k 13) && ltb k 17)) where
+    (eq : q ≡ (not (ltb k 13) && not (eqb k 17))) where
   of-object : q ≡ true → (ob : Object) → ob ≡ P.objectAt b at → OfObject ob ≡ Sc.elementOf (P.parse b) i
   of-object h ob eo =
       let g = object-kind k (sym eq ∙ h) in

@@ -50,7 +50,7 @@ reference-is b at p =
     let f = p .flags in
     let o : eqb (getD b at 0 / 4 % 2) 1 ≡ false = ne-eqb (getD b at 0 / 4 % 2) 1 (λ (z : getD b at 0 / 4 % 2 ≡ 1). absurd (omega arith)) in
     let i : eqb (getD b at 0 / 2 % 2) 1 ≡ false = ne-eqb (getD b at 0 / 2 % 2) 1 (λ (z : getD b at 0 / 2 % 2 ≡ 1). absurd (omega arith)) in
-    let q : P.elementAt b at ≡ OfObject (P.objectAt b at) = element-object b at (getD b at 0 / 8) refl (p .low) (p .high) (P.objectAt b at) refl in
+    let q : P.elementAt b at ≡ OfObject (P.objectAt b at) = element-object b at (getD b at 0 / 8) refl (p .low) (p .other) (P.objectAt b at) refl in
     ap (λ (k : Kind). record { kind = k; optional = eqb (getD b at 0 / 4 % 2) 1; inplace = eqb (getD b at 0 / 2 % 2) 1 }) q
     ∙ ap (λ (k : Bool). record { kind = OfObject (P.objectAt b at); optional = k; inplace = eqb (getD b at 0 / 2 % 2) 1 }) o
     ∙ ap (λ (k : Bool). record { kind = OfObject (P.objectAt b at); optional = false; inplace = k }) i

@@ -103,7 +103,7 @@ fn admit(
     o: usize,
 ) -> Outcome
     requires { ⌜ (Accepted (now b) (now dir)) × (Width o) × (WithinSize (now m)) × (ObjectSound (P.parse (now b)) ob) ⌝ }
-    requires { ⌜ (x .start + W.contentSize o (P.parse (now b)) ob (x .length) ≤ length (now m)) × (x .length < 2 ^ 48) ⌝ }
+    requires { ⌜ (x .start + W.contentSize o (P.parse (now b)) (now m) ob (x .holder) (x .length) ≤ length (now m)) × (x .length < 2 ^ 48) × (x .holder < 2 ^ 60) ⌝ }
     ensures { λ r. ⌜ As.walkedOf r ≡ As.contentBy o (now (b .entry)) (now (m .entry)) depth ob x (W.spending visits content) ⌝ }
 {
     let n = message_header::content_length(b, dir, ob, x.length, o);
@@ -116,6 +116,7 @@ fn admit(
         Object::Bytes => outcome::going(visits, left),
         Object::List(i) => list(b, dir, m, depth, wire::index(i), x, visits, left, o),
         Object::Table(t) => table(b, dir, m, depth, wire::index(t), x, visits, left, o),
+        Object::DirectList(t) => directs(b, dir, m, depth, t, x, visits, left, o),
     }
 }
 
@@ -256,6 +257,63 @@ fn list(
     }
     let u = wire::index(schema::argument_at(b, at));
     choices(b, dir, m, depth, u, x, visits, content, o)
+}
+
+// The elements of a direct list of table t, by the size that its header gives.
+fn directs(
+    b: &[u8],
+    dir: &[u16],
+    m: &[u8],
+    depth: usize,
+    t: u8,
+    x: Content,
+    visits: u32,
+    content: u64,
+    o: usize,
+) -> Outcome
+    requires { ⌜ (Accepted (now b) (now dir)) × (Width o) × (WithinSize (now m)) × (ObjectSound (P.parse (now b)) (Object.DirectList t)) × (x .holder < 2 ^ 60) ⌝ }
+    requires { ⌜ x .start + x .length * W.elementSize o (now m) (x .holder) ≤ length (now m) ⌝ }
+    ensures { λ r. ⌜ As.walkedOf r ≡ As.directsBy o (now (b .entry)) (now (m .entry)) depth t (W.elementSize o (now (m .entry)) (x .holder)) x (W.spending visits content) ⌝ }
+{
+    let w = message_header::element_size(m, x.holder, o);
+    if judge_direct::only_count(b, dir, t, w, x.length, o) {
+        return judge_direct::count(b, m, depth, t, w, x, visits, content, o);
+    }
+    elements(b, dir, m, depth, t, w, x, visits, content, o)
+}
+
+// The elements of a direct list of table t, of w bytes each: an arrival at each, one behind the other.
+fn elements(
+    b: &[u8],
+    dir: &[u16],
+    m: &[u8],
+    depth: usize,
+    t: u8,
+    w: usize,
+    x: Content,
+    visits: u32,
+    content: u64,
+    o: usize,
+) -> Outcome
+    requires { ⌜ (Accepted (now b) (now dir)) × (Width o) × (WithinSize (now m)) × (ObjectSound (P.parse (now b)) (Object.Table t)) × (w < 2 ^ 32) × (x .start + w * x .length ≤ length (now m)) ⌝ }
+    ensures { λ r. ⌜ As.walkedOf r ≡ As.directsBy o (now (b .entry)) (now (m .entry)) depth t w x (W.spending visits content) ⌝ }
+{
+    let mut v = visits;
+    let mut c = content;
+    let mut at = x.start;
+    let mut j: usize = 0;
+    while j < x.length {
+        let p = Place::InPlace(at, w);
+        let g = visit(b, dir, m, depth, Object::Table(t), p, v, c, o);
+        if g.code != 0 {
+            return g;
+        }
+        v = g.visits;
+        c = g.content;
+        at += w;
+        j += 1;
+    }
+    outcome::going(v, c)
 }
 
 // The objects of a list, by their offsets.

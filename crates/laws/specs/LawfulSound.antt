@@ -1,64 +1,22 @@
 -- A lawful schema is sound: what the rules say of the packed bytes holds of the typed schema.
-use mathlib.Core.Path.{_≡_, refl, sym, _∙_}
-use mathlib.Core.Bool.{Bool, true, false}
+use mathlib.Core.Path.{_≡_}
+use mathlib.Core.Bool.{true}
 use mathlib.Core.List.{List}
-use Prim.Native.Nat.{ℕ, zero, suc, _+_, _^_, _<_, _≤_}
-use native.Mathlib.Numerals.{add-one}
-use native.Mathlib.Nat.{add-zero}
+use Prim.Native.Nat.{ℕ, _+_, _^_, _<_, _≤_}
 use native.Mathlib.Omega.{arith}
 use lib.ListN.{length, getD}
-use lib.Dec.{ltb}
-use borrow.Author.Tests.{ltb-true, ltb-false}
-use Rattle.coding.specs.Lists.{pick, run}
+use Rattle.coding.specs.Bytes as B
 use Rattle.coding.specs.Packed as P
 use Rattle.coding.specs.Lawful as L
 use Rattle.coding.specs.Schema as Sc
 use Rattle.coding.specs.Structs.{structSize, byIndex, sizeBy, total}
 use Rattle.coding.specs.declared.Role.the-variants.{InStruct, InUnion, InTable}
-use Rattle.laws.specs.Sound.{All, FlatSound, ObjectSound, MemberSound, inplaceCount, TableSound, StructSound, UnionSound, ListSound, Sound}
-use Rattle.laws.specs.Lists.{run-all}
+use Rattle.laws.specs.Sound.{All, FlatSound, ObjectSound, MemberSound, inplaceCount, TableSound, StructSound, UnionSound, ListSound, Sound, NoDirects}
 use Rattle.laws.specs.Parsed as Pa
 use Rattle.laws.specs.Rules as R
+use Rattle.laws.specs.DirectRules.{records-all, inplaces-are, either, older-no-directs}
 use Rattle.laws.specs.RecordSound.{list-sound, case-sound, field-sound, member-sound}
 use Rattle.laws.specs.Sizes.{sizes-some}
-
--- what holds of each record of a block holds of all
-pub records-all : {A : Type 0} (Q : A → Type 0) (f : List ℕ → ℕ → A) (b : List ℕ) (head at : ℕ)
-    → ((j : ℕ) → j < P.records b head at → Q (f b (P.recordPlace head at j))) → All Q (P.recordsAt f b head at)
-unfolding P.recordsAt
-records-all Q f b head at h = run-all (λ j. f b (P.recordPlace head at j)) Q (P.records b head at) h
-
--- ---- the members in place, as the packed bytes count them
-inplaces-next : (b : List ℕ) (at i : ℕ) → L.inplaces b at (i + 1) ≡ L.inplaces b at i + pick (P.inplaceAt b (P.recordPlace 4 at i)) 1 0
-unfolding L.inplaces
-inplaces-next b at i = rw add-one
-
-member-inplace : (b : List ℕ) (p : ℕ) → P.memberAt b p .inplace ≡ P.inplaceAt b p
-unfolding P.memberAt
-member-inplace b p = refl
-
-inplaces-from : (b : List ℕ) (at n i : ℕ)
-    → inplaceCount (run (λ j. P.memberAt b (P.recordPlace 4 at j)) i n) + L.inplaces b at i ≡ L.inplaces b at (i + n)
-unfolding inplaceCount run
-inplaces-from b at zero i = let e : i + 0 ≡ i = omega arith in rw e (omega arith)
-inplaces-from b at (suc n) i =
-    let e : i + suc n ≡ i + 1 + n = omega arith in
-    rw (e, member-inplace b (P.recordPlace 4 at i)) (omega (arith, inplaces-from b at n (i + 1), inplaces-next b at i))
-
-pub inplaces-are : (b : List ℕ) (at : ℕ) → inplaceCount (P.recordsAt P.memberAt b 4 at) ≡ L.inplaces b at (P.records b 4 at)
-unfolding P.recordsAt L.inplaces
-inplaces-are b at =
-    let e : 0 + P.records b 4 at ≡ P.records b 4 at = omega arith in
-    let h : inplaceCount (run (λ j. P.memberAt b (P.recordPlace 4 at j)) 0 (P.records b 4 at)) + 0 ≡ L.inplaces b at (0 + P.records b 4 at) = inplaces-from b at (P.records b 4 at) 0 in
-    sym (add-zero _) ∙ h ∙ rw e
-
--- in range or past it
-either : {A : Type 0} (i n : ℕ) → (i < n → A) → (n ≤ i → A) → A
-either {A} i n f g = by (ltb i n) refl
-  where
-    by : (t : Bool) → ltb i n ≡ t → A
-    by true e = f (ltb-true i n e)
-    by false e = g (ltb-false i n e)
 
 module _ (b : List ℕ) (bytes : (i : ℕ) → getD b i 0 < 256) (e : L.wellFormed b ≡ true) where
   -- ---- structs
@@ -160,3 +118,7 @@ module _ (b : List ℕ) (bytes : (i : ℕ) → getD b i 0 < 256) (e : L.wellForm
 
 pub lawful-sound : (o : ℕ) (b : List ℕ) → ((i : ℕ) → getD b i 0 < 256) → L.lawful o b ≡ true → Sound (P.parse b)
 lawful-sound o b bytes e = formed-sound b bytes (R.lawful-formed o b e)
+
+-- under the older coding there is no direct list
+pub lawful-no-directs : (b : List ℕ) → L.lawful B.u32 b ≡ true → NoDirects (P.parse b)
+lawful-no-directs b e = older-no-directs b (R.lawful-older b e)

@@ -7,8 +7,11 @@ pub mod BitLists
 pub mod Lists
 pub mod Parsed
 pub mod Rules
+pub mod DirectRules
 pub mod RecordSound
 pub mod Sizes
 pub mod LawfulSound
 pub mod StructBooleans
 pub mod SoundAt
+pub mod DirectPlaces
+pub mod FixedSizes

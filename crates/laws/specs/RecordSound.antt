@@ -11,6 +11,7 @@ use borrow.Author.Tests.{leb-true, ltb-true, eqb-true, ltb-false, eqb-false, eq-
 use Rattle.coding.specs.Lists.{pick, every}
 use Rattle.coding.specs.Packed as P
 use Rattle.coding.specs.Lawful as L
+use Rattle.coding.specs.Schema.{casesOf}
 use Rattle.coding.specs.declared.Flat.{Flat}
 use Rattle.coding.specs.declared.Flat.the-variants.{Boolean, Integer, Float, Enumerated, Struct}
 use Rattle.coding.specs.declared.Object.{Object}
@@ -19,10 +20,11 @@ use Rattle.coding.specs.declared.Kind.{Kind}
 use Rattle.coding.specs.declared.Kind.the-variants.{OfFlat, OfObject, OfUnion}
 use Rattle.coding.specs.declared.Role.{Role}
 use Rattle.coding.specs.declared.Role.the-variants.{InStruct, InList, InUnion, InTable}
-use Rattle.laws.specs.Sound.{FlatSound, ObjectSound, KindSound, FlatScalar, NoStruct, FlatOptional, MayBeOptional, MayStandInPlace, MemberSound}
+use Rattle.laws.specs.Sound.{All, FlatSound, DirectSound, NotDirect, ObjectSound, KindSound, FlatScalar, NoStruct, FlatOptional, MayBeOptional, MayStandInPlace, MemberSound}
 use Rattle.laws.specs.Lists.{every-at, both-left, both-right, pick-holds, never}
 use Rattle.laws.specs.Parsed.{structs-length, lists-length, unions-length, tables-length}
-use Rattle.laws.specs.Rules.{record-argument, record-kind, record-flags}
+use Rattle.laws.specs.Rules.{record-argument, record-kind, record-flags, record-direct}
+use Rattle.laws.specs.DirectRules.{direct-sound, object-not-direct, held-cases}
 
 -- every width is 1 to 8: one test over the table
 width-good : ℕ → Bool
@@ -62,6 +64,13 @@ module _ (n k a : ℕ) (small : a < 256) where
       let q : k ≡ 11 → ⊥ = eqb-false _ _ h4 in
       g (omega (arith, q))
 
+-- what is left of the kinds of objects
+fifteen : (k : ℕ) → 13 ≤ k → (k ≡ 13 → ⊥) → (k ≡ 14 → ⊥) → 15 ≤ k
+fifteen k l x y = omega (arith, x, y)
+
+sixteen : (k : ℕ) → 15 ≤ k → k ≤ 18 → (k ≡ 15 → ⊥) → (k ≡ 17 → ⊥) → (k ≡ 18 → ⊥) → k ≡ 16
+sixteen k l m x y z = let n : k < 18 = omega (arith, z) in let p : 16 ≤ k = omega (arith, x) in omega (arith, y)
+
 module _ (b : List ℕ) (k a : ℕ) (small : a < 256) (e : L.argumentOk b k a ≡ true) where
   enum-some : k ≡ 11 → 0 < a
   unfolding L.argumentOk
@@ -77,48 +86,91 @@ module _ (b : List ℕ) (k a : ℕ) (small : a < 256) (e : L.argumentOk b k a �
   pub table-flat-sound : k < 13 → FlatSound (length (P.parse b .structs)) (P.flatOf k a)
   table-flat-sound l = flat-sound _ k a small l enum-some (λ z. omega (arith, struct-in z, structs-length b))
 
-  pub object-sound : 13 ≤ k → k < 17 → ObjectSound (P.parse b) (P.objectOf k a)
-  unfolding P.objectOf L.argumentOk
-  object-sound g l =
-      let Q : Object → Type 0 = ObjectSound (P.parse b) in
-      let m : 11 ≤ k = omega arith in
-      let n : k ≡ 11 → ⊥ = λ q. omega arith in
-      let p : k ≡ 12 → ⊥ = λ q. omega arith in
-      pick-holds Q (eqb k 13) O.Text _ (λ h. tt) λ h0.
-      pick-holds Q (eqb k 14) O.Bytes _ (λ h. tt) λ h1.
-      let x : k ≡ 13 → ⊥ = eqb-false _ _ h0 in
-      let y : k ≡ 14 → ⊥ = eqb-false _ _ h1 in
-      let w : 15 ≤ k = omega (arith, x, y) in
-      pick-holds Q (eqb k 15) (O.List a) (O.Table a)
-      (λ h. let i : a < P.listCount b = ltb-true _ _ (simp (le-ltb _ _ m, ne-eqb _ _ n, ne-eqb _ _ p, le-ltb _ _ w, h) at e) in
-      omega (arith, lists-length b))
-      λ h. let v : k ≡ 15 → ⊥ = eqb-false _ _ h in let u : k ≡ 16 = omega (arith, v) in
-      let i : a < P.tableCount b = ltb-true _ _ (simp (le-ltb _ _ m, ne-eqb _ _ n, ne-eqb _ _ p, le-ltb _ _ w, h, eq-eqb _ _ u) at e) in
-      omega (arith, tables-length b)
-
-  guarded : (t x : Bool) → pick t x false ≡ true → x ≡ true
-  guarded true x h = h
-  guarded false x h = never h
-
-  union-in : 17 ≤ k → a < P.unionCount b
+  -- kind 18 is the last
+  argument-last : k ≤ 18
   unfolding L.argumentOk
-  union-in l =
+  argument-last = by (ltb 18 k) refl
+    where
+      by : (t : Bool) → ltb 18 k ≡ t → k ≤ 18
+      by false h = ltb-false _ _ h
+      by true h =
+          let l : 18 < k = ltb-true _ _ h in
+          let m : 11 ≤ k = omega arith in
+          let w : 15 ≤ k = omega arith in
+          let n : k ≡ 11 → ⊥ = λ q. omega arith in
+          let p : k ≡ 12 → ⊥ = λ q. omega arith in
+          let x : k ≡ 15 → ⊥ = λ q. omega arith in
+          let y : k ≡ 16 → ⊥ = λ q. omega arith in
+          let u : k ≡ 17 → ⊥ = λ q. omega arith in
+          let v : k ≡ 18 → ⊥ = λ q. omega arith in
+          never (simp (le-ltb _ _ m, ne-eqb _ _ n, ne-eqb _ _ p, le-ltb _ _ w, ne-eqb _ _ x, ne-eqb _ _ y, ne-eqb _ _ u, ne-eqb _ _ v) at e)
+
+  pub list-in : k ≡ 15 → a < P.listCount b
+  unfolding L.argumentOk
+  list-in z =
       let m : 11 ≤ k = omega arith in
+      let w : 15 ≤ k = omega arith in
       let n : k ≡ 11 → ⊥ = λ q. omega arith in
       let p : k ≡ 12 → ⊥ = λ q. omega arith in
+      ltb-true _ _ (simp (le-ltb _ _ m, ne-eqb _ _ n, ne-eqb _ _ p, le-ltb _ _ w, eq-eqb _ _ z) at e)
+
+  pub table-in : k ≡ 16 → a < P.tableCount b
+  unfolding L.argumentOk
+  table-in z =
+      let m : 11 ≤ k = omega arith in
       let w : 15 ≤ k = omega arith in
+      let n : k ≡ 11 → ⊥ = λ q. omega arith in
+      let p : k ≡ 12 → ⊥ = λ q. omega arith in
+      let x : k ≡ 15 → ⊥ = λ q. omega arith in
+      ltb-true _ _ (simp (le-ltb _ _ m, ne-eqb _ _ n, ne-eqb _ _ p, le-ltb _ _ w, ne-eqb _ _ x, eq-eqb _ _ z) at e)
+
+  pub union-in : k ≡ 17 → a < P.unionCount b
+  unfolding L.argumentOk
+  union-in z =
+      let m : 11 ≤ k = omega arith in
+      let w : 15 ≤ k = omega arith in
+      let n : k ≡ 11 → ⊥ = λ q. omega arith in
+      let p : k ≡ 12 → ⊥ = λ q. omega arith in
       let x : k ≡ 15 → ⊥ = λ q. omega arith in
       let y : k ≡ 16 → ⊥ = λ q. omega arith in
-      ltb-true _ _ (guarded (eqb k 17) (ltb a (P.unionCount b))
-      (simp (le-ltb _ _ m, ne-eqb _ _ n, ne-eqb _ _ p, le-ltb _ _ w, ne-eqb _ _ x, ne-eqb _ _ y) at e))
+      ltb-true _ _ (simp (le-ltb _ _ m, ne-eqb _ _ n, ne-eqb _ _ p, le-ltb _ _ w, ne-eqb _ _ x, ne-eqb _ _ y, eq-eqb _ _ z) at e)
 
-  pub kind-sound : KindSound (P.parse b) (P.kindOf k a)
+  pub direct-in : k ≡ 18 → a < P.tableCount b
+  unfolding L.argumentOk
+  direct-in z =
+      let m : 11 ≤ k = omega arith in
+      let w : 15 ≤ k = omega arith in
+      let n : k ≡ 11 → ⊥ = λ q. omega arith in
+      let p : k ≡ 12 → ⊥ = λ q. omega arith in
+      let x : k ≡ 15 → ⊥ = λ q. omega arith in
+      let y : k ≡ 16 → ⊥ = λ q. omega arith in
+      let u : k ≡ 17 → ⊥ = λ q. omega arith in
+      ltb-true _ _ (simp (le-ltb _ _ m, ne-eqb _ _ n, ne-eqb _ _ p, le-ltb _ _ w, ne-eqb _ _ x, ne-eqb _ _ y, ne-eqb _ _ u, eq-eqb _ _ z) at e)
+
+  list-at : k ≡ 15 → a < length (P.parse b .lists)
+  list-at z = omega (arith, list-in z, lists-length b)
+
+  table-at : k ≡ 16 → a < length (P.parse b .tables)
+  table-at z = omega (arith, table-in z, tables-length b)
+
+  -- an object, where a direct list's table is good
+  pub object-sound : 13 ≤ k → (k ≡ 17 → ⊥) → (k ≡ 18 → DirectSound (P.parse b) a) → ObjectSound (P.parse b) (P.objectOf k a)
+  unfolding P.objectOf
+  object-sound g u f =
+      let Q : Object → Type 0 = ObjectSound (P.parse b) in
+      pick-holds Q (eqb k 13) O.Text _ (λ h. tt) λ h0.
+      pick-holds Q (eqb k 14) O.Bytes _ (λ h. tt) λ h1.
+      pick-holds Q (eqb k 15) (O.List a) _ (λ h. list-at (eqb-true _ _ h)) λ h2.
+      pick-holds Q (eqb k 18) (O.DirectList a) (O.Table a) (λ h. f (eqb-true _ _ h)) λ h3.
+      table-at (sixteen k (fifteen k g (eqb-false _ _ h0) (eqb-false _ _ h1)) argument-last (eqb-false _ _ h2) u (eqb-false _ _ h3))
+
+  pub kind-sound : (k ≡ 18 → DirectSound (P.parse b) a) → KindSound (P.parse b) (P.kindOf k a)
   unfolding P.kindOf
-  kind-sound =
+  kind-sound f =
       let Q : Kind → Type 0 = KindSound (P.parse b) in
       pick-holds Q (ltb k 13) (OfFlat (P.flatOf k a)) _ (λ h. table-flat-sound (ltb-true _ _ h)) λ h0.
-      pick-holds Q (ltb k 17) (OfObject (P.objectOf k a)) (OfUnion a) (λ h. object-sound (ltb-false _ _ h0) (ltb-true _ _ h)) λ h1.
-      omega (arith, union-in (ltb-false _ _ h1), unions-length b)
+      pick-holds Q (eqb k 17) (OfUnion a) (OfObject (P.objectOf k a)) (λ h. omega (arith, union-in (eqb-true _ _ h), unions-length b)) λ h1.
+      object-sound (ltb-false _ _ h0) (eqb-false _ _ h1) f
 
 -- ---- what a kind may be, optional or in place
 module _ (k a : ℕ) where
@@ -140,7 +192,7 @@ module _ (k a : ℕ) where
   no-struct n =
       let Q : Kind → Type 0 = NoStruct in
       pick-holds Q (ltb k 13) (OfFlat (P.flatOf k a)) _ (λ h. flat-scalar n (ltb-true _ _ h)) λ h0.
-      pick-holds Q (ltb k 17) (OfObject (P.objectOf k a)) (OfUnion a) (λ h. tt) λ h1. tt
+      pick-holds Q (eqb k 17) (OfUnion a) (OfObject (P.objectOf k a)) (λ h. tt) λ h1. tt
 
   flat-optional : (k ≡ 11 → ⊥) → FlatOptional (P.flatOf k a)
   unfolding P.flatOf
@@ -163,11 +215,16 @@ module _ (k a : ℕ) where
       by true q h = let z : k ≡ 12 = eqb-true _ _ q in low (omega arith) (λ x. omega arith)
       by false q h = let z : k < 11 = ltb-true _ _ h in low (omega arith) (λ x. omega arith)
 
-  may-stand-in-place : L.inplaceOk InTable k ≡ true → MayStandInPlace (P.kindOf k a)
-  unfolding P.kindOf L.inplaceOk
-  may-stand-in-place e =
-      let l : 13 ≤ k = (let m : 12 < k = ltb-true _ _ e in omega arith) in
-      simp (le-ltb _ _ l) (pick-holds MayStandInPlace (ltb k 17) (OfObject (P.objectOf k a)) (OfUnion a) (λ h. tt) (λ h. tt))
+-- what may stand in place, in a schema: no direct list, and no union with one
+may-stand-in-place : (b : List ℕ) (k a : ℕ) → L.inplaceOk InTable k ≡ true → (k ≡ 17 → All NotDirect (casesOf (P.parse b) a))
+    → MayStandInPlace (P.parse b) (P.kindOf k a)
+unfolding P.kindOf L.inplaceOk
+may-stand-in-place b k a e f =
+    let l : 13 ≤ k = leb-true _ _ (both-left (leb 13 k) _ e) in
+    let m : k ≤ 17 = leb-true _ _ (both-right (leb 13 k) _ e) in
+    simp (le-ltb _ _ l)
+    (pick-holds (MayStandInPlace (P.parse b)) (eqb k 17) (OfUnion a) (OfObject (P.objectOf k a)) (λ h. f (eqb-true _ _ h))
+    (λ h. object-not-direct k a (λ z. omega arith)))
 
 -- ---- one record of each, in a schema whose bytes are bytes
 module _ (b : List ℕ) (bytes : (i : ℕ) → getD b i 0 < 256) (at : ℕ) where
@@ -175,9 +232,28 @@ module _ (b : List ℕ) (bytes : (i : ℕ) → getD b i 0 < 256) (at : ℕ) wher
   unfolding P.argumentAt
   argument-small = bytes (at + 1)
 
+  -- 02, K1: a direct list's table
+  direct-at : (role : Role) → L.recordOk b role at ≡ true → P.kindAt b at ≡ 18 → DirectSound (P.parse b) (P.argumentAt b at)
+  unfolding L.directOk
+  direct-at role e z =
+      direct-sound b (P.argumentAt b at)
+      (direct-in b (P.kindAt b at) (P.argumentAt b at) argument-small (record-argument b role at e) z)
+      (simp (eq-eqb _ _ z) at (record-direct b role at e))
+
+  -- 02, K1: the cases of a union in place
+  held-at : (role : Role) → L.recordOk b role at ≡ true → P.inplaceAt b at ≡ true → P.kindAt b at ≡ 17
+      → All NotDirect (casesOf (P.parse b) (P.argumentAt b at))
+  unfolding L.directOk
+  held-at role e i z =
+      let n : P.kindAt b at ≡ 18 → ⊥ = λ q. omega arith in
+      held-cases b (P.argumentAt b at)
+      (union-in b (P.kindAt b at) (P.argumentAt b at) argument-small (record-argument b role at e) z)
+      (simp (ne-eqb _ _ n, eq-eqb _ _ z, i) at (record-direct b role at e))
+
   element-sound : (role : Role) → L.recordOk b role at ≡ true → KindSound (P.parse b) (P.elementAt b at)
   unfolding P.elementAt
-  element-sound role e = kind-sound b (P.kindAt b at) (P.argumentAt b at) argument-small (record-argument b role at e)
+  element-sound role e =
+      kind-sound b (P.kindAt b at) (P.argumentAt b at) argument-small (record-argument b role at e) (direct-at role e)
 
   pub list-sound : L.recordOk b InList at ≡ true → (KindSound (P.parse b) (P.elementAt b at)) × (NoStruct (P.elementAt b at))
   unfolding P.elementAt L.kindOk
@@ -185,12 +261,20 @@ module _ (b : List ℕ) (bytes : (i : ℕ) → getD b i 0 < 256) (at : ℕ) wher
 
   pub case-sound : L.recordOk b InUnion at ≡ true → ObjectSound (P.parse b) (P.objectAt b at)
   unfolding P.objectAt L.kindOk
-  case-sound e =
-      let k : ℕ = P.kindAt b at in
-      let h : (leb 13 k && leb k 16) ≡ true = record-kind b InUnion at e in
-      let l : 13 ≤ k = leb-true _ _ (both-left _ _ h) in
-      let m : k ≤ 16 = leb-true _ _ (both-right (leb 13 k) _ h) in
-      object-sound b k (P.argumentAt b at) argument-small (record-argument b InUnion at e) l (omega arith)
+  case-sound e = by (eqb (P.kindAt b at) 18) refl (record-kind b InUnion at e)
+    where
+      sound : 13 ≤ P.kindAt b at → (P.kindAt b at ≡ 17 → ⊥) → ObjectSound (P.parse b) (P.objectOf (P.kindAt b at) (P.argumentAt b at))
+      sound l n =
+          object-sound b (P.kindAt b at) (P.argumentAt b at) argument-small (record-argument b InUnion at e) l n
+          (direct-at InUnion e)
+
+      by : (t : Bool) → eqb (P.kindAt b at) 18 ≡ t → pick t true (leb 13 (P.kindAt b at) && leb (P.kindAt b at) 16) ≡ true
+          → ObjectSound (P.parse b) (P.objectOf (P.kindAt b at) (P.argumentAt b at))
+      by true q h = let z : P.kindAt b at ≡ 18 = eqb-true _ _ q in sound (omega arith) (λ y. omega arith)
+      by false q h =
+          let k : ℕ = P.kindAt b at in
+          let m : k ≤ 16 = leb-true _ _ (both-right (leb 13 k) _ h) in
+          sound (leb-true _ _ (both-left (leb 13 k) _ h)) (λ y. omega arith)
 
   pub field-sound : (i : ℕ) → L.recordOk b (InStruct i) at ≡ true → FlatSound i (P.flatAt b at)
   unfolding P.flatAt L.kindOk
@@ -224,7 +308,8 @@ module _ (b : List ℕ) (bytes : (i : ℕ) → getD b i 0 < 256) (at : ℕ) wher
             (flag (P.optionalAt b at) (L.optionalOk InTable (P.kindAt b at))
             (both-left (pick (P.optionalAt b at) (L.optionalOk InTable (P.kindAt b at)) true) _ h) o);
         inplace = λ o.
-            may-stand-in-place (P.kindAt b at) (P.argumentAt b at)
+            may-stand-in-place b (P.kindAt b at) (P.argumentAt b at)
             (flag (P.inplaceAt b at) (L.inplaceOk InTable (P.kindAt b at))
-            (both-right (pick (P.optionalAt b at) (L.optionalOk InTable (P.kindAt b at)) true) _ h) o);
+            (both-right (pick (P.optionalAt b at) (L.optionalOk InTable (P.kindAt b at)) true) _ h) o)
+            (held-at InTable e o);
       }

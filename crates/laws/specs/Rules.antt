@@ -3,7 +3,7 @@ use mathlib.Core.Path.{_≡_, refl}
 use mathlib.Core.Bool.{Bool, true, false, _&&_}
 use mathlib.Core.Logic.{_⊎_, inl, inr}
 use mathlib.Core.List.{List}
-use Prim.Native.Nat.{ℕ, _<_, _≤_}
+use Prim.Native.Nat.{ℕ, _+_, _<_, _≤_}
 use lib.ListN.{length}
 use native.Mathlib.Omega.{arith}
 use lib.Dec.{eqb, leb}
@@ -58,17 +58,19 @@ module _ (b : List ℕ) (role : Role) (at : ℕ) (e : L.recordOk b role at ≡ t
   unfolding L.recordOk
   record-argument = both-left _ _ (both-right (P.zeroAt b at) _ e)
 
-  pub record-kind : L.kindOk role (P.kindAt b at) (P.argumentAt b at) ≡ true
+  record-rest : (L.kindOk role (P.kindAt b at) (P.argumentAt b at) && (L.flagsOk b role at && L.directOk b at)) ≡ true
   unfolding L.recordOk
-  record-kind =
-      both-left _ (L.flagsOk b role at)
-      (both-right (L.argumentOk b (P.kindAt b at) (P.argumentAt b at)) _ (both-right (P.zeroAt b at) _ e))
+  record-rest = both-right (L.argumentOk b (P.kindAt b at) (P.argumentAt b at)) _ (both-right (P.zeroAt b at) _ e)
+
+  pub record-kind : L.kindOk role (P.kindAt b at) (P.argumentAt b at) ≡ true
+  record-kind = both-left _ (L.flagsOk b role at && L.directOk b at) record-rest
 
   pub record-flags : L.flagsOk b role at ≡ true
-  unfolding L.recordOk
-  record-flags =
-      both-right (L.kindOk role (P.kindAt b at) (P.argumentAt b at)) _
-      (both-right (L.argumentOk b (P.kindAt b at) (P.argumentAt b at)) _ (both-right (P.zeroAt b at) _ e))
+  record-flags = both-left _ (L.directOk b at) (both-right (L.kindOk role (P.kindAt b at) (P.argumentAt b at)) _ record-rest)
+
+  -- 02, K1: of a direct list its table, of a union in place its cases
+  pub record-direct : L.directOk b at ≡ true
+  record-direct = both-right (L.flagsOk b role at) _ (both-right (L.kindOk role (P.kindAt b at) (P.argumentAt b at)) _ record-rest)
 
 pub record-of-block : (b : List ℕ) (role : Role) (head at j : ℕ) → L.recordsOk b role head at ≡ true → j < P.records b head at
     → L.recordOk b role (P.recordPlace head at j) ≡ true
@@ -99,10 +101,23 @@ lawful-48 b = by (L.wellFormed b)
     by true = refl
     by false = refl
 
+-- under the older coding the rules of every list, union and table hold
+pub lawful-older : (b : List ℕ) → L.lawful B.u32 b ≡ true → L.olderOk b ≡ true
+unfolding L.lawful B.widthKnown B.u32
+lawful-older b e = both-right (L.wellFormed b) _ e
+
 pub lawful-wide : (o : ℕ) (b : List ℕ) → L.lawful o b ≡ true → 0 < o
 lawful-wide o b e = by (lawful-width o b e)
   where
     by : (o ≡ 4) ⊎ (o ≡ 6) → 0 < o
+    by (inl h) = omega arith
+    by (inr h) = omega arith
+
+-- a union, which has a choice and an offset, is no longer than a struct may be
+pub lawful-narrow : (o : ℕ) (b : List ℕ) → L.lawful o b ≡ true → 2 + o ≤ 4096
+lawful-narrow o b e = by (lawful-width o b e)
+  where
+    by : (o ≡ 4) ⊎ (o ≡ 6) → 2 + o ≤ 4096
     by (inl h) = omega arith
     by (inr h) = omega arith
 

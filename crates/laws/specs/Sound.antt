@@ -29,12 +29,24 @@ FlatSound n (Float w) = (w ≡ 4) ⊎ (w ≡ 8)
 FlatSound n (Enumerated c) = (0 < c) × (c ≤ 255)
 FlatSound n (Struct i) = i < n
 
+-- how many members stand in place
+unfoldable pub inplaceCount : List Member → ℕ
+inplaceCount [] = 0
+inplaceCount (r ∷ rs) = pick (r .inplace) 1 0 + inplaceCount rs
+
+-- the table of a direct list's elements. 02, K1: "its table must have at least one member and none in place"
+pub record DirectSound (S : Schema) (t : ℕ) : Type 0 where
+  pub table : t < length (S .tables)
+  pub some : 0 < length (tableOf S t .members)
+  pub outside : inplaceCount (tableOf S t .members) ≡ 0
+
 -- every index stands for something
 abbrev pub ObjectSound : Schema → Object → Type 0
 ObjectSound S O.Text = Unit {0}
 ObjectSound S O.Bytes = Unit {0}
 ObjectSound S (O.List i) = i < length (S .lists)
 ObjectSound S (O.Table i) = i < length (S .tables)
+ObjectSound S (O.DirectList t) = DirectSound S t
 
 abbrev pub KindSound : Schema → Kind → Type 0
 KindSound S (OfFlat k) = FlatSound (length (S .structs)) k
@@ -67,20 +79,24 @@ MayBeOptional (OfFlat k) = FlatOptional k
 MayBeOptional (OfObject ob) = ⊥
 MayBeOptional (OfUnion i) = ⊥
 
-abbrev pub MayStandInPlace : Kind → Type 0
-MayStandInPlace (OfFlat k) = ⊥
-MayStandInPlace (OfObject ob) = Unit {0}
-MayStandInPlace (OfUnion i) = Unit {0}
+-- no direct list
+abbrev pub NotDirect : Object → Type 0
+NotDirect O.Text = Unit {0}
+NotDirect O.Bytes = Unit {0}
+NotDirect (O.List i) = Unit {0}
+NotDirect (O.Table i) = Unit {0}
+NotDirect (O.DirectList t) = ⊥
+
+-- 02, K1: a direct list is "never in place nor a case of a union that a table holds in place"
+abbrev pub MayStandInPlace : Schema → Kind → Type 0
+MayStandInPlace S (OfFlat k) = ⊥
+MayStandInPlace S (OfObject ob) = NotDirect ob
+MayStandInPlace S (OfUnion i) = All NotDirect (casesOf S i)
 
 pub record MemberSound (S : Schema) (r : Member) : Type 0 where
   pub kind : KindSound S (r .kind)
   pub optional : r .optional ≡ true → MayBeOptional (r .kind)
-  pub inplace : r .inplace ≡ true → MayStandInPlace (r .kind)
-
--- how many members stand in place
-unfoldable pub inplaceCount : List Member → ℕ
-inplaceCount [] = 0
-inplaceCount (r ∷ rs) = pick (r .inplace) 1 0 + inplaceCount rs
+  pub inplace : r .inplace ≡ true → MayStandInPlace S (r .kind)
 
 pub record TableSound (S : Schema) (i : ℕ) : Type 0 where
   pub id : tableOf S i .id < 2 ^ 32
@@ -109,3 +125,18 @@ pub record Sound (S : Schema) : Type 0 where
   pub lists : (i : ℕ) → ListSound S i
   pub unions : (i : ℕ) → UnionSound S i
   pub tables : (i : ℕ) → TableSound S i
+
+-- ---- what a schema that is lawful under the older coding gives besides. 02, K5: "a direct list is 1 under this coding"
+abbrev pub KindNotDirect : Kind → Type 0
+KindNotDirect (OfFlat k) = Unit {0}
+KindNotDirect (OfObject ob) = NotDirect ob
+KindNotDirect (OfUnion i) = Unit {0}
+
+abbrev pub MemberNotDirect : Member → Type 0
+MemberNotDirect r = KindNotDirect (r .kind)
+
+-- no list, union or table has a direct list
+pub record NoDirects (S : Schema) : Type 0 where
+  pub lists : (i : ℕ) → KindNotDirect (elementOf S i)
+  pub unions : (i : ℕ) → All NotDirect (casesOf S i)
+  pub tables : (i : ℕ) → All MemberNotDirect (tableOf S i .members)

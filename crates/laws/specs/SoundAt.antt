@@ -6,7 +6,7 @@ use native.Mathlib.Omega.{arith}
 use lib.ListN.{length}
 use Rattle.coding.specs.Schema.{Schema, structOf, casesOf, tableOf, fieldOf, caseOf, memberOf}
 use Rattle.coding.specs.Packed as P
-use Rattle.laws.specs.Sound.{FlatSound, ObjectSound, MemberSound, Sound}
+use Rattle.laws.specs.Sound.{All, NotDirect, FlatSound, ObjectSound, MemberSound, Sound}
 use Rattle.laws.specs.Lists.{all-at}
 use Rattle.laws.specs.Parsed.{structs-length, lists-length, unions-length, tables-length}
 
@@ -23,6 +23,12 @@ module _ (S : Schema) (s : Sound S) (i : ℕ) where
   pub member-sound-at : (j : ℕ) → j < length (tableOf S i .members) → MemberSound S (memberOf S i j)
   unfolding memberOf
   member-sound-at j l = all-at (MemberSound S) _ (tableOf S i .members) j (s .tables i .members) l
+
+-- 02, K1: no case of a union that a table holds in place is a direct list
+pub case-not-direct-at : (S : Schema) (i c : ℕ) → 0 < c → c ≤ length (casesOf S i) → All NotDirect (casesOf S i)
+    → NotDirect (caseOf (casesOf S i) c)
+unfolding caseOf
+case-not-direct-at S i c n l h = all-at NotDirect _ (casesOf S i) (pred c) h (omega arith)
 
 -- an index of the typed schema is one of the packed bytes
 module _ (b : List ℕ) (i : ℕ) where

@@ -1,8 +1,10 @@
 -- The ways out of fitting content, and of testing its bytes.
-use mathlib.Core.Path.{_≡_, ap, _∙_, subst}
+use mathlib.Core.Path.{_≡_, refl, ap, _∙_, subst}
 use mathlib.Core.Bool.{Bool, true}
 use mathlib.Core.List.{List}
-use Prim.Native.Nat.{ℕ, _+_, _<_, _≤_}
+use Prim.Native.Nat.{ℕ, zero, suc, _+_, _-_, _*_, _/_, _<_, _≤_}
+use native.Mathlib.Nat.{mul-zero, le-div-iff-mul-le, div-lt-iff-lt-mul}
+use native.Mathlib.Omega.{arith}
 use lib.ListN.{length, getD}
 use lib.Dec.{eqb}
 use borrow.Author.Tests.{le-leb, lt-leb}
@@ -31,28 +33,66 @@ module _ (m : List ℕ) (start size n : ℕ) where
   unfolding fitted
   fit-no h = simp (lt-leb _ _ h)
 
-pub fit-is : (o : ℕ) (m : List ℕ) (start size n : ℕ) (S : Schema) (ob : Object) → size ≡ W.contentSize o S ob n → (r : Opened) → r ≡ fitted m start size n
-    → r ≡ W.fitContent o S m ob start n
-unfolding W.fitContent fitted
-fit-is o m start size n S ob e r f = f ∙ ap (λ (k : ℕ). fitted m start k n) e
+-- ---- the elements of a direct list, which may be more bytes together than a number holds
+module _ (m : List ℕ) (start w n : ℕ) where
+  pub elements-behind : length m < start → Op.Refused 6 ≡ fitted m start (n * w) n
+  unfolding fitted
+  elements-behind h = simp (lt-leb (start + n * w) (length m) (omega arith))
 
--- ---- the bytes of each object's content
-module _ (o : ℕ) (S : Schema) (ob : Object) (n : ℕ) where
-  pub size-text : ob ≡ O.Text → (x : ℕ) → x ≡ n + 1 → x ≡ W.contentSize o S ob n
-  unfolding W.contentSize
-  size-text e x f = rw e f
+  module _ (h : start ≤ length m) where
+    pub elements-empty : w ≡ 0 → Op.Content start n ≡ fitted m start (n * w) n
+    unfolding fitted
+    elements-empty z =
+        let e : n * w ≡ 0 = ap (λ (k : ℕ). n * k) z ∙ mul-zero n in
+        simp (le-leb (start + n * w) (length m) (omega arith))
 
-  pub size-bytes : ob ≡ O.Bytes → n ≡ W.contentSize o S ob n
-  unfolding W.contentSize
-  size-bytes e = rw e
+    module _ (z : w ≡ 0 → ⊥) where
+      some : 0 < w
+      some = by w z
+        where
+          by : (k : ℕ) → (k ≡ 0 → ⊥) → 0 < k
+          by zero f = absurd (f refl)
+          by (suc k) f = omega arith
 
-  pub size-list : (i j : ℕ) → ob ≡ O.List i → j ≡ i → (x : ℕ) → x ≡ T.elementsSize o S (Sc.elementOf S j) n → x ≡ W.contentSize o S ob n
-  unfolding W.contentSize
-  size-list i j e ej x ex = rw e (ex ∙ ap (λ (q : ℕ). T.elementsSize o S (Sc.elementOf S q) n) ej)
+      pub elements-fit : n ≤ (length m - start) / w → Op.Content start n ≡ fitted m start (n * w) n
+      unfolding fitted
+      elements-fit l =
+          let k : n * w ≤ length m - start = le-div-iff-mul-le some .0 l in
+          simp (le-leb (start + n * w) (length m) (omega arith))
 
-  pub size-table : (i : ℕ) → ob ≡ O.Table i → n ≡ W.contentSize o S ob n
+      pub elements-past : (length m - start) / w < n → Op.Refused 6 ≡ fitted m start (n * w) n
+      unfolding fitted
+      elements-past l =
+          let k : length m - start < n * w = div-lt-iff-lt-mul some .0 l in
+          simp (lt-leb (start + n * w) (length m) (omega arith))
+
+-- ---- the content of each object
+module _ (o : ℕ) (S : Schema) (m : List ℕ) (ob : Object) (at start n : ℕ) (r : Opened) where
+  pub fit-is : (size : ℕ) → size ≡ W.contentSize o S m ob at n → r ≡ fitted m start size n → r ≡ W.fitContent o S m ob at start n
+  unfolding W.fitContent fitted
+  fit-is size e f = f ∙ ap (λ (k : ℕ). fitted m start k n) e
+
+  pub fit-text : ob ≡ O.Text → (x : ℕ) → x ≡ n + 1 → r ≡ fitted m start x n → r ≡ W.fitContent o S m ob at start n
   unfolding W.contentSize
-  size-table i e = rw e
+  fit-text e x ex f = fit-is x (rw e ex) f
+
+  pub fit-bytes : ob ≡ O.Bytes → r ≡ fitted m start n n → r ≡ W.fitContent o S m ob at start n
+  unfolding W.contentSize
+  fit-bytes e f = fit-is n (rw e) f
+
+  pub fit-list : (i j : ℕ) → ob ≡ O.List i → j ≡ i → (x : ℕ) → x ≡ T.elementsSize o S (Sc.elementOf S j) n → r ≡ fitted m start x n
+      → r ≡ W.fitContent o S m ob at start n
+  unfolding W.contentSize
+  fit-list i j e ej x ex f = fit-is x (rw e (ex ∙ ap (λ (q : ℕ). T.elementsSize o S (Sc.elementOf S q) n) ej)) f
+
+  pub fit-table : (i : ℕ) → ob ≡ O.Table i → r ≡ fitted m start n n → r ≡ W.fitContent o S m ob at start n
+  unfolding W.contentSize
+  fit-table i e f = fit-is n (rw e) f
+
+  pub fit-direct : (t : ℕ) → ob ≡ O.DirectList t → (w : ℕ) → w ≡ W.elementSize o m at → r ≡ fitted m start (n * w) n
+      → r ≡ W.fitContent o S m ob at start n
+  unfolding W.contentSize
+  fit-direct t e w ew f = fit-is (n * w) (rw e (ap (λ (k : ℕ). n * k) ew)) f
 
 -- ---- what each object's content adds
 module _ (o : ℕ) (S : Schema) (ob : Object) (n : ℕ) where
@@ -71,6 +111,10 @@ module _ (o : ℕ) (S : Schema) (ob : Object) (n : ℕ) where
   pub length-table : (i : ℕ) → ob ≡ O.Table i → n ≡ W.contentLength o S ob n
   unfolding W.contentLength
   length-table i e = rw e
+
+  pub length-direct : (t : ℕ) → ob ≡ O.DirectList t → 0 ≡ W.contentLength o S ob n
+  unfolding W.contentLength
+  length-direct t e = rw e
 
 -- ---- a list's element
 pub list-counted : (b : List ℕ) (i j : ℕ) → ObjectSound (P.parse b) (O.List i) → j ≡ i → j < P.listCount b
@@ -108,3 +152,7 @@ module _ (m : List ℕ) (ob : Object) (start n : ℕ) where
   pub end-table : (i : ℕ) → ob ≡ O.Table i → true ≡ W.endOk m ob start n
   unfolding W.endOk
   end-table i e = rw e
+
+  pub end-direct : (t : ℕ) → ob ≡ O.DirectList t → true ≡ W.endOk m ob start n
+  unfolding W.endOk
+  end-direct t e = rw e

@@ -3,7 +3,7 @@ use mathlib.Core.Path.{_≡_, sym, ap, _∙_}
 use mathlib.Core.List.{List}
 use Prim.Native.Nat.{ℕ, _<_, _≤_}
 use native.Mathlib.Omega.{arith}
-use borrow.Author.Tests.{lt-ltb, le-ltb}
+use borrow.Author.Tests.{lt-ltb, le-ltb, eq-eqb, ne-eqb}
 use Rattle.coding.specs.Schema as Sc
 use Rattle.coding.specs.Packed as P
 use Rattle.coding.specs.declared.Object.{Object}
@@ -17,15 +17,15 @@ module _ (b : List ℕ) (at k : ℕ) (ek : k ≡ P.kindAt b at) where
   unfolding P.elementAt P.kindOf
   element-flat h = simp (← ek, lt-ltb _ _ h)
 
-  pub element-object : 13 ≤ k → k < 17 → (ob : Object) → ob ≡ P.objectAt b at → P.elementAt b at ≡ OfObject ob
+  pub element-object : 13 ≤ k → (k ≡ 17 → ⊥) → (ob : Object) → ob ≡ P.objectAt b at → P.elementAt b at ≡ OfObject ob
   unfolding P.elementAt P.kindOf P.objectAt
-  element-object h l ob eo = simp (eo, ← ek, le-ltb _ _ h, lt-ltb _ _ l)
+  element-object h l ob eo = simp (eo, ← ek, le-ltb _ _ h, ne-eqb _ _ l)
 
-  pub element-union : 17 ≤ k → (u : ℕ) → u ≡ P.argumentAt b at → P.elementAt b at ≡ OfUnion u
+  pub element-union : k ≡ 17 → (u : ℕ) → u ≡ P.argumentAt b at → P.elementAt b at ≡ OfUnion u
   unfolding P.elementAt P.kindOf
   element-union l u eu =
       let h : 13 ≤ k = omega arith in
-      simp (eu, ← ek, le-ltb _ _ h, le-ltb _ _ l)
+      simp (eu, ← ek, le-ltb _ _ h, eq-eqb _ _ l)
 
 -- the element of list i
 pub list-kind : (b : List ℕ) (i at : ℕ) → i < P.listCount b → at ≡ P.listPlace b i → P.elementAt b at ≡ Sc.elementOf (P.parse b) i

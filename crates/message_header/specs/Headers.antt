@@ -6,7 +6,7 @@ use lib.ListN.{length}
 use lib.Dec.{leb, eqb}
 use Rattle.coding.specs.Lists.{pick}
 use Rattle.coding.specs.Bytes.{le}
-use Rattle.coding.specs.Walk.{startSize}
+use Rattle.coding.specs.Walk.{startSize, elementId, mostElements}
 use Rattle.coding.specs.declared.Object.{Object}
 use Rattle.coding.specs.declared.Object.the-variants as O
 use Rattle.coding.specs.declared.Opened.{Opened}
@@ -19,6 +19,17 @@ unfoldable pub headerOf : ℕ → ℕ → ℕ → List ℕ → ℕ → Header
 headerOf o magic size m x =
     pick (leb (startSize o) x && leb (x + size) (length m))
     (pick (eqb (le m x 4) magic) (Hd.Content (x + size) (le m (x + 4) o)) (Hd.Refused 7))
+    (Hd.Refused 6)
+
+-- the header of a direct list, by the id of its elements' table
+unfoldable pub directHeaderOf : ℕ → ℕ → List ℕ → ℕ → Header
+directHeaderOf o id m x =
+    pick (leb (startSize o) x && leb (x + (4 + o + 8)) (length m))
+    (pick (eqb (le m x 4) 0xE2C6_CC05)
+    (pick (eqb (elementId o m x) id)
+    (pick (leb (le m (x + 4) o) mostElements) (Hd.Content (x + (4 + o + 8)) (le m (x + 4) o)) (Hd.Refused 6))
+    (Hd.Refused 7))
+    (Hd.Refused 7))
     (Hd.Refused 6)
 
 -- content of `size` bytes and length n at `start`
@@ -36,3 +47,4 @@ EndInside m O.Text start n = start + n < length m
 EndInside m O.Bytes start n = Unit {0}
 EndInside m (O.List i) start n = Unit {0}
 EndInside m (O.Table i) start n = Unit {0}
+EndInside m (O.DirectList t) start n = Unit {0}

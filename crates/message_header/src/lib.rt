@@ -144,6 +144,53 @@ impl TableObject {
     }
 }
 
+// Direct list: its elements stand behind each other without headers. The header says besides which table they are of, and the bytes of
+// each.
+pub struct DirectObject {
+    pub length: usize,
+}
+
+impl DirectObject {
+    pub const MAGIC: u64 = 0xE2C6_CC05;
+
+    // The most elements.
+    pub const MOST: usize = 4294967295;
+
+    // The bytes of its header: its magic, a count, a table's id and a size.
+    pub fn header_size(o: usize) -> usize
+        requires { ⌜ Width o ⌝ }
+        ensures { λ r. ⌜ r ≡ 4 + o + 8 ⌝ }
+    {
+        wire::MAGIC + o + 8
+    }
+
+    pub fn header(m: &[u8], at: usize, id: u64, o: usize) -> Header
+        requires { ⌜ (Width o) × (at < 2 ^ 48) ⌝ }
+        ensures { λ r. ⌜ (r ≡ Hs.directHeaderOf o id (now (m .entry)) at) × Hs.Small r ⌝ }
+    {
+        match read_header(m, at, DirectObject::MAGIC, DirectObject::header_size(o), o) {
+            Header::Refused(e) => Header::Refused(e),
+            Header::Content(start, n) => {
+                if wire::number(m, at + wire::MAGIC + o, 4) != id {
+                    return Header::Refused(7);
+                }
+                if DirectObject::MOST < n {
+                    return Header::Refused(6);
+                }
+                Header::Content(start, n)
+            }
+        }
+    }
+}
+
+// The bytes of each element of the direct list at `at`.
+pub fn element_size(m: &[u8], at: usize, o: usize) -> usize
+    requires { ⌜ (Width o) × (at < 2 ^ 60) ⌝ }
+    ensures { λ r. ⌜ (r ≡ W.elementSize o (now (m .entry)) at) × (r < 2 ^ 32) ⌝ }
+{
+    wire::number(m, at + 8 + o, 4) as usize
+}
+
 // ---- content
 // The bytes of a text's content: one zero byte stands behind it.
 pub fn text_size(n: usize) -> usize
@@ -162,19 +209,6 @@ pub fn list_size(b: &[u8], dir: &[u16], i: usize, n: usize, o: usize) -> usize
     message_layout::elements_size(b, dir, k, n, o)
 }
 
-// The bytes of an object's content of length n.
-fn content_size(b: &[u8], dir: &[u16], ob: Object, n: usize, o: usize) -> usize
-    requires { ⌜ (Accepted (now b) (now dir)) × (Width o) × (ObjectSound (P.parse (now b)) ob) × (n < 2 ^ 48) ⌝ }
-    ensures { λ r. ⌜ (r ≡ W.contentSize o (P.parse (now (b .entry))) ob n) × (r < 2 ^ 61) ⌝ }
-{
-    match ob {
-        Object::Text => text_size(n),
-        Object::Bytes => n,
-        Object::List(i) => list_size(b, dir, wire::index(i), n, o),
-        Object::Table(_) => n,
-    }
-}
-
 // What an object's content of length n adds to the content that is spent.
 pub fn content_length(b: &[u8], dir: &[u16], ob: Object, n: usize, o: usize) -> usize
     requires { ⌜ (Accepted (now b) (now dir)) × (Width o) × (ObjectSound (P.parse (now b)) ob) × (n < 2 ^ 48) ⌝ }
@@ -185,6 +219,7 @@ pub fn content_length(b: &[u8], dir: &[u16], ob: Object, n: usize, o: usize) -> 
         Object::Bytes => n,
         Object::List(i) => list_size(b, dir, wire::index(i), n, o),
         Object::Table(_) => n,
+        Object::DirectList(_) => 0,
     }
 }
 
@@ -199,20 +234,43 @@ pub fn fits(m: &[u8], start: usize, size: usize, n: usize) -> Opened
     Opened::Refused(6)
 }
 
-// An object's content of length n at `start`, if it fits.
+// The n elements of a direct list, of w bytes each, at `start`, if they fit. Their bytes together may be more than a number holds.
+fn fit_elements(m: &[u8], start: usize, w: usize, n: usize) -> Opened
+    ensures { λ r. ⌜ r ≡ Hs.fitted (now (m .entry)) start (n * w) n ⌝ }
+{
+    if m.len() < start {
+        return Opened::Refused(6);
+    }
+    if w == 0 {
+        return Opened::Content(start, n);
+    }
+    if n <= (m.len() - start) / w {
+        return Opened::Content(start, n);
+    }
+    Opened::Refused(6)
+}
+
+// The content of length n at `start` of the object at `at`, if it fits.
 pub fn fit_content(
     b: &[u8],
     dir: &[u16],
     m: &[u8],
     ob: Object,
+    at: usize,
     start: usize,
     n: usize,
     o: usize,
 ) -> Opened
-    requires { ⌜ (Accepted (now b) (now dir)) × (Width o) × (ObjectSound (P.parse (now b)) ob) × (start < 2 ^ 60) × (n < 2 ^ 48) ⌝ }
-    ensures { λ r. ⌜ r ≡ W.fitContent o (P.parse (now (b .entry))) (now (m .entry)) ob start n ⌝ }
+    requires { ⌜ (Accepted (now b) (now dir)) × (Width o) × (ObjectSound (P.parse (now b)) ob) × (at < 2 ^ 60) × (start < 2 ^ 60) × (n < 2 ^ 48) ⌝ }
+    ensures { λ r. ⌜ r ≡ W.fitContent o (P.parse (now (b .entry))) (now (m .entry)) ob at start n ⌝ }
 {
-    fits(m, start, content_size(b, dir, ob, n, o), n)
+    match ob {
+        Object::Text => fits(m, start, text_size(n), n),
+        Object::Bytes => fits(m, start, n, n),
+        Object::List(i) => fits(m, start, list_size(b, dir, wire::index(i), n, o), n),
+        Object::Table(_) => fits(m, start, n, n),
+        Object::DirectList(_) => fit_elements(m, start, element_size(m, at, o), n),
+    }
 }
 
 // ---- the bytes of content that fits
@@ -234,5 +292,6 @@ pub fn end_ok(m: &[u8], ob: Object, start: usize, n: usize) -> bool
         Object::Bytes => true,
         Object::List(_) => true,
         Object::Table(_) => true,
+        Object::DirectList(_) => true,
     }
 }

@@ -2,7 +2,8 @@
 use Prim.Native.Nat.{ℕ, _^_, _<_}
 use mathlib.Core.List.{List}
 use Rattle.coding.specs.Schema.{Schema}
-use Rattle.coding.specs.Walk.{fitContent}
+use Rattle.coding.specs.Lists.{pick}
+use Rattle.coding.specs.Walk.{fitContent, standsInPlace}
 use Rattle.coding.specs.declared.Object.{Object}
 use Rattle.coding.specs.declared.Opened.{Opened}
 use Rattle.coding.specs.declared.Opened.the-variants as Op
@@ -10,10 +11,14 @@ use Rattle.message_header.specs.declared.Header.{Header}
 use Rattle.message_header.specs.declared.Header.the-variants as Hd
 use Rattle.message_header.specs.Headers.{EndInside}
 
--- what a header announces, if it fits
-abbrev pub announced : ℕ → Schema → List ℕ → Object → Header → Opened
-announced o S m ob (Hd.Refused n) = Op.Refused n
-announced o S m ob (Hd.Content start n) = fitContent o S m ob start n
+-- what the header of the object at a place announces, if it fits
+abbrev pub announced : ℕ → Schema → List ℕ → Object → ℕ → Header → Opened
+announced o S m ob at (Hd.Refused n) = Op.Refused n
+announced o S m ob at (Hd.Content start n) = fitContent o S m ob at start n
+
+-- what an object in place has instead of a header
+unfoldable pub inPlace : Object → ℕ → ℕ → Header
+inPlace ob a n = pick (standsInPlace ob) (Hd.Content a n) (Hd.Refused 6)
 
 -- the end byte of a text that fits lies within the message
 abbrev pub EndsInside : List ℕ → Object → Opened → Type 0

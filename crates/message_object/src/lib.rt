@@ -3,6 +3,7 @@ use coding::Object;
 use coding::Opened;
 use coding::Place;
 use message_header::BytesObject;
+use message_header::DirectObject;
 use message_header::Header;
 use message_header::ListObject;
 use message_header::TableObject;
@@ -19,17 +20,48 @@ ghost use Rattle.message_step.specs.Lead as D;
 ghost use Rattle.message_header.specs.Headers as Hs;
 ghost use Rattle.message_object.specs.Fit as Fs;
 
+// ---- places
+// Where an object stands.
+pub fn placed(p: Place) -> usize
+    ensures { λ r. ⌜ r ≡ W.placed p ⌝ }
+{
+    match p {
+        Place::ByOffset(x) => x,
+        Place::InPlace(a, _) => a,
+    }
+}
+
 // ---- what an object's header announces fits
 // The header of the object at an offset.
 fn header_of(b: &[u8], dir: &[u16], m: &[u8], ob: Object, at: usize, o: usize) -> Header
     requires { ⌜ (Accepted (now b) (now dir)) × (Width o) × (ObjectSound (P.parse (now b)) ob) × (at < 2 ^ 48) ⌝ }
-    ensures { λ r. ⌜ (r ≡ Hs.headerOf o (W.magic (P.parse (now (b .entry))) ob) (W.headerSize o) (now (m .entry)) at) × Hs.Small r ⌝ }
+    ensures { λ r. ⌜ (Fs.announced o (P.parse (now (b .entry))) (now (m .entry)) ob at r ≡ W.fitObject o (P.parse (now (b .entry))) (now (m .entry)) ob (Place.ByOffset at)) × Hs.Small r ⌝ }
 {
     match ob {
         Object::Text => TextObject::header(m, at, o),
         Object::Bytes => BytesObject::header(m, at, o),
         Object::List(_) => ListObject::header(m, at, o),
         Object::Table(t) => TableObject::header(m, at, schema::table_id(b, dir, wire::index(t)), o),
+        Object::DirectList(t) => DirectObject::header(
+            m,
+            at,
+            schema::table_id(b, dir, wire::index(t)),
+            o,
+        ),
+    }
+}
+
+// The content in place of an object: n from `a` on. A direct list never stands in place.
+fn in_place(ob: Object, a: usize, n: usize) -> Header
+    requires { ⌜ (a < 2 ^ 48) × (n < 2 ^ 48) ⌝ }
+    ensures { λ r. ⌜ (r ≡ Fs.inPlace ob a n) × Hs.Small r ⌝ }
+{
+    match ob {
+        Object::Text => Header::Content(a, n),
+        Object::Bytes => Header::Content(a, n),
+        Object::List(_) => Header::Content(a, n),
+        Object::Table(_) => Header::Content(a, n),
+        Object::DirectList(_) => Header::Refused(6),
     }
 }
 
@@ -37,11 +69,11 @@ fn header_of(b: &[u8], dir: &[u16], m: &[u8], ob: Object, at: usize, o: usize) -
 // the compiler makes one piece of what follows.
 fn content_at(b: &[u8], dir: &[u16], m: &[u8], ob: Object, p: Place, o: usize) -> Header
     requires { ⌜ (Accepted (now b) (now dir)) × (Width o) × (ObjectSound (P.parse (now b)) ob) × D.PlaceSmall p ⌝ }
-    ensures { λ r. ⌜ (Fs.announced o (P.parse (now (b .entry))) (now (m .entry)) ob r ≡ W.fitObject o (P.parse (now (b .entry))) (now (m .entry)) ob p) × Hs.Small r ⌝ }
+    ensures { λ r. ⌜ (Fs.announced o (P.parse (now (b .entry))) (now (m .entry)) ob (W.placed p) r ≡ W.fitObject o (P.parse (now (b .entry))) (now (m .entry)) ob p) × Hs.Small r ⌝ }
 {
     match p {
         Place::ByOffset(x) => header_of(b, dir, m, ob, x, o),
-        Place::InPlace(a, n) => Header::Content(a, n),
+        Place::InPlace(a, n) => in_place(ob, a, n),
     }
 }
 
@@ -52,7 +84,16 @@ pub fn fit_object(b: &[u8], dir: &[u16], m: &[u8], ob: Object, p: Place, o: usiz
 {
     match content_at(b, dir, m, ob, p, o) {
         Header::Refused(e) => Opened::Refused(e),
-        Header::Content(start, n) => message_header::fit_content(b, dir, m, ob, start, n, o),
+        Header::Content(start, n) => message_header::fit_content(
+            b,
+            dir,
+            m,
+            ob,
+            placed(p),
+            start,
+            n,
+            o,
+        ),
     }
 }
 
@@ -107,15 +148,4 @@ pub fn open_object(b: &[u8], dir: &[u16], m: &[u8], ob: Object, p: Place, o: usi
 {
     let fit = fit_object(b, dir, m, ob, p, o);
     bytes_tested(m, ob, fit)
-}
-
-// ---- places
-// Where an object stands.
-pub fn placed(p: Place) -> usize
-    ensures { λ r. ⌜ r ≡ W.placed p ⌝ }
-{
-    match p {
-        Place::ByOffset(x) => x,
-        Place::InPlace(a, _) => a,
-    }
 }

@@ -69,6 +69,10 @@ membersBy o b m d t x s =
 abbrev pub elementsBy : ℕ → List ℕ → List ℕ → ℕ → Kind → Content → Spent → Walked
 elementsBy o b m d k x s = W.elements (visitBy o b m d) o (P.parse b) m (x .holder) (x .start) k (x .length) 0 s
 
+-- the elements of a direct list of table t, of w bytes each
+abbrev pub directsBy : ℕ → List ℕ → List ℕ → ℕ → ℕ → ℕ → Content → Spent → Walked
+directsBy o b m d t w x s = W.directs (visitBy o b m d) t w (x .length) (x .start) s
+
 -- the step of a member of a table with that content, before which the cursor stands
 abbrev pub memberBy : ℕ → List ℕ → List ℕ → Content → Cursor → Member → Step
 memberBy o b m x c r = T.memberStep o (P.parse b) m (x .start) (x .length) c r

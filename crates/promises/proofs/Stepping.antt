@@ -12,6 +12,7 @@ use Rattle.coding.specs.Schema.{Schema, elementOf}
 use Rattle.coding.specs.Packed.{parse}
 use Rattle.coding.specs.Walk.{refusal}
 use Rattle.coding.specs.Field as Field
+use Rattle.coding.specs.declared.Object.{Object}
 use Rattle.coding.specs.declared.Object.the-variants as O
 use Rattle.coding.specs.declared.Found.{Found}
 use Rattle.coding.specs.declared.Found.the-variants as Fd
@@ -22,13 +23,13 @@ use Rattle.field_element.specs.declared.ListStep.{ListStep}
 use Rattle.field_reader.specs.declared.ListReader.{ListReader}
 use Rattle.field_reader.specs.Reading.{gives, after}
 use Rattle.promises.specs.Reader.{atElement, Stepped}
-use Rattle.promises.specs.Words.{LeadsToList, HoldsAnswers}
+use Rattle.promises.specs.Words.{Listed, LeadsToList, HoldsAnswers}
 use Rattle.demands.specs.ListReader.{gives-path, gives-end, counts, over-gives, gives-refusal, refused-path}
 
--- what is found is no list of kinds 13 to 17
+-- what is found is no list that a reader goes over
 abbrev NoList : Schema → Found → Type 0
 NoList S f =
-    (i at start n left : ℕ) → (f ≡ Fd.Object (O.List i) at start n left) × (Field.leads (elementOf S i) ≡ true) → ⊥
+    (ob : Object) (at start n left : ℕ) → (f ≡ Fd.Object ob at start n left) × Listed S ob → ⊥
 
 other-start : (S : Schema) (f : Found) → ((r : Refusal) → Field.answerOf f ≡ A.Refused r → ⊥) → NoList S f
     → Field.readerOf S f ≡ Fd.Refused (refusal 15 0)
@@ -45,13 +46,18 @@ other-start S (Fd.Object (O.List i) at start n d) free none = by (Field.leads (e
   where
     by : (t : Bool) → Field.leads (elementOf S i) ≡ t
         → pick t (Fd.Object (O.List i) at start n d) (Fd.Refused (refusal 15 0)) ≡ Fd.Refused (refusal 15 0)
-    by true e = absurd (none i at start n d (refl, e))
+    by true e = absurd (none (O.List i) at start n d (refl, e))
     by false e = refl
+other-start S (Fd.Object (O.DirectList t) at start n d) free none = absurd (none (O.DirectList t) at start n d (refl, tt))
 
 module _ (o : ℕ) (b m path : List ℕ) where
-  starts : (i at start n left : ℕ) → LeadsToList o b m path i at start n left → Field.readerStart o b m path ≡ Fd.Object (O.List i) at start n left
+  starts : (ob : Object) (at start n left : ℕ) → LeadsToList o b m path ob at start n left → Field.readerStart o b m path ≡ Fd.Object ob at start n left
   unfolding Field.readerStart Field.readerOf Field.listFound
-  starts i at start n left h = rw (h .0, h .1)
+  starts O.Text at start n left h = absurd (h .1)
+  starts O.Bytes at start n left h = absurd (h .1)
+  starts (O.List i) at start n left h = rw (h .0, h .1)
+  starts (O.Table i) at start n left h = absurd (h .1)
+  starts (O.DirectList t) at start n left h = rw (h .0)
 
   other : ((r : Refusal) → Field.field o b m path ≡ A.Refused r → ⊥) → NoList (parse b) (Field.fieldFound o b m path)
       → Field.readerStart o b m path ≡ Fd.Refused (refusal 15 0)
@@ -60,18 +66,18 @@ module _ (o : ℕ) (b m path : List ℕ) where
 
 -- ---- one step: what it answers
 module _ (o : ℕ) (b m path : List ℕ) (j : ℕ) (q : Answer) (eq : q ≡ Field.readerGives o b m path j) where
-  pub steps-same : (element : List ℕ) (r : Answer) → r ≡ Field.field o b m element → (i at start n left : ℕ)
-      → LeadsToList o b m path i at start n left
+  pub steps-same : (element : List ℕ) (r : Answer) → r ≡ Field.field o b m element → (ob : Object) (at start n left : ℕ)
+      → LeadsToList o b m path ob at start n left
       → element ≡ path ++ j ∷ [] → q ≡ r
-  steps-same element r er i at start n left has e =
+  steps-same element r er ob at start n left has e =
       eq
-      ∙ gives-path o b m path i at start n left (starts o b m path i at start n left has) j
+      ∙ gives-path o b m path ob at start n left (starts o b m path ob at start n left has) j
       ∙ ap (Field.field o b m) (sym e)
       ∙ sym er
 
-  pub steps-end : (i at start n left : ℕ) → LeadsToList o b m path i at start n left → n ≤ j → q ≡ A.Refused (refusal 15 at)
-  steps-end i at start n left has l =
-      eq ∙ gives-end o b m path i at start n left (starts o b m path i at start n left has) j l
+  pub steps-end : (ob : Object) (at start n left : ℕ) → LeadsToList o b m path ob at start n left → n ≤ j → q ≡ A.Refused (refusal 15 at)
+  steps-end ob at start n left has l =
+      eq ∙ gives-end o b m path ob at start n left (starts o b m path ob at start n left has) j l
 
   step-refused : (r : Refusal) → Field.readerStart o b m path ≡ Fd.Refused r → q ≡ A.Refused r
   step-refused r e = eq ∙ gives-refusal o b m path r e .1 j
@@ -81,15 +87,15 @@ module _ (o : ℕ) (b m path : List ℕ) (j k : ℕ) (ek : k ≡ Field.readerNex
   stands : (n : ℕ) → Field.readerCount o b m path ≡ n → k ≡ Field.readerNext n j
   stands n e = ek ∙ ap (λ (c : ℕ). Field.readerNext c j) e
 
-  pub next-moves : (i at start n left : ℕ) → LeadsToList o b m path i at start n left → j < n → k ≡ j + 1
+  pub next-moves : (ob : Object) (at start n left : ℕ) → LeadsToList o b m path ob at start n left → j < n → k ≡ j + 1
   unfolding Field.readerNext
-  next-moves i at start n left has h =
-      stands n (counts o b m path i at start n left (starts o b m path i at start n left has)) ∙ ap (λ (t : Bool). pick t (j + 1) j) (lt-ltb j n h)
+  next-moves ob at start n left has h =
+      stands n (counts o b m path ob at start n left (starts o b m path ob at start n left has)) ∙ ap (λ (t : Bool). pick t (j + 1) j) (lt-ltb j n h)
 
-  pub next-stays : (i at start n left : ℕ) → LeadsToList o b m path i at start n left → n ≤ j → k ≡ j
+  pub next-stays : (ob : Object) (at start n left : ℕ) → LeadsToList o b m path ob at start n left → n ≤ j → k ≡ j
   unfolding Field.readerNext
-  next-stays i at start n left has h =
-      stands n (counts o b m path i at start n left (starts o b m path i at start n left has)) ∙ ap (λ (t : Bool). pick t (j + 1) j) (le-ltb j n h)
+  next-stays ob at start n left has h =
+      stands n (counts o b m path ob at start n left (starts o b m path ob at start n left has)) ∙ ap (λ (t : Bool). pick t (j + 1) j) (le-ltb j n h)
 
   next-refused : (r : Refusal) → Field.readerStart o b m path ≡ Fd.Refused r → k ≡ j
   unfolding Field.readerNext
@@ -102,15 +108,15 @@ module _ (o : ℕ) (b m path : List ℕ) (j : ℕ) (s : ListStep) (ea : s .answe
   both : (q : Answer) (k : ℕ) → s .answer ≡ q → s .next ≡ k → s ≡ record { answer = q; next = k }
   both q k e f = λ i. record { answer = e i; next = f i }
 
-  pub step-same : (element : List ℕ) (r : Answer) → r ≡ Field.field o b m element → (i at start n left : ℕ)
-      → LeadsToList o b m path i at start n left
+  pub step-same : (element : List ℕ) (r : Answer) → r ≡ Field.field o b m element → (ob : Object) (at start n left : ℕ)
+      → LeadsToList o b m path ob at start n left
       → (element ≡ path ++ j ∷ [] → s .answer ≡ r) × (j < n → s .next ≡ j + 1)
-  step-same element r er i at start n left has =
-      (steps-same o b m path j (s .answer) ea element r er i at start n left has, next-moves o b m path j (s .next) en i at start n left has)
+  step-same element r er ob at start n left has =
+      (steps-same o b m path j (s .answer) ea element r er ob at start n left has, next-moves o b m path j (s .next) en ob at start n left has)
 
-  pub step-end : (i at start n left : ℕ) → LeadsToList o b m path i at start n left → n ≤ j → s ≡ record { answer = A.Refused (refusal 15 at); next = j }
-  step-end i at start n left has l =
-      both _ _ (steps-end o b m path j (s .answer) ea i at start n left has l) (next-stays o b m path j (s .next) en i at start n left has l)
+  pub step-end : (ob : Object) (at start n left : ℕ) → LeadsToList o b m path ob at start n left → n ≤ j → s ≡ record { answer = A.Refused (refusal 15 at); next = j }
+  step-end ob at start n left has l =
+      both _ _ (steps-end o b m path j (s .answer) ea ob at start n left has l) (next-stays o b m path j (s .next) en ob at start n left has l)
 
   refused : (r : Refusal) → Field.readerStart o b m path ≡ Fd.Refused r → s ≡ record { answer = A.Refused r; next = j }
   refused r e = both _ _ (step-refused o b m path j (s .answer) ea r e) (next-refused o b m path j (s .next) en r e)
@@ -134,10 +140,10 @@ module _ (r : ListReader) (q : Answer) (eq : q ≡ gives r) (r′ : ListReader) 
   reader-steps = record {
     answers = eq;
     goes = er;
-    moves = λ i at start n left l.
-        let e = step-same (r .width) _ _ (now (r .path)) (r .element) step eq refl _ _ refl i at start n left l in
+    moves = λ ob at start n left l.
+        let e = step-same (r .width) _ _ (now (r .path)) (r .element) step eq refl _ _ refl ob at start n left l in
         (e .0 refl, λ h. er ∙ ap (atElement r) (e .1 h));
-    stays = λ i at start n left l h. whole _ _ (step-end (r .width) _ _ (now (r .path)) (r .element) step eq refl i at start n left l h);
+    stays = λ ob at start n left l h. whole _ _ (step-end (r .width) _ _ (now (r .path)) (r .element) step eq refl ob at start n left l h);
     own = λ x e. whole _ _ (step-own (r .width) _ _ (now (r .path)) (r .element) step eq refl x e);
     other = λ free none. whole _ _ (step-other (r .width) _ _ (now (r .path)) (r .element) step eq refl free none);
   }
@@ -152,12 +158,12 @@ module _ (o : ℕ) (b m path : List ℕ) (from : ℕ) (out out′ : List ℕ) (r
       ∙ over-gives o b m path from out k h
       ∙ ap (λ (q : Answer). Field.caseNumbers (Field.answerCase q)) e
 
-  pub all-each : (i at start n left : ℕ) → LeadsToList o b m path i at start n left
+  pub all-each : (ob : Object) (at start n left : ℕ) → LeadsToList o b m path ob at start n left
       → (r ≡ n) × HoldsAnswers out′ (length out / 4) (λ k. Field.field o b m (path ++ (from + k) ∷ []))
-  all-each i at start n left has =
-      let e = starts o b m path i at start n left has in (
-        er ∙ counts o b m path i at start n left e,
-        λ k h. numbers k _ h (gives-path o b m path i at start n left e (from + k)),
+  all-each ob at start n left has =
+      let e = starts o b m path ob at start n left has in (
+        er ∙ counts o b m path ob at start n left e,
+        λ k h. numbers k _ h (gives-path o b m path ob at start n left e (from + k)),
       )
 
   all-refused : (q : Refusal) → Field.readerStart o b m path ≡ Fd.Refused q

@@ -5,6 +5,7 @@ use mathlib.Core.List.{[], _∷_, _++_}
 use denote.Ref.{now}
 use Rattle.coding.specs.Walk.{refusal}
 use Rattle.coding.specs.Field.{field}
+use Rattle.coding.specs.declared.Object.{Object}
 use Rattle.coding.specs.declared.Answer.{Answer}
 use Rattle.coding.specs.declared.Answer.the-variants as A
 use Rattle.coding.specs.declared.Refusal.{Refusal}
@@ -12,9 +13,9 @@ use Rattle.field_reader.specs.Reading.{gives, after}
 use Rattle.field_reader.specs.declared.ListReader.{ListReader}
 use Rattle.promises.specs.Words.{LeadsToList}
 
--- the reader's path leads to "a list whose elements are of kinds 13 to 17": list i of the schema, of n elements, at a place
-abbrev pub listAt : ListReader → ℕ → ℕ → ℕ → ℕ → ℕ → Type 0
-listAt r i at start n left = LeadsToList (r .width) (now (r .schema)) (now (r .message)) (now (r .path)) i at start n left
+-- the reader's path leads to "a list whose elements are of kinds 13 to 17" or to a direct list, of n elements, at a place
+abbrev pub listAt : ListReader → Object → ℕ → ℕ → ℕ → ℕ → Type 0
+listAt r ob at start n left = LeadsToList (r .width) (now (r .schema)) (now (r .message)) (now (r .path)) ob at start n left
 
 -- the answer at the reader's path, and at its element's path
 abbrev pub pathField : ListReader → Answer
@@ -33,10 +34,10 @@ pub record Stepped (r : ListReader) (q : Answer) (r′ : ListReader) : Type 0 wh
   pub answers : q ≡ gives r
   pub goes : r′ ≡ after r
   -- "Each step answers as that element's path would and moves on, refused or not"
-  pub moves : (i at start n left : ℕ) → listAt r i at start n left → (q ≡ elementField r) × (r .element < n → r′ ≡ atElement r (r .element + 1))
+  pub moves : (ob : Object) (at start n left : ℕ) → listAt r ob at start n left → (q ≡ elementField r) × (r .element < n → r′ ≡ atElement r (r .element + 1))
   -- "after the last it answers 15 at the list and stays"
-  pub stays : (i at start n left : ℕ) → listAt r i at start n left → n ≤ r .element → (q ≡ A.Refused (refusal 15 at)) × (r′ ≡ r)
+  pub stays : (ob : Object) (at start n left : ℕ) → listAt r ob at start n left → n ≤ r .element → (q ≡ A.Refused (refusal 15 at)) × (r′ ≡ r)
   -- "a refused path gives its own refusal"
   pub own : (x : Refusal) → pathField r ≡ A.Refused x → (q ≡ A.Refused x) × (r′ ≡ r)
   -- "any other answer is 15 at 0"
-  pub other : ((x : Refusal) → pathField r ≡ A.Refused x → ⊥) → ((i at start n left : ℕ) → listAt r i at start n left → ⊥) → (q ≡ A.Refused (refusal 15 0)) × (r′ ≡ r)
+  pub other : ((x : Refusal) → pathField r ≡ A.Refused x → ⊥) → ((ob : Object) (at start n left : ℕ) → listAt r ob at start n left → ⊥) → (q ≡ A.Refused (refusal 15 0)) × (r′ ≡ r)

@@ -10,7 +10,7 @@ use lib.ListN.{length, take, drop}
 use denote.Ref.{RefT}
 use denote.Triple.Both.{Both}
 use Rattle.coding.specs.Bytes.{deepest, largest}
-use Rattle.coding.specs.Schema.{elementOf}
+use Rattle.coding.specs.Schema.{Schema, elementOf}
 use Rattle.coding.specs.Packed.{parse}
 use Rattle.coding.specs.Lawful.{lawful}
 use Rattle.coding.specs.Walk.{verdict}
@@ -19,6 +19,7 @@ use Rattle.coding.specs.Read.{messageRead}
 use Rattle.coding.specs.Sheet.{sheetTree}
 use Rattle.coding.specs.Message.{writable, messageOf}
 use Rattle.coding.specs.Field.{fieldFound, leads, answerCase, caseNumbers}
+use Rattle.coding.specs.declared.Object.{Object}
 use Rattle.coding.specs.declared.Object.the-variants as O
 use Rattle.coding.specs.declared.Found.the-variants as Fd
 use Rattle.coding.specs.declared.Answer.{Answer}
@@ -88,11 +89,17 @@ abbrev pub textAt : List ℕ → List ℕ → List ℕ → List ℕ
 textAt b s path = sheetText (parse b) s path
 
 -- ---- the list reader
--- the path leads to "a list whose elements are of kinds 13 to 17": list i of the schema at a place, where its content starts, its
--- length, and how many objects of depth are left
-abbrev pub LeadsToList : ℕ → List ℕ → List ℕ → List ℕ → ℕ → ℕ → ℕ → ℕ → ℕ → Type 0
-LeadsToList o b m path i at start n left =
-    (fieldFound o b m path ≡ Fd.Object (O.List i) at start n left) × (leads (elementOf (parse b) i) ≡ true)
+-- a list reader goes over an object: "a list whose elements are of kinds 13 to 17"; 02, K1: "direct lists and lists of them too"
+abbrev pub Listed : Schema → Object → Type 0
+Listed S O.Text = ⊥
+Listed S O.Bytes = ⊥
+Listed S (O.List i) = leads (elementOf S i) ≡ true
+Listed S (O.Table i) = ⊥
+Listed S (O.DirectList t) = Unit {0}
+
+-- the path leads to such a list, at a place: where its content starts, its length, and how many objects of depth are left
+abbrev pub LeadsToList : ℕ → List ℕ → List ℕ → List ℕ → Object → ℕ → ℕ → ℕ → ℕ → Type 0
+LeadsToList o b m path ob at start n left = (fieldFound o b m path ≡ Fd.Object ob at start n left) × Listed (parse b) ob
 
 -- an output holds the four numbers of each of n answers in turn
 abbrev pub HoldsAnswers : List ℕ → ℕ → (ℕ → Answer) → Type 0

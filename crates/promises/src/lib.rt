@@ -3,6 +3,7 @@
 // is both allowances (02, K7).
 use coding::Answer;
 use coding::Budget;
+use coding::Object;
 use coding::ReadAnswer;
 use coding::Refusal;
 use coding::Span;
@@ -225,13 +226,13 @@ pub fn step_and_field(
     ensures next { λ r. ⌜ r .step .next ≡ F.readerNext (F.readerCount o (given schema) (given message) (given path)) element ⌝ }
     ensures field { λ r. ⌜ r .field ≡ F.field o (given schema) (given message) (given whole) ⌝ }
     // "Each step answers as that element's path would and moves on, refused or not"
-    ensures same { λ r. ⌜ ((i at start n left : ℕ) → LeadsToList o (given schema) (given message) (given path) i at start n left → (given whole ≡ given path ++ element ∷ [] → r .step .answer ≡ r .field) × (element < n → r .step .next ≡ element + 1)) ⌝ }
+    ensures same { λ r. ⌜ ((ob : Object) (at start n left : ℕ) → LeadsToList o (given schema) (given message) (given path) ob at start n left → (given whole ≡ given path ++ element ∷ [] → r .step .answer ≡ r .field) × (element < n → r .step .next ≡ element + 1)) ⌝ }
     // "after the last it answers 15 at the list and stays"
-    ensures end { λ r. ⌜ ((i at start n left : ℕ) → LeadsToList o (given schema) (given message) (given path) i at start n left → n ≤ element → r .step ≡ record { answer = Answer.Refused (W.refusal 15 at); next = element }) ⌝ }
+    ensures end { λ r. ⌜ ((ob : Object) (at start n left : ℕ) → LeadsToList o (given schema) (given message) (given path) ob at start n left → n ≤ element → r .step ≡ record { answer = Answer.Refused (W.refusal 15 at); next = element }) ⌝ }
     // "a refused path gives its own refusal"
     ensures own { λ r. ⌜ ((q : Refusal) → F.field o (given schema) (given message) (given path) ≡ Answer.Refused q → r .step ≡ record { answer = Answer.Refused q; next = element }) ⌝ }
     // "any other answer is 15 at 0"
-    ensures other { λ r. ⌜ (((q : Refusal) → F.field o (given schema) (given message) (given path) ≡ Answer.Refused q → ⊥) → ((i at start n left : ℕ) → LeadsToList o (given schema) (given message) (given path) i at start n left → ⊥) → r .step ≡ record { answer = Answer.Refused (W.refusal 15 0); next = element }) ⌝ }
+    ensures other { λ r. ⌜ (((q : Refusal) → F.field o (given schema) (given message) (given path) ≡ Answer.Refused q → ⊥) → ((ob : Object) (at start n left : ℕ) → LeadsToList o (given schema) (given message) (given path) ob at start n left → ⊥) → r .step ≡ record { answer = Answer.Refused (W.refusal 15 0); next = element }) ⌝ }
 {
     let step = field_element::step(schema, message, path, element, o);
     let answer = field::field(schema, message, whole, o);
@@ -261,11 +262,11 @@ pub fn steps(
     ensures whole { λ r. ⌜ r ≡ F.readerCount o (given schema) (given message) (given path) ⌝ }
     ensures output { λ _. ⌜ after out ≡ F.readerOver o (given schema) (given message) (given path) from (given out) ⌝ }
     // the count is the list's, and each step has the numbers of the answer at the element's path
-    ensures each { λ r. ⌜ ((i at start n left : ℕ) → LeadsToList o (given schema) (given message) (given path) i at start n left → (r ≡ n) × (HoldsAnswers (after out) (length (given out) / 4) (λ k. F.field o (given schema) (given message) (given path ++ (from + k) ∷ [])))) ⌝ }
+    ensures each { λ r. ⌜ ((ob : Object) (at start n left : ℕ) → LeadsToList o (given schema) (given message) (given path) ob at start n left → (r ≡ n) × (HoldsAnswers (after out) (length (given out) / 4) (λ k. F.field o (given schema) (given message) (given path ++ (from + k) ∷ [])))) ⌝ }
     // "a refused path gives its own refusal": each step has its numbers, and the count is 0
     ensures own { λ r. ⌜ ((q : Refusal) → F.field o (given schema) (given message) (given path) ≡ Answer.Refused q → (r ≡ 0) × (HoldsAnswers (after out) (length (given out) / 4) (λ _. Answer.Refused q))) ⌝ }
     // "any other answer is 15 at 0": the same
-    ensures other { λ r. ⌜ (((q : Refusal) → F.field o (given schema) (given message) (given path) ≡ Answer.Refused q → ⊥) → ((i at start n left : ℕ) → LeadsToList o (given schema) (given message) (given path) i at start n left → ⊥) → (r ≡ 0) × (HoldsAnswers (after out) (length (given out) / 4) (λ _. Answer.Refused (W.refusal 15 0)))) ⌝ }
+    ensures other { λ r. ⌜ (((q : Refusal) → F.field o (given schema) (given message) (given path) ≡ Answer.Refused q → ⊥) → ((ob : Object) (at start n left : ℕ) → LeadsToList o (given schema) (given message) (given path) ob at start n left → ⊥) → (r ≡ 0) × (HoldsAnswers (after out) (length (given out) / 4) (λ _. Answer.Refused (W.refusal 15 0)))) ⌝ }
 {
     field_list::read_list(schema, message, path, from, out, o)
 }

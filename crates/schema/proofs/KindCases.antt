@@ -2,7 +2,7 @@
 use mathlib.Core.Path.{_≡_, refl}
 use mathlib.Core.Bool.{Bool, true, false, _&&_, not}
 use Prim.Native.Nat.{ℕ}
-use lib.Dec.{ltb}
+use lib.Dec.{ltb, eqb}
 use Rattle.coding.specs.declared.Flat.{Flat}
 use Rattle.coding.specs.declared.Flat.the-variants as F
 use Rattle.coding.specs.declared.Object.{Object}
@@ -13,10 +13,10 @@ use Rattle.schema.specs.Kinds.{isBlob, flatInteger, integerWidth}
 
 -- ---- kinds of objects by their number
 module _ (k : ℕ) (t : Bool) (et : t ≡ ltb k 13) where
-  pub object-kind-not : t ≡ true → false ≡ (not (ltb k 13) && ltb k 17)
+  pub object-kind-not : t ≡ true → false ≡ (not (ltb k 13) && not (eqb k 17))
   object-kind-not h = simp (← et, h)
 
-  pub object-kind-is : t ≡ false → (r : Bool) → r ≡ ltb k 17 → r ≡ (not (ltb k 13) && ltb k 17)
+  pub object-kind-is : t ≡ false → (r : Bool) → r ≡ not (eqb k 17) → r ≡ (not (ltb k 13) && not (eqb k 17))
   object-kind-is h r e = simp (← et, h) e
 
 -- ---- texts and bytes
@@ -36,6 +36,10 @@ module _ (ob : Object) where
   pub blob-table : (i : ℕ) → ob ≡ O.Table i → false ≡ isBlob ob
   unfolding isBlob
   blob-table i h = rw h
+
+  pub blob-direct : (t : ℕ) → ob ≡ O.DirectList t → false ≡ isBlob ob
+  unfolding isBlob
+  blob-direct t h = rw h
 
 -- ---- integers
 module _ (k : Kind) (f : Flat) (e : k ≡ OfFlat f) where

@@ -14,6 +14,7 @@ isBlob O.Text = true
 isBlob O.Bytes = true
 isBlob (O.List i) = false
 isBlob (O.Table i) = false
+isBlob (O.DirectList t) = false
 
 -- the bytes of an integer; 0 for what is none
 unfoldable pub flatInteger : Flat → ℕ

@@ -89,6 +89,8 @@ pub const KIND_TABLE: usize = 16;
 
 pub const KIND_UNION: usize = 17;
 
+pub const KIND_DIRECT_LIST: usize = 18;
+
 // Whether a kind leads to no object: a bool, an integer, a float, an enum or a struct.
 pub fn is_flat_kind(k: usize) -> bool
     ensures { λ r. ⌜ r ≡ ltb k 13 ⌝ }
@@ -96,14 +98,14 @@ pub fn is_flat_kind(k: usize) -> bool
     k < KIND_TEXT
 }
 
-// Whether a kind is an object: a text, bytes, a list or a table.
+// Whether a kind is an object: a text, bytes, a list, a table or a direct list.
 pub fn is_object_kind(k: usize) -> bool
-    ensures { λ r. ⌜ r ≡ (not (ltb k 13) && ltb k 17) ⌝ }
+    ensures { λ r. ⌜ r ≡ (not (ltb k 13) && not (eqb k 17)) ⌝ }
 {
     if is_flat_kind(k) {
         return false;
     }
-    k < KIND_UNION
+    k != KIND_UNION
 }
 
 // Whether a kind is a union.
@@ -200,6 +202,9 @@ fn object_of(k: usize, a: u8) -> Object
     if k == KIND_LIST {
         return Object::List(a);
     }
+    if k == KIND_DIRECT_LIST {
+        return Object::DirectList(a);
+    }
     Object::Table(a)
 }
 
@@ -210,10 +215,10 @@ fn kind_of(k: usize, a: u8) -> Kind
     if is_flat_kind(k) {
         return Kind::OfFlat(flat_of(k, a));
     }
-    if is_object_kind(k) {
-        return Kind::OfObject(object_of(k, a));
+    if is_union_kind(k) {
+        return Kind::OfUnion(a);
     }
-    Kind::OfUnion(a)
+    Kind::OfObject(object_of(k, a))
 }
 
 // The record as a struct's member.
@@ -265,6 +270,7 @@ pub fn is_blob(ob: Object) -> bool
         Object::Bytes => true,
         Object::List(_) => false,
         Object::Table(_) => false,
+        Object::DirectList(_) => false,
     }
 }
 

@@ -1,1 +1,2 @@
 pub mod PartRules
+pub mod OlderRules

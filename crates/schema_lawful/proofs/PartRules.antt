@@ -2,7 +2,7 @@
 use mathlib.Core.Path.{_≡_, refl, sym, ap, _∙_}
 use mathlib.Core.Bool.{Bool, true, false, _&&_, not}
 use mathlib.Core.List.{List}
-use Prim.Native.Nat.{ℕ, _+_, _%_, _<_, _≤_}
+use Prim.Native.Nat.{ℕ, _+_, _<_, _≤_}
 use native.Mathlib.Omega.{arith}
 use lib.ListN.{getD}
 use lib.Dec.{eqb}
@@ -15,7 +15,7 @@ use Rattle.laws.specs.Sound.{Sound}
 use Rattle.coding.specs.Bytes.{u32, u48, widthKnown}
 use Rattle.laws.specs.LawfulSound.{formed-sound}
 use Rattle.schema_lawful.specs.declared.Part.{Part}
-use Rattle.schema_lawful.specs.declared.Part.the-variants.{Lists, Unions, Tables, Ids, OlderLists, OlderTables}
+use Rattle.schema_lawful.specs.declared.Part.the-variants.{Lists, Unions, Tables, Ids, OlderLists, OlderUnions, OlderTables}
 use Rattle.schema.specs.Directory.{Directory, Placed, Block, StructsJudged, Represented, Accepted, FormJudged, Judged}
 use Rattle.wire.specs.Sizes.{Width}
 use Rattle.schema_lawful.specs.Parts as Pa
@@ -61,9 +61,13 @@ module _ (b : List ℕ) (part : Part) where
     unfolding Pa.partCount
     count-5 e h = simp e h
 
-    pub count-6 : part ≡ OlderTables → r ≡ getD b 3 0 → r ≡ Pa.partCount b part
+    pub count-6 : part ≡ OlderUnions → r ≡ getD b 2 0 → r ≡ Pa.partCount b part
     unfolding Pa.partCount
     count-6 e h = simp e h
+
+    pub count-7 : part ≡ OlderTables → r ≡ getD b 3 0 → r ≡ Pa.partCount b part
+    unfolding Pa.partCount
+    count-7 e h = simp e h
 
   module _ (i : ℕ) (r : Bool) where
     pub part-1 : part ≡ Lists → r ≡ L.listLawful b i → r ≡ Pa.partLawful b part i
@@ -86,9 +90,13 @@ module _ (b : List ℕ) (part : Part) where
     unfolding Pa.partLawful
     part-5 e h = simp e h
 
-    pub part-6 : part ≡ OlderTables → r ≡ L.olderTable b i → r ≡ Pa.partLawful b part i
+    pub part-6 : part ≡ OlderUnions → r ≡ L.olderUnion b i → r ≡ Pa.partLawful b part i
     unfolding Pa.partLawful
     part-6 e h = simp e h
+
+    pub part-7 : part ≡ OlderTables → r ≡ L.olderTable b i → r ≡ Pa.partLawful b part i
+    unfolding Pa.partLawful
+    part-7 e h = simp e h
 
   module _ (i : ℕ) (l : i < Pa.partCount b part) where
     pub in-lists : part ≡ Lists → i < P.listCount b
@@ -110,6 +118,10 @@ module _ (b : List ℕ) (part : Part) where
     pub in-older-lists : part ≡ OlderLists → i < P.listCount b
     unfolding Pa.partCount
     in-older-lists e = rw e at l
+
+    pub in-older-unions : part ≡ OlderUnions → i < P.unionCount b
+    unfolding Pa.partCount
+    in-older-unions e = rw e at l
 
     pub in-older-tables : part ≡ OlderTables → i < P.tableCount b
     unfolding Pa.partCount
@@ -149,59 +161,6 @@ module _ (b : List ℕ) (r₁ : Bool) (e₁ : r₁ ≡ Pa.partsLawful b Lists) w
       pub rules-4 : not r₃ ≡ false → (r : Bool) → r ≡ Pa.partsLawful b Ids → r ≡ Pa.restLawful b
       unfolding Pa.restLawful
       rules-4 h r e = simp (← e₁, not-false r₁ h₁, ← e₂, not-false r₂ h₂, ← e₃, not-false r₃ h) e
-
--- ---- what the older coding asks
-module _ (b : List ℕ) (at k : ℕ) (ek : k ≡ P.kindAt b at) where
-  pub older-union : k ≡ 17 → (r : Bool) → r ≡ P.inplaceAt b at → r ≡ L.olderMember b at
-  unfolding L.olderMember
-  older-union h r e = simp (← ek, eq-eqb k 17 h) e
-
-  module _ (h : k ≡ 17 → ⊥) where
-    pub older-held : k ≡ 16 → (r : Bool) → r ≡ P.inplaceAt b at → not r ≡ L.olderMember b at
-    unfolding L.olderMember
-    older-held g r e = simp (← ek, ne-eqb k 17 h, eq-eqb k 16 g) (ap not e)
-
-    pub older-other : (k ≡ 16 → ⊥) → true ≡ L.olderMember b at
-    unfolding L.olderMember
-    older-other g = simp (← ek, ne-eqb k 17 h, ne-eqb k 16 g)
-
-pub older-element : (b : List ℕ) (i at k : ℕ) → at ≡ P.listPlace b i → k ≡ P.kindAt b at → (t : Bool) → t ≡ eqb k 17
-    → not t ≡ L.olderElement b (P.listPlace b i)
-unfolding L.olderElement
-older-element b i at k ea ek t et = rw (← ea, ← ek, ← et)
-
--- the members of a table, one after another
-unfoldable pub olderFirst : List ℕ → ℕ → ℕ → Bool
-olderFirst b at n = every (λ j. L.olderMember b (P.recordPlace 4 at j)) n
-
-pub older-none : (b : List ℕ) (at : ℕ) → olderFirst b at 0 ≡ true
-unfolding olderFirst
-older-none b at = every-none _
-
-module _ (b : List ℕ) (i at : ℕ) (B : Block b 4 (P.tablePlace b i) at) (n j : ℕ) (en : n ≡ P.records b 4 at) where
-  pub older-done : j ≤ n → n ≤ j → olderFirst b at j ≡ true → true ≡ L.olderTable b i
-  unfolding L.olderTable olderFirst
-  older-done l m e = let z : j ≡ n = omega arith in rw (← (B .is), ← en, ← z) (sym e)
-
-  module _ (l : j < n) (q : ℕ) (eq : q ≡ P.recordPlace 4 at j) (r : Bool) (er : r ≡ L.olderMember b q) where
-    pub older-fail : not r ≡ true → false ≡ L.olderTable b i
-    unfolding L.olderTable
-    older-fail h =
-        rw (← (B .is))
-        (sym (every-fail (λ k. L.olderMember b (P.recordPlace 4 at k)) (P.records b 4 at) j (omega arith) (ap (L.olderMember b) (sym eq) ∙ sym er ∙ not-true r h)))
-
-    pub older-more : not r ≡ false → olderFirst b at j ≡ true → olderFirst b at (j + 1) ≡ true
-    unfolding olderFirst
-    older-more h e = every-more (λ k. L.olderMember b (P.recordPlace 4 at k)) j e (ap (L.olderMember b) (sym eq) ∙ sym er ∙ not-false r h)
-
-module _ (b : List ℕ) (r₁ : Bool) (e₁ : r₁ ≡ Pa.partsLawful b OlderLists) where
-  pub older-1 : not r₁ ≡ true → false ≡ L.olderOk b
-  unfolding L.olderOk Pa.partsLawful Pa.partLawful Pa.partCount
-  older-1 h = simp (← e₁, not-true r₁ h)
-
-  pub older-2 : not r₁ ≡ false → (r : Bool) → r ≡ Pa.partsLawful b OlderTables → r ≡ L.olderOk b
-  unfolding L.olderOk Pa.partsLawful Pa.partLawful Pa.partCount
-  older-2 h r e = simp (← e₁, not-false r₁ h) e
 
 -- ---- the whole
 parts-of : (b : List ℕ) → L.wellFormed b ≡ (L.shapeOk b && (every (L.structLawful b) (P.structCount b) && Pa.restLawful b))

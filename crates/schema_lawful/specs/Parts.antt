@@ -4,9 +4,9 @@ use mathlib.Core.List.{List}
 use mathlib.Core.Bool.{Bool, _&&_}
 use Rattle.coding.specs.Lists.{every}
 use Rattle.coding.specs.Packed.{listCount, unionCount, tableCount, listPlace}
-use Rattle.coding.specs.Lawful.{listLawful, unionLawful, tableLawful, idLawful, olderElement, olderTable}
+use Rattle.coding.specs.Lawful.{listLawful, unionLawful, tableLawful, idLawful, olderElement, olderUnion, olderTable}
 use Rattle.schema_lawful.specs.declared.Part.{Part}
-use Rattle.schema_lawful.specs.declared.Part.the-variants.{Lists, Unions, Tables, Ids, OlderLists, OlderTables}
+use Rattle.schema_lawful.specs.declared.Part.the-variants.{Lists, Unions, Tables, Ids, OlderLists, OlderUnions, OlderTables}
 
 unfoldable pub partCount : List ℕ → Part → ℕ
 partCount b Lists = listCount b
@@ -14,6 +14,7 @@ partCount b Unions = unionCount b
 partCount b Tables = tableCount b
 partCount b Ids = tableCount b
 partCount b OlderLists = listCount b
+partCount b OlderUnions = unionCount b
 partCount b OlderTables = tableCount b
 
 unfoldable pub partLawful : List ℕ → Part → ℕ → Bool
@@ -22,6 +23,7 @@ partLawful b Unions = unionLawful b
 partLawful b Tables = tableLawful b
 partLawful b Ids = idLawful b
 partLawful b OlderLists = λ i. olderElement b (listPlace b i)
+partLawful b OlderUnions = olderUnion b
 partLawful b OlderTables = olderTable b
 
 -- all of a part

@@ -25,7 +25,8 @@ fn id_ok(b: &[u8], dir: &[u16], i: usize) -> bool
 }
 
 // ---- what the older coding asks beyond the rules
-// Whether the older coding has the table member whose record stands at `at`: a union is in place, a table is not.
+// Whether the older coding has the table member whose record stands at `at`: a union is in place, a table is not, and there is
+// no direct list.
 fn older_member(b: &[u8], at: usize) -> bool
     requires { ⌜ at + 1 < length (now b) ⌝ }
     ensures { λ r. ⌜ r ≡ L.olderMember (now (b .entry)) at ⌝ }
@@ -37,15 +38,27 @@ fn older_member(b: &[u8], at: usize) -> bool
     if k == schema::KIND_TABLE {
         return !schema::inplace_at(b, at);
     }
-    true
+    k != schema::KIND_DIRECT_LIST
 }
 
-// Whether it has list i: the element is no union.
+// Whether it has list i: the element is no union and no direct list.
 fn older_list(b: &[u8], dir: &[u16], i: usize) -> bool
     requires { ⌜ (Directory (now b) (now dir)) × (i < P.listCount (now b)) ⌝ }
     ensures { λ r. ⌜ r ≡ L.olderElement (now (b .entry)) (P.listPlace (now (b .entry)) i) ⌝ }
 {
-    !schema::is_union_kind(schema::kind_at(b, schema::list_place(b, dir, i)))
+    let k = schema::kind_at(b, schema::list_place(b, dir, i));
+    if k == schema::KIND_DIRECT_LIST {
+        return false;
+    }
+    k != schema::KIND_UNION
+}
+
+// Whether it has every case of union i: none is a direct list.
+fn older_union(b: &[u8], dir: &[u16], i: usize) -> bool
+    requires { ⌜ (Directory (now b) (now dir)) × (i < P.unionCount (now b)) ⌝ }
+    ensures { λ r. ⌜ r ≡ L.olderUnion (now (b .entry)) i ⌝ }
+{
+    schema_rules::held_union(b, schema::union_place(b, dir, i))
 }
 
 // Whether it has every member of table i.
@@ -73,6 +86,7 @@ enum Part {
     Tables,
     Ids,
     OlderLists,
+    OlderUnions,
     OlderTables,
 }
 
@@ -86,6 +100,7 @@ fn part_count(b: &[u8], part: Part) -> usize
         Part::Tables => schema::count(b, schema::TABLES),
         Part::Ids => schema::count(b, schema::TABLES),
         Part::OlderLists => schema::count(b, schema::LISTS),
+        Part::OlderUnions => schema::count(b, schema::UNIONS),
         Part::OlderTables => schema::count(b, schema::TABLES),
     }
 }
@@ -101,6 +116,7 @@ fn part_ok(b: &[u8], dir: &[u16], part: Part, i: usize) -> bool
         Part::Tables => schema_rules::table_ok(b, dir, i),
         Part::Ids => id_ok(b, dir, i),
         Part::OlderLists => older_list(b, dir, i),
+        Part::OlderUnions => older_union(b, dir, i),
         Part::OlderTables => older_table(b, dir, i),
     }
 }
@@ -138,12 +154,15 @@ fn rules(b: &[u8], dir: &[u16]) -> bool
     parts_ok(b, dir, Part::Ids)
 }
 
-// Whether the older coding has all lists and tables.
+// Whether the older coding has all lists, unions and tables.
 fn older(b: &[u8], dir: &[u16]) -> bool
     requires { ⌜ Directory (now b) (now dir) ⌝ }
     ensures { λ r. ⌜ r ≡ L.olderOk (now (b .entry)) ⌝ }
 {
     if !parts_ok(b, dir, Part::OlderLists) {
+        return false;
+    }
+    if !parts_ok(b, dir, Part::OlderUnions) {
         return false;
     }
     parts_ok(b, dir, Part::OlderTables)

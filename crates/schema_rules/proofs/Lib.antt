@@ -1,2 +1,3 @@
 pub mod RecordRules
+pub mod DirectRules
 pub mod BlockRules

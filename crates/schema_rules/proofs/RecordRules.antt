@@ -50,9 +50,14 @@ module _ (b : List ℕ) (k a : ℕ) where
               unfolding L.argumentOk
               arg-7 h e = simp (le-ltb _ _ a1, ne-eqb _ _ a2, ne-eqb _ _ a3, le-ltb _ _ a4, ne-eqb _ _ a5, ne-eqb _ _ a6, eq-eqb _ _ h, ← e)
 
-              pub arg-8 : (k ≡ 17 → ⊥) → false ≡ L.argumentOk b k a
-              unfolding L.argumentOk
-              arg-8 h = simp (le-ltb _ _ a1, ne-eqb _ _ a2, ne-eqb _ _ a3, le-ltb _ _ a4, ne-eqb _ _ a5, ne-eqb _ _ a6, ne-eqb _ _ h)
+              module _ (a7 : k ≡ 17 → ⊥) where
+                pub arg-8 : k ≡ 18 → n ≡ getD b 3 0 → ltb a n ≡ L.argumentOk b k a
+                unfolding L.argumentOk
+                arg-8 h e = simp (le-ltb _ _ a1, ne-eqb _ _ a2, ne-eqb _ _ a3, le-ltb _ _ a4, ne-eqb _ _ a5, ne-eqb _ _ a6, ne-eqb _ _ a7, eq-eqb _ _ h, ← e)
+
+                pub arg-9 : (k ≡ 18 → ⊥) → false ≡ L.argumentOk b k a
+                unfolding L.argumentOk
+                arg-9 h = simp (le-ltb _ _ a1, ne-eqb _ _ a2, ne-eqb _ _ a3, le-ltb _ _ a4, ne-eqb _ _ a5, ne-eqb _ _ a6, ne-eqb _ _ a7, ne-eqb _ _ h)
 
 module _ (role : Role) (k a : ℕ) where
   pub kind-1 : (i : ℕ) → role ≡ InStruct i → k ≡ 12 → ltb a i ≡ L.kindOk role k a
@@ -67,17 +72,21 @@ module _ (role : Role) (k a : ℕ) where
   unfolding L.kindOk
   kind-3 e = simp e
 
-  pub kind-4 : role ≡ InUnion → 13 ≤ k → leb k 16 ≡ L.kindOk role k a
+  pub kind-4 : role ≡ InUnion → k ≡ 18 → true ≡ L.kindOk role k a
   unfolding L.kindOk
-  kind-4 e h = simp (e, le-leb _ _ h)
+  kind-4 e h = simp (e, eq-eqb _ _ h)
 
-  pub kind-5 : role ≡ InUnion → k < 13 → false ≡ L.kindOk role k a
+  pub kind-5 : role ≡ InUnion → (k ≡ 18 → ⊥) → 13 ≤ k → leb k 16 ≡ L.kindOk role k a
   unfolding L.kindOk
-  kind-5 e h = simp (e, lt-leb _ _ h)
+  kind-5 e g h = simp (e, ne-eqb _ _ g, le-leb _ _ h)
 
-  pub kind-6 : role ≡ InTable → true ≡ L.kindOk role k a
+  pub kind-6 : role ≡ InUnion → (k ≡ 18 → ⊥) → k < 13 → false ≡ L.kindOk role k a
   unfolding L.kindOk
-  kind-6 e = simp e
+  kind-6 e g h = simp (e, ne-eqb _ _ g, lt-leb _ _ h)
+
+  pub kind-7 : role ≡ InTable → true ≡ L.kindOk role k a
+  unfolding L.kindOk
+  kind-7 e = simp e
 
 module _ (role : Role) (k : ℕ) where
   pub opt-1 : (i : ℕ) → role ≡ InStruct i → false ≡ L.optionalOk role k
@@ -112,9 +121,13 @@ module _ (role : Role) (k : ℕ) where
   unfolding L.inplaceOk
   inp-3 e = simp e
 
-  pub inp-4 : role ≡ InTable → ltb 12 k ≡ L.inplaceOk role k
+  pub inp-4 : role ≡ InTable → 13 ≤ k → leb k 17 ≡ L.inplaceOk role k
   unfolding L.inplaceOk
-  inp-4 e = simp e
+  inp-4 e h = simp (e, le-leb _ _ h)
+
+  pub inp-5 : role ≡ InTable → k < 13 → false ≡ L.inplaceOk role k
+  unfolding L.inplaceOk
+  inp-5 e h = simp (e, lt-leb _ _ h)
 
 module _ (b : List ℕ) (role : Role) (at k : ℕ) (ek : k ≡ P.kindAt b at) (o p q : Bool) (eo : o ≡ P.optionalAt b at) (ep : p ≡ L.optionalOk role k) (eq : q ≡ pick o p true) where
   pub flags-1 : not q ≡ true → false ≡ L.flagsOk b role at
@@ -140,9 +153,15 @@ module _ (b : List ℕ) (role : Role) (at : ℕ) (z : Bool) (ez : z ≡ P.zeroAt
       unfolding L.recordOk
       rec-3 h = simp (← ez, not-false z h1, ← ek, ← ea₀, ← ea, ← eg, not-false g h2, ← ef, not-true f h)
 
-      pub rec-4 : not f ≡ false → (r : Bool) → r ≡ L.flagsOk b role at → r ≡ L.recordOk b role at
-      unfolding L.recordOk
-      rec-4 h r er = simp (← ez, not-false z h1, ← ek, ← ea₀, ← ea, ← eg, not-false g h2, ← ef, not-false f h) er
+      module _ (h3 : not f ≡ false) (q : Bool) (eq : q ≡ L.flagsOk b role at) where
+        pub rec-4 : not q ≡ true → false ≡ L.recordOk b role at
+        unfolding L.recordOk
+        rec-4 h = simp (← ez, not-false z h1, ← ek, ← ea₀, ← ea, ← eg, not-false g h2, ← ef, not-false f h3, ← eq, not-true q h)
+
+        pub rec-5 : not q ≡ false → (r : Bool) → r ≡ L.directOk b at → r ≡ L.recordOk b role at
+        unfolding L.recordOk
+        rec-5 h r er =
+            simp (← ez, not-false z h1, ← ek, ← ea₀, ← ea, ← eg, not-false g h2, ← ef, not-false f h3, ← eq, not-false q h) er
 
 pub flag-1 : (o p : Bool) → o ≡ true → p ≡ pick o p true
 flag-1 o p h = simp h
@@ -175,8 +194,10 @@ module _ (b : List ℕ) (at x h : ℕ) (ex : x ≡ getD b at 0) (eh : h ≡ x) (
   number-inplace = let l = low-two in rw first-byte (ne-eqb (h / 2 % 2) 1 (λ (z : h / 2 % 2 ≡ 1). absurd (omega arith)))
 
   pub number-ok : (a : ℕ) → a ≡ P.argumentAt b at → eqb a 0 ≡ true → L.recordOk b InTable at ≡ true
-  unfolding L.recordOk L.argumentOk L.kindOk L.flagsOk L.optionalOk L.inplaceOk
+  unfolding L.recordOk L.argumentOk L.kindOk L.flagsOk L.optionalOk L.inplaceOk L.directOk
   number-ok a ea e =
       let l = number-kind in
       let z : (P.kindAt b at ≡ 12 → ⊥) = λ q. absurd (omega arith) in
-      simp (number-zero, lt-ltb _ _ l, ← ea, e, ne-eqb _ _ z, number-inplace, pick-same)
+      let u : (P.kindAt b at ≡ 17 → ⊥) = λ q. absurd (omega arith) in
+      let d : (P.kindAt b at ≡ 18 → ⊥) = λ q. absurd (omega arith) in
+      simp (number-zero, lt-ltb _ _ l, ← ea, e, ne-eqb _ _ z, ne-eqb _ _ u, ne-eqb _ _ d, number-inplace, pick-same)

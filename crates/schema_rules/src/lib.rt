@@ -35,6 +35,9 @@ fn argument_ok(b: &[u8], k: usize, a: usize) -> bool
     if k == schema::KIND_UNION {
         return a < schema::count(b, schema::UNIONS);
     }
+    if k == schema::KIND_DIRECT_LIST {
+        return a < schema::count(b, schema::TABLES);
+    }
     false
 }
 
@@ -52,7 +55,9 @@ fn kind_ok(role: Role, k: usize, a: usize) -> bool
         }
         Role::InList => k != schema::KIND_STRUCT,
         Role::InUnion => {
-            if schema::KIND_TEXT <= k {
+            if k == schema::KIND_DIRECT_LIST {
+                true
+            } else if schema::KIND_TEXT <= k {
                 k <= schema::KIND_TABLE
             } else {
                 false
@@ -88,7 +93,13 @@ fn inplace_ok(role: Role, k: usize) -> bool
         Role::InStruct(_) => false,
         Role::InList => false,
         Role::InUnion => false,
-        Role::InTable => schema::KIND_STRUCT < k,
+        Role::InTable => {
+            if schema::KIND_TEXT <= k {
+                k <= schema::KIND_UNION
+            } else {
+                false
+            }
+        }
     }
 }
 
@@ -113,9 +124,79 @@ fn flags_ok(b: &[u8], role: Role, k: usize, at: usize) -> bool
     flag_ok(schema::inplace_at(b, at), inplace_ok(role, k))
 }
 
+// ---- members in place
+// 1 for a yes.
+fn one_if(t: bool) -> usize
+    ensures { λ r. ⌜ (r ≡ Li.pick t 1 0) × (r ≤ 1) ⌝ }
+{
+    if t { 1 } else { 0 }
+}
+
+// How many records of the table at `at` are in place.
+fn inplaces(b: &[u8], at: usize) -> usize
+    requires { ⌜ (at < 65536) × (at + 4 + 1 + 2 * P.records (now b) 4 at ≤ length (now b)) ⌝ }
+    ensures { λ r. ⌜ r ≡ L.inplaces (now (b .entry)) at (P.records (now (b .entry)) 4 at) ⌝ }
+{
+    let n = schema::records(b, schema::TABLE_HEAD, at);
+    let mut sum: usize = 0;
+    let mut j: usize = 0;
+    while j < n {
+        sum += one_if(schema::inplace_at(b, schema::record_place(schema::TABLE_HEAD, at, j)));
+        j += 1;
+    }
+    sum
+}
+
+// ---- the rules of direct lists
+// Whether the table at `at` may be that of a direct list's elements: it has a member, and none in place.
+fn direct_table(b: &[u8], at: usize) -> bool
+    requires { ⌜ (at < 65536) × (at + 4 + 1 + 2 * P.records (now b) 4 at ≤ length (now b)) ⌝ }
+    ensures { λ r. ⌜ r ≡ L.directTable (now (b .entry)) at ⌝ }
+{
+    if schema::records(b, schema::TABLE_HEAD, at) == 0 {
+        return false;
+    }
+    inplaces(b, at) == 0
+}
+
+// Whether a table may hold the union at `at` in place: no case is a direct list.
+pub fn held_union(b: &[u8], at: usize) -> bool
+    requires { ⌜ (at < 65536) × (at + 1 + 2 * P.records (now b) 0 at ≤ length (now b)) ⌝ }
+    ensures { λ r. ⌜ r ≡ L.heldUnion (now (b .entry)) at ⌝ }
+{
+    let n = schema::records(b, 0, at);
+    let mut j: usize = 0;
+    while j < n {
+        if schema::kind_at(b, schema::record_place(0, at, j)) == schema::KIND_DIRECT_LIST {
+            return false;
+        }
+        j += 1;
+    }
+    true
+}
+
+// Whether the record at `at`, of kind k with the argument a, keeps the rules of direct lists: one has its table, and a union in
+// place has none among its cases.
+fn direct_ok(b: &[u8], dir: &[u16], k: usize, a: usize, at: usize) -> bool
+    requires { ⌜ (Directory (now b) (now dir)) × (at + 1 < length (now b)) × (k ≡ P.kindAt (now b) at) × (a ≡ P.argumentAt (now b) at) × (L.argumentOk (now b) k a ≡ true) ⌝ }
+    ensures { λ r. ⌜ r ≡ L.directOk (now (b .entry)) at ⌝ }
+{
+    if k == schema::KIND_DIRECT_LIST {
+        return direct_table(b, schema::table_place(b, dir, a));
+    }
+    if k != schema::KIND_UNION {
+        return true;
+    }
+    if !schema::inplace_at(b, at) {
+        return true;
+    }
+    held_union(b, schema::union_place(b, dir, a))
+}
+
+// ---- the whole record
 // Whether the record at `at` is right.
-fn record_ok(b: &[u8], role: Role, at: usize) -> bool
-    requires { ⌜ at + 1 < length (now b) ⌝ }
+fn record_ok(b: &[u8], dir: &[u16], role: Role, at: usize) -> bool
+    requires { ⌜ (Directory (now b) (now dir)) × (at + 1 < length (now b)) ⌝ }
     ensures { λ r. ⌜ r ≡ L.recordOk (now (b .entry)) role at ⌝ }
 {
     let k = schema::kind_at(b, at);
@@ -129,19 +210,22 @@ fn record_ok(b: &[u8], role: Role, at: usize) -> bool
     if !kind_ok(role, k, a) {
         return false;
     }
-    flags_ok(b, role, k, at)
+    if !flags_ok(b, role, k, at) {
+        return false;
+    }
+    direct_ok(b, dir, k, a, at)
 }
 
 // ---- the rules of a block
 // Whether all records of the block at `at` are right.
-pub fn records_ok(b: &[u8], role: Role, head: usize, at: usize) -> bool
-    requires { ⌜ (head ≤ 4) × (at < 65536) × (at + head + 1 + 2 * P.records (now b) head at ≤ length (now b)) ⌝ }
+pub fn records_ok(b: &[u8], dir: &[u16], role: Role, head: usize, at: usize) -> bool
+    requires { ⌜ (Directory (now b) (now dir)) × (head ≤ 4) × (at < 65536) × (at + head + 1 + 2 * P.records (now b) head at ≤ length (now b)) ⌝ }
     ensures { λ r. ⌜ r ≡ L.recordsOk (now (b .entry)) role head at ⌝ }
 {
     let n = schema::records(b, head, at);
     let mut j: usize = 0;
     while j < n {
-        if !record_ok(b, role, schema::record_place(head, at, j)) {
+        if !record_ok(b, dir, role, schema::record_place(head, at, j)) {
             return false;
         }
         j += 1;
@@ -169,8 +253,8 @@ fn is_number(b: &[u8], at: usize) -> bool
 }
 
 // Whether all records of the table at `at` are right.
-fn members_ok(b: &[u8], at: usize) -> bool
-    requires { ⌜ (at < 65536) × (at + 4 + 1 + 2 * P.records (now b) 4 at ≤ length (now b)) ⌝ }
+fn members_ok(b: &[u8], dir: &[u16], at: usize) -> bool
+    requires { ⌜ (Directory (now b) (now dir)) × (at < 65536) × (at + 4 + 1 + 2 * P.records (now b) 4 at ≤ length (now b)) ⌝ }
     ensures { λ r. ⌜ r ≡ L.recordsOk (now (b .entry)) Role.InTable 4 at ⌝ }
 {
     let n = schema::records(b, schema::TABLE_HEAD, at);
@@ -178,7 +262,7 @@ fn members_ok(b: &[u8], at: usize) -> bool
     while j < n {
         let p = schema::record_place(schema::TABLE_HEAD, at, j);
         if !is_number(b, p) {
-            if !record_ok(b, Role::InTable, p) {
+            if !record_ok(b, dir, Role::InTable, p) {
                 return false;
             }
         }
@@ -187,35 +271,13 @@ fn members_ok(b: &[u8], at: usize) -> bool
     true
 }
 
-// 1 for a yes.
-fn one_if(t: bool) -> usize
-    ensures { λ r. ⌜ (r ≡ Li.pick t 1 0) × (r ≤ 1) ⌝ }
-{
-    if t { 1 } else { 0 }
-}
-
-// How many records of the table at `at` are in place.
-fn inplaces(b: &[u8], at: usize) -> usize
-    requires { ⌜ (at < 65536) × (at + 4 + 1 + 2 * P.records (now b) 4 at ≤ length (now b)) ⌝ }
-    ensures { λ r. ⌜ r ≡ L.inplaces (now (b .entry)) at (P.records (now (b .entry)) 4 at) ⌝ }
-{
-    let n = schema::records(b, schema::TABLE_HEAD, at);
-    let mut sum: usize = 0;
-    let mut j: usize = 0;
-    while j < n {
-        sum += one_if(schema::inplace_at(b, schema::record_place(schema::TABLE_HEAD, at, j)));
-        j += 1;
-    }
-    sum
-}
-
 // ---- the rules of lists, unions and tables
 // Whether list i is right.
 pub fn list_ok(b: &[u8], dir: &[u16], i: usize) -> bool
     requires { ⌜ (Directory (now b) (now dir)) × (i < P.listCount (now b)) ⌝ }
     ensures { λ r. ⌜ r ≡ L.listLawful (now (b .entry)) i ⌝ }
 {
-    record_ok(b, Role::InList, schema::list_place(b, dir, i))
+    record_ok(b, dir, Role::InList, schema::list_place(b, dir, i))
 }
 
 // Whether union i is right.
@@ -223,7 +285,7 @@ pub fn union_ok(b: &[u8], dir: &[u16], i: usize) -> bool
     requires { ⌜ (Directory (now b) (now dir)) × (i < P.unionCount (now b)) ⌝ }
     ensures { λ r. ⌜ r ≡ L.unionLawful (now (b .entry)) i ⌝ }
 {
-    records_ok(b, Role::InUnion, 0, schema::union_place(b, dir, i))
+    records_ok(b, dir, Role::InUnion, 0, schema::union_place(b, dir, i))
 }
 
 // Whether table i is right, and has at most one member in place.
@@ -232,7 +294,7 @@ pub fn table_ok(b: &[u8], dir: &[u16], i: usize) -> bool
     ensures { λ r. ⌜ r ≡ L.tableLawful (now (b .entry)) i ⌝ }
 {
     let at = schema::table_place(b, dir, i);
-    if members_ok(b, at) {
+    if members_ok(b, dir, at) {
         return inplaces(b, at) <= 1;
     }
     false

@@ -59,7 +59,13 @@ fn fields_ok(b: &[u8], dir: &[u16], i: usize) -> bool
     requires { ⌜ (Directory (now b) (now dir)) × (i < P.structCount (now b)) ⌝ }
     ensures { λ r. ⌜ r ≡ L.recordsOk (now (b .entry)) (Role.InStruct i) 0 (P.structPlace (now (b .entry)) i) ⌝ }
 {
-    schema_rules::records_ok(b, Role::InStruct(i), 0, schema::struct_place(b, dir, i))
+    schema_rules::records_ok(
+        b,
+        dir,
+        Role::InStruct(i),
+        0,
+        schema::struct_place(b, dir, i),
+    )
 }
 
 // Whether all structs are right; their sizes are stored in the directory.

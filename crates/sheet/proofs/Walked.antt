@@ -28,6 +28,7 @@ use Rattle.coding.specs.declared.Place.{Place}
 use Rattle.coding.specs.declared.Place.the-variants.{ByOffset, InPlace}
 use Rattle.coding.specs.declared.Step.{Step}
 use Rattle.coding.specs.declared.Step.the-variants as St
+use Rattle.coding.specs.declared.Opened.{Opened}
 use Rattle.coding.specs.declared.Opened.the-variants as Op
 use Rattle.coding.specs.declared.Budget.{Budget}
 use Rattle.coding.specs.declared.Spent.{Spent}
@@ -192,57 +193,90 @@ module _ (o : ℕ) (S : Schema) (sound : Sound S) (m : List ℕ) (child : W.Chil
       (follow-says holder i (T.elementStep o S m k start i) s (element-inside o S sound m k start i l h))
       (λ v. elements-say holder start k n (i + 1) v l h)
 
-  content-says : (ob : Object) (holder start n : ℕ) (s : Spent) → ObjectSound S ob → start + W.contentSize o S ob n ≤ length m
-      → Says (D.ContentReadable o good S m ob start n) (W.content child o S m ob holder start n s)
+  directs-say : (t w : ℕ) → ObjectSound S (O.Table t) → (n at : ℕ) (s : Spent) → Says (D.DirectsReadable good t w n at) (W.directs child t w n at s)
+  unfolding W.directs D.DirectsReadable
+  directs-say t w l zero at s = tt
+  directs-say t w l (suc n) at s =
+      says-then (good (O.Table t) (InPlace at w)) (D.DirectsReadable good t w n (at + w)) (child (O.Table t) (InPlace at w) s) (W.directs child t w n (at + w))
+      (says (O.Table t) (InPlace at w) s l) (λ v. directs-say t w l n (at + w) v)
+
+  content-says : (ob : Object) (holder start n : ℕ) (s : Spent) → ObjectSound S ob → start + W.contentSize o S m ob holder n ≤ length m
+      → Says (D.ContentReadable o good S m ob holder start n) (W.content child o S m ob holder start n s)
   unfolding W.content D.ContentReadable W.contentSize
   content-says O.Text holder start n s l h = tt
   content-says O.Bytes holder start n s l h = tt
   content-says (O.List i) holder start n s l h = elements-say holder start (Sc.elementOf S i) n 0 s (sound .lists i .kind) (sound .lists i .scalar)
   content-says (O.Table i) holder start n s l h = members-say holder start n L.begin 0 (Sc.tableOf S i .members) s (sound .tables i .members) h
+  content-says (O.DirectList t) holder start n s l h = directs-say t (W.elementSize o m holder) (l .table) n start s
 
   -- an object whose content fits is charged, and then its bytes are tested
   open-says : (b : Budget) (ob : Object) (holder start n : ℕ) (s : Spent) → ObjectSound S ob
-      → Says (D.Entered o good S m ob start n) (W.admit child o S m b ob holder (W.fitContent o S m ob start n) s)
+      → Says (D.Entered o good S m ob holder start n) (W.admit child o S m b ob holder (W.fitContent o S m ob holder start n) s)
   unfolding W.admit W.enter W.bytesTested W.fitContent
-  open-says b ob holder start n s l = by (leb (start + W.contentSize o S ob n) (length m)) refl
+  open-says b ob holder start n s l = by (leb (start + W.contentSize o S m ob holder n) (length m)) refl
     where
-      tested : (t : Bool) (v : Spent) → start + W.contentSize o S ob n ≤ length m
-          → Says (D.Entered o good S m ob start n) (W.enter child o S m ob holder (pick t (Op.Content start n) (Op.Refused 10)) v)
+      tested : (t : Bool) (v : Spent) → start + W.contentSize o S m ob holder n ≤ length m
+          → Says (D.Entered o good S m ob holder start n) (W.enter child o S m ob holder (pick t (Op.Content start n) (Op.Refused 10)) v)
       tested true v h =
-          says-map (D.ContentReadable o good S m ob start n) (D.Entered o good S m ob start n) (λ q. record { sound = l; inside = h; parts = q })
+          says-map (D.ContentReadable o good S m ob holder start n) (D.Entered o good S m ob holder start n) (λ q. record { sound = l; inside = h; parts = q })
           (W.content child o S m ob holder start n v) (content-says ob holder start n v l h)
-      tested false v h = refuse-says (D.Entered o good S m ob start n) 10 holder v (λ z. omega arith)
+      tested false v h = refuse-says (D.Entered o good S m ob holder start n) 10 holder v (λ z. omega arith)
 
-      by : (t : Bool) → leb (start + W.contentSize o S ob n) (length m) ≡ t
-          → Says (D.Entered o good S m ob start n) (W.admit child o S m b ob holder (pick t (Op.Content start n) (Op.Refused 6)) s)
+      by : (t : Bool) → leb (start + W.contentSize o S m ob holder n) (length m) ≡ t
+          → Says (D.Entered o good S m ob holder start n) (W.admit child o S m b ob holder (pick t (Op.Content start n) (Op.Refused 6)) s)
       by true e =
           let v = W.withContent (W.contentLength o S ob n) s in
-          pick-says (D.Entered o good S m ob start n) (leb (s .content + W.contentLength o S ob n) (b .content))
+          pick-says (D.Entered o good S m ob holder start n) (leb (s .content + W.contentLength o S ob n) (b .content))
           (W.enter child o S m ob holder (W.bytesTested m ob (Op.Content start n)) v) (W.refuse 17 holder s)
-          (λ _. tested (W.endOk m ob start n) v (leb-true _ _ e)) (refuse-says (D.Entered o good S m ob start n) 17 holder s (λ z. omega arith))
-      by false e = refuse-says (D.Entered o good S m ob start n) 6 holder s (λ z. omega arith)
+          (λ _. tested (W.endOk m ob start n) v (leb-true _ _ e)) (refuse-says (D.Entered o good S m ob holder start n) 17 holder s (λ z. omega arith))
+      by false e = refuse-says (D.Entered o good S m ob holder start n) 6 holder s (λ z. omega arith)
+
+  -- the header of a direct list is tested besides
+  header-says : (b : Budget) (P : Type 0) (ob : Object) (x : ℕ) (fit : Opened) (s : Spent) → Says P (W.admit child o S m b ob x fit s)
+      → Says P (W.admit child o S m b ob x (W.headerTested o S m ob x fit) s)
+  unfolding W.headerTested W.directHeader W.admit
+  header-says b P O.Text x fit s h = h
+  header-says b P O.Bytes x fit s h = h
+  header-says b P (O.List i) x fit s h = h
+  header-says b P (O.Table i) x fit s h = h
+  header-says b P (O.DirectList i) x fit s h = by (eqb (W.elementId o m x) (Sc.tableOf S i .id)) (leb (le m (x + 4) o) W.mostElements)
+    where
+      by : (t u : Bool) → Says P (W.admit child o S m b (O.DirectList i) x (pick t (pick u fit (Op.Refused 6)) (Op.Refused 7)) s)
+      by true true = h
+      by true false = refuse-says P 6 x s (λ z. omega arith)
+      by false u = refuse-says P 7 x s (λ z. omega arith)
 
   arrive-says : (b : Budget) (ob : Object) (p : Place) (s : Spent) → ObjectSound S ob
-      → Says (D.HeaderInside o m p × D.Entered o good S m ob (D.startOf o p) (D.lengthOf o m p)) (W.arrive child o S m b ob p s)
+      → Says (D.HeaderInside o m ob p × D.Entered o good S m ob (W.placed p) (D.startOf o ob p) (D.lengthOf o m p)) (W.arrive child o S m b ob p s)
   unfolding W.arrive W.admit W.fitObject D.HeaderInside D.startOf D.lengthOf W.placed
-  arrive-says b ob (ByOffset x) s l = by (leb (W.startSize o) x) (leb (x + W.headerSize o) (length m)) (eqb (le m x 4) (W.magic S ob)) refl
+  arrive-says b ob (ByOffset x) s l = by (leb (W.startSize o) x) (leb (x + W.headerSize o ob) (length m)) (eqb (le m x 4) (W.magic S ob)) refl
     where
-      by : (t u v : Bool) → leb (x + W.headerSize o) (length m) ≡ u
-          → Says ((x + W.headerSize o ≤ length m) × D.Entered o good S m ob (x + W.headerSize o) (le m (x + 4) o))
+      fit : Opened
+      fit = W.fitContent o S m ob x (x + W.headerSize o ob) (le m (x + 4) o)
+
+      by : (t u v : Bool) → leb (x + W.headerSize o ob) (length m) ≡ u
+          → Says ((x + W.headerSize o ob ≤ length m) × D.Entered o good S m ob x (x + W.headerSize o ob) (le m (x + 4) o))
           (W.admit child o S m b ob x
-          (pick (t && u) (pick v (W.fitContent o S m ob (x + W.headerSize o) (le m (x + 4) o)) (Op.Refused 7)) (Op.Refused 6)) s)
+          (pick (t && u)
+          (pick v (W.headerTested o S m ob x (W.fitContent o S m ob x (x + W.headerSize o ob) (le m (x + 4) o))) (Op.Refused 7))
+          (Op.Refused 6)) s)
       by true true true e =
           let h = leb-true _ _ e in
-          says-map (D.Entered o good S m ob (x + W.headerSize o) (le m (x + 4) o))
-          ((x + W.headerSize o ≤ length m) × D.Entered o good S m ob (x + W.headerSize o) (le m (x + 4) o)) (λ q. (h, q))
-          (W.admit child o S m b ob x (W.fitContent o S m ob (x + W.headerSize o) (le m (x + 4) o)) s)
-          (open-says b ob x (x + W.headerSize o) (le m (x + 4) o) s l)
+          says-map (D.Entered o good S m ob x (x + W.headerSize o ob) (le m (x + 4) o))
+          ((x + W.headerSize o ob ≤ length m) × D.Entered o good S m ob x (x + W.headerSize o ob) (le m (x + 4) o)) (λ q. (h, q))
+          (W.admit child o S m b ob x (W.headerTested o S m ob x fit) s)
+          (header-says b (D.Entered o good S m ob x (x + W.headerSize o ob) (le m (x + 4) o)) ob x fit s
+          (open-says b ob x (x + W.headerSize o ob) (le m (x + 4) o) s l))
       by true true false e = refuse-says _ 7 x s (λ z. omega arith)
       by true false v e = refuse-says _ 6 x s (λ z. omega arith)
       by false u v e = refuse-says _ 6 x s (λ z. omega arith)
-  arrive-says b ob (InPlace a n) s l =
-      says-map (D.Entered o good S m ob a n) (Unit {0} × D.Entered o good S m ob a n) (λ q. (tt, q))
-      (W.admit child o S m b ob a (W.fitContent o S m ob a n) s) (open-says b ob a a n s l)
+  arrive-says b ob (InPlace a n) s l = by (W.standsInPlace ob)
+    where
+      by : (t : Bool) → Says (Unit {0} × D.Entered o good S m ob a a n) (W.admit child o S m b ob a (pick t (W.fitContent o S m ob a a n) (Op.Refused 6)) s)
+      by true =
+          says-map (D.Entered o good S m ob a a n) (Unit {0} × D.Entered o good S m ob a a n) (λ q. (tt, q))
+          (W.admit child o S m b ob a (W.fitContent o S m ob a a n) s) (open-says b ob a a n s l)
+      by false = refuse-says _ 6 a s (λ z. omega arith)
 
 pub visit-says : (o : ℕ) (S : Schema) → Sound S → (m : List ℕ) (b : Budget) (d : ℕ) (ob : Object) (p : Place) (s : Spent) → ObjectSound S ob
     → Says (D.ObjectReadable o d S m ob p) (W.visit d o S m b ob p s)
@@ -251,7 +285,7 @@ visit-says o S sound m b zero ob p s l =
     pick-says ⊥ (ltb (s .visits) (b .visits)) (W.refuse 5 (W.placed p) (W.oneMore s)) (W.refuse 4 (W.placed p) s)
     (λ _. refuse-says ⊥ 5 (W.placed p) (W.oneMore s) (λ e. omega arith)) (refuse-says ⊥ 4 (W.placed p) s (λ e. omega arith))
 visit-says o S sound m b (suc d) ob p s l =
-    pick-says (D.HeaderInside o m p × D.Entered o (D.ObjectReadable o d S m) S m ob (D.startOf o p) (D.lengthOf o m p)) (ltb (s .visits) (b .visits))
+    pick-says (D.HeaderInside o m ob p × D.Entered o (D.ObjectReadable o d S m) S m ob (W.placed p) (D.startOf o ob p) (D.lengthOf o m p)) (ltb (s .visits) (b .visits))
     (W.arrive (W.visit d o S m b) o S m b ob p (W.oneMore s)) (W.refuse 4 (W.placed p) s)
     (λ _. arrive-says o S sound m (W.visit d o S m b) (D.ObjectReadable o d S m) (λ ob′ p′ s′ l′. visit-says o S sound m b d ob′ p′ s′ l′) b ob p (W.oneMore s) l)
     (refuse-says _ 4 (W.placed p) s (λ e. omega arith))

@@ -88,7 +88,7 @@ member-at b at k ek l o v eo f =
     let g : k < 13 = omega arith in
     let q : P.elementAt b at ≡ OfFlat (P.flatOf k (P.argumentAt b at)) =
     ap (λ (i : ℕ). P.kindOf i (P.argumentAt b at)) (sym ek)
-    ∙ ap (λ (t : Bool). pick t (OfFlat (P.flatOf k (P.argumentAt b at))) (pick (ltb k 17) (OfObject (P.objectOf k (P.argumentAt b at))) (OfUnion (P.argumentAt b at)))) (lt-ltb k 13 g) in
+    ∙ ap (λ (t : Bool). pick t (OfFlat (P.flatOf k (P.argumentAt b at))) (pick (eqb k 17) (OfUnion (P.argumentAt b at)) (OfObject (P.objectOf k (P.argumentAt b at))))) (lt-ltb k 13 g) in
     ap₂ (λ (x : Kind) (y : Bool). record { kind = x; optional = y; inplace = P.inplaceAt b at }) q (sym eo ∙ f)
 
 module _ (k : ℕ) (h : k < 11) (v : ℕ) (ev : v ≡ P.widthOf k) (w : ℕ) (ew : w ≡ v) where

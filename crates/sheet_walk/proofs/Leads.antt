@@ -12,7 +12,6 @@ use Rattle.coding.specs.Bytes.{le}
 use Rattle.coding.specs.Schema as Sc
 use Rattle.coding.specs.Schema.{Schema}
 use Rattle.coding.specs.Packed as P
-use Rattle.coding.specs.Lawful as W
 use Rattle.coding.specs.Layout as L
 use Rattle.coding.specs.Step as T
 use Rattle.coding.specs.Bits.{bitsOf}
@@ -21,14 +20,9 @@ use Rattle.coding.specs.declared.Kind.{Kind}
 use Rattle.coding.specs.declared.Kind.the-variants.{OfObject, OfUnion}
 use Rattle.coding.specs.declared.Member.{Member}
 use Rattle.coding.specs.declared.Cursor.{Cursor}
-use Rattle.coding.specs.declared.Role.the-variants.{InTable}
 use Rattle.coding.specs.declared.Step.{Step}
 use Rattle.coding.specs.declared.Step.the-variants as St
 use Rattle.laws.specs.Sound.{KindSound}
-use Rattle.laws.specs.Lists.{never}
-use Rattle.laws.specs.Rules.{record-argument, record-of-block, table-ok}
-use Rattle.schema.specs.Directory.{Accepted, Block, accepted-formed}
-use Rattle.schema.specs.Records.{among}
 use Rattle.message_layout.specs.Bounds.{Laid}
 use Rattle.wire.specs.Numbers.{Number}
 use Rattle.message_step.proofs.Inside.{union-counted}
@@ -42,44 +36,14 @@ use Rattle.sheet_walk.proofs.Values.{tested-object, tested-union, value
 use Rattle.sheet_walk.proofs.Parts.{members-opened, members-cons}
 
 -- ---- the kind by its number
--- the kinds of an accepted schema end at 17
-kind-low : (b : List ℕ) (k a : ℕ) → W.argumentOk b k a ≡ true → k < 18
-unfolding W.argumentOk
-kind-low b k a e = by (ltb k 18) refl
-  where
-    by : (t : Bool) → ltb k 18 ≡ t → k < 18
-    by true f = ltb-true _ _ f
-    by false f =
-        let g : 18 ≤ k = ltb-false _ _ f in
-        let h₁ : 11 ≤ k = omega arith in
-        let h₂ : k ≡ 11 → ⊥ = λ q. omega arith in
-        let h₃ : k ≡ 12 → ⊥ = λ q. omega arith in
-        let h₄ : 15 ≤ k = omega arith in
-        let h₅ : k ≡ 15 → ⊥ = λ q. omega arith in
-        let h₆ : k ≡ 16 → ⊥ = λ q. omega arith in
-        let h₇ : k ≡ 17 → ⊥ = λ q. omega arith in
-        never (simp (le-ltb _ _ h₁, ne-eqb _ _ h₂, ne-eqb _ _ h₃, le-ltb _ _ h₄, ne-eqb _ _ h₅, ne-eqb _ _ h₆, ne-eqb _ _ h₇) at e)
-
-pub lead-known : (b dir : List ℕ) → Accepted b dir → (t j : ℕ) → t < P.tableCount b → (count : ℕ) → count ≡ length (Sc.tableOf (P.parse b) t .members) → j < count
-    → (first : ℕ) → Block b 4 (P.tablePlace b t) first → (at : ℕ) → at ≡ P.recordPlace 4 first j → P.kindAt b at < 18
-lead-known b dir a t j l count ec h first bl at e =
-    subst (λ (i : ℕ). P.kindAt b i < 18) (sym (e ∙ ap (λ (i : ℕ). P.recordPlace 4 i j) (bl .is)))
-    (kind-low b (P.kindAt b place) (P.argumentAt b place)
-    (record-argument b InTable place
-    (record-of-block b InTable 4 (P.tablePlace b t) j (table-ok b (accepted-formed b dir a) t l)
-    (subst (λ (i : ℕ). j < P.records b 4 i) (bl .is) (among b t j first l (subst (λ (i : ℕ). j < i) ec h) (bl .is))))))
-  where
-    place : ℕ
-    place = P.recordPlace 4 (P.tablePlace b t) j
-
 module _ (b : List ℕ) (at : ℕ) where
-  object-kind : 12 < P.kindAt b at → P.kindAt b at < 17 → P.memberAt b at .kind ≡ OfObject (P.objectAt b at)
+  object-kind : 12 < P.kindAt b at → (P.kindAt b at ≡ 17 → ⊥) → P.memberAt b at .kind ≡ OfObject (P.objectAt b at)
   unfolding P.memberAt P.elementAt P.kindOf P.objectAt
-  object-kind h l = let g : 13 ≤ P.kindAt b at = omega arith in simp (le-ltb _ _ g, lt-ltb _ _ l)
+  object-kind h l = let g : 13 ≤ P.kindAt b at = omega arith in simp (le-ltb _ _ g, ne-eqb _ _ l)
 
-  union-kind : 17 ≤ P.kindAt b at → P.memberAt b at .kind ≡ OfUnion (P.argumentAt b at)
+  union-kind : P.kindAt b at ≡ 17 → P.memberAt b at .kind ≡ OfUnion (P.argumentAt b at)
   unfolding P.memberAt P.elementAt P.kindOf
-  union-kind h = let g : 13 ≤ P.kindAt b at = omega arith in simp (le-ltb _ _ g, le-ltb _ _ h)
+  union-kind h = let g : 13 ≤ P.kindAt b at = omega arith in simp (le-ltb _ _ g, eq-eqb _ _ h)
 
   inplace-is : P.memberAt b at .inplace ≡ P.inplaceAt b at
   unfolding P.memberAt
@@ -170,12 +134,12 @@ module _ (o k : ℕ) (t : Bool) (et : t ≡ eqb k 17) where
     pub object-inside : t ≡ false → start + end + o ≤ c
     object-inside h = omega (arith, ew, width-object h, fits, l)
 
-module _ (o : ℕ) (b : List ℕ) (at k : ℕ) (ek : k ≡ P.kindAt b at) (low : 12 < P.kindAt b at) (high : P.kindAt b at < 18) where
+module _ (o : ℕ) (b : List ℕ) (at k : ℕ) (ek : k ≡ P.kindAt b at) (low : 12 < P.kindAt b at) where
   of-object : (k ≡ 17 → ⊥) → P.memberAt b at .kind ≡ OfObject (P.objectAt b at)
-  of-object h = object-kind b at low (omega (arith, h))
+  of-object h = object-kind b at low (λ e. h (ek ∙ e))
 
   of-union : k ≡ 17 → P.memberAt b at .kind ≡ OfUnion (P.argumentAt b at)
-  of-union h = union-kind b at (omega arith)
+  of-union h = union-kind b at (sym ek ∙ h)
 
   leads : Leads o (P.parse b) (P.memberAt b at .kind) (A.leadWidth o k)
   unfolding A.leadWidth
@@ -254,7 +218,7 @@ module _ (b : List ℕ) (at k : ℕ) (ek : k ≡ P.kindAt b at) where
       → u < P.unionCount b
   lead-counted t et h sound a u ea eu =
       let e = eqb-true k 17 (sym et ∙ h) in
-      union-counted b (P.memberAt b at .kind) (P.argumentAt b at) u sound (union-kind b at (omega arith)) (eu ∙ ea)
+      union-counted b (P.memberAt b at .kind) (P.argumentAt b at) u sound (union-kind b at (sym ek ∙ e)) (eu ∙ ea)
 
   -- a kind that is not flat
   pub lead-above : (t : Bool) → t ≡ ltb k 13 → not t ≡ true → 12 < P.kindAt b at

@@ -12,3 +12,4 @@ pub mod Runs
 pub mod CodedMembers
 pub mod CodedWays
 pub mod Leads
+pub mod Directs

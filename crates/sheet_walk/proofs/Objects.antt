@@ -2,8 +2,9 @@
 use mathlib.Core.Path.{_≡_, refl, sym, ap, ap₂, _∙_, subst}
 use mathlib.Core.Bool.{Bool, true, false}
 use mathlib.Core.List.{List, _++_}
-use Prim.Native.Nat.{ℕ, zero, suc, _+_, _-_, _*_, _<_, _≤_}
+use Prim.Native.Nat.{ℕ, zero, suc, _+_, _-_, _*_, _^_, _<_, _≤_}
 use native.Mathlib.Omega.{arith}
+use native.Mathlib.Nat.{mul-comm}
 use native.Mathlib.Numerals.{sub-one}
 use lib.ListN.{length, take, drop}
 use Rattle.coding.specs.Bytes.{le}
@@ -45,16 +46,41 @@ use Rattle.sheet_walk.specs.Readable as D
 use Rattle.sheet_walk.specs.Stepping.{MemberAt, isHere}
 
 -- ---- places
-pub header-is : (o r : ℕ) → r ≡ 4 + o → r ≡ W.headerSize o
-unfolding W.headerSize
-header-is o r e = e
+module _ (o : ℕ) (ob : Object) (r : ℕ) where
+  pub header-text : ob ≡ O.Text → r ≡ 4 + o → r ≡ W.headerSize o ob
+  unfolding W.headerSize
+  header-text e h = rw e h
 
-module _ (o : ℕ) (m : List ℕ) (p : Place) where
-  pub start-offset : (x h : ℕ) → p ≡ ByOffset x → h ≡ W.headerSize o → x + h ≡ D.startOf o p
+  pub header-bytes : ob ≡ O.Bytes → r ≡ 4 + o → r ≡ W.headerSize o ob
+  unfolding W.headerSize
+  header-bytes e h = rw e h
+
+  pub header-list : (i : ℕ) → ob ≡ O.List i → r ≡ 4 + o → r ≡ W.headerSize o ob
+  unfolding W.headerSize
+  header-list i e h = rw e h
+
+  pub header-table : (i : ℕ) → ob ≡ O.Table i → r ≡ 4 + o → r ≡ W.headerSize o ob
+  unfolding W.headerSize
+  header-table i e h = rw e h
+
+  pub header-direct : (t : ℕ) → ob ≡ O.DirectList t → r ≡ 4 + o + 8 → r ≡ W.headerSize o ob
+  unfolding W.headerSize
+  header-direct t e h = rw e h
+
+header-least : (o : ℕ) (ob : Object) → 4 + o ≤ W.headerSize o ob
+unfolding W.headerSize
+header-least o O.Text = omega arith
+header-least o O.Bytes = omega arith
+header-least o (O.List i) = omega arith
+header-least o (O.Table i) = omega arith
+header-least o (O.DirectList t) = omega arith
+
+module _ (o : ℕ) (m : List ℕ) (ob : Object) (p : Place) where
+  pub start-offset : (x h : ℕ) → p ≡ ByOffset x → h ≡ W.headerSize o ob → x + h ≡ D.startOf o ob p
   unfolding D.startOf
   start-offset x h e eh = rw e (ap (λ (i : ℕ). x + i) eh)
 
-  pub start-inplace : (a n : ℕ) → p ≡ InPlace a n → a ≡ D.startOf o p
+  pub start-inplace : (a n : ℕ) → p ≡ InPlace a n → a ≡ D.startOf o ob p
   unfolding D.startOf
   start-inplace a n e = rw e
 
@@ -66,9 +92,19 @@ module _ (o : ℕ) (m : List ℕ) (p : Place) where
   unfolding D.lengthOf
   length-inplace a n e = rw e
 
-  pub header-inside : (x h : ℕ) → p ≡ ByOffset x → h ≡ W.headerSize o → D.HeaderInside o m p → (x + h ≤ length m) × (h ≡ 4 + o)
-  unfolding D.HeaderInside W.headerSize
-  header-inside x h e eh l = (let g : x + (4 + o) ≤ length m = subst (D.HeaderInside o m) e l in omega arith, eh)
+  pub header-inside : (x h : ℕ) → p ≡ ByOffset x → h ≡ W.headerSize o ob → D.HeaderInside o m ob p → (x + h ≤ length m) × (4 + o ≤ h)
+  unfolding D.HeaderInside
+  header-inside x h e eh l =
+      (let g : x + W.headerSize o ob ≤ length m = subst (D.HeaderInside o m ob) e l in omega arith, omega (arith, header-least o ob, eh))
+
+  -- where it stands, if some content behind that lies within the message
+  placed-within : (c : ℕ) → D.startOf o ob p + c ≤ length m → W.placed p ≤ length m
+  unfolding D.startOf W.placed
+  placed-within c h = by p h
+    where
+      by : (q : Place) → D.startOf o ob q + c ≤ length m → W.placed q ≤ length m
+      by (ByOffset x) l = omega arith
+      by (InPlace a n) l = omega arith
 
 -- ---- one member
 here-true : (g : Reach) → isHere g ≡ true → g ≡ Here
@@ -171,37 +207,44 @@ unfolding A.objectAt E.encode
 object-none o d S m ob place out p e g = rw e (puts-none out p (g .most))
 
 module _ (o d : ℕ) (S : Schema) (m : List ℕ) (ob : Object) (place : Place) (h : D.ObjectReadable o d S m ob place) (l : d ≡ 0 → ⊥) where
-  pub header-there : D.HeaderInside o m place
+  pub header-there : D.HeaderInside o m ob place
   unfolding D.ObjectReadable
   header-there = by d h l
     where
-      by : (k : ℕ) → D.ObjectReadable o k S m ob place → (k ≡ 0 → ⊥) → D.HeaderInside o m place
+      by : (k : ℕ) → D.ObjectReadable o k S m ob place → (k ≡ 0 → ⊥) → D.HeaderInside o m ob place
       by zero q f = absurd (f refl)
       by (suc k) q f = q .0
 
-  pub content-readable : (start n : ℕ) → start ≡ D.startOf o place → n ≡ D.lengthOf o m place → D.Entered o (D.ObjectReadable o (d - 1) S m) S m ob start n
+  pub content-readable : (at start n : ℕ) → at ≡ W.placed place → start ≡ D.startOf o ob place → n ≡ D.lengthOf o m place
+      → D.Entered o (D.ObjectReadable o (d - 1) S m) S m ob at start n
   unfolding D.ObjectReadable
-  content-readable start n es en = by d h l
+  content-readable at start n ea es en = by d h l
     where
-      by : (k : ℕ) → D.ObjectReadable o k S m ob place → (k ≡ 0 → ⊥) → D.Entered o (D.ObjectReadable o (k - 1) S m) S m ob start n
+      by : (k : ℕ) → D.ObjectReadable o k S m ob place → (k ≡ 0 → ⊥) → D.Entered o (D.ObjectReadable o (k - 1) S m) S m ob at start n
       by zero q f = absurd (f refl)
-      by (suc k) q f = rw (sub-one, es, en) (q .1)
+      by (suc k) q f = rw (sub-one, ea, es, en) (q .1)
 
-pub object-same : (o d : ℕ) (S : Schema) (m : List ℕ) (ob : Object) (place : Place) (start n : ℕ) → (d ≡ 0 → ⊥) → start ≡ D.startOf o place → n ≡ D.lengthOf o m place
-    → A.contentAt o (d - 1) S m ob start n ≡ A.objectAt o d S m ob place
-unfolding A.contentAt A.objectAt E.encode R.read R.placeRead D.startOf D.lengthOf
-object-same o zero S m ob place start n f es en = absurd (f refl)
-object-same o (suc d) S m ob place start n f es en =
-    ap (λ (k : ℕ). A.contentAt o k S m ob start n) (sub-one (suc d)) ∙ ap₂ (λ (a c : ℕ). A.contentAt o d S m ob a c) es en ∙ by place
+  pub placed-low : length m ≤ 16777215 → (at : ℕ) → at ≡ W.placed place → at < 2 ^ 60
+  placed-low short at ea =
+      let e = content-readable (W.placed place) (D.startOf o ob place) (D.lengthOf o m place) refl refl refl .inside in
+      let z = placed-within o m ob place (W.contentSize o S m ob (W.placed place) (D.lengthOf o m place)) e in omega arith
+
+pub object-same : (o d : ℕ) (S : Schema) (m : List ℕ) (ob : Object) (place : Place) (at start n : ℕ) → (d ≡ 0 → ⊥) → at ≡ W.placed place → start ≡ D.startOf o ob place
+    → n ≡ D.lengthOf o m place → A.contentAt o (d - 1) S m ob at start n ≡ A.objectAt o d S m ob place
+unfolding A.contentAt A.objectAt E.encode R.read R.placeRead W.placed D.startOf D.lengthOf
+object-same o zero S m ob place at start n f ea es en = absurd (f refl)
+object-same o (suc d) S m ob place at start n f ea es en =
+    ap (λ (k : ℕ). A.contentAt o k S m ob at start n) (sub-one (suc d)) ∙ ap (λ (k : ℕ). A.contentAt o d S m ob k start n) ea
+    ∙ ap₂ (λ (a c : ℕ). A.contentAt o d S m ob (W.placed place) a c) es en ∙ by place
   where
-    by : (pl : Place) → A.contentAt o d S m ob (D.startOf o pl) (D.lengthOf o m pl) ≡ A.objectAt o (suc d) S m ob pl
+    by : (pl : Place) → A.contentAt o d S m ob (W.placed pl) (D.startOf o ob pl) (D.lengthOf o m pl) ≡ A.objectAt o (suc d) S m ob pl
     by (ByOffset x) = refl
     by (InPlace a c) = refl
 
-pub object-content : (o d : ℕ) (S : Schema) (m : List ℕ) (ob : Object) (place : Place) (out out₁ : List ℕ) (p q start n : ℕ) → (d ≡ 0 → ⊥) → start ≡ D.startOf o place
-    → n ≡ D.lengthOf o m place → Puts out p (A.contentAt o (d - 1) S m ob start n) out₁ q → Puts out p (A.objectAt o d S m ob place) out₁ q
-object-content o d S m ob place out out₁ p q start n f es en h =
-    puts-same out out₁ p q (A.contentAt o (d - 1) S m ob start n) (A.objectAt o d S m ob place) (object-same o d S m ob place start n f es en) h
+pub object-content : (o d : ℕ) (S : Schema) (m : List ℕ) (ob : Object) (place : Place) (out out₁ : List ℕ) (p q at start n : ℕ) → (d ≡ 0 → ⊥) → at ≡ W.placed place
+    → start ≡ D.startOf o ob place → n ≡ D.lengthOf o m place → Puts out p (A.contentAt o (d - 1) S m ob at start n) out₁ q → Puts out p (A.objectAt o d S m ob place) out₁ q
+object-content o d S m ob place out out₁ p q at start n f ea es en h =
+    puts-same out out₁ p q (A.contentAt o (d - 1) S m ob at start n) (A.objectAt o d S m ob place) (object-same o d S m ob place at start n f ea es en) h
 
 -- ---- content by the object
 elements-count : (o : ℕ) (child : R.Child) (S : Schema) (m : List ℕ) (start : ℕ) (k : Kind) (n i : ℕ) → Tree.count (R.elementsRead child o S m start k n i) ≡ n
@@ -209,48 +252,66 @@ unfolding Tree.count R.elementsRead
 elements-count o child S m start k zero i = refl
 elements-count o child S m start k (suc n) i = ap suc (elements-count o child S m start k n (i + 1))
 
-module _ (o d : ℕ) (S : Schema) (m : List ℕ) (ob : Object) (start n : ℕ) (out out₁ : List ℕ) (p q : ℕ) where
-  pub content-text : ob ≡ O.Text → Puts out p (E.blobBits (take n (drop start m))) out₁ q → Puts out p (A.contentAt o d S m ob start n) out₁ q
+directs-count : (child : R.Child) (t w n at : ℕ) → Tree.count (R.directsRead child t w n at) ≡ n
+unfolding Tree.count R.directsRead
+directs-count child t w zero at = refl
+directs-count child t w (suc n) at = ap suc (directs-count child t w n (at + w))
+
+module _ (o d : ℕ) (S : Schema) (m : List ℕ) (ob : Object) (at start n : ℕ) (out out₁ : List ℕ) (p q : ℕ) where
+  pub content-text : ob ≡ O.Text → Puts out p (E.blobBits (take n (drop start m))) out₁ q → Puts out p (A.contentAt o d S m ob at start n) out₁ q
   unfolding A.contentAt E.contentBits R.contentRead Tree.asBlob
   content-text e h = rw e h
 
-  pub content-bytes : ob ≡ O.Bytes → Puts out p (E.blobBits (take n (drop start m))) out₁ q → Puts out p (A.contentAt o d S m ob start n) out₁ q
+  pub content-bytes : ob ≡ O.Bytes → Puts out p (E.blobBits (take n (drop start m))) out₁ q → Puts out p (A.contentAt o d S m ob at start n) out₁ q
   unfolding A.contentAt E.contentBits R.contentRead Tree.asBlob
   content-bytes e h = rw e h
 
   module _ (i j : ℕ) (ej : j ≡ i) where
-    pub content-table : ob ≡ O.Table i → Puts out p (A.membersAt o d S m start n L.begin (Sc.tableOf S j .members)) out₁ q → Puts out p (A.contentAt o d S m ob start n) out₁ q
+    pub content-table : ob ≡ O.Table i → Puts out p (A.membersAt o d S m start n L.begin (Sc.tableOf S j .members)) out₁ q → Puts out p (A.contentAt o d S m ob at start n) out₁ q
     unfolding A.contentAt E.contentBits R.contentRead Tree.asRow A.membersAt
     content-table e h =
         rw e
         (subst (λ (v : ℕ). Puts out p (E.membersBits (E.encode d S) S (Sc.tableOf S v .members) (R.membersRead (R.read d o S m) o S m start n L.begin (Sc.tableOf S v .members))) out₁ q) ej h)
 
-    list-same : A.listAt o d S m (Sc.elementOf S i) start n ≡ A.contentAt o d S m (O.List i) start n
+    list-same : A.listAt o d S m (Sc.elementOf S i) start n ≡ A.contentAt o d S m (O.List i) at start n
     unfolding A.contentAt E.contentBits R.contentRead Tree.asRow A.listAt A.elementsAt
     list-same =
         ap (λ (v : ℕ). bitsOf 32 v ++ E.elementsBits (E.encode d S) S (Sc.elementOf S i) (R.elementsRead (R.read d o S m) o S m start (Sc.elementOf S i) n 0))
         (sym (elements-count o (R.read d o S m) S m start (Sc.elementOf S i) n 0))
 
-    pub content-list : ob ≡ O.List i → Puts out p (A.listAt o d S m (Sc.elementOf S j) start n) out₁ q → Puts out p (A.contentAt o d S m ob start n) out₁ q
+    pub content-list : ob ≡ O.List i → Puts out p (A.listAt o d S m (Sc.elementOf S j) start n) out₁ q → Puts out p (A.contentAt o d S m ob at start n) out₁ q
     content-list e h =
-        subst (λ (v : Object). Puts out p (A.contentAt o d S m v start n) out₁ q) (sym e)
-        (puts-same out out₁ p q (A.listAt o d S m (Sc.elementOf S i) start n) (A.contentAt o d S m (O.List i) start n) list-same
+        subst (λ (v : Object). Puts out p (A.contentAt o d S m v at start n) out₁ q) (sym e)
+        (puts-same out out₁ p q (A.listAt o d S m (Sc.elementOf S i) start n) (A.contentAt o d S m (O.List i) at start n) list-same
         (subst (λ (v : ℕ). Puts out p (A.listAt o d S m (Sc.elementOf S v) start n) out₁ q) ej h))
 
+  module _ (i : ℕ) where
+    direct-same : A.directAt o d S m i (W.elementSize o m at) n start ≡ A.contentAt o d S m (O.DirectList i) at start n
+    unfolding A.contentAt E.contentBits R.contentRead Tree.asRow A.directAt A.directsAt
+    direct-same =
+        ap (λ (v : ℕ). bitsOf 32 v ++ E.directsBits (E.encode d S) i (R.directsRead (R.read d o S m) i (W.elementSize o m at) n start))
+        (sym (directs-count (R.read d o S m) i (W.elementSize o m at) n start))
+
+    pub content-direct : ob ≡ O.DirectList i → (w : ℕ) → w ≡ W.elementSize o m at → Puts out p (A.directAt o d S m i w n start) out₁ q
+        → Puts out p (A.contentAt o d S m ob at start n) out₁ q
+    content-direct e w ew h =
+        puts-same out out₁ p q (A.directAt o d S m i w n start) (A.contentAt o d S m ob at start n)
+        (ap (λ (v : ℕ). A.directAt o d S m i v n start) ew ∙ direct-same ∙ ap (λ (v : Object). A.contentAt o d S m v at start n) (sym e)) h
+
 -- what an object's content gives to its list or table
-module _ (o : ℕ) (child : D.Child) (b m : List ℕ) (ob : Object) (start n : ℕ) (h : D.Entered o child (P.parse b) m ob start n) (i j : ℕ) (ej : j ≡ i) where
+module _ (o : ℕ) (child : D.Child) (b m : List ℕ) (ob : Object) (at start n : ℕ) (h : D.Entered o child (P.parse b) m ob at start n) (i j : ℕ) (ej : j ≡ i) where
   pub table-counted : ob ≡ O.Table i → j < P.tableCount b
   table-counted e = rw ej (table-index b i (subst (ObjectSound (P.parse b)) e (h .sound)))
 
   pub table-inside : ob ≡ O.Table i → start + n ≤ length m
   unfolding W.contentSize
-  table-inside e = subst (λ (v : Object). start + W.contentSize o (P.parse b) v n ≤ length m) e (h .inside)
+  table-inside e = subst (λ (v : Object). start + W.contentSize o (P.parse b) m v at n ≤ length m) e (h .inside)
 
   pub table-readable : ob ≡ O.Table i → D.MembersReadable o child (P.parse b) m start n L.begin (Sc.tableOf (P.parse b) j .members)
   unfolding D.ContentReadable
   table-readable e =
       subst (λ (v : ℕ). D.MembersReadable o child (P.parse b) m start n L.begin (Sc.tableOf (P.parse b) v .members)) (sym ej)
-      (subst (λ (v : Object). D.ContentReadable o child (P.parse b) m v start n) e (h .parts))
+      (subst (λ (v : Object). D.ContentReadable o child (P.parse b) m v at start n) e (h .parts))
 
   pub list-counted : ob ≡ O.List i → j < P.listCount b
   list-counted e = rw ej (list-index b i (subst (ObjectSound (P.parse b)) e (h .sound)))
@@ -259,10 +320,23 @@ module _ (o : ℕ) (child : D.Child) (b m : List ℕ) (ob : Object) (start n : �
   unfolding W.contentSize
   list-inside e =
       subst (λ (v : ℕ). start + T.elementsSize o (P.parse b) (Sc.elementOf (P.parse b) v) n ≤ length m) (sym ej)
-      (subst (λ (v : Object). start + W.contentSize o (P.parse b) v n ≤ length m) e (h .inside))
+      (subst (λ (v : Object). start + W.contentSize o (P.parse b) m v at n ≤ length m) e (h .inside))
 
   pub list-readable : ob ≡ O.List i → D.ElementsReadable o child (P.parse b) m (Sc.elementOf (P.parse b) j) start n 0
   unfolding D.ContentReadable
   list-readable e =
       subst (λ (v : ℕ). D.ElementsReadable o child (P.parse b) m (Sc.elementOf (P.parse b) v) start n 0) (sym ej)
-      (subst (λ (v : Object). D.ContentReadable o child (P.parse b) m v start n) e (h .parts))
+      (subst (λ (v : Object). D.ContentReadable o child (P.parse b) m v at start n) e (h .parts))
+
+-- what a direct list's content gives to its elements, of w bytes each
+module _ (o : ℕ) (child : D.Child) (b m : List ℕ) (ob : Object) (at start n : ℕ) (h : D.Entered o child (P.parse b) m ob at start n) (i w : ℕ) (ew : w ≡ W.elementSize o m at) where
+  pub direct-inside : ob ≡ O.DirectList i → start + w * n ≤ length m
+  unfolding W.contentSize
+  direct-inside e =
+      let l : start + n * W.elementSize o m at ≤ length m = subst (λ (v : Object). start + W.contentSize o (P.parse b) m v at n ≤ length m) e (h .inside) in
+      subst (λ (v : ℕ). start + v ≤ length m) (ap (λ (v : ℕ). n * v) (sym ew) ∙ mul-comm n w) l
+
+  pub direct-readable : ob ≡ O.DirectList i → D.DirectsReadable child i w n start
+  unfolding D.ContentReadable
+  direct-readable e =
+      subst (λ (v : ℕ). D.DirectsReadable child i v n start) (sym ew) (subst (λ (v : Object). D.ContentReadable o child (P.parse b) m v at start n) e (h .parts))

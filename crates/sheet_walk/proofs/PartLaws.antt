@@ -77,20 +77,21 @@ struct-mark : (S : Schema) (m : List ℕ) (i at w : ℕ) (body : Value → List 
 unfolding R.structRead byIndex R.readBy E.markBits
 struct-mark S m i at w body = refl
 
-content-mark : (o : ℕ) (child : R.Child) (S : Schema) (m : List ℕ) (ob : Object) (start n w : ℕ) (body : Value → List ℕ)
-    → E.markBits w body (R.contentRead child o S m ob start n) ≡ bitsOf 2 1 ++ body (R.contentRead child o S m ob start n)
+content-mark : (o : ℕ) (child : R.Child) (S : Schema) (m : List ℕ) (ob : Object) (at start n w : ℕ) (body : Value → List ℕ)
+    → E.markBits w body (R.contentRead child o S m ob at start n) ≡ bitsOf 2 1 ++ body (R.contentRead child o S m ob at start n)
 unfolding R.contentRead E.markBits
-content-mark o child S m O.Text start n w body = refl
-content-mark o child S m O.Bytes start n w body = refl
-content-mark o child S m (O.List i) start n w body = refl
-content-mark o child S m (O.Table i) start n w body = refl
+content-mark o child S m O.Text at start n w body = refl
+content-mark o child S m O.Bytes at start n w body = refl
+content-mark o child S m (O.List i) at start n w body = refl
+content-mark o child S m (O.Table i) at start n w body = refl
+content-mark o child S m (O.DirectList t) at start n w body = refl
 
 object-mark : (o d : ℕ) (S : Schema) (m : List ℕ) (ob : Object) (p : Place) → ObjectReadable o d S m ob p → (w : ℕ) (body : Value → List ℕ)
     → E.markBits w body (R.read d o S m ob p) ≡ bitsOf 2 1 ++ body (R.read d o S m ob p)
 unfolding R.read R.placeRead ObjectReadable
 object-mark o zero S m ob p h w body = absurd h
-object-mark o (suc d) S m ob (ByOffset x) h w body = content-mark o (R.read d o S m) S m ob (x + Rattle.coding.specs.Walk.headerSize o) (le m (x + 4) o) w body
-object-mark o (suc d) S m ob (InPlace a n) h w body = content-mark o (R.read d o S m) S m ob a n w body
+object-mark o (suc d) S m ob (ByOffset x) h w body = content-mark o (R.read d o S m) S m ob x (x + Rattle.coding.specs.Walk.headerSize o ob) (le m (x + 4) o) w body
+object-mark o (suc d) S m ob (InPlace a n) h w body = content-mark o (R.read d o S m) S m ob a a n w body
 
 -- ---- steps
 module _ (o d : ℕ) (S : Schema) (m : List ℕ) where

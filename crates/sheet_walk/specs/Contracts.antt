@@ -45,8 +45,8 @@ choiceBits o d b m u inplace tail c x = A.choiceAt o d (parse b) m u inplace tai
 abbrev pub objectBits : ℕ → ℕ → List ℕ → List ℕ → Object → Place → List ℕ
 objectBits o d b m ob p = A.objectAt o d (parse b) m ob p
 
-abbrev pub contentBits : ℕ → ℕ → List ℕ → List ℕ → Object → ℕ → ℕ → List ℕ
-contentBits o d b m ob start n = A.contentAt o d (parse b) m ob start n
+abbrev pub contentBits : ℕ → ℕ → List ℕ → List ℕ → Object → ℕ → ℕ → ℕ → List ℕ
+contentBits o d b m ob at start n = A.contentAt o d (parse b) m ob at start n
 
 abbrev pub tableBits : ℕ → ℕ → List ℕ → List ℕ → ℕ → ℕ → ℕ → List ℕ
 tableBits o d b m t start n = A.membersAt o d (parse b) m start n begin (tableOf (parse b) t .members)
@@ -57,6 +57,9 @@ listBits o d b m i start n = A.listAt o d (parse b) m (elementOf (parse b) i) st
 abbrev pub elementsBits : ℕ → ℕ → List ℕ → List ℕ → Kind → ℕ → ℕ → List ℕ
 elementsBits o d b m k start n = A.elementsAt o d (parse b) m k start n 0
 
+abbrev pub directBits : ℕ → ℕ → List ℕ → List ℕ → ℕ → ℕ → ℕ → ℕ → List ℕ
+directBits o d b m t w n at = A.directAt o d (parse b) m t w n at
+
 abbrev pub rootBits : ℕ → List ℕ → List ℕ → List ℕ
 rootBits o b m = A.rootAt o (parse b) m
 
@@ -64,8 +67,8 @@ rootBits o b m = A.rootAt o (parse b) m
 abbrev pub ObjectReadable : ℕ → ℕ → List ℕ → List ℕ → Object → Place → Type 0
 ObjectReadable o d b m ob p = D.ObjectReadable o d (parse b) m ob p
 
-abbrev pub ContentReadable : ℕ → ℕ → List ℕ → List ℕ → Object → ℕ → ℕ → Type 0
-ContentReadable o d b m ob start n = D.Entered o (D.ObjectReadable o d (parse b) m) (parse b) m ob start n
+abbrev pub ContentReadable : ℕ → ℕ → List ℕ → List ℕ → Object → ℕ → ℕ → ℕ → Type 0
+ContentReadable o d b m ob at start n = D.Entered o (D.ObjectReadable o d (parse b) m) (parse b) m ob at start n
 
 abbrev pub StepReadable : ℕ → ℕ → List ℕ → List ℕ → Step → Type 0
 StepReadable o d b m s = D.StepReadable (D.ObjectReadable o d (parse b) m) (parse b) m s
@@ -84,6 +87,9 @@ ListReadable o d b m i start n = ElementsReadable o d b m (elementOf (parse b) i
 
 abbrev pub ListInside : ℕ → List ℕ → List ℕ → ℕ → ℕ → ℕ → Type 0
 ListInside o b m i start n = start + elementsSize o (parse b) (elementOf (parse b) i) n ≤ length m
+
+abbrev pub DirectsReadable : ℕ → ℕ → List ℕ → List ℕ → ℕ → ℕ → ℕ → ℕ → Type 0
+DirectsReadable o d b m t w n at = D.DirectsReadable (D.ObjectReadable o d (parse b) m) t w n at
 
 abbrev pub MessageReadable : ℕ → List ℕ → List ℕ → Type 0
 MessageReadable o b m = D.MessageReadable o (parse b) m

@@ -43,8 +43,9 @@ fieldsAt S m ks at = E.fieldsBits (E.structBits S) ks (R.fieldsRead (R.structRea
 unfoldable pub objectAt : ℕ → ℕ → Schema → List ℕ → Object → Place → List ℕ
 objectAt o d S m ob p = E.encode d S ob (R.read d o S m ob p)
 
-unfoldable pub contentAt : ℕ → ℕ → Schema → List ℕ → Object → ℕ → ℕ → List ℕ
-contentAt o d S m ob start n = E.contentBits (E.encode d S) S ob (R.contentRead (R.read d o S m) o S m ob start n)
+-- of the object at a place
+unfoldable pub contentAt : ℕ → ℕ → Schema → List ℕ → Object → ℕ → ℕ → ℕ → List ℕ
+contentAt o d S m ob at start n = E.contentBits (E.encode d S) S ob (R.contentRead (R.read d o S m) o S m ob at start n)
 
 unfoldable pub membersAt : ℕ → ℕ → Schema → List ℕ → ℕ → ℕ → Cursor → List Member → List ℕ
 membersAt o d S m start n c rs = E.membersBits (E.encode d S) S rs (R.membersRead (R.read d o S m) o S m start n c rs)
@@ -52,6 +53,10 @@ membersAt o d S m start n c rs = E.membersBits (E.encode d S) S rs (R.membersRea
 -- n elements from element i on
 unfoldable pub elementsAt : ℕ → ℕ → Schema → List ℕ → Kind → ℕ → ℕ → ℕ → List ℕ
 elementsAt o d S m k start n i = E.elementsBits (E.encode d S) S k (R.elementsRead (R.read d o S m) o S m start k n i)
+
+-- n elements of a direct list of table t, each of w bytes, the first at a place
+unfoldable pub directsAt : ℕ → ℕ → Schema → List ℕ → ℕ → ℕ → ℕ → ℕ → List ℕ
+directsAt o d S m t w n at = E.directsBits (E.encode d S) t (R.directsRead (R.read d o S m) t w n at)
 
 -- ---- a member's or element's mark, and what follows it
 -- the bits of a value that leads nowhere
@@ -107,9 +112,9 @@ unfoldable pub choiceAt : ℕ → ℕ → Schema → List ℕ → ℕ → Bool �
 choiceAt o d S m u inplace tail c x = stepAt o d S m (OfUnion u) (unionStep (casesOf S u) inplace tail c x)
 
 -- a text or bytes, by its reference or, in place, its length x
-unfoldable pub blobReferenceAt : ℕ → List ℕ → Bool → ℕ → ℕ → List ℕ
-blobReferenceAt o m inplace tail x =
-    pick (eqb x 0) (bitsOf 2 0) (blobAt m (startOf o (placeOf inplace tail x)) (lengthOf o m (placeOf inplace tail x)))
+unfoldable pub blobReferenceAt : ℕ → List ℕ → Object → Bool → ℕ → ℕ → List ℕ
+blobReferenceAt o m ob inplace tail x =
+    pick (eqb x 0) (bitsOf 2 0) (blobAt m (startOf o ob (placeOf inplace tail x)) (lengthOf o m (placeOf inplace tail x)))
 
 -- ---- members by their records, where the cursor stands in a fixed part that has n bytes from `start`
 -- where an optional integer stands behind its flag; at the fixed part's end, if the flag says that there is none
@@ -163,6 +168,10 @@ flatsAt m (F.Struct i) n at = []
 -- a list's count and its n elements
 unfoldable pub listAt : ℕ → ℕ → Schema → List ℕ → Kind → ℕ → ℕ → List ℕ
 listAt o d S m k start n = bitsOf 32 n ++ elementsAt o d S m k start n 0
+
+-- a direct list's count and its n elements, the first at a place
+unfoldable pub directAt : ℕ → ℕ → Schema → List ℕ → ℕ → ℕ → ℕ → ℕ → List ℕ
+directAt o d S m t w n at = bitsOf 32 n ++ directsAt o d S m t w n at
 
 -- ---- the whole sheet
 unfoldable pub rootAt : ℕ → Schema → List ℕ → List ℕ

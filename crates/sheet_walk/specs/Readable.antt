@@ -10,7 +10,7 @@ use Rattle.coding.specs.Schema.{Schema, elementOf, tableOf}
 use Rattle.coding.specs.Structs.{structSize, structOk, flatWidth}
 use Rattle.coding.specs.Layout.{begin, afterMember}
 use Rattle.coding.specs.Step.{memberStep, elementStep}
-use Rattle.coding.specs.Walk.{headerSize, startSize, contentSize, rootPlace}
+use Rattle.coding.specs.Walk.{placed, headerSize, elementSize, startSize, contentSize, rootPlace}
 use Rattle.coding.specs.declared.Flat.{Flat}
 use Rattle.coding.specs.declared.Flat.the-variants as F
 use Rattle.coding.specs.declared.Object.{Object}
@@ -26,22 +26,22 @@ use Rattle.coding.specs.declared.Step.the-variants as St
 use Rattle.laws.specs.Sound.{ObjectSound}
 
 -- ---- an object's content by its place
-unfoldable pub startOf : ℕ → Place → ℕ
-startOf o (ByOffset x) = x + headerSize o
-startOf o (InPlace a n) = a
+unfoldable pub startOf : ℕ → Object → Place → ℕ
+startOf o ob (ByOffset x) = x + headerSize o ob
+startOf o ob (InPlace a n) = a
 
 unfoldable pub lengthOf : ℕ → List ℕ → Place → ℕ
 lengthOf o m (ByOffset x) = le m (x + 4) o
 lengthOf o m (InPlace a n) = n
 
 -- the header lies within the message
-unfoldable pub HeaderInside : ℕ → List ℕ → Place → Type 0
-HeaderInside o m (ByOffset x) = x + headerSize o ≤ length m
-HeaderInside o m (InPlace a n) = Unit {0}
+unfoldable pub HeaderInside : ℕ → List ℕ → Object → Place → Type 0
+HeaderInside o m ob (ByOffset x) = x + headerSize o ob ≤ length m
+HeaderInside o m ob (InPlace a n) = Unit {0}
 
 -- a text or bytes lies within it too, with its header
-unfoldable pub BlobInside : ℕ → List ℕ → Place → Type 0
-BlobInside o m p = HeaderInside o m p × (startOf o p + lengthOf o m p ≤ length m)
+unfoldable pub BlobInside : ℕ → List ℕ → Object → Place → Type 0
+BlobInside o m ob p = HeaderInside o m ob p × (startOf o ob p + lengthOf o m p ≤ length m)
 
 -- ---- by the step
 abbrev pub Child : Type 1
@@ -85,23 +85,30 @@ ElementsReadable o child S m k start zero i = Unit {0}
 ElementsReadable o child S m k start (suc n) i =
     StepReadable child S m (elementStep o S m k start i) × ElementsReadable o child S m k start n (i + 1)
 
-unfoldable pub ContentReadable : ℕ → Child → Schema → List ℕ → Object → ℕ → ℕ → Type 0
-ContentReadable o child S m O.Text start n = Unit {0}
-ContentReadable o child S m O.Bytes start n = Unit {0}
-ContentReadable o child S m (O.List i) start n = ElementsReadable o child S m (elementOf S i) start n 0
-ContentReadable o child S m (O.Table i) start n = MembersReadable o child S m start n begin (tableOf S i .members)
+-- n elements of a direct list of table t, each of w bytes, the first at a place
+unfoldable pub DirectsReadable : Child → ℕ → ℕ → ℕ → ℕ → Type 0
+DirectsReadable child t w zero at = Unit {0}
+DirectsReadable child t w (suc n) at = child (O.Table t) (InPlace at w) × DirectsReadable child t w n (at + w)
 
--- an object with its content
-pub record Entered (o : ℕ) (child : Child) (S : Schema) (m : List ℕ) (ob : Object) (start n : ℕ) : Type 0 where
+-- the content of the object at a place
+unfoldable pub ContentReadable : ℕ → Child → Schema → List ℕ → Object → ℕ → ℕ → ℕ → Type 0
+ContentReadable o child S m O.Text at start n = Unit {0}
+ContentReadable o child S m O.Bytes at start n = Unit {0}
+ContentReadable o child S m (O.List i) at start n = ElementsReadable o child S m (elementOf S i) start n 0
+ContentReadable o child S m (O.Table i) at start n = MembersReadable o child S m start n begin (tableOf S i .members)
+ContentReadable o child S m (O.DirectList t) at start n = DirectsReadable child t (elementSize o m at) n start
+
+-- the object at a place with its content
+pub record Entered (o : ℕ) (child : Child) (S : Schema) (m : List ℕ) (ob : Object) (at start n : ℕ) : Type 0 where
   pub sound : ObjectSound S ob
-  pub inside : start + contentSize o S ob n ≤ length m
-  pub parts : ContentReadable o child S m ob start n
+  pub inside : start + contentSize o S m ob at n ≤ length m
+  pub parts : ContentReadable o child S m ob at start n
 
 -- an object with d objects of depth left
 unfoldable pub ObjectReadable : ℕ → ℕ → Schema → List ℕ → Child
 ObjectReadable o zero S m ob p = ⊥
 ObjectReadable o (suc d) S m ob p =
-    HeaderInside o m p × Entered o (ObjectReadable o d S m) S m ob (startOf o p) (lengthOf o m p)
+    HeaderInside o m ob p × Entered o (ObjectReadable o d S m) S m ob (placed p) (startOf o ob p) (lengthOf o m p)
 
 -- the whole message: its start, and the root table
 pub record MessageReadable (o : ℕ) (S : Schema) (m : List ℕ) : Type 0 where

@@ -89,20 +89,21 @@ pub struct Content {
 // The bytes of an object's header.
 fn header_size(ob: Object, o: usize) -> usize
     requires { ⌜ Width o ⌝ }
-    ensures { λ r. ⌜ r ≡ W.headerSize o ⌝ }
+    ensures { λ r. ⌜ r ≡ W.headerSize o ob ⌝ }
 {
     match ob {
         Object::Text => message_header::TextObject::header_size(o),
         Object::Bytes => message_header::BytesObject::header_size(o),
         Object::List(_) => message_header::ListObject::header_size(o),
         Object::Table(_) => message_header::TableObject::header_size(o),
+        Object::DirectList(_) => message_header::DirectObject::header_size(o),
     }
 }
 
 // The content of an object at its place.
 fn content_of(m: &[u8], ob: Object, p: Place, o: usize) -> Content
-    requires { ⌜ (Width o) × (D.HeaderInside o (now m) p) × (WithinSize (now m)) ⌝ }
-    ensures { λ r. ⌜ (r .start ≡ D.startOf o p) × (r .length ≡ D.lengthOf o (now (m .entry)) p) ⌝ }
+    requires { ⌜ (Width o) × (D.HeaderInside o (now m) ob p) × (WithinSize (now m)) ⌝ }
+    ensures { λ r. ⌜ (r .start ≡ D.startOf o ob p) × (r .length ≡ D.lengthOf o (now (m .entry)) p) ⌝ }
 {
     match p {
         Place::ByOffset(x) => Content {
@@ -207,8 +208,8 @@ fn put_blob_reference(
 ) -> usize
     requires { ⌜ Room (now out) pos ⌝ }
     requires { ⌜ (Width o) × (WithinSize (now m)) ⌝ }
-    requires { ⌜ ((x ≡ 0 → ⊥) → D.BlobInside o (now m) (T.placeOf inplace tail x)) ⌝ }
-    ensures { λ r. ⌜ Puts (now (out .entry)) pos (Bt.blobReferenceAt o (now (m .entry)) inplace tail x) (now (out .exit)) r ⌝ }
+    requires { ⌜ ((x ≡ 0 → ⊥) → D.BlobInside o (now m) ob (T.placeOf inplace tail x)) ⌝ }
+    ensures { λ r. ⌜ Puts (now (out .entry)) pos (Bt.blobReferenceAt o (now (m .entry)) ob inplace tail x) (now (out .exit)) r ⌝ }
 {
     if x == 0 {
         return bitio::write(out, pos, 2, 0);
@@ -512,7 +513,7 @@ fn put_lead(
 ) -> usize
     requires { ⌜ Room (now out) pos ⌝ }
     requires { ⌜ (Accepted (now b) (now dir)) × (Width o) × (WithinSize (now m)) × (at + 1 < length (now b)) × (KindSound (P.parse (now b)) (P.memberAt (now b) at .kind)) ⌝ }
-    requires { ⌜ (part .start + part .length ≤ length (now m)) × (12 < P.kindAt (now b) at) × (P.kindAt (now b) at < 18) × (c .end < 2 ^ 58) ⌝ }
+    requires { ⌜ (part .start + part .length ≤ length (now m)) × (12 < P.kindAt (now b) at) × (c .end < 2 ^ 58) ⌝ }
     requires { ⌜ C.LeadReadable o d (now b) (now m) at (part .start) (part .length) c ⌝ }
     ensures { λ r. ⌜ Puts (now (out .entry)) pos (C.leadBits o d (now (b .entry)) (now (m .entry)) at (part .start) (part .length) c) (now (out .exit)) r ⌝ }
 {
@@ -643,20 +644,12 @@ fn put_object(
     if d == 0 {
         return pos;
     }
-    put_content(
-        b,
-        dir,
-        m,
-        out,
-        d - 1,
-        ob,
-        content_of(m, ob, place, o),
-        pos,
-        o,
-    )
+    let at = message_object::placed(place);
+    let part = content_of(m, ob, place, o);
+    put_content(b, dir, m, out, d - 1, ob, at, part, pos, o)
 }
 
-// An object's content; d objects of depth are left below it.
+// The content of the object at `at`; d objects of depth are left below it.
 fn put_content(
     b: &[u8],
     dir: &[u16],
@@ -664,20 +657,25 @@ fn put_content(
     out: &mut [u8],
     d: usize,
     ob: Object,
+    at: usize,
     part: Content,
     pos: usize,
     o: usize,
 ) -> usize
     requires { ⌜ Room (now out) pos ⌝ }
-    requires { ⌜ (Accepted (now b) (now dir)) × (Width o) × (WithinSize (now m)) ⌝ }
-    requires { ⌜ C.ContentReadable o d (now b) (now m) ob (part .start) (part .length) ⌝ }
-    ensures { λ r. ⌜ Puts (now (out .entry)) pos (C.contentBits o d (now (b .entry)) (now (m .entry)) ob (part .start) (part .length)) (now (out .exit)) r ⌝ }
+    requires { ⌜ (Accepted (now b) (now dir)) × (Width o) × (WithinSize (now m)) × (at < 2 ^ 60) ⌝ }
+    requires { ⌜ C.ContentReadable o d (now b) (now m) ob at (part .start) (part .length) ⌝ }
+    ensures { λ r. ⌜ Puts (now (out .entry)) pos (C.contentBits o d (now (b .entry)) (now (m .entry)) ob at (part .start) (part .length)) (now (out .exit)) r ⌝ }
 {
     match ob {
         Object::Text => bitio::write_blob(m, out, pos, part.start, part.length),
         Object::Bytes => bitio::write_blob(m, out, pos, part.start, part.length),
         Object::List(i) => put_list(b, dir, m, out, d, wire::index(i), part, pos, o),
         Object::Table(t) => put_table(b, dir, m, out, d, wire::index(t), part, pos, o),
+        Object::DirectList(t) => {
+            let w = message_header::element_size(m, at, o);
+            put_directs(b, dir, m, out, d, t, w, part, pos, o)
+        }
     }
 }
 
@@ -725,6 +723,41 @@ fn put_table(
         let q = member_at(b, dir, m, t, j, part, c, o);
         c = q.next;
         p = put_flat_member(b, dir, m, out, q, p);
+        j += 1;
+    }
+    p
+}
+
+// The elements of a direct list of table t, each of w bytes, behind their count. Their table has a member, so that each takes bits, and
+// the loop ends soon past the limit, however many they are.
+fn put_directs(
+    b: &[u8],
+    dir: &[u16],
+    m: &[u8],
+    out: &mut [u8],
+    d: usize,
+    t: u8,
+    w: usize,
+    part: Content,
+    pos: usize,
+    o: usize,
+) -> usize
+    requires { ⌜ Room (now out) pos ⌝ }
+    requires { ⌜ (Accepted (now b) (now dir)) × (Width o) × (WithinSize (now m)) × (part .start + w * part .length ≤ length (now m)) ⌝ }
+    requires { ⌜ C.DirectsReadable o d (now b) (now m) t w (part .length) (part .start) ⌝ }
+    ensures { λ r. ⌜ Puts (now (out .entry)) pos (C.directBits o d (now (b .entry)) (now (m .entry)) t w (part .length) (part .start)) (now (out .exit)) r ⌝ }
+{
+    let n = part.length;
+    let mut p = bitio::write(out, pos, 32, sheet_values::number64(n));
+    let mut at = part.start;
+    let mut j: usize = 0;
+    while j < n {
+        if sheet_values::MOST < p {
+            return p;
+        }
+        let place = Place::InPlace(at, w);
+        p = put_object(b, dir, m, out, d, Object::Table(t), place, p, o);
+        at += w;
         j += 1;
     }
     p

@@ -13,7 +13,7 @@ use Rattle.coding.specs.Lists.{pick}
 use Rattle.coding.specs.Bytes.{largest, deepest}
 use Rattle.coding.specs.Bits.{bits, value, allZero}
 use Rattle.coding.specs.Packed.{parse}
-use Rattle.coding.specs.Walk.{headerSize}
+use Rattle.coding.specs.Walk.{startSize}
 use Rattle.coding.specs.Lawful.{lawful}
 use Rattle.coding.specs.Sheet.{fail, got}
 use Rattle.coding.specs.Message as M
@@ -24,7 +24,7 @@ use Rattle.laws.specs.Lists.{never}
 use Rattle.laws.specs.Bits.{bits-length}
 use Rattle.schema.specs.Directory.{AcceptedUnder, Judged, accepted-sound}
 use Rattle.bitio.specs.Taken.{Run}
-use Rattle.write_measure.specs.Survey.{survey}
+use Rattle.write_measure.specs.Survey.{headSize, survey}
 use Rattle.write_measure.specs.Surveyed.{SurveyedAt}
 use Rattle.write_measure.specs.declared.Extent.{Extent}
 use Rattle.write_store.specs.State.{State}
@@ -109,7 +109,7 @@ module _ (s : List ℕ) (pos left : ℕ) (el : left ≡ 8 * length s - pos) wher
       ∙ sym (simp (lt-ltb (length (drop pos (bits s))) 8 q))
 
 pub size-is : (o : ℕ) (x : Extent) (n h : ℕ) → n ≡ 4 + o → h ≡ 4 + o → n + h + (x .width + x .chain) + x .below ≡ messageSize o x
-unfolding messageSize headerSize
+unfolding messageSize startSize headSize
 size-is o x n h en eh = omega arith
 
 pub sheet-short : (o : ℕ) (b s : List ℕ) (x : Extent) → LawfulSheet o b s x → length s ≤ 16777215

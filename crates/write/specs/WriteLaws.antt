@@ -14,7 +14,7 @@ use Rattle.coding.specs.Bits.{bits, allZero}
 use Rattle.coding.specs.Schema.{Schema}
 use Rattle.coding.specs.Packed.{parse}
 use Rattle.coding.specs.Lawful.{lawful}
-use Rattle.coding.specs.Walk.{headerSize, magic}
+use Rattle.coding.specs.Walk.{startSize, magic}
 use Rattle.coding.specs.Value.{Value}
 use Rattle.coding.specs.Cells.{width, chain, below, Slots, packBits}
 use Rattle.coding.specs.Cells.Slots.{end, bytes, reference}
@@ -23,7 +23,7 @@ use Rattle.coding.specs.Message.{lengthOf, writable, objectSlots, referSlots, p
 use Rattle.coding.specs.declared.Object.the-variants as O
 use Rattle.laws.specs.Sound.{Sound}
 use Rattle.laws.specs.Lists.{never}
-use Rattle.write_measure.specs.Survey.{capped, survey}
+use Rattle.write_measure.specs.Survey.{capped, headSize, survey}
 use Rattle.write_measure.specs.Mapped.{mapped}
 use Rattle.write_measure.specs.Summed.{capped-in, capped-over}
 use Rattle.write_measure.specs.SlotSizes.{length-leBytes}
@@ -58,7 +58,7 @@ module _ (o : ℕ) (S : Schema) (sound : Sound S) where
   messageSlots v = bytes (leBytes 4 0xB5C0_C4B3) (reference (objectSlots (plan deepest o S) o S (O.Table (S .root)) v) end)
 
   messageState : List ℕ → State
-  messageState out = state o 0 0 0 0 (headerSize o) (headerSize o) out
+  messageState out = state o 0 0 0 0 (startSize o) (startSize o) out
 
   message-is : (out xs : List ℕ)
       → emitMessage o S out xs ≡ mapped (λ v. emitSlots o (messageState out) (messageSlots v)) (decode deepest S (O.Table (S .root)) xs)
@@ -73,8 +73,8 @@ module _ (o : ℕ) (S : Schema) (sound : Sound S) where
     abbrev root : Extent
     root = extentOf o S sound deepest (O.Table (S .root)) v
 
-    slots-width : width o (packBits 0 (messageSlots v)) ≡ headerSize o
-    unfolding width packBits headerSize
+    slots-width : width o (packBits 0 (messageSlots v)) ≡ startSize o
+    unfolding width packBits startSize
     slots-width = omega (arith, length-leBytes 4 0xB5C0_C4B3)
 
     slots-chain : chain o (packBits 0 (messageSlots v)) ≡ 0
@@ -82,14 +82,14 @@ module _ (o : ℕ) (S : Schema) (sound : Sound S) where
     slots-chain = refl
 
     whole : ℕ
-    whole = headerSize o + (headerSize o + width o (packBits 0 (plan deepest o S (O.Table (S .root)) v)) + chain o (packBits 0 (plan deepest o S (O.Table (S .root)) v))
+    whole = startSize o + (headSize o + width o (packBits 0 (plan deepest o S (O.Table (S .root)) v)) + chain o (packBits 0 (plan deepest o S (O.Table (S .root)) v))
         + below o (packBits 0 (plan deepest o S (O.Table (S .root)) v)))
 
     message-length : length (messageOf o S v) ≡ whole
     unfolding messageOf whole
     message-length =
         length-layout o (packBits 0 (messageSlots v))
-        ∙ (unfold width chain below packBits objectSlots headerSize in
+        ∙ (unfold width chain below packBits objectSlots startSize headSize in
         omega (arith, length-leBytes 4 0xB5C0_C4B3, length-leBytes 4 (magic S (O.Table (S .root))), length-leBytes o (lengthOf o S (O.Table (S .root)) v)))
 
     -- the sizes are cut only where the message is over the size
@@ -133,7 +133,7 @@ module _ (o : ℕ) (S : Schema) (sound : Sound S) where
         let p = packBits 0 (messageSlots v) in
         let w = slots-width in
         let c = slots-chain in
-        let n : width o p + chain o p ≡ headerSize o = omega arith in
+        let n : width o p + chain o p ≡ startSize o = omega arith in
         ap₂ (λ (i j : ℕ). emitSlots o (state o 0 0 0 0 i j out) (messageSlots v) .out) (sym w) (sym n)
         ∙ emit-layout o out (messageSlots v) (e ∙ sym message-length) (omega arith)
 

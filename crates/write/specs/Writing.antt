@@ -9,9 +9,9 @@ use Rattle.coding.specs.Bytes.{largest, deepest}
 use Rattle.coding.specs.Packed.{parse}
 use Rattle.coding.specs.Bits.{bits, allZero}
 use Rattle.coding.specs.Sheet.{got}
-use Rattle.coding.specs.Walk.{headerSize}
+use Rattle.coding.specs.Walk.{startSize}
 use Rattle.coding.specs.declared.Object.the-variants as O
-use Rattle.write_measure.specs.Survey.{survey}
+use Rattle.write_measure.specs.Survey.{headSize, survey}
 use Rattle.write_measure.specs.Surveyed.{Small}
 use Rattle.write_measure.specs.declared.Extent.{Extent}
 
@@ -21,7 +21,7 @@ onlyEnd xs = ltb (length xs) 8 && allZero xs
 
 -- the length of the message whose root table takes x: the message's start, the root's header, and what it takes
 unfoldable pub messageSize : ℕ → Extent → ℕ
-messageSize o x = headerSize o + (headerSize o + x .width + x .chain + x .below)
+messageSize o x = startSize o + (headSize o + x .width + x .chain + x .below)
 
 -- the sheet s is lawful, and its root table takes x
 pub record LawfulSheet (o : ℕ) (b s : List ℕ) (x : Extent) : Type 0 where

@@ -42,6 +42,10 @@ pub blob-table : (ob : Object) (i : ℕ) → ob ≡ O.Table i → isBlob ob ≡ 
 unfolding isBlob
 blob-table ob i e h = never (ap isBlob (sym e) ∙ h)
 
+pub blob-direct : (ob : Object) (t : ℕ) → ob ≡ O.DirectList t → isBlob ob ≡ true → 2 < 2
+unfolding isBlob
+blob-direct ob t e h = never (ap isBlob (sym e) ∙ h)
+
 pub simple-flat : (k : Kind) (f : Flat) → k ≡ OfFlat f → true ≡ isSimple k
 unfolding isSimple
 simple-flat k f e = sym (ap isSimple e)

@@ -4,6 +4,7 @@ use mathlib.Core.Bool.{Bool, true, false, _&&_}
 use mathlib.Core.List.{List}
 use Prim.Native.Nat.{ℕ, suc, _+_, _-_, _*_, _^_, _<_, _≤_}
 use native.Mathlib.Omega.{arith}
+use native.Mathlib.Nat.{mul-le-mul-left}
 use native.Mathlib.Numerals.{add-one}
 use lib.ListN.{length, drop, drop-of-length-le}
 use lib.Seq.{drop-cons}
@@ -15,7 +16,6 @@ use Rattle.coding.specs.Schema as Sc
 use Rattle.coding.specs.Schema.{Schema}
 use Rattle.coding.specs.Packed as P
 use Rattle.coding.specs.Layout as L
-use Rattle.coding.specs.Walk.{headerSize}
 use Rattle.coding.specs.declared.Member.{Member}
 use Rattle.coding.specs.declared.Cursor.{Cursor}
 use Rattle.coding.specs.declared.Slot.{Slot}
@@ -23,7 +23,7 @@ use Rattle.laws.specs.Sound.{MemberSound}
 use Rattle.laws.specs.SoundAt.{member-sound-at}
 use Rattle.schema.specs.Directory.{Accepted, accepted-sound}
 use Rattle.message_layout.specs.Bounds.{Laid, Stands}
-use Rattle.write_measure.specs.Survey.{capped, plain, opened, joined, referred}
+use Rattle.write_measure.specs.Survey.{capped, headSize, plain, opened, joined, referred}
 use Rattle.write_measure.specs.Surveyed.{Small, Fits}
 use Rattle.write_measure.specs.declared.Extent.{Extent}
 
@@ -32,7 +32,7 @@ pub plain-fits : (fine : Bool) → Fits (plain fine) (record { writable = fine; 
 unfolding plain
 plain-fits fine = record { is = refl; small = record { length = omega arith; width = omega arith; chain = omega arith; below = omega arith } }
 
-pub opened-fits : (n w : ℕ) → n < 2 ^ 40 → w < 2 ^ 48 → Fits (opened n w) (record { writable = true; length = n; width = w; chain = 0; below = 0 })
+pub opened-fits : (n w : ℕ) → n < 2 ^ 40 → w < 2 ^ 54 → Fits (opened n w) (record { writable = true; length = n; width = w; chain = 0; below = 0 })
 unfolding opened
 opened-fits n w h l = record { is = refl; small = record { length = h; width = l; chain = omega arith; below = omega arith } }
 
@@ -109,7 +109,7 @@ module _ (inplace may : Bool) (e : Extent) (small : Small e) where
 
   pub referred-out : (o : ℕ) → inplace ≡ false → (h : ℕ) → h ≡ 4 + o → (b : ℕ) → b ≡ capped (h + (e .width + e .chain) + e .below) → b ≤ 16777216
       → Fits (referred o inplace may e) (record { writable = e .writable; length = 0; width = 0; chain = 0; below = b })
-  unfolding referred headerSize
+  unfolding referred headSize
   referred-out o i h eh b eb lb =
       let z : h + (e .width + e .chain) + e .below ≡ 4 + o + e .width + e .chain + e .below = omega arith in
       rw i (record {
@@ -120,6 +120,10 @@ module _ (inplace may : Bool) (e : Extent) (small : Small e) where
 -- the elements of a list take few bytes
 pub size-short : (n r : ℕ) → r ≤ 4096 * n → n < 2 ^ 32 → r < 2 ^ 48
 size-short n r h l = omega arith
+
+-- the elements of a direct list take bytes that can be counted
+pub direct-short : (z n : ℕ) → z < 2 ^ 21 → n < 2 ^ 32 → 8 + n * z < 2 ^ 54
+direct-short z n h l = let m : n * z ≤ n * 2097152 = mul-le-mul-left n (omega arith) in omega arith
 
 -- ---- a table's full fixed part, from member j on
 pub member-sound-of : (b dir : List ℕ) → Accepted b dir → (t j : ℕ) (r : Member) → r ≡ Sc.memberOf (P.parse b) t j → (count : ℕ) → count ≡ length (Sc.tableOf (P.parse b) t .members)

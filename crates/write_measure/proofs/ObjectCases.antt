@@ -25,7 +25,7 @@ use Rattle.laws.specs.Sound.{ObjectSound, KindSound}
 use Rattle.laws.specs.SoundAt.{member-sound-at, list-index, table-index}
 use Rattle.schema.specs.Directory.{Accepted, accepted-sound}
 use Rattle.bitio.specs.Taken.{TakenNumber}
-use Rattle.write_measure.specs.Survey.{opened, joined, referred, Surveyor, surveyObject, surveyPart, surveyElement, surveyMembers, surveyElements, surveyBlob, surveyContent, survey}
+use Rattle.write_measure.specs.Survey.{directSize, opened, joined, referred, Surveyor, surveyObject, surveyPart, surveyElement, surveyMembers, surveyElements, surveyDirects, surveyBlob, surveyContent, survey}
 use Rattle.write_measure.specs.Surveyed.{Small, Fits, SurveyedAt}
 use Rattle.write_measure.specs.declared.Extent.{Extent}
 use Rattle.write_measure.proofs.PartCases.{refer-surveyed}
@@ -36,6 +36,9 @@ list-counted b ob i j h f e = rw e (list-index b i (subst (ObjectSound (P.parse 
 
 pub table-counted : (b : List ℕ) (ob : Object) (i j : ℕ) → ObjectSound (P.parse b) ob → ob ≡ O.Table i → j ≡ i → j < P.tableCount b
 table-counted b ob i j h f e = rw e (table-index b i (subst (ObjectSound (P.parse b)) f h))
+
+pub direct-counted : (b : List ℕ) (ob : Object) (i j : ℕ) → ObjectSound (P.parse b) ob → ob ≡ O.DirectList i → j ≡ i → j < P.tableCount b
+direct-counted b ob i j h f e = rw e (table-index b i (subst (ObjectSound (P.parse b)) f h .table))
 
 pub element-sound : (b dir : List ℕ) → Accepted b dir → (i : ℕ) (k : Kind) → k ≡ Sc.elementOf (P.parse b) i → KindSound (P.parse b) k
 element-sound b dir a i k e = rw e (accepted-sound b dir a .lists i .kind)
@@ -183,6 +186,56 @@ module _ (o : ℕ) (child : Surveyor) (S : Schema) (s : List ℕ) (at : ℕ) (p 
           opens ∙ ap (λ (u : Bool). left (pick u (got x (drop next (bits s))) fail)) (not-false whole f)
           ∙ ap (λ (y : Extent). surveyElements child o S k (n - (j + 1)) y (drop next (bits s))) (sym (fit .is))
 
+-- ---- the elements of a direct list, from element j on
+module _ (o : ℕ) (child : Surveyor) (S : Schema) (s : List ℕ) (t at : ℕ) where
+  module _ (whole : Bool) (n first : ℕ) (taken : TakenNumber s at 32 whole n first) where
+    pub directs-cut : at ≤ 8 * length s → not whole ≡ true → (w : Bool) (e : Extent) (m : ℕ) → w ≡ false → m ≡ at → Small e
+        → SurveyedAt s (surveyContent child o S (O.DirectList t) (drop at (bits s))) w e m
+    unfolding surveyContent bind
+    directs-cut l h w e m ew em sm = record { is = rw (taken .number, not-true whole h, ew); inside = rw em l; small = sm }
+
+    pub directs-start : not whole ≡ false → (z : ℕ) → z ≡ L.fixedSize o S (Sc.tableOf S t .members) → (y : ℕ) → y ≡ 8 + n * z → (a : Extent) → Fits (opened n y) a
+        → surveyContent child o S (O.DirectList t) (drop at (bits s)) ≡ surveyDirects child t (n - 0) a (drop first (bits s))
+    unfolding surveyContent bind directSize
+    directs-start h z ez y ey a f =
+        let e : n ≡ n - 0 = omega arith in
+        rw (taken .number, not-false whole h)
+        (ap (λ (v : ℕ). surveyDirects child t n (opened n (8 + n * v)) (drop first (bits s))) (sym ez)
+        ∙ ap (λ (v : ℕ). surveyDirects child t n (opened n v) (drop first (bits s))) (sym ey)
+        ∙ ap (λ (v : Extent). surveyDirects child t n v (drop first (bits s))) (sym (f .is))
+        ∙ ap (λ (v : ℕ). surveyDirects child t v a (drop first (bits s))) e)
+
+-- `p`: all of them
+module _ (child : Surveyor) (s : List ℕ) (at : ℕ) (p : Parsed Extent) where
+  module _ (t n : ℕ) (a : Extent) (pos j : ℕ) (inv : p ≡ surveyDirects child t (n - j) a (drop pos (bits s))) where
+    pub directs-done : n ≤ j → pos ≤ 8 * length s → Small a → SurveyedAt s p true a pos
+    unfolding surveyDirects
+    directs-done h l sm =
+        let z : n - j ≡ 0 = omega arith in
+        record { is = inv ∙ ap (λ (m : ℕ). surveyDirects child t m a (drop pos (bits s))) z; inside = l; small = sm }
+
+    module _ (h : j < n) (whole : Bool) (x : Extent) (next : ℕ) (q : SurveyedAt s (child (O.Table t) (drop pos (bits s))) whole x next) where
+      abbrev others : Parsed Extent → Parsed Extent
+      others q = bind q (λ e ys. surveyDirects child t (n - (j + 1)) (joined a e) ys)
+
+      begun : p ≡ others (pick whole (got x (drop next (bits s))) fail)
+      unfolding surveyDirects
+      begun =
+          let z : n - j ≡ suc (n - (j + 1)) = omega arith in
+          inv ∙ ap (λ (m : ℕ). surveyDirects child t m a (drop pos (bits s))) z ∙ ap others (q .is)
+
+      pub directs-stopped : at ≤ 8 * length s → not whole ≡ true → (w : Bool) (e : Extent) (m : ℕ) → w ≡ false → m ≡ at → Small e
+          → SurveyedAt s p w e m
+      unfolding bind
+      directs-stopped l f w e m ew em sm =
+          record { is = begun ∙ ap (λ (u : Bool). others (pick u (got x (drop next (bits s))) fail)) (not-true whole f) ∙ sym (rw ew); inside = rw em l; small = sm }
+
+      pub directs-turn : not whole ≡ false → (g : Extent) → Fits (joined a x) g → p ≡ surveyDirects child t (n - (j + 1)) g (drop next (bits s))
+      unfolding bind
+      directs-turn f g fit =
+          begun ∙ ap (λ (u : Bool). others (pick u (got x (drop next (bits s))) fail)) (not-false whole f)
+          ∙ ap (λ (y : Extent). surveyDirects child t (n - (j + 1)) y (drop next (bits s))) (sym (fit .is))
+
 -- ---- an object
 module _ (o : ℕ) (d : ℕ) (S : Schema) (s : List ℕ) (ob : Object) (pos : ℕ) (w : Bool) (e : Extent) (n : ℕ) where
   pub object-deep : d ≡ 0 → pos ≤ 8 * length s → w ≡ false → n ≡ pos → Small e → SurveyedAt s (survey d o S ob (drop pos (bits s))) w e n
@@ -217,7 +270,16 @@ module _ (o : ℕ) (d : ℕ) (S : Schema) (s : List ℕ) (ob : Object) (pos : �
     object-table i j eo ej q =
         content (rw eo (subst (λ (a : ℕ). SurveyedAt s (surveyContent (survey (d - 1) o S) o S (O.Table a) (drop pos (bits s))) w e n) ej q))
 
--- ---- a table of a list of tables
+    pub object-direct : (i j : ℕ) → ob ≡ O.DirectList i → j ≡ i → SurveyedAt s (surveyContent (survey (d - 1) o S) o S (O.DirectList j) (drop pos (bits s))) w e n
+        → SurveyedAt s (survey d o S ob (drop pos (bits s))) w e n
+    object-direct i j eo ej q =
+        content (rw eo (subst (λ (a : ℕ). SurveyedAt s (surveyContent (survey (d - 1) o S) o S (O.DirectList a) (drop pos (bits s))) w e n) ej q))
+
+-- ---- a table of a list of tables, and of a direct list
+pub direct-there : (o d : ℕ) (S : Schema) (s : List ℕ) (t pos : ℕ) → (d ≡ 0 → ⊥) → (w : Bool) (e : Extent) (n : ℕ)
+    → SurveyedAt s (surveyContent (survey (d - 1) o S) o S (O.Table t) (drop pos (bits s))) w e n → SurveyedAt s (survey d o S (O.Table t) (drop pos (bits s))) w e n
+direct-there o d S s t pos h w e n q = object-table o d S s (O.Table t) pos w e n h t t refl refl q
+
 module _ (o : ℕ) (d : ℕ) (S : Schema) (s : List ℕ) (t pos : ℕ) where
   pub row-deep : d ≡ 0 → pos ≤ 8 * length s → (w : Bool) (e : Extent) (n : ℕ) → w ≡ false → n ≡ pos → Small e
       → SurveyedAt s (surveyObject (survey d o S) o false false (O.Table t) (drop pos (bits s))) w e n

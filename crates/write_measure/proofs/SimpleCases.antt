@@ -133,13 +133,13 @@ module _ (b : List ℕ) (at k : ℕ) (ek : k ≡ P.kindAt b at) where
   unfolding P.elementAt P.kindOf P.flatAt
   flat-kind l = simp (← ek, lt-ltb _ _ l)
 
-  object-kind : 13 ≤ k → k < 17 → P.elementAt b at ≡ OfObject (P.objectAt b at)
+  object-kind : 13 ≤ k → (k ≡ 17 → ⊥) → P.elementAt b at ≡ OfObject (P.objectAt b at)
   unfolding P.elementAt P.kindOf P.objectAt
-  object-kind g l = simp (← ek, le-ltb _ _ g, lt-ltb _ _ l)
+  object-kind g l = simp (← ek, le-ltb _ _ g, ne-eqb _ _ l)
 
-  union-kind : 17 ≤ k → P.elementAt b at ≡ OfUnion (P.argumentAt b at)
+  union-kind : k ≡ 17 → P.elementAt b at ≡ OfUnion (P.argumentAt b at)
   unfolding P.elementAt P.kindOf
-  union-kind g = let m : 13 ≤ k = omega arith in simp (← ek, le-ltb _ _ m, le-ltb _ _ g)
+  union-kind e = simp (← ek, e)
 
   -- the bytes that a member takes
   module _ (o : ℕ) (S : Schema) where
@@ -174,11 +174,11 @@ module _ (b : List ℕ) (at k : ℕ) (ek : k ≡ P.kindAt b at) where
         let m : k < 13 = omega arith in
         member-bytes (OfFlat (Enumerated (P.argumentAt b at))) (flat-kind m ∙ ap OfFlat (enum-at e)) (no-flag (P.optionalAt b at)) refl 1 refl
 
-    pub object-bytes : 13 ≤ k → k < 17 → WholeBytes o S (P.memberAt b at) o
+    pub object-bytes : 13 ≤ k → (k ≡ 17 → ⊥) → WholeBytes o S (P.memberAt b at) o
     unfolding L.isBool L.width L.takesFlag
     object-bytes g l = member-bytes (OfObject (P.objectAt b at)) (object-kind g l) (no-flag (P.optionalAt b at)) refl o refl
 
-    pub union-bytes : 17 ≤ k → (w : ℕ) → w ≡ 2 + o → WholeBytes o S (P.memberAt b at) w
+    pub union-bytes : k ≡ 17 → (w : ℕ) → w ≡ 2 + o → WholeBytes o S (P.memberAt b at) w
     unfolding L.isBool L.width L.takesFlag
     union-bytes g w ew = member-bytes (OfUnion (P.argumentAt b at)) (union-kind g) (no-flag (P.optionalAt b at)) refl w (sym ew)
 
@@ -219,7 +219,7 @@ module _ (b : List ℕ) (at k : ℕ) (ek : k ≡ P.kindAt b at) where
         → (e : Extent) → Fits (joined a x) e → SurveyedAt s (joinedPart child o (P.parse b) (P.memberAt b at) a (drop pos (bits s))) w e n
     unfolding joinedPart P.memberAt bind
     simple-member-blob g l w x n t e f =
-        let m : k < 17 = omega arith in
+        let m : (k ≡ 17 → ⊥) = λ q. absurd (omega arith) in
         record {
           is = ap (λ (q : Kind). bind (surveyPart child o (P.parse b) q (P.optionalAt b at) (P.inplaceAt b at) (drop pos (bits s))) (λ x ys. got (joined a x) ys)) (object-kind g m)
               ∙ ap (λ p. bind p (λ x ys. got (joined a x) ys)) (same (P.optionalAt b at) ∙ t .is) ∙ by w

@@ -8,10 +8,10 @@ use Rattle.coding.specs.Lists.{pick}
 use Rattle.coding.specs.Bytes.{leBytes}
 use Rattle.coding.specs.Schema.{Schema, casesOf, caseOf}
 use Rattle.coding.specs.Layout.{hasFlag}
-use Rattle.coding.specs.Walk.{headerSize, magic}
+use Rattle.coding.specs.Walk.{magic}
 use Rattle.coding.specs.Value.{Value, present, asNumber, asObject}
 use Rattle.coding.specs.Cells.{width, chain, below, Slots, packBits}
-use Rattle.coding.specs.Cells.Slots.{end, bytes, bit, reference, inPlace}
+use Rattle.coding.specs.Cells.Slots.{end, bytes, bit, reference, inPlace, part}
 use Rattle.coding.specs.Message.{lengthOf, zeros, flatSlots, Planner, objectSlots, referSlots, valueSlots, flagOf, memberSlots}
 use Rattle.coding.specs.declared.Flat.{Flat}
 use Rattle.coding.specs.declared.Flat.the-variants as F
@@ -19,6 +19,7 @@ use Rattle.coding.specs.declared.Object.{Object}
 use Rattle.coding.specs.declared.Kind.{Kind}
 use Rattle.coding.specs.declared.Kind.the-variants.{OfFlat, OfObject, OfUnion}
 use Rattle.coding.specs.declared.Member.{Member}
+use Rattle.write_measure.specs.Survey.{headSize}
 use Rattle.write_measure.specs.Summed.{referChain, referBelow}
 
 pub length-leBytes : (w x : ℕ) → length (leBytes w x) ≡ w
@@ -36,6 +37,7 @@ module _ (o : ℕ) where
   pack-chain (suc f) (bit x s) = pack-chain f s ∙ sym (pack-chain 7 s)
   pack-chain f (reference k s) = pack-chain f s
   pack-chain f (inPlace k s) = omega (arith, pack-chain f s)
+  pack-chain f (part k s) = omega (arith, pack-chain f s)
 
   pub pack-below : (f : ℕ) (s : Slots) → below o (packBits f s) ≡ below o (packBits 0 s)
   unfolding below packBits
@@ -45,6 +47,7 @@ module _ (o : ℕ) where
   pack-below (suc f) (bit x s) = pack-below f s ∙ sym (pack-below 7 s)
   pack-below f (reference k s) = omega (arith, pack-below f s)
   pack-below f (inPlace k s) = omega (arith, pack-below f s)
+  pack-below f (part k s) = omega (arith, pack-below f s)
 
   bit-chain : (f x : ℕ) (s : Slots) → chain o (packBits f (bit x s)) ≡ chain o (packBits 0 s)
   unfolding chain packBits
@@ -99,7 +102,7 @@ module _ (o : ℕ) where
 
     refer-below : (f : ℕ) (inplace : Bool) (ob : Object) (v : Value) (rest : Slots)
         → below o (packBits f (referSlots P o S inplace ob v rest)) ≡ objectBelow inplace ob v + below o (packBits 0 rest)
-    unfolding referSlots objectSlots width chain below packBits headerSize
+    unfolding referSlots objectSlots width chain below packBits headSize
     refer-below f true ob v rest = omega (arith, pack-below f rest)
     refer-below f false ob v rest =
         omega (arith, pack-below f rest, length-leBytes 4 (magic S ob), length-leBytes o (lengthOf o S ob v))

@@ -7,8 +7,7 @@ use lib.Dec.{ltb, leb}
 use borrow.Author.Tests.{le-leb, lt-leb, leb-true, leb-false}
 use Rattle.coding.specs.Lists.{pick}
 use Rattle.coding.specs.Bytes.{largest}
-use Rattle.coding.specs.Walk.{headerSize}
-use Rattle.write_measure.specs.Survey.{capped, plain, opened, joined, referred}
+use Rattle.write_measure.specs.Survey.{capped, headSize, plain, opened, joined, referred}
 use Rattle.write_measure.specs.declared.Extent.{Extent}
 
 -- ---- the cut count
@@ -81,7 +80,7 @@ abbrev pub referChain : Bool → ℕ → ℕ → ℕ
 referChain inplace w x = pick inplace (w + x) 0
 
 abbrev pub referBelow : ℕ → Bool → ℕ → ℕ → ℕ → ℕ
-referBelow o inplace w x y = pick inplace y (headerSize o + w + x + y)
+referBelow o inplace w x y = pick inplace y (headSize o + w + x + y)
 
 abbrev pub referFine : Bool → Bool → ℕ → Bool → Bool
 referFine inplace may n t = pick inplace (pick may true (ltb 0 n) && t) t
@@ -93,7 +92,7 @@ referred-summed o true may t n w x y =
     sum-same (pick may true (ltb 0 n) && t) (pick may true (ltb 0 n) && t) 0 0 (capped (w + capped x)) (capped (w + x)) (capped y) (capped y)
     refl (capped-right w x) refl
 referred-summed o false may t n w x y =
-    let a = headerSize o + w in
+    let a = headSize o + w in
     let e : a + capped x + capped y ≡ capped x + (a + capped y) = omega arith in
     let f : x + (a + capped y) ≡ x + a + capped y = omega arith in
     let g : x + a + y ≡ a + x + y = omega arith in

@@ -11,7 +11,6 @@ use Rattle.coding.specs.Schema.{Schema, structOf, elementOf, casesOf, caseOf, t
 use Rattle.coding.specs.Structs.{byIndex}
 use Rattle.coding.specs.Layout.{fixedSize}
 use Rattle.coding.specs.Step.{elementsSize}
-use Rattle.coding.specs.Walk.{headerSize}
 use Rattle.coding.specs.Sheet.{Parsed, fail, got, bind, takeNumber, takeBytes, unknownEnum, unmarked}
 use Rattle.coding.specs.declared.Flat.{Flat}
 use Rattle.coding.specs.declared.Flat.the-variants.{Boolean, Integer, Float, Enumerated, Struct}
@@ -106,6 +105,14 @@ joined a e =
       below = capped (a .below + e .below);
     }
 
+-- the magic and the length before an object's content. What the header of a direct list says more is counted with its content.
+unfoldable pub headSize : ℕ → ℕ
+headSize o = 4 + o
+
+-- the bytes of n elements of a direct list of table t, and what its header says of them: the table's id and its full size
+unfoldable pub directSize : ℕ → Schema → ℕ → ℕ → ℕ
+directSize o S t n = 8 + n * fixedSize o S (tableOf S t .members)
+
 -- what an object adds to the object that refers to it, or in which it stands. "a present in-place text, bytes, list or
 -- table of length 0" is not writable; `may`: here it may be of length 0
 unfoldable pub referred : ℕ → Bool → Bool → Extent → Extent
@@ -123,7 +130,7 @@ referred o inplace may e =
       length = 0;
       width = 0;
       chain = 0;
-      below = capped (headerSize o + e .width + e .chain + e .below);
+      below = capped (headSize o + e .width + e .chain + e .below);
     })
 
 -- ---- members, elements and objects
@@ -200,6 +207,11 @@ surveyElements child o S k zero a xs = got a xs
 surveyElements child o S k (suc n) a xs =
     bind (surveyElement child o S k xs) (λ e ys. surveyElements child o S k n (joined a e) ys)
 
+-- the elements of a direct list of table t in turn: what stands in place behind an element stands behind the list
+unfoldable pub surveyDirects : Surveyor → ℕ → ℕ → Extent → List ℕ → Parsed Extent
+surveyDirects child t zero a xs = got a xs
+surveyDirects child t (suc n) a xs = bind (child (O.Table t) xs) (λ e ys. surveyDirects child t n (joined a e) ys)
+
 -- the content of a text or bytes, with `more` bytes behind its own: 1 of a text, 0 of bytes
 unfoldable pub surveyBlob : ℕ → List ℕ → Parsed Extent
 surveyBlob more xs = bind (takeNumber 32 xs) (λ n ys. bind (takeBytes n ys) (λ l zs. got (opened n (n + more)) zs))
@@ -213,6 +225,8 @@ surveyContent child o S (O.List i) xs =
 surveyContent child o S (O.Table i) xs =
     surveyMembers child o S (tableOf S i .members)
     (opened (fixedSize o S (tableOf S i .members)) (fixedSize o S (tableOf S i .members))) xs
+surveyContent child o S (O.DirectList t) xs =
+    bind (takeNumber 32 xs) (λ n ys. surveyDirects child t n (opened n (directSize o S t n)) ys)
 
 -- an object's content, where d objects may stand below each other, this one counted
 unfoldable pub survey : ℕ → ℕ → Schema → Object → List ℕ → Parsed Extent

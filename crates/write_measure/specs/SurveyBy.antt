@@ -13,7 +13,7 @@ use Rattle.coding.specs.declared.Flat.{Flat}
 use Rattle.coding.specs.declared.Object.{Object}
 use Rattle.coding.specs.declared.Kind.{Kind}
 use Rattle.coding.specs.declared.Kind.the-variants.{OfObject}
-use Rattle.write_measure.specs.Survey.{testIf, aboveCount, surveyFlat, surveyField, surveyStruct, surveyObject, surveyChoice, surveyBody, surveyUnknown, surveyPart, surveyMembers, surveyElements, surveyContent, survey}
+use Rattle.write_measure.specs.Survey.{testIf, aboveCount, surveyFlat, surveyField, surveyStruct, surveyObject, surveyChoice, surveyBody, surveyUnknown, surveyPart, surveyMembers, surveyElements, surveyDirects, surveyContent, survey}
 use Rattle.write_measure.specs.Surveyed.{TestedAt, SurveyedAt}
 use Rattle.write_measure.specs.SimpleMembers.{flatPart, joinedPart, LeftAt}
 use Rattle.write_measure.specs.declared.Extent.{Extent}
@@ -89,6 +89,10 @@ module _ (o d : ℕ) (b : List ℕ) where
   -- n elements of kind k, with what stands before them
   abbrev pub elements : Kind → ℕ → Extent → List ℕ → Parsed Extent
   elements k n a xs = surveyElements (survey d o (parse b)) o (parse b) k n a xs
+
+  -- n elements of a direct list of table t, with what stands before them
+  abbrev pub directs : ℕ → ℕ → Extent → List ℕ → Parsed Extent
+  directs t n a xs = surveyDirects (survey d o (parse b)) t n a xs
 
   abbrev pub content : Object → List ℕ → Parsed Extent
   content ob xs = surveyContent (survey d o (parse b)) o (parse b) ob xs

@@ -3,7 +3,8 @@ use mathlib.Core.Path.{_≡_, refl, sym, ap, ap₂, _∙_}
 use mathlib.Core.List.{List}
 use mathlib.Core.Bool.{Bool, true, false}
 use Prim.Native.Nat.{ℕ, zero, suc, _+_, _*_}
-use native.Mathlib.Nat.{zero-add}
+use native.Mathlib.Nat.{zero-add, suc-mul}
+use native.Mathlib.Omega.{arith}
 use lib.ListN.{length, drop}
 use lib.Dec.{leb}
 use Rattle.coding.specs.Lists.{pick}
@@ -13,18 +14,19 @@ use Rattle.coding.specs.Step.{elementsSize}
 use Rattle.coding.specs.Value.{Value, Values, blob, row, _then_, present, asBlob, asRow, count}
 use Rattle.coding.specs.Bits.{pack}
 use Rattle.coding.specs.Cells.{width, chain, below, packBits}
-use Rattle.coding.specs.Sheet.{Parsed, fail, got, bind, takeNumber, takeBytes, Decoder, takeElement, takeElements, takeMembers, takeBlob, takeContent, decode}
-use Rattle.coding.specs.Message.{lengthOf, Test, membersWritable, elementsWritable, contentWritable, writable, Planner, membersSlots, elementsSlots, contentSlots, plan}
+use Rattle.coding.specs.Sheet.{Parsed, fail, got, bind, takeNumber, takeBytes, Decoder, takeElement, takeElements, takeMembers, takeBlob, takeDirects, takeContent, decode}
+use Rattle.coding.specs.Message.{lengthOf, Test, membersWritable, elementsWritable, directsWritable, contentWritable, writable, Planner, membersSlots, elementsSlots, directsSlots, directSlots, contentSlots, plan}
 use Rattle.coding.specs.declared.Object.{Object}
 use Rattle.coding.specs.declared.Object.the-variants as O
 use Rattle.coding.specs.declared.Kind.{Kind}
 use Rattle.laws.specs.Bits.{pack-length}
 use Rattle.laws.specs.Sound.{Sound}
-use Rattle.write_measure.specs.Survey.{opened, Surveyor, surveyMembers, surveyElements, surveyBlob, surveyContent, survey}
+use Rattle.write_measure.specs.Survey.{directSize, opened, Surveyor, surveyMembers, surveyElements, surveyDirects, surveyBlob, surveyContent, survey}
 use Rattle.write_measure.specs.Mapped.{mapped, Has, bind-mapped, bind-has}
 use Rattle.write_measure.specs.Summed.{summed, opened-summed}
+use Rattle.write_measure.specs.SlotSizes.{length-leBytes}
 use Rattle.write_measure.specs.SurveyFlats.{Present}
-use Rattle.write_measure.specs.SurveyParts.{ObjectSurveyed, membersExtent, members-surveyed, elementsExtent, elements-surveyed}
+use Rattle.write_measure.specs.SurveyParts.{has-all, Full, ObjectSurveyed, membersExtent, members-surveyed, elementsExtent, elements-surveyed, directsExtent, directs-surveyed}
 use Rattle.write_measure.specs.Widths.{members-wide, elements-wide}
 use Rattle.write_measure.specs.declared.Extent.{Extent}
 
@@ -78,6 +80,16 @@ module _ (o : ℕ) (S : Schema) (sound : Sound S) (child : Surveyor) (decoder : 
   content-there (O.List i) xs =
       bind-has Present (takeNumber 32 xs) _ (λ n ys. bind-has Present (takeElements decoder S (elementOf S i) n ys) _ (λ vs zs. refl))
   content-there (O.Table i) xs = bind-has Present (takeMembers decoder S (tableOf S i .members) xs) _ (λ vs ys. refl)
+  content-there (O.DirectList t) xs =
+      bind-has Present (takeNumber 32 xs) _ (λ n ys. bind-has Present (takeDirects decoder t n ys) _ (λ vs zs. refl))
+
+  content-full : (ob : Object) (xs : List ℕ) → Has (λ v. Full o S ob (width o (packBits 0 (contentSlots P o S ob v)))) (takeContent decoder S ob xs)
+  unfolding contentSlots
+  content-full O.Text xs = has-all _ (λ v. tt) (takeContent decoder S O.Text xs)
+  content-full O.Bytes xs = has-all _ (λ v. tt) (takeContent decoder S O.Bytes xs)
+  content-full (O.List i) xs = has-all _ (λ v. tt) (takeContent decoder S (O.List i) xs)
+  content-full (O.Table i) xs = has-all _ (λ v. members-wide o S sound P (tableOf S i .members) (asRow v)) (takeContent decoder S (O.Table i) xs)
+  content-full (O.DirectList t) xs = has-all _ (λ v. tt) (takeContent decoder S (O.DirectList t) xs)
 
   table-surveyed : (i : ℕ) (xs : List ℕ) → surveyContent child o S (O.Table i) xs ≡ mapped (contentExtent (O.Table i)) (takeContent decoder S (O.Table i) xs)
   unfolding surveyContent takeContent contentWritable contentSlots lengthOf asRow bind
@@ -131,6 +143,58 @@ module _ (o : ℕ) (S : Schema) (sound : Sound S) (child : Surveyor) (decoder : 
           ∙ elements-surveyed o S sound child decoder P test inner k n true n (elementsSize o S k n) 0 0 ys
           ∙ close n (takeElements decoder S k n ys) (elements-count decoder S k n ys)
 
+  -- as many elements of a direct list as were asked for, each of the full size
+  abbrev Filled : ℕ → ℕ → Values → Type 0
+  Filled t n vs = (count vs ≡ n) × (width o (packBits 0 (directsSlots P t vs)) ≡ n * fixedSize o S (tableOf S t .members))
+
+  directs-filled : (t n : ℕ) (xs : List ℕ) → Has (Filled t n) (takeDirects decoder t n xs)
+  unfolding takeDirects directsSlots count width packBits bind
+  directs-filled t zero xs = (refl, omega arith)
+  directs-filled t (suc n) xs = one (decoder (O.Table t) xs) (inner (O.Table t) xs .full) (λ ys. directs-filled t n ys)
+    where
+      more : (v : Value) → width o (packBits 0 (P (O.Table t) v)) ≡ fixedSize o S (tableOf S t .members) → (p : Parsed Values) → Has (Filled t n) p
+          → Has (Filled t (suc n)) (bind p (λ vs zs. got (v then vs) zs))
+      more v e fail h = tt
+      more v e (got vs zs) h = (ap suc (h .0), omega (arith, e, h .1, suc-mul n (fixedSize o S (tableOf S t .members))))
+
+      one : (p : Parsed Value) → Has (λ v. width o (packBits 0 (P (O.Table t) v)) ≡ fixedSize o S (tableOf S t .members)) p
+          → ((ys : List ℕ) → Has (Filled t n) (takeDirects decoder t n ys))
+          → Has (Filled t (suc n)) (bind p (λ v ys. bind (takeDirects decoder t n ys) (λ vs zs. got (v then vs) zs)))
+      one fail h k = tt
+      one (got v ys) h k = more v h (takeDirects decoder t n ys) (k ys)
+
+  direct-surveyed : (t : ℕ) (xs : List ℕ)
+      → surveyContent child o S (O.DirectList t) xs ≡ mapped (contentExtent (O.DirectList t)) (takeContent decoder S (O.DirectList t) xs)
+  unfolding surveyContent takeContent contentWritable contentSlots directSlots lengthOf asRow bind chain below packBits
+  direct-surveyed t xs = bind-mapped (contentExtent (O.DirectList t)) (takeNumber 32 xs) _ _ (λ n ys. by n ys)
+    where
+      wide : (n : ℕ) (vs : Values) → Filled t n vs → directSize o S t n ≡ width o (packBits 0 (directSlots P o S t vs))
+      wide n vs f =
+          unfold directSize directSlots width packBits in
+          omega (arith, f .1, length-leBytes 4 (tableOf S t .id), length-leBytes 4 (fixedSize o S (tableOf S t .members)))
+
+      one : (n : ℕ) (vs : Values) → Filled t n vs
+          → directsExtent o S sound child decoder P test inner true n (directSize o S t n) 0 0 t vs ≡ contentExtent (O.DirectList t) (row vs)
+      one n vs f =
+          let s = directsSlots P t vs in
+          summed-is (directsWritable test t vs) n (count vs) (directSize o S t n) (width o (packBits 0 (directSlots P o S t vs)))
+          (0 + chain o (packBits 0 s)) (chain o (packBits 0 s)) (0 + below o (packBits 0 s)) (below o (packBits 0 s))
+          (sym (f .0)) (wide n vs f) (zero-add (chain o (packBits 0 s))) (zero-add (below o (packBits 0 s)))
+
+      close : (n : ℕ) (p : Parsed Values) → Has (Filled t n) p
+          → mapped (directsExtent o S sound child decoder P test inner true n (directSize o S t n) 0 0 t) p
+          ≡ mapped (contentExtent (O.DirectList t)) (bind p (λ vs ys. got (row vs) ys))
+      close n fail h = refl
+      close n (got vs ys) h = ap (λ e. got e ys) (one n vs h)
+
+      by : (n : ℕ) (ys : List ℕ)
+          → surveyDirects child t n (opened n (directSize o S t n)) ys
+          ≡ mapped (contentExtent (O.DirectList t)) (bind (takeDirects decoder t n ys) (λ vs zs. got (row vs) zs))
+      by n ys =
+          ap (λ a. surveyDirects child t n a ys) (opened-summed n (directSize o S t n))
+          ∙ directs-surveyed o S sound child decoder P test inner t n true n (directSize o S t n) 0 0 ys
+          ∙ close n (takeDirects decoder t n ys) (directs-filled t n ys)
+
   content-surveyed : (ob : Object) (xs : List ℕ) → surveyContent child o S ob xs ≡ mapped (contentExtent ob) (takeContent decoder S ob xs)
   unfolding surveyContent takeContent
   content-surveyed O.Text xs =
@@ -145,6 +209,7 @@ module _ (o : ℕ) (S : Schema) (sound : Sound S) (child : Surveyor) (decoder : 
       bytes l = unfold contentWritable lengthOf contentSlots asBlob width chain below packBits in refl
   content-surveyed (O.List i) xs = list-surveyed i xs
   content-surveyed (O.Table i) xs = table-surveyed i xs
+  content-surveyed (O.DirectList t) xs = direct-surveyed t xs
 
 -- ---- the whole
 module _ (o : ℕ) (S : Schema) (sound : Sound S) where
@@ -156,11 +221,12 @@ module _ (o : ℕ) (S : Schema) (sound : Sound S) where
 
   pub object-surveyed : (d : ℕ) (ob : Object) (xs : List ℕ) → ObjectSurveyed o S sound (survey d o S) (decode d S) (plan d o S) (writable d o S) ob xs
   unfolding survey decode plan writable
-  object-surveyed zero ob xs = record { is = refl; there = tt }
+  object-surveyed zero ob xs = record { is = refl; there = tt; full = tt }
   object-surveyed (suc d) ob xs =
       record {
         is = content-surveyed o S sound (survey d o S) (decode d S) (plan d o S) (writable d o S) (object-surveyed d) ob xs;
         there = content-there o S sound (survey d o S) (decode d S) (plan d o S) (writable d o S) (object-surveyed d) ob xs;
+        full = content-full o S sound (survey d o S) (decode d S) (plan d o S) (writable d o S) (object-surveyed d) ob xs;
       }
 
   -- "the survey of an object": what decode gives, with the writer's tests and sizes

@@ -8,26 +8,28 @@ use native.Mathlib.Nat.{add-zero, add-assoc}
 use lib.ListN.{length}
 use lib.Dec.{ltb, leb}
 use Rattle.coding.specs.Lists.{pick}
-use Rattle.coding.specs.Schema.{Schema, casesOf, caseOf}
+use Rattle.coding.specs.Schema.{Schema, casesOf, caseOf, tableOf}
+use Rattle.coding.specs.Layout.{fixedSize}
 use Rattle.coding.specs.Value.{Value, Values, absent, unknown, chosen, _then_, present, known, asNumber, asObject, first, others}
 use Rattle.coding.specs.Cells.{width, chain, below, packBits}
-use Rattle.coding.specs.Sheet.{Parsed, fail, got, bind, takeNumber, takeIf, takeFlat, takeStruct, Decoder, takeChoice, takeBody, takeUnknownFlat, takeUnknown, takePart, unmarked, takeElement, takeMembers, takeElements}
-use Rattle.coding.specs.Message.{lengthOf, flatWritable, Test, valueWritable, membersWritable, elementsWritable, Planner, membersSlots, elementsSlots}
+use Rattle.coding.specs.Sheet.{Parsed, fail, got, bind, takeNumber, takeIf, takeFlat, takeStruct, Decoder, takeChoice, takeBody, takeUnknownFlat, takeUnknown, takePart, unmarked, takeElement, takeMembers, takeElements, takeDirects}
+use Rattle.coding.specs.Message.{lengthOf, flatWritable, Test, valueWritable, membersWritable, elementsWritable, directsWritable, Planner, membersSlots, elementsSlots, directsSlots}
 use Rattle.coding.specs.declared.Flat.{Flat}
 use Rattle.coding.specs.declared.Flat.the-variants as F
 use Rattle.coding.specs.declared.Object.{Object}
+use Rattle.coding.specs.declared.Object.the-variants as O
 use Rattle.coding.specs.declared.Kind.{Kind}
 use Rattle.coding.specs.declared.Kind.the-variants.{OfFlat, OfObject, OfUnion}
 use Rattle.coding.specs.declared.Member.{Member}
 use Rattle.laws.specs.Sound.{Sound}
-use Rattle.write_measure.specs.Survey.{testIf, plain, joined, referred, Surveyor, plainOf, surveyObject, surveyChoice, surveyBody, aboveCount, surveyUnknown, flatMayLack, mayLack, surveyPart, surveyElement, surveyMembers, surveyElements}
+use Rattle.write_measure.specs.Survey.{testIf, plain, joined, referred, Surveyor, plainOf, surveyObject, surveyChoice, surveyBody, aboveCount, surveyUnknown, flatMayLack, mayLack, surveyPart, surveyElement, surveyMembers, surveyElements, surveyDirects}
 use Rattle.write_measure.specs.Mapped.{mapped, Has, mapped-same, bind-mapped, mapped-got, seq, mark-mapped}
 use Rattle.write_measure.specs.Summed.{summed, plain-summed, joined-summed, referFine, referred-summed}
 use Rattle.write_measure.specs.SlotSizes.{objectChain, objectBelow, valueChain, valueBelow, value-chain, value-below, member-chain, member-below}
 use Rattle.write_measure.specs.SurveyFlats.{Present, flat-surveyed, unknown-surveyed}
 use Rattle.write_measure.specs.declared.Extent.{Extent}
 
-has-all : {A : Type 0} (P : A → Type 0) → ((a : A) → P a) → (p : Parsed A) → Has P p
+pub has-all : {A : Type 0} (P : A → Type 0) → ((a : A) → P a) → (p : Parsed A) → Has P p
 has-all P h fail = tt
 has-all P h (got a xs) = h a
 
@@ -48,6 +50,14 @@ if-plain f w ok make answer h xs = by (takeNumber w xs)
         ≡ mapped f (bind p (λ x ys. pick (ok x) (got (make x) ys) fail))
     by fail = refl
     by (got x ys) = at x ys (ok x)
+
+-- the content of a table takes a full fixed part
+abbrev pub Full : ℕ → Schema → Object → ℕ → Type 0
+Full o S O.Text n = Unit {0}
+Full o S O.Bytes n = Unit {0}
+Full o S (O.List i) n = Unit {0}
+Full o S (O.Table t) n = n ≡ fixedSize o S (tableOf S t .members)
+Full o S (O.DirectList t) n = Unit {0}
 
 -- ---- whether an object can be written where it stands
 fine-object : (inplace t : Bool) (n : ℕ) → referFine inplace false n t ≡ (pick inplace (ltb 0 n) true && t)
@@ -73,6 +83,7 @@ module _ (o : ℕ) (S : Schema) (sound : Sound S) (child : Surveyor) (decoder : 
   pub record ObjectSurveyed (ob : Object) (xs : List ℕ) : Type 0 where
     pub is : child ob xs ≡ mapped (objectExtent ob) (decoder ob xs)
     pub there : Has Present (decoder ob xs)
+    pub full : Has (λ v. Full o S ob (width o (packBits 0 (P ob v)))) (decoder ob xs)
 
   module _ (inner : (ob : Object) (xs : List ℕ) → ObjectSurveyed ob xs) where
     object-there : (inplace may : Bool) (ob : Object) (f : Value → Extent) (xs : List ℕ)
@@ -249,3 +260,36 @@ module _ (o : ℕ) (S : Schema) (sound : Sound S) (child : Surveyor) (decoder : 
             summed-same _ _ n w _ _ _ _ (and-assoc t (fine v) (elementsWritable test o S k vs))
             (add-assoc x (c v) (chain o (packBits 0 rest)) ∙ ap (λ (j : ℕ). x + j) (sym (value-chain o P S 0 k false v rest)))
             (add-assoc y (b v) (below o (packBits 0 rest)) ∙ ap (λ (j : ℕ). y + j) (sym (value-below o P S 0 k false v rest)))
+
+    abbrev pub directsExtent : Bool → ℕ → ℕ → ℕ → ℕ → ℕ → Values → Extent
+    directsExtent u n w x y t vs =
+        summed (u && directsWritable test t vs) n w (x + chain o (packBits 0 (directsSlots P t vs))) (y + below o (packBits 0 (directsSlots P t vs)))
+
+    pub directs-surveyed : (t l : ℕ) (u : Bool) (n w x y : ℕ) (xs : List ℕ)
+        → surveyDirects child t l (summed u n w x y) xs ≡ mapped (directsExtent u n w x y t) (takeDirects decoder t l xs)
+    unfolding surveyDirects takeDirects directsWritable directsSlots chain below packBits
+    directs-surveyed t zero u n w x y xs =
+        ap (λ e. got e xs) (summed-same u (u && true) n w x (x + 0) y (y + 0) (sym (and-true u)) (sym (add-zero x)) (sym (add-zero y)))
+    directs-surveyed t (suc l) u n w x y xs =
+        ap (λ p. bind p (λ e ys. surveyDirects child t l (joined (summed u n w x y) e) ys)) (inner (O.Table t) xs .is)
+        ∙ seq (decoder (O.Table t) xs) (objectExtent (O.Table t)) (takeDirects decoder t l)
+        (λ e ys. surveyDirects child t l (joined (summed u n w x y) e) ys) (directsExtent u n w x y t)
+        (λ v ys. ap (λ a. surveyDirects child t l a ys)
+        (joined-summed u (fine v) n w x y (lengthOf o S (O.Table t) v) (width o (packBits 0 (P (O.Table t) v))) (c v) (b v))
+        ∙ directs-surveyed t l (u && fine v) n w (x + c v) (y + b v) ys
+        ∙ mapped-same _ _ (takeDirects decoder t l ys) (has-all _ (λ vs. one v vs) (takeDirects decoder t l ys)))
+      where
+        fine : Value → Bool
+        fine v = test (O.Table t) v
+
+        c : Value → ℕ
+        c v = chain o (packBits 0 (P (O.Table t) v))
+
+        b : Value → ℕ
+        b v = below o (packBits 0 (P (O.Table t) v))
+
+        one : (v : Value) (vs : Values) → directsExtent (u && fine v) n w (x + c v) (y + b v) t vs ≡ directsExtent u n w x y t (v then vs)
+        one v vs =
+            let rest = directsSlots P t vs in
+            summed-same _ _ n w _ _ _ _ (and-assoc u (fine v) (directsWritable test t vs)) (add-assoc x (c v) (chain o (packBits 0 rest)))
+            (add-assoc y (b v) (below o (packBits 0 rest)))

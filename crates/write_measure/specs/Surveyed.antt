@@ -26,7 +26,7 @@ pub record TestedAt (s : List ℕ) (p : Parsed Bool) (whole fine : Bool) (next :
 -- numbers that fit
 pub record Small (e : Extent) : Type 0 where
   pub length : e .length < 2 ^ 40
-  pub width : e .width < 2 ^ 48
+  pub width : e .width < 2 ^ 54
   pub chain : e .chain ≤ 16777216
   pub below : e .below ≤ 16777216
 

@@ -364,7 +364,7 @@ fn plain(fine: bool) -> Extent
 
 // The extent of an object of length n and width w, before its parts are gone over.
 pub fn opened(n: usize, w: usize) -> Extent
-    requires { ⌜ (n < 2 ^ 40) × (w < 2 ^ 48) ⌝ }
+    requires { ⌜ (n < 2 ^ 40) × (w < 2 ^ 54) ⌝ }
     ensures { λ r. ⌜ Fits (Sv.opened n w) r ⌝ }
 {
     Extent {
@@ -482,7 +482,8 @@ fn in_place_fine(may: bool, n: usize, fine: bool) -> bool
     if 0 < n { fine } else { false }
 }
 
-// What an object adds to the one that refers to it, or in which it stands. All types of objects have headers of one size.
+// What an object adds to the one that refers to it, or in which it stands. All headers begin with a magic and a length, as a table's does;
+// what that of a direct list says more is counted with its content.
 fn referred(inplace: bool, may: bool, e: Extent, o: usize) -> Extent
     requires { ⌜ (Width o) × Small e ⌝ }
     ensures { λ r. ⌜ Fits (Sv.referred o inplace may e) r ⌝ }
@@ -533,10 +534,10 @@ fn whole_bytes(b: &[u8], at: usize, o: usize) -> usize
     if k < schema::KIND_TEXT {
         return 0;
     }
-    if k < schema::KIND_UNION {
-        o
-    } else {
+    if k == schema::KIND_UNION {
         wire::union_size(o)
+    } else {
+        o
     }
 }
 
@@ -558,7 +559,7 @@ fn behind(b: &[u8], dir: &[u16], t: usize, j: usize, c: Cursor, o: usize) -> Cur
 // The size of table t's full fixed part.
 pub fn fixed_size(b: &[u8], dir: &[u16], t: usize, o: usize) -> usize
     requires { ⌜ (Accepted (now b) (now dir)) × (Width o) × (t < P.tableCount (now b)) ⌝ }
-    ensures { λ r. ⌜ (r ≡ By.fixed o (now (b .entry)) t) × (r < 2 ^ 40) ⌝ }
+    ensures { λ r. ⌜ (r ≡ By.fixed o (now (b .entry)) t) × (r < 2 ^ 21) ⌝ }
 {
     let count = schema::member_count(b, dir, t);
     let mut c = message_layout::begin();
@@ -568,6 +569,14 @@ pub fn fixed_size(b: &[u8], dir: &[u16], t: usize, o: usize) -> usize
         j += 1;
     }
     c.end
+}
+
+// The bytes of n elements of a direct list, each of `size` bytes, and of what its header says of them: a table's id and that size.
+pub fn direct_size(size: usize, n: usize) -> usize
+    requires { ⌜ (size < 2 ^ 21) × (n < 2 ^ 32) ⌝ }
+    ensures { λ r. ⌜ (r ≡ 8 + n * size) × (r < 2 ^ 54) ⌝ }
+{
+    8 + n * size
 }
 
 // ---- members, elements and objects
@@ -616,6 +625,7 @@ fn table_in(k: Kind) -> usize
             Object::Bytes => 256,
             Object::List(_) => 256,
             Object::Table(t) => wire::index(t),
+            Object::DirectList(_) => 256,
         },
         Kind::OfUnion(_) => 256,
     }
@@ -683,6 +693,7 @@ fn blob_end(ob: Object) -> usize
         Object::Bytes => 0,
         Object::List(_) => 2,
         Object::Table(_) => 2,
+        Object::DirectList(_) => 2,
     }
 }
 
@@ -1189,7 +1200,7 @@ fn table(
     at: usize,
     o: usize,
 ) -> Surveyed
-    requires { ⌜ (Accepted (now b) (now dir)) × (Width o) × (t < P.tableCount (now b)) × (By.Inside (now s) at) × (size ≡ By.fixed o (now b) t) × (size < 2 ^ 40) ⌝ }
+    requires { ⌜ (Accepted (now b) (now dir)) × (Width o) × (t < P.tableCount (now b)) × (By.Inside (now s) at) × (size ≡ By.fixed o (now b) t) × (size < 2 ^ 21) ⌝ }
     ensures { λ r. ⌜ By.Surveys (now (s .entry)) at (By.content o d (now (b .entry)) (Object.Table t)) r ⌝ }
 {
     let count = schema::member_count(b, dir, t);
@@ -1248,7 +1259,7 @@ fn row(
     pos: usize,
     o: usize,
 ) -> Surveyed
-    requires { ⌜ (Accepted (now b) (now dir)) × (Width o) × (t < P.tableCount (now b)) × (By.Inside (now s) pos) × (size ≡ By.fixed o (now b) t) × (size < 2 ^ 40) ⌝ }
+    requires { ⌜ (Accepted (now b) (now dir)) × (Width o) × (t < P.tableCount (now b)) × (By.Inside (now s) pos) × (size ≡ By.fixed o (now b) t) × (size < 2 ^ 21) ⌝ }
     ensures { λ r. ⌜ By.Surveys (now (s .entry)) pos (By.held o d (now (b .entry)) false false (Object.Table t)) r ⌝ }
 {
     if d == 0 {
@@ -1275,7 +1286,7 @@ fn marked_row(
     pos: usize,
     o: usize,
 ) -> Surveyed
-    requires { ⌜ (Accepted (now b) (now dir)) × (Width o) × (t < P.tableCount (now b)) × (By.Inside (now s) pos) × (size ≡ By.fixed o (now b) t) × (size < 2 ^ 40) ⌝ }
+    requires { ⌜ (Accepted (now b) (now dir)) × (Width o) × (t < P.tableCount (now b)) × (By.Inside (now s) pos) × (size ≡ By.fixed o (now b) t) × (size < 2 ^ 21) ⌝ }
     ensures { λ r. ⌜ By.Surveys (now (s .entry)) pos (By.part o d (now (b .entry)) (Kind.OfObject (Object.Table t)) true false) r ⌝ }
 {
     let x = bitio::take_number(s, pos, 2);
@@ -1370,6 +1381,57 @@ fn list(b: &[u8], dir: &[u16], s: &[u8], d: usize, i: usize, at: usize, o: usize
     }
 }
 
+// ---- direct lists, whose elements are tables without marks
+// An element of a direct list of table t; `size` is that of its full fixed part.
+fn direct(
+    b: &[u8],
+    dir: &[u16],
+    s: &[u8],
+    d: usize,
+    t: usize,
+    size: usize,
+    pos: usize,
+    o: usize,
+) -> Surveyed
+    requires { ⌜ (Accepted (now b) (now dir)) × (Width o) × (t < P.tableCount (now b)) × (By.Inside (now s) pos) × (size ≡ By.fixed o (now b) t) × (size < 2 ^ 21) ⌝ }
+    ensures { λ r. ⌜ By.Surveys (now (s .entry)) pos (By.object o d (now (b .entry)) (Object.Table t)) r ⌝ }
+{
+    if d == 0 {
+        return unlawful(pos);
+    }
+    table(b, dir, s, d - 1, t, size, pos, o)
+}
+
+// The content of a direct list of table t.
+fn directs(b: &[u8], dir: &[u16], s: &[u8], d: usize, t: usize, at: usize, o: usize) -> Surveyed
+    requires { ⌜ (Accepted (now b) (now dir)) × (Width o) × (t < P.tableCount (now b)) × By.Inside (now s) at ⌝ }
+    ensures { λ r. ⌜ By.Surveys (now (s .entry)) at (By.content o d (now (b .entry)) (Object.DirectList t)) r ⌝ }
+{
+    let y = bitio::take_number(s, at, 32);
+    if !y.whole {
+        return unlawful(at);
+    }
+    let n = y.value as usize;
+    let size = fixed_size(b, dir, t, o);
+    let mut a = opened(n, direct_size(size, n));
+    let mut pos = y.next;
+    let mut j: usize = 0;
+    while j < n {
+        let x = direct(b, dir, s, d, t, size, pos, o);
+        if !x.whole {
+            return unlawful(at);
+        }
+        pos = x.next;
+        a = joined(a, x.extent);
+        j += 1;
+    }
+    Surveyed {
+        whole: true,
+        extent: a,
+        next: pos,
+    }
+}
+
 // An object's content, where d objects may stand below each other, this one counted.
 pub fn object(
     b: &[u8],
@@ -1391,5 +1453,6 @@ pub fn object(
         Object::Bytes => blob(s, pos, 0),
         Object::List(i) => list(b, dir, s, d - 1, wire::index(i), pos, o),
         Object::Table(t) => table_found(b, dir, s, d - 1, wire::index(t), pos, o),
+        Object::DirectList(t) => directs(b, dir, s, d - 1, wire::index(t), pos, o),
     }
 }

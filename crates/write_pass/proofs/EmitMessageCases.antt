@@ -8,7 +8,7 @@ use lib.ListN.{length, drop}
 use Rattle.coding.specs.Bytes.{deepest}
 use Rattle.coding.specs.Bits.{bits}
 use Rattle.coding.specs.Schema.{Schema}
-use Rattle.coding.specs.Walk.{headerSize}
+use Rattle.coding.specs.Walk.{startSize}
 use Rattle.coding.specs.declared.Object.{Object}
 use Rattle.coding.specs.declared.Object.the-variants as O
 use Rattle.write_measure.specs.Survey.{survey}
@@ -43,7 +43,7 @@ pub message-done : (o : ℕ) (S : Schema) (s : List ℕ) (ob : Object) → ob �
     → Stood 4 (putNumber 4 0xB5C0_C4B3 (stateOf (start size) out)) (stateOf p out₁) (start size) p → (w : Bool) (q : Places) (out₂ : List ℕ) (n : ℕ)
     → EmittedAt s (emitRefer (emit 32 o S) (survey 32 o S) o S false ob (stateOf p out₁) (drop 0 (bits s))) 0 p o w q out₂ n
     → MessageAt s (emitMessage o S out (bits s)) w q out₂ n
-unfolding emitMessage deepest headerSize
+unfolding emitMessage deepest startSize
 message-done o S s ob eo size es out p out₁ st w q out₂ n t =
     record {
       is = ap (λ (k : ℕ). emitRefer (emit 32 o S) (survey 32 o S) o S false (O.Table (S .root)) (putNumber 4 0xB5C0_C4B3 (stateOf (start k) out)) (bits s)) (sym es)

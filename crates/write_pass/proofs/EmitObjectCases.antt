@@ -35,7 +35,7 @@ use Rattle.write_store.specs.Storing.{stateOf, Stood}
 use Rattle.schema.specs.Kinds.{isBlob}
 use Rattle.write_pass.specs.Emitting.{closed, referred, opened, emitMember, Room, EmittedAt, Opens, emitUnflagged, isTerminal}
 use Rattle.write_store.specs.declared.Places.{Places}
-use Rattle.write_pass.proofs.OpenCases.{not-list, not-table}
+use Rattle.write_pass.proofs.OpenCases.{not-list, not-table, not-direct}
 use Rattle.write_pass.proofs.EmitRoom.{taken-at, refused}
 use Rattle.write_pass.proofs.EmitRest.{emitted-on}
 use Rattle.write_pass.proofs.EmitPartCases.{refer-unlawful, refer-closed, terminal-refers, unflagged-member, flat-marked, flat-scalar}
@@ -265,6 +265,12 @@ module _ (o d : ℕ) (S : Schema) (s : List ℕ) (ob : Object) (c : Places) (out
     content-table i j eo ej t =
         content (rw eo (subst (λ (a : ℕ). EmittedAt s (emitContent (emit (d - 1) o S) (survey (d - 1) o S) o S (O.Table a) (stateOf c out) (drop pos (bits s))) pos c 0 w q out₁ n) ej t))
 
+    pub content-direct : (i j : ℕ) → ob ≡ O.DirectList i → j ≡ i
+        → EmittedAt s (emitContent (emit (d - 1) o S) (survey (d - 1) o S) o S (O.DirectList j) (stateOf c out) (drop pos (bits s))) pos c 0 w q out₁ n
+        → EmittedAt s (emit d o S ob (stateOf c out) (drop pos (bits s))) pos c 0 w q out₁ n
+    content-direct i j eo ej t =
+        content (rw eo (subst (λ (a : ℕ). EmittedAt s (emitContent (emit (d - 1) o S) (survey (d - 1) o S) o S (O.DirectList a) (stateOf c out) (drop pos (bits s))) pos c 0 w q out₁ n) ej t))
+
 -- of a text or bytes
 module _ (o d : ℕ) (S : Schema) (s : List ℕ) (ob : Object) (h : isBlob ob ≡ true) (st : State) (c : Places) (pos : ℕ) (w : Bool) (q : Places) (out₁ : List ℕ) (n : ℕ) where
   pub content-no-list : (i : ℕ) → ob ≡ O.List i → EmittedAt s (emit d o S ob st (drop pos (bits s))) pos c 0 w q out₁ n
@@ -272,3 +278,6 @@ module _ (o d : ℕ) (S : Schema) (s : List ℕ) (ob : Object) (h : isBlob ob �
 
   pub content-no-table : (i : ℕ) → ob ≡ O.Table i → EmittedAt s (emit d o S ob st (drop pos (bits s))) pos c 0 w q out₁ n
   content-no-table i e = absurd (not-table ob h i e)
+
+  pub content-no-direct : (t : ℕ) → ob ≡ O.DirectList t → EmittedAt s (emit d o S ob st (drop pos (bits s))) pos c 0 w q out₁ n
+  content-no-direct t e = absurd (not-direct ob h t e)

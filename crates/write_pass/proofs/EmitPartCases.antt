@@ -12,7 +12,7 @@ use Rattle.coding.specs.Bits.{bits}
 use Rattle.coding.specs.Schema as Sc
 use Rattle.coding.specs.Schema.{Schema}
 use Rattle.coding.specs.Layout.{hasFlag, takesFlag}
-use Rattle.coding.specs.Walk.{headerSize, magic}
+use Rattle.coding.specs.Walk.{magic}
 use Rattle.coding.specs.Sheet.{Parsed, fail, got, bind, unmarked, flatUnmarked}
 use Rattle.coding.specs.declared.Flat.{Flat}
 use Rattle.coding.specs.declared.Object.{Object}
@@ -22,7 +22,7 @@ use Rattle.coding.specs.declared.Member.{Member}
 use Rattle.laws.specs.Lists.{never}
 use Rattle.laws.specs.Sound.{FlatScalar, NoStruct}
 use Rattle.bitio.specs.Taken.{TakenNumber}
-use Rattle.write_measure.specs.Survey.{Surveyor, surveyMark}
+use Rattle.write_measure.specs.Survey.{headSize, Surveyor, surveyMark}
 use Rattle.write_measure.specs.Mapped.{Has}
 use Rattle.write_measure.specs.declared.Extent.{Extent}
 use Rattle.write_store.specs.State.{State, enterObject, leaveObject, enterContent, leaveContent, putNumber}
@@ -63,8 +63,8 @@ module _ (o : ℕ) (child : Emitter) (S : Schema) (inplace : Bool) (ob : Object)
     unfolding opened openObject
     same-opened true s z = ap (λ (n : ℕ). enterContent n z) (sym (s .width))
     same-opened false s z =
-        ap (λ (n : ℕ). putNumber o n (putNumber 4 (magic S ob) (enterObject (headerSize o + x .width) (x .chain) z))) (sym (s .length))
-        ∙ ap₂ (λ (w k : ℕ). putNumber o (r .length) (putNumber 4 (magic S ob) (enterObject (headerSize o + w) k z))) (sym (s .width)) (sym (s .chain refl))
+        ap (λ (n : ℕ). putNumber o n (putNumber 4 (magic S ob) (enterObject (headSize o + x .width) (x .chain) z))) (sym (s .length))
+        ∙ ap₂ (λ (w k : ℕ). putNumber o (r .length) (putNumber 4 (magic S ob) (enterObject (headSize o + w) k z))) (sym (s .width)) (sym (s .chain refl))
 
   -- by sizes that are right where the survey gives something; where it does not, the content's pass fails
   refer-is : (measure : Surveyor) (r : Extent) → Has (Sizes inplace r) (measure ob xs) → ((u : State) → measure ob xs ≡ fail → child ob u xs ≡ fail)

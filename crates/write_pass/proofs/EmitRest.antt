@@ -22,8 +22,8 @@ use Rattle.coding.specs.declared.Kind.the-variants.{OfFlat, OfObject, OfUnion}
 use Rattle.coding.specs.declared.Member.{Member}
 use Rattle.laws.specs.Bits.{bits-length}
 use Rattle.write_measure.specs.Survey.{belowCount, aboveCount, surveyMark, Surveyor, survey}
-use Rattle.write_store.specs.State.{State, enterContent, putNumber, putByte}
-use Rattle.write_pass.specs.EmitSheet.{Emitter, putNothing, openObject, emitNumber, emitIf, emitField, emitFields, emitBy, emitNothing, emitStruct, emitFlat, lack, passFlat, pass, emitObject, emitContentAt, emitRefer, emitChoice, emitBody, emitPart, emitElement, flagged, emitMembers, emitElements, emitBlob, emitContent, emit}
+use Rattle.write_store.specs.State.{State, enterContent, enterPart, putNumber, putByte}
+use Rattle.write_pass.specs.EmitSheet.{Emitter, putNothing, openObject, emitNumber, emitIf, emitField, emitFields, emitBy, emitNothing, emitStruct, emitFlat, lack, passFlat, pass, emitObject, emitContentAt, emitRefer, emitChoice, emitBody, emitPart, emitElement, flagged, emitMembers, emitElements, directHead, emitDirect, emitDirects, emitBlob, emitContent, emit}
 use Rattle.write_store.specs.Storing.{stateOf}
 use Rattle.write_pass.specs.Emitting.{EmittedAt}
 use Rattle.write_store.specs.declared.Places.{Places}
@@ -166,6 +166,13 @@ module _ (child : Emitter) (measure : Surveyor) (o : ℕ) (S : Schema) (f : (ob 
   elements-left k zero st xs n l = l
   elements-left k (suc m) st xs n l = bind-left n (emitElement child measure o S k st xs) _ (element-left k st xs n l) (λ a ys h. elements-left k m a ys n h)
 
+  directs-left : (t m : ℕ) (st : State) (xs : List ℕ) (n : ℕ) → length xs ≤ n → left (emitDirects child t m st xs) ≤ n
+  unfolding emitDirects emitDirect left
+  directs-left t zero st xs n l = l
+  directs-left t (suc m) st xs n l =
+      bind-left n (emitDirect child t st xs) _ (bind-left n (child (O.Table t) (enterPart st) xs) _ (f (O.Table t) (enterPart st) xs n l) (λ a ys h. h))
+      (λ a ys h. directs-left t m a ys n h)
+
   blob-left : (more : List ℕ) (st : State) (xs : List ℕ) (n : ℕ) → length xs ≤ n → left (emitBlob more st xs) ≤ n
   unfolding emitBlob left
   blob-left more st xs n l =
@@ -177,6 +184,7 @@ module _ (child : Emitter) (measure : Surveyor) (o : ℕ) (S : Schema) (f : (ob 
   content-left O.Bytes st xs n l = blob-left [] st xs n l
   content-left (O.List i) st xs n l = bind-left n (takeNumber 32 xs) _ (number-left 32 xs n l) (λ a ys h. elements-left (Sc.elementOf S i) a st ys n h)
   content-left (O.Table i) st xs n l = members-left (Sc.tableOf S i .members) st xs n l
+  content-left (O.DirectList t) st xs n l = bind-left n (takeNumber 32 xs) _ (number-left 32 xs n l) (λ a ys h. directs-left t a (directHead o S t st) ys n h)
 
 emit-left : (d o : ℕ) (S : Schema) (ob : Object) (st : State) (xs : List ℕ) (n : ℕ) → length xs ≤ n → left (emit d o S ob st xs) ≤ n
 unfolding emit

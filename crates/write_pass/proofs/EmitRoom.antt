@@ -8,13 +8,13 @@ use lib.ListN.{length, take, drop, length-drop}
 use lib.Dec.{leb}
 use borrow.Author.Tests.{leb-true, not-false}
 use Rattle.coding.specs.Lists.{pick}
-use Rattle.coding.specs.Walk.{headerSize}
 use Rattle.coding.specs.Bits.{bits, value}
 use Rattle.coding.specs.Sheet.{Parsed, fail, got, takeNumber}
 use Rattle.coding.specs.declared.Kind.{Kind}
 use Rattle.coding.specs.declared.Kind.the-variants.{OfFlat, OfObject, OfUnion}
 use Rattle.laws.specs.Bits.{bits-length}
 use Rattle.bitio.specs.Taken.{TakenNumber}
+use Rattle.write_measure.specs.Survey.{headSize}
 use Rattle.write_store.specs.State.{State}
 use Rattle.write_store.specs.Storing.{HeldOk, Stood, BitPut}
 use Rattle.write_pass.specs.Emitting.{Room, EmittedAt, Lacks, Opens, extra}
@@ -113,7 +113,7 @@ module _ (s : List ℕ) (pos : ℕ) (c : Places) (room : Room s pos c) (whole : 
 
 -- in a content that was opened
 pub room-open : (s : List ℕ) (pos : ℕ) (c : Places) → Room s pos c → (o : ℕ) (put now : State) (q : Places) → Opens o put now q → o ≤ 6 → Room s pos q
-unfolding headerSize
+unfolding headSize
 room-open s pos c room o put now q t most =
     let a = room .short in
     let f = t .at in

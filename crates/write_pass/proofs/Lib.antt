@@ -7,4 +7,5 @@ pub mod MeasureCases
 pub mod RunCases
 pub mod EmitPartCases
 pub mod EmitObjectCases
+pub mod EmitDirectCases
 pub mod EmitMessageCases

@@ -2,7 +2,7 @@
 use mathlib.Core.Path.{_≡_, refl, sym, ap, _∙_, subst}
 use mathlib.Core.Bool.{Bool, true, false, not, _&&_}
 use mathlib.Core.List.{List}
-use Prim.Native.Nat.{ℕ, suc, _+_, _^_, _<_, _≤_}
+use Prim.Native.Nat.{ℕ, zero, suc, _+_, _*_, _^_, _<_, _≤_}
 use native.Mathlib.Omega.{arith}
 use native.Mathlib.Numerals.{add-one}
 use lib.ListN.{length, drop, drop-of-length-le}
@@ -20,15 +20,15 @@ use Rattle.coding.specs.declared.Kind.{Kind}
 use Rattle.coding.specs.declared.Member.{Member}
 use Rattle.coding.specs.Packed as P
 use Rattle.laws.specs.Sound.{ObjectSound}
-use Rattle.write_measure.proofs.ObjectCases.{table-counted}
+use Rattle.write_measure.proofs.ObjectCases.{table-counted, direct-counted}
 use Rattle.bitio.specs.Taken.{TakenNumber}
-use Rattle.write_measure.specs.Survey.{Surveyor, opened, surveyElements, surveyBlob, surveyContent, survey}
+use Rattle.write_measure.specs.Survey.{Surveyor, opened, surveyElements, surveyDirects, directSize, surveyBlob, surveyContent, survey}
 use Rattle.write_measure.specs.Mapped.{Has, bind-has}
 use Rattle.write_measure.specs.Surveyed.{Fits, SurveyedAt}
 use Rattle.write_measure.specs.declared.Extent.{Extent}
-use Rattle.write_pass.proofs.OpenCases.{not-list, not-table}
+use Rattle.write_pass.proofs.OpenCases.{not-list, not-table, not-direct}
 use Rattle.schema.specs.Kinds.{isBlob}
-use Rattle.write_pass.specs.Measure.{Sizes, Measured, MeasuredContent, KnownSize, anyInPlace, list-sizes, table-sizes, measured-deep, measured-content}
+use Rattle.write_pass.specs.Measure.{Sizes, Measured, MeasuredContent, KnownSize, anyInPlace, has-on, sizes-on, list-sizes, table-sizes, direct-sizes, measured-deep, measured-content}
 
 -- ---- whether a table has an in-place member, from member j on
 module _ (S : Schema) (t : ℕ) where
@@ -88,6 +88,29 @@ module _ (s : List ℕ) (pos : ℕ) (whole : Bool) (n next : ℕ) (taken : Taken
           rw e (subst (λ (x : Extent). Has (Sizes false x) (surveyElements child o S (Sc.elementOf S i) n (opened n (elementsSize o S (Sc.elementOf S i) n)) (drop next (bits s)))) same (list-sizes child o S i n (drop next (bits s))))
       is child false e = unfold surveyContent bind in rw e tt
 
+  pub direct-measured : (d o : ℕ) (S : Schema) (inplace : Bool) (t : ℕ) → ObjectSound S (O.DirectList t) → (i : ℕ) → i ≡ t
+      → (z : ℕ) → z ≡ fixedSize o S (Sc.tableOf S i .members) → (w : ℕ) → w ≡ 8 + n * z → (r : Extent) → Fits (opened n w) r
+      → Measured inplace (survey d o S (O.DirectList t) (drop pos (bits s))) r
+  direct-measured d o S inplace t sound i ei z ez w ew r f = record { is = deep d; small = f .small }
+    where
+      same : opened n (directSize o S t n) ≡ r
+      same =
+          unfold directSize in
+          sym (f .is ∙ ap (opened n) (ew ∙ ap (λ (k : ℕ). 8 + n * k) (ez ∙ ap (λ (k : ℕ). fixedSize o S (Sc.tableOf S k .members)) ei)))
+
+      is : (k : ℕ) (u : Bool) → takeNumber 32 (drop pos (bits s)) ≡ pick u (got n (drop next (bits s))) fail
+          → Has (Sizes inplace r) (surveyContent (survey k o S) o S (O.DirectList t) (drop pos (bits s)))
+      is k true e =
+          unfold surveyContent bind in
+          rw e (subst (λ (x : Extent). Has (Sizes inplace x) (surveyDirects (survey k o S) t n (opened n (directSize o S t n)) (drop next (bits s)))) same
+          (has-on _ _ (surveyDirects (survey k o S) t n (opened n (directSize o S t n)) (drop next (bits s)))
+          (direct-sizes k o S t n (sound .outside) (drop next (bits s))) (λ x q. sizes-on inplace (opened n (directSize o S t n)) x q)))
+      is k false e = unfold surveyContent bind in rw e tt
+
+      deep : (k : ℕ) → Has (Sizes inplace r) (survey k o S (O.DirectList t) (drop pos (bits s)))
+      deep zero = unfold survey in tt
+      deep (suc k) = unfold survey in is k whole (taken .number)
+
 -- ---- tables
 module _ (d o : ℕ) (S : Schema) (inplace : Bool) (xs : List ℕ) (t i : ℕ) (ei : i ≡ t) (far : Bool) (ef : far ≡ (not inplace && anyInPlace (Sc.tableOf S i .members))) where
   pub table-measured : far ≡ false → (n : ℕ) → n ≡ fixedSize o S (Sc.tableOf S i .members) → (r : Extent) → Fits (opened n n) r → Measured inplace (survey d o S (O.Table t) xs) r
@@ -123,6 +146,15 @@ module _ (d o : ℕ) (S : Schema) (ob : Object) (inplace : Bool) (xs : List ℕ)
   pub measured-table : (i : ℕ) → ob ≡ O.Table i → Measured inplace (survey d o S (O.Table i) xs) r → Measured inplace (survey d o S ob xs) r
   measured-table i e m = subst (λ (q : Object). Measured inplace (survey d o S q xs) r) (sym e) m
 
+  pub measured-direct : (i : ℕ) → ob ≡ O.DirectList i → Measured inplace (survey d o S (O.DirectList i) xs) r → Measured inplace (survey d o S ob xs) r
+  measured-direct i e m = subst (λ (q : Object). Measured inplace (survey d o S q xs) r) (sym e) m
+
+pub direct-sound : (S : Schema) (ob : Object) (i : ℕ) → ObjectSound S ob → ob ≡ O.DirectList i → ObjectSound S (O.DirectList i)
+direct-sound S ob i h e = subst (ObjectSound S) e h
+
+pub direct-known : (b : List ℕ) (i j : ℕ) → ObjectSound (P.parse b) (O.DirectList i) → j ≡ i → j < P.tableCount b
+direct-known b i j h e = direct-counted b (O.DirectList i) i j h refl e
+
 pub table-sound : (S : Schema) (ob : Object) (i : ℕ) → ObjectSound S ob → ob ≡ O.Table i → ObjectSound S (O.Table i)
 table-sound S ob i h e = subst (ObjectSound S) e h
 
@@ -133,7 +165,7 @@ table-known b i j h e = table-counted b (O.Table i) i j h refl e
 pub known-none : (o : ℕ) (S : Schema) (ob : Object) → KnownSize o S ob 0
 known-none o S ob = record { is = λ h d xs. absurd (let y : ⊥ = omega arith in y); small = omega arith }
 
-pub known-fixed : (o : ℕ) (S : Schema) (t n : ℕ) → n ≡ fixedSize o S (Sc.tableOf S t .members) → n < 2 ^ 40 → (r : Bool) → r ≡ anyInPlace (Sc.tableOf S t .members) → r ≡ false
+pub known-fixed : (o : ℕ) (S : Schema) (t n : ℕ) → n ≡ fixedSize o S (Sc.tableOf S t .members) → n < 2 ^ 21 → (r : Bool) → r ≡ anyInPlace (Sc.tableOf S t .members) → r ≡ false
     → KnownSize o S (O.Table t) n
 known-fixed o S t n en l r er h =
     record { is = λ g d xs. rw en (measured-deep d o S false (O.Table t) xs _ (λ child. table-sizes child o S false t (λ e. sym er ∙ h) xs)); small = l }
@@ -141,8 +173,8 @@ known-fixed o S t n en l r er h =
 pub known-table : (o : ℕ) (S : Schema) (ob : Object) (i j n : ℕ) → ob ≡ O.Table i → j ≡ i → KnownSize o S (O.Table j) n → KnownSize o S ob n
 known-table o S ob i j n e ej k = subst (λ (q : Object). KnownSize o S q n) (ap O.Table ej ∙ sym e) k
 
-pub known-small : (o : ℕ) (S : Schema) (ob : Object) (n : ℕ) → KnownSize o S ob n → (n < 2 ^ 40) × (n < 2 ^ 48)
-known-small o S ob n k = let l = k .small in (l, omega arith)
+pub known-small : (o : ℕ) (S : Schema) (ob : Object) (n : ℕ) → KnownSize o S ob n → (n < 2 ^ 40) × (n < 2 ^ 54)
+known-small o S ob n k = let l = k .small in (omega arith, omega arith)
 
 pub known-measured : (d o : ℕ) (S : Schema) (ob : Object) (n : ℕ) (xs : List ℕ) → KnownSize o S ob n → 0 < n → (r : Extent) → Fits (opened n n) r → Measured false (survey d o S ob xs) r
 known-measured d o S ob n xs k h r f = record { is = subst (λ (x : Extent). Has (Sizes false x) (survey d o S ob xs)) (sym (f .is)) (k .is h d xs); small = f .small }
@@ -154,3 +186,6 @@ module _ (d o : ℕ) (S : Schema) (ob : Object) (h : isBlob ob ≡ true) (xs : L
 
   pub measured-no-table : (i : ℕ) → ob ≡ O.Table i → Measured false (survey d o S ob xs) r
   measured-no-table i e = absurd (not-table ob h i e)
+
+  pub measured-no-direct : (t : ℕ) → ob ≡ O.DirectList t → Measured false (survey d o S ob xs) r
+  measured-no-direct t e = absurd (not-direct ob h t e)

@@ -8,16 +8,17 @@ use Rattle.coding.specs.Bytes.{largest}
 use Rattle.coding.specs.Lists.{pick}
 use Rattle.coding.specs.Schema as Sc
 use Rattle.coding.specs.Schema.{Schema}
-use Rattle.coding.specs.Layout.{hasFlag}
-use Rattle.coding.specs.Walk.{headerSize, magic}
+use Rattle.coding.specs.Layout.{hasFlag, fixedSize}
+use Rattle.coding.specs.Walk.{magic}
 use Rattle.coding.specs.declared.Object.{Object}
 use Rattle.laws.specs.Lists.{never}
 use Rattle.coding.specs.declared.Object.the-variants as O
 use Rattle.coding.specs.declared.Member.{Member}
+use Rattle.write_measure.specs.Survey.{headSize}
 use Rattle.write_measure.specs.Summed.{capped-most}
 use Rattle.write_measure.specs.declared.Extent.{Extent}
 use Rattle.write_store.specs.State.{State, putBit, enterObject, enterContent, putNumber}
-use Rattle.write_pass.specs.EmitSheet.{openObject, flagged}
+use Rattle.write_pass.specs.EmitSheet.{openObject, flagged, directHead}
 use Rattle.write_store.specs.Storing.{stateOf, enteredObject, enteredContent, leftObject, leftContent, HeldOk, Stood, BitPut}
 use Rattle.schema.specs.Kinds.{isBlob}
 use Rattle.write_pass.specs.Emitting.{closed, referred, opened, Opens, headed}
@@ -60,6 +61,10 @@ module _ (S : Schema) (ob : Object) where
   unfolding magic
   magic-table i j r e ej er = rw (e, ← ej) er
 
+  pub magic-direct : (t : ℕ) → ob ≡ O.DirectList t → 0xE2C6_CC05 ≡ magic S ob
+  unfolding magic
+  magic-direct t e = rw e
+
 -- ---- references
 module _ (o : ℕ) (inplace : Bool) (x : Extent) (c r : Places) (out out₁ : List ℕ) where
   pub referred-by : (y : ℕ) → y ≡ pick inplace (x .length) (c .next) → Stood o (putNumber o y (stateOf c out)) (stateOf r out₁) c r
@@ -88,7 +93,7 @@ module _ (c q : Places) (w chain : ℕ) (eq : q ≡ enteredObject w chain c) (l 
 pub header-put : (o mg : ℕ) (x : Extent) (c q h r : Places) (out out₁ out₂ : List ℕ) → c .next ≤ 16777216
     → (size : ℕ) → size ≡ 4 + o → q ≡ enteredObject (size + x .width) (x .chain) c → Stood 4 (putNumber 4 mg (stateOf q out)) (stateOf h out₁) q h
     → Stood o (putNumber o (x .length) (stateOf h out₁)) (stateOf r out₂) h r → Opens o (headed o mg x (stateOf c out)) (stateOf r out₂) r
-unfolding headed enterObject enteredObject headerSize largest
+unfolding headed enterObject enteredObject headSize largest
 header-put o mg x c q h r out out₁ out₂ l size es en₀ t u =
     let eq : q ≡ enteredObject (4 + o + x .width) (x .chain) c = en₀ ∙ ap (λ (n : ℕ). enteredObject (n + x .width) (x .chain) c) es in
     let ea = ap (λ (p : Places). p .at) eq in
@@ -114,6 +119,24 @@ pub object-opened : (o : ℕ) (S : Schema) (ob : Object) (x : Extent) (c r : Pla
     → Opens o (headed o mg x (stateOf c out)) (stateOf r out₁) r → Opens o (openObject o S ob x (stateOf c out)) (stateOf r out₁) r
 unfolding headed openObject
 object-opened o S ob x c r out out₁ mg em t = subst (λ (m : ℕ). Opens o (headed o m x (stateOf c out)) (stateOf r out₁) r) em t
+
+-- what the header of a direct list says of its elements
+pub direct-put : (o : ℕ) (S : Schema) (t : ℕ) (c p r : Places) (out out₁ out₂ : List ℕ) (id size : ℕ) → id ≡ Sc.tableOf S t .id → size ≡ fixedSize o S (Sc.tableOf S t .members)
+    → Stood 4 (putNumber 4 id (stateOf c out)) (stateOf p out₁) c p → Stood 4 (putNumber 4 size (stateOf p out₁)) (stateOf r out₂) p r
+    → Stood 8 (directHead o S t (stateOf c out)) (stateOf r out₂) c r
+unfolding directHead
+direct-put o S t c p r out out₁ out₂ id size ei es f g =
+    let a = f .at in
+    let b = g .at in
+    record {
+      is = g .is ∙ ap (putNumber 4 size) (f .is ∙ ap (λ (x : ℕ). putNumber 4 x (stateOf c out)) ei)
+          ∙ ap (λ (x : ℕ). putNumber 4 x (putNumber 4 (Sc.tableOf S t .id) (stateOf c out))) es;
+      at = omega arith;
+      free = g .free ∙ f .free;
+      held = g .held ∙ f .held;
+      tail = g .tail ∙ f .tail;
+      next = g .next ∙ f .next;
+    }
 
 module _ (o : ℕ) (S : Schema) (ob : Object) (inplace : Bool) (x : Extent) (c r : Places) where
   pub opened-content : inplace ≡ true → c .tail ≤ 16777216 → c .next ≤ 16777216 → r ≡ enteredContent (x .width) c → (out : List ℕ)
@@ -147,11 +170,18 @@ module _ (ob : Object) (h : isBlob ob ≡ true) where
   unfolding isBlob
   not-table i e = never (subst (λ (q : Object). isBlob q ≡ true) e h)
 
+  pub not-direct : (t : ℕ) → ob ≡ O.DirectList t → ⊥
+  unfolding isBlob
+  not-direct t e = never (subst (λ (q : Object). isBlob q ≡ true) e h)
+
   pub magic-no-list : (S : Schema) (i : ℕ) → ob ≡ O.List i → 0 ≡ magic S ob
   magic-no-list S i e = absurd (not-list i e)
 
   pub magic-no-table : (S : Schema) (i : ℕ) → ob ≡ O.Table i → 0 ≡ magic S ob
   magic-no-table S i e = absurd (not-table i e)
+
+  pub magic-no-direct : (S : Schema) (t : ℕ) → ob ≡ O.DirectList t → 0 ≡ magic S ob
+  magic-no-direct S t e = absurd (not-direct t e)
 
 pub terminal-opened : (o : ℕ) (S : Schema) (ob : Object) (x : Extent) (c r : Places) (out out₁ : List ℕ) (mg : ℕ) → mg ≡ magic S ob
     → Opens o (headed o mg x (stateOf c out)) (stateOf r out₁) r → Opens o (opened o S ob false x (stateOf c out)) (stateOf r out₁) r

@@ -6,7 +6,7 @@ use native.Mathlib.Omega.{arith}
 use lib.ListN.{length, length-append}
 use Rattle.coding.specs.Bytes.{leBytes}
 use Rattle.coding.specs.Cells.{Cells, width, chain, below, widthBytes, chainBytes, belowBytes, layout}
-use Rattle.coding.specs.Cells.Cells.{end, bytes, reference, inPlace}
+use Rattle.coding.specs.Cells.Cells.{end, bytes, reference, inPlace, part}
 use Rattle.write_measure.specs.SlotSizes.{length-leBytes}
 
 module _ (o : ℕ) where
@@ -18,6 +18,9 @@ module _ (o : ℕ) where
       let t = s + (width o k + chain o k + below o k) in
       omega (arith, length-append (leBytes o s) (widthBytes o t c), length-leBytes o s, length-widthBytes t c)
   length-widthBytes s (inPlace k c) = length-widthBytes (s + below o k) c
+  length-widthBytes s (part k c) =
+      let t = s + below o k in
+      omega (arith, length-append (widthBytes o s k) (widthBytes o t c), length-widthBytes s k, length-widthBytes t c)
 
   pub length-chainBytes : (s : ℕ) (c : Cells) → length (chainBytes o s c) ≡ chain o c
   unfolding chainBytes chain
@@ -29,6 +32,9 @@ module _ (o : ℕ) where
       let b = chainBytes o s k in
       let d = chainBytes o (s + below o k) c in
       omega (arith, length-append a (b ++ d), length-append b d, length-widthBytes s k, length-chainBytes s k, length-chainBytes (s + below o k) c)
+  length-chainBytes s (part k c) =
+      let t = s + below o k in
+      omega (arith, length-append (chainBytes o s k) (chainBytes o t c), length-chainBytes s k, length-chainBytes t c)
 
   pub length-belowBytes : (s : ℕ) (c : Cells) → length (belowBytes o s c) ≡ below o c
   unfolding belowBytes below
@@ -48,6 +54,8 @@ module _ (o : ℕ) where
         length-belowBytes t c,
       )
   length-belowBytes s (inPlace k c) =
+      omega (arith, length-append (belowBytes o s k) (belowBytes o (s + below o k) c), length-belowBytes s k, length-belowBytes (s + below o k) c)
+  length-belowBytes s (part k c) =
       omega (arith, length-append (belowBytes o s k) (belowBytes o (s + below o k) c), length-belowBytes s k, length-belowBytes (s + below o k) c)
 
   pub length-layout : (c : Cells) → length (layout o c) ≡ width o c + chain o c + below o c

@@ -18,7 +18,7 @@ use Rattle.write_measure.specs.declared.Extent.{Extent}
 use Rattle.write_store.specs.State.{State}
 use Rattle.write_store.specs.Storing.{stateOf}
 use Rattle.write_store.specs.declared.Places.{Places}
-use Rattle.write_pass.specs.EmitSheet.{putNothing, emitIf, emitField, emitStruct, emitFlat, pass, emitRefer, emitChoice, emitBody, emitElement, emitElements, emitContent, emit}
+use Rattle.write_pass.specs.EmitSheet.{putNothing, emitIf, emitField, emitStruct, emitFlat, pass, emitRefer, emitChoice, emitBody, emitElement, emitElements, emitDirect, emitDirects, emitContent, emit}
 use Rattle.write_pass.specs.Emitting.{emitMember, emitUnflagged, EmittedAt}
 use Rattle.write_pass.specs.Measure.{Measured}
 use Rattle.write_pass.specs.declared.Emitted.{Emitted}
@@ -72,6 +72,13 @@ module _ (o d : ℕ) (b : List ℕ) where
   -- n elements of kind k
   abbrev pub elements : Kind → ℕ → State → List ℕ → Parsed State
   elements k n st xs = emitElements (emit d o (parse b)) (survey d o (parse b)) o (parse b) k n st xs
+
+  -- an element of a direct list of table t; and n of them
+  abbrev pub direct : ℕ → State → List ℕ → Parsed State
+  direct t st xs = emitDirect (emit d o (parse b)) t st xs
+
+  abbrev pub directs : ℕ → ℕ → State → List ℕ → Parsed State
+  directs t n st xs = emitDirects (emit d o (parse b)) t n st xs
 
   abbrev pub content : Object → State → List ℕ → Parsed State
   content ob st xs = emitContent (emit d o (parse b)) (survey d o (parse b)) o (parse b) ob st xs

@@ -8,13 +8,13 @@ use lib.ListN.{length, getD, take, set, length-set}
 use lib.Seq.{sets, length-sets, getD-set-same, getD-set-other, take-all}
 use Rattle.coding.specs.Bytes.{leBytes, largest}
 use Rattle.coding.specs.Cells.{width, chain, below, widthBytes, chainBytes, belowBytes, layout, Slots, gather, packBits}
-use Rattle.coding.specs.Cells.Slots.{end, bytes, bit, reference, inPlace}
+use Rattle.coding.specs.Cells.Slots.{end, bytes, bit, reference, inPlace, part}
 use Rattle.write_measure.specs.Survey.{capped}
 use Rattle.write_measure.specs.Summed.{capped-in}
 use Rattle.write_measure.specs.SlotSizes.{length-leBytes}
 use Rattle.write_pass.specs.CellLengths.{length-widthBytes, length-chainBytes, length-belowBytes, length-layout}
 use Rattle.write_store.specs.Stores.{Holds, Same, holds-same, holds-append, holds-take, sets-before, sets-after, sets-holds}
-use Rattle.write_store.specs.State.{State, putBytes, putBitAt, putBit, enterObject, leaveObject, enterContent, leaveContent}
+use Rattle.write_store.specs.State.{State, putBytes, putBitAt, putBit, enterObject, leaveObject, enterContent, leaveContent, enterPart, leavePart}
 use Rattle.write_pass.specs.Emit.{emitSlots}
 
 -- ---- the last bool byte, while it has free bits: it lies before the next byte; it is not to be kept; it gets the bits to come
@@ -37,6 +37,7 @@ gather-zero (bytes bs t) = gather-zero t
 gather-zero (bit x t) = refl
 gather-zero (reference k t) = gather-zero t
 gather-zero (inPlace k t) = gather-zero t
+gather-zero (part k t) = gather-zero t
 
 last-same : (m : List ℕ) (f l h : ℕ) (t u : Slots) → gather f t ≡ gather f u → LastIs m f l h t → LastIs m f l h u
 last-same m zero l h t u g e = tt
@@ -239,6 +240,38 @@ module _ (o : ℕ) where
           after = λ i x. hc .after i (omega arith) ∙ hk .after i (omega arith);
         }
 
+  module _ (m m1 m2 : List ℕ) (p l f g e s : ℕ) (k t : Slots) (ok : LastOk m f l g p)
+      (a : p + (width o (packBits 0 k) + width o (packBits f t)) ≤ e) (b : e + (chain o (packBits 0 k) + chain o (packBits f t)) ≤ s)
+      (d : s + (below o (packBits 0 k) + below o (packBits f t)) ≤ length m)
+      (hk : Done m m1 p 0 0 0 e s k)
+      (hc : Done m1 m2 (p + width o (packBits 0 k)) l f g (e + chain o (packBits 0 k)) (s + below o (packBits 0 k)) t) where
+    done-part : Done m m2 p l f g e s (part k t)
+    unfolding packBits widthBytes chainBytes belowBytes width chain below gather
+    done-part =
+        let kc = packBits 0 k in
+        let c = packBits f t in
+        let r = s + below o kc in
+        let wk = widthBytes o s kc in
+        let ck = chainBytes o s kc in
+        let bk = belowBytes o s kc in
+        let lw = length-widthBytes o s kc in
+        let lc = length-chainBytes o s kc in
+        let lb = length-belowBytes o s kc in
+        let w1 = holds-same m1 m2 p wk (hc .len) (λ i x y. hc .before i (omega arith) (keep m f l g p i ok x)) (hk .own) in
+        let w2 = holds-same m1 m2 e ck (hc .len) (λ i x y. hc .gap i (omega arith) (omega arith)) (hk .inner) in
+        let w3 = holds-same m1 m2 s bk (hc .len) (λ i x y. hc .gap2 i (omega arith) (omega arith)) (hk .under) in
+        record {
+          len = hc .len ∙ hk .len;
+          own = holds-append m2 p wk (widthBytes o r c) w1 (rw lw (hc .own));
+          inner = holds-append m2 e ck (chainBytes o r c) w2 (rw lc (hc .inner));
+          under = holds-append m2 s bk (belowBytes o r c) w3 (rw lb (hc .under));
+          last = last-same m2 f l g t (part k t) refl (hc .last);
+          before = λ i x q. hc .before i (omega arith) q ∙ hk .before i x tt;
+          gap = λ i x y. hc .gap i (omega arith) (omega arith) ∙ hk .gap i (omega arith) y;
+          gap2 = λ i x y. hc .gap2 i (omega arith) (omega arith) ∙ hk .gap2 i (omega arith) y;
+          after = λ i x. hc .after i (omega arith) ∙ hk .after i (omega arith);
+        }
+
   done-end : (m : List ℕ) (p l f g e s : ℕ) → LastOk m f l g p → p ≤ e → e ≤ s → s ≤ length m → Done m m p l f g e s end
   unfolding packBits widthBytes chainBytes belowBytes width chain below
   done-end m p l f g e s k a b d =
@@ -260,30 +293,31 @@ module _ (o : ℕ) where
 
   pub record Emitted (p l f g e s : ℕ) (m : List ℕ) (st : State) (t : Slots) : Type 0 where
     pub done : Done m (st .out) p l f g e s t
+    pub at : st .at ≡ p + width o (packBits f t)
     pub tail : st .tail ≡ e + chain o (packBits f t)
     pub next : st .next ≡ s + below o (packBits f t)
 
   pub emitted : (p l f g e s : ℕ) (m : List ℕ) (t : Slots) → length m ≤ largest → LastOk m f l g p → p + width o (packBits f t) ≤ e
       → e + chain o (packBits f t) ≤ s → s + below o (packBits f t) ≤ length m → Emitted p l f g e s m (emitSlots o (state p l f g e s m) t) t
-  unfolding emitSlots packBits width chain below putBytes putBit putBitAt enterObject leaveObject enterContent leaveContent
-  emitted p l f g e s m end big k a b d = record { done = done-end m p l f g e s k (omega arith) (omega arith) (omega arith); tail = omega arith; next = omega arith }
+  unfolding emitSlots packBits width chain below putBytes putBit putBitAt enterObject leaveObject enterContent leaveContent enterPart leavePart
+  emitted p l f g e s m end big k a b d = record { done = done-end m p l f g e s k (omega arith) (omega arith) (omega arith); at = omega arith; tail = omega arith; next = omega arith }
   emitted p l f g e s m (bytes bs t) big k a b d =
       let len = length-sets m p bs in
       let h = emitted (p + length bs) l f g e s (sets m p bs) t (omega arith)
       (last-more m (sets m p bs) f l g p (p + length bs) (omega arith) (λ i x. sets-before m p bs i x) k) (omega arith) b (omega arith) in
-      record { done = done-bytes m (emitSlots o (state (p + length bs) l f g e s (sets m p bs)) t .out) p l f g e s bs t k a b d (h .done); tail = h .tail; next = h .next }
+      record { done = done-bytes m (emitSlots o (state (p + length bs) l f g e s (sets m p bs)) t .out) p l f g e s bs t k a b d (h .done); at = omega (arith, h .at); tail = h .tail; next = h .next }
   emitted p l zero g e s m (bit x t) big k a b d =
       let len = length-set m p x in
       let new = getD-set-same m p x 0 (omega arith) in
       let h = emitted (p + 1) p 7 x e s (set m p x) t (omega arith) (omega arith, omega arith, new) (omega arith) b (omega arith) in
-      record { done = done-new m (emitSlots o (state (p + 1) p 7 x e s (set m p x)) t .out) p l e s x t a b d g (h .done); tail = h .tail; next = h .next }
+      record { done = done-new m (emitSlots o (state (p + 1) p 7 x e s (set m p x)) t .out) p l e s x t a b d g (h .done); at = omega (arith, h .at); tail = h .tail; next = h .next }
   emitted p l (suc f) g e s m (bit x t) big k a b d =
       let n = g + x * 2 ^ (7 - f) in
       let len = length-set m l n in
       let lp = k .0 in
       let new = getD-set-same m l n 0 (omega arith) in
       let h = emitted p l f n e s (set m l n) t (omega arith) (last-next m (set m l n) f l g n p new k) a b (omega arith) in
-      record { done = done-old m (emitSlots o (state p l f n e s (set m l n)) t .out) p l f g e s x t k a b d (h .done); tail = h .tail; next = h .next }
+      record { done = done-old m (emitSlots o (state p l f n e s (set m l n)) t .out) p l f g e s x t k a b d (h .done); at = h .at; tail = h .tail; next = h .next }
   emitted p l f g e s m (reference k t) big ok a b d =
       let kc = packBits 0 k in
       let w = width o kc in
@@ -308,7 +342,8 @@ module _ (o : ℕ) where
       let last = emitSlots o (state (p + length (leBytes o s)) l f g e (deep .next) (deep .out)) t in
       let hd = subst (λ (n : ℕ). Done (deep .out) (last .out) (p + o) l f g e n t) er (subst (λ (n : ℕ). Done (deep .out) (last .out) (p + n) l f g e (deep .next) t) lu (hc .done)) in
       let hx = hc .next in
-      record { done = done-reference m (deep .out) (last .out) p l f g e s k t ok a b d hk hd; tail = hc .tail; next = omega arith }
+      let ha = hc .at in
+      record { done = done-reference m (deep .out) (last .out) p l f g e s k t ok a b d hk hd; at = omega arith; tail = hc .tail; next = omega arith }
   emitted p l f g e s m (inPlace k t) big ok a b d =
       let kc = packBits 0 k in
       let w = width o kc in
@@ -326,7 +361,25 @@ module _ (o : ℕ) where
       let hd = subst (λ (n : ℕ). Done (deep .out) (last .out) p l f g (e + w + c) n t) hn (subst (λ (n : ℕ). Done (deep .out) (last .out) p l f g n (deep .next) t) ht (hc .done)) in
       let xt = hc .tail in
       let xn = hc .next in
-      record { done = done-inPlace m (deep .out) (last .out) p l f g e s k t ok a b d hj hd; tail = omega arith; next = omega arith }
+      record { done = done-inPlace m (deep .out) (last .out) p l f g e s k t ok a b d hj hd; at = hc .at; tail = omega arith; next = omega arith }
+  emitted p l f g e s m (part k t) big ok a b d =
+      let kc = packBits 0 k in
+      let deep = emitSlots o (state p 0 0 0 e s m) k in
+      let hk = emitted p 0 0 0 e s m k big tt (omega arith) (omega arith) (omega arith) in
+      let lk = hk .done .len in
+      let ha = hk .at in
+      let ht = hk .tail in
+      let hn = hk .next in
+      let kept : (i : ℕ) → i < p → getD (deep .out) i 0 ≡ getD m i 0 = λ i x. hk .done .before i x tt in
+      let hc = emitted (deep .at) l f g (deep .tail) (deep .next) (deep .out) t (omega arith) (last-more m (deep .out) f l g p (deep .at) (omega arith) kept ok) (omega arith) (omega arith) (omega arith) in
+      let last = emitSlots o (state (deep .at) l f g (deep .tail) (deep .next) (deep .out)) t in
+      let h1 = subst (λ (n : ℕ). Done (deep .out) (last .out) n l f g (deep .tail) (deep .next) t) ha (hc .done) in
+      let h2 = subst (λ (n : ℕ). Done (deep .out) (last .out) (p + width o kc) l f g n (deep .next) t) ht h1 in
+      let h3 = subst (λ (n : ℕ). Done (deep .out) (last .out) (p + width o kc) l f g (e + chain o kc) n t) hn h2 in
+      let xa = hc .at in
+      let xt = hc .tail in
+      let xn = hc .next in
+      record { done = done-part m (deep .out) (last .out) p l f g e s k t ok a b d (hk .done) h3; at = omega arith; tail = omega arith; next = omega arith }
 
   -- what the pass leaves in a buffer as long as the message is the message
   pub emit-layout : (m : List ℕ) (t : Slots) → length m ≡ length (layout o (packBits 0 t)) → length m ≤ largest

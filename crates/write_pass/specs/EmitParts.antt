@@ -10,12 +10,12 @@ use Rattle.coding.specs.Lists.{pick}
 use Rattle.coding.specs.Bytes.{leBytes}
 use Rattle.coding.specs.Schema.{Schema, elementOf, casesOf, caseOf, tableOf}
 use Rattle.coding.specs.Layout.{hasFlag}
-use Rattle.coding.specs.Walk.{headerSize, magic}
+use Rattle.coding.specs.Walk.{magic}
 use Rattle.coding.specs.Value.{Value, Values, absent, unknown, blob, row, chosen, present, asNumber, asBlob, asRow, asObject, first, others}
 use Rattle.coding.specs.Cells.{width, chain, Slots, packBits}
 use Rattle.coding.specs.Cells.Slots.{end, bytes, bit, reference, inPlace}
-use Rattle.coding.specs.Sheet.{Parsed, fail, got, bind, takeNumber, takeBytes, unknownEnum, takeUnknownEnum, Decoder, takeChoice, takeBody, takeUnknownFlat, takeUnknown, takePart, unmarked, takeElement, takeMembers, takeElements, takeBlob, takeContent}
-use Rattle.coding.specs.Message.{lengthOf, Test, zeros, numberOr, flatSlots, Planner, objectSlots, referSlots, valueSlots, flagOf, memberSlots, membersSlots, elementsSlots, contentSlots}
+use Rattle.coding.specs.Sheet.{Parsed, fail, got, bind, takeNumber, takeBytes, unknownEnum, takeUnknownEnum, Decoder, takeChoice, takeBody, takeUnknownFlat, takeUnknown, takePart, unmarked, takeElement, takeMembers, takeElements, takeBlob, takeDirects, takeContent}
+use Rattle.coding.specs.Message.{lengthOf, Test, zeros, numberOr, flatSlots, Planner, objectSlots, referSlots, valueSlots, flagOf, memberSlots, membersSlots, elementsSlots, directsSlots, directSlots, contentSlots}
 use Rattle.coding.specs.declared.Flat.{Flat}
 use Rattle.coding.specs.declared.Flat.the-variants as F
 use Rattle.coding.specs.declared.Object.{Object}
@@ -24,14 +24,14 @@ use Rattle.coding.specs.declared.Kind.{Kind}
 use Rattle.coding.specs.declared.Kind.the-variants.{OfFlat, OfObject, OfUnion}
 use Rattle.coding.specs.declared.Member.{Member}
 use Rattle.laws.specs.Sound.{Sound}
-use Rattle.write_measure.specs.Survey.{capped, aboveCount, Surveyor}
-use Rattle.write_measure.specs.Mapped.{mapped, Has, mapped-same, bind-mapped, bind-has, seq, mark-mapped}
+use Rattle.write_measure.specs.Survey.{capped, aboveCount, headSize, Surveyor}
+use Rattle.write_measure.specs.Mapped.{mapped, Has, mapped-same, bind-mapped, bind-has, mapped-got, seq, mark-mapped}
 use Rattle.write_measure.specs.SlotSizes.{length-leBytes}
 use Rattle.write_measure.specs.SurveyFlats.{Present, flat-there}
 use Rattle.write_measure.specs.SurveyParts.{objectExtent, ObjectSurveyed}
-use Rattle.write_store.specs.State.{State, putBytes, putBit, enterObject, leaveObject, enterContent, leaveContent, putByte, putNumber}
+use Rattle.write_store.specs.State.{State, putBytes, putBit, enterObject, leaveObject, enterContent, leaveContent, enterPart, leavePart, putByte, putNumber}
 use Rattle.write_pass.specs.Emit.{emitSlots}
-use Rattle.write_pass.specs.EmitSheet.{putNothing, lackFlat, lack, passFlat, pass, Emitter, openObject, emitObject, emitContentAt, emitRefer, emitChoice, emitBody, emitPart, emitElement, flagged, emitMembers, emitElements, emitBlob, emitContent}
+use Rattle.write_pass.specs.EmitSheet.{putNothing, lackFlat, lack, passFlat, pass, Emitter, openObject, emitObject, emitContentAt, emitRefer, emitChoice, emitBody, emitPart, emitElement, flagged, emitMembers, emitElements, directHead, emitDirect, emitDirects, emitBlob, emitContent}
 use Rattle.write_pass.specs.EmitFlats.{put-none, if-emitted, flat-emitted, lack-emitted}
 
 has-all : {A : Type 0} (P : A → Type 0) → ((a : A) → P a) → (p : Parsed A) → Has P p
@@ -103,9 +103,9 @@ module _ (o : ℕ) (S : Schema) (sound : Sound S) (child : Emitter) (measure : S
   unfolding emitRefer emitContentAt emitObject openObject putNumber referSlots objectSlots emitSlots bind width chain packBits
   refer-emitted inplace ob st xs = by (decoder ob xs) (measured ob xs .is) (λ st′. inner ob st′ xs)
     where
-      wide : (v : Value) → headerSize o + width o (packBits 0 (P ob v)) ≡ width o (packBits 0 (objectSlots P o S ob v))
+      wide : (v : Value) → headSize o + width o (packBits 0 (P ob v)) ≡ width o (packBits 0 (objectSlots P o S ob v))
       wide v =
-          unfold objectSlots packBits width headerSize in
+          unfold objectSlots packBits width headSize in
           omega (arith, length-leBytes 4 (magic S ob), length-leBytes o (lengthOf o S ob v))
 
       at : (v : Value) (ys : List ℕ) → ((st′ : State) → child ob st′ xs ≡ got (emitSlots o st′ (P ob v)) ys) → (t : Bool)
@@ -117,7 +117,7 @@ module _ (o : ℕ) (S : Schema) (sound : Sound S) (child : Emitter) (measure : S
       at v ys c false =
           let st1 = putBytes (leBytes o (st .next)) st in
           let opens : ℕ → State = λ n. putBytes (leBytes o (lengthOf o S ob v)) (putBytes (leBytes 4 (magic S ob)) (enterObject n (capped (chain o (packBits 0 (P ob v)))) st1)) in
-          ap (λ p. bind p (λ deep zs. got (leaveObject st1 deep) zs)) (c (opens (headerSize o + width o (packBits 0 (P ob v)))))
+          ap (λ p. bind p (λ deep zs. got (leaveObject st1 deep) zs)) (c (opens (headSize o + width o (packBits 0 (P ob v)))))
           ∙ ap (λ (n : ℕ). got (leaveObject st1 (emitSlots o (opens n) (P ob v))) ys) (wide v)
 
       by : (p : Parsed Value) → measure ob xs ≡ mapped (objectExtent o S sound measure decoder P test ob) p
@@ -246,6 +246,25 @@ module _ (o : ℕ) (S : Schema) (sound : Sound S) (child : Emitter) (measure : S
       ∙ mapped-same _ _ (takeElements decoder S k n ys)
       (has-all _ (λ vs. sym (value-rest o S P k false v st (elementsSlots P o S k vs))) (takeElements decoder S k n ys)))
 
+  -- ---- the elements of a direct list
+  direct-emitted : (t : ℕ) (st : State) (xs : List ℕ)
+      → emitDirect child t st xs ≡ mapped (λ v. leavePart st (emitSlots o (enterPart st) (P (O.Table t) v))) (decoder (O.Table t) xs)
+  unfolding emitDirect
+  direct-emitted t st xs =
+      ap (λ p. bind p (λ deep ys. got (leavePart st deep) ys)) (inner (O.Table t) (enterPart st) xs)
+      ∙ mapped-got (λ v. emitSlots o (enterPart st) (P (O.Table t) v)) (leavePart st) (λ v. leavePart st (emitSlots o (enterPart st) (P (O.Table t) v)))
+      (decoder (O.Table t) xs) (has-all _ (λ v. refl) (decoder (O.Table t) xs))
+
+  directs-emitted : (t n : ℕ) (st : State) (xs : List ℕ)
+      → emitDirects child t n st xs ≡ mapped (λ vs. emitSlots o st (directsSlots P t vs)) (takeDirects decoder t n xs)
+  unfolding emitDirects takeDirects directsSlots emitSlots
+  directs-emitted t zero st xs = refl
+  directs-emitted t (suc n) st xs =
+      ap (λ p. bind p (λ next ys. emitDirects child t n next ys)) (direct-emitted t st xs)
+      ∙ seq (decoder (O.Table t) xs) (λ v. leavePart st (emitSlots o (enterPart st) (P (O.Table t) v))) (takeDirects decoder t n) (λ next ys. emitDirects child t n next ys)
+      (λ vs. emitSlots o st (directsSlots P t vs))
+      (λ v ys. directs-emitted t n (leavePart st (emitSlots o (enterPart st) (P (O.Table t) v))) ys)
+
   -- ---- contents
   blob-emitted : (f : Value → State) (more : List ℕ) (st : State) → ((l : List ℕ) → putBytes more (putBytes l st) ≡ f (blob l)) → (xs : List ℕ)
       → emitBlob more st xs ≡ mapped f (takeBlob xs)
@@ -273,3 +292,14 @@ module _ (o : ℕ) (S : Schema) (sound : Sound S) (child : Emitter) (measure : S
           ≡ mapped (λ v. emitSlots o st (membersSlots P o S (tableOf S i .members) (asRow v))) (bind p (λ vs ys. got (row vs) ys))
       close fail = unfold bind in refl
       close (got vs ys) = unfold bind asRow in refl
+  content-emitted (O.DirectList t) st xs =
+      bind-mapped _ (takeNumber 32 xs) _ _ (λ n ys. directs-emitted t n (directHead o S t st) ys ∙ close (takeDirects decoder t n ys))
+    where
+      one : (vs : Values) → emitSlots o (directHead o S t st) (directsSlots P t vs) ≡ emitSlots o st (directSlots P o S t vs)
+      one vs = unfold directHead directSlots emitSlots putNumber in refl
+
+      close : (p : Parsed Values)
+          → mapped (λ vs. emitSlots o (directHead o S t st) (directsSlots P t vs)) p
+          ≡ mapped (λ v. emitSlots o st (directSlots P o S t (asRow v))) (bind p (λ vs zs. got (row vs) zs))
+      close fail = unfold bind in refl
+      close (got vs zs) = unfold bind asRow in ap (λ st′. got st′ zs) (one vs)

@@ -9,8 +9,8 @@ use Rattle.coding.specs.Lists.{pick}
 use Rattle.coding.specs.Bytes.{noFloat, deepest}
 use Rattle.coding.specs.Schema.{Schema, structOf, elementOf, casesOf, caseOf, tableOf}
 use Rattle.coding.specs.Structs.{byIndex, structSize}
-use Rattle.coding.specs.Layout.{hasFlag}
-use Rattle.coding.specs.Walk.{headerSize, magic}
+use Rattle.coding.specs.Layout.{hasFlag, fixedSize}
+use Rattle.coding.specs.Walk.{startSize, magic}
 use Rattle.coding.specs.Message.{zeros}
 use Rattle.coding.specs.Sheet.{Parsed, fail, got, bind, takeNumber, takeBytes, unknownEnum, unmarked}
 use Rattle.coding.specs.declared.Flat.{Flat}
@@ -20,8 +20,8 @@ use Rattle.coding.specs.declared.Object.the-variants as O
 use Rattle.coding.specs.declared.Kind.{Kind}
 use Rattle.coding.specs.declared.Kind.the-variants.{OfFlat, OfObject, OfUnion}
 use Rattle.coding.specs.declared.Member.{Member}
-use Rattle.write_measure.specs.Survey.{belowCount, aboveCount, surveyMark, Surveyor, survey}
-use Rattle.write_store.specs.State.{State, putBytes, putByte, putNumber, putBit, enterObject, leaveObject, enterContent, leaveContent}
+use Rattle.write_measure.specs.Survey.{belowCount, aboveCount, surveyMark, headSize, Surveyor, survey}
+use Rattle.write_store.specs.State.{State, putBytes, putByte, putNumber, putBit, enterObject, leaveObject, enterContent, leaveContent, enterPart, leavePart}
 use Rattle.write_measure.specs.declared.Extent.{Extent}
 
 -- ---- numbers
@@ -103,7 +103,7 @@ Emitter = Object → State → List ℕ → Parsed State
 
 -- the state behind the offset, and that in which the object's content is written
 unfoldable pub openObject : ℕ → Schema → Object → Extent → State → State
-openObject o S ob x st = putNumber o (x .length) (putNumber 4 (magic S ob) (enterObject (headerSize o + x .width) (x .chain) st))
+openObject o S ob x st = putNumber o (x .length) (putNumber 4 (magic S ob) (enterObject (headSize o + x .width) (x .chain) st))
 
 unfoldable pub emitObject : Emitter → ℕ → Schema → Object → Extent → State → List ℕ → Parsed State
 emitObject child o S ob x st xs =
@@ -157,6 +157,18 @@ emitElements child measure o S k zero st xs = got st xs
 emitElements child measure o S k (suc n) st xs =
     bind (emitElement child measure o S k st xs) (λ next ys. emitElements child measure o S k n next ys)
 
+-- what the header of a direct list of table t says of its elements: the table's id, and its full size
+unfoldable pub directHead : ℕ → Schema → ℕ → State → State
+directHead o S t st = putNumber 4 (fixedSize o S (tableOf S t .members)) (putNumber 4 (tableOf S t .id) st)
+
+-- an element of a direct list of table t, whose bools have bytes of their own; and the elements in turn
+unfoldable pub emitDirect : Emitter → ℕ → State → List ℕ → Parsed State
+emitDirect child t st xs = bind (child (O.Table t) (enterPart st) xs) (λ inner ys. got (leavePart st inner) ys)
+
+unfoldable pub emitDirects : Emitter → ℕ → ℕ → State → List ℕ → Parsed State
+emitDirects child t zero st xs = got st xs
+emitDirects child t (suc n) st xs = bind (emitDirect child t st xs) (λ next ys. emitDirects child t n next ys)
+
 -- the content of a text or bytes, with the bytes `more` behind its own
 unfoldable pub emitBlob : List ℕ → State → List ℕ → Parsed State
 emitBlob more st xs = bind (takeNumber 32 xs) (λ n ys. bind (takeBytes n ys) (λ l zs. got (putBytes more (putBytes l st)) zs))
@@ -167,6 +179,8 @@ emitContent child measure o S O.Bytes st xs = emitBlob [] st xs
 emitContent child measure o S (O.List i) st xs =
     bind (takeNumber 32 xs) (λ n ys. emitElements child measure o S (elementOf S i) n st ys)
 emitContent child measure o S (O.Table i) st xs = emitMembers child measure o S (tableOf S i .members) st xs
+emitContent child measure o S (O.DirectList t) st xs =
+    bind (takeNumber 32 xs) (λ n ys. emitDirects child t n (directHead o S t st) ys)
 
 -- an object's content, where d objects may stand below each other, this one counted
 unfoldable pub emit : ℕ → ℕ → Schema → Object → State → List ℕ → Parsed State
@@ -177,4 +191,4 @@ emit (suc d) o S ob st xs = emitContent (emit d o S) (survey d o S) o S ob st xs
 unfoldable pub emitMessage : ℕ → Schema → List ℕ → List ℕ → Parsed State
 emitMessage o S out xs =
     emitRefer (emit deepest o S) (survey deepest o S) o S false (O.Table (S .root))
-    (putNumber 4 0xB5C0_C4B3 (record { at = 0; last = 0; free = 0; held = 0; tail = headerSize o; next = headerSize o; out = out })) xs
+    (putNumber 4 0xB5C0_C4B3 (record { at = 0; last = 0; free = 0; held = 0; tail = startSize o; next = startSize o; out = out })) xs

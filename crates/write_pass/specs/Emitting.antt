@@ -9,7 +9,6 @@ use Rattle.coding.specs.Lists.{pick}
 use Rattle.coding.specs.Bytes.{noFloat}
 use Rattle.coding.specs.Bits.{bits}
 use Rattle.coding.specs.Schema.{Schema}
-use Rattle.coding.specs.Walk.{headerSize}
 use Rattle.coding.specs.Sheet.{Parsed, fail, got, unknownEnum}
 use Rattle.coding.specs.declared.Object.{Object}
 use Rattle.coding.specs.declared.Flat.{Flat}
@@ -17,7 +16,7 @@ use Rattle.coding.specs.declared.Kind.{Kind}
 use Rattle.coding.specs.declared.Kind.the-variants.{OfFlat, OfObject, OfUnion}
 use Rattle.coding.specs.declared.Member.{Member}
 use Rattle.schema.specs.Kinds.{isBlob}
-use Rattle.write_measure.specs.Survey.{belowCount, surveyMark, Surveyor}
+use Rattle.write_measure.specs.Survey.{belowCount, surveyMark, headSize, Surveyor}
 use Rattle.write_measure.specs.declared.Extent.{Extent}
 use Rattle.write_store.specs.State.{State, enterObject, enterContent, putByte, putNumber}
 use Rattle.write_pass.specs.EmitSheet.{Emitter, putNothing, emitIf, openObject, emitPart, flagged, emitNumber, lackFlat, passFlat, emitFlat, emitBlob}
@@ -47,7 +46,7 @@ referred o inplace x st = pick inplace (putNumber o (x .length) st) (putNumber o
 
 -- an object's header by its magic, at the next object's place
 unfoldable pub headed : ℕ → ℕ → Extent → State → State
-headed o mg x st = putNumber o (x .length) (putNumber 4 mg (enterObject (headerSize o + x .width) (x .chain) st))
+headed o mg x st = putNumber o (x .length) (putNumber 4 mg (enterObject (headSize o + x .width) (x .chain) st))
 
 -- where an object's content is stored: behind its header, or in place
 unfoldable pub opened : ℕ → Schema → Object → Bool → Extent → State → State
@@ -123,6 +122,6 @@ pub record Lacks (put now : State) (c r : Places) : Type 0 where
 pub record Opens (o : ℕ) (put now : State) (r : Places) : Type 0 where
   pub is : now ≡ put
   pub bool : HeldOk r
-  pub at : r .at ≤ 16777216 + headerSize o
+  pub at : r .at ≤ 16777216 + headSize o
   pub tail : r .tail ≤ 16777216
   pub next : r .next ≤ 16777216

@@ -18,7 +18,8 @@ use Rattle.coding.specs.declared.Kind.{Kind}
 use Rattle.coding.specs.declared.Kind.the-variants.{OfFlat, OfObject, OfUnion}
 use Rattle.coding.specs.declared.Member.{Member}
 use Rattle.laws.specs.Lists.{never}
-use Rattle.write_measure.specs.Survey.{capped, surveyMark, plain, opened, joined, referred, mayLack, Surveyor, plainOf, surveyObject, surveyChoice, surveyFlat, surveyStruct, surveyBody, surveyUnknownFlat, surveyUnknown, surveyPart, surveyElement, surveyMembers, surveyElements, surveyContent, survey}
+use Rattle.laws.specs.Sound.{inplaceCount}
+use Rattle.write_measure.specs.Survey.{capped, surveyMark, plain, opened, joined, referred, mayLack, Surveyor, plainOf, surveyObject, surveyChoice, surveyFlat, surveyStruct, surveyBody, surveyUnknownFlat, surveyUnknown, surveyPart, surveyElement, surveyMembers, surveyElements, surveyDirects, directSize, surveyContent, survey}
 use Rattle.write_measure.specs.Surveyed.{Small}
 use Rattle.write_measure.specs.Mapped.{Has, bind-has}
 use Rattle.write_measure.specs.Summed.{capped-in}
@@ -43,14 +44,14 @@ pub record MeasuredContent (o : ℕ) (S : Schema) (ob : Object) (xs : List ℕ) 
 -- where it is not 0, n is the length and the width of the object, whatever its sheet is, and nothing stands in place behind it
 pub record KnownSize (o : ℕ) (S : Schema) (ob : Object) (n : ℕ) : Type 0 where
   pub is : 0 < n → (d : ℕ) (xs : List ℕ) → Has (Sizes false (opened n n)) (survey d o S ob xs)
-  pub small : n < 2 ^ 40
+  pub small : n < 2 ^ 21
 
 unfoldable pub anyInPlace : List Member → Bool
 anyInPlace [] = false
 anyInPlace (r ∷ rs) = pick (r .inplace) true (anyInPlace rs)
 
 -- ---- what holds of whatever was got
-has-on : {A : Type 0} (P Q : A → Type 0) (p : Parsed A) → Has P p → ((a : A) → P a → Q a) → Has Q p
+pub has-on : {A : Type 0} (P Q : A → Type 0) (p : Parsed A) → Has P p → ((a : A) → P a → Q a) → Has Q p
 has-on P Q fail h f = tt
 has-on P Q (got a xs) h f = f a h
 
@@ -161,6 +162,18 @@ module _ (child : Surveyor) (o : ℕ) (S : Schema) where
       bind-on Unchained Unchained (surveyElement child o S k xs) _ (element-unchained k xs)
       (λ e ys g. elements-unchained k m (joined a e) (joined-unchained a e f g) ys)
 
+  -- of a direct list
+  directs-sized : (n w t m : ℕ) (a : Extent) → a .length ≡ n → a .width ≡ w → (xs : List ℕ) → Has (Sized n w) (surveyDirects child t m a xs)
+  unfolding surveyDirects joined
+  directs-sized n w t zero a f g xs = (f, g)
+  directs-sized n w t (suc m) a f g xs = bind-has (Sized n w) (child (O.Table t) xs) _ (λ e ys. directs-sized n w t m (joined a e) f g ys)
+
+  directs-unchained : (t : ℕ) → ((ys : List ℕ) → Has Unchained (child (O.Table t) ys)) → (m : ℕ) (a : Extent) → a .chain ≡ 0 → (xs : List ℕ) → Has Unchained (surveyDirects child t m a xs)
+  unfolding surveyDirects
+  directs-unchained t h zero a f xs = f
+  directs-unchained t h (suc m) a f xs =
+      bind-on Unchained Unchained (child (O.Table t) xs) _ (h xs) (λ e ys g. directs-unchained t h m (joined a e) (joined-unchained a e f g) ys)
+
 -- ---- objects
 sizes-of : (inplace : Bool) (n w : ℕ) (x : Extent) → Sized n w x → (inplace ≡ false → Unchained x) → Sizes inplace (opened n w) x
 unfolding opened
@@ -213,3 +226,27 @@ measured-content d o S inplace ob xs r m =
       is = measured-deep d o S inplace ob xs r (λ child. has-on (Sizes false r) (Sizes inplace r) (surveyContent child o S ob xs) (m .is child) (λ x s. sizes-on inplace r x s));
       small = m .small;
     }
+
+-- ---- direct lists
+pub none-in-place : (rs : List Member) → inplaceCount rs ≡ 0 → anyInPlace rs ≡ false
+unfolding inplaceCount anyInPlace
+none-in-place [] h = refl
+none-in-place (r ∷ rs) h = by (r .inplace) h (λ e. none-in-place rs e)
+  where
+    by : (t : Bool) → pick t 1 0 + inplaceCount rs ≡ 0 → (inplaceCount rs ≡ 0 → anyInPlace rs ≡ false) → pick t true (anyInPlace rs) ≡ false
+    by true e k = absurd (let y : ⊥ = omega arith in y)
+    by false e k = k (omega arith)
+
+pub direct-sizes : (d o : ℕ) (S : Schema) (t m : ℕ) → inplaceCount (tableOf S t .members) ≡ 0 → (xs : List ℕ)
+    → Has (Sizes false (opened m (directSize o S t m))) (surveyDirects (survey d o S) t m (opened m (directSize o S t m)) xs)
+unfolding opened
+direct-sizes d o S t m h xs =
+    let w = directSize o S t m in
+    let n = fixedSize o S (tableOf S t .members) in
+    has-both (Sized m w) Unchained (Sizes false (opened m w)) (surveyDirects (survey d o S) t m (opened m w) xs)
+    (directs-sized (survey d o S) o S m w t m (opened m w) (unfold opened in refl) (unfold opened in refl) xs)
+    (directs-unchained (survey d o S) o S t
+    (λ ys. has-on (Sizes false (opened n n)) Unchained (survey d o S (O.Table t) ys)
+    (measured-deep d o S false (O.Table t) ys (opened n n) (λ child. table-sizes child o S false t (λ e. none-in-place (tableOf S t .members) h) ys))
+    (λ x s. sym (s .chain refl))) m (opened m w) (unfold opened in refl) xs)
+    (λ x s c. sizes-of false m w x s (λ e. c))

@@ -4,6 +4,7 @@ use coding::Kind;
 use coding::Member;
 use coding::Object;
 use message_header::BytesObject;
+use message_header::DirectObject;
 use message_header::ListObject;
 use message_header::TableObject;
 use message_header::TextObject;
@@ -573,6 +574,7 @@ fn object_magic(b: &[u8], dir: &[u16], ob: Object) -> u64
         Object::Bytes => BytesObject::MAGIC,
         Object::List(_) => ListObject::MAGIC,
         Object::Table(t) => schema::table_id(b, dir, wire::index(t)),
+        Object::DirectList(_) => DirectObject::MAGIC,
     }
 }
 
@@ -592,8 +594,8 @@ fn put_reference(out: &mut [u8], inplace: bool, e: Extent, c: Places, o: usize) 
     write_store::put_offset(out, c, x as u64, o)
 }
 
-// A header at the next object's place, by the object's magic and extent; behind it the content goes on. All types of objects
-// have headers of one size.
+// A header at the next object's place, by the object's magic and extent; behind it the content goes on. All headers begin with a
+// magic and a length, as a table's does; what that of a direct list says more is stored with its content.
 fn put_header(out: &mut [u8], magic: u64, e: Extent, c: Places, o: usize) -> Places
     requires { ⌜ (Width o) × (Small e) × (c .next ≤ 16777216) ⌝ }
     ensures { λ r. ⌜ Eg.Opens o (Eg.headed o magic e (stateOf c (now (out .entry)))) (stateOf r (now (out .exit))) r ⌝ }
@@ -617,6 +619,16 @@ fn open_object(
     ensures { λ r. ⌜ Eg.Opens o (Es.openObject o (P.parse (now (b .entry))) ob e (stateOf c (now (out .entry)))) (stateOf r (now (out .exit))) r ⌝ }
 {
     put_header(out, object_magic(b, dir, ob), e, c, o)
+}
+
+// What the header of a direct list of table t says of its elements: the table's id, and its full size.
+fn put_direct(b: &[u8], dir: &[u16], out: &mut [u8], t: usize, c: Places, o: usize) -> Places
+    requires { ⌜ (Accepted (now b) (now dir)) × (Width o) × (t < P.tableCount (now b)) × (c .at < 2 ^ 60) ⌝ }
+    ensures { λ r. ⌜ Stood 8 (Es.directHead o (P.parse (now (b .entry))) t (stateOf c (now (out .entry)))) (stateOf r (now (out .exit))) c r ⌝ }
+{
+    let size = write_measure::fixed_size(b, dir, t, o);
+    let p = write_store::put_number(out, c, 4, schema::table_id(b, dir, t));
+    write_store::put_number(out, p, 4, size as u64)
 }
 
 // Where the content is stored: c is behind what refers to it.
@@ -722,6 +734,26 @@ fn measure_table(
     write_measure::opened(n, n)
 }
 
+// The extent of a direct list of table t, which has no in-place member.
+fn measure_direct(
+    b: &[u8],
+    dir: &[u16],
+    s: &[u8],
+    d: usize,
+    t: u8,
+    inplace: bool,
+    pos: usize,
+    o: usize,
+) -> Extent
+    requires { ⌜ (Accepted (now b) (now dir)) × (Width o) × (ObjectSound (P.parse (now b)) (Object.DirectList t)) × Inside (now s) pos ⌝ }
+    ensures { λ r. ⌜ By.Measures o d (now (b .entry)) inplace (Object.DirectList t) (now (s .entry)) pos r ⌝ }
+{
+    let x = bitio::take_number(s, pos, 32);
+    let n = x.value as usize;
+    let size = write_measure::fixed_size(b, dir, wire::index(t), o);
+    write_measure::opened(n, write_measure::direct_size(size, n))
+}
+
 // The length and the width of an object, and what stands in place behind it unless it stands in place itself. They are right
 // where the sheet is lawful; the pass finds out where it is not.
 fn measure(
@@ -742,6 +774,7 @@ fn measure(
         Object::Bytes => measure_blob(s, pos, 0),
         Object::List(i) => measure_list(b, dir, s, wire::index(i), pos, o),
         Object::Table(t) => measure_table(b, dir, s, d, t, inplace, pos, o),
+        Object::DirectList(t) => measure_direct(b, dir, s, d, t, inplace, pos, o),
     }
 }
 
@@ -768,6 +801,7 @@ fn known_size(b: &[u8], dir: &[u16], ob: Object, o: usize) -> usize
         Object::Bytes => 0,
         Object::List(_) => 0,
         Object::Table(t) => known_table(b, dir, wire::index(t), o),
+        Object::DirectList(_) => 0,
     }
 }
 
@@ -824,6 +858,7 @@ fn measure_terminal(b: &[u8], s: &[u8], d: usize, ob: Object, pos: usize, o: usi
         Object::Bytes => measure_blob(s, pos, 0),
         Object::List(_) => measure_blob(s, pos, 0),
         Object::Table(_) => measure_blob(s, pos, 0),
+        Object::DirectList(_) => measure_blob(s, pos, 0),
     }
 }
 
@@ -837,6 +872,7 @@ fn terminal_magic(b: &[u8], ob: Object) -> u64
         Object::Bytes => BytesObject::MAGIC,
         Object::List(_) => 0,
         Object::Table(_) => 0,
+        Object::DirectList(_) => 0,
     }
 }
 
@@ -871,6 +907,7 @@ fn terminal_content(
         Object::Bytes => emit_bytes(s, out, c, pos),
         Object::List(_) => not_lawful(c, pos),
         Object::Table(_) => not_lawful(c, pos),
+        Object::DirectList(_) => not_lawful(c, pos),
     }
 }
 
@@ -1334,6 +1371,92 @@ fn emit_list(
     }
 }
 
+// ---- direct lists
+// An element of a direct list of table t: its members where it stands, its bools in bytes of its own.
+fn emit_direct(
+    b: &[u8],
+    dir: &[u16],
+    s: &[u8],
+    out: &mut [u8],
+    d: usize,
+    t: usize,
+    c: Places,
+    pos: usize,
+    o: usize,
+) -> Emitted
+    requires { ⌜ (Accepted (now b) (now dir)) × (Width o) × (t < P.tableCount (now b)) ⌝ }
+    requires { ⌜ Room (now s) pos c ⌝ }
+    ensures { λ r. ⌜ By.Emits (now (s .entry)) pos (By.direct o d (now (b .entry)) t) c (now (out .entry)) 0 r (now (out .exit)) ⌝ }
+{
+    if d == 0 {
+        return not_lawful(c, pos);
+    }
+    let q = write_store::enter_part(c);
+    let y = emit_table(b, dir, s, out, d - 1, t, q, pos, o);
+    if !y.whole {
+        return not_lawful(c, pos);
+    }
+    let next = y.next;
+    stored(write_store::leave_part(c, y.places), next)
+}
+
+// n elements of a direct list of table t.
+fn emit_directs(
+    b: &[u8],
+    dir: &[u16],
+    s: &[u8],
+    out: &mut [u8],
+    d: usize,
+    t: usize,
+    n: usize,
+    c: Places,
+    pos: usize,
+    o: usize,
+) -> Emitted
+    requires { ⌜ (Accepted (now b) (now dir)) × (Width o) × (t < P.tableCount (now b)) × (n < 2 ^ 32) ⌝ }
+    requires { ⌜ Room (now s) pos c ⌝ }
+    ensures { λ r. ⌜ By.Emits (now (s .entry)) pos (By.directs o d (now (b .entry)) t n) c (now (out .entry)) 0 r (now (out .exit)) ⌝ }
+{
+    let mut p = c;
+    let mut at = pos;
+    let mut j: usize = 0;
+    while j < n {
+        let x = emit_direct(b, dir, s, out, d, t, p, at, o);
+        if !x.whole {
+            return not_lawful(c, pos);
+        }
+        at = x.next;
+        p = write_store::copied(x.places);
+        j += 1;
+    }
+    stored(p, at)
+}
+
+// The content of a direct list of table t.
+fn emit_direct_list(
+    b: &[u8],
+    dir: &[u16],
+    s: &[u8],
+    out: &mut [u8],
+    d: usize,
+    t: usize,
+    c: Places,
+    pos: usize,
+    o: usize,
+) -> Emitted
+    requires { ⌜ (Accepted (now b) (now dir)) × (Width o) × (t < P.tableCount (now b)) ⌝ }
+    requires { ⌜ Room (now s) pos c ⌝ }
+    ensures { λ r. ⌜ By.Emits (now (s .entry)) pos (By.content o d (now (b .entry)) (Object.DirectList t)) c (now (out .entry)) 0 r (now (out .exit)) ⌝ }
+{
+    let y = bitio::take_number(s, pos, 32);
+    if !y.whole {
+        return not_lawful(c, pos);
+    }
+    let n = y.value as usize;
+    let p = put_direct(b, dir, out, t, c, o);
+    emit_directs(b, dir, s, out, d, t, n, p, y.next, o)
+}
+
 // An object's content, where d objects may stand below each other, this one counted.
 fn emit_content(
     b: &[u8],
@@ -1358,5 +1481,6 @@ fn emit_content(
         Object::Bytes => emit_bytes(s, out, c, pos),
         Object::List(i) => emit_list(b, dir, s, out, d - 1, wire::index(i), c, pos, o),
         Object::Table(t) => emit_table(b, dir, s, out, d - 1, wire::index(t), c, pos, o),
+        Object::DirectList(t) => emit_direct_list(b, dir, s, out, d - 1, wire::index(t), c, pos, o),
     }
 }

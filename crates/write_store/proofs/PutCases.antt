@@ -11,7 +11,7 @@ use Rattle.laws.specs.Bits.{pack-length}
 use Rattle.write_measure.specs.Survey.{capped}
 use Rattle.write_measure.specs.SlotSizes.{length-leBytes}
 use Rattle.write_store.specs.State.{putBytes, putByte, putNumber}
-use Rattle.write_store.specs.Storing.{stateOf, forward, enteredObject, enteredContent, leftObject, leftContent, Stood}
+use Rattle.write_store.specs.Storing.{stateOf, forward, enteredObject, enteredContent, leftObject, leftContent, enteredPart, leftPart, Stood}
 use Rattle.write_store.specs.declared.Places.{Places}
 
 -- ---- moves
@@ -39,6 +39,15 @@ pub left-content : (c i : Places)
     → _≡_ {A = Places} (record { at = c .at; last = c .last; free = c .free; held = c .held; tail = i .tail; next = i .next }) (leftContent c i)
 unfolding leftContent
 left-content c i = refl
+
+pub entered-part : (c : Places) → _≡_ {A = Places} (record { at = c .at; last = 0; free = 0; held = 0; tail = c .tail; next = c .next }) (enteredPart c)
+unfolding enteredPart
+entered-part c = refl
+
+pub left-part : (c inner : Places)
+    → _≡_ {A = Places} (record { at = inner .at; last = c .last; free = c .free; held = c .held; tail = inner .tail; next = inner .next }) (leftPart c inner)
+unfolding leftPart
+left-part c inner = refl
 
 -- ---- runs of bytes
 stood : (c r : Places) (n : ℕ) (bs o o₁ : List ℕ) → length bs ≡ n → o₁ ≡ sets o (c .at) bs → r ≡ forward n c

@@ -100,3 +100,19 @@ leaveContent st inner =
       next = inner .next;
       out = inner .out;
     }
+
+-- a part that stands here, with bool bytes of its own; and behind it
+unfoldable pub enterPart : State → State
+enterPart st = record { at = st .at; last = 0; free = 0; held = 0; tail = st .tail; next = st .next; out = st .out }
+
+unfoldable pub leavePart : State → State → State
+leavePart st inner =
+    record {
+      at = inner .at;
+      last = st .last;
+      free = st .free;
+      held = st .held;
+      tail = inner .tail;
+      next = inner .next;
+      out = inner .out;
+    }

@@ -29,6 +29,13 @@ unfoldable pub leftContent : Places → Places → Places
 leftContent c inner =
     record { at = c .at; last = c .last; free = c .free; held = c .held; tail = inner .tail; next = inner .next }
 
+unfoldable pub enteredPart : Places → Places
+enteredPart c = record { at = c .at; last = 0; free = 0; held = 0; tail = c .tail; next = c .next }
+
+unfoldable pub leftPart : Places → Places → Places
+leftPart c inner =
+    record { at = inner .at; last = c .last; free = c .free; held = c .held; tail = inner .tail; next = inner .next }
+
 -- ---- numbers that fit
 -- what the last bool byte holds has the bits that are not free
 pub record HeldOk (c : Places) : Type 0 where

@@ -317,7 +317,7 @@ pub fn copied(c: Places) -> Places
 
 // At the start of the next object: of w bytes, with `chain` bytes in place behind it.
 pub fn enter_object(c: Places, w: usize, chain: usize) -> Places
-    requires { ⌜ (c .next ≤ 16777216) × (w < 2 ^ 49) × (chain ≤ 16777216) ⌝ }
+    requires { ⌜ (c .next ≤ 16777216) × (w < 2 ^ 55) × (chain ≤ 16777216) ⌝ }
     ensures { λ r. ⌜ r ≡ Sg.enteredObject w chain c ⌝ }
 {
     let next = c.next;
@@ -334,7 +334,7 @@ pub fn enter_object(c: Places, w: usize, chain: usize) -> Places
 
 // At the start of the next content in place, of w bytes.
 pub fn enter_content(c: Places, w: usize) -> Places
-    requires { ⌜ (c .tail ≤ 16777216) × (w < 2 ^ 49) ⌝ }
+    requires { ⌜ (c .tail ≤ 16777216) × (w < 2 ^ 55) ⌝ }
     ensures { λ r. ⌜ r ≡ Sg.enteredContent w c ⌝ }
 {
     let tail = c.tail;
@@ -374,6 +374,43 @@ pub fn leave_content(c: Places, inner: Places) -> Places
     ensures { λ r. ⌜ r ≡ Sg.leftContent c inner ⌝ }
 {
     let at = c.at;
+    let last = c.last;
+    let free = c.free;
+    let held = c.held;
+    let tail = inner.tail;
+    let next = inner.next;
+    Places {
+        at,
+        last,
+        free,
+        held,
+        tail,
+        next,
+    }
+}
+
+// At the start of a part that stands here, with bool bytes of its own.
+pub fn enter_part(c: Places) -> Places
+    ensures { λ r. ⌜ r ≡ Sg.enteredPart c ⌝ }
+{
+    let at = c.at;
+    let tail = c.tail;
+    let next = c.next;
+    Places {
+        at,
+        last: 0,
+        free: 0,
+        held: 0,
+        tail,
+        next,
+    }
+}
+
+// Behind such a part: c is where it stands.
+pub fn leave_part(c: Places, inner: Places) -> Places
+    ensures { λ r. ⌜ r ≡ Sg.leftPart c inner ⌝ }
+{
+    let at = inner.at;
     let last = c.last;
     let free = c.free;
     let held = c.held;

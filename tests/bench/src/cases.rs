@@ -2,8 +2,8 @@
 
 use crate::message::{Fixed, Message, BYTES_MAGIC, LIST_MAGIC};
 use crate::schema::{
-    plain, Record, Schema, Table, BOOL, BYTES, ENUM, F64, LIST, STRUCT, TABLE, TEXT, U16, U64,
-    UNION,
+    plain, Record, Schema, Table, BOOL, BYTES, DIRECT, ENUM, F64, LIST, STRUCT, TABLE, TEXT, U16,
+    U64, UNION,
 };
 use reference::{Verdict, NO_MEMBER};
 use scalgo::Budget;
@@ -106,6 +106,9 @@ pub const CASES: &[fn() -> Case] = &[
     || blob(Bits48),
     || blob(Bits32),
     || whole_blob(Bits48),
+    direct_tables,
+    direct_numbers,
+    || direct_of_no_bytes(1_000_000),
 ];
 
 /// How many of a kind a schema may have.
@@ -585,4 +588,100 @@ pub fn whole_blob(coding: Coding) -> Case {
     };
     let name = "(i) the same, all allowed";
     Case::new(name, schema.pack(), message, expected)
+}
+
+/// The root has a direct list of table 1 with these members and nothing else.
+fn direct_schema(members: &[Record]) -> Schema {
+    Schema {
+        tables: vec![
+            Table::new(ROOT, &[Record::of(DIRECT, 1)]),
+            Table::new(INNER, members),
+        ],
+        ..Schema::default()
+    }
+}
+
+/// The root and the header of its direct list, whose elements come next.
+fn put_direct(count: usize, size: usize) -> Message {
+    let mut message = Message::new(Bits48);
+    message.header(ROOT, message.width());
+    message.refer_behind();
+    message.direct_header(count, INNER, size);
+    message
+}
+
+/// An accepted message of which the content is known too.
+fn direct_case(
+    name: &str,
+    schema: &Schema,
+    message: Message,
+    visits: usize,
+    content: usize,
+) -> Case {
+    let expected = Expected {
+        content: Some(content as u64),
+        ..Expected::new(0, 0, visits as u32)
+    };
+    Case::new(name, schema.pack(), message, expected)
+}
+
+/// Direct elements, each a U16 and a text of two bytes.
+pub fn direct_tables() -> Case {
+    const SIZE: usize = 8;
+    let schema = direct_schema(&[plain(U16), plain(TEXT)]);
+    let mut message = put_direct(ELEMENTS, SIZE);
+    let elements = message.end();
+    message.zeros(SIZE * ELEMENTS);
+    for number in 0..ELEMENTS {
+        let element = elements + SIZE * number;
+        message.set_u16(element, number as u16);
+        message.set_offset(element + 2, message.end());
+        message.text(b"ab");
+    }
+    let content = 6 + (SIZE + 2) * ELEMENTS;
+    let name = "(j) 100,000 direct elements of a U16 and a text";
+    direct_case(name, &schema, message, 2 + 2 * ELEMENTS, content)
+}
+
+/// Direct elements of 16 numbers: U8 to U64, I8 to I64, F32 and F64, and the first six again.
+pub fn direct_numbers() -> Case {
+    const KINDS: [u8; 16] = [1, 2, 3, 4, 5, 6, 7, 8, 9, 10, 1, 2, 3, 4, 5, 6];
+    let width = |kind: u8| match kind {
+        9 => 4,
+        10 => 8,
+        _ => 1 << ((kind - 1) % 4),
+    };
+    let size = KINDS.into_iter().map(width).sum();
+    let mut message = put_direct(ELEMENTS, size);
+    for number in 0..ELEMENTS {
+        for (member, kind) in KINDS.into_iter().enumerate() {
+            let value = (number * 16 + member) as u64;
+            message.put(&value.to_le_bytes()[..width(kind)]);
+        }
+    }
+    let name = "(j) 100,000 direct elements of 16 numbers";
+    let schema = direct_schema(&KINDS.map(plain));
+    direct_case(name, &schema, message, 2 + ELEMENTS, 6 + size * ELEMENTS)
+}
+
+/// How many elements of no bytes a small message names.
+const MANY: usize = 4_000_000_000;
+
+/// Four billion direct elements of no bytes, of which so many visits are allowed.
+pub fn direct_of_no_bytes(visits: u32) -> Case {
+    let schema = direct_schema(&[plain(U16), plain(TEXT)]);
+    let message = put_direct(MANY, 0);
+    let all = MANY as u32 + 2;
+    let expected = Expected {
+        content: Some(6),
+        ..match visits < all {
+            true => Expected::new(4, message.end(), visits),
+            false => Expected::new(0, 0, all),
+        }
+    };
+    let name = format!("(j) 4,000,000,000 of no bytes, {visits} visits");
+    Case {
+        budget: Budget::of_visits(visits),
+        ..Case::new(&name, schema.pack(), message, expected)
+    }
 }

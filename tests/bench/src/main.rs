@@ -1,6 +1,7 @@
 //! Times the library and the second program on the same messages, in one process and in turn, and
-//! measures the stack that each uses at the greatest depth. `--quick` takes few samples; `--tasks`
-//! times all but judging, and `--spin NAME` runs one of those for a profiler.
+//! measures the stack that each uses at the greatest depth. `--quick` takes few samples and leaves
+//! out the case that takes seconds; `--tasks` times all but judging, and `--spin NAME` runs one of
+//! those for a profiler.
 //!
 //! It fails where a verdict is not the expected one or the two programs differ.
 
@@ -129,6 +130,22 @@ fn times(plan: &Plan) -> bool {
     sound
 }
 
+/// Four billion direct elements of no bytes with the largest allowance: the library alone, once.
+fn time_the_longest() -> bool {
+    let case = cases::direct_of_no_bytes(u32::MAX);
+    let began = Instant::now();
+    let verdict = ours(black_box(&case));
+    let spent = began.elapsed().as_secs_f64();
+    let objects = f64::from(case.expected.visits);
+    let each = 1e9 * spent / objects;
+    println!("{:<50} {spent:.1} seconds, {each:.2} ns/object", case.name);
+    let sound = case.expected.is(&verdict);
+    if !sound {
+        println!("  expected {:?}\n  ours: {verdict:?}", case.expected);
+    }
+    sound
+}
+
 fn time_task(plan: &Plan, task: &Task) {
     SUMMED.with_borrow_mut(|summed| *summed = false);
     let (ours, second) = timing::in_turn(
@@ -253,7 +270,7 @@ fn main() -> ExitCode {
     let words: Vec<&str> = arguments.iter().map(String::as_str).collect();
     let full = Plan::full();
     let sound = match words.as_slice() {
-        [] => all(&full),
+        [] => all(&full) & time_the_longest(),
         ["--quick"] => all(&Plan::quick()),
         ["--tasks"] => time_tasks(&full),
         ["--quick", "--tasks"] => time_tasks(&Plan::quick()),

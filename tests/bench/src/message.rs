@@ -6,6 +6,7 @@ const MESSAGE_MAGIC: u32 = 0xB5C0_C4B3;
 const TEXT_MAGIC: u32 = 0xD812_C8F5;
 pub const BYTES_MAGIC: u32 = 0xDCDB_BE10;
 pub const LIST_MAGIC: u32 = 0x3400_BB46;
+const DIRECT_MAGIC: u32 = 0xE2C6_CC05;
 
 pub struct Message {
     coding: Coding,
@@ -83,6 +84,13 @@ impl Message {
     pub fn header(&mut self, magic: u32, length: usize) {
         self.put(&magic.to_le_bytes());
         self.offset(length);
+    }
+
+    /// The header of a direct list: its elements' number, table id and size.
+    pub fn direct_header(&mut self, count: usize, id: u32, size: usize) {
+        self.header(DIRECT_MAGIC, count);
+        self.put(&id.to_le_bytes());
+        self.put(&(size as u32).to_le_bytes());
     }
 
     pub fn text(&mut self, content: &[u8]) {

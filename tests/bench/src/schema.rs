@@ -14,6 +14,7 @@ pub const BYTES: u8 = 14;
 pub const LIST: u8 = 15;
 pub const TABLE: u8 = 16;
 pub const UNION: u8 = 17;
+pub const DIRECT: u8 = 18;
 
 /// "Record, 16 bits: kind 5, optional 1, in place 1, zero 1, argument 8."
 #[derive(Clone, Copy)]

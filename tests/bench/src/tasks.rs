@@ -51,7 +51,9 @@ const PARTS: &[fn() -> Task] = &[
     field_at_depth_5,
     text_at_depth_5,
     field_by_the_largest_schema,
+    field_of_a_direct_element,
     list_of_tables,
+    list_of_direct_elements,
 ];
 
 /// Messages that are read to a sheet, and whose sheets are written.
@@ -62,6 +64,8 @@ const WHOLES: &[fn() -> Case] = &[
     || cases::numbers("(d) a list of 1,000,000 U64", 1_000_000),
     || cases::tables(Bits48),
     || cases::tables(Bits32),
+    cases::direct_tables,
+    cases::direct_numbers,
     deep_numbers,
     || cases::elements("1,000,000 bools", plain(BOOL), 0),
     || cases::elements("1,000,000 U8", plain(U8), 1),
@@ -202,6 +206,12 @@ fn field_by_the_largest_schema() -> Task {
     field(name.to_string(), case, vec![0, 50_000, 0], 50_000)
 }
 
+fn field_of_a_direct_element() -> Task {
+    let name = "a field of one of 100,000 direct elements";
+    let case = cases::direct_tables();
+    field(name.to_string(), case, vec![0, 50_000, 0], 50_000)
+}
+
 fn text_at_depth_5() -> Task {
     let (case, path) = (nested(), [0, 777, 1, 55, 1]);
     let same_case = case.clone();
@@ -227,9 +237,18 @@ fn text_at_depth_5() -> Task {
     }
 }
 
-/// A list read to its end: the sum of the places is the same.
 fn list_of_tables() -> Task {
-    let case = cases::tables(Bits48);
+    let name = "the list reader over 100,000 tables";
+    list_reader(name, cases::tables(Bits48))
+}
+
+fn list_of_direct_elements() -> Task {
+    let name = "the list reader over 100,000 direct elements";
+    list_reader(name, cases::direct_tables())
+}
+
+/// A list read to its end: the sum of the places is the same.
+fn list_reader(name: &str, case: Case) -> Task {
     let same_case = case.clone();
     let ours = move || {
         let list = scalgo::list(case.coding, &case.schema, &case.message, &[0]);
@@ -252,7 +271,7 @@ fn list_of_tables() -> Task {
         numbers(&[0, sum])
     };
     Task {
-        name: "the list reader over 100,000 tables".to_string(),
+        name: name.to_string(),
         bytes: 0,
         ours: Box::new(ours),
         second: Box::new(second),

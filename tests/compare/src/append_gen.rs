@@ -23,7 +23,7 @@ pub fn newer(rng: &mut Rng, older: &Schema) -> Schema {
             0
         };
         for _ in 0..grown.min(32 - schema.unions[i].len()) {
-            let case = schema_gen::case(rng, &schema);
+            let case = schema_gen::case(rng, &schema, i);
             schema.unions[i].push(case);
         }
     }
@@ -34,8 +34,8 @@ pub fn newer(rng: &mut Rng, older: &Schema) -> Schema {
             0
         };
         for _ in 0..grown.min(64 - schema.tables[i].members.len()) {
-            let taken = schema.tables[i].members.iter().any(|m| m.in_place);
-            let member = schema_gen::member(rng, &schema, !taken);
+            let may_be_in_place = schema.may_hold_in_place(i);
+            let member = schema_gen::member(rng, &schema, may_be_in_place);
             schema.tables[i].members.push(member);
         }
     }
@@ -96,7 +96,8 @@ pub fn near_miss(rng: &mut Rng, older: &Schema) -> Schema {
 fn spoil(rng: &mut Rng, older: &Schema, schema: &mut Schema) {
     let table = rng.below(older.tables.len());
     let members = older.tables[table].members.len();
-    match rng.below(12) {
+    match rng.below(13) {
+        12 => spoil_direct(rng, schema),
         0 => schema.root = rng.below(schema.tables.len()) as u8,
         1 => schema.tables[table].id ^= 1 << rng.below(32),
         2 => {
@@ -128,6 +129,24 @@ fn spoil(rng: &mut Rng, older: &Schema, schema: &mut Schema) {
     }
 }
 
+/// "appending an in-place member there isn't lawful", nor a direct list to the
+/// cases of a union that is held in place.
+fn spoil_direct(rng: &mut Rng, schema: &mut Schema) {
+    let held = (0..schema.unions.len()).find(|union| schema.held_in_place(*union));
+    let direct = (0..schema.tables.len()).find(|table| schema.is_direct(*table));
+    match (held, direct) {
+        (Some(union), Some(table)) if rng.coin() => {
+            schema.unions[union].push(Record::plain(DIRECT, table as u8));
+        }
+        (_, Some(table)) => {
+            let mut member = Record::plain(rng.pick(&[TEXT, BYTES]), 0);
+            member.in_place = true;
+            schema.tables[table].members.push(member);
+        }
+        _ => spoil_record(rng, schema),
+    }
+}
+
 fn spoil_record(rng: &mut Rng, schema: &mut Schema) {
     let mut records = every_record(schema);
     if records.is_empty() {
@@ -138,7 +157,7 @@ fn spoil_record(rng: &mut Rng, schema: &mut Schema) {
     match rng.below(5) {
         0 => record.optional = !record.optional,
         1 => record.in_place = !record.in_place,
-        2 => record.kind = rng.range(0, 17) as u8,
+        2 => record.kind = rng.range(0, 18) as u8,
         _ => record.argument = record.argument.wrapping_sub(1),
     }
 }
@@ -185,7 +204,7 @@ pub fn without_appended(older: &Schema, record: &Record, value: &Value) -> Value
         Value::Struct(parts) => Value::Struct(each(&older.structs[argument], parts)),
         Value::Table(parts) => Value::Table(each(&older.tables[argument].members, parts)),
         Value::List(parts) => {
-            let elements = vec![older.lists[argument]; parts.len()];
+            let elements = vec![older.element_of(record); parts.len()];
             Value::List(each(&elements, parts))
         }
         Value::Union(choice, object) => {
@@ -222,7 +241,7 @@ pub fn with_added(older: &Schema, newer: &Schema, record: &Record, value: &Value
             Value::Table(all)
         }
         Value::List(parts) => {
-            let element = newer.lists[argument];
+            let element = newer.element_of(record);
             let each = |part| with_added(older, newer, &element, part);
             Value::List(parts.iter().map(each).collect())
         }

@@ -13,6 +13,7 @@ pub fn magic(schema: &Schema, record: &Record) -> u32 {
         TEXT => 0xD812_C8F5,
         BYTES => 0xDCDB_BE10,
         LIST => 0x3400_BB46,
+        DIRECT => 0xE2C6_CC05,
         _ => schema.tables[usize::from(record.argument)].id,
     }
 }
@@ -58,10 +59,22 @@ impl<'a> Writer<'a> {
         self.out.resize(end, 0);
     }
 
+    /// Writes the rest of a direct list's header: "U32 table id, U32 size"; "The
+    /// writer uses the full size."
+    fn direct_header(&mut self, table: u8) {
+        let id = self.schema.tables[usize::from(table)].id;
+        let (_, full) = self.schema.slots(table);
+        self.out.extend_from_slice(&id.to_le_bytes());
+        self.out.extend_from_slice(&(full as u32).to_le_bytes());
+    }
+
     /// Writes an object with all that it leads to.
     fn object(&mut self, record: &Record, value: &'a Value) {
         let start = self.out.len();
         self.header(magic(self.schema, record));
+        if record.kind == DIRECT {
+            self.direct_header(record.argument);
+        }
         let mut pending = Vec::new();
         let length = self.content(record, value, &mut pending);
         self.set_offset(start + 4, length);
@@ -86,6 +99,13 @@ impl<'a> Writer<'a> {
                     self.out.push(0);
                 }
                 bytes.len() as u64
+            }
+            Value::List(parts) if record.kind == DIRECT => {
+                // None of the elements has anything in place behind it.
+                for element in parts {
+                    self.content(&self.schema.element_of(record), element, pending);
+                }
+                parts.len() as u64
             }
             Value::List(parts) => {
                 self.list(record.argument, parts, pending);

@@ -14,6 +14,8 @@ pub enum Late {
     FarOffset(usize),
     /// A length whose content does not fit.
     LongLength(usize),
+    /// A size of a direct list's elements with which they do not fit.
+    LongSize(usize),
     /// The length of a blob whose content is whatever follows.
     OpenLength(usize),
 }

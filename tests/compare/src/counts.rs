@@ -14,9 +14,9 @@ pub struct Counts {
     /// Answers by number: 0 for accepted, 1 to 15 and 17 for refusals.
     pub answers: [u64; 18],
     /// Objects of accepted messages reached by offset, by kind.
-    pub by_offset: [u64; 18],
+    pub by_offset: [u64; 19],
     /// Objects of accepted messages reached in place, by kind.
-    pub in_place: [u64; 18],
+    pub in_place: [u64; 19],
     /// Everything else, by name.
     pub named: BTreeMap<String, u64>,
 }
@@ -68,7 +68,8 @@ impl fmt::Display for Counts {
             writeln!(out, "  {number:>2}  {count}")?;
         }
         writeln!(out, "objects of accepted messages (by offset, in place):")?;
-        for (kind, name) in [(13, "text"), (14, "bytes"), (15, "list"), (16, "table")] {
+        let kinds = [(13, "text"), (14, "bytes"), (15, "list"), (16, "table")];
+        for (kind, name) in kinds.into_iter().chain([(18, "direct")]) {
             let (offset, place) = (self.by_offset[kind], self.in_place[kind]);
             writeln!(out, "  {name:<6} {offset:>9} {place:>9}")?;
         }

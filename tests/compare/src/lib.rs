@@ -9,6 +9,7 @@ pub mod canvas;
 pub mod coding;
 pub mod counts;
 pub mod damage;
+pub mod direct_damage;
 pub mod doubling;
 pub mod judging;
 pub mod laws;

@@ -1,7 +1,7 @@
 //! What reading one field must answer, found from a value and, where the
 //! layout is known, from its arrivals.
 
-use crate::message_faults::FaultKind;
+use crate::message_faults::{FaultKind, Held};
 use crate::message_gen::Wild;
 use crate::paths::PATH_LIMIT;
 use crate::program::refused;
@@ -33,7 +33,7 @@ struct Node<'a> {
     depth: u32,
     record: Record,
     value: &'a Value,
-    in_place: bool,
+    held: Held,
 }
 
 impl<'a> Known<'a> {
@@ -47,7 +47,7 @@ impl<'a> Known<'a> {
             depth: 1,
             record: Record::plain(TABLE, self.schema.root),
             value: self.root,
-            in_place: false,
+            held: Held::ByOffset,
         };
         self.object(root, path)
     }
@@ -58,10 +58,9 @@ impl<'a> Known<'a> {
 
     /// The bytes of an object before its content.
     fn header(&self, node: &Node) -> usize {
-        if node.in_place {
-            0
-        } else {
-            self.schema.coding.header()
+        match node.held {
+            Held::ByOffset => self.schema.header(node.record.kind),
+            Held::InPlace | Held::Direct => 0,
         }
     }
 
@@ -84,8 +83,9 @@ impl<'a> Known<'a> {
     fn arrival_fault(&self, node: &Node) -> Option<u32> {
         let fault = self.wild?.fault.filter(|f| f.object == node.index)?;
         match fault.kind {
-            FaultKind::Magic => Some(7),
-            FaultKind::SmallOffset | FaultKind::FarOffset | FaultKind::LongLength => Some(6),
+            FaultKind::Magic | FaultKind::ElementId => Some(7),
+            FaultKind::SmallOffset | FaultKind::FarOffset => Some(6),
+            FaultKind::LongLength | FaultKind::CountOver => Some(6),
             FaultKind::TextEnd => Some(10),
             _ => None,
         }
@@ -163,21 +163,22 @@ impl<'a> Known<'a> {
         }
         let record = crate::paths::part_record(self.schema, &node.record, node.value, at);
         let before: usize = parts[..at].iter().map(objects).sum();
-        let child = |record: Record, value: &'a Value, in_place: bool| Node {
+        let held = Held::of(&node.record, &record);
+        let child = |record: Record, value: &'a Value| Node {
             index: node.index + 1 + before,
             depth: node.depth + 1,
             record,
             value,
-            in_place,
+            held,
         };
         match &parts[at] {
             Value::Union(choice, object) => {
                 let cases = &self.schema.unions[usize::from(record.argument)];
                 let case = cases[usize::from(*choice) - 1];
-                self.object(child(case, object, record.in_place), rest)
+                self.object(child(case, object), rest)
             }
             value @ (Value::Blob(_) | Value::List(_) | Value::Table(_)) => {
-                self.object(child(record, value, record.in_place), rest)
+                self.object(child(record, value), rest)
             }
             Value::Struct(inner) => {
                 let (slots, _) = self.schema.slots(node.record.argument);

@@ -11,7 +11,12 @@ pub enum FaultKind {
     Magic,
     SmallOffset,
     FarOffset,
+    /// A length whose content does not fit: a direct list's count or size.
     LongLength,
+    /// A direct list of another table's id.
+    ElementId,
+    /// A direct list's count over 4,294,967,295.
+    CountOver,
     TextEnd,
     Cut,
     FlagWithoutValue,
@@ -56,8 +61,28 @@ pub fn sites(schema: &Schema, root: &Value) -> Vec<Fault> {
         faults: Vec::new(),
         above: Vec::new(),
     };
-    finder.object(&Record::plain(TABLE, schema.root), root, false);
+    finder.object(&Record::plain(TABLE, schema.root), root, Held::ByOffset);
     finder.faults
+}
+
+/// How an object is held.
+#[derive(Clone, Copy, Debug, PartialEq, Eq)]
+pub enum Held {
+    ByOffset,
+    InPlace,
+    /// As an element of a direct list.
+    Direct,
+}
+
+impl Held {
+    /// How an object holds a part of this record.
+    pub fn of(holder: &Record, part: &Record) -> Held {
+        match (holder.kind, part.in_place) {
+            (DIRECT, _) => Held::Direct,
+            (_, true) => Held::InPlace,
+            (_, false) => Held::ByOffset,
+        }
+    }
 }
 
 /// One of the faults, of a kind chosen first, so that rare kinds come up too.
@@ -78,50 +103,93 @@ pub fn may_be_absent(member: &Record) -> bool {
     member.optional || member.kind == ENUM || member.kind >= TEXT
 }
 
+/// Whether a fixed part of this length can say what the members say.
+pub fn says(members: &[Record], slots: &[Slot], parts: &[Value], length: usize) -> bool {
+    (0..members.len()).all(|i| match slots[i].reach(length) {
+        Reach::Cut => false,
+        Reach::Gone | Reach::FlagOnly => parts[i] == Value::Absent,
+        Reach::Inside => parts[i] != Value::Absent || may_be_absent(&members[i]),
+    })
+}
+
 impl Finder<'_> {
     fn add(&mut self, object: usize, part: usize, kind: FaultKind) {
         self.faults.push(Fault { object, part, kind });
     }
 
-    fn object(&mut self, record: &Record, value: &Value, in_place: bool) {
+    fn object(&mut self, record: &Record, value: &Value, held: Held) {
         let index = self.next;
         self.next += 1;
-        if !in_place {
+        let by_offset = held == Held::ByOffset;
+        if by_offset {
             self.add(index, 0, FaultKind::Magic);
             self.add(index, 0, FaultKind::SmallOffset);
             self.add(index, 0, FaultKind::FarOffset);
             self.above.push((record.kind, record.argument, index));
         }
-        self.add(index, 0, FaultKind::LongLength);
+        if held != Held::Direct {
+            self.add(index, 0, FaultKind::LongLength);
+        }
         if record.kind == TEXT {
             self.add(index, 0, FaultKind::TextEnd);
         }
         match value {
-            Value::Table(parts) => self.table(index, record.argument, parts),
+            Value::Table(parts) => self.table(index, record.argument, parts, &[]),
+            Value::List(parts) if record.kind == DIRECT => {
+                self.add(index, 0, FaultKind::ElementId);
+                self.add(index, 0, FaultKind::CountOver);
+                self.direct(record.argument, parts);
+            }
             Value::List(parts) => {
-                let element = self.schema.lists[usize::from(record.argument)];
+                let element = self.schema.element_of(record);
                 for (i, part) in parts.iter().enumerate() {
                     self.entry(index, i, &element, part);
                 }
             }
             _ => {}
         }
-        if !in_place {
+        if by_offset {
             self.above.pop();
         }
     }
 
-    fn table(&mut self, index: usize, table: u8, parts: &[Value]) {
+    /// The elements of a direct list.
+    fn direct(&mut self, table: u8, elements: &[Value]) {
+        for (number, element) in elements.iter().enumerate() {
+            let index = self.next;
+            self.next += 1;
+            if let Value::Table(parts) = element {
+                self.table(index, table, parts, &elements[..number]);
+            }
+        }
+    }
+
+    /// Whether every earlier element of a direct list says the same with this size.
+    fn earlier_say(&self, table: u8, earlier: &[Value], size: usize) -> bool {
+        let members = &self.schema.tables[usize::from(table)].members;
+        let (slots, _) = self.schema.slots(table);
+        earlier.iter().all(|element| match element {
+            Value::Table(parts) => says(members, &slots, parts, size),
+            _ => false,
+        })
+    }
+
+    /// A table's members; `earlier` are the elements before it in a direct list.
+    /// These have its size, so that a cut is the first element's.
+    fn table(&mut self, index: usize, table: u8, parts: &[Value], earlier: &[Value]) {
         let schema = self.schema;
         let members = &schema.tables[usize::from(table)].members;
         let (slots, _) = schema.slots(table);
         let mut inside = true;
         for (i, (member, part)) in members.iter().zip(parts).enumerate() {
             let slot = slots[i];
-            if inside && slot.end() - slot.first() >= 2 {
+            if inside && slot.end() - slot.first() >= 2 && earlier.is_empty() {
                 self.add(index, i, FaultKind::Cut);
             }
-            if inside && slot.start() < slot.first() {
+            if inside
+                && slot.start() < slot.first()
+                && self.earlier_say(table, earlier, slot.first())
+            {
                 self.add(index, i, FaultKind::FlagWithoutValue);
             }
             if matches!(part, Value::Struct(_)) && schema.struct_has_bool(member.argument) {
@@ -158,6 +226,10 @@ impl Finder<'_> {
                 self.add(index, part, FaultKind::Cycle(target));
             }
         }
-        self.object(&record, value, record.in_place);
+        let held = match record.in_place {
+            true => Held::InPlace,
+            false => Held::ByOffset,
+        };
+        self.object(&record, value, held);
     }
 }

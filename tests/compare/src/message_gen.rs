@@ -4,11 +4,11 @@
 use crate::canonical::{magic, MESSAGE_MAGIC};
 use crate::canvas::{Canvas, Late, Pattern, Spot};
 use crate::coding::Coding;
-use crate::message_faults::{may_be_absent, Fault, FaultKind};
+use crate::message_faults::{may_be_absent, says, Fault, FaultKind, Held};
 use crate::program::{verdict, Budget};
 use crate::rng::Rng;
 use crate::schema::*;
-use crate::value::Value;
+use crate::value::{objects, Value};
 use crate::value_gen::nan_bits;
 use reference::{Verdict, NO_MEMBER};
 use std::collections::HashMap;
@@ -20,8 +20,10 @@ pub struct Arrival {
     pub depth: u32,
     pub kind: u8,
     pub argument: u8,
-    pub in_place: bool,
+    pub held: Held,
     pub length: u64,
+    /// The bytes of each element of a direct list.
+    pub size: u64,
 }
 
 /// A message with what is known of it.
@@ -165,13 +167,15 @@ impl Layouter<'_> {
         });
     }
 
-    /// A part of an object is refused, after what came before it.
+    /// A part of an object is refused, after what came before it. The first counts:
+    /// a cut is in all the elements of a direct list.
     fn refuse_part(&mut self, number: u32, of: PartOf) {
-        self.outcome = Some(Outcome {
+        let visits = self.arrivals.len();
+        self.outcome.get_or_insert(Outcome {
             number,
             arrival: of.holder,
             member: of.part as u32,
-            visits: self.arrivals.len(),
+            visits,
         });
     }
 
@@ -191,15 +195,16 @@ impl Layouter<'_> {
         }
     }
 
-    fn arrive(&mut self, holder: Option<usize>, record: &Record, in_place: bool) -> usize {
+    fn arrive(&mut self, holder: Option<usize>, record: &Record, held: Held) -> usize {
         let above = holder.map_or(0, |holder| self.arrivals[holder].depth);
         self.arrivals.push(Arrival {
             place: 0,
             depth: above + 1,
             kind: record.kind,
             argument: record.argument,
-            in_place,
+            held,
             length: 0,
+            size: 0,
         });
         self.arrivals.len() - 1
     }
@@ -227,13 +232,13 @@ impl Layouter<'_> {
         if self.has_fault(next, 0, FaultKind::SmallOffset) {
             let most = self.coding().header() - 1;
             let offset = self.rng.range(usize::from(holder.is_some()), most) as u64;
-            self.arrive(holder, record, false);
+            self.arrive(holder, record, Held::ByOffset);
             self.arrivals[next].place = offset;
             self.refuse(6, next);
             return self.put_offset(pattern, at, offset);
         }
         if self.has_fault(next, 0, FaultKind::FarOffset) {
-            self.arrive(holder, record, false);
+            self.arrive(holder, record, Held::ByOffset);
             self.refuse(6, next);
             return self.put_late(pattern, at, Late::FarOffset(next));
         }
@@ -247,13 +252,15 @@ impl Layouter<'_> {
         if let Some(place) = self.laid_before(holder, &key) {
             return place;
         }
-        let index = self.arrive(holder, record, false);
+        let index = self.arrive(holder, record, Held::ByOffset);
         let mut pattern = Pattern::default();
         let magic = self.object_magic(index, record);
-        pattern.grow(self.coding().header());
+        pattern.grow(self.schema.header(record.kind));
         pattern.set_spot(0, u64::from(magic), 4);
         pattern.inner.push((index, 0));
-        if matches!(value, Value::Blob(_)) && self.fault.is_none() && self.rng.one_in(10) {
+        if let (DIRECT, Value::List(parts)) = (record.kind, value) {
+            self.direct(&mut pattern, index, record.argument, parts);
+        } else if matches!(value, Value::Blob(_)) && self.fault.is_none() && self.rng.one_in(10) {
             self.open.push(index);
             self.put_late(&mut pattern, 4, Late::OpenLength(index));
         } else {
@@ -362,6 +369,125 @@ impl Layouter<'_> {
         }
     }
 
+    /// A direct list: the rest of its header, and its elements, which all have the
+    /// same size.
+    fn direct(&mut self, pattern: &mut Pattern, index: usize, table: u8, elements: &[Value]) {
+        let size = self.element_size(index, table, elements);
+        self.arrivals[index].size = size as u64;
+        self.direct_header(pattern, index, table, elements.len() as u64);
+        let base = pattern.grow(elements.len() * size);
+        for (number, element) in elements.iter().enumerate() {
+            let at = base + number * size;
+            let arrival = self.arrive(Some(index), &Record::plain(TABLE, table), Held::Direct);
+            self.arrivals[arrival].length = size as u64;
+            pattern.inner.push((arrival, at));
+            if let Value::Table(parts) = element {
+                // No member is in place, so that nothing stands behind an element.
+                let mut tail = Pattern::default();
+                self.members(pattern, (at, size), arrival, table, parts, &mut tail);
+            }
+        }
+    }
+
+    /// The count, the table id and the size, with the faults that these may have.
+    fn direct_header(&mut self, pattern: &mut Pattern, index: usize, table: u8, count: u64) {
+        self.arrivals[index].length = count;
+        let size = self.arrivals[index].size;
+        let mut id = self.schema.tables[usize::from(table)].id;
+        if self.has_fault(index, 0, FaultKind::ElementId) {
+            id = self.wrong_id(id);
+            self.refuse(7, index);
+        }
+        pattern.set_spot(10, u64::from(id), 4);
+        let over = self.has_fault(index, 0, FaultKind::CountOver);
+        let long = self.has_fault(index, 0, FaultKind::LongLength);
+        // Where there are no elements only a count can be too large, where they
+        // have no bytes only a size.
+        let by_size = long && count > 0 && (size == 0 || self.rng.coin());
+        if over || long {
+            self.refuse(6, index);
+        }
+        if over {
+            let count = over_count(self.rng);
+            self.put_offset(pattern, 4, count);
+        } else if long && !by_size {
+            self.put_late(pattern, 4, Late::LongLength(index));
+        } else {
+            self.put_offset(pattern, 4, count);
+        }
+        if by_size {
+            pattern.set_late(14, 4, Late::LongSize(index));
+        } else {
+            pattern.set_spot(14, size, 4);
+        }
+    }
+
+    /// An id that is not this one: near it, another table's, or another magic.
+    fn wrong_id(&mut self, right: u32) -> u32 {
+        let tables = &self.schema.tables;
+        let other = match self.rng.below(4) {
+            0 => tables[self.rng.below(tables.len())].id,
+            1 => 0xE2C6_CC05,
+            2 => !right,
+            _ => right,
+        };
+        if other == right {
+            right ^ 1 << self.rng.below(32)
+        } else {
+            other
+        }
+    }
+
+    /// Any size of a direct list's elements that says what they say.
+    fn element_size(&mut self, index: usize, table: u8, elements: &[Value]) -> usize {
+        let schema = self.schema;
+        let members = &schema.tables[usize::from(table)].members;
+        let (slots, full) = schema.slots(table);
+        if let Some(size) = self.size_of_fault(index, &slots, elements) {
+            return size;
+        }
+        let all_say = |size: usize| {
+            elements.iter().all(|element| match element {
+                Value::Table(parts) => says(members, &slots, parts, size),
+                _ => false,
+            })
+        };
+        // A count that is too large needs bytes in an element.
+        let some = elements.is_empty() && self.has_fault(index, 0, FaultKind::LongLength);
+        let longer = full + 1 + self.rng.small(60);
+        let mut sizes: Vec<usize> = slots.iter().flat_map(|s| [s.start(), s.first()]).collect();
+        sizes.extend([full, full, longer]);
+        sizes.retain(|&size| all_say(size) && !(some && size == 0));
+        if elements.is_empty() && self.rng.one_in(4) {
+            return self.rng.range(1, 2 * full);
+        }
+        assert!(!sizes.is_empty(), "no size says what the elements say");
+        self.rng.pick(&sizes)
+    }
+
+    /// The size that a fault of one of the elements asks for.
+    fn size_of_fault(&mut self, list: usize, slots: &[Slot], elements: &[Value]) -> Option<usize> {
+        let fault = self.fault?;
+        let mut next = list + 1;
+        for element in elements {
+            if fault.object == next {
+                return self.cut_by(fault, slots);
+            }
+            next += objects(element);
+        }
+        None
+    }
+
+    /// The length of a fixed part that a fault of its table asks for.
+    fn cut_by(&mut self, fault: Fault, slots: &[Slot]) -> Option<usize> {
+        let slot = slots.get(fault.part)?;
+        match fault.kind {
+            FaultKind::Cut => Some(self.rng.range(slot.first() + 1, slot.end() - 1)),
+            FaultKind::FlagWithoutValue => Some(slot.first()),
+            _ => None,
+        }
+    }
+
     fn table(
         &mut self,
         pattern: &mut Pattern,
@@ -376,6 +502,24 @@ impl Layouter<'_> {
         let length = self.table_length(index, members, &slots, full, parts, filled);
         let base = pattern.grow(length);
         let mut tail = Pattern::default();
+        self.members(pattern, (base, length), index, table, parts, &mut tail);
+        pattern.append(tail);
+        length as u64
+    }
+
+    /// The members of a table whose fixed part has this base and length.
+    fn members(
+        &mut self,
+        pattern: &mut Pattern,
+        (base, length): (usize, usize),
+        index: usize,
+        table: u8,
+        parts: &[Value],
+        tail: &mut Pattern,
+    ) {
+        let schema = self.schema;
+        let members = &schema.tables[usize::from(table)].members;
+        let (slots, _) = schema.slots(table);
         for (i, (member, part)) in members.iter().zip(parts).enumerate() {
             let of = PartOf {
                 holder: index,
@@ -383,13 +527,11 @@ impl Layouter<'_> {
             };
             let reach = slots[i].reach(length);
             if reach == Reach::Inside {
-                self.member(pattern, base, of, member, &slots[i], part, &mut tail);
+                self.member(pattern, base, of, member, &slots[i], part, tail);
             } else if reach != Reach::Gone {
                 self.partly(pattern, base, of, &slots[i], reach, part);
             }
         }
-        pattern.append(tail);
-        length as u64
     }
 
     /// Puts what is inside of a member that is not wholly so.
@@ -428,20 +570,11 @@ impl Layouter<'_> {
         filled: bool,
     ) -> usize {
         if let Some(fault) = self.fault.filter(|fault| fault.object == index) {
-            let slot = slots.get(fault.part);
-            match (fault.kind, slot) {
-                (FaultKind::Cut, Some(s)) => return self.rng.range(s.first() + 1, s.end() - 1),
-                (FaultKind::FlagWithoutValue, Some(s)) => return s.first(),
-                _ => {}
+            if let Some(length) = self.cut_by(fault, slots) {
+                return length;
             }
         }
-        let says = |length: usize| {
-            (0..members.len()).all(|i| match slots[i].reach(length) {
-                Reach::Cut => false,
-                Reach::Gone | Reach::FlagOnly => parts[i] == Value::Absent,
-                Reach::Inside => parts[i] != Value::Absent || may_be_absent(&members[i]),
-            }) && !(filled && length == 0)
-        };
+        let says = |length: usize| says(members, slots, parts, length) && !(filled && length == 0);
         let boundaries = slots.iter().flat_map(|s| [s.start(), s.first()]);
         let mut lengths: Vec<usize> = boundaries.filter(|&length| says(length)).collect();
         let longer = full + 1 + self.rng.small(200);
@@ -520,7 +653,7 @@ impl Layouter<'_> {
         tail: &mut Pattern,
         filled: bool,
     ) {
-        let index = self.arrive(Some(of.holder), record, true);
+        let index = self.arrive(Some(of.holder), record, Held::InPlace);
         let mut inner = Pattern::default();
         inner.inner.push((index, 0));
         let length = self.content(&mut inner, index, record, object, filled);
@@ -659,21 +792,44 @@ impl Layouter<'_> {
                     offset
                 }
                 Late::LongLength(index) => self.long_length(index, size),
+                Late::LongSize(index) => self.long_size(index, size),
             };
-            self.canvas.write(at, &self.coding().bytes(number));
+            let width = match late {
+                Late::LongSize(_) => 4,
+                _ => self.coding().offset(),
+            };
+            self.canvas.write(at, &number.to_le_bytes()[..width]);
+        }
+    }
+
+    /// The bytes of the message behind an object's header.
+    fn room(&self, arrival: &Arrival, size: u64) -> u64 {
+        let header = match arrival.held {
+            Held::ByOffset => self.schema.header(arrival.kind),
+            Held::InPlace | Held::Direct => 0,
+        };
+        size - arrival.place - header as u64
+    }
+
+    /// A size with which the elements of a direct list do not fit.
+    fn long_size(&mut self, index: usize, size: u64) -> u64 {
+        let arrival = self.arrivals[index];
+        let least = self.room(&arrival, size) / arrival.length + 1;
+        let largest = u64::from(u32::MAX);
+        match self.rng.below(4) {
+            0 => least + self.rng.below(300) as u64,
+            1 => largest,
+            2 => least.max(1 << self.rng.range(24, 31)),
+            _ => least,
         }
     }
 
     fn long_length(&mut self, index: usize, size: u64) -> u64 {
         let arrival = self.arrivals[index];
-        let header = if arrival.in_place {
-            0
-        } else {
-            self.coding().header()
-        };
-        let room = size - arrival.place - header as u64;
+        let room = self.room(&arrival, size);
         let least = match arrival.kind {
             TEXT => room,
+            DIRECT => room / arrival.size + 1,
             LIST => {
                 let element = self.schema.lists[usize::from(arrival.argument)];
                 8 * room / self.schema.element_bits(&element) + 1
@@ -744,6 +900,16 @@ impl Layouter<'_> {
             round += 1;
         }
         walk
+    }
+}
+
+/// A count over 4,294,967,295.
+pub fn over_count(rng: &mut Rng) -> u64 {
+    match rng.below(4) {
+        0 => 1 << 32,
+        1 => (1 << 48) - 1,
+        2 => 1 << rng.range(32, 47),
+        _ => (1 << 32) + rng.below(1000) as u64,
     }
 }
 

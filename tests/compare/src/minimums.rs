@@ -8,7 +8,7 @@ use crate::schema_faults::rules;
 /// The number of cases that the minimums are meant for.
 pub const CASES: u64 = 100_000;
 
-const NAMED: [(&str, u64); 50] = [
+const NAMED: [(&str, u64); 59] = [
     ("accepted messages of depth 32", 100),
     ("accepted messages with an unwritable sheet", 1000),
     ("arrivals at shared objects", 10_000),
@@ -24,6 +24,13 @@ const NAMED: [(&str, u64); 50] = [
     ("damaged schemas not lawful", 5000),
     ("damaged schemas still lawful", 300),
     ("deep sheets of at most 32", 100),
+    ("direct elements longer than the schema", 3000),
+    ("direct elements of no bytes", 3000),
+    ("direct elements of the full size", 5000),
+    ("direct elements shorter than the schema", 3000),
+    ("direct lists of 50 or more elements", 100),
+    ("direct lists of elements", 5000),
+    ("direct lists of no elements", 1000),
     ("field answers: absent", 5000),
     ("field answers: boolean", 5000),
     ("field answers: float", 2000),
@@ -35,7 +42,9 @@ const NAMED: [(&str, u64); 50] = [
     ("flags of 0 with the value past the end", 300),
     ("list readers refused", 5000),
     ("list readers stepped through", 2000),
+    ("message faults: CountOver", 200),
     ("message faults: Cut", 500),
+    ("message faults: ElementId", 200),
     ("message faults: FarOffset", 500),
     ("message faults: FlagWithoutValue", 200),
     ("message faults: LongLength", 500),
@@ -61,15 +70,21 @@ const NAMED: [(&str, u64); 50] = [
     ("unknown enums and choices", 5000),
 ];
 
-/// What only unions that are not in place have, so never the older coding.
-const OF_UNIONS_BY_OFFSET: [&str; 2] = ["answers with number 9", "message faults: UnionZero"];
+/// What only unions that are not in place and direct lists have, so never the
+/// older coding.
+fn never_older(name: &str) -> bool {
+    ["answers with number 9", "message faults: UnionZero"].contains(&name)
+        || ["message faults: CountOver", "message faults: ElementId"].contains(&name)
+        || name.starts_with("direct ")
+        || name.starts_with("kind 18 ")
+}
 
 /// What a run of `CASES` cases did not reach often enough, or reached where it
 /// must not.
 pub fn shortfalls(coding: Coding, counts: &Counts) -> Vec<String> {
     let mut short = Vec::new();
     let mut need = |name: String, count: u64, least: u64| {
-        let never = coding.is_older() && OF_UNIONS_BY_OFFSET.contains(&name.as_str());
+        let never = coding.is_older() && never_older(&name);
         if never && count > 0 {
             short.push(format!("{name}: {count}, none wanted"));
         } else if !never && count < least {
@@ -80,12 +95,11 @@ pub fn shortfalls(coding: Coding, counts: &Counts) -> Vec<String> {
     for (number, count) in answers.filter(|(number, _)| *number != UNUSED) {
         need(format!("answers with number {number}"), *count, 100);
     }
+    for kind in [13, 14, 15, 16, 18] {
+        let count = counts.by_offset[kind];
+        need(format!("kind {kind} by offset"), count, 2000);
+    }
     for kind in 13..=16 {
-        need(
-            format!("kind {kind} by offset"),
-            counts.by_offset[kind],
-            2000,
-        );
         need(format!("kind {kind} in place"), counts.in_place[kind], 500);
     }
     for (name, least) in NAMED {

@@ -42,7 +42,7 @@ pub fn part_record(schema: &Schema, record: &Record, holder: &Value, at: usize) 
     match holder {
         Value::Table(_) => schema.tables[argument].members[at],
         Value::Struct(_) => schema.structs[argument][at],
-        _ => schema.lists[argument],
+        _ => schema.element_of(record),
     }
 }
 

@@ -22,6 +22,12 @@ pub const BYTES: u8 = 14;
 pub const LIST: u8 = 15;
 pub const TABLE: u8 = 16;
 pub const UNION: u8 = 17;
+/// A direct list; its argument is the table of its elements.
+pub const DIRECT: u8 = 18;
+
+/// The bytes of a direct list before its first element: magic, count, table id
+/// and element size.
+pub const DIRECT_HEADER: usize = 18;
 
 /// One record: what a member, an element or a case is.
 #[derive(Clone, Copy, Debug, PartialEq, Eq, Hash)]
@@ -55,9 +61,9 @@ impl Record {
         (1..=8).contains(&self.kind)
     }
 
-    /// Whether the record leads to an object: text, bytes, list or table.
+    /// Whether the record leads to an object: text, bytes, list, table or direct list.
     pub fn is_object(&self) -> bool {
-        (TEXT..=TABLE).contains(&self.kind)
+        (TEXT..=TABLE).contains(&self.kind) || self.kind == DIRECT
     }
 
     /// The bits of a number of this kind, enums included.
@@ -269,7 +275,7 @@ impl Schema {
         match record.kind {
             BOOL => 1,
             STRUCT => self.struct_size(record.argument),
-            TEXT..=TABLE => self.coding.offset(),
+            TEXT..=TABLE | DIRECT => self.coding.offset(),
             UNION => self.coding.union(),
             _ => record.width() as usize / 8,
         }
@@ -283,15 +289,75 @@ impl Schema {
         }
     }
 
-    /// The content bytes of an object of this length: a text's without its end byte.
+    /// The content bytes that an object of this length adds: a text's without its
+    /// end byte, and none of a direct list, whose elements add their own.
     pub fn content(&self, kind: u8, argument: u8, length: u64) -> u64 {
         match kind {
             LIST => {
                 let element = self.lists[usize::from(argument)];
                 (length * self.element_bits(&element)).div_ceil(8)
             }
+            DIRECT => 0,
             _ => length,
         }
+    }
+
+    /// The bytes of an object's header.
+    pub fn header(&self, kind: u8) -> usize {
+        match kind {
+            DIRECT => DIRECT_HEADER,
+            _ => self.coding.header(),
+        }
+    }
+
+    /// What the elements of a list or a direct list are.
+    pub fn element_of(&self, list: &Record) -> Record {
+        match list.kind {
+            DIRECT => Record::plain(TABLE, list.argument),
+            _ => self.lists[usize::from(list.argument)],
+        }
+    }
+
+    /// Whether each element of a list or a direct list has a mark in a sheet.
+    pub fn marks_elements(&self, list: &Record) -> bool {
+        let element = self.element_of(list);
+        list.kind != DIRECT && element.kind != BOOL && !element.is_integer()
+    }
+
+    /// Whether a table may be a direct list's: "at least one member and none in place".
+    pub fn may_be_direct(&self, table: usize) -> bool {
+        let members = &self.tables[table].members;
+        !self.coding.is_older() && !members.is_empty() && members.iter().all(|m| !m.in_place)
+    }
+
+    /// Whether a table is a direct list's.
+    pub fn is_direct(&self, table: usize) -> bool {
+        let direct = |record: &Record| {
+            let argument = usize::from(record.argument);
+            record.kind == DIRECT && argument == table
+        };
+        let mut members = self.tables.iter().flat_map(|table| &table.members);
+        self.lists.iter().any(direct)
+            || self.unions.iter().flatten().any(direct)
+            || members.any(direct)
+    }
+
+    /// Whether a union has a direct list among its cases.
+    pub fn has_direct_case(&self, union: u8) -> bool {
+        let cases = &self.unions[usize::from(union)];
+        cases.iter().any(|case| case.kind == DIRECT)
+    }
+
+    /// Whether a table holds a union in place.
+    pub fn held_in_place(&self, union: usize) -> bool {
+        let mut members = self.tables.iter().flat_map(|table| &table.members);
+        members.any(|m| m.in_place && m.kind == UNION && usize::from(m.argument) == union)
+    }
+
+    /// Whether a table may get another member in place.
+    pub fn may_hold_in_place(&self, table: usize) -> bool {
+        let taken = self.tables[table].members.iter().any(|m| m.in_place);
+        !taken && !self.is_direct(table)
     }
 
     /// The places of a table's members, and the size of its full fixed part.

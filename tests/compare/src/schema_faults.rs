@@ -37,13 +37,21 @@ pub enum Rule {
     EqualIds,
     BytesLeft,
     BytesMissing,
+    DirectInPlace,
+    DirectOfNoMembers,
+    DirectOfInPlace,
+    DirectCaseInPlace,
     UnionNotInPlace,
     TableInPlace,
     ListOfUnions,
+    DirectList,
 }
 
-/// Every rule; the last three are the older coding's own.
-const RULES: [Rule; 32] = [
+/// How many rules either coding has of its own: of direct lists, and of the older.
+const OWN: usize = 4;
+
+/// Every rule: of both codings, of direct lists, and the older coding's own.
+const RULES: [Rule; 37] = [
     Rule::TooManyStructs,
     Rule::TooManyLists,
     Rule::TooManyUnions,
@@ -73,15 +81,20 @@ const RULES: [Rule; 32] = [
     Rule::EqualIds,
     Rule::BytesLeft,
     Rule::BytesMissing,
+    Rule::DirectInPlace,
+    Rule::DirectOfNoMembers,
+    Rule::DirectOfInPlace,
+    Rule::DirectCaseInPlace,
     Rule::UnionNotInPlace,
     Rule::TableInPlace,
     Rule::ListOfUnions,
+    Rule::DirectList,
 ];
 
 /// The rules of a coding.
 pub fn rules(coding: Coding) -> &'static [Rule] {
     match coding {
-        Coding::Bits48 => &RULES[..29],
+        Coding::Bits48 => &RULES[..RULES.len() - OWN],
         Coding::Bits32 => &RULES,
     }
 }
@@ -189,9 +202,50 @@ fn give(rng: &mut Rng, schema: &mut Schema, mut member: Record) {
     insert(rng, schema, member);
 }
 
+/// A table that no direct list has, so that it may hold a member in place.
+fn some_holder(rng: &mut Rng, schema: &mut Schema) -> usize {
+    let holders: Vec<usize> = (0..schema.tables.len())
+        .filter(|&table| !schema.is_direct(table))
+        .collect();
+    if holders.is_empty() {
+        return some_new_table(rng, schema);
+    }
+    rng.pick(&holders)
+}
+
+/// One more table, without members; where there is no room, one without direct
+/// lists of it.
+fn some_new_table(rng: &mut Rng, schema: &mut Schema) -> usize {
+    if schema.tables.len() < 64 {
+        let id = schema_gen::table_id(rng, schema);
+        let members = Vec::new();
+        schema.tables.push(Table { id, members });
+        return schema.tables.len() - 1;
+    }
+    let last = schema.tables.len() - 1;
+    without_direct(schema, last as u8);
+    schema.tables[last].members.clear();
+    last
+}
+
+/// Direct lists of a table become texts.
+fn without_direct(schema: &mut Schema, table: u8) {
+    let (direct, text) = (Record::plain(DIRECT, table), Record::plain(TEXT, 0));
+    let cases = schema.unions.iter_mut().flatten();
+    let members = schema.tables.iter_mut().flat_map(|t| t.members.iter_mut());
+    for record in schema.lists.iter_mut().chain(cases).chain(members) {
+        if *record == direct {
+            *record = text;
+        }
+    }
+}
+
 /// A table member as it is.
 fn insert(rng: &mut Rng, schema: &mut Schema, member: Record) {
-    let at = rng.below(schema.tables.len());
+    let at = match member.in_place {
+        true => some_holder(rng, schema),
+        false => rng.below(schema.tables.len()),
+    };
     let members = &mut schema.tables[at].members;
     members.truncate(63);
     if member.in_place {
@@ -209,7 +263,7 @@ fn break_flags(rng: &mut Rng, schema: &mut Schema, rule: Rule) -> bool {
             with_outside_record(rng, schema, |record| record.in_place = true);
         }
         Rule::OptionalKind => {
-            let kinds = [ENUM, TEXT, BYTES, LIST, TABLE, UNION];
+            let kinds = [ENUM, TEXT, BYTES, LIST, TABLE, UNION, DIRECT];
             let mut member = of_kind(rng, schema, &kinds);
             member.optional = true;
             give(rng, schema, member);
@@ -228,7 +282,7 @@ fn break_flags(rng: &mut Rng, schema: &mut Schema, rule: Rule) -> bool {
             let mut pair = [of_kind(rng, schema, kinds), of_kind(rng, schema, kinds)];
             pair[0].in_place = true;
             pair[1].in_place = true;
-            let at = rng.below(schema.tables.len());
+            let at = some_holder(rng, schema);
             let members = &mut schema.tables[at].members;
             members.truncate(62);
             members.retain(|m| !m.in_place);
@@ -249,10 +303,28 @@ fn of_kind(rng: &mut Rng, schema: &mut Schema, kinds: &[u8]) -> Record {
         STRUCT => some_struct(rng, schema),
         LIST => some_list(rng, schema),
         TABLE => rng.below(schema.tables.len()),
+        DIRECT => some_direct(rng, schema),
         UNION => some_union(rng, schema),
         _ => 0,
     };
     Record::plain(kind, argument as u8)
+}
+
+/// A table that may be a direct list's under the coding of document 000.
+fn some_direct(rng: &mut Rng, schema: &mut Schema) -> usize {
+    let fits = |table: &Table| {
+        let members = &table.members;
+        !members.is_empty() && members.iter().all(|m| !m.in_place)
+    };
+    let tables: Vec<usize> = (0..schema.tables.len())
+        .filter(|&table| fits(&schema.tables[table]))
+        .collect();
+    if !tables.is_empty() {
+        return rng.pick(&tables);
+    }
+    let table = some_new_table(rng, schema);
+    schema.tables[table].members = vec![Record::plain(1, 0)];
+    table
 }
 
 /// Changes a struct member, an element or a case.
@@ -290,7 +362,7 @@ fn with_any_record(rng: &mut Rng, schema: &mut Schema, change: impl Fn(&mut Reco
 fn break_records(rng: &mut Rng, schema: &mut Schema, rule: Rule) {
     match rule {
         Rule::UnknownKind => {
-            let kind = rng.range(18, 31) as u8;
+            let kind = rng.range(19, 31) as u8;
             with_any_record(rng, schema, |record| *record = Record::plain(kind, 0));
         }
         Rule::EnumWithoutValues => give(rng, schema, Record::plain(ENUM, 0)),
@@ -300,11 +372,11 @@ fn break_records(rng: &mut Rng, schema: &mut Schema, rule: Rule) {
             give(rng, schema, Record::plain(kind, argument));
         }
         Rule::IndexTooHigh => {
-            let kind = rng.pick(&[STRUCT, LIST, TABLE, UNION]);
+            let kind = rng.pick(&[STRUCT, LIST, TABLE, UNION, DIRECT]);
             let count = match kind {
                 STRUCT => schema.structs.len(),
                 LIST => schema.lists.len(),
-                TABLE => schema.tables.len(),
+                TABLE | DIRECT => schema.tables.len(),
                 _ => schema.unions.len(),
             };
             let argument = if rng.coin() {
@@ -321,7 +393,7 @@ fn break_records(rng: &mut Rng, schema: &mut Schema, rule: Rule) {
 fn break_kinds(rng: &mut Rng, schema: &mut Schema, rule: Rule) {
     match rule {
         Rule::StructMemberKind => {
-            let member = of_kind(rng, schema, &[TEXT, BYTES, LIST, TABLE, UNION]);
+            let member = of_kind(rng, schema, &[TEXT, BYTES, LIST, TABLE, UNION, DIRECT]);
             let at = some_struct(rng, schema);
             schema.structs[at][0] = member;
         }
@@ -345,6 +417,69 @@ fn break_kinds(rng: &mut Rng, schema: &mut Schema, rule: Rule) {
     }
 }
 
+/// The rules of direct lists. Under the older coding none of these would be
+/// lawful with them kept either.
+fn break_direct(rng: &mut Rng, schema: &mut Schema, rule: Rule) {
+    match rule {
+        Rule::DirectInPlace => {
+            let mut direct = of_kind(rng, schema, &[DIRECT]);
+            direct.in_place = true;
+            insert(rng, schema, direct);
+        }
+        Rule::DirectOfNoMembers => {
+            let table = some_new_table(rng, schema) as u8;
+            put_direct(rng, schema, table);
+        }
+        Rule::DirectOfInPlace => {
+            let table = some_new_table(rng, schema) as u8;
+            let mut text = Record::plain(TEXT, 0);
+            text.in_place = true;
+            schema.tables[usize::from(table)].members = vec![Record::plain(1, 0), text];
+            put_direct(rng, schema, table);
+        }
+        Rule::DirectCaseInPlace => {
+            let direct = of_kind(rng, schema, &[DIRECT]);
+            let union = some_union(rng, schema);
+            schema.unions[union].truncate(31);
+            schema.unions[union].push(direct);
+            let mut member = Record::plain(UNION, union as u8);
+            member.in_place = true;
+            insert(rng, schema, member);
+        }
+        _ => break_older(rng, schema, rule),
+    }
+}
+
+/// A direct list of the table as a member of another, a case or an element.
+fn put_direct(rng: &mut Rng, schema: &mut Schema, table: u8) {
+    let direct = Record::plain(DIRECT, table);
+    let at = rng.below(schema.tables.len());
+    match rng.below(3) {
+        0 if at != usize::from(table) => {
+            let members = &mut schema.tables[at].members;
+            members.truncate(63);
+            members.push(direct);
+        }
+        1 => {
+            let union = some_union(rng, schema);
+            schema.unions[union] = vec![direct];
+            by_offset(schema, union);
+        }
+        _ => {
+            let list = some_list(rng, schema);
+            schema.lists[list] = direct;
+        }
+    }
+}
+
+/// No table holds the union in place.
+fn by_offset(schema: &mut Schema, union: usize) {
+    let members = schema.tables.iter_mut().flat_map(|t| t.members.iter_mut());
+    for member in members.filter(|m| m.kind == UNION && usize::from(m.argument) == union) {
+        member.in_place &= schema.coding.is_older();
+    }
+}
+
 /// The older coding's own rules.
 fn break_older(rng: &mut Rng, schema: &mut Schema, rule: Rule) {
     match rule {
@@ -362,6 +497,10 @@ fn break_older(rng: &mut Rng, schema: &mut Schema, rule: Rule) {
             let at = some_list(rng, schema);
             schema.lists[at] = union;
         }
+        Rule::DirectList => {
+            let table = some_direct(rng, schema) as u8;
+            put_direct(rng, schema, table);
+        }
         _ => {}
     }
 }
@@ -373,7 +512,11 @@ fn break_whole(rng: &mut Rng, schema: &mut Schema, rule: Rule) {
             outer.push(Record::plain(rng.pick(&[BOOL, 1, 4]), 0));
             schema.structs = vec![vec![Record::plain(4, 0); 32], outer];
             for table in &mut schema.tables {
-                table.members.retain(|m| m.kind != STRUCT);
+                for member in &mut table.members {
+                    if member.kind == STRUCT {
+                        *member = Record::plain(1, 0);
+                    }
+                }
             }
         }
         Rule::EqualIds => {
@@ -385,7 +528,7 @@ fn break_whole(rng: &mut Rng, schema: &mut Schema, rule: Rule) {
                 schema.tables.push(Table { id, members });
             }
         }
-        _ => break_older(rng, schema, rule),
+        _ => break_direct(rng, schema, rule),
     }
 }
 

@@ -20,6 +20,7 @@ pub fn lawful_schema(coding: Coding, rng: &mut Rng) -> Schema {
         1 => largest_struct(coding, rng),
         2 => nested_structs(coding, rng),
         3..=12 => recursive(coding, rng),
+        13..=42 if !coding.is_older() => with_direct_list(coding, rng),
         13..=60 => from_counts(coding, rng, [1, 1, 1, 1, 4]),
         61..=170 => from_counts(coding, rng, [3, 3, 3, 3, 7]),
         _ => from_counts(coding, rng, [6, 6, 6, 8, 14]),
@@ -108,12 +109,16 @@ fn small_struct_member(rng: &mut Rng) -> Record {
     }
 }
 
-/// Has a table that leads back to itself, directly or through a list or union,
-/// by offset or in place, as far as the coding has these.
+/// Has a table that leads back to itself, directly or through a list, direct list
+/// or union, by offset or in place, as far as the coding has these.
 pub fn recursive(coding: Coding, rng: &mut Rng) -> Schema {
     let mut schema = from_counts(coding, rng, [1, 2, 2, 2, 3]);
     let root = schema.root;
-    let back = Record::plain(TABLE, root);
+    let back = if schema.may_be_direct(usize::from(root)) && rng.one_in(3) {
+        Record::plain(DIRECT, root)
+    } else {
+        Record::plain(TABLE, root)
+    };
     let mut link = match rng.below(if coding.is_older() { 3 } else { 4 }) {
         0 => back,
         1 => {
@@ -131,15 +136,48 @@ pub fn recursive(coding: Coding, rng: &mut Rng) -> Schema {
             Record::plain(LIST, schema.lists.len() as u8 - 1)
         }
     };
-    let members = &mut schema.tables[usize::from(root)].members;
     if coding.is_older() && link.kind == UNION {
+        let members = &mut schema.tables[usize::from(root)].members;
         members.retain(|m| !m.in_place);
         link.in_place = true;
     } else if !(coding.is_older() && link.kind == TABLE) {
-        link.in_place = rng.coin() && members.iter().all(|m| !m.in_place);
+        let may_be = link_may_be_in_place(&schema, &link, back);
+        link.in_place = rng.coin() && may_be;
     }
+    let members = &mut schema.tables[usize::from(root)].members;
     members.insert(rng.below(members.len() + 1), link);
     schema
+}
+
+/// Has a direct list that the root leads to: as a member, an element or a case.
+fn with_direct_list(coding: Coding, rng: &mut Rng) -> Schema {
+    let mut schema = from_counts(coding, rng, [2, 2, 2, 3, 6]);
+    let direct = direct_list(rng, &schema).unwrap_or_else(|| {
+        let id = table_id(rng, &schema);
+        let members = vec![member(rng, &schema, false)];
+        schema.tables.push(Table { id, members });
+        Record::plain(DIRECT, schema.tables.len() as u8 - 1)
+    });
+    let link = match rng.below(4) {
+        0 => {
+            schema.lists.push(direct);
+            Record::plain(LIST, schema.lists.len() as u8 - 1)
+        }
+        1 => {
+            schema.unions.push(vec![Record::plain(TEXT, 0), direct]);
+            Record::plain(UNION, schema.unions.len() as u8 - 1)
+        }
+        _ => direct,
+    };
+    let members = &mut schema.tables[usize::from(schema.root)].members;
+    members.insert(rng.below(members.len() + 1), link);
+    schema
+}
+
+/// Whether the root may hold a link in place that leads back to it.
+fn link_may_be_in_place(schema: &Schema, link: &Record, back: Record) -> bool {
+    let direct = back.kind == DIRECT || link.kind == UNION && schema.has_direct_case(link.argument);
+    schema.may_hold_in_place(usize::from(schema.root)) && !direct
 }
 
 fn build(coding: Coding, rng: &mut Rng, counts: &Counts) -> Schema {
@@ -151,29 +189,44 @@ fn build(coding: Coding, rng: &mut Rng, counts: &Counts) -> Schema {
     // Elements and cases may name parts that come later: fill in the counts.
     schema.lists = vec![Record::plain(BOOL, 0); counts.lists];
     schema.unions = vec![vec![Record::plain(TEXT, 0)]; counts.unions];
-    for _ in 0..counts.tables {
-        let id = table_id(rng, &schema);
-        let members = Vec::new();
-        schema.tables.push(Table { id, members });
-    }
+    let sizes = begin_tables(rng, &mut schema, counts);
     for i in 0..counts.lists {
         schema.lists[i] = element(rng, &schema);
     }
     for i in 0..counts.unions {
         let most = if counts.members == 64 { 32 } else { 4 };
         let cases = rng.range(1, most);
-        schema.unions[i] = (0..cases).map(|_| case(rng, &schema)).collect();
+        schema.unions[i] = (0..cases).map(|_| case(rng, &schema, i)).collect();
     }
-    for i in 0..counts.tables {
-        let count = member_count(rng, counts.members);
-        for _ in 0..count {
-            let taken = schema.tables[i].members.iter().any(|m| m.in_place);
-            let member = member(rng, &schema, !taken);
+    for (i, size) in sizes.into_iter().enumerate() {
+        while schema.tables[i].members.len() < size {
+            let may_be_in_place = schema.may_hold_in_place(i);
+            let member = member(rng, &schema, may_be_in_place);
             schema.tables[i].members.push(member);
         }
     }
     schema.root = rng.below(counts.tables) as u8;
     schema
+}
+
+/// Adds tables and says how many members each is to have. Some have their first
+/// one now, so that elements and cases may be direct lists of them.
+fn begin_tables(rng: &mut Rng, schema: &mut Schema, counts: &Counts) -> Vec<usize> {
+    for _ in 0..counts.tables {
+        let id = table_id(rng, schema);
+        let members = Vec::new();
+        schema.tables.push(Table { id, members });
+    }
+    let sizes: Vec<usize> = (0..counts.tables)
+        .map(|_| member_count(rng, counts.members))
+        .collect();
+    for (i, size) in sizes.iter().enumerate() {
+        if *size > 0 && rng.coin() {
+            let first = member(rng, schema, false);
+            schema.tables[i].members.push(first);
+        }
+    }
+    sizes
 }
 
 fn member_count(rng: &mut Rng, most: usize) -> usize {
@@ -234,6 +287,7 @@ pub fn table_id(rng: &mut Rng, schema: &Schema) -> u32 {
             3 => 0xDCDB_BE10,
             4 => 0x3400_BB46,
             5 => 0xB5C0_C4B3,
+            6 => 0xE2C6_CC05,
             _ => rng.bits() as u32,
         };
         if schema.tables.iter().all(|t| t.id != id) {
@@ -242,8 +296,26 @@ pub fn table_id(rng: &mut Rng, schema: &Schema) -> u32 {
     }
 }
 
+/// A direct list of a table that may be one's, if there is such a table.
+fn direct_list(rng: &mut Rng, schema: &Schema) -> Option<Record> {
+    let tables: Vec<usize> = (0..schema.tables.len())
+        .filter(|&table| schema.may_be_direct(table))
+        .collect();
+    (!tables.is_empty()).then(|| Record::plain(DIRECT, rng.pick(&tables) as u8))
+}
+
 /// A record of a kind that leads to an object, as far as the schema has them.
 fn object(rng: &mut Rng, schema: &Schema) -> Record {
+    let direct = if rng.one_in(5) {
+        direct_list(rng, schema)
+    } else {
+        None
+    };
+    direct.unwrap_or_else(|| plain_object(rng, schema))
+}
+
+/// An object that is no direct list.
+fn plain_object(rng: &mut Rng, schema: &Schema) -> Record {
     match rng.below(8) {
         0 | 1 => Record::plain(TEXT, 0),
         2 => Record::plain(BYTES, 0),
@@ -274,9 +346,13 @@ pub fn element(rng: &mut Rng, schema: &Schema) -> Record {
     }
 }
 
-/// A union case.
-pub fn case(rng: &mut Rng, schema: &Schema) -> Record {
-    object(rng, schema)
+/// A case of a union: no direct list if a table holds the union in place.
+pub fn case(rng: &mut Rng, schema: &Schema, union: usize) -> Record {
+    if schema.held_in_place(union) {
+        plain_object(rng, schema)
+    } else {
+        object(rng, schema)
+    }
 }
 
 /// A table member, in place only if `may_be_in_place`.
@@ -294,7 +370,12 @@ pub fn member(rng: &mut Rng, schema: &Schema, may_be_in_place: bool) -> Record {
     if member.kind <= F64 || member.kind == STRUCT {
         member.optional = rng.coin();
     }
-    if member.kind >= TEXT {
+    let direct = match member.kind {
+        DIRECT => true,
+        UNION => schema.has_direct_case(member.argument),
+        _ => false,
+    };
+    if member.kind >= TEXT && !direct {
         member.in_place = may_be_in_place && rng.one_in(3);
     }
     match member.kind {

@@ -83,11 +83,21 @@ pub fn lawful(schema: &Schema) -> bool {
         && schema.unions.iter().all(|u| union_lawful(schema, u))
         && schema.tables.iter().all(|t| table_lawful(schema, t))
         && ids_differ(schema)
+        && direct_lists_lawful(schema)
         && (!schema.coding.is_older() || of_older_coding(schema))
 }
 
-/// "a schema with a union not in place, a table in place, a list of unions
-/// .. is 1 under this coding".
+/// "its table must have at least one member and none in place (else 1)", and none
+/// is lawful in the older coding; "nor a case of a union that a table holds in place".
+fn direct_lists_lawful(schema: &Schema) -> bool {
+    let mut tables = 0..schema.tables.len();
+    let mut unions = 0..schema.unions.len();
+    tables.all(|table| !schema.is_direct(table) || schema.may_be_direct(table))
+        && unions.all(|union| !schema.held_in_place(union) || !schema.has_direct_case(union as u8))
+}
+
+/// "a schema with a union not in place, a table in place, a list of unions .. is 1
+/// under this coding".
 fn of_older_coding(schema: &Schema) -> bool {
     let mut members = schema.tables.iter().flat_map(|table| &table.members);
     schema.lists.iter().all(|element| element.kind != UNION)
@@ -104,7 +114,7 @@ fn argument_lawful(schema: &Schema, record: &Record) -> bool {
         ENUM => argument >= 1,
         STRUCT => argument < schema.structs.len(),
         LIST => argument < schema.lists.len(),
-        TABLE => argument < schema.tables.len(),
+        TABLE | DIRECT => argument < schema.tables.len(),
         UNION => argument < schema.unions.len(),
         0..=UNION => argument == 0,
         _ => false,
@@ -161,7 +171,7 @@ fn table_lawful(schema: &Schema, table: &Table) -> bool {
         && table.members.iter().all(|m| {
             argument_lawful(schema, m)
                 && (!m.optional || may_be_optional(m))
-                && (!m.in_place || m.kind >= TEXT)
+                && (!m.in_place || (TEXT..=UNION).contains(&m.kind))
         })
 }
 

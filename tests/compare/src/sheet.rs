@@ -54,10 +54,10 @@ impl Encoder<'_> {
             }
             Value::List(parts) => {
                 self.out.put(parts.len() as u64, 32);
-                let element = self.schema.lists[argument];
-                let unmarked = element.kind == BOOL || element.is_integer();
+                let element = self.schema.element_of(record);
+                let marked = self.schema.marks_elements(record);
                 for part in parts {
-                    self.parts(&[element], std::slice::from_ref(part), |_| !unmarked);
+                    self.parts(&[element], std::slice::from_ref(part), |_| marked);
                 }
             }
             Value::Table(parts) => {
@@ -147,7 +147,7 @@ impl Decoder<'_> {
                 let length = self.bits.take(32)? as usize;
                 self.bits.take_bytes(length).map(Value::Blob)
             }
-            LIST => self.list(argument, depth + 1).map(Value::List),
+            LIST | DIRECT => self.list(record, depth + 1).map(Value::List),
             TABLE => self.table(argument, depth + 1).map(Value::Table),
             UNION => {
                 let choice = self.bits.take(16)? as usize;
@@ -172,19 +172,19 @@ impl Decoder<'_> {
         Some(parts)
     }
 
-    fn list(&mut self, index: usize, depth: u32) -> Option<Vec<Value>> {
-        let element = self.schema.lists[index];
+    fn list(&mut self, list: &Record, depth: u32) -> Option<Vec<Value>> {
+        let element = self.schema.element_of(list);
         let count = self.bits.take(32)? as usize;
         if count > self.bits.left() {
             return None;
         }
-        let unmarked = element.kind == BOOL || element.is_integer();
+        let marked = self.schema.marks_elements(list);
         let mut parts = Vec::new();
         for _ in 0..count {
-            parts.push(if unmarked {
-                self.content(&element, depth)?
-            } else {
+            parts.push(if marked {
                 self.entry(&element, depth)?
+            } else {
+                self.content(&element, depth)?
             });
         }
         Some(parts)

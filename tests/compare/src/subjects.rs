@@ -4,10 +4,11 @@ use crate::append_gen;
 use crate::canonical::{self, MESSAGE_MAGIC};
 use crate::coding::Coding;
 use crate::damage;
+use crate::direct_damage;
 use crate::message_faults;
-use crate::message_gen::{self, Wild};
+use crate::message_gen::{self, Arrival, Wild};
 use crate::rng::Rng;
-use crate::schema::{Packed, Schema, DEPTH_LIMIT};
+use crate::schema::{Packed, Schema, DEPTH_LIMIT, DIRECT};
 use crate::schema_faults;
 use crate::schema_gen;
 use crate::value::{writable, Value};
@@ -24,6 +25,24 @@ pub enum Sort {
     Faulty,
     /// Damaged after it was laid out.
     Damaged,
+    /// A direct list got another magic.
+    DirectMagic,
+    /// A direct list got another table's id, or none's.
+    DirectId,
+    /// A direct list got a count over 4,294,967,295.
+    DirectCountOver,
+    /// A direct list got another count.
+    DirectCount,
+    /// The elements of a direct list got no bytes.
+    DirectNoSize,
+    /// They got a size that ends in the middle of a member, if one is so large.
+    DirectCutSize,
+    /// They got the schema's size.
+    DirectFullSize,
+    /// They got a size somewhat larger than the schema's.
+    DirectLongerSize,
+    /// They got a size that is far too large.
+    DirectLargeSize,
     /// Cut to a few bytes, or without its magic.
     BadStart,
     /// Random bytes after a start that is in order, or from the first byte.
@@ -41,12 +60,34 @@ pub enum Sort {
     NoCoding,
 }
 
+/// The sorts with one number of a direct list's header changed.
+pub const DIRECT_SORTS: [Sort; 9] = [
+    Sort::DirectMagic,
+    Sort::DirectId,
+    Sort::DirectCountOver,
+    Sort::DirectCount,
+    Sort::DirectNoSize,
+    Sort::DirectCutSize,
+    Sort::DirectFullSize,
+    Sort::DirectLongerSize,
+    Sort::DirectLargeSize,
+];
+
 /// Every sort.
-pub const SORTS: [Sort; 11] = [
+pub const SORTS: [Sort; 20] = [
     Sort::Written,
     Sort::Wild,
     Sort::Faulty,
     Sort::Damaged,
+    Sort::DirectMagic,
+    Sort::DirectId,
+    Sort::DirectCountOver,
+    Sort::DirectCount,
+    Sort::DirectNoSize,
+    Sort::DirectCutSize,
+    Sort::DirectFullSize,
+    Sort::DirectLongerSize,
+    Sort::DirectLargeSize,
     Sort::BadStart,
     Sort::Random,
     Sort::OtherSchema,
@@ -158,6 +199,7 @@ impl Maker {
         }
         let whole = message_gen::lay_out(&self.schema, rng, value.clone(), None);
         self.damaged(rng, &whole, 5);
+        self.direct_lists(rng, &whole);
         for _ in 0..2 {
             let fault = message_faults::choose(&self.schema, rng, value);
             let faulty = message_gen::lay_out(&self.schema, rng, value.clone(), Some(fault));
@@ -171,6 +213,22 @@ impl Maker {
         for _ in 0..times {
             let bytes = damage::message(self.schema.coding, rng, &wild.bytes, &wild.spots);
             self.add(Sort::Damaged, bytes);
+        }
+    }
+
+    /// A direct list of the message with one number of its header changed.
+    fn direct_lists(&mut self, rng: &mut Rng, wild: &Wild) {
+        let lists: Vec<&Arrival> = (wild.arrivals.iter())
+            .filter(|arrival| arrival.kind == DIRECT)
+            .collect();
+        if lists.is_empty() {
+            return;
+        }
+        for _ in 0..6 {
+            let sort = rng.pick(&DIRECT_SORTS);
+            let list = lists[rng.below(lists.len())];
+            let message = direct_damage::changed(&self.schema, rng, wild, list, sort);
+            self.add(sort, message);
         }
     }
 

@@ -15,6 +15,7 @@ pub enum Value {
     Struct(Vec<Value>),
     /// A text or a blob of bytes.
     Blob(Vec<u8>),
+    /// A list, or a direct list, whose elements are all tables.
     List(Vec<Value>),
     Table(Vec<Value>),
     /// The choice, counted from 1, and the object.
@@ -63,11 +64,12 @@ fn content_below(schema: &Schema, record: &Record, value: &Value) -> u64 {
     match value {
         Value::Blob(bytes) => bytes.len() as u64,
         Value::List(parts) => {
-            let element = &schema.lists[argument];
+            let element = schema.element_of(record);
             let below = parts
                 .iter()
-                .map(|part| content_below(schema, element, part));
-            schema.content(LIST, record.argument, parts.len() as u64) + below.sum::<u64>()
+                .map(|part| content_below(schema, &element, part));
+            let own = schema.content(record.kind, record.argument, parts.len() as u64);
+            own + below.sum::<u64>()
         }
         Value::Table(parts) => {
             let members = schema.tables[argument].members.iter().zip(parts);
@@ -102,7 +104,7 @@ where
         Value::Table(parts) => (Holder::Table, &schema.tables[argument].members, parts),
         Value::Struct(parts) => (Holder::Struct, &schema.structs[argument], parts),
         Value::List(parts) => {
-            let element = schema.lists[argument];
+            let element = schema.element_of(record);
             for part in parts {
                 see(Holder::List, &element, part);
                 visit(schema, &element, part, see);
@@ -120,6 +122,22 @@ where
         see(holder, member, part);
         visit(schema, member, part, see);
     }
+}
+
+/// Whether a value has a direct list with an element.
+pub fn has_direct_elements(schema: &Schema, root: &Value) -> bool {
+    let mut found = false;
+    let record = Record::plain(TABLE, schema.root);
+    visit(
+        schema,
+        &record,
+        &mut root.clone(),
+        &mut |_, record, value| {
+            let some = matches!(value, Value::List(parts) if !parts.is_empty());
+            found |= record.kind == DIRECT && some;
+        },
+    );
+    found
 }
 
 /// Whether the entry can stand in a message to be written.

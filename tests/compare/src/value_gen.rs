@@ -65,6 +65,7 @@ impl Chains {
             TEXT | BYTES => 1,
             LIST => self.lists[argument],
             TABLE => self.tables[argument],
+            DIRECT => (1 + self.tables[argument]).min(CHAIN_CAP),
             UNION => schema.unions[argument]
                 .iter()
                 .map(|case| self.below(schema, case))
@@ -136,6 +137,7 @@ impl Generator<'_> {
         let value = match record.kind {
             TEXT | BYTES => Value::Blob(self.blob(filled)),
             LIST => self.list(record.argument, depth, spine, filled),
+            DIRECT => self.direct(record.argument, depth, spine),
             _ => self.table(record.argument, depth, spine, filled),
         };
         let made = self.made.entry(key).or_default();
@@ -220,15 +222,46 @@ impl Generator<'_> {
         }
     }
 
+    /// A direct list: all its elements have one size.
+    fn direct(&mut self, index: u8, depth: u32, spine: u32) -> Value {
+        let (slots, full) = self.schema.slots(index);
+        let needed = spine > 1;
+        let length = match self.rng.below(10) {
+            0 if self.wild() && !needed => 0,
+            1..=3 if self.wild() && !needed => self.shorter(&slots, full, false),
+            _ => full,
+        };
+        let least = usize::from(needed);
+        let count = match self.rng.below(6) {
+            _ if depth >= self.deepest && !needed => 0,
+            0 if length == 0 => self.rng.range(30, 300),
+            _ => self.rng.small(8).min(self.fuel.max(1) as usize).max(least),
+        };
+        let forced = needed.then(|| self.rng.below(count));
+        let mut parts: Vec<Value> = Vec::new();
+        for i in 0..count {
+            self.fuel -= 1;
+            let spine = if forced == Some(i) { spine - 1 } else { 1 };
+            parts.push(self.fixed_part(index, depth + 1, spine, length));
+        }
+        Value::List(parts)
+    }
+
     fn table(&mut self, index: u8, depth: u32, spine: u32, filled: bool) -> Value {
-        let schema = self.schema;
-        let members = &schema.tables[usize::from(index)].members;
-        let (slots, full) = schema.slots(index);
+        let (slots, full) = self.schema.slots(index);
         let length = if self.wild() && spine <= 1 && self.rng.one_in(5) {
             self.shorter(&slots, full, filled)
         } else {
             full
         };
+        self.fixed_part(index, depth, spine, length)
+    }
+
+    /// A table with a fixed part of this length.
+    fn fixed_part(&mut self, index: u8, depth: u32, spine: u32, length: usize) -> Value {
+        let schema = self.schema;
+        let members = &schema.tables[usize::from(index)].members;
+        let (slots, _) = schema.slots(index);
         let forced = self.spine_member(members, spine);
         let mut parts = Vec::new();
         for (i, member) in members.iter().enumerate() {

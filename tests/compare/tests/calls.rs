@@ -8,7 +8,15 @@ use compare::calls::{fields, lists, reads, writes, LibraryCalls, SecondCalls};
 use compare::coding::Coding;
 use compare::counts::Counts;
 
-/// What the older coding never has, without unions that are not in place.
+/// What the older coding never has, without unions that are not in place and
+/// direct lists.
+fn never_under_32(name: &str) -> bool {
+    NEVER_UNDER_32.contains(&name)
+        || name.contains("object 18")
+        || name.contains("direct")
+        || name.contains("Direct")
+}
+
 const NEVER_UNDER_32: [&str; 8] = [
     "refused 9",
     "refused 9, member 0",
@@ -25,7 +33,7 @@ fn shortfalls(coding: Coding, counts: &Counts, wanted: &[(&str, u64)]) -> Vec<St
     let mut short = Vec::new();
     for &(name, least) in wanted {
         let count = counts.named(name);
-        let never = coding.is_older() && NEVER_UNDER_32.contains(&name);
+        let never = coding.is_older() && never_under_32(name);
         if never && count > 0 {
             short.push(format!("{name}: {count}, none wanted"));
         } else if !never && count < least {
@@ -54,7 +62,7 @@ fn beyond_1(sort: &str, calls: u64, refused: u64) {
 }
 
 /// The answers of fields: every case, every refusal but 4, every kind.
-const ANSWERS: [(&str, u64); 39] = [
+const ANSWERS: [(&str, u64); 42] = [
     ("boolean 0", 10_000),
     ("boolean 1", 10_000),
     ("number of 8, signed 0", 10_000),
@@ -71,6 +79,7 @@ const ANSWERS: [(&str, u64); 39] = [
     ("object 14", 8000),
     ("object 15", 15_000),
     ("object 16", 50_000),
+    ("object 18", 10_000),
     ("struct", 15_000),
     ("absent", 100_000),
     ("unknown below 256", 5000),
@@ -92,6 +101,8 @@ const ANSWERS: [(&str, u64); 39] = [
     ("paths: 97 numbers", 3000),
     ("paths: over 97 numbers", 5000),
     ("messages: Damaged", 15_000),
+    ("messages: DirectNoSize", 300),
+    ("messages: DirectCutSize", 300),
     ("messages: OtherCoding", 3000),
     ("messages: NoCoding", 400),
 ];
@@ -109,13 +120,17 @@ const MEMBERS_OF_FIELDS: [(&str, u64); 8] = [
 ];
 
 /// The list reader: its steps, and what it starts at.
-const LISTS: [(&str, u64); 36] = [
+const LISTS: [(&str, u64); 42] = [
     ("list calls", 300_000),
     ("lists", 20_000),
+    ("direct lists", 10_000),
+    ("direct lists of over 16,777,216 elements", 500),
     ("list steps: object 13", 1500),
     ("list steps: object 14", 1500),
     ("list steps: object 15", 3000),
     ("list steps: object 16", 5000),
+    ("list steps: object 18", 500),
+    ("list steps: refused 5", 10),
     ("list steps: absent", 10_000),
     ("list steps: unknown below 256", 500),
     ("list steps: unknown from 256", 500),
@@ -126,6 +141,8 @@ const LISTS: [(&str, u64); 36] = [
     ("list steps: after the last", 15_000),
     ("answers of lists that are none", 100_000),
     ("list starts: no elements", 1000),
+    ("list starts: no direct elements", 1000),
+    ("list starts: a direct list, no step", 100),
     ("list starts: plain elements", 3000),
     ("list starts: absent", 10_000),
     ("list starts: boolean 0", 1500),
@@ -170,7 +187,7 @@ fn fields_texts_and_lists_under_32_bits() {
     fields_agree(Coding::Bits32);
 }
 
-const READS: [(&str, u64); 34] = [
+const READS: [(&str, u64); 42] = [
     ("accepted: Written", 2500),
     ("accepted: Wild", 3500),
     ("accepted: Damaged", 5000),
@@ -181,6 +198,14 @@ const READS: [(&str, u64); 34] = [
     ("refused: BrokenSchema", 3000),
     ("refused: Damaged", 20_000),
     ("refused: Faulty", 7000),
+    ("refused: DirectMagic", 300),
+    ("refused: DirectId", 300),
+    ("refused: DirectCountOver", 300),
+    ("refused: DirectCount", 300),
+    ("refused: DirectCutSize", 300),
+    ("accepted: DirectNoSize", 300),
+    ("accepted: DirectFullSize", 200),
+    ("accepted: DirectLongerSize", 200),
     ("refused: OtherCoding", 3000),
     ("refused: NoCoding", 400),
     ("room: exact, answer 0", 15_000),
@@ -220,7 +245,7 @@ const MEMBERS_OF_READS: [(&str, u64); 8] = [
 ];
 
 fn reads_agree(coding: Coding) {
-    let outcome = reads::run(&LibraryCalls, &SecondCalls, coding, 1, 400_000);
+    let outcome = reads::run(&LibraryCalls, &SecondCalls, coding, 1, 500_000);
     let counts = reached(coding, outcome, &[&READS[..], &MEMBERS_OF_READS].concat());
     beyond_1(reads::CALLS, counts.named(reads::CALLS), counts.answers[1]);
 }
@@ -235,7 +260,7 @@ fn reading_to_a_sheet_under_32_bits() {
     reads_agree(Coding::Bits32);
 }
 
-const WRITES: [(&str, u64); 26] = [
+const WRITES: [(&str, u64); 29] = [
     ("sheets of a writable value, answer 0", 8000),
     ("sheets of any value, answer 0", 5000),
     ("sheets of any value, answer 11", 300),
@@ -247,6 +272,9 @@ const WRITES: [(&str, u64); 26] = [
     ("sheets read from a damaged message, answer 0", 1200),
     ("sheets read from a damaged message, answer 12", 900),
     ("sheets random bytes, answer 11", 8000),
+    ("sheets with direct elements, answer 0", 1000),
+    ("sheets with direct elements, answer 11", 1000),
+    ("sheets with direct elements, answer 12", 500),
     ("sheets by a damaged schema, answer 0", 60),
     ("sheets by a damaged schema, answer 1", 5000),
     ("sheets by the other coding's schema, answer 0", 1500),
@@ -265,7 +293,7 @@ const WRITES: [(&str, u64); 26] = [
 ];
 
 fn writes_agree(coding: Coding) {
-    let outcome = writes::run(&LibraryCalls, &SecondCalls, coding, 1, 400_000);
+    let outcome = writes::run(&LibraryCalls, &SecondCalls, coding, 1, 500_000);
     let counts = reached(coding, outcome, &WRITES);
     beyond_1(
         writes::CALLS,

@@ -6,6 +6,7 @@ use compare::coding::{Coding, CODINGS};
 use compare::judging;
 use compare::program::{Budget, Judge, Verdict, NO_MEMBER};
 use compare::schema::Packed;
+use compare::schema_rules;
 
 #[derive(Clone, Copy, Debug, PartialEq)]
 enum Flaw {
@@ -46,6 +47,11 @@ enum Flaw {
     CodingIgnored,
     AnyCodingTaken,
     CodingGuessed,
+    NoDirectLists,
+    DirectAsList,
+    DirectElementAsDirect,
+    DirectHeaderOf10,
+    NoListReaderAtDirect,
 }
 
 struct Flawed(Flaw);
@@ -79,6 +85,9 @@ impl Flawed {
 
     /// The schema under the coding that the program takes it for.
     fn taken(&self, schema: &Packed) -> Packed {
+        if self.0 == Flaw::NoDirectLists && has_direct_lists(schema) {
+            return schema.with(Vec::new());
+        }
         let lawful = |coding: Coding| reference::lawful(coding.number(), &schema.bytes);
         let given = Coding::of(schema.coding);
         let taken = match self.0 {
@@ -96,6 +105,12 @@ impl Flawed {
     }
 }
 
+/// Whether a lawful schema has a direct list.
+fn has_direct_lists(schema: &Packed) -> bool {
+    let parsed = schema_rules::parse(schema);
+    parsed.is_some_and(|schema| (0..schema.tables.len()).any(|table| schema.is_direct(table)))
+}
+
 const NONE: u64 = NO_MEMBER as u64;
 
 /// A refusal as its numbers, with the member that the program gives it.
@@ -109,6 +124,18 @@ fn with_member(flaw: Flaw, refused: [u64; 4]) -> [u64; 4] {
         _ => member,
     };
     [case, number, place, member]
+}
+
+/// Whether a path leads to a direct list.
+fn is_direct(schema: &Packed, message: &[u8], path: &[u32]) -> bool {
+    matches!(SecondCalls.field(schema, message, path), [3, 18, ..])
+}
+
+/// What a list reader says where there is no list.
+fn no_list(cases: &mut [u64]) -> u64 {
+    let answers = cases.chunks_exact_mut(4);
+    answers.for_each(|case| case.copy_from_slice(&[7, 15, 0, NONE]));
+    0
 }
 
 /// Changes a byte of an output, where it has that byte.
@@ -140,6 +167,12 @@ impl Calls for Flawed {
             (Flaw::PathOf97Taken, _) if path.len() == 97 => {
                 SecondCalls.field(schema, message, &path[..96])
             }
+            (Flaw::DirectAsList, [3, 18, at, length]) => [3, 15, at, length],
+            (Flaw::DirectElementAsDirect, [3, 16, at, length]) => match path.split_last() {
+                Some((_, list)) if is_direct(schema, message, list) => [3, 18, at, length],
+                _ => answer,
+            },
+            (Flaw::DirectHeaderOf10, [3, 18, at, length]) => [3, 18, at + 8, length],
             (flaw, [7, ..]) => with_member(flaw, answer),
             _ => answer,
         }
@@ -167,13 +200,15 @@ impl Calls for Flawed {
         cases: &mut [u64],
     ) -> u64 {
         let schema = &self.taken(schema);
+        if self.0 == Flaw::NoListReaderAtDirect && is_direct(schema, message, path) {
+            return no_list(cases);
+        }
         let count = SecondCalls.list(schema, message, path, from, cases);
         match self.0 {
             Flaw::ListStopsAtRefused => {
                 let answers = cases.chunks_exact_mut(4);
-                for case in answers.skip_while(|case| case[0] != 7).skip(1) {
-                    case.copy_from_slice(&[7, 15, 0, NONE]);
-                }
+                let after = answers.skip_while(|case| case[0] != 7).skip(1);
+                after.for_each(|case| case.copy_from_slice(&[7, 15, 0, NONE]));
             }
             Flaw::NoMemberInLists => {
                 for case in cases.chunks_exact_mut(4).filter(|case| case[0] == 7) {
@@ -185,8 +220,7 @@ impl Calls for Flawed {
                 SecondCalls.list(schema, message, path, count - 1, cases);
             }
             Flaw::ListFillsTheRest => {
-                let rest = cases.len() % 4;
-                let whole = cases.len() - rest;
+                let whole = cases.len() - cases.len() % 4;
                 cases[whole..].fill(0);
             }
             Flaw::ListStartsAtPlain if count == 0 => {
@@ -293,6 +327,16 @@ const IN_WRITES: [Flaw; 6] = [
     Flaw::NotWritableFirst,
 ];
 
+/// What the side by side of fields must catch in direct lists, which the older
+/// coding does not have.
+const IN_DIRECT_LISTS: [Flaw; 5] = [
+    Flaw::NoDirectLists,
+    Flaw::DirectAsList,
+    Flaw::DirectElementAsDirect,
+    Flaw::DirectHeaderOf10,
+    Flaw::NoListReaderAtDirect,
+];
+
 /// What every side by side must catch.
 const IN_CODINGS: [Flaw; 3] = [
     Flaw::CodingIgnored,
@@ -329,6 +373,21 @@ fn fields_side_by_side_catch_flaws() {
     catches("fields", &IN_FIELDS, |flawed, coding| {
         fields::run(flawed, &SecondCalls, coding, 9, CALLS).map(drop)
     });
+}
+
+/// A program without direct lists is caught by every side by side.
+#[test]
+fn direct_lists_side_by_side_catch_flaws() {
+    let coding = Coding::Bits48;
+    for flaw in IN_DIRECT_LISTS {
+        let outcome = fields::run(&Flawed(flaw), &SecondCalls, coding, 9, CALLS);
+        assert!(outcome.is_err(), "fields miss {flaw:?}");
+    }
+    let without = &Flawed(Flaw::NoDirectLists);
+    let judged = judging::run(without, &SecondCalls, coding, 9, CALLS / 10);
+    let read = reads::run(without, &SecondCalls, coding, 9, CALLS);
+    let written = writes::run(without, &SecondCalls, coding, 9, CALLS);
+    assert!(judged.is_err() && read.is_err() && written.is_err());
 }
 
 #[test]

@@ -9,11 +9,11 @@ use compare::coding::{Coding, CODINGS};
 use compare::judging;
 use compare::members::NAMES;
 use compare::program::Second;
-use compare::subjects::{Sort, SORTS};
+use compare::subjects::{Sort, DIRECT_SORTS, SORTS};
 use compare::tally::{Allowed, Tally, NUMBERS};
 
 const SEED: u64 = 1;
-const MESSAGES: u64 = 300_000;
+const MESSAGES: u64 = 400_000;
 
 /// At least so many messages of each number with an ample budget; a spent
 /// budget is rare there, and comes from the smaller ones.
@@ -38,6 +38,33 @@ const MEMBERS_SEEN: [(u32, [u64; 4]); 3] = [
     (9, [0, 300, 700, 20]),
     (10, [1500, 200, 600, 20]),
 ];
+
+/// At least so many messages with a changed direct list that got a number.
+const DIRECT_SEEN: [(Sort, u32, u64); 13] = [
+    (Sort::DirectMagic, 7, 1000),
+    (Sort::DirectId, 7, 1000),
+    (Sort::DirectCountOver, 6, 1000),
+    (Sort::DirectCount, 0, 200),
+    (Sort::DirectCount, 4, 50),
+    (Sort::DirectCount, 6, 500),
+    (Sort::DirectNoSize, 0, 800),
+    (Sort::DirectCutSize, 8, 500),
+    (Sort::DirectFullSize, 0, 400),
+    (Sort::DirectLongerSize, 0, 150),
+    (Sort::DirectLongerSize, 6, 150),
+    (Sort::DirectLargeSize, 0, 100),
+    (Sort::DirectLargeSize, 6, 800),
+];
+
+/// At least so many messages of a sort.
+fn least(coding: Coding, sort: Sort) -> u64 {
+    match sort {
+        Sort::NoCoding => 1000,
+        _ if !DIRECT_SORTS.contains(&sort) => 5000,
+        _ if coding.is_older() => 0,
+        _ => 1500,
+    }
+}
 
 /// What the run did not reach often enough.
 fn shortfalls(coding: Coding, tally: &Tally) -> Vec<String> {
@@ -65,10 +92,6 @@ fn shortfalls(coding: Coding, tally: &Tally) -> Vec<String> {
         let name = format!("{allowed:?}, number {number}");
         need(name, tally.with(allowed, number), least);
     }
-    for sort in SORTS {
-        let least = if sort == Sort::NoCoding { 1000 } else { 5000 };
-        need(format!("{sort:?}"), tally.of_sort(sort), least);
-    }
     for number in [0, 5, 6, 7, 8, 9, 10].into_iter().filter(possible) {
         let name = format!("damaged, number {number}");
         need(name, tally.of(Sort::Damaged, number), 500);
@@ -76,7 +99,28 @@ fn shortfalls(coding: Coding, tally: &Tally) -> Vec<String> {
     let name = "damaged schemas still lawful".to_string();
     let lawful = tally.of_sort(Sort::DamagedSchema) - tally.of(Sort::DamagedSchema, 1);
     need(name, lawful, 1000);
+    for (name, count, least) in of_sorts(coding, tally) {
+        need(name, count, least);
+    }
     short
+}
+
+/// How many messages of each sort there are to be, and of direct lists that got a
+/// number.
+fn of_sorts(coding: Coding, tally: &Tally) -> Vec<(String, u64, u64)> {
+    let every = |sort| {
+        (
+            format!("{sort:?}"),
+            tally.of_sort(sort),
+            least(coding, sort),
+        )
+    };
+    let direct = DIRECT_SEEN.map(|(sort, number, least)| {
+        let least = if coding.is_older() { 0 } else { least };
+        let name = format!("{sort:?}, number {number}");
+        (name, tally.of(sort, number), least)
+    });
+    SORTS.into_iter().map(every).chain(direct).collect()
 }
 
 /// A walk that an ample budget takes to its end is the same with a budget of
@@ -106,6 +150,9 @@ fn agree(coding: Coding) {
     budgets_change_nothing(&tally);
     let short = shortfalls(coding, &tally);
     assert!(short.is_empty(), "not reached often enough: {short:#?}");
+    for sort in DIRECT_SORTS {
+        assert_eq!(coding.is_older(), tally.of_sort(sort) == 0, "{sort:?}");
+    }
     // Under no coding is any schema lawful.
     assert_eq!(tally.of(Sort::NoCoding, 1), tally.of_sort(Sort::NoCoding));
     assert_eq!(coding.is_older(), tally.of_number(9) == 0);

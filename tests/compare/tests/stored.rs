@@ -21,7 +21,7 @@ fn reached(kind: &str, way: &str) -> BTreeSet<u32> {
     }
     match kind {
         "text" => numbers.insert(10),
-        "table" => numbers.insert(8),
+        "table" | "direct list" => numbers.insert(8),
         _ => false,
     };
     numbers
@@ -81,7 +81,15 @@ fn every_refusal_at_every_kind_of_object() {
             has(&groups, &format!("{kind} {way}"), &reached(kind, way));
         }
     }
-    for kind in (0..=11).chain(13..=17) {
+    for way in ways {
+        let group = format!("direct list {way}");
+        if way.ends_with("in place") {
+            assert!(!groups.contains_key(&group));
+        } else {
+            has(&groups, &group, &reached("direct list", way));
+        }
+    }
+    for kind in (0..=11).chain(13..=18) {
         for way in ["by offset", "in place"] {
             let group = format!("list of kind {kind} {way}");
             has(&groups, &group, &BTreeSet::from([0, 6]));
@@ -119,6 +127,7 @@ fn every_refusal_at_every_kind_of_object_under_32_bits() {
             }
         }
     }
+    assert!(!groups.keys().any(|group| group.starts_with("direct list")));
     for kind in (0..=11).chain(13..=16) {
         for way in ["by offset", "in place"] {
             let group = format!("list of kind {kind} {way}");
@@ -154,11 +163,11 @@ fn every_kind_of_member_is_cut() {
 
 fn every_kind_is_cut(coding: Coding) {
     let groups = numbers_by_group(&stored::under(coding));
-    for kind in 0..=17 {
+    for kind in 0..=18 {
         let plain = format!("member of kind {kind}");
         let wide = !matches!(kind, 0 | 1 | 5 | 11);
         let numbers: &[u32] = if wide { &[0, 8] } else { &[0] };
-        if kind != 17 || !coding.is_older() {
+        if kind < 17 || !coding.is_older() {
             has(&groups, &plain, &numbers.iter().copied().collect());
         }
         if kind <= 8 || kind == 12 {
@@ -168,7 +177,7 @@ fn every_kind_is_cut(coding: Coding) {
                 &BTreeSet::from([0, 8]),
             );
         }
-        if kind >= 13 && !(kind == 16 && coding.is_older()) {
+        if (13..=17).contains(&kind) && !(kind == 16 && coding.is_older()) {
             let numbers: &[u32] = if kind == 17 { &[0, 8] } else { &[0, 6, 8] };
             let numbers = numbers.iter().copied().collect();
             has(&groups, &format!("in place {plain}"), &numbers);

@@ -218,6 +218,11 @@ impl<'a> Transfer<'a> {
                 }
             }
             Target::Table(index) => self.table(index),
+            Target::Direct(index) => {
+                let count = self.sheet.take(32)?;
+                self.put(count, 32)?;
+                (0..count).try_for_each(|_| self.table(index))
+            }
         }
     }
 

@@ -8,10 +8,10 @@
 //!   root at 8" follow from the header, as 10 does in the other coding.
 //! - "unions of a U16 choice and U32 length always in place": `union`.
 //! - "a schema with a union not in place, a table in place, a list of unions
-//!   ... is 1 under this coding": `schema` tries these with the other rules,
-//!   of every record, whether anything refers to it or not. A table as a case
-//!   of a union stays lawful: "The content of the member is encoded as a
-//!   Table, List, Bytes or Text".
+//!   or a direct list is 1 under this coding": `schema` tries these with the
+//!   other rules, of every record, whether anything refers to it or not. A
+//!   table as a case of a union stays lawful: "The content of the member is
+//!   encoded as a Table, List, Bytes or Text".
 //! - "the special length 0 indicates that we have no value" is said of texts,
 //!   bytes and lists; a union's choice says whether it has one, so a known
 //!   choice of length 0 is an empty object, as document 01 has it.

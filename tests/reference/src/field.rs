@@ -23,7 +23,8 @@ pub enum Answer {
         bits: u64,
         width: u32,
     },
-    /// The kind is the record's: 13 text, 14 bytes, 15 list, 16 table.
+    /// The kind is the record's: 13 text, 14 bytes, 15 list, 16 table, 18
+    /// direct list. Its elements are of kind 16.
     Object {
         kind: u32,
         place: u64,
@@ -59,6 +60,7 @@ impl From<Object> for Answer {
             Target::Bytes => 14,
             Target::List(_) => 15,
             Target::Table(_) => 16,
+            Target::Direct(_) => 18,
         };
         Answer::Object {
             kind,
@@ -83,7 +85,7 @@ pub fn text(coding: u32, schema: &[u8], message: &[u8], path: &[u32]) -> Option<
     match end_of(coding, schema, message, path) {
         Ok(End::Object(object, _)) => match object.target {
             Target::Text | Target::Bytes => Some((object.start, object.length)),
-            Target::List(_) | Target::Table(_) => None,
+            Target::List(_) | Target::Table(_) | Target::Direct(_) => None,
         },
         Ok(End::Other(_)) | Err(_) => None,
     }
@@ -157,6 +159,11 @@ impl Path<'_> {
                 self.element(object, index, step as usize, depth)
             }
             Target::Table(index) => self.member(object, index, step as usize, depth),
+            Target::Direct(index) if (step as usize) < object.length => {
+                let (table, spot) = (Target::Table(index), object.direct_element(step as usize));
+                let element = open(self.schema, self.message, table, spot, depth + 1)?;
+                Ok(Part::Object(element))
+            }
             _ => Err(Refusal::new(15, object.place)),
         }
     }
@@ -291,13 +298,11 @@ impl Path<'_> {
 }
 
 /// The list reader: it keeps the message and its present place together and
-/// steps through an offset list.
+/// steps through an offset list or a direct list.
 pub struct ListReader<'a> {
     schema: Schema,
     message: &'a [u8],
     list: Object,
-    /// The list's index in the schema.
-    index: u8,
     /// The list's depth.
     depth: u32,
     next: usize,
@@ -305,7 +310,8 @@ pub struct ListReader<'a> {
 
 impl<'a> ListReader<'a> {
     /// "It starts from a path to a list whose elements are of kinds 13 to 17;
-    /// a refused path gives its own refusal, any other answer is 15 at 0."
+    /// a refused path gives its own refusal, any other answer is 15 at 0." "The
+    /// list reader takes direct lists and lists of them too."
     pub fn new(
         coding: u32,
         schema: &'a [u8],
@@ -318,20 +324,31 @@ impl<'a> ListReader<'a> {
             message,
         };
         if let End::Object(list, depth) = followed.end(path)? {
-            if let Target::List(index) = list.target {
-                if matches!(schema.element(index), Kind::Object(_) | Kind::Union(_)) {
-                    return Ok(ListReader {
-                        schema,
-                        message,
-                        list,
-                        index,
-                        depth,
-                        next: 0,
-                    });
+            let taken = match list.target {
+                Target::List(index) => {
+                    matches!(schema.element(index), Kind::Object(_) | Kind::Union(_))
                 }
+                Target::Direct(_) => true,
+                _ => false,
+            };
+            if taken {
+                return Ok(ListReader {
+                    schema,
+                    message,
+                    list,
+                    depth,
+                    next: 0,
+                });
             }
         }
         Err(Refusal::new(15, 0).into())
+    }
+
+    /// Moves on by so many elements, as that many steps do: "after the last it
+    /// ... stays". A direct list may have more than can be stepped through.
+    pub fn skip(&mut self, elements: u64) {
+        let left = (self.list.length - self.next) as u64;
+        self.next += elements.min(left) as usize;
     }
 
     /// "Each step answers as that element's path would and moves on, refused
@@ -346,7 +363,8 @@ impl<'a> ListReader<'a> {
             schema: &self.schema,
             message: self.message,
         };
-        match path.element(&self.list, self.index, number, self.depth) {
+        // A count is at most 4,294,967,295, so that a number is less.
+        match path.part(&self.list, number as u32, self.depth) {
             Ok(Part::Object(object)) => object.into(),
             Ok(Part::Value(answer) | Part::Ends(answer)) => answer,
             // A list has no structs.

@@ -13,6 +13,16 @@ pub const MESSAGE_MAGIC: u32 = 0xB5C0_C4B3;
 const TEXT_MAGIC: u32 = 0xD812_C8F5;
 const BYTES_MAGIC: u32 = 0xDCDB_BE10;
 const LIST_MAGIC: u32 = 0x3400_BB46;
+const DIRECT_MAGIC: u32 = 0xE2C6_CC05;
+
+/// A direct list's header: "magic 0xE2C6CC05, U48 count, U32 table id, U32
+/// size, then the elements without headers, 18 bytes before the first".
+pub const DIRECT_HEADER: usize = 18;
+/// Where the table id and the size stand in it.
+pub const DIRECT_ID: usize = 10;
+pub const DIRECT_SIZE: usize = 14;
+/// "a count over 4,294,967,295 is 6"
+const DIRECT_COUNT: u64 = 4_294_967_295;
 
 /// "Enum byte 255 is no value, everywhere."
 pub const NO_ENUM: u8 = 255;
@@ -56,13 +66,14 @@ impl Refusal {
 pub enum Spot {
     /// The offset as stored.
     Offset(u64),
-    /// Content without magic and length, behind its table's fixed part.
+    /// Content without magic and length: behind its table's fixed part, or an
+    /// element of a direct list.
     InPlace { start: usize, length: u64 },
 }
 
 impl Spot {
     /// "An object's place is its offset as stored, or where its in-place
-    /// content starts."
+    /// content starts." A direct list's element is "placed at its first byte".
     pub fn place(&self) -> u64 {
         match *self {
             Spot::Offset(offset) => offset,
@@ -80,6 +91,8 @@ pub struct Object {
     pub start: usize,
     /// Bytes, elements or fixed-part bytes.
     pub length: usize,
+    /// The bytes of each element of a direct list; 0 of any other object.
+    pub size: usize,
 }
 
 impl Object {
@@ -87,6 +100,14 @@ impl Object {
     /// text's end byte stands there.
     pub fn end(&self) -> usize {
         self.start + self.length
+    }
+
+    /// An element of a direct list: "The size comes from the message".
+    pub fn direct_element(&self, number: usize) -> Spot {
+        Spot::InPlace {
+            start: self.start + number * self.size,
+            length: self.size as u64,
+        }
     }
 }
 
@@ -154,6 +175,14 @@ pub fn is_nan(bits: u64, bytes: u8) -> bool {
     bits & exponent == exponent && bits & fraction != 0
 }
 
+/// The bytes of an object's header.
+pub fn header_size(coding: Coding, target: Target) -> usize {
+    match target {
+        Target::Direct(_) => DIRECT_HEADER,
+        _ => coding.header(),
+    }
+}
+
 /// "text 0xD812C8F5, bytes 0xDCDBBE10, list 0x3400BB46, table its id"
 pub fn magic(schema: &Schema, target: Target) -> u32 {
     match target {
@@ -161,6 +190,7 @@ pub fn magic(schema: &Schema, target: Target) -> u32 {
         Target::Bytes => BYTES_MAGIC,
         Target::List(_) => LIST_MAGIC,
         Target::Table(index) => schema.table(index).id,
+        Target::Direct(_) => DIRECT_MAGIC,
     }
 }
 
@@ -184,11 +214,13 @@ fn element_size(coding: Coding, element: Kind) -> u64 {
 }
 
 /// "its content length: bytes, text without its end byte, list element bytes,
-/// fixed part". A length of 48 bits keeps this far below 2^64.
+/// fixed part; a direct list itself adds 0". A length of 48 bits keeps this far
+/// below 2^64.
 pub fn content_length(schema: &Schema, target: Target, length: u64) -> u64 {
     match target {
         Target::Text | Target::Bytes | Target::Table(_) => length,
         Target::List(index) => list_bytes(schema.coding, schema.element(index), length),
+        Target::Direct(_) => 0,
     }
 }
 
@@ -231,23 +263,47 @@ pub fn fit(
     if depth > DEPTH {
         return Err(Refusal::new(5, place));
     }
-    let (start, length) = match spot {
+    let said = match spot {
         Spot::Offset(offset) => open_header(schema, message, target, offset)?,
-        Spot::InPlace { start, length } => (start, length),
+        Spot::InPlace { start, length } => Said {
+            start,
+            length,
+            size: 0,
+        },
     };
-    // "Text: length bytes and one zero byte."
-    let end = u64::from(target == Target::Text);
-    let bytes = content_length(schema, target, length) + end;
-    if bytes > (message.len() - start) as u64 {
+    if said.bytes(schema, target) > (message.len() - said.start) as u64 {
         return Err(Refusal::new(6, place));
     }
     Ok(Object {
         target,
         place,
-        start,
-        // No element is under a bit, so a length that fits is below 2^27.
-        length: length as usize,
+        start: said.start,
+        // Below 2^32 in a direct list. No other element is under a bit, so that
+        // a length that fits is below 2^27.
+        length: said.length as usize,
+        size: said.size as usize,
     })
+}
+
+/// What is said of an object before its content: where that starts, its length,
+/// and the size of a direct list's elements.
+struct Said {
+    start: usize,
+    length: u64,
+    size: u64,
+}
+
+impl Said {
+    /// The bytes that the content takes.
+    fn bytes(&self, schema: &Schema, target: Target) -> u64 {
+        match target {
+            // "Text: length bytes and one zero byte."
+            Target::Text => self.length + 1,
+            // Two numbers of 32 bits.
+            Target::Direct(_) => self.length * self.size,
+            _ => content_length(schema, target, self.length),
+        }
+    }
 }
 
 /// "text's end byte"
@@ -259,24 +315,51 @@ pub fn judge_end(message: &[u8], object: &Object) -> Result<(), Refusal> {
 }
 
 /// "An offset under 10 is not lawful where an object is required." "Offsets
-/// under 8 are unlawful there", in the older coding. Answers where the content
-/// starts and the length.
+/// under 8 are unlawful there", in the older coding.
 fn open_header(
     schema: &Schema,
     message: &[u8],
     target: Target,
     offset: u64,
-) -> Result<(usize, u64), Refusal> {
-    let header = schema.coding.header();
-    let last = (message.len() - header) as u64;
-    if offset < header as u64 || offset > last {
+) -> Result<Said, Refusal> {
+    let header = header_size(schema.coding, target);
+    let fits = offset <= message.len() as u64 && message.len() as u64 - offset >= header as u64;
+    if offset < schema.coding.header() as u64 || !fits {
         return Err(Refusal::new(6, offset));
     }
     let at = offset as usize;
     if u32_at(message, at) != magic(schema, target) {
         return Err(Refusal::new(7, offset));
     }
-    Ok((at + header, offset_at(schema.coding, message, at + 4)))
+    let length = offset_at(schema.coding, message, at + 4);
+    let size = match target {
+        Target::Direct(index) => open_direct(schema, message, index, at, length)?,
+        _ => 0,
+    };
+    Ok(Said {
+        start: at + header,
+        length,
+        size,
+    })
+}
+
+/// "wrong element id is 7, then a count over 4,294,967,295 is 6, both at the
+/// list's arrival, after its magic and before content fit". Answers the
+/// elements' size.
+fn open_direct(
+    schema: &Schema,
+    message: &[u8],
+    index: u8,
+    at: usize,
+    count: u64,
+) -> Result<u64, Refusal> {
+    if u32_at(message, at + DIRECT_ID) != schema.table(index).id {
+        return Err(Refusal::new(7, at as u64));
+    }
+    if count > DIRECT_COUNT {
+        return Err(Refusal::new(6, at as u64));
+    }
+    Ok(u64::from(u32_at(message, at + DIRECT_SIZE)))
 }
 
 /// Where a table member's value stands in the message, if it has one there.

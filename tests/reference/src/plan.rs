@@ -1,7 +1,7 @@
 //! What a value sheet is: lawful, writable, and how large its message is.
 
 use crate::bits::BitReader;
-use crate::message::{is_nan, list_bytes, DEPTH, SIZE};
+use crate::message::{header_size, is_nan, list_bytes, DEPTH, SIZE};
 use crate::schema::{Kind, Schema, Target};
 use crate::sheet::{ABSENT, PRESENT, UNKNOWN};
 
@@ -56,7 +56,7 @@ impl<'a> Plan<'a> {
             self.blocks.push(0);
         }
         let content = self.content(target, depth)?;
-        let bytes = self.schema.coding.header() as u64 + content.bytes;
+        let bytes = header_size(self.schema.coding, target) as u64 + content.bytes;
         self.size = self.size.saturating_add(bytes);
         if kept {
             self.blocks[number] = usize::try_from(bytes).unwrap_or(usize::MAX);
@@ -84,6 +84,16 @@ impl<'a> Plan<'a> {
             Target::Table(index) => {
                 let size = self.schema.table(index).size as u64;
                 (size, size.saturating_add(self.table(index, depth)?))
+            }
+            Target::Direct(index) => {
+                let count = self.sheet.take(32)?;
+                // Each has a member, so that the sheet ends a long count.
+                for _ in 0..count {
+                    self.content(Target::Table(index), depth + 1)?;
+                }
+                // "The writer uses the full size." No element has anything in
+                // place behind it.
+                (count, count * self.schema.table(index).size as u64)
             }
         };
         Some(Content { length, bytes })

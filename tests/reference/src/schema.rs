@@ -12,6 +12,8 @@ pub enum Target {
     Bytes,
     List(u8),
     Table(u8),
+    /// A direct list, with the table of its elements.
+    Direct(u8),
 }
 
 /// What a member, element or case is.
@@ -134,7 +136,28 @@ impl Schema {
             schema.tables.push(one);
         }
         // "Nothing follows the last table."
-        packed.rest.is_empty().then_some(schema)
+        let lawful = packed.rest.is_empty() && schema.direct_lists_lawful();
+        lawful.then_some(schema)
+    }
+
+    /// "its table must have at least one member and none in place (else 1)";
+    /// "a schema with ... a direct list is 1 under this coding", the older one.
+    /// Every record is judged, whether anything refers to it or not.
+    fn direct_lists_lawful(&self) -> bool {
+        let cases = self.unions.iter().flatten().copied().map(Kind::Object);
+        let members = self.tables.iter().flat_map(|table| &table.members);
+        let elements = self.lists.iter().copied();
+        let mut kinds = elements
+            .chain(cases)
+            .chain(members.map(|member| member.record.kind));
+        kinds.all(|kind| match kind {
+            Kind::Object(Target::Direct(index)) => {
+                let members = &self.table(index).members;
+                let in_place = members.iter().any(|member| member.record.in_place);
+                self.coding == Coding::Bits48 && !members.is_empty() && !in_place
+            }
+            _ => true,
+        })
     }
 
     pub(crate) fn structure(&self, index: u8) -> &Struct {
@@ -229,7 +252,8 @@ fn parse_record(packed: &mut Packed, counts: &Counts) -> Option<Record> {
 }
 
 /// "For 12 and 15 to 17 the argument is an index below that count; otherwise
-/// it is 0", an enum's aside, which is its number of values.
+/// it is 0", an enum's aside, which is its number of values. "Add kind 18,
+/// argument a table".
 fn parse_kind(number: u8, argument: u8, counts: &Counts) -> Option<Kind> {
     let (kind, lawful) = match number {
         0 => (Kind::Bool, argument == 0),
@@ -253,6 +277,10 @@ fn parse_kind(number: u8, argument: u8, counts: &Counts) -> Option<Kind> {
             (Kind::Object(target), argument < counts.tables)
         }
         17 => (Kind::Union(argument), argument < counts.unions),
+        18 => {
+            let target = Target::Direct(argument);
+            (Kind::Object(target), argument < counts.tables)
+        }
         _ => return None,
     };
     lawful.then_some(kind)
@@ -297,8 +325,8 @@ fn parse_struct(packed: &mut Packed, counts: &Counts, lower: &[Struct]) -> Optio
     Some(one)
 }
 
-/// "List elements: 0 to 11 and 13 to 17"; "a list of unions" is not lawful in
-/// the older coding.
+/// "List elements: 0 to 11 and 13 to 17", and 18; "a list of unions" is not
+/// lawful in the older coding.
 fn parse_element(coding: Coding, packed: &mut Packed, counts: &Counts) -> Option<Kind> {
     let kind = parse_plain(packed, counts)?;
     let lawful = match kind {
@@ -309,7 +337,7 @@ fn parse_element(coding: Coding, packed: &mut Packed, counts: &Counts) -> Option
     lawful.then_some(kind)
 }
 
-/// "union: 8-bit case count 1 to 32, records"; "Union cases: 13 to 16."
+/// "union: 8-bit case count 1 to 32, records"; "Union cases: 13 to 16", and 18.
 fn parse_union(packed: &mut Packed, counts: &Counts) -> Option<Vec<Target>> {
     let count = packed.count(1, 32)?;
     let case = |_| match parse_plain(packed, counts)? {
@@ -332,7 +360,10 @@ fn parse_table(packed: &mut Packed, counts: &Counts, schema: &Schema) -> Option<
         let is_enum = matches!(record.kind, Kind::Enum { .. });
         // "Optional only on table members of kind 0 to 10 and 12; in place
         // only on table members of kind 13 to 17, at most one per table."
-        if record.optional && (refers || is_enum) || record.in_place && !refers {
+        if record.optional && (refers || is_enum) {
+            return None;
+        }
+        if record.in_place && !may_be_in_place(schema, record.kind) {
             return None;
         }
         if schema.coding == Coding::Bits32 && !of_older_coding(&record) {
@@ -351,6 +382,17 @@ fn parse_table(packed: &mut Packed, counts: &Counts, schema: &Schema) -> Option<
         members,
         size: layout.size,
     })
+}
+
+/// A direct list is "never in place nor a case of a union that a table holds
+/// in place".
+fn may_be_in_place(schema: &Schema, kind: Kind) -> bool {
+    let direct = |target: &Target| matches!(target, Target::Direct(_));
+    match kind {
+        Kind::Object(target) => !direct(&target),
+        Kind::Union(index) => !schema.cases(index).iter().any(direct),
+        _ => false,
+    }
 }
 
 /// "a union not in place, a table in place" are not lawful in the older coding.

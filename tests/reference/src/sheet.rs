@@ -76,7 +76,8 @@ struct Sheet<'a> {
 
 impl Sheet<'_> {
     /// "text or bytes a 32-bit length and the bytes; list a 32-bit count and
-    /// elements; table its members".
+    /// elements; table its members". Of a direct list "A sheet holds a 32-bit
+    /// count and the elements without marks."
     fn object(&mut self, target: Target, spot: Spot, depth: u32) -> Result<(), Stop> {
         let object = open(self.schema, self.message, target, spot, depth)?;
         match target {
@@ -90,6 +91,14 @@ impl Sheet<'_> {
                 self.elements(index, &object, depth)
             }
             Target::Table(index) => self.table(index, &object, depth),
+            Target::Direct(index) => {
+                self.out.put(object.length as u64, 32)?;
+                for number in 0..object.length {
+                    let element = object.direct_element(number);
+                    self.object(Target::Table(index), element, depth + 1)?;
+                }
+                Ok(())
+            }
         }
     }
 

@@ -103,6 +103,7 @@ impl Walk<'_> {
             Target::Text | Target::Bytes => Ok(()),
             Target::List(index) => self.list(index, &object, depth),
             Target::Table(index) => self.table(index, &object, depth),
+            Target::Direct(index) => self.direct(index, &object, depth),
         }
     }
 
@@ -112,7 +113,7 @@ impl Walk<'_> {
     /// adds no content."
     fn add_content(&mut self, object: &Object) -> Result<(), Refusal> {
         let length = content_length(self.schema, object.target, object.length as u64);
-        // 2^32 visits of 2^24 bytes each are far below 2^64.
+        // Under 2^32 visits of under 2^24 bytes each are far below 2^64.
         let sum = self.content + length;
         if sum > self.budget.content {
             return Err(Refusal::new(17, object.place));
@@ -151,6 +152,15 @@ impl Walk<'_> {
         for number in 0..list.length {
             let lead = element_lead(self.schema, self.message, list, kind, size, number)?;
             self.follow(lead, depth)?;
+        }
+        Ok(())
+    }
+
+    /// "The list is one visit, each element one more and one deeper".
+    fn direct(&mut self, index: u8, list: &Object, depth: u32) -> Result<(), Refusal> {
+        for number in 0..list.length {
+            let element = list.direct_element(number);
+            self.arrive(Target::Table(index), element, depth + 1)?;
         }
         Ok(())
     }

@@ -1,7 +1,8 @@
 //! A value sheet to its message.
 
 use crate::bits::BitReader;
-use crate::message::{magic, MESSAGE_MAGIC, NO_ENUM, SIZE};
+use crate::message::{header_size, magic, DIRECT_ID, DIRECT_SIZE};
+use crate::message::{MESSAGE_MAGIC, NO_ENUM, SIZE};
 use crate::plan::plan;
 use crate::schema::{Kind, Member, Schema, Target};
 use crate::sheet::PRESENT;
@@ -80,9 +81,15 @@ impl Writer<'_> {
     fn head(&mut self, target: Target) -> Option<usize> {
         let place = self.free;
         self.free += self.blocks.next()?;
-        let length = self.content(target, place + self.schema.coding.header())?;
+        let header = header_size(self.schema.coding, target);
+        let length = self.content(target, place + header)?;
         self.put(place, u64::from(magic(self.schema, target)), 4);
         self.put_offset(place + 4, length);
+        if let Target::Direct(index) = target {
+            let table = self.schema.table(index);
+            self.put(place + DIRECT_ID, u64::from(table.id), 4);
+            self.put(place + DIRECT_SIZE, table.size as u64, 4);
+        }
         Some(place)
     }
 
@@ -107,6 +114,14 @@ impl Writer<'_> {
                     self.member(member, start, start + table.size)?;
                 }
                 Some(table.size as u64)
+            }
+            Target::Direct(index) => {
+                let count = self.sheet.take(32)?;
+                let mut at = start;
+                for _ in 0..count {
+                    at += self.content(Target::Table(index), at)? as usize;
+                }
+                Some(count)
             }
         }
     }

@@ -104,10 +104,10 @@ fn table_ids_differ() {
     assert!(lawful(48, &parts.pack()));
 }
 
-/// Kinds 18 to 31, the zero bit, and arguments.
+/// Kinds 19 to 31, the zero bit, and arguments.
 #[test]
 fn records_of_no_meaning() {
-    for kind in 18..32u16 {
+    for kind in 19..32u16 {
         assert!(!lawful(48, &one_table(&[kind << 11])), "{kind}");
     }
     for kind in (0..11u16).chain([13, 14]) {
@@ -129,7 +129,7 @@ fn indices_are_below_their_counts() {
         lists: vec![U8; 3],
         unions: vec![vec![TEXT]; 4],
         tables: (0..5)
-            .map(|id| (id, if id == 0 { vec![member] } else { vec![] }))
+            .map(|id| (id, if id == 0 { vec![member] } else { vec![U8] }))
             .collect(),
         root: 0,
     };
@@ -139,6 +139,7 @@ fn indices_are_below_their_counts() {
         (list(0), 3),
         (union(0), 4),
         (table(0), 5),
+        (direct(0), 5),
     ];
     for (record, count) in first {
         for index in 0..count {
@@ -150,7 +151,7 @@ fn indices_are_below_their_counts() {
 }
 
 /// "Optional only on table members of kind 0 to 10 and 12; in place only on
-/// table members of kind 13 to 17".
+/// table members of kind 13 to 17"; kind 18 is neither.
 #[test]
 fn optional_and_in_place_on_table_members() {
     let lawful_with = |member: u16| {
@@ -160,12 +161,12 @@ fn optional_and_in_place_on_table_members() {
         parts.unions = vec![vec![TEXT]];
         lawful(48, &parts.pack())
     };
-    for kind in 0..18u16 {
+    for kind in 0..19u16 {
         let argument = u16::from(kind == 11);
         let record = kind << 11 | argument;
         assert!(lawful_with(record), "{kind}");
         assert_eq!(lawful_with(optional(record)), kind <= 10 || kind == 12);
-        assert_eq!(lawful_with(in_place(record)), kind >= 13);
+        assert_eq!(lawful_with(in_place(record)), (13..18).contains(&kind));
         assert!(!lawful_with(in_place(optional(record))), "{kind}");
     }
 }
@@ -182,12 +183,13 @@ fn at_most_one_in_place_per_table() {
 }
 
 /// "Struct members: kinds 0 to 12"; "List elements: 0 to 11 and 13 to 17.
-/// Union cases: 13 to 16." None of them optional or in place.
+/// Union cases: 13 to 16." Kind 18 "may be a table member, list element or union
+/// case". None of them optional or in place.
 #[test]
 fn what_structs_lists_and_unions_hold() {
-    for kind in 0..18u16 {
+    for kind in 0..19u16 {
         let record = kind << 11 | u16::from(kind == 11);
-        let mut base = parts(&[]);
+        let mut base = parts(&[U8]);
         base.structs = vec![vec![U8], vec![U8]];
         base.lists = vec![U8];
         base.unions = vec![vec![TEXT]];
@@ -204,7 +206,7 @@ fn what_structs_lists_and_unions_hold() {
         };
         check(kind <= 12, &|parts, record| parts.structs[1][0] = record);
         check(kind != 12, &|parts, record| parts.lists[0] = record);
-        check((13..=16).contains(&kind), &|parts, record| {
+        check((13..=16).contains(&kind) || kind == 18, &|parts, record| {
             parts.unions[0][0] = record;
         });
     }

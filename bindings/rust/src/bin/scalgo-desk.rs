@@ -170,6 +170,7 @@ fn name(kind: u8) -> &'static str {
         13 => "text",
         14 => "bytes",
         15 => "list",
+        18 => "direct list",
         _ => "table",
     }
 }

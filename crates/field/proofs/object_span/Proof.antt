@@ -1,4 +1,4 @@
-use Rattle.field.proofs.TextCases.{span-text, span-bytes, span-list, span-table}
+use Rattle.field.proofs.TextCases.{span-text, span-bytes, span-list, span-table, span-direct}
 use borrow.Author.Needs.{needs}
 use Rattle.field.proofs.object_span.Statement.{statement}
 use Rattle.field.proofs.object_span.Tie as tie
@@ -27,6 +27,12 @@ enum-told-4 c = search needs
 no-span-requires-2 : tie.Need-no-span-requires-2
 no-span-requires-2 c κs = search needs
 
+enum-told-5 : tie.Need-enum-told-5
+enum-told-5 c = search needs
+
+no-span-requires-3 : tie.Need-no-span-requires-3
+no-span-requires-3 c κs = search needs
+
 returns : tie.Need-returns
 returns c = search span-text
 
@@ -38,6 +44,9 @@ returns-3 c = search span-list
 
 returns-4 : tie.Need-returns-4
 returns-4 c = search span-table
+
+returns-5 : tie.Need-returns-5
+returns-5 c = search span-direct
 
 pub object-span-spec : {M : Type 1} → statement M
 object-span-spec =
@@ -51,7 +60,10 @@ object-span-spec =
     no-span-requires
     enum-told-4
     no-span-requires-2
+    enum-told-5
+    no-span-requires-3
     returns
     returns-2
     returns-3
-    returns-4)
+    returns-4
+    returns-5)

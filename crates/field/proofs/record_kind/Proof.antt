@@ -1,4 +1,4 @@
-use Rattle.field.proofs.AnswerCases.{record-text, record-bytes, record-list, record-table}
+use Rattle.field.proofs.AnswerCases.{record-text, record-bytes, record-list, record-table, record-direct}
 use borrow.Author.Needs.{needs}
 use Rattle.field.proofs.record_kind.Statement.{statement}
 use Rattle.field.proofs.record_kind.Tie as tie
@@ -15,6 +15,9 @@ enum-told-3 c = search needs
 enum-told-4 : tie.Need-enum-told-4
 enum-told-4 c = search needs
 
+enum-told-5 : tie.Need-enum-told-5
+enum-told-5 c = search needs
+
 returns : tie.Need-returns
 returns c = search record-text
 
@@ -27,7 +30,10 @@ returns-3 c = search record-list
 returns-4 : tie.Need-returns-4
 returns-4 c = search record-table
 
+returns-5 : tie.Need-returns-5
+returns-5 c = search record-direct
+
 pub record-kind-spec : {M : Type 1} → statement M
 record-kind-spec =
     tie.close
-    (tie.spec enum-told enum-told-2 enum-told-3 enum-told-4 returns returns-2 returns-3 returns-4)
+    (tie.spec enum-told enum-told-2 enum-told-3 enum-told-4 enum-told-5 returns returns-2 returns-3 returns-4 returns-5)

@@ -1,4 +1,5 @@
-use Rattle.field_element.proofs.GivesCases.{no-text, no-bytes, no-table, the-list}
+use Rattle.field_element.proofs.GivesCases.{no-text, no-bytes, no-table, the-list, the-direct}
+use Rattle.field_part.proofs.DirectCases.{direct-sound, direct-content}
 use Rattle.message_object.proofs.OpenCases.{list-counted-of}
 use Rattle.message_object.proofs.OpenCases.{list-fits}
 use borrow.Author.Needs.{needs}
@@ -23,6 +24,12 @@ element-answer-requires c κs = search (list-counted-of, list-fits, needs)
 enum-told-3 : tie.Need-enum-told-3
 enum-told-3 c = search needs
 
+enum-known-ob-2 : tie.Need-enum-known-ob-2
+enum-known-ob-2 c = search needs
+
+direct-answer-requires : tie.Need-direct-answer-requires
+direct-answer-requires c κs = search (direct-sound, direct-content, needs)
+
 returns : tie.Need-returns
 returns c = search no-text
 
@@ -35,6 +42,9 @@ returns-3 c = search the-list
 returns-4 : tie.Need-returns-4
 returns-4 c = search no-table
 
+returns-5 : tie.Need-returns-5
+returns-5 c = search the-direct
+
 pub list-answer-spec : {M : Type 1} → statement M
 list-answer-spec =
     tie.close
@@ -45,7 +55,10 @@ list-answer-spec =
     index-requires
     element-answer-requires
     enum-told-3
+    enum-known-ob-2
+    direct-answer-requires
     returns
     returns-2
     returns-3
-    returns-4)
+    returns-4
+    returns-5)

@@ -1,4 +1,4 @@
-use Rattle.field_element.proofs.ReaderCases.{list-text, list-bytes, list-table, list-flat, list-leads}
+use Rattle.field_element.proofs.ReaderCases.{list-text, list-bytes, list-table, list-flat, list-leads, list-direct}
 use Rattle.message_object.proofs.OpenCases.{list-counted-of}
 use borrow.Author.Needs.{needs}
 use Rattle.field_element.proofs.list_of.Statement.{statement}
@@ -40,6 +40,9 @@ enum-told-3 c = search needs
 refuse-requires-4 : tie.Need-refuse-requires-4
 refuse-requires-4 c κs = search needs
 
+enum-known-ob-2 : tie.Need-enum-known-ob-2
+enum-known-ob-2 c = search needs
+
 returns-2 : tie.Need-returns-2
 returns-2 c = search list-text
 
@@ -51,6 +54,9 @@ returns-4 c = search list-flat
 
 returns-5 : tie.Need-returns-5
 returns-5 c = search list-table
+
+returns-6 : tie.Need-returns-6
+returns-6 c = search list-direct
 
 pub list-of-spec : {M : Type 1} → statement M
 list-of-spec =
@@ -68,7 +74,9 @@ list-of-spec =
     refuse-requires-3
     enum-told-3
     refuse-requires-4
+    enum-known-ob-2
     returns-2
     returns-3
     returns-4
-    returns-5)
+    returns-5
+    returns-6)

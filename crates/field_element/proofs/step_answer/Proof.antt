@@ -1,5 +1,5 @@
 use Rattle.field_element.proofs.GivesCases.{step-refused, step-object, step-listed, no-absent, no-unknown, no-value, no-struct}
-use Rattle.field_part.proofs.PartCases.{object-index, object-fits, object-size}
+use Rattle.field_part.proofs.PartCases.{object-index, object-fits, object-size, object-place}
 use borrow.Author.Needs.{needs}
 use Rattle.field_element.proofs.step_answer.Statement.{statement}
 use Rattle.field_element.proofs.step_answer.Tie as tie
@@ -23,7 +23,7 @@ enum-known-list-3 : tie.Need-enum-known-list-3
 enum-known-list-3 c = search needs
 
 list-answer-requires : tie.Need-list-answer-requires
-list-answer-requires c κs = ((c .before .before .before .before .before .before .pre .0, c .before .before .before .before .before .before .pre .1, record { bytes = λ i. c .before .before .before .shared-slice-known3 .given i .fits; size = search object-size }, search object-index, search step-listed), search object-fits)
+list-answer-requires c κs = ((c .before .before .before .before .before .before .pre .0, c .before .before .before .before .before .before .pre .1, record { bytes = λ i. c .before .before .before .shared-slice-known3 .given i .fits; size = search object-size }, search object-index, search step-listed, search object-place), search object-fits)
 
 returns : tie.Need-returns
 returns c = search step-refused

@@ -1,4 +1,5 @@
 use Rattle.field_part.proofs.PartCases.{part-text, part-bytes, part-list, part-table}
+use Rattle.field_part.proofs.DirectCases.{direct-sound, direct-content, part-direct}
 use Rattle.message_object.proofs.OpenCases.{list-counted-of, table-counted-of}
 use Rattle.message_object.proofs.OpenCases.{list-fits, table-fits}
 use borrow.Author.Needs.{needs}
@@ -35,6 +36,12 @@ index-requires-2 c κs = search needs
 table-part-requires : tie.Need-table-part-requires
 table-part-requires c κs = search (table-counted-of, table-fits, needs)
 
+enum-known-ob-3 : tie.Need-enum-known-ob-3
+enum-known-ob-3 c = search needs
+
+direct-part-requires : tie.Need-direct-part-requires
+direct-part-requires c κs = search (direct-sound, direct-content, needs)
+
 returns : tie.Need-returns
 returns c = search part-text
 
@@ -46,6 +53,9 @@ returns-3 c = search part-list
 
 returns-4 : tie.Need-returns-4
 returns-4 c = search part-table
+
+returns-5 : tie.Need-returns-5
+returns-5 c = search part-direct
 
 pub object-part-spec : {M : Type 1} → statement M
 object-part-spec =
@@ -61,7 +71,10 @@ object-part-spec =
     enum-known-ob-2
     index-requires-2
     table-part-requires
+    enum-known-ob-3
+    direct-part-requires
     returns
     returns-2
     returns-3
-    returns-4)
+    returns-4
+    returns-5)

@@ -1,4 +1,4 @@
-use Rattle.field_part.proofs.PartCases.{of-refused, of-absent, of-unknown, of-value, of-struct, of-object, struct-fits, struct-counted-of, object-index, object-fits}
+use Rattle.field_part.proofs.PartCases.{of-refused, of-absent, of-unknown, of-value, of-struct, of-object, struct-fits, struct-counted-of, object-index, object-fits, object-place}
 use borrow.Author.Needs.{needs}
 use Rattle.field_part.proofs.part_of.Statement.{statement}
 use Rattle.field_part.proofs.part_of.Tie as tie
@@ -31,7 +31,7 @@ enum-known-f-5 : tie.Need-enum-known-f-5
 enum-known-f-5 c = search needs
 
 object-part-requires : tie.Need-object-part-requires
-object-part-requires c κs = search (object-index, object-fits, needs)
+object-part-requires c κs = search (object-index, object-fits, object-place, needs)
 
 returns : tie.Need-returns
 returns c = search of-refused

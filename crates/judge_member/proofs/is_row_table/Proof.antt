@@ -36,6 +36,9 @@ records-requires c κs = search needs
 all-row-members-requires : tie.Need-all-row-members-requires
 all-row-members-requires c κs = search needs
 
+enum-told-4 : tie.Need-enum-told-4
+enum-told-4 c = search needs
+
 returns : tie.Need-returns
 returns c = λ e. never e
 
@@ -47,6 +50,9 @@ returns-3 c = λ e. never e
 
 returns-4 : tie.Need-returns-4
 returns-4 c = λ e. row-object _ _ _ _ (c .before .before .before .before .before .ob .given .1) (c .before .before .before .index .ensures .0) _ (c .before .before .table-place .ensures) _ (c .before .records .ensures .0) (c .all-row-members .ensures e)
+
+returns-5 : tie.Need-returns-5
+returns-5 c = λ e. never e
 
 pub is-row-table-spec : {M : Type 1} → statement M
 is-row-table-spec =
@@ -60,7 +66,9 @@ is-row-table-spec =
     table-place-requires
     records-requires
     all-row-members-requires
+    enum-told-4
     returns
     returns-2
     returns-3
-    returns-4)
+    returns-4
+    returns-5)

@@ -1,4 +1,4 @@
-use Rattle.judge_rows.proofs.RowCases.{row-sound, row-is, row-no-text, row-no-bytes, row-no-list, row-list}
+use Rattle.judge_rows.proofs.RowCases.{row-sound, row-is, row-no-text, row-no-bytes, row-no-list, row-no-direct, row-list}
 use borrow.Author.Needs.{needs}
 use Rattle.judge_rows.proofs.row_references.Statement.{statement}
 use Rattle.judge_rows.proofs.row_references.Tie as tie
@@ -35,6 +35,12 @@ rows-of-requires c κs = search (row-sound, row-is, needs)
 row-tables-requires : tie.Need-row-tables-requires
 row-tables-requires c κs = search needs
 
+enum-told-4 : tie.Need-enum-told-4
+enum-told-4 c = search needs
+
+going-requires-4 : tie.Need-going-requires-4
+going-requires-4 c κs = search needs
+
 returns : tie.Need-returns
 returns c = search row-no-text
 
@@ -46,6 +52,9 @@ returns-3 c = search row-no-list
 
 returns-4 : tie.Need-returns-4
 returns-4 c = search row-list
+
+returns-5 : tie.Need-returns-5
+returns-5 c = search row-no-direct
 
 pub row-references-spec : {M : Type 1} → statement M
 row-references-spec =
@@ -60,7 +69,10 @@ row-references-spec =
     enum-known-ob
     rows-of-requires
     row-tables-requires
+    enum-told-4
+    going-requires-4
     returns
     returns-2
     returns-3
-    returns-4)
+    returns-4
+    returns-5)

@@ -1,5 +1,4 @@
--- `message_header::content_length` meets its contract, by the object.
-use Rattle.message_header.proofs.ContentCases.{length-text, length-bytes, length-list, length-table, list-there}
+use Rattle.message_header.proofs.ContentCases.{list-there, length-text, length-bytes, length-list, length-table, length-direct}
 use borrow.Author.Needs.{needs}
 use Rattle.message_header.proofs.content_length.Statement.{statement}
 use Rattle.message_header.proofs.content_length.Tie as tie
@@ -22,6 +21,9 @@ list-size-requires c κs = search (list-there, needs)
 enum-told-3 : tie.Need-enum-told-3
 enum-told-3 c = search needs
 
+enum-told-4 : tie.Need-enum-told-4
+enum-told-4 c = search needs
+
 returns : tie.Need-returns
 returns c = search length-text
 
@@ -34,6 +36,9 @@ returns-3 c = search length-list
 returns-4 : tie.Need-returns-4
 returns-4 c = search length-table
 
+returns-5 : tie.Need-returns-5
+returns-5 c = search length-direct
+
 pub content-length-spec : {M : Type 1} → statement M
 content-length-spec =
     tie.close
@@ -44,7 +49,9 @@ content-length-spec =
     index-requires
     list-size-requires
     enum-told-3
+    enum-told-4
     returns
     returns-2
     returns-3
-    returns-4)
+    returns-4
+    returns-5)

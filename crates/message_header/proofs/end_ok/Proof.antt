@@ -1,5 +1,4 @@
--- `message_header::end_ok` meets its contract, by the object.
-use Rattle.message_header.proofs.ContentCases.{text-inside, end-text, end-bytes, end-list, end-table}
+use Rattle.message_header.proofs.ContentCases.{text-inside, end-text, end-bytes, end-list, end-table, end-direct}
 use borrow.Author.Needs.{needs}
 use Rattle.message_header.proofs.end_ok.Statement.{statement}
 use Rattle.message_header.proofs.end_ok.Tie as tie
@@ -19,6 +18,9 @@ enum-told-3 c = search needs
 enum-told-4 : tie.Need-enum-told-4
 enum-told-4 c = search needs
 
+enum-told-5 : tie.Need-enum-told-5
+enum-told-5 c = search needs
+
 returns : tie.Need-returns
 returns c = search end-text
 
@@ -31,6 +33,9 @@ returns-3 c = search end-list
 returns-4 : tie.Need-returns-4
 returns-4 c = search end-table
 
+returns-5 : tie.Need-returns-5
+returns-5 c = search end-direct
+
 pub end-ok-spec : {M : Type 1} → statement M
 end-ok-spec =
     tie.close
@@ -40,7 +45,9 @@ end-ok-spec =
     enum-told-2
     enum-told-3
     enum-told-4
+    enum-told-5
     returns
     returns-2
     returns-3
-    returns-4)
+    returns-4
+    returns-5)

@@ -1,10 +1,7 @@
-use Rattle.message_object.proofs.OpenCases.{announced-is, announced-inplace, offset-small, inplace-start, inplace-length}
+use Rattle.message_object.proofs.OpenCases.{announced-is, announced-inplace, offset-small, inplace-first, inplace-length}
 use borrow.Author.Needs.{needs}
 use Rattle.message_object.proofs.content_at.Statement.{statement}
 use Rattle.message_object.proofs.content_at.Tie as tie
-use Rattle.message_object.proofs.content_at.Reads as reads
-use Rattle.message_object.proofs.content_at.Lts as lts
-use Rattle.message_object.proofs.header_of.Reads as header-of-reads
 
 enum-known-p : tie.Need-enum-known-p
 enum-known-p c = search needs
@@ -15,12 +12,16 @@ header-of-requires c κs = search (offset-small, needs)
 enum-known-p-2 : tie.Need-enum-known-p-2
 enum-known-p-2 c = search needs
 
+in-place-requires : tie.Need-in-place-requires
+in-place-requires c κs = search (inplace-first, inplace-length, needs)
+
 returns : tie.Need-returns
 returns c = (search announced-is, search needs)
 
 returns-2 : tie.Need-returns-2
-returns-2 c = (search announced-inplace, (search inplace-start, search inplace-length))
+returns-2 c = (search announced-inplace, search needs)
 
 pub content-at-spec : {M : Type 1} → statement M
 content-at-spec =
-    tie.close (tie.spec enum-known-p header-of-requires enum-known-p-2 returns returns-2)
+    tie.close
+    (tie.spec enum-known-p header-of-requires enum-known-p-2 in-place-requires returns returns-2)

@@ -1,11 +1,7 @@
-use Rattle.message_object.proofs.OpenCases.{placed-refused, placed-fit, small-start, small-length, length-found}
+use Rattle.message_object.proofs.OpenCases.{placed-refused, placed-fit, placed-small, small-start, small-length, length-found}
 use borrow.Author.Needs.{needs}
 use Rattle.message_object.proofs.fit_object.Statement.{statement}
 use Rattle.message_object.proofs.fit_object.Tie as tie
-use Rattle.message_object.proofs.fit_object.Reads as reads
-use Rattle.message_object.proofs.fit_object.Lts as lts
-use Rattle.message_header.proofs.fit_content.Reads as fit-content-reads
-use Rattle.message_object.proofs.content_at.Reads as content-at-reads
 
 content-at-requires : tie.Need-content-at-requires
 content-at-requires c κs = search needs
@@ -16,8 +12,11 @@ enum-known-e c = search needs
 enum-known-start : tie.Need-enum-known-start
 enum-known-start c = search needs
 
+placed-requires : tie.Need-placed-requires
+placed-requires c κs = search needs
+
 fit-content-requires : tie.Need-fit-content-requires
-fit-content-requires c κs = search (small-start, small-length, needs)
+fit-content-requires c κs = search (placed-small, small-start, small-length, needs)
 
 returns : tie.Need-returns
 returns c = (search placed-refused, tt)
@@ -32,6 +31,7 @@ fit-object-spec =
     content-at-requires
     enum-known-e
     enum-known-start
+    placed-requires
     fit-content-requires
     returns
     returns-2)

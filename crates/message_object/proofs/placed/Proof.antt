@@ -2,8 +2,6 @@ use Rattle.coding.specs.Walk as W
 use borrow.Author.Needs.{needs}
 use Rattle.message_object.proofs.placed.Statement.{statement}
 use Rattle.message_object.proofs.placed.Tie as tie
-use Rattle.message_object.proofs.placed.Reads as reads
-use Rattle.message_object.proofs.placed.Lts as lts
 
 enum-known-p : tie.Need-enum-known-p
 enum-known-p c = search needs

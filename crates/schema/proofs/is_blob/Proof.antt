@@ -1,4 +1,4 @@
-use Rattle.schema.proofs.KindCases.{blob-text, blob-bytes, blob-list, blob-table}
+use Rattle.schema.proofs.KindCases.{blob-text, blob-bytes, blob-list, blob-table, blob-direct}
 use borrow.Author.Needs.{needs}
 use Rattle.schema.proofs.is_blob.Statement.{statement}
 use Rattle.schema.proofs.is_blob.Tie as tie
@@ -15,6 +15,9 @@ enum-told-3 c = search needs
 enum-told-4 : tie.Need-enum-told-4
 enum-told-4 c = search needs
 
+enum-told-5 : tie.Need-enum-told-5
+enum-told-5 c = search needs
+
 returns : tie.Need-returns
 returns c = search blob-text
 
@@ -27,7 +30,20 @@ returns-3 c = search blob-list
 returns-4 : tie.Need-returns-4
 returns-4 c = search blob-table
 
+returns-5 : tie.Need-returns-5
+returns-5 c = search blob-direct
+
 pub is-blob-spec : {M : Type 1} → statement M
 is-blob-spec =
     tie.close
-    (tie.spec enum-told enum-told-2 enum-told-3 enum-told-4 returns returns-2 returns-3 returns-4)
+    (tie.spec
+    enum-told
+    enum-told-2
+    enum-told-3
+    enum-told-4
+    enum-told-5
+    returns
+    returns-2
+    returns-3
+    returns-4
+    returns-5)

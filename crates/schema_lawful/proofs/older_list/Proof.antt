@@ -1,5 +1,5 @@
 -- `schema_lawful::older_list` meets its contract.
-use Rattle.schema_lawful.proofs.PartRules.{older-element}
+use Rattle.schema_lawful.proofs.OlderRules.{element-direct, element-other}
 use borrow.Author.Needs.{needs}
 use Rattle.schema_lawful.proofs.older_list.Statement.{statement}
 use Rattle.schema_lawful.proofs.older_list.Tie as tie
@@ -10,11 +10,11 @@ list-place-requires c κs = search needs
 kind-at-requires : tie.Need-kind-at-requires
 kind-at-requires c κs = search needs
 
-is-union-kind-requires : tie.Need-is-union-kind-requires
-is-union-kind-requires c κs = search needs
-
 returns : tie.Need-returns
-returns c = search older-element
+returns c = search element-direct
+
+returns-2 : tie.Need-returns-2
+returns-2 c = search element-other
 
 pub older-list-spec : {M : Type 1} → statement M
-older-list-spec = tie.close (tie.spec list-place-requires kind-at-requires is-union-kind-requires returns)
+older-list-spec = tie.close (tie.spec list-place-requires kind-at-requires returns returns-2)

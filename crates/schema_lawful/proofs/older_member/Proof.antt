@@ -1,5 +1,5 @@
 -- `schema_lawful::older_member` meets its contract, by the kind.
-use Rattle.schema_lawful.proofs.PartRules.{older-union, older-held, older-other}
+use Rattle.schema_lawful.proofs.OlderRules.{older-choice, older-held, older-other}
 use borrow.Author.Needs.{needs}
 use Rattle.schema_lawful.proofs.older_member.Statement.{statement}
 use Rattle.schema_lawful.proofs.older_member.Tie as tie
@@ -11,7 +11,7 @@ inplace-at-requires : tie.Need-inplace-at-requires
 inplace-at-requires c κs = search needs
 
 returns : tie.Need-returns
-returns c = search older-union
+returns c = search older-choice
 
 inplace-at-requires-2 : tie.Need-inplace-at-requires-2
 inplace-at-requires-2 c κs = search needs

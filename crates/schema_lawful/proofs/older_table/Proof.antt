@@ -4,7 +4,7 @@ use mathlib.Core.Path.{_≡_}
 use Prim.Native.Nat.{_-_, _≤_}
 use native.Mathlib.Omega.{arith}
 use borrow.Author.Needs.{needs}
-use Rattle.schema_lawful.proofs.PartRules.{olderFirst, older-none, older-fail, older-more, older-done}
+use Rattle.schema_lawful.proofs.OlderRules.{olderFirst, older-none, older-fail, older-more, older-done}
 use Rattle.schema_lawful.proofs.older_table.Statement.{statement}
 use Rattle.schema_lawful.proofs.older_table.Tie as tie
 

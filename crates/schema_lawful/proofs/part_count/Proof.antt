@@ -1,6 +1,6 @@
 -- `schema_lawful::part_count` meets its contract.
 use native.Mathlib.Omega.{arith}
-use Rattle.schema_lawful.proofs.PartRules.{count-1, count-2, count-3, count-4, count-5, count-6}
+use Rattle.schema_lawful.proofs.PartRules.{count-1, count-2, count-3, count-4, count-5, count-6, count-7}
 use borrow.Author.Needs.{needs}
 use Rattle.schema_lawful.proofs.part_count.Statement.{statement}
 use Rattle.schema_lawful.proofs.part_count.Tie as tie
@@ -41,6 +41,12 @@ enum-told-6 c = search needs
 count-requires-6 : tie.Need-count-requires-6
 count-requires-6 c κs = search needs
 
+enum-told-7 : tie.Need-enum-told-7
+enum-told-7 c = search needs
+
+count-requires-7 : tie.Need-count-requires-7
+count-requires-7 c κs = search needs
+
 returns : tie.Need-returns
 returns c = (search count-1, omega arith)
 
@@ -59,6 +65,9 @@ returns-5 c = (search count-5, omega arith)
 returns-6 : tie.Need-returns-6
 returns-6 c = (search count-6, omega arith)
 
+returns-7 : tie.Need-returns-7
+returns-7 c = (search count-7, omega arith)
+
 pub part-count-spec : {M : Type 1} → statement M
 part-count-spec =
     tie.close
@@ -75,9 +84,12 @@ part-count-spec =
     count-requires-5
     enum-told-6
     count-requires-6
+    enum-told-7
+    count-requires-7
     returns
     returns-2
     returns-3
     returns-4
     returns-5
-    returns-6)
+    returns-6
+    returns-7)

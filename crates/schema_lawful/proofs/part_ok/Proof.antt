@@ -1,5 +1,5 @@
 -- `schema_lawful::part_ok` meets its contract.
-use Rattle.schema_lawful.proofs.PartRules.{in-lists, in-unions, in-tables, in-ids, in-older-lists, in-older-tables, part-1, part-2, part-3, part-4, part-5, part-6}
+use Rattle.schema_lawful.proofs.PartRules.{in-lists, in-unions, in-tables, in-ids, in-older-lists, in-older-unions, in-older-tables, part-1, part-2, part-3, part-4, part-5, part-6, part-7}
 use borrow.Author.Needs.{needs}
 use Rattle.schema_lawful.proofs.part_ok.Statement.{statement}
 use Rattle.schema_lawful.proofs.part_ok.Tie as tie
@@ -37,6 +37,12 @@ older-list-requires c κs = search (in-older-lists, needs)
 enum-told-6 : tie.Need-enum-told-6
 enum-told-6 c = search needs
 
+older-union-requires : tie.Need-older-union-requires
+older-union-requires c κs = search (in-older-unions, needs)
+
+enum-told-7 : tie.Need-enum-told-7
+enum-told-7 c = search needs
+
 older-table-requires : tie.Need-older-table-requires
 older-table-requires c κs = search (in-older-tables, needs)
 
@@ -58,6 +64,9 @@ returns-5 c = search part-5
 returns-6 : tie.Need-returns-6
 returns-6 c = search part-6
 
+returns-7 : tie.Need-returns-7
+returns-7 c = search part-7
+
 pub part-ok-spec : {M : Type 1} → statement M
 part-ok-spec =
     tie.close
@@ -73,10 +82,13 @@ part-ok-spec =
     enum-told-5
     older-list-requires
     enum-told-6
+    older-union-requires
+    enum-told-7
     older-table-requires
     returns
     returns-2
     returns-3
     returns-4
     returns-5
-    returns-6)
+    returns-6
+    returns-7)

@@ -1,5 +1,5 @@
--- `schema::argument_ok` meets its contract.
-use Rattle.schema_rules.proofs.RecordRules.{arg-1, arg-2, arg-3, arg-4, arg-5, arg-6, arg-7, arg-8}
+-- `schema_rules::argument_ok` meets its contract.
+use Rattle.schema_rules.proofs.RecordRules.{arg-1, arg-2, arg-3, arg-4, arg-5, arg-6, arg-7, arg-8, arg-9}
 use borrow.Author.Needs.{needs}
 use Rattle.schema_rules.proofs.argument_ok.Statement.{statement}
 use Rattle.schema_rules.proofs.argument_ok.Tie as tie
@@ -37,8 +37,14 @@ count-requires-4 c κs = search needs
 returns-7 : tie.Need-returns-7
 returns-7 c = search arg-7
 
+count-requires-5 : tie.Need-count-requires-5
+count-requires-5 c κs = search needs
+
 returns-8 : tie.Need-returns-8
 returns-8 c = search arg-8
+
+returns-9 : tie.Need-returns-9
+returns-9 c = search arg-9
 
 pub argument-ok-spec : {M : Type 1} → statement M
 argument-ok-spec =
@@ -55,4 +61,6 @@ argument-ok-spec =
     returns-6
     count-requires-4
     returns-7
-    returns-8)
+    count-requires-5
+    returns-8
+    returns-9)

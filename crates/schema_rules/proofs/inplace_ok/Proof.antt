@@ -1,5 +1,5 @@
--- `schema::inplace_ok` meets its contract.
-use Rattle.schema_rules.proofs.RecordRules.{inp-1, inp-2, inp-3, inp-4}
+-- `schema_rules::inplace_ok` meets its contract.
+use Rattle.schema_rules.proofs.RecordRules.{inp-1, inp-2, inp-3, inp-4, inp-5}
 use borrow.Author.Needs.{needs}
 use Rattle.schema_rules.proofs.inplace_ok.Statement.{statement}
 use Rattle.schema_rules.proofs.inplace_ok.Tie as tie
@@ -28,7 +28,19 @@ returns-3 c = search inp-3
 returns-4 : tie.Need-returns-4
 returns-4 c = search inp-4
 
+returns-5 : tie.Need-returns-5
+returns-5 c = search inp-5
+
 pub inplace-ok-spec : {M : Type 1} → statement M
 inplace-ok-spec =
     tie.close
-    (tie.spec enum-told enum-told-2 enum-told-3 enum-told-4 returns returns-2 returns-3 returns-4)
+    (tie.spec
+    enum-told
+    enum-told-2
+    enum-told-3
+    enum-told-4
+    returns
+    returns-2
+    returns-3
+    returns-4
+    returns-5)

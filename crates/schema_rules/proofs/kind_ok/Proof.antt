@@ -1,5 +1,5 @@
--- `schema::kind_ok` meets its contract.
-use Rattle.schema_rules.proofs.RecordRules.{kind-1, kind-2, kind-3, kind-4, kind-5, kind-6}
+-- `schema_rules::kind_ok` meets its contract.
+use Rattle.schema_rules.proofs.RecordRules.{kind-1, kind-2, kind-3, kind-4, kind-5, kind-6, kind-7}
 use borrow.Author.Needs.{needs}
 use Rattle.schema_rules.proofs.kind_ok.Statement.{statement}
 use Rattle.schema_rules.proofs.kind_ok.Tie as tie
@@ -34,6 +34,9 @@ returns-5 c = search kind-5
 returns-6 : tie.Need-returns-6
 returns-6 c = search kind-6
 
+returns-7 : tie.Need-returns-7
+returns-7 c = search kind-7
+
 pub kind-ok-spec : {M : Type 1} → statement M
 kind-ok-spec =
     tie.close
@@ -47,4 +50,5 @@ kind-ok-spec =
     returns-3
     returns-4
     returns-5
-    returns-6)
+    returns-6
+    returns-7)

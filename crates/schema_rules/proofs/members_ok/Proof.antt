@@ -12,10 +12,10 @@ use Rattle.schema_rules.proofs.members_ok.Statement.{statement}
 use Rattle.schema_rules.proofs.members_ok.Tie as tie
 
 abbrev Inv-loop : tie.InvT-loop
-Inv-loop b at n j₀ j = (j ≤ n) × (L.firstOk b InTable 4 at j ≡ true)
+Inv-loop b dir at n j₀ j = (j ≤ n) × (L.firstOk b InTable 4 at j ≡ true)
 
 abbrev μ-loop : tie.MeasureT-loop
-μ-loop b at n j₀ j = n - j
+μ-loop b dir at n j₀ j = n - j
 
 records-requires : tie.Need-records-requires Inv-loop μ-loop
 records-requires c κs = search needs

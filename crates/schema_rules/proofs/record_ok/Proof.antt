@@ -1,5 +1,6 @@
--- `schema::record_ok` meets its contract.
-use Rattle.schema_rules.proofs.RecordRules.{rec-1, rec-2, rec-3, rec-4}
+-- `schema_rules::record_ok` meets its contract.
+use Rattle.schema_rules.proofs.RecordRules.{rec-1, rec-2, rec-3, rec-4, rec-5}
+use Rattle.schema_rules.proofs.DirectRules.{argument-right, argument-same}
 use borrow.Author.Needs.{needs}
 use Rattle.schema_rules.proofs.record_ok.Statement.{statement}
 use Rattle.schema_rules.proofs.record_ok.Tie as tie
@@ -37,6 +38,14 @@ flags-ok-requires c κs = search needs
 returns-4 : tie.Need-returns-4
 returns-4 c = search rec-4
 
+direct-ok-requires : tie.Need-direct-ok-requires
+direct-ok-requires c κs =
+    let p = c .before .before .before .before in
+    (search needs, search needs, search needs, search argument-same, argument-right _ _ _ _ (p .before .argument-ok .ensures) (p .if2 .left))
+
+returns-5 : tie.Need-returns-5
+returns-5 c = search rec-5
+
 pub record-ok-spec : {M : Type 1} → statement M
 record-ok-spec =
     tie.close
@@ -51,4 +60,6 @@ record-ok-spec =
     kind-ok-requires
     returns-3
     flags-ok-requires
-    returns-4)
+    returns-4
+    direct-ok-requires
+    returns-5)

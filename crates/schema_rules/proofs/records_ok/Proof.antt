@@ -10,10 +10,10 @@ use Rattle.schema_rules.proofs.records_ok.Statement.{statement}
 use Rattle.schema_rules.proofs.records_ok.Tie as tie
 
 abbrev Inv-loop : tie.InvT-loop
-Inv-loop b role head at n j₀ j = (j ≤ n) × (L.firstOk b role head at j ≡ true)
+Inv-loop b dir role head at n j₀ j = (j ≤ n) × (L.firstOk b role head at j ≡ true)
 
 abbrev μ-loop : tie.MeasureT-loop
-μ-loop b role head at n j₀ j = n - j
+μ-loop b dir role head at n j₀ j = n - j
 
 records-requires : tie.Need-records-requires Inv-loop μ-loop
 records-requires c κs = search needs

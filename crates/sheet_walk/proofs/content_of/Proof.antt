@@ -15,13 +15,13 @@ header-size-requires : tie.Need-header-size-requires
 header-size-requires c κs = search needs
 
 add-t10 : tie.Need-add-t10
-add-t10 c = let q = c .before .before .before .before .before .pre in let h = header-inside _ _ _ _ _ (c .before .before .p .given .1) (c .header-size .ensures) (q .1) in omega (arith, h .0, h .1, q .2)
+add-t10 c = let q = c .before .before .before .before .before .pre in let h = header-inside _ _ _ _ _ _ (c .before .before .p .given .1) (c .header-size .ensures) (q .1) in omega (arith, h .0, h .1, q .2)
 
 add-offset-in : tie.Need-add-offset-in
-add-offset-in c = let q = c .before .before .before .before .before .pre in let h = header-inside _ _ _ _ _ (c .before .before .p .given .1) (c .header-size .ensures) (q .1) in omega (arith, h .0, h .1, q .2)
+add-offset-in c = let q = c .before .before .before .before .before .pre in let h = header-inside _ _ _ _ _ _ (c .before .before .p .given .1) (c .header-size .ensures) (q .1) in omega (arith, h .0, h .1, q .2)
 
 offset-in-requires : tie.Need-offset-in-requires
-offset-in-requires c κs = let q = c .before .before .before .before .before .pre in let h = header-inside _ _ _ _ _ (c .before .before .p .given .1) (c .header-size .ensures) (q .1) in (q .0, omega (arith, h .0, h .1))
+offset-in-requires c κs = let q = c .before .before .before .before .before .pre in let h = header-inside _ _ _ _ _ _ (c .before .before .p .given .1) (c .header-size .ensures) (q .1) in (q .0, omega (arith, h .0, h .1))
 
 enum-known-p-2 : tie.Need-enum-known-p-2
 enum-known-p-2 c = search needs

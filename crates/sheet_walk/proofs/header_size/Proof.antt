@@ -1,13 +1,7 @@
-use Rattle.sheet_walk.proofs.Objects.{header-is}
+use Rattle.sheet_walk.proofs.Objects.{header-text, header-bytes, header-list, header-table, header-direct}
 use borrow.Author.Needs.{needs}
 use Rattle.sheet_walk.proofs.header_size.Statement.{statement}
 use Rattle.sheet_walk.proofs.header_size.Tie as tie
-use Rattle.sheet_walk.proofs.header_size.Reads as reads
-use Rattle.sheet_walk.proofs.header_size.Lts as lts
-use Rattle.message_header.proofs.BytesObject.header_size.Reads as BytesObject-header-size-reads
-use Rattle.message_header.proofs.ListObject.header_size.Reads as ListObject-header-size-reads
-use Rattle.message_header.proofs.TableObject.header_size.Reads as TableObject-header-size-reads
-use Rattle.message_header.proofs.TextObject.header_size.Reads as TextObject-header-size-reads
 
 enum-told : tie.Need-enum-told
 enum-told c = search needs
@@ -33,17 +27,26 @@ enum-told-4 c = search needs
 header-size-requires-4 : tie.Need-header-size-requires-4
 header-size-requires-4 c κs = search needs
 
+enum-told-5 : tie.Need-enum-told-5
+enum-told-5 c = search needs
+
+header-size-requires-5 : tie.Need-header-size-requires-5
+header-size-requires-5 c κs = search needs
+
 returns : tie.Need-returns
-returns c = search header-is
+returns c = search header-text
 
 returns-2 : tie.Need-returns-2
-returns-2 c = search header-is
+returns-2 c = search header-bytes
 
 returns-3 : tie.Need-returns-3
-returns-3 c = search header-is
+returns-3 c = search header-list
 
 returns-4 : tie.Need-returns-4
-returns-4 c = search header-is
+returns-4 c = search header-table
+
+returns-5 : tie.Need-returns-5
+returns-5 c = search header-direct
 
 pub header-size-spec : {M : Type 1} → statement M
 header-size-spec =
@@ -57,7 +60,10 @@ header-size-spec =
     header-size-requires-3
     enum-told-4
     header-size-requires-4
+    enum-told-5
+    header-size-requires-5
     returns
     returns-2
     returns-3
-    returns-4)
+    returns-4
+    returns-5)

@@ -18,13 +18,13 @@ place-of-requires c κs = search needs
 content-of-requires : tie.Need-content-of-requires
 content-of-requires c κs =
     let q = c .before .before .before .before .pre in
-    (q .1 .0 .0, blob-header _ _ _ _ _ (q .1 .1) (c .before .if1 .left) _ (c .place-of .ensures), q .1 .0 .1)
+    (q .1 .0 .0, blob-header _ _ _ _ _ _ (q .1 .1) (c .before .if1 .left) _ (c .place-of .ensures), q .1 .0 .1)
 
 put-blob-requires : tie.Need-put-blob-requires
 put-blob-requires c κs =
     let q = c .before .before .before .before .before .before .pre in
     let content = c .before .content-of .ensures in
-    (q .0, (blob-size _ _ _ _ _ (q .1 .1) (c .before .before .before .if1 .left) _ (c .before .before .place-of .ensures) _ _ (content .0) (content .1), q .1 .0 .1))
+    (q .0, (blob-size _ _ _ _ _ _ (q .1 .1) (c .before .before .before .if1 .left) _ (c .before .before .place-of .ensures) _ _ (content .0) (content .1), q .1 .0 .1))
 
 same-length-2 : tie.Need-same-length-2
 same-length-2 c = search needs

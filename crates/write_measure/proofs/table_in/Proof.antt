@@ -2,9 +2,6 @@ use borrow.Author.Needs.{needs}
 use Rattle.write_measure.proofs.PartCases.{not-less, table-index-in}
 use Rattle.write_measure.proofs.table_in.Statement.{statement}
 use Rattle.write_measure.proofs.table_in.Tie as tie
-use Rattle.write_measure.proofs.table_in.Reads as reads
-use Rattle.write_measure.proofs.table_in.Lts as lts
-use Rattle.wire.proofs.index.Reads as index-reads
 
 enum-told : tie.Need-enum-told
 enum-told c = search needs
@@ -30,6 +27,9 @@ index-requires c κs = search needs
 enum-told-5 : tie.Need-enum-told-5
 enum-told-5 c = search needs
 
+enum-told-6 : tie.Need-enum-told-6
+enum-told-6 c = search needs
+
 returns : tie.Need-returns
 returns c = λ h. not-less h
 
@@ -48,6 +48,9 @@ returns-5 c = λ h. search table-index-in
 returns-6 : tie.Need-returns-6
 returns-6 c = λ h. not-less h
 
+returns-7 : tie.Need-returns-7
+returns-7 c = λ h. not-less h
+
 pub table-in-spec : {M : Type 1} → statement M
 table-in-spec =
     tie.close
@@ -60,9 +63,11 @@ table-in-spec =
     enum-known-ob
     index-requires
     enum-told-5
+    enum-told-6
     returns
     returns-2
     returns-3
     returns-4
     returns-5
-    returns-6)
+    returns-6
+    returns-7)

@@ -37,10 +37,10 @@ union-size-requires : tie.Need-union-size-requires
 union-size-requires c κs = search needs
 
 returns-7 : tie.Need-returns-7
-returns-7 c = (search needs, λ h. search object-bytes)
+returns-7 c = (search needs, λ h. search union-bytes)
 
 returns-8 : tie.Need-returns-8
-returns-8 c = (search needs, λ h. search union-bytes)
+returns-8 c = (search needs, λ h. search object-bytes)
 
 pub whole-bytes-spec : {M : Type 1} → statement M
 whole-bytes-spec =

@@ -3,10 +3,6 @@ use Rattle.write_measure.proofs.ObjectCases.{table-counted}
 use Rattle.write_pass.proofs.MeasureCases.{known-none, known-table}
 use Rattle.write_pass.proofs.known_size.Statement.{statement}
 use Rattle.write_pass.proofs.known_size.Tie as tie
-use Rattle.write_pass.proofs.known_size.Reads as reads
-use Rattle.write_pass.proofs.known_size.Lts as lts
-use Rattle.write_pass.proofs.known_table.Reads as known-table-reads
-use Rattle.wire.proofs.index.Reads as index-reads
 
 enum-told : tie.Need-enum-told
 enum-told c = search needs
@@ -26,6 +22,9 @@ index-requires c κs = search needs
 known-table-requires : tie.Need-known-table-requires
 known-table-requires c κs = search (table-counted, needs)
 
+enum-told-4 : tie.Need-enum-told-4
+enum-told-4 c = search needs
+
 returns : tie.Need-returns
 returns c = search known-none
 
@@ -38,6 +37,9 @@ returns-3 c = search known-none
 returns-4 : tie.Need-returns-4
 returns-4 c = search known-table
 
+returns-5 : tie.Need-returns-5
+returns-5 c = search known-none
+
 pub known-size-spec : {M : Type 1} → statement M
 known-size-spec =
     tie.close
@@ -48,7 +50,9 @@ known-size-spec =
     enum-known-ob
     index-requires
     known-table-requires
+    enum-told-4
     returns
     returns-2
     returns-3
-    returns-4)
+    returns-4
+    returns-5)

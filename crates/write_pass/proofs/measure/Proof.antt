@@ -1,14 +1,8 @@
 use borrow.Author.Needs.{needs}
 use Rattle.write_measure.proofs.ObjectCases.{list-counted}
-use Rattle.write_pass.proofs.MeasureCases.{measured-text, measured-bytes, measured-list, measured-table, table-sound}
+use Rattle.write_pass.proofs.MeasureCases.{measured-text, measured-bytes, measured-list, measured-table, measured-direct, table-sound, direct-sound}
 use Rattle.write_pass.proofs.measure.Statement.{statement}
 use Rattle.write_pass.proofs.measure.Tie as tie
-use Rattle.write_pass.proofs.measure.Reads as reads
-use Rattle.write_pass.proofs.measure.Lts as lts
-use Rattle.wire.proofs.index.Reads as index-reads
-use Rattle.write_pass.proofs.measure_blob.Reads as measure-blob-reads
-use Rattle.write_pass.proofs.measure_list.Reads as measure-list-reads
-use Rattle.write_pass.proofs.measure_table.Reads as measure-table-reads
 
 enum-told : tie.Need-enum-told
 enum-told c = search needs
@@ -37,6 +31,12 @@ enum-known-ob-2 c = search needs
 measure-table-requires : tie.Need-measure-table-requires
 measure-table-requires c κs = search (table-sound, needs)
 
+enum-known-ob-3 : tie.Need-enum-known-ob-3
+enum-known-ob-3 c = search needs
+
+measure-direct-requires : tie.Need-measure-direct-requires
+measure-direct-requires c κs = search (direct-sound, needs)
+
 returns : tie.Need-returns
 returns c = search measured-text
 
@@ -48,6 +48,9 @@ returns-3 c = search measured-list
 
 returns-4 : tie.Need-returns-4
 returns-4 c = search measured-table
+
+returns-5 : tie.Need-returns-5
+returns-5 c = search measured-direct
 
 pub measure-spec : {M : Type 1} → statement M
 measure-spec =
@@ -62,7 +65,10 @@ measure-spec =
     measure-list-requires
     enum-known-ob-2
     measure-table-requires
+    enum-known-ob-3
+    measure-direct-requires
     returns
     returns-2
     returns-3
-    returns-4)
+    returns-4
+    returns-5)

@@ -1,10 +1,7 @@
 use borrow.Author.Needs.{needs}
-use Rattle.write_pass.proofs.MeasureCases.{measured-text, measured-bytes, measured-no-list, measured-no-table}
+use Rattle.write_pass.proofs.MeasureCases.{measured-text, measured-bytes, measured-no-list, measured-no-table, measured-no-direct}
 use Rattle.write_pass.proofs.measure_terminal.Statement.{statement}
 use Rattle.write_pass.proofs.measure_terminal.Tie as tie
-use Rattle.write_pass.proofs.measure_terminal.Reads as reads
-use Rattle.write_pass.proofs.measure_terminal.Lts as lts
-use Rattle.write_pass.proofs.measure_blob.Reads as measure-blob-reads
 
 enum-told : tie.Need-enum-told
 enum-told c = search needs
@@ -30,6 +27,12 @@ enum-told-4 c = search needs
 measure-blob-requires-4 : tie.Need-measure-blob-requires-4
 measure-blob-requires-4 c κs = search needs
 
+enum-told-5 : tie.Need-enum-told-5
+enum-told-5 c = search needs
+
+measure-blob-requires-5 : tie.Need-measure-blob-requires-5
+measure-blob-requires-5 c κs = search needs
+
 returns : tie.Need-returns
 returns c = search measured-text
 
@@ -41,6 +44,9 @@ returns-3 c = search measured-no-list
 
 returns-4 : tie.Need-returns-4
 returns-4 c = search measured-no-table
+
+returns-5 : tie.Need-returns-5
+returns-5 c = search measured-no-direct
 
 pub measure-terminal-spec : {M : Type 1} → statement M
 measure-terminal-spec =
@@ -54,7 +60,10 @@ measure-terminal-spec =
     measure-blob-requires-3
     enum-told-4
     measure-blob-requires-4
+    enum-told-5
+    measure-blob-requires-5
     returns
     returns-2
     returns-3
-    returns-4)
+    returns-4
+    returns-5)

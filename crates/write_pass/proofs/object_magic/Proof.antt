@@ -1,12 +1,8 @@
 use borrow.Author.Needs.{needs}
-use Rattle.message_object.proofs.OpenCases.{table-counted-of}
-use Rattle.write_pass.proofs.OpenCases.{magic-text, magic-bytes, magic-list, magic-table}
+use Rattle.write_measure.proofs.ObjectCases.{table-counted}
+use Rattle.write_pass.proofs.OpenCases.{magic-text, magic-bytes, magic-list, magic-table, magic-direct}
 use Rattle.write_pass.proofs.object_magic.Statement.{statement}
 use Rattle.write_pass.proofs.object_magic.Tie as tie
-use Rattle.write_pass.proofs.object_magic.Reads as reads
-use Rattle.write_pass.proofs.object_magic.Lts as lts
-use Rattle.schema.proofs.table_id.Reads as table-id-reads
-use Rattle.wire.proofs.index.Reads as index-reads
 
 enum-told : tie.Need-enum-told
 enum-told c = search needs
@@ -24,7 +20,10 @@ index-requires : tie.Need-index-requires
 index-requires c κs = search needs
 
 table-id-requires : tie.Need-table-id-requires
-table-id-requires c κs = search (table-counted-of, needs)
+table-id-requires c κs = search (table-counted, needs)
+
+enum-told-4 : tie.Need-enum-told-4
+enum-told-4 c = search needs
 
 returns : tie.Need-returns
 returns c = search magic-text
@@ -38,6 +37,9 @@ returns-3 c = search magic-list
 returns-4 : tie.Need-returns-4
 returns-4 c = search magic-table
 
+returns-5 : tie.Need-returns-5
+returns-5 c = search magic-direct
+
 pub object-magic-spec : {M : Type 1} → statement M
 object-magic-spec =
     tie.close
@@ -48,7 +50,9 @@ object-magic-spec =
     enum-known-ob
     index-requires
     table-id-requires
+    enum-told-4
     returns
     returns-2
     returns-3
-    returns-4)
+    returns-4
+    returns-5)

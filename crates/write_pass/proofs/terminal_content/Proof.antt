@@ -1,12 +1,7 @@
 use borrow.Author.Needs.{needs}
-use Rattle.write_pass.proofs.EmitObjectCases.{content-deep, content-text, content-bytes, content-no-list, content-no-table}
+use Rattle.write_pass.proofs.EmitObjectCases.{content-deep, content-text, content-bytes, content-no-list, content-no-table, content-no-direct}
 use Rattle.write_pass.proofs.terminal_content.Statement.{statement}
 use Rattle.write_pass.proofs.terminal_content.Tie as tie
-use Rattle.write_pass.proofs.terminal_content.Reads as reads
-use Rattle.write_pass.proofs.terminal_content.Lts as lts
-use Rattle.write_pass.proofs.emit_bytes.Reads as emit-bytes-reads
-use Rattle.write_pass.proofs.emit_text.Reads as emit-text-reads
-use Rattle.write_pass.proofs.not_lawful.Reads as not-lawful-reads
 
 not-lawful-requires : tie.Need-not-lawful-requires
 not-lawful-requires c κs = search needs
@@ -38,6 +33,12 @@ enum-told-4 c = search needs
 not-lawful-requires-3 : tie.Need-not-lawful-requires-3
 not-lawful-requires-3 c κs = search needs
 
+enum-told-5 : tie.Need-enum-told-5
+enum-told-5 c = search needs
+
+not-lawful-requires-4 : tie.Need-not-lawful-requires-4
+not-lawful-requires-4 c κs = search needs
+
 same-length : tie.Need-same-length
 same-length c = search needs
 
@@ -56,6 +57,9 @@ returns-4 c = search content-no-list
 returns-5 : tie.Need-returns-5
 returns-5 c = search content-no-table
 
+returns-6 : tie.Need-returns-6
+returns-6 c = search content-no-direct
+
 pub terminal-content-spec : {M : Type 1} → statement M
 terminal-content-spec =
     tie.close
@@ -70,9 +74,12 @@ terminal-content-spec =
     not-lawful-requires-2
     enum-told-4
     not-lawful-requires-3
+    enum-told-5
+    not-lawful-requires-4
     same-length
     returns-2
     same-length-2
     returns-3
     returns-4
-    returns-5)
+    returns-5
+    returns-6)

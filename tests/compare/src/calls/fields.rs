@@ -43,8 +43,9 @@ impl<'a> Place<'a> {
         }
     }
 
-    /// How many members the table at a place has, as far as its id says.
-    fn members(&self, at: u64) -> usize {
+    /// How many members the table at a place has, as far as its id says; an element
+    /// of a direct list has none, so that any table's are taken for its.
+    fn members(&self, rng: &mut Rng, at: u64) -> usize {
         let Some(schema) = &self.schema else {
             return 3;
         };
@@ -55,7 +56,7 @@ impl<'a> Place<'a> {
             .find(|table| id == Some(&table.id.to_le_bytes()));
         match known {
             Some(table) => table.members.len(),
-            None => schema.tables[0].members.len(),
+            None => schema.tables[rng.below(schema.tables.len())].members.len(),
         }
     }
 
@@ -144,14 +145,17 @@ fn follow(run: &mut Run, rng: &mut Rng, place: &Place, root: [u64; 4]) -> Result
 
 /// Whether an answer is an object with parts, or its refusal as too deep.
 fn leads_on(answer: [u64; 4]) -> bool {
-    matches!(answer, [3, 15 | 16, ..] | [7, 5, ..])
+    matches!(answer, [3, 15 | 16 | 18, ..] | [7, 5, ..])
 }
 
 /// The next step after an answer; none where the path is to end.
 fn next_step(rng: &mut Rng, place: &Place, answer: [u64; 4]) -> Option<u32> {
     match answer {
-        [3, 15, _, length] => Some(part_of(rng, length as usize)),
-        [3, 16, at, _] => Some(part_of(rng, place.members(at))),
+        [3, 15 | 18, _, length] => Some(part_of(rng, length as usize)),
+        [3, 16, at, _] => {
+            let count = place.members(rng, at);
+            Some(part_of(rng, count))
+        }
         [4, ..] => Some(part_of(rng, place.struct_members())),
         _ if rng.one_in(8) => Some(rng.below(3) as u32),
         _ => None,
@@ -185,7 +189,7 @@ fn ask(run: &mut Run, rng: &mut Rng, place: &Place, path: &[u32]) -> Result<[u64
         return Err(place.report("text", path, &format!("{part:?}"), &format!("{second:?}")));
     }
     note(&mut run.counts, path, one, part);
-    if matches!(one, [3, 15, ..]) {
+    if matches!(one, [3, 15 | 18, ..]) {
         for _ in 0..2 {
             lists::at_list(run, rng, place, path, one)?;
             lists::damaged(run, rng, place, path, one)?;

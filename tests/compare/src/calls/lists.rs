@@ -5,6 +5,7 @@ use super::fields::{sort_of, Place, Run};
 use super::second::numbers;
 use crate::program::refused;
 use crate::rng::Rng;
+use crate::subjects::Subject;
 
 /// What the calls of the list reader are counted as, and those of an unlawful schema.
 pub const CALLS: &str = "list calls";
@@ -21,7 +22,8 @@ pub fn at_list(
     path: &[u32],
     whole: [u64; 4],
 ) -> Result<(), String> {
-    let length = if whole[..2] == [3, 15] { whole[3] } else { 3 };
+    let is_list = matches!(whole, [3, 15 | 18, ..]);
+    let length = if is_list { whole[3] } else { 3 };
     let from = first_element(rng, length);
     let left = length.saturating_sub(from).min(12) as usize;
     let steps = rng.range(0, left + 2);
@@ -46,7 +48,11 @@ pub fn at_list(
     if count == 0 {
         return started_nowhere(run, place, path, whole, &answers);
     }
-    run.counts.note("lists");
+    run.counts.note(match (whole[1], length) {
+        (18, 0..=0x100_0000) => "direct lists",
+        (18, _) => "direct lists of over 16,777,216 elements",
+        _ => "lists",
+    });
     by_elements(run, place, path, whole, from, &answers)
 }
 
@@ -62,6 +68,10 @@ pub fn damaged(
     let mut subject = place.subject.clone();
     let message = &mut subject.message;
     let (at, length) = (whole[2] as usize, whole[3] as usize);
+    if whole[1] == 18 {
+        direct_header(rng, message, at);
+        return again(run, rng, place, &subject, path);
+    }
     // A union has a choice before its offset; in place there is no header.
     let (offset, header) = (run.coding.offset(), run.coding.header());
     let start = at + rng.pick(&[header, header, header, 0]);
@@ -76,10 +86,36 @@ pub fn damaged(
             bytes.copy_from_slice(&run.coding.bytes(number));
         }
     }
-    let place = place.with(&subject);
+    again(run, rng, place, &subject, path)
+}
+
+/// The list reader at the same path of another message.
+fn again(
+    run: &mut Run,
+    rng: &mut Rng,
+    place: &Place,
+    subject: &Subject,
+    path: &[u32],
+) -> Result<(), String> {
+    let place = place.with(subject);
     let (schema, message) = (&subject.schema, &subject.message);
     let whole = run.first.field(schema, message, path);
     at_list(run, rng, &place, path, whole)
+}
+
+/// Changes the size of a direct list's elements, or their count, or both: with no
+/// bytes in an element any count up to 4,294,967,295 fits.
+fn direct_header(rng: &mut Rng, message: &mut [u8], at: usize) {
+    let counts = [0, 1, 5, 1000, 1 << 31, u64::from(u32::MAX), 1 << 32];
+    let count = rng.pick(&counts).to_le_bytes();
+    let size = (rng.pick(&[0, 0, 0, 1, 2, 7, 100]) as u32).to_le_bytes();
+    let which = rng.below(3);
+    if which != 0 {
+        message[at + 4..at + 10].copy_from_slice(&count[..6]);
+    }
+    if which != 1 {
+        message[at + 14..at + 18].copy_from_slice(&size);
+    }
 }
 
 /// Mostly the first, and every sort of place around the end.
@@ -106,6 +142,7 @@ fn started_nowhere(
     let allowed: &[[u64; 4]] = match whole {
         [7, ..] => &[whole],
         [3, 15, at, 0] => &[no_part(at), no_part(0)],
+        [3, 18, at, 0] => &[no_part(at)],
         _ => &[no_part(0)],
     };
     for answer in answers {
@@ -119,6 +156,8 @@ fn started_nowhere(
         ([3, 15, ..], Some([_, _, 0, _])) => "list starts: plain elements".to_string(),
         ([3, 15, _, 0], Some(_)) => "list starts: no elements".to_string(),
         ([3, 15, ..], _) => "list starts: a list, no step".to_string(),
+        ([3, 18, ..], Some(_)) => "list starts: no direct elements".to_string(),
+        ([3, 18, ..], _) => "list starts: a direct list, no step".to_string(),
         _ => format!("list starts: {}", sort_of(whole)),
     });
     Ok(())

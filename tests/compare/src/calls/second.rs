@@ -88,10 +88,7 @@ impl Calls for SecondCalls {
         else {
             unreachable!("a list reader starts only at a list");
         };
-        // After the last it stays.
-        for _ in 0..from.min(length) {
-            reader.step();
-        }
+        reader.skip(from);
         store(cases, || reader.step());
         length
     }

@@ -14,7 +14,7 @@ use crate::schema_faults;
 use crate::sheet;
 use crate::sheet_faults;
 use crate::subjects;
-use crate::value::Value;
+use crate::value::{has_direct_elements, Value};
 use crate::value_gen::{self, Purpose};
 
 /// Two programs, and what was seen of them.
@@ -28,6 +28,8 @@ struct Subject {
     sort: &'static str,
     schema: Packed,
     sheet: Vec<u8>,
+    /// Made from values with elements of direct lists.
+    direct: bool,
 }
 
 /// Writes sheets with both until at least so many calls were compared.
@@ -69,7 +71,7 @@ fn of_round(coding: Coding, rng: &mut Rng) -> Vec<Subject> {
         let damaged = damage::sheet(rng, &sheets[at].1);
         sheets.push(("damaged", damaged));
     }
-    if let Some(read) = read_from_damaged(rng, &schema, any) {
+    if let Some(read) = read_from_damaged(rng, &schema, any.clone()) {
         sheets.push(("read from a damaged message", read));
     }
     let length = rng.range(0, 30);
@@ -77,16 +79,17 @@ fn of_round(coding: Coding, rng: &mut Rng) -> Vec<Subject> {
     let mut out = Vec::new();
     let packed = schema.pack();
     let broken = schema_faults::damaged(rng, &packed);
+    let direct = has_direct_elements(&schema, &writable) && has_direct_elements(&schema, &any);
     for (sort, sheet) in sheets {
-        let by_broken = rng.one_in(12);
+        let (sort, schema) = match rng.one_in(12) {
+            true => ("by a damaged schema", broken.clone()),
+            false => (sort, packed.clone()),
+        };
         out.push(Subject {
-            sort: if by_broken {
-                "by a damaged schema"
-            } else {
-                sort
-            },
-            schema: if by_broken { &broken } else { &packed }.clone(),
+            sort,
+            schema,
             sheet,
+            direct,
         });
     }
     other_codings(coding, rng, &packed, &mut out);
@@ -103,6 +106,7 @@ fn other_codings(coding: Coding, rng: &mut Rng, own: &Packed, out: &mut Vec<Subj
         sort: "by the other coding's schema",
         schema: packed,
         sheet: sheet::encode(&schema, &value),
+        direct: false,
     });
     if rng.one_in(8) {
         let schema = Packed {
@@ -113,6 +117,7 @@ fn other_codings(coding: Coding, rng: &mut Rng, own: &Packed, out: &mut Vec<Subj
             sort: "under no coding",
             schema,
             sheet: out[0].sheet.clone(),
+            direct: false,
         });
     }
 }
@@ -133,6 +138,10 @@ fn on_subject(run: &mut Run, rng: &mut Rng, subject: &Subject) -> Result<(), Str
         reference::write(schema.coding, &schema.bytes, &subject.sheet, SIZE_LIMIT);
     let name = format!("sheets {}, answer {number}", subject.sort);
     run.counts.note(&name);
+    if subject.direct {
+        let name = format!("sheets with direct elements, answer {number}");
+        run.counts.note(&name);
+    }
     let length = message.len();
     if number != 0 {
         let room = rng.below(200);

@@ -1,6 +1,7 @@
 //! Counts what an accepted wild message has in it.
 
 use crate::counts::Counts;
+use crate::message_faults::Held;
 use crate::message_gen::{Arrival, Wild};
 use crate::schema::*;
 use crate::value::Value;
@@ -12,13 +13,15 @@ pub fn note(counts: &mut Counts, schema: &Schema, wild: &Wild) {
     }
     for arrival in &wild.arrivals {
         let kind = usize::from(arrival.kind);
-        if arrival.in_place {
-            counts.in_place[kind] += 1;
-        } else {
-            counts.by_offset[kind] += 1;
+        match arrival.held {
+            Held::ByOffset => counts.by_offset[kind] += 1,
+            Held::InPlace => counts.in_place[kind] += 1,
+            Held::Direct => note_element(counts, schema, arrival),
         }
-        if arrival.kind == TABLE {
-            note_table(counts, schema, arrival);
+        match arrival.kind {
+            TABLE => note_table(counts, schema, arrival),
+            DIRECT => note_direct(counts, arrival),
+            _ => {}
         }
     }
     if wild.arrivals.iter().any(|a| a.depth == DEPTH_LIMIT) {
@@ -41,6 +44,26 @@ fn note_table(counts: &mut Counts, schema: &Schema, arrival: &Arrival) {
     }
 }
 
+/// The sizes of direct elements, from none to longer than the schema.
+fn note_element(counts: &mut Counts, schema: &Schema, arrival: &Arrival) {
+    let (_, full) = schema.slots(arrival.argument);
+    let length = arrival.length as usize;
+    counts.note(match length {
+        0 => "direct elements of no bytes",
+        _ if length < full => "direct elements shorter than the schema",
+        _ if length == full => "direct elements of the full size",
+        _ => "direct elements longer than the schema",
+    });
+}
+
+fn note_direct(counts: &mut Counts, arrival: &Arrival) {
+    counts.note(match arrival.length {
+        0 => "direct lists of no elements",
+        1..=49 => "direct lists of elements",
+        _ => "direct lists of 50 or more elements",
+    });
+}
+
 fn note_entries(counts: &mut Counts, value: &Value) {
     match value {
         Value::Unknown(_) => counts.note("unknown enums and choices"),
@@ -59,22 +82,22 @@ fn note_entries(counts: &mut Counts, value: &Value) {
     }
 }
 
-/// The bytes an object stands in, without what it holds in place.
+/// The bytes of an object held by offset, without what it holds in place.
 fn extent(schema: &Schema, arrival: &Arrival) -> (u64, u64) {
-    let header = if arrival.in_place {
-        0
-    } else {
-        schema.coding.header()
-    };
     let content = schema.content(arrival.kind, arrival.argument, arrival.length);
-    let end = u64::from(arrival.kind == TEXT);
-    (arrival.place, arrival.place + header as u64 + content + end)
+    let more = match arrival.kind {
+        TEXT => 1,
+        DIRECT => arrival.length * arrival.size,
+        _ => 0,
+    };
+    let start = arrival.place + schema.header(arrival.kind) as u64;
+    (arrival.place, start + content + more)
 }
 
 /// Counts objects that are reached again, and those that overlap others.
 fn note_sharing(counts: &mut Counts, schema: &Schema, wild: &Wild) {
     let mut extents: Vec<(u64, u64)> = (wild.arrivals.iter())
-        .filter(|arrival| !arrival.in_place)
+        .filter(|arrival| arrival.held == Held::ByOffset)
         .map(|arrival| extent(schema, arrival))
         .collect();
     let arrivals = extents.len();

@@ -5,7 +5,7 @@ use crate::lookup::Known;
 use crate::message_gen::Wild;
 use crate::paths;
 use crate::schema::Record;
-use crate::schema::{Schema, LIST, TABLE, TEXT};
+use crate::schema::{Schema, TABLE, TEXT};
 use crate::value::Value;
 
 /// Fields of a message whose layout is known, fault or not.
@@ -103,10 +103,7 @@ fn list_at(schema: &Schema, root: &Value, path: &[u32]) -> Option<(u8, usize)> {
         }
     }
     match value {
-        Value::List(parts) if record.kind == LIST => {
-            let element = schema.lists[usize::from(record.argument)];
-            Some((element.kind, parts.len()))
-        }
+        Value::List(parts) => Some((schema.element_of(&record).kind, parts.len())),
         _ => None,
     }
 }

@@ -56,7 +56,7 @@ impl Way {
 }
 
 /// The kinds of objects.
-pub const OBJECTS: [u8; 4] = [TEXT, BYTES, LIST, TABLE];
+pub const OBJECTS: [u8; 5] = [TEXT, BYTES, LIST, TABLE, DIRECT];
 
 /// What a kind of object is called.
 pub fn kind_name(kind: u8) -> &'static str {
@@ -64,6 +64,7 @@ pub fn kind_name(kind: u8) -> &'static str {
         TEXT => "text",
         BYTES => "bytes",
         LIST => "list",
+        DIRECT => "direct list",
         _ => "table",
     }
 }
@@ -96,8 +97,7 @@ pub struct Setup {
 /// The schema: the first table has a table of its own sort and then what
 /// leads to the object.
 fn schema_of(coding: Coding, way: Way, kind: u8) -> Schema {
-    let argument = u8::from(kind == TABLE);
-    let object = Record::plain(kind, argument);
+    let object = Record::plain(kind, argument(kind));
     let union = Record::plain(UNION, 0);
     let (mut member, element) = match way {
         Way::Member | Way::InPlace => (object, object),
@@ -124,13 +124,19 @@ fn schema_of(coding: Coding, way: Way, kind: u8) -> Schema {
     }
 }
 
+/// The second table is that of tables and direct lists.
+fn argument(kind: u8) -> u8 {
+    u8::from(matches!(kind, TABLE | DIRECT))
+}
+
 /// The length and the content of an object: a list has two U16, a table a U16
-/// and a bool.
+/// and a bool, a direct list two such tables.
 fn content_of(kind: u8) -> (u64, &'static [u8]) {
     match kind {
         TEXT => (2, b"ab\0"),
         BYTES => (3, b"abc"),
         LIST => (2, b"\x01\x02\x03\x04"),
+        DIRECT => (2, b"\x01\x02\x01\x03\x04\x00"),
         _ => (3, b"\x01\x02\x01"),
     }
 }
@@ -207,8 +213,13 @@ impl Setup {
         self.length = self.reference;
         if !self.way.in_place() {
             self.length = self.object + 4;
-            let record = Record::plain(self.kind, u8::from(self.kind == TABLE));
+            let record = Record::plain(self.kind, argument(self.kind));
             self.header(&record, length);
+        }
+        if self.kind == DIRECT {
+            let (id, (_, size)) = (self.schema.tables[1].id, self.schema.slots(1));
+            self.put(&id.to_le_bytes());
+            self.put(&(size as u32).to_le_bytes());
         }
         self.content = self.message.len();
         self.put(content);
@@ -217,6 +228,11 @@ impl Setup {
     /// What the object's cases are called.
     pub fn group(&self) -> String {
         format!("{} {}", kind_name(self.kind), self.way.name())
+    }
+
+    /// The bytes of the object's header.
+    pub fn header_size(&self) -> usize {
+        self.schema.header(self.kind)
     }
 
     /// The coding of the message.

@@ -22,12 +22,16 @@ impl Root {
             id: 0x4C49_4345,
             members: vec![list],
         };
-        let schema = Schema {
+        let mut schema = Schema {
             lists: vec![element, Record::plain(1, 0)],
             unions: vec![vec![Record::plain(BYTES, 0), Record::plain(TEXT, 0)]],
             tables: vec![table],
             ..Schema::new(coding)
         };
+        if element.kind == DIRECT {
+            let members = vec![Record::plain(1, 0)];
+            schema.tables.push(Table { id: 2, members });
+        }
         Root {
             schema,
             element,
@@ -75,10 +79,10 @@ impl Root {
 /// Adds the cases.
 pub fn add(coding: Coding, cases: &mut Vec<Case>) {
     for in_place in [false, true] {
-        for kind in (0..=ENUM).chain(TEXT..=UNION) {
+        for kind in (0..=ENUM).chain(TEXT..=DIRECT) {
             let argument = match kind {
                 ENUM => 3,
-                LIST => 1,
+                LIST | DIRECT => 1,
                 _ => 0,
             };
             let root = Root::new(coding, Record::plain(kind, argument), in_place);

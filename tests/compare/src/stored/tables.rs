@@ -76,10 +76,10 @@ impl Root<'_> {
 /// Every member that a table may have in the coding, of every kind.
 fn members(coding: Coding) -> Vec<Record> {
     let mut out = Vec::new();
-    for kind in 0..=UNION {
+    for kind in 0..=DIRECT {
         let argument = match kind {
             ENUM => 3,
-            STRUCT | TABLE => 1,
+            STRUCT | TABLE | DIRECT => 1,
             _ => 0,
         };
         let plain = Record::plain(kind, argument);

@@ -40,6 +40,11 @@ pub fn union(index: u16) -> u16 {
     17 << 11 | index
 }
 
+/// A direct list of the tables of this index.
+pub fn direct(index: u16) -> u16 {
+    18 << 11 | index
+}
+
 /// The record with its optional bit.
 pub fn optional(record: u16) -> u16 {
     record | 1 << 10
@@ -156,6 +161,12 @@ impl Message {
 
     pub fn list_head(&mut self, length: u64) -> &mut Message {
         self.raw(&[0x46, 0xBB, 0x00, 0x34]).u48(length)
+    }
+
+    /// The header of a direct list.
+    pub fn direct_head(&mut self, count: u64, id: u32, size: u32) -> &mut Message {
+        self.raw(&[0x05, 0xCC, 0xC6, 0xE2]).u48(count);
+        self.raw(&id.to_le_bytes()).raw(&size.to_le_bytes())
     }
 
     /// Where the next byte goes.

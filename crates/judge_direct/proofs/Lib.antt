@@ -1,0 +1,2 @@
+pub mod QuietCases
+pub mod PassCases

@@ -1,0 +1,2 @@
+-- Elements of a direct list that only count.
+pub mod Direct
