@@ -47,7 +47,7 @@ module _ (o : ℕ) (S : Schema) (m : List ℕ) (i at w d : ℕ) (s : Spent) (g :
     pub inplace-paid : t ≡ false → (c : ℕ) → c ≡ g .content - w → (k : ℕ) → k ≡ d - 1
         → r ≡ W.members (Left.visit k o S m) o S m at at w L.begin 0 (Sc.tableOf S i .members) (W.spending (g .visits) c)
         → r ≡ Left.visit d o S m (O.Table i) (InPlace at w) s
-    unfolding W.contentLength W.bytesTested W.endOk W.enter W.content
+    unfolding W.contentLength W.bytesTested W.endOk W.textOk W.enter W.content
     inplace-paid h c ec k ek f =
         found
         (admit-entered (Left.visit (d - 1) o S m) o S m (O.Table i) at at w (g .visits) (g .content) w refl (not-more w (g .content) t et h) r
