@@ -1,4 +1,3 @@
 pub mod EndCases
 pub mod MemberCases
 pub mod RowCases
-pub mod DirectCases

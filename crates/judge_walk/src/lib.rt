@@ -279,9 +279,6 @@ fn directs(
     if judge_direct::only_count(b, dir, t, w, x.length, o) {
         return judge_direct::count(b, m, depth, t, w, x, visits, content, o);
     }
-    if judge_member::is_row_table(b, dir, Object::Table(t)) {
-        return judge_rows::row_directs(b, dir, m, depth, t, w, x, visits, content, o);
-    }
     elements(b, dir, m, depth, t, w, x, visits, content, o)
 }
 

@@ -3,37 +3,17 @@ use mathlib.Core.Path.{_≡_, refl, sym, ap, _∙_, subst}
 use mathlib.Core.List.{List, [], _++_}
 use Prim.Native.Nat.{ℕ, suc, _+_, _-_, _<_, _≤_}
 use native.Mathlib.Omega.{arith}
-use Rattle.coding.specs.Schema as Sc
 use Rattle.coding.specs.Schema.{Schema}
-use Rattle.coding.specs.Layout as L
-use Rattle.coding.specs.Walk as W
-use Rattle.coding.specs.Value as Tree
 use Rattle.coding.specs.Read as R
 use Rattle.coding.specs.Bits.{bitsOf}
 use Rattle.coding.specs.Sheet as E
-use Rattle.coding.specs.declared.Object.{Object}
 use Rattle.coding.specs.declared.Object.the-variants as O
-use Rattle.coding.specs.declared.Place.{Place}
 use Rattle.coding.specs.declared.Place.the-variants.{InPlace}
 use Rattle.bitio.specs.Puts.{Room, Puts}
 use Rattle.bitio.specs.PutsLaws.{puts-then}
 use Rattle.sheet_walk.specs.MessageBits as A
 use Rattle.sheet_walk.specs.Readable as D
 use Rattle.sheet_values.proofs.Remaining.{Remaining, remaining-all, remaining-turn, remaining-over, remaining-done}
-use Rattle.sheet_walk.proofs.Objects.{content-readable, object-same}
-use Rattle.sheet_walk.proofs.Blobs.{some-left}
-
--- ---- an element is a table in place
-element-same : (o d : ℕ) (S : Schema) (m : List ℕ) (t w at : ℕ) → (d ≡ 0 → ⊥)
-    → A.objectAt o d S m (O.Table t) (InPlace at w) ≡ A.membersAt o (d - 1) S m at w L.begin (Sc.tableOf S t .members)
-unfolding A.contentAt A.membersAt E.contentBits R.contentRead Tree.asRow W.placed D.startOf D.lengthOf
-element-same o d S m t w at f = sym (object-same o d S m (O.Table t) (InPlace at w) at at w f refl refl refl)
-
-element-members : (o d : ℕ) (S : Schema) (m : List ℕ) (t w at : ℕ) → D.ObjectReadable o d S m (O.Table t) (InPlace at w)
-    → D.MembersReadable o (D.ObjectReadable o (d - 1) S m) S m at w L.begin (Sc.tableOf S t .members)
-unfolding D.ContentReadable W.placed D.startOf D.lengthOf
-element-members o d S m t w at h =
-    content-readable o d S m (O.Table t) (InPlace at w) h (some-left o d S m (O.Table t) (InPlace at w) h) at at w refl refl refl .parts
 
 -- ---- the elements
 directs-cons : (o d : ℕ) (S : Schema) (m : List ℕ) (t w n at : ℕ)
@@ -59,24 +39,20 @@ module _ (o d : ℕ) (S : Schema) (m : List ℕ) (t w n j at : ℕ) (h : j < n) 
   unfolding D.DirectsReadable
   split = let z : n - j ≡ suc (n - (j + 1)) = omega arith in subst (λ (x : ℕ). D.DirectsReadable (D.ObjectReadable o d S m) t w x at) z good
 
-  pub direct-some : d ≡ 0 → ⊥
-  direct-some = some-left o d S m (O.Table t) (InPlace at w) (split .0)
-
-  pub direct-members : D.MembersReadable o (D.ObjectReadable o (d - 1) S m) S m at w L.begin (Sc.tableOf S t .members)
-  direct-members = element-members o d S m t w at (split .0)
+  pub direct-first : D.ObjectReadable o d S m (O.Table t) (InPlace at w)
+  direct-first = split .0
 
   pub direct-rest : D.DirectsReadable (D.ObjectReadable o d S m) t w (n - (j + 1)) (at + w)
   direct-rest = split .1
 
   pub direct-turn : (whole out₀ out out₁ : List ℕ) (p₀ p p₁ : ℕ) → Remaining out₀ p₀ whole out p (A.directsAt o d S m t w (n - j) at) → Room out p
-      → Puts out p (A.membersAt o (d - 1) S m at w L.begin (Sc.tableOf S t .members)) out₁ p₁
+      → Puts out p (A.objectAt o d S m (O.Table t) (InPlace at w)) out₁ p₁
       → Remaining out₀ p₀ whole out₁ p₁ (A.directsAt o d S m t w (n - (j + 1)) (at + w))
   direct-turn whole out₀ out out₁ p₀ p p₁ inv g put =
       let z : n - j ≡ suc (n - (j + 1)) = omega arith in
-      remaining-turn out₀ out out₁ p₀ p p₁ whole (A.directsAt o d S m t w (n - j) at) (A.membersAt o (d - 1) S m at w L.begin (Sc.tableOf S t .members))
+      remaining-turn out₀ out out₁ p₀ p p₁ whole (A.directsAt o d S m t w (n - j) at) (A.objectAt o d S m (O.Table t) (InPlace at w))
       (A.directsAt o d S m t w (n - (j + 1)) (at + w)) inv (g .short)
-      (ap (λ (x : ℕ). A.directsAt o d S m t w x at) z ∙ directs-cons o d S m t w (n - (j + 1)) at
-      ∙ ap (λ (l : List ℕ). l ++ A.directsAt o d S m t w (n - (j + 1)) (at + w)) (element-same o d S m t w at direct-some))
+      (ap (λ (x : ℕ). A.directsAt o d S m t w x at) z ∙ directs-cons o d S m t w (n - (j + 1)) at)
       put
 
 -- behind the count

@@ -285,17 +285,18 @@ module _ (o d : ℕ) (S : Schema) (m : List ℕ) (ob : Object) (at start n : ℕ
         (puts-same out out₁ p q (A.listAt o d S m (Sc.elementOf S i) start n) (A.contentAt o d S m (O.List i) at start n) list-same
         (subst (λ (v : ℕ). Puts out p (A.listAt o d S m (Sc.elementOf S v) start n) out₁ q) ej h))
 
+  module _ (i : ℕ) where
     direct-same : A.directAt o d S m i (W.elementSize o m at) n start ≡ A.contentAt o d S m (O.DirectList i) at start n
     unfolding A.contentAt E.contentBits R.contentRead Tree.asRow A.directAt A.directsAt
     direct-same =
         ap (λ (v : ℕ). bitsOf 32 v ++ E.directsBits (E.encode d S) i (R.directsRead (R.read d o S m) i (W.elementSize o m at) n start))
         (sym (directs-count (R.read d o S m) i (W.elementSize o m at) n start))
 
-    pub content-direct : ob ≡ O.DirectList i → (w : ℕ) → w ≡ W.elementSize o m at → Puts out p (A.directAt o d S m j w n start) out₁ q
+    pub content-direct : ob ≡ O.DirectList i → (w : ℕ) → w ≡ W.elementSize o m at → Puts out p (A.directAt o d S m i w n start) out₁ q
         → Puts out p (A.contentAt o d S m ob at start n) out₁ q
     content-direct e w ew h =
-        puts-same out out₁ p q (A.directAt o d S m j w n start) (A.contentAt o d S m ob at start n)
-        (ap₂ (λ (k v : ℕ). A.directAt o d S m k v n start) ej ew ∙ direct-same ∙ ap (λ (v : Object). A.contentAt o d S m v at start n) (sym e)) h
+        puts-same out out₁ p q (A.directAt o d S m i w n start) (A.contentAt o d S m ob at start n)
+        (ap (λ (v : ℕ). A.directAt o d S m i v n start) ew ∙ direct-same ∙ ap (λ (v : Object). A.contentAt o d S m v at start n) (sym e)) h
 
 -- what an object's content gives to its list or table
 module _ (o : ℕ) (child : D.Child) (b m : List ℕ) (ob : Object) (at start n : ℕ) (h : D.Entered o child (P.parse b) m ob at start n) (i j : ℕ) (ej : j ≡ i) where
@@ -327,18 +328,15 @@ module _ (o : ℕ) (child : D.Child) (b m : List ℕ) (ob : Object) (at start n 
       subst (λ (v : ℕ). D.ElementsReadable o child (P.parse b) m (Sc.elementOf (P.parse b) v) start n 0) (sym ej)
       (subst (λ (v : Object). D.ContentReadable o child (P.parse b) m v at start n) e (h .parts))
 
-  pub direct-counted : ob ≡ O.DirectList i → j < P.tableCount b
-  direct-counted e = rw ej (table-index b i (subst (ObjectSound (P.parse b)) e (h .sound) .table))
+-- what a direct list's content gives to its elements, of w bytes each
+module _ (o : ℕ) (child : D.Child) (b m : List ℕ) (ob : Object) (at start n : ℕ) (h : D.Entered o child (P.parse b) m ob at start n) (i w : ℕ) (ew : w ≡ W.elementSize o m at) where
+  pub direct-inside : ob ≡ O.DirectList i → start + w * n ≤ length m
+  unfolding W.contentSize
+  direct-inside e =
+      let l : start + n * W.elementSize o m at ≤ length m = subst (λ (v : Object). start + W.contentSize o (P.parse b) m v at n ≤ length m) e (h .inside) in
+      subst (λ (v : ℕ). start + v ≤ length m) (ap (λ (v : ℕ). n * v) (sym ew) ∙ mul-comm n w) l
 
-  module _ (w : ℕ) (ew : w ≡ W.elementSize o m at) where
-    pub direct-inside : ob ≡ O.DirectList i → start + w * n ≤ length m
-    unfolding W.contentSize
-    direct-inside e =
-        let l : start + n * W.elementSize o m at ≤ length m = subst (λ (v : Object). start + W.contentSize o (P.parse b) m v at n ≤ length m) e (h .inside) in
-        subst (λ (v : ℕ). start + v ≤ length m) (ap (λ (v : ℕ). n * v) (sym ew) ∙ mul-comm n w) l
-
-    pub direct-readable : ob ≡ O.DirectList i → D.DirectsReadable child j w n start
-    unfolding D.ContentReadable
-    direct-readable e =
-        subst (λ (v : ℕ). D.DirectsReadable child v w n start) (sym ej)
-        (subst (λ (v : ℕ). D.DirectsReadable child i v n start) (sym ew) (subst (λ (v : Object). D.ContentReadable o child (P.parse b) m v at start n) e (h .parts)))
+  pub direct-readable : ob ≡ O.DirectList i → D.DirectsReadable child i w n start
+  unfolding D.ContentReadable
+  direct-readable e =
+      subst (λ (v : ℕ). D.DirectsReadable child i v n start) (sym ew) (subst (λ (v : Object). D.ContentReadable o child (P.parse b) m v at start n) e (h .parts))

@@ -674,7 +674,7 @@ fn put_content(
         Object::Table(t) => put_table(b, dir, m, out, d, wire::index(t), part, pos, o),
         Object::DirectList(t) => {
             let w = message_header::element_size(m, at, o);
-            put_directs(b, dir, m, out, d, wire::index(t), w, part, pos, o)
+            put_directs(b, dir, m, out, d, t, w, part, pos, o)
         }
     }
 }
@@ -736,14 +736,14 @@ fn put_directs(
     m: &[u8],
     out: &mut [u8],
     d: usize,
-    t: usize,
+    t: u8,
     w: usize,
     part: Content,
     pos: usize,
     o: usize,
 ) -> usize
     requires { ⌜ Room (now out) pos ⌝ }
-    requires { ⌜ (Accepted (now b) (now dir)) × (Width o) × (WithinSize (now m)) × (t < P.tableCount (now b)) × (part .start + w * part .length ≤ length (now m)) ⌝ }
+    requires { ⌜ (Accepted (now b) (now dir)) × (Width o) × (WithinSize (now m)) × (part .start + w * part .length ≤ length (now m)) ⌝ }
     requires { ⌜ C.DirectsReadable o d (now b) (now m) t w (part .length) (part .start) ⌝ }
     ensures { λ r. ⌜ Puts (now (out .entry)) pos (C.directBits o d (now (b .entry)) (now (m .entry)) t w (part .length) (part .start)) (now (out .exit)) r ⌝ }
 {
@@ -755,11 +755,8 @@ fn put_directs(
         if sheet_values::MOST < p {
             return p;
         }
-        let row = Content {
-            start: at,
-            length: w,
-        };
-        p = put_table(b, dir, m, out, d - 1, t, row, p, o);
+        let place = Place::InPlace(at, w);
+        p = put_object(b, dir, m, out, d, Object::Table(t), place, p, o);
         at += w;
         j += 1;
     }

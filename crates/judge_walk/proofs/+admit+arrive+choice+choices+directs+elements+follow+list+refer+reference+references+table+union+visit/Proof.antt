@@ -1,5 +1,4 @@
-use Rattle.judge_rows.proofs.DirectCases.{directs-start, directs-done, directs-stopped, directs-turn, direct-place}
-use Rattle.judge_walk.proofs.DirectCases.{directs-sized, directs-there, direct-size, direct-table, direct-sound, direct-held}
+use Rattle.judge_walk.proofs.DirectCases.{directs-start, directs-done, directs-stopped, directs-turn, directs-sized, directs-there, direct-place, direct-size, direct-table, direct-sound, direct-held}
 use Rattle.judge_walk.proofs.ReferenceCases.{reference-past, reference-cut, reference-here, reference-text, reference-sound, reference-stopped, reference-turn, reference-laid, same-sound}
 use Rattle.schema.specs.Records.{record-whole}
 use mathlib.Core.Path.{_≡_}
@@ -69,7 +68,6 @@ use Rattle.judge_direct.proofs.only_count.Reads as only-count-reads
 use Rattle.judge_member.proofs.is_row_table.Reads as is-row-table-reads
 use Rattle.judge_member.proofs.lead_member.Reads as lead-member-reads
 use Rattle.judge_member.proofs.refers.Reads as refers-reads
-use Rattle.judge_rows.proofs.row_directs.Reads as row-directs-reads
 use Rattle.judge_rows.proofs.row_references.Reads as row-references-reads
 use Rattle.judge_text.proofs.is_text.Reads as is-text-reads
 use Rattle.judge_text.proofs.refer_text.Reads as refer-text-reads
@@ -256,7 +254,7 @@ abbrev choices-R : ℕ → choices-lts.Claims
 choices-R t = (union-size-reads.Asked, union-size-reads.Learnt, choice-below t, choice.Post, going-reads.Asked, going-reads.Learnt)
 
 abbrev directs-R : ℕ → directs-lts.Claims
-directs-R t = (element-size-reads.Asked, element-size-reads.Learnt, only-count-reads.Asked, only-count-reads.Learnt, count-reads.Asked, count-reads.Learnt, is-row-table-reads.Asked, is-row-table-reads.Learnt, row-directs-reads.Asked, row-directs-reads.Learnt, elements-below t, elements.Post)
+directs-R t = (element-size-reads.Asked, element-size-reads.Learnt, only-count-reads.Asked, only-count-reads.Learnt, count-reads.Asked, count-reads.Learnt, elements-below t, elements.Post)
 
 abbrev elements-R : ℕ → elements-lts.Claims
 elements-R t = (visit-below t, visit.Post, going-reads.Asked, going-reads.Learnt)
@@ -464,20 +462,11 @@ directs-count-requires t c κs = (search needs, search directs-there, c .before 
 directs-returns : (t : ℕ) → directs-lts.Need-returns (directs-R t) (directs-at t) directs.Post
 directs-returns t c = search directs-sized
 
-directs-is-row-table-requires : (t : ℕ) → directs-lts.Need-is-row-table-requires (directs-R t) (directs-at t) directs.Post
-directs-is-row-table-requires t c κs = search (direct-table, needs)
-
-directs-row-directs-requires : (t : ℕ) → directs-lts.Need-row-directs-requires (directs-R t) (directs-at t) directs.Post
-directs-row-directs-requires t c κs = (search needs, search needs, search needs, search direct-table, c .before .is-row-table .ensures (c .if2 .taken), search directs-there)
-
-directs-returns-2 : (t : ℕ) → directs-lts.Need-returns-2 (directs-R t) (directs-at t) directs.Post
-directs-returns-2 t c = search directs-sized
-
 directs-elements-requires : (t : ℕ) → directs-lts.Need-elements-requires (directs-R t) (directs-at t) directs.Post
 directs-elements-requires t c κs = search (direct-table, directs-there, needs)
 
-directs-returns-3 : (t : ℕ) → directs-lts.Need-returns-3 (directs-R t) (directs-at t) directs.Post
-directs-returns-3 t c = search directs-sized
+directs-returns-2 : (t : ℕ) → directs-lts.Need-returns-2 (directs-R t) (directs-at t) directs.Post
+directs-returns-2 t c = search directs-sized
 
 abbrev elements-Inv-loop : elements-lts.InvT-loop
 elements-Inv-loop b dir m depth t w x visits content o v₀ c₀ at₀ j₀ v c at j = (j ≤ x .length) × (at ≡ x .start + w * j)
@@ -967,11 +956,8 @@ pub +admit+arrive+choice+choices+directs+elements+follow+list+refer+reference+re
     (directs-only-count-requires t)
     (directs-count-requires t)
     (directs-returns t)
-    (directs-is-row-table-requires t)
-    (directs-row-directs-requires t)
-    (directs-returns-2 t)
     (directs-elements-requires t)
-    (directs-returns-3 t))
+    (directs-returns-2 t))
     (λ t. elements-lts.spec
     (visit-below t, visit.Post, going-reads.Asked, going-reads.Learnt)
     (elements-at t)

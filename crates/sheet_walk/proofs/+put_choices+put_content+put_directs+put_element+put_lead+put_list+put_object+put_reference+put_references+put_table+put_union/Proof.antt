@@ -15,14 +15,14 @@ use Rattle.message_step.proofs.Inside.{union-counted}
 use Rattle.sheet_values.proofs.Remaining.{Remaining, remaining-over}
 use Rattle.sheet_walk.specs.MessageBits as A
 use Rattle.sheet_walk.specs.Readable as D
-use Rattle.sheet_walk.proofs.Objects.{placed-low, content-direct, direct-counted, direct-inside, direct-readable, member-sound-of, object-none, header-there, content-readable, object-content, content-text, content-bytes, content-list, content-table, table-counted, table-inside, table-readable, list-counted, list-inside, list-readable}
+use Rattle.sheet_walk.proofs.Objects.{placed-low, content-direct, direct-inside, direct-readable, member-sound-of, object-none, header-there, content-readable, object-content, content-text, content-bytes, content-list, content-table, table-counted, table-inside, table-readable, list-counted, list-inside, list-readable}
 use Rattle.sheet_walk.proofs.Values.{reference-none, reference-there, element-there, element-readable, reference-readable, choice-none, choice-unknown, choice-known, case-readable}
 use Rattle.sheet_walk.proofs.Parts.{members-start, readable-start, member-readable, rest-readable, members-turn, members-done, coded-rest, coded-turn, elements-start, elements-readable, elements-rest, elements-done, integer-eight, element-sound, list-few, list-start, list-bools, list-numbers, elements-inside, elements-given}
 use Rattle.sheet_walk.proofs.Blobs.{blob-inside, blob-referred}
 use Rattle.sheet_walk.proofs.Runs.{list-bytes, element-flat, list-flats}
 use Rattle.sheet_walk.proofs.References.{run-inside, run-next, offset-readable, offsets-turn, offsets-inside, offsets-given, list-offsets, chosen-readable, choices-turn, choices-inside, choices-given, list-choices}
 use Rattle.sheet_walk.proofs.CodedMembers.{coded-laid, coded-member}
-use Rattle.sheet_walk.proofs.Directs.{directs-start, directs-readable, directs-over, directs-done, direct-some, direct-members, direct-rest, direct-turn}
+use Rattle.sheet_walk.proofs.Directs.{directs-start, directs-readable, directs-over, directs-done, direct-first, direct-rest, direct-turn}
 use Rattle.sheet_walk.proofs.Leads.{lead-above, flat-member, lead-next, lead-past, chosen-given, lead-chosen, referred-given, lead-referred, lead-counted, union-inside, object-inside, lead-laid, lead-readable, lead-rest, lead-turn}
 use borrow.Fn.Kinds.{In}
 use borrow.Fn.PlainCycle.{Measures, is, falls, and}
@@ -241,7 +241,7 @@ abbrev put-content-R : ℕ → put-content-lts.Claims
 put-content-R t = (write-blob-reads.Asked, write-blob-reads.Learnt, index-reads.Asked, index-reads.Learnt, put-list-below t, put-list.Post, put-table-below t, put-table.Post, element-size-reads.Asked, element-size-reads.Learnt, put-directs-below t, put-directs.Post)
 
 abbrev put-directs-R : ℕ → put-directs-lts.Claims
-put-directs-R t = (number64-reads.Asked, number64-reads.Learnt, write-reads.Asked, write-reads.Learnt, put-table-below t, put-table.Post)
+put-directs-R t = (number64-reads.Asked, number64-reads.Learnt, write-reads.Asked, write-reads.Learnt, put-object-below t, put-object.Post)
 
 abbrev put-element-R : ℕ → put-element-lts.Claims
 put-element-R t = (write-reads.Asked, write-reads.Learnt, put-object-below t, put-object.Post)
@@ -377,11 +377,8 @@ put-content-enum-known-ob-3 t c = search needs
 put-content-element-size-requires : (t : ℕ) → put-content-lts.Need-element-size-requires (put-content-R t) (put-content-at t) put-content.Post
 put-content-element-size-requires t c κs = search needs
 
-put-content-index-requires-3 : (t : ℕ) → put-content-lts.Need-index-requires-3 (put-content-R t) (put-content-at t) put-content.Post
-put-content-index-requires-3 t c κs = search needs
-
 put-content-put-directs-requires : (t : ℕ) → put-content-lts.Need-put-directs-requires (put-content-R t) (put-content-at t) put-content.Post
-put-content-put-directs-requires t c κs = (search needs, (search needs, ((search needs, search needs, search needs, search direct-counted, search direct-inside), search direct-readable)))
+put-content-put-directs-requires t c κs = (search needs, (search needs, ((search needs, search needs, search needs, search direct-inside), search direct-readable)))
 
 put-content-same-length : (t : ℕ) → put-content-lts.Need-same-length (put-content-R t) (put-content-at t) put-content.Post
 put-content-same-length t c = search needs
@@ -437,21 +434,17 @@ put-directs-same-length t c = search needs
 put-directs-returns : (t : ℕ) → put-directs-lts.Need-returns (put-directs-R t) (put-directs-at t) put-directs.Post put-directs-Inv-loop put-directs-μ-loop
 put-directs-returns t c = search directs-over
 
-put-directs-sub-put-table : (t : ℕ) → put-directs-lts.Need-sub-put-table (put-directs-R t) (put-directs-at t) put-directs.Post put-directs-Inv-loop put-directs-μ-loop
-put-directs-sub-put-table t c = let f = direct-some _ _ _ _ _ _ _ _ _ (c .before .before .loop-test .taken) (c .before .before .before .loop .inv .4) in omega (arith, f)
-
-put-directs-put-table-requires : (t : ℕ) → put-directs-lts.Need-put-table-requires (put-directs-R t) (put-directs-at t) put-directs.Post put-directs-Inv-loop put-directs-μ-loop
-put-directs-put-table-requires t c κs =
-    let q = c .before .before .before .before .before .before .before .before .before .before .before .before .before .pre .1 in
+put-directs-put-object-requires : (t : ℕ) → put-directs-lts.Need-put-object-requires (put-directs-R t) (put-directs-at t) put-directs.Post put-directs-Inv-loop put-directs-μ-loop
+put-directs-put-object-requires t c κs =
+    let q = c .before .before .before .before .before .before .before .before .before .before .before .before .before .pre in
     let inv = c .before .before .before .loop .inv in
     let less = c .before .before .loop-test .taken in
-    let f = direct-some _ _ _ _ _ _ _ _ _ less (inv .4) in
-    (omega (arith, c .before .before .before .before .before .before .before .before .before .before .before .before .before .pre .0, f), (inv .0, ((q .1 .0 .0, q .1 .0 .1, q .1 .0 .2, q .1 .0 .3, run-inside _ _ _ _ _ less (inv .3) _ (q .1 .0 .4)), direct-members _ _ _ _ _ _ _ _ _ less (inv .4))))
+    (omega (arith, q .0), (inv .0, ((q .1 .1 .0 .0, q .1 .1 .0 .1, q .1 .1 .0 .2), direct-first _ _ _ _ _ _ _ _ _ less (inv .4))))
 
 put-directs-add-at : (t : ℕ) → put-directs-lts.Need-add-at (put-directs-R t) (put-directs-at t) put-directs.Post put-directs-Inv-loop put-directs-μ-loop
 put-directs-add-at t c =
     let q = c .before .before .before .before .before .before .before .before .before .before .before .before .before .before .before .before .pre .1 .1 .0 in
-    omega (arith, run-inside _ _ _ _ _ (c .before .before .before .before .before .loop-test .taken) (c .before .before .before .before .before .before .loop .inv .3) _ (q .4), q .2)
+    omega (arith, run-inside _ _ _ _ _ (c .before .before .before .before .before .loop-test .taken) (c .before .before .before .before .before .before .loop .inv .3) _ (q .3), q .2)
 
 put-directs-add-j : (t : ℕ) → put-directs-lts.Need-add-j (put-directs-R t) (put-directs-at t) put-directs.Post put-directs-Inv-loop put-directs-μ-loop
 put-directs-add-j t c = search needs
@@ -463,7 +456,7 @@ put-directs-loop-again : (t : ℕ) → put-directs-lts.Need-loop-again (put-dire
 put-directs-loop-again t c =
     let inv = c .before .before .before .before .before .before .loop .inv in
     let less = c .before .before .before .before .before .loop-test .taken in
-    let put = c .before .before .put-table .ensures in (
+    let put = c .before .before .put-object .ensures in (
       search (room-next, inv .0, put),
       omega (arith, less),
       omega (arith, put .len, inv .2),
@@ -1111,7 +1104,6 @@ pub +put-choices+put-content+put-directs+put-element+put-lead+put-list+put-objec
     (put-content-put-table-requires t)
     (put-content-enum-known-ob-3 t)
     (put-content-element-size-requires t)
-    (put-content-index-requires-3 t)
     (put-content-put-directs-requires t)
     (put-content-same-length t)
     (put-content-returns t)
@@ -1133,8 +1125,7 @@ pub +put-choices+put-content+put-directs+put-element+put-lead+put-list+put-objec
     (put-directs-loop-holds t)
     (put-directs-same-length t)
     (put-directs-returns t)
-    (put-directs-sub-put-table t)
-    (put-directs-put-table-requires t)
+    (put-directs-put-object-requires t)
     (put-directs-add-at t)
     (put-directs-add-j t)
     (put-directs-loop-less t)
