@@ -32,5 +32,6 @@ pub mod side_by_side;
 pub mod stored;
 pub mod subjects;
 pub mod tally;
+pub mod text_gen;
 pub mod value;
 pub mod value_gen;

@@ -2,7 +2,7 @@
 //! generator that stops reaching something fails.
 
 use crate::coding::Coding;
-use crate::counts::{Counts, UNUSED};
+use crate::counts::Counts;
 use crate::schema_faults::rules;
 
 /// The number of cases that the minimums are meant for.
@@ -91,8 +91,7 @@ pub fn shortfalls(coding: Coding, counts: &Counts) -> Vec<String> {
             short.push(format!("{name}: {count}, at least {least} wanted"));
         }
     };
-    let answers = counts.answers.iter().enumerate();
-    for (number, count) in answers.filter(|(number, _)| *number != UNUSED) {
+    for (number, count) in counts.answers.iter().enumerate() {
         need(format!("answers with number {number}"), *count, 100);
     }
     for kind in [13, 14, 15, 16, 18] {

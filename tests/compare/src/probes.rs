@@ -133,7 +133,7 @@ fn some_messages(rng: &mut Rng, schema: &Schema, value: &Value) -> Vec<(Vec<u8>,
 }
 
 fn damaged(coding: Coding, rng: &mut Rng, wild: &Wild) -> Vec<Vec<u8>> {
-    let mut damaged = || damage::message(coding, rng, &wild.bytes, &wild.spots);
+    let mut damaged = || damage::message(coding, rng, wild);
     (0..3).map(|_| damaged()).collect()
 }
 

@@ -211,7 +211,7 @@ impl Maker {
 
     fn damaged(&mut self, rng: &mut Rng, wild: &Wild, times: usize) {
         for _ in 0..times {
-            let bytes = damage::message(self.schema.coding, rng, &wild.bytes, &wild.spots);
+            let bytes = damage::message(self.schema.coding, rng, wild);
             self.add(Sort::Damaged, bytes);
         }
     }

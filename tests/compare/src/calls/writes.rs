@@ -125,7 +125,7 @@ fn other_codings(coding: Coding, rng: &mut Rng, own: &Packed, out: &mut Vec<Subj
 /// The sheet of a damaged message that is still accepted.
 fn read_from_damaged(rng: &mut Rng, schema: &Schema, value: Value) -> Option<Vec<u8>> {
     let wild = message_gen::lay_out(schema, rng, value, None);
-    let bytes = damage::message(schema.coding, rng, &wild.bytes, &wild.spots);
+    let bytes = damage::message(schema.coding, rng, &wild);
     let packed = schema.pack();
     let (verdict, sheet) = reference::read(packed.coding, &packed.bytes, &bytes, AMPLE, 1 << 16);
     (verdict.number == 0).then_some(sheet)
