@@ -11,6 +11,8 @@ pub mod counts;
 pub mod damage;
 pub mod direct_damage;
 pub mod doubling;
+pub mod every_text;
+pub mod held_text;
 pub mod judging;
 pub mod laws;
 pub mod lookup;

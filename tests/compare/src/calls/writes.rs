@@ -67,6 +67,9 @@ fn of_round(coding: Coding, rng: &mut Rng) -> Vec<Subject> {
     if let Some((spoiled, _)) = sheet_faults::unwritable(&schema, rng, &writable) {
         sheets.push(("made unwritable", sheet::encode(&schema, &spoiled)));
     }
+    if let Some(spoiled) = value_gen::with_bad_texts(&schema, rng, &writable) {
+        sheets.push(("with no text", sheet::encode(&schema, &spoiled)));
+    }
     for at in [0, 0, 1] {
         let damaged = damage::sheet(rng, &sheets[at].1);
         sheets.push(("damaged", damaged));
