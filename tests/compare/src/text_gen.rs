@@ -21,6 +21,8 @@ pub enum Flaw {
     NoByte,
     /// A tail without a lead before it.
     Tail,
+    /// A character with another byte in place of one of its tails.
+    NoTail,
     /// A character without its last bytes, and another behind it.
     Cut,
     /// A character without its last bytes at the text's end.
@@ -28,12 +30,13 @@ pub enum Flaw {
 }
 
 /// Every flaw.
-pub const FLAWS: [Flaw; 7] = [
+pub const FLAWS: [Flaw; 8] = [
     Flaw::Overlong,
     Flaw::Surrogate,
     Flaw::Above,
     Flaw::NoByte,
     Flaw::Tail,
+    Flaw::NoTail,
     Flaw::Cut,
     Flaw::CutByEnd,
 ];
@@ -140,6 +143,12 @@ fn flawed(rng: &mut Rng, flaw: Flaw) -> Vec<u8> {
         Flaw::Tail => {
             let count = rng.range(1, 4);
             (0..count).map(|_| 0x80 | rng.below(64) as u8).collect()
+        }
+        Flaw::NoTail => {
+            let bytes = rng.range(2, 4);
+            let mut out = encoded(character(rng, bytes), bytes as u32);
+            out[rng.range(1, bytes - 1)] = rng.pick(&[0x00, 0x7F, 0xC0, 0xC2, 0xFF]);
+            out
         }
         Flaw::Cut | Flaw::CutByEnd => {
             let bytes = rng.range(2, 4);

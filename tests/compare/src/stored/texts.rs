@@ -27,7 +27,7 @@ const TEXTS: [&[u8]; 14] = [
 
 /// Overlong forms, surrogates, what is above U+10FFFF, tails without a lead, leads
 /// without their tails.
-const OTHERS: [&[u8]; 26] = [
+const OTHERS: [&[u8]; 28] = [
     b"\xC0\x80",
     b"\xC1\xBF",
     b"\xE0\x80\x80",
@@ -54,6 +54,8 @@ const OTHERS: [&[u8]; 26] = [
     b"\xE1\x7F\x80",
     b"\xF1\x80\x7F\x80",
     b"\xC2\x7F",
+    b"\xC2\xC0",
+    b"\xF1\x80\x80\xC0",
 ];
 
 /// Adds the cases.
