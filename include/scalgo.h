@@ -48,10 +48,13 @@ enum {
     SCALGO_UNION_OFFSET = 9,   /* a known union choice, not in place, with offset 0; never under 32 bits */
     SCALGO_BYTE = 10,          /* a struct's boolean not 0 or 1, or a text's end byte not 0 */
     SCALGO_SHEET = 11,         /* the sheet is not lawful, over 16,777,215 bytes, or deeper than 32 objects */
-    SCALGO_WRITABLE = 12,      /* the sheet is lawful but not writable */
+    SCALGO_WRITABLE = 12,      /* the sheet is lawful but not writable, by a text that is not UTF-8 too */
     SCALGO_WRITTEN_SIZE = 13,  /* the message would be over 16,777,215 bytes */
     SCALGO_ROOM = 14,          /* no room in the output, or a sheet over 16,777,215 bytes */
     SCALGO_PATH = 15,          /* a path's step has no such part, or a path over 96 numbers */
+    SCALGO_UTF8 = 16,          /* a text is not UTF-8 as RFC 3629 has it: no overlong forms, no
+                                  surrogates, nothing above U+10FFFF; U+0000 is text. Its end byte is
+                                  judged before, by 10 */
     SCALGO_CONTENT = 17        /* content spent */
 };
 
@@ -64,8 +67,8 @@ enum {
 /* What scalgo_judge and scalgo_read say of a message.
  *
  * number: what the function answers.
- * place: where the object of a refusal from 4 to 10 or by 17 stands, counted from the message's first
- *         byte: its offset as stored, or where its content starts if it is in place or an element of
+ * place: where the object of a refusal from 4 to 10, by 16 or by 17 stands, counted from the message's
+ *         first byte: its offset as stored, or where its content starts if it is in place or an element of
  *         a direct list. With 8 it is the table, with 9 the object that holds the union. It is what
  *         the message says and may lie past the message's end. 0 with the other numbers.
  * member: which part of the object at that place is refused, counted from 0: with 8 the table's
@@ -76,7 +79,7 @@ enum {
  * content: the content bytes of the objects visited, each arrival counted: a text's (without its end
  *         byte) or bytes' length, the bytes of a list's elements (eight bools take one), a table's
  *         fixed part. A direct list itself adds none, each of its elements its size. An arrival
- *         refused by 5, 6, 7 or 17 adds none.
+ *         refused by 5, 6, 7 or 17 adds none; a text refused by 10 or 16 has added its length.
  */
 typedef struct {
     uint64_t number, place, member, visits, content;
@@ -99,7 +102,7 @@ enum {
     SCALGO_CASE_REFUSED = 7    /* a: one of the numbers above; b: its place; c: its member */
 };
 
-/* Judges a message by a packed schema and answers 0 to 10 of the numbers above, or 17.
+/* Judges a message by a packed schema and answers 0 to 10 of the numbers above, 16 or 17.
  *
  * visits: how many objects may be visited; the next is refused by 4 before it is looked at.
  * content: how many content bytes the visited objects may have in all; an object that fits the message
@@ -119,9 +122,9 @@ uint32_t scalgo_judge(uint32_t coding, const uint8_t *schema, size_t schema_len,
  *       something on the way is absent or unknown, that is the answer, whatever numbers are left.
  * *a, *b, *c: what the case has; 0 where it has no such number.
  *
- * A refusal is 1, 2 or 3, 5 to 10 or 15. With 5 to 10 its place is as in a verdict; with 15 it is
- * that of the last object judged; it is 0 with 1, 2 and 3 and with a path over 96 numbers. Its
- * member is as in a verdict: SCALGO_NO_MEMBER with 1 to 7 and 15.
+ * A refusal is 1, 2 or 3, 5 to 10, 15 or 16. With 5 to 10 and 16 its place is as in a verdict; with
+ * 15 it is that of the last object judged; it is 0 with 1, 2 and 3 and with a path over 96 numbers.
+ * Its member is as in a verdict: SCALGO_NO_MEMBER with 1 to 7, 15 and 16.
  */
 uint32_t scalgo_field(uint32_t coding, const uint8_t *schema, size_t schema_len,
                       const uint8_t *message, size_t message_len,
@@ -131,7 +134,8 @@ uint32_t scalgo_field(uint32_t coding, const uint8_t *schema, size_t schema_len,
 /* Says where a text or bytes stand: answers 1 where the path leads to such, and the part is
  * the *length bytes from message + *start on, all within the message; a text's end byte is not
  * among them. Otherwise answers 0 with *start 0 and *length 0, also where the path is refused:
- * scalgo_field says why.
+ * scalgo_field says why. A text is judged here too, whether the message was or not: its part is
+ * always UTF-8, in which U+0000 may occur.
  *
  * path: as of scalgo_field.
  */
@@ -159,7 +163,7 @@ uint64_t scalgo_list(uint32_t coding, const uint8_t *schema, size_t schema_len,
                      const uint32_t *path, size_t path_len,
                      uint64_t from, uint64_t *cases, size_t cases_len);
 
-/* Reads a message to its value sheet and answers 0 to 10 or 17 as scalgo_judge does, or 14.
+/* Reads a message to its value sheet and answers 0 to 10, 16 or 17 as scalgo_judge does, or 14.
  *
  * visits, content: as of scalgo_judge.
  * *verdict: as of scalgo_judge; with 14 the place is 0, there is no member, and visits and content

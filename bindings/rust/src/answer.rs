@@ -34,6 +34,9 @@ pub(crate) fn member(number: u64) -> Option<u32> {
         .filter(|number| *number < u32::MAX)
 }
 
+/// The record kind of a text.
+pub(crate) const TEXT: u8 = 13;
+
 /// The record kind of a list.
 pub(crate) const LIST: u8 = 15;
 

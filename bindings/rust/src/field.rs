@@ -1,5 +1,6 @@
 //! One field of a message, and a text or bytes as a part of it.
 
+use crate::answer::TEXT;
 use crate::{Answer, Coding};
 
 extern "C" {
@@ -75,7 +76,8 @@ pub fn field(coding: Coding, schema: &[u8], message: &[u8], path: &[u32]) -> Ans
 }
 
 /// A text without its zero byte, or bytes: a part of the message, where the path leads to one.
-/// `None` for anything else, also where the path is refused: [`field`] says why.
+/// `None` for anything else, also where the path is refused: [`field`] says why. A text is judged
+/// here too, whether the message was or not: it is UTF-8. Bytes may be any.
 ///
 /// ```
 /// # let schema = b"\x00\x00\x00\x01\x00\x4C\x49\x43\x45\x02\x10\x00\x68\x00";
@@ -114,4 +116,38 @@ pub fn text<'m>(
     message
         .get(start as usize..)
         .and_then(|rest| rest.get(..length as usize))
+}
+
+/// A text as a `str`: a part of the message, where the path leads to a text. `None` for anything
+/// else, bytes among it, also where the path is refused: [`field`] says why.
+///
+/// ```
+/// # let schema = b"\x00\x00\x00\x01\x00\x4C\x49\x43\x45\x02\x10\x00\x68\x00";
+/// use scalgo::{field, text_str, Answer, Coding::Bits48};
+///
+/// let mut message = b"\xB3\xC4\xC0\xB5\x0A\x00\x00\x00\x00\x00\
+///     \x45\x43\x49\x4C\x08\x00\x00\x00\x00\x00\x03\x00\x1C\x00\x00\x00\x00\x00\
+///     \xF5\xC8\x12\xD8\x03\x00\x00\x00\x00\x00\xE2\x82\xAC\x00".to_vec();
+/// assert_eq!(text_str(Bits48, schema, &message, &[1]), Some("€"));
+/// assert_eq!(text_str(Bits48, schema, &message, &[0]), None);
+///
+/// // The last of its three bytes becomes a letter.
+/// message[40] = b'a';
+/// assert_eq!(text_str(Bits48, schema, &message, &[1]), None);
+/// let refused = Answer::Refused { number: 16, place: 28, member: None };
+/// assert_eq!(field(Bits48, schema, &message, &[1]), refused);
+/// ```
+pub fn text_str<'m>(
+    coding: Coding,
+    schema: &[u8],
+    message: &'m [u8],
+    path: &[u32],
+) -> Option<&'m str> {
+    match field(coding, schema, message, path) {
+        Answer::Object { kind: TEXT, .. } => {
+            let bytes = text(coding, schema, message, path)?;
+            std::str::from_utf8(bytes).ok()
+        }
+        _ => None,
+    }
 }

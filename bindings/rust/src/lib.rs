@@ -26,14 +26,18 @@
 //! | 9 | a known union choice, not in place, with offset 0; never under 32 bits | the holder |
 //! | 10 | a struct's boolean not 0 or 1, or a text's end byte not 0 | the object |
 //! | 11 | the sheet is not lawful, over 16,777,215 bytes, or deeper than 32 objects | 0 |
-//! | 12 | the sheet is lawful but cannot be written | 0 |
+//! | 12 | the sheet is lawful but cannot be written, by a text that is not UTF-8 too | 0 |
 //! | 13 | the message would be over 16,777,215 bytes | 0 |
 //! | 14 | no room in the output, or a sheet over 16,777,215 bytes | 0 |
 //! | 15 | a step that has no such part, or a path over 96 numbers | the last object judged; 0 for length |
+//! | 16 | a text is not UTF-8, its end byte aside | the text |
 //! | 17 | the content is spent | the object with which it would be passed |
 //!
 //! With 8, 9 and 10 there is a member too: the number of the table's member or the list's element that
 //! is refused. A text's end byte has none.
+//!
+//! UTF-8 is what RFC 3629 says, and what a [`str`] is: no overlong forms, no surrogates, nothing above
+//! U+10FFFF; U+0000 is text. So a text that is handed out can be had as one, by [`text_str`].
 //!
 //! # Example
 //!
@@ -75,7 +79,7 @@ mod write;
 
 pub use answer::Answer;
 pub use coding::Coding;
-pub use field::{field, text};
+pub use field::{field, text, text_str};
 pub use judge::judge;
 pub use list::{list, List};
 pub use read::{read, ReadAnswer};

@@ -36,7 +36,8 @@ pub struct Verdict {
     pub visits: u32,
     /// The content bytes of the objects visited, at each arrival: a text's or bytes' length, the
     /// bytes of a list's elements, a table's fixed part. A direct list itself adds none, each of its
-    /// elements its size. An object that is refused by 5, 6, 7 or 17 adds none.
+    /// elements its size. An object that is refused by 5, 6, 7 or 17 adds none; a text that is refused
+    /// by 10 or 16 has added its length.
     pub content: u64,
 }
 

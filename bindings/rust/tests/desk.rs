@@ -70,6 +70,51 @@ fn judging_and_fields() {
     prints(&folder, "read schema message read", read);
 }
 
+/// The text as a character of two bytes, as two bytes that are none, and with another end byte too;
+/// and as bytes, which may be any. A sheet with such a text is not written.
+#[test]
+fn texts() {
+    let folder = folder("texts");
+    let put = |name: &str, bytes: &[u8]| {
+        fs::write(folder.join(name), bytes).expect("a file is written");
+    };
+    let message = |end: &[u8]| [&MESSAGE[..38], end].concat();
+    put("message", &message("ä\0".as_bytes()));
+    prints(&folder, "judge schema message", "0 0 2 10");
+    let text = "text at 28, length 2: ä";
+    prints(&folder, "field schema message 1", text);
+    put("message", &message(b"a\0\0"));
+    let text = "text at 28, length 2: a\\0";
+    prints(&folder, "field schema message 1", text);
+    put("message", &message(b"\xC3b\0"));
+    prints(&folder, "judge schema message", "16 28 2 10");
+    prints(
+        &folder,
+        "field schema message 0",
+        "unsigned number of 16 bits: 3",
+    );
+    prints(&folder, "field schema message 1", "refused: 16 at 28");
+    prints(&folder, "read schema message read", "16 28 2 10 0");
+    prints(&folder, "--content 9 judge schema message", "17 28 2 8");
+    put("message", &message(b"\xC3b\x01"));
+    prints(&folder, "judge schema message", "10 28 2 10");
+    put("sheet", b"\x40\x00\xD0\x00\x00\x00\x2C\x36\x20");
+    prints(&folder, "write schema sheet written", "12 0");
+    assert!(!folder.join("read").exists() && !folder.join("written").exists());
+    // The same as bytes: another kind, and another magic.
+    put("schema", &[&SCHEMA[..12], b"\x70\x00"].concat());
+    let bytes = [
+        &MESSAGE[..28],
+        b"\x10\xBE\xDB\xDC",
+        &MESSAGE[32..38],
+        b"\xC3b",
+    ]
+    .concat();
+    put("message", &bytes);
+    let text = "bytes at 28, length 2: \\xc3b";
+    prints(&folder, "field schema message 1", text);
+}
+
 /// A table with a list of texts: "ab", none, and one that is not there.
 #[test]
 fn a_list() {

@@ -9,6 +9,7 @@ use lib.ListN.{length, drop, replicate}
 use lib.Dec.{ltb, leb, eqb}
 use Rattle.coding.specs.Lists.{pick}
 use Rattle.coding.specs.Bytes.{leBytes, isNaN, noFloat, deepest, largest}
+use Rattle.coding.specs.Utf8.{isText}
 use Rattle.coding.specs.Schema.{Schema, structOf, elementOf, casesOf, caseOf, tableOf}
 use Rattle.coding.specs.Structs.{byIndex, structSize}
 use Rattle.coding.specs.Packed.{parse}
@@ -106,9 +107,9 @@ unfoldable pub directsWritable : Test → ℕ → Values → Bool
 directsWritable child t none = true
 directsWritable child t (v then vs) = child (O.Table t) v && directsWritable child t vs
 
--- an object's content; every text and bytes can be written: "a text is any bytes"
+-- an object's content. 02, K2: "a sheet with such a text is 12", one that RFC 3629 does not allow; bytes may be any
 unfoldable pub contentWritable : Test → ℕ → Schema → Test
-contentWritable child o S O.Text v = true
+contentWritable child o S O.Text v = isText (asBlob v)
 contentWritable child o S O.Bytes v = true
 contentWritable child o S (O.List i) v = elementsWritable child o S (elementOf S i) (asRow v)
 contentWritable child o S (O.Table i) v = membersWritable child o S (tableOf S i .members) (asRow v)

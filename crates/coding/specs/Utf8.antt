@@ -1,6 +1,5 @@
 -- Which bytes are text. 02, K2: "The coding says UTF8, so a text is lawful only if RFC 3629 allows it: no overlong forms, no
 -- surrogates, nothing above U+10FFFF. A published grammar decides, written apart from the checker."
--- No text is judged or written by it yet: until then a text is any bytes, as 01 says.
 -- First that grammar, section 4 of the RFC, rule by rule with its ABNF line above it; then `isText`, the same ranges as a
 -- test. `demands`: `Utf8.text-exactly` says that the test is true of exactly the bytes that have the grammar.
 use Prim.Native.Nat.{ℕ, _≤_}

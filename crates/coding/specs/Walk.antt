@@ -3,10 +3,11 @@
 use Prim.Native.Nat.{ℕ, zero, suc, _+_, _*_}
 use mathlib.Core.List.{List, [], _∷_}
 use mathlib.Core.Bool.{Bool, true, false, _&&_}
-use lib.ListN.{length, getD}
+use lib.ListN.{length, getD, take, drop}
 use lib.Dec.{ltb, leb, eqb}
 use Rattle.coding.specs.Lists.{pick}
 use Rattle.coding.specs.Bytes.{le, largest, deepest}
+use Rattle.coding.specs.Utf8.{isText}
 use Rattle.coding.specs.Schema.{Schema, elementOf, tableOf}
 use Rattle.coding.specs.Packed.{parse}
 use Rattle.coding.specs.Lawful.{lawful}
@@ -30,7 +31,7 @@ use Rattle.coding.specs.declared.Walked.{Walked}
 use Rattle.coding.specs.declared.Walked.the-variants.{Going, Refused}
 use Rattle.coding.specs.declared.Verdict.{Verdict}
 
--- ---- an arrival: header, magic, content, end byte
+-- ---- an arrival: header, magic, content, end byte, text
 -- "An object's place is its offset as stored, or where its in-place content starts."
 unfoldable pub placed : Place → ℕ
 placed (ByOffset x) = x
@@ -101,6 +102,15 @@ endOk m (O.List i) start n = true
 endOk m (O.Table i) start n = true
 endOk m (O.DirectList t) start n = true
 
+-- 02, K2: "The coding says UTF8, so a text is lawful only if RFC 3629 allows it: no overlong forms, no surrogates, nothing above
+-- U+10FFFF.": refusal 16 is of a text's bytes, without its end byte; bytes may be any
+unfoldable pub textOk : List ℕ → Object → ℕ → ℕ → Bool
+textOk m O.Text start n = isText (take n (drop start m))
+textOk m O.Bytes start n = true
+textOk m (O.List i) start n = true
+textOk m (O.Table i) start n = true
+textOk m (O.DirectList t) start n = true
+
 -- "content fit": content of length n at `start`, of the object at a place; refusal 6, "content does not fit"
 unfoldable pub fitContent : ℕ → Schema → List ℕ → Object → ℕ → ℕ → ℕ → Opened
 fitContent o S m ob at start n =
@@ -142,13 +152,14 @@ fitObject o S m ob (ByOffset x) =
 fitObject o S m ob (InPlace a n) = pick (standsInPlace ob) (fitContent o S m ob a a n) (Op.Refused 6)
 
 -- "text's end byte": the test of an object's bytes once its content fits, of a text its end byte; refusal 10, "text end
--- byte not 0"
+-- byte not 0". Then, 02, K2: "16 at the text's place, after the end byte".
 unfoldable pub bytesTested : List ℕ → Object → Opened → Opened
 bytesTested m ob (Op.Refused n) = Op.Refused n
-bytesTested m ob (Op.Content start n) = pick (endOk m ob start n) (Op.Content start n) (Op.Refused 10)
+bytesTested m ob (Op.Content start n) =
+    pick (endOk m ob start n) (pick (textOk m ob start n) (Op.Content start n) (Op.Refused 16)) (Op.Refused 10)
 
--- "Judged at an arrival: ... offset and header fit, magic, content fit, text's end byte.", with nothing charged: one field is
--- read "without budget"
+-- "Judged at an arrival: ... offset and header fit, magic, content fit, text's end byte." and the text (02, K2), with nothing charged:
+-- one field is read "without budget"
 unfoldable pub openObject : ℕ → Schema → List ℕ → Object → Place → Opened
 openObject o S m ob p = bytesTested m ob (fitObject o S m ob p)
 
@@ -260,7 +271,7 @@ withContent c s = spending (s .visits) (s .content + c)
 
 -- what the fit found at the object at `holder`: a refusal, at the "object"; or content, which is charged before its bytes are
 -- tested. 02, K7: "17, exactly if the sum would pass the allowance, at the object, after content fits and before its bytes are
--- judged; such an arrival counts as a visit but adds no content". So a text refused by 10 has added its length.
+-- judged; such an arrival counts as a visit but adds no content". So a text refused by 10 or by 16 has added its length.
 unfoldable pub admit : Child → ℕ → Schema → List ℕ → Budget → Object → ℕ → Opened → Spent → Walked
 admit child o S m b ob holder (Op.Refused n) s = refuse n holder s
 admit child o S m b ob holder (Op.Content start n) s =
@@ -269,7 +280,7 @@ admit child o S m b ob holder (Op.Content start n) s =
     (refuse 17 holder s)
 
 -- an arrival after visits and depth: "offset and header fit, magic, content fit", the content allowance, "text's end byte. Then
--- each member or element in turn"
+-- each member or element in turn", and behind the end byte the text (02, K2)
 unfoldable pub arrive : Child → ℕ → Schema → List ℕ → Budget → Child
 arrive child o S m b ob p s = admit child o S m b ob (placed p) (fitObject o S m ob p) s
 
@@ -284,8 +295,8 @@ counted child b ob p s =
     pick (ltb (s .visits) (b .visits)) (child ob p (oneMore s)) (refuse 4 (placed p) s)
 
 -- an arrival with d objects of depth left, this one counted: "budget, depth, offset and header fit, magic, content fit,
--- text's end byte. Then each member or element in turn", and before the end byte the content allowance (02, K7). "following a
--- reference or entering in-place content adds 1".
+-- text's end byte. Then each member or element in turn", and before the end byte the content allowance (02, K7), behind it the
+-- text (02, K2). "following a reference or entering in-place content adds 1".
 unfoldable pub visit : ℕ → ℕ → Schema → List ℕ → Budget → Child
 visit zero o S m b = counted tooDeep b
 visit (suc d) o S m b = counted (arrive (visit d o S m b) o S m b) b

@@ -17,7 +17,7 @@ use Rattle.coding.specs.Structs.{flatWidth}
 use Rattle.coding.specs.Layout.{width, flatIsBool, isBool, begin, afterMember}
 use Rattle.coding.specs.Step.{memberStep, elementStep, elementsSize}
 use Rattle.coding.specs.Walk as W
-use Rattle.coding.specs.Walk.{placed, magic, headerSize, elementId, elementSize, mostElements, startSize, contentSize, contentLength, endOk, fitContent, directHeader, headerTested, standsInPlace, fitObject, bytesTested, refuse, refusePart, andThen, followChoice, follow, content, enter, withContent, admit, arrive, tooDeep, oneMore, counted, visit, rootPlace, nothing, walk, verdictOf, early, sizeOk, startOk, verdict}
+use Rattle.coding.specs.Walk.{placed, magic, headerSize, elementId, elementSize, mostElements, startSize, contentSize, contentLength, endOk, textOk, fitContent, directHeader, headerTested, standsInPlace, fitObject, bytesTested, refuse, refusePart, andThen, followChoice, follow, content, enter, withContent, admit, arrive, tooDeep, oneMore, counted, visit, rootPlace, nothing, walk, verdictOf, early, sizeOk, startOk, verdict}
 use Rattle.coding.specs.Value.{count}
 use Rattle.coding.specs.Read as R
 use Rattle.coding.specs.Read.{stepRead, structRead, membersRead, elementsRead, directsRead, contentRead, placeRead, read, messageRead}
@@ -223,11 +223,16 @@ module _ (S : Schema) (G : Sound S) (m : List ℕ) (small : (i : ℕ) → getD m
     charged-fits b ob holder start n s l f =
         let P = ContentShown shown S ob (contentRead reader o S m ob holder start n) in
         let c = contentLength o S ob n in
+        let E = Enters ob holder start n (withContent c s) in
+        let judged = pick (textOk m ob start n) (Op.Content start n) (Op.Refused 16) in
         pick-holds (Ends P) (leb (s .content + c) (b .content))
-        (enter child o S m ob holder (pick (endOk m ob start n) (Op.Content start n) (Op.Refused 10)) (withContent c s)) (refuse 17 holder s)
+        (enter child o S m ob holder (pick (endOk m ob start n) judged (Op.Refused 10)) (withContent c s)) (refuse 17 holder s)
         (λ e.
-        pick-holds (Enters ob holder start n (withContent c s)) (endOk m ob start n) (Op.Content start n) (Op.Refused 10)
-        (λ t. content-enters ob holder start n (withContent c s) l f)
+        pick-holds E (endOk m ob start n) judged (Op.Refused 10)
+        (λ t.
+        pick-holds E (textOk m ob start n) (Op.Content start n) (Op.Refused 16)
+        (λ u. content-enters ob holder start n (withContent c s) l f)
+        (λ u. refused-enters ob holder start n 16 (withContent c s) (omega arith)))
         (λ t. refused-enters ob holder start n 10 (withContent c s) (omega arith)))
         (λ e. refuse-ends 17 holder s (omega arith))
 

@@ -9,6 +9,7 @@ use lib.Dec.{ltb}
 use borrow.Author.Tests.{ltb-true}
 use Rattle.coding.specs.Lists as Lists
 use Rattle.coding.specs.Bytes as Bytes
+use Rattle.coding.specs.Utf8 as Utf8
 use Rattle.coding.specs.Schema as Schema
 use Rattle.coding.specs.Structs as Structs
 use Rattle.coding.specs.Packed as Packed
@@ -122,7 +123,7 @@ five = Walk.allowing 5 Walk.mostContent
 
 -- the root's fixed part of 35 bytes, the list's element of 8, its table's 4, the union's the same 4, the text's 2
 accepted-message : Walk.verdict Bytes.u48 newer message five ≡ Walk.atZero 0 (Walk.spending 5 53)
-unfolding Lists.every Lists.run Bytes.le Bytes.bitAt Bytes.isNaN Bytes.largest Bytes.deepest Bytes.u48 Bytes.u32 Bytes.widthKnown Schema.structOf Schema.elementOf Schema.casesOf Schema.tableOf Schema.caseOf Structs.lower Structs.byIndex Structs.flatWidth Structs.total Structs.sizeBy Structs.structSize Structs.flatOk Structs.flatsOk Structs.okBy Structs.structOk Packed.kindAt Packed.optionalAt Packed.inplaceAt Packed.zeroAt Packed.argumentAt Packed.widthOf Packed.flatOf Packed.objectOf Packed.kindOf Packed.flatAt Packed.objectAt Packed.elementAt Packed.memberAt Packed.records Packed.recordPlace Packed.blocks Packed.structPlace Packed.listPlace Packed.unionPlace Packed.tablePlace Packed.idAt Packed.recordsAt Packed.tableAt Packed.parse Lawful.countsOk Lawful.blocksOk Lawful.placesOk Lawful.shapeOk Lawful.argumentOk Lawful.kindOk Lawful.optionalOk Lawful.inplaceOk Lawful.flagsOk Lawful.recordOk Lawful.firstOk Lawful.recordsOk Lawful.inplaces Lawful.directTable Lawful.heldUnion Lawful.directOk Lawful.structLawful Lawful.listLawful Lawful.unionLawful Lawful.tableLawful Lawful.idDiffers Lawful.idLawful Lawful.rulesOk Lawful.wellFormed Lawful.olderMember Lawful.olderElement Lawful.olderUnion Lawful.olderTable Lawful.olderOk Lawful.lawful Layout.flatIsBool Layout.isBool Layout.width Layout.flatTakesFlag Layout.takesFlag Layout.hasFlag Layout.begin Layout.bitByte Layout.bitIndex Layout.afterBit Layout.afterBytes Layout.afterFlag Layout.bitSlot Layout.slotOf Layout.afterValue Layout.memberSlot Layout.placementOf Layout.afterMember Step.enumStep Step.floatStep Step.structTested Step.placeOf Step.objectStep Step.unionStep Step.flatStep Step.valueStep Step.inside Step.flagged Step.placedStep Step.memberStep Step.elementPlace Step.elementStep Step.elementsSize Walk.placed Walk.magic Walk.headerSize Walk.elementId Walk.elementSize Walk.mostElements Walk.startSize Walk.contentSize Walk.contentLength Walk.endOk Walk.fitContent Walk.directHeader Walk.headerTested Walk.standsInPlace Walk.fitObject Walk.bytesTested Walk.openObject Walk.refuse Walk.andThen Walk.refusePart Walk.followChoice Walk.follow Walk.members Walk.elements Walk.directs Walk.content Walk.enter Walk.withContent Walk.admit Walk.arrive Walk.tooDeep Walk.oneMore Walk.mostContent Walk.counted Walk.visit Walk.rootPlace Walk.nothing Walk.walk Walk.verdictOf Walk.early Walk.sizeOk Walk.startOk Walk.verdict
+unfolding Lists.every Lists.run Bytes.le Bytes.bitAt Bytes.isNaN Bytes.largest Bytes.deepest Bytes.u48 Bytes.u32 Bytes.widthKnown Utf8.within Utf8.afterFirst Utf8.afterOctet Utf8.mayEnd Utf8.textFrom Utf8.isText Schema.structOf Schema.elementOf Schema.casesOf Schema.tableOf Schema.caseOf Structs.lower Structs.byIndex Structs.flatWidth Structs.total Structs.sizeBy Structs.structSize Structs.flatOk Structs.flatsOk Structs.okBy Structs.structOk Packed.kindAt Packed.optionalAt Packed.inplaceAt Packed.zeroAt Packed.argumentAt Packed.widthOf Packed.flatOf Packed.objectOf Packed.kindOf Packed.flatAt Packed.objectAt Packed.elementAt Packed.memberAt Packed.records Packed.recordPlace Packed.blocks Packed.structPlace Packed.listPlace Packed.unionPlace Packed.tablePlace Packed.idAt Packed.recordsAt Packed.tableAt Packed.parse Lawful.countsOk Lawful.blocksOk Lawful.placesOk Lawful.shapeOk Lawful.argumentOk Lawful.kindOk Lawful.optionalOk Lawful.inplaceOk Lawful.flagsOk Lawful.recordOk Lawful.firstOk Lawful.recordsOk Lawful.inplaces Lawful.directTable Lawful.heldUnion Lawful.directOk Lawful.structLawful Lawful.listLawful Lawful.unionLawful Lawful.tableLawful Lawful.idDiffers Lawful.idLawful Lawful.rulesOk Lawful.wellFormed Lawful.olderMember Lawful.olderElement Lawful.olderUnion Lawful.olderTable Lawful.olderOk Lawful.lawful Layout.flatIsBool Layout.isBool Layout.width Layout.flatTakesFlag Layout.takesFlag Layout.hasFlag Layout.begin Layout.bitByte Layout.bitIndex Layout.afterBit Layout.afterBytes Layout.afterFlag Layout.bitSlot Layout.slotOf Layout.afterValue Layout.memberSlot Layout.placementOf Layout.afterMember Step.enumStep Step.floatStep Step.structTested Step.placeOf Step.objectStep Step.unionStep Step.flatStep Step.valueStep Step.inside Step.flagged Step.placedStep Step.memberStep Step.elementPlace Step.elementStep Step.elementsSize Walk.placed Walk.magic Walk.headerSize Walk.elementId Walk.elementSize Walk.mostElements Walk.startSize Walk.contentSize Walk.contentLength Walk.endOk Walk.textOk Walk.fitContent Walk.directHeader Walk.headerTested Walk.standsInPlace Walk.fitObject Walk.bytesTested Walk.openObject Walk.refuse Walk.andThen Walk.refusePart Walk.followChoice Walk.follow Walk.members Walk.elements Walk.directs Walk.content Walk.enter Walk.withContent Walk.admit Walk.arrive Walk.tooDeep Walk.oneMore Walk.mostContent Walk.counted Walk.visit Walk.rootPlace Walk.nothing Walk.walk Walk.verdictOf Walk.early Walk.sizeOk Walk.startOk Walk.verdict
 accepted-message = refl
 
 pub every-kind-agrees : OlderAgrees Bytes.u48 older newer message five
@@ -132,7 +133,7 @@ every-kind-agrees =
 
 -- the older's sheet: both enums and both choices are unknown
 pub every-kind-sheet : Message.messageSheet Bytes.u48 older message ≡ 0x70 ∷ 0x2B ∷ 0x02 ∷ 0x04 ∷ 0xA0 ∷ 0x00 ∷ 0x00 ∷ 0x00 ∷ 0x30 ∷ 0x00 ∷ 0x14 ∷ 0x00 ∷ 0x04 ∷ []
-unfolding Lists.every Lists.run Bytes.le Bytes.bitAt Bytes.isNaN Bytes.largest Bytes.deepest Bytes.u48 Bytes.u32 Bytes.widthKnown Schema.structOf Schema.elementOf Schema.casesOf Schema.tableOf Schema.caseOf Structs.lower Structs.byIndex Structs.flatWidth Structs.total Structs.sizeBy Structs.structSize Structs.flatOk Structs.flatsOk Structs.okBy Structs.structOk Packed.kindAt Packed.optionalAt Packed.inplaceAt Packed.zeroAt Packed.argumentAt Packed.widthOf Packed.flatOf Packed.objectOf Packed.kindOf Packed.flatAt Packed.objectAt Packed.elementAt Packed.memberAt Packed.records Packed.recordPlace Packed.blocks Packed.structPlace Packed.listPlace Packed.unionPlace Packed.tablePlace Packed.idAt Packed.recordsAt Packed.tableAt Packed.parse Lawful.countsOk Lawful.blocksOk Lawful.placesOk Lawful.shapeOk Lawful.argumentOk Lawful.kindOk Lawful.optionalOk Lawful.inplaceOk Lawful.flagsOk Lawful.recordOk Lawful.firstOk Lawful.recordsOk Lawful.inplaces Lawful.directTable Lawful.heldUnion Lawful.directOk Lawful.structLawful Lawful.listLawful Lawful.unionLawful Lawful.tableLawful Lawful.idDiffers Lawful.idLawful Lawful.rulesOk Lawful.wellFormed Lawful.olderMember Lawful.olderElement Lawful.olderUnion Lawful.olderTable Lawful.olderOk Lawful.lawful Layout.flatIsBool Layout.isBool Layout.width Layout.flatTakesFlag Layout.takesFlag Layout.hasFlag Layout.begin Layout.bitByte Layout.bitIndex Layout.afterBit Layout.afterBytes Layout.afterFlag Layout.bitSlot Layout.slotOf Layout.afterValue Layout.memberSlot Layout.placementOf Layout.afterMember Step.enumStep Step.floatStep Step.structTested Step.placeOf Step.objectStep Step.unionStep Step.flatStep Step.valueStep Step.inside Step.flagged Step.placedStep Step.memberStep Step.elementPlace Step.elementStep Step.elementsSize Walk.placed Walk.magic Walk.headerSize Walk.elementId Walk.elementSize Walk.mostElements Walk.startSize Walk.contentSize Walk.contentLength Walk.endOk Walk.fitContent Walk.directHeader Walk.headerTested Walk.standsInPlace Walk.fitObject Walk.bytesTested Walk.openObject Walk.refuse Walk.andThen Walk.refusePart Walk.followChoice Walk.follow Walk.members Walk.elements Walk.directs Walk.content Walk.enter Walk.withContent Walk.admit Walk.arrive Walk.tooDeep Walk.oneMore Walk.mostContent Walk.counted Walk.visit Walk.rootPlace Walk.nothing Walk.walk Walk.verdictOf Walk.early Walk.sizeOk Walk.startOk Walk.verdict Value.asNumber Value.asBlob Value.asRow Value.asObject Value.first Value.others Value.count Read.stepRead Read.fieldsRead Read.readBy Read.structRead Read.membersRead Read.elementsRead Read.directsRead Read.contentRead Read.placeRead Read.read Read.messageRead Step.fieldStep Bits.bitsOf Bits.bits Bits.value Bits.pack Bits.byteCount Bits.packed Sheet.markBits Sheet.flatBits Sheet.fieldBits Sheet.fieldsBits Sheet.bitsBy Sheet.structBits Sheet.bodyBits Sheet.flatUnknown Sheet.unknownWidth Sheet.partBits Sheet.flatUnmarked Sheet.unmarked Sheet.elementBits Sheet.membersBits Sheet.elementsBits Sheet.directsBits Sheet.blobBits Sheet.contentBits Sheet.encode Sheet.sheetBits Sheet.sheetOf Message.messageSheet
+unfolding Lists.every Lists.run Bytes.le Bytes.bitAt Bytes.isNaN Bytes.largest Bytes.deepest Bytes.u48 Bytes.u32 Bytes.widthKnown Utf8.within Utf8.afterFirst Utf8.afterOctet Utf8.mayEnd Utf8.textFrom Utf8.isText Schema.structOf Schema.elementOf Schema.casesOf Schema.tableOf Schema.caseOf Structs.lower Structs.byIndex Structs.flatWidth Structs.total Structs.sizeBy Structs.structSize Structs.flatOk Structs.flatsOk Structs.okBy Structs.structOk Packed.kindAt Packed.optionalAt Packed.inplaceAt Packed.zeroAt Packed.argumentAt Packed.widthOf Packed.flatOf Packed.objectOf Packed.kindOf Packed.flatAt Packed.objectAt Packed.elementAt Packed.memberAt Packed.records Packed.recordPlace Packed.blocks Packed.structPlace Packed.listPlace Packed.unionPlace Packed.tablePlace Packed.idAt Packed.recordsAt Packed.tableAt Packed.parse Lawful.countsOk Lawful.blocksOk Lawful.placesOk Lawful.shapeOk Lawful.argumentOk Lawful.kindOk Lawful.optionalOk Lawful.inplaceOk Lawful.flagsOk Lawful.recordOk Lawful.firstOk Lawful.recordsOk Lawful.inplaces Lawful.directTable Lawful.heldUnion Lawful.directOk Lawful.structLawful Lawful.listLawful Lawful.unionLawful Lawful.tableLawful Lawful.idDiffers Lawful.idLawful Lawful.rulesOk Lawful.wellFormed Lawful.olderMember Lawful.olderElement Lawful.olderUnion Lawful.olderTable Lawful.olderOk Lawful.lawful Layout.flatIsBool Layout.isBool Layout.width Layout.flatTakesFlag Layout.takesFlag Layout.hasFlag Layout.begin Layout.bitByte Layout.bitIndex Layout.afterBit Layout.afterBytes Layout.afterFlag Layout.bitSlot Layout.slotOf Layout.afterValue Layout.memberSlot Layout.placementOf Layout.afterMember Step.enumStep Step.floatStep Step.structTested Step.placeOf Step.objectStep Step.unionStep Step.flatStep Step.valueStep Step.inside Step.flagged Step.placedStep Step.memberStep Step.elementPlace Step.elementStep Step.elementsSize Walk.placed Walk.magic Walk.headerSize Walk.elementId Walk.elementSize Walk.mostElements Walk.startSize Walk.contentSize Walk.contentLength Walk.endOk Walk.textOk Walk.fitContent Walk.directHeader Walk.headerTested Walk.standsInPlace Walk.fitObject Walk.bytesTested Walk.openObject Walk.refuse Walk.andThen Walk.refusePart Walk.followChoice Walk.follow Walk.members Walk.elements Walk.directs Walk.content Walk.enter Walk.withContent Walk.admit Walk.arrive Walk.tooDeep Walk.oneMore Walk.mostContent Walk.counted Walk.visit Walk.rootPlace Walk.nothing Walk.walk Walk.verdictOf Walk.early Walk.sizeOk Walk.startOk Walk.verdict Value.asNumber Value.asBlob Value.asRow Value.asObject Value.first Value.others Value.count Read.stepRead Read.fieldsRead Read.readBy Read.structRead Read.membersRead Read.elementsRead Read.directsRead Read.contentRead Read.placeRead Read.read Read.messageRead Step.fieldStep Bits.bitsOf Bits.bits Bits.value Bits.pack Bits.byteCount Bits.packed Sheet.markBits Sheet.flatBits Sheet.fieldBits Sheet.fieldsBits Sheet.bitsBy Sheet.structBits Sheet.bodyBits Sheet.flatUnknown Sheet.unknownWidth Sheet.partBits Sheet.flatUnmarked Sheet.unmarked Sheet.elementBits Sheet.membersBits Sheet.elementsBits Sheet.directsBits Sheet.blobBits Sheet.contentBits Sheet.encode Sheet.sheetBits Sheet.sheetOf Message.messageSheet
 every-kind-sheet = refl
 
 -- ---- the papers' O and N
@@ -164,7 +165,7 @@ abbrev two : Budget
 two = Walk.allowing 2 Walk.mostContent
 
 accepted-M : Walk.verdict Bytes.u48 N M two .number ≡ 0
-unfolding Lists.every Lists.run Bytes.le Bytes.bitAt Bytes.isNaN Bytes.largest Bytes.deepest Bytes.u48 Bytes.u32 Bytes.widthKnown Schema.structOf Schema.elementOf Schema.casesOf Schema.tableOf Schema.caseOf Structs.lower Structs.byIndex Structs.flatWidth Structs.total Structs.sizeBy Structs.structSize Structs.flatOk Structs.flatsOk Structs.okBy Structs.structOk Packed.kindAt Packed.optionalAt Packed.inplaceAt Packed.zeroAt Packed.argumentAt Packed.widthOf Packed.flatOf Packed.objectOf Packed.kindOf Packed.flatAt Packed.objectAt Packed.elementAt Packed.memberAt Packed.records Packed.recordPlace Packed.blocks Packed.structPlace Packed.listPlace Packed.unionPlace Packed.tablePlace Packed.idAt Packed.recordsAt Packed.tableAt Packed.parse Lawful.countsOk Lawful.blocksOk Lawful.placesOk Lawful.shapeOk Lawful.argumentOk Lawful.kindOk Lawful.optionalOk Lawful.inplaceOk Lawful.flagsOk Lawful.recordOk Lawful.firstOk Lawful.recordsOk Lawful.inplaces Lawful.directTable Lawful.heldUnion Lawful.directOk Lawful.structLawful Lawful.listLawful Lawful.unionLawful Lawful.tableLawful Lawful.idDiffers Lawful.idLawful Lawful.rulesOk Lawful.wellFormed Lawful.olderMember Lawful.olderElement Lawful.olderUnion Lawful.olderTable Lawful.olderOk Lawful.lawful Layout.flatIsBool Layout.isBool Layout.width Layout.flatTakesFlag Layout.takesFlag Layout.hasFlag Layout.begin Layout.bitByte Layout.bitIndex Layout.afterBit Layout.afterBytes Layout.afterFlag Layout.bitSlot Layout.slotOf Layout.afterValue Layout.memberSlot Layout.placementOf Layout.afterMember Step.enumStep Step.floatStep Step.structTested Step.placeOf Step.objectStep Step.unionStep Step.flatStep Step.valueStep Step.inside Step.flagged Step.placedStep Step.memberStep Step.elementPlace Step.elementStep Step.elementsSize Walk.placed Walk.magic Walk.headerSize Walk.elementId Walk.elementSize Walk.mostElements Walk.startSize Walk.contentSize Walk.contentLength Walk.endOk Walk.fitContent Walk.directHeader Walk.headerTested Walk.standsInPlace Walk.fitObject Walk.bytesTested Walk.openObject Walk.refuse Walk.andThen Walk.refusePart Walk.followChoice Walk.follow Walk.members Walk.elements Walk.directs Walk.content Walk.enter Walk.withContent Walk.admit Walk.arrive Walk.tooDeep Walk.oneMore Walk.mostContent Walk.counted Walk.visit Walk.rootPlace Walk.nothing Walk.walk Walk.verdictOf Walk.early Walk.sizeOk Walk.startOk Walk.verdict
+unfolding Lists.every Lists.run Bytes.le Bytes.bitAt Bytes.isNaN Bytes.largest Bytes.deepest Bytes.u48 Bytes.u32 Bytes.widthKnown Utf8.within Utf8.afterFirst Utf8.afterOctet Utf8.mayEnd Utf8.textFrom Utf8.isText Schema.structOf Schema.elementOf Schema.casesOf Schema.tableOf Schema.caseOf Structs.lower Structs.byIndex Structs.flatWidth Structs.total Structs.sizeBy Structs.structSize Structs.flatOk Structs.flatsOk Structs.okBy Structs.structOk Packed.kindAt Packed.optionalAt Packed.inplaceAt Packed.zeroAt Packed.argumentAt Packed.widthOf Packed.flatOf Packed.objectOf Packed.kindOf Packed.flatAt Packed.objectAt Packed.elementAt Packed.memberAt Packed.records Packed.recordPlace Packed.blocks Packed.structPlace Packed.listPlace Packed.unionPlace Packed.tablePlace Packed.idAt Packed.recordsAt Packed.tableAt Packed.parse Lawful.countsOk Lawful.blocksOk Lawful.placesOk Lawful.shapeOk Lawful.argumentOk Lawful.kindOk Lawful.optionalOk Lawful.inplaceOk Lawful.flagsOk Lawful.recordOk Lawful.firstOk Lawful.recordsOk Lawful.inplaces Lawful.directTable Lawful.heldUnion Lawful.directOk Lawful.structLawful Lawful.listLawful Lawful.unionLawful Lawful.tableLawful Lawful.idDiffers Lawful.idLawful Lawful.rulesOk Lawful.wellFormed Lawful.olderMember Lawful.olderElement Lawful.olderUnion Lawful.olderTable Lawful.olderOk Lawful.lawful Layout.flatIsBool Layout.isBool Layout.width Layout.flatTakesFlag Layout.takesFlag Layout.hasFlag Layout.begin Layout.bitByte Layout.bitIndex Layout.afterBit Layout.afterBytes Layout.afterFlag Layout.bitSlot Layout.slotOf Layout.afterValue Layout.memberSlot Layout.placementOf Layout.afterMember Step.enumStep Step.floatStep Step.structTested Step.placeOf Step.objectStep Step.unionStep Step.flatStep Step.valueStep Step.inside Step.flagged Step.placedStep Step.memberStep Step.elementPlace Step.elementStep Step.elementsSize Walk.placed Walk.magic Walk.headerSize Walk.elementId Walk.elementSize Walk.mostElements Walk.startSize Walk.contentSize Walk.contentLength Walk.endOk Walk.textOk Walk.fitContent Walk.directHeader Walk.headerTested Walk.standsInPlace Walk.fitObject Walk.bytesTested Walk.openObject Walk.refuse Walk.andThen Walk.refusePart Walk.followChoice Walk.follow Walk.members Walk.elements Walk.directs Walk.content Walk.enter Walk.withContent Walk.admit Walk.arrive Walk.tooDeep Walk.oneMore Walk.mostContent Walk.counted Walk.visit Walk.rootPlace Walk.nothing Walk.walk Walk.verdictOf Walk.early Walk.sizeOk Walk.startOk Walk.verdict
 accepted-M = refl
 
 pub case-one : OlderAgrees Bytes.u48 O N M two

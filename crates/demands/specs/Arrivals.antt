@@ -83,8 +83,8 @@ LawfulStep (St.Struct i at) = Unit {0}
 LawfulStep (St.Object ob p) = Unit {0}
 LawfulStep (St.Choice c ob p) = PlaceGiven p
 
--- the object opens (its offset and header fit, its magic is right, its content fits, a text's end byte is 0), and each of its
--- parts is lawful
+-- the object opens (its offset and header fit, its magic is right, its content fits, a text's end byte is 0 and its bytes are text),
+-- and each of its parts is lawful
 pub record LawfulObject (o : ℕ) (S : Schema) (m : List ℕ) (ob : Object) (p : Place) : Type 0 where
   pub start : ℕ
   pub size : ℕ

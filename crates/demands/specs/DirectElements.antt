@@ -8,7 +8,7 @@ use lib.Dec.{ltb, leb}
 use Rattle.coding.specs.Lists.{pick}
 use Rattle.coding.specs.Schema.{Schema, tableOf}
 use Rattle.coding.specs.Layout.{begin}
-use Rattle.coding.specs.Walk.{placed, elementSize, endOk, fitObject, bytesTested, openObject, refuse, members, oneMore, withContent, visit}
+use Rattle.coding.specs.Walk.{placed, elementSize, endOk, textOk, fitObject, bytesTested, openObject, refuse, members, oneMore, withContent, visit}
 use Rattle.coding.specs.declared.Object.the-variants as O
 use Rattle.coding.specs.declared.Place.{Place}
 use Rattle.coding.specs.declared.Place.the-variants.{InPlace}
@@ -21,7 +21,7 @@ use Rattle.demands.specs.DirectFits.{direct-fits, element-of, element-vi
 
 -- a direct list's bytes are not tested: where it opens, it fits
 opened-fits : (m : List ℕ) (t start n : ℕ) (u : Opened) → bytesTested m (O.DirectList t) u ≡ Op.Content start n → u ≡ Op.Content start n
-unfolding bytesTested endOk
+unfolding bytesTested endOk textOk
 opened-fits m t start n (Op.Refused k) e = e
 opened-fits m t start n (Op.Content s c) e = e
 
@@ -39,7 +39,7 @@ module _ (o : ℕ) (S : Schema) (m : List ℕ) (t : ℕ) (p : Place) (start n : 
 
   -- THE CLAIM: where a direct list opens, so does each of its elements;
   pub element-opens : (j : ℕ) → j < n → openObject o S m (O.Table t) (InPlace (place j) size) ≡ Op.Content (place j) size
-  unfolding openObject bytesTested endOk
+  unfolding openObject bytesTested endOk textOk
   element-opens j l = ap (bytesTested m (O.Table t)) (element-of o S m t p start n j fits l)
 
   -- and the arrival there is refused by 4 or by 17, or goes to the members, one deeper; with no depth left it is 4 or 5

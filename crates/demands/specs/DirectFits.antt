@@ -118,5 +118,5 @@ module _ (o : ℕ) (S : Schema) (m : List ℕ) (b : Budget) (t a w : ℕ) where
       (W.members (W.visit d o S m b) o S m a a w begin 0 (tableOf S t .members) (W.withContent w (W.oneMore s)))
       (W.refuse 17 a (W.oneMore s)))
       (W.refuse 4 a s)
-  unfolding W.visit W.counted W.arrive W.admit W.enter W.content W.contentLength W.bytesTested W.endOk W.placed
+  unfolding W.visit W.counted W.arrive W.admit W.enter W.content W.contentLength W.bytesTested W.endOk W.textOk W.placed
   element-visit h d s = rw (element-fit o S m t a w h)

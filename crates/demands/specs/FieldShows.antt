@@ -15,7 +15,7 @@ use Rattle.coding.specs.Schema.{Schema, structOf, fieldOf, elementOf, tableOf, 
 use Rattle.coding.specs.Structs.{lower, byIndex, total, structSize}
 use Rattle.coding.specs.Layout.{begin, afterMembers}
 use Rattle.coding.specs.Step.{enumStep, fieldStep, memberStep, elementStep}
-use Rattle.coding.specs.Walk.{placed, refusal, partRefusal, magic, headerSize, elementId, elementSize, mostElements, startSize, contentSize, contentLength, endOk, fitContent, directHeader, headerTested, standsInPlace, fitObject, bytesTested, openObject, refuse, refusePart, follow, followChoice, members, elements, directs, content, enter, withContent, admit, arrive, tooDeep, oneMore, counted, visit, rootPlace, nothing, walk}
+use Rattle.coding.specs.Walk.{placed, refusal, partRefusal, magic, headerSize, elementId, elementSize, mostElements, startSize, contentSize, contentLength, endOk, textOk, fitContent, directHeader, headerTested, standsInPlace, fitObject, bytesTested, openObject, refuse, refusePart, follow, followChoice, members, elements, directs, content, enter, withContent, admit, arrive, tooDeep, oneMore, counted, visit, rootPlace, nothing, walk}
 use Rattle.coding.specs.Value as Tree
 use Rattle.coding.specs.Read as Read
 use Rattle.coding.specs.Field as Field
@@ -107,12 +107,13 @@ module _ (o : ℕ) (S : Schema) (m : List ℕ) (b : Budget) where
     unfolding fitContent bytesTested admit enter Field.opened
     content-shows start n e = by (leb (start + contentSize o S m ob at n) (length m)) refl e
       where
-        tested : (g : Bool) (u : Spent) → start + contentSize o S m ob at n ≤ length m
-            → enter (visit d o S m b) o S m ob at (pick g (Op.Content start n) (Op.Refused 10)) u ≡ Going t
-            → Shows o S m b (Field.opened ob at d (pick g (Op.Content start n) (Op.Refused 10)))
+        tested : (g k : Bool) (u : Spent) → start + contentSize o S m ob at n ≤ length m
+            → enter (visit d o S m b) o S m ob at (pick g (pick k (Op.Content start n) (Op.Refused 16)) (Op.Refused 10)) u ≡ Going t
+            → Shows o S m b (Field.opened ob at d (pick g (pick k (Op.Content start n) (Op.Refused 16)) (Op.Refused 10)))
             (E.Part.object ob (Read.contentRead (Read.read d o S m) o S m ob at start n))
-        tested true u h q = within ob at start n d u t q h
-        tested false u h q = absurd (refuse-going _ _ _ _ q)
+        tested true true u h q = within ob at start n d u t q h
+        tested true false u h q = absurd (refuse-going _ _ _ _ q)
+        tested false k u h q = absurd (refuse-going _ _ _ _ q)
 
         charged : (g : Bool) → start + contentSize o S m ob at n ≤ length m
             → pick g
@@ -121,7 +122,7 @@ module _ (o : ℕ) (S : Schema) (m : List ℕ) (b : Budget) where
             ≡ Going t
             → Shows o S m b (Field.opened ob at d (bytesTested m ob (Op.Content start n)))
             (E.Part.object ob (Read.contentRead (Read.read d o S m) o S m ob at start n))
-        charged true h q = tested (endOk m ob start n) (withContent (contentLength o S ob n) s) h q
+        charged true h q = tested (endOk m ob start n) (textOk m ob start n) (withContent (contentLength o S ob n) s) h q
         charged false h q = absurd (refuse-going _ _ _ _ q)
 
         by : (f : Bool) → leb (start + contentSize o S m ob at n) (length m) ≡ f

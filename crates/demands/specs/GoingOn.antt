@@ -51,12 +51,12 @@ shift : (i j : ℕ) → i + 1 + j ≡ i + suc j
 shift i j = omega arith
 
 -- both parts have gone on
-record Both (w : Walked) (next : Spent → Walked) (t : Spent) : Type 0 where
-  middle : Spent
-  first : w ≡ Going middle
-  second : next middle ≡ Going t
+pub record Both (w : Walked) (next : Spent → Walked) (t : Spent) : Type 0 where
+  pub middle : Spent
+  pub first : w ≡ Going middle
+  pub second : next middle ≡ Going t
 
-both : (w : Walked) (next : Spent → Walked) (t : Spent) → andThen w next ≡ Going t → Both w next t
+pub both : (w : Walked) (next : Spent → Walked) (t : Spent) → andThen w next ≡ Going t → Both w next t
 unfolding andThen
 both (Going u) next t e = record { middle = u; first = refl; second = e }
 both (Refused r u) next t e = absurd (refused-going _ _ _ e)

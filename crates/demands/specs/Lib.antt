@@ -1,5 +1,6 @@
 -- The theorems. A reader's way in: Counter, OlderCoding, DirectLists, Traps, FieldCases, MemberCases, Allowances, Members, Sheets, Reached,
--- RoundTrip, Appending, NewerAgrees, Fields, Texts, SheetText, ListReader, Utf8, Utf8Cases; the other modules are their lemmas.
+-- RoundTrip, Appending, NewerAgrees, Fields, Texts, SheetText, ListReader, Utf8, Utf8Cases, OnlyText, NamesOfText; the other modules are
+-- their lemmas.
 pub mod Counter
 pub mod Traps
 pub mod OlderCoding
@@ -73,3 +74,9 @@ pub mod Utf8States
 pub mod Utf8Encoding
 pub mod Utf8
 pub mod Utf8Cases
+pub mod TreeTexts
+pub mod TextsWalked
+pub mod TextsWritten
+pub mod TextsFound
+pub mod OnlyText
+pub mod NamesOfText

@@ -9,7 +9,7 @@ use Rattle.coding.specs.Lists.{pick}
 use Rattle.coding.specs.Bytes.{le, deepest}
 use Rattle.coding.specs.Schema.{Schema, tableOf}
 use Rattle.coding.specs.Layout.{begin, afterMember}
-use Rattle.coding.specs.Walk.{placed, magic, headerSize, elementId, elementSize, mostElements, startSize, contentSize, contentLength, endOk, fitContent, directHeader, headerTested, standsInPlace, fitObject, bytesTested, refuse, andThen, Child, refusePart, followChoice, follow, members, elements, directs, content, enter, withContent, admit, arrive, oneMore, counted, visit, rootPlace, nothing, walk}
+use Rattle.coding.specs.Walk.{placed, magic, headerSize, elementId, elementSize, mostElements, startSize, contentSize, contentLength, endOk, textOk, fitContent, directHeader, headerTested, standsInPlace, fitObject, bytesTested, refuse, andThen, Child, refusePart, followChoice, follow, members, elements, directs, content, enter, withContent, admit, arrive, oneMore, counted, visit, rootPlace, nothing, walk}
 use Rattle.coding.specs.Append.{Extends, rest, more, KindAppends, MemberAppends, SchemaAppends}
 use Rattle.coding.specs.declared.Object.{Object}
 use Rattle.coding.specs.declared.Object.the-variants as Ob
@@ -104,11 +104,12 @@ module _ (o : ℕ) (O N : Schema) (sound : Sound O) (G : SchemaAppends O N) (m :
   unfolding admit enter fitContent bytesTested
   content-admits b ob q holder start n h s = by (leb (start + contentSize o O m ob holder n) (length m))
     where
-      tested : (u : Bool) (t : Spent)
-          → enter new o N m ob holder (pick u (Op.Content start n) (Op.Refused 10)) t
-          ≡ enter old o O m ob holder (pick u (Op.Content start n) (Op.Refused 10)) t
-      tested true t = content-same ob q holder start n h t
-      tested false t = refl
+      tested : (u v : Bool) (t : Spent)
+          → enter new o N m ob holder (pick u (pick v (Op.Content start n) (Op.Refused 16)) (Op.Refused 10)) t
+          ≡ enter old o O m ob holder (pick u (pick v (Op.Content start n) (Op.Refused 16)) (Op.Refused 10)) t
+      tested true true t = content-same ob q holder start n h t
+      tested true false t = refl
+      tested false v t = refl
 
       by : (t : Bool)
           → admit new o N m b ob holder (pick t (Op.Content start n) (Op.Refused 6)) s
@@ -116,7 +117,7 @@ module _ (o : ℕ) (O N : Schema) (sound : Sound O) (G : SchemaAppends O N) (m :
       by true =
           rw (content-length-same O N sound G o ob q n)
           (ap (λ (w : Walked). pick (leb (s .content + contentLength o N ob n) (b .content)) w (refuse 17 holder s))
-          (tested (endOk m ob start n) (withContent (contentLength o N ob n) s)))
+          (tested (endOk m ob start n) (textOk m ob start n) (withContent (contentLength o N ob n) s)))
       by false = refl
 
   -- what a direct list's header says more

@@ -11,7 +11,7 @@ use Rattle.coding.specs.Schema.{Schema, casesOf, tableOf}
 use Rattle.coding.specs.Structs.{structOk}
 use Rattle.coding.specs.Layout.{hasFlag, placementOf}
 use Rattle.coding.specs.Step.{enumStep, floatStep, objectStep, unionStep, flatStep, valueStep, structTested, inside, flagged, placedStep, memberStep, elementPlace, elementStep}
-use Rattle.coding.specs.Walk.{magic, headerSize, elementId, mostElements, startSize, contentSize, endOk, fitContent, directHeader, headerTested, standsInPlace, fitObject, bytesTested}
+use Rattle.coding.specs.Walk.{magic, headerSize, elementId, mostElements, startSize, contentSize, endOk, textOk, fitContent, directHeader, headerTested, standsInPlace, fitObject, bytesTested}
 use Rattle.coding.specs.declared.Flat.{Flat}
 use Rattle.coding.specs.declared.Flat.the-variants as F
 use Rattle.coding.specs.declared.Object.{Object}
@@ -141,4 +141,6 @@ pub bytes-numbered : (m : List ℕ) (ob : Object) (x : Opened) → NumberedOpene
 unfolding bytesTested
 bytes-numbered m ob (Op.Refused n) h = h
 bytes-numbered m ob (Op.Content start n) h =
-    pick-has NumberedOpened (endOk m ob start n) {x = Op.Content start n} {y = Op.Refused 10} tt (omega arith)
+    pick-has NumberedOpened (endOk m ob start n) {x = pick (textOk m ob start n) (Op.Content start n) (Op.Refused 16)} {y = Op.Refused 10}
+    (pick-has NumberedOpened (textOk m ob start n) {x = Op.Content start n} {y = Op.Refused 16} tt (omega arith))
+    (omega arith)

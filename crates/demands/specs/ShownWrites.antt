@@ -10,7 +10,7 @@ use Rattle.coding.specs.Lists.{pick}
 use Rattle.coding.specs.Bytes.{isNaN}
 use Rattle.coding.specs.Schema.{Schema, casesOf, caseOf}
 use Rattle.coding.specs.Layout.{flatTakesFlag}
-use Rattle.coding.specs.Value.{Value, Values, absent, row, asNumber, asRow, asObject, present, known, first, others}
+use Rattle.coding.specs.Value.{Value, Values, absent, row, asNumber, asBlob, asRow, asObject, present, known, first, others}
 use Rattle.coding.specs.Sheet.{unmarked, flatUnmarked}
 use Rattle.coding.specs.Walk.{standsInPlace}
 use Rattle.coding.specs.Message.{lengthOf, flatKnown, flatsKnown, knownBy, allKnown, structKnown, flatWritable, Test, valueWritable, membersWritable, elementsWritable, directsWritable, contentWritable, writable}
@@ -178,8 +178,8 @@ module _ (S : Schema) (sound : Sound S) where
 
     content-writes : {ob : Object} {v : Value} → ObjectSound S ob → ContentShown child S ob v → contentWritable test o S ob v ≡ true
         → ContentWrites G o S ob v
-    unfolding contentWritable asRow
-    content-writes ok (text h l) e = W.text h
+    unfolding contentWritable asBlob asRow
+    content-writes ok (text h l) e = W.text h e
     content-writes ok (bytes h l) e = W.bytes h
     content-writes ok (list {i = i} l h) e = W.list (elements-write (sound .lists i .kind) (sound .lists i .scalar) h e)
     content-writes ok (table {i = i} h) e = W.table (members-write (sound .tables i .members) h e)

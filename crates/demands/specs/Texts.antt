@@ -78,7 +78,7 @@ flat-object (F.Float w) x k at n e = cc
 flat-object (F.Enumerated c) x k at n e = cc
 flat-object (F.Struct i) x k at n e = cc
 
-value-object : (q : Kind) (x k at n : ℕ) → Field.valueAnswer q x ≡ A.Object k at n → _≡_ {A = ℕ} 0 1
+pub value-object : (q : Kind) (x k at n : ℕ) → Field.valueAnswer q x ≡ A.Object k at n → _≡_ {A = ℕ} 0 1
 unfolding Field.valueAnswer
 value-object (OfFlat f) x k at n e = flat-object f x k at n e
 value-object (OfObject ob) x k at n e = cc

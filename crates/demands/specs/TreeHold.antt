@@ -7,6 +7,7 @@ use mathlib.Core.Bool.{true}
 use Prim.Native.Nat.{ℕ, zero, suc, _+_, _*_, _<_, _≤_}
 use lib.ListN.{length, getD, take, drop}
 use Rattle.coding.specs.Bytes.{le}
+use Rattle.coding.specs.Utf8.{isText}
 use Rattle.coding.specs.Schema.{Schema, elementOf, casesOf, caseOf, tableOf}
 use Rattle.coding.specs.Layout.{begin, afterMember, fixedSize}
 use Rattle.coding.specs.Step.{memberStep, elementStep, elementsSize}
@@ -69,7 +70,7 @@ pub data DirectsHold (below : Below) (t w : ℕ) : ℕ → Values → Type 0 whe
 -- content of length n from `start`, of the object at a place
 pub data ContentHolds (below : Below) (o : ℕ) (S : Schema) (m : List ℕ) : Object → Value → ℕ → ℕ → ℕ → Type 0 where
   text : {l : List ℕ} {at start n : ℕ} → take n (drop start m) ≡ l → start + (n + 1) ≤ length m → getD m (start + n) 0 ≡ 0
-      → ContentHolds below o S m O.Text (blob l) at start n
+      → isText l ≡ true → ContentHolds below o S m O.Text (blob l) at start n
   bytes : {l : List ℕ} {at start n : ℕ} → take n (drop start m) ≡ l → start + n ≤ length m
       → ContentHolds below o S m O.Bytes (blob l) at start n
   list : {i at start n : ℕ} {vs : Values} → count vs ≡ n → start + elementsSize o S (elementOf S i) n ≤ length m

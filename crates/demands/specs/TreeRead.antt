@@ -47,7 +47,7 @@ module _ (below : Below) (o : ℕ) (S : Schema) (m : List ℕ) (child : Child)
   content-read : {ob : Object} {v : Value} {at start n : ℕ} → ContentHolds below o S m ob v at start n
       → contentRead child o S m ob at start n ≡ v
   unfolding contentRead
-  content-read (text h f e) = ap blob h
+  content-read (text h f e t) = ap blob h
   content-read (bytes h f) = ap blob h
   content-read (list {i = i} {start = start} {n = n} {vs = vs} e f h) =
       ap (λ (x : ℕ). row (elementsRead child o S m start (elementOf S i) x 0)) (sym e) ∙ ap row (elements-read h)

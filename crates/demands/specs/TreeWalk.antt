@@ -13,7 +13,7 @@ use Rattle.coding.specs.Bytes.{le}
 use Rattle.coding.specs.Schema.{Schema, tableOf}
 use Rattle.coding.specs.Layout.{afterMember}
 use Rattle.coding.specs.Step.{memberStep, elementStep}
-use Rattle.coding.specs.Walk.{Child, placed, magic, headerSize, elementId, elementSize, mostElements, startSize, contentSize, contentLength, endOk, fitContent, directHeader, headerTested, standsInPlace, fitObject, bytesTested, refuse, andThen, followChoice, follow, members, elements, directs, content, enter, withContent, admit, arrive, oneMore, counted, visit}
+use Rattle.coding.specs.Walk.{Child, placed, magic, headerSize, elementId, elementSize, mostElements, startSize, contentSize, contentLength, endOk, textOk, fitContent, directHeader, headerTested, standsInPlace, fitObject, bytesTested, refuse, andThen, followChoice, follow, members, elements, directs, content, enter, withContent, admit, arrive, oneMore, counted, visit}
 use Rattle.coding.specs.Value.{Value, Values, absent, asNumber, asBlob, asRow, asObject, present, first, others, count}
 use Rattle.coding.specs.Message.{lengthOf}
 use Rattle.coding.specs.declared.Object.{Object}
@@ -160,7 +160,7 @@ module _ (below : Below) (o : ℕ) (S : Schema) (m : List ℕ) (b : Budget) (chi
   content-passes : {ob : Object} {v : Value} {start n : ℕ} (holder : ℕ) → ContentHolds below o S m ob v holder start n
       → Passes b (partsLengths lengths S ob v) (content child o S m ob holder start n)
   unfolding content partsLengths asRow
-  content-passes holder (text h f e) = pass-none b
+  content-passes holder (text h f e t) = pass-none b
   content-passes holder (bytes h f) = pass-none b
   content-passes holder (list e f h) = rw (← e) (elements-pass holder h)
   content-passes holder (table e f h) = members-pass holder 0 h
@@ -170,7 +170,7 @@ module _ (below : Below) (o : ℕ) (S : Schema) (m : List ℕ) (b : Budget) (chi
   content-fits : {ob : Object} {v : Value} {at start n : ℕ} → ContentHolds below o S m ob v at start n
       → fitContent o S m ob at start n ≡ Op.Content start n
   unfolding fitContent contentSize
-  content-fits (text {start = start} {n = n} h f e) = rw (le-leb (start + (n + 1)) (length m) f)
+  content-fits (text {start = start} {n = n} h f e t) = rw (le-leb (start + (n + 1)) (length m) f)
   content-fits (bytes {start = start} {n = n} h f) = rw (le-leb (start + n) (length m) f)
   content-fits (list {i = i} {start = start} {n = n} e f h) = rw (le-leb _ (length m) f)
   content-fits (table {start = start} {n = n} e f h) = rw (le-leb (start + n) (length m) f)
@@ -180,7 +180,7 @@ module _ (below : Below) (o : ℕ) (S : Schema) (m : List ℕ) (b : Budget) (chi
   header-tested : {ob : Object} {v : Value} {at start n : ℕ} → ContentHolds below o S m ob v at start n → le m (at + 4) o ≡ n → (fit : Opened)
       → headerTested o S m ob at fit ≡ fit
   unfolding headerTested directHeader
-  header-tested (text h f e) q fit = refl
+  header-tested (text h f e t) q fit = refl
   header-tested (bytes h f) q fit = refl
   header-tested (list e f h) q fit = refl
   header-tested (table e f h) q fit = refl
@@ -189,8 +189,8 @@ module _ (below : Below) (o : ℕ) (S : Schema) (m : List ℕ) (b : Budget) (chi
 
   content-tested : {ob : Object} {v : Value} {at start n : ℕ} → ContentHolds below o S m ob v at start n
       → bytesTested m ob (Op.Content start n) ≡ Op.Content start n
-  unfolding bytesTested endOk
-  content-tested (text {start = start} {n = n} h f e) = rw (eq-eqb (getD m (start + n) 0) 0 e)
+  unfolding bytesTested endOk textOk
+  content-tested (text {start = start} {n = n} h f e t) = rw (eq-eqb (getD m (start + n) 0) 0 e, h, t)
   content-tested (bytes h f) = refl
   content-tested (list e f h) = refl
   content-tested (table e f h) = refl
@@ -201,7 +201,7 @@ module _ (below : Below) (o : ℕ) (S : Schema) (m : List ℕ) (b : Budget) (chi
 
   content-long : {ob : Object} {v : Value} {at start n : ℕ} → ContentHolds below o S m ob v at start n → lengthOf o S ob v ≡ n
   unfolding lengthOf asBlob asRow
-  content-long (text {l = l} {start = start} {n = n} h f e) = part-length l start n h (omega arith)
+  content-long (text {l = l} {start = start} {n = n} h f e t) = part-length l start n h (omega arith)
   content-long (bytes {l = l} {start = start} {n = n} h f) = part-length l start n h f
   content-long (list e f h) = e
   content-long (table e f h) = e

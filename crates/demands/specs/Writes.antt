@@ -5,6 +5,7 @@ use mathlib.Core.Bool.{Bool, true, false, _&&_}
 use Prim.Native.Nat.{ℕ, zero, suc, _^_, _<_, _≤_}
 use lib.ListN.{length}
 use Rattle.coding.specs.Bytes.{isNaN}
+use Rattle.coding.specs.Utf8.{isText}
 use Rattle.coding.specs.Schema.{Schema, structOf, elementOf, casesOf, caseOf, tableOf}
 use Rattle.coding.specs.Layout.{flatTakesFlag, fixedSize}
 use Rattle.coding.specs.Value.{Value, Values, absent, number, blob, row, chosen, none, _then_, present, asNumber, count}
@@ -77,7 +78,7 @@ pub data DirectsWrite (child : Objects) (t : ℕ) : Values → Type 0 where
 
 -- ---- objects
 pub data ContentWrites (child : Objects) (o : ℕ) (S : Schema) : Object → Value → Type 0 where
-  text : {l : List ℕ} → All Byte l → ContentWrites child o S O.Text (blob l)
+  text : {l : List ℕ} → All Byte l → isText l ≡ true → ContentWrites child o S O.Text (blob l)
   bytes : {l : List ℕ} → All Byte l → ContentWrites child o S O.Bytes (blob l)
   list : {i : ℕ} {vs : Values} → ElementsWrite child o S (elementOf S i) vs → ContentWrites child o S (O.List i) (row vs)
   table : {i : ℕ} {vs : Values} → MembersWrite child o S (tableOf S i .members) vs

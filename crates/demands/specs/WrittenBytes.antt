@@ -100,7 +100,7 @@ module _ (S : Schema) (sound : Sound S) where
 
     content-bytes : {ob : Object} {v : Value} → ContentWrites G o S ob v → SlotsBytes (contentSlots P o S ob v)
     unfolding contentSlots asBlob asRow
-    content-bytes (text h) = (h, ((omega arith, tt), tt))
+    content-bytes (text h t) = (h, ((omega arith, tt), tt))
     content-bytes (bytes h) = (h, tt)
     content-bytes (list {i = i} h) = elements-bytes (sound .lists i .kind) h
     content-bytes (table {i = i} h) = members-bytes (sound .tables i .members) h

@@ -82,7 +82,7 @@ module _ (G : W.Objects) (inner : (ob : Object) (v : Value) → G ob v → Known
 
   content-known : {ob : Object} {v : Value} → ContentWrites G o S ob v → Known v
   unfolding Known
-  content-known (W.text h) = tt
+  content-known (W.text h t) = tt
   content-known (W.bytes h) = tt
   content-known (W.list h) = elements-known h
   content-known (W.table h) = members-known h
@@ -123,7 +123,7 @@ module _ (below : Below) (P : Objects) (inner : (ob : Object) (v : Value) (p : P
   content-plain : {ob : Object} {v : Value} {at start n : ℕ} → ContentHolds below o S m ob v at start n → Known v
       → contentPlain P o S m ob at start n
   unfolding contentPlain Known
-  content-plain (T.text e f z) h = tt
+  content-plain (T.text e f z t) h = tt
   content-plain (T.bytes e f) h = tt
   content-plain (T.list {i = i} {start = start} e f s) h =
       subst (λ (x : ℕ). elementsPlain P o S m start (elementOf S i) x 0) e (elements-plain s h)

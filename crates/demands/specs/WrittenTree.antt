@@ -77,14 +77,14 @@ module _ (o : ℕ) (S : Schema) (sound : Sound S) (wide : 0 < o) (m : List ℕ) 
         → At o m start begin z z (contentSlots P o S ob v)
         → ContentHolds below o S m ob v at start (lengthOf o S ob v) × (lengthOf o S ob v < 256 ^ o)
     unfolding contentSlots lengthOf asBlob asRow begin afterBytes fixedSize standsInPlace
-    content-holds at start z stands (text {l = l} h) a =
+    content-holds at start z stands (text {l = l} h t) a =
         let s : start + 0 ≡ start = omega arith in
         let s' : start + (0 + length l) ≡ start + length l = omega arith in
         let b = at-bytes o m start begin z z l (bytes (0 ∷ []) end) a in
         let c = at-bytes o m start (afterBytes (length l) begin) z z (0 ∷ []) end (b .1) in
         let fit = c .0 .1 in
         let fits : start + (length l + 1) ≤ length m = omega arith in
-        (T.text (holds-take m start l (rw s at (b .0))) fits (rw s' at (c .0 .0)), omega arith)
+        (T.text (holds-take m start l (rw s at (b .0))) fits (rw s' at (c .0 .0)) t, omega arith)
     content-holds at start z stands (W.bytes {l = l} h) a =
         let s : start + 0 ≡ start = omega arith in
         let b = at-bytes o m start begin z z l end a in
@@ -113,7 +113,7 @@ module _ (o : ℕ) (S : Schema) (sound : Sound S) (wide : 0 < o) (m : List ℕ) 
         → ContentHolds below o S m ob v x (x + headerSize o ob) (lengthOf o S ob v) × (lengthOf o S ob v < 256 ^ o)
         × (x + headerSize o ob ≤ length m)
     unfolding headerSize standsInPlace
-    offset-content x z (text {l = l} h) a = let c = content-holds x (x + (4 + o)) z refl (text h) a in (c .0, c .1, behind o m small x z _ a)
+    offset-content x z (text {l = l} h t) a = let c = content-holds x (x + (4 + o)) z refl (text h t) a in (c .0, c .1, behind o m small x z _ a)
     offset-content x z (W.bytes {l = l} h) a = let c = content-holds x (x + (4 + o)) z refl (W.bytes h) a in (c .0, c .1, behind o m small x z _ a)
     offset-content x z (list h) a = let c = content-holds x (x + (4 + o)) z refl (list h) a in (c .0, c .1, behind o m small x z _ a)
     offset-content x z (table h) a = let c = content-holds x (x + (4 + o)) z refl (table h) a in (c .0, c .1, behind o m small x z _ a)

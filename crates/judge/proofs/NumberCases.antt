@@ -91,11 +91,9 @@ module _ (o : ℕ) (S : Schema) (m : List ℕ) (ob : Object) where
   bytes-number : (g : Opened) → OpenNumber g → OpenNumber (W.bytesTested m ob g)
   unfolding W.bytesTested
   bytes-number (Op.Refused n) h = h
-  bytes-number (Op.Content start n) h = by (W.endOk m ob start n)
-    where
-      by : (t : Bool) → OpenNumber (pick t (Op.Content start n) (Op.Refused 10))
-      by true = tt
-      by false = omega arith
+  bytes-number (Op.Content start n) h =
+      unless (W.endOk m ob start n) 10 (pick (W.textOk m ob start n) (Op.Content start n) (Op.Refused 16)) (omega arith)
+      (unless (W.textOk m ob start n) 16 (Op.Content start n) (omega arith) h)
 
 -- ---- steps
 flat-number : (m : List ℕ) (k : Flat) (none : Bool) (at bit : ℕ) → StepNumber (T.flatStep m k none at bit)

@@ -162,7 +162,7 @@ module _ (o : ℕ) (b m : List ℕ) (t w : ℕ) (silent : Silent o b t w) where
   fits-here : (at : ℕ) → at + w ≤ length m → (s : Spent) (child : W.Child)
       → Left.arrive child o (P.parse b) m (O.Table t) (InPlace at w) s
       ≡ pick (leb w (s .content)) (Going (W.spending (s .visits) (s .content - w))) (W.refuse 17 at s)
-  unfolding Left.arrive Left.admit Left.lessContent W.fitObject W.standsInPlace W.fitContent W.contentSize W.contentLength W.placed W.bytesTested W.endOk W.enter W.content
+  unfolding Left.arrive Left.admit Left.lessContent W.fitObject W.standsInPlace W.fitContent W.contentSize W.contentLength W.placed W.bytesTested W.endOk W.textOk W.enter W.content
   fits-here at h s child =
       simp (le-leb (at + w) (length m) h)
       (ap (λ (q : Walked). pick (leb w (s .content)) q (W.refuse 17 at s)) (silent .goes child m at at (W.spending (s .visits) (s .content - w))))

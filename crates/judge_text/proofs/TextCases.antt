@@ -13,7 +13,7 @@ use Rattle.coding.specs.declared.Opened.the-variants as Op
 use Rattle.coding.specs.declared.Spent.{Spent}
 use Rattle.coding.specs.declared.Walked.{Walked}
 use Rattle.coding.specs.declared.Walked.the-variants.{Going}
-use Rattle.outcome.specs.Answers.{textEnd}
+use Rattle.outcome.specs.Answers.{textTested}
 use Rattle.outcome.proofs.ArrivalCases.{text-entered}
 use Rattle.judge_text.specs.Texts.{isText}
 
@@ -27,15 +27,15 @@ text-only (O.DirectList i) t e h = let z : _≡_ {A = Bool} false true = sym e �
 
 -- ---- the test of its bytes
 module _ (m : List ℕ) (holder start n : ℕ) (s : Spent) (q : Opened) (eq : q ≡ W.bytesTested m O.Text (Op.Content start n)) (r : Walked) where
-  tested : (w : Opened) → q ≡ w → W.enter W.tooDeep 0 (P.parse []) m O.Text holder w s ≡ textEnd m holder start n s
+  tested : (w : Opened) → q ≡ w → W.enter W.tooDeep 0 (P.parse []) m O.Text holder w s ≡ textTested m holder start n s
   tested w e =
       ap (λ (k : Opened). W.enter W.tooDeep 0 (P.parse []) m O.Text holder k s) (sym e ∙ eq)
       ∙ sym (text-entered W.tooDeep 0 (P.parse []) m holder start n s)
 
-  pub end-bad : (k : ℕ) → q ≡ Op.Refused k → r ≡ W.refuse k holder s → r ≡ textEnd m holder start n s
+  pub text-bad : (k : ℕ) → q ≡ Op.Refused k → r ≡ W.refuse k holder s → r ≡ textTested m holder start n s
   unfolding W.enter
-  end-bad k e f = f ∙ tested (Op.Refused k) e
+  text-bad k e f = f ∙ tested (Op.Refused k) e
 
-  pub end-good : (a k : ℕ) → q ≡ Op.Content a k → r ≡ Going s → r ≡ textEnd m holder start n s
+  pub text-good : (a k : ℕ) → q ≡ Op.Content a k → r ≡ Going s → r ≡ textTested m holder start n s
   unfolding W.enter W.content
-  end-good a k e f = f ∙ tested (Op.Content a k) e
+  text-good a k e f = f ∙ tested (Op.Content a k) e

@@ -27,9 +27,9 @@ pub fn is_text(ob: Object) -> bool
 }
 
 // The test of a text's bytes, once its length was charged.
-pub fn text_end(m: &[u8], x: Content, visits: u32, content: u64) -> Outcome
+pub fn text_tested(m: &[u8], x: Content, visits: u32, content: u64) -> Outcome
     requires { ⌜ x .start + x .length < length (now m) ⌝ }
-    ensures { λ r. ⌜ As.walkedOf r ≡ As.textEnd (now (m .entry)) (x .holder) (x .start) (x .length) (W.spending visits content) ⌝ }
+    ensures { λ r. ⌜ As.walkedOf r ≡ As.textTested (now (m .entry)) (x .holder) (x .start) (x .length) (W.spending visits content) ⌝ }
 {
     let fit = Opened::Content(x.start, x.length);
     match message_object::bytes_tested(m, Object::Text, fit) {
@@ -66,7 +66,7 @@ pub fn visit_text(
                 start,
                 length: n,
             };
-            text_end(m, y, g.visits, outcome::rest(n, g.content))
+            text_tested(m, y, g.visits, outcome::rest(n, g.content))
         }
     }
 }

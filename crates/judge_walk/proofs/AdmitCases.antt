@@ -21,7 +21,7 @@ use Rattle.coding.specs.declared.Walked.{Walked}
 use Rattle.coding.specs.declared.Walked.the-variants.{Going}
 use Rattle.outcome.specs.declared.Outcome.{Outcome}
 use Rattle.outcome.specs.Left as Left
-use Rattle.outcome.specs.Answers.{walkedOf, leftOf, charged, textEnd}
+use Rattle.outcome.specs.Answers.{walkedOf, leftOf, charged, textTested}
 use Rattle.message_object.proofs.OpenCases.{fit-fits}
 use Rattle.outcome.proofs.ArrivalCases.{visit-found, admit-past, admit-entered, not-more, text-entered}
 
@@ -57,24 +57,24 @@ module _ (child : W.Child) (o : ℕ) (S : Schema) (m : List ℕ) (ob : Object) (
         admit-entered child o S m ob holder start n v c k ek (not-more k c t et h) r
         (f ∙ ap (λ (i : ℕ). W.enter child o S m ob holder (W.bytesTested m ob (Op.Content start n)) (W.spending v i)) el)
 
-    pub admit-text : ob ≡ O.Text → r ≡ textEnd m holder start n (W.spending v l) → r ≡ Left.admit child o S m ob holder (Op.Content start n) (W.spending v c)
+    pub admit-text : ob ≡ O.Text → r ≡ textTested m holder start n (W.spending v l) → r ≡ Left.admit child o S m ob holder (Op.Content start n) (W.spending v c)
     admit-text e f = paid (rw e (f ∙ text-entered child o S m holder start n (W.spending v l)))
 
     pub admit-bytes : ob ≡ O.Bytes → r ≡ Going (W.spending v l) → r ≡ Left.admit child o S m ob holder (Op.Content start n) (W.spending v c)
-    unfolding W.bytesTested W.endOk W.enter W.content
+    unfolding W.bytesTested W.endOk W.textOk W.enter W.content
     admit-bytes e f = paid (rw e f)
 
     pub admit-list : (i j : ℕ) → ob ≡ O.List i → j ≡ i → r ≡ W.elements child o S m holder start (Sc.elementOf S j) n 0 (W.spending v l)
         → r ≡ Left.admit child o S m ob holder (Op.Content start n) (W.spending v c)
-    unfolding W.bytesTested W.endOk W.enter W.content
+    unfolding W.bytesTested W.endOk W.textOk W.enter W.content
     admit-list i j e ej f = paid (rw e (f ∙ ap (λ (q : ℕ). W.elements child o S m holder start (Sc.elementOf S q) n 0 (W.spending v l)) ej))
 
     pub admit-table : (i j : ℕ) → ob ≡ O.Table i → j ≡ i → r ≡ W.members child o S m holder start n L.begin 0 (Sc.tableOf S j .members) (W.spending v l)
         → r ≡ Left.admit child o S m ob holder (Op.Content start n) (W.spending v c)
-    unfolding W.bytesTested W.endOk W.enter W.content
+    unfolding W.bytesTested W.endOk W.textOk W.enter W.content
     admit-table i j e ej f = paid (rw e (f ∙ ap (λ (q : ℕ). W.members child o S m holder start n L.begin 0 (Sc.tableOf S q .members) (W.spending v l)) ej))
 
     pub admit-direct : (i : ℕ) → ob ≡ O.DirectList i → r ≡ W.directs child i (W.elementSize o m holder) n start (W.spending v l)
         → r ≡ Left.admit child o S m ob holder (Op.Content start n) (W.spending v c)
-    unfolding W.bytesTested W.endOk W.enter W.content
+    unfolding W.bytesTested W.endOk W.textOk W.enter W.content
     admit-direct i e f = paid (rw e f)

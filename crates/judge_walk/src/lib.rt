@@ -112,7 +112,7 @@ fn admit(
     }
     let left = outcome::rest(n, content);
     match ob {
-        Object::Text => judge_text::text_end(m, x, visits, left),
+        Object::Text => judge_text::text_tested(m, x, visits, left),
         Object::Bytes => outcome::going(visits, left),
         Object::List(i) => list(b, dir, m, depth, wire::index(i), x, visits, left, o),
         Object::Table(t) => table(b, dir, m, depth, wire::index(t), x, visits, left, o),

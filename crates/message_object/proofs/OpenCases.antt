@@ -1,14 +1,15 @@
 -- The ways out of opening an object: its header, its content, and the test of its bytes.
 use mathlib.Core.Path.{_≡_, refl, sym, ap, _∙_, subst}
-use mathlib.Core.Bool.{Bool, true, false, _&&_}
+use mathlib.Core.Bool.{Bool, true, false, _&&_, not}
 use mathlib.Core.List.{List}
 use Prim.Native.Nat.{ℕ, _+_, _*_, _^_, _<_, _≤_}
 use native.Mathlib.Omega.{arith}
-use lib.ListN.{length}
-use borrow.Author.Tests.{leb-true}
+use lib.ListN.{length, take, drop}
+use borrow.Author.Tests.{leb-true, not-true, not-false}
 use lib.Dec.{leb, eqb}
 use Rattle.coding.specs.Lists.{pick}
 use Rattle.coding.specs.Bytes.{le}
+use Rattle.coding.specs.Utf8.{isText}
 use Rattle.coding.specs.Schema as Sc
 use Rattle.coding.specs.Schema.{Schema}
 use Rattle.coding.specs.Packed as P
@@ -29,7 +30,7 @@ use Rattle.coding.specs.declared.Member.{Member}
 use Rattle.message_header.specs.declared.Header.{Header}
 use Rattle.message_header.specs.declared.Header.the-variants as Hd
 use Rattle.message_header.specs.Headers.{headerOf, directHeaderOf, fitted, Small, EndInside}
-use Rattle.message_header.proofs.ContentCases.{list-there, fit-text, fit-table}
+use Rattle.message_header.proofs.ContentCases.{list-there, fit-text, fit-table, text-inside}
 use Rattle.message_object.specs.Fit.{announced, inPlace, EndsInside, LengthSmall}
 
 -- ---- the header of each object
@@ -194,19 +195,48 @@ module _ (o : ℕ) (S : Schema) (m : List ℕ) (t id x : ℕ) (ei : id ≡ Sc.ta
       fit-offset o S m (O.Table t) x g (header-table o S m (O.Table t) x g t t id refl refl ei eg) start n r f (fit-table o S m (O.Table t) x start n r t refl q)
 
 -- ---- the bytes of content that fits
+module _ (m : List ℕ) (ob : Object) (start n : ℕ) where
+  pub text-within : EndInside m ob start n → ob ≡ O.Text → start + n ≤ length m
+  text-within h e = let l : start + n < length m = text-inside m ob start n h e in omega arith
+
+  pub text-is : ob ≡ O.Text → (r : Bool) → r ≡ isText (take n (drop start m)) → r ≡ W.textOk m ob start n
+  unfolding W.textOk
+  text-is e r f = rw e f
+
+  pub text-bytes : ob ≡ O.Bytes → true ≡ W.textOk m ob start n
+  unfolding W.textOk
+  text-bytes e = rw e
+
+  pub text-list : (i : ℕ) → ob ≡ O.List i → true ≡ W.textOk m ob start n
+  unfolding W.textOk
+  text-list i e = rw e
+
+  pub text-table : (i : ℕ) → ob ≡ O.Table i → true ≡ W.textOk m ob start n
+  unfolding W.textOk
+  text-table i e = rw e
+
+  pub text-direct : (t : ℕ) → ob ≡ O.DirectList t → true ≡ W.textOk m ob start n
+  unfolding W.textOk
+  text-direct t e = rw e
+
 module _ (m : List ℕ) (ob : Object) (fit : Opened) where
   pub tested-refused : (n : ℕ) → fit ≡ Op.Refused n → Op.Refused n ≡ W.bytesTested m ob fit
   unfolding W.bytesTested
   tested-refused n e = rw e
 
   module _ (start n : ℕ) (e : fit ≡ Op.Content start n) (t : Bool) (et : t ≡ W.endOk m ob start n) where
-    pub tested-good : t ≡ true → Op.Content start n ≡ W.bytesTested m ob fit
+    pub tested-end : not t ≡ true → Op.Refused 10 ≡ W.bytesTested m ob fit
     unfolding W.bytesTested
-    tested-good f = rw e (simp (← et, f))
+    tested-end f = rw e (simp (← et, not-true t f))
 
-    pub tested-bad : t ≡ false → Op.Refused 10 ≡ W.bytesTested m ob fit
-    unfolding W.bytesTested
-    tested-bad f = rw e (simp (← et, f))
+    module _ (g : not t ≡ false) (u : Bool) (eu : u ≡ W.textOk m ob start n) where
+      pub tested-text : not u ≡ true → Op.Refused 16 ≡ W.bytesTested m ob fit
+      unfolding W.bytesTested
+      tested-text f = rw e (simp (← et, not-false t g, ← eu, not-true u f))
+
+      pub tested-good : not u ≡ false → Op.Content start n ≡ W.bytesTested m ob fit
+      unfolding W.bytesTested
+      tested-good f = rw e (simp (← et, not-false t g, ← eu, not-false u f))
 
   pub end-inside : (start n : ℕ) → EndsInside m ob fit → fit ≡ Op.Content start n → EndInside m ob start n
   end-inside start n h e = subst (EndsInside m ob) e h
@@ -290,11 +320,9 @@ fit-ends o S m ob p (Op.Content start n) e = ends-inside o S m ob (W.placed p) s
 tested-same : (m : List ℕ) (ob : Object) (fit : Opened) (start n : ℕ) → W.bytesTested m ob fit ≡ Op.Content start n → fit ≡ Op.Content start n
 unfolding W.bytesTested
 tested-same m ob (Op.Refused k) start n e = e
-tested-same m ob (Op.Content a k) start n e = by (W.endOk m ob a k) e
-  where
-    by : (t : Bool) → pick t (Op.Content a k) (Op.Refused 10) ≡ Op.Content start n → Op.Content a k ≡ Op.Content start n
-    by true f = f
-    by false f = let z : _≡_ {A = ℕ} 0 1 = cc in absurd (omega arith)
+tested-same m ob (Op.Content a k) start n e =
+    picked (W.textOk m ob a k) (Op.Content a k) 16 start n
+    (picked (W.endOk m ob a k) (pick (W.textOk m ob a k) (Op.Content a k) (Op.Refused 16)) 10 start n e)
 
 pub opened-fits : (o : ℕ) (S : Schema) (m : List ℕ) (ob : Object) (p : Place) (g : Opened) (start n : ℕ) → g ≡ W.openObject o S m ob p → g ≡ Op.Content start n
     → start + W.contentSize o S m ob (W.placed p) n ≤ length m

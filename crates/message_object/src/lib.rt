@@ -125,7 +125,21 @@ pub fn fit_table(b: &[u8], m: &[u8], t: u8, id: u64, x: usize, o: usize) -> Open
 }
 
 // ---- then its bytes are tested
-// Content that fits, if its bytes are right.
+// Whether the content of length n at `start` is text, if the object is one; other content may be any bytes.
+fn text_ok(m: &[u8], ob: Object, start: usize, n: usize) -> bool
+    requires { ⌜ Hs.EndInside (now m) ob start n ⌝ }
+    ensures { λ r. ⌜ r ≡ W.textOk (now (m .entry)) ob start n ⌝ }
+{
+    match ob {
+        Object::Text => utf8::is_text(m, start, n),
+        Object::Bytes => true,
+        Object::List(_) => true,
+        Object::Table(_) => true,
+        Object::DirectList(_) => true,
+    }
+}
+
+// Content that fits, if its bytes are right: of a text first the end byte, then the text.
 pub fn bytes_tested(m: &[u8], ob: Object, fit: Opened) -> Opened
     requires { ⌜ Fs.EndsInside (now m) ob fit ⌝ }
     ensures { λ r. ⌜ r ≡ W.bytesTested (now (m .entry)) ob fit ⌝ }
@@ -133,10 +147,13 @@ pub fn bytes_tested(m: &[u8], ob: Object, fit: Opened) -> Opened
     match fit {
         Opened::Refused(e) => Opened::Refused(e),
         Opened::Content(start, n) => {
-            if message_header::end_ok(m, ob, start, n) {
-                return Opened::Content(start, n);
+            if !message_header::end_ok(m, ob, start, n) {
+                return Opened::Refused(10);
             }
-            Opened::Refused(10)
+            if !text_ok(m, ob, start, n) {
+                return Opened::Refused(16);
+            }
+            Opened::Content(start, n)
         }
     }
 }

@@ -23,7 +23,7 @@ use Rattle.coding.specs.declared.Walked.{Walked}
 use Rattle.coding.specs.declared.Walked.the-variants.{Going, Refused}
 use Rattle.outcome.specs.declared.Outcome.{Outcome}
 use Rattle.outcome.specs.Left as Left
-use Rattle.outcome.specs.Answers.{walkedOf, leftOf, within, charged, textEnd}
+use Rattle.outcome.specs.Answers.{walkedOf, leftOf, within, charged, textTested}
 use Rattle.outcome.proofs.AnswerCases.{is-going, goes, stops}
 
 -- ---- the charge
@@ -149,13 +149,16 @@ module _ (o : ℕ) (S : Schema) (m : List ℕ) (ob : Object) (x d : ℕ) (s : Sp
 
 -- a text has no parts
 pub text-entered : (child : W.Child) (o : ℕ) (S : Schema) (m : List ℕ) (holder start n : ℕ) (s : Spent)
-    → textEnd m holder start n s ≡ W.enter child o S m O.Text holder (W.bytesTested m O.Text (Op.Content start n)) s
-unfolding textEnd W.bytesTested W.enter W.content
-text-entered child o S m holder start n s = by (W.endOk m O.Text start n)
+    → textTested m holder start n s ≡ W.enter child o S m O.Text holder (W.bytesTested m O.Text (Op.Content start n)) s
+unfolding textTested W.bytesTested W.enter W.content
+text-entered child o S m holder start n s = by (W.endOk m O.Text start n) (W.textOk m O.Text start n)
   where
-    by : (t : Bool) → pick t (Going s) (W.refuse 10 holder s) ≡ W.enter child o S m O.Text holder (pick t (Op.Content start n) (Op.Refused 10)) s
-    by true = refl
-    by false = refl
+    by : (t u : Bool)
+        → pick t (pick u (Going s) (W.refuse 16 holder s)) (W.refuse 10 holder s)
+        ≡ W.enter child o S m O.Text holder (pick t (pick u (Op.Content start n) (Op.Refused 16)) (Op.Refused 10)) s
+    by true true = refl
+    by true false = refl
+    by false u = refl
 
 -- and of a table's bytes nothing is tested
 module _ (o : ℕ) (S : Schema) (m : List ℕ) (x d : ℕ) (s : Spent) (g : Outcome) (eg : walkedOf g ≡ charged d x s) (z : g .code ≡ 0) (q : Opened) (start n : ℕ)
@@ -165,12 +168,12 @@ module _ (o : ℕ) (S : Schema) (m : List ℕ) (x d : ℕ) (s : Spent) (g : Outc
     unfolding W.contentLength
     text-unpaid h r f = offset-unpaid o S m O.Text x d s g eg z q eq start n ew n refl t et h r f
 
-    pub text-paid : t ≡ false → (c : ℕ) → c ≡ g .content - n → (r : Walked) → r ≡ textEnd m x start n (W.spending (g .visits) c)
+    pub text-paid : t ≡ false → (c : ℕ) → c ≡ g .content - n → (r : Walked) → r ≡ textTested m x start n (W.spending (g .visits) c)
         → r ≡ Left.visit d o S m O.Text (ByOffset x) s
     unfolding W.contentLength
     text-paid h c ec r f =
         offset-paid o S m O.Text x d s g eg z q eq start n ew n refl t et h r
-        (f ∙ ap (λ (i : ℕ). textEnd m x start n (W.spending (g .visits) i)) ec ∙ text-entered (Left.visit (d - 1) o S m) o S m x start n _)
+        (f ∙ ap (λ (i : ℕ). textTested m x start n (W.spending (g .visits) i)) ec ∙ text-entered (Left.visit (d - 1) o S m) o S m x start n _)
 
   module _ (i : ℕ) (eq : q ≡ W.fitObject o S m (O.Table i) (ByOffset x)) where
     pub table-unpaid : t ≡ true → (r : Walked) → r ≡ W.refuse 17 x (leftOf g) → r ≡ Left.visit d o S m (O.Table i) (ByOffset x) s
@@ -180,7 +183,7 @@ module _ (o : ℕ) (S : Schema) (m : List ℕ) (x d : ℕ) (s : Spent) (g : Outc
     pub table-paid : t ≡ false → (c : ℕ) → c ≡ g .content - n → (k : ℕ) → k ≡ d - 1 → (r : Walked)
         → r ≡ W.members (Left.visit k o S m) o S m x start n L.begin 0 (Sc.tableOf S i .members) (W.spending (g .visits) c)
         → r ≡ Left.visit d o S m (O.Table i) (ByOffset x) s
-    unfolding W.contentLength W.bytesTested W.endOk W.enter W.content
+    unfolding W.contentLength W.bytesTested W.endOk W.textOk W.enter W.content
     table-paid h c ec k ek r f =
         offset-paid o S m (O.Table i) x d s g eg z q eq start n ew n refl t et h r
         (f ∙ ap (λ (e : ℕ). W.members (Left.visit e o S m) o S m x start n L.begin 0 (Sc.tableOf S i .members) (W.spending (g .visits) c)) ek

@@ -46,9 +46,10 @@ within (suc d) ob p s = Going s
 unfoldable pub charged : ℕ → ℕ → Spent → Walked
 charged d at s = Left.counted (within d) O.Text (ByOffset at) s
 
--- the test of a text's bytes once its length is charged; a text has no parts
-unfoldable pub textEnd : List ℕ → ℕ → ℕ → ℕ → Spent → Walked
-textEnd m holder start n s = pick (W.endOk m O.Text start n) (Going s) (W.refuse 10 holder s)
+-- the test of a text's bytes once its length is charged: its end byte, then the text; a text has no parts
+unfoldable pub textTested : List ℕ → ℕ → ℕ → ℕ → Spent → Walked
+textTested m holder start n s =
+    pick (W.endOk m O.Text start n) (pick (W.textOk m O.Text start n) (Going s) (W.refuse 16 holder s)) (W.refuse 10 holder s)
 
 -- ---- the walk of the message m by the packed schema b, with d objects of depth left
 -- an arrival

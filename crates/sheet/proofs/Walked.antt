@@ -215,12 +215,14 @@ module _ (o : ℕ) (S : Schema) (sound : Sound S) (m : List ℕ) (child : W.Chil
   unfolding W.admit W.enter W.bytesTested W.fitContent
   open-says b ob holder start n s l = by (leb (start + W.contentSize o S m ob holder n) (length m)) refl
     where
-      tested : (t : Bool) (v : Spent) → start + W.contentSize o S m ob holder n ≤ length m
-          → Says (D.Entered o good S m ob holder start n) (W.enter child o S m ob holder (pick t (Op.Content start n) (Op.Refused 10)) v)
-      tested true v h =
+      tested : (t u : Bool) (v : Spent) → start + W.contentSize o S m ob holder n ≤ length m
+          → Says (D.Entered o good S m ob holder start n)
+          (W.enter child o S m ob holder (pick t (pick u (Op.Content start n) (Op.Refused 16)) (Op.Refused 10)) v)
+      tested true true v h =
           says-map (D.ContentReadable o good S m ob holder start n) (D.Entered o good S m ob holder start n) (λ q. record { sound = l; inside = h; parts = q })
           (W.content child o S m ob holder start n v) (content-says ob holder start n v l h)
-      tested false v h = refuse-says (D.Entered o good S m ob holder start n) 10 holder v (λ z. omega arith)
+      tested true false v h = refuse-says (D.Entered o good S m ob holder start n) 16 holder v (λ z. omega arith)
+      tested false u v h = refuse-says (D.Entered o good S m ob holder start n) 10 holder v (λ z. omega arith)
 
       by : (t : Bool) → leb (start + W.contentSize o S m ob holder n) (length m) ≡ t
           → Says (D.Entered o good S m ob holder start n) (W.admit child o S m b ob holder (pick t (Op.Content start n) (Op.Refused 6)) s)
@@ -228,7 +230,7 @@ module _ (o : ℕ) (S : Schema) (sound : Sound S) (m : List ℕ) (child : W.Chil
           let v = W.withContent (W.contentLength o S ob n) s in
           pick-says (D.Entered o good S m ob holder start n) (leb (s .content + W.contentLength o S ob n) (b .content))
           (W.enter child o S m ob holder (W.bytesTested m ob (Op.Content start n)) v) (W.refuse 17 holder s)
-          (λ _. tested (W.endOk m ob start n) v (leb-true _ _ e)) (refuse-says (D.Entered o good S m ob holder start n) 17 holder s (λ z. omega arith))
+          (λ _. tested (W.endOk m ob start n) (W.textOk m ob start n) v (leb-true _ _ e)) (refuse-says (D.Entered o good S m ob holder start n) 17 holder s (λ z. omega arith))
       by false e = refuse-says (D.Entered o good S m ob holder start n) 6 holder s (λ z. omega arith)
 
   -- the header of a direct list is tested besides

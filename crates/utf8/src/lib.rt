@@ -3,9 +3,9 @@ ghost use mathlib.Core.Path.{_≡_};
 ghost use mathlib.Core.Bool.{true};
 ghost use Prim.Native.Nat.{_+_, _<_, _≤_};
 ghost use lib.ListN.{length, getD, take, drop};
-ghost use Rattle.coding.specs.Utf8.{isText};
+ghost use Rattle.coding.specs.Utf8.{mayEnd, isText};
 ghost use Rattle.utf8.specs.Table.{words};
-ghost use Rattle.utf8.specs.Steps.{HoldsState, StateAfter, Onward, Skips};
+ghost use Rattle.utf8.specs.Steps.{stateIn, HoldsState, StateAfter, Onward, Skips};
 
 // ---- the table
 // The table's word of a byte: its six bits from bit 6 * q are 6 times the number of the state after the byte in state q.
@@ -298,6 +298,17 @@ fn after_bytes(s: &[u8], i: usize, k: usize, w: u64) -> u64
     x
 }
 
+// The word where a text begins.
+pub const BEGIN: u64 = 0;
+
+// Whether a text may end where a word stands: there a character may begin too.
+pub fn may_end(w: u64) -> bool
+    requires { ⌜ HoldsState w ⌝ }
+    ensures { λ r. ⌜ r ≡ mayEnd (stateIn w) ⌝ }
+{
+    w % 64 == 0
+}
+
 // ---- runs of ASCII
 // Whether the k bytes from i are ASCII. With k known at the call the loop becomes one test of many bytes.
 fn is_ascii(s: &[u8], i: usize, k: usize) -> bool
@@ -330,7 +341,7 @@ fn past_ascii(s: &[u8], i: usize, k: usize) -> usize
 
 // ---- both together
 // The word after the k bytes from i, which are skipped if they are ASCII where a character may begin.
-fn after_block(s: &[u8], i: usize, k: usize, w: u64) -> u64
+pub fn after_block(s: &[u8], i: usize, k: usize, w: u64) -> u64
     requires { ⌜ HoldsState w × (i + k ≤ length (now s)) ⌝ }
     ensures { λ r. ⌜ Onward (now (s .entry)) i (i + k) w r ⌝ }
 {

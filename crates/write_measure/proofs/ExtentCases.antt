@@ -23,7 +23,8 @@ use Rattle.laws.specs.Sound.{MemberSound}
 use Rattle.laws.specs.SoundAt.{member-sound-at}
 use Rattle.schema.specs.Directory.{Accepted, accepted-sound}
 use Rattle.message_layout.specs.Bounds.{Laid, Stands}
-use Rattle.write_measure.specs.Survey.{capped, headSize, plain, opened, joined, referred}
+use Rattle.write_text.specs.Texts.{blobFine}
+use Rattle.write_measure.specs.Survey.{capped, headSize, plain, opened, blobOpened, joined, referred}
 use Rattle.write_measure.specs.Surveyed.{Small, Fits}
 use Rattle.write_measure.specs.declared.Extent.{Extent}
 
@@ -35,6 +36,15 @@ plain-fits fine = record { is = refl; small = record { length = omega arith; wid
 pub opened-fits : (n w : ℕ) → n < 2 ^ 40 → w < 2 ^ 54 → Fits (opened n w) (record { writable = true; length = n; width = w; chain = 0; below = 0 })
 unfolding opened
 opened-fits n w h l = record { is = refl; small = record { length = h; width = l; chain = omega arith; below = omega arith } }
+
+pub blob-fits : (more n : ℕ) (l : List ℕ) → n < 2 ^ 32 → more ≤ 1 → (t : Bool) → t ≡ blobFine more l
+    → Fits (blobOpened more n l) (record { writable = t; length = n; width = n + more; chain = 0; below = 0 })
+unfolding blobOpened
+blob-fits more n l h k t e =
+    record {
+      is = ap (λ (u : Bool). record { writable = u; length = n; width = n + more; chain = 0; below = 0 }) e;
+      small = record { length = omega arith; width = omega arith; chain = omega arith; below = omega arith };
+    }
 
 pub fits-small : (x r : Extent) → Fits x r → Small r
 fits-small x r f = f .small

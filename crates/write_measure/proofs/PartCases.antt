@@ -1,6 +1,6 @@
 -- The ways out of the survey of members and elements, one lemma for each.
 use mathlib.Core.Path.{_≡_, refl, sym, ap, _∙_, subst}
-use mathlib.Core.Bool.{Bool, true, false, _&&_, not}
+use mathlib.Core.Bool.{Bool, true, false, _&&_, not, false≢true}
 use mathlib.Core.List.{List}
 use Prim.Native.Nat.{ℕ, zero, suc, _+_, _-_, _*_, _<_, _≤_}
 use native.Mathlib.Omega.{arith}
@@ -8,13 +8,13 @@ use native.Mathlib.Nat.{mul-comm}
 use lib.ListN.{length, drop, length-drop}
 use lib.Seq.{drop-drop}
 use lib.Dec.{ltb, leb, eqb}
-use borrow.Author.Tests.{eq-eqb, ne-eqb, le-leb, lt-leb, not-true, not-false}
+use borrow.Author.Tests.{eq-eqb, ne-eqb, le-leb, lt-leb, leb-true, not-true, not-false}
 use Rattle.coding.specs.Lists.{pick}
-use Rattle.coding.specs.Bits.{bits}
+use Rattle.coding.specs.Bits.{bits, pack}
 use Rattle.coding.specs.Schema as Sc
 use Rattle.coding.specs.Schema.{Schema}
 use Rattle.coding.specs.Packed as P
-use Rattle.coding.specs.Sheet.{Parsed, fail, got, bind, unknownEnum}
+use Rattle.coding.specs.Sheet.{Parsed, fail, got, bind, unknownEnum, takeBytes}
 use Rattle.coding.specs.declared.Flat.{Flat}
 use Rattle.coding.specs.declared.Flat.the-variants.{Boolean, Integer, Float, Enumerated, Struct}
 use Rattle.coding.specs.declared.Object.{Object}
@@ -25,7 +25,7 @@ use Rattle.laws.specs.Sound.{FlatSound, ObjectSound, KindSound}
 use Rattle.laws.specs.SoundAt.{case-sound-at, struct-index, union-index}
 use Rattle.schema.specs.Directory.{Accepted, accepted-sound}
 use Rattle.bitio.specs.Taken.{TakenNumber, TakenBytes}
-use Rattle.write_measure.specs.Survey.{testNumber, testIf, anyNumber, floatFine, belowCount, aboveCount, surveyMark, surveyFlat, surveyStruct, surveyUnknownFlat, plain, opened, referred, Surveyor, plainOf, surveyObject, surveyChoice, surveyBody, surveyUnknown, mayLack, surveyPart, surveyBlob, survey}
+use Rattle.write_measure.specs.Survey.{testNumber, testIf, anyNumber, floatFine, belowCount, aboveCount, surveyMark, surveyFlat, surveyStruct, surveyUnknownFlat, plain, opened, blobOpened, referred, Surveyor, plainOf, surveyObject, surveyChoice, surveyBody, surveyUnknown, mayLack, surveyPart, surveyBlob, survey}
 use Rattle.laws.specs.Bits.{bits-length}
 use Rattle.write_measure.specs.UnmarkedElements.{unmarkedBits, flatUnmarkedBits, passed}
 use Rattle.write_measure.specs.BlobReferred.{BlobEnd, blobReferred, blob-is}
@@ -154,16 +154,54 @@ module _ (s : List ℕ) (pos more : ℕ) (whole : Bool) (x next : ℕ) (taken : 
   unfolding surveyBlob bind
   blob-cut l h w e n ew en sm = failed s _ pos (rw (taken .number, not-true whole h)) l w e n ew en sm
 
-  pub blob-there : not whole ≡ false → (w : Bool) (n : ℕ) → TakenBytes s next x w n → (e : Extent) → Fits (opened x (x + more)) e
-      → SurveyedAt s (surveyBlob more (drop pos (bits s))) w e n
-  unfolding surveyBlob bind
-  blob-there h w n t e f =
-      record { is = rw (taken .number, not-false whole h) (ap (λ p. bind p (λ l zs. got (opened x (x + more)) zs)) (t .bytes) ∙ by w ∙ sym (rw (f .is))); inside = t .inside; small = f .small }
-    where
-      by : (u : Bool) → bind (pick u (got (Rattle.coding.specs.Bits.pack x (drop next (bits s))) (drop n (bits s))) fail) (λ l zs. got (opened x (x + more)) zs)
-          ≡ pick u (got (opened x (x + more)) (drop n (bits s))) fail
-      by true = refl
-      by false = refl
+  module _ (h : not whole ≡ false) (w : Bool) (next₂ : ℕ) (t : TakenBytes s next x w next₂) where
+    after-count : surveyBlob more (drop pos (bits s)) ≡ pick w (got (blobOpened more x (pack x (drop next (bits s)))) (drop next₂ (bits s))) fail
+    unfolding surveyBlob bind
+    after-count = rw (taken .number, not-false whole h) (ap (λ p. bind p (λ l zs. got (blobOpened more x l) zs)) (t .bytes) ∙ by w)
+      where
+        by : (u : Bool) → bind (pick u (got (pack x (drop next (bits s))) (drop next₂ (bits s))) fail) (λ l zs. got (blobOpened more x l) zs)
+            ≡ pick u (got (blobOpened more x (pack x (drop next (bits s)))) (drop next₂ (bits s))) fail
+        by true = refl
+        by false = refl
+
+    pub short-fails : not w ≡ true → surveyBlob more (drop pos (bits s)) ≡ fail
+    short-fails g = after-count ∙ ap (λ (v : Bool). pick v (got (blobOpened more x (pack x (drop next (bits s)))) (drop next₂ (bits s))) fail) (not-true w g)
+
+    pub blob-short : pos ≤ 8 * length s → not w ≡ true → (u : Bool) (e : Extent) (n : ℕ) → u ≡ false → n ≡ pos → Small e
+        → SurveyedAt s (surveyBlob more (drop pos (bits s))) u e n
+    blob-short l g u e n eu en sm = failed s _ pos (short-fails g) l u e n eu en sm
+
+    pub blob-there : not w ≡ false → (e : Extent) → Fits (blobOpened more x (pack x (drop next (bits s)))) e
+        → SurveyedAt s (surveyBlob more (drop pos (bits s))) true e next₂
+    blob-there g e f =
+        record {
+          is = after-count ∙ ap (λ (v : Bool). pick v (got (blobOpened more x (pack x (drop next (bits s)))) (drop next₂ (bits s))) fail) (not-false w g)
+              ∙ sym (rw (f .is));
+          inside = t .inside;
+          small = f .small;
+        }
+
+-- bytes that were taken behind a number stand in the sheet
+pub bytes-inside : (s : List ℕ) (pos n : ℕ) (whole : Bool) (next : ℕ) → TakenBytes s pos n whole next → not whole ≡ false
+    → (from w : ℕ) (u : Bool) (x : ℕ) → TakenNumber s from w u x pos → pos + 8 * n ≤ 8 * length s
+unfolding takeBytes
+bytes-inside s pos n whole next t h from w u x k =
+    let i = k .inside in
+    let e : length (drop pos (bits s)) ≡ length (bits s) - pos = length-drop pos (bits s) in
+    let f : length (bits s) ≡ 8 * length s = bits-length s in
+    let r : 8 * n ≤ length (drop pos (bits s)) = room (leb (8 * n) (length (drop pos (bits s)))) refl
+    (t .bytes ∙ ap (λ (v : Bool). pick v (got (pack n (drop pos (bits s))) (drop next (bits s))) fail) (not-false whole h)) in
+    omega (arith, e, f, r, i)
+  where
+    whole-bytes : Parsed (List ℕ) → Bool
+    whole-bytes fail = false
+    whole-bytes (got a xs) = true
+
+    room : (u : Bool) → leb (8 * n) (length (drop pos (bits s))) ≡ u
+        → pick u (got (pack n (drop pos (bits s))) (drop (8 * n) (drop pos (bits s)))) fail ≡ got (pack n (drop pos (bits s))) (drop next (bits s))
+        → 8 * n ≤ length (drop pos (bits s))
+    room true e q = leb-true _ _ e
+    room false e q = absurd (false≢true (ap whole-bytes q))
 
 -- ---- an object, and a union
 pub refer-surveyed : (o : ℕ) (child : Surveyor) (s : List ℕ) (inplace may : Bool) (ob : Object) (pos : ℕ) (whole : Bool) (x : Extent) (next : ℕ)

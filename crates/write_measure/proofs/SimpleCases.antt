@@ -10,7 +10,7 @@ use lib.Seq.{drop-cons}
 use lib.Dec.{ltb, eqb}
 use borrow.Author.Tests.{eq-eqb, ne-eqb, lt-ltb, le-ltb, not-true, not-false}
 use Rattle.coding.specs.Lists.{pick}
-use Rattle.coding.specs.Bits.{bits}
+use Rattle.coding.specs.Bits.{bits, pack}
 use Rattle.coding.specs.Schema as Sc
 use Rattle.coding.specs.Schema.{Schema}
 use Rattle.coding.specs.Packed as P
@@ -29,13 +29,13 @@ use Rattle.coding.specs.declared.Member.{Member}
 use Rattle.laws.specs.Sound.{FlatSound, MemberSound}
 use Rattle.laws.specs.RecordSound.{width-range}
 use Rattle.bitio.specs.Taken.{TakenNumber, TakenBytes}
-use Rattle.write_measure.specs.Survey.{testNumber, testIf, anyNumber, floatFine, belowCount, surveyMark, surveyFlat, surveyStruct, surveyUnknownFlat, flatMayLack, mayLack, plain, opened, joined, referred, Surveyor, plainOf, surveyBlob, surveyBody, surveyPart, surveyMembers, surveyContent, survey}
+use Rattle.write_measure.specs.Survey.{testNumber, testIf, anyNumber, floatFine, belowCount, surveyMark, surveyFlat, surveyStruct, surveyUnknownFlat, flatMayLack, mayLack, plain, opened, blobOpened, joined, referred, Surveyor, plainOf, surveyBlob, surveyBody, surveyPart, surveyMembers, surveyContent, survey}
 use Rattle.write_measure.specs.Surveyed.{TestedAt, Small, Fits, SurveyedAt}
 use Rattle.write_measure.specs.BlobReferred.{BlobEnd, blobReferred}
 use Rattle.write_measure.specs.SimpleMembers.{flatPart, joinedPart, LeftAt, WholeBytes, flat-part-is, members-joined}
 use Rattle.write_measure.specs.declared.Extent.{Extent}
 use Rattle.write_measure.proofs.FlatCases.{integer-short, float-short}
-use Rattle.write_measure.proofs.PartCases.{flat-boolean, flat-integer, flat-float, flat-enum, flat-struct, struct-counted, kind-flat, refer-blob, object-there, blob-there, blob-referred}
+use Rattle.write_measure.proofs.PartCases.{flat-boolean, flat-integer, flat-float, flat-enum, flat-struct, struct-counted, kind-flat, refer-blob, object-there, blob-there, short-fails, blob-referred}
 use Rattle.write_measure.proofs.ObjectCases.{members-done, members-stopped, members-turn}
 
 no-flag : (t : Bool) → (t && false) ≡ false
@@ -385,20 +385,30 @@ module _ (k w r : ℕ) (er : r ≡ w) (ew : w ≡ P.widthOf k) where
   width-small h = let l = width-range k h .1 in rw (er, ew) l
 
 -- ---- a text or bytes that is there
-module _ (o : ℕ) (s : List ℕ) (d more : ℕ) (inplace may : Bool) (pos : ℕ) (h : d ≡ 0 → ⊥) (whole : Bool) (x next : ℕ) (taken : TakenNumber s pos 32 whole x next) where
-  blob-fails : not whole ≡ true → surveyBlob more (drop pos (bits s)) ≡ fail
-  unfolding surveyBlob bind
-  blob-fails f = rw (taken .number, not-true whole f)
-
-  pub there-cut : pos ≤ 8 * length s → not whole ≡ true → (w : Bool) (e : Extent) (n : ℕ) → w ≡ false → n ≡ pos → Small e
+module _ (o : ℕ) (s : List ℕ) (d more : ℕ) (inplace may : Bool) (pos : ℕ) (h : d ≡ 0 → ⊥) where
+  referred-fails : surveyBlob more (drop pos (bits s)) ≡ fail → pos ≤ 8 * length s → (w : Bool) (e : Extent) (n : ℕ) → w ≡ false → n ≡ pos → Small e
       → SurveyedAt s (blobReferred d o inplace may more (drop pos (bits s))) w e n
   unfolding blobReferred bind
-  there-cut l f w e n ew en sm = by d h
+  referred-fails f l w e n ew en sm = by d h
     where
       by : (k : ℕ) → (k ≡ 0 → ⊥) → SurveyedAt s (blobReferred k o inplace may more (drop pos (bits s))) w e n
       by zero g = absurd (g refl)
-      by (suc k) g = record { is = ap (λ p. bind p (λ y ys. got (referred o inplace may y) ys)) (blob-fails f) ∙ sym (rw ew); inside = rw en l; small = sm }
+      by (suc k) g = record { is = ap (λ p. bind p (λ y ys. got (referred o inplace may y) ys)) f ∙ sym (rw ew); inside = rw en l; small = sm }
 
-  pub there-whole : not whole ≡ false → (w : Bool) (n : ℕ) → TakenBytes s next x w n → (y : Extent) → Fits (opened x (x + more)) y
-      → (e : Extent) → Fits (referred o inplace may y) e → SurveyedAt s (blobReferred d o inplace may more (drop pos (bits s))) w e n
-  there-whole f w n t y fy e fe = blob-referred o s d more inplace may pos h w y n (blob-there s pos more whole x next taken f w n t y fy) e fe
+  module _ (whole : Bool) (x next : ℕ) (taken : TakenNumber s pos 32 whole x next) where
+    blob-fails : not whole ≡ true → surveyBlob more (drop pos (bits s)) ≡ fail
+    unfolding surveyBlob bind
+    blob-fails f = rw (taken .number, not-true whole f)
+
+    pub there-cut : pos ≤ 8 * length s → not whole ≡ true → (w : Bool) (e : Extent) (n : ℕ) → w ≡ false → n ≡ pos → Small e
+        → SurveyedAt s (blobReferred d o inplace may more (drop pos (bits s))) w e n
+    there-cut l f w e n ew en sm = referred-fails (blob-fails f) l w e n ew en sm
+
+    module _ (f : not whole ≡ false) (w : Bool) (n : ℕ) (t : TakenBytes s next x w n) where
+      pub there-short : pos ≤ 8 * length s → not w ≡ true → (u : Bool) (e : Extent) (i : ℕ) → u ≡ false → i ≡ pos → Small e
+          → SurveyedAt s (blobReferred d o inplace may more (drop pos (bits s))) u e i
+      there-short l g u e i eu ei sm = referred-fails (short-fails s pos more whole x next taken f w n t g) l u e i eu ei sm
+
+      pub there-whole : not w ≡ false → (y : Extent) → Fits (blobOpened more x (pack x (drop next (bits s)))) y
+          → (e : Extent) → Fits (referred o inplace may y) e → SurveyedAt s (blobReferred d o inplace may more (drop pos (bits s))) true e n
+      there-whole g y fy e fe = blob-referred o s d more inplace may pos h true y n (blob-there s pos more whole x next taken f w n t g y fy) e fe

@@ -1,13 +1,15 @@
 -- Extents as sums of bytes, cut at one past the size.
 use mathlib.Core.Path.{_≡_, refl, sym, ap, ap₂, _∙_}
 use mathlib.Core.Bool.{Bool, true, false, _&&_}
+use mathlib.Core.List.{List}
 use Prim.Native.Nat.{ℕ, suc, _+_, _≤_, _<_}
 use native.Mathlib.Omega.{arith}
 use lib.Dec.{ltb, leb}
 use borrow.Author.Tests.{le-leb, lt-leb, leb-true, leb-false}
 use Rattle.coding.specs.Lists.{pick}
 use Rattle.coding.specs.Bytes.{largest}
-use Rattle.write_measure.specs.Survey.{capped, headSize, plain, opened, joined, referred}
+use Rattle.write_text.specs.Texts.{blobFine}
+use Rattle.write_measure.specs.Survey.{capped, headSize, plain, opened, blobOpened, joined, referred}
 use Rattle.write_measure.specs.declared.Extent.{Extent}
 
 -- ---- the cut count
@@ -67,6 +69,11 @@ plain-summed t = sum-same t t 0 0 0 (capped 0) 0 (capped 0) refl (sym capped-zer
 pub opened-summed : (n w : ℕ) → opened n w ≡ summed true n w 0 0
 unfolding opened
 opened-summed n w = sum-same true true n w 0 (capped 0) 0 (capped 0) refl (sym capped-zero) (sym capped-zero)
+
+pub blob-summed : (more n : ℕ) (l : List ℕ) → blobOpened more n l ≡ summed (blobFine more l) n (n + more) 0 0
+unfolding blobOpened
+blob-summed more n l =
+    sum-same (blobFine more l) (blobFine more l) n (n + more) 0 (capped 0) 0 (capped 0) refl (sym capped-zero) (sym capped-zero)
 
 pub joined-summed : (t u : Bool) (n w x y n′ w′ x′ y′ : ℕ)
     → joined (summed t n w x y) (summed u n′ w′ x′ y′) ≡ summed (t && u) n w (x + x′) (y + y′)

@@ -19,6 +19,7 @@ use Rattle.coding.specs.declared.Object.the-variants as O
 use Rattle.coding.specs.declared.Kind.{Kind}
 use Rattle.coding.specs.declared.Kind.the-variants.{OfFlat, OfObject, OfUnion}
 use Rattle.coding.specs.declared.Member.{Member}
+use Rattle.write_text.specs.Texts.{blobFine}
 use Rattle.write_measure.specs.declared.Extent.{Extent}
 
 -- ---- numbers
@@ -212,9 +213,13 @@ unfoldable pub surveyDirects : Surveyor → ℕ → ℕ → Extent → List ℕ 
 surveyDirects child t zero a xs = got a xs
 surveyDirects child t (suc n) a xs = bind (child (O.Table t) xs) (λ e ys. surveyDirects child t n (joined a e) ys)
 
+-- a text or bytes of n bytes l, with `more` bytes behind them
+unfoldable pub blobOpened : ℕ → ℕ → List ℕ → Extent
+blobOpened more n l = record { writable = blobFine more l; length = n; width = n + more; chain = 0; below = 0 }
+
 -- the content of a text or bytes, with `more` bytes behind its own: 1 of a text, 0 of bytes
 unfoldable pub surveyBlob : ℕ → List ℕ → Parsed Extent
-surveyBlob more xs = bind (takeNumber 32 xs) (λ n ys. bind (takeBytes n ys) (λ l zs. got (opened n (n + more)) zs))
+surveyBlob more xs = bind (takeNumber 32 xs) (λ n ys. bind (takeBytes n ys) (λ l zs. got (blobOpened more n l) zs))
 
 unfoldable pub surveyContent : Surveyor → ℕ → Schema → Object → List ℕ → Parsed Extent
 surveyContent child o S O.Text xs = surveyBlob 1 xs

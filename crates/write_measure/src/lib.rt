@@ -24,6 +24,7 @@ ghost use Rattle.message_layout.specs.Bounds.{Laid};
 ghost use Rattle.schema.specs.Directory.{Accepted};
 ghost use Rattle.schema.specs.Kinds.{isBlob};
 ghost use Rattle.wire.specs.Sizes.{Width};
+ghost use Rattle.write_text.specs.Texts as Tx;
 ghost use Rattle.write_measure.specs.Survey as Sv;
 ghost use Rattle.write_measure.specs.SurveyBy as By;
 ghost use Rattle.write_measure.specs.UnmarkedElements.{unmarkedBits, passed};
@@ -664,7 +665,21 @@ fn pass(s: &[u8], pos: usize, w: usize, n: usize, a: Extent) -> Surveyed
     unlawful(pos)
 }
 
-// The content of a text or bytes, with `more` bytes behind its own: 1 of a text, 0 of bytes.
+// A text or bytes whose n bytes stand from bit pos on, with `more` bytes behind them: 1 of a text, 0 of bytes.
+fn blob_extent(s: &[u8], pos: usize, n: usize, more: usize) -> Extent
+    requires { ⌜ (Tx.Fits (now s) pos n) × (n < 2 ^ 32) × (more ≤ 1) ⌝ }
+    ensures { λ r. ⌜ Fits (Sv.blobOpened more n (pack n (drop pos (bits (now (s .entry)))))) r ⌝ }
+{
+    Extent {
+        writable: write_text::blob_fine(s, pos, n, more),
+        length: n,
+        width: n + more,
+        chain: 0,
+        below: 0,
+    }
+}
+
+// The content of a text or bytes, with `more` bytes behind its own.
 fn blob(s: &[u8], pos: usize, more: usize) -> Surveyed
     requires { ⌜ (By.Inside (now s) pos) × (more ≤ 1) ⌝ }
     ensures { λ r. ⌜ By.Surveys (now (s .entry)) pos (Sv.surveyBlob more) r ⌝ }
@@ -675,11 +690,13 @@ fn blob(s: &[u8], pos: usize, more: usize) -> Surveyed
     }
     let n = x.value as usize;
     let y = bitio::skip_bytes(s, x.next, n);
-    let whole = y.whole;
+    if !y.whole {
+        return unlawful(pos);
+    }
     let next = y.next;
     Surveyed {
-        whole: whole,
-        extent: opened(n, n + more),
+        whole: true,
+        extent: blob_extent(s, x.next, n, more),
         next: next,
     }
 }
@@ -738,11 +755,13 @@ fn blob_there(s: &[u8], d: usize, more: usize, inplace: bool, pos: usize, o: usi
     }
     let n = x.value as usize;
     let y = bitio::skip_bytes(s, x.next, n);
-    let whole = y.whole;
+    if !y.whole {
+        return unlawful(pos);
+    }
     let next = y.next;
-    let e = opened(n, n + more);
+    let e = blob_extent(s, x.next, n, more);
     Surveyed {
-        whole: whole,
+        whole: true,
         extent: referred(inplace, false, e, o),
         next: next,
     }

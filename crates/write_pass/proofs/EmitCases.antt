@@ -284,15 +284,6 @@ bytes-at s pos n whole next t l h =
         let z = bits-length s in
         omega arith
 
--- behind a count
-pub bytes-inside : (s : List ℕ) (pos n : ℕ) (whole : Bool) (next : ℕ) → TakenBytes s pos n whole next → not whole ≡ false
-    → (from w : ℕ) (u : Bool) (x : ℕ) → TakenNumber s from w u x pos → pos + 8 * n ≤ 8 * length s
-bytes-inside s pos n whole next t h from w u x k =
-    let l = k .inside in
-    let e = bytes-at s pos n whole next t l h in
-    let i = t .inside in
-    omega arith
-
 module _ (s : List ℕ) (pos : ℕ) (c : Places) (room : Room s pos c) (whole : Bool) (x mid : ℕ) (taken : TakenNumber s pos 32 whole x mid) (more o : List ℕ) (t : Bool) (p : Places)
     (out : List ℕ) (n : ℕ) where
   pub blob-cut : not whole ≡ true → t ≡ false → p ≡ c → n ≡ pos → EmittedAt s (emitBlob more (stateOf c o) (drop pos (bits s))) pos c 0 t p out n

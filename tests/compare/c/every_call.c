@@ -254,6 +254,29 @@ static void members(const struct coded *in) {
     field(in->coding, structs, sizeof structs, in->struct_, in->struct_len, path, 2);
 }
 
+/* The message with FF as the text's first byte: judged, with a byte less of content, as a field, read,
+ * and with another end byte; and the same in a list and in a sheet. */
+static void no_texts(const struct coded *in) {
+    static const uint32_t path[] = {1};
+    static const uint8_t no_text[] = {0x40, 0, 0xD0, 0, 0, 0, 0x2F, 0xF6, 0x20};
+    struct coded bad = *in;
+    uint8_t message[sizeof message_48], list[sizeof list_48];
+    size_t len = in->message_len;
+    memcpy(message, in->message, len);
+    memcpy(list, in->list, in->list_len);
+    message[len - 3] = 0xFF;
+    list[in->list_len - 3] = 0xFF;
+    bad.message = message;
+    judge(in->coding, newer, sizeof newer, message, len, 2);
+    judge_within(in->coding, newer, sizeof newer, message, len, 2, in->message[in->length_at] + 1u);
+    field(in->coding, newer, sizeof newer, message, len, path, 1);
+    read_with(in->coding, &bad, 2, SCALGO_ALL_CONTENT, 12);
+    message[len - 1] = 1;
+    judge(in->coding, newer, sizeof newer, message, len, 2);
+    list_from(in->coding, texts, sizeof texts, list, in->list_len, 0, 1);
+    write_with(in->coding, no_text, sizeof no_text, 43);
+}
+
 /* Under a number that is no coding's no schema is lawful. */
 static void no_coding(uint32_t coding) {
     static const uint32_t path[] = {1};
@@ -275,6 +298,7 @@ int main(void) {
         writes(&codings[i]);
         unions(&codings[i]);
         members(&codings[i]);
+        no_texts(&codings[i]);
     }
     no_coding(40);
     return 0;

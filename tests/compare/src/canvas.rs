@@ -3,6 +3,7 @@
 //! objects come to stand in gaps, in unused bytes and across each other.
 
 use crate::rng::Rng;
+use crate::text_gen::is_text;
 
 /// A number that is written only when the whole message is laid out. The
 /// first part of each is an index into the arrivals.
@@ -240,6 +241,51 @@ impl Canvas {
         self.bytes[at] = 0;
         self.mask[at] = 0xFF;
         at
+    }
+
+    /// Where a text that starts here ends: mostly so that what is there is text,
+    /// and now and then anywhere.
+    pub fn text_end(&mut self, rng: &mut Rng, start: usize) -> usize {
+        let ends = self.text_ends(start);
+        if ends.is_empty() || rng.one_in(5) {
+            return self.zero_byte(rng, start);
+        }
+        let end = rng.pick(&ends);
+        self.extend_to(end + 1);
+        for at in start..end {
+            let free = !self.mask[at];
+            self.bytes[at] |= rng.bits() as u8 & free & 0x7F;
+            self.mask[at] = 0xFF;
+        }
+        self.mask[end] = 0xFF;
+        end
+    }
+
+    /// Where a zero byte stands or can be put behind bytes that are text, whatever
+    /// the lower seven of their free bits are.
+    fn text_ends(&self, start: usize) -> Vec<usize> {
+        const LONGEST: usize = 120;
+        let fixed = |at: usize| self.bytes[at] & self.mask[at];
+        let last = self.bytes.len().min(start + LONGEST);
+        let mut ends = Vec::new();
+        let mut content = Vec::new();
+        for at in start..=last {
+            let whole = is_text(&content);
+            let within = at < self.bytes.len();
+            if whole && !(within && (self.locked[at] || fixed(at) != 0)) {
+                ends.push(at);
+            }
+            if !within || self.locked[at] {
+                break;
+            }
+            // A byte with free bits is ASCII only if its highest bit is not 1.
+            let some_free = self.mask[at] != 0xFF;
+            if some_free && (!whole || fixed(at) & 0x80 != 0) {
+                break;
+            }
+            content.push(fixed(at));
+        }
+        ends
     }
 
     /// The bytes so far.

@@ -5,13 +5,10 @@ use crate::members;
 use std::collections::BTreeMap;
 use std::fmt;
 
-/// The number that no answer has.
-pub const UNUSED: usize = 16;
-
 /// The counters of a run.
 #[derive(Default, Clone)]
 pub struct Counts {
-    /// Answers by number: 0 for accepted, 1 to 15 and 17 for refusals.
+    /// Answers by number: 0 for accepted, 1 to 17 for refusals.
     pub answers: [u64; 18],
     /// Objects of accepted messages reached by offset, by kind.
     pub by_offset: [u64; 19],
@@ -62,9 +59,6 @@ impl fmt::Display for Counts {
     fn fmt(&self, out: &mut fmt::Formatter) -> fmt::Result {
         writeln!(out, "answers by number:")?;
         for (number, count) in self.answers.iter().enumerate() {
-            if number == UNUSED {
-                continue;
-            }
             writeln!(out, "  {number:>2}  {count}")?;
         }
         writeln!(out, "objects of accepted messages (by offset, in place):")?;

@@ -2,11 +2,19 @@
 
 use crate::canvas::Spot;
 use crate::coding::Coding;
+use crate::message_gen::Wild;
 use crate::rng::Rng;
+use crate::text_gen;
 
-/// A damaged message of a coding; the spots say where its numbers stand.
-pub fn message(coding: Coding, rng: &mut Rng, bytes: &[u8], spots: &[Spot]) -> Vec<u8> {
-    let mut out = bytes.to_vec();
+/// A damaged message of a coding.
+pub fn message(coding: Coding, rng: &mut Rng, wild: &Wild) -> Vec<u8> {
+    let (spots, texts) = (&wild.spots, &wild.texts);
+    let mut out = wild.bytes.clone();
+    if !texts.is_empty() && rng.one_in(6) {
+        let text = texts[rng.below(texts.len())];
+        in_text(rng, &mut out, text);
+        return out;
+    }
     if !out.is_empty() && rng.one_in(3) {
         // A single bit: the gentlest, so that many stay accepted.
         let at = rng.below(out.len());
@@ -23,6 +31,32 @@ pub fn message(coding: Coding, rng: &mut Rng, bytes: &[u8], spots: &[Spot]) -> V
         }
     }
     out
+}
+
+/// Damage inside a text, which is behind it another byte: its end byte.
+pub fn in_text(rng: &mut Rng, out: &mut [u8], text: Spot) {
+    let (content, end) = out[text.position..].split_at_mut(text.width);
+    let at = rng.below(content.len());
+    let mut put = |bytes: &[u8]| {
+        let end = (at + bytes.len()).min(content.len());
+        content[at..end].copy_from_slice(&bytes[..end - at]);
+    };
+    match rng.below(8) {
+        0 => put(&[rng.bits() as u8]),
+        1 => put(&[rng.pick(&[0x80, 0xBF, 0xC0, 0xC2, 0xE0, 0xED, 0xF0, 0xF4, 0xF5, 0xFF])]),
+        2 | 3 => put(&text_gen::no_text_of(rng, 1)),
+        // A text in a text: it may cut characters before and behind it.
+        4 => put(&text_gen::text(rng, 4)),
+        5 => {
+            let last = content.len() - 1;
+            content[last] |= 0xC0;
+        }
+        6 => {
+            content[at] |= 0x80;
+            end[0] = rng.pick(&[0, 0, 1, 0x80]);
+        }
+        _ => content[at] ^= 0x80,
+    }
 }
 
 /// A number at an edge, for a message of `length` bytes.

@@ -6,6 +6,7 @@ use crate::message_gen::Wild;
 use crate::paths::PATH_LIMIT;
 use crate::program::refused;
 use crate::schema::*;
+use crate::text_gen::is_text;
 use crate::value::{objects, Value};
 use reference::{Answer, NO_MEMBER};
 
@@ -58,10 +59,7 @@ impl<'a> Known<'a> {
 
     /// The bytes of an object before its content.
     fn header(&self, node: &Node) -> usize {
-        match node.held {
-            Held::ByOffset => self.schema.header(node.record.kind),
-            Held::InPlace | Held::Direct => 0,
-        }
+        node.held.header(self.schema, node.record.kind)
     }
 
     fn refused(&self, number: u32, node: &Node) -> Option<Hint<'a>> {
@@ -100,6 +98,11 @@ impl<'a> Known<'a> {
         }
         if let Some(number) = self.arrival_fault(&node) {
             return self.refused(number, &node);
+        }
+        if let (TEXT, Value::Blob(bytes)) = (node.record.kind, node.value) {
+            if !is_text(bytes) {
+                return self.refused(16, &node);
+            }
         }
         let Some((step, rest)) = path.split_first() else {
             return Some(self.whole(&node));

@@ -5,15 +5,20 @@
 //! `--library` on the proved library, or one case of a run with `--case K`.
 //! `compare judge --cases N --seed S` judges N messages with the proved library
 //! and the second program side by side, or those of one round of a run with
-//! `--round K`. `compare fields`, `reads` and `writes` put N calls to both, and
-//! `compare all` does each of these with N, and the laws on the library; its
-//! last lines say how many answers of each sort were not refusal 1.
+//! `--round K`. `compare fields`, `reads` and `writes` put N calls to both,
+//! `compare texts` N texts in every way that one is held, and `compare all` does
+//! each of these with N, and the laws on the library; its last lines say how many
+//! answers of each sort were not refusal 1.
+//! `compare utf8 --cases N --seed S` judges a message with one text by both, and
+//! asks Rust's standard library besides: every text of up to three bytes, N random
+//! ones of four, 10,000,000 if N is not said, and a tenth as many longer ones.
 //! `compare cases FOLDER` writes the stored cases into the folder of their
 //! crate, and `compare names` says what each of them is.
 
-use compare::calls::{fields, lists, reads, writes, LibraryCalls, SecondCalls};
+use compare::calls::{fields, lists, reads, texts, writes, LibraryCalls, SecondCalls};
 use compare::coding::Coding;
 use compare::counts::Counts;
+use compare::every_text;
 use compare::judging;
 use compare::laws::{self, Programs};
 use compare::program::{Library, Program, Second};
@@ -24,10 +29,11 @@ use std::process::ExitCode;
 
 const USAGE: &str = "usage: compare laws [--library] [--cases N] [--seed S] [--case K]
        compare judge [--cases N] [--seed S] [--round K]
-       compare fields|reads|writes|all [--cases N] [--seed S]
+       compare fields|reads|writes|texts|all [--cases N] [--seed S]
+       compare utf8 [--cases N] [--seed S]
        compare cases FOLDER
        compare names
-the first three with [--coding 32]; without it the coding is 48";
+all but the last two with [--coding 32]; without it the coding is 48";
 
 /// What the words ask for.
 struct Asked {
@@ -108,24 +114,34 @@ fn judges(asked: &Asked) -> Result<Tally, String> {
     judging::run(&LibraryCalls, &Second, coding, seed, asked.cases())
 }
 
-/// The C interface's calls put to both: `fields`, `reads` or `writes`.
+/// The C interface's calls put to both: `fields`, `reads`, `writes` or `texts`.
 fn calls(sort: &str, asked: &Asked) -> Result<Counts, String> {
     let (coding, seed, cases) = (asked.coding, asked.seed, asked.cases());
     match sort {
         "fields" => fields::run(&LibraryCalls, &SecondCalls, coding, seed, cases),
         "reads" => reads::run(&LibraryCalls, &SecondCalls, coding, seed, cases),
-        _ => writes::run(&LibraryCalls, &SecondCalls, coding, seed, cases),
+        "writes" => writes::run(&LibraryCalls, &SecondCalls, coding, seed, cases),
+        _ => texts::run(&LibraryCalls, &SecondCalls, coding, seed, cases),
     }
+}
+
+/// Every short text and many others.
+fn utf8(asked: &Asked) -> Result<String, String> {
+    let cases = asked.cases.unwrap_or(10_000_000);
+    let short = every_text::exhaustive(&LibraryCalls, asked.coding, 3)?;
+    let others = every_text::random(&LibraryCalls, asked.coding, asked.seed, cases)?;
+    Ok(short + &others)
 }
 
 /// Every side by side with so many calls each, and the laws on the library with
 /// a tenth of as many cases.
 fn run_all(asked: &Asked) -> Result<String, String> {
     let tally = judges(asked)?;
-    let [fields, reads, writes] = [
+    let [fields, reads, writes, texts] = [
         calls("fields", asked)?,
         calls("reads", asked)?,
         calls("writes", asked)?,
+        calls("texts", asked)?,
     ];
     let laws = run_laws(&Asked {
         cases: Some(asked.cases() / 10),
@@ -144,7 +160,7 @@ fn run_all(asked: &Asked) -> Result<String, String> {
             writes.answers[1],
         ),
     ];
-    let mut seen = format!("{tally}\n{fields}\n{reads}\n{writes}\n{laws}\n");
+    let mut seen = format!("{tally}\n{fields}\n{reads}\n{writes}\n{texts}\n{laws}\n");
     for (sort, all, refused) in beyond {
         let beyond = all - refused;
         seen += &format!("{:?}: {all} {sort}, {beyond} not refusal 1\n", asked.coding);
@@ -171,7 +187,8 @@ fn run(words: &[String]) -> Result<String, String> {
     match command.as_str() {
         "laws" => run_laws(&asked),
         "judge" => Ok(judges(&asked)?.to_string()),
-        "fields" | "reads" | "writes" => Ok(calls(command, &asked)?.to_string()),
+        "fields" | "reads" | "writes" | "texts" => Ok(calls(command, &asked)?.to_string()),
+        "utf8" => utf8(&asked),
         "all" => run_all(&asked),
         "cases" => write_cases(&asked),
         "names" => Ok(stored::names(&stored::cases())),

@@ -83,6 +83,14 @@ impl Held {
             (_, false) => Held::ByOffset,
         }
     }
+
+    /// The bytes that stand before the content of an object so held.
+    pub fn header(self, schema: &Schema, kind: u8) -> usize {
+        match self {
+            Held::ByOffset => schema.header(kind),
+            Held::InPlace | Held::Direct => 0,
+        }
+    }
 }
 
 /// One of the faults, of a kind chosen first, so that rare kinds come up too.

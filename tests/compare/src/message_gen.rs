@@ -8,6 +8,7 @@ use crate::message_faults::{may_be_absent, says, Fault, FaultKind, Held};
 use crate::program::{verdict, Budget};
 use crate::rng::Rng;
 use crate::schema::*;
+use crate::text_gen::{self, is_text};
 use crate::value::{objects, Value};
 use crate::value_gen::nan_bits;
 use reference::{Verdict, NO_MEMBER};
@@ -41,6 +42,8 @@ pub struct Wild {
     pub member: u32,
     pub fault: Option<Fault>,
     pub spots: Vec<Spot>,
+    /// The contents of the texts that lie inside the message.
+    pub texts: Vec<Spot>,
 }
 
 /// An arrival's place and the content it adds: none where it is refused before.
@@ -87,6 +90,20 @@ struct Outcome {
     arrival: usize,
     member: u32,
     visits: usize,
+}
+
+impl Outcome {
+    /// Whether the walk comes to it before the other. With as many visits an
+    /// arrival's own refusal comes before that of a part, and of two at one arrival
+    /// the one with the smaller number: content fit, end byte, text.
+    fn before(&self, other: &Outcome) -> bool {
+        let turn = |outcome: &Outcome| {
+            let of_part = outcome.member != NO_MEMBER;
+            let number = if of_part { 0 } else { outcome.number };
+            (outcome.visits, of_part, number)
+        };
+        turn(self) < turn(other)
+    }
 }
 
 struct Layouter<'a> {
@@ -159,7 +176,7 @@ impl Layouter<'_> {
 
     /// The arrival itself is refused.
     fn refuse(&mut self, number: u32, arrival: usize) {
-        self.outcome = Some(Outcome {
+        self.refused(Outcome {
             number,
             arrival,
             member: NO_MEMBER,
@@ -167,16 +184,23 @@ impl Layouter<'_> {
         });
     }
 
-    /// A part of an object is refused, after what came before it. The first counts:
-    /// a cut is in all the elements of a direct list.
+    /// A part of an object is refused, after what came before it.
     fn refuse_part(&mut self, number: u32, of: PartOf) {
         let visits = self.arrivals.len();
-        self.outcome.get_or_insert(Outcome {
+        self.refused(Outcome {
             number,
             arrival: of.holder,
             member: of.part as u32,
             visits,
         });
+    }
+
+    /// The first refusal of the walk counts: there may be several texts that are
+    /// none, and a cut is in all the elements of a direct list.
+    fn refused(&mut self, outcome: Outcome) {
+        if self.outcome.is_none_or(|first| outcome.before(&first)) {
+            self.outcome = Some(outcome);
+        }
     }
 
     /// Takes over what a pattern knows now that its position is known.
@@ -331,16 +355,9 @@ impl Layouter<'_> {
         filled: bool,
     ) -> u64 {
         match value {
+            Value::Blob(bytes) if record.kind == TEXT => self.text(pattern, index, bytes),
             Value::Blob(bytes) => {
                 pattern.push(bytes);
-                if record.kind == TEXT {
-                    let bad = self.has_fault(index, 0, FaultKind::TextEnd);
-                    if bad {
-                        self.refuse(10, index);
-                    }
-                    let end = if bad { self.rng.range(1, 255) } else { 0 };
-                    pattern.push(&[end as u8]);
-                }
                 bytes.len() as u64
             }
             Value::List(parts) => {
@@ -350,6 +367,25 @@ impl Layouter<'_> {
             Value::Table(parts) => self.table(pattern, index, record.argument, parts, filled),
             _ => unreachable!("only objects have content"),
         }
+    }
+
+    /// A text with its end byte. One whose end byte is wrong may be no text too.
+    fn text(&mut self, pattern: &mut Pattern, index: usize, bytes: &[u8]) -> u64 {
+        let mut bytes = bytes.to_vec();
+        let mut end = 0;
+        if self.has_fault(index, 0, FaultKind::TextEnd) {
+            self.refuse(10, index);
+            end = self.rng.range(1, 255) as u8;
+            if self.rng.coin() {
+                bytes = text_gen::no_text(self.rng);
+            }
+        }
+        if !is_text(&bytes) {
+            self.refuse(16, index);
+        }
+        pattern.push(&bytes);
+        pattern.push(&[end]);
+        bytes.len() as u64
     }
 
     fn list(&mut self, pattern: &mut Pattern, index: usize, list: u8, parts: &[Value]) {
@@ -733,8 +769,17 @@ impl Layouter<'_> {
             .into_iter()
             .map(|(index, start, length)| (index, bytes[start..start + length].to_vec()))
             .collect();
+        for (index, content) in &contents {
+            if self.arrivals[*index].kind == TEXT && !is_text(content) {
+                self.refuse(16, *index);
+            }
+        }
         if !contents.is_empty() {
             put_contents(&mut value, &mut 0, &contents);
+        }
+        // A walk that goes round does not come to what is behind the reference back.
+        if let (Some(outcome), Some((_, before))) = (self.outcome, self.cycle) {
+            self.outcome = (outcome.visits <= before).then_some(outcome);
         }
         let sure = match (self.outcome, self.cycle) {
             (Some(outcome), _) => outcome.visits,
@@ -748,6 +793,7 @@ impl Layouter<'_> {
             (None, _) => walked[walked.len() - 1].place,
         };
         Wild {
+            texts: self.texts(bytes.len()),
             bytes,
             value,
             arrivals: self.arrivals,
@@ -761,6 +807,22 @@ impl Layouter<'_> {
         }
     }
 
+    /// The contents of the texts, as far as these lie inside the message.
+    fn texts(&self, size: usize) -> Vec<Spot> {
+        let texts = self.arrivals.iter().filter(|arrival| arrival.kind == TEXT);
+        let spot = |arrival: &Arrival| {
+            let header = arrival.held.header(self.schema, TEXT) as u64;
+            Spot {
+                position: (arrival.place + header) as usize,
+                width: arrival.length as usize,
+            }
+        };
+        texts
+            .map(spot)
+            .filter(|text| text.width > 0 && text.position + text.width < size)
+            .collect()
+    }
+
     /// Chooses the lengths of the open blobs: arrival, content start, length.
     fn close_open(&mut self) -> Vec<(usize, usize, usize)> {
         let mut closed = Vec::new();
@@ -768,7 +830,7 @@ impl Layouter<'_> {
             let start = self.arrivals[index].place as usize + self.coding().header();
             let room = self.canvas.bytes().len().saturating_sub(start);
             let length = if self.arrivals[index].kind == TEXT {
-                self.canvas.zero_byte(self.rng, start) - start
+                self.canvas.text_end(self.rng, start) - start
             } else if self.rng.one_in(3) {
                 room
             } else {
@@ -804,10 +866,7 @@ impl Layouter<'_> {
 
     /// The bytes of the message behind an object's header.
     fn room(&self, arrival: &Arrival, size: u64) -> u64 {
-        let header = match arrival.held {
-            Held::ByOffset => self.schema.header(arrival.kind),
-            Held::InPlace | Held::Direct => 0,
-        };
+        let header = arrival.held.header(self.schema, arrival.kind);
         size - arrival.place - header as u64
     }
 

@@ -2,13 +2,13 @@
 //! generator that stops reaching something fails.
 
 use crate::coding::Coding;
-use crate::counts::{Counts, UNUSED};
+use crate::counts::Counts;
 use crate::schema_faults::rules;
 
 /// The number of cases that the minimums are meant for.
 pub const CASES: u64 = 100_000;
 
-const NAMED: [(&str, u64); 59] = [
+const NAMED: [(&str, u64); 70] = [
     ("accepted messages of depth 32", 100),
     ("accepted messages with an unwritable sheet", 1000),
     ("arrivals at shared objects", 10_000),
@@ -56,12 +56,23 @@ const NAMED: [(&str, u64); 59] = [
     ("message faults: cycle", 200),
     ("messages accepted by the newer", 10_000),
     ("messages with 50 or more shared arrivals", 50),
+    ("no text: ByOffset", 500),
+    ("no text: InPlace", 60),
     ("not writable: NaN as an element", 30),
     ("not writable: NaN in an optional member", 100),
     ("not writable: absent plain bool or integer", 300),
     ("not writable: absent plain float", 100),
     ("not writable: absent plain struct", 100),
     ("not writable: empty in place", 200),
+    ("not writable: no text", 600),
+    ("not writable: no text from bit 0 of a byte", 40),
+    ("not writable: no text from bit 1 of a byte", 40),
+    ("not writable: no text from bit 2 of a byte", 40),
+    ("not writable: no text from bit 3 of a byte", 40),
+    ("not writable: no text from bit 4 of a byte", 40),
+    ("not writable: no text from bit 5 of a byte", 40),
+    ("not writable: no text from bit 6 of a byte", 40),
+    ("not writable: no text from bit 7 of a byte", 40),
     ("not writable: unknown choice", 300),
     ("not writable: unknown enum", 200),
     ("objects that overlap others", 3000),
@@ -91,8 +102,7 @@ pub fn shortfalls(coding: Coding, counts: &Counts) -> Vec<String> {
             short.push(format!("{name}: {count}, at least {least} wanted"));
         }
     };
-    let answers = counts.answers.iter().enumerate();
-    for (number, count) in answers.filter(|(number, _)| *number != UNUSED) {
+    for (number, count) in counts.answers.iter().enumerate() {
         need(format!("answers with number {number}"), *count, 100);
     }
     for kind in [13, 14, 15, 16, 18] {

@@ -13,6 +13,7 @@ use crate::sheet;
 use crate::sheet_faults;
 use crate::subjects;
 use crate::value::{objects, Value};
+use crate::value_gen;
 
 /// What is asked of a program about a schema and a message or a sheet.
 #[derive(Clone, Debug)]
@@ -70,7 +71,10 @@ impl Probe {
 /// Probes of one random schema and value.
 pub fn random_probes(coding: Coding, rng: &mut Rng) -> Vec<Probe> {
     let schema = subjects::some_schema(coding, rng, 12);
-    let value = subjects::some_value(rng, &schema, 20);
+    let mut value = subjects::some_value(rng, &schema, 20);
+    if rng.one_in(4) {
+        value = value_gen::with_bad_texts(&schema, rng, &value).unwrap_or(value);
+    }
     let packed = match rng.below(20) {
         0 => schema_faults::damaged(rng, &schema.pack()),
         1 => {
@@ -133,7 +137,7 @@ fn some_messages(rng: &mut Rng, schema: &Schema, value: &Value) -> Vec<(Vec<u8>,
 }
 
 fn damaged(coding: Coding, rng: &mut Rng, wild: &Wild) -> Vec<Vec<u8>> {
-    let mut damaged = || damage::message(coding, rng, &wild.bytes, &wild.spots);
+    let mut damaged = || damage::message(coding, rng, wild);
     (0..3).map(|_| damaged()).collect()
 }
 

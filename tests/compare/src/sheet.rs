@@ -2,6 +2,7 @@
 
 use crate::bits::{BitReader, BitWriter};
 use crate::schema::*;
+use crate::text_gen::is_text;
 use crate::value::Value;
 
 /// A place in a sheet where a mark stands.
@@ -12,10 +13,21 @@ pub struct MarkSite {
     pub record: Record,
 }
 
+/// A sheet with where things stand in it.
+pub struct Encoded {
+    pub bytes: Vec<u8>,
+    pub marks: Vec<MarkSite>,
+    /// The first bits of the texts that are none.
+    pub no_texts: Vec<usize>,
+    /// The bits of the sheet, without those that fill the last byte.
+    pub bits: usize,
+}
+
 struct Encoder<'a> {
     schema: &'a Schema,
     out: BitWriter,
     marks: Vec<MarkSite>,
+    no_texts: Vec<usize>,
 }
 
 impl Encoder<'_> {
@@ -50,6 +62,9 @@ impl Encoder<'_> {
             }
             Value::Blob(bytes) => {
                 self.out.put(bytes.len() as u64, 32);
+                if record.kind == TEXT && !is_text(bytes) {
+                    self.no_texts.push(self.out.position());
+                }
                 self.out.put_bytes(bytes);
             }
             Value::List(parts) => {
@@ -86,19 +101,24 @@ impl Encoder<'_> {
 
 /// The sheet of a root value.
 pub fn encode(schema: &Schema, root: &Value) -> Vec<u8> {
-    encode_with_marks(schema, root).0
+    encode_with_sites(schema, root).bytes
 }
 
-/// The sheet of a root value, the places of its marks, and its bits.
-pub fn encode_with_marks(schema: &Schema, root: &Value) -> (Vec<u8>, Vec<MarkSite>, usize) {
+/// The sheet of a root value, with where things stand in it.
+pub fn encode_with_sites(schema: &Schema, root: &Value) -> Encoded {
     let mut encoder = Encoder {
         schema,
         out: BitWriter::default(),
         marks: Vec::new(),
+        no_texts: Vec::new(),
     };
     encoder.content(&Record::plain(TABLE, schema.root), root);
-    let bits = encoder.out.position();
-    (encoder.out.finish(), encoder.marks, bits)
+    Encoded {
+        bits: encoder.out.position(),
+        bytes: encoder.out.finish(),
+        marks: encoder.marks,
+        no_texts: encoder.no_texts,
+    }
 }
 
 struct Decoder<'a> {

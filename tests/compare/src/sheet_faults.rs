@@ -2,11 +2,20 @@
 
 use crate::rng::Rng;
 use crate::schema::*;
+use crate::text_gen;
 use crate::value::{depth, visit, Holder, Value};
 use crate::value_gen::{nan_bits, unknown_choice, unknown_enum};
 
+/// What a text that is none is counted as.
+pub const NO_TEXT: &str = "not writable: no text";
+
+/// What one is counted as that starts at this bit of a sheet.
+pub fn no_text_from(bit: usize) -> String {
+    format!("{NO_TEXT} from bit {} of a byte", bit % 8)
+}
+
 /// The ways of not being writable, as reports call them.
-const REASONS: [&str; 8] = [
+const REASONS: [&str; 9] = [
     "not writable: unknown enum",
     "not writable: unknown choice",
     "not writable: absent plain bool or integer",
@@ -15,6 +24,7 @@ const REASONS: [&str; 8] = [
     "not writable: NaN in an optional member",
     "not writable: NaN as an element",
     "not writable: empty in place",
+    NO_TEXT,
 ];
 
 /// Whether a reason can be put on an entry.
@@ -28,7 +38,8 @@ fn fits(schema: &Schema, reason: usize, holder: Holder, record: &Record) -> bool
         4 => plain_member && record.is_float(),
         5 => holder == Holder::Table && record.optional && record.is_float(),
         6 => holder == Holder::List && record.is_float(),
-        _ => record.in_place && record.kind != UNION && empty_object(schema, record).is_some(),
+        7 => record.in_place && record.kind != UNION && empty_object(schema, record).is_some(),
+        _ => record.kind == TEXT,
     }
 }
 
@@ -55,7 +66,8 @@ fn spoiled(schema: &Schema, rng: &mut Rng, reason: usize, record: &Record) -> Va
         }
         2..=4 => Value::Absent,
         5 | 6 => Value::Number(nan_bits(rng, record)),
-        _ => empty_object(schema, record).unwrap_or(Value::Absent),
+        7 => empty_object(schema, record).unwrap_or(Value::Absent),
+        _ => Value::Blob(text_gen::no_text(rng)),
     }
 }
 
@@ -84,6 +96,6 @@ pub fn unwritable(schema: &Schema, rng: &mut Rng, value: &Value) -> Option<(Valu
             countdown -= 1;
         }
     });
-    // An empty object may be one too deep, which is another refusal.
+    // An object that was absent may be one too deep, which is another refusal.
     (depth(&out) <= DEPTH_LIMIT).then_some((out, REASONS[reason]))
 }

@@ -21,6 +21,8 @@ pub enum Sort {
     Written,
     /// Laid out at random: shared, overlapping, shorter and longer tables.
     Wild,
+    /// Laid out at random with a text that is none, or several.
+    NoText,
     /// Laid out at random with one fault.
     Faulty,
     /// Damaged after it was laid out.
@@ -74,9 +76,10 @@ pub const DIRECT_SORTS: [Sort; 9] = [
 ];
 
 /// Every sort.
-pub const SORTS: [Sort; 20] = [
+pub const SORTS: [Sort; 21] = [
     Sort::Written,
     Sort::Wild,
+    Sort::NoText,
     Sort::Faulty,
     Sort::Damaged,
     Sort::DirectMagic,
@@ -207,11 +210,25 @@ impl Maker {
             self.add(Sort::Faulty, faulty.bytes);
         }
         self.add(Sort::Wild, whole.bytes);
+        if let Some(value) = value_gen::with_bad_texts(&self.schema, rng, value) {
+            self.no_texts(rng, &value);
+        }
+    }
+
+    /// A value with a text that is none as messages, without and with one fault, and
+    /// damaged.
+    fn no_texts(&mut self, rng: &mut Rng, value: &Value) {
+        let whole = message_gen::lay_out(&self.schema, rng, value.clone(), None);
+        self.damaged(rng, &whole, 1);
+        self.add(Sort::NoText, whole.bytes);
+        let fault = message_faults::choose(&self.schema, rng, value);
+        let faulty = message_gen::lay_out(&self.schema, rng, value.clone(), Some(fault));
+        self.add(Sort::Faulty, faulty.bytes);
     }
 
     fn damaged(&mut self, rng: &mut Rng, wild: &Wild, times: usize) {
         for _ in 0..times {
-            let bytes = damage::message(self.schema.coding, rng, &wild.bytes, &wild.spots);
+            let bytes = damage::message(self.schema.coding, rng, wild);
             self.add(Sort::Damaged, bytes);
         }
     }

@@ -6,7 +6,7 @@ use crate::subjects::{Sort, SORTS};
 use std::fmt;
 
 /// The numbers a judge answers.
-pub const NUMBERS: [u32; 12] = [0, 1, 2, 3, 4, 5, 6, 7, 8, 9, 10, 17];
+pub const NUMBERS: [u32; 13] = [0, 1, 2, 3, 4, 5, 6, 7, 8, 9, 10, 16, 17];
 
 /// How often each number was answered.
 type Row = [u64; NUMBERS.len()];

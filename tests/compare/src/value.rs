@@ -2,6 +2,7 @@
 
 use crate::program::Budget;
 use crate::schema::*;
+use crate::text_gen::is_text;
 
 /// One entry of a sheet: a table member, an element or a struct member.
 #[derive(Clone, Debug, PartialEq, Eq, Hash)]
@@ -140,6 +141,23 @@ pub fn has_direct_elements(schema: &Schema, root: &Value) -> bool {
     found
 }
 
+/// Whether every text of a value is text.
+pub fn texts_are_text(schema: &Schema, root: &Value) -> bool {
+    let mut fine = true;
+    let record = Record::plain(TABLE, schema.root);
+    visit(
+        schema,
+        &record,
+        &mut root.clone(),
+        &mut |_, record, value| {
+            if let (TEXT, Value::Blob(bytes)) = (record.kind, value) {
+                fine &= is_text(bytes);
+            }
+        },
+    );
+    fine
+}
+
 /// Whether the entry can stand in a message to be written.
 fn entry_writable(schema: &Schema, holder: Holder, record: &Record, value: &Value) -> bool {
     let plain = record.kind <= F64 || record.kind == STRUCT;
@@ -150,7 +168,10 @@ fn entry_writable(schema: &Schema, holder: Holder, record: &Record, value: &Valu
             let nan_is_absent = holder == Holder::List || record.optional;
             !(nan_is_absent && is_nan(record, *bits))
         }
-        Value::Blob(bytes) => !record.in_place || !bytes.is_empty(),
+        Value::Blob(bytes) => {
+            let lawful = record.kind != TEXT || is_text(bytes);
+            lawful && !(record.in_place && bytes.is_empty())
+        }
         Value::List(parts) => !record.in_place || !parts.is_empty(),
         Value::Table(_) => !record.in_place || schema.slots(record.argument).1 > 0,
         _ => true,

@@ -2,7 +2,8 @@
 
 use crate::rng::Rng;
 use crate::schema::*;
-use crate::value::{is_nan, objects, Value};
+use crate::text_gen;
+use crate::value::{is_nan, objects, visit, Value};
 use std::collections::HashMap;
 
 /// What a value is for.
@@ -135,7 +136,8 @@ impl Generator<'_> {
         }
         self.fuel -= 1;
         let value = match record.kind {
-            TEXT | BYTES => Value::Blob(self.blob(filled)),
+            TEXT => Value::Blob(self.text(filled)),
+            BYTES => Value::Blob(self.blob(filled)),
             LIST => self.list(record.argument, depth, spine, filled),
             DIRECT => self.direct(record.argument, depth, spine),
             _ => self.table(record.argument, depth, spine, filled),
@@ -163,6 +165,11 @@ impl Generator<'_> {
         }
         self.fuel -= count;
         Some(value)
+    }
+
+    fn text(&mut self, filled: bool) -> Vec<u8> {
+        let length = text_gen::some_length(self.rng);
+        text_gen::text(self.rng, length.max(usize::from(filled)))
     }
 
     fn blob(&mut self, filled: bool) -> Vec<u8> {
@@ -392,6 +399,35 @@ impl Generator<'_> {
             .collect();
         Value::Struct(parts)
     }
+}
+
+/// The value with one of its texts no text, or several; `None` where it has none.
+pub fn with_bad_texts(schema: &Schema, rng: &mut Rng, value: &Value) -> Option<Value> {
+    let root = Record::plain(TABLE, schema.root);
+    let a_text = |record: &Record, entry: &Value| {
+        let present = matches!(entry, Value::Blob(_));
+        record.kind == TEXT && present
+    };
+    let mut out = value.clone();
+    let mut texts = 0;
+    visit(schema, &root, &mut out, &mut |_, record, entry| {
+        texts += usize::from(a_text(record, entry));
+    });
+    if texts == 0 {
+        return None;
+    }
+    // Mostly one; else each with the same chance, the chosen one too.
+    let (chosen, more) = (rng.below(texts), rng.one_in(4));
+    let mut number = 0;
+    visit(schema, &root, &mut out, &mut |_, record, entry| {
+        if a_text(record, entry) {
+            if number == chosen || more && rng.one_in(3) {
+                *entry = Value::Blob(text_gen::no_text(rng));
+            }
+            number += 1;
+        }
+    });
+    Some(out)
 }
 
 /// A choice above the case count.

@@ -62,7 +62,7 @@ fn beyond_1(sort: &str, calls: u64, refused: u64) {
 }
 
 /// The answers of fields: every case, every refusal but 4, every kind.
-const ANSWERS: [(&str, u64); 42] = [
+const ANSWERS: [(&str, u64); 44] = [
     ("boolean 0", 10_000),
     ("boolean 1", 10_000),
     ("number of 8, signed 0", 10_000),
@@ -94,6 +94,7 @@ const ANSWERS: [(&str, u64); 42] = [
     ("refused 9", 500),
     ("refused 10", 1500),
     ("refused 15", 50_000),
+    ("refused 16", 4000),
     ("parts: bytes", 20_000),
     ("parts: empty", 5000),
     ("paths: 32 to 95 numbers", 200),
@@ -101,6 +102,7 @@ const ANSWERS: [(&str, u64); 42] = [
     ("paths: 97 numbers", 3000),
     ("paths: over 97 numbers", 5000),
     ("messages: Damaged", 15_000),
+    ("messages: NoText", 1000),
     ("messages: DirectNoSize", 300),
     ("messages: DirectCutSize", 300),
     ("messages: OtherCoding", 3000),
@@ -120,7 +122,7 @@ const MEMBERS_OF_FIELDS: [(&str, u64); 8] = [
 ];
 
 /// The list reader: its steps, and what it starts at.
-const LISTS: [(&str, u64); 42] = [
+const LISTS: [(&str, u64); 44] = [
     ("list calls", 300_000),
     ("lists", 20_000),
     ("direct lists", 10_000),
@@ -138,6 +140,7 @@ const LISTS: [(&str, u64); 42] = [
     ("list steps: refused 7", 1000),
     ("list steps: refused 9", 100),
     ("list steps: refused 10", 30),
+    ("list steps: refused 16", 1000),
     ("list steps: after the last", 15_000),
     ("answers of lists that are none", 100_000),
     ("list starts: no elements", 1000),
@@ -163,10 +166,11 @@ const LISTS: [(&str, u64); 42] = [
     ("list starts: refused 8", 800),
     ("list starts: refused 10", 100),
     ("list starts: refused 15", 5000),
+    ("list starts: refused 16", 800),
 ];
 
 fn fields_agree(coding: Coding) {
-    let outcome = fields::run(&LibraryCalls, &SecondCalls, coding, 1, 1_000_000);
+    let outcome = fields::run(&LibraryCalls, &SecondCalls, coding, 1, 1_100_000);
     let wanted = [&ANSWERS[..], &MEMBERS_OF_FIELDS, &LISTS].concat();
     let counts = reached(coding, outcome, &wanted);
     for (sort, refused) in [
@@ -187,7 +191,7 @@ fn fields_texts_and_lists_under_32_bits() {
     fields_agree(Coding::Bits32);
 }
 
-const READS: [(&str, u64); 42] = [
+const READS: [(&str, u64); 45] = [
     ("accepted: Written", 2500),
     ("accepted: Wild", 3500),
     ("accepted: Damaged", 5000),
@@ -198,6 +202,7 @@ const READS: [(&str, u64); 42] = [
     ("refused: BrokenSchema", 3000),
     ("refused: Damaged", 20_000),
     ("refused: Faulty", 7000),
+    ("refused: NoText", 2000),
     ("refused: DirectMagic", 300),
     ("refused: DirectId", 300),
     ("refused: DirectCountOver", 300),
@@ -225,10 +230,12 @@ const READS: [(&str, u64); 42] = [
     ("room: some, answer 8", 4000),
     ("room: some, answer 9", 500),
     ("room: some, answer 10", 1000),
+    ("room: some, answer 16", 6000),
     ("room: none, answer 4", 10_000),
     ("room: none, answer 6", 10_000),
     ("room: none, answer 9", 300),
     ("room: none, answer 10", 300),
+    ("room: none, answer 16", 2000),
     ("room: none, answer 17", 5000),
 ];
 
@@ -260,12 +267,13 @@ fn reading_to_a_sheet_under_32_bits() {
     reads_agree(Coding::Bits32);
 }
 
-const WRITES: [(&str, u64); 29] = [
+const WRITES: [(&str, u64); 30] = [
     ("sheets of a writable value, answer 0", 8000),
     ("sheets of any value, answer 0", 5000),
     ("sheets of any value, answer 11", 300),
     ("sheets of any value, answer 12", 2500),
     ("sheets made unwritable, answer 12", 8000),
+    ("sheets with no text, answer 12", 4000),
     ("sheets damaged, answer 0", 4000),
     ("sheets damaged, answer 11", 20_000),
     ("sheets damaged, answer 12", 600),

@@ -1,12 +1,16 @@
 //! The side by side of the C interface must catch programs that are wrong:
 //! each program here is the second program with one fault.
 
-use compare::calls::{fields, reads, writes, Calls, Read, SecondCalls, Writes};
+use compare::calls::{fields, reads, texts, writes, Calls, Read, SecondCalls, Writes};
 use compare::coding::{Coding, CODINGS};
 use compare::judging;
-use compare::program::{Budget, Judge, Verdict, NO_MEMBER};
+use compare::program::{accepted, Budget, Judge, Verdict, NO_MEMBER};
 use compare::schema::Packed;
 use compare::schema_rules;
+use text_at::{has_no_text, no_text_at};
+
+#[path = "common/text_at.rs"]
+mod text_at;
 
 #[derive(Clone, Copy, Debug, PartialEq)]
 enum Flaw {
@@ -52,6 +56,15 @@ enum Flaw {
     DirectElementAsDirect,
     DirectHeaderOf10,
     NoListReaderAtDirect,
+    AnyTextTaken,
+    TextBeforeEndByte,
+    ContentOf16,
+    MemberOf16,
+    FieldsTakeAnyText,
+    PartOfNoText,
+    ListsTakeAnyText,
+    SheetOfNoText,
+    WrittenBeforeText,
 }
 
 struct Flawed(Flaw);
@@ -66,7 +79,18 @@ impl Flawed {
         match (self.0, number) {
             (Flaw::ContentOneMore, 0) => verdict.content += 1,
             (Flaw::VisitOf17NotCounted, 17) => verdict.visits -= 1,
+            (Flaw::AnyTextTaken, 16) => verdict = accepted(verdict.visits, verdict.content),
+            (Flaw::ContentOf16, 16) => verdict.content -= 1,
             _ => {}
+        }
+        verdict
+    }
+
+    /// The same with 16 before 10.
+    fn text_first(&self, schema: &Packed, message: &[u8], mut verdict: Verdict) -> Verdict {
+        let no_text = no_text_at(schema, message, verdict.place);
+        if self.0 == Flaw::TextBeforeEndByte && verdict.number == 10 && no_text.is_some() {
+            verdict.number = 16;
         }
         verdict
     }
@@ -121,6 +145,7 @@ fn with_member(flaw: Flaw, refused: [u64; 4]) -> [u64; 4] {
         (Flaw::MemberOneMore, 8..=10) if member != NONE => member + 1,
         (Flaw::MemberOfEndByte, 10) if member == NONE => 0,
         (Flaw::MemberOf15, 15) => 0,
+        (Flaw::MemberOf16, 16) => 0,
         _ => member,
     };
     [case, number, place, member]
@@ -152,7 +177,7 @@ impl Judge for Flawed {
 
     fn judge(&self, schema: &Packed, message: &[u8], budget: Budget) -> Verdict {
         let verdict = SecondCalls.judge(&self.taken(schema), message, self.budget(budget));
-        self.judged(verdict)
+        self.judged(self.text_first(schema, message, verdict))
     }
 }
 
@@ -173,6 +198,10 @@ impl Calls for Flawed {
                 _ => answer,
             },
             (Flaw::DirectHeaderOf10, [3, 18, at, length]) => [3, 18, at + 8, length],
+            (Flaw::FieldsTakeAnyText, [7, 16, at, _]) => match no_text_at(schema, message, at) {
+                Some(length) => [3, 13, at, length],
+                None => answer,
+            },
             (flaw, [7, ..]) => with_member(flaw, answer),
             _ => answer,
         }
@@ -185,6 +214,10 @@ impl Calls for Flawed {
             (Flaw::TextOneLonger, [1, start, length]) => [1, start, length + 1],
             (Flaw::TextOfAList, [0, ..]) => match SecondCalls.field(schema, message, path) {
                 [3, 15, at, length] => [1, at + 10, length],
+                _ => part,
+            },
+            (Flaw::PartOfNoText, [0, ..]) => match SecondCalls.field(schema, message, path) {
+                [7, 16, at, _] => [1, at + 10, 1],
                 _ => part,
             },
             _ => part,
@@ -215,6 +248,11 @@ impl Calls for Flawed {
                     case[3] = NONE;
                 }
             }
+            Flaw::ListsTakeAnyText => {
+                let refused = |case: &&mut [u64]| case[..2] == [7, 16];
+                let answers = cases.chunks_exact_mut(4).filter(refused);
+                answers.for_each(|case| case.copy_from_slice(&[5, 0, 0, 0]));
+            }
             Flaw::ListOneShort => return count.saturating_sub(1),
             Flaw::ListGoesOnAtTheEnd if from >= count && count > 0 => {
                 SecondCalls.list(schema, message, path, count - 1, cases);
@@ -236,12 +274,13 @@ impl Calls for Flawed {
     fn read(&self, schema: &Packed, message: &[u8], budget: Budget, sheet: &mut [u8]) -> Read {
         let (schema, budget) = (&self.taken(schema), self.budget(budget));
         let mut answer = SecondCalls.read(schema, message, budget, sheet);
-        answer.verdict = self.judged(answer.verdict);
+        answer.verdict = self.judged(self.text_first(schema, message, answer.verdict));
         let (number, used) = (answer.verdict.number, answer.length as usize);
         match self.0 {
             Flaw::SheetOfZeros => sheet[..used].fill(0),
             Flaw::SheetByteAfter if number == 0 => change(sheet, used),
             Flaw::SheetOnRefusal if number != 0 => change(sheet, 0),
+            Flaw::SheetOfNoText if number == 16 => change(sheet, 0),
             Flaw::SheetLengthOnRefusal if number == 14 => answer.length = 1,
             Flaw::SheetRoomOneMore if number == 14 => {
                 let mut more = vec![0; sheet.len() + 1];
@@ -273,13 +312,16 @@ impl Writes for Flawed {
                 return SecondCalls.write(schema, sheet, &mut more);
             }
             Flaw::NotWritableFirst if number == 11 => return [12, 0],
+            Flaw::WrittenBeforeText if number == 12 && has_no_text(schema, sheet) => {
+                change(message, 0);
+            }
             _ => {}
         }
         answer
     }
 }
 
-const IN_FIELDS: [Flaw; 16] = [
+const IN_FIELDS: [Flaw; 20] = [
     Flaw::AlwaysAbsent,
     Flaw::UnusedNumberLeft,
     Flaw::HolderNotJudged,
@@ -296,9 +338,13 @@ const IN_FIELDS: [Flaw; 16] = [
     Flaw::MemberOfEndByte,
     Flaw::MemberOf15,
     Flaw::NoMemberInLists,
+    Flaw::MemberOf16,
+    Flaw::FieldsTakeAnyText,
+    Flaw::PartOfNoText,
+    Flaw::ListsTakeAnyText,
 ];
 
-const IN_VERDICTS: [Flaw; 7] = [
+const IN_VERDICTS: [Flaw; 11] = [
     Flaw::NoMember,
     Flaw::MemberOneMore,
     Flaw::MemberOfEndByte,
@@ -306,9 +352,13 @@ const IN_VERDICTS: [Flaw; 7] = [
     Flaw::OneByteTooMany,
     Flaw::ContentOneMore,
     Flaw::VisitOf17NotCounted,
+    Flaw::AnyTextTaken,
+    Flaw::TextBeforeEndByte,
+    Flaw::ContentOf16,
+    Flaw::MemberOf16,
 ];
 
-const IN_READS: [Flaw; 7] = [
+const IN_READS: [Flaw; 8] = [
     Flaw::SheetOfZeros,
     Flaw::SheetByteAfter,
     Flaw::SheetOnRefusal,
@@ -316,15 +366,17 @@ const IN_READS: [Flaw; 7] = [
     Flaw::SheetRoomOneMore,
     Flaw::NoVisitsAt14,
     Flaw::NoContentAt14,
+    Flaw::SheetOfNoText,
 ];
 
-const IN_WRITES: [Flaw; 6] = [
+const IN_WRITES: [Flaw; 7] = [
     Flaw::WritesNothing,
     Flaw::MessageByteAfter,
     Flaw::MessageOnRefusal,
     Flaw::MessageUnusedBit,
     Flaw::MessageRoomOneMore,
     Flaw::NotWritableFirst,
+    Flaw::WrittenBeforeText,
 ];
 
 /// What the side by side of fields must catch in direct lists, which the older
@@ -335,6 +387,19 @@ const IN_DIRECT_LISTS: [Flaw; 5] = [
     Flaw::DirectElementAsDirect,
     Flaw::DirectHeaderOf10,
     Flaw::NoListReaderAtDirect,
+];
+
+/// What the side by side of texts must catch.
+const IN_TEXTS: [Flaw; 9] = [
+    Flaw::AnyTextTaken,
+    Flaw::TextBeforeEndByte,
+    Flaw::ContentOf16,
+    Flaw::MemberOf16,
+    Flaw::FieldsTakeAnyText,
+    Flaw::PartOfNoText,
+    Flaw::ListsTakeAnyText,
+    Flaw::SheetOfNoText,
+    Flaw::WrittenBeforeText,
 ];
 
 /// What every side by side must catch.
@@ -388,6 +453,20 @@ fn direct_lists_side_by_side_catch_flaws() {
     let read = reads::run(without, &SecondCalls, coding, 9, CALLS);
     let written = writes::run(without, &SecondCalls, coding, 9, CALLS);
     assert!(judged.is_err() && read.is_err() && written.is_err());
+}
+
+/// Each text is held by a schema of its own coding, so that what is wrong about
+/// codings does not show here.
+#[test]
+fn texts_side_by_side_catch_flaws() {
+    for coding in CODINGS {
+        for flaw in IN_TEXTS {
+            let outcome = texts::run(&Flawed(flaw), &SecondCalls, coding, 9, CALLS / 10);
+            assert!(outcome.is_err(), "texts miss {flaw:?} under {coding:?}");
+        }
+        let outcome = texts::run(&SecondCalls, &SecondCalls, coding, 9, CALLS / 10);
+        assert!(outcome.is_ok());
+    }
 }
 
 #[test]

@@ -86,18 +86,36 @@ fn full_texts_and_bytes() {
     for coding in CODINGS {
         for (kind, length) in [(TEXT, content(coding) - 1), (BYTES, content(coding))] {
             let schema = root_with(coding, Record::plain(kind, 0));
-            let message = filled(&schema, Value::Blob(Vec::new()), length);
+            let mut message = filled(&schema, Value::Blob(Vec::new()), length);
+            if kind == TEXT {
+                fill_with_text(&mut message[before_content(coding)..SIZE_LIMIT - 1]);
+            }
             let exact = (34 + 8 * length).div_ceil(8) as usize;
             for room in [exact, SIZE_LIMIT, SIZE_LIMIT + 1000] {
                 assert_eq!(read(&schema, &message, room), (0, exact));
             }
             assert_eq!(read(&schema, &message, exact - 1), (14, 0));
+            if kind == TEXT {
+                message[SIZE_LIMIT - 2] = 0xC2;
+                assert_eq!(read(&schema, &message, exact), (16, 0));
+            }
         }
     }
 }
 
-/// A text of the given length, named so often by one list, and a list of that
-/// list.
+/// Characters of one to four bytes over and over, and ASCII where none fits.
+fn fill_with_text(bytes: &mut [u8]) {
+    let text = "aß€𐍈".as_bytes();
+    for part in bytes.chunks_mut(text.len()) {
+        match part.len() == text.len() {
+            true => part.copy_from_slice(text),
+            false => part.fill(b'x'),
+        }
+    }
+}
+
+/// A text or bytes of the given length, named so often by one list, and a list of
+/// that list.
 fn naming(schema: &Schema, text: usize, lists: usize, texts: usize) -> Vec<u8> {
     let coding = schema.coding;
     let (offset, header) = (coding.offset(), coding.header());
@@ -111,23 +129,36 @@ fn naming(schema: &Schema, text: usize, lists: usize, texts: usize) -> Vec<u8> {
         message.extend(coding.bytes(count as u64));
         message.extend(coding.bytes(to as u64).repeat(count));
     }
-    message.extend_from_slice(&0xD812_C8F5u32.to_le_bytes());
+    let magic = canonical::magic(schema, &schema.lists[1]);
+    message.extend_from_slice(&magic.to_le_bytes());
     message.extend(coding.bytes(text as u64));
     message.resize(message.len() + text, b'x');
     message.push(0);
     message
 }
 
-/// The sheet of a text named often, at the size and over it; and one that
-/// would be some 65 billion bytes, which is refused without that work.
+/// The sheet of a text named often, at the size and over it.
 #[test]
 fn a_text_named_often() {
     CODINGS.into_iter().for_each(one_text_named_often);
 }
 
-fn one_text_named_often(coding: Coding) {
+/// A sheet that would be some 65 billion bytes, which is refused without that
+/// work; of texts, each of which is judged at every arrival, with an allowance.
+#[test]
+fn a_blob_named_a_million_times() {
+    CODINGS.into_iter().for_each(one_blob_named_often);
+}
+
+/// A list of lists of texts or of bytes.
+fn lists_of(coding: Coding, kind: u8) -> Schema {
     let mut schema = root_with(coding, Record::plain(LIST, 0));
-    schema.lists = vec![Record::plain(LIST, 1), Record::plain(TEXT, 0)];
+    schema.lists = vec![Record::plain(LIST, 1), Record::plain(kind, 0)];
+    schema
+}
+
+fn one_text_named_often(coding: Coding) {
+    let schema = lists_of(coding, TEXT);
     let bits = |text: usize, texts: usize| 34 + 34 + texts * (34 + 8 * text);
     let exact = bits(65_530, 256).div_ceil(8);
     assert_eq!(exact, 16_776_777);
@@ -136,30 +167,40 @@ fn one_text_named_often(coding: Coding) {
     assert_eq!(read(&schema, &fits, exact - 1), (14, 0));
     let over = naming(&schema, 65_530, 1, 257);
     assert_eq!(read(&schema, &over, SIZE_LIMIT + 70_000), (14, 0));
+}
+
+fn one_blob_named_often(coding: Coding) {
+    let schema = lists_of(coding, BYTES);
     let packed = schema.pack();
     let far_over = naming(&schema, 65_530, 1000, 1000);
     let mut sheet = vec![3; SIZE_LIMIT];
     let began = Instant::now();
     let given = LibraryCalls.read(&packed, &far_over, Budget::LARGEST, &mut sheet);
     assert!(began.elapsed() < Duration::from_secs(2), "too much work");
-    // A root, a list of lists, 1,000 times the list and 1,000,000 times the text.
+    // A root, a list of lists, 1,000 times the list and 1,000,000 times the bytes.
     let offsets = (1 + 1000 + 1_000_000) * coding.offset() as u64;
     let content = offsets + 65_530 * 1_000_000;
     let no_room = verdict(14, 0, 2 + 1000 + 1_000_000, content);
     let (verdict, length) = (no_room, 0);
     assert_eq!(given, Read { verdict, length });
     refused_by_content(&schema, &far_over, &mut sheet);
+    let schema = lists_of(coding, TEXT);
+    let far_over = naming(&schema, 65_530, 1000, 1000);
+    refused_by_content(&schema, &far_over, &mut sheet);
     assert!(sheet.iter().all(|&byte| byte == 3));
 }
 
-/// With an allowance of 10,000,000 bytes the same is refused by 17 at the text.
+/// With an allowance of 10,000,000 bytes the same is refused by 17 at the text or
+/// the bytes.
 fn refused_by_content(schema: &Schema, message: &[u8], sheet: &mut [u8]) {
     let (packed, coding) = (schema.pack(), schema.coding);
     let budget = Budget {
         content: 10_000_000,
         ..Budget::LARGEST
     };
+    let began = Instant::now();
     let given = LibraryCalls.read(&packed, message, budget, sheet);
+    assert!(began.elapsed() < Duration::from_secs(2), "too much work");
     assert_eq!(given, SecondCalls.read(&packed, message, budget, sheet));
     // The root, both lists, and then the text until it would pass.
     let before = (1 + 1000 + 1000) * coding.offset() as u64;

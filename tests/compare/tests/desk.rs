@@ -108,6 +108,8 @@ fn refused_at_an_object() {
     assert_eq!(printed(SCHEMA, &changed(28, 0)), "7 28 2\n");
     assert_eq!(printed(SCHEMA, &changed(14, 5)), "8 10 1\n");
     assert_eq!(printed(SCHEMA, &changed(40, 1)), "10 28 2\n");
+    assert_eq!(printed(SCHEMA, &changed(38, 0xFF)), "16 28 2\n");
+    assert_eq!(printed(SCHEMA, &changed(39, 0xC2)), "16 28 2\n");
 }
 
 #[test]

@@ -9,6 +9,10 @@ use compare::program::{accepted, Answer, Budget, Judge, Program, Relations, Seco
 use compare::program::{Verdict, NO_MEMBER};
 use compare::schema::Packed;
 use compare::side_by_side::side_by_side;
+use text_at::{has_no_text, no_text_at};
+
+#[path = "common/text_at.rs"]
+mod text_at;
 
 #[derive(Clone, Copy, Debug, PartialEq)]
 enum Flaw {
@@ -27,12 +31,21 @@ enum Flaw {
     ContentOneMore,
     ContentOf17,
     VisitOf17NotCounted,
+    AnyTextTaken,
+    TextBeforeEndByte,
+    TextBeforeContent,
+    ContentOf16,
+    VisitOf16NotCounted,
+    MemberOf16,
+    TextAtNoPlace,
     UnknownAsAbsent,
     FixedSheet,
     WritesNothing,
     ReadsWithoutRoom,
     NumbersSigned,
     ListReaderStaysOneShort,
+    FieldsTakeAnyText,
+    SheetsOfNoTextUnlawful,
     TextWithItsZero,
     NeverAppends,
     AlwaysAppends,
@@ -69,7 +82,26 @@ fn flawed_member(flaw: Flaw, number: u32, member: u32) -> u32 {
         Flaw::MemberAlwaysNone => NO_MEMBER,
         Flaw::MemberOfEndByte if number == 10 && member == NO_MEMBER => 0,
         Flaw::MemberOfAcceptance if number == 0 => 0,
+        Flaw::MemberOf16 if number == 16 => 0,
         _ => member,
+    }
+}
+
+/// The verdict of a program that is wrong about texts.
+fn flawed_text(flaw: Flaw, schema: &Packed, message: &[u8], verdict: Verdict) -> Verdict {
+    let refused = |content| Verdict {
+        number: 16,
+        content,
+        ..verdict
+    };
+    let (number, content) = (verdict.number, verdict.content);
+    let no_text = no_text_at(schema, message, verdict.place);
+    match (flaw, number, no_text) {
+        (Flaw::AnyTextTaken, 16, _) => accepted(verdict.visits, content),
+        (Flaw::TextBeforeEndByte, 10, Some(_)) if verdict.member == NO_MEMBER => refused(content),
+        (Flaw::TextBeforeContent, 17, Some(length)) => refused(content + length),
+        (Flaw::ContentOf16, 16, Some(length)) => refused(content - length),
+        _ => verdict,
     }
 }
 
@@ -79,7 +111,8 @@ impl Judge for Flawed {
     }
 
     fn judge(&self, schema: &Packed, message: &[u8], budget: Budget) -> Verdict {
-        let mut verdict = Second.judge(schema, message, flawed_budget(self.0, budget));
+        let verdict = Second.judge(schema, message, flawed_budget(self.0, budget));
+        let mut verdict = flawed_text(self.0, schema, message, verdict);
         let number = verdict.number;
         verdict.member = flawed_member(self.0, number, verdict.member);
         match self.0 {
@@ -90,6 +123,8 @@ impl Judge for Flawed {
             Flaw::ContentOneMore if number == 0 => verdict.content += 1,
             Flaw::ContentOf17 if number == 17 => verdict.content += 1,
             Flaw::VisitOf17NotCounted if number == 17 => verdict.visits -= 1,
+            Flaw::VisitOf16NotCounted if number == 16 => verdict.visits -= 1,
+            Flaw::TextAtNoPlace if number == 16 => verdict.place = 0,
             _ => {}
         }
         verdict
@@ -116,6 +151,9 @@ impl Program for Flawed {
         let (number, message) = Second.write(schema, sheet, room);
         match self.0 {
             Flaw::WritesNothing => (number, Vec::new()),
+            Flaw::SheetsOfNoTextUnlawful if number == 12 && has_no_text(schema, sheet) => {
+                (11, Vec::new())
+            }
             _ => (number, message),
         }
     }
@@ -123,6 +161,7 @@ impl Program for Flawed {
     fn field(&self, schema: &Packed, message: &[u8], path: &[u32]) -> Answer {
         match (self.0, Second.field(schema, message, path)) {
             (Flaw::UnknownAsAbsent, Answer::Unknown(_)) => Answer::Absent,
+            (Flaw::FieldsTakeAnyText, Answer::Refused { number: 16, .. }) => Answer::Absent,
             (Flaw::NumbersSigned, Answer::Number { bits, width, .. }) => Answer::Number {
                 bits,
                 width,
@@ -193,7 +232,7 @@ impl Relations for Flawed {
     }
 }
 
-const IN_VERDICTS: [Flaw; 15] = [
+const IN_VERDICTS: [Flaw; 22] = [
     Flaw::AcceptsEverything,
     Flaw::RefusesEverything,
     Flaw::VisitsOneMore,
@@ -209,15 +248,24 @@ const IN_VERDICTS: [Flaw; 15] = [
     Flaw::ContentOneMore,
     Flaw::ContentOf17,
     Flaw::VisitOf17NotCounted,
+    Flaw::AnyTextTaken,
+    Flaw::TextBeforeEndByte,
+    Flaw::TextBeforeContent,
+    Flaw::ContentOf16,
+    Flaw::VisitOf16NotCounted,
+    Flaw::MemberOf16,
+    Flaw::TextAtNoPlace,
 ];
 
-const IN_OTHER_CALLS: [Flaw; 6] = [
+const IN_OTHER_CALLS: [Flaw; 8] = [
     Flaw::UnknownAsAbsent,
     Flaw::FixedSheet,
     Flaw::WritesNothing,
     Flaw::ReadsWithoutRoom,
     Flaw::NumbersSigned,
     Flaw::ListReaderStaysOneShort,
+    Flaw::FieldsTakeAnyText,
+    Flaw::SheetsOfNoTextUnlawful,
 ];
 
 const IN_RELATIONS: [Flaw; 3] = [

@@ -18,7 +18,7 @@ const MESSAGES: u64 = 400_000;
 /// At least so many messages of each number with an ample budget; a spent
 /// budget is rare there, and comes from the smaller ones.
 const NUMBERS_SEEN: [u64; NUMBERS.len()] = [
-    30_000, 20_000, 5000, 10_000, 0, 2000, 40_000, 20_000, 10_000, 1000, 2000, 0,
+    30_000, 20_000, 5000, 10_000, 0, 2000, 40_000, 20_000, 10_000, 1000, 2000, 15_000, 0,
 ];
 
 /// At least so many calls that spent an allowance.
@@ -92,9 +92,13 @@ fn shortfalls(coding: Coding, tally: &Tally) -> Vec<String> {
         let name = format!("{allowed:?}, number {number}");
         need(name, tally.with(allowed, number), least);
     }
-    for number in [0, 5, 6, 7, 8, 9, 10].into_iter().filter(possible) {
+    for number in [0, 5, 6, 7, 8, 9, 10, 16].into_iter().filter(possible) {
         let name = format!("damaged, number {number}");
         need(name, tally.of(Sort::Damaged, number), 500);
+    }
+    for sort in [Sort::NoText, Sort::Faulty, Sort::Damaged] {
+        let name = format!("{sort:?}, number 16");
+        need(name, tally.of(sort, 16), 2000);
     }
     let name = "damaged schemas still lawful".to_string();
     let lawful = tally.of_sort(Sort::DamagedSchema) - tally.of(Sort::DamagedSchema, 1);

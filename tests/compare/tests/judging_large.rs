@@ -80,6 +80,38 @@ fn objects_that_fill_the_largest_message() {
     }
 }
 
+/// A text that fills the largest message, with one byte that is none's.
+#[test]
+fn a_byte_of_the_largest_text() {
+    for coding in CODINGS {
+        let schema = root_with(coding, Record::plain(TEXT, 0));
+        let (length, root) = (room(coding) - 1, coding.offset() as u64);
+        let mut message = filled(&schema, Value::Blob(Vec::new()), length);
+        let start = SIZE_LIMIT - 1 - length as usize;
+        message[start..SIZE_LIMIT - 1].fill(b'x');
+        takes(&schema, &message, root + length);
+        for at in [
+            0,
+            1,
+            63,
+            64,
+            4095,
+            65_536,
+            length / 2,
+            length - 2,
+            length - 1,
+        ] {
+            let at = start + at as usize;
+            for byte in [0x80, 0xE1, 0xFF] {
+                message[at] = byte;
+                let refused = verdict(16, second_at(coding), 2, root + length);
+                assert_eq!(judged(&schema, &message, 2), refused, "{at}");
+            }
+            message[at] = b'x';
+        }
+    }
+}
+
 #[test]
 fn lists_that_fill_the_largest_message() {
     for kind in [BOOL, 1, 2, 3, 4, F32, TEXT] {

@@ -20,7 +20,7 @@ fn reached(kind: &str, way: &str) -> BTreeSet<u32> {
         numbers.insert(9);
     }
     match kind {
-        "text" => numbers.insert(10),
+        "text" => numbers.insert(10) && numbers.insert(16),
         "table" | "direct list" => numbers.insert(8),
         _ => false,
     };

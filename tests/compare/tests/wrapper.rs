@@ -2,8 +2,11 @@
 //! reading, writing, fields, texts and lists.
 
 use compare::coding::{Coding, CODINGS};
+use compare::held_text::{HeldText, Way};
 use compare::program::{Library, Second};
+use compare::rng::Rng;
 use compare::side_by_side::side_by_side;
+use compare::text_gen;
 use scalgo::{Answer, List};
 
 fn agree(coding: Coding) {
@@ -21,6 +24,26 @@ fn wrapper_and_second_program_agree() {
 #[test]
 fn wrapper_and_second_program_agree_under_32_bits() {
     agree(Coding::Bits32);
+}
+
+/// A text in every way is had as a `str` exactly where it is one.
+#[test]
+fn texts_as_str() {
+    let mut rng = Rng::new(1);
+    for (coding, of_wrapper) in CODINGS.into_iter().zip(scalgo::Coding::ALL) {
+        assert_eq!(coding.number(), of_wrapper.number());
+        for way in Way::of(coding).into_iter().cycle().take(6000) {
+            let length = 1 + text_gen::some_length(&mut rng);
+            let bytes = match rng.coin() {
+                true => text_gen::text(&mut rng, length),
+                false => text_gen::no_text_of(&mut rng, length),
+            };
+            let held = HeldText::new(coding, way, 0, &bytes);
+            let (schema, message) = (&held.schema.bytes, &held.message);
+            let given = scalgo::text_str(of_wrapper, schema, message, &held.path);
+            assert_eq!(given, std::str::from_utf8(&bytes).ok(), "{way:?}");
+        }
+    }
 }
 
 const SCHEMA: &[u8] = b"\x00\x01\x00\x01\x00\x68\x00\x4C\x49\x43\x45\x01\x78\x00";

@@ -160,6 +160,16 @@ impl<'a> BitReader<'a> {
         Some(())
     }
 
+    /// Reads so many bytes; none where fewer are left.
+    pub fn take_vec(&mut self, count: u64) -> Option<Vec<u8>> {
+        if count > self.rest() / 8 {
+            return None;
+        }
+        let mut bytes = vec![0; count as usize];
+        self.take_bytes(&mut bytes)?;
+        Some(bytes)
+    }
+
     /// "then zero bits to the byte end, nothing more"
     pub fn is_finished(&self) -> bool {
         match self.rest() {
@@ -211,6 +221,10 @@ mod tests {
                 let bytes = writer.finish();
                 let mut reader = BitReader::new(&bytes);
                 reader.skip(u64::from(shift)).unwrap();
+                let more = bytes.len() as u64 + 1;
+                assert_eq!(reader.clone().take_vec(more), None);
+                let back = reader.clone().take_vec(length as u64);
+                assert_eq!(back.as_deref(), Some(&text[..length]));
                 let mut back = vec![0; length];
                 reader.take_bytes(&mut back).unwrap();
                 assert_eq!(back, &text[..length]);

@@ -9,6 +9,7 @@
 //! The modules, from the bottom up:
 //! - `coding`: the two codings, and which sentences decide about the older;
 //! - `bits`: the bit-packed sheet, written and read;
+//! - `utf8`: which bytes are text;
 //! - `schema`: the packed schema, its lawfulness and the layout of its tables;
 //! - `message`: what a single arrival judges, and where a member or element leads;
 //! - `walk`: the verdict;
@@ -28,6 +29,7 @@ mod message;
 mod plan;
 mod schema;
 mod sheet;
+mod utf8;
 mod walk;
 mod write;
 

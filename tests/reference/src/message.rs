@@ -3,6 +3,7 @@
 
 use crate::coding::Coding;
 use crate::schema::{Kind, Member, Schema, Target};
+use crate::utf8;
 
 /// "Message and sheet: at most 16,777,215 bytes each."
 pub const SIZE: usize = 16_777_215;
@@ -238,7 +239,8 @@ pub fn open_message(schema: &Schema, message: &[u8]) -> Result<(Target, Spot), R
 }
 
 /// "Judged at an arrival: budget, depth, offset and header fit, magic, content
-/// fit, text's end byte." All but the budget, which is the walk's.
+/// fit, text's end byte", and then that it is text. All but the budget, which is
+/// the walk's.
 pub fn open(
     schema: &Schema,
     message: &[u8],
@@ -247,7 +249,7 @@ pub fn open(
     depth: u32,
 ) -> Result<Object, Refusal> {
     let object = fit(schema, message, target, spot, depth)?;
-    judge_end(message, &object)?;
+    judge_text(message, &object)?;
     Ok(object)
 }
 
@@ -306,10 +308,17 @@ impl Said {
     }
 }
 
-/// "text's end byte"
-pub fn judge_end(message: &[u8], object: &Object) -> Result<(), Refusal> {
-    if object.target == Target::Text && message[object.end()] != 0 {
+/// "text's end byte", and "16 at the text's place, after the end byte", where the
+/// text is not UTF-8.
+pub fn judge_text(message: &[u8], object: &Object) -> Result<(), Refusal> {
+    if object.target != Target::Text {
+        return Ok(());
+    }
+    if message[object.end()] != 0 {
         return Err(Refusal::new(10, object.place));
+    }
+    if !utf8::is_text(&message[object.start..object.end()]) {
+        return Err(Refusal::new(16, object.place));
     }
     Ok(())
 }

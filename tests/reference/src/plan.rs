@@ -4,6 +4,7 @@ use crate::bits::BitReader;
 use crate::message::{header_size, is_nan, list_bytes, DEPTH, SIZE};
 use crate::schema::{Kind, Schema, Target};
 use crate::sheet::{ABSENT, PRESENT, UNKNOWN};
+use crate::utf8;
 
 /// A sheet passed over from its start, and what was learned on the way.
 pub struct Plan<'a> {
@@ -70,10 +71,17 @@ impl<'a> Plan<'a> {
             return None;
         }
         let (length, bytes) = match target {
-            Target::Text | Target::Bytes => {
+            Target::Text => {
+                let length = self.sheet.take(32)?;
+                // "a sheet with such a text is 12"
+                let text = self.sheet.take_vec(length)?;
+                self.writable &= utf8::is_text(&text);
+                (length, length + 1)
+            }
+            Target::Bytes => {
                 let length = self.sheet.take(32)?;
                 self.sheet.skip(length * 8)?;
-                (length, length + u64::from(target == Target::Text))
+                (length, length)
             }
             Target::List(index) => {
                 let count = self.sheet.take(32)?;

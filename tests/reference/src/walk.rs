@@ -1,7 +1,7 @@
 //! The walk: the verdict on a message.
 
 use crate::message::{
-    content_length, element_lead, find, fit, judge_end, judge_struct, member_lead, open_message,
+    content_length, element_lead, find, fit, judge_struct, judge_text, member_lead, open_message,
     Lead, Object, Refusal, Spot,
 };
 use crate::schema::{Kind, Schema, Target};
@@ -58,7 +58,7 @@ impl Verdict {
     }
 }
 
-/// Judges a message by a packed schema. Numbers 0 to 10, and 17.
+/// Judges a message by a packed schema. Numbers 0 to 10, 16 and 17.
 pub fn judge(coding: u32, schema: &[u8], message: &[u8], budget: Budget) -> Verdict {
     match Schema::parse(coding, schema) {
         Some(schema) => judge_parsed(&schema, message, budget),
@@ -98,7 +98,7 @@ impl Walk<'_> {
         self.visits += 1;
         let object = fit(self.schema, self.message, target, spot, depth)?;
         self.add_content(&object)?;
-        judge_end(self.message, &object)?;
+        judge_text(self.message, &object)?;
         match target {
             Target::Text | Target::Bytes => Ok(()),
             Target::List(index) => self.list(index, &object, depth),

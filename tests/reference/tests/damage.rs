@@ -102,10 +102,11 @@ fn the_rich_sheet_comes_back() {
     assert_eq!(read(48, &schema, &message, 99, usize::MAX).1, sheet);
 }
 
-/// What must hold of a message and a schema, whatever they are.
-fn hold(schema: &[u8], message: &[u8], random: &mut Random) -> bool {
+/// What must hold of a message and a schema, whatever they are. Gives the
+/// verdict's number.
+fn hold(schema: &[u8], message: &[u8], random: &mut Random) -> u32 {
     let verdict = judge(48, schema, message, 500);
-    assert!(verdict.visits <= 500 && verdict.number <= 10);
+    assert!(verdict.visits <= 500 && matches!(verdict.number, 0..=10 | 16));
     let (answer, sheet) = read(48, schema, message, 500, 100_000);
     if verdict.number != 0 {
         assert_eq!((answer, sheet.len()), (verdict, 0));
@@ -128,7 +129,7 @@ fn hold(schema: &[u8], message: &[u8], random: &mut Random) -> bool {
             reader.step();
         }
     }
-    verdict.number == 0
+    verdict.number
 }
 
 #[test]
@@ -136,13 +137,14 @@ fn damaged_messages() {
     let schema = rich().pack();
     let message = write(48, &schema, &rich_sheet().done(), usize::MAX).1;
     let mut random = Random(1);
-    let mut accepted = 0;
+    let mut numbers = [0; 17];
     for _ in 0..60_000 {
         let mut damaged = message.clone();
         random.damage(&mut damaged);
-        accepted += u32::from(hold(&schema, &damaged, &mut random));
+        numbers[hold(&schema, &damaged, &mut random) as usize] += 1;
     }
-    assert!((6_000..54_000).contains(&accepted), "{accepted}");
+    assert!((6_000..54_000).contains(&numbers[0]), "{numbers:?}");
+    assert!(numbers[10] > 100 && numbers[16] > 500, "{numbers:?}");
 }
 
 #[test]

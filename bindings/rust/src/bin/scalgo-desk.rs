@@ -12,7 +12,8 @@ usage: scalgo-desk [--coding 32] [--visits N] [--content N] COMMAND
   scalgo-desk read SCHEMA MESSAGE SHEET     prints the same with the length; writes SHEET
   scalgo-desk write SCHEMA SHEET MESSAGE    prints number, length; writes MESSAGE
 SCHEMA, MESSAGE and SHEET are files; a refusal writes none. The coding is 48 unless it is said, and
-100000 objects may be visited, with content of as many bytes as there are.";
+100000 objects may be visited, with content of as many bytes as there are.
+A text that is not UTF-8 is refused by 16, and writing a sheet with one by 12.";
 
 /// What the words before the command say, or else 48 bits, 100,000 visits and all content.
 struct Asked {
@@ -79,8 +80,11 @@ fn command(asked: &Asked, words: &[&str]) -> Result<String, String> {
 /// What stands at a path, a text or bytes with its content.
 fn field(coding: Coding, schema: &[u8], message: &[u8], path: &[u32]) -> String {
     let line = line(scalgo::field(coding, schema, message, path));
+    if let Some(text) = scalgo::text_str(coding, schema, message, path) {
+        return format!("{line}: {}", text.escape_debug());
+    }
     match scalgo::text(coding, schema, message, path) {
-        Some(text) => format!("{line}: {}", text.escape_ascii()),
+        Some(bytes) => format!("{line}: {}", bytes.escape_ascii()),
         None => line,
     }
 }

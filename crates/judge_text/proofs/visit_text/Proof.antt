@@ -34,8 +34,8 @@ returns-2 c = search text-unpaid
 rest-requires : tie.Need-rest-requires
 rest-requires c κs = search not-more
 
-text-end-requires : tie.Need-text-end-requires
-text-end-requires c κs = search text-found
+text-tested-requires : tie.Need-text-tested-requires
+text-tested-requires c κs = search text-found
 
 returns-3 : tie.Need-returns-3
 returns-3 c = search offset-refused
@@ -57,6 +57,6 @@ visit-text-spec =
     refuse-requires-2
     returns-2
     rest-requires
-    text-end-requires
+    text-tested-requires
     returns-3
     returns-4)

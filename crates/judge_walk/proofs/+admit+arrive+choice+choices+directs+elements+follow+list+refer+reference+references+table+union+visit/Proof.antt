@@ -71,7 +71,7 @@ use Rattle.judge_member.proofs.refers.Reads as refers-reads
 use Rattle.judge_rows.proofs.row_references.Reads as row-references-reads
 use Rattle.judge_text.proofs.is_text.Reads as is-text-reads
 use Rattle.judge_text.proofs.refer_text.Reads as refer-text-reads
-use Rattle.judge_text.proofs.text_end.Reads as text-end-reads
+use Rattle.judge_text.proofs.text_tested.Reads as text-tested-reads
 use Rattle.judge_text.proofs.texts.Reads as texts-reads
 use Rattle.judge_text.proofs.visit_text.Reads as visit-text-reads
 use Rattle.judge_walk.proofs.leads_nowhere.Reads as leads-nowhere-reads
@@ -242,7 +242,7 @@ abbrev visit-below : ℕ → In 3 visit-kinds.ps
 visit-below t = and 3 visit-kinds.ps (falls 3 visit-kinds.ps _<_ μ-visit t) visit.Pre
 
 abbrev admit-R : ℕ → admit-lts.Claims
-admit-R t = (content-length-reads.Asked, content-length-reads.Learnt, exceeds-reads.Asked, exceeds-reads.Learnt, refuse-reads.Asked, refuse-reads.Learnt, rest-reads.Asked, rest-reads.Learnt, text-end-reads.Asked, text-end-reads.Learnt, going-reads.Asked, going-reads.Learnt, index-reads.Asked, index-reads.Learnt, list-below t, list.Post, table-below t, table.Post, directs-below t, directs.Post)
+admit-R t = (content-length-reads.Asked, content-length-reads.Learnt, exceeds-reads.Asked, exceeds-reads.Learnt, refuse-reads.Asked, refuse-reads.Learnt, rest-reads.Asked, rest-reads.Learnt, text-tested-reads.Asked, text-tested-reads.Learnt, going-reads.Asked, going-reads.Learnt, index-reads.Asked, index-reads.Learnt, list-below t, list.Post, table-below t, table.Post, directs-below t, directs.Post)
 
 abbrev arrive-R : ℕ → arrive-lts.Claims
 arrive-R t = (is-text-reads.Asked, is-text-reads.Learnt, visit-text-reads.Asked, visit-text-reads.Learnt, visit-below t, visit.Post)
@@ -301,8 +301,8 @@ admit-rest-requires t c κs = search not-more
 admit-enum-told : (t : ℕ) → admit-lts.Need-enum-told (admit-R t) (admit-at t) admit.Post
 admit-enum-told t c = search needs
 
-admit-text-end-requires : (t : ℕ) → admit-lts.Need-text-end-requires (admit-R t) (admit-at t) admit.Post
-admit-text-end-requires t c κs = search text-fits
+admit-text-tested-requires : (t : ℕ) → admit-lts.Need-text-tested-requires (admit-R t) (admit-at t) admit.Post
+admit-text-tested-requires t c κs = search text-fits
 
 admit-enum-told-2 : (t : ℕ) → admit-lts.Need-enum-told-2 (admit-R t) (admit-at t) admit.Post
 admit-enum-told-2 t c = search needs
@@ -891,7 +891,7 @@ pub +admit+arrive+choice+choices+directs+elements+follow+list+refer+reference+re
     (admit-returns t)
     (admit-rest-requires t)
     (admit-enum-told t)
-    (admit-text-end-requires t)
+    (admit-text-tested-requires t)
     (admit-enum-told-2 t)
     (admit-going-requires t)
     (admit-enum-known-ob t)

@@ -1,5 +1,6 @@
 use borrow.Author.Needs.{needs}
-use Rattle.write_pass.proofs.EmitCases.{bytes-inside, copied-cut, copied-short, copied-there}
+use Rattle.write_measure.proofs.PartCases.{bytes-inside}
+use Rattle.write_pass.proofs.EmitCases.{copied-cut, copied-short, copied-there}
 use Rattle.write_pass.proofs.copy_blob.Statement.{statement}
 use Rattle.write_pass.proofs.copy_blob.Tie as tie
 use Rattle.write_pass.proofs.copy_blob.Reads as reads

@@ -113,7 +113,7 @@ fn on_subject(run: &mut Run, rng: &mut Rng, subject: &Subject) -> Result<(), Str
 
 /// Follows one path to an end, asking at every step, and now and then far on.
 fn follow(run: &mut Run, rng: &mut Rng, place: &Place, root: [u64; 4]) -> Result<(), String> {
-    let deep = rng.one_in(3);
+    let deep = rng.coin();
     let (mut path, mut answer) = (Vec::new(), root);
     while path.len() < PATH_LIMIT {
         let Some(step) = next_step(rng, place, answer) else {
@@ -190,7 +190,8 @@ fn ask(run: &mut Run, rng: &mut Rng, place: &Place, path: &[u32]) -> Result<[u64
     }
     note(&mut run.counts, path, one, part);
     if matches!(one, [3, 15 | 18, ..]) {
-        for _ in 0..2 {
+        // Few lists are so deep that their elements are too deep.
+        for _ in 0..if path.len() < 30 { 2 } else { 8 } {
             lists::at_list(run, rng, place, path, one)?;
             lists::damaged(run, rng, place, path, one)?;
         }

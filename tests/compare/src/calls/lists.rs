@@ -3,6 +3,8 @@
 
 use super::fields::{sort_of, Place, Run};
 use super::second::numbers;
+use crate::canvas::Spot;
+use crate::damage;
 use crate::program::refused;
 use crate::rng::Rng;
 use crate::subjects::Subject;
@@ -66,6 +68,9 @@ pub fn damaged(
     whole: [u64; 4],
 ) -> Result<(), String> {
     let mut subject = place.subject.clone();
+    if !rng.one_in(4) && in_texts(run, rng, &mut subject, path, whole[3]) {
+        return again(run, rng, place, &subject, path);
+    }
     let message = &mut subject.message;
     let (at, length) = (whole[2] as usize, whole[3] as usize);
     if whole[1] == 18 {
@@ -87,6 +92,23 @@ pub fn damaged(
         }
     }
     again(run, rng, place, &subject, path)
+}
+
+/// Damages texts among a list's elements; says whether there were any.
+fn in_texts(run: &Run, rng: &mut Rng, subject: &mut Subject, path: &[u32], length: u64) -> bool {
+    let mut found = false;
+    for _ in 0..3 {
+        let element = [path, &[rng.below(length as usize) as u32]].concat();
+        let (schema, message) = (&subject.schema, &subject.message);
+        let is_text = matches!(run.second.field(schema, message, &element), [3, 13, ..]);
+        let [_, start, width] = run.second.text(schema, message, &element);
+        if is_text && width > 0 {
+            let (position, width) = (start as usize, width as usize);
+            damage::in_text(rng, &mut subject.message, Spot { position, width });
+            found = true;
+        }
+    }
+    found
 }
 
 /// The list reader at the same path of another message.

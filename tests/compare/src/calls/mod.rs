@@ -6,6 +6,7 @@ pub mod library;
 pub mod lists;
 pub mod reads;
 pub mod second;
+pub mod texts;
 pub mod writes;
 
 use crate::coding::Coding;

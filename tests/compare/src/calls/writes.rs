@@ -67,6 +67,9 @@ fn of_round(coding: Coding, rng: &mut Rng) -> Vec<Subject> {
     if let Some((spoiled, _)) = sheet_faults::unwritable(&schema, rng, &writable) {
         sheets.push(("made unwritable", sheet::encode(&schema, &spoiled)));
     }
+    if let Some(spoiled) = value_gen::with_bad_texts(&schema, rng, &writable) {
+        sheets.push(("with no text", sheet::encode(&schema, &spoiled)));
+    }
     for at in [0, 0, 1] {
         let damaged = damage::sheet(rng, &sheets[at].1);
         sheets.push(("damaged", damaged));
@@ -125,7 +128,7 @@ fn other_codings(coding: Coding, rng: &mut Rng, own: &Packed, out: &mut Vec<Subj
 /// The sheet of a damaged message that is still accepted.
 fn read_from_damaged(rng: &mut Rng, schema: &Schema, value: Value) -> Option<Vec<u8>> {
     let wild = message_gen::lay_out(schema, rng, value, None);
-    let bytes = damage::message(schema.coding, rng, &wild.bytes, &wild.spots);
+    let bytes = damage::message(schema.coding, rng, &wild);
     let packed = schema.pack();
     let (verdict, sheet) = reference::read(packed.coding, &packed.bytes, &bytes, AMPLE, 1 << 16);
     (verdict.number == 0).then_some(sheet)

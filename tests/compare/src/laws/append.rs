@@ -70,9 +70,11 @@ fn forward(context: &mut Context, pair: &Pair) -> Checked {
     let size = value_gen::some_size(&mut context.rng);
     let value = value_gen::root_value(&pair.newer, &mut context.rng, Purpose::Wild, size);
     let wild = message_gen::lay_out(&pair.newer, &mut context.rng, value, None);
-    forward_one(context, pair, &wild.bytes, wild.spent(), Some(&wild.value))?;
+    // A text over other objects' bytes may be none.
+    let value = (wild.number == 0).then_some(&wild.value);
+    forward_one(context, pair, &wild.bytes, wild.spent(), value)?;
     for _ in 0..2 {
-        let bytes = damage::message(context.coding, &mut context.rng, &wild.bytes, &wild.spots);
+        let bytes = damage::message(context.coding, &mut context.rng, &wild);
         forward_one(context, pair, &bytes, AMPLE, None)?;
     }
     Ok(())

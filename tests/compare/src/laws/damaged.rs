@@ -8,7 +8,7 @@ use crate::paths;
 use crate::schema::{Schema, SIZE_LIMIT};
 use crate::schema_gen;
 use crate::sheet;
-use crate::value::{objects, writable, Value};
+use crate::value::{objects, texts_are_text, writable, Value};
 use crate::value_gen::{self, Purpose};
 
 /// One message with several damages of it.
@@ -19,7 +19,7 @@ pub fn check(context: &mut Context) -> Checked {
     let wild = message_gen::lay_out(&schema, &mut context.rng, value, None);
     let packed = schema.pack();
     for _ in 0..3 {
-        let bytes = damage::message(context.coding, &mut context.rng, &wild.bytes, &wild.spots);
+        let bytes = damage::message(context.coding, &mut context.rng, &wild);
         one(context, &schema, &packed, &bytes, &wild.value)?;
     }
     Ok(())
@@ -79,6 +79,12 @@ fn accepted_one(
         "the sheet is its value's",
         &sheet::encode(schema, &value),
         given,
+        data,
+    )?;
+    same(
+        "every text is text",
+        &true,
+        &texts_are_text(schema, &value),
         data,
     )?;
     same(

@@ -6,6 +6,7 @@ use crate::message_gen::Wild;
 use crate::paths;
 use crate::schema::Record;
 use crate::schema::{Schema, TABLE, TEXT};
+use crate::text_gen::is_text;
 use crate::value::Value;
 
 /// Fields of a message whose layout is known, fault or not.
@@ -61,8 +62,30 @@ fn some_fields(
             let detail = format!("path {path:?}\n  expected {hint:?}\n  given {answer:?}");
             return fail("field answer", &detail, data);
         }
+        text_at(context, packed, message, &path, answer, data)?;
     }
     Ok(())
+}
+
+/// A text or bytes are had as a part of the message exactly where the field is
+/// such, with its length; and a text is text.
+fn text_at(
+    context: &mut Context,
+    packed: &Packed,
+    message: &[u8],
+    path: &[u32],
+    answer: Answer,
+    data: Data,
+) -> Checked {
+    let part = context.program.text(packed, message, path);
+    let (kind, expected) = match answer {
+        Answer::Object { kind, length, .. } if matches!(kind, 13 | 14) => (kind, Some(length)),
+        _ => (0, None),
+    };
+    let length = part.as_ref().map(|bytes| bytes.len() as u64);
+    same("a part where the field has one", &expected, &length, data)?;
+    let lawful = kind != 13 || part.is_some_and(|bytes| is_text(&bytes));
+    same("a text is text", &true, &lawful, data)
 }
 
 fn some_lists(

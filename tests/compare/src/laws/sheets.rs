@@ -70,10 +70,11 @@ fn refused(
 
 /// Each way of not being lawful that has a place in this sheet.
 fn unlawful(context: &mut Context, schema: &Schema, packed: &Packed, value: &Value) -> Checked {
-    let (sheet, marks, used) = sheet::encode_with_marks(schema, value);
-    if !marks.is_empty() {
+    let encoded = sheet::encode_with_sites(schema, value);
+    let (sheet, used) = (encoded.bytes, encoded.bits);
+    if !encoded.marks.is_empty() {
         for _ in 0..2 {
-            let site = context.rng.pick(&marks);
+            let site = context.rng.pick(&encoded.marks);
             bad_mark(context, schema, packed, &sheet, site)?;
         }
     }
@@ -146,7 +147,11 @@ fn unwritable(context: &mut Context, schema: &Schema, packed: &Packed, value: &V
         return Ok(());
     };
     context.counts.note(name);
-    let bytes = sheet::encode(schema, &value);
+    let encoded = sheet::encode_with_sites(schema, &value);
+    for bit in encoded.no_texts {
+        context.counts.note(&sheet_faults::no_text_from(bit));
+    }
+    let bytes = encoded.bytes;
     let data: Data = &[("schema", &packed.bytes), ("sheet", &bytes)];
     same(
         "unwritable by own rules",

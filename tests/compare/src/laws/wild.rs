@@ -19,6 +19,10 @@ pub fn check(context: &mut Context) -> Checked {
     };
     let wild = message_gen::lay_out(&schema, &mut context.rng, value, fault);
     census::note(context.counts, &schema, &wild);
+    if wild.number == 16 {
+        let held = wild.arrivals[wild.walked.len() - 1].held;
+        context.counts.note(&format!("no text: {held:?}"));
+    }
     let packed = schema.pack();
     let data: Data = &[("schema", &packed.bytes), ("message", &wild.bytes)];
     verdicts(context, &packed, &wild, data)?;
@@ -28,7 +32,8 @@ pub fn check(context: &mut Context) -> Checked {
     super::fields::on_wild(context, &schema, &packed, &wild, data)
 }
 
-/// A schema and a value; now and then one that is too deep.
+/// A schema and a value; now and then one that is too deep, or has texts that are
+/// none.
 fn schema_and_value(context: &mut Context) -> (Schema, Value) {
     let (coding, rng) = (context.coding, &mut context.rng);
     let deep = rng.one_in(25);
@@ -45,7 +50,10 @@ fn schema_and_value(context: &mut Context) -> (Schema, Value) {
             spine: DEPTH_LIMIT + rng.range(0, 2) as u32,
         };
     }
-    let value = value_gen::root_value(&schema, rng, Purpose::Wild, size);
+    let mut value = value_gen::root_value(&schema, rng, Purpose::Wild, size);
+    if rng.one_in(5) {
+        value = value_gen::with_bad_texts(&schema, rng, &value).unwrap_or(value);
+    }
     (schema, value)
 }
 

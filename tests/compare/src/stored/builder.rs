@@ -255,6 +255,15 @@ impl Setup {
         setup
     }
 
+    /// A message with another text, its length and its end byte.
+    pub fn with_text(&self, text: &[u8]) -> Setup {
+        let mut setup = self.with(self.length, text.len() as u64);
+        setup.message.truncate(setup.content);
+        setup.put(text);
+        setup.put(&[0]);
+        setup
+    }
+
     /// A message cut or filled up to so many bytes.
     pub fn sized(&self, size: usize) -> Setup {
         let mut setup = self.clone();

@@ -15,6 +15,8 @@ mod schemas;
 mod starts;
 mod structs;
 mod tables;
+mod texts;
+pub mod texts_by_hand;
 
 use crate::coding::{Coding, CODINGS};
 use crate::program::{Budget, Judge, Second, Verdict};
@@ -61,6 +63,8 @@ pub fn under(coding: Coding) -> Vec<Case> {
     if coding.is_older() {
         by_hand::add(&mut cases);
     }
+    texts::add(coding, &mut cases);
+    texts_by_hand::add(coding, &mut cases);
     cases
 }
 

@@ -151,8 +151,12 @@ impl Message {
 
     /// A whole text.
     pub fn text(&mut self, text: &str) -> &mut Message {
-        self.text_head(text.len() as u64);
-        self.raw(text.as_bytes()).raw(&[0])
+        self.text_of(text.as_bytes())
+    }
+
+    /// A whole text of any bytes.
+    pub fn text_of(&mut self, bytes: &[u8]) -> &mut Message {
+        self.text_head(bytes.len() as u64).raw(bytes).raw(&[0])
     }
 
     pub fn bytes_head(&mut self, length: u64) -> &mut Message {
@@ -209,10 +213,15 @@ impl Sheet {
     }
 
     /// A text or bytes, after its mark.
-    pub fn text(mut self, text: &str) -> Sheet {
-        self = self.put(text.len() as u64, 32);
-        for byte in text.bytes() {
-            self = self.put(u64::from(byte), 8);
+    pub fn text(self, text: &str) -> Sheet {
+        self.text_of(text.as_bytes())
+    }
+
+    /// A text or bytes of any bytes, after its mark.
+    pub fn text_of(mut self, bytes: &[u8]) -> Sheet {
+        self = self.put(bytes.len() as u64, 32);
+        for byte in bytes {
+            self = self.put(u64::from(*byte), 8);
         }
         self
     }

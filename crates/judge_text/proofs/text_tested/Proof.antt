@@ -1,8 +1,8 @@
--- `judge_text::text_end` meets its contract.
-use Rattle.judge_text.proofs.TextCases.{end-bad, end-good}
+-- `judge_text::text_tested` meets its contract.
+use Rattle.judge_text.proofs.TextCases.{text-bad, text-good}
 use borrow.Author.Needs.{needs}
-use Rattle.judge_text.proofs.text_end.Statement.{statement}
-use Rattle.judge_text.proofs.text_end.Tie as tie
+use Rattle.judge_text.proofs.text_tested.Statement.{statement}
+use Rattle.judge_text.proofs.text_tested.Tie as tie
 
 bytes-tested-requires : tie.Need-bytes-tested-requires
 bytes-tested-requires c κs = search needs
@@ -20,13 +20,13 @@ going-requires : tie.Need-going-requires
 going-requires c κs = search needs
 
 returns : tie.Need-returns
-returns c = search end-bad
+returns c = search text-bad
 
 returns-2 : tie.Need-returns-2
-returns-2 c = search end-good
+returns-2 c = search text-good
 
-pub text-end-spec : {M : Type 1} → statement M
-text-end-spec =
+pub text-tested-spec : {M : Type 1} → statement M
+text-tested-spec =
     tie.close
     (tie.spec
     bytes-tested-requires
