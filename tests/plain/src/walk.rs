@@ -1,0 +1,294 @@
+//! The walk from the root: tables, their members, and what they lead to.
+
+use crate::schema::{Member, Object, Part, Schema, Table};
+use crate::text::is_text;
+use crate::wire::{object_at, u16_at, u32_at, Coding};
+use crate::wire::{BYTES_MAGIC, LIST_MAGIC, MESSAGE_MAGIC, TEXT_MAGIC};
+use crate::{Budget, Verdict, NO_MEMBER};
+use std::marker::PhantomData;
+
+/// The most bytes of a message.
+const LARGEST: usize = 16_777_215;
+
+/// "Depth: 32 objects, the root being 1".
+pub const DEEPEST: u32 = 32;
+
+/// Judges a message by a schema of this coding.
+pub fn judge<C: Coding>(schema: &Schema, message: &[u8], budget: Budget) -> Verdict {
+    if message.len() < C::HEADER || message.len() > LARGEST {
+        return Verdict::before_the_walk(2);
+    }
+    let (Some(MESSAGE_MAGIC), Some(root)) = (u32_at(message), C::number(&message[4..])) else {
+        return Verdict::before_the_walk(3);
+    };
+    let mut walk = Walk::<C> {
+        schema,
+        message,
+        left: budget,
+        refusal: (0, 0, NO_MEMBER),
+        coding: PhantomData,
+    };
+    // What the walk comes to stands in its refusal.
+    let _ = walk.table(root, &schema.tables[schema.root], 1);
+    let (number, place, member) = walk.refusal;
+    Verdict {
+        number,
+        place,
+        member,
+        visits: budget.visits - walk.left.visits,
+        content: budget.content - walk.left.content,
+    }
+}
+
+/// The walk was refused; how, the walk itself knows.
+pub struct Refused;
+
+pub type Walked = Result<(), Refused>;
+
+/// The state of a walk.
+pub struct Walk<'a, C> {
+    pub schema: &'a Schema,
+    pub message: &'a [u8],
+    /// What may still be spent.
+    pub left: Budget,
+    /// Number, place and member of the refusal, or of acceptance.
+    refusal: (u32, u64, u32),
+    coding: PhantomData<C>,
+}
+
+/// Where an object stands: its place as refusals name it, the first byte of its content, and its
+/// depth.
+#[derive(Clone, Copy)]
+pub struct Spot {
+    pub place: u64,
+    pub start: usize,
+    pub depth: u32,
+}
+
+impl<'a, C: Coding> Walk<'a, C> {
+    #[cold]
+    pub fn refuse<T>(&mut self, number: u32, place: u64) -> Result<T, Refused> {
+        self.refuse_member(number, place, NO_MEMBER)
+    }
+
+    #[cold]
+    pub fn refuse_member<T>(&mut self, number: u32, place: u64, member: u32) -> Result<T, Refused> {
+        self.refusal = (number, place, member);
+        Err(Refused)
+    }
+
+    /// The arrival at an object: a visit, and its depth.
+    #[inline(always)]
+    pub fn arrive(&mut self, place: u64, depth: u32) -> Walked {
+        if self.left.visits == 0 {
+            return self.refuse(4, place);
+        }
+        self.left.visits -= 1;
+        if depth > DEEPEST {
+            return self.refuse(5, place);
+        }
+        Ok(())
+    }
+
+    /// The arrival at an object by its offset, up to its magic: where it stands, and its length.
+    #[inline(always)]
+    pub fn open(&mut self, place: u64, depth: u32, wanted: u32) -> Result<(Spot, u64), Refused> {
+        self.arrive(place, depth)?;
+        let header = object_at::<C>(self.message, place).and_then(C::header);
+        let Some((magic, length)) = header else {
+            return self.refuse(6, place);
+        };
+        if magic != wanted {
+            return self.refuse(7, place);
+        }
+        let start = place as usize + C::HEADER;
+        Ok((
+            Spot {
+                place,
+                start,
+                depth,
+            },
+            length,
+        ))
+    }
+
+    /// The content of an object, of so many bytes and some more that are not charged: it fits, and
+    /// is within the allowance.
+    #[inline(always)]
+    pub fn admit(&mut self, spot: Spot, size: u64, more: u64) -> Result<&'a [u8], Refused> {
+        let rest = self.message.get(spot.start..).unwrap_or_default();
+        if size.saturating_add(more) > rest.len() as u64 {
+            return self.refuse(6, spot.place);
+        }
+        if size > self.left.content {
+            return self.refuse(17, spot.place);
+        }
+        self.left.content -= size;
+        Ok(&rest[..size as usize])
+    }
+
+    /// The object that an offset leads to.
+    pub fn object(&mut self, object: Object, place: u64, depth: u32) -> Walked {
+        match object {
+            Object::Text => self.text(place, depth),
+            Object::Bytes => {
+                let (spot, length) = self.open(place, depth, BYTES_MAGIC)?;
+                self.admit(spot, length, 0).map(|_| ())
+            }
+            Object::List(index) => {
+                let (spot, count) = self.open(place, depth, LIST_MAGIC)?;
+                self.list(spot, count, index)
+            }
+            Object::Table(index) => {
+                let schema = self.schema;
+                self.table(place, &schema.tables[usize::from(index)], depth)
+            }
+            Object::Direct(index) => self.direct(place, depth, index),
+        }
+    }
+
+    /// The object that stands in place, by its length.
+    fn object_in_place(&mut self, object: Object, start: usize, depth: u32, length: u64) -> Walked {
+        let place = start as u64;
+        self.arrive(place, depth)?;
+        let spot = Spot {
+            place,
+            start,
+            depth,
+        };
+        match object {
+            Object::Text => self.text_content(spot, length),
+            Object::Bytes => self.admit(spot, length, 0).map(|_| ()),
+            Object::List(index) => self.list(spot, length, index),
+            Object::Table(index) => {
+                let schema = self.schema;
+                self.fixed_part(spot, length, &schema.tables[usize::from(index)])
+            }
+            // No lawful schema has one.
+            Object::Direct(_) => self.refuse(6, place),
+        }
+    }
+
+    pub fn text(&mut self, place: u64, depth: u32) -> Walked {
+        let (spot, length) = self.open(place, depth, TEXT_MAGIC)?;
+        self.text_content(spot, length)
+    }
+
+    #[inline(always)]
+    fn text_content(&mut self, spot: Spot, length: u64) -> Walked {
+        let text = self.admit(spot, length, 1)?;
+        let (through, rest) = self.message.split_at(spot.start + text.len());
+        if rest.first() != Some(&0) {
+            return self.refuse(10, spot.place);
+        }
+        if !is_text(through, text.len()) {
+            return self.refuse(16, spot.place);
+        }
+        Ok(())
+    }
+
+    pub fn table(&mut self, place: u64, table: &Table, depth: u32) -> Walked {
+        let (spot, length) = self.open(place, depth, table.id)?;
+        self.fixed_part(spot, length, table)
+    }
+
+    fn fixed_part(&mut self, spot: Spot, length: u64, table: &Table) -> Walked {
+        let fixed = self.admit(spot, length, 0)?;
+        self.members(spot, fixed, table)
+    }
+
+    /// The members of a table in order. Where all are within the fixed part, only some can be
+    /// refused or lead on.
+    #[inline(always)]
+    pub fn members(&mut self, spot: Spot, fixed: &'a [u8], table: &Table) -> Walked {
+        if fixed.len() < table.full {
+            return self.short_members(spot, fixed, table);
+        }
+        let schema = self.schema;
+        for member in schema.live(table) {
+            self.member(spot, fixed, member)?;
+        }
+        Ok(())
+    }
+
+    /// The members of a table that is shorter than the schema says: "A member starting at or after
+    /// the fixed part's end is absent; one wholly inside is read; one cut by the end is refused."
+    fn short_members(&mut self, spot: Spot, fixed: &'a [u8], table: &Table) -> Walked {
+        let (schema, length) = (self.schema, fixed.len() as u32);
+        for member in schema.members(table) {
+            if member.least_start >= length {
+                break;
+            }
+            if member.start >= length {
+                continue;
+            }
+            let beyond = member.value >= length;
+            let cut = match beyond {
+                true => fixed[member.start as usize] & member.flag != 0,
+                false => member.end > length,
+            };
+            if cut {
+                return self.refuse_member(8, spot.place, u32::from(member.number));
+            }
+            if !beyond {
+                self.member(spot, fixed, member)?;
+            }
+        }
+        Ok(())
+    }
+
+    /// A member that is wholly inside.
+    fn member(&mut self, spot: Spot, fixed: &'a [u8], member: &Member) -> Walked {
+        let value = &fixed[member.value as usize..];
+        match member.part {
+            Part::Plain => Ok(()),
+            Part::Struct(index) if self.struct_holds(fixed, member, index) => Ok(()),
+            Part::Struct(_) => self.refuse_member(10, spot.place, u32::from(member.number)),
+            Part::Refers(object) => match C::number(value) {
+                None | Some(0) => Ok(()),
+                Some(place) => self.object(object, place, spot.depth + 1),
+            },
+            Part::Union(index) => self.union(spot, value, (index, u32::from(member.number))),
+            Part::InPlace(object) => match C::number(value) {
+                None | Some(0) => Ok(()),
+                Some(length) => {
+                    self.object_in_place(object, spot.start + fixed.len(), spot.depth + 1, length)
+                }
+            },
+            Part::UnionInPlace(index) => {
+                self.union_in_place(index, value, spot.start + fixed.len(), spot.depth + 1)
+            }
+        }
+    }
+
+    /// Whether a struct is absent or its bools are 0 or 1.
+    #[inline(always)]
+    pub fn struct_holds(&self, fixed: &[u8], member: &Member, index: u8) -> bool {
+        let absent = member.flag != 0 && fixed[member.start as usize] & member.flag == 0;
+        absent || (self.schema).bools_hold(index, &fixed[member.value as usize..])
+    }
+
+    /// A union by an offset, with its number in its holder.
+    #[inline(always)]
+    pub fn union(&mut self, holder: Spot, value: &[u8], (index, number): (u8, u32)) -> Walked {
+        let Some((choice, place)) = u16_at(value).zip(C::number(&value[2..])) else {
+            return Ok(());
+        };
+        match self.schema.case(index, choice) {
+            None => Ok(()),
+            Some(_) if place == 0 => self.refuse_member(9, holder.place, number),
+            Some(case) => self.object(case, place, holder.depth + 1),
+        }
+    }
+
+    /// A union whose object stands in place.
+    fn union_in_place(&mut self, index: u8, value: &[u8], start: usize, depth: u32) -> Walked {
+        let Some((choice, length)) = u16_at(value).zip(C::number(&value[2..])) else {
+            return Ok(());
+        };
+        match self.schema.case(index, choice) {
+            None => Ok(()),
+            Some(case) => self.object_in_place(case, start, depth, length),
+        }
+    }
+}
