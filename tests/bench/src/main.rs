@@ -1,161 +1,35 @@
-//! Times the library and the second program on the same messages, in one process and in turn, and
-//! measures the stack that each uses at the greatest depth. `--quick` takes few samples and leaves
+//! Times the library, the second program and, where they judge, the plain Rust program on the same
+//! messages, in one process and in turn, and measures the stack that each uses at the greatest depth. `--quick` takes few samples and leaves
 //! out the case that takes seconds; `--tasks` times all but judging, and `--spin NAME` runs one of
 //! those for a profiler.
 //!
-//! It fails where a verdict is not the expected one or the two programs differ.
+//! It fails where a verdict is not the expected one or two programs differ.
 
 mod cases;
 mod depth;
+mod judging;
 mod message;
+mod programs;
 mod schema;
 mod stack;
 mod tasks;
 mod timing;
 
-use cases::{Case, CASES};
-use reference::{Verdict, NO_MEMBER};
+use cases::Case;
+use programs::{fault, ours, second};
 use std::hint::black_box;
 use std::process::ExitCode;
 use std::time::{Duration, Instant};
 use tasks::{Task, SUMMED};
 use timing::Plan;
 
-fn ours(case: &Case) -> Verdict {
-    of_wrapper(scalgo::judge(
-        case.coding,
-        &case.schema,
-        &case.message,
-        case.budget,
-    ))
-}
-
-/// The wrapper's verdict as the second program's.
-fn of_wrapper(verdict: scalgo::Verdict) -> Verdict {
-    Verdict {
-        number: verdict.number,
-        place: verdict.place,
-        member: verdict.member.unwrap_or(NO_MEMBER),
-        visits: verdict.visits,
-        content: verdict.content,
-    }
-}
-
-/// The wrapper's budget as the second program's.
-fn second_budget(budget: scalgo::Budget) -> reference::Budget {
-    let scalgo::Budget { visits, content } = budget;
-    reference::Budget { visits, content }
-}
-
-fn second(case: &Case) -> Verdict {
-    reference::judge(
-        case.coding.number(),
-        &case.schema,
-        &case.message,
-        second_budget(case.budget),
-    )
-}
-
-/// What is wrong with the verdicts, if anything is.
-fn fault(case: &Case) -> Option<String> {
-    let (ours, second) = (ours(case), second(case));
-    if ours == second && case.expected.is(&ours) {
-        return None;
-    }
-    Some(format!(
-        "{}: expected {:?}\n  ours: {ours:?}\n  reference: {second:?}",
-        case.name, case.expected
-    ))
-}
-
-fn time(plan: &Plan, case: &Case) {
-    let (ours, second) = timing::in_turn(
-        plan,
-        &|| {
-            black_box(ours(black_box(case)));
-        },
-        &|| {
-            black_box(second(black_box(case)));
-        },
-    );
-    let objects = f64::from(case.expected.visits);
-    println!(
-        "{:<50} {:>7} {:>12.0} {:>12.0} {:>12.0} {:>12.0} {:>7.2} {:>7.2} {}",
-        case.name,
-        case.expected.visits,
-        ours.best,
-        ours.median,
-        second.best,
-        second.median,
-        ours.best / second.best,
-        ours.median / second.median,
-        per_object(objects, ours.best, second.best),
-    );
-}
-
-/// Where there are many objects, the nanoseconds for each.
-fn per_object(objects: f64, ours: f64, second: f64) -> String {
-    if objects < 1000.0 {
-        return String::new();
-    }
-    format!("{:>8.1} {:>8.1}", ours / objects, second / objects)
-}
-
-fn times(plan: &Plan) -> bool {
-    println!("Nanoseconds a call: best and median of each program, and ours by the reference's.");
-    println!(
-        "{:<50} {:>7} {:>12} {:>12} {:>12} {:>12} {:>7} {:>7} {:>8} {:>8}",
-        "case",
-        "visits",
-        "ours best",
-        "median",
-        "ref best",
-        "median",
-        "best",
-        "median",
-        "ours/obj",
-        "ref/obj",
-    );
-    let mut sound = true;
-    for build in CASES {
-        let case = build();
-        match fault(&case) {
-            None => time(plan, &case),
-            Some(report) => {
-                println!("{report}");
-                sound = false;
-            }
-        }
-    }
-    sound
-}
-
-/// Four billion direct elements of no bytes with the largest allowance: the library alone, once.
-fn time_the_longest() -> bool {
-    let case = cases::direct_of_no_bytes(u32::MAX);
-    let began = Instant::now();
-    let verdict = ours(black_box(&case));
-    let spent = began.elapsed().as_secs_f64();
-    let objects = f64::from(case.expected.visits);
-    let each = 1e9 * spent / objects;
-    println!("{:<50} {spent:.1} seconds, {each:.2} ns/object", case.name);
-    let sound = case.expected.is(&verdict);
-    if !sound {
-        println!("  expected {:?}\n  ours: {verdict:?}", case.expected);
-    }
-    sound
-}
-
 fn time_task(plan: &Plan, task: &Task) {
     SUMMED.with_borrow_mut(|summed| *summed = false);
-    let (ours, second) = timing::in_turn(
+    let [ours, second] = timing::in_turn(
         plan,
-        &|| {
-            black_box((task.ours)());
-        },
-        &|| {
-            black_box((task.second)());
-        },
+        [&|| _ = black_box((task.ours)()), &|| {
+            _ = black_box((task.second)())
+        }],
     );
     SUMMED.with_borrow_mut(|summed| *summed = true);
     println!(
@@ -270,7 +144,7 @@ fn main() -> ExitCode {
     let words: Vec<&str> = arguments.iter().map(String::as_str).collect();
     let full = Plan::full();
     let sound = match words.as_slice() {
-        [] => all(&full) & time_the_longest(),
+        [] => all(&full) & judging::time_the_longest(),
         ["--quick"] => all(&Plan::quick()),
         ["--tasks"] => time_tasks(&full),
         ["--quick", "--tasks"] => time_tasks(&Plan::quick()),
@@ -287,7 +161,7 @@ fn main() -> ExitCode {
 }
 
 fn all(plan: &Plan) -> bool {
-    let timed = times(plan);
+    let timed = judging::times(plan);
     println!();
     let measured = stacks();
     println!();
@@ -297,15 +171,15 @@ fn all(plan: &Plan) -> bool {
 
 #[cfg(test)]
 mod tests {
-    use super::cases::{self, Case};
+    use super::cases::{self, Case, CASES};
     use super::timing::{self, Plan};
-    use super::{depth, fault, ours, stack, tasks, CASES};
+    use super::{depth, fault, ours, stack, tasks};
     use scalgo::Coding::Bits48;
     use std::cell::RefCell;
     use std::hint::black_box;
 
     #[test]
-    fn both_programs_give_the_expected_verdicts() {
+    fn every_program_gives_the_expected_verdicts() {
         let faults: Vec<String> = (CASES.iter().map(|build| build()))
             .chain(depth::cases())
             .filter_map(|case| fault(&case))
@@ -321,7 +195,10 @@ mod tests {
 
     /// The best time of some calls, in nanoseconds.
     fn best(call: &dyn Fn()) -> f64 {
-        timing::in_turn(&Plan::quick(), call, call).0.best
+        {
+            let [times] = timing::in_turn(&Plan::quick(), [call]);
+            times.best
+        }
     }
 
     /// A blob named 100,000 times and refused at its tenth visit takes a small part of the time of all
