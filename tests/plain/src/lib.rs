@@ -10,11 +10,11 @@
 //! The modules, from the bottom up:
 //! - `wire`: numbers and headers of the two codings;
 //! - `text`: whether bytes are UTF-8;
-//! - `packed`: the packed schema, taken apart and held against the rules;
-//! - `schema`: the schema's own tables, and `build`, which makes them of that;
+//! - `packed`: the packed schema's records, and the rules that they are held against;
+//! - `schema`: the schema's own tables, and `build`, which makes them;
 //! - `objects`: texts and bytes that are wholly lawful;
 //! - `walk`: the walk from the root: tables, their members, and what they lead to;
-//! - `lists`: lists and direct lists.
+//! - `lists`: lists and direct lists, and `rows`: those whose elements lead no further.
 
 #![forbid(unsafe_code)]
 
@@ -22,6 +22,7 @@ mod build;
 mod lists;
 mod objects;
 mod packed;
+mod rows;
 mod schema;
 mod text;
 mod walk;

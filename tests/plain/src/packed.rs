@@ -1,4 +1,6 @@
-//! The packed schema, taken apart and held against the rules.
+//! The packed schema: its records, and the rules that they are held against.
+
+use std::ops::RangeInclusive;
 
 /// Kinds of a record; 1 to 8 are integers and 9 and 10 floats.
 pub const BOOL: u8 = 0;
@@ -15,9 +17,6 @@ pub const DIRECT: u8 = 18;
 
 /// The most structs, lists, unions or tables.
 const MOST: usize = 64;
-
-/// "No struct is over 4,096 bytes."
-const LARGEST_STRUCT: usize = 4096;
 
 /// "Record, 16 bits: kind 5, optional 1, in place 1, zero 1, argument 8."
 #[derive(Clone, Copy)]
@@ -41,6 +40,10 @@ impl Record {
         }
     }
 
+    pub fn index(self) -> usize {
+        usize::from(self.argument)
+    }
+
     /// The bytes of a number, a float or an enum, and of a bool in a struct.
     pub fn scalar_size(self) -> usize {
         match self.kind {
@@ -52,92 +55,60 @@ impl Record {
     }
 }
 
-/// Records as they are packed.
-pub type Records<'a> = &'a [[u8; 2]];
-
-/// A lawful schema.
-pub struct Packed<'a> {
+/// "Four 8-bit counts: structs, lists, unions (0 to 64 each), tables (1 to 64). 8-bit root table
+/// index."
+pub struct Counts {
+    pub structs: usize,
+    pub lists: usize,
+    pub unions: usize,
+    pub tables: usize,
     pub root: usize,
-    pub structs: Vec<Records<'a>>,
-    /// The bytes of each struct.
-    pub sizes: Vec<usize>,
-    pub lists: Records<'a>,
-    pub unions: Vec<Records<'a>>,
-    /// Each table's id and members.
-    pub tables: Vec<(u32, Records<'a>)>,
-}
-
-impl<'a> Packed<'a> {
-    /// Takes a schema apart; none where it is not lawful under a coding, 48 or 32.
-    pub fn new(coding: u32, bytes: &'a [u8]) -> Option<Packed<'a>> {
-        let mut packed = Packed::parts(bytes)?;
-        let mut rules = Rules::new(&packed);
-        packed.sizes = rules.struct_sizes(&packed.structs)?;
-        let sound = rules.lists(packed.lists)
-            && rules.unions(&packed.unions)
-            && rules.tables(&packed.tables)
-            && rules.under(coding)
-            && ids_differ(&packed.tables);
-        sound.then_some(packed)
-    }
-
-    /// The parts, by the counts alone. "Nothing follows the last table."
-    fn parts(bytes: &'a [u8]) -> Option<Packed<'a>> {
-        let (counts, rest) = bytes.split_first_chunk()?;
-        let [structs, lists, unions, tables, root] = counts.map(usize::from);
-        if structs.max(lists).max(unions).max(tables) > MOST || root >= tables {
-            return None;
-        }
-        let mut rest = Rest(rest);
-        let packed = Packed {
-            root,
-            structs: many(structs, || rest.counted(1..=32))?,
-            sizes: Vec::new(),
-            lists: rest.records(lists)?,
-            unions: many(unions, || rest.counted(1..=32))?,
-            tables: many(tables, || Some((rest.id()?, rest.counted(0..=64)?)))?,
-        };
-        rest.0.is_empty().then_some(packed)
-    }
-}
-
-/// So many things, unless there is one less.
-fn many<T>(count: usize, mut next: impl FnMut() -> Option<T>) -> Option<Vec<T>> {
-    let mut all = Vec::with_capacity(count);
-    for _ in 0..count {
-        all.push(next()?);
-    }
-    Some(all)
 }
 
 /// What is left of the packed bytes.
-struct Rest<'a>(&'a [u8]);
+pub struct Rest<'a>(&'a [u8]);
 
 impl<'a> Rest<'a> {
-    fn take(&mut self, count: usize) -> Option<&'a [u8]> {
-        let (taken, rest) = self.0.split_at_checked(count)?;
-        self.0 = rest;
-        Some(taken)
+    /// The counts, and all that follows.
+    pub fn of(bytes: &'a [u8]) -> Option<(Counts, Rest<'a>)> {
+        let (counts, rest) = bytes.split_first_chunk()?;
+        let [structs, lists, unions, tables, root] = counts.map(usize::from);
+        let counts = Counts {
+            structs,
+            lists,
+            unions,
+            tables,
+            root,
+        };
+        let lawful = structs.max(lists).max(unions).max(tables) <= MOST && root < tables;
+        lawful.then_some((counts, Rest(rest)))
     }
 
-    fn id(&mut self) -> Option<u32> {
+    pub fn len(&self) -> usize {
+        self.0.len()
+    }
+
+    pub fn id(&mut self) -> Option<u32> {
         let (id, rest) = self.0.split_first_chunk()?;
         self.0 = rest;
         Some(u32::from_be_bytes(*id))
     }
 
-    fn records(&mut self, count: usize) -> Option<Records<'a>> {
-        let (records, _) = self.take(2 * count)?.as_chunks();
-        Some(records)
+    pub fn records(&mut self, count: usize) -> Option<impl Iterator<Item = Record> + 'a> {
+        let (records, rest) = self.0.split_at_checked(2 * count)?;
+        self.0 = rest;
+        Some(records.as_chunks().0.iter().copied().map(Record::of))
     }
 
-    /// A count and as many records.
-    fn counted(&mut self, lawful: std::ops::RangeInclusive<u8>) -> Option<Records<'a>> {
-        let &[count] = self.take(1)?.first_chunk()?;
-        if !lawful.contains(&count) {
-            return None;
-        }
-        self.records(usize::from(count))
+    /// A count that is lawful, and as many records.
+    pub fn counted(
+        &mut self,
+        lawful: RangeInclusive<u8>,
+    ) -> Option<impl Iterator<Item = Record> + 'a> {
+        let (count, rest) = self.0.split_first()?;
+        self.0 = rest;
+        self.records(usize::from(*count))
+            .filter(|_| lawful.contains(count))
     }
 }
 
@@ -156,13 +127,13 @@ fn is_of(kinds: u32, record: Record) -> bool {
     kinds >> record.kind & 1 == 1
 }
 
-/// A set of indices, a bit each.
+/// A set of indices below 64, a bit each.
 #[derive(Clone, Copy, Default)]
 struct Set(u64);
 
 impl Set {
-    fn add_if(&mut self, member: bool, index: usize) {
-        self.0 |= u64::from(member) << index;
+    fn add(&mut self, index: usize) {
+        self.0 |= 1 << (index % MOST);
     }
 
     fn meets(self, other: Set) -> bool {
@@ -171,37 +142,42 @@ impl Set {
 }
 
 /// The rules of records, and what is seen of those that rules join.
-struct Rules {
+pub struct Rules {
     /// By kind, the number that an argument is below; 0 of a kind that is none.
     limits: [u16; 32],
     /// Tables of which there is a direct list.
     direct_tables: Set,
+    /// Tables of which there may be none: with no member, or one in place.
+    undirect_tables: Set,
     /// Unions with a direct list as a case, and unions that a table holds in place.
     direct_unions: Set,
     held_unions: Set,
-    /// Tables that are no direct list's: with no member, or one in place.
-    undirect_tables: Set,
     /// Whether there is what the older coding does not have.
     newer: bool,
 }
 
 impl Rules {
-    fn new(packed: &Packed) -> Rules {
+    pub fn new(counts: &Counts) -> Rules {
         let mut limits = [0; 32];
         limits[..=usize::from(BYTES)].fill(1);
         limits[usize::from(ENUM)] = 256;
-        limits[usize::from(LIST)] = packed.lists.len() as u16;
-        limits[usize::from(TABLE)] = packed.tables.len() as u16;
-        limits[usize::from(UNION)] = packed.unions.len() as u16;
-        limits[usize::from(DIRECT)] = packed.tables.len() as u16;
+        limits[usize::from(LIST)] = counts.lists as u16;
+        limits[usize::from(TABLE)] = counts.tables as u16;
+        limits[usize::from(UNION)] = counts.unions as u16;
+        limits[usize::from(DIRECT)] = counts.tables as u16;
         Rules {
             limits,
             direct_tables: Set::default(),
+            undirect_tables: Set::default(),
             direct_unions: Set::default(),
             held_unions: Set::default(),
-            undirect_tables: Set::default(),
             newer: false,
         }
+    }
+
+    /// How many structs may be named: those before a struct, and after them all.
+    pub fn allow_structs(&mut self, count: usize) {
+        self.limits[usize::from(STRUCT)] = count as u16;
     }
 
     fn argument_fits(&self, record: Record) -> bool {
@@ -209,98 +185,64 @@ impl Rules {
         u16::from(argument) < self.limits[usize::from(kind)] && (kind != ENUM || argument != 0)
     }
 
-    /// A record that is no table's member.
-    fn unmarked(&mut self, record: Record, kinds: u32) -> bool {
+    /// A record that is no table's member has no marks.
+    fn unmarked(&self, record: Record, kinds: u32) -> bool {
         let marked = record.optional | record.in_place | record.zero;
-        self.see_direct(record);
         !marked && is_of(kinds, record) && self.argument_fits(record)
     }
 
     fn see_direct(&mut self, record: Record) {
-        let direct = record.kind == DIRECT;
-        self.direct_tables
-            .add_if(direct, usize::from(record.argument) % MOST);
-        self.newer |= direct;
-    }
-
-    /// The structs, each with the sizes of those before it; "an inner struct having a lower index".
-    fn struct_sizes(&mut self, structs: &[Records]) -> Option<Vec<usize>> {
-        let mut sizes = Vec::with_capacity(structs.len());
-        for members in structs {
-            self.limits[usize::from(STRUCT)] = sizes.len() as u16;
-            let mut size = 0;
-            for record in members.iter().copied().map(Record::of) {
-                if !self.unmarked(record, STRUCT_KINDS) {
-                    return None;
-                }
-                size += match record.kind {
-                    STRUCT => sizes[usize::from(record.argument)],
-                    _ => record.scalar_size(),
-                };
-            }
-            if size > LARGEST_STRUCT {
-                return None;
-            }
-            sizes.push(size);
+        if record.kind == DIRECT {
+            self.direct_tables.add(record.index());
+            self.newer = true;
         }
-        self.limits[usize::from(STRUCT)] = sizes.len() as u16;
-        Some(sizes)
     }
 
-    fn lists(&mut self, lists: Records) -> bool {
-        lists.iter().copied().map(Record::of).all(|record| {
-            self.newer |= record.kind == UNION;
-            self.unmarked(record, ELEMENT_KINDS)
-        })
+    pub fn struct_member(&self, record: Record) -> bool {
+        self.unmarked(record, STRUCT_KINDS)
     }
 
-    fn unions(&mut self, unions: &[Records]) -> bool {
-        unions.iter().enumerate().all(|(index, cases)| {
-            cases.iter().copied().map(Record::of).all(|record| {
-                self.direct_unions.add_if(record.kind == DIRECT, index);
-                self.unmarked(record, CASE_KINDS)
-            })
-        })
+    pub fn element(&mut self, record: Record) -> bool {
+        self.see_direct(record);
+        self.newer |= record.kind == UNION;
+        self.unmarked(record, ELEMENT_KINDS)
     }
 
-    fn tables(&mut self, tables: &[(u32, Records)]) -> bool {
-        tables.iter().enumerate().all(|(index, (_, members))| {
-            let mut in_place = 0;
-            let sound = members.iter().copied().map(Record::of).all(|record| {
-                in_place += u32::from(record.in_place);
-                self.member(record)
-            });
-            let undirect = members.is_empty() || in_place > 0;
-            self.undirect_tables.add_if(undirect, index);
-            sound && in_place <= 1
-        })
+    pub fn case(&mut self, union: usize, record: Record) -> bool {
+        self.see_direct(record);
+        if record.kind == DIRECT {
+            self.direct_unions.add(union);
+        }
+        self.unmarked(record, CASE_KINDS)
     }
 
-    fn member(&mut self, record: Record) -> bool {
+    /// A table's member; `held` is how many before it are in place.
+    pub fn member(&mut self, record: Record, held: &mut u32) -> bool {
         let Record { kind, in_place, .. } = record;
         self.see_direct(record);
-        let held = kind == UNION && in_place;
-        self.held_unions
-            .add_if(held, usize::from(record.argument) % MOST);
-        self.newer |= kind == UNION && !in_place || kind == TABLE && in_place;
-        !record.zero
-            && self.argument_fits(record)
-            && (!record.optional || is_of(OPTIONAL_KINDS, record))
-            && (!in_place || is_of(IN_PLACE_KINDS, record))
+        if in_place {
+            *held += 1;
+            self.newer |= kind == TABLE;
+            if kind == UNION {
+                self.held_unions.add(record.index());
+            }
+        }
+        self.newer |= kind == UNION && !in_place;
+        let optional = !record.optional || is_of(OPTIONAL_KINDS, record);
+        let placed = !in_place || is_of(IN_PLACE_KINDS, record) && *held == 1;
+        !record.zero && optional && placed && self.argument_fits(record)
+    }
+
+    /// A table that no direct list may have.
+    pub fn not_direct(&mut self, table: usize) {
+        self.undirect_tables.add(table);
     }
 
     /// What joins several records: direct lists, and what the coding has.
-    fn under(&self, coding: u32) -> bool {
+    pub fn joined(&self, coding: u32) -> bool {
         let known = coding == 48 || coding == 32 && !self.newer;
         known
             && !self.direct_tables.meets(self.undirect_tables)
             && !self.direct_unions.meets(self.held_unions)
     }
-}
-
-/// "Table ids differ."
-fn ids_differ(tables: &[(u32, Records)]) -> bool {
-    let mut ids: Vec<u32> = tables.iter().map(|(id, _)| *id).collect();
-    ids.sort_unstable();
-    ids.windows(2).all(|pair| pair[0] != pair[1])
 }

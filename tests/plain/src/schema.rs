@@ -1,7 +1,6 @@
 //! A schema as the walk wants it: what can be worked out from the schema alone, in flat tables.
 
 use crate::build;
-use crate::packed::Packed;
 use crate::walk;
 use crate::wire::{Bits32, Bits48};
 use crate::{Budget, Verdict};
@@ -78,7 +77,7 @@ pub struct Table {
 /// A list by its elements.
 pub struct List {
     /// The bits of an element.
-    pub bits: u64,
+    pub bits: usize,
     pub elements: Elements,
 }
 
@@ -89,8 +88,9 @@ pub enum Elements {
     Unions(u8),
 }
 
-/// A struct from its first bool to its last.
+/// A struct, and of it what stands from its first bool to its last.
 pub struct Struct {
+    pub size: usize,
     /// Where the first bool is.
     pub first: usize,
     /// The bits that must be 0, a byte for each byte.
@@ -100,8 +100,7 @@ pub struct Struct {
 impl Schema {
     /// Decodes a packed schema under a coding, 48 or 32; none where it is not lawful.
     pub fn new(coding: u32, bytes: &[u8]) -> Option<Schema> {
-        let packed = Packed::new(coding, bytes)?;
-        Some(build::schema(coding == 32, &packed))
+        build::schema(coding, bytes)
     }
 
     /// Judges a message.
@@ -120,6 +119,21 @@ impl Schema {
         &self.live[table.live.clone()]
     }
 
+    /// The live members of a table whose fixed part has so many bytes; none where a member is cut,
+    /// or where a flag decides whether one is refused.
+    pub(crate) fn reach(&self, table: &Table, length: usize) -> Option<&[Member]> {
+        let live = self.live(table);
+        if length >= table.full {
+            return Some(live);
+        }
+        let inside = |member: &Member| member.end as usize <= length;
+        let members = self.members(table);
+        let known =
+            (members.iter()).all(|member| member.start as usize >= length || inside(member));
+        // Live members rise, for each takes bytes of its own.
+        known.then(|| &live[..live.partition_point(inside)])
+    }
+
     /// The case of a union's choice; choice 0 is none, and so is one above the cases.
     pub(crate) fn case(&self, union: u8, choice: u16) -> Option<Object> {
         let cases = &self.cases[self.unions[usize::from(union)].clone()];
@@ -128,7 +142,7 @@ impl Schema {
 
     /// Whether the bools of a struct are 0 or 1, by the bytes from its first on.
     pub(crate) fn bools_hold(&self, index: u8, bytes: &[u8]) -> bool {
-        let Struct { first, mask } = &self.structs[usize::from(index)];
+        let Struct { first, mask, .. } = &self.structs[usize::from(index)];
         let mask = &self.masks[mask.clone()];
         let bytes = &bytes[*first..][..mask.len()];
         let add = |wrong, (byte, mask): (&u8, &u8)| wrong | byte & mask;

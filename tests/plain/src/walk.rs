@@ -2,7 +2,7 @@
 
 use crate::schema::{Member, Object, Part, Schema, Table};
 use crate::text::is_text;
-use crate::wire::{object_at, u16_at, u32_at, Coding};
+use crate::wire::{header_at, u16_at, u32_at, Coding};
 use crate::wire::{BYTES_MAGIC, LIST_MAGIC, MESSAGE_MAGIC, TEXT_MAGIC};
 use crate::{Budget, Verdict, NO_MEMBER};
 use std::marker::PhantomData;
@@ -33,7 +33,7 @@ pub fn judge<C: Coding>(schema: &Schema, message: &[u8], budget: Budget) -> Verd
     let (number, place, member) = walk.refusal;
     Verdict {
         number,
-        place,
+        place: place as u64,
         member,
         visits: budget.visits - walk.left.visits,
         content: budget.content - walk.left.content,
@@ -52,7 +52,7 @@ pub struct Walk<'a, C> {
     /// What may still be spent.
     pub left: Budget,
     /// Number, place and member of the refusal, or of acceptance.
-    refusal: (u32, u64, u32),
+    refusal: (u32, usize, u32),
     coding: PhantomData<C>,
 }
 
@@ -60,26 +60,31 @@ pub struct Walk<'a, C> {
 /// depth.
 #[derive(Clone, Copy)]
 pub struct Spot {
-    pub place: u64,
+    pub place: usize,
     pub start: usize,
     pub depth: u32,
 }
 
 impl<'a, C: Coding> Walk<'a, C> {
     #[cold]
-    pub fn refuse<T>(&mut self, number: u32, place: u64) -> Result<T, Refused> {
+    pub fn refuse<T>(&mut self, number: u32, place: usize) -> Result<T, Refused> {
         self.refuse_member(number, place, NO_MEMBER)
     }
 
     #[cold]
-    pub fn refuse_member<T>(&mut self, number: u32, place: u64, member: u32) -> Result<T, Refused> {
+    pub fn refuse_member<T>(
+        &mut self,
+        number: u32,
+        place: usize,
+        member: u32,
+    ) -> Result<T, Refused> {
         self.refusal = (number, place, member);
         Err(Refused)
     }
 
     /// The arrival at an object: a visit, and its depth.
     #[inline(always)]
-    pub fn arrive(&mut self, place: u64, depth: u32) -> Walked {
+    pub fn arrive(&mut self, place: usize, depth: u32) -> Walked {
         if self.left.visits == 0 {
             return self.refuse(4, place);
         }
@@ -92,16 +97,20 @@ impl<'a, C: Coding> Walk<'a, C> {
 
     /// The arrival at an object by its offset, up to its magic: where it stands, and its length.
     #[inline(always)]
-    pub fn open(&mut self, place: u64, depth: u32, wanted: u32) -> Result<(Spot, u64), Refused> {
+    pub fn open(
+        &mut self,
+        place: usize,
+        depth: u32,
+        wanted: u32,
+    ) -> Result<(Spot, usize), Refused> {
         self.arrive(place, depth)?;
-        let header = object_at::<C>(self.message, place).and_then(C::header);
-        let Some((magic, length)) = header else {
+        let Some((magic, length)) = header_at::<C>(self.message, place) else {
             return self.refuse(6, place);
         };
         if magic != wanted {
             return self.refuse(7, place);
         }
-        let start = place as usize + C::HEADER;
+        let start = place + C::HEADER;
         Ok((
             Spot {
                 place,
@@ -115,20 +124,20 @@ impl<'a, C: Coding> Walk<'a, C> {
     /// The content of an object, of so many bytes and some more that are not charged: it fits, and
     /// is within the allowance.
     #[inline(always)]
-    pub fn admit(&mut self, spot: Spot, size: u64, more: u64) -> Result<&'a [u8], Refused> {
-        let rest = self.message.get(spot.start..).unwrap_or_default();
-        if size.saturating_add(more) > rest.len() as u64 {
+    pub fn admit(&mut self, spot: Spot, size: usize, more: usize) -> Result<&'a [u8], Refused> {
+        let (message, end) = (self.message, spot.start + size);
+        if end + more > message.len() {
             return self.refuse(6, spot.place);
         }
-        if size > self.left.content {
-            return self.refuse(17, spot.place);
+        match self.left.content.checked_sub(size as u64) {
+            Some(left) => self.left.content = left,
+            None => return self.refuse(17, spot.place),
         }
-        self.left.content -= size;
-        Ok(&rest[..size as usize])
+        Ok(&message[spot.start..end])
     }
 
     /// The object that an offset leads to.
-    pub fn object(&mut self, object: Object, place: u64, depth: u32) -> Walked {
+    pub fn object(&mut self, object: Object, place: usize, depth: u32) -> Walked {
         match object {
             Object::Text => self.text(place, depth),
             Object::Bytes => {
@@ -148,8 +157,14 @@ impl<'a, C: Coding> Walk<'a, C> {
     }
 
     /// The object that stands in place, by its length.
-    fn object_in_place(&mut self, object: Object, start: usize, depth: u32, length: u64) -> Walked {
-        let place = start as u64;
+    fn object_in_place(
+        &mut self,
+        object: Object,
+        start: usize,
+        depth: u32,
+        length: usize,
+    ) -> Walked {
+        let place = start;
         self.arrive(place, depth)?;
         let spot = Spot {
             place,
@@ -169,13 +184,13 @@ impl<'a, C: Coding> Walk<'a, C> {
         }
     }
 
-    pub fn text(&mut self, place: u64, depth: u32) -> Walked {
+    pub fn text(&mut self, place: usize, depth: u32) -> Walked {
         let (spot, length) = self.open(place, depth, TEXT_MAGIC)?;
         self.text_content(spot, length)
     }
 
     #[inline(always)]
-    fn text_content(&mut self, spot: Spot, length: u64) -> Walked {
+    fn text_content(&mut self, spot: Spot, length: usize) -> Walked {
         let text = self.admit(spot, length, 1)?;
         let (through, rest) = self.message.split_at(spot.start + text.len());
         if rest.first() != Some(&0) {
@@ -187,12 +202,12 @@ impl<'a, C: Coding> Walk<'a, C> {
         Ok(())
     }
 
-    pub fn table(&mut self, place: u64, table: &Table, depth: u32) -> Walked {
+    pub fn table(&mut self, place: usize, table: &Table, depth: u32) -> Walked {
         let (spot, length) = self.open(place, depth, table.id)?;
         self.fixed_part(spot, length, table)
     }
 
-    fn fixed_part(&mut self, spot: Spot, length: u64, table: &Table) -> Walked {
+    fn fixed_part(&mut self, spot: Spot, length: usize, table: &Table) -> Walked {
         let fixed = self.admit(spot, length, 0)?;
         self.members(spot, fixed, table)
     }

@@ -17,11 +17,14 @@ pub trait Coding {
     const UNION: usize = 2 + Self::WIDTH;
 
     /// The offset or length with which the bytes start.
-    fn number(bytes: &[u8]) -> Option<u64>;
+    fn number(bytes: &[u8]) -> Option<usize>;
 
     /// The magic and the length with which the bytes start.
-    fn header(bytes: &[u8]) -> Option<(u32, u64)>;
+    fn header(bytes: &[u8]) -> Option<(u32, usize)>;
 }
+
+// Offsets and lengths are held as they are read.
+const _: () = assert!(usize::BITS >= 64);
 
 /// The coding of document 000.
 pub struct Bits48;
@@ -30,16 +33,27 @@ impl Coding for Bits48 {
     const WIDTH: usize = 6;
 
     #[inline(always)]
-    fn number(bytes: &[u8]) -> Option<u64> {
+    fn number(bytes: &[u8]) -> Option<usize> {
         let &[a, b, c, d, e, f] = bytes.first_chunk()?;
-        Some(u64::from_le_bytes([a, b, c, d, e, f, 0, 0]))
+        Some(joined(
+            u32::from_le_bytes([a, b, c, d]),
+            u16::from_le_bytes([e, f]),
+        ))
     }
 
     #[inline(always)]
-    fn header(bytes: &[u8]) -> Option<(u32, u64)> {
-        let &[a, b, c, d, length @ ..] = bytes.first_chunk::<10>()?;
-        Some((u32::from_le_bytes([a, b, c, d]), Self::number(&length)?))
+    fn header(bytes: &[u8]) -> Option<(u32, usize)> {
+        let &[a, b, c, d, e, f, g, h, i, j] = bytes.first_chunk()?;
+        let word = u64::from_le_bytes([a, b, c, d, e, f, g, h]);
+        let length = joined((word >> 32) as u32, u16::from_le_bytes([i, j]));
+        Some((word as u32, length))
     }
+}
+
+/// A U48 of its two parts.
+#[inline(always)]
+fn joined(low: u32, high: u16) -> usize {
+    low as usize | usize::from(high) << 32
 }
 
 /// The older coding of document 002.
@@ -49,14 +63,14 @@ impl Coding for Bits32 {
     const WIDTH: usize = 4;
 
     #[inline(always)]
-    fn number(bytes: &[u8]) -> Option<u64> {
-        u32_at(bytes).map(u64::from)
+    fn number(bytes: &[u8]) -> Option<usize> {
+        u32_at(bytes).map(|number| number as usize)
     }
 
     #[inline(always)]
-    fn header(bytes: &[u8]) -> Option<(u32, u64)> {
-        let &[a, b, c, d, length @ ..] = bytes.first_chunk::<8>()?;
-        Some((u32::from_le_bytes([a, b, c, d]), Self::number(&length)?))
+    fn header(bytes: &[u8]) -> Option<(u32, usize)> {
+        let word = u64::from_le_bytes(*bytes.first_chunk()?);
+        Some((word as u32, (word >> 32) as usize))
     }
 }
 
@@ -72,11 +86,12 @@ pub fn u32_at(bytes: &[u8]) -> Option<u32> {
     bytes.first_chunk().map(|bytes| u32::from_le_bytes(*bytes))
 }
 
-/// The bytes from an object's header on; none where its offset is under the message's start, "not
-/// lawful where an object is required", or over the message's end.
+/// The magic and the length of the object at a place. "An offset under 10 is not lawful where an
+/// object is required."
 #[inline(always)]
-pub fn object_at<C: Coding>(message: &[u8], place: u64) -> Option<&[u8]> {
-    let behind_start = message.get(C::HEADER..)?;
-    let at = usize::try_from(place).ok()?.checked_sub(C::HEADER)?;
-    behind_start.get(at..)
+pub fn header_at<C: Coding>(message: &[u8], place: usize) -> Option<(u32, usize)> {
+    if place < C::HEADER {
+        return None;
+    }
+    message.get(place..place + C::HEADER).and_then(C::header)
 }
