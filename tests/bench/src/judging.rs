@@ -6,19 +6,39 @@ use crate::timing::{self, Plan, Times};
 use std::hint::black_box;
 use std::time::Instant;
 
-const HEAD: &str = "\
+const LEGEND: &str = "\
 Judging: nanoseconds of a call, the best of each program, and ours by each of the others'.
   second: the second program.
   plain:  the plain Rust program, its schema decoded once beforehand ('-' where it is not lawful).
-  whole:  the plain Rust program's whole call, which decodes the schema each time, as ours does.
-                                                                                                     \
-       by second        by plain   whole         ns/object
-case                                                visits       ours     second      plain      whole\
-    best  median    best  median    best     ours    plain";
+  whole:  the plain Rust program's whole call, which decodes the schema each time, as ours does.";
+
+fn print_head() {
+    println!("{LEGEND}");
+    println!(
+        "{:>104} {:>15} {:>15} {:>7} {:>17}",
+        "", "ours by second", "by plain", "whole", "ns/object"
+    );
+    println!(
+        "{:<50} {:>9} {:>10} {:>10} {:>10} {:>10} {:>7} {:>7} {:>7} {:>7} {:>7} {:>8} {:>8}",
+        "case",
+        "visits",
+        "ours",
+        "second",
+        "plain",
+        "whole",
+        "best",
+        "median",
+        "best",
+        "median",
+        "best",
+        "ours",
+        "plain",
+    );
+}
 
 /// Times every case; false where a verdict is not the expected one or two programs differ.
 pub fn times(plan: &Plan) -> bool {
-    println!("{HEAD}");
+    print_head();
     let mut sound = true;
     for build in CASES {
         let case = build();
@@ -47,7 +67,7 @@ fn time(plan: &Plan, case: &Case) {
     );
     let plain = schema.as_ref().map(|_| plain);
     println!(
-        "{:<48} {:>9} {:>10.0} {:>10.0} {:>10} {:>10.0} {} {} {} {}",
+        "{:<50} {:>9} {:>10.0} {:>10.0} {:>10} {:>10.0} {} {} {} {}",
         case.name,
         case.expected.visits,
         ours.best,

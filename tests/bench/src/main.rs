@@ -1,7 +1,8 @@
 //! Times the library, the second program and, where they judge, the plain Rust program on the same
-//! messages, in one process and in turn, and measures the stack that each uses at the greatest depth. `--quick` takes few samples and leaves
-//! out the case that takes seconds; `--tasks` times all but judging, and `--spin NAME` runs one of
-//! those for a profiler.
+//! messages, in one process and in turn, and measures the stack that two of them use at the
+//! greatest depth. `--quick` takes few samples and leaves out the case that takes seconds;
+//! `--texts` times texts at volume alone, `--tasks` all but judging, and `--spin NAME` runs one of
+//! the tasks for a profiler.
 //!
 //! It fails where a verdict is not the expected one or two programs differ.
 
@@ -13,6 +14,7 @@ mod programs;
 mod schema;
 mod stack;
 mod tasks;
+mod texts;
 mod timing;
 
 use cases::Case;
@@ -136,7 +138,7 @@ fn spin(name: &str) -> bool {
     true
 }
 
-const USAGE: &str = "usage: bench [--quick] [--tasks]
+const USAGE: &str = "usage: bench [--quick] [--tasks | --texts]
        bench --spin NAME";
 
 fn main() -> ExitCode {
@@ -148,6 +150,8 @@ fn main() -> ExitCode {
         ["--quick"] => all(&Plan::quick()),
         ["--tasks"] => time_tasks(&full),
         ["--quick", "--tasks"] => time_tasks(&Plan::quick()),
+        ["--texts"] => texts::times(&full),
+        ["--quick", "--texts"] => texts::times(&Plan::quick()),
         ["--spin", name] => spin(name),
         _ => {
             eprintln!("{USAGE}");
@@ -163,17 +167,19 @@ fn main() -> ExitCode {
 fn all(plan: &Plan) -> bool {
     let timed = judging::times(plan);
     println!();
+    let read = texts::times(plan);
+    println!();
     let measured = stacks();
     println!();
     let worked = time_tasks(plan);
-    timed && measured && worked
+    timed && read && measured && worked
 }
 
 #[cfg(test)]
 mod tests {
     use super::cases::{self, Case, CASES};
     use super::timing::{self, Plan};
-    use super::{depth, fault, ours, stack, tasks};
+    use super::{depth, fault, ours, stack, tasks, texts};
     use scalgo::Coding::Bits48;
     use std::cell::RefCell;
     use std::hint::black_box;
@@ -184,6 +190,13 @@ mod tests {
             .chain(depth::cases())
             .filter_map(|case| fault(&case))
             .collect();
+        assert!(faults.is_empty(), "{}", faults.join("\n"));
+    }
+
+    #[test]
+    fn every_program_accepts_the_texts() {
+        let batches = texts::BATCHES.iter().map(|build| build());
+        let faults: Vec<String> = batches.filter_map(|batch| batch.fault()).collect();
         assert!(faults.is_empty(), "{}", faults.join("\n"));
     }
 
