@@ -84,11 +84,7 @@ impl<'a, C: Coding> Walk<'a, C> {
             table,
             size,
             bytes: &rest[..count * size],
-            first: Spot {
-                place: start,
-                start,
-                depth: depth + 1,
-            },
+            first: Spot::without_header(start, depth + 1),
         };
         self.elements(direct, count)
     }
@@ -112,11 +108,7 @@ impl<'a, C: Coding> Walk<'a, C> {
     /// One element of a direct list.
     pub fn element(&mut self, direct: Direct<'a>, number: usize, fixed: &'a [u8]) -> Walked {
         let start = direct.first.start + number * direct.size;
-        let spot = Spot {
-            place: start,
-            start,
-            ..direct.first
-        };
+        let spot = Spot::without_header(start, direct.first.depth);
         self.arrive(spot.place, spot.depth)?;
         self.admit(spot, fixed.len(), 0)?;
         self.members(spot, fixed, direct.table)

@@ -3,7 +3,7 @@
 //! goes the walk's way, which says why it is refused.
 
 use crate::lists::Direct;
-use crate::objects::{bytes_length, text_length};
+use crate::objects::{after_bytes, after_text, less};
 use crate::schema::{Member, Object, Part, Table};
 use crate::walk::{Walk, Walked};
 use crate::wire::{header_at, Coding};
@@ -14,15 +14,6 @@ use crate::Budget;
 pub fn places<C: Coding>(content: &[u8]) -> impl Iterator<Item = usize> + use<'_, C> {
     let places = content.chunks_exact(C::WIDTH).filter_map(C::number);
     places.filter(|place| *place != 0)
-}
-
-/// What is left after a visit with so much content, if it is enough.
-#[inline(always)]
-fn less(left: Budget, content: usize) -> Option<Budget> {
-    Some(Budget {
-        visits: left.visits.checked_sub(1)?,
-        content: left.content.checked_sub(content as u64)?,
-    })
 }
 
 /// A row table, and its live members in a fixed part of the length that came last: none where
@@ -40,12 +31,11 @@ impl<'a, C: Coding> Walk<'a, C> {
         &mut self,
         content: &[u8],
         (object, depth): (Object, u32),
-        length_at: impl Fn(&[u8], usize) -> Option<usize>,
+        after: impl Fn(&[u8], usize, Budget) -> Option<Budget>,
     ) -> Walked {
         let (message, mut left) = (self.message, self.left);
         for place in places::<C>(content) {
-            let length = length_at(message, place);
-            if let Some(after) = length.and_then(|length| less(left, length)) {
+            if let Some(after) = after(message, place, left) {
                 left = after;
                 continue;
             }
@@ -59,12 +49,12 @@ impl<'a, C: Coding> Walk<'a, C> {
 
     /// A list of texts, within the greatest depth.
     pub fn texts(&mut self, content: &[u8], depth: u32) -> Walked {
-        self.leaves(content, (Object::Text, depth), text_length::<C>)
+        self.leaves(content, (Object::Text, depth), after_text::<C>)
     }
 
     /// A list of bytes, within the greatest depth.
     pub fn blobs(&mut self, content: &[u8], depth: u32) -> Walked {
-        self.leaves(content, (Object::Bytes, depth), bytes_length::<C>)
+        self.leaves(content, (Object::Bytes, depth), after_bytes::<C>)
     }
 
     /// A list of rows, above the greatest depth.
@@ -117,11 +107,10 @@ impl<'a, C: Coding> Walk<'a, C> {
             if place == 0 {
                 continue;
             }
-            let length = match object {
-                Object::Text => text_length::<C>(self.message, place)?,
-                _ => bytes_length::<C>(self.message, place)?,
+            left = match object {
+                Object::Text => after_text::<C>(self.message, place, left)?,
+                _ => after_bytes::<C>(self.message, place, left)?,
             };
-            left = less(left, length)?;
         }
         Some(left)
     }

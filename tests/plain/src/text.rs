@@ -45,25 +45,25 @@ fn joined<const N: usize>(block: &[u8; N]) -> u64 {
     (words.iter()).fold(0, |joined, word| joined | u64::from_le_bytes(*word))
 }
 
+/// Text that is not all ASCII. Cold, so that nothing is kept for it in the loops over short ASCII.
+#[cold]
 fn is_other_text(text: &[u8]) -> bool {
     from_utf8(text).is_ok()
 }
 
 /// A text of more than 32 bytes: blocks of ASCII are passed over, up to the last bytes.
+#[inline(never)]
 fn is_long_text(text: &[u8]) -> bool {
     if text.len() <= BLOCK {
         return ends_are_ascii::<32>(text) || is_other_text(text);
     }
-    let (blocks, rest) = text.as_chunks::<BLOCK>();
+    let (blocks, _) = text.as_chunks::<BLOCK>();
     let ascii = (blocks.iter()).take_while(|block| block.is_ascii()).count();
-    let all_blocks = ascii == blocks.len();
-    let to_the_end = || {
-        rest.is_empty()
-            || text
-                .last_chunk::<BLOCK>()
-                .is_some_and(|last| last.is_ascii())
-    };
-    all_blocks && to_the_end() || is_other_text(&text[BLOCK * ascii..])
+    let rest = &text[BLOCK * ascii..];
+    // What is less than a block is looked at with bytes before it.
+    let last = text.last_chunk::<BLOCK>();
+    let last = last.filter(|_| rest.len() < BLOCK);
+    last.is_some_and(|last| last.is_ascii()) || is_other_text(rest)
 }
 
 #[cfg(test)]

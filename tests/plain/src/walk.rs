@@ -28,7 +28,7 @@ pub fn judge<C: Coding>(schema: &Schema, message: &[u8], budget: Budget) -> Verd
         refusal: (0, 0, NO_MEMBER),
         coding: PhantomData,
     };
-    // What the walk comes to stands in its refusal.
+    // A refusal stands in the walk.
     let _ = walk.table(root, &schema.tables[schema.root], 1);
     let (number, place, member) = walk.refusal;
     Verdict {
@@ -51,7 +51,7 @@ pub struct Walk<'a, C> {
     pub message: &'a [u8],
     /// What may still be spent.
     pub left: Budget,
-    /// Number, place and member of the refusal, or of acceptance.
+    /// Number, place and member of the refusal; until there is one, those of acceptance.
     refusal: (u32, usize, u32),
     coding: PhantomData<C>,
 }
@@ -65,6 +65,23 @@ pub struct Spot {
     pub depth: u32,
 }
 
+impl Spot {
+    /// Where an object stands that has no header, or is in place.
+    pub fn without_header(start: usize, depth: u32) -> Spot {
+        let place = start;
+        Spot {
+            place,
+            start,
+            depth,
+        }
+    }
+
+    /// Where content in place stands: where its table's fixed part ends.
+    fn behind(self, fixed: &[u8]) -> Spot {
+        Spot::without_header(self.start + fixed.len(), self.depth + 1)
+    }
+}
+
 impl<'a, C: Coding> Walk<'a, C> {
     #[cold]
     pub fn refuse<T>(&mut self, number: u32, place: usize) -> Result<T, Refused> {
@@ -72,13 +89,8 @@ impl<'a, C: Coding> Walk<'a, C> {
     }
 
     #[cold]
-    pub fn refuse_member<T>(
-        &mut self,
-        number: u32,
-        place: usize,
-        member: u32,
-    ) -> Result<T, Refused> {
-        self.refusal = (number, place, member);
+    pub fn refuse_member<T>(&mut self, number: u32, at: usize, member: u32) -> Result<T, Refused> {
+        self.refusal = (number, at, member);
         Err(Refused)
     }
 
@@ -97,28 +109,20 @@ impl<'a, C: Coding> Walk<'a, C> {
 
     /// The arrival at an object by its offset, up to its magic: where it stands, and its length.
     #[inline(always)]
-    pub fn open(
-        &mut self,
-        place: usize,
-        depth: u32,
-        wanted: u32,
-    ) -> Result<(Spot, usize), Refused> {
-        self.arrive(place, depth)?;
-        let Some((magic, length)) = header_at::<C>(self.message, place) else {
-            return self.refuse(6, place);
+    pub fn open(&mut self, at: usize, depth: u32, wanted: u32) -> Result<(Spot, usize), Refused> {
+        self.arrive(at, depth)?;
+        let Some((magic, length)) = header_at::<C>(self.message, at) else {
+            return self.refuse(6, at);
         };
         if magic != wanted {
-            return self.refuse(7, place);
+            return self.refuse(7, at);
         }
-        let start = place + C::HEADER;
-        Ok((
-            Spot {
-                place,
-                start,
-                depth,
-            },
-            length,
-        ))
+        let spot = Spot {
+            place: at,
+            start: at + C::HEADER,
+            depth,
+        };
+        Ok((spot, length))
     }
 
     /// The content of an object, of so many bytes and some more that are not charged: it fits, and
@@ -157,20 +161,8 @@ impl<'a, C: Coding> Walk<'a, C> {
     }
 
     /// The object that stands in place, by its length.
-    fn object_in_place(
-        &mut self,
-        object: Object,
-        start: usize,
-        depth: u32,
-        length: usize,
-    ) -> Walked {
-        let place = start;
-        self.arrive(place, depth)?;
-        let spot = Spot {
-            place,
-            start,
-            depth,
-        };
+    fn object_in_place(&mut self, object: Object, spot: Spot, length: usize) -> Walked {
+        self.arrive(spot.place, spot.depth)?;
         match object {
             Object::Text => self.text_content(spot, length),
             Object::Bytes => self.admit(spot, length, 0).map(|_| ()),
@@ -180,7 +172,7 @@ impl<'a, C: Coding> Walk<'a, C> {
                 self.fixed_part(spot, length, &schema.tables[usize::from(index)])
             }
             // No lawful schema has one.
-            Object::Direct(_) => self.refuse(6, place),
+            Object::Direct(_) => self.refuse(6, spot.place),
         }
     }
 
@@ -266,13 +258,9 @@ impl<'a, C: Coding> Walk<'a, C> {
             Part::Union(index) => self.union(spot, value, (index, u32::from(member.number))),
             Part::InPlace(object) => match C::number(value) {
                 None | Some(0) => Ok(()),
-                Some(length) => {
-                    self.object_in_place(object, spot.start + fixed.len(), spot.depth + 1, length)
-                }
+                Some(length) => self.object_in_place(object, spot.behind(fixed), length),
             },
-            Part::UnionInPlace(index) => {
-                self.union_in_place(index, value, spot.start + fixed.len(), spot.depth + 1)
-            }
+            Part::UnionInPlace(index) => self.union_in_place(index, value, spot.behind(fixed)),
         }
     }
 
@@ -297,13 +285,13 @@ impl<'a, C: Coding> Walk<'a, C> {
     }
 
     /// A union whose object stands in place.
-    fn union_in_place(&mut self, index: u8, value: &[u8], start: usize, depth: u32) -> Walked {
+    fn union_in_place(&mut self, index: u8, value: &[u8], spot: Spot) -> Walked {
         let Some((choice, length)) = u16_at(value).zip(C::number(&value[2..])) else {
             return Ok(());
         };
         match self.schema.case(index, choice) {
             None => Ok(()),
-            Some(case) => self.object_in_place(case, start, depth, length),
+            Some(case) => self.object_in_place(case, spot, length),
         }
     }
 }
