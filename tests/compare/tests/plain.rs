@@ -4,14 +4,17 @@
 //! A longer run: `compare plain --cases 10000000 --seed S`, and with
 //! `--coding 32` under the older coding.
 
+use compare::canonical;
 use compare::coding::{Coding, CODINGS};
 use compare::doubling;
 use compare::judging::{self, same_verdict};
 use compare::plain_program::Plain;
 use compare::program::{accepted, verdict, Budget, Judge, Second};
+use compare::schema::{root_with, Record, SIZE_LIMIT, TEXT};
 use compare::stored;
 use compare::subjects::{Sort, Subject, DIRECT_SORTS, SORTS};
 use compare::tally::{Allowed, Tally, NUMBERS};
+use compare::value::Value;
 
 /// Of each coding.
 const MESSAGES: u64 = 150_000;
@@ -65,6 +68,26 @@ fn plain_program_answers_the_stored_cases_alike() {
         let budget = Budget::of_visits(case.budget);
         let given = Plain.judge(&case.schema, &case.message, budget);
         assert_eq!(given, case.verdict(), "{}: {}", case.group, case.name);
+    }
+}
+
+/// A message of the largest size, and one of a byte more.
+#[test]
+fn the_largest_message() {
+    for coding in CODINGS {
+        let schema = root_with(coding, Record::plain(TEXT, 0));
+        let empty = Value::Table(vec![Value::Absent]);
+        let mut subject = Subject {
+            sort: Sort::Written,
+            schema: schema.pack(),
+            message: canonical::message(&schema, &empty),
+        };
+        subject.message.resize(SIZE_LIMIT, 0);
+        let judged = |subject: &Subject| same_verdict(&Plain, &Second, subject, Budget::LARGEST);
+        let root = accepted(1, coding.offset() as u64);
+        assert_eq!(judged(&subject), Ok(root));
+        subject.message.push(0);
+        assert_eq!(judged(&subject), Ok(verdict(2, 0, 0, 0)));
     }
 }
 
