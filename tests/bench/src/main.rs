@@ -1,8 +1,8 @@
 //! Times the library, the second program and, where they judge, the plain Rust program on the same
 //! messages, in one process and in turn, and measures the stack that two of them use at the
 //! greatest depth. `--quick` takes few samples and leaves out the case that takes seconds;
-//! `--texts` times texts at volume alone, `--tasks` all but judging, and `--spin NAME` runs one of
-//! the tasks for a profiler.
+//! `--texts` times texts at volume alone, `--tasks` all but judging, and `--spin NAME` runs the
+//! library's side of one row for a profiler.
 //!
 //! It fails where a verdict is not the expected one or two programs differ.
 
@@ -17,7 +17,7 @@ mod tasks;
 mod texts;
 mod timing;
 
-use cases::Case;
+use cases::{Case, CASES};
 use programs::{fault, ours, second};
 use std::hint::black_box;
 use std::process::ExitCode;
@@ -124,16 +124,29 @@ fn stacks() -> bool {
     sound
 }
 
-/// Runs the library's side of one task for some seconds, for a profiler.
+/// The library's side of the first case, batch of texts or task with these letters in its name.
+fn side_of(name: &str) -> Option<Box<dyn Fn()>> {
+    let mut cases = CASES.iter().map(|build| build());
+    if let Some(case) = cases.find(|case| case.name.contains(name)) {
+        return Some(Box::new(move || _ = black_box(ours(&case))));
+    }
+    let mut batches = texts::BATCHES.iter().map(|build| build());
+    if let Some(batch) = batches.find(|batch| batch.name.contains(name)) {
+        return Some(Box::new(move || _ = black_box(batch.ours())));
+    }
+    let task = tasks::all().find(|task| task.name.contains(name))?;
+    Some(Box::new(move || _ = black_box((task.ours)())))
+}
+
+/// Runs the library's side of something that is timed for some seconds, for a profiler.
 fn spin(name: &str) -> bool {
-    let found = tasks::all().find(|task| task.name.contains(name));
-    let Some(task) = found else {
+    let Some(side) = side_of(name) else {
         return false;
     };
     SUMMED.with_borrow_mut(|summed| *summed = false);
     let began = Instant::now();
     while began.elapsed() < Duration::from_secs(3) {
-        black_box((task.ours)());
+        side();
     }
     true
 }
@@ -177,9 +190,9 @@ fn all(plan: &Plan) -> bool {
 
 #[cfg(test)]
 mod tests {
-    use super::cases::{self, Case, CASES};
+    use super::cases::{self, Case};
     use super::timing::{self, Plan};
-    use super::{depth, fault, ours, stack, tasks, texts};
+    use super::{depth, fault, ours, stack, tasks, texts, CASES};
     use scalgo::Coding::Bits48;
     use std::cell::RefCell;
     use std::hint::black_box;

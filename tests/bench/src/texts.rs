@@ -27,7 +27,7 @@ pub struct Batch {
 
 /// What judging a batch comes to: the messages that are refused, and the sum of the visits.
 #[derive(Debug, PartialEq)]
-struct Judged {
+pub struct Judged {
     refused: u64,
     visits: u64,
 }
@@ -70,7 +70,7 @@ impl Batch {
         judged
     }
 
-    fn ours(&self) -> Judged {
+    pub fn ours(&self) -> Judged {
         self.judged(|message| {
             let verdict = scalgo::judge(Bits48, &self.schema, message, Budget::LARGEST);
             (verdict.number, verdict.visits)
