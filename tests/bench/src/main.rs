@@ -1,161 +1,37 @@
-//! Times the library and the second program on the same messages, in one process and in turn, and
-//! measures the stack that each uses at the greatest depth. `--quick` takes few samples and leaves
-//! out the case that takes seconds; `--tasks` times all but judging, and `--spin NAME` runs one of
-//! those for a profiler.
+//! Times the library, the second program and, where they judge, the plain Rust program on the same
+//! messages, in one process and in turn, and measures the stack that two of them use at the
+//! greatest depth. `--quick` takes few samples and leaves out the case that takes seconds;
+//! `--texts` times texts at volume alone, `--tasks` all but judging, and `--spin NAME` runs the
+//! library's side of one row for a profiler.
 //!
-//! It fails where a verdict is not the expected one or the two programs differ.
+//! It fails where a verdict is not the expected one or two programs differ.
 
 mod cases;
 mod depth;
+mod judging;
 mod message;
+mod programs;
 mod schema;
 mod stack;
 mod tasks;
+mod texts;
 mod timing;
 
 use cases::{Case, CASES};
-use reference::{Verdict, NO_MEMBER};
+use programs::{fault, ours, second};
 use std::hint::black_box;
 use std::process::ExitCode;
 use std::time::{Duration, Instant};
 use tasks::{Task, SUMMED};
 use timing::Plan;
 
-fn ours(case: &Case) -> Verdict {
-    of_wrapper(scalgo::judge(
-        case.coding,
-        &case.schema,
-        &case.message,
-        case.budget,
-    ))
-}
-
-/// The wrapper's verdict as the second program's.
-fn of_wrapper(verdict: scalgo::Verdict) -> Verdict {
-    Verdict {
-        number: verdict.number,
-        place: verdict.place,
-        member: verdict.member.unwrap_or(NO_MEMBER),
-        visits: verdict.visits,
-        content: verdict.content,
-    }
-}
-
-/// The wrapper's budget as the second program's.
-fn second_budget(budget: scalgo::Budget) -> reference::Budget {
-    let scalgo::Budget { visits, content } = budget;
-    reference::Budget { visits, content }
-}
-
-fn second(case: &Case) -> Verdict {
-    reference::judge(
-        case.coding.number(),
-        &case.schema,
-        &case.message,
-        second_budget(case.budget),
-    )
-}
-
-/// What is wrong with the verdicts, if anything is.
-fn fault(case: &Case) -> Option<String> {
-    let (ours, second) = (ours(case), second(case));
-    if ours == second && case.expected.is(&ours) {
-        return None;
-    }
-    Some(format!(
-        "{}: expected {:?}\n  ours: {ours:?}\n  reference: {second:?}",
-        case.name, case.expected
-    ))
-}
-
-fn time(plan: &Plan, case: &Case) {
-    let (ours, second) = timing::in_turn(
-        plan,
-        &|| {
-            black_box(ours(black_box(case)));
-        },
-        &|| {
-            black_box(second(black_box(case)));
-        },
-    );
-    let objects = f64::from(case.expected.visits);
-    println!(
-        "{:<50} {:>7} {:>12.0} {:>12.0} {:>12.0} {:>12.0} {:>7.2} {:>7.2} {}",
-        case.name,
-        case.expected.visits,
-        ours.best,
-        ours.median,
-        second.best,
-        second.median,
-        ours.best / second.best,
-        ours.median / second.median,
-        per_object(objects, ours.best, second.best),
-    );
-}
-
-/// Where there are many objects, the nanoseconds for each.
-fn per_object(objects: f64, ours: f64, second: f64) -> String {
-    if objects < 1000.0 {
-        return String::new();
-    }
-    format!("{:>8.1} {:>8.1}", ours / objects, second / objects)
-}
-
-fn times(plan: &Plan) -> bool {
-    println!("Nanoseconds a call: best and median of each program, and ours by the reference's.");
-    println!(
-        "{:<50} {:>7} {:>12} {:>12} {:>12} {:>12} {:>7} {:>7} {:>8} {:>8}",
-        "case",
-        "visits",
-        "ours best",
-        "median",
-        "ref best",
-        "median",
-        "best",
-        "median",
-        "ours/obj",
-        "ref/obj",
-    );
-    let mut sound = true;
-    for build in CASES {
-        let case = build();
-        match fault(&case) {
-            None => time(plan, &case),
-            Some(report) => {
-                println!("{report}");
-                sound = false;
-            }
-        }
-    }
-    sound
-}
-
-/// Four billion direct elements of no bytes with the largest allowance: the library alone, once.
-fn time_the_longest() -> bool {
-    let case = cases::direct_of_no_bytes(u32::MAX);
-    let began = Instant::now();
-    let verdict = ours(black_box(&case));
-    let spent = began.elapsed().as_secs_f64();
-    let objects = f64::from(case.expected.visits);
-    let each = 1e9 * spent / objects;
-    println!("{:<50} {spent:.1} seconds, {each:.2} ns/object", case.name);
-    let sound = case.expected.is(&verdict);
-    if !sound {
-        println!("  expected {:?}\n  ours: {verdict:?}", case.expected);
-    }
-    sound
-}
-
 fn time_task(plan: &Plan, task: &Task) {
     SUMMED.with_borrow_mut(|summed| *summed = false);
-    let (ours, second) = timing::in_turn(
+    let [ours, second] = timing::in_turn(
         plan,
-        &|| {
-            black_box((task.ours)());
-        },
-        &|| {
-            black_box((task.second)());
-        },
+        [&|| _ = black_box((task.ours)()), &|| {
+            _ = black_box((task.second)())
+        }],
     );
     SUMMED.with_borrow_mut(|summed| *summed = true);
     println!(
@@ -248,21 +124,34 @@ fn stacks() -> bool {
     sound
 }
 
-/// Runs the library's side of one task for some seconds, for a profiler.
+/// The library's side of the first case, batch of texts or task with these letters in its name.
+fn side_of(name: &str) -> Option<Box<dyn Fn()>> {
+    let mut cases = CASES.iter().map(|build| build());
+    if let Some(case) = cases.find(|case| case.name.contains(name)) {
+        return Some(Box::new(move || _ = black_box(ours(&case))));
+    }
+    let mut batches = texts::BATCHES.iter().map(|build| build());
+    if let Some(batch) = batches.find(|batch| batch.name.contains(name)) {
+        return Some(Box::new(move || _ = black_box(batch.ours())));
+    }
+    let task = tasks::all().find(|task| task.name.contains(name))?;
+    Some(Box::new(move || _ = black_box((task.ours)())))
+}
+
+/// Runs the library's side of something that is timed for some seconds, for a profiler.
 fn spin(name: &str) -> bool {
-    let found = tasks::all().find(|task| task.name.contains(name));
-    let Some(task) = found else {
+    let Some(side) = side_of(name) else {
         return false;
     };
     SUMMED.with_borrow_mut(|summed| *summed = false);
     let began = Instant::now();
     while began.elapsed() < Duration::from_secs(3) {
-        black_box((task.ours)());
+        side();
     }
     true
 }
 
-const USAGE: &str = "usage: bench [--quick] [--tasks]
+const USAGE: &str = "usage: bench [--quick] [--tasks | --texts]
        bench --spin NAME";
 
 fn main() -> ExitCode {
@@ -270,10 +159,12 @@ fn main() -> ExitCode {
     let words: Vec<&str> = arguments.iter().map(String::as_str).collect();
     let full = Plan::full();
     let sound = match words.as_slice() {
-        [] => all(&full) & time_the_longest(),
+        [] => all(&full) & judging::time_the_longest(),
         ["--quick"] => all(&Plan::quick()),
         ["--tasks"] => time_tasks(&full),
         ["--quick", "--tasks"] => time_tasks(&Plan::quick()),
+        ["--texts"] => texts::times(&full),
+        ["--quick", "--texts"] => texts::times(&Plan::quick()),
         ["--spin", name] => spin(name),
         _ => {
             eprintln!("{USAGE}");
@@ -287,29 +178,38 @@ fn main() -> ExitCode {
 }
 
 fn all(plan: &Plan) -> bool {
-    let timed = times(plan);
+    let timed = judging::times(plan);
+    println!();
+    let read = texts::times(plan);
     println!();
     let measured = stacks();
     println!();
     let worked = time_tasks(plan);
-    timed && measured && worked
+    timed && read && measured && worked
 }
 
 #[cfg(test)]
 mod tests {
     use super::cases::{self, Case};
     use super::timing::{self, Plan};
-    use super::{depth, fault, ours, stack, tasks, CASES};
+    use super::{depth, fault, ours, stack, tasks, texts, CASES};
     use scalgo::Coding::Bits48;
     use std::cell::RefCell;
     use std::hint::black_box;
 
     #[test]
-    fn both_programs_give_the_expected_verdicts() {
+    fn every_program_gives_the_expected_verdicts() {
         let faults: Vec<String> = (CASES.iter().map(|build| build()))
             .chain(depth::cases())
             .filter_map(|case| fault(&case))
             .collect();
+        assert!(faults.is_empty(), "{}", faults.join("\n"));
+    }
+
+    #[test]
+    fn every_program_accepts_the_texts() {
+        let batches = texts::BATCHES.iter().map(|build| build());
+        let faults: Vec<String> = batches.filter_map(|batch| batch.fault()).collect();
         assert!(faults.is_empty(), "{}", faults.join("\n"));
     }
 
@@ -321,7 +221,10 @@ mod tests {
 
     /// The best time of some calls, in nanoseconds.
     fn best(call: &dyn Fn()) -> f64 {
-        timing::in_turn(&Plan::quick(), call, call).0.best
+        {
+            let [times] = timing::in_turn(&Plan::quick(), [call]);
+            times.best
+        }
     }
 
     /// A blob named 100,000 times and refused at its tenth visit takes a small part of the time of all

@@ -2,10 +2,10 @@
 
 use crate::cases::{self, Case, Expected};
 use crate::message::{Message, LIST_MAGIC};
+use crate::programs::{of_wrapper, second_budget};
 use crate::schema::{
     plain, Record, Schema, Table, BOOL, ENUM, F32, F64, LIST, TABLE, TEXT, U16, U32, U64, U8,
 };
-use crate::{of_wrapper, second_budget};
 use reference::Verdict;
 use scalgo::Budget;
 use scalgo::Coding::{Bits32, Bits48};

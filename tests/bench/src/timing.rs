@@ -1,4 +1,4 @@
-//! Times two functions in turn, by the processor's time, so that other programs matter little.
+//! Times functions in turn, by the processor's time, so that other programs matter little.
 
 use std::time::{Duration, Instant};
 
@@ -8,7 +8,7 @@ pub struct Plan {
     sample: Duration,
     /// Samples of each function, unless the time is up first.
     samples: usize,
-    /// The time for both functions.
+    /// The time for all functions.
     limit: Duration,
 }
 
@@ -39,21 +39,19 @@ pub struct Times {
     pub median: f64,
 }
 
-/// Times both functions, each first in every other round, so that neither has the better place.
-pub fn in_turn(plan: &Plan, first: &dyn Fn(), second: &dyn Fn()) -> (Times, Times) {
-    let mut sides = [Side::new(plan, first), Side::new(plan, second)];
+/// Times all functions, another one first in each round, so that none has the better place.
+pub fn in_turn<const N: usize>(plan: &Plan, calls: [&dyn Fn(); N]) -> [Times; N] {
+    let mut sides = calls.map(|call| Side::new(plan, call));
     let began = Instant::now();
     for round in 0..plan.samples {
         if round >= FEWEST && began.elapsed() > plan.limit {
             break;
         }
-        let order = if round % 2 == 0 { [0, 1] } else { [1, 0] };
-        for side in order {
-            sides[side].sample();
+        for place in 0..N {
+            sides[(round + place) % N].sample();
         }
     }
-    let [first, second] = sides;
-    (first.times(), second.times())
+    sides.map(Side::times)
 }
 
 struct Side<'a> {

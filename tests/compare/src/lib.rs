@@ -21,6 +21,7 @@ pub mod message_faults;
 pub mod message_gen;
 pub mod minimums;
 pub mod paths;
+pub mod plain_program;
 pub mod probes;
 pub mod program;
 pub mod rng;

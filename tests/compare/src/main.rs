@@ -5,7 +5,8 @@
 //! `--library` on the proved library, or one case of a run with `--case K`.
 //! `compare judge --cases N --seed S` judges N messages with the proved library
 //! and the second program side by side, or those of one round of a run with
-//! `--round K`. `compare fields`, `reads` and `writes` put N calls to both,
+//! `--round K`; `compare plain` does so with the plain Rust program and the
+//! second. `compare fields`, `reads` and `writes` put N calls to both,
 //! `compare texts` N texts in every way that one is held, and `compare all` does
 //! each of these with N, and the laws on the library; its last lines say how many
 //! answers of each sort were not refusal 1.
@@ -21,14 +22,15 @@ use compare::counts::Counts;
 use compare::every_text;
 use compare::judging;
 use compare::laws::{self, Programs};
-use compare::program::{Library, Program, Second};
+use compare::plain_program::Plain;
+use compare::program::{Judge, Library, Program, Second};
 use compare::stored;
 use compare::tally::Tally;
 use std::path::Path;
 use std::process::ExitCode;
 
 const USAGE: &str = "usage: compare laws [--library] [--cases N] [--seed S] [--case K]
-       compare judge [--cases N] [--seed S] [--round K]
+       compare judge|plain [--cases N] [--seed S] [--round K]
        compare fields|reads|writes|texts|all [--cases N] [--seed S]
        compare utf8 [--cases N] [--seed S]
        compare cases FOLDER
@@ -104,14 +106,15 @@ fn run_laws(asked: &Asked) -> Result<String, String> {
     Ok(laws::run(&programs, asked.coding, asked.seed, cases)?.to_string())
 }
 
-fn judges(asked: &Asked) -> Result<Tally, String> {
+/// A judge beside the second program.
+fn judges(judge: &dyn Judge, asked: &Asked) -> Result<Tally, String> {
     let (coding, seed) = (asked.coding, asked.seed);
     if let Some(round) = asked.one {
         let mut tally = Tally::default();
-        judging::on_round(&LibraryCalls, &Second, coding, (seed, round), &mut tally)?;
+        judging::on_round(judge, &Second, coding, (seed, round), &mut tally)?;
         return Ok(tally);
     }
-    judging::run(&LibraryCalls, &Second, coding, seed, asked.cases())
+    judging::run(judge, &Second, coding, seed, asked.cases())
 }
 
 /// The C interface's calls put to both: `fields`, `reads`, `writes` or `texts`.
@@ -136,7 +139,7 @@ fn utf8(asked: &Asked) -> Result<String, String> {
 /// Every side by side with so many calls each, and the laws on the library with
 /// a tenth of as many cases.
 fn run_all(asked: &Asked) -> Result<String, String> {
-    let tally = judges(asked)?;
+    let tally = judges(&LibraryCalls, asked)?;
     let [fields, reads, writes, texts] = [
         calls("fields", asked)?,
         calls("reads", asked)?,
@@ -186,7 +189,8 @@ fn run(words: &[String]) -> Result<String, String> {
     let asked = Asked::new(rest)?;
     match command.as_str() {
         "laws" => run_laws(&asked),
-        "judge" => Ok(judges(&asked)?.to_string()),
+        "judge" => Ok(judges(&LibraryCalls, &asked)?.to_string()),
+        "plain" => Ok(judges(&Plain, &asked)?.to_string()),
         "fields" | "reads" | "writes" | "texts" => Ok(calls(command, &asked)?.to_string()),
         "utf8" => utf8(&asked),
         "all" => run_all(&asked),

@@ -1,8 +1,10 @@
 //! The cases of the requirements' own table, on this crate's model, on the
-//! second program and on the proved library.
+//! second program and on the proved library; those of judging on the plain
+//! Rust program too.
 
 use compare::canonical;
 use compare::coding::Coding::Bits48;
+use compare::plain_program::Plain;
 use compare::program::{refused, verdict, Answer, Budget, Judge, Library, Program};
 use compare::program::{Second, Verdict};
 use compare::schema::{Packed, Record, Schema, Slot, Table, BOOL};
@@ -80,6 +82,11 @@ fn second_program_judges_as_the_table_says() {
 #[test]
 fn library_judges_as_the_table_says() {
     judges_as_the_table_says(&Library);
+}
+
+#[test]
+fn plain_program_judges_as_the_table_says() {
+    judges_as_the_table_says(&Plain);
 }
 
 fn gives_the_table_s_sheets(program: &dyn Program) {
@@ -189,4 +196,33 @@ fn optional_bool_after_seven_bools() {
         bits: 1,
     };
     assert_eq!((slots[7], size), (expected, 2));
+}
+
+/// The flag is bit 7 of byte 0 and the value bit 0 of byte 1, so that with one
+/// byte a flag of 1 is without its value.
+#[test]
+fn optional_bool_after_seven_bools_is_judged_so() {
+    let mut members = vec![Record::plain(BOOL, 0); 8];
+    members[7].optional = true;
+    let tables = vec![Table { id: 1, members }];
+    let schema = Schema {
+        tables,
+        ..Schema::new(Bits48)
+    };
+    let start: &[u8] = &[0xB3, 0xC4, 0xC0, 0xB5, 10, 0, 0, 0, 0, 0];
+    let judges: [&dyn Judge; 3] = [&Second, &Library, &Plain];
+    for judge in judges {
+        let with = |fixed: &[u8]| {
+            let header = [1, 0, 0, 0, fixed.len() as u8, 0, 0, 0, 0, 0];
+            let message = [start, &header, fixed].concat();
+            judge.judge(&schema.pack(), &message, Budget::of_visits(1))
+        };
+        let refused = Verdict {
+            member: 7,
+            ..verdict(8, 10, 1, 1)
+        };
+        assert_eq!(with(&[0x80]), refused, "{}", judge.name());
+        assert_eq!(with(&[0x7F]), verdict(0, 0, 1, 1), "{}", judge.name());
+        assert_eq!(with(&[0x80, 0]), verdict(0, 0, 1, 2), "{}", judge.name());
+    }
 }

@@ -1,0 +1,92 @@
+//! The programs that judge: the library, the second program and the plain one, asked alike.
+
+use crate::cases::Case;
+use reference::{Verdict, NO_MEMBER};
+
+/// The library.
+pub fn ours(case: &Case) -> Verdict {
+    of_wrapper(scalgo::judge(
+        case.coding,
+        &case.schema,
+        &case.message,
+        case.budget,
+    ))
+}
+
+/// The second program.
+pub fn second(case: &Case) -> Verdict {
+    reference::judge(
+        case.coding.number(),
+        &case.schema,
+        &case.message,
+        second_budget(case.budget),
+    )
+}
+
+/// The plain program, which decodes the schema at each call as the others do.
+pub fn plain_whole(case: &Case) -> Verdict {
+    of_plain(plain::judge(
+        case.coding.number(),
+        &case.schema,
+        &case.message,
+        plain_budget(case.budget),
+    ))
+}
+
+/// The plain program with its schema decoded beforehand, where that is lawful.
+pub fn plain_decoded(schema: &plain::Schema, case: &Case) -> Verdict {
+    of_plain(schema.judge(&case.message, plain_budget(case.budget)))
+}
+
+/// The plain program's schema, if it is lawful.
+pub fn decoded(case: &Case) -> Option<plain::Schema> {
+    plain::Schema::new(case.coding.number(), &case.schema)
+}
+
+/// The wrapper's verdict as the second program's.
+pub fn of_wrapper(verdict: scalgo::Verdict) -> Verdict {
+    Verdict {
+        number: verdict.number,
+        place: verdict.place,
+        member: verdict.member.unwrap_or(NO_MEMBER),
+        visits: verdict.visits,
+        content: verdict.content,
+    }
+}
+
+/// The plain program's verdict as the second program's.
+fn of_plain(verdict: plain::Verdict) -> Verdict {
+    Verdict {
+        number: verdict.number,
+        place: verdict.place,
+        member: verdict.member,
+        visits: verdict.visits,
+        content: verdict.content,
+    }
+}
+
+/// The wrapper's budget as the second program's.
+pub fn second_budget(budget: scalgo::Budget) -> reference::Budget {
+    let scalgo::Budget { visits, content } = budget;
+    reference::Budget { visits, content }
+}
+
+/// The wrapper's budget as the plain program's.
+pub fn plain_budget(budget: scalgo::Budget) -> plain::Budget {
+    let scalgo::Budget { visits, content } = budget;
+    plain::Budget { visits, content }
+}
+
+/// What is wrong with the verdicts, if anything is.
+pub fn fault(case: &Case) -> Option<String> {
+    let (ours, second, whole) = (ours(case), second(case), plain_whole(case));
+    let plain = decoded(case).map_or(whole, |schema| plain_decoded(&schema, case));
+    let same = ours == second && ours == plain && ours == whole;
+    if same && case.expected.is(&ours) {
+        return None;
+    }
+    Some(format!(
+        "{}: expected {:?}\n  ours: {ours:?}\n  reference: {second:?}\n  plain: {plain:?}, {whole:?}",
+        case.name, case.expected
+    ))
+}
