@@ -45,6 +45,8 @@ pub mod RoundTripCases
 pub mod Allowances
 pub mod SameLayout
 pub mod SameStep
+pub mod TwoWalks
+pub mod SpentGrows
 pub mod OlderAccepts
 pub mod OlderReads
 pub mod Appending
