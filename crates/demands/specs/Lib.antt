@@ -47,6 +47,8 @@ pub mod SameLayout
 pub mod SameStep
 pub mod TwoWalks
 pub mod SpentGrows
+pub mod Raised
+pub mod BiggerAllowance
 pub mod OlderAccepts
 pub mod OlderReads
 pub mod Appending
