@@ -21,7 +21,7 @@ use Rattle.coding.specs.declared.Walked.{Walked}
 use Rattle.coding.specs.declared.Verdict.{Verdict}
 use Rattle.coding.specs.declared.ReadAnswer.{ReadAnswer}
 use Rattle.demands.specs.Spending.{NoMore, allowed, Affords}
-use Rattle.demands.specs.SpentGrows.{spentBy, walked-spent, verdict-affords}
+use Rattle.demands.specs.SpentGrows.{walked-spent, verdict-affords}
 use Rattle.demands.specs.Raised as R
 
 -- "raising either or both": b′ allows at least as much of both as b

@@ -12,6 +12,7 @@ pub mod StepShown
 pub mod AcceptedShown
 pub mod Sheets
 pub mod RefusalNumbers
+pub mod TwoWalks
 pub mod Members
 pub mod MemberCases
 pub mod Spending
@@ -45,7 +46,6 @@ pub mod RoundTripCases
 pub mod Allowances
 pub mod SameLayout
 pub mod SameStep
-pub mod TwoWalks
 pub mod SpentGrows
 pub mod Raised
 pub mod BiggerAllowance

@@ -1,6 +1,6 @@
 -- One message walked with a budget, and with one that allows at least as much of both: the walks come to the same, or the first was
 -- refused by 4 or by 17, and the second goes further than the first budget allows.
-use Prim.Native.Nat.{ℕ, zero, suc, _≤_, _<_, _+_}
+use Prim.Native.Nat.{ℕ, zero, suc, _<_, _+_}
 use native.Mathlib.Nat.{le-trans}
 use native.Mathlib.Omega.{arith}
 use mathlib.Core.List.{List}
@@ -24,7 +24,7 @@ use Rattle.coding.specs.declared.Walked.{Walked}
 use Rattle.coding.specs.declared.Walked.the-variants.{Going, Refused}
 use Rattle.demands.specs.Spending.{NoMore, allowed, no-more-refl, no-more-trans, one-more-up, with-content-up}
 use Rattle.demands.specs.TwoWalks.{Beside, enter-beside}
-use Rattle.demands.specs.SpentGrows.{spentBy, never-falls, visit-grows}
+use Rattle.demands.specs.SpentGrows.{spentBy}
 
 -- what a walk comes to with the budget b, and what it comes to with more of either or both
 pub data Raised (b : Budget) : Walked → Walked → Type 0 where

@@ -19,10 +19,8 @@ use Rattle.coding.specs.declared.Opened.{Opened}
 use Rattle.coding.specs.declared.Opened.the-variants as Op
 use Rattle.coding.specs.declared.Budget.{Budget}
 use Rattle.coding.specs.declared.Spent.{Spent}
-use Rattle.coding.specs.declared.Refusal.{Refusal}
 use Rattle.coding.specs.declared.Walked.{Walked}
 use Rattle.coding.specs.declared.Walked.the-variants.{Going, Refused}
-use Rattle.coding.specs.declared.Verdict.{Verdict}
 use Rattle.demands.specs.Spending.{NoMore, allowed, Affords, no-more-refl, no-more-trans, nothing-least, one-more-up, with-content-up, one-more-affords, with-content-affords}
 use Rattle.demands.specs.TwoWalks.{Beside, enter-beside}
 
@@ -31,28 +29,29 @@ unfoldable pub spentBy : Walked → Spent
 spentBy (Going s) = s
 spentBy (Refused r s) = s
 
--- what holds of each single charge within the budget, and of one after the other
+-- ---- a walk beside itself
+abbrev pub Grows : (Spent → Spent → Type 0) → Spent → Walked → Walked → Type 0
+Grows R s w w′ = R s (spentBy w)
+
+module _ (R : Spent → Spent → Type 0) (none : (s : Spent) → R s s) (both : (s t u : Spent) → R s t → R t u → R s u) where
+  then-grows : (s : Spent) (w w′ : Walked) (next next′ : Spent → Walked) → Grows R s w w′ → ((t : Spent) → Grows R t (next t) (next′ t))
+      → Grows R s (andThen w next) (andThen w′ next′)
+  unfolding andThen spentBy
+  then-grows s (Going t) w′ next next′ h f = both s t _ h (f t)
+  then-grows s (Refused r t) w′ next next′ h f = h
+
+  grows : Beside (Grows R)
+  unfolding spentBy
+  grows = record { goes = none; stops = λ r s. none s; then-on = then-grows }
+
+-- what holds where nothing is charged, of one charge after the other, and of each charge that the budget allows
 pub record Charges (b : Budget) (R : Spent → Spent → Type 0) : Type 0 where
   pub none : (s : Spent) → R s s
   pub both : (s t u : Spent) → R s t → R t u → R s u
   pub a-visit : (s : Spent) → s .visits < b .visits → R s (oneMore s)
   pub a-content : (c : ℕ) (s : Spent) → s .content + c ≤ b .content → R s (withContent c s)
 
--- a walk beside itself
-abbrev pub Grows : (Spent → Spent → Type 0) → Spent → Walked → Walked → Type 0
-Grows R s w w′ = R s (spentBy w)
-
 module _ (b : Budget) (R : Spent → Spent → Type 0) (C : Charges b R) where
-  then-grows : (s : Spent) (w w′ : Walked) (next next′ : Spent → Walked) → Grows R s w w′ → ((t : Spent) → Grows R t (next t) (next′ t))
-      → Grows R s (andThen w next) (andThen w′ next′)
-  unfolding andThen spentBy
-  then-grows s (Going t) w′ next next′ h f = C .both s t _ h (f t)
-  then-grows s (Refused r t) w′ next next′ h f = h
-
-  pub grows : Beside (Grows R)
-  unfolding spentBy
-  grows = record { goes = C .none; stops = λ r s. C .none s; then-on = then-grows }
-
   module _ (child : Child) (H : (ob : Object) (p : Place) (s : Spent) → R s (spentBy (child ob p s))) (o : ℕ) (S : Schema) (m : List ℕ) where
     admit-grows : (ob : Object) (holder : ℕ) (x : Opened) (s : Spent) → R s (spentBy (admit child o S m b ob holder x s))
     unfolding admit refuse spentBy
@@ -68,7 +67,7 @@ module _ (b : Budget) (R : Spent → Spent → Type 0) (C : Charges b R) where
         by : (t : Bool) → leb (s .content + c) (b .content) ≡ t → R s (spentBy (pick t inner (refuse 17 holder s)))
         by true e =
             C .both s (withContent c s) _ (C .a-content c s (leb-true (s .content + c) (b .content) e))
-            (enter-beside (Grows R) grows child child H o S m ob holder (bytesTested m ob (Op.Content start n)) (withContent c s))
+            (enter-beside (Grows R) (grows R (C .none) (C .both)) child child H o S m ob holder (bytesTested m ob (Op.Content start n)) (withContent c s))
         by false e = C .none s
 
   counted-grows : (child : Child) → ((ob : Object) (p : Place) (s : Spent) → R s (spentBy (child ob p s)))
@@ -80,7 +79,7 @@ module _ (b : Budget) (R : Spent → Spent → Type 0) (C : Charges b R) where
       by true e = C .both s (oneMore s) _ (C .a-visit s (ltb-true (s .visits) (b .visits) e)) (H ob p (oneMore s))
       by false e = C .none s
 
-  pub visit-grows : (d o : ℕ) (S : Schema) (m : List ℕ) (ob : Object) (p : Place) (s : Spent) → R s (spentBy (visit d o S m b ob p s))
+  visit-grows : (d o : ℕ) (S : Schema) (m : List ℕ) (ob : Object) (p : Place) (s : Spent) → R s (spentBy (visit d o S m b ob p s))
   unfolding visit tooDeep arrive refuse spentBy
   visit-grows zero o S m ob p s = counted-grows tooDeep (λ ob p s. C .none s) ob p s
   visit-grows (suc d) o S m ob p s =
@@ -88,7 +87,10 @@ module _ (b : Budget) (R : Spent → Spent → Type 0) (C : Charges b R) where
       (λ ob p s. admit-grows (visit d o S m b) (visit-grows d o S m) o S m ob (placed p) (fitObject o S m ob p) s) ob p s
 
 -- ---- what is spent never falls
-pub never-falls : (b : Budget) → Charges b NoMore
+pub no-less : Beside (Grows NoMore)
+no-less = grows NoMore no-more-refl (λ s t u h g. no-more-trans h g)
+
+never-falls : (b : Budget) → Charges b NoMore
 never-falls b =
     record {
       none = no-more-refl;
@@ -96,6 +98,10 @@ never-falls b =
       a-visit = λ s l. one-more-up s;
       a-content = λ c s l. with-content-up c s;
     }
+
+pub visit-up : (d o : ℕ) (S : Schema) (m : List ℕ) (b : Budget) (ob : Object) (p : Place) (s : Spent)
+    → NoMore s (spentBy (visit d o S m b ob p s))
+visit-up d o S m b ob p s = visit-grows b NoMore (never-falls b) d o S m ob p s
 
 -- ---- and what was within both allowances stays within them
 stays-within : (b : Budget) → Charges b (λ s t. Affords b s → Affords b t)
