@@ -53,6 +53,8 @@ pub mod OlderAccepts
 pub mod OlderReads
 pub mod Appending
 pub mod AppendingCases
+pub mod AppendsTwice
+pub mod ThreeSchemas
 pub mod PlainMessage
 pub mod AddedMembers
 pub mod NewerAccepts
