@@ -54,6 +54,8 @@ pub mod OlderReads
 pub mod Appending
 pub mod AppendingCases
 pub mod AppendsTwice
+pub mod CutTwice
+pub mod CutShown
 pub mod ThreeSchemas
 pub mod PlainMessage
 pub mod AddedMembers
@@ -62,6 +64,7 @@ pub mod NewerReads
 pub mod WrittenPlain
 pub mod NewerAgrees
 pub mod NewerCases
+pub mod CutSheets
 pub mod FieldEntries
 pub mod GoingOn
 pub mod StepKinds

@@ -23,9 +23,12 @@ cut older v = without deepest (parse older) (Ob.Table (parse older .root)) v
 -- ---- trees, of any bytes
 module _ (o : ℕ) (oldest middle newest : List ℕ) (oldest-bytes : AreBytes oldest) (middle-bytes : AreBytes middle)
     (first : Appends o oldest middle) (second : Appends o middle newest) (m : List ℕ) where
-  pub three-trees : messageRead o (parse oldest) m ≡ cut oldest (cut middle (messageRead o (parse newest) m))
-  three-trees =
-      older-reads o oldest middle oldest-bytes first m ∙ ap (cut oldest) (older-reads o middle newest middle-bytes second m)
+  pub three-trees : (messageRead o (parse oldest) m ≡ cut oldest (cut middle (messageRead o (parse newest) m)))
+      × (messageRead o (parse oldest) m ≡ cut oldest (messageRead o (parse newest) m))
+  three-trees = (
+    older-reads o oldest middle oldest-bytes first m ∙ ap (cut oldest) (older-reads o middle newest middle-bytes second m),
+    older-reads o oldest newest oldest-bytes (appends-twice o oldest middle newest first second) m,
+  )
 
 -- ---- sheets, of what the newest accepts
 pub record ThreeAgree (o : ℕ) (oldest middle newest m : List ℕ) (b : Budget) : Type 0 where
