@@ -79,6 +79,7 @@ pub mod DirectFits
 pub mod DirectElements
 pub mod DirectPlaced
 pub mod DirectTrips
+pub mod ThreeCases
 pub mod Utf8States
 pub mod Utf8Encoding
 pub mod Utf8
