@@ -108,10 +108,11 @@ module _ (o : ℕ) (schema m : List ℕ) (b b′ : Budget) (raises : Raises b b�
         by true e h = same-acceptance (eqb-true (verdict o schema m b .number) 0 e)
         by false e h = same-verdict h
 
-    -- THE CLAIM: the whole answer, 14 too, and what the output holds
-    pub same-answer : Settled (readAnswer o schema m b out .verdict) → readAnswer o schema m b′ out ≡ readAnswer o schema m b out
-    unfolding readAnswer
-    same-answer settled = rw (settled-verdict settled)
+    -- THE CLAIM: the whole answer, 14 too, with as much room; and what the output holds
+    pub same-answer : Settled (readAnswer o schema m b out .verdict) → (out′ : List ℕ) → length out′ ≡ length out
+        → readAnswer o schema m b′ out′ ≡ readAnswer o schema m b out
+    unfolding readAnswer fitsRoom
+    same-answer settled out′ room = rw (settled-verdict settled, room)
 
     pub same-out : Settled (readAnswer o schema m b out .verdict) → readOut o schema m b′ out ≡ readOut o schema m b out
     unfolding readOut
