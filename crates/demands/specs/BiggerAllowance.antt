@@ -1,6 +1,6 @@
 -- 02, K13, "Bigger allowance, same story": "raising either or both leaves an acceptance with the same visits and content, and leaves
 -- every refusal other than 4 and 17 the same in all its parts". Of any bytes as schema and message, under either coding; the same of
--- reading to a sheet. What more makes of a 4 or a 17 is said too, and how much of both is enough for the same story.
+-- reading to a sheet. What more makes of a 4 or a 17 is said too, and how much of both is enough for the same verdict.
 use Prim.Native.Nat.{ℕ, _<_}
 use native.Mathlib.Omega.{arith}
 use mathlib.Core.List.{List}
@@ -13,13 +13,12 @@ use borrow.Author.Tests.{eqb-true}
 use Rattle.coding.specs.Lists.{pick}
 use Rattle.coding.specs.Packed.{parse}
 use Rattle.coding.specs.Lawful.{lawful}
-use Rattle.coding.specs.Walk.{walk, atZero, verdictOf, spentOf, early, sizeOk, startOk, verdict}
-use Rattle.coding.specs.Message.{messageSheet, fitsRoom, readAnswer, readOut}
+use Rattle.coding.specs.Walk.{walk, verdictOf, spentOf, early, sizeOk, startOk, verdict}
+use Rattle.coding.specs.Message.{fitsRoom, readAnswer, readOut}
 use Rattle.coding.specs.declared.Budget.{Budget}
 use Rattle.coding.specs.declared.Spent.{Spent}
 use Rattle.coding.specs.declared.Walked.{Walked}
 use Rattle.coding.specs.declared.Verdict.{Verdict}
-use Rattle.coding.specs.declared.ReadAnswer.{ReadAnswer}
 use Rattle.demands.specs.Spending.{NoMore, allowed, Affords}
 use Rattle.demands.specs.SpentGrows.{walked-spent, verdict-affords}
 use Rattle.demands.specs.Raised as R
@@ -36,13 +35,13 @@ pub record Settled (v : Verdict) : Type 0 where
 -- what becomes of the verdict v with the budget b where the budget is raised: the same in all parts; or v is 4 or 17, and the other
 -- has spent no less of either than v, and of what v lacked more than b allows
 pub data Becomes (b : Budget) (v v′ : Verdict) : Type 0 where
-  same-story : v′ ≡ v → Becomes b v v′
+  unchanged : v′ ≡ v → Becomes b v v′
   more-visits : v .number ≡ 4 → NoMore (spentOf v) (spentOf v′) → b .visits < v′ .visits → Becomes b v v′
   more-content : v .number ≡ 17 → NoMore (spentOf v) (spentOf v′) → b .content < v′ .content → Becomes b v v′
 
 walked-becomes : (b : Budget) {w w′ : Walked} → R.Raised b w w′ → Becomes b (verdictOf w) (verdictOf w′)
 unfolding verdictOf
-walked-becomes b R.same-story = same-story refl
+walked-becomes b R.unchanged = unchanged refl
 walked-becomes b (R.more-visits {w} e l v) =
     more-visits e (rw (walked-spent w) l) (subst (λ (t : Spent). b .visits < t .visits) (sym (walked-spent w)) v)
 walked-becomes b (R.more-content {w} e l v) =
@@ -54,14 +53,14 @@ module _ (o : ℕ) (schema m : List ℕ) (b b′ : Budget) (raises : Raises b b�
   unfolding verdict
   verdict-becomes = by (lawful o schema) (sizeOk o m) (startOk m)
     where
-      story : Bool → Bool → Bool → Budget → Verdict
-      story l z g c = pick l (pick z (pick g (verdictOf (walk o (parse schema) m c)) (early 3)) (early 2)) (early 1)
+      judged : Bool → Bool → Bool → Budget → Verdict
+      judged l z g c = pick l (pick z (pick g (verdictOf (walk o (parse schema) m c)) (early 3)) (early 2)) (early 1)
 
-      by : (l z g : Bool) → Becomes b (story l z g b) (story l z g b′)
+      by : (l z g : Bool) → Becomes b (judged l z g b) (judged l z g b′)
       by true true true = walked-becomes b (R.walk-raised b b′ raises o (parse schema) m)
-      by true true false = same-story refl
-      by true false g = same-story refl
-      by false z g = same-story refl
+      by true true false = unchanged refl
+      by true false g = unchanged refl
+      by false z g = unchanged refl
 
   -- THE CLAIM: an acceptance and every refusal other than 4 and 17 stay the same in all parts: number, place, member, visits and
   -- content
@@ -69,14 +68,14 @@ module _ (o : ℕ) (schema m : List ℕ) (b b′ : Budget) (raises : Raises b b�
   same-verdict settled = by verdict-becomes
     where
       by : Becomes b (verdict o schema m b) (verdict o schema m b′) → verdict o schema m b′ ≡ verdict o schema m b
-      by (same-story e) = e
+      by (unchanged e) = e
       by (more-visits n l v) = absurd (settled .not-visits n)
       by (more-content n l v) = absurd (settled .not-content n)
 
   pub same-acceptance : verdict o schema m b .number ≡ 0 → verdict o schema m b′ ≡ verdict o schema m b
   same-acceptance e = same-verdict (record { not-visits = λ n. omega arith; not-content = λ n. omega arith })
 
-  -- and the smaller budget has told the same story already exactly where it allows what the bigger has spent
+  -- and the smaller budget gives the same verdict exactly where it allows what the bigger has spent
   pub same-exactly : (verdict o schema m b′ ≡ verdict o schema m b) ↔ Affords b (spentOf (verdict o schema m b′))
   same-exactly = (within, by verdict-becomes)
     where
@@ -85,7 +84,7 @@ module _ (o : ℕ) (schema m : List ℕ) (b b′ : Budget) (raises : Raises b b�
 
       by : Becomes b (verdict o schema m b) (verdict o schema m b′) → Affords b (spentOf (verdict o schema m b′))
           → verdict o schema m b′ ≡ verdict o schema m b
-      by (same-story e) h = e
+      by (unchanged e) h = e
       by (more-visits n l v) h = absurd (omega (arith, h .visits))
       by (more-content n l v) h = absurd (omega (arith, h .content))
 
@@ -93,20 +92,11 @@ module _ (o : ℕ) (schema m : List ℕ) (b b′ : Budget) (raises : Raises b b�
   module _ (out : List ℕ) where
     settled-verdict : Settled (readAnswer o schema m b out .verdict) → verdict o schema m b′ ≡ verdict o schema m b
     unfolding readAnswer
-    settled-verdict settled = by (eqb (verdict o schema m b .number) 0) refl settled
+    settled-verdict settled = by (eqb (verdict o schema m b .number) 0) refl
       where
-        answer : Bool → ReadAnswer
-        answer t =
-            pick t
-            (pick (fitsRoom (messageSheet o schema m) out)
-            (record { verdict = verdict o schema m b; length = length (messageSheet o schema m) })
-            (record { verdict = atZero 14 (spentOf (verdict o schema m b)); length = 0 }))
-            (record { verdict = verdict o schema m b; length = 0 })
-
-        by : (t : Bool) → eqb (verdict o schema m b .number) 0 ≡ t → Settled (answer t .verdict)
-            → verdict o schema m b′ ≡ verdict o schema m b
-        by true e h = same-acceptance (eqb-true (verdict o schema m b .number) 0 e)
-        by false e h = same-verdict h
+        by : (t : Bool) → eqb (verdict o schema m b .number) 0 ≡ t → verdict o schema m b′ ≡ verdict o schema m b
+        by true e = same-acceptance (eqb-true (verdict o schema m b .number) 0 e)
+        by false e = same-verdict (rw e at settled)
 
     -- THE CLAIM: the whole answer, 14 too, with as much room; and what the output holds
     pub same-answer : Settled (readAnswer o schema m b out .verdict) → (out′ : List ℕ) → length out′ ≡ length out

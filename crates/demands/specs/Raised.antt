@@ -11,7 +11,7 @@ use borrow.Author.Tests.{ltb-true, ltb-false, leb-true, leb-false}
 use Rattle.coding.specs.Lists.{pick}
 use Rattle.coding.specs.Bytes.{deepest}
 use Rattle.coding.specs.Schema.{Schema}
-use Rattle.coding.specs.Walk.{placed, contentLength, fitObject, bytesTested, refusal, refuse, andThen, Child, enter, withContent, admit, arrive, tooDeep, oneMore, counted, visit, rootPlace, nothing, walk}
+use Rattle.coding.specs.Walk.{placed, contentLength, fitObject, bytesTested, refuse, andThen, Child, enter, withContent, admit, arrive, tooDeep, oneMore, counted, visit, rootPlace, nothing, walk}
 use Rattle.coding.specs.declared.Object.{Object}
 use Rattle.coding.specs.declared.Object.the-variants as Ob
 use Rattle.coding.specs.declared.Place.{Place}
@@ -28,7 +28,7 @@ use Rattle.demands.specs.SpentGrows.{spentBy}
 
 -- what a walk comes to with the budget b, and what it comes to with more of either or both
 pub data Raised (b : Budget) : Walked → Walked → Type 0 where
-  same-story : {w : Walked} → Raised b w w
+  unchanged : {w : Walked} → Raised b w w
   more-visits : {r : Refusal} {s : Spent} {w : Walked} → r .number ≡ 4 → NoMore s (spentBy w) → b .visits < spentBy w .visits
       → Raised b (Refused r s) w
   more-content : {r : Refusal} {s : Spent} {w : Walked} → r .number ≡ 17 → NoMore s (spentBy w) → b .content < spentBy w .content
@@ -49,11 +49,11 @@ then-up (Refused r t) next f = no-more-refl t
 then-raised : (b : Budget) (next next′ : Spent → Walked) → ((t : Spent) → RaisedFrom b t (next t) (next′ t))
     → {w w′ : Walked} → Raised b w w′ → Raised b (andThen w next) (andThen w′ next′)
 unfolding andThen
-then-raised b next next′ f (same-story {w}) = by w
+then-raised b next next′ f (unchanged {w}) = by w
   where
     by : (w : Walked) → Raised b (andThen w next) (andThen w next′)
     by (Going t) = f t .raised
-    by (Refused r t) = same-story
+    by (Refused r t) = unchanged
 then-raised b next next′ f (more-visits {w} e l v) =
     let u = then-up w next′ (λ t. f t .up) in more-visits e (no-more-trans l u) (le-trans v (u .visits))
 then-raised b next next′ f (more-content {w} e l v) =
@@ -63,8 +63,8 @@ raised-beside : (b : Budget) → Beside (RaisedFrom b)
 unfolding spentBy
 raised-beside b =
     record {
-      goes = λ s. record { up = no-more-refl s; raised = same-story };
-      stops = λ r s. record { up = no-more-refl s; raised = same-story };
+      goes = λ s. record { up = no-more-refl s; raised = unchanged };
+      stops = λ r s. record { up = no-more-refl s; raised = unchanged };
       then-on = λ s w w′ next next′ h f.
           record {
             up = no-more-trans (h .up) (then-up w′ next′ (λ t. f t .up));
@@ -79,7 +79,7 @@ module _ (b b′ : Budget) (wider : NoMore (allowed b) (allowed b′)) where
       → (o : ℕ) (S : Schema) (m : List ℕ) (ob : Object) (holder : ℕ) (x : Opened) (s : Spent)
       → RaisedFrom b s (admit child o S m b ob holder x s) (admit child′ o S m b′ ob holder x s)
   unfolding admit refuse withContent spentBy
-  admit-raised child child′ H o S m ob holder (Op.Refused n) s = raised-beside b .stops (refusal n holder) s
+  admit-raised child child′ H o S m ob holder (Op.Refused n) s = raised-beside b .stops _ s
   admit-raised child child′ H o S m ob holder (Op.Content start n) s =
       by (leb (s .content + c) (b .content)) (leb (s .content + c) (b′ .content)) refl refl
     where
@@ -104,7 +104,7 @@ module _ (b b′ : Budget) (wider : NoMore (allowed b) (allowed b′)) where
             up = u;
             raised = more-content refl u (le-trans (leb-false (s .content + c) (b .content) e) (within .up .content));
           }
-      by false false e f = raised-beside b .stops (refusal 17 holder) s
+      by false false e f = raised-beside b .stops _ s
 
   -- the visits
   counted-raised : (child child′ : Child) → ((ob : Object) (p : Place) (s : Spent) → RaisedFrom b s (child ob p s) (child′ ob p s))
@@ -124,12 +124,12 @@ module _ (b b′ : Budget) (wider : NoMore (allowed b) (allowed b′)) where
           let u = no-more-trans (one-more-up s) (within .up) in
           let l : b .visits < s .visits + 1 = omega (arith, ltb-false (s .visits) (b .visits) e) in
           record { up = u; raised = more-visits refl u (le-trans l (within .up .visits)) }
-      by false false e f = raised-beside b .stops (refusal 4 (placed p)) s
+      by false false e f = raised-beside b .stops _ s
 
   visit-raised : (d o : ℕ) (S : Schema) (m : List ℕ) (ob : Object) (p : Place) (s : Spent)
       → RaisedFrom b s (visit d o S m b ob p s) (visit d o S m b′ ob p s)
   unfolding visit tooDeep arrive refuse
-  visit-raised zero o S m ob p s = counted-raised tooDeep tooDeep (λ ob p s. raised-beside b .stops (refusal 5 (placed p)) s) ob p s
+  visit-raised zero o S m ob p s = counted-raised tooDeep tooDeep (λ ob p s. raised-beside b .stops _ s) ob p s
   visit-raised (suc d) o S m ob p s =
       counted-raised (arrive (visit d o S m b) o S m b) (arrive (visit d o S m b′) o S m b′)
       (λ ob p s. admit-raised (visit d o S m b) (visit d o S m b′) (visit-raised d o S m) o S m ob (placed p) (fitObject o S m ob p) s)

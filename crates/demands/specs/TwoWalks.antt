@@ -8,7 +8,7 @@ use Rattle.coding.specs.Lists.{pick}
 use Rattle.coding.specs.Schema.{Schema, elementOf, tableOf}
 use Rattle.coding.specs.Layout.{begin, afterMember}
 use Rattle.coding.specs.Step.{memberStep, elementStep}
-use Rattle.coding.specs.Walk.{elementSize, refusal, partRefusal, refuse, andThen, Child, refusePart, followChoice, follow, members, elements, directs, content, enter}
+use Rattle.coding.specs.Walk.{elementSize, refuse, andThen, Child, refusePart, followChoice, follow, members, elements, directs, content, enter}
 use Rattle.coding.specs.declared.Object.{Object}
 use Rattle.coding.specs.declared.Object.the-variants as Ob
 use Rattle.coding.specs.declared.Kind.{Kind}
@@ -44,12 +44,12 @@ module _ (R : Spent → Walked → Walked → Type 0) where
         → R s (followChoice child holder j ob p s) (followChoice child′ holder j ob p s)
     unfolding followChoice refusePart
     choice-beside holder j ob (ByOffset x) s =
-        pick-beside (eqb x 0) (B .stops (partRefusal 9 holder j) s) (H ob (ByOffset x) s)
+        pick-beside (eqb x 0) (B .stops _ s) (H ob (ByOffset x) s)
     choice-beside holder j ob (InPlace a n) s = H ob (InPlace a n) s
 
     follow-beside : (holder j : ℕ) (st : Step) (s : Spent) → R s (follow child holder j st s) (follow child′ holder j st s)
     unfolding follow refusePart
-    follow-beside holder j (St.Refused n) s = B .stops (partRefusal n holder j) s
+    follow-beside holder j (St.Refused n) s = B .stops _ s
     follow-beside holder j St.Absent s = B .goes s
     follow-beside holder j (St.Value x) s = B .goes s
     follow-beside holder j (St.Unknown x) s = B .goes s
@@ -89,5 +89,5 @@ module _ (R : Spent → Walked → Walked → Type 0) where
     pub enter-beside : (ob : Object) (holder : ℕ) (x : Opened) (s : Spent)
         → R s (enter child o S m ob holder x s) (enter child′ o S m ob holder x s)
     unfolding enter refuse
-    enter-beside ob holder (Op.Refused n) s = B .stops (refusal n holder) s
+    enter-beside ob holder (Op.Refused n) s = B .stops _ s
     enter-beside ob holder (Op.Content start n) s = content-beside ob holder start n s
