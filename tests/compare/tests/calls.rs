@@ -170,7 +170,7 @@ const LISTS: [(&str, u64); 44] = [
 ];
 
 fn fields_agree(coding: Coding) {
-    let outcome = fields::run(&LibraryCalls, &SecondCalls, coding, 1, 1_000_000);
+    let outcome = fields::run(&LibraryCalls, &SecondCalls, coding, 1, 1_100_000);
     let wanted = [&ANSWERS[..], &MEMBERS_OF_FIELDS, &LISTS].concat();
     let counts = reached(coding, outcome, &wanted);
     for (sort, refused) in [
