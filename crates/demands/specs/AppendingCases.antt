@@ -118,11 +118,11 @@ message =
     ∷ 0x00 ∷ 0x00 ∷ 0x00 ∷ 0x00 ∷ 0x02 ∷ 0x00 ∷ 0x4C ∷ 0x00 ∷ 0x00 ∷ 0x00 ∷ 0x00 ∷ 0x00 ∷ 0x54 ∷ 0x41 ∷ 0x45 ∷ 0x53
     ∷ 0x04 ∷ 0x00 ∷ 0x00 ∷ 0x00 ∷ 0x00 ∷ 0x00 ∷ 0x2A ∷ 0x00 ∷ 0x00 ∷ 0x00 ∷ []
 
-abbrev five : Budget
+abbrev pub five : Budget
 five = Walk.allowing 5 Walk.mostContent
 
 -- the root's fixed part of 35 bytes, the list's element of 8, its table's 4, the union's the same 4, the text's 2
-accepted-message : Walk.verdict Bytes.u48 newer message five ≡ Walk.atZero 0 (Walk.spending 5 53)
+pub accepted-message : Walk.verdict Bytes.u48 newer message five ≡ Walk.atZero 0 (Walk.spending 5 53)
 unfolding Lists.every Lists.run Bytes.le Bytes.bitAt Bytes.isNaN Bytes.largest Bytes.deepest Bytes.u48 Bytes.u32 Bytes.widthKnown Utf8.within Utf8.afterFirst Utf8.afterOctet Utf8.mayEnd Utf8.textFrom Utf8.isText Schema.structOf Schema.elementOf Schema.casesOf Schema.tableOf Schema.caseOf Structs.lower Structs.byIndex Structs.flatWidth Structs.total Structs.sizeBy Structs.structSize Structs.flatOk Structs.flatsOk Structs.okBy Structs.structOk Packed.kindAt Packed.optionalAt Packed.inplaceAt Packed.zeroAt Packed.argumentAt Packed.widthOf Packed.flatOf Packed.objectOf Packed.kindOf Packed.flatAt Packed.objectAt Packed.elementAt Packed.memberAt Packed.records Packed.recordPlace Packed.blocks Packed.structPlace Packed.listPlace Packed.unionPlace Packed.tablePlace Packed.idAt Packed.recordsAt Packed.tableAt Packed.parse Lawful.countsOk Lawful.blocksOk Lawful.placesOk Lawful.shapeOk Lawful.argumentOk Lawful.kindOk Lawful.optionalOk Lawful.inplaceOk Lawful.flagsOk Lawful.recordOk Lawful.firstOk Lawful.recordsOk Lawful.inplaces Lawful.directTable Lawful.heldUnion Lawful.directOk Lawful.structLawful Lawful.listLawful Lawful.unionLawful Lawful.tableLawful Lawful.idDiffers Lawful.idLawful Lawful.rulesOk Lawful.wellFormed Lawful.olderMember Lawful.olderElement Lawful.olderUnion Lawful.olderTable Lawful.olderOk Lawful.lawful Layout.flatIsBool Layout.isBool Layout.width Layout.flatTakesFlag Layout.takesFlag Layout.hasFlag Layout.begin Layout.bitByte Layout.bitIndex Layout.afterBit Layout.afterBytes Layout.afterFlag Layout.bitSlot Layout.slotOf Layout.afterValue Layout.memberSlot Layout.placementOf Layout.afterMember Step.enumStep Step.floatStep Step.structTested Step.placeOf Step.objectStep Step.unionStep Step.flatStep Step.valueStep Step.inside Step.flagged Step.placedStep Step.memberStep Step.elementPlace Step.elementStep Step.elementsSize Walk.placed Walk.magic Walk.headerSize Walk.elementId Walk.elementSize Walk.mostElements Walk.startSize Walk.contentSize Walk.contentLength Walk.endOk Walk.textOk Walk.fitContent Walk.directHeader Walk.headerTested Walk.standsInPlace Walk.fitObject Walk.bytesTested Walk.openObject Walk.refuse Walk.andThen Walk.refusePart Walk.followChoice Walk.follow Walk.members Walk.elements Walk.directs Walk.content Walk.enter Walk.withContent Walk.admit Walk.arrive Walk.tooDeep Walk.oneMore Walk.mostContent Walk.counted Walk.visit Walk.rootPlace Walk.nothing Walk.walk Walk.verdictOf Walk.early Walk.sizeOk Walk.startOk Walk.verdict
 accepted-message = refl
 

@@ -1,6 +1,6 @@
 -- The theorems. A reader's way in: Counter, OlderCoding, DirectLists, Traps, FieldCases, MemberCases, Allowances, Members, Sheets, Reached,
--- RoundTrip, Appending, NewerAgrees, Fields, Texts, SheetText, ListReader, Utf8, Utf8Cases, OnlyText, NamesOfText; the other modules are
--- their lemmas.
+-- RoundTrip, Appending, NewerAgrees, BiggerAllowance, ThreeSchemas, CutSheets, ThreeCases, Fields, Texts, SheetText, ListReader, Utf8,
+-- Utf8Cases, OnlyText, NamesOfText; the other modules are their lemmas.
 pub mod Counter
 pub mod Traps
 pub mod OlderCoding
@@ -12,6 +12,7 @@ pub mod StepShown
 pub mod AcceptedShown
 pub mod Sheets
 pub mod RefusalNumbers
+pub mod TwoWalks
 pub mod Members
 pub mod MemberCases
 pub mod Spending
@@ -45,10 +46,17 @@ pub mod RoundTripCases
 pub mod Allowances
 pub mod SameLayout
 pub mod SameStep
+pub mod SpentGrows
+pub mod Raised
+pub mod BiggerAllowance
 pub mod OlderAccepts
 pub mod OlderReads
 pub mod Appending
 pub mod AppendingCases
+pub mod AppendsTwice
+pub mod CutTwice
+pub mod CutShown
+pub mod ThreeSchemas
 pub mod PlainMessage
 pub mod AddedMembers
 pub mod NewerAccepts
@@ -56,6 +64,7 @@ pub mod NewerReads
 pub mod WrittenPlain
 pub mod NewerAgrees
 pub mod NewerCases
+pub mod CutSheets
 pub mod FieldEntries
 pub mod GoingOn
 pub mod StepKinds
@@ -70,6 +79,7 @@ pub mod DirectFits
 pub mod DirectElements
 pub mod DirectPlaced
 pub mod DirectTrips
+pub mod ThreeCases
 pub mod Utf8States
 pub mod Utf8Encoding
 pub mod Utf8

@@ -2,24 +2,16 @@
 -- whatever it likes as the member of the refusal that it hands back, and no other part of any answer changes.
 use Prim.Native.Nat.{ℕ, zero, suc, _+_}
 use mathlib.Core.Path.{_≡_, refl}
-use mathlib.Core.List.{List, [], _∷_}
+use mathlib.Core.List.{List}
 use mathlib.Core.Bool.{Bool, true, false}
-use lib.Dec.{ltb, leb, eqb}
+use lib.Dec.{ltb, leb}
 use Rattle.coding.specs.Lists.{pick}
 use Rattle.coding.specs.Bytes.{deepest}
-use Rattle.coding.specs.Schema.{Schema, elementOf, tableOf}
-use Rattle.coding.specs.Layout.{begin, afterMember}
-use Rattle.coding.specs.Step.{memberStep, elementStep}
-use Rattle.coding.specs.Walk.{placed, elementSize, contentLength, fitObject, bytesTested, refuse, andThen, Child, refusePart, followChoice, follow, members, elements, directs, content, enter, withContent, admit, arrive, tooDeep, oneMore, counted, visit, rootPlace, nothing, walk, verdictOf}
+use Rattle.coding.specs.Schema.{Schema}
+use Rattle.coding.specs.Walk.{placed, contentLength, fitObject, bytesTested, refuse, andThen, Child, withContent, admit, arrive, tooDeep, oneMore, counted, visit, rootPlace, nothing, walk, verdictOf}
 use Rattle.coding.specs.declared.Object.{Object}
 use Rattle.coding.specs.declared.Object.the-variants as O
-use Rattle.coding.specs.declared.Kind.{Kind}
-use Rattle.coding.specs.declared.Member.{Member}
-use Rattle.coding.specs.declared.Cursor.{Cursor}
 use Rattle.coding.specs.declared.Place.{Place}
-use Rattle.coding.specs.declared.Place.the-variants.{ByOffset, InPlace}
-use Rattle.coding.specs.declared.Step.{Step}
-use Rattle.coding.specs.declared.Step.the-variants as St
 use Rattle.coding.specs.declared.Opened.{Opened}
 use Rattle.coding.specs.declared.Opened.the-variants as Op
 use Rattle.coding.specs.declared.Budget.{Budget}
@@ -28,6 +20,7 @@ use Rattle.coding.specs.declared.Refusal.{Refusal}
 use Rattle.coding.specs.declared.Walked.{Walked}
 use Rattle.coding.specs.declared.Walked.the-variants.{Going, Refused}
 use Rattle.coding.specs.declared.Verdict.{Verdict}
+use Rattle.demands.specs.TwoWalks.{Beside, enter-beside}
 
 -- the answer of an arrival that notes f of its refusal as the member
 unfoldable pub noting : (Refusal → ℕ) → Walked → Walked
@@ -60,65 +53,21 @@ pick-alike : (t : Bool) {a a′ b b′ : Walked} → Alike a a′ → Alike b b�
 pick-alike true x y = x
 pick-alike false x y = y
 
-then-alike : {a a′ : Walked} {next next′ : Spent → Walked} → Alike a a′ → ((s : Spent) → Alike (next s) (next′ s))
+then-alike : (s : Spent) (a a′ : Walked) (next next′ : Spent → Walked) → Alike a a′ → ((t : Spent) → Alike (next t) (next′ t))
     → Alike (andThen a next) (andThen a′ next′)
 unfolding andThen
-then-alike (goes {s}) h = h s
-then-alike (stops n p) h = stops n p
+then-alike s a a′ next next′ (goes {s = t}) h = h t
+then-alike s a a′ next next′ (stops n p) h = stops n p
+
+-- whatever was spent before
+abbrev AlikeFrom : Spent → Walked → Walked → Type 0
+AlikeFrom s w w′ = Alike w w′
+
+alike-beside : Beside AlikeFrom
+alike-beside = record { goes = λ s. goes; stops = λ r s. stops refl refl; then-on = then-alike }
 
 module _ (child child′ : Child) (H : (ob : Object) (p : Place) (s : Spent) → Alike (child ob p s) (child′ ob p s)) (o : ℕ) (S : Schema)
     (m : List ℕ) where
-  choice-alike : (holder j : ℕ) (ob : Object) (p : Place) (s : Spent)
-      → Alike (followChoice child holder j ob p s) (followChoice child′ holder j ob p s)
-  unfolding followChoice
-  choice-alike holder j ob (ByOffset x) s = pick-alike (eqb x 0) (same (refusePart 9 holder j s)) (H ob (ByOffset x) s)
-  choice-alike holder j ob (InPlace a n) s = H ob (InPlace a n) s
-
-  follow-alike : (holder j : ℕ) (st : Step) (s : Spent) → Alike (follow child holder j st s) (follow child′ holder j st s)
-  unfolding follow
-  follow-alike holder j (St.Refused n) s = same (refusePart n holder j s)
-  follow-alike holder j St.Absent s = goes
-  follow-alike holder j (St.Value x) s = goes
-  follow-alike holder j (St.Unknown x) s = goes
-  follow-alike holder j (St.Struct i at) s = goes
-  follow-alike holder j (St.Object ob p) s = H ob p s
-  follow-alike holder j (St.Choice c ob p) s = choice-alike holder j ob p s
-
-  members-alike : (holder start n : ℕ) (c : Cursor) (j : ℕ) (rs : List Member) (s : Spent)
-      → Alike (members child o S m holder start n c j rs s) (members child′ o S m holder start n c j rs s)
-  unfolding members
-  members-alike holder start n c j [] s = goes
-  members-alike holder start n c j (r ∷ rs) s =
-      then-alike (follow-alike holder j (memberStep o S m start n c r) s)
-      (members-alike holder start n (afterMember o S r c) (j + 1) rs)
-
-  elements-alike : (holder start : ℕ) (k : Kind) (n i : ℕ) (s : Spent)
-      → Alike (elements child o S m holder start k n i s) (elements child′ o S m holder start k n i s)
-  unfolding elements
-  elements-alike holder start k zero i s = goes
-  elements-alike holder start k (suc n) i s =
-      then-alike (follow-alike holder i (elementStep o S m k start i) s) (elements-alike holder start k n (i + 1))
-
-  directs-alike : (t w n at : ℕ) (s : Spent) → Alike (directs child t w n at s) (directs child′ t w n at s)
-  unfolding directs
-  directs-alike t w zero at s = goes
-  directs-alike t w (suc n) at s = then-alike (H (O.Table t) (InPlace at w) s) (directs-alike t w n (at + w))
-
-  content-alike : (ob : Object) (holder start n : ℕ) (s : Spent)
-      → Alike (content child o S m ob holder start n s) (content child′ o S m ob holder start n s)
-  unfolding content
-  content-alike O.Text holder start n s = goes
-  content-alike O.Bytes holder start n s = goes
-  content-alike (O.List i) holder start n s = elements-alike holder start (elementOf S i) n 0 s
-  content-alike (O.Table i) holder start n s = members-alike holder start n begin 0 (tableOf S i .members) s
-  content-alike (O.DirectList t) holder start n s = directs-alike t (elementSize o m holder) n start s
-
-  enter-alike : (ob : Object) (holder : ℕ) (w : Opened) (s : Spent)
-      → Alike (enter child o S m ob holder w s) (enter child′ o S m ob holder w s)
-  unfolding enter
-  enter-alike ob holder (Op.Refused n) s = same (refuse n holder s)
-  enter-alike ob holder (Op.Content start n) s = content-alike ob holder start n s
-
   admit-alike : (b : Budget) (ob : Object) (holder : ℕ) (w : Opened) (s : Spent)
       → Alike (admit child o S m b ob holder w s) (admit child′ o S m b ob holder w s)
   unfolding admit
@@ -126,7 +75,8 @@ module _ (child child′ : Child) (H : (ob : Object) (p : Place) (s : Spent) →
   admit-alike b ob holder (Op.Content start n) s =
       let c = contentLength o S ob n in
       pick-alike (leb (s .content + c) (b .content))
-      (enter-alike ob holder (bytesTested m ob (Op.Content start n)) (withContent c s)) (same (refuse 17 holder s))
+      (enter-beside AlikeFrom alike-beside child child′ H o S m ob holder (bytesTested m ob (Op.Content start n)) (withContent c s))
+      (same (refuse 17 holder s))
 
   arrive-alike : (b : Budget) (ob : Object) (p : Place) (s : Spent)
       → Alike (arrive child o S m b ob p s) (arrive child′ o S m b ob p s)

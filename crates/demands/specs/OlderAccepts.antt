@@ -2,16 +2,15 @@
 -- newer's.
 use Prim.Native.Nat.{ℕ, zero, suc, _+_}
 use native.Mathlib.Omega.{arith}
-use mathlib.Core.List.{List, [], _∷_}
+use mathlib.Core.List.{List}
 use mathlib.Core.Bool.{Bool, true, false}
 use mathlib.Core.Path.{_≡_, refl, subst}
 use lib.Dec.{ltb, leb, eqb}
 use borrow.Author.Tests.{ltb-true, lt-ltb, leb-true, le-leb}
 use Rattle.coding.specs.Lists.{pick}
 use Rattle.coding.specs.Bytes.{le, deepest}
-use Rattle.coding.specs.Schema.{Schema, elementOf, tableOf}
+use Rattle.coding.specs.Schema.{Schema}
 use Rattle.coding.specs.Layout.{begin, afterMember}
-use Rattle.coding.specs.Step.{memberStep, elementStep}
 use Rattle.coding.specs.Walk.{placed, headerSize, elementSize, contentLength, fitContent, fitObject, bytesTested, refuse, andThen, Child, refusePart, followChoice, follow, members, elements, directs, content, enter, withContent, admit, arrive, tooDeep, oneMore, counted, visit, rootPlace, nothing, walk}
 use Rattle.coding.specs.Append.{Extends, rest, more, KindAppends, MemberAppends, SchemaAppends}
 use Rattle.coding.specs.declared.Object.{Object}
@@ -22,7 +21,6 @@ use Rattle.coding.specs.declared.Cursor.{Cursor}
 use Rattle.coding.specs.declared.Place.{Place}
 use Rattle.coding.specs.declared.Place.the-variants.{ByOffset, InPlace}
 use Rattle.coding.specs.declared.Step.{Step}
-use Rattle.coding.specs.declared.Step.the-variants as St
 use Rattle.coding.specs.declared.Opened.{Opened}
 use Rattle.coding.specs.declared.Opened.the-variants as Op
 use Rattle.coding.specs.declared.Budget.{Budget}
@@ -31,7 +29,9 @@ use Rattle.coding.specs.declared.Refusal.{Refusal}
 use Rattle.coding.specs.declared.Walked.{Walked}
 use Rattle.coding.specs.declared.Walked.the-variants.{Going, Refused}
 use Rattle.laws.specs.Sound.{All, ObjectSound, KindSound, MemberSound, Sound}
-use Rattle.demands.specs.Spending.{NoMore, no-more-refl, no-more-trans, one-more-up, with-content-up, one-more-within, with-content-within}
+use Rattle.demands.specs.Spending.{NoMore, no-more-refl, no-more-trans, one-more-within, with-content-within}
+use Rattle.demands.specs.TwoWalks.{choice-beside, members-beside}
+use Rattle.demands.specs.SpentGrows.{spentBy, Grows, no-less, visit-up}
 use Rattle.demands.specs.SameLayout.{element-same, table-same, after-member-same, content-size-same, content-length-same, header-same, magic-same}
 use Rattle.demands.specs.SameStep.{SameStep, refused, no-value, value, enum-value, enum-appended, enum-unknown, struct-value, object-value, choice, choice-appended, choice-unknown, member-step-same, element-step-same}
 
@@ -54,102 +54,15 @@ from-within : {s t : Spent} {a : Walked} → NoMore s t → Within (Going t) a �
 from-within h stopped = stopped
 from-within h (going l) = going (no-more-trans h l)
 
--- ---- what is spent never falls
-stay : {s : Spent} → Within (Going s) (Going s)
-stay {s} = going (no-more-refl s)
+-- what the newer's walk leads to alone: what is spent never falls
+up-within : {s : Spent} (w : Walked) → NoMore s (spentBy w) → Within (Going s) w
+unfolding spentBy
+up-within (Going t) h = going h
+up-within (Refused r t) h = stopped
 
-pick-up : (t : Bool) {s : Spent} {a b : Walked} → Within (Going s) a → Within (Going s) b → Within (Going s) (pick t a b)
-pick-up true x y = x
-pick-up false x y = y
-
-then-up : {s : Spent} {a : Walked} {next : Spent → Walked} → Within (Going s) a → ((t : Spent) → Within (Going t) (next t))
-    → Within (Going s) (andThen a next)
-unfolding andThen
-then-up stopped f = stopped
-then-up (going {s′ = t} h) f = from-within h (f t)
-
-refuse-up : {a : Walked} (n at : ℕ) (s : Spent) → Within a (refuse n at s)
+refuse-within : {a : Walked} (n at : ℕ) (s : Spent) → Within a (refuse n at s)
 unfolding refuse
-refuse-up n at s = stopped
-
-module _ (child : Child) (U : (ob : Object) (p : Place) (s : Spent) → Within (Going s) (child ob p s)) (o : ℕ) (S : Schema)
-    (m : List ℕ) where
-  choice-up : (holder j : ℕ) (ob : Object) (p : Place) (s : Spent) → Within (Going s) (followChoice child holder j ob p s)
-  unfolding followChoice refusePart
-  choice-up holder j ob (ByOffset x) s = pick-up (eqb x 0) stopped (U ob (ByOffset x) s)
-  choice-up holder j ob (InPlace a n) s = U ob (InPlace a n) s
-
-  follow-up : (holder j : ℕ) (st : Step) (s : Spent) → Within (Going s) (follow child holder j st s)
-  unfolding follow refusePart
-  follow-up holder j (St.Refused n) s = stopped
-  follow-up holder j St.Absent s = stay
-  follow-up holder j (St.Value x) s = stay
-  follow-up holder j (St.Unknown x) s = stay
-  follow-up holder j (St.Struct i at) s = stay
-  follow-up holder j (St.Object ob p) s = U ob p s
-  follow-up holder j (St.Choice c ob p) s = choice-up holder j ob p s
-
-  members-up : (holder start n : ℕ) (c : Cursor) (j : ℕ) (rs : List Member) (s : Spent)
-      → Within (Going s) (members child o S m holder start n c j rs s)
-  unfolding members
-  members-up holder start n c j [] s = stay
-  members-up holder start n c j (r ∷ rs) s =
-      then-up (follow-up holder j (memberStep o S m start n c r) s) (λ t. members-up holder start n (afterMember o S r c) (j + 1) rs t)
-
-  elements-up : (holder start : ℕ) (k : Kind) (n i : ℕ) (s : Spent) → Within (Going s) (elements child o S m holder start k n i s)
-  unfolding elements
-  elements-up holder start k zero i s = stay
-  elements-up holder start k (suc n) i s =
-      then-up (follow-up holder i (elementStep o S m k start i) s) (λ t. elements-up holder start k n (i + 1) t)
-
-  directs-up : (t w n at : ℕ) (s : Spent) → Within (Going s) (directs child t w n at s)
-  unfolding directs
-  directs-up t w zero at s = stay
-  directs-up t w (suc n) at s = then-up (U (Ob.Table t) (InPlace at w) s) (λ u. directs-up t w n (at + w) u)
-
-  content-up : (ob : Object) (holder start n : ℕ) (s : Spent) → Within (Going s) (content child o S m ob holder start n s)
-  unfolding content
-  content-up Ob.Text holder start n s = stay
-  content-up Ob.Bytes holder start n s = stay
-  content-up (Ob.List i) holder start n s = elements-up holder start (elementOf S i) n 0 s
-  content-up (Ob.Table i) holder start n s = members-up holder start n begin 0 (tableOf S i .members) s
-  content-up (Ob.DirectList t) holder start n s = directs-up t (elementSize o m holder) n start s
-
-  enter-up : (ob : Object) (holder : ℕ) (p : Opened) (s : Spent) → Within (Going s) (enter child o S m ob holder p s)
-  unfolding enter
-  enter-up ob holder (Op.Refused n) s = refuse-up n holder s
-  enter-up ob holder (Op.Content start n) s = content-up ob holder start n s
-
-  admit-up : (b : Budget) (ob : Object) (holder : ℕ) (p : Opened) (s : Spent)
-      → Within (Going s) (admit child o S m b ob holder p s)
-  unfolding admit
-  admit-up b ob holder (Op.Refused n) s = refuse-up n holder s
-  admit-up b ob holder (Op.Content start n) s =
-      let c = contentLength o S ob n in
-      pick-up (leb (s .content + c) (b .content))
-      (from-within (with-content-up c s) (enter-up ob holder (bytesTested m ob (Op.Content start n)) (withContent c s)))
-      (refuse-up 17 holder s)
-
-  arrive-up : (b : Budget) (ob : Object) (p : Place) (s : Spent) → Within (Going s) (arrive child o S m b ob p s)
-  unfolding arrive
-  arrive-up b ob p s = admit-up b ob (placed p) (fitObject o S m ob p) s
-
-counted-up : (child : Child) → ((ob : Object) (p : Place) (s : Spent) → Within (Going s) (child ob p s))
-    → (b : Budget) (ob : Object) (p : Place) (s : Spent) → Within (Going s) (counted child b ob p s)
-unfolding counted
-counted-up child U b ob p s =
-    pick-up (ltb (s .visits) (b .visits)) (from-within (one-more-up s) (U ob p (oneMore s))) (refuse-up 4 (placed p) s)
-
-too-deep-up : {a : Walked} (ob : Object) (p : Place) (s : Spent) → Within a (tooDeep ob p s)
-unfolding tooDeep
-too-deep-up ob p s = refuse-up 5 (placed p) s
-
-visit-up : (d o : ℕ) (S : Schema) (m : List ℕ) (b : Budget) (ob : Object) (p : Place) (s : Spent)
-    → Within (Going s) (visit d o S m b ob p s)
-unfolding visit
-visit-up zero o S m b ob p s = counted-up tooDeep (λ ob p s. too-deep-up ob p s) b ob p s
-visit-up (suc d) o S m b ob p s =
-    counted-up (arrive (visit d o S m b) o S m b) (arrive-up (visit d o S m b) (visit-up d o S m b) o S m b) b ob p s
+refuse-within n at s = stopped
 
 -- ---- the older's walk beside the newer's
 module _ (o : ℕ) (O N : Schema) (sound : Sound O) (G : SchemaAppends O N) (m : List ℕ) where
@@ -165,7 +78,7 @@ module _ (o : ℕ) (O N : Schema) (sound : Sound O) (G : SchemaAppends O N) (m :
       rw (magic-same O N sound G ob h, fit-content-same ob h x start n, header-same O N sound G o m ob h x (fitContent o N m ob x start n))
   fit-same ob h (InPlace a n) = rw (fit-content-same ob h a a n)
 
-  module _ (old new : Child) (U : (ob : Object) (p : Place) (s : Spent) → Within (Going s) (new ob p s))
+  module _ (old new : Child) (U : (ob : Object) (p : Place) (s : Spent) → NoMore s (spentBy (new ob p s)))
       (H : (ob : Object) → ObjectSound O ob → (p : Place) (s s′ : Spent) → NoMore s s′
       → Within (old ob p s) (new ob p s′)) where
     choice-within : (ob : Object) → ObjectSound O ob → (holder j : ℕ) (p : Place) (s s′ : Spent) → NoMore s s′
@@ -187,14 +100,16 @@ module _ (o : ℕ) (O N : Schema) (sound : Sound O) (G : SchemaAppends O N) (m :
     follow-within (struct-value q) holder j s s′ h = going h
     follow-within (object-value {ob} {p} q) holder j s s′ h = H ob q p s s′ h
     follow-within (choice {ob} {p} l e q) holder j s s′ h = choice-within ob q holder j p s s′ h
-    follow-within (choice-appended {ob} {p} l) holder j s s′ h = from-within h (choice-up new U o N m holder j ob p s′)
+    follow-within (choice-appended {ob} {p} l) holder j s s′ h =
+        from-within h (up-within _ (choice-beside (Grows NoMore) no-less new new U o N m holder j ob p s′))
     follow-within choice-unknown holder j s s′ h = going h
 
     members-within : {rs rs′ : List Member} → Extends MemberAppends rs rs′ → All (MemberSound O) rs → (holder start n : ℕ) (c : Cursor)
         (j : ℕ) (s s′ : Spent) → NoMore s s′
         → Within (members old o O m holder start n c j rs s) (members new o N m holder start n c j rs′ s′)
     unfolding members
-    members-within (rest {ys}) a holder start n c j s s′ h = from-within h (members-up new U o N m holder start n c j ys s′)
+    members-within (rest {ys}) a holder start n c j s s′ h =
+        from-within h (up-within _ (members-beside (Grows NoMore) no-less new new U o N m holder start n c j ys s′))
     members-within (more {x} {y} {xs} {ys} q l) a holder start n c j s s′ h =
         then-within (follow-within (member-step-same O N sound G m o q (a .0) start n c) holder j s s′ h)
         (λ t t′ g.
@@ -230,14 +145,14 @@ module _ (o : ℕ) (O N : Schema) (sound : Sound O) (G : SchemaAppends O N) (m :
     enter-within : (ob : Object) → ObjectSound O ob → (holder : ℕ) (p : Opened) (s s′ : Spent) → NoMore s s′
         → Within (enter old o O m ob holder p s) (enter new o N m ob holder p s′)
     unfolding enter
-    enter-within ob q holder (Op.Refused n) s s′ h = refuse-up n holder s′
+    enter-within ob q holder (Op.Refused n) s s′ h = refuse-within n holder s′
     enter-within ob q holder (Op.Content start n) s s′ h = content-within ob q holder start n s s′ h
 
     -- the content allowance's test: if the newer passes it, so does the older
     admit-within : (b : Budget) (ob : Object) → ObjectSound O ob → (holder : ℕ) (p : Opened) (s s′ : Spent) → NoMore s s′
         → Within (admit old o O m b ob holder p s) (admit new o N m b ob holder p s′)
     unfolding admit
-    admit-within b ob q holder (Op.Refused n) s s′ h = refuse-up n holder s′
+    admit-within b ob q holder (Op.Refused n) s s′ h = refuse-within n holder s′
     admit-within b ob q holder (Op.Content start n) s s′ h =
         rw (content-length-same O N sound G o ob q n) (by (leb (s′ .content + contentLength o N ob n) (b .content)) refl)
       where
@@ -255,7 +170,7 @@ module _ (o : ℕ) (O N : Schema) (sound : Sound O) (G : SchemaAppends O N) (m :
             (enter-within ob q holder (bytesTested m ob (Op.Content start n))
             (withContent (contentLength o N ob n) s) (withContent (contentLength o N ob n) s′)
             (with-content-within (contentLength o N ob n) h))
-        by false e = refuse-up 17 holder s′
+        by false e = refuse-within 17 holder s′
 
     arrive-within : (b : Budget) (ob : Object) → ObjectSound O ob → (p : Place) (s s′ : Spent) → NoMore s s′
         → Within (arrive old o O m b ob p s) (arrive new o N m b ob p s′)
@@ -276,13 +191,13 @@ counted-within old new b ob p s s′ h H = by (ltb (s′ .visits) (b .visits)) r
     by true e =
         rw (lt-ltb (s .visits) (b .visits) (omega (arith, h .visits, ltb-true (s′ .visits) (b .visits) e)))
         (H (oneMore s) (oneMore s′) (one-more-within h))
-    by false e = refuse-up 4 (placed p) s′
+    by false e = refuse-within 4 (placed p) s′
 
 module _ (o : ℕ) (O N : Schema) (sound : Sound O) (G : SchemaAppends O N) (m : List ℕ) (b : Budget) where
   pub visit-within : (d : ℕ) (ob : Object) → ObjectSound O ob → (p : Place) (s s′ : Spent) → NoMore s s′
       → Within (visit d o O m b ob p s) (visit d o N m b ob p s′)
   unfolding visit
-  visit-within zero ob q p s s′ h = counted-within tooDeep tooDeep b ob p s s′ h (λ t t′ g. too-deep-up ob p t′)
+  visit-within zero ob q p s s′ h = counted-within tooDeep tooDeep b ob p s s′ h (λ t t′ g. unfold tooDeep in refuse-within 5 (placed p) t′)
   visit-within (suc d) ob q p s s′ h =
       counted-within (arrive (visit d o O m b) o O m b) (arrive (visit d o N m b) o N m b) b ob p s s′ h
       (λ t t′ g. arrive-within o O N sound G m (visit d o O m b) (visit d o N m b) (visit-up d o N m b) (visit-within d) b ob q p t t′ g)

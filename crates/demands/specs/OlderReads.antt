@@ -94,7 +94,7 @@ struct-absent : (S : Schema) (i : ℕ) → withoutStruct S i absent ≡ absent
 unfolding withoutStruct withoutBy inRow
 struct-absent S = index-holds (λ i f. f absent ≡ absent) same-value (withoutBy S) (λ i g e. refl)
 
-without-absent : (d : ℕ) (S : Schema) (ob : Object) → without d S ob absent ≡ absent
+pub without-absent : (d : ℕ) (S : Schema) (ob : Object) → without d S ob absent ≡ absent
 unfolding without withoutContent inRow
 without-absent zero S ob = refl
 without-absent (suc d) S Ob.Text = refl
@@ -103,7 +103,7 @@ without-absent (suc d) S (Ob.List i) = refl
 without-absent (suc d) S (Ob.Table i) = refl
 without-absent (suc d) S (Ob.DirectList t) = refl
 
-part-absent : (c : Change) → ((ob : Object) → c ob absent ≡ absent) → (S : Schema) (k : Kind) → withoutPart c S k absent ≡ absent
+pub part-absent : (c : Change) → ((ob : Object) → c ob absent ≡ absent) → (S : Schema) (k : Kind) → withoutPart c S k absent ≡ absent
 unfolding withoutPart withoutFlat withoutEnum withoutChoice
 part-absent c z S (OfFlat Boolean) = refl
 part-absent c z S (OfFlat (Integer s w)) = refl

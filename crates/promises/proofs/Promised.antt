@@ -7,7 +7,7 @@ use mathlib.Core.Option.{some}
 use Prim.Native.Nat.{ℕ, _≤_}
 use lib.ListN.{length, take}
 use Rattle.coding.specs.Packed.{parse}
-use Rattle.coding.specs.Walk.{atZero, verdict}
+use Rattle.coding.specs.Walk.{atZero, spentOf, verdict}
 use Rattle.coding.specs.Read.{messageRead}
 use Rattle.coding.specs.Sheet.{sheetTree}
 use Rattle.coding.specs.Message.{messageSheet, readAnswer, readOut}
@@ -22,6 +22,9 @@ use Rattle.coding.specs.declared.Spent.{Spent}
 use Rattle.coding.specs.declared.Verdict.{Verdict}
 use Rattle.coding.specs.declared.ReadAnswer.{ReadAnswer}
 use Rattle.demands.specs.Arrivals.{LawfulMessage}
+use Rattle.demands.specs.BiggerAllowance.{Raises, Settled, Becomes, same-verdict, verdict-becomes, same-exactly, same-answer, same-out}
+use Rattle.demands.specs.Spending.{Affords}
+use Rattle.demands.specs.ThreeSchemas.{three-agree}
 use Rattle.demands.specs.Reached.{accepted-exactly, accepted-visits, accepted-content, lawful-verdict}
 use Rattle.demands.specs.Sheets.{verdict-sheet-lawful}
 use Rattle.demands.specs.Appending.{AreBytes, OlderAgrees, older-accepts, older-agrees}
@@ -29,7 +32,7 @@ use Rattle.demands.specs.FieldEntries.{shown}
 use Rattle.demands.specs.Fields.{sheet-entry, field-refusal}
 use Rattle.demands.specs.Texts.{IsText, part-answers, text-part}
 use Rattle.demands.specs.SheetText.{sheet-text}
-use Rattle.promises.specs.Words.{Accepts, costs, arrivals, contents, Fits, NoRoom, HandsOut, entryAt, textAt}
+use Rattle.promises.specs.Words.{Accepts, costs, arrivals, contents, Fits, NoRoom, HandsOut, CutDown, entryAt, textAt}
 use Rattle.promises.proofs.Reading.{handed, hands-out, read-or-room, fits-read, read-fits, no-room}
 
 -- ---- judging
@@ -91,6 +94,44 @@ module _ (o : ℕ) (older newer m : List ℕ) (older-bytes : AreBytes older) (ne
 
   pub older-hands-out : HandsOut a out′ (sheetWithout older newer (messageSheet o newer m))
   older-hands-out h = hands-out o older m budget out a out′ ea eo h ∙ agrees .sheet
+
+-- ---- with two budgets
+module _ (o : ℕ) (b m : List ℕ) (less more : Budget) where
+  module _ (r s : Verdict) (er : r ≡ verdict o b m less) (es : s ≡ verdict o b m more) (raises : Raises less more) where
+    pub more-same : Settled r → s ≡ r
+    more-same = rw (er, es) (same-verdict o b m less more raises)
+
+    pub more-further : Becomes less r s
+    more-further = rw (er, es) (verdict-becomes o b m less more raises)
+
+    pub more-exactly : (s ≡ r) ↔ Affords less (spentOf s)
+    more-exactly = rw (er, es) (same-exactly o b m less more raises)
+
+  module _ (out out′ : List ℕ) (r s : ReadAnswer) (er : r ≡ readAnswer o b m less out) (es : s ≡ readAnswer o b m more out′)
+      (raises : Raises less more) where
+    pub more-answer : Settled (r .verdict) → length out′ ≡ length out → s ≡ r
+    more-answer = rw (er, es) (λ h room. same-answer o b m less more raises out h out′ room)
+
+    pub more-out : (end end′ : List ℕ) → end ≡ readOut o b m less out → end′ ≡ readOut o b m more out′ → Settled (r .verdict) → out′ ≡ out
+        → end′ ≡ end
+    more-out end end′ ee ef = rw (er, ee, ef) (λ h e. ap (readOut o b m more) e ∙ same-out o b m less more raises out h)
+
+-- ---- by three schemas, what the newest accepts
+module _ (o : ℕ) (oldest middle newest m : List ℕ) (oldest-bytes : AreBytes oldest) (middle-bytes : AreBytes middle)
+    (newest-bytes : AreBytes newest) (message-bytes : AreBytes m) (budget : Budget) where
+  pub three-read : (out first : List ℕ) (a : ReadAnswer) → a ≡ readAnswer o oldest m budget out → first ≡ readOut o oldest m budget out
+      → (out′ second : List ℕ) (b : ReadAnswer) → b ≡ readAnswer o middle m budget out′ → second ≡ readOut o middle m budget out′
+      → Appends o oldest middle → Appends o middle newest → Accepts o newest m budget
+      → CutDown a first b second oldest middle newest (messageSheet o newest m)
+  three-read out first a ea eo out′ second b eb ep one two h =
+      let x = three-agree o oldest middle newest m oldest-bytes middle-bytes newest-bytes message-bytes one two budget h in
+      record {
+        oldest-reads = read-or-room o oldest m budget out a ea (x .oldest-agrees .accepts) .0;
+        middle-reads = read-or-room o middle m budget out′ b eb (x .middle-agrees .accepts) .0;
+        to-middle = λ n. hands-out o middle m budget out′ b second eb ep n ∙ x .middle-agrees .sheet;
+        twice = x .cut-twice;
+        to-oldest = λ n. hands-out o oldest m budget out a first ea eo n ∙ x .at-once .sheet;
+      }
 
 -- ---- one field of an accepted message
 module _ (o : ℕ) (b m : List ℕ) (schema-bytes : AreBytes b) (message-bytes : AreBytes m) (path : List ℕ) (budget : Budget)

@@ -18,6 +18,7 @@ use Rattle.coding.specs.Value.{Value}
 use Rattle.coding.specs.Read.{messageRead}
 use Rattle.coding.specs.Sheet.{sheetTree}
 use Rattle.coding.specs.Message.{writable, messageOf}
+use Rattle.coding.specs.Append.{sheetWithout}
 use Rattle.coding.specs.Field.{fieldFound, leads, answerCase, caseNumbers}
 use Rattle.coding.specs.declared.Object.{Object}
 use Rattle.coding.specs.declared.Object.the-variants as O
@@ -78,6 +79,22 @@ HandsOut r out s = r .verdict .number ≡ 0 → take (r .length) out ≡ s
 -- "on refusal the length is 0 and the output is unchanged": of an answer's number and length, and of the output before and after
 abbrev pub KeepsOnRefusal : ℕ → ℕ → List ℕ → List ℕ → Type 0
 KeepsOnRefusal number len out out′ = (number ≡ 0 → ⊥) → (len ≡ 0) × (out′ ≡ out)
+
+-- ---- three schemas
+-- an accepted message is read, or there is no room
+abbrev pub Reads : ReadAnswer → Type 0
+Reads r = (r .verdict .number ≡ 0) ⊎ (r .verdict .number ≡ 14)
+
+-- 02, K13: of the newest sheet s, and of what the oldest and the middle reader answer and leave in their outputs
+pub record CutDown (a : ReadAnswer) (first : List ℕ) (b : ReadAnswer) (second oldest middle newest s : List ℕ) : Type 0 where
+  pub oldest-reads : Reads a
+  pub middle-reads : Reads b
+  -- "the newest sheet cut down to the middle schema": it is the middle reader's
+  pub to-middle : HandsOut b second (sheetWithout middle newest s)
+  -- "and then to the oldest, as demand 3 does it, equals the newest cut down to the oldest at once"
+  pub twice : sheetWithout oldest middle (sheetWithout middle newest s) ≡ sheetWithout oldest newest s
+  -- "and both are the oldest reader's sheet"
+  pub to-oldest : HandsOut a first (sheetWithout oldest newest s)
 
 -- ---- one field
 -- the entry of a sheet at a path

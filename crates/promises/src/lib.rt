@@ -24,6 +24,7 @@ ghost use Rattle.coding.specs.Message as M;
 ghost use Rattle.coding.specs.Value.{Value};
 ghost use Rattle.coding.specs.Walk as W;
 ghost use Rattle.demands.specs.Arrivals.{LawfulMessage};
+ghost use Rattle.demands.specs.BiggerAllowance.{Raises, Settled, Becomes};
 ghost use Rattle.demands.specs.FieldEntries.{shown};
 ghost use Rattle.demands.specs.InTurn.{total};
 ghost use Rattle.demands.specs.RoundTrip.{enough, sheetLengths, Short};
@@ -31,7 +32,7 @@ ghost use Rattle.demands.specs.Spending.{Affords};
 ghost use Rattle.demands.specs.Texts.{IsText};
 ghost use Rattle.demands.specs.WrittenSheet.{WrittenAs};
 ghost use Rattle.promises.specs.Reader.{Stepped};
-ghost use Rattle.promises.specs.Words.{given, after, Accepts, costs, arrivals, contents, values, treeOf, Fits, NoRoom, HandsOut, KeepsOnRefusal};
+ghost use Rattle.promises.specs.Words.{given, after, Accepts, costs, arrivals, contents, values, treeOf, Fits, NoRoom, HandsOut, KeepsOnRefusal, CutDown};
 ghost use Rattle.promises.specs.Words.{entryAt, textAt, LeadsToList, HoldsAnswers, Writable, layoutOf};
 
 // Judging a message.
@@ -70,6 +71,73 @@ pub fn read(schema: &[u8], message: &[u8], budget: Budget, out: &mut [u8], o: us
     ensures lawful { λ r. ⌜ (r .verdict .number ≡ 0 → treeOf (given schema) (take (r .length) (after out)) ≡ some (values o (given schema) (given message))) ⌝ }
 {
     sheet::read(schema, message, budget, out, o)
+}
+
+// The answers with two budgets. In `Readings` the first goes to the first output.
+pub struct Stories {
+    pub less: Verdict,
+    pub more: Verdict,
+}
+
+pub struct Readings {
+    pub less: ReadAnswer,
+    pub more: ReadAnswer,
+}
+
+// Judging one message with two budgets.
+pub fn judged_with_more(
+    schema: &[u8],
+    message: &[u8],
+    less: Budget,
+    more: Budget,
+    o: usize,
+) -> Stories
+    // each verdict is the definition's
+    ensures by_less { λ r. ⌜ r .less ≡ W.verdict o (given schema) (given message) less ⌝ }
+    ensures by_more { λ r. ⌜ r .more ≡ W.verdict o (given schema) (given message) more ⌝ }
+    // "raising either or both leaves an acceptance with the same visits and content, and leaves every refusal other than 4 and 17 the
+    // same in all its parts"
+    ensures same { λ r. ⌜ (Raises less more → Settled (r .less) → r .more ≡ r .less) ⌝ }
+    // what more makes of a 4 or a 17: the same, or no less is spent of either, and more of the one that was lacking than was allowed
+    ensures further { λ r. ⌜ (Raises less more → Becomes less (r .less) (r .more)) ⌝ }
+    // the smaller budget has told the same story exactly where it allows what the bigger has spent
+    ensures exactly { λ r. ⌜ (Raises less more → (r .more ≡ r .less) ↔ Affords less (W.spentOf (r .more))) ⌝ }
+{
+    let by_less = judge::judge(schema, message, less, o);
+    let by_more = judge::judge(schema, message, more, o);
+    Stories {
+        less: by_less,
+        more: by_more,
+    }
+}
+
+// Reading one message to its sheet with two budgets.
+pub fn read_with_more(
+    schema: &[u8],
+    message: &[u8],
+    less: Budget,
+    more: Budget,
+    first: &mut [u8],
+    second: &mut [u8],
+    o: usize,
+) -> Readings
+    // each answer and each output is the definition's
+    ensures by_less { λ r. ⌜ r .less ≡ M.readAnswer o (given schema) (given message) less (given first) ⌝ }
+    ensures less_out { λ _. ⌜ after first ≡ M.readOut o (given schema) (given message) less (given first) ⌝ }
+    ensures by_more { λ r. ⌜ r .more ≡ M.readAnswer o (given schema) (given message) more (given second) ⌝ }
+    ensures more_out { λ _. ⌜ after second ≡ M.readOut o (given schema) (given message) more (given second) ⌝ }
+    // "raising either or both leaves an acceptance with the same visits and content, and leaves every refusal other than 4 and 17 the
+    // same in all its parts": the whole answer, with as much room
+    ensures same { λ r. ⌜ (Raises less more → Settled (r .less .verdict) → length (given second) ≡ length (given first) → r .more ≡ r .less) ⌝ }
+    // and the output, if it held the same
+    ensures output { λ r. ⌜ (Raises less more → Settled (r .less .verdict) → given second ≡ given first → after second ≡ after first) ⌝ }
+{
+    let by_less = sheet::read(schema, message, less, first, o);
+    let by_more = sheet::read(schema, message, more, second, o);
+    Readings {
+        less: by_less,
+        more: by_more,
+    }
 }
 
 // The verdicts of two schemas, of which the newer appends to the older.
@@ -134,6 +202,50 @@ pub fn read_by_both(
     Sheets {
         older: by_older,
         newer: by_newer,
+    }
+}
+
+// The sheets by three schemas, each of which appends to the one before. The oldest's goes to the first output, the middle's to the
+// second, the newest's to the third.
+pub struct ThreeSheets {
+    pub oldest: ReadAnswer,
+    pub middle: ReadAnswer,
+    pub newest: ReadAnswer,
+}
+
+// Reading one message to its sheets by three schemas.
+pub fn read_by_three(
+    oldest: &[u8],
+    middle: &[u8],
+    newest: &[u8],
+    message: &[u8],
+    budget: Budget,
+    first: &mut [u8],
+    second: &mut [u8],
+    third: &mut [u8],
+    o: usize,
+) -> ThreeSheets
+    // each answer and each output is the definition's
+    ensures by_oldest { λ r. ⌜ r .oldest ≡ M.readAnswer o (given oldest) (given message) budget (given first) ⌝ }
+    ensures oldest_out { λ _. ⌜ after first ≡ M.readOut o (given oldest) (given message) budget (given first) ⌝ }
+    ensures by_middle { λ r. ⌜ r .middle ≡ M.readAnswer o (given middle) (given message) budget (given second) ⌝ }
+    ensures middle_out { λ _. ⌜ after second ≡ M.readOut o (given middle) (given message) budget (given second) ⌝ }
+    ensures by_newest { λ r. ⌜ r .newest ≡ M.readAnswer o (given newest) (given message) budget (given third) ⌝ }
+    ensures newest_out { λ _. ⌜ after third ≡ M.readOut o (given newest) (given message) budget (given third) ⌝ }
+    // "for three schemas, each appending to the one before, and given room and bytes the newest accepts: the newest sheet cut down to
+    // the middle schema and then to the oldest, as demand 3 does it, equals the newest cut down to the oldest at once, and both are the
+    // oldest reader's sheet"; the newest sheet is the one of the rules, handed out or not
+    ensures three { λ r. ⌜ (Ap.Appends o (given oldest) (given middle) → Ap.Appends o (given middle) (given newest) → Accepts o (given newest) (given message) budget → CutDown (r .oldest) (after first) (r .middle) (after second) (given oldest) (given middle) (given newest) (M.messageSheet o (given newest) (given message))) ⌝ }
+    // and where it is handed out, it stands in the third output
+    ensures handed { λ r. ⌜ HandsOut (r .newest) (after third) (M.messageSheet o (given newest) (given message)) ⌝ }
+{
+    let by_oldest = sheet::read(oldest, message, budget, first, o);
+    let by_middle = sheet::read(middle, message, budget, second, o);
+    let by_newest = sheet::read(newest, message, budget, third, o);
+    ThreeSheets {
+        oldest: by_oldest,
+        middle: by_middle,
+        newest: by_newest,
     }
 }
 
