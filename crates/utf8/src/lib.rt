@@ -302,11 +302,11 @@ fn after_bytes(s: &[u8], i: usize, k: usize, w: u64) -> u64
 pub const BEGIN: u64 = 0;
 
 // Whether a text may end where a word stands: there a character may begin too.
-pub fn may_end(w: u64) -> bool
-    requires { ⌜ HoldsState w ⌝ }
-    ensures { λ r. ⌜ r ≡ mayEnd (stateIn w) ⌝ }
+pub fn may_end(x: u64) -> bool
+    requires { ⌜ HoldsState x ⌝ }
+    ensures { λ r. ⌜ r ≡ mayEnd (stateIn x) ⌝ }
 {
-    w % 64 == 0
+    x % 64 == 0
 }
 
 // ---- runs of ASCII
