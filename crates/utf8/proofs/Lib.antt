@@ -2,3 +2,4 @@
 pub mod LastArm
 pub mod TableLaws
 pub mod StepLaws
+pub mod ShortLaws

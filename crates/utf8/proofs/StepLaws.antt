@@ -22,7 +22,7 @@ text-step : (q : TextState) (s : List ℕ) (i : ℕ) → i < length s
 unfolding textFrom
 text-step q s i h = ap (textFrom q) (drop-cons s i 0 h)
 
-ascii-stays : (x : ℕ) → x < 128 → afterOctet Boundary x ≡ Boundary
+pub ascii-stays : (x : ℕ) → x < 128 → afterOctet Boundary x ≡ Boundary
 unfolding afterOctet afterFirst within
 ascii-stays x h = let l : x ≤ 127 = omega arith in simp (le-leb 0 x (omega arith), le-leb x 127 l)
 
@@ -36,7 +36,7 @@ ascii-skips s i (suc k) h f =
     ∙ ap (λ (q : TextState). textFrom q (drop (suc (i + k)) s)) (ascii-stays (getD s (i + k) 0) (f k (omega arith)))
     ∙ ap (λ (n : ℕ). textFrom Boundary (drop n s)) (sym (add-suc i k))
 
-or-left : (a b : ℕ) → a ≤ bitOr a b
+pub or-left : (a b : ℕ) → a ≤ bitOr a b
 or-left a b = omega (arith, or-add-and a b, and-le-r a b)
 
 or-right : (a b : ℕ) → b ≤ bitOr a b

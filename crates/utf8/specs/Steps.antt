@@ -1,9 +1,9 @@
 -- What a run over bytes promises: how a word holds a state, and that what is left decides as the whole did.
-use Prim.Native.Nat.{ℕ, _*_, _/_, _%_, _≤_}
+use Prim.Native.Nat.{ℕ, _+_, _*_, _/_, _%_, _≤_, _<_}
 use mathlib.Core.Path.{_≡_}
 use mathlib.Core.List.{List}
-use lib.Dec.{eqb}
-use lib.ListN.{length, drop}
+use lib.Dec.{ltb, eqb}
+use lib.ListN.{length, getD, drop}
 use Rattle.coding.specs.Lists.{pick}
 use Rattle.coding.specs.Utf8.{TextState, Boundary, OneTail, TwoTails, ThreeTails, AfterE0, AfterED, AfterF0, AfterF4, NoText, afterOctet, textFrom}
 use Rattle.utf8.specs.Table.{stateNumber}
@@ -40,3 +40,11 @@ pub record Skips (m : List ℕ) (i j : ℕ) : Type 0 where
   pub forth : i ≤ j
   pub inside : j ≤ length m
   pub same : textFrom Boundary (drop i m) ≡ textFrom Boundary (drop j m)
+
+-- the n bytes from i are ASCII
+pub record Ascii (m : List ℕ) (i n : ℕ) : Type 0 where
+  pub each : (t : ℕ) → t < n → getD m (i + t) 0 < 128
+
+-- the lesser of two numbers
+unfoldable pub lesser : ℕ → ℕ → ℕ
+lesser a b = pick (ltb a b) a b
