@@ -275,7 +275,7 @@ fn directs(
     requires { ⌜ x .start + x .length * W.elementSize o (now m) (x .holder) ≤ length (now m) ⌝ }
     ensures { λ r. ⌜ As.walkedOf r ≡ As.directsBy o (now (b .entry)) (now (m .entry)) depth t (W.elementSize o (now (m .entry)) (x .holder)) x (W.spending visits content) ⌝ }
 {
-    let w = message_header::element_size(b, x.holder, o);
+    let w = message_header::element_size(m, x.holder, o);
     if judge_direct::only_count(b, dir, t, w, x.length, o) {
         return judge_direct::count(b, m, depth, t, w, x, visits, content, o);
     }
