@@ -1,40 +1,76 @@
--- Bytes passed one by one or by a block of ASCII: what is left decides as the whole did.
-use Prim.Native.Nat.{ℕ, zero, suc, _+_, _-_, _*_, _%_, _≤_, _<_}
+-- Bytes passed one by one or by a block of ASCII: the state to which they lead.
+use Prim.Native.Nat.{ℕ, zero, suc, _+_, _-_, _%_, _≤_, _<_}
 use native.Mathlib.Omega.{arith}
-use native.Mathlib.Nat.{add-zero, add-suc, le-trans}
-use mathlib.Core.Path.{_≡_, refl, ap, sym, _∙_}
+use native.Mathlib.Nat.{add-zero, le-trans}
+use mathlib.Core.Path.{_≡_, refl, ap, ap₂, sym, _∙_, subst}
 use mathlib.Core.Bool.{Bool, true, false}
-use mathlib.Core.List.{List, [], _∷_}
-use lib.Dec.{ltb, leb, eqb}
+use mathlib.Core.List.{List}
+use lib.Dec.{ltb}
 use lib.Bits.{bitOr, or-add-and, and-le-l, and-le-r}
-use lib.ListN.{length, getD, take, drop}
-use lib.Seq.{drop-cons, drop-length}
+use lib.ListN.{length, getD, take, drop, take-append-drop}
+use lib.Seq.{drop-cons, drop-drop, take-add, take-all}
 use borrow.Author.Count.{below-more}
-use borrow.Author.Tests.{ltb-true, le-leb}
-use Rattle.coding.specs.Utf8.{TextState, Boundary, OneTail, TwoTails, ThreeTails, AfterE0, AfterED, AfterF0, AfterF4, NoText, within, afterFirst, afterOctet, mayEnd, textFrom, isText}
+use borrow.Author.Tests.{ltb-true}
+use Rattle.coding.specs.Utf8.{TextState, Boundary, afterOctet, mayEnd, textFrom, isText}
 use Rattle.utf8.specs.Table.{stateNumber}
-use Rattle.utf8.specs.Steps.{stateOf, stateIn, HoldsState, StateAfter, Onward, Skips}
+use Rattle.utf8.specs.Steps.{stateOf, stateIn, HoldsState, StateAfter, afterOctets, Leads, Onward, Skips}
 use Rattle.utf8.proofs.TableLaws.{at-boundary, at-no-text}
+use Rattle.utf8.proofs.OctetLaws.{octets-append, octets-end, ascii-stays, no-text-stays}
 
--- ---- one byte
-text-step : (q : TextState) (s : List ℕ) (i : ℕ) → i < length s
-    → textFrom q (drop i s) ≡ textFrom (afterOctet q (getD s i 0)) (drop (suc i) s)
-unfolding textFrom
-text-step q s i h = ap (textFrom q) (drop-cons s i 0 h)
+-- ---- bytes that lead from a state to another
+pub leads-none : (s : List ℕ) (i : ℕ) (q : TextState) → i ≤ length s → Leads s i i q q
+unfolding afterOctets
+leads-none s i q h =
+    let e : i - i ≡ 0 = omega arith in
+    record { forth = omega arith; inside = h; is = ap (λ (n : ℕ). afterOctets q (take n (drop i s))) e }
 
-ascii-stays : (x : ℕ) → x < 128 → afterOctet Boundary x ≡ Boundary
-unfolding afterOctet afterFirst within
-ascii-stays x h = let l : x ≤ 127 = omega arith in simp (le-leb 0 x (omega arith), le-leb x 127 l)
+leads-one : (s : List ℕ) (i : ℕ) (q : TextState) → i < length s → Leads s i (i + 1) q (afterOctet q (getD s i 0))
+unfolding afterOctets
+leads-one s i q h =
+    let e : i + 1 - i ≡ 1 = omega arith in
+    record {
+      forth = omega arith;
+      inside = omega arith;
+      is = ap₂ (λ (n : ℕ) (xs : List ℕ). afterOctets q (take n xs)) e (drop-cons s i 0 h);
+    }
+
+pub leads-then : (s : List ℕ) (i j k : ℕ) (q r t : TextState) → Leads s i j q r → Leads s j k r t → Leads s i k q t
+leads-then s i j k q r t f g =
+    let a = f .forth in
+    let b = g .forth in
+    let n : k - i ≡ j - i + (k - j) = omega arith in
+    let p : i + (j - i) ≡ j = omega arith in
+    record {
+      forth = omega arith;
+      inside = g .inside;
+      is = ap (λ (m : ℕ). afterOctets q (take m (drop i s))) n
+          ∙ ap (afterOctets q) (take-add (j - i) (k - j) (drop i s))
+          ∙ octets-append q (take (j - i) (drop i s)) (take (k - j) (drop (j - i) (drop i s)))
+          ∙ ap₂ (λ (x : TextState) (xs : List ℕ). afterOctets x (take (k - j) xs)) (f .is) (drop-drop (j - i) i s ∙ ap (λ (m : ℕ). drop m s) p)
+          ∙ g .is;
+    }
+
+-- those behind the bytes decide
+leads-text : (s : List ℕ) (i j : ℕ) (q r : TextState) → Leads s i j q r → textFrom q (drop i s) ≡ textFrom r (drop j s)
+leads-text s i j q r f =
+    let a = f .forth in
+    let p : i + (j - i) ≡ j = omega arith in
+    let xs : List ℕ = drop i s in
+    octets-end q xs
+    ∙ ap (λ (l : List ℕ). mayEnd (afterOctets q l)) (sym (take-append-drop (j - i) xs))
+    ∙ ap mayEnd (octets-append q (take (j - i) xs) (drop (j - i) xs))
+    ∙ ap₂ (λ (x : TextState) (l : List ℕ). mayEnd (afterOctets x l)) (f .is) (drop-drop (j - i) i s ∙ ap (λ (m : ℕ). drop m s) p)
+    ∙ sym (octets-end r (drop j s))
 
 -- ---- is_ascii
-ascii-skips : (s : List ℕ) (i k : ℕ) → i + k ≤ length s → ((t : ℕ) → t < k → getD s (i + t) 0 < 128)
-    → textFrom Boundary (drop i s) ≡ textFrom Boundary (drop (i + k) s)
-ascii-skips s i zero h f = ap (λ (n : ℕ). textFrom Boundary (drop n s)) (sym (add-zero i))
+ascii-skips : (s : List ℕ) (i k : ℕ) → i + k ≤ length s → ((t : ℕ) → t < k → getD s (i + t) 0 < 128) → Skips s i (i + k)
+ascii-skips s i zero h f = rw (add-zero i) (leads-none s i Boundary (omega arith))
 ascii-skips s i (suc k) h f =
-    ascii-skips s i k (omega arith) (λ t p. f t (omega arith))
-    ∙ text-step Boundary s (i + k) (omega arith)
-    ∙ ap (λ (q : TextState). textFrom q (drop (suc (i + k)) s)) (ascii-stays (getD s (i + k) 0) (f k (omega arith)))
-    ∙ ap (λ (n : ℕ). textFrom Boundary (drop n s)) (sym (add-suc i k))
+    let e : i + k + 1 ≡ i + suc k = omega arith in
+    let stays : afterOctet Boundary (getD s (i + k) 0) ≡ Boundary = ascii-stays (getD s (i + k) 0) (f k (omega arith)) in
+    let one : Leads s (i + k) (i + k + 1) Boundary Boundary =
+    subst (Leads s (i + k) (i + k + 1) Boundary) stays (leads-one s (i + k) Boundary (omega arith)) in
+    subst (Skips s i) e (leads-then s i (i + k) (i + k + 1) Boundary Boundary Boundary (ascii-skips s i k (omega arith) (λ t p. f t (omega arith))) one)
 
 or-left : (a b : ℕ) → a ≤ bitOr a b
 or-left a b = omega (arith, or-add-and a b, and-le-r a b)
@@ -56,94 +92,58 @@ pub ascii-done : (s : List ℕ) (i k j a : ℕ) → i + k ≤ length s → k ≤
     → Skips s i (i + k)
 ascii-done s i k j a h g f e =
     let b = ltb-true a 128 e in
-    record {
-      forth = omega arith;
-      inside = h;
-      same = ascii-skips s i k h (λ t p. let u = f t (omega arith) in omega arith);
-    }
-
--- ---- past_ascii
-pub skips-none : (s : List ℕ) (i : ℕ) → i ≤ length s → Skips s i i
-skips-none s i h = record { forth = omega arith; inside = h; same = refl }
-
-pub skips-then : (s : List ℕ) (i j k : ℕ) → Skips s i j → Skips s j k → Skips s i k
-skips-then s i j k f g = record { forth = omega arith; inside = g .inside; same = f .same ∙ g .same }
+    ascii-skips s i k h (λ t p. let u = f t (omega arith) in omega arith)
 
 -- ---- after_bytes, after_block and past_eights
-pub onward-none : (s : List ℕ) (i w : ℕ) → HoldsState w → Onward s i (i + 0) w w
-onward-none s i w l = record { holds = l; same = ap (λ (n : ℕ). textFrom (stateIn w) (drop n s)) (sym (add-zero i)) }
+pub onward-none : (s : List ℕ) (i k w : ℕ) → HoldsState w → i + k ≤ length s → Onward s i (i + 0) w w
+onward-none s i k w l h = rw (add-zero i) (record { holds = l; leads = leads-none s i (stateIn w) (omega arith) })
 
 pub onward-more : (s : List ℕ) (i j k w x y : ℕ) → i + k ≤ length s → j < k → Onward s i (i + j) w x
     → StateAfter x (getD s (i + j) 0) y → Onward s i (i + (j + 1)) w y
 onward-more s i j k w x y h p f g =
-    let e : suc (i + j) ≡ i + (j + 1) = omega arith in
-    record {
-      holds = g .holds;
-      same =
-          f .same
-          ∙ text-step (stateIn x) s (i + j) (omega arith)
-          ∙ ap (λ (q : TextState). textFrom q (drop (suc (i + j)) s)) (sym (g .is))
-          ∙ ap (λ (n : ℕ). textFrom (stateIn y) (drop n s)) e;
-    }
+    let e : i + j + 1 ≡ i + (j + 1) = omega arith in
+    let one : Leads s (i + j) (i + j + 1) (stateIn x) (stateIn y) =
+    subst (Leads s (i + j) (i + j + 1) (stateIn x)) (sym (g .is)) (leads-one s (i + j) (stateIn x) (omega arith)) in
+    subst (λ (n : ℕ). Onward s i n w y) e
+    (record { holds = g .holds; leads = leads-then s i (i + j) (i + j + 1) (stateIn w) (stateIn x) (stateIn y) (f .leads) one })
 
 pub onward-done : (s : List ℕ) (i j k w x : ℕ) → j ≤ k → k ≤ j → Onward s i (i + j) w x → Onward s i (i + k) w x
 onward-done s i j k w x h g f = let e : j ≡ k = omega arith in rw e at f
 
 pub onward-then : (s : List ℕ) (a b c w x y : ℕ) → Onward s a b w x → Onward s b c x y → Onward s a c w y
-onward-then s a b c w x y f g = record { holds = g .holds; same = f .same ∙ g .same }
+onward-then s a b c w x y f g =
+    record { holds = g .holds; leads = leads-then s a b c (stateIn w) (stateIn x) (stateIn y) (f .leads) (g .leads) }
 
 pub onward-skips : (s : List ℕ) (i j w : ℕ) → w % 64 ≡ 0 → HoldsState w → Skips s i j → Onward s i j w w
-onward-skips s i j w e l o = record { holds = l; same = rw (at-boundary w e) (o .same) }
+onward-skips s i j w e l o = record { holds = l; leads = rw (at-boundary w e) o }
 
-pub onward-stays : (s : List ℕ) (i w : ℕ) → HoldsState w → Onward s i i w w
-onward-stays s i w l = record { holds = l; same = refl }
+pub onward-stays : (s : List ℕ) (i w : ℕ) → HoldsState w → i ≤ length s → Onward s i i w w
+onward-stays s i w l h = record { holds = l; leads = leads-none s i (stateIn w) h }
 
 -- ---- is_all_text
 pub onward-begin : (s : List ℕ) → Onward s 0 0 0 0
 unfolding HoldsState stateIn stateNumber stateOf
-onward-begin s = record { holds = refl; same = refl }
-
-no-text-stays : (xs : List ℕ) → textFrom NoText xs ≡ false
-unfolding textFrom afterOctet mayEnd
-no-text-stays [] = refl
-no-text-stays (x ∷ xs) = no-text-stays xs
+onward-begin s = record { holds = refl; leads = leads-none s 0 Boundary (omega arith) }
 
 pub no-text : (s : List ℕ) (i j x y : ℕ) → Onward s 0 i 0 x → Onward s i j x y → y % 64 ≡ 48 → false ≡ isText s
 unfolding isText
 no-text s i j x y f g e =
     sym (no-text-stays (drop j s))
     ∙ ap (λ (q : TextState). textFrom q (drop j s)) (sym (at-no-text y e))
-    ∙ sym (g .same)
-    ∙ sym (f .same)
+    ∙ sym (leads-text s 0 j (stateIn 0) (stateIn y) (onward-then s 0 i j 0 x y f g .leads))
     ∙ ap (λ (q : TextState). textFrom q s) (at-boundary 0 refl)
 
-number-ends : (q : TextState) → eqb (6 * stateNumber q) 0 ≡ mayEnd q
-unfolding stateNumber mayEnd
-number-ends Boundary = refl
-number-ends OneTail = refl
-number-ends TwoTails = refl
-number-ends ThreeTails = refl
-number-ends AfterE0 = refl
-number-ends AfterED = refl
-number-ends AfterF0 = refl
-number-ends AfterF4 = refl
-number-ends NoText = refl
-
-at-end : (q : TextState) (s : List ℕ) → textFrom q (drop (length s) s) ≡ mayEnd q
-unfolding textFrom
-at-end q s = ap (textFrom q) (drop-length s)
-
-pub text-end : (s : List ℕ) (i x y : ℕ) → i ≤ length s → Onward s 0 i 0 x → Onward s i (i + (length s - i)) x y
-    → eqb (y % 64) 0 ≡ isText s
-unfolding isText HoldsState
-text-end s i x y h f g =
-    let e : i + (length s - i) ≡ length s = omega arith in
-    ap (λ (n : ℕ). eqb n 0) (g .holds)
-    ∙ number-ends (stateIn y)
-    ∙ sym (at-end (stateIn y) s)
-    ∙ ap (λ (n : ℕ). textFrom (stateIn y) (drop n s)) (sym e)
-    ∙ sym (g .same)
-    ∙ sym (f .same)
+pub text-end : (s : List ℕ) (i x y : ℕ) (r : Bool) → i ≤ length s → Onward s 0 i 0 x → Onward s i (i + (length s - i)) x y
+    → r ≡ mayEnd (stateIn y) → r ≡ isText s
+unfolding isText
+text-end s i x y r h f g m =
+    let e : i + (length s - i) - 0 ≡ length s = omega arith in
+    m
+    ∙ ap mayEnd
+    (sym (onward-then s 0 i (i + (length s - i)) 0 x y f g .leads .is)
+    ∙ ap (λ (n : ℕ). afterOctets (stateIn 0) (take n s)) e
+    ∙ ap (afterOctets (stateIn 0)) (take-all (length s) s (omega arith)))
+    ∙ sym (octets-end (stateIn 0) s)
     ∙ ap (λ (q : TextState). textFrom q s) (at-boundary 0 refl)
 
 -- ---- is_text

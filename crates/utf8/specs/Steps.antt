@@ -1,11 +1,11 @@
--- What a run over bytes promises: how a word holds a state, and that what is left decides as the whole did.
-use Prim.Native.Nat.{ℕ, _*_, _/_, _%_, _≤_}
+-- What a run over bytes promises: how a word holds a state, and to which state bytes lead.
+use Prim.Native.Nat.{ℕ, _-_, _*_, _/_, _%_, _≤_}
 use mathlib.Core.Path.{_≡_}
-use mathlib.Core.List.{List}
+use mathlib.Core.List.{List, [], _∷_}
 use lib.Dec.{eqb}
-use lib.ListN.{length, drop}
+use lib.ListN.{length, take, drop}
 use Rattle.coding.specs.Lists.{pick}
-use Rattle.coding.specs.Utf8.{TextState, Boundary, OneTail, TwoTails, ThreeTails, AfterE0, AfterED, AfterF0, AfterF4, NoText, afterOctet, textFrom}
+use Rattle.coding.specs.Utf8.{TextState, Boundary, OneTail, TwoTails, ThreeTails, AfterE0, AfterED, AfterF0, AfterF4, NoText, afterOctet}
 use Rattle.utf8.specs.Table.{stateNumber}
 
 -- the state of a number
@@ -30,13 +30,22 @@ pub record StateAfter (w b r : ℕ) : Type 0 where
   pub holds : HoldsState r
   pub is : stateIn r ≡ afterOctet (stateIn w) b
 
--- the bytes from i in the state of w are what may follow exactly if those from j in the state of r are
-pub record Onward (m : List ℕ) (i j w r : ℕ) : Type 0 where
-  pub holds : HoldsState r
-  pub same : textFrom (stateIn w) (drop i m) ≡ textFrom (stateIn r) (drop j m)
+-- the state after octets, one after the other
+unfoldable pub afterOctets : TextState → List ℕ → TextState
+afterOctets q [] = q
+afterOctets q (x ∷ xs) = afterOctets (afterOctet q x) xs
 
--- the bytes from i up to j can be left out where a character may begin: those from j decide
-pub record Skips (m : List ℕ) (i j : ℕ) : Type 0 where
+-- the bytes of m from i up to j lead from one state to another
+pub record Leads (m : List ℕ) (i j : ℕ) (q r : TextState) : Type 0 where
   pub forth : i ≤ j
   pub inside : j ≤ length m
-  pub same : textFrom Boundary (drop i m) ≡ textFrom Boundary (drop j m)
+  pub is : afterOctets q (take (j - i) (drop i m)) ≡ r
+
+-- the word r holds the state to which the bytes from i up to j lead from the state of w
+pub record Onward (m : List ℕ) (i j w r : ℕ) : Type 0 where
+  pub holds : HoldsState r
+  pub leads : Leads m i j (stateIn w) (stateIn r)
+
+-- the bytes from i up to j can be left out where a character may begin: one may begin behind them too
+abbrev pub Skips : List ℕ → ℕ → ℕ → Type 0
+Skips m i j = Leads m i j Boundary Boundary

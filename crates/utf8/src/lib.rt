@@ -3,9 +3,9 @@ ghost use mathlib.Core.Path.{_≡_};
 ghost use mathlib.Core.Bool.{true};
 ghost use Prim.Native.Nat.{_+_, _<_, _≤_};
 ghost use lib.ListN.{length, getD, take, drop};
-ghost use Rattle.coding.specs.Utf8.{isText};
+ghost use Rattle.coding.specs.Utf8.{mayEnd, isText};
 ghost use Rattle.utf8.specs.Table.{words};
-ghost use Rattle.utf8.specs.Steps.{HoldsState, StateAfter, Onward, Skips};
+ghost use Rattle.utf8.specs.Steps.{stateIn, HoldsState, StateAfter, Onward, Skips};
 
 // ---- the table
 // The table's word of a byte: its six bits from bit 6 * q are 6 times the number of the state after the byte in state q.
@@ -285,7 +285,7 @@ fn after_byte(w: u64, b: u8) -> u64
 }
 
 // The word after the k bytes from i.
-fn after_bytes(s: &[u8], i: usize, k: usize, w: u64) -> u64
+pub fn after_bytes(s: &[u8], i: usize, k: usize, w: u64) -> u64
     requires { ⌜ HoldsState w × (i + k ≤ length (now s)) ⌝ }
     ensures { λ r. ⌜ Onward (now (s .entry)) i (i + k) w r ⌝ }
 {
@@ -296,6 +296,17 @@ fn after_bytes(s: &[u8], i: usize, k: usize, w: u64) -> u64
         j += 1;
     }
     x
+}
+
+// The word where a text begins.
+pub const BEGIN: u64 = 0;
+
+// Whether a text may end where a word stands: there a character may begin too.
+pub fn may_end(w: u64) -> bool
+    requires { ⌜ HoldsState w ⌝ }
+    ensures { λ r. ⌜ r ≡ mayEnd (stateIn w) ⌝ }
+{
+    w % 64 == 0
 }
 
 // ---- runs of ASCII
@@ -368,7 +379,7 @@ fn is_all_text(s: &[u8]) -> bool
     }
     i = past_eights(s, i, w);
     w = after_bytes(s, i, s.len() - i, w);
-    w % 64 == 0
+    may_end(w)
 }
 
 // Whether the n bytes of m from start are text.

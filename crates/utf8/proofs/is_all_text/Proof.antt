@@ -45,11 +45,14 @@ sub-after-bytes c = search needs
 after-bytes-requires : tie.Need-after-bytes-requires Inv-loop μ-loop
 after-bytes-requires c κs = search needs
 
+may-end-requires : tie.Need-may-end-requires Inv-loop μ-loop
+may-end-requires c κs = search needs
+
 returns-2 : tie.Need-returns-2 Inv-loop μ-loop
 returns-2 c =
-    text-end _ _ _ _ (c .before .past-eights .ensures .0)
-    (onward-then _ _ _ _ _ _ _ (c .before .before .before .loop .inv .1) (c .before .past-eights .ensures .1))
-    (c .after-bytes .ensures)
+    text-end _ _ _ _ _ (c .before .before .past-eights .ensures .0)
+    (onward-then _ _ _ _ _ _ _ (c .before .before .before .before .loop .inv .1) (c .before .before .past-eights .ensures .1))
+    (c .before .after-bytes .ensures) (c .may-end .ensures)
 
 pub is-all-text-spec : {M : Type 1} → statement M
 is-all-text-spec =
@@ -67,4 +70,5 @@ is-all-text-spec =
     past-eights-requires
     sub-after-bytes
     after-bytes-requires
+    may-end-requires
     returns-2)

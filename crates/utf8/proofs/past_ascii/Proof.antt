@@ -2,8 +2,9 @@
 use Prim.Native.Nat.{_-_}
 use lib.ListN.{length}
 use borrow.Author.Needs.{needs}
+use Rattle.coding.specs.Utf8.{Boundary}
 use Rattle.utf8.specs.Steps.{Skips}
-use Rattle.utf8.proofs.StepLaws.{skips-none, skips-then}
+use Rattle.utf8.proofs.StepLaws.{leads-none, leads-then}
 use borrow.Author.Tests.{not-false}
 use Rattle.utf8.proofs.past_ascii.Statement.{statement}
 use Rattle.utf8.proofs.past_ascii.Tie as tie
@@ -15,7 +16,7 @@ abbrev μ-loop : tie.MeasureT-loop
 μ-loop s i k p₀ p = length s - p
 
 loop-holds : tie.Need-loop-holds Inv-loop μ-loop
-loop-holds c = search skips-none
+loop-holds c = search leads-none
 
 sub-loop : tie.Need-sub-loop Inv-loop μ-loop
 sub-loop c = search needs
@@ -34,7 +35,7 @@ loop-less c = search needs
 
 loop-again : tie.Need-loop-again Inv-loop μ-loop
 loop-again c =
-    skips-then _ _ (c .before .before .before .loop .p) _ (c .before .before .before .loop .inv)
+    leads-then _ _ (c .before .before .before .loop .p) _ Boundary Boundary Boundary (c .before .before .before .loop .inv)
     (c .before .is-ascii .ensures (not-false _ (c .if1 .left)))
 
 returns-2 : tie.Need-returns-2 Inv-loop μ-loop
