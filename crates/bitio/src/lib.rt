@@ -22,7 +22,7 @@ fn byte(s: &[u8], i: usize) -> u64
 }
 
 // The eight bytes from i on. In this form the compiler makes one load of them.
-fn word(s: &[u8], i: usize) -> u64
+pub fn word(s: &[u8], i: usize) -> u64
     requires { ⌜ i + 8 ≤ length (now s) ⌝ }
     ensures { λ r. ⌜ Run (now (s .entry)) (8 * i) 64 r ⌝ }
 {
@@ -461,7 +461,8 @@ pub fn write_bytes(out: &mut [u8], pos: usize, s: &[u8]) -> usize
     end
 }
 
-fn least(a: usize, b: usize) -> usize
+// The smaller of two numbers.
+pub fn least(a: usize, b: usize) -> usize
     ensures { λ r. ⌜ (r ≤ a) × (r ≤ b) × (r < a → r ≡ b) ⌝ }
 {
     if a < b { a } else { b }
