@@ -1,0 +1,3 @@
+-- Lemmas for the proofs of this crate.
+pub mod HighBits
+pub mod TextLaws

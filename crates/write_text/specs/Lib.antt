@@ -1,0 +1,2 @@
+-- Texts of a sheet.
+pub mod Texts
