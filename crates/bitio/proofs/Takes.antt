@@ -1,6 +1,6 @@
 -- A number and whole bytes taken at a cursor: each way out.
-use mathlib.Core.Path.{_≡_, sym, ap, _∙_}
-use mathlib.Core.Bool.{Bool, true, false}
+use mathlib.Core.Path.{_≡_, refl, sym, ap, _∙_}
+use mathlib.Core.Bool.{Bool, true, false, not}
 use mathlib.Core.List.{List}
 use Prim.Native.Nat.{ℕ, _+_, _-_, _*_, _/_, _≤_, _<_}
 use native.Mathlib.Omega.{arith}
@@ -8,7 +8,7 @@ use lib.ListN.{length, take, drop, length-drop}
 use lib.Seq.{drop-drop}
 use lib.Dec.{leb}
 use lib.Pow.{pow-pos}
-use borrow.Author.Tests.{le-leb, lt-leb}
+use borrow.Author.Tests.{le-leb, lt-leb, not-false}
 use Rattle.coding.specs.Lists.{pick}
 use Rattle.coding.specs.Bits.{bits, value, pack}
 use Rattle.coding.specs.Sheet.{got, fail, takeNumber, takeBytes}
@@ -56,6 +56,7 @@ module _ (s : List ℕ) (pos n : ℕ) (h : pos ≤ 8 * length s) where
       record {
         bytes = bytes-opened true (le-leb (8 * n) (length (drop pos (bits s))) (let l = rest-length s pos in omega arith));
         inside = omega arith;
+        ends = λ e. refl;
       }
 
   pub bytes-short : (8 * length s - pos) / 8 < n → TakenBytes s pos n false pos
@@ -63,4 +64,9 @@ module _ (s : List ℕ) (pos n : ℕ) (h : pos ≤ 8 * length s) where
       record {
         bytes = bytes-opened false (lt-leb (8 * n) (length (drop pos (bits s))) (let l = rest-length s pos in omega arith));
         inside = h;
+        ends = λ e. let z : _≡_ {A = ℕ} 0 1 = cc in absurd (omega arith);
       }
+
+-- bytes that are left stand in the sheet
+pub bytes-inside : (s : List ℕ) (pos n : ℕ) (whole : Bool) (next : ℕ) → TakenBytes s pos n whole next → not whole ≡ false → pos + 8 * n ≤ 8 * length s
+bytes-inside s pos n whole next t h = let e = t .ends (not-false whole h) in let i = t .inside in omega arith

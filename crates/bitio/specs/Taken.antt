@@ -1,7 +1,7 @@
 -- What is got and taken from a sheet.
-use Prim.Native.Nat.{ℕ, _*_, _^_, _≤_, _<_}
+use Prim.Native.Nat.{ℕ, _+_, _*_, _^_, _≤_, _<_}
 use mathlib.Core.Path.{_≡_}
-use mathlib.Core.Bool.{Bool}
+use mathlib.Core.Bool.{Bool, true}
 use mathlib.Core.List.{List}
 use lib.ListN.{length, take, drop}
 use Rattle.coding.specs.Bits.{bits, value, pack}
@@ -23,3 +23,4 @@ pub record TakenNumber (s : List ℕ) (pos w : ℕ) (whole : Bool) (x next : ℕ
 pub record TakenBytes (s : List ℕ) (pos n : ℕ) (whole : Bool) (next : ℕ) : Type 0 where
   pub bytes : takeBytes n (drop pos (bits s)) ≡ pick whole (got (pack n (drop pos (bits s))) (drop next (bits s))) fail
   pub inside : next ≤ 8 * length s
+  pub ends : whole ≡ true → next ≡ pos + 8 * n
