@@ -23,7 +23,7 @@ use Rattle.laws.specs.Sound.{MemberSound}
 use Rattle.laws.specs.SoundAt.{member-sound-at}
 use Rattle.schema.specs.Directory.{Accepted, accepted-sound}
 use Rattle.message_layout.specs.Bounds.{Laid, Stands}
-use Rattle.write_measure.specs.Survey.{capped, headSize, plain, opened, joined, referred}
+use Rattle.write_measure.specs.Survey.{capped, headSize, plain, opened, blobExtent, joined, referred}
 use Rattle.write_measure.specs.Surveyed.{Small, Fits}
 use Rattle.write_measure.specs.declared.Extent.{Extent}
 
@@ -35,6 +35,11 @@ plain-fits fine = record { is = refl; small = record { length = omega arith; wid
 pub opened-fits : (n w : ℕ) → n < 2 ^ 40 → w < 2 ^ 54 → Fits (opened n w) (record { writable = true; length = n; width = w; chain = 0; below = 0 })
 unfolding opened
 opened-fits n w h l = record { is = refl; small = record { length = h; width = l; chain = omega arith; below = omega arith } }
+
+pub blob-fits : (fine : Bool) (n more : ℕ) → n < 2 ^ 40 → more ≤ 1
+    → Fits (blobExtent fine n more) (record { writable = fine; length = n; width = n + more; chain = 0; below = 0 })
+unfolding blobExtent
+blob-fits fine n more h l = record { is = refl; small = record { length = h; width = omega arith; chain = omega arith; below = omega arith } }
 
 pub fits-small : (x r : Extent) → Fits x r → Small r
 fits-small x r f = f .small

@@ -10,7 +10,7 @@ use lib.Seq.{drop-drop}
 use lib.Dec.{ltb, leb, eqb}
 use borrow.Author.Tests.{eq-eqb, ne-eqb, le-leb, lt-leb, not-true, not-false}
 use Rattle.coding.specs.Lists.{pick}
-use Rattle.coding.specs.Bits.{bits}
+use Rattle.coding.specs.Bits.{bits, pack}
 use Rattle.coding.specs.Schema as Sc
 use Rattle.coding.specs.Schema.{Schema}
 use Rattle.coding.specs.Packed as P
@@ -25,7 +25,8 @@ use Rattle.laws.specs.Sound.{FlatSound, ObjectSound, KindSound}
 use Rattle.laws.specs.SoundAt.{case-sound-at, struct-index, union-index}
 use Rattle.schema.specs.Directory.{Accepted, accepted-sound}
 use Rattle.bitio.specs.Taken.{TakenNumber, TakenBytes}
-use Rattle.write_measure.specs.Survey.{testNumber, testIf, anyNumber, floatFine, belowCount, aboveCount, surveyMark, surveyFlat, surveyStruct, surveyUnknownFlat, plain, opened, referred, Surveyor, plainOf, surveyObject, surveyChoice, surveyBody, surveyUnknown, mayLack, surveyPart, surveyBlob, survey}
+use Rattle.write_text.specs.Texts.{blobFine}
+use Rattle.write_measure.specs.Survey.{testNumber, testIf, anyNumber, floatFine, belowCount, aboveCount, surveyMark, surveyFlat, surveyStruct, surveyUnknownFlat, plain, blobExtent, referred, Surveyor, plainOf, surveyObject, surveyChoice, surveyBody, surveyUnknown, mayLack, surveyPart, surveyBlob, survey}
 use Rattle.laws.specs.Bits.{bits-length}
 use Rattle.write_measure.specs.UnmarkedElements.{unmarkedBits, flatUnmarkedBits, passed}
 use Rattle.write_measure.specs.BlobReferred.{BlobEnd, blobReferred, blob-is}
@@ -154,16 +155,30 @@ module _ (s : List ℕ) (pos more : ℕ) (whole : Bool) (x next : ℕ) (taken : 
   unfolding surveyBlob bind
   blob-cut l h w e n ew en sm = failed s _ pos (rw (taken .number, not-true whole h)) l w e n ew en sm
 
-  pub blob-there : not whole ≡ false → (w : Bool) (n : ℕ) → TakenBytes s next x w n → (e : Extent) → Fits (opened x (x + more)) e
-      → SurveyedAt s (surveyBlob more (drop pos (bits s))) w e n
-  unfolding surveyBlob bind
-  blob-there h w n t e f =
-      record { is = rw (taken .number, not-false whole h) (ap (λ p. bind p (λ l zs. got (opened x (x + more)) zs)) (t .bytes) ∙ by w ∙ sym (rw (f .is))); inside = t .inside; small = f .small }
-    where
-      by : (u : Bool) → bind (pick u (got (Rattle.coding.specs.Bits.pack x (drop next (bits s))) (drop n (bits s))) fail) (λ l zs. got (opened x (x + more)) zs)
-          ≡ pick u (got (opened x (x + more)) (drop n (bits s))) fail
-      by true = refl
-      by false = refl
+  module _ (h : not whole ≡ false) (whole₁ : Bool) (n : ℕ) (bytes : TakenBytes s next x whole₁ n) where
+    abbrev found : Parsed (List ℕ) → Parsed Extent
+    found p = bind p (λ l zs. got (blobExtent (blobFine more l) x more) zs)
+
+    opens : surveyBlob more (drop pos (bits s)) ≡ found (pick whole₁ (got (pack x (drop next (bits s))) (drop n (bits s))) fail)
+    unfolding surveyBlob bind
+    opens = rw (taken .number, not-false whole h) (ap found (bytes .bytes))
+
+    pub blob-short : pos ≤ 8 * length s → not whole₁ ≡ true → (w : Bool) (e : Extent) (m : ℕ) → w ≡ false → m ≡ pos → Small e
+        → SurveyedAt s (surveyBlob more (drop pos (bits s))) w e m
+    unfolding bind
+    blob-short l f w e m ew em sm =
+        failed s _ pos (opens ∙ ap (λ (u : Bool). found (pick u (got (pack x (drop next (bits s))) (drop n (bits s))) fail)) (not-true whole₁ f)) l w e m ew em sm
+
+    pub blob-there : not whole₁ ≡ false → (fine : Bool) → fine ≡ blobFine more (pack x (drop next (bits s))) → (e : Extent) → Fits (blobExtent fine x more) e
+        → SurveyedAt s (surveyBlob more (drop pos (bits s))) true e n
+    unfolding bind
+    blob-there f fine ef e fit =
+        record {
+          is = opens ∙ ap (λ (u : Bool). found (pick u (got (pack x (drop next (bits s))) (drop n (bits s))) fail)) (not-false whole₁ f)
+              ∙ ap (λ (y : Extent). got y (drop n (bits s))) (ap (λ (u : Bool). blobExtent u x more) (sym ef) ∙ sym (fit .is));
+          inside = bytes .inside;
+          small = fit .small;
+        }
 
 -- ---- an object, and a union
 pub refer-surveyed : (o : ℕ) (child : Surveyor) (s : List ℕ) (inplace may : Bool) (ob : Object) (pos : ℕ) (whole : Bool) (x : Extent) (next : ℕ)

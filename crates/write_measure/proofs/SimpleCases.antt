@@ -2,7 +2,7 @@
 use mathlib.Core.Path.{_≡_, refl, sym, ap, _∙_, subst}
 use mathlib.Core.Bool.{Bool, true, false, _&&_, not}
 use mathlib.Core.List.{List}
-use Prim.Native.Nat.{ℕ, zero, suc, _+_, _-_, _*_, _<_, _≤_}
+use Prim.Native.Nat.{ℕ, suc, _+_, _-_, _*_, _<_, _≤_}
 use native.Mathlib.Omega.{arith}
 use native.Mathlib.Numerals.{add-one}
 use lib.ListN.{length, drop}
@@ -28,14 +28,14 @@ use Rattle.coding.specs.declared.Kind.the-variants.{OfFlat, OfObject, OfUnion}
 use Rattle.coding.specs.declared.Member.{Member}
 use Rattle.laws.specs.Sound.{FlatSound, MemberSound}
 use Rattle.laws.specs.RecordSound.{width-range}
-use Rattle.bitio.specs.Taken.{TakenNumber, TakenBytes}
-use Rattle.write_measure.specs.Survey.{testNumber, testIf, anyNumber, floatFine, belowCount, surveyMark, surveyFlat, surveyStruct, surveyUnknownFlat, flatMayLack, mayLack, plain, opened, joined, referred, Surveyor, plainOf, surveyBlob, surveyBody, surveyPart, surveyMembers, surveyContent, survey}
+use Rattle.bitio.specs.Taken.{TakenNumber}
+use Rattle.write_measure.specs.Survey.{testNumber, testIf, anyNumber, floatFine, belowCount, surveyMark, surveyFlat, surveyStruct, surveyUnknownFlat, flatMayLack, mayLack, plain, joined, Surveyor, plainOf, surveyBody, surveyPart, surveyMembers, surveyContent, survey}
 use Rattle.write_measure.specs.Surveyed.{TestedAt, Small, Fits, SurveyedAt}
 use Rattle.write_measure.specs.BlobReferred.{BlobEnd, blobReferred}
 use Rattle.write_measure.specs.SimpleMembers.{flatPart, joinedPart, LeftAt, WholeBytes, flat-part-is, members-joined}
 use Rattle.write_measure.specs.declared.Extent.{Extent}
 use Rattle.write_measure.proofs.FlatCases.{integer-short, float-short}
-use Rattle.write_measure.proofs.PartCases.{flat-boolean, flat-integer, flat-float, flat-enum, flat-struct, struct-counted, kind-flat, refer-blob, object-there, blob-there, blob-referred}
+use Rattle.write_measure.proofs.PartCases.{flat-boolean, flat-integer, flat-float, flat-enum, flat-struct, struct-counted, kind-flat, refer-blob, object-there}
 use Rattle.write_measure.proofs.ObjectCases.{members-done, members-stopped, members-turn}
 
 no-flag : (t : Bool) → (t && false) ≡ false
@@ -383,22 +383,3 @@ module _ (k w r : ℕ) (er : r ≡ w) (ew : w ≡ P.widthOf k) where
 
   pub width-small : k < 11 → r ≤ 8
   width-small h = let l = width-range k h .1 in rw (er, ew) l
-
--- ---- a text or bytes that is there
-module _ (o : ℕ) (s : List ℕ) (d more : ℕ) (inplace may : Bool) (pos : ℕ) (h : d ≡ 0 → ⊥) (whole : Bool) (x next : ℕ) (taken : TakenNumber s pos 32 whole x next) where
-  blob-fails : not whole ≡ true → surveyBlob more (drop pos (bits s)) ≡ fail
-  unfolding surveyBlob bind
-  blob-fails f = rw (taken .number, not-true whole f)
-
-  pub there-cut : pos ≤ 8 * length s → not whole ≡ true → (w : Bool) (e : Extent) (n : ℕ) → w ≡ false → n ≡ pos → Small e
-      → SurveyedAt s (blobReferred d o inplace may more (drop pos (bits s))) w e n
-  unfolding blobReferred bind
-  there-cut l f w e n ew en sm = by d h
-    where
-      by : (k : ℕ) → (k ≡ 0 → ⊥) → SurveyedAt s (blobReferred k o inplace may more (drop pos (bits s))) w e n
-      by zero g = absurd (g refl)
-      by (suc k) g = record { is = ap (λ p. bind p (λ y ys. got (referred o inplace may y) ys)) (blob-fails f) ∙ sym (rw ew); inside = rw en l; small = sm }
-
-  pub there-whole : not whole ≡ false → (w : Bool) (n : ℕ) → TakenBytes s next x w n → (y : Extent) → Fits (opened x (x + more)) y
-      → (e : Extent) → Fits (referred o inplace may y) e → SurveyedAt s (blobReferred d o inplace may more (drop pos (bits s))) w e n
-  there-whole f w n t y fy e fe = blob-referred o s d more inplace may pos h w y n (blob-there s pos more whole x next taken f w n t y fy) e fe

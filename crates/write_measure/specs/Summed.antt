@@ -7,7 +7,7 @@ use lib.Dec.{ltb, leb}
 use borrow.Author.Tests.{le-leb, lt-leb, leb-true, leb-false}
 use Rattle.coding.specs.Lists.{pick}
 use Rattle.coding.specs.Bytes.{largest}
-use Rattle.write_measure.specs.Survey.{capped, headSize, plain, opened, joined, referred}
+use Rattle.write_measure.specs.Survey.{capped, headSize, plain, opened, blobExtent, joined, referred}
 use Rattle.write_measure.specs.declared.Extent.{Extent}
 
 -- ---- the cut count
@@ -67,6 +67,10 @@ plain-summed t = sum-same t t 0 0 0 (capped 0) 0 (capped 0) refl (sym capped-zer
 pub opened-summed : (n w : ℕ) → opened n w ≡ summed true n w 0 0
 unfolding opened
 opened-summed n w = sum-same true true n w 0 (capped 0) 0 (capped 0) refl (sym capped-zero) (sym capped-zero)
+
+pub blob-summed : (t : Bool) (n more : ℕ) → blobExtent t n more ≡ summed t n (n + more) 0 0
+unfolding blobExtent
+blob-summed t n more = sum-same t t n (n + more) 0 (capped 0) 0 (capped 0) refl (sym capped-zero) (sym capped-zero)
 
 pub joined-summed : (t u : Bool) (n w x y n′ w′ x′ y′ : ℕ)
     → joined (summed t n w x y) (summed u n′ w′ x′ y′) ≡ summed (t && u) n w (x + x′) (y + y′)

@@ -19,6 +19,7 @@ use Rattle.coding.specs.declared.Object.the-variants as O
 use Rattle.coding.specs.declared.Kind.{Kind}
 use Rattle.coding.specs.declared.Kind.the-variants.{OfFlat, OfObject, OfUnion}
 use Rattle.coding.specs.declared.Member.{Member}
+use Rattle.write_text.specs.Texts.{blobFine}
 use Rattle.write_measure.specs.declared.Extent.{Extent}
 
 -- ---- numbers
@@ -93,6 +94,10 @@ plain fine = record { writable = fine; length = 0; width = 0; chain = 0; below =
 -- an object of a length, before its parts are gone over
 unfoldable pub opened : ℕ → ℕ → Extent
 opened n w = record { writable = true; length = n; width = w; chain = 0; below = 0 }
+
+-- a text or bytes of length n, with `more` bytes behind its own; `fine`: it can be written
+unfoldable pub blobExtent : Bool → ℕ → ℕ → Extent
+blobExtent fine n more = record { writable = fine; length = n; width = n + more; chain = 0; below = 0 }
 
 -- what stands before, and one part more
 unfoldable pub joined : Extent → Extent → Extent
@@ -214,7 +219,8 @@ surveyDirects child t (suc n) a xs = bind (child (O.Table t) xs) (λ e ys. surve
 
 -- the content of a text or bytes, with `more` bytes behind its own: 1 of a text, 0 of bytes
 unfoldable pub surveyBlob : ℕ → List ℕ → Parsed Extent
-surveyBlob more xs = bind (takeNumber 32 xs) (λ n ys. bind (takeBytes n ys) (λ l zs. got (opened n (n + more)) zs))
+surveyBlob more xs =
+    bind (takeNumber 32 xs) (λ n ys. bind (takeBytes n ys) (λ l zs. got (blobExtent (blobFine more l) n more) zs))
 
 unfoldable pub surveyContent : Surveyor → ℕ → Schema → Object → List ℕ → Parsed Extent
 surveyContent child o S O.Text xs = surveyBlob 1 xs

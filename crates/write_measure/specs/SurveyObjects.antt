@@ -21,13 +21,14 @@ use Rattle.coding.specs.declared.Object.the-variants as O
 use Rattle.coding.specs.declared.Kind.{Kind}
 use Rattle.laws.specs.Bits.{pack-length}
 use Rattle.laws.specs.Sound.{Sound}
-use Rattle.write_measure.specs.Survey.{directSize, opened, Surveyor, surveyMembers, surveyElements, surveyDirects, surveyBlob, surveyContent, survey}
+use Rattle.write_measure.specs.Survey.{directSize, opened, blobExtent, Surveyor, surveyMembers, surveyElements, surveyDirects, surveyBlob, surveyContent, survey}
 use Rattle.write_measure.specs.Mapped.{mapped, Has, bind-mapped, bind-has}
-use Rattle.write_measure.specs.Summed.{summed, opened-summed}
+use Rattle.write_measure.specs.Summed.{summed, opened-summed, blob-summed}
 use Rattle.write_measure.specs.SlotSizes.{length-leBytes}
 use Rattle.write_measure.specs.SurveyFlats.{Present}
 use Rattle.write_measure.specs.SurveyParts.{has-all, Full, ObjectSurveyed, membersExtent, members-surveyed, elementsExtent, elements-surveyed, directsExtent, directs-surveyed}
 use Rattle.write_measure.specs.Widths.{members-wide, elements-wide}
+use Rattle.write_text.specs.Texts.{blobFine}
 use Rattle.write_measure.specs.declared.Extent.{Extent}
 
 -- as many elements as were asked for
@@ -54,17 +55,17 @@ module _ (o : ℕ) (S : Schema) (sound : Sound S) (child : Surveyor) (decoder : 
       summed (contentWritable test o S ob v) (lengthOf o S ob v) (width o (packBits 0 (contentSlots P o S ob v)))
       (chain o (packBits 0 (contentSlots P o S ob v))) (below o (packBits 0 (contentSlots P o S ob v)))
 
-  blob-surveyed : (f : Value → Extent) (more : ℕ) → ((l : List ℕ) → summed true (length l) (length l + more) 0 0 ≡ f (blob l)) → (xs : List ℕ)
+  blob-surveyed : (f : Value → Extent) (more : ℕ) → ((l : List ℕ) → summed (blobFine more l) (length l) (length l + more) 0 0 ≡ f (blob l)) → (xs : List ℕ)
       → surveyBlob more xs ≡ mapped f (takeBlob xs)
   unfolding surveyBlob takeBlob takeBytes bind
   blob-surveyed f more h xs =
       bind-mapped f (takeNumber 32 xs) _ _ (λ n ys. by n ys (leb (8 * n) (length ys)))
     where
-      one : (n : ℕ) (l : List ℕ) → length l ≡ n → opened n (n + more) ≡ f (blob l)
-      one n l e = opened-summed n (n + more) ∙ ap (λ (k : ℕ). summed true k (k + more) 0 0) (sym e) ∙ h l
+      one : (n : ℕ) (l : List ℕ) → length l ≡ n → blobExtent (blobFine more l) n more ≡ f (blob l)
+      one n l e = blob-summed (blobFine more l) n more ∙ ap (λ (k : ℕ). summed (blobFine more l) k (k + more) 0 0) (sym e) ∙ h l
 
       by : (n : ℕ) (ys : List ℕ) (t : Bool)
-          → bind (pick t (got (pack n ys) (drop (8 * n) ys)) fail) (λ l zs. got (opened n (n + more)) zs)
+          → bind (pick t (got (pack n ys) (drop (8 * n) ys)) fail) (λ l zs. got (blobExtent (blobFine more l) n more) zs)
           ≡ mapped f (bind (pick t (got (pack n ys) (drop (8 * n) ys)) fail) (λ l zs. got (blob l) zs))
       by n ys true = ap (λ e. got e (drop (8 * n) ys)) (one n (pack n ys) (pack-length n ys))
       by n ys false = refl
@@ -200,13 +201,13 @@ module _ (o : ℕ) (S : Schema) (sound : Sound S) (child : Surveyor) (decoder : 
   content-surveyed O.Text xs =
       blob-surveyed (contentExtent O.Text) 1 (λ l. text l) xs
     where
-      text : (l : List ℕ) → summed true (length l) (length l + 1) 0 0 ≡ contentExtent O.Text (blob l)
-      text l = unfold contentWritable lengthOf contentSlots asBlob width chain below packBits in refl
+      text : (l : List ℕ) → summed (blobFine 1 l) (length l) (length l + 1) 0 0 ≡ contentExtent O.Text (blob l)
+      text l = unfold blobFine contentWritable lengthOf contentSlots asBlob width chain below packBits in refl
   content-surveyed O.Bytes xs =
       blob-surveyed (contentExtent O.Bytes) 0 (λ l. bytes l) xs
     where
-      bytes : (l : List ℕ) → summed true (length l) (length l + 0) 0 0 ≡ contentExtent O.Bytes (blob l)
-      bytes l = unfold contentWritable lengthOf contentSlots asBlob width chain below packBits in refl
+      bytes : (l : List ℕ) → summed (blobFine 0 l) (length l) (length l + 0) 0 0 ≡ contentExtent O.Bytes (blob l)
+      bytes l = unfold blobFine contentWritable lengthOf contentSlots asBlob width chain below packBits in refl
   content-surveyed (O.List i) xs = list-surveyed i xs
   content-surveyed (O.Table i) xs = table-surveyed i xs
   content-surveyed (O.DirectList t) xs = direct-surveyed t xs

@@ -376,6 +376,21 @@ pub fn opened(n: usize, w: usize) -> Extent
     }
 }
 
+// The extent of a text or bytes of length n, with `more` bytes behind its own.
+fn blob_extent(fine: bool, n: usize, more: usize) -> Extent
+    requires { ⌜ (n < 2 ^ 40) × (more ≤ 1) ⌝ }
+    ensures { λ r. ⌜ Fits (Sv.blobExtent fine n more) r ⌝ }
+{
+    let width = n + more;
+    Extent {
+        writable: fine,
+        length: n,
+        width: width,
+        chain: 0,
+        below: 0,
+    }
+}
+
 // The answer for a part that is not lawful.
 fn unlawful(pos: usize) -> Surveyed
     ensures { λ r. ⌜ (r .whole ≡ false) × (r .next ≡ pos) × Small (r .extent) ⌝ }
@@ -664,7 +679,8 @@ fn pass(s: &[u8], pos: usize, w: usize, n: usize, a: Extent) -> Surveyed
     unlawful(pos)
 }
 
-// The content of a text or bytes, with `more` bytes behind its own: 1 of a text, 0 of bytes.
+// The content of a text or bytes, with `more` bytes behind its own: 1 of a text, 0 of bytes. Nothing else calls `blob_fine`, for
+// speed: so the compiler inlines it.
 fn blob(s: &[u8], pos: usize, more: usize) -> Surveyed
     requires { ⌜ (By.Inside (now s) pos) × (more ≤ 1) ⌝ }
     ensures { λ r. ⌜ By.Surveys (now (s .entry)) pos (Sv.surveyBlob more) r ⌝ }
@@ -675,11 +691,14 @@ fn blob(s: &[u8], pos: usize, more: usize) -> Surveyed
     }
     let n = x.value as usize;
     let y = bitio::skip_bytes(s, x.next, n);
-    let whole = y.whole;
+    if !y.whole {
+        return unlawful(pos);
+    }
     let next = y.next;
+    let fine = write_text::blob_fine(s, x.next, n, more);
     Surveyed {
-        whole: whole,
-        extent: opened(n, n + more),
+        whole: true,
+        extent: blob_extent(fine, n, more),
         next: next,
     }
 }
@@ -724,30 +743,6 @@ fn refer_blob(
 }
 
 // ---- simple members: flat values, texts and bytes. Nothing in them has parts, so that no walk to other objects is needed.
-// A text or bytes that is there. It says what `refer_blob` says, and calls nothing but the cursor, for speed.
-fn blob_there(s: &[u8], d: usize, more: usize, inplace: bool, pos: usize, o: usize) -> Surveyed
-    requires { ⌜ (Width o) × (By.Inside (now s) pos) × (more ≤ 1) ⌝ }
-    ensures { λ r. ⌜ By.Surveys (now (s .entry)) pos (blobReferred d o inplace false more) r ⌝ }
-{
-    if d == 0 {
-        return unlawful(pos);
-    }
-    let x = bitio::take_number(s, pos, 32);
-    if !x.whole {
-        return unlawful(pos);
-    }
-    let n = x.value as usize;
-    let y = bitio::skip_bytes(s, x.next, n);
-    let whole = y.whole;
-    let next = y.next;
-    let e = opened(n, n + more);
-    Surveyed {
-        whole: whole,
-        extent: referred(inplace, false, e, o),
-        next: next,
-    }
-}
-
 // The text or bytes of the record at `at`: its mark, and its content if it is present.
 fn blob_part(b: &[u8], s: &[u8], d: usize, at: usize, pos: usize, o: usize) -> Surveyed
     requires { ⌜ (Width o) × (at + 1 < length (now b)) × (13 ≤ P.kindAt (now b) at) × (P.kindAt (now b) at < 15) × By.Inside (now s) pos ⌝ }
@@ -768,7 +763,7 @@ fn blob_part(b: &[u8], s: &[u8], d: usize, at: usize, pos: usize, o: usize) -> S
     }
     if mark == 1 {
         let more = schema::KIND_BYTES - schema::kind_at(b, at);
-        return blob_there(s, d, more, schema::inplace_at(b, at), next, o);
+        return refer_blob(s, d, more, schema::inplace_at(b, at), false, next, o);
     }
     unlawful(pos)
 }

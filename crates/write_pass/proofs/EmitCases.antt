@@ -257,42 +257,6 @@ module _ (S : Schema) (s : List ℕ) (f : Flat) (c : Places) (st : State) (pos :
   marked-struct i e h = absurd (subst FlatScalar e h)
 
 -- ---- runs of bytes
-abbrev remains : Parsed (List ℕ) → List ℕ
-remains fail = []
-remains (got a xs) = xs
-
-abbrev whole-bytes : Parsed (List ℕ) → Bool
-whole-bytes fail = false
-whole-bytes (got a xs) = true
-
-bytes-at : (s : List ℕ) (pos n : ℕ) (whole : Bool) (next : ℕ) → TakenBytes s pos n whole next → pos ≤ 8 * length s → not whole ≡ false → next ≡ pos + 8 * n
-unfolding takeBytes
-bytes-at s pos n whole next t l h =
-    by (leb (8 * n) (length (drop pos (bits s)))) refl
-    (t .bytes ∙ ap (λ (u : Bool). pick u (got (pack n (drop pos (bits s))) (drop next (bits s))) fail) (not-false whole h))
-  where
-    by : (u : Bool) → leb (8 * n) (length (drop pos (bits s))) ≡ u
-        → pick u (got (pack n (drop pos (bits s))) (drop (8 * n) (drop pos (bits s)))) fail ≡ got (pack n (drop pos (bits s))) (drop next (bits s)) → next ≡ pos + 8 * n
-    by false e f = absurd (false≢true (ap whole-bytes f))
-    by true e f =
-        let m : 8 * n ≤ length (drop pos (bits s)) = leb-true (8 * n) (length (drop pos (bits s))) e in
-        let k : length (drop (8 * n) (drop pos (bits s))) ≡ length (drop next (bits s)) = ap (λ (p : Parsed (List ℕ)). length (remains p)) f in
-        let i = t .inside in
-        let a = length-drop (8 * n) (drop pos (bits s)) in
-        let b = length-drop pos (bits s) in
-        let c = length-drop next (bits s) in
-        let z = bits-length s in
-        omega arith
-
--- behind a count
-pub bytes-inside : (s : List ℕ) (pos n : ℕ) (whole : Bool) (next : ℕ) → TakenBytes s pos n whole next → not whole ≡ false
-    → (from w : ℕ) (u : Bool) (x : ℕ) → TakenNumber s from w u x pos → pos + 8 * n ≤ 8 * length s
-bytes-inside s pos n whole next t h from w u x k =
-    let l = k .inside in
-    let e = bytes-at s pos n whole next t l h in
-    let i = t .inside in
-    omega arith
-
 module _ (s : List ℕ) (pos : ℕ) (c : Places) (room : Room s pos c) (whole : Bool) (x mid : ℕ) (taken : TakenNumber s pos 32 whole x mid) (more o : List ℕ) (t : Bool) (p : Places)
     (out : List ℕ) (n : ℕ) where
   pub blob-cut : not whole ≡ true → t ≡ false → p ≡ c → n ≡ pos → EmittedAt s (emitBlob more (stateOf c o) (drop pos (bits s))) pos c 0 t p out n
@@ -311,8 +275,7 @@ pub blob-there : (s : List ℕ) (pos : ℕ) (c : Places) → Room s pos c → (w
 unfolding emitBlob bind
 blob-there s pos c room whole x mid taken h whole₁ next bs g o out q u t p n et ep en =
     let f = taken-at s pos 32 whole x mid taken (room .here) h in
-    let i = taken .inside in
-    let e = bytes-at s mid x whole₁ next bs i g in
+    let e = bs .ends (not-false whole₁ g) in
     let a = u .at in
     let l : q .at + 8192 * pos ≤ c .at + 0 + 8192 * next = omega arith in
     record {

@@ -22,7 +22,7 @@ use Rattle.coding.specs.Packed as P
 use Rattle.laws.specs.Sound.{ObjectSound}
 use Rattle.write_measure.proofs.ObjectCases.{table-counted, direct-counted}
 use Rattle.bitio.specs.Taken.{TakenNumber}
-use Rattle.write_measure.specs.Survey.{Surveyor, opened, surveyElements, surveyDirects, directSize, surveyBlob, surveyContent, survey}
+use Rattle.write_measure.specs.Survey.{Surveyor, opened, blobExtent, surveyElements, surveyDirects, directSize, surveyBlob, surveyContent, survey}
 use Rattle.write_measure.specs.Mapped.{Has, bind-has}
 use Rattle.write_measure.specs.Surveyed.{Fits, SurveyedAt}
 use Rattle.write_measure.specs.declared.Extent.{Extent}
@@ -71,7 +71,7 @@ module _ (s : List ℕ) (pos : ℕ) (whole : Bool) (n next : ℕ) (taken : Taken
     where
       is : (t : Bool) → takeNumber 32 (drop pos (bits s)) ≡ pick t (got n (drop next (bits s))) fail → Has (Sizes false (opened n (n + more))) (surveyBlob more (drop pos (bits s)))
       is true e =
-          unfold surveyBlob bind opened in
+          unfold surveyBlob bind opened blobExtent in
           rw e (bind-has (Sizes false (opened n (n + more))) (takeBytes n (drop next (bits s))) _ (λ l zs. record { length = refl; width = refl; chain = λ g. refl }))
       is false e = unfold surveyBlob bind in rw e tt
 

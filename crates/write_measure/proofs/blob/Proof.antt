@@ -1,13 +1,9 @@
+use native.Mathlib.Omega.{arith}
 use borrow.Author.Needs.{needs}
-use Rattle.write_measure.proofs.PartCases.{blob-cut, blob-there}
+use Rattle.bitio.proofs.Takes.{bytes-inside}
+use Rattle.write_measure.proofs.PartCases.{blob-cut, blob-short, blob-there}
 use Rattle.write_measure.proofs.blob.Statement.{statement}
 use Rattle.write_measure.proofs.blob.Tie as tie
-use Rattle.write_measure.proofs.blob.Reads as reads
-use Rattle.write_measure.proofs.blob.Lts as lts
-use Rattle.bitio.proofs.skip_bytes.Reads as skip-bytes-reads
-use Rattle.bitio.proofs.take_number.Reads as take-number-reads
-use Rattle.write_measure.proofs.opened.Reads as opened-reads
-use Rattle.write_measure.proofs.unlawful.Reads as unlawful-reads
 
 take-number-requires : tie.Need-take-number-requires
 take-number-requires c κs = search needs
@@ -21,14 +17,20 @@ returns c = search blob-cut
 skip-bytes-requires : tie.Need-skip-bytes-requires
 skip-bytes-requires c κs = search needs
 
-add-opened : tie.Need-add-opened
-add-opened c = search needs
-
-opened-requires : tie.Need-opened-requires
-opened-requires c κs = search needs
+unlawful-requires-2 : tie.Need-unlawful-requires-2
+unlawful-requires-2 c κs = search needs
 
 returns-2 : tie.Need-returns-2
-returns-2 c = search blob-there
+returns-2 c = search blob-short
+
+blob-fine-requires : tie.Need-blob-fine-requires
+blob-fine-requires c κs = (bytes-inside _ _ _ _ _ (c .before .before .skip-bytes .ensures) (c .if2 .left), omega arith)
+
+blob-extent-requires : tie.Need-blob-extent-requires
+blob-extent-requires c κs = search needs
+
+returns-3 : tie.Need-returns-3
+returns-3 c = search blob-there
 
 pub blob-spec : {M : Type 1} → statement M
 blob-spec =
@@ -38,6 +40,8 @@ blob-spec =
     unlawful-requires
     returns
     skip-bytes-requires
-    add-opened
-    opened-requires
-    returns-2)
+    unlawful-requires-2
+    returns-2
+    blob-fine-requires
+    blob-extent-requires
+    returns-3)

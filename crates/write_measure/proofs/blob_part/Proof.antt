@@ -28,8 +28,8 @@ sub-more c = search needs
 inplace-at-requires : tie.Need-inplace-at-requires
 inplace-at-requires c κs = search needs
 
-blob-there-requires : tie.Need-blob-there-requires
-blob-there-requires c κs = search needs
+refer-blob-requires : tie.Need-refer-blob-requires
+refer-blob-requires c κs = search needs
 
 returns-3 : tie.Need-returns-3
 returns-3 c = search marked-blob
@@ -52,7 +52,7 @@ blob-part-spec =
     kind-at-requires
     sub-more
     inplace-at-requires
-    blob-there-requires
+    refer-blob-requires
     returns-3
     unlawful-requires-2
     returns-4)

@@ -1,5 +1,6 @@
 use borrow.Author.Needs.{needs}
-use Rattle.write_pass.proofs.EmitCases.{bytes-inside, copied-cut, copied-short, copied-there}
+use Rattle.bitio.proofs.Takes.{bytes-inside}
+use Rattle.write_pass.proofs.EmitCases.{copied-cut, copied-short, copied-there}
 use Rattle.write_pass.proofs.copy_blob.Statement.{statement}
 use Rattle.write_pass.proofs.copy_blob.Tie as tie
 use Rattle.write_pass.proofs.copy_blob.Reads as reads
@@ -21,7 +22,7 @@ returns-2 : tie.Need-returns-2
 returns-2 c = search copied-short
 
 store-copy-requires : tie.Need-store-copy-requires
-store-copy-requires c κs = (search needs, bytes-inside _ _ _ _ _ (c .before .before .before .skip-bytes .ensures) (c .before .if2 .left) _ _ _ _ (c .before .before .before .before .before .before .take-number .ensures), search needs)
+store-copy-requires c κs = (search needs, bytes-inside _ _ _ _ _ (c .before .before .before .skip-bytes .ensures) (c .before .if2 .left), search needs)
 
 same-length : tie.Need-same-length
 same-length c = search needs
