@@ -1,0 +1,4 @@
+-- Lemmas for the proofs of this crate.
+pub mod RecordCases
+pub mod RowCases
+pub mod LoopCases

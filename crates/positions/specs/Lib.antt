@@ -1,0 +1,2 @@
+-- The words of the contracts.
+pub mod Rows

@@ -1,0 +1,153 @@
+// The table of member positions: it is made from a lawful schema, a table that is handed in is held to it, and members are found by it.
+use coding::Cursor;
+use coding::Row;
+ghost use mathlib.Core.Path.{_≡_};
+ghost use mathlib.Core.List.{flatMap};
+ghost use Prim.Native.Nat.{ℕ, _+_, _*_, _<_, _≤_, _^_};
+ghost use lib.ListN.{length, take};
+ghost use lib.Seq.{sets};
+ghost use Rattle.coding.specs.Layout as L;
+ghost use Rattle.coding.specs.Lists.{pick};
+ghost use Rattle.coding.specs.Packed as P;
+ghost use Rattle.coding.specs.Positions as Po;
+ghost use Rattle.coding.specs.Schema as Sc;
+ghost use Rattle.laws.specs.Sound.{MemberSound};
+ghost use Rattle.message_layout.specs.Bounds.{Laid};
+ghost use Rattle.schema.specs.Directory.{Accepted};
+ghost use Rattle.wire.specs.Sizes.{Width};
+ghost use Rattle.positions.specs.Rows.{Low, Next, tableBytes};
+
+// The bytes of a row: three U32s.
+const ROW: usize = 12;
+
+// The flag's bit of a member that has no flag.
+const NO_FLAG: usize = 4294967295;
+
+// ---- a member by its record
+// Whether a flag stands before the value: the record says optional, and is of no float.
+fn flagged_at(b: &[u8], at: usize) -> bool
+    requires { ⌜ (at + 1 < length (now b)) × MemberSound (P.parse (now b)) (P.memberAt (now b) at) ⌝ }
+    ensures { λ r. ⌜ r ≡ L.hasFlag (P.memberAt (now (b .entry)) at) ⌝ }
+{
+    if !schema::optional_at(b, at) {
+        return false;
+    }
+    let k = schema::kind_at(b, at);
+    if k < schema::KIND_FLOAT {
+        return true;
+    }
+    schema::KIND_ENUM <= k
+}
+
+// The bytes of the value.
+fn width_at(b: &[u8], dir: &[u16], at: usize, o: usize) -> usize
+    requires { ⌜ (Accepted (now b) (now dir)) × (Width o) × (at + 1 < length (now b)) × MemberSound (P.parse (now b)) (P.memberAt (now b) at) ⌝ }
+    ensures { λ r. ⌜ (r ≡ L.width o (P.parse (now (b .entry))) (P.elementAt (now (b .entry)) at)) × (r ≤ 4096) ⌝ }
+{
+    let k = schema::kind_at(b, at);
+    if k < schema::KIND_ENUM {
+        return wire::index(schema::width_of(k));
+    }
+    if k == schema::KIND_ENUM {
+        return 1;
+    }
+    if k == schema::KIND_STRUCT {
+        return schema::stored_size(b, dir, wire::index(schema::argument_at(b, at)));
+    }
+    if schema::is_union_kind(k) {
+        return wire::union_size(o);
+    }
+    o
+}
+
+// ---- a row
+// The first bit of the bool or flag that comes next.
+fn next_bit(c: Cursor) -> usize
+    requires { ⌜ (c .end < 2 ^ 24) × (c .byte ≤ c .end) ⌝ }
+    ensures { λ r. ⌜ (r ≡ Po.firstBit (L.bitSlot c)) × (r < 4294967296) ⌝ }
+{
+    8 * message_layout::bit_byte(c) + message_layout::bit_index(c)
+}
+
+// The first bit of the flag, if there is one.
+fn flag_bit(flagged: bool, c: Cursor) -> usize
+    requires { ⌜ (c .end < 2 ^ 24) × (c .byte ≤ c .end) ⌝ }
+    ensures { λ r. ⌜ (r ≡ pick flagged (Po.firstBit (L.bitSlot c)) Po.noFlag) × (r < 4294967296) ⌝ }
+{
+    if flagged {
+        return next_bit(c);
+    }
+    NO_FLAG
+}
+
+// A member's row, and the cursor behind the member.
+struct RowStep {
+    row: Row,
+    next: Cursor,
+}
+
+// The row of the member whose record stands at `at`, where the cursor stands.
+fn record_row(b: &[u8], dir: &[u16], at: usize, c: Cursor, o: usize) -> RowStep
+    requires { ⌜ (Accepted (now b) (now dir)) × (Width o) × (at + 1 < length (now b)) × (MemberSound (P.parse (now b)) (P.memberAt (now b) at)) × Low c ⌝ }
+    ensures { λ q. ⌜ Next o (P.parse (now (b .entry))) (P.memberAt (now (b .entry)) at) c (q .row) (q .next) ⌝ }
+{
+    let flagged = flagged_at(b, at);
+    let flag = flag_bit(flagged, c);
+    let behind = message_layout::after_flag(flagged, c);
+    if schema::kind_at(b, at) == schema::KIND_BOOL {
+        let value = next_bit(behind);
+        let next = message_layout::after_bit(behind);
+        let row = Row {
+            value,
+            flag,
+            size: 1,
+        };
+        return RowStep { row, next };
+    }
+    let w = width_at(b, dir, at, o);
+    let next = message_layout::after_bytes(behind, w);
+    let row = Row {
+        value: 8 * behind.end,
+        flag,
+        size: 8 * w,
+    };
+    RowStep { row, next }
+}
+
+// The row of member j of table t, where the cursor stands.
+fn next_row(b: &[u8], dir: &[u16], t: usize, j: usize, c: Cursor, o: usize) -> RowStep
+    requires { ⌜ (Accepted (now b) (now dir)) × (Width o) × (t < P.tableCount (now b)) × (j < length (Sc.tableOf (P.parse (now b)) t .members)) × (j < 256) × Laid (4097 * j) c ⌝ }
+    ensures { λ q. ⌜ Next o (P.parse (now (b .entry))) (Sc.memberOf (P.parse (now (b .entry))) t j) c (q .row) (q .next) ⌝ }
+{
+    record_row(b, dir, schema::record_of(b, dir, t, j), c, o)
+}
+
+// ---- making the table
+// A row, from byte `at` on.
+fn put_row(out: &mut [u8], at: usize, x: Row)
+    requires { ⌜ (at < 2 ^ 61) × (at + 12 ≤ length (now out)) ⌝ }
+    ensures { λ _. ⌜ now (out .exit) ≡ sets (now (out .entry)) at (Po.rowBytes x) ⌝ }
+{
+    wire::put_u32_in(out, at, x.value);
+    wire::put_u32_in(out, at + 4, x.flag);
+    wire::put_u32_in(out, at + 8, x.size);
+}
+
+// The rows of table t, from byte `at` on; and where they end.
+fn put_table(b: &[u8], dir: &[u16], out: &mut [u8], t: usize, at: usize, o: usize) -> usize
+    requires { ⌜ (Accepted (now b) (now dir)) × (Width o) × (t < P.tableCount (now b)) × (at < 2 ^ 60) × (at + 12 * length (Sc.tableOf (P.parse (now b)) t .members) ≤ length (now out)) ⌝ }
+    ensures { λ r. ⌜ (now (out .exit) ≡ sets (now (out .entry)) at (tableBytes o (now (b .entry)) t)) × (r ≡ at + 12 * length (Sc.tableOf (P.parse (now (b .entry))) t .members)) ⌝ }
+{
+    let n = schema::member_count(b, dir, t);
+    let mut c = message_layout::begin();
+    let mut pos = at;
+    let mut j: usize = 0;
+    while j < n {
+        let s = next_row(b, dir, t, j, c, o);
+        put_row(out, pos, s.row);
+        c = s.next;
+        pos += ROW;
+        j += 1;
+    }
+    pos
+}
