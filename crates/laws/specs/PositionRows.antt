@@ -5,7 +5,7 @@ use mathlib.Core.List.{List, [], _∷_, _++_, flatMap}
 use Prim.Native.Nat.{ℕ, zero, suc, _+_, _*_, _<_, _≤_}
 use native.Mathlib.Omega.{arith}
 use lib.ListN.{length, getD, take, drop, length-append}
-use lib.Seq.{take-suc}
+use lib.Seq.{take-suc, take-all}
 use Rattle.coding.specs.Bytes.{leBytes}
 use Rattle.coding.specs.Schema.{Schema, Table, tableOf, plainBool}
 use Rattle.coding.specs.Packed.{tableCount, records, recordPlace, blocks, tablePlace, parse}
@@ -108,16 +108,27 @@ next-place : (b : List ℕ) (i : ℕ) → tablePlace b (suc i) ≡ tablePlace b 
 unfolding tablePlace blocks recordPlace
 next-place b i = omega arith
 
+-- one table more
+total-more : (d : Table) (ts : List Table) (i : ℕ) → i < length ts → memberTotal (take (suc i) ts) ≡ memberTotal (take i ts) + length (getD ts i d .members)
+unfolding memberTotal
+total-more d ts i l =
+    ap memberTotal (take-suc ts i d l) ∙ total-append (take i ts) (getD ts i d ∷ []) ∙ omega arith
+
 next-total : (b : List ℕ) (i : ℕ) → i < tableCount b
-    → memberTotal (take (suc i) (parse b .tables)) ≡ memberTotal (take i (parse b .tables)) + records b 4 (tablePlace b i)
-unfolding memberTotal tableOf
-next-total b i l =
-    ap memberTotal (take-suc (parse b .tables) i _ (omega (arith, tables-length b)))
-    ∙ total-append (take i (parse b .tables)) (tableOf (parse b) i ∷ [])
-    ∙ omega (arith, members-length b i l)
+    → memberTotal (take (suc i) (parse b .tables)) ≡ memberTotal (take i (parse b .tables)) + length (tableOf (parse b) i .members)
+unfolding tableOf
+next-total b i l = total-more _ (parse b .tables) i (omega (arith, tables-length b))
+
+-- the last table
+pub total-last : (b : List ℕ) (i : ℕ) → suc i ≡ tableCount b
+    → memberTotal (parse b .tables) ≡ memberTotal (take i (parse b .tables)) + length (tableOf (parse b) i .members)
+total-last b i e =
+    let whole : take (suc i) (parse b .tables) ≡ parse b .tables = take-all (suc i) (parse b .tables) (omega (arith, tables-length b)) in
+    ap memberTotal (sym whole) ∙ next-total b i (omega arith)
 
 -- "table: 32-bit id, 8-bit member count 0 to 64, records": a table takes five bytes of the schema, and two for each member
 pub table-place : (b : List ℕ) (i : ℕ) → i ≤ tableCount b → tablePlace b i ≡ tablePlace b 0 + 5 * i + 2 * memberTotal (take i (parse b .tables))
 unfolding memberTotal
 table-place b zero l = omega arith
-table-place b (suc i) l = omega (arith, next-place b i, next-total b i (omega arith), table-place b i (omega arith))
+table-place b (suc i) l =
+    omega (arith, next-place b i, next-total b i (omega arith), members-length b i (omega arith), table-place b i (omega arith))

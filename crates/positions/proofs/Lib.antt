@@ -2,3 +2,4 @@
 pub mod RecordCases
 pub mod RowCases
 pub mod LoopCases
+pub mod PlaceCases

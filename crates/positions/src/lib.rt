@@ -11,6 +11,7 @@ ghost use Rattle.coding.specs.Lists.{pick};
 ghost use Rattle.coding.specs.Packed as P;
 ghost use Rattle.coding.specs.Positions as Po;
 ghost use Rattle.coding.specs.Schema as Sc;
+ghost use Rattle.laws.specs.PositionRows.{memberTotal};
 ghost use Rattle.laws.specs.Sound.{MemberSound};
 ghost use Rattle.message_layout.specs.Bounds.{Laid};
 ghost use Rattle.schema.specs.Directory.{Accepted};
@@ -150,4 +151,24 @@ fn put_table(b: &[u8], dir: &[u16], out: &mut [u8], t: usize, at: usize, o: usiz
         j += 1;
     }
     pos
+}
+
+// ---- where the rows of a table stand
+// Where the first row of table t stands: a table takes five bytes of the schema, and two for each member.
+pub fn first_row(b: &[u8], dir: &[u16], t: usize) -> usize
+    requires { ⌜ (Accepted (now b) (now dir)) × (t < P.tableCount (now b)) ⌝ }
+    ensures { λ r. ⌜ (r ≡ 12 * memberTotal (take t (P.parse (now (b .entry)) .tables))) × (r < 2 ^ 20) ⌝ }
+{
+    let start = schema::table_place(b, dir, 0);
+    let records = schema::table_place(b, dir, t) - start - 5 * t;
+    ROW * (records / 2)
+}
+
+// The bytes of the whole table of positions.
+fn size(b: &[u8], dir: &[u16]) -> usize
+    requires { ⌜ Accepted (now b) (now dir) ⌝ }
+    ensures { λ r. ⌜ (r ≡ 12 * memberTotal (P.parse (now (b .entry)) .tables)) × (r < 2 ^ 21) ⌝ }
+{
+    let last = schema::count(b, schema::TABLES) - 1;
+    first_row(b, dir, last) + ROW * schema::member_count(b, dir, last)
 }
