@@ -3,3 +3,5 @@ pub mod RecordCases
 pub mod RowCases
 pub mod LoopCases
 pub mod PlaceCases
+pub mod TableCases
+pub mod AnswerCases

@@ -2,10 +2,10 @@
 use mathlib.Core.Path.{_≡_, refl, sym, ap, ap₂, _∙_, subst}
 use mathlib.Core.Bool.{Bool, true, false, _&&_, not}
 use mathlib.Core.List.{List, [], _∷_, _++_, flatMap}
-use Prim.Native.Nat.{ℕ, suc, _+_, _*_, _<_, _≤_}
+use Prim.Native.Nat.{ℕ, suc, _+_, _*_, _^_, _<_, _≤_}
 use native.Mathlib.Omega.{arith}
 use native.Mathlib.Numerals.{add-one}
-use lib.ListN.{length, getD, drop, drop-of-length-le}
+use lib.ListN.{length, getD, drop, drop-of-length-le, length-append}
 use lib.Seq.{sets, drop-cons}
 use borrow.Author.Tests.{not-true, not-false}
 use Rattle.coding.specs.Bytes.{leBytes}
@@ -16,9 +16,9 @@ use Rattle.coding.specs.Positions as Po
 use Rattle.coding.specs.declared.Member.{Member}
 use Rattle.coding.specs.declared.Cursor.{Cursor}
 use Rattle.coding.specs.declared.Row.{Row}
-use Rattle.laws.specs.FlatMaps.{flatMap-append}
+use Rattle.laws.specs.FlatMaps.{flatMap-append, flatMap-length}
 use Rattle.laws.specs.Parsed.{tables-length}
-use Rattle.laws.specs.PositionRows.{row-bytes-length}
+use Rattle.laws.specs.PositionRows.{row-bytes-length, member-rows-length}
 use Rattle.laws.specs.SameLists.{stands, stands-append}
 use Rattle.wire.specs.Stores.{sets-append}
 use Rattle.positions.specs.Rows.{Next, tableBytes, restBytes, tablesBytes}
@@ -112,3 +112,104 @@ module _ (o : ℕ) (b : List ℕ) (t n j : ℕ) (c : Cursor) (en : n ≡ length 
   pub stands-done : (w : Bool) (m : List ℕ) (pos : ℕ) → w ≡ stands m pos (restBytes o b t j c) → true ≡ w
   unfolding stands
   stands-done w m pos e = sym (e ∙ ap (stands m pos) (rest-none o b t j c (omega arith)))
+
+-- ---- the rows of all tables
+module _ (o : ℕ) (b : List ℕ) where
+  pub table-bytes : (t : ℕ) → length (tableBytes o b t) ≡ 12 * length (Sc.tableOf (P.parse b) t .members)
+  unfolding Po.tableRows
+  table-bytes t =
+      flatMap-length Po.rowBytes 12 row-bytes-length (Po.tableRows o (P.parse b) (Sc.tableOf (P.parse b) t))
+      ∙ ap (λ (n : ℕ). 12 * n) (member-rows-length o (P.parse b) L.begin (Sc.tableOf (P.parse b) t .members))
+
+  tables-turn : (t : ℕ) → t < P.tableCount b → tablesBytes o b t ≡ tableBytes o b t ++ tablesBytes o b (t + 1)
+  unfolding flatMap Sc.tableOf
+  tables-turn t l =
+      let ts = P.parse b .tables in
+      ap (λ (xs : List Sc.Table). flatMap Po.rowBytes (flatMap (Po.tableRows o (P.parse b)) xs)) (drop-cons ts t _ (omega (arith, tables-length b)))
+      ∙ flatMap-append Po.rowBytes (Po.tableRows o (P.parse b) (Sc.tableOf (P.parse b) t)) (flatMap (Po.tableRows o (P.parse b)) (drop (suc t) ts))
+      ∙ ap (λ (k : ℕ). tableBytes o b t ++ tablesBytes o b k) (sym (add-one t))
+
+  tables-none : (t : ℕ) → P.tableCount b ≤ t → tablesBytes o b t ≡ []
+  unfolding flatMap
+  tables-none t l = let h : length (P.parse b .tables) ≤ t = omega (arith, tables-length b) in rw (drop-of-length-le (P.parse b .tables) h) refl
+
+  tables-start : Po.positionsOf o b ≡ tablesBytes o b 0
+  unfolding Po.positionsOf Po.schemaRows
+  tables-start = refl
+
+  pub tables-long : 0 + length (tablesBytes o b 0) ≡ length (Po.positionsOf o b)
+  tables-long = omega (arith, ap length tables-start)
+
+  pub start-put : (out : List ℕ) → sets out 0 (Po.positionsOf o b) ≡ sets out 0 (tablesBytes o b 0)
+  start-put out = ap (sets out 0) tables-start
+
+  pub start-stands : (m : List ℕ) → stands m 0 (Po.positionsOf o b) ≡ stands m 0 (tablesBytes o b 0)
+  start-stands m = ap (stands m 0) tables-start
+
+  -- table t, of n tables
+  module _ (n t : ℕ) (en : n ≡ getD b 3 0) (l : t < n) where
+    turn : tablesBytes o b t ≡ tableBytes o b t ++ tablesBytes o b (t + 1)
+    turn = tables-turn t (omega arith)
+
+    lengths : length (tablesBytes o b t) ≡ 12 * length (Sc.tableOf (P.parse b) t .members) + length (tablesBytes o b (t + 1))
+    lengths = omega (arith, ap length turn, length-append (tableBytes o b t) (tablesBytes o b (t + 1)), table-bytes t)
+
+    module _ (at : ℕ) (long : at + length (tablesBytes o b t) ≡ length (Po.positionsOf o b)) where
+      pub table-fits : (m m₀ : List ℕ) → length m ≡ length m₀ → length (Po.positionsOf o b) ≤ length m₀
+          → at + 12 * length (Sc.tableOf (P.parse b) t .members) ≤ length m
+      table-fits m m₀ e h = omega (arith, lengths)
+
+      pub table-within : (m : List ℕ) → length m ≡ length (Po.positionsOf o b) → at + 12 * length (Sc.tableOf (P.parse b) t .members) ≤ length m
+      table-within m e = omega (arith, lengths)
+
+      pub table-low : length (Po.positionsOf o b) < 2 ^ 60 → at < 2 ^ 60
+      table-low h = omega arith
+
+      pub rest-long : (r : ℕ) → r ≡ at + 12 * length (Sc.tableOf (P.parse b) t .members)
+          → r + length (tablesBytes o b (t + 1)) ≡ length (Po.positionsOf o b)
+      rest-long r er = omega (arith, lengths)
+
+      -- behind the k members of table t
+      module _ (k : ℕ) (ek : k ≡ length (Sc.tableOf (P.parse b) t .members)) where
+        pub behind-long : at + 12 * k + length (tablesBytes o b (t + 1)) ≡ length (Po.positionsOf o b)
+        behind-long = rest-long (at + 12 * k) (ap (λ (x : ℕ). at + 12 * x) ek)
+
+        pub behind-low : length (Po.positionsOf o b) < 2 ^ 60 → at + 12 * k < 2 ^ 60
+        behind-low h = omega (arith, behind-long)
+
+    module _ (at r : ℕ) (er : r ≡ at + 12 * length (Sc.tableOf (P.parse b) t .members)) where
+      behind : at + length (tableBytes o b t) ≡ r
+      behind = omega (arith, table-bytes t)
+
+      pub table-put : (w out out₁ : List ℕ) → w ≡ sets out at (tablesBytes o b t) → out₁ ≡ sets out at (tableBytes o b t)
+          → w ≡ sets out₁ r (tablesBytes o b (t + 1))
+      table-put w out out₁ e f =
+          e ∙ ap (sets out at) turn
+          ∙ sets-append out at (tableBytes o b t) (tablesBytes o b (t + 1))
+          ∙ ap₂ (λ (x : List ℕ) (k : ℕ). sets x k (tablesBytes o b (t + 1))) (sym f) behind
+
+      module _ (w q : Bool) (m : List ℕ) (e : w ≡ stands m at (tablesBytes o b t)) (f : q ≡ stands m at (tableBytes o b t)) where
+        both-stand : w ≡ (q && stands m r (tablesBytes o b (t + 1)))
+        both-stand =
+            e ∙ ap (stands m at) turn
+            ∙ stands-append m at (tableBytes o b t) (tablesBytes o b (t + 1))
+            ∙ ap₂ (λ (x : Bool) (k : ℕ). x && stands m k (tablesBytes o b (t + 1))) (sym f) behind
+
+        table-stands : not q ≡ false → w ≡ stands m r (tablesBytes o b (t + 1))
+        table-stands h = both-stand ∙ ap (λ (x : Bool). x && stands m r (tablesBytes o b (t + 1))) (not-false q h)
+
+        pub table-off : not q ≡ true → false ≡ w
+        table-off h = sym (both-stand ∙ ap (λ (x : Bool). x && stands m r (tablesBytes o b (t + 1))) (not-true q h))
+
+    pub behind-stands : (at k : ℕ) → k ≡ length (Sc.tableOf (P.parse b) t .members) → (w q : Bool) (m : List ℕ) → w ≡ stands m at (tablesBytes o b t)
+        → q ≡ stands m at (tableBytes o b t) → not q ≡ false → w ≡ stands m (at + 12 * k) (tablesBytes o b (t + 1))
+    behind-stands at k ek w q m e f h = table-stands at (at + 12 * k) (ap (λ (x : ℕ). at + 12 * x) ek) w q m e f h
+
+  -- past the last table nothing is left
+  module _ (n t : ℕ) (en : n ≡ getD b 3 0) (l : n ≤ t) where
+    pub tables-put : (w out : List ℕ) (at : ℕ) → w ≡ sets out at (tablesBytes o b t) → out ≡ w
+    tables-put w out at e = sym (e ∙ ap (sets out at) (tables-none t (omega arith)))
+
+    pub tables-stand : (w : Bool) (m : List ℕ) (at : ℕ) → w ≡ stands m at (tablesBytes o b t) → true ≡ w
+    unfolding stands
+    tables-stand w m at e = sym (e ∙ ap (stands m at) (tables-none t (omega arith)))

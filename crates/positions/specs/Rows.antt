@@ -1,17 +1,19 @@
 -- What the contracts say of rows, and of the tables that are made of them.
 use Prim.Native.Nat.{ℕ, _+_, _*_, _<_, _≤_}
 use mathlib.Core.Path.{_≡_}
+use mathlib.Core.Bool.{Bool, true}
 use mathlib.Core.List.{List, flatMap}
 use lib.ListN.{drop}
 use Rattle.coding.specs.Schema.{Schema, tableOf}
 use Rattle.coding.specs.Packed.{parse}
 use Rattle.coding.specs.Layout.{placementOf, afterMember}
-use Rattle.coding.specs.Positions.{rowOf, rowBytes, memberRows, tableRows}
+use Rattle.coding.specs.Positions.{rowOf, rowBytes, memberRows, tableRows, positionsOf, tableRight}
 use Rattle.coding.specs.declared.Member.{Member}
 use Rattle.coding.specs.declared.Cursor.{Cursor}
 use Rattle.coding.specs.declared.Row.{Row}
 use Rattle.laws.specs.RowBounds.{RowSmall}
 use Rattle.message_layout.specs.Bounds.{Laid}
+use Rattle.schema.specs.Directory.{AcceptedUnder}
 
 -- a cursor behind 256 members at most: each takes no more than 4,097 bytes
 abbrev pub Low : Cursor → Type 0
@@ -35,3 +37,13 @@ restBytes o b t j c = flatMap rowBytes (memberRows o (parse b) c (drop j (tableO
 -- the bytes of the rows of all tables from t on
 abbrev pub tablesBytes : ℕ → List ℕ → ℕ → List ℕ
 tablesBytes o b t = flatMap rowBytes (flatMap (tableRows o (parse b)) (drop t (parse b .tables)))
+
+-- the schema is lawful under the coding whose offsets have o bytes, and t is its table of positions
+pub record AcceptedWith (o : ℕ) (b t dir : List ℕ) : Type 0 where
+  pub accepted : AcceptedUnder o b dir
+  pub table : t ≡ positionsOf o b
+
+-- an answer to that
+pub record TableJudged (o : ℕ) (b t dir : List ℕ) (r : Bool) : Type 0 where
+  pub is : r ≡ tableRight o b t
+  pub right : r ≡ true → AcceptedWith o b t dir
