@@ -30,8 +30,8 @@ use Rattle.laws.specs.LawfulSound.{lawful-sound}
 use Rattle.laws.specs.Parsed.{tables-length}
 use Rattle.laws.specs.SameLists.{same-is, same-self}
 use Rattle.laws.specs.PositionRows.{memberTotal, RowIn, table-bytes-length, member-rows-at, row-in}
-use Rattle.laws.specs.RowBounds.{RowSmall, row-small-at}
-use Rattle.demands.specs.Holds.{Holds, holds-at, holds-left, holds-right, holds-le}
+use Rattle.laws.specs.RowBounds.{RowSmall, row-small, placed-small-at}
+use Rattle.laws.specs.RowReads.{value-read, flag-read, size-read}
 
 -- ---- the rows
 -- "its value's first bit in the fixed part, its flag's (4,294,967,295 if none) and its size in bits": what the three little-endian U32s
@@ -42,33 +42,6 @@ pub record RowSays (o : ℕ) (S : Schema) (t : List ℕ) (at : ℕ) (r : Member)
   pub none : hasFlag r ≡ false → le t (at + 4) 4 ≡ 4294967295
   pub bool : isBool (r .kind) ≡ true → le t (at + 8) 4 ≡ 1
   pub bytes : isBool (r .kind) ≡ false → le t (at + 8) 4 ≡ 8 * width o S (r .kind)
-
--- the three numbers of a row that stands in a table
-module _ (t : List ℕ) (at : ℕ) (x : Row) (h : RowIn t at x) (small : RowSmall x) where
-  row-holds : Holds t at (rowBytes x)
-  row-holds =
-      subst (λ (l : List ℕ). Holds l at (rowBytes x)) (sym (h .is))
-      (subst (λ (k : ℕ). Holds (h .before ++ (rowBytes x ++ h .behind)) k (rowBytes x)) (h .place) (holds-at (h .before) (rowBytes x) (h .behind)))
-
-  value-read : le t at 4 ≡ x .value
-  unfolding rowBytes
-  value-read = holds-le t 4 at (x .value) (small .value) (holds-left t at (leBytes 4 (x .value)) _ row-holds)
-
-  others-hold : Holds t (at + 4) (leBytes 4 (x .flag) ++ leBytes 4 (x .size))
-  unfolding rowBytes leBytes
-  others-hold = holds-right t at (leBytes 4 (x .value)) (leBytes 4 (x .flag) ++ leBytes 4 (x .size)) row-holds
-
-  flag-read : le t (at + 4) 4 ≡ x .flag
-  flag-read = holds-le t 4 (at + 4) (x .flag) (small .flag) (holds-left t (at + 4) (leBytes 4 (x .flag)) (leBytes 4 (x .size)) others-hold)
-
-  size-holds : Holds t (at + 4 + 4) (leBytes 4 (x .size))
-  unfolding leBytes
-  size-holds = holds-right t (at + 4) (leBytes 4 (x .flag)) (leBytes 4 (x .size)) others-hold
-
-  size-read : le t (at + 8) 4 ≡ x .size
-  size-read =
-      let e : at + 4 + 4 ≡ at + 8 = omega arith in
-      holds-le t 4 (at + 8) (x .size) (small .size) (subst (λ (k : ℕ). Holds t k (leBytes 4 (x .size))) e size-holds)
 
 -- a row in the sentence's words, of a member by its placement
 module _ (o : ℕ) (S : Schema) (t : List ℕ) (at : ℕ) (r : Member) (p : Placement) where
@@ -109,7 +82,9 @@ module _ (o : ℕ) (b : List ℕ) where
     place = 12 * (memberTotal (take i (parse b .tables)) + j)
 
     small : RowSmall (rowOf (memberOf (parse b) i j) placed)
-    small = row-small-at o (lawful-narrow o b lawful) (parse b) (lawful-sound o b bytes lawful) i j k
+    small =
+        row-small (memberOf (parse b) i j) placed
+        (placed-small-at o (lawful-narrow o b lawful) (parse b) (lawful-sound o b bytes lawful) i j k)
 
     stands : RowIn (positionsOf o b) place (rowOf (memberOf (parse b) i j) placed)
     unfolding positionsOf schemaRows tableRows tableOf memberOf

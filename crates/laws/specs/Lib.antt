@@ -19,3 +19,4 @@ pub mod FlatMaps
 pub mod SameLists
 pub mod PositionRows
 pub mod RowBounds
+pub mod RowReads

@@ -15,6 +15,7 @@ use Rattle.coding.specs.declared.Kind.{Kind}
 use Rattle.coding.specs.declared.Member.{Member}
 use Rattle.coding.specs.declared.Cursor.{Cursor}
 use Rattle.coding.specs.declared.Slot.{Slot}
+use Rattle.coding.specs.declared.Placement.{Placement}
 use Rattle.coding.specs.declared.Row.{Row}
 use Rattle.laws.specs.All.{all-take}
 use Rattle.laws.specs.Lists.{pick-holds}
@@ -57,23 +58,23 @@ module _ (o : ℕ) (S : Schema) where
       behind-members rs (afterMember o S r c) (behind-value (r .kind) (afterFlag r c) (behind-flag r c h))
 
 -- ---- slots
--- a slot of at most 4,096 bytes that starts at e or before
-record SlotSmall (e : ℕ) (s : Slot) : Type 0 where
-  at : s .at ≤ e
-  bit : s .bit < 8
-  size : s .size ≤ 4096
+-- a slot of at most 4,096 bytes that starts within a full fixed part, or at its end
+pub record SlotSmall (s : Slot) : Type 0 where
+  pub at : s .at ≤ 262208
+  pub bit : s .bit < 8
+  pub size : s .size ≤ 4096
 
-bit-small : (c : Cursor) → Behind c → SlotSmall (c .end) (bitSlot c)
+bit-small : (c : Cursor) → Behind c → c .end ≤ 262208 → SlotSmall (bitSlot c)
 unfolding bitSlot bitByte bitIndex
-bit-small c h =
+bit-small c h low =
     record {
-      at = pick-holds (λ (n : ℕ). n ≤ c .end) (ltb (c .bit) 8) (c .byte) (c .end) (λ t. h) (λ t. omega arith);
+      at = pick-holds (λ (n : ℕ). n ≤ 262208) (ltb (c .bit) 8) (c .byte) (c .end) (λ t. omega arith) (λ t. low);
       bit = pick-holds (λ (n : ℕ). n < 8) (ltb (c .bit) 8) (c .bit) 0 (λ t. ltb-true (c .bit) 8 t) (λ t. omega arith);
       size = omega arith;
     }
 
 -- ---- a row
-module _ (e : ℕ) (low : e ≤ 262208) (s : Slot) (small : SlotSmall e s) where
+module _ (s : Slot) (small : SlotSmall s) where
   first-small : firstBit s < 2097672
   unfolding firstBit
   first-small = omega (arith, small .at, small .bit)
@@ -94,31 +95,42 @@ module _ (e : ℕ) (low : e ≤ 262208) (s : Slot) (small : SlotSmall e s) where
       by true h = rw h (omega (arith, small .size))
       by false h = rw h (omega (arith, small .size))
 
-module _ (o : ℕ) (narrow : 2 + o ≤ 4096) (S : Schema) (G : Sound S) where
-  value-small : (k : Kind) → KindSound S k → (c : Cursor) → Behind c → SlotSmall (c .end) (slotOf o S k c)
-  unfolding slotOf
-  value-small k ok c h =
-      pick-holds (SlotSmall (c .end)) (isBool k) (bitSlot c) (record { at = c .end; bit = 0; size = width o S k }) (λ t. bit-small c h)
-      (λ t. record { at = omega arith; bit = omega arith; size = kind-narrow o narrow S G k ok })
+-- where a member stands, its flag and its value
+pub record PlacedSmall (p : Placement) : Type 0 where
+  pub value : SlotSmall (p .value)
+  pub flag : SlotSmall (p .flag)
 
-  row-small : (r : Member) → MemberSound S r → (c : Cursor) → Behind c → c .end ≤ 262207 → RowSmall (rowOf r (placementOf o S r c))
-  unfolding rowOf placementOf memberSlot
-  row-small r ok c h low =
-      let v = value-small (r .kind) (ok .kind) (afterFlag r c) (behind-flag r c h) in
-      let up : afterFlag r c .end ≤ 262208 = omega (arith, after-flag r c) in
-      let f = first-small (afterFlag r c .end) up (slotOf o S (r .kind) (afterFlag r c)) v in
+pub row-small : (r : Member) (p : Placement) → PlacedSmall p → RowSmall (rowOf r p)
+unfolding rowOf
+row-small r p h =
+    let f = first-small (p .value) (h .value) in
+    record {
+      value = omega arith;
+      flag = flag-small (p .flag) (h .flag) r;
+      size = size-small (p .value) (h .value) (r .kind);
+    }
+
+module _ (o : ℕ) (narrow : 2 + o ≤ 4096) (S : Schema) (G : Sound S) where
+  value-small : (k : Kind) → KindSound S k → (c : Cursor) → Behind c → c .end ≤ 262208 → SlotSmall (slotOf o S k c)
+  unfolding slotOf
+  value-small k ok c h low =
+      pick-holds SlotSmall (isBool k) (bitSlot c) (record { at = c .end; bit = 0; size = width o S k }) (λ t. bit-small c h low)
+      (λ t. record { at = low; bit = omega arith; size = kind-narrow o narrow S G k ok })
+
+  placed-small : (r : Member) → MemberSound S r → (c : Cursor) → Behind c → c .end ≤ 262207 → PlacedSmall (placementOf o S r c)
+  unfolding placementOf memberSlot
+  placed-small r ok c h low =
       record {
-        value = omega arith;
-        flag = flag-small (c .end) (omega arith) (bitSlot c) (bit-small c h) r;
-        size = size-small (afterFlag r c .end) up (slotOf o S (r .kind) (afterFlag r c)) v (r .kind);
+        value = value-small (r .kind) (ok .kind) (afterFlag r c) (behind-flag r c h) (omega (arith, after-flag r c));
+        flag = bit-small c h (omega arith);
       }
 
-  -- the row of member j of table i: 63 members at most stand before it
-  pub row-small-at : (i j : ℕ) → j < length (tableOf S i .members)
-      → RowSmall (rowOf (memberOf S i j) (placementOf o S (memberOf S i j) (afterMembers o S (take j (tableOf S i .members)) begin)))
+  -- member j of table i: 63 members at most stand before it
+  pub placed-small-at : (i j : ℕ) → j < length (tableOf S i .members)
+      → PlacedSmall (placementOf o S (memberOf S i j) (afterMembers o S (take j (tableOf S i .members)) begin))
   unfolding begin
-  row-small-at i j l =
+  placed-small-at i j l =
       let ms = tableOf S i .members in
       let ends = after-members o narrow S G (take j ms) (all-take (MemberSound S) j ms (G .tables i .members)) begin in
-      row-small (memberOf S i j) (member-sound-at S G i j l) (afterMembers o S (take j ms) begin) (behind-members o S (take j ms) begin (omega arith))
+      placed-small (memberOf S i j) (member-sound-at S G i j l) (afterMembers o S (take j ms) begin) (behind-members o S (take j ms) begin (omega arith))
       (omega (arith, ends, length-take-le j ms (omega arith), G .tables i .few))

@@ -5,3 +5,4 @@ pub mod LoopCases
 pub mod PlaceCases
 pub mod TableCases
 pub mod AnswerCases
+pub mod PlacementCases

@@ -1,6 +1,8 @@
 // The table of member positions: it is made from a lawful schema, a table that is handed in is held to it, and members are found by it.
 use coding::Cursor;
+use coding::Placement;
 use coding::Row;
+use coding::Slot;
 use coding::WriteAnswer;
 ghost use mathlib.Core.Path.{_≡_};
 ghost use mathlib.Core.List.{flatMap};
@@ -19,6 +21,7 @@ ghost use Rattle.laws.specs.Sound.{MemberSound};
 ghost use Rattle.message_layout.specs.Bounds.{Laid};
 ghost use Rattle.schema.specs.Directory.{Accepted, AcceptedUnder};
 ghost use Rattle.wire.specs.Sizes.{Width};
+ghost use Rattle.positions.specs.Placements as Pl;
 ghost use Rattle.positions.specs.Rows.{Low, Next, tableBytes, TableJudged};
 
 // The bytes of a row: three U32s.
@@ -96,8 +99,8 @@ fn record_row(b: &[u8], dir: &[u16], at: usize, c: Cursor, o: usize) -> RowStep
     ensures { λ q. ⌜ Next o (P.parse (now (b .entry))) (P.memberAt (now (b .entry)) at) c (q .row) (q .next) ⌝ }
 {
     let flagged = flagged_at(b, at);
-    let flag = flag_bit(flagged, c);
     let behind = message_layout::after_flag(flagged, c);
+    let flag = flag_bit(flagged, c);
     if schema::kind_at(b, at) == schema::KIND_BOOL {
         let value = next_bit(behind);
         let next = message_layout::after_bit(behind);
@@ -303,4 +306,35 @@ pub fn judge_schema(b: &[u8], rows: &[u8], dir: &mut [u16], o: usize) -> bool
         return false;
     }
     matches(b, dir, rows, o)
+}
+
+// ---- a member by its row
+// The slot of a first bit, of so many bytes.
+fn slot_at(bit: usize, size: usize) -> Slot
+    ensures { λ r. ⌜ r ≡ Pl.slotAt bit size ⌝ }
+{
+    Slot {
+        at: wire::eighth(bit),
+        bit: wire::low_three(bit),
+        size,
+    }
+}
+
+// The placement that the row from byte `at` on gives. Where its member has no flag, the flag's slot says nothing.
+pub fn placement_in(rows: &[u8], at: usize) -> Placement
+    requires { ⌜ (at < 2 ^ 61) × (at + 12 ≤ length (now rows)) ⌝ }
+    ensures { λ r. ⌜ r ≡ Pl.placementIn (now (rows .entry)) at ⌝ }
+{
+    let bits = wire::u32_in(rows, at + 8) as usize;
+    let value = slot_at(wire::u32_in(rows, at) as usize, wire::eighth(bits + 7));
+    let flag = slot_at(wire::u32_in(rows, at + 4) as usize, 1);
+    Placement { value, flag }
+}
+
+// Where member j of table t stands, by the table of positions of its schema: the members before it are not looked at.
+pub fn placement_at(b: &[u8], dir: &[u16], rows: &[u8], t: usize, j: usize, o: usize) -> Placement
+    requires { ⌜ (Accepted (now b) (now dir)) × (Width o) × (now rows ≡ Po.positionsOf o (now b)) × (t < P.tableCount (now b)) × (j < length (Sc.tableOf (P.parse (now b)) t .members)) × (j < 256) ⌝ }
+    ensures { λ r. ⌜ Pl.ByTable o (P.parse (now (b .entry))) (Sc.memberOf (P.parse (now (b .entry))) t j) (Pl.cursorAt o (now (b .entry)) t j) r ⌝ }
+{
+    placement_in(rows, first_row(b, dir, t) + ROW * j)
 }

@@ -1,3 +1,4 @@
+use native.Mathlib.Omega.{arith}
 use Rattle.positions.proofs.AnswerCases.{other-length, table-short, right-length, rows-same}
 use borrow.Author.Needs.{needs}
 use Rattle.positions.proofs.matches.Statement.{statement}
@@ -7,7 +8,7 @@ size-requires : tie.Need-size-requires
 size-requires c κs = search needs
 
 returns : tie.Need-returns
-returns c = search other-length
+returns c = other-length _ _ _ (c .before .size .ensures .0) _ (λ e. omega arith)
 
 tables-are-requires : tie.Need-tables-are-requires
 tables-are-requires c κs = (search needs, search needs, search right-length, search table-short)

@@ -6,11 +6,11 @@ use Rattle.positions.proofs.record_row.Tie as tie
 flagged-at-requires : tie.Need-flagged-at-requires
 flagged-at-requires c κs = search needs
 
-flag-bit-requires : tie.Need-flag-bit-requires
-flag-bit-requires c κs = search needs
-
 after-flag-requires : tie.Need-after-flag-requires
 after-flag-requires c κs = search needs
+
+flag-bit-requires : tie.Need-flag-bit-requires
+flag-bit-requires c κs = search needs
 
 kind-at-requires : tie.Need-kind-at-requires
 kind-at-requires c κs = search needs
@@ -44,8 +44,8 @@ record-row-spec =
     tie.close
     (tie.spec
     flagged-at-requires
-    flag-bit-requires
     after-flag-requires
+    flag-bit-requires
     kind-at-requires
     next-bit-requires
     after-bit-requires
