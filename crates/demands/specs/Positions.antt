@@ -1,14 +1,14 @@
 -- 02, K10: "Each row equals what the old rule gives, and with that table every public answer is equal to the old one; ... Any other table
 -- handed in gets refusal 1, tried with the schema."
 use mathlib.Core.Path.{_≡_, refl, sym, ap, _∙_, subst}
-use mathlib.Core.Bool.{Bool, true, false, and-false}
+use mathlib.Core.Bool.{Bool, true, false}
 use mathlib.Core.List.{List, [], _++_}
 use Prim.Native.Nat.{ℕ, _+_, _*_, _<_, _≤_}
 use native.Mathlib.Omega.{arith}
 use lib.ListN.{length, getD, take, drop}
 use borrow.Author.Tests.{le-leb, lt-leb}
 use Rattle.coding.specs.Lists.{same}
-use Rattle.coding.specs.Bytes.{le, leBytes, widthKnown}
+use Rattle.coding.specs.Bytes.{le}
 use Rattle.coding.specs.Schema.{Schema, tableOf, memberOf}
 use Rattle.coding.specs.Packed.{tableCount, parse}
 use Rattle.coding.specs.Lawful as L
@@ -16,10 +16,9 @@ use Rattle.coding.specs.Layout.{width, isBool, hasFlag, slotOf, memberSlot, pla
 use Rattle.coding.specs.Walk as W
 use Rattle.coding.specs.Message as M
 use Rattle.coding.specs.Field as F
-use Rattle.coding.specs.Positions.{firstBit, noFlag, flagBit, bitSize, rowOf, rowBytes, tableRows, schemaRows, positionsOf, positionsMade, positionsAnswer, positionsOut, tableRight, withTable}
+use Rattle.coding.specs.Positions.{firstBit, noFlag, flagBit, bitSize, rowOf, tableRows, schemaRows, positionsOf, positionsMade, positionsAnswer, positionsOut, tableRight, withTable}
 use Rattle.coding.specs.declared.Member.{Member}
 use Rattle.coding.specs.declared.Placement.{Placement}
-use Rattle.coding.specs.declared.Row.{Row}
 use Rattle.coding.specs.declared.Budget.{Budget}
 use Rattle.coding.specs.declared.Answer.the-variants as A
 use Rattle.coding.specs.declared.Found.{Found}
@@ -27,6 +26,7 @@ use Rattle.coding.specs.declared.Found.the-variants as Fd
 use Rattle.laws.specs.Lists.{both-left, both-right}
 use Rattle.laws.specs.Rules.{lawful-narrow}
 use Rattle.laws.specs.LawfulSound.{lawful-sound}
+use Rattle.laws.specs.LentTables.{right-schema, wrong-schema, no-schema}
 use Rattle.laws.specs.Parsed.{tables-length}
 use Rattle.laws.specs.SameLists.{same-is, same-self}
 use Rattle.laws.specs.PositionRows.{memberTotal, RowIn, table-bytes-length, member-rows-at, row-in}
@@ -142,20 +142,6 @@ right-lawful o b t e = both-left (L.lawful o b) (same t (positionsOf o b)) e
 pub right-is : (o : ℕ) (b t : List ℕ) → tableRight o b t ≡ true → t ≡ positionsOf o b
 unfolding tableRight
 right-is o b t e = same-is t (positionsOf o b) (both-right (L.lawful o b) (same t (positionsOf o b)) e)
-
--- whoever reads with the right table reads by the schema
-pub right-schema : (o : ℕ) (b t : List ℕ) → tableRight o b t ≡ true → withTable o b t ≡ b
-unfolding withTable
-right-schema o b t e = rw e
-
--- whoever reads with another reads by a schema that is not lawful
-wrong-schema : (o : ℕ) (b t : List ℕ) → tableRight o b t ≡ false → withTable o b t ≡ []
-unfolding withTable
-wrong-schema o b t e = rw e
-
-no-schema : (o : ℕ) → L.lawful o [] ≡ false
-unfolding L.lawful L.wellFormed L.shapeOk L.countsOk
-no-schema o = and-false (widthKnown o)
 
 -- ---- what every public reader answers where refusal 1 arises
 pub record SchemaRefused (o : ℕ) (b : List ℕ) : Type 0 where

@@ -20,3 +20,4 @@ pub mod SameLists
 pub mod PositionRows
 pub mod RowBounds
 pub mod RowReads
+pub mod LentTables

@@ -1,26 +1,26 @@
 -- The whole answers: the table that is made, and a table that is handed in.
 use mathlib.Core.Path.{_≡_, refl, sym, ap, ap₂, _∙_}
-use mathlib.Core.Bool.{Bool, true, false, _&&_, not}
+use mathlib.Core.Bool.{Bool, true, false, not}
 use mathlib.Core.List.{List, _++_}
-use Prim.Native.Nat.{ℕ, _+_, _*_, _^_, _<_, _≤_}
+use Prim.Native.Nat.{ℕ, _*_, _^_, _<_, _≤_}
 use native.Mathlib.Omega.{arith}
 use native.Mathlib.Nat.{zero-add}
-use lib.Dec.{leb}
 use lib.ListN.{length, drop}
 use lib.Seq.{sets, sets-eq}
 use borrow.Author.Tests.{not-true, not-false, le-leb, lt-leb}
-use Rattle.coding.specs.Lists.{pick, same}
+use Rattle.coding.specs.Lists.{same}
 use Rattle.coding.specs.Packed as P
 use Rattle.coding.specs.Lawful as L
 use Rattle.coding.specs.Message as M
 use Rattle.coding.specs.Positions as Po
 use Rattle.coding.specs.declared.WriteAnswer.{WriteAnswer}
+use Rattle.laws.specs.LentTables.{right-schema, wrong-schema, no-schema}
 use Rattle.laws.specs.Lists.{never}
 use Rattle.laws.specs.PositionRows.{memberTotal, table-bytes-length}
 use Rattle.laws.specs.SameLists.{stands, same-is, same-longer, same-stands}
 use Rattle.schema.specs.Directory.{Accepted, AcceptedUnder, Judged}
 use Rattle.wire.specs.Sizes.{Width}
-use Rattle.positions.specs.Rows.{AcceptedWith, TableJudged}
+use Rattle.positions.specs.Rows.{TableJudged}
 
 -- ---- the length of the table, which was counted
 module _ (o : ℕ) (b : List ℕ) (n : ℕ) (en : n ≡ 12 * memberTotal (P.parse b .tables)) where
@@ -83,23 +83,35 @@ module _ (o : ℕ) (b dir out : List ℕ) (t : Bool) (j : Judged o b dir t) (h :
   unfolding Po.positionsOut Po.positionsMade M.writeOver
   schema-out = rw (← (j .is), h) refl
 
+-- ---- the schema with a table
+off-judged : (o : ℕ) (b dir t : List ℕ) → Po.tableRight o b t ≡ false → TableJudged o b t dir false
+off-judged o b dir t e =
+    record { is = sym (ap (L.lawful o) (wrong-schema o b t e) ∙ no-schema o); right = λ x. absurd (never x) }
+
 module _ (o : ℕ) (b dir t : List ℕ) (s : Bool) (j : Judged o b dir s) where
   pub schema-off : not s ≡ true → TableJudged o b t dir false
   unfolding Po.tableRight
-  schema-off h = record { is = rw (← (j .is), not-true s h) refl; right = λ e. absurd (never e) }
+  schema-off h = off-judged o b dir t (rw (← (j .is), not-true s h) refl)
 
   module _ (h : not s ≡ false) where
+    accepted : AcceptedUnder o b dir
+    accepted = j .right (not-false s h)
+
     pub schema-right : Accepted b dir
-    schema-right = j .right (not-false s h) .accepted
+    schema-right = accepted .accepted
 
     pub schema-width : Width o
-    schema-width = j .right (not-false s h) .width
+    schema-width = accepted .width
+
+    right-by : (r : Bool) → r ≡ same t (Po.positionsOf o b) → Po.tableRight o b t ≡ r
+    unfolding Po.tableRight
+    right-by r e = rw (accepted .lawful) (sym e)
 
     pub table-judged : (r : Bool) → r ≡ same t (Po.positionsOf o b) → TableJudged o b t dir r
-    unfolding Po.tableRight
-    table-judged r e =
+    table-judged true e =
+        let whole : Po.withTable o b t ≡ b = right-schema o b t (right-by true e) in
         record {
-          is = e ∙ ap (λ (x : Bool). x && same t (Po.positionsOf o b)) (sym (not-false s h) ∙ j .is);
-          right =
-              λ y. record { accepted = j .right (not-false s h); table = same-is t (Po.positionsOf o b) (sym e ∙ y) };
+          is = sym (ap (L.lawful o) whole ∙ accepted .lawful);
+          right = λ x. record { accepted = accepted; table = same-is t (Po.positionsOf o b) (sym e); schema = whole };
         }
+    table-judged false e = off-judged o b dir t (right-by false e)

@@ -7,7 +7,6 @@ use native.Mathlib.Omega.{arith}
 use lib.Dec.{ltb, leb, eqb}
 use lib.ListN.{length}
 use borrow.Author.Tests.{not-true, not-false, ltb-true, ltb-false, leb-true, leb-false, eqb-true, eqb-false, lt-ltb, le-ltb, ne-eqb}
-use Rattle.coding.specs.Lists.{pick}
 use Rattle.coding.specs.Schema.{Schema}
 use Rattle.coding.specs.Structs.{flatWidth, structSize}
 use Rattle.coding.specs.Packed as P
@@ -18,7 +17,7 @@ use Rattle.coding.specs.declared.Kind.{Kind}
 use Rattle.coding.specs.declared.Kind.the-variants.{OfFlat, OfObject, OfUnion}
 use Rattle.laws.specs.Lists.{pick-holds}
 use Rattle.laws.specs.Parsed.{structs-length}
-use Rattle.laws.specs.Sound.{FlatOptional, MayBeOptional, FlatSound, KindSound, MemberSound}
+use Rattle.laws.specs.Sound.{FlatOptional, MayBeOptional, KindSound, MemberSound}
 
 -- ---- the flag
 -- what may be optional has a flag then, unless it is a float

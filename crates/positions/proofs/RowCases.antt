@@ -13,15 +13,13 @@ use Rattle.coding.specs.Packed as P
 use Rattle.coding.specs.Layout as L
 use Rattle.coding.specs.Positions as Po
 use Rattle.coding.specs.declared.Flat.{Flat}
-use Rattle.coding.specs.declared.Flat.the-variants.{Boolean, Integer, Float, Enumerated, Struct}
+use Rattle.coding.specs.declared.Flat.the-variants.{Integer, Float, Enumerated, Struct}
 use Rattle.coding.specs.declared.Kind.{Kind}
 use Rattle.coding.specs.declared.Kind.the-variants.{OfFlat, OfObject, OfUnion}
 use Rattle.coding.specs.declared.Member.{Member}
 use Rattle.coding.specs.declared.Cursor.{Cursor}
-use Rattle.coding.specs.declared.Slot.{Slot}
 use Rattle.coding.specs.declared.Row.{Row}
 use Rattle.laws.specs.Lists.{pick-holds}
-use Rattle.laws.specs.RowBounds.{RowSmall}
 use Rattle.message_layout.specs.Bounds.{Laid}
 use Rattle.positions.specs.Rows.{Low, Next}
 

@@ -1,13 +1,14 @@
 -- What the contracts say of rows, and of the tables that are made of them.
-use Prim.Native.Nat.{ℕ, _+_, _*_, _<_, _≤_}
+use Prim.Native.Nat.{ℕ, _+_, _≤_}
 use mathlib.Core.Path.{_≡_}
 use mathlib.Core.Bool.{Bool, true}
 use mathlib.Core.List.{List, flatMap}
 use lib.ListN.{drop}
 use Rattle.coding.specs.Schema.{Schema, tableOf}
 use Rattle.coding.specs.Packed.{parse}
+use Rattle.coding.specs.Lawful.{lawful}
 use Rattle.coding.specs.Layout.{placementOf, afterMember}
-use Rattle.coding.specs.Positions.{rowOf, rowBytes, memberRows, tableRows, positionsOf, tableRight}
+use Rattle.coding.specs.Positions.{rowOf, rowBytes, memberRows, tableRows, positionsOf, withTable}
 use Rattle.coding.specs.declared.Member.{Member}
 use Rattle.coding.specs.declared.Cursor.{Cursor}
 use Rattle.coding.specs.declared.Row.{Row}
@@ -38,12 +39,13 @@ restBytes o b t j c = flatMap rowBytes (memberRows o (parse b) c (drop j (tableO
 abbrev pub tablesBytes : ℕ → List ℕ → ℕ → List ℕ
 tablesBytes o b t = flatMap rowBytes (flatMap (tableRows o (parse b)) (drop t (parse b .tables)))
 
--- the schema is lawful under the coding whose offsets have o bytes, and t is its table of positions
+-- the schema is lawful under the coding whose offsets have o bytes, and t is its table of positions: a reader goes by it
 pub record AcceptedWith (o : ℕ) (b t dir : List ℕ) : Type 0 where
   pub accepted : AcceptedUnder o b dir
   pub table : t ≡ positionsOf o b
+  pub schema : withTable o b t ≡ b
 
--- an answer to that
+-- an answer to whether refusal 1 does not arise
 pub record TableJudged (o : ℕ) (b t dir : List ℕ) (r : Bool) : Type 0 where
-  pub is : r ≡ tableRight o b t
+  pub is : r ≡ lawful o (withTable o b t)
   pub right : r ≡ true → AcceptedWith o b t dir

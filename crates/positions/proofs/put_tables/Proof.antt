@@ -1,5 +1,5 @@
 use Rattle.positions.proofs.LoopCases.{tables-long, start-put, table-low, table-fits, rest-long, table-put, tables-put}
-use Prim.Native.Nat.{_+_, _-_, _*_, _≤_}
+use Prim.Native.Nat.{_+_, _-_, _≤_}
 use mathlib.Core.Path.{_≡_, refl}
 use native.Mathlib.Omega.{arith}
 use lib.ListN.{length}

@@ -1,7 +1,6 @@
 use Prim.Native.Nat.{_+_, _-_, _*_, _≤_}
-use mathlib.Core.Path.{_≡_, refl}
+use mathlib.Core.Path.{_≡_}
 use native.Mathlib.Omega.{arith}
-use lib.ListN.{length}
 use Rattle.laws.specs.SameLists.{stands}
 use Rattle.message_layout.specs.Bounds.{Laid}
 use Rattle.positions.specs.Rows.{tableBytes, restBytes}
