@@ -39,6 +39,9 @@ pub mod WrittenTree
 pub mod WrittenMessage
 pub mod ShownWrites
 pub mod TreeTrip
+pub mod UnionsInPlace
+pub mod ClearedSchema
+pub mod ClearedBytes
 pub mod WrittenSheet
 pub mod RoundTrip
 pub mod RoundTripCases
