@@ -24,7 +24,7 @@ use Rattle.coding.specs.declared.Verdict.{Verdict}
 use Rattle.coding.specs.declared.ReadAnswer.{ReadAnswer}
 use Rattle.demands.specs.Counter.{Case, N, M}
 use Rattle.demands.specs.Traps.{table, u48, rooted, inPlace, enum, case}
-use Rattle.demands.specs.RoundTripCases.{schema, made}
+use Rattle.demands.specs.MovedCases.{schema, stored}
 
 -- ---- schemas and messages, beside N and M, which has its root at 10 with a fixed part of 8 bytes, and a text of two bytes at 28
 -- no member; a U16; two texts; a reference to the table itself
@@ -119,9 +119,9 @@ allowanceCases =
     ∷ case (judged (listed 0x68) (listMessage 2 (u48 0 ++ u48 0)) 2 18) (0 ∷ 0 ∷ 2 ∷ 18 ∷ [])
     ∷ case (judged (listed 0x68) (listMessage 2 (u48 0 ++ u48 0)) 2 17) (17 ∷ 26 ∷ 2 ∷ 6 ∷ [])
     -- the message of the round trip's case: 58, 2, 24, 2, 7, 1 and, in place at 78, 7
-    ∷ case (judged schema made 7 101) (0 ∷ 0 ∷ 7 ∷ 101 ∷ [])
-    ∷ case (judged schema made 7 100) (17 ∷ 78 ∷ 7 ∷ 94 ∷ [])
-    ∷ case (judged schema made 6 101) (4 ∷ 78 ∷ 6 ∷ 94 ∷ [])
+    ∷ case (judged schema stored 7 101) (0 ∷ 0 ∷ 7 ∷ 101 ∷ [])
+    ∷ case (judged schema stored 7 100) (17 ∷ 78 ∷ 7 ∷ 94 ∷ [])
+    ∷ case (judged schema stored 6 101) (4 ∷ 78 ∷ 6 ∷ 94 ∷ [])
     -- under the older coding the fixed part has 6 bytes
     ∷ case (judgedOlder N olderMessage 2 8) (0 ∷ 0 ∷ 2 ∷ 8 ∷ [])
     ∷ case (judgedOlder N olderMessage 2 7) (17 ∷ 22 ∷ 2 ∷ 6 ∷ [])

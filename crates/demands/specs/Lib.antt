@@ -39,12 +39,14 @@ pub mod WrittenTree
 pub mod WrittenMessage
 pub mod ShownWrites
 pub mod TreeTrip
-pub mod UnionsInPlace
-pub mod ClearedSchema
-pub mod ClearedBytes
 pub mod WrittenSheet
 pub mod RoundTrip
 pub mod RoundTripCases
+pub mod UnionsInPlace
+pub mod ClearedSchema
+pub mod ClearedBytes
+pub mod Moved
+pub mod MovedCases
 pub mod Allowances
 pub mod SameLayout
 pub mod SameStep
