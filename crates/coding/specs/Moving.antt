@@ -16,13 +16,21 @@ use Rattle.coding.specs.Message.{Written, refused, message, written, mes
 unfoldable pub noMember : List ℕ → ℕ → ℕ → Bool
 noMember b p i = every (λ j. not (eqb p (recordPlace 4 (tablePlace b i) j))) (records b 4 (tablePlace b i))
 
--- "those unions": whether the record of a table's member begins at place p, of kind 17 and in place
-unfoldable pub inplaceUnion : List ℕ → ℕ → Bool
-inplaceUnion b p = not (every (noMember b p) (tableCount b)) && (eqb (kindAt b p) 17 && inplaceAt b p)
+-- whether the record of a table's member begins at place p
+unfoldable pub memberStarts : List ℕ → ℕ → Bool
+memberStarts b p = not (every (noMember b p) (tableCount b))
 
--- the byte at place p, "in which only the in-place flag of those unions is cleared": the bit that counts 2 (Packed.inplaceAt)
+-- whether the record at place p is one of "those unions"
+unfoldable pub inplaceUnion : List ℕ → ℕ → Bool
+inplaceUnion b p = eqb (kindAt b p) 17 && inplaceAt b p
+
+-- the first byte of a record whose in-place flag is set, with that flag "cleared": it is the bit that counts 2 (Packed.inplaceAt)
+unfoldable pub flagCleared : ℕ → ℕ
+flagCleared x = x - 2
+
+-- the byte at place p, where "only the in-place flag of those unions is cleared"
 unfoldable pub clearedByte : List ℕ → ℕ → ℕ
-clearedByte b p = pick (inplaceUnion b p) (getD b p 0 - 2) (getD b p 0)
+clearedByte b p = pick (memberStarts b p && inplaceUnion b p) (flagCleared (getD b p 0)) (getD b p 0)
 
 -- "a schema in which only the in-place flag of those unions is cleared"
 unfoldable pub withoutInplaceUnions : List ℕ → List ℕ

@@ -36,8 +36,8 @@ pub record Cleared (b c : List ℕ) : Type 0 where
       → getD c (P.recordPlace 4 (P.tablePlace b i) j + 1) 0 ≡ getD b (P.recordPlace 4 (P.tablePlace b i) j + 1) 0
   pub first : (i j : ℕ) → i < P.tableCount b → j < P.records b 4 (P.tablePlace b i)
       → getD c (P.recordPlace 4 (P.tablePlace b i) j) 0
-      ≡ pick (eqb (P.kindAt b (P.recordPlace 4 (P.tablePlace b i) j)) 17 && P.inplaceAt b (P.recordPlace 4 (P.tablePlace b i) j))
-      (getD b (P.recordPlace 4 (P.tablePlace b i) j) 0 - 2) (getD b (P.recordPlace 4 (P.tablePlace b i) j) 0)
+      ≡ pick (M.inplaceUnion b (P.recordPlace 4 (P.tablePlace b i) j))
+      (M.flagCleared (getD b (P.recordPlace 4 (P.tablePlace b i) j) 0)) (getD b (P.recordPlace 4 (P.tablePlace b i) j) 0)
 
 pub is-cleared : (b : List ℕ) → Cleared b (M.withoutInplaceUnions b)
 is-cleared b =
@@ -242,12 +242,12 @@ module _ (b c : List ℕ) (C : Cleared b c) where
 
     member-flag : P.inplaceAt c at ≡ pick (eqb (P.kindAt b at) 17) false (P.inplaceAt b at)
     unfolding P.inplaceAt P.kindAt
-    member-flag = byte-cleared (getD b at 0) (getD c at 0) (unfold P.inplaceAt P.kindAt in C .first i j l m) .1 .1 .1
+    member-flag = byte-cleared (getD b at 0) (getD c at 0) (unfold M.inplaceUnion M.flagCleared P.inplaceAt P.kindAt in C .first i j l m) .1 .1 .1
 
     member-record : SameRecord b c at
     unfolding P.kindAt P.optionalAt P.zeroAt P.argumentAt
     member-record =
-        let e = byte-cleared (getD b at 0) (getD c at 0) (unfold P.inplaceAt P.kindAt in C .first i j l m) in
+        let e = byte-cleared (getD b at 0) (getD c at 0) (unfold M.inplaceUnion M.flagCleared P.inplaceAt P.kindAt in C .first i j l m) in
         record {
           kind = e .0;
           optional = ap (λ (x : ℕ). eqb x 1) (e .1 .0);
@@ -537,9 +537,9 @@ cleared-lawful b h =
 
 -- and its bytes are bytes
 pub cleared-bytes : (b : List ℕ) → ((i : ℕ) → getD b i 0 < 256) → (i : ℕ) → getD (M.withoutInplaceUnions b) i 0 < 256
-unfolding M.clearedByte
-cleared-bytes b h i = rw (without-at b i) (by (M.inplaceUnion b i))
+unfolding M.clearedByte M.flagCleared
+cleared-bytes b h i = rw (without-at b i) (by (M.memberStarts b i && M.inplaceUnion b i))
   where
-    by : (t : Bool) → pick t (getD b i 0 - 2) (getD b i 0) < 256
+    by : (t : Bool) → pick t (M.flagCleared (getD b i 0)) (getD b i 0) < 256
     by true = omega (arith, h i)
     by false = h i

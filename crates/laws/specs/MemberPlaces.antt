@@ -4,7 +4,7 @@ use mathlib.Core.Path.{_≡_, refl, sym, ap, _∙_}
 use mathlib.Core.Bool.{Bool, true, false, _&&_, not}
 use mathlib.Core.Logic.{_⊎_, inl, inr}
 use mathlib.Core.List.{List}
-use Prim.Native.Nat.{ℕ, zero, suc, _+_, _*_, _-_, _<_, _≤_}
+use Prim.Native.Nat.{ℕ, zero, suc, _+_, _*_, _<_, _≤_}
 use native.Mathlib.Omega.{arith}
 use lib.ListN.{getD, length, List·getD-eq-default}
 use lib.Dec.{eqb}
@@ -72,13 +72,13 @@ module _ (b : List ℕ) where
   -- ---- the cleared bytes
   -- the first byte of a member's record
   pub cleared-member : (p : ℕ) → MemberPlace p
-      → M.clearedByte b p ≡ pick (eqb (P.kindAt b p) 17 && P.inplaceAt b p) (getD b p 0 - 2) (getD b p 0)
-  unfolding M.clearedByte M.inplaceUnion
+      → M.clearedByte b p ≡ pick (M.inplaceUnion b p) (M.flagCleared (getD b p 0)) (getD b p 0)
+  unfolding M.clearedByte M.memberStarts
   cleared-member p at = rw (starts-at p at)
 
   -- any other
   pub cleared-other : (p : ℕ) → (MemberPlace p → ⊥) → M.clearedByte b p ≡ getD b p 0
-  unfolding M.clearedByte M.inplaceUnion
+  unfolding M.clearedByte M.memberStarts
   cleared-other p other = rw (starts-not p other)
 
   -- ---- which are other: what stands before the tables,
@@ -113,10 +113,10 @@ module _ (b : List ℕ) where
 
   -- past the end there is nothing to clear
   cleared-past : (p : ℕ) → length b ≤ p → M.clearedByte b p ≡ 0
-  unfolding M.clearedByte
-  cleared-past p l = by (M.inplaceUnion b p) (List·getD-eq-default b 0 l)
+  unfolding M.clearedByte M.flagCleared
+  cleared-past p l = by (M.memberStarts b p && M.inplaceUnion b p) (List·getD-eq-default b 0 l)
     where
-      by : (t : Bool) → getD b p 0 ≡ 0 → pick t (getD b p 0 - 2) (getD b p 0) ≡ 0
+      by : (t : Bool) → getD b p 0 ≡ 0 → pick t (M.flagCleared (getD b p 0)) (getD b p 0) ≡ 0
       by true e = omega arith
       by false e = e
 
