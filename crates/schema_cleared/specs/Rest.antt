@@ -4,13 +4,17 @@ use mathlib.Core.List.{List}
 use mathlib.Core.Path.{_≡_}
 use lib.ListN.{getD, length}
 use lib.Seq.{sets}
-use Rattle.coding.specs.Lists.{run}
-use Rattle.coding.specs.Moving.{clearedByte}
+use Rattle.coding.specs.Lists.{pick, run}
+use Rattle.coding.specs.Moving.{inplaceUnion, flagCleared, clearedByte}
 
--- the output once the bytes from a place on are stored too
+-- the first byte of the record at a place, if it is a table member's
+unfoldable pub first : List ℕ → ℕ → ℕ
+first b at = pick (inplaceUnion b at) (flagCleared (getD b at 0)) (getD b at 0)
+
+-- the output once the bytes from place p on are stored too
 unfoldable pub rest : List ℕ → List ℕ → ℕ → List ℕ
 rest b out p = sets out p (run (clearedByte b) p (length b - p))
 
 -- from one place to another nothing is cleared
-abbrev pub Kept : List ℕ → ℕ → ℕ → Type 0
-Kept b from to = (p : ℕ) → from ≤ p → p < to → clearedByte b p ≡ getD b p 0
+pub record Kept (b : List ℕ) (from to : ℕ) : Type 0 where
+  pub at : (p : ℕ) → from ≤ p → p < to → clearedByte b p ≡ getD b p 0

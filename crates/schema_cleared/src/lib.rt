@@ -2,15 +2,13 @@
 use coding::WriteAnswer;
 ghost use mathlib.Core.Path.{_≡_};
 ghost use Prim.Native.Nat.{_+_, _<_, _≤_};
-ghost use lib.ListN.{length, getD};
-ghost use Rattle.coding.specs.Lists.{pick};
-ghost use Rattle.coding.specs.Bytes.{u48};
+ghost use lib.ListN.{length, getD, set};
 ghost use Rattle.coding.specs.Packed as P;
 ghost use Rattle.coding.specs.Message.{writeRoom, writeOver};
 ghost use Rattle.coding.specs.Moving as M;
 ghost use Rattle.laws.specs.MemberPlaces.{tablesStart};
 ghost use Rattle.schema.specs.Directory.{Directory, AcceptedUnder};
-ghost use Rattle.schema_cleared.specs.Rest.{rest, Kept};
+ghost use Rattle.schema_cleared.specs.Rest.{first, rest, Kept};
 
 // The in-place flag in the first byte of a record.
 const IN_PLACE: u8 = 2;
@@ -18,7 +16,7 @@ const IN_PLACE: u8 = 2;
 // The first byte of a member's record, without the in-place flag if it is a union's.
 fn first_byte(b: &[u8], at: usize) -> u8
     requires { ⌜ at + 1 < length (now b) ⌝ }
-    ensures { λ r. ⌜ r ≡ pick (M.inplaceUnion (now (b .entry)) at) (M.flagCleared (getD (now (b .entry)) at 0)) (getD (now (b .entry)) at 0) ⌝ }
+    ensures { λ r. ⌜ r ≡ first (now (b .entry)) at ⌝ }
 {
     let x = wire::byte_in(b, at);
     if !schema::is_union_kind(schema::kind_at(b, at)) {
@@ -28,6 +26,17 @@ fn first_byte(b: &[u8], at: usize) -> u8
         return x;
     }
     x - IN_PLACE
+}
+
+// The two bytes of a member's record.
+fn clear_record(b: &[u8], at: usize, out: &mut [u8])
+    requires { ⌜ (at + 1 < length (now b)) × (length (now b) ≤ length (now out)) ⌝ }
+    ensures { λ _. ⌜ now (out .exit) ≡ set (set (now (out .entry)) at (first (now (b .entry)) at)) (at + 1) (getD (now (b .entry)) (at + 1) 0) ⌝ }
+{
+    let x = first_byte(b, at);
+    let y = wire::byte_in(b, at + 1);
+    out[at] = x;
+    out[at + 1] = y;
 }
 
 // The bytes from one place to another, of which nothing is cleared.
@@ -51,9 +60,7 @@ fn clear_records(b: &[u8], dir: &[u16], i: usize, out: &mut [u8])
     let n = schema::records(b, schema::TABLE_HEAD, at);
     let mut j: usize = 0;
     while j < n {
-        let p = schema::record_place(schema::TABLE_HEAD, at, j);
-        out[p] = first_byte(b, p);
-        out[p + 1] = wire::byte_in(b, p + 1);
+        clear_record(b, schema::record_place(schema::TABLE_HEAD, at, j), out);
         j += 1;
     }
 }
@@ -93,7 +100,7 @@ fn refused(number: u8) -> WriteAnswer
 
 // A lawful schema: 14, or else its bytes with the flags cleared.
 fn clear_lawful(b: &[u8], dir: &[u16], out: &mut [u8]) -> WriteAnswer
-    requires { ⌜ AcceptedUnder u48 (now b) (now dir) ⌝ }
+    requires { ⌜ AcceptedUnder 6 (now b) (now dir) ⌝ }
     ensures { λ r. ⌜ r ≡ writeRoom (M.clearing (now (b .entry))) (length (now (out .entry))) ⌝ }
     ensures { λ _. ⌜ now (out .exit) ≡ writeOver (M.clearing (now (b .entry))) (now (out .entry)) ⌝ }
 {

@@ -1,3 +1,11 @@
+use Prim.Native.Nat.{_+_, _-_, _≤_}
+use mathlib.Core.Path.{_≡_, refl, _∙_}
+use native.Mathlib.Omega.{arith}
+use lib.ListN.{length}
+use borrow.Author.Needs.{needs}
+use Rattle.coding.specs.Packed.{recordPlace}
+use Rattle.schema_cleared.specs.Rest.{rest}
+use Rattle.schema_cleared.proofs.ClearCases.{first-record, record-inside, record-turn, records-done}
 use Rattle.schema_cleared.proofs.clear_records.Statement.{statement}
 use Rattle.schema_cleared.proofs.clear_records.Tie as tie
 use Rattle.schema_cleared.proofs.clear_records.Reads as reads
@@ -5,74 +13,48 @@ use Rattle.schema_cleared.proofs.clear_records.Lts as lts
 use Rattle.schema.proofs.record_place.Reads as record-place-reads
 use Rattle.schema.proofs.records.Reads as records-reads
 use Rattle.schema.proofs.table_place.Reads as table-place-reads
-use Rattle.schema_cleared.proofs.first_byte.Reads as first-byte-reads
-use Rattle.wire.proofs.byte_in.Reads as byte-in-reads
+use Rattle.schema_cleared.proofs.clear_record.Reads as clear-record-reads
 
 abbrev Inv-loop : tie.InvT-loop
-Inv-loop b dir i out₀ at n j₀ out j = ?
+Inv-loop b dir i out₀ at n j₀ out j =
+    (j ≤ n) × (length out ≡ length out₀) × (rest b out (recordPlace 4 at j) ≡ rest b out₀ (at + 5))
 
 abbrev μ-loop : tie.MeasureT-loop
-μ-loop b dir i out₀ at n j₀ out j = ?
+μ-loop b dir i out₀ at n j₀ out j = n - j
 
--- src/lib.rt:50:9
 table-place-requires : tie.Need-table-place-requires Inv-loop μ-loop
-table-place-requires c κs = ?
+table-place-requires c κs = search needs
 
--- src/lib.rt:51:9
 records-requires : tie.Need-records-requires Inv-loop μ-loop
-records-requires c κs = ?
+records-requires c κs = search needs
 
--- src/lib.rt:53:5
 loop-holds : tie.Need-loop-holds Inv-loop μ-loop
-loop-holds c = ?
+loop-holds c = (omega arith, refl, search first-record)
 
--- src/lib.rt:54:13
 record-place-requires : tie.Need-record-place-requires Inv-loop μ-loop
-record-place-requires c κs = ?
+record-place-requires c κs = search needs
 
--- src/lib.rt:55:18
-first-byte-requires : tie.Need-first-byte-requires Inv-loop μ-loop
-first-byte-requires c κs = ?
+clear-record-requires : tie.Need-clear-record-requires Inv-loop μ-loop
+clear-record-requires c κs = (search record-inside, omega arith)
 
--- src/lib.rt:55:9
-slice-write-out : tie.Need-slice-write-out Inv-loop μ-loop
-slice-write-out c = ?
-
--- src/lib.rt:56:39
-add-byte-in : tie.Need-add-byte-in Inv-loop μ-loop
-add-byte-in c = ?
-
--- src/lib.rt:56:22
-byte-in-requires : tie.Need-byte-in-requires Inv-loop μ-loop
-byte-in-requires c κs = ?
-
--- src/lib.rt:56:13
-add-out : tie.Need-add-out Inv-loop μ-loop
-add-out c = ?
-
--- src/lib.rt:56:9
-slice-write-out-2 : tie.Need-slice-write-out-2 Inv-loop μ-loop
-slice-write-out-2 c = ?
-
--- src/lib.rt:57:9
 add-j : tie.Need-add-j Inv-loop μ-loop
-add-j c = ?
+add-j c = search needs
 
--- src/lib.rt:53:5
 loop-less : tie.Need-loop-less Inv-loop μ-loop
-loop-less c = ?
+loop-less c = search needs
 
--- src/lib.rt:53:5
 loop-again : tie.Need-loop-again Inv-loop μ-loop
-loop-again c = ?
+loop-again c = (
+  omega arith,
+  c .before .before .clear-record .kept .1 .1 .0 ∙ c .before .before .before .before .before .before .loop .inv .1,
+  search (record-turn, c .before .before .before .before .before .before .loop .inv .2),
+)
 
--- src/lib.rt:46:1
 same-length : tie.Need-same-length Inv-loop μ-loop
-same-length c = ?
+same-length c = search needs
 
--- src/lib.rt:46:1
 returns : tie.Need-returns Inv-loop μ-loop
-returns c = ?
+returns c = search records-done
 
 pub clear-records-spec : {M : Type 1} → statement M
 clear-records-spec =
@@ -84,12 +66,7 @@ clear-records-spec =
     records-requires
     loop-holds
     record-place-requires
-    first-byte-requires
-    slice-write-out
-    add-byte-in
-    byte-in-requires
-    add-out
-    slice-write-out-2
+    clear-record-requires
     add-j
     loop-less
     loop-again

@@ -1,3 +1,10 @@
+use Prim.Native.Nat.{_-_, _≤_}
+use mathlib.Core.Path.{_≡_, refl}
+use native.Mathlib.Omega.{arith}
+use lib.ListN.{length, length-set}
+use borrow.Author.Needs.{needs}
+use Rattle.schema_cleared.specs.Rest.{rest}
+use Rattle.schema_cleared.proofs.ClearCases.{copy-turn, copy-done}
 use Rattle.schema_cleared.proofs.copy.Statement.{statement}
 use Rattle.schema_cleared.proofs.copy.Tie as tie
 use Rattle.schema_cleared.proofs.copy.Reads as reads
@@ -5,42 +12,35 @@ use Rattle.schema_cleared.proofs.copy.Lts as lts
 use Rattle.wire.proofs.byte_in.Reads as byte-in-reads
 
 abbrev Inv-loop : tie.InvT-loop
-Inv-loop b from to out₀ p₀ out p = ?
+Inv-loop b from to out₀ p₀ out p =
+    (from ≤ p) × (p ≤ to) × (length out ≡ length out₀) × (rest b out p ≡ rest b out₀ from)
 
 abbrev μ-loop : tie.MeasureT-loop
-μ-loop b from to out₀ p₀ out p = ?
+μ-loop b from to out₀ p₀ out p = to - p
 
--- src/lib.rt:39:5
 loop-holds : tie.Need-loop-holds Inv-loop μ-loop
-loop-holds c = ?
+loop-holds c = (omega arith, omega arith, refl, refl)
 
--- src/lib.rt:40:18
 byte-in-requires : tie.Need-byte-in-requires Inv-loop μ-loop
-byte-in-requires c κs = ?
+byte-in-requires c κs = search needs
 
--- src/lib.rt:40:9
 slice-write-out : tie.Need-slice-write-out Inv-loop μ-loop
-slice-write-out c = ?
+slice-write-out c = search needs
 
--- src/lib.rt:41:9
 add-p : tie.Need-add-p Inv-loop μ-loop
-add-p c = ?
+add-p c = search needs
 
--- src/lib.rt:39:5
 loop-less : tie.Need-loop-less Inv-loop μ-loop
-loop-less c = ?
+loop-less c = search needs
 
--- src/lib.rt:39:5
 loop-again : tie.Need-loop-again Inv-loop μ-loop
-loop-again c = ?
+loop-again c = (omega arith, omega arith, simp length-set (c .before .before .loop .inv .2), search copy-turn)
 
--- src/lib.rt:34:1
 same-length : tie.Need-same-length Inv-loop μ-loop
-same-length c = ?
+same-length c = search needs
 
--- src/lib.rt:34:1
 returns : tie.Need-returns Inv-loop μ-loop
-returns c = ?
+returns c = search copy-done
 
 pub copy-spec : {M : Type 1} → statement M
 copy-spec =
