@@ -2,28 +2,29 @@
 -- cleared, and it is lawful under the coding of 000 if the first is. What 02, K1 asks of direct lists can only become weaker.
 use mathlib.Core.Path.{_≡_, refl, sym, ap, ap₂, _∙_, subst}
 use mathlib.Core.Bool.{Bool, true, false, _&&_, not}
-use mathlib.Core.List.{List, [], _∷_, map}
+use mathlib.Core.List.{List, map}
 use Prim.Native.Nat.{ℕ, zero, suc, _+_, _*_, _-_, _/_, _%_, _<_, _≤_}
 use native.Mathlib.Nat.{add-zero}
 use native.Mathlib.Omega.{arith}
 use lib.ListN.{getD, length}
 use lib.Dec.{ltb, leb, eqb}
-use borrow.Author.Tests.{leb-true, ltb-true, eqb-true, eqb-false, le-leb, lt-ltb, eq-eqb, ne-eqb}
+use borrow.Author.Tests.{ltb-true, eqb-true, le-leb, eq-eqb, ne-eqb}
 use Rattle.coding.specs.Lists.{pick, every, run}
 use Rattle.coding.specs.Bytes.{u48}
 use Rattle.coding.specs.Packed as P
 use Rattle.coding.specs.Lawful as L
 use Rattle.coding.specs.Structs.{structSize, sizeBy}
-use Rattle.coding.specs.Schema.{Schema, Table, structOf}
+use Rattle.coding.specs.Schema.{Schema, structOf}
 use Rattle.coding.specs.Moving as M
 use Rattle.coding.specs.declared.Member.{Member}
 use Rattle.coding.specs.declared.Kind.{Kind}
 use Rattle.coding.specs.declared.Kind.the-variants.{OfFlat, OfObject, OfUnion}
 use Rattle.coding.specs.declared.Role.{Role}
 use Rattle.coding.specs.declared.Role.the-variants.{InStruct, InList, InUnion, InTable}
-use Rattle.laws.specs.Lists.{never, both-left, both-right, pick-holds, every-all, every-at, run-same, map-run}
+use Rattle.laws.specs.Lists.{never, both-left, both-right, every-all, every-at, run-same, map-run}
 use Rattle.laws.specs.Rules as R
-use Rattle.laws.specs.MemberPlaces.{blocks-ge, block-end, tablesStart, MemberPlace, cleared-member, cleared-other, before-tables, table-head, table-argument, without-length, without-at}
+use Rattle.laws.specs.Blocks.{blocks-ge, block-end}
+use Rattle.laws.specs.MemberPlaces.{tablesStart, cleared-member, cleared-other, before-tables, table-head, table-argument, without-length, without-at}
 use Rattle.demands.specs.ClearedSchema.{isUnion, clearedMember, clearedTable, clearedSchema}
 
 -- ---- what is the same, place by place
@@ -168,12 +169,12 @@ module _ (b c : List ℕ) (C : Cleared b c) where
   struct-within : (i j : ℕ) → i < P.structCount b → j ≤ P.records b 0 (P.structPlace b i)
       → P.recordPlace 0 (P.structPlace b i) j ≤ tablesStart b
   unfolding P.recordPlace P.structPlace P.listPlace
-  struct-within i j l m = omega (arith, block-end b 0 5 i (P.structCount b) l, lists-before)
+  struct-within i j l m = omega (arith, block-end b 0 5 (P.structCount b) i l, lists-before)
 
   union-within : (i j : ℕ) → i < P.unionCount b → j ≤ P.records b 0 (P.unionPlace b i)
       → P.recordPlace 0 (P.unionPlace b i) j ≤ tablesStart b
   unfolding P.recordPlace P.unionPlace
-  union-within i j l m = omega (arith, block-end b 0 (P.listPlace b (P.listCount b)) i (P.unionCount b) l)
+  union-within i j l m = omega (arith, block-end b 0 (P.listPlace b (P.listCount b)) (P.unionCount b) i l)
 
   list-within : (i : ℕ) → i < P.listCount b → P.listPlace b i + 2 ≤ tablesStart b
   unfolding P.listPlace

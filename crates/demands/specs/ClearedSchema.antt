@@ -1,18 +1,18 @@
 -- A schema in which only the in-place flag of unions is cleared (02, K12), once it is read. A sheet does not tell the two apart: each
 -- tree has the same sheet by both, and each sheet the same tree. By the cleared one a tree can be written exactly where it could be
 -- by the first before K12.
-use mathlib.Core.Path.{_≡_, refl, sym, ap, ap₂, _∙_, fun-ext}
+use mathlib.Core.Path.{_≡_, refl, ap, ap₂, _∙_, fun-ext}
 use mathlib.Core.Bool.{Bool, true, false, _&&_, and-true, and-false}
 use mathlib.Core.List.{List, [], _∷_, _++_, map}
 use Prim.Native.Nat.{ℕ, zero, suc}
-use lib.ListN.{length, List·getD-map}
+use lib.ListN.{List·getD-map}
 use lib.Dec.{ltb}
 use Rattle.coding.specs.Lists.{pick}
-use Rattle.coding.specs.Bytes.{u48, deepest}
+use Rattle.coding.specs.Bytes.{deepest}
 use Rattle.coding.specs.Schema.{Schema, Table, structOf, elementOf, casesOf, caseOf, tableOf}
 use Rattle.coding.specs.Structs.{structSize, sizeBy}
 use Rattle.coding.specs.Layout.{isBool, width, hasFlag, begin, afterBit, afterBytes, afterFlag, afterValue, afterMember, afterMembers, fixedSize}
-use Rattle.coding.specs.Value.{Value, Values, none, _then_, row, asNumber, asRow, asObject, present, known, first, others, count}
+use Rattle.coding.specs.Value.{Value, Values, none, _then_, row, asNumber, asRow, asObject, present, first, others, count}
 use Rattle.coding.specs.Bits.{bits, bitsOf, packed}
 use Rattle.coding.specs.Sheet.{Encoder, markBits, bitsBy, structBits, bodyBits, unknownWidth, partBits, unmarked, elementBits, membersBits, elementsBits, contentBits, encode, sheetBits, sheetOf, Parsed, got, bind, takeNumber, takeMark, takeBy, takeStruct, Decoder, takeBody, takeUnknown, takePart, takeElement, takeMembers, takeElements, takeContent, decode, closed, treeOf, sheetTree}
 use Rattle.coding.specs.Message.{lengthOf, knownBy, structKnown, flatWritable, Test, keepsUnions, valueWritable, membersWritable, elementsWritable, contentWritable, writable}

@@ -1,6 +1,6 @@
 -- The theorems. A reader's way in: Counter, OlderCoding, DirectLists, Traps, FieldCases, MemberCases, Allowances, Members, Sheets, Reached,
--- RoundTrip, Appending, NewerAgrees, Fields, Texts, SheetText, ListReader, Utf8, Utf8Cases, OnlyText, NamesOfText; the other modules are
--- their lemmas.
+-- RoundTrip, Appending, NewerAgrees, Fields, Texts, SheetText, ListReader, Utf8, Utf8Cases, OnlyText, NamesOfText, UnionsInPlace, Moved,
+-- MovedCases; the other modules are their lemmas.
 pub mod Counter
 pub mod Traps
 pub mod OlderCoding

@@ -4,8 +4,6 @@
 use mathlib.Core.Path.{_≡_, refl, sym, ap, _∙_, subst}
 use mathlib.Core.Bool.{Bool, true, false, _&&_}
 use mathlib.Core.List.{List, [], _∷_, _++_, map}
-use mathlib.Core.Option.{Option, some}
-use mathlib.Core.Option as Op
 use Prim.Native.Nat.{ℕ, zero, suc, _<_, _≤_}
 use lib.ListN.{length, getD, drop}
 use lib.Dec.{leb}
@@ -14,13 +12,12 @@ use Rattle.coding.specs.Lists.{pick}
 use Rattle.coding.specs.Bytes.{u48, deepest, largest}
 use Rattle.coding.specs.Schema.{Schema, Table, tableOf}
 use Rattle.coding.specs.Packed.{parse}
-use Rattle.coding.specs.Lawful.{lawful}
 use Rattle.coding.specs.Walk.{atZero, verdict}
 use Rattle.coding.specs.Value.{Value}
 use Rattle.coding.specs.Read.{messageRead}
 use Rattle.coding.specs.Sheet.{sheetTree}
 use Rattle.coding.specs.Message.{writable, messageOf, Written, refused, message, writtenTree, written, messageSheet, readAnswer, readOut}
-use Rattle.coding.specs.Append.{Extends, rest, more, MemberAppends, TableAppends, SchemaAppends, Appends}
+use Rattle.coding.specs.Append.{Extends, more, MemberAppends, TableAppends, SchemaAppends, Appends}
 use Rattle.coding.specs.Moving.{withoutInplaceUnions, moved}
 use Rattle.coding.specs.declared.Object.the-variants as O
 use Rattle.coding.specs.declared.Member.{Member}

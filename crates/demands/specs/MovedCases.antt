@@ -1,11 +1,8 @@
 -- In-place unions at the counter (02, K12): cases worked out by hand, and a stored message that is moved over.
-use mathlib.Core.Path.{_≡_, refl, sym, ap, _∙_, subst}
+use mathlib.Core.Path.{_≡_, refl}
 use mathlib.Core.List.{List, [], _∷_, _++_, map}
-use mathlib.Core.Bool.{Bool, true, false}
-use Prim.Native.Nat.{ℕ, _<_}
-use native.Mathlib.Omega.{arith}
-use lib.ListN.{getD, replicate}
-use lib.Dec.{eqb}
+use Prim.Native.Nat.{ℕ}
+use lib.ListN.{replicate}
 use Rattle.coding.specs.Lists as Lists
 use Rattle.coding.specs.Bytes as Bytes
 use Rattle.coding.specs.Utf8 as Utf8
@@ -23,7 +20,6 @@ use Rattle.coding.specs.Sheet as Sheet
 use Rattle.coding.specs.Message as Message
 use Rattle.coding.specs.Cells as Cells
 use Rattle.coding.specs.Moving as Moving
-use Rattle.coding.specs.declared.Verdict.{Verdict}
 use Rattle.coding.specs.declared.WriteAnswer.{WriteAnswer}
 use Rattle.demands.specs.Counter.{Case}
 use Rattle.demands.specs.AppendingCases.{bytes}

@@ -1,16 +1,20 @@
 -- 02, K12: "From now the writer refuses a present one under the 48-bit coding of document 000; absent is still written.", "The 32-bit
 -- coding keeps them.": under the first a tree can be written exactly where it could before and has no present union in place; under
 -- the second exactly where it could before.
-use mathlib.Core.Path.{_≡_, refl, sym, ap, _∙_, fun-ext}
-use mathlib.Core.Bool.{Bool, true, false, _&&_, and-true, and-false, and-assoc, and-comm}
+use mathlib.Core.Path.{_≡_, refl, sym, _∙_, fun-ext}
+use mathlib.Core.Bool.{Bool, true, false, _&&_, and-true, and-false, and-assoc}
 use mathlib.Core.List.{List, [], _∷_}
+use mathlib.Core.Option.{some}
 use Prim.Native.Nat.{ℕ, zero, suc}
-use lib.Dec.{ltb, eqb}
+use lib.Dec.{ltb}
 use Rattle.coding.specs.Lists.{pick}
-use Rattle.coding.specs.Bytes.{u48, u32}
+use Rattle.coding.specs.Bytes.{u48, u32, deepest}
 use Rattle.coding.specs.Schema.{Schema, elementOf, casesOf, caseOf, tableOf}
+use Rattle.coding.specs.Packed.{parse}
+use Rattle.coding.specs.Lawful.{lawful}
 use Rattle.coding.specs.Value.{Value, Values, none, _then_, asNumber, asRow, asObject, present, known, first, others}
-use Rattle.coding.specs.Message.{lengthOf, flatWritable, Test, keepsUnions, valueWritable, membersWritable, elementsWritable, directsWritable, contentWritable, writable}
+use Rattle.coding.specs.Sheet.{sheetTree}
+use Rattle.coding.specs.Message.{lengthOf, flatWritable, Test, keepsUnions, valueWritable, membersWritable, elementsWritable, directsWritable, contentWritable, writable, refused, writtenTree, written}
 use Rattle.coding.specs.declared.Object.{Object}
 use Rattle.coding.specs.declared.Object.the-variants as O
 use Rattle.coding.specs.declared.Kind.{Kind}
@@ -149,3 +153,13 @@ writable-48 d S ob v = writable-splits d u48 S ob v refl
 pub writable-32 : (d : ℕ) (S : Schema) (ob : Object) (v : Value) → writable d u32 S ob v ≡ writableBefore d u32 S ob v
 unfolding keepsUnions u48 u32
 writable-32 d S ob v = writable-stays d u32 S ob v refl
+
+-- THE CLAIM: "the writer refuses a present one": a lawful sheet with a present union in place is 12
+pub present-refused : (b s : List ℕ) (v : Value) → lawful u48 b ≡ true → sheetTree (parse b) s ≡ some v
+    → treeFree deepest (parse b) (O.Table (parse b .root)) v ≡ false → written u48 b s ≡ refused 12
+unfolding written writtenTree
+present-refused b s v l d f =
+    let root = O.Table (parse b .root) in
+    let w : writable deepest u48 (parse b) root v ≡ false =
+    writable-48 deepest (parse b) root v ∙ rw f (and-false (writableBefore deepest u48 (parse b) root v)) in
+    rw (l, d, w)

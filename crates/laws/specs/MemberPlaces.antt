@@ -4,33 +4,16 @@ use mathlib.Core.Path.{_≡_, refl, sym, ap, _∙_}
 use mathlib.Core.Bool.{Bool, true, false, _&&_, not}
 use mathlib.Core.Logic.{_⊎_, inl, inr}
 use mathlib.Core.List.{List}
-use Prim.Native.Nat.{ℕ, zero, suc, _+_, _*_, _<_, _≤_}
+use Prim.Native.Nat.{ℕ, zero, suc, _+_, _<_, _≤_}
 use native.Mathlib.Omega.{arith}
 use lib.ListN.{getD, length, List·getD-eq-default}
 use lib.Dec.{eqb}
 use borrow.Author.Tests.{eq-eqb, ne-eqb}
-use borrow.Author.Count.{below-more}
 use Rattle.coding.specs.Lists.{pick, every, run}
 use Rattle.coding.specs.Packed as P
 use Rattle.coding.specs.Moving as M
+use Rattle.laws.specs.Blocks.{blocks-ge, block-end}
 use Rattle.laws.specs.Lists.{every-all, every-fail, run-at, run-length}
-
--- ---- blocks one behind the other
-module _ (b : List ℕ) (head start : ℕ) where
-  pub blocks-ge : (n : ℕ) → start ≤ P.blocks b head start n
-  unfolding P.blocks P.recordPlace
-  blocks-ge zero = omega arith
-  blocks-ge (suc n) = omega (arith, blocks-ge n)
-
-  -- a block ends where the next begins, or before
-  pub block-end : (i k : ℕ) → i < k
-      → P.blocks b head start i + head + 1 + 2 * P.records b head (P.blocks b head start i) ≤ P.blocks b head start k
-  unfolding P.blocks P.recordPlace
-  block-end i zero l = absurd (omega arith)
-  block-end i (suc k) l =
-      below-more (λ (j : ℕ). P.blocks b head start j + head + 1 + 2 * P.records b head (P.blocks b head start j)
-      ≤ P.blocks b head start k + head + 1 + 2 * P.records b head (P.blocks b head start k)) k
-      (λ j m. omega (arith, block-end j k m)) (omega arith) i (omega arith)
 
 -- one of three: before, the same, behind
 three : (i k : ℕ) → (i < k) ⊎ ((i ≡ k) ⊎ (k < i))
@@ -92,9 +75,9 @@ module _ (b : List ℕ) where
   table-head i k p l e (x, (j, (m, (n, f)))) = by (three i x)
     where
       by : (i < x) ⊎ ((i ≡ x) ⊎ (x < i)) → ⊥
-      by (inl h) = omega (arith, block-end b 4 tablesStart i x h)
+      by (inl h) = omega (arith, block-end b 4 tablesStart x i h)
       by (inr (inl h)) = let q = ap (P.blocks b 4 tablesStart) h in omega arith
-      by (inr (inr h)) = omega (arith, block-end b 4 tablesStart x i h)
+      by (inr (inr h)) = omega (arith, block-end b 4 tablesStart i x h)
 
   -- and the second byte of a record
   pub table-argument : (i j p : ℕ) → j < P.records b 4 (P.tablePlace b i) → p ≡ P.recordPlace 4 (P.tablePlace b i) j + 1 → MemberPlace p → ⊥
@@ -102,9 +85,9 @@ module _ (b : List ℕ) where
   table-argument i j p l e (x, (y, (m, (n, f)))) = by (three i x)
     where
       by : (i < x) ⊎ ((i ≡ x) ⊎ (x < i)) → ⊥
-      by (inl h) = omega (arith, block-end b 4 tablesStart i x h)
+      by (inl h) = omega (arith, block-end b 4 tablesStart x i h)
       by (inr (inl h)) = let q = ap (P.blocks b 4 tablesStart) h in omega arith
-      by (inr (inr h)) = omega (arith, block-end b 4 tablesStart x i h)
+      by (inr (inr h)) = omega (arith, block-end b 4 tablesStart i x h)
 
   -- ---- the cleared schema, place by place
   pub without-length : length (M.withoutInplaceUnions b) ≡ length b

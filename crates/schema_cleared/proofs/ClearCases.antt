@@ -1,26 +1,25 @@
 -- To store what is left from here is to store the whole from the start; and the ways out of the functions that do.
 use mathlib.Core.Path.{_≡_, refl, sym, ap, ap₂, _∙_, subst}
-use mathlib.Core.Bool.{Bool, true, false, _&&_, not, and-false}
-use mathlib.Core.List.{List, [], _∷_, _++_}
-use Prim.Native.Nat.{ℕ, zero, suc, _+_, _*_, _-_, _/_, _<_, _≤_}
+use mathlib.Core.Bool.{Bool, true, false, not, and-false}
+use mathlib.Core.List.{List, _++_}
+use Prim.Native.Nat.{ℕ, suc, _+_, _-_, _/_, _<_, _≤_}
 use native.Mathlib.Numerals.{add-one}
-use native.Mathlib.Nat.{add-zero, zero-add}
+use native.Mathlib.Nat.{zero-add}
 use native.Mathlib.Omega.{arith}
-use lib.ListN.{getD, length, take, drop, set}
+use lib.ListN.{getD, length, drop, set}
 use lib.Seq.{sets, sets-eq}
-use lib.Dec.{eqb, leb}
+use lib.Dec.{eqb}
 use borrow.Author.Tests.{le-leb, lt-leb, eqb-true, not-true, not-false}
-use Rattle.coding.specs.Lists.{pick, run}
+use Rattle.coding.specs.Lists.{run}
 use Rattle.coding.specs.Bytes.{u48}
 use Rattle.coding.specs.Packed as P
-use Rattle.coding.specs.Lawful as L
 use Rattle.coding.specs.Message as Ms
 use Rattle.coding.specs.Moving as M
 use Rattle.coding.specs.declared.WriteAnswer.{WriteAnswer}
 use Rattle.laws.specs.Lists.{run-length}
 use Rattle.laws.specs.Rules.{lawful-counts}
 use Rattle.laws.specs.MemberPlaces.{tablesStart, cleared-member, cleared-other, before-tables, table-head, table-argument, without-length}
-use Rattle.schema.specs.Directory.{Directory, Accepted, AcceptedUnder, Block, Judged}
+use Rattle.schema.specs.Directory.{Directory, AcceptedUnder, Block, Judged}
 use Rattle.schema_cleared.specs.Rest.{first, rest, Kept}
 
 -- ---- the first byte of a record

@@ -1,14 +1,9 @@
+-- `clear_lawful` meets its contract.
 use native.Mathlib.Omega.{arith}
 use borrow.Author.Needs.{needs}
 use Rattle.schema_cleared.proofs.ClearCases.{no-room, no-room-out, some-table, start-inside, start-kept, cleared-answer, cleared-out}
 use Rattle.schema_cleared.proofs.clear_lawful.Statement.{statement}
 use Rattle.schema_cleared.proofs.clear_lawful.Tie as tie
-use Rattle.schema_cleared.proofs.clear_lawful.Reads as reads
-use Rattle.schema_cleared.proofs.clear_lawful.Lts as lts
-use Rattle.schema.proofs.table_place.Reads as table-place-reads
-use Rattle.schema_cleared.proofs.clear_tables.Reads as clear-tables-reads
-use Rattle.schema_cleared.proofs.copy.Reads as copy-reads
-use Rattle.schema_cleared.proofs.refused.Reads as refused-reads
 
 refused-requires : tie.Need-refused-requires
 refused-requires c κs = search needs

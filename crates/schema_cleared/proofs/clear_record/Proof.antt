@@ -1,13 +1,10 @@
+-- `clear_record` meets its contract.
 use native.Mathlib.Omega.{arith}
 use lib.ListN.{length-set}
 use borrow.Author.Needs.{needs}
 use Rattle.schema_cleared.proofs.ClearCases.{record-stored}
 use Rattle.schema_cleared.proofs.clear_record.Statement.{statement}
 use Rattle.schema_cleared.proofs.clear_record.Tie as tie
-use Rattle.schema_cleared.proofs.clear_record.Reads as reads
-use Rattle.schema_cleared.proofs.clear_record.Lts as lts
-use Rattle.schema_cleared.proofs.first_byte.Reads as first-byte-reads
-use Rattle.wire.proofs.byte_in.Reads as byte-in-reads
 
 first-byte-requires : tie.Need-first-byte-requires
 first-byte-requires c κs = search needs

@@ -1,3 +1,4 @@
+-- `clear_records` meets its contract. The invariant: to store the rest from record j on is to store it from the first record.
 use Prim.Native.Nat.{_+_, _-_, _≤_}
 use mathlib.Core.Path.{_≡_, refl, _∙_}
 use native.Mathlib.Omega.{arith}
@@ -8,12 +9,6 @@ use Rattle.schema_cleared.specs.Rest.{rest}
 use Rattle.schema_cleared.proofs.ClearCases.{first-record, record-inside, record-turn, records-done}
 use Rattle.schema_cleared.proofs.clear_records.Statement.{statement}
 use Rattle.schema_cleared.proofs.clear_records.Tie as tie
-use Rattle.schema_cleared.proofs.clear_records.Reads as reads
-use Rattle.schema_cleared.proofs.clear_records.Lts as lts
-use Rattle.schema.proofs.record_place.Reads as record-place-reads
-use Rattle.schema.proofs.records.Reads as records-reads
-use Rattle.schema.proofs.table_place.Reads as table-place-reads
-use Rattle.schema_cleared.proofs.clear_record.Reads as clear-record-reads
 
 abbrev Inv-loop : tie.InvT-loop
 Inv-loop b dir i out₀ at n j₀ out j =

@@ -1,13 +1,9 @@
+-- `clear_table` meets its contract.
 use native.Mathlib.Omega.{arith}
 use borrow.Author.Needs.{needs}
 use Rattle.schema_cleared.proofs.ClearCases.{head-kept, table-done}
 use Rattle.schema_cleared.proofs.clear_table.Statement.{statement}
 use Rattle.schema_cleared.proofs.clear_table.Tie as tie
-use Rattle.schema_cleared.proofs.clear_table.Reads as reads
-use Rattle.schema_cleared.proofs.clear_table.Lts as lts
-use Rattle.schema.proofs.table_place.Reads as table-place-reads
-use Rattle.schema_cleared.proofs.clear_records.Reads as clear-records-reads
-use Rattle.schema_cleared.proofs.copy.Reads as copy-reads
 
 table-place-requires : tie.Need-table-place-requires
 table-place-requires c κs = search needs

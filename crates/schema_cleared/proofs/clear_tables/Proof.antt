@@ -1,3 +1,4 @@
+-- `clear_tables` meets its contract. The invariant: to store the rest from table i on is to store it from the first table.
 use Prim.Native.Nat.{_-_, _≤_}
 use mathlib.Core.Path.{_≡_, refl, _∙_}
 use native.Mathlib.Omega.{arith}
@@ -9,10 +10,6 @@ use Rattle.schema_cleared.specs.Rest.{rest}
 use Rattle.schema_cleared.proofs.ClearCases.{tables-begin, tables-done}
 use Rattle.schema_cleared.proofs.clear_tables.Statement.{statement}
 use Rattle.schema_cleared.proofs.clear_tables.Tie as tie
-use Rattle.schema_cleared.proofs.clear_tables.Reads as reads
-use Rattle.schema_cleared.proofs.clear_tables.Lts as lts
-use Rattle.schema.proofs.count.Reads as count-reads
-use Rattle.schema_cleared.proofs.clear_table.Reads as clear-table-reads
 
 abbrev Inv-loop : tie.InvT-loop
 Inv-loop b dir out₀ n i₀ out i =

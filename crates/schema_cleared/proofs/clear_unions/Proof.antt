@@ -1,12 +1,8 @@
+-- `clear_unions` meets its contract.
 use borrow.Author.Needs.{needs}
 use Rattle.schema_cleared.proofs.ClearCases.{schema-accepted, refused-answer, refused-out}
 use Rattle.schema_cleared.proofs.clear_unions.Statement.{statement}
 use Rattle.schema_cleared.proofs.clear_unions.Tie as tie
-use Rattle.schema_cleared.proofs.clear_unions.Reads as reads
-use Rattle.schema_cleared.proofs.clear_unions.Lts as lts
-use Rattle.schema_cleared.proofs.clear_lawful.Reads as clear-lawful-reads
-use Rattle.schema_cleared.proofs.refused.Reads as refused-reads
-use Rattle.schema_lawful.proofs.judge_schema.Reads as judge-schema-reads
 
 slice-aggregate-judge-schema : tie.Need-slice-aggregate-judge-schema
 slice-aggregate-judge-schema c = search needs

@@ -1,3 +1,4 @@
+-- `copy` meets its contract. The invariant: to store the rest from p on is to store it from the start.
 use Prim.Native.Nat.{_-_, _≤_}
 use mathlib.Core.Path.{_≡_, refl}
 use native.Mathlib.Omega.{arith}
@@ -7,9 +8,6 @@ use Rattle.schema_cleared.specs.Rest.{rest}
 use Rattle.schema_cleared.proofs.ClearCases.{copy-turn, copy-done}
 use Rattle.schema_cleared.proofs.copy.Statement.{statement}
 use Rattle.schema_cleared.proofs.copy.Tie as tie
-use Rattle.schema_cleared.proofs.copy.Reads as reads
-use Rattle.schema_cleared.proofs.copy.Lts as lts
-use Rattle.wire.proofs.byte_in.Reads as byte-in-reads
 
 abbrev Inv-loop : tie.InvT-loop
 Inv-loop b from to out₀ p₀ out p =

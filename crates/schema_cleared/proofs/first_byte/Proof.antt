@@ -1,13 +1,8 @@
+-- `first_byte` meets its contract.
 use borrow.Author.Needs.{needs}
 use Rattle.schema_cleared.proofs.ClearCases.{no-union, not-in-place, flag-there, in-place}
 use Rattle.schema_cleared.proofs.first_byte.Statement.{statement}
 use Rattle.schema_cleared.proofs.first_byte.Tie as tie
-use Rattle.schema_cleared.proofs.first_byte.Reads as reads
-use Rattle.schema_cleared.proofs.first_byte.Lts as lts
-use Rattle.schema.proofs.inplace_at.Reads as inplace-at-reads
-use Rattle.schema.proofs.is_union_kind.Reads as is-union-kind-reads
-use Rattle.schema.proofs.kind_at.Reads as kind-at-reads
-use Rattle.wire.proofs.byte_in.Reads as byte-in-reads
 
 byte-in-requires : tie.Need-byte-in-requires
 byte-in-requires c κs = search needs
