@@ -45,6 +45,7 @@ pub mod RoundTripCases
 pub mod UnionsInPlace
 pub mod ClearedSchema
 pub mod ClearedBytes
+pub mod ClearedLawful
 pub mod Moved
 pub mod MovedCases
 pub mod Allowances

@@ -29,7 +29,8 @@ use Rattle.demands.specs.Sheets.{verdict-sheet-lawful, verdict-sheet-byt
 use Rattle.demands.specs.RoundTrip.{enough, written-verdict, written-sheet, written-answer, written-out}
 use Rattle.demands.specs.UnionsInPlace.{writableBefore}
 use Rattle.demands.specs.ClearedSchema.{isUnion, clearedMember, clearedTable, clearedSchema, sheet-tree-same, NotInplaceUnion, NoInplaceUnions, cleared-none, cleared-writable}
-use Rattle.demands.specs.ClearedBytes.{cleared-parse, cleared-lawful, cleared-bytes}
+use Rattle.demands.specs.ClearedBytes.{cleared-parse, cleared-bytes}
+use Rattle.demands.specs.ClearedLawful.{cleared-lawful}
 
 -- the message m reads as the sheet s by schema c: by the rules; with enough of both allowances; and, given room, from the output, the
 -- bytes behind it kept
