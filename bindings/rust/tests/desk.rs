@@ -70,8 +70,8 @@ fn judging_and_fields() {
     prints(&folder, "read schema message read", read);
 }
 
-/// The text as a character of two bytes, as two bytes that are none, and with another end byte too;
-/// and as bytes, which may be any. A sheet with such a text is not written.
+/// The text as a character of two bytes, as two bytes that are none, and with another end byte too. A
+/// sheet with such a text is not written.
 #[test]
 fn texts() {
     let folder = folder("texts");
@@ -101,7 +101,15 @@ fn texts() {
     put("sheet", b"\x40\x00\xD0\x00\x00\x00\x2C\x36\x20");
     prints(&folder, "write schema sheet written", "12 0");
     assert!(!folder.join("read").exists() && !folder.join("written").exists());
-    // The same as bytes: another kind, and another magic.
+}
+
+/// Bytes may be any: another kind, and another magic.
+#[test]
+fn bytes() {
+    let folder = folder("bytes");
+    let put = |name: &str, bytes: &[u8]| {
+        fs::write(folder.join(name), bytes).expect("a file is written");
+    };
     put("schema", &[&SCHEMA[..12], b"\x70\x00"].concat());
     let bytes = [
         &MESSAGE[..28],

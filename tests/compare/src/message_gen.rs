@@ -765,18 +765,7 @@ impl Layouter<'_> {
         self.canvas.fill(self.rng);
         self.write_late();
         let bytes = self.canvas.bytes().to_vec();
-        let contents: HashMap<usize, Vec<u8>> = open
-            .into_iter()
-            .map(|(index, start, length)| (index, bytes[start..start + length].to_vec()))
-            .collect();
-        for (index, content) in &contents {
-            if self.arrivals[*index].kind == TEXT && !is_text(content) {
-                self.refuse(16, *index);
-            }
-        }
-        if !contents.is_empty() {
-            put_contents(&mut value, &mut 0, &contents);
-        }
+        self.fill_open(&open, &bytes, &mut value);
         // A walk that goes round does not come to what is behind the reference back.
         if let (Some(outcome), Some((_, before))) = (self.outcome, self.cycle) {
             self.outcome = (outcome.visits <= before).then_some(outcome);
@@ -804,6 +793,22 @@ impl Layouter<'_> {
             member: self.outcome.map_or(NO_MEMBER, |outcome| outcome.member),
             fault,
             spots: self.spots,
+        }
+    }
+
+    /// Gives the open blobs of the value the content that they got: arrival, start,
+    /// length. A text among them may be none.
+    fn fill_open(&mut self, open: &[(usize, usize, usize)], bytes: &[u8], value: &mut Value) {
+        let mut contents = HashMap::new();
+        for (index, start, length) in open {
+            let content = bytes[*start..start + length].to_vec();
+            if self.arrivals[*index].kind == TEXT && !is_text(&content) {
+                self.refuse(16, *index);
+            }
+            contents.insert(*index, content);
+        }
+        if !contents.is_empty() {
+            put_contents(value, &mut 0, &contents);
         }
     }
 

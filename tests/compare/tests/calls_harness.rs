@@ -163,6 +163,26 @@ fn no_list(cases: &mut [u64]) -> u64 {
     0
 }
 
+/// Changes the answers of a list's steps.
+fn change_steps(flaw: Flaw, cases: &mut [u64]) {
+    let answers = cases.chunks_exact_mut(4);
+    match flaw {
+        Flaw::ListStopsAtRefused => {
+            let after = answers.skip_while(|case| case[0] != 7).skip(1);
+            after.for_each(|case| case.copy_from_slice(&[7, 15, 0, NONE]));
+        }
+        Flaw::NoMemberInLists => {
+            let refused = answers.filter(|case| case[0] == 7);
+            refused.for_each(|case| case[3] = NONE);
+        }
+        Flaw::ListsTakeAnyText => {
+            let refused = answers.filter(|case| case[..2] == [7, 16]);
+            refused.for_each(|case| case.copy_from_slice(&[5, 0, 0, 0]));
+        }
+        _ => {}
+    }
+}
+
 /// Changes a byte of an output, where it has that byte.
 fn change(output: &mut [u8], at: usize) {
     if let Some(byte) = output.get_mut(at) {
@@ -237,22 +257,8 @@ impl Calls for Flawed {
             return no_list(cases);
         }
         let count = SecondCalls.list(schema, message, path, from, cases);
+        change_steps(self.0, cases);
         match self.0 {
-            Flaw::ListStopsAtRefused => {
-                let answers = cases.chunks_exact_mut(4);
-                let after = answers.skip_while(|case| case[0] != 7).skip(1);
-                after.for_each(|case| case.copy_from_slice(&[7, 15, 0, NONE]));
-            }
-            Flaw::NoMemberInLists => {
-                for case in cases.chunks_exact_mut(4).filter(|case| case[0] == 7) {
-                    case[3] = NONE;
-                }
-            }
-            Flaw::ListsTakeAnyText => {
-                let refused = |case: &&mut [u64]| case[..2] == [7, 16];
-                let answers = cases.chunks_exact_mut(4).filter(refused);
-                answers.for_each(|case| case.copy_from_slice(&[5, 0, 0, 0]));
-            }
             Flaw::ListOneShort => return count.saturating_sub(1),
             Flaw::ListGoesOnAtTheEnd if from >= count && count > 0 => {
                 SecondCalls.list(schema, message, path, count - 1, cases);

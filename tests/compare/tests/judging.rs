@@ -96,10 +96,6 @@ fn shortfalls(coding: Coding, tally: &Tally) -> Vec<String> {
         let name = format!("damaged, number {number}");
         need(name, tally.of(Sort::Damaged, number), 500);
     }
-    for sort in [Sort::NoText, Sort::Faulty, Sort::Damaged] {
-        let name = format!("{sort:?}, number 16");
-        need(name, tally.of(sort, 16), 2000);
-    }
     let name = "damaged schemas still lawful".to_string();
     let lawful = tally.of_sort(Sort::DamagedSchema) - tally.of(Sort::DamagedSchema, 1);
     need(name, lawful, 1000);
@@ -109,8 +105,8 @@ fn shortfalls(coding: Coding, tally: &Tally) -> Vec<String> {
     short
 }
 
-/// How many messages of each sort there are to be, and of direct lists that got a
-/// number.
+/// How many messages of each sort there are to be, of direct lists that got a
+/// number, and of texts that are none.
 fn of_sorts(coding: Coding, tally: &Tally) -> Vec<(String, u64, u64)> {
     let every = |sort| {
         (
@@ -124,7 +120,10 @@ fn of_sorts(coding: Coding, tally: &Tally) -> Vec<(String, u64, u64)> {
         let name = format!("{sort:?}, number {number}");
         (name, tally.of(sort, number), least)
     });
-    SORTS.into_iter().map(every).chain(direct).collect()
+    let texts = [Sort::NoText, Sort::Faulty, Sort::Damaged]
+        .map(|sort| (format!("{sort:?}, number 16"), tally.of(sort, 16), 2000));
+    let sorts = SORTS.into_iter().map(every);
+    sorts.chain(direct).chain(texts).collect()
 }
 
 /// A walk that an ample budget takes to its end is the same with a budget of

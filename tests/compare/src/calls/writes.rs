@@ -60,30 +60,11 @@ fn of_round(coding: Coding, rng: &mut Rng) -> Vec<Subject> {
     let size = value_gen::some_size(rng);
     let writable = value_gen::root_value(&schema, rng, Purpose::Writable, size);
     let any = subjects::some_value(rng, &schema, 12);
-    let mut sheets = vec![
-        ("of a writable value", sheet::encode(&schema, &writable)),
-        ("of any value", sheet::encode(&schema, &any)),
-    ];
-    if let Some((spoiled, _)) = sheet_faults::unwritable(&schema, rng, &writable) {
-        sheets.push(("made unwritable", sheet::encode(&schema, &spoiled)));
-    }
-    if let Some(spoiled) = value_gen::with_bad_texts(&schema, rng, &writable) {
-        sheets.push(("with no text", sheet::encode(&schema, &spoiled)));
-    }
-    for at in [0, 0, 1] {
-        let damaged = damage::sheet(rng, &sheets[at].1);
-        sheets.push(("damaged", damaged));
-    }
-    if let Some(read) = read_from_damaged(rng, &schema, any.clone()) {
-        sheets.push(("read from a damaged message", read));
-    }
-    let length = rng.range(0, 30);
-    sheets.push(("random bytes", rng.bytes(length)));
     let mut out = Vec::new();
     let packed = schema.pack();
     let broken = schema_faults::damaged(rng, &packed);
     let direct = has_direct_elements(&schema, &writable) && has_direct_elements(&schema, &any);
-    for (sort, sheet) in sheets {
+    for (sort, sheet) in sheets(rng, &schema, &writable, &any) {
         let (sort, schema) = match rng.one_in(12) {
             true => ("by a damaged schema", broken.clone()),
             false => (sort, packed.clone()),
@@ -97,6 +78,35 @@ fn of_round(coding: Coding, rng: &mut Rng) -> Vec<Subject> {
     }
     other_codings(coding, rng, &packed, &mut out);
     out
+}
+
+/// The sheets of a writable value and of any other, as they are, spoiled and damaged.
+fn sheets(
+    rng: &mut Rng,
+    schema: &Schema,
+    writable: &Value,
+    any: &Value,
+) -> Vec<(&'static str, Vec<u8>)> {
+    let mut sheets = vec![
+        ("of a writable value", sheet::encode(schema, writable)),
+        ("of any value", sheet::encode(schema, any)),
+    ];
+    if let Some((spoiled, _)) = sheet_faults::unwritable(schema, rng, writable) {
+        sheets.push(("made unwritable", sheet::encode(schema, &spoiled)));
+    }
+    if let Some(spoiled) = value_gen::with_bad_texts(schema, rng, writable) {
+        sheets.push(("with no text", sheet::encode(schema, &spoiled)));
+    }
+    for at in [0, 0, 1] {
+        let damaged = damage::sheet(rng, &sheets[at].1);
+        sheets.push(("damaged", damaged));
+    }
+    if let Some(read) = read_from_damaged(rng, schema, any.clone()) {
+        sheets.push(("read from a damaged message", read));
+    }
+    let length = rng.range(0, 30);
+    sheets.push(("random bytes", rng.bytes(length)));
+    sheets
 }
 
 /// A sheet by a schema made for the other coding; now and then one under a number that is no

@@ -18,6 +18,7 @@ pub fn run(programs: &Programs, coding: Coding, counts: &mut Counts) -> Result<(
     };
     let checks = [
         text_at_the_limit,
+        no_text_at_the_limit,
         absent_elements,
         shared_text,
         sizes,
@@ -47,7 +48,6 @@ fn text_at_the_limit(context: &mut Context) -> Checked {
         let bytes = sheet::encode(&schema, &value);
         let (number, message) = context.write(&packed, &bytes, SIZE_LIMIT + 100);
         let data: Data = &[("schema", &packed.bytes)];
-        not_written(context, &schema, value.clone())?;
         if over == 1 {
             same(
                 "one byte over the size",
@@ -81,18 +81,18 @@ fn text_at_the_limit(context: &mut Context) -> Checked {
 }
 
 /// The same with a last byte that is no text's: 12, before 13 and 14.
-fn not_written(context: &mut Context, schema: &Schema, mut value: Value) -> Checked {
+fn no_text_at_the_limit(context: &mut Context) -> Checked {
+    let schema = root_with(context.coding, Record::plain(TEXT, 0));
     let packed = schema.pack();
     let data: Data = &[("schema", &packed.bytes)];
-    if let Value::Table(members) = &mut value {
-        if let Some(Value::Blob(text)) = members.first_mut() {
-            *text.last_mut().expect("a long text") = 0xC2;
+    for over in [0, 1] {
+        let mut text = vec![b'x'; SIZE_LIMIT - before_content(context.coding) - 2 + over];
+        text.push(0xC2);
+        let bytes = sheet::encode(&schema, &Value::Table(vec![Value::Blob(text)]));
+        for room in [0, SIZE_LIMIT] {
+            let given = context.write(&packed, &bytes, room);
+            same("12 comes before 13", &(12, Vec::new()), &given, data)?;
         }
-    }
-    let bytes = sheet::encode(schema, &value);
-    for room in [0, SIZE_LIMIT] {
-        let given = context.write(&packed, &bytes, room);
-        same("12 comes before 13", &(12, Vec::new()), &given, data)?;
     }
     Ok(())
 }
