@@ -218,10 +218,11 @@ fn reasons(run: &mut Run, schema: &Schema, moving: &Moving, number: u64) -> Resu
     let refused = older || held;
     for program in [run.first, run.second] {
         let [now, _] = program.write(moving.stored, sheet, &mut []);
-        let expected = if refused {
-            12
-        } else {
-            u64::from(stored).max(14)
+        let expected = match (refused, stored) {
+            (true, _) => 12,
+            // There is no room.
+            (false, 0) => 14,
+            (false, number) => u64::from(number),
         };
         if now != expected {
             let what = format!("{}: by its own schema {now}", program.name());
