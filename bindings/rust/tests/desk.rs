@@ -244,6 +244,10 @@ fn moving_over() {
         // An absent one has no length that matters; nor is the union behind a short table's end there.
         (b"\x01\0\0\0\0\0\x05", b"\x09\0\0\0\0\0\x05\0\0\0\0\0\0\0\0"),
     ];
+    // Without such a union all is as it was.
+    prints(&folder, "migrate schema message new moved", "0 41");
+    assert_eq!(fs::read(folder.join("new")).expect("a schema"), SCHEMA);
+    assert_eq!(fs::read(folder.join("moved")).expect("bytes"), MESSAGE);
     fs::write(folder.join("schema"), STORED).expect("a file is written");
     for (rest, moved) in cases {
         fs::write(folder.join("message"), stored(rest)).expect("a file is written");
