@@ -1,11 +1,11 @@
-use Rattle.write_measure.proofs.ExtentCases.{fine-may, fine-some, fine-none}
+use Rattle.write_measure.proofs.ExtentCases.{fine-union, fine-some, fine-none}
 use Rattle.write_measure.proofs.in_place_fine.Statement.{statement}
 use Rattle.write_measure.proofs.in_place_fine.Tie as tie
 use Rattle.write_measure.proofs.in_place_fine.Reads as reads
 use Rattle.write_measure.proofs.in_place_fine.Lts as lts
 
 returns : tie.Need-returns
-returns c = search fine-may
+returns c = search fine-union
 
 returns-2 : tie.Need-returns-2
 returns-2 c = search fine-some
