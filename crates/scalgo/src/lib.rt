@@ -157,11 +157,7 @@ pub extern "C" fn scalgo_write(
 // The schema to which stored messages of the 48-bit coding are moved over: only the in-place flag of its unions is cleared. Answers the
 // number, and stores the schema and its length.
 #[no_mangle]
-pub extern "C" fn scalgo_clear_unions(
-    schema: &[u8],
-    cleared: &mut [u8],
-    length: &mut u64,
-) -> u32
+pub extern "C" fn scalgo_clear_unions(schema: &[u8], cleared: &mut [u8], length: &mut u64) -> u32
     ensures { λ r. ⌜ r ≡ M.writeRoom (Mv.clearing (now (schema .entry))) (N.length (now (cleared .entry))) .number ⌝ }
     ensures { λ _. ⌜ now (length .exit) ≡ M.writeRoom (Mv.clearing (now (schema .entry))) (N.length (now (cleared .entry))) .length ⌝ }
     ensures { λ _. ⌜ now (cleared .exit) ≡ M.writeOver (Mv.clearing (now (schema .entry))) (now (cleared .entry)) ⌝ }

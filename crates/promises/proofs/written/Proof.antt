@@ -14,8 +14,7 @@ same-length c = search needs
 returns : tie.Need-returns
 returns c =
     let ea = c .before .before .write .ensures .0 in
-    let eo = c .before .before .write .ensures .1 in
-    (
+    let eo = c .before .before .write .ensures .1 in (
       ea,
       (
         eo,
