@@ -26,9 +26,9 @@ use Rattle.promises.proofs.Reading.{handed, read-within}
 use Rattle.promises.proofs.Writing.{Refuses, room-length, room-made, made}
 
 -- ---- the cleared schema
-written-bytes : Written → List ℕ
-written-bytes (refused n) = []
-written-bytes (message m) = m
+abbrev bytesIn : Written → List ℕ
+bytesIn (refused n) = []
+bytesIn (message m) = m
 
 module _ (b out out′ : List ℕ) (a : WriteAnswer) (ea : a ≡ writeRoom (clearing b) (length out)) (eo : out′ ≡ writeOver (clearing b) out) where
   pub clear-within : a .length ≤ length out′
@@ -52,7 +52,7 @@ module _ (b out out′ : List ℕ) (a : WriteAnswer) (ea : a ≡ writeRoom (clea
     cleared-schema h =
         let e : clearing b ≡ message (take (a .length) out′) =
         rw (ea, eo) (room-made (clearing b) (subst Refuses (sym is-cleared) tt) out (ap (λ (x : WriteAnswer). x .number) (sym ea) ∙ h)) in
-        sym (ap written-bytes (sym is-cleared ∙ e))
+        sym (ap bytesIn (sym is-cleared ∙ e))
 
 -- ---- the whole
 module _ (b m : List ℕ) (schema-bytes : AreBytes b) (message-bytes : AreBytes m) (first : Budget) (sheet sheet′ : List ℕ) (stored : ReadAnswer)
