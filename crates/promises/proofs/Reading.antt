@@ -6,7 +6,7 @@ use mathlib.Core.Logic.{_⊎_, inl, inr}
 use Prim.Native.Nat.{ℕ, _<_, _≤_}
 use native.Mathlib.Omega.{arith}
 use lib.ListN.{length, take, drop, length-append}
-use lib.Seq.{take-append-seam}
+use lib.Seq.{take-append-seam, length-take-le}
 use lib.Dec.{leb, eqb}
 use borrow.Author.Tests.{eqb-true, eqb-false, eq-eqb, ne-eqb, leb-true, le-leb, lt-leb}
 use Rattle.coding.specs.Lists.{pick}
@@ -87,6 +87,10 @@ module _ (o : ℕ) (b m : List ℕ) (budget : Budget) (out : List ℕ) where
   pub read-within : (a : ReadAnswer) (out′ : List ℕ) → a ≡ readAnswer o b m budget out → out′ ≡ readOut o b m budget out → a .length ≤ length out′
   unfolding readAnswer readOut
   read-within a out′ ea eo = rw (ea, eo) (within-by (eqb (judged .number) 0) (fitsRoom sheet out))
+
+  pub read-part : (a : ReadAnswer) (out′ : List ℕ) → a ≡ readAnswer o b m budget out → out′ ≡ readOut o b m budget out
+      → a .length ≡ length (take (a .length) out′)
+  read-part a out′ ea eo = sym (length-take-le (a .length) out′ (read-within a out′ ea eo))
 
   -- what is handed out is the sheet of the rules
   pub hands-out : (a : ReadAnswer) (out′ : List ℕ) → a ≡ readAnswer o b m budget out → out′ ≡ readOut o b m budget out
