@@ -22,16 +22,17 @@
 extern "C" {
 #endif
 
-/* Which coding a message is in: the first argument of every function. It is not guessed; under any
- * other number no schema is lawful. */
+/* Which coding a message is in: the first argument of every function but scalgo_clear_unions. It is not
+ * guessed; under any other number no schema is lawful. */
 enum {
-    SCALGO_CODING_48 = 48,     /* offsets and lengths of 48 bits */
+    SCALGO_CODING_48 = 48,     /* offsets and lengths of 48 bits. Unions in place are read, but no longer
+                                  written */
     SCALGO_CODING_32 = 32      /* the older coding: offsets and lengths of 32 bits, unions always in
                                   place, and no direct lists */
 };
 
-/* What scalgo_judge, scalgo_read and scalgo_write answer, and the number of a refused case of
- * scalgo_field and scalgo_list. Where two numbers of bytes are named, the first is of the coding of
+/* What scalgo_judge, scalgo_read, scalgo_write and scalgo_clear_unions answer, and the number of a refused
+ * case of scalgo_field and scalgo_list. Where two numbers of bytes are named, the first is of the coding of
  * 48 bits and the second of that of 32. */
 enum {
     SCALGO_ACCEPTED = 0,
@@ -48,7 +49,8 @@ enum {
     SCALGO_UNION_OFFSET = 9,   /* a known union choice, not in place, with offset 0; never under 32 bits */
     SCALGO_BYTE = 10,          /* a struct's boolean not 0 or 1, or a text's end byte not 0 */
     SCALGO_SHEET = 11,         /* the sheet is not lawful, over 16,777,215 bytes, or deeper than 32 objects */
-    SCALGO_WRITABLE = 12,      /* the sheet is lawful but not writable, by a text that is not UTF-8 too */
+    SCALGO_WRITABLE = 12,      /* the sheet is lawful but not writable, by a text that is not UTF-8 too, and
+                                  under 48 bits by a union that is present in place */
     SCALGO_WRITTEN_SIZE = 13,  /* the message would be over 16,777,215 bytes */
     SCALGO_ROOM = 14,          /* no room in the output, or a sheet over 16,777,215 bytes */
     SCALGO_PATH = 15,          /* a path's step has no such part, or a path over 96 numbers */
@@ -180,6 +182,11 @@ uint32_t scalgo_read(uint32_t coding, const uint8_t *schema, size_t schema_len,
 /* Writes a value sheet as a message and answers 0, 1, 11, 12, 13 or 14. The root table is put at 10
  * or 8.
  *
+ * Under 48 bits a sheet in which a union in place is present is refused by 12, whatever the union
+ * holds: new clients no longer understand them. One that is absent is written. Stored messages are
+ * read as before, and moved over by scalgo_clear_unions. Under 32 bits unions are always in place
+ * and written so.
+ *
  * message, room: where the message goes. With a refusal it is unchanged; else its first *length
  *         bytes are the message, and the bytes after them keep what they held.
  * *length: the bytes of the message; 0 with a refusal.
@@ -187,6 +194,25 @@ uint32_t scalgo_read(uint32_t coding, const uint8_t *schema, size_t schema_len,
 uint32_t scalgo_write(uint32_t coding, const uint8_t *schema, size_t schema_len,
                       const uint8_t *sheet, size_t sheet_len,
                       uint8_t *message, size_t room, uint64_t *length);
+
+/* Makes of a schema for messages of 48 bits the same one in which only the in-place flag of unions is
+ * cleared, of every table's member that is a union in place. Answers 0, 1 where the schema is not
+ * lawful under 48 bits, or else 14. It takes no coding: messages of 32 bits keep unions in place.
+ *
+ * A stored message is moved over by three calls: scalgo_read by the stored schema, this, and
+ * scalgo_write of the sheet by the cleared schema. The sheet of what is written is the same. The
+ * write is refused by 12 only where the stored schema's would have been while unions in place were
+ * written (an unknown choice or enum, a number that is absent and not optional, and so on); by 13
+ * where the message would be too large, for each object that stood in place gets a header; and by 14.
+ * No schema appends to a cleared one that was another, nor the other way round: whoever reads the
+ * moved message needs the cleared schema.
+ *
+ * cleared, room: where the cleared schema goes. With a refusal it is unchanged; else its first *length
+ *         bytes are the cleared schema, and the bytes after them keep what they held.
+ * *length: the bytes of the cleared schema, as many as of the schema; 0 with a refusal.
+ */
+uint32_t scalgo_clear_unions(const uint8_t *schema, size_t schema_len,
+                             uint8_t *cleared, size_t room, uint64_t *length);
 
 #ifdef __cplusplus
 }

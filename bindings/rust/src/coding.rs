@@ -3,10 +3,11 @@
 /// Which coding a message is in. It is said by the caller and never guessed.
 #[derive(Clone, Copy, Debug, PartialEq, Eq, Hash)]
 pub enum Coding {
-    /// Offsets and lengths of 48 bits.
+    /// Offsets and lengths of 48 bits. Unions in place are read, but no longer written.
     Bits48,
     /// The older coding: offsets and lengths of 32 bits, and unions always in place. A schema with
-    /// a union not in place, a table in place or a list of unions is not lawful under it.
+    /// a union not in place, a table in place, a list of unions or a direct list is not lawful under
+    /// it.
     Bits32,
 }
 

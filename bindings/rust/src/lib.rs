@@ -8,8 +8,8 @@
 //! be called from several threads at once. Any bytes may be given: what is not lawful is answered
 //! by a number.
 //!
-//! There are two codings of messages, and every function is told which one by its first argument,
-//! a [`Coding`]. Where the table names two numbers of bytes, the first is of the coding of 48 bits
+//! There are two codings of messages, and every function but [`clear_unions`] is told which one by its
+//! first argument, a [`Coding`]. Where the table names two numbers of bytes, the first is of the coding of 48 bits
 //! and the second of that of 32.
 //!
 //! | Number | Meaning | Place |
@@ -26,7 +26,7 @@
 //! | 9 | a known union choice, not in place, with offset 0; never under 32 bits | the holder |
 //! | 10 | a struct's boolean not 0 or 1, or a text's end byte not 0 | the object |
 //! | 11 | the sheet is not lawful, over 16,777,215 bytes, or deeper than 32 objects | 0 |
-//! | 12 | the sheet is lawful but cannot be written, by a text that is not UTF-8 too | 0 |
+//! | 12 | the sheet is lawful but cannot be written, by a text that is not UTF-8 too, and under 48 bits by a union present in place | 0 |
 //! | 13 | the message would be over 16,777,215 bytes | 0 |
 //! | 14 | no room in the output, or a sheet over 16,777,215 bytes | 0 |
 //! | 15 | a step that has no such part, or a path over 96 numbers | the last object judged; 0 for length |
@@ -38,6 +38,9 @@
 //!
 //! UTF-8 is what RFC 3629 says, and what a [`str`] is: no overlong forms, no surrogates, nothing above
 //! U+10FFFF; U+0000 is text. So a text that is handed out can be had as one, by [`text_str`].
+//!
+//! Unions in place are read under both codings, but under 48 bits no longer written. A stored message
+//! with one is moved over by its sheet and a schema in which their flag is cleared: [`clear_unions`].
 //!
 //! # Example
 //!
@@ -69,6 +72,7 @@
 //! ```
 
 mod answer;
+mod clear;
 mod coding;
 mod field;
 mod judge;
@@ -78,6 +82,7 @@ mod verdict;
 mod write;
 
 pub use answer::Answer;
+pub use clear::{clear_unions, ClearAnswer};
 pub use coding::Coding;
 pub use field::{field, text, text_str};
 pub use judge::judge;

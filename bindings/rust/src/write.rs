@@ -27,6 +27,9 @@ pub struct WriteAnswer {
 /// Writes a value sheet as a message to the front of `message`. The bytes after the length that is
 /// answered keep what they held; with a refusal all do.
 ///
+/// Under 48 bits a sheet in which a union in place is present is refused by 12, whatever it holds;
+/// [`clear_unions`](crate::clear_unions) makes the schema by which it can be written.
+///
 /// ```
 /// # let schema = b"\x00\x00\x00\x01\x00\x4C\x49\x43\x45\x02\x10\x00\x68\x00";
 /// use scalgo::{write, Coding::Bits48};

@@ -2,7 +2,7 @@
 //! the documents of the two codings, so the numbers stand beside each other here.
 
 use scalgo::Coding::{self, Bits32, Bits48};
-use scalgo::{field, judge, list, read, text, write, Answer, Budget, Verdict};
+use scalgo::{clear_unions, field, judge, list, read, text, write, Answer, Budget, Verdict};
 
 /// The same value in one of the codings.
 struct Example {
@@ -300,9 +300,54 @@ fn unions_in_place() {
         assert_eq!(sheet, *b"\x41\x50\x00\x10\x00\x00\x00\x26\x16\x20\xEE");
         let mut written = vec![0xEE; message.len()];
         let answer = write(coding, IN_PLACE, UNION_SHEET, &mut written);
-        assert_eq!((answer.number, answer.length), (0, message.len()));
-        assert_eq!(written, message);
+        // Under 48 bits they are no longer written.
+        let (number, expected) = match coding {
+            Bits48 => (12, &vec![0xEE; message.len()][..]),
+            Bits32 => (0, message),
+        };
+        let length = if number == 0 { message.len() } else { 0 };
+        assert_eq!((answer.number, answer.length), (number, length));
+        assert_eq!(written, expected);
+        // One that is absent is, with a choice of 0 and a length of 0.
+        let mut absent = message[..place as usize].to_vec();
+        let end = absent.len();
+        absent[end - 2 - example.offset as usize..].fill(0);
+        let answer = write(coding, IN_PLACE, b"\x41\x40", &mut written);
+        assert_eq!((answer.number, answer.length), (0, end));
+        assert_eq!(written[..end], absent);
     }
+}
+
+/// The same schema with 88 for 8A, and with room for less, for more, and of one that is not lawful.
+#[test]
+fn cleared_schemas() {
+    let (mut expected, length) = (IN_PLACE.to_vec(), IN_PLACE.len());
+    expected[length - 2] = 0x88;
+    for room in [length, length + 3] {
+        let mut cleared = vec![0xEE; room];
+        let answer = clear_unions(IN_PLACE, &mut cleared);
+        assert_eq!((answer.number, answer.length), (0, length));
+        assert_eq!(cleared[..length], expected);
+        assert_eq!(cleared[length..], [0xEE; 3][..room - length]);
+    }
+    for room in [0, length - 1] {
+        let mut cleared = vec![0xEE; room];
+        let answer = clear_unions(IN_PLACE, &mut cleared);
+        assert_eq!((answer.number, answer.length), (14, 0));
+        assert_eq!(cleared, vec![0xEE; room]);
+    }
+    let mut cleared = [0xEE; 99];
+    for schema in [&IN_PLACE[..length - 1], &[]] {
+        for room in [0, 99] {
+            let answer = clear_unions(schema, &mut cleared[..room]);
+            assert_eq!((answer.number, answer.length), (1, 0));
+        }
+    }
+    assert_eq!(cleared, [0xEE; 99]);
+    // A schema without such is as it was.
+    let answer = clear_unions(SCHEMA, &mut cleared);
+    assert_eq!((answer.number, answer.length), (0, SCHEMA.len()));
+    assert_eq!(&cleared[..SCHEMA.len()], SCHEMA);
 }
 
 #[test]

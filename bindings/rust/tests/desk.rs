@@ -203,9 +203,145 @@ fn wrong_words_and_missing_files() {
         "--content 5",
         "--budget 5 judge schema message",
         "judge schema message --coding 32",
+        "migrate schema message new",
+        "migrate schema message new moved more",
+        "migrate schema none new moved",
     ] {
         assert_eq!(run(&folder, words), (String::new(), false));
     }
+}
+
+/// A table with a U8 and, in place, a union of a text or a table of a U8; and that schema cleared.
+const STORED: &[u8] = b"\x00\x00\x01\x02\x00\x02\x68\x00\x80\x01\
+    \x4C\x49\x43\x45\x02\x08\x00\x8A\x00\x00\x00\x00\x01\x01\x08\x00";
+const CLEARED: &[u8] = b"\x00\x00\x01\x02\x00\x02\x68\x00\x80\x01\
+    \x4C\x49\x43\x45\x02\x08\x00\x88\x00\x00\x00\x00\x01\x01\x08\x00";
+
+/// A message by it: what follows the root's id.
+fn stored(rest: &[u8]) -> Vec<u8> {
+    let start = b"\xB3\xC4\xC0\xB5\x0A\x00\x00\x00\x00\x00\x45\x43\x49\x4C";
+    [start, rest].concat()
+}
+
+/// The text "ab", an empty text, a table of 6, and none: what is moved over, and to what.
+#[test]
+fn moving_over() {
+    let folder = folder("moved");
+    let cases: [(&[u8], &[u8]); 4] = [
+        (
+            b"\x09\0\0\0\0\0\x05\x01\x00\x02\0\0\0\0\0ab\0",
+            b"\x09\0\0\0\0\0\x05\x01\x00\x1D\0\0\0\0\0\xF5\xC8\x12\xD8\x02\0\0\0\0\0ab\0",
+        ),
+        (
+            b"\x09\0\0\0\0\0\x05\x01\x00\0\0\0\0\0\0\0",
+            b"\x09\0\0\0\0\0\x05\x01\x00\x1D\0\0\0\0\0\xF5\xC8\x12\xD8\0\0\0\0\0\0\0",
+        ),
+        // The table is longer than the schema says.
+        (
+            b"\x09\0\0\0\0\0\x05\x02\x00\x02\0\0\0\0\0\x06\x07",
+            b"\x09\0\0\0\0\0\x05\x02\x00\x1D\0\0\0\0\0\x01\0\0\0\x01\0\0\0\0\0\x06",
+        ),
+        // An absent one has no length that matters; nor is the union behind a short table's end there.
+        (b"\x01\0\0\0\0\0\x05", b"\x09\0\0\0\0\0\x05\0\0\0\0\0\0\0\0"),
+    ];
+    // Without such a union all is as it was.
+    prints(&folder, "migrate schema message new moved", "0 41");
+    assert_eq!(fs::read(folder.join("new")).expect("a schema"), SCHEMA);
+    assert_eq!(fs::read(folder.join("moved")).expect("bytes"), MESSAGE);
+    fs::write(folder.join("schema"), STORED).expect("a file is written");
+    for (rest, moved) in cases {
+        fs::write(folder.join("message"), stored(rest)).expect("a file is written");
+        let printed = format!("0 {}", 14 + moved.len());
+        prints(&folder, "migrate schema message new moved", &printed);
+        assert_eq!(fs::read(folder.join("new")).expect("a schema"), CLEARED);
+        let given = fs::read(folder.join("moved")).expect("a message");
+        assert_eq!(given, stored(moved));
+        // Both have the same sheet. Its own schema writes it only where no union is present.
+        run(&folder, "read schema message before");
+        run(&folder, "read new moved after");
+        let sheet = |name| fs::read(folder.join(name)).expect("a sheet");
+        assert_eq!(sheet("before"), sheet("after"));
+        let printed = if rest.len() < 8 { "0 29" } else { "12 0" };
+        prints(&folder, "write schema before again", printed);
+        // By the cleared schema it is moved over to itself.
+        prints(
+            &folder,
+            "migrate new moved new2 moved2",
+            &format!("0 {}", 14 + moved.len()),
+        );
+        assert_eq!(fs::read(folder.join("moved2")).expect("bytes"), given);
+    }
+}
+
+/// A message that is refused, a schema that is not lawful, and sheets that the cleared schema cannot
+/// write: nothing is written.
+#[test]
+fn not_moved_over() {
+    let folder = folder("stays");
+    let put = |name: &str, bytes: &[u8]| {
+        fs::write(folder.join(name), bytes).expect("a file is written");
+    };
+    put("schema", STORED);
+    let text = stored(b"\x09\0\0\0\0\0\x05\x01\x00\x02\0\0\0\0\0ab\0");
+    put("message", &text[..text.len() - 1]);
+    let words = "migrate schema message new moved";
+    prints(&folder, words, "6 29 2 9 0");
+    put("message", &text);
+    let few = format!("--visits 1 {words}");
+    prints(&folder, &few, "4 29 1 9 0");
+    let little = format!("--content 10 {words}");
+    prints(&folder, &little, "17 29 2 9 0");
+    prints(&folder, "migrate message schema new moved", "1 0 0 0 0");
+    // A length of 2 cuts the union.
+    put("message", &stored(b"\x02\0\0\0\0\0\x05\x01"));
+    prints(&folder, words, "8 10 1 2 0, member 1");
+    // An unknown choice, and a table that is too short for its number.
+    put(
+        "message",
+        &stored(b"\x09\0\0\0\0\0\x05\x03\x00\0\0\0\0\0\0"),
+    );
+    prints(&folder, words, "12 0");
+    put(
+        "message",
+        &stored(b"\x09\0\0\0\0\0\x05\x02\x00\0\0\0\0\0\0"),
+    );
+    prints(&folder, words, "12 0");
+    assert!(!folder.join("new").exists() && !folder.join("moved").exists());
+}
+
+/// A message of the largest size: what stood in place gets a header, and there is no room for that.
+#[test]
+fn too_large_to_move_over() {
+    let folder = folder("large");
+    // A table with a union of bytes in place.
+    let schema = b"\x00\x00\x01\x01\x00\x01\x70\x00\x4C\x49\x43\x45\x01\x8A\x00";
+    fs::write(folder.join("schema"), schema).expect("a file is written");
+    for (size, printed) in [(16_777_205, "0 16777215"), (16_777_206, "13 0")] {
+        let length = &(size as u64 - 28).to_le_bytes()[..6];
+        let mut message = stored(&[b"\x08\0\0\0\0\0\x01\0", length].concat());
+        message.resize(size, 7);
+        fs::write(folder.join("message"), message).expect("a file is written");
+        let _ = fs::remove_file(folder.join("moved"));
+        prints(&folder, "migrate schema message new moved", printed);
+        assert_eq!(folder.join("moved").exists(), printed.starts_with("0 "));
+    }
+}
+
+/// The older coding keeps unions in place: that is an error and says so.
+#[test]
+fn the_older_coding_is_not_moved_over() {
+    let folder = folder("kept");
+    let mut command = Command::new(env!("CARGO_BIN_EXE_scalgo-desk"));
+    let words = [
+        "--coding", "32", "migrate", "schema", "older", "new", "moved",
+    ];
+    let output = command.args(words).current_dir(&folder).output();
+    let output = output.expect("the program runs");
+    assert!(!output.status.success() && output.stdout.is_empty());
+    let said = String::from_utf8(output.stderr).expect("plain letters");
+    let why = "migrate: messages of 32 bits keep their unions in place and are not moved over\n";
+    assert_eq!(said, why);
+    assert!(!folder.join("new").exists() && !folder.join("moved").exists());
 }
 
 #[test]

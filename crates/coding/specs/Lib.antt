@@ -20,3 +20,4 @@ pub mod Cells
 pub mod Message
 pub mod Field
 pub mod Append
+pub mod Moving

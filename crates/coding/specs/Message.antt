@@ -8,7 +8,7 @@ use mathlib.Core.Option as Op
 use lib.ListN.{length, drop, replicate}
 use lib.Dec.{ltb, leb, eqb}
 use Rattle.coding.specs.Lists.{pick}
-use Rattle.coding.specs.Bytes.{leBytes, isNaN, noFloat, deepest, largest}
+use Rattle.coding.specs.Bytes.{leBytes, isNaN, noFloat, deepest, largest, u48}
 use Rattle.coding.specs.Utf8.{isText}
 use Rattle.coding.specs.Schema.{Schema, structOf, elementOf, casesOf, caseOf, tableOf}
 use Rattle.coding.specs.Structs.{byIndex, structSize}
@@ -82,25 +82,31 @@ flatWritable S optional (Struct i) v = pick (present v) (structKnown S i v) opti
 abbrev pub Test : Type 0
 Test = Object → Value → Bool
 
+-- 02, K12: "From now the writer refuses a present one under the 48-bit coding of document 000", an in-place union; "The 32-bit coding
+-- keeps them."
+unfoldable pub keepsUnions : ℕ → Bool
+keepsUnions o = not (eqb o u48)
+
 -- a member or element: "a present in-place text, bytes, list or table of length 0" cannot be written, nor "an unknown mark"
--- of a union; a present object by `child`
-unfoldable pub valueWritable : Test → ℕ → Schema → Kind → Bool → Bool → Value → Bool
-valueWritable child o S (OfFlat k) optional inplace v = flatWritable S optional k v
-valueWritable child o S (OfObject ob) optional inplace v =
+-- of a union, nor a present union in place where they are not `kept`; a present object by `child`
+unfoldable pub valueWritable : Test → Bool → ℕ → Schema → Kind → Bool → Bool → Value → Bool
+valueWritable child kept o S (OfFlat k) optional inplace v = flatWritable S optional k v
+valueWritable child kept o S (OfObject ob) optional inplace v =
     pick (present v) (pick inplace (ltb 0 (lengthOf o S ob v)) true && child ob v) true
-valueWritable child o S (OfUnion i) optional inplace v =
-    pick (present v) (child (caseOf (casesOf S i) (asNumber v)) (asObject v)) (known v)
+valueWritable child kept o S (OfUnion i) optional inplace v =
+    pick (present v) (pick inplace kept true && child (caseOf (casesOf S i) (asNumber v)) (asObject v)) (known v)
 
 -- every member of a table, in order: "Writing tries ... each over the whole sheet"
-unfoldable pub membersWritable : Test → ℕ → Schema → List Member → Values → Bool
-membersWritable child o S [] vs = true
-membersWritable child o S (r ∷ rs) vs =
-    valueWritable child o S (r .kind) (r .optional) (r .inplace) (first vs) && membersWritable child o S rs (others vs)
+unfoldable pub membersWritable : Test → Bool → ℕ → Schema → List Member → Values → Bool
+membersWritable child kept o S [] vs = true
+membersWritable child kept o S (r ∷ rs) vs =
+    valueWritable child kept o S (r .kind) (r .optional) (r .inplace) (first vs) && membersWritable child kept o S rs (others vs)
 
 -- every element of a list: "as a list element"
-unfoldable pub elementsWritable : Test → ℕ → Schema → Kind → Values → Bool
-elementsWritable child o S k none = true
-elementsWritable child o S k (v then vs) = valueWritable child o S k true false v && elementsWritable child o S k vs
+unfoldable pub elementsWritable : Test → Bool → ℕ → Schema → Kind → Values → Bool
+elementsWritable child kept o S k none = true
+elementsWritable child kept o S k (v then vs) =
+    valueWritable child kept o S k true false v && elementsWritable child kept o S k vs
 
 -- every element of a direct list of table t: 02, K1, "the elements without marks"
 unfoldable pub directsWritable : Test → ℕ → Values → Bool
@@ -108,18 +114,18 @@ directsWritable child t none = true
 directsWritable child t (v then vs) = child (O.Table t) v && directsWritable child t vs
 
 -- an object's content. 02, K2: "a sheet with such a text is 12", one that RFC 3629 does not allow; bytes may be any
-unfoldable pub contentWritable : Test → ℕ → Schema → Test
-contentWritable child o S O.Text v = isText (asBlob v)
-contentWritable child o S O.Bytes v = true
-contentWritable child o S (O.List i) v = elementsWritable child o S (elementOf S i) (asRow v)
-contentWritable child o S (O.Table i) v = membersWritable child o S (tableOf S i .members) (asRow v)
-contentWritable child o S (O.DirectList t) v = directsWritable child t (asRow v)
+unfoldable pub contentWritable : Test → Bool → ℕ → Schema → Test
+contentWritable child kept o S O.Text v = isText (asBlob v)
+contentWritable child kept o S O.Bytes v = true
+contentWritable child kept o S (O.List i) v = elementsWritable child kept o S (elementOf S i) (asRow v)
+contentWritable child kept o S (O.Table i) v = membersWritable child kept o S (tableOf S i .members) (asRow v)
+contentWritable child kept o S (O.DirectList t) v = directsWritable child t (asRow v)
 
 -- whether refusal 12, "sheet lawful but not writable", does not arise in an object, with d objects of depth left, this one
 -- counted
 unfoldable pub writable : ℕ → ℕ → Schema → Test
 writable zero o S ob v = false
-writable (suc d) o S ob v = contentWritable (writable d o S) o S ob v
+writable (suc d) o S ob v = contentWritable (writable d o S) (keepsUnions o) o S ob v
 
 -- ---- the layout of a tree
 -- a present number, or else x, for "enum 255 and absent floats"

@@ -24,7 +24,7 @@ use Rattle.coding.specs.declared.Verdict.{Verdict}
 use Rattle.coding.specs.declared.ReadAnswer.{ReadAnswer}
 use Rattle.demands.specs.Counter.{Case, N, M}
 use Rattle.demands.specs.Traps.{table, u48, rooted, inPlace, enum, case}
-use Rattle.demands.specs.RoundTripCases.{schema, made}
+use Rattle.demands.specs.MovedCases.{schema, stored}
 
 -- ---- schemas and messages, beside N and M, which has its root at 10 with a fixed part of 8 bytes, and a text of two bytes at 28
 -- no member; a U16; two texts; a reference to the table itself
@@ -119,9 +119,9 @@ allowanceCases =
     ∷ case (judged (listed 0x68) (listMessage 2 (u48 0 ++ u48 0)) 2 18) (0 ∷ 0 ∷ 2 ∷ 18 ∷ [])
     ∷ case (judged (listed 0x68) (listMessage 2 (u48 0 ++ u48 0)) 2 17) (17 ∷ 26 ∷ 2 ∷ 6 ∷ [])
     -- the message of the round trip's case: 58, 2, 24, 2, 7, 1 and, in place at 78, 7
-    ∷ case (judged schema made 7 101) (0 ∷ 0 ∷ 7 ∷ 101 ∷ [])
-    ∷ case (judged schema made 7 100) (17 ∷ 78 ∷ 7 ∷ 94 ∷ [])
-    ∷ case (judged schema made 6 101) (4 ∷ 78 ∷ 6 ∷ 94 ∷ [])
+    ∷ case (judged schema stored 7 101) (0 ∷ 0 ∷ 7 ∷ 101 ∷ [])
+    ∷ case (judged schema stored 7 100) (17 ∷ 78 ∷ 7 ∷ 94 ∷ [])
+    ∷ case (judged schema stored 6 101) (4 ∷ 78 ∷ 6 ∷ 94 ∷ [])
     -- under the older coding the fixed part has 6 bytes
     ∷ case (judgedOlder N olderMessage 2 8) (0 ∷ 0 ∷ 2 ∷ 8 ∷ [])
     ∷ case (judgedOlder N olderMessage 2 7) (17 ∷ 22 ∷ 2 ∷ 6 ∷ [])
@@ -162,5 +162,5 @@ unfolding allowanceCases told judged judgedOlder Lists.every Lists.run Bytes.le 
 allowances = refl
 
 pub orders : map (λ c. c .given) orderCases ≡ map (λ c. c .expected) orderCases
-unfolding orderCases told judged answered answer Lists.every Lists.run Bytes.le Bytes.leBytes Bytes.bitAt Bytes.isNaN Bytes.noFloat Bytes.largest Bytes.deepest Bytes.u48 Bytes.u32 Bytes.widthKnown Utf8.within Utf8.afterFirst Utf8.afterOctet Utf8.mayEnd Utf8.textFrom Utf8.isText Schema.structOf Schema.elementOf Schema.casesOf Schema.tableOf Schema.fieldOf Schema.caseOf Schema.plainBool Schema.memberOf Structs.lower Structs.byIndex Structs.flatWidth Structs.total Structs.sizeBy Structs.structSize Structs.flatOk Structs.flatsOk Structs.okBy Structs.structOk Packed.kindAt Packed.optionalAt Packed.inplaceAt Packed.zeroAt Packed.argumentAt Packed.widthOf Packed.flatOf Packed.objectOf Packed.kindOf Packed.flatAt Packed.objectAt Packed.elementAt Packed.memberAt Packed.records Packed.recordPlace Packed.blocks Packed.structPlace Packed.listPlace Packed.unionPlace Packed.tablePlace Packed.idAt Packed.recordsAt Packed.tableAt Packed.parse Lawful.countsOk Lawful.blocksOk Lawful.placesOk Lawful.shapeOk Lawful.argumentOk Lawful.kindOk Lawful.optionalOk Lawful.inplaceOk Lawful.flagsOk Lawful.recordOk Lawful.firstOk Lawful.recordsOk Lawful.inplaces Lawful.directTable Lawful.heldUnion Lawful.directOk Lawful.structLawful Lawful.listLawful Lawful.unionLawful Lawful.tableLawful Lawful.idDiffers Lawful.idLawful Lawful.rulesOk Lawful.wellFormed Lawful.olderMember Lawful.olderElement Lawful.olderUnion Lawful.olderTable Lawful.olderOk Lawful.lawful Layout.flatIsBool Layout.isBool Layout.width Layout.flatTakesFlag Layout.takesFlag Layout.hasFlag Layout.begin Layout.bitByte Layout.bitIndex Layout.afterBit Layout.afterBytes Layout.afterFlag Layout.bitSlot Layout.slotOf Layout.afterValue Layout.memberSlot Layout.placementOf Layout.afterMember Layout.afterMembers Layout.fixedSize Step.enumStep Step.floatStep Step.structTested Step.placeOf Step.objectStep Step.unionStep Step.flatStep Step.fieldStep Step.valueStep Step.inside Step.flagged Step.placedStep Step.memberStep Step.elementPlace Step.elementStep Step.elementsSize Walk.placed Walk.magic Walk.headerSize Walk.elementId Walk.elementSize Walk.mostElements Walk.startSize Walk.contentSize Walk.contentLength Walk.endOk Walk.textOk Walk.fitContent Walk.directHeader Walk.headerTested Walk.standsInPlace Walk.fitObject Walk.bytesTested Walk.openObject Walk.refuse Walk.andThen Walk.refusePart Walk.followChoice Walk.follow Walk.members Walk.elements Walk.directs Walk.content Walk.enter Walk.withContent Walk.admit Walk.arrive Walk.tooDeep Walk.oneMore Walk.mostContent Walk.counted Walk.visit Walk.rootPlace Walk.nothing Walk.walk Walk.verdictOf Walk.early Walk.sizeOk Walk.startOk Walk.verdict Value.asNumber Value.asBlob Value.asRow Value.asObject Value.present Value.known Value.first Value.others Value.count Read.stepRead Read.fieldsRead Read.readBy Read.structRead Read.membersRead Read.elementsRead Read.directsRead Read.contentRead Read.placeRead Read.read Read.messageRead Bits.bitsOf Bits.bits Bits.value Bits.pack Bits.byteCount Bits.packed Bits.allZero Sheet.markBits Sheet.flatBits Sheet.fieldBits Sheet.fieldsBits Sheet.bitsBy Sheet.structBits Sheet.bodyBits Sheet.flatUnknown Sheet.unknownWidth Sheet.partBits Sheet.flatUnmarked Sheet.unmarked Sheet.elementBits Sheet.membersBits Sheet.elementsBits Sheet.directsBits Sheet.blobBits Sheet.contentBits Sheet.encode Sheet.sheetBits Sheet.sheetOf Sheet.bind Sheet.takeNumber Sheet.takeBytes Sheet.takeValue Sheet.takeIf Sheet.takeMark Sheet.unknownEnum Sheet.takeUnknownEnum Sheet.takeEnum Sheet.takeFlat Sheet.takeField Sheet.takeFields Sheet.takeBy Sheet.takeStruct Sheet.takeChoice Sheet.takeBody Sheet.takeUnknownFlat Sheet.takeUnknown Sheet.takePart Sheet.takeElement Sheet.takeMembers Sheet.takeElements Sheet.takeDirects Sheet.takeBlob Sheet.takeContent Sheet.decode Sheet.closed Sheet.treeOf Sheet.sheetTree Message.lengthOf Message.flatKnown Message.flatsKnown Message.knownBy Message.structKnown Message.flatWritable Message.valueWritable Message.membersWritable Message.elementsWritable Message.directsWritable Message.contentWritable Message.writable Message.numberOr Message.flatBytes Message.flatsBytes Message.bytesBy Message.structBytes Message.flatSlots Message.objectSlots Message.referSlots Message.valueSlots Message.flagOf Message.memberSlots Message.membersSlots Message.elementsSlots Message.directsSlots Message.directSlots Message.contentSlots Message.plan Message.messageOf Message.writtenTree Message.written Message.writeRoom Message.writeOver Message.writeAnswer Message.writeOut Message.messageSheet Message.fitsRoom Message.readAnswer Message.readOut
+unfolding orderCases told judged answered answer Lists.every Lists.run Bytes.le Bytes.leBytes Bytes.bitAt Bytes.isNaN Bytes.noFloat Bytes.largest Bytes.deepest Bytes.u48 Bytes.u32 Bytes.widthKnown Utf8.within Utf8.afterFirst Utf8.afterOctet Utf8.mayEnd Utf8.textFrom Utf8.isText Schema.structOf Schema.elementOf Schema.casesOf Schema.tableOf Schema.fieldOf Schema.caseOf Schema.plainBool Schema.memberOf Structs.lower Structs.byIndex Structs.flatWidth Structs.total Structs.sizeBy Structs.structSize Structs.flatOk Structs.flatsOk Structs.okBy Structs.structOk Packed.kindAt Packed.optionalAt Packed.inplaceAt Packed.zeroAt Packed.argumentAt Packed.widthOf Packed.flatOf Packed.objectOf Packed.kindOf Packed.flatAt Packed.objectAt Packed.elementAt Packed.memberAt Packed.records Packed.recordPlace Packed.blocks Packed.structPlace Packed.listPlace Packed.unionPlace Packed.tablePlace Packed.idAt Packed.recordsAt Packed.tableAt Packed.parse Lawful.countsOk Lawful.blocksOk Lawful.placesOk Lawful.shapeOk Lawful.argumentOk Lawful.kindOk Lawful.optionalOk Lawful.inplaceOk Lawful.flagsOk Lawful.recordOk Lawful.firstOk Lawful.recordsOk Lawful.inplaces Lawful.directTable Lawful.heldUnion Lawful.directOk Lawful.structLawful Lawful.listLawful Lawful.unionLawful Lawful.tableLawful Lawful.idDiffers Lawful.idLawful Lawful.rulesOk Lawful.wellFormed Lawful.olderMember Lawful.olderElement Lawful.olderUnion Lawful.olderTable Lawful.olderOk Lawful.lawful Layout.flatIsBool Layout.isBool Layout.width Layout.flatTakesFlag Layout.takesFlag Layout.hasFlag Layout.begin Layout.bitByte Layout.bitIndex Layout.afterBit Layout.afterBytes Layout.afterFlag Layout.bitSlot Layout.slotOf Layout.afterValue Layout.memberSlot Layout.placementOf Layout.afterMember Layout.afterMembers Layout.fixedSize Step.enumStep Step.floatStep Step.structTested Step.placeOf Step.objectStep Step.unionStep Step.flatStep Step.fieldStep Step.valueStep Step.inside Step.flagged Step.placedStep Step.memberStep Step.elementPlace Step.elementStep Step.elementsSize Walk.placed Walk.magic Walk.headerSize Walk.elementId Walk.elementSize Walk.mostElements Walk.startSize Walk.contentSize Walk.contentLength Walk.endOk Walk.textOk Walk.fitContent Walk.directHeader Walk.headerTested Walk.standsInPlace Walk.fitObject Walk.bytesTested Walk.openObject Walk.refuse Walk.andThen Walk.refusePart Walk.followChoice Walk.follow Walk.members Walk.elements Walk.directs Walk.content Walk.enter Walk.withContent Walk.admit Walk.arrive Walk.tooDeep Walk.oneMore Walk.mostContent Walk.counted Walk.visit Walk.rootPlace Walk.nothing Walk.walk Walk.verdictOf Walk.early Walk.sizeOk Walk.startOk Walk.verdict Value.asNumber Value.asBlob Value.asRow Value.asObject Value.present Value.known Value.first Value.others Value.count Read.stepRead Read.fieldsRead Read.readBy Read.structRead Read.membersRead Read.elementsRead Read.directsRead Read.contentRead Read.placeRead Read.read Read.messageRead Bits.bitsOf Bits.bits Bits.value Bits.pack Bits.byteCount Bits.packed Bits.allZero Sheet.markBits Sheet.flatBits Sheet.fieldBits Sheet.fieldsBits Sheet.bitsBy Sheet.structBits Sheet.bodyBits Sheet.flatUnknown Sheet.unknownWidth Sheet.partBits Sheet.flatUnmarked Sheet.unmarked Sheet.elementBits Sheet.membersBits Sheet.elementsBits Sheet.directsBits Sheet.blobBits Sheet.contentBits Sheet.encode Sheet.sheetBits Sheet.sheetOf Sheet.bind Sheet.takeNumber Sheet.takeBytes Sheet.takeValue Sheet.takeIf Sheet.takeMark Sheet.unknownEnum Sheet.takeUnknownEnum Sheet.takeEnum Sheet.takeFlat Sheet.takeField Sheet.takeFields Sheet.takeBy Sheet.takeStruct Sheet.takeChoice Sheet.takeBody Sheet.takeUnknownFlat Sheet.takeUnknown Sheet.takePart Sheet.takeElement Sheet.takeMembers Sheet.takeElements Sheet.takeDirects Sheet.takeBlob Sheet.takeContent Sheet.decode Sheet.closed Sheet.treeOf Sheet.sheetTree Message.lengthOf Message.flatKnown Message.flatsKnown Message.knownBy Message.structKnown Message.flatWritable Message.keepsUnions Message.valueWritable Message.membersWritable Message.elementsWritable Message.directsWritable Message.contentWritable Message.writable Message.numberOr Message.flatBytes Message.flatsBytes Message.bytesBy Message.structBytes Message.flatSlots Message.objectSlots Message.referSlots Message.valueSlots Message.flagOf Message.memberSlots Message.membersSlots Message.elementsSlots Message.directsSlots Message.directSlots Message.contentSlots Message.plan Message.messageOf Message.writtenTree Message.written Message.writeRoom Message.writeOver Message.writeAnswer Message.writeOut Message.messageSheet Message.fitsRoom Message.readAnswer Message.readOut
 orders = refl

@@ -1,6 +1,6 @@
 -- The theorems. A reader's way in: Counter, OlderCoding, DirectLists, Traps, FieldCases, MemberCases, Allowances, Members, Sheets, Reached,
 -- RoundTrip, Appending, NewerAgrees, BiggerAllowance, ThreeSchemas, CutSheets, ThreeCases, Fields, Texts, SheetText, ListReader, Utf8,
--- Utf8Cases, OnlyText, NamesOfText; the other modules are their lemmas.
+-- Utf8Cases, OnlyText, NamesOfText, UnionsInPlace, Moved, MovedCases; the other modules are their lemmas.
 pub mod Counter
 pub mod Traps
 pub mod OlderCoding
@@ -43,6 +43,12 @@ pub mod TreeTrip
 pub mod WrittenSheet
 pub mod RoundTrip
 pub mod RoundTripCases
+pub mod UnionsInPlace
+pub mod ClearedSchema
+pub mod ClearedBytes
+pub mod ClearedLawful
+pub mod Moved
+pub mod MovedCases
 pub mod Allowances
 pub mod SameLayout
 pub mod SameStep

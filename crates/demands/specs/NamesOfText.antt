@@ -312,11 +312,10 @@ writtenCases =
     ∷ case (wrote Bytes.u48 named (0x40 ∷ 0x00 ∷ 0x00 ∷ 0x00 ∷ 0x00 ∷ [])) (0 ∷ of 0 [])
     -- bytes may be any
     ∷ case (wrote Bytes.u48 blob overlongSheet) (0 ∷ blobAt 2 overlong)
-    -- in place; in a union, by offset and in place; in a list; in an element of a direct list
+    -- in place; in a union; in a list; in an element of a direct list
     ∷ case (wrote Bytes.u48 inPlace overlongSheet) (12 ∷ [])
     ∷ case (wrote Bytes.u48 inPlace umlautSheet) (0 ∷ standing umlaut 0)
     ∷ case (wrote Bytes.u48 (union 0x88) (0x40 ∷ 0x00 ∷ 0x40 ∷ 0x00 ∷ 0x00 ∷ 0x00 ∷ 0xB0 ∷ 0x20 ∷ 0x00 ∷ [])) (12 ∷ [])
-    ∷ case (wrote Bytes.u48 (union 0x8A) (0x40 ∷ 0x00 ∷ 0x40 ∷ 0x00 ∷ 0x00 ∷ 0x00 ∷ 0xB0 ∷ 0x20 ∷ 0x00 ∷ [])) (12 ∷ [])
     ∷ case (wrote Bytes.u48 names (0x40 ∷ 0x00 ∷ 0x00 ∷ 0x00 ∷ 0x50 ∷ 0x00 ∷ 0x00 ∷ 0x00 ∷ 0x2C ∷ 0x08 ∷ 0x00 ∷ [])) (12 ∷ [])
     ∷ case
     (wrote Bytes.u48 seats
@@ -332,7 +331,10 @@ writtenCases =
     ∷ case (wrote Bytes.u32 named overlongSheet) (12 ∷ [])
     ∷ case (wrote Bytes.u32 named umlautSheet) (0 ∷ ofOlder 2 umlaut)
     ∷ case (wrote Bytes.u32 inPlace overlongSheet) (12 ∷ [])
+    -- and there in a union in place, which the other coding does not write (02, K12)
     ∷ case (wrote Bytes.u32 (union 0x8A) (0x40 ∷ 0x00 ∷ 0x40 ∷ 0x00 ∷ 0x00 ∷ 0x00 ∷ 0xB0 ∷ 0x20 ∷ 0x00 ∷ [])) (12 ∷ [])
+    ∷ case (wrote Bytes.u32 (union 0x8A) (0x40 ∷ 0x00 ∷ 0x40 ∷ 0x00 ∷ 0x00 ∷ 0x00 ∷ 0xB0 ∷ 0xEF ∷ 0x00 ∷ []))
+    (0 ∷ rootedOlder 6 (1 ∷ 0 ∷ 2 ∷ 0 ∷ 0 ∷ 0 ∷ umlaut ++ (0 ∷ [])))
     ∷ []
 
 -- THE CLAIM: each case gives what the papers say.
@@ -341,7 +343,7 @@ unfolding textCases told judged Walk.noMember Lists.every Lists.run Bytes.le Byt
 textCase = refl
 
 pub placeCase : map (λ c. c .given) placeCases ≡ map (λ c. c .expected) placeCases
-unfolding placeCases told judged read Walk.noMember Lists.every Lists.run Bytes.le Bytes.leBytes Bytes.bitAt Bytes.isNaN Bytes.noFloat Bytes.largest Bytes.deepest Bytes.u48 Bytes.u32 Bytes.widthKnown Utf8.within Utf8.afterFirst Utf8.afterOctet Utf8.mayEnd Utf8.textFrom Utf8.isText Schema.structOf Schema.elementOf Schema.casesOf Schema.tableOf Schema.fieldOf Schema.caseOf Schema.plainBool Schema.memberOf Structs.lower Structs.byIndex Structs.flatWidth Structs.total Structs.sizeBy Structs.structSize Structs.flatOk Structs.flatsOk Structs.okBy Structs.structOk Packed.kindAt Packed.optionalAt Packed.inplaceAt Packed.zeroAt Packed.argumentAt Packed.widthOf Packed.flatOf Packed.objectOf Packed.kindOf Packed.flatAt Packed.objectAt Packed.elementAt Packed.memberAt Packed.records Packed.recordPlace Packed.blocks Packed.structPlace Packed.listPlace Packed.unionPlace Packed.tablePlace Packed.idAt Packed.recordsAt Packed.tableAt Packed.parse Lawful.countsOk Lawful.blocksOk Lawful.placesOk Lawful.shapeOk Lawful.argumentOk Lawful.kindOk Lawful.optionalOk Lawful.inplaceOk Lawful.flagsOk Lawful.recordOk Lawful.firstOk Lawful.recordsOk Lawful.inplaces Lawful.directTable Lawful.heldUnion Lawful.directOk Lawful.structLawful Lawful.listLawful Lawful.unionLawful Lawful.tableLawful Lawful.idDiffers Lawful.idLawful Lawful.rulesOk Lawful.wellFormed Lawful.olderMember Lawful.olderElement Lawful.olderUnion Lawful.olderTable Lawful.olderOk Lawful.lawful Layout.flatIsBool Layout.isBool Layout.width Layout.flatTakesFlag Layout.takesFlag Layout.hasFlag Layout.begin Layout.bitByte Layout.bitIndex Layout.afterBit Layout.afterBytes Layout.afterFlag Layout.bitSlot Layout.slotOf Layout.afterValue Layout.memberSlot Layout.placementOf Layout.afterMember Layout.afterMembers Layout.fixedSize Step.enumStep Step.floatStep Step.structTested Step.placeOf Step.objectStep Step.unionStep Step.flatStep Step.fieldStep Step.valueStep Step.inside Step.flagged Step.placedStep Step.memberStep Step.elementPlace Step.elementStep Step.elementsSize Walk.placed Walk.magic Walk.headerSize Walk.elementId Walk.elementSize Walk.mostElements Walk.startSize Walk.contentSize Walk.contentLength Walk.endOk Walk.textOk Walk.fitContent Walk.directHeader Walk.headerTested Walk.standsInPlace Walk.fitObject Walk.bytesTested Walk.openObject Walk.refuse Walk.andThen Walk.refusePart Walk.followChoice Walk.follow Walk.members Walk.elements Walk.directs Walk.content Walk.enter Walk.withContent Walk.admit Walk.arrive Walk.tooDeep Walk.oneMore Walk.mostContent Walk.counted Walk.visit Walk.rootPlace Walk.nothing Walk.walk Walk.verdictOf Walk.early Walk.sizeOk Walk.startOk Walk.verdict Value.asNumber Value.asBlob Value.asRow Value.asObject Value.present Value.known Value.first Value.others Value.count Read.stepRead Read.fieldsRead Read.readBy Read.structRead Read.membersRead Read.elementsRead Read.directsRead Read.contentRead Read.placeRead Read.read Read.messageRead Bits.bitsOf Bits.bits Bits.value Bits.pack Bits.byteCount Bits.packed Bits.allZero Sheet.markBits Sheet.flatBits Sheet.fieldBits Sheet.fieldsBits Sheet.bitsBy Sheet.structBits Sheet.bodyBits Sheet.flatUnknown Sheet.unknownWidth Sheet.partBits Sheet.flatUnmarked Sheet.unmarked Sheet.elementBits Sheet.membersBits Sheet.elementsBits Sheet.directsBits Sheet.blobBits Sheet.contentBits Sheet.encode Sheet.sheetBits Sheet.sheetOf Sheet.bind Sheet.takeNumber Sheet.takeBytes Sheet.takeValue Sheet.takeIf Sheet.takeMark Sheet.unknownEnum Sheet.takeUnknownEnum Sheet.takeEnum Sheet.takeFlat Sheet.takeField Sheet.takeFields Sheet.takeBy Sheet.takeStruct Sheet.takeChoice Sheet.takeBody Sheet.takeUnknownFlat Sheet.takeUnknown Sheet.takePart Sheet.takeElement Sheet.takeMembers Sheet.takeElements Sheet.takeDirects Sheet.takeBlob Sheet.takeContent Sheet.decode Sheet.closed Sheet.treeOf Sheet.sheetTree Cells.width Cells.chain Cells.below Cells.widthBytes Cells.chainBytes Cells.belowBytes Cells.layout Cells.gather Cells.packBits Message.lengthOf Message.flatKnown Message.flatsKnown Message.knownBy Message.structKnown Message.flatWritable Message.valueWritable Message.membersWritable Message.elementsWritable Message.directsWritable Message.contentWritable Message.writable Message.numberOr Message.flatBytes Message.flatsBytes Message.bytesBy Message.structBytes Message.flatSlots Message.objectSlots Message.referSlots Message.valueSlots Message.flagOf Message.memberSlots Message.membersSlots Message.elementsSlots Message.directsSlots Message.directSlots Message.contentSlots Message.plan Message.messageOf Message.writtenTree Message.written Message.writeRoom Message.writeOver Message.writeAnswer Message.writeOut Message.messageSheet Message.fitsRoom Message.readAnswer Message.readOut
+unfolding placeCases told judged read Walk.noMember Lists.every Lists.run Bytes.le Bytes.leBytes Bytes.bitAt Bytes.isNaN Bytes.noFloat Bytes.largest Bytes.deepest Bytes.u48 Bytes.u32 Bytes.widthKnown Utf8.within Utf8.afterFirst Utf8.afterOctet Utf8.mayEnd Utf8.textFrom Utf8.isText Schema.structOf Schema.elementOf Schema.casesOf Schema.tableOf Schema.fieldOf Schema.caseOf Schema.plainBool Schema.memberOf Structs.lower Structs.byIndex Structs.flatWidth Structs.total Structs.sizeBy Structs.structSize Structs.flatOk Structs.flatsOk Structs.okBy Structs.structOk Packed.kindAt Packed.optionalAt Packed.inplaceAt Packed.zeroAt Packed.argumentAt Packed.widthOf Packed.flatOf Packed.objectOf Packed.kindOf Packed.flatAt Packed.objectAt Packed.elementAt Packed.memberAt Packed.records Packed.recordPlace Packed.blocks Packed.structPlace Packed.listPlace Packed.unionPlace Packed.tablePlace Packed.idAt Packed.recordsAt Packed.tableAt Packed.parse Lawful.countsOk Lawful.blocksOk Lawful.placesOk Lawful.shapeOk Lawful.argumentOk Lawful.kindOk Lawful.optionalOk Lawful.inplaceOk Lawful.flagsOk Lawful.recordOk Lawful.firstOk Lawful.recordsOk Lawful.inplaces Lawful.directTable Lawful.heldUnion Lawful.directOk Lawful.structLawful Lawful.listLawful Lawful.unionLawful Lawful.tableLawful Lawful.idDiffers Lawful.idLawful Lawful.rulesOk Lawful.wellFormed Lawful.olderMember Lawful.olderElement Lawful.olderUnion Lawful.olderTable Lawful.olderOk Lawful.lawful Layout.flatIsBool Layout.isBool Layout.width Layout.flatTakesFlag Layout.takesFlag Layout.hasFlag Layout.begin Layout.bitByte Layout.bitIndex Layout.afterBit Layout.afterBytes Layout.afterFlag Layout.bitSlot Layout.slotOf Layout.afterValue Layout.memberSlot Layout.placementOf Layout.afterMember Layout.afterMembers Layout.fixedSize Step.enumStep Step.floatStep Step.structTested Step.placeOf Step.objectStep Step.unionStep Step.flatStep Step.fieldStep Step.valueStep Step.inside Step.flagged Step.placedStep Step.memberStep Step.elementPlace Step.elementStep Step.elementsSize Walk.placed Walk.magic Walk.headerSize Walk.elementId Walk.elementSize Walk.mostElements Walk.startSize Walk.contentSize Walk.contentLength Walk.endOk Walk.textOk Walk.fitContent Walk.directHeader Walk.headerTested Walk.standsInPlace Walk.fitObject Walk.bytesTested Walk.openObject Walk.refuse Walk.andThen Walk.refusePart Walk.followChoice Walk.follow Walk.members Walk.elements Walk.directs Walk.content Walk.enter Walk.withContent Walk.admit Walk.arrive Walk.tooDeep Walk.oneMore Walk.mostContent Walk.counted Walk.visit Walk.rootPlace Walk.nothing Walk.walk Walk.verdictOf Walk.early Walk.sizeOk Walk.startOk Walk.verdict Value.asNumber Value.asBlob Value.asRow Value.asObject Value.present Value.known Value.first Value.others Value.count Read.stepRead Read.fieldsRead Read.readBy Read.structRead Read.membersRead Read.elementsRead Read.directsRead Read.contentRead Read.placeRead Read.read Read.messageRead Bits.bitsOf Bits.bits Bits.value Bits.pack Bits.byteCount Bits.packed Bits.allZero Sheet.markBits Sheet.flatBits Sheet.fieldBits Sheet.fieldsBits Sheet.bitsBy Sheet.structBits Sheet.bodyBits Sheet.flatUnknown Sheet.unknownWidth Sheet.partBits Sheet.flatUnmarked Sheet.unmarked Sheet.elementBits Sheet.membersBits Sheet.elementsBits Sheet.directsBits Sheet.blobBits Sheet.contentBits Sheet.encode Sheet.sheetBits Sheet.sheetOf Sheet.bind Sheet.takeNumber Sheet.takeBytes Sheet.takeValue Sheet.takeIf Sheet.takeMark Sheet.unknownEnum Sheet.takeUnknownEnum Sheet.takeEnum Sheet.takeFlat Sheet.takeField Sheet.takeFields Sheet.takeBy Sheet.takeStruct Sheet.takeChoice Sheet.takeBody Sheet.takeUnknownFlat Sheet.takeUnknown Sheet.takePart Sheet.takeElement Sheet.takeMembers Sheet.takeElements Sheet.takeDirects Sheet.takeBlob Sheet.takeContent Sheet.decode Sheet.closed Sheet.treeOf Sheet.sheetTree Cells.width Cells.chain Cells.below Cells.widthBytes Cells.chainBytes Cells.belowBytes Cells.layout Cells.gather Cells.packBits Message.lengthOf Message.flatKnown Message.flatsKnown Message.knownBy Message.structKnown Message.flatWritable Message.keepsUnions Message.valueWritable Message.membersWritable Message.elementsWritable Message.directsWritable Message.contentWritable Message.writable Message.numberOr Message.flatBytes Message.flatsBytes Message.bytesBy Message.structBytes Message.flatSlots Message.objectSlots Message.referSlots Message.valueSlots Message.flagOf Message.memberSlots Message.membersSlots Message.elementsSlots Message.directsSlots Message.directSlots Message.contentSlots Message.plan Message.messageOf Message.writtenTree Message.written Message.writeRoom Message.writeOver Message.writeAnswer Message.writeOut Message.messageSheet Message.fitsRoom Message.readAnswer Message.readOut
 placeCase = refl
 
 pub olderCase : map (λ c. c .given) olderCases ≡ map (λ c. c .expected) olderCases
@@ -353,7 +355,7 @@ unfolding fieldCases field fieldOlder stepped answered Walk.noMember Lists.every
 fieldCase = refl
 
 pub writtenCase : map (λ c. c .given) writtenCases ≡ map (λ c. c .expected) writtenCases
-unfolding writtenCases answer wrote room Lists.every Lists.run Bytes.le Bytes.leBytes Bytes.bitAt Bytes.isNaN Bytes.noFloat Bytes.largest Bytes.deepest Bytes.u48 Bytes.u32 Bytes.widthKnown Utf8.within Utf8.afterFirst Utf8.afterOctet Utf8.mayEnd Utf8.textFrom Utf8.isText Schema.structOf Schema.elementOf Schema.casesOf Schema.tableOf Schema.fieldOf Schema.caseOf Schema.plainBool Schema.memberOf Structs.lower Structs.byIndex Structs.flatWidth Structs.total Structs.sizeBy Structs.structSize Structs.flatOk Structs.flatsOk Structs.okBy Structs.structOk Packed.kindAt Packed.optionalAt Packed.inplaceAt Packed.zeroAt Packed.argumentAt Packed.widthOf Packed.flatOf Packed.objectOf Packed.kindOf Packed.flatAt Packed.objectAt Packed.elementAt Packed.memberAt Packed.records Packed.recordPlace Packed.blocks Packed.structPlace Packed.listPlace Packed.unionPlace Packed.tablePlace Packed.idAt Packed.recordsAt Packed.tableAt Packed.parse Lawful.countsOk Lawful.blocksOk Lawful.placesOk Lawful.shapeOk Lawful.argumentOk Lawful.kindOk Lawful.optionalOk Lawful.inplaceOk Lawful.flagsOk Lawful.recordOk Lawful.firstOk Lawful.recordsOk Lawful.inplaces Lawful.directTable Lawful.heldUnion Lawful.directOk Lawful.structLawful Lawful.listLawful Lawful.unionLawful Lawful.tableLawful Lawful.idDiffers Lawful.idLawful Lawful.rulesOk Lawful.wellFormed Lawful.olderMember Lawful.olderElement Lawful.olderUnion Lawful.olderTable Lawful.olderOk Lawful.lawful Layout.flatIsBool Layout.isBool Layout.width Layout.flatTakesFlag Layout.takesFlag Layout.hasFlag Layout.begin Layout.bitByte Layout.bitIndex Layout.afterBit Layout.afterBytes Layout.afterFlag Layout.bitSlot Layout.slotOf Layout.afterValue Layout.memberSlot Layout.placementOf Layout.afterMember Layout.afterMembers Layout.fixedSize Step.enumStep Step.floatStep Step.structTested Step.placeOf Step.objectStep Step.unionStep Step.flatStep Step.fieldStep Step.valueStep Step.inside Step.flagged Step.placedStep Step.memberStep Step.elementPlace Step.elementStep Step.elementsSize Walk.placed Walk.magic Walk.headerSize Walk.elementId Walk.elementSize Walk.mostElements Walk.startSize Walk.contentSize Walk.contentLength Walk.endOk Walk.textOk Walk.fitContent Walk.directHeader Walk.headerTested Walk.standsInPlace Walk.fitObject Walk.bytesTested Walk.openObject Walk.refuse Walk.andThen Walk.refusePart Walk.followChoice Walk.follow Walk.members Walk.elements Walk.directs Walk.content Walk.enter Walk.withContent Walk.admit Walk.arrive Walk.tooDeep Walk.oneMore Walk.mostContent Walk.counted Walk.visit Walk.rootPlace Walk.nothing Walk.walk Walk.verdictOf Walk.early Walk.sizeOk Walk.startOk Walk.verdict Value.asNumber Value.asBlob Value.asRow Value.asObject Value.present Value.known Value.first Value.others Value.count Read.stepRead Read.fieldsRead Read.readBy Read.structRead Read.membersRead Read.elementsRead Read.directsRead Read.contentRead Read.placeRead Read.read Read.messageRead Bits.bitsOf Bits.bits Bits.value Bits.pack Bits.byteCount Bits.packed Bits.allZero Sheet.markBits Sheet.flatBits Sheet.fieldBits Sheet.fieldsBits Sheet.bitsBy Sheet.structBits Sheet.bodyBits Sheet.flatUnknown Sheet.unknownWidth Sheet.partBits Sheet.flatUnmarked Sheet.unmarked Sheet.elementBits Sheet.membersBits Sheet.elementsBits Sheet.directsBits Sheet.blobBits Sheet.contentBits Sheet.encode Sheet.sheetBits Sheet.sheetOf Sheet.bind Sheet.takeNumber Sheet.takeBytes Sheet.takeValue Sheet.takeIf Sheet.takeMark Sheet.unknownEnum Sheet.takeUnknownEnum Sheet.takeEnum Sheet.takeFlat Sheet.takeField Sheet.takeFields Sheet.takeBy Sheet.takeStruct Sheet.takeChoice Sheet.takeBody Sheet.takeUnknownFlat Sheet.takeUnknown Sheet.takePart Sheet.takeElement Sheet.takeMembers Sheet.takeElements Sheet.takeDirects Sheet.takeBlob Sheet.takeContent Sheet.decode Sheet.closed Sheet.treeOf Sheet.sheetTree Cells.width Cells.chain Cells.below Cells.widthBytes Cells.chainBytes Cells.belowBytes Cells.layout Cells.gather Cells.packBits Message.lengthOf Message.flatKnown Message.flatsKnown Message.knownBy Message.structKnown Message.flatWritable Message.valueWritable Message.membersWritable Message.elementsWritable Message.directsWritable Message.contentWritable Message.writable Message.numberOr Message.flatBytes Message.flatsBytes Message.bytesBy Message.structBytes Message.flatSlots Message.objectSlots Message.referSlots Message.valueSlots Message.flagOf Message.memberSlots Message.membersSlots Message.elementsSlots Message.directsSlots Message.directSlots Message.contentSlots Message.plan Message.messageOf Message.writtenTree Message.written Message.writeRoom Message.writeOver Message.writeAnswer Message.writeOut Message.messageSheet Message.fitsRoom Message.readAnswer Message.readOut
+unfolding writtenCases answer wrote room Lists.every Lists.run Bytes.le Bytes.leBytes Bytes.bitAt Bytes.isNaN Bytes.noFloat Bytes.largest Bytes.deepest Bytes.u48 Bytes.u32 Bytes.widthKnown Utf8.within Utf8.afterFirst Utf8.afterOctet Utf8.mayEnd Utf8.textFrom Utf8.isText Schema.structOf Schema.elementOf Schema.casesOf Schema.tableOf Schema.fieldOf Schema.caseOf Schema.plainBool Schema.memberOf Structs.lower Structs.byIndex Structs.flatWidth Structs.total Structs.sizeBy Structs.structSize Structs.flatOk Structs.flatsOk Structs.okBy Structs.structOk Packed.kindAt Packed.optionalAt Packed.inplaceAt Packed.zeroAt Packed.argumentAt Packed.widthOf Packed.flatOf Packed.objectOf Packed.kindOf Packed.flatAt Packed.objectAt Packed.elementAt Packed.memberAt Packed.records Packed.recordPlace Packed.blocks Packed.structPlace Packed.listPlace Packed.unionPlace Packed.tablePlace Packed.idAt Packed.recordsAt Packed.tableAt Packed.parse Lawful.countsOk Lawful.blocksOk Lawful.placesOk Lawful.shapeOk Lawful.argumentOk Lawful.kindOk Lawful.optionalOk Lawful.inplaceOk Lawful.flagsOk Lawful.recordOk Lawful.firstOk Lawful.recordsOk Lawful.inplaces Lawful.directTable Lawful.heldUnion Lawful.directOk Lawful.structLawful Lawful.listLawful Lawful.unionLawful Lawful.tableLawful Lawful.idDiffers Lawful.idLawful Lawful.rulesOk Lawful.wellFormed Lawful.olderMember Lawful.olderElement Lawful.olderUnion Lawful.olderTable Lawful.olderOk Lawful.lawful Layout.flatIsBool Layout.isBool Layout.width Layout.flatTakesFlag Layout.takesFlag Layout.hasFlag Layout.begin Layout.bitByte Layout.bitIndex Layout.afterBit Layout.afterBytes Layout.afterFlag Layout.bitSlot Layout.slotOf Layout.afterValue Layout.memberSlot Layout.placementOf Layout.afterMember Layout.afterMembers Layout.fixedSize Step.enumStep Step.floatStep Step.structTested Step.placeOf Step.objectStep Step.unionStep Step.flatStep Step.fieldStep Step.valueStep Step.inside Step.flagged Step.placedStep Step.memberStep Step.elementPlace Step.elementStep Step.elementsSize Walk.placed Walk.magic Walk.headerSize Walk.elementId Walk.elementSize Walk.mostElements Walk.startSize Walk.contentSize Walk.contentLength Walk.endOk Walk.textOk Walk.fitContent Walk.directHeader Walk.headerTested Walk.standsInPlace Walk.fitObject Walk.bytesTested Walk.openObject Walk.refuse Walk.andThen Walk.refusePart Walk.followChoice Walk.follow Walk.members Walk.elements Walk.directs Walk.content Walk.enter Walk.withContent Walk.admit Walk.arrive Walk.tooDeep Walk.oneMore Walk.mostContent Walk.counted Walk.visit Walk.rootPlace Walk.nothing Walk.walk Walk.verdictOf Walk.early Walk.sizeOk Walk.startOk Walk.verdict Value.asNumber Value.asBlob Value.asRow Value.asObject Value.present Value.known Value.first Value.others Value.count Read.stepRead Read.fieldsRead Read.readBy Read.structRead Read.membersRead Read.elementsRead Read.directsRead Read.contentRead Read.placeRead Read.read Read.messageRead Bits.bitsOf Bits.bits Bits.value Bits.pack Bits.byteCount Bits.packed Bits.allZero Sheet.markBits Sheet.flatBits Sheet.fieldBits Sheet.fieldsBits Sheet.bitsBy Sheet.structBits Sheet.bodyBits Sheet.flatUnknown Sheet.unknownWidth Sheet.partBits Sheet.flatUnmarked Sheet.unmarked Sheet.elementBits Sheet.membersBits Sheet.elementsBits Sheet.directsBits Sheet.blobBits Sheet.contentBits Sheet.encode Sheet.sheetBits Sheet.sheetOf Sheet.bind Sheet.takeNumber Sheet.takeBytes Sheet.takeValue Sheet.takeIf Sheet.takeMark Sheet.unknownEnum Sheet.takeUnknownEnum Sheet.takeEnum Sheet.takeFlat Sheet.takeField Sheet.takeFields Sheet.takeBy Sheet.takeStruct Sheet.takeChoice Sheet.takeBody Sheet.takeUnknownFlat Sheet.takeUnknown Sheet.takePart Sheet.takeElement Sheet.takeMembers Sheet.takeElements Sheet.takeDirects Sheet.takeBlob Sheet.takeContent Sheet.decode Sheet.closed Sheet.treeOf Sheet.sheetTree Cells.width Cells.chain Cells.below Cells.widthBytes Cells.chainBytes Cells.belowBytes Cells.layout Cells.gather Cells.packBits Message.lengthOf Message.flatKnown Message.flatsKnown Message.knownBy Message.structKnown Message.flatWritable Message.keepsUnions Message.valueWritable Message.membersWritable Message.elementsWritable Message.directsWritable Message.contentWritable Message.writable Message.numberOr Message.flatBytes Message.flatsBytes Message.bytesBy Message.structBytes Message.flatSlots Message.objectSlots Message.referSlots Message.valueSlots Message.flagOf Message.memberSlots Message.membersSlots Message.elementsSlots Message.directsSlots Message.directSlots Message.contentSlots Message.plan Message.messageOf Message.writtenTree Message.written Message.writeRoom Message.writeOver Message.writeAnswer Message.writeOut Message.messageSheet Message.fitsRoom Message.readAnswer Message.readOut
 writtenCase = refl
 
 -- ---- the texts of a sheet, of which OnlyText speaks: a text, in place, in a union, two in a list, in a list of unions, in an element of a
@@ -379,5 +381,5 @@ pub textsCase :
     ∷ (umlaut ∷ [])
     ∷ []
     ∷ []
-unfolding texts sheetTexts optionTexts rootTexts TreeTexts.partTexts TreeTexts.membersTexts TreeTexts.elementsTexts TreeTexts.directsTexts TreeTexts.contentTexts TreeTexts.treeTexts Lists.every Lists.run Bytes.le Bytes.leBytes Bytes.bitAt Bytes.isNaN Bytes.noFloat Bytes.largest Bytes.deepest Bytes.u48 Bytes.u32 Bytes.widthKnown Utf8.within Utf8.afterFirst Utf8.afterOctet Utf8.mayEnd Utf8.textFrom Utf8.isText Schema.structOf Schema.elementOf Schema.casesOf Schema.tableOf Schema.fieldOf Schema.caseOf Schema.plainBool Schema.memberOf Structs.lower Structs.byIndex Structs.flatWidth Structs.total Structs.sizeBy Structs.structSize Structs.flatOk Structs.flatsOk Structs.okBy Structs.structOk Packed.kindAt Packed.optionalAt Packed.inplaceAt Packed.zeroAt Packed.argumentAt Packed.widthOf Packed.flatOf Packed.objectOf Packed.kindOf Packed.flatAt Packed.objectAt Packed.elementAt Packed.memberAt Packed.records Packed.recordPlace Packed.blocks Packed.structPlace Packed.listPlace Packed.unionPlace Packed.tablePlace Packed.idAt Packed.recordsAt Packed.tableAt Packed.parse Lawful.countsOk Lawful.blocksOk Lawful.placesOk Lawful.shapeOk Lawful.argumentOk Lawful.kindOk Lawful.optionalOk Lawful.inplaceOk Lawful.flagsOk Lawful.recordOk Lawful.firstOk Lawful.recordsOk Lawful.inplaces Lawful.directTable Lawful.heldUnion Lawful.directOk Lawful.structLawful Lawful.listLawful Lawful.unionLawful Lawful.tableLawful Lawful.idDiffers Lawful.idLawful Lawful.rulesOk Lawful.wellFormed Lawful.olderMember Lawful.olderElement Lawful.olderUnion Lawful.olderTable Lawful.olderOk Lawful.lawful Layout.flatIsBool Layout.isBool Layout.width Layout.flatTakesFlag Layout.takesFlag Layout.hasFlag Layout.begin Layout.bitByte Layout.bitIndex Layout.afterBit Layout.afterBytes Layout.afterFlag Layout.bitSlot Layout.slotOf Layout.afterValue Layout.memberSlot Layout.placementOf Layout.afterMember Layout.afterMembers Layout.fixedSize Step.enumStep Step.floatStep Step.structTested Step.placeOf Step.objectStep Step.unionStep Step.flatStep Step.fieldStep Step.valueStep Step.inside Step.flagged Step.placedStep Step.memberStep Step.elementPlace Step.elementStep Step.elementsSize Walk.placed Walk.magic Walk.headerSize Walk.elementId Walk.elementSize Walk.mostElements Walk.startSize Walk.contentSize Walk.contentLength Walk.endOk Walk.textOk Walk.fitContent Walk.directHeader Walk.headerTested Walk.standsInPlace Walk.fitObject Walk.bytesTested Walk.openObject Walk.refuse Walk.andThen Walk.refusePart Walk.followChoice Walk.follow Walk.members Walk.elements Walk.directs Walk.content Walk.enter Walk.withContent Walk.admit Walk.arrive Walk.tooDeep Walk.oneMore Walk.mostContent Walk.counted Walk.visit Walk.rootPlace Walk.nothing Walk.walk Walk.verdictOf Walk.early Walk.sizeOk Walk.startOk Walk.verdict Value.asNumber Value.asBlob Value.asRow Value.asObject Value.present Value.known Value.first Value.others Value.count Read.stepRead Read.fieldsRead Read.readBy Read.structRead Read.membersRead Read.elementsRead Read.directsRead Read.contentRead Read.placeRead Read.read Read.messageRead Bits.bitsOf Bits.bits Bits.value Bits.pack Bits.byteCount Bits.packed Bits.allZero Sheet.markBits Sheet.flatBits Sheet.fieldBits Sheet.fieldsBits Sheet.bitsBy Sheet.structBits Sheet.bodyBits Sheet.flatUnknown Sheet.unknownWidth Sheet.partBits Sheet.flatUnmarked Sheet.unmarked Sheet.elementBits Sheet.membersBits Sheet.elementsBits Sheet.directsBits Sheet.blobBits Sheet.contentBits Sheet.encode Sheet.sheetBits Sheet.sheetOf Sheet.bind Sheet.takeNumber Sheet.takeBytes Sheet.takeValue Sheet.takeIf Sheet.takeMark Sheet.unknownEnum Sheet.takeUnknownEnum Sheet.takeEnum Sheet.takeFlat Sheet.takeField Sheet.takeFields Sheet.takeBy Sheet.takeStruct Sheet.takeChoice Sheet.takeBody Sheet.takeUnknownFlat Sheet.takeUnknown Sheet.takePart Sheet.takeElement Sheet.takeMembers Sheet.takeElements Sheet.takeDirects Sheet.takeBlob Sheet.takeContent Sheet.decode Sheet.closed Sheet.treeOf Sheet.sheetTree Cells.width Cells.chain Cells.below Cells.widthBytes Cells.chainBytes Cells.belowBytes Cells.layout Cells.gather Cells.packBits Message.lengthOf Message.flatKnown Message.flatsKnown Message.knownBy Message.structKnown Message.flatWritable Message.valueWritable Message.membersWritable Message.elementsWritable Message.directsWritable Message.contentWritable Message.writable Message.numberOr Message.flatBytes Message.flatsBytes Message.bytesBy Message.structBytes Message.flatSlots Message.objectSlots Message.referSlots Message.valueSlots Message.flagOf Message.memberSlots Message.membersSlots Message.elementsSlots Message.directsSlots Message.directSlots Message.contentSlots Message.plan Message.messageOf Message.writtenTree Message.written Message.writeRoom Message.writeOver Message.writeAnswer Message.writeOut Message.messageSheet Message.fitsRoom Message.readAnswer Message.readOut
+unfolding texts sheetTexts optionTexts rootTexts TreeTexts.partTexts TreeTexts.membersTexts TreeTexts.elementsTexts TreeTexts.directsTexts TreeTexts.contentTexts TreeTexts.treeTexts Lists.every Lists.run Bytes.le Bytes.leBytes Bytes.bitAt Bytes.isNaN Bytes.noFloat Bytes.largest Bytes.deepest Bytes.u48 Bytes.u32 Bytes.widthKnown Utf8.within Utf8.afterFirst Utf8.afterOctet Utf8.mayEnd Utf8.textFrom Utf8.isText Schema.structOf Schema.elementOf Schema.casesOf Schema.tableOf Schema.fieldOf Schema.caseOf Schema.plainBool Schema.memberOf Structs.lower Structs.byIndex Structs.flatWidth Structs.total Structs.sizeBy Structs.structSize Structs.flatOk Structs.flatsOk Structs.okBy Structs.structOk Packed.kindAt Packed.optionalAt Packed.inplaceAt Packed.zeroAt Packed.argumentAt Packed.widthOf Packed.flatOf Packed.objectOf Packed.kindOf Packed.flatAt Packed.objectAt Packed.elementAt Packed.memberAt Packed.records Packed.recordPlace Packed.blocks Packed.structPlace Packed.listPlace Packed.unionPlace Packed.tablePlace Packed.idAt Packed.recordsAt Packed.tableAt Packed.parse Lawful.countsOk Lawful.blocksOk Lawful.placesOk Lawful.shapeOk Lawful.argumentOk Lawful.kindOk Lawful.optionalOk Lawful.inplaceOk Lawful.flagsOk Lawful.recordOk Lawful.firstOk Lawful.recordsOk Lawful.inplaces Lawful.directTable Lawful.heldUnion Lawful.directOk Lawful.structLawful Lawful.listLawful Lawful.unionLawful Lawful.tableLawful Lawful.idDiffers Lawful.idLawful Lawful.rulesOk Lawful.wellFormed Lawful.olderMember Lawful.olderElement Lawful.olderUnion Lawful.olderTable Lawful.olderOk Lawful.lawful Layout.flatIsBool Layout.isBool Layout.width Layout.flatTakesFlag Layout.takesFlag Layout.hasFlag Layout.begin Layout.bitByte Layout.bitIndex Layout.afterBit Layout.afterBytes Layout.afterFlag Layout.bitSlot Layout.slotOf Layout.afterValue Layout.memberSlot Layout.placementOf Layout.afterMember Layout.afterMembers Layout.fixedSize Step.enumStep Step.floatStep Step.structTested Step.placeOf Step.objectStep Step.unionStep Step.flatStep Step.fieldStep Step.valueStep Step.inside Step.flagged Step.placedStep Step.memberStep Step.elementPlace Step.elementStep Step.elementsSize Walk.placed Walk.magic Walk.headerSize Walk.elementId Walk.elementSize Walk.mostElements Walk.startSize Walk.contentSize Walk.contentLength Walk.endOk Walk.textOk Walk.fitContent Walk.directHeader Walk.headerTested Walk.standsInPlace Walk.fitObject Walk.bytesTested Walk.openObject Walk.refuse Walk.andThen Walk.refusePart Walk.followChoice Walk.follow Walk.members Walk.elements Walk.directs Walk.content Walk.enter Walk.withContent Walk.admit Walk.arrive Walk.tooDeep Walk.oneMore Walk.mostContent Walk.counted Walk.visit Walk.rootPlace Walk.nothing Walk.walk Walk.verdictOf Walk.early Walk.sizeOk Walk.startOk Walk.verdict Value.asNumber Value.asBlob Value.asRow Value.asObject Value.present Value.known Value.first Value.others Value.count Read.stepRead Read.fieldsRead Read.readBy Read.structRead Read.membersRead Read.elementsRead Read.directsRead Read.contentRead Read.placeRead Read.read Read.messageRead Bits.bitsOf Bits.bits Bits.value Bits.pack Bits.byteCount Bits.packed Bits.allZero Sheet.markBits Sheet.flatBits Sheet.fieldBits Sheet.fieldsBits Sheet.bitsBy Sheet.structBits Sheet.bodyBits Sheet.flatUnknown Sheet.unknownWidth Sheet.partBits Sheet.flatUnmarked Sheet.unmarked Sheet.elementBits Sheet.membersBits Sheet.elementsBits Sheet.directsBits Sheet.blobBits Sheet.contentBits Sheet.encode Sheet.sheetBits Sheet.sheetOf Sheet.bind Sheet.takeNumber Sheet.takeBytes Sheet.takeValue Sheet.takeIf Sheet.takeMark Sheet.unknownEnum Sheet.takeUnknownEnum Sheet.takeEnum Sheet.takeFlat Sheet.takeField Sheet.takeFields Sheet.takeBy Sheet.takeStruct Sheet.takeChoice Sheet.takeBody Sheet.takeUnknownFlat Sheet.takeUnknown Sheet.takePart Sheet.takeElement Sheet.takeMembers Sheet.takeElements Sheet.takeDirects Sheet.takeBlob Sheet.takeContent Sheet.decode Sheet.closed Sheet.treeOf Sheet.sheetTree Cells.width Cells.chain Cells.below Cells.widthBytes Cells.chainBytes Cells.belowBytes Cells.layout Cells.gather Cells.packBits Message.lengthOf Message.flatKnown Message.flatsKnown Message.knownBy Message.structKnown Message.flatWritable Message.keepsUnions Message.valueWritable Message.membersWritable Message.elementsWritable Message.directsWritable Message.contentWritable Message.writable Message.numberOr Message.flatBytes Message.flatsBytes Message.bytesBy Message.structBytes Message.flatSlots Message.objectSlots Message.referSlots Message.valueSlots Message.flagOf Message.memberSlots Message.membersSlots Message.elementsSlots Message.directsSlots Message.directSlots Message.contentSlots Message.plan Message.messageOf Message.writtenTree Message.written Message.writeRoom Message.writeOver Message.writeAnswer Message.writeOut Message.messageSheet Message.fitsRoom Message.readAnswer Message.readOut
 textsCase = refl

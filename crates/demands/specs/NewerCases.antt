@@ -83,7 +83,7 @@ message =
 
 -- it is what the writer makes of the sheet
 pub made : Message.written Bytes.u48 older sheet ≡ Message.message message
-unfolding Lists.every Lists.run Bytes.leBytes Bytes.isNaN Bytes.noFloat Bytes.largest Bytes.deepest Bytes.u48 Bytes.u32 Bytes.widthKnown Utf8.within Utf8.afterFirst Utf8.afterOctet Utf8.mayEnd Utf8.textFrom Utf8.isText Schema.structOf Schema.elementOf Schema.casesOf Schema.tableOf Schema.caseOf Structs.lower Structs.byIndex Structs.flatWidth Structs.total Structs.sizeBy Structs.structSize Packed.kindAt Packed.optionalAt Packed.inplaceAt Packed.zeroAt Packed.argumentAt Packed.widthOf Packed.flatOf Packed.objectOf Packed.kindOf Packed.flatAt Packed.objectAt Packed.elementAt Packed.memberAt Packed.records Packed.recordPlace Packed.blocks Packed.structPlace Packed.listPlace Packed.unionPlace Packed.tablePlace Packed.idAt Packed.recordsAt Packed.tableAt Packed.parse Lawful.countsOk Lawful.blocksOk Lawful.placesOk Lawful.shapeOk Lawful.argumentOk Lawful.kindOk Lawful.optionalOk Lawful.inplaceOk Lawful.flagsOk Lawful.recordOk Lawful.firstOk Lawful.recordsOk Lawful.inplaces Lawful.directTable Lawful.heldUnion Lawful.directOk Lawful.structLawful Lawful.listLawful Lawful.unionLawful Lawful.tableLawful Lawful.idDiffers Lawful.idLawful Lawful.rulesOk Lawful.wellFormed Lawful.olderMember Lawful.olderElement Lawful.olderUnion Lawful.olderTable Lawful.olderOk Lawful.lawful Layout.flatIsBool Layout.isBool Layout.width Layout.flatTakesFlag Layout.takesFlag Layout.hasFlag Layout.begin Layout.afterBit Layout.afterBytes Layout.afterFlag Layout.afterValue Layout.afterMember Layout.afterMembers Layout.fixedSize Walk.magic Value.asNumber Value.asBlob Value.asRow Value.asObject Value.present Value.known Value.first Value.others Value.count Bits.bitsOf Bits.bits Bits.value Bits.pack Bits.allZero Sheet.flatUnmarked Sheet.unmarked Sheet.bind Sheet.takeNumber Sheet.takeBytes Sheet.takeValue Sheet.takeIf Sheet.takeMark Sheet.unknownEnum Sheet.takeUnknownEnum Sheet.takeEnum Sheet.takeFlat Sheet.takeField Sheet.takeFields Sheet.takeBy Sheet.takeStruct Sheet.takeChoice Sheet.takeBody Sheet.takeUnknownFlat Sheet.takeUnknown Sheet.takePart Sheet.takeElement Sheet.takeMembers Sheet.takeElements Sheet.takeDirects Sheet.takeBlob Sheet.takeContent Sheet.decode Sheet.closed Sheet.treeOf Sheet.sheetTree Cells.width Cells.chain Cells.below Cells.widthBytes Cells.chainBytes Cells.belowBytes Cells.layout Cells.gather Cells.packBits Message.lengthOf Message.flatKnown Message.flatsKnown Message.knownBy Message.structKnown Message.flatWritable Message.valueWritable Message.membersWritable Message.elementsWritable Message.directsWritable Message.contentWritable Message.writable Message.numberOr Message.flatBytes Message.flatsBytes Message.bytesBy Message.structBytes Message.flatSlots Message.objectSlots Message.referSlots Message.valueSlots Message.flagOf Message.memberSlots Message.membersSlots Message.elementsSlots Message.directsSlots Message.directSlots Message.contentSlots Message.plan Message.messageOf Message.writtenTree Message.written
+unfolding Lists.every Lists.run Bytes.leBytes Bytes.isNaN Bytes.noFloat Bytes.largest Bytes.deepest Bytes.u48 Bytes.u32 Bytes.widthKnown Utf8.within Utf8.afterFirst Utf8.afterOctet Utf8.mayEnd Utf8.textFrom Utf8.isText Schema.structOf Schema.elementOf Schema.casesOf Schema.tableOf Schema.caseOf Structs.lower Structs.byIndex Structs.flatWidth Structs.total Structs.sizeBy Structs.structSize Packed.kindAt Packed.optionalAt Packed.inplaceAt Packed.zeroAt Packed.argumentAt Packed.widthOf Packed.flatOf Packed.objectOf Packed.kindOf Packed.flatAt Packed.objectAt Packed.elementAt Packed.memberAt Packed.records Packed.recordPlace Packed.blocks Packed.structPlace Packed.listPlace Packed.unionPlace Packed.tablePlace Packed.idAt Packed.recordsAt Packed.tableAt Packed.parse Lawful.countsOk Lawful.blocksOk Lawful.placesOk Lawful.shapeOk Lawful.argumentOk Lawful.kindOk Lawful.optionalOk Lawful.inplaceOk Lawful.flagsOk Lawful.recordOk Lawful.firstOk Lawful.recordsOk Lawful.inplaces Lawful.directTable Lawful.heldUnion Lawful.directOk Lawful.structLawful Lawful.listLawful Lawful.unionLawful Lawful.tableLawful Lawful.idDiffers Lawful.idLawful Lawful.rulesOk Lawful.wellFormed Lawful.olderMember Lawful.olderElement Lawful.olderUnion Lawful.olderTable Lawful.olderOk Lawful.lawful Layout.flatIsBool Layout.isBool Layout.width Layout.flatTakesFlag Layout.takesFlag Layout.hasFlag Layout.begin Layout.afterBit Layout.afterBytes Layout.afterFlag Layout.afterValue Layout.afterMember Layout.afterMembers Layout.fixedSize Walk.magic Value.asNumber Value.asBlob Value.asRow Value.asObject Value.present Value.known Value.first Value.others Value.count Bits.bitsOf Bits.bits Bits.value Bits.pack Bits.allZero Sheet.flatUnmarked Sheet.unmarked Sheet.bind Sheet.takeNumber Sheet.takeBytes Sheet.takeValue Sheet.takeIf Sheet.takeMark Sheet.unknownEnum Sheet.takeUnknownEnum Sheet.takeEnum Sheet.takeFlat Sheet.takeField Sheet.takeFields Sheet.takeBy Sheet.takeStruct Sheet.takeChoice Sheet.takeBody Sheet.takeUnknownFlat Sheet.takeUnknown Sheet.takePart Sheet.takeElement Sheet.takeMembers Sheet.takeElements Sheet.takeDirects Sheet.takeBlob Sheet.takeContent Sheet.decode Sheet.closed Sheet.treeOf Sheet.sheetTree Cells.width Cells.chain Cells.below Cells.widthBytes Cells.chainBytes Cells.belowBytes Cells.layout Cells.gather Cells.packBits Message.lengthOf Message.flatKnown Message.flatsKnown Message.knownBy Message.structKnown Message.flatWritable Message.keepsUnions Message.valueWritable Message.membersWritable Message.elementsWritable Message.directsWritable Message.contentWritable Message.writable Message.numberOr Message.flatBytes Message.flatsBytes Message.bytesBy Message.structBytes Message.flatSlots Message.objectSlots Message.referSlots Message.valueSlots Message.flagOf Message.memberSlots Message.membersSlots Message.elementsSlots Message.directsSlots Message.directSlots Message.contentSlots Message.plan Message.messageOf Message.writtenTree Message.written
 made = refl
 
 pub agrees : NewerAgrees Bytes.u48 older newer sheet message

@@ -13,7 +13,7 @@ use Rattle.coding.specs.Layout.{flatTakesFlag}
 use Rattle.coding.specs.Value.{Value, Values, absent, row, asNumber, asBlob, asRow, asObject, present, known, first, others}
 use Rattle.coding.specs.Sheet.{unmarked, flatUnmarked}
 use Rattle.coding.specs.Walk.{standsInPlace}
-use Rattle.coding.specs.Message.{lengthOf, flatKnown, flatsKnown, knownBy, allKnown, structKnown, flatWritable, Test, valueWritable, membersWritable, elementsWritable, directsWritable, contentWritable, writable}
+use Rattle.coding.specs.Message.{lengthOf, flatKnown, flatsKnown, knownBy, allKnown, structKnown, flatWritable, Test, keepsUnions, valueWritable, membersWritable, elementsWritable, directsWritable, contentWritable, writable}
 use Rattle.coding.specs.declared.Flat.{Flat}
 use Rattle.coding.specs.declared.Flat.the-variants as F
 use Rattle.coding.specs.declared.Object.{Object}
@@ -82,7 +82,7 @@ module _ (S : Schema) (sound : Sound S) where
       allKnown (knownBy S) (λ j t h. row-writes j t h) i
 
   -- ---- members and elements
-  module _ (o : ℕ) (narrow : 2 + o ≤ 4096) (child : Objects) (test : Test) (G : Objects)
+  module _ (kept : Bool) (o : ℕ) (narrow : 2 + o ≤ 4096) (child : Objects) (test : Test) (G : Objects)
       (inner : (ob : Object) (v : Value) → ObjectSound S ob → child ob v → test ob v ≡ true → G ob v)
       (there : (ob : Object) (v : Value) → child ob v → present v ≡ true) where
     no-flat-writes : (k : Flat) (optional inplace : Bool) → flatWritable S optional k absent ≡ true
@@ -94,7 +94,7 @@ module _ (S : Schema) (sound : Sound S) where
     no-flat-writes (F.Enumerated n) optional inplace e = W.flat W.no-enum tt
     no-flat-writes (F.Struct i) optional inplace e = W.no-flat e refl
 
-    no-part-writes : (k : Kind) (optional inplace : Bool) → valueWritable test o S k optional inplace absent ≡ true
+    no-part-writes : (k : Kind) (optional inplace : Bool) → valueWritable test kept o S k optional inplace absent ≡ true
         → PartWrites G o S optional optional inplace k absent
     unfolding valueWritable
     no-part-writes (OfFlat k) optional inplace e = no-flat-writes k optional inplace e
@@ -118,7 +118,7 @@ module _ (S : Schema) (sound : Sound S) where
     long-by false n e f = never f
 
     part-writes : {k : Kind} {v : Value} (optional inplace : Bool) → KindSound S k → (inplace ≡ true → MayStandInPlace S k)
-        → PartShown child S k v → valueWritable test o S k optional inplace v ≡ true → PartWrites G o S optional optional inplace k v
+        → PartShown child S k v → valueWritable test kept o S k optional inplace v ≡ true → PartWrites G o S optional optional inplace k v
     unfolding valueWritable present asNumber asObject known
     part-writes optional inplace s may (no-part {k = k}) e = no-part-writes k optional inplace e
     part-writes optional inplace s may (flat h) e = flat-writes optional inplace h e
@@ -129,7 +129,7 @@ module _ (S : Schema) (sound : Sound S) where
         W.object (inner ob v s h (both-right (pick inplace (ltb 0 n) true) (test ob v) q)) p
         (long-by inplace n (both-left (pick inplace (ltb 0 n) true) (test ob v) q)) (λ t. stands-in-place ob (may t))
     part-writes optional inplace s may (choice {i = i} {c = c} {v = v} l b h) e =
-        W.choice l b (inner (caseOf (casesOf S i) c) v (case-sound-at S sound i c l b) h e)
+        W.choice l b (inner (caseOf (casesOf S i) c) v (case-sound-at S sound i c l b) h (both-right (pick inplace kept true) (test (caseOf (casesOf S i) c) v) e))
         (λ t. stands-in-place (caseOf (casesOf S i) c) (case-not-direct-at S i c l b (may t)))
     part-writes optional inplace s may (unknown-choice h l) e = never e
 
@@ -149,22 +149,22 @@ module _ (S : Schema) (sound : Sound S) where
     element-writes b s W.no-union = W.no-union
     element-writes b s (W.choice l c g d) = W.choice l c g d
 
-    members-write : {rs : List Member} {vs : Values} → All (MemberSound S) rs → MembersShown child S rs vs → membersWritable test o S rs vs ≡ true → MembersWrite G o S rs vs
+    members-write : {rs : List Member} {vs : Values} → All (MemberSound S) rs → MembersShown child S rs vs → membersWritable test kept o S rs vs ≡ true → MembersWrite G o S rs vs
     unfolding membersWritable first others
     members-write ok no-member e = W.no-member
     members-write ok (members {r = r} {rs = rs} {v = v} {vs = vs} h hs) e =
-        let a = valueWritable test o S (r .kind) (r .optional) (r .inplace) v in
-        let b = membersWritable test o S rs vs in
+        let a = valueWritable test kept o S (r .kind) (r .optional) (r .inplace) v in
+        let b = membersWritable test kept o S rs vs in
         W.members (part-writes (r .optional) (r .inplace) (ok .0 .kind) (ok .0 .inplace) h (both-left a b e))
         (members-write (ok .1) hs (both-right a b e))
 
-    elements-write : {k : Kind} {vs : Values} → KindSound S k → NoStruct k → ElementsShown child S k vs → elementsWritable test o S k vs ≡ true
+    elements-write : {k : Kind} {vs : Values} → KindSound S k → NoStruct k → ElementsShown child S k vs → elementsWritable test kept o S k vs ≡ true
         → ElementsWrite G o S k vs
     unfolding elementsWritable
     elements-write ok s no-element e = W.no-element
     elements-write {k} ok s (elements {v = v} {vs = vs} h there′ hs) e =
-        let a = valueWritable test o S k true false v in
-        let b = elementsWritable test o S k vs in
+        let a = valueWritable test kept o S k true false v in
+        let b = elementsWritable test kept o S k vs in
         W.elements (element-writes there′ s (part-writes true false ok (λ f. never f) h (both-left a b e))) (elements-write ok s hs (both-right a b e))
 
     directs-write : {t : ℕ} {vs : Values} → ObjectSound S (O.Table t) → DirectsShown child t vs → directsWritable test t vs ≡ true
@@ -176,7 +176,7 @@ module _ (S : Schema) (sound : Sound S) where
         let b = directsWritable test t vs in
         W.directs (inner (O.Table t) v ok h (both-left a b e)) (directs-write ok hs (both-right a b e))
 
-    content-writes : {ob : Object} {v : Value} → ObjectSound S ob → ContentShown child S ob v → contentWritable test o S ob v ≡ true
+    content-writes : {ob : Object} {v : Value} → ObjectSound S ob → ContentShown child S ob v → contentWritable test kept o S ob v ≡ true
         → ContentWrites G o S ob v
     unfolding contentWritable asBlob asRow
     content-writes ok (text h l) e = W.text h e
@@ -203,4 +203,4 @@ module _ (S : Schema) (sound : Sound S) where
   unfolding writable
   shown-writes o narrow zero ob v ok h e = absurd h
   shown-writes o narrow (suc d) ob v ok h e =
-      content-writes o narrow (Shown d S) (writable d o S) (Writes d o S) (shown-writes o narrow d) (shown-there d) ok h e
+      content-writes (keepsUnions o) o narrow (Shown d S) (writable d o S) (Writes d o S) (shown-writes o narrow d) (shown-there d) ok h e

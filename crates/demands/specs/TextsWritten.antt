@@ -8,7 +8,7 @@ use Rattle.coding.specs.Lists.{pick}
 use Rattle.coding.specs.Schema.{Schema, elementOf, casesOf, caseOf, tableOf}
 use Rattle.coding.specs.Value.{Value, Values, none, _then_, asNumber, asBlob, asRow, asObject, present, known, first, others}
 use Rattle.coding.specs.Utf8.{Characters}
-use Rattle.coding.specs.Message.{lengthOf, Test, valueWritable, membersWritable, elementsWritable, directsWritable, contentWritable, writable}
+use Rattle.coding.specs.Message.{lengthOf, Test, keepsUnions, valueWritable, membersWritable, elementsWritable, directsWritable, contentWritable, writable}
 use Rattle.coding.specs.declared.Object.{Object}
 use Rattle.coding.specs.declared.Object.the-variants as O
 use Rattle.coding.specs.declared.Kind.{Kind}
@@ -20,42 +20,39 @@ use Rattle.demands.specs.TreeTexts.{Texts, partTexts, membersTexts, elem
 use Rattle.demands.specs.TextsWalked.{AllText}
 use Rattle.demands.specs.Utf8.{text-exactly}
 
-module _ (o : ℕ) (S : Schema) (test : Test) (texts : Texts)
+module _ (kept : Bool) (o : ℕ) (S : Schema) (test : Test) (texts : Texts)
     (below : (ob : Object) (v : Value) → test ob v ≡ true → AllText (texts ob v)) where
-  object-texts : (t : Bool) (long : Bool) (ob : Object) (v : Value) → pick t (long && test ob v) true ≡ true
-      → AllText (pick t (texts ob v) [])
-  object-texts true long ob v e = below ob v (both-right long (test ob v) e)
-  object-texts false long ob v e = tt
+  -- a present object passes the test, whatever else is asked of it
+  object-texts : (t long k : Bool) (ob : Object) (v : Value) → pick t (long && test ob v) k ≡ true → AllText (pick t (texts ob v) [])
+  object-texts true long k ob v e = below ob v (both-right long (test ob v) e)
+  object-texts false long k ob v e = tt
 
-  choice-texts : (t k : Bool) (ob : Object) (v : Value) → pick t (test ob v) k ≡ true → AllText (pick t (texts ob v) [])
-  choice-texts true k ob v e = below ob v e
-  choice-texts false k ob v e = tt
-
-  part-texts : (k : Kind) (optional inplace : Bool) (v : Value) → valueWritable test o S k optional inplace v ≡ true
+  part-texts : (k : Kind) (optional inplace : Bool) (v : Value) → valueWritable test kept o S k optional inplace v ≡ true
       → AllText (partTexts texts S k v)
   unfolding valueWritable partTexts
   part-texts (OfFlat k) optional inplace v e = tt
-  part-texts (OfObject ob) optional inplace v e = object-texts (present v) (pick inplace (ltb 0 (lengthOf o S ob v)) true) ob v e
-  part-texts (OfUnion i) optional inplace v e = choice-texts (present v) (known v) (caseOf (casesOf S i) (asNumber v)) (asObject v) e
+  part-texts (OfObject ob) optional inplace v e = object-texts (present v) (pick inplace (ltb 0 (lengthOf o S ob v)) true) true ob v e
+  part-texts (OfUnion i) optional inplace v e =
+      object-texts (present v) (pick inplace kept true) (known v) (caseOf (casesOf S i) (asNumber v)) (asObject v) e
 
-  members-texts : (rs : List Member) (vs : Values) → membersWritable test o S rs vs ≡ true → AllText (membersTexts texts S rs vs)
+  members-texts : (rs : List Member) (vs : Values) → membersWritable test kept o S rs vs ≡ true → AllText (membersTexts texts S rs vs)
   unfolding membersWritable membersTexts
   members-texts [] vs e = tt
   members-texts (r ∷ rs) vs e =
-      let a = valueWritable test o S (r .kind) (r .optional) (r .inplace) (first vs) in
-      let b = membersWritable test o S rs (others vs) in
+      let a = valueWritable test kept o S (r .kind) (r .optional) (r .inplace) (first vs) in
+      let b = membersWritable test kept o S rs (others vs) in
       all-append Characters
       (partTexts texts S (r .kind) (first vs))
       (membersTexts texts S rs (others vs))
       (part-texts (r .kind) (r .optional) (r .inplace) (first vs) (both-left a b e))
       (members-texts rs (others vs) (both-right a b e))
 
-  elements-texts : (k : Kind) (vs : Values) → elementsWritable test o S k vs ≡ true → AllText (elementsTexts texts S k vs)
+  elements-texts : (k : Kind) (vs : Values) → elementsWritable test kept o S k vs ≡ true → AllText (elementsTexts texts S k vs)
   unfolding elementsWritable elementsTexts
   elements-texts k none e = tt
   elements-texts k (v then vs) e =
-      let a = valueWritable test o S k true false v in
-      let b = elementsWritable test o S k vs in
+      let a = valueWritable test kept o S k true false v in
+      let b = elementsWritable test kept o S k vs in
       all-append Characters (partTexts texts S k v) (elementsTexts texts S k vs) (part-texts k true false v (both-left a b e))
       (elements-texts k vs (both-right a b e))
 
@@ -68,7 +65,7 @@ module _ (o : ℕ) (S : Schema) (test : Test) (texts : Texts)
       all-append Characters (texts (O.Table t) v) (directsTexts texts t vs) (below (O.Table t) v (both-left a b e))
       (directs-texts t vs (both-right a b e))
 
-  content-texts : (ob : Object) (v : Value) → contentWritable test o S ob v ≡ true → AllText (contentTexts texts S ob v)
+  content-texts : (ob : Object) (v : Value) → contentWritable test kept o S ob v ≡ true → AllText (contentTexts texts S ob v)
   unfolding contentWritable contentTexts
   content-texts O.Text v e = (text-exactly (asBlob v) .0 e, tt)
   content-texts O.Bytes v e = tt
@@ -79,4 +76,4 @@ module _ (o : ℕ) (S : Schema) (test : Test) (texts : Texts)
 pub writable-texts : (d o : ℕ) (S : Schema) (ob : Object) (v : Value) → writable d o S ob v ≡ true → AllText (treeTexts d S ob v)
 unfolding writable treeTexts
 writable-texts zero o S ob v e = tt
-writable-texts (suc d) o S ob v e = content-texts o S (writable d o S) (treeTexts d S) (writable-texts d o S) ob v e
+writable-texts (suc d) o S ob v e = content-texts (keepsUnions o) o S (writable d o S) (treeTexts d S) (writable-texts d o S) ob v e

@@ -8,6 +8,8 @@ pub mod Lists
 pub mod Parsed
 pub mod Rules
 pub mod DirectRules
+pub mod Blocks
+pub mod MemberPlaces
 pub mod RecordSound
 pub mod Sizes
 pub mod LawfulSound

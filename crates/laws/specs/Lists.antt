@@ -1,7 +1,7 @@
 -- Laws of the helpers in `coding`'s Lists: both parts of a conjunction, a choice, a test at every number, and a run.
 use mathlib.Core.Path.{_≡_, refl, ap, _∙_}
 use mathlib.Core.Bool.{Bool, true, false, _&&_, and-false}
-use mathlib.Core.List.{List, [], _∷_}
+use mathlib.Core.List.{List, [], _∷_, map}
 use Prim.Native.Nat.{ℕ, zero, suc, _+_, _<_, _≤_}
 use native.Mathlib.Numerals.{add-one}
 use native.Mathlib.Nat.{add-zero, zero-add}
@@ -37,6 +37,11 @@ module _ (f : ℕ → Bool) where
   pub every-more : (i : ℕ) → every f i ≡ true → f i ≡ true → every f (i + 1) ≡ true
   unfolding every
   every-more i e h = rw add-one (simp (e, h))
+
+  pub every-all : (n : ℕ) → ((i : ℕ) → i < n → f i ≡ true) → every f n ≡ true
+  unfolding every
+  every-all zero h = refl
+  every-all (suc n) h = rw (every-all n (λ i l. h i (omega arith))) (h n (omega arith))
 
   pub every-fail : (n i : ℕ) → i < n → f i ≡ false → every f n ≡ false
   unfolding every
@@ -78,6 +83,24 @@ module _ {A : Type 0} (f : ℕ → A) where
 
     pub run-all : (n : ℕ) → ((k : ℕ) → k < n → P (f k)) → All P (run f 0 n)
     run-all n h = all-from n 0 (λ k l m. h k (omega arith))
+
+-- two runs that are the same at every number
+runs-from : {A : Type 0} (f g : ℕ → A) (n i : ℕ) → ((k : ℕ) → i ≤ k → k < i + n → f k ≡ g k) → run f i n ≡ run g i n
+unfolding run
+runs-from f g zero i h = refl
+runs-from f g (suc n) i h = rw (h i (omega arith) (omega arith), runs-from f g n (i + 1) (λ k l m. h k (omega arith) (omega arith)))
+
+pub run-same : {A : Type 0} (f g : ℕ → A) (n : ℕ) → ((k : ℕ) → k < n → f k ≡ g k) → run f 0 n ≡ run g 0 n
+run-same f g n h = runs-from f g n 0 (λ k l m. h k (omega arith))
+
+-- f of each of a run is a run
+maps-from : {A B : Type 0} (f : A → B) (g : ℕ → A) (n i : ℕ) → map f (run g i n) ≡ run (λ k. f (g k)) i n
+unfolding run
+maps-from f g zero i = refl
+maps-from f g (suc n) i = ap (λ (xs : List _). f (g i) ∷ xs) (maps-from f g n (i + 1))
+
+pub map-run : {A B : Type 0} (f : A → B) (g : ℕ → A) (n : ℕ) → map f (run g 0 n) ≡ run (λ k. f (g k)) 0 n
+map-run f g n = maps-from f g n 0
 
 -- P of each gives P at a place
 pub all-at : {A : Type 0} (P : A → Type 0) (d : A) (xs : List A) (k : ℕ) → All P xs → k < length xs → P (getD xs k d)

@@ -3,3 +3,5 @@ pub mod Writing
 pub mod Promised
 pub mod Stepping
 pub mod Trips
+pub mod UnionsRefused
+pub mod MovedOver

@@ -5,8 +5,8 @@ use mathlib.Core.List.{List, _++_}
 use mathlib.Core.Logic.{_⊎_, inl, inr}
 use Prim.Native.Nat.{ℕ, _<_, _≤_}
 use native.Mathlib.Omega.{arith}
-use lib.ListN.{length, take, drop}
-use lib.Seq.{take-append-seam}
+use lib.ListN.{length, take, drop, length-append}
+use lib.Seq.{take-append-seam, length-take-le}
 use lib.Dec.{leb, eqb}
 use borrow.Author.Tests.{eqb-true, eqb-false, eq-eqb, ne-eqb, leb-true, le-leb, lt-leb}
 use Rattle.coding.specs.Lists.{pick}
@@ -77,6 +77,20 @@ module _ (o : ℕ) (b m : List ℕ) (budget : Budget) (out : List ℕ) where
   unfolding readAnswer readOut
   handed a out′ ea eo h =
       rw (ea, eo) (handed-by _ _ refl refl (ap (λ (x : ReadAnswer). x .verdict .number) (sym ea) ∙ h))
+
+  within-by : (s t : Bool) → answerBy s t .length ≤ length (outBy s t)
+  within-by true true = omega (arith, length-append sheet (drop (length sheet) out))
+  within-by true false = omega arith
+  within-by false t = omega arith
+
+  -- what is handed out lies in the output
+  pub read-within : (a : ReadAnswer) (out′ : List ℕ) → a ≡ readAnswer o b m budget out → out′ ≡ readOut o b m budget out → a .length ≤ length out′
+  unfolding readAnswer readOut
+  read-within a out′ ea eo = rw (ea, eo) (within-by (eqb (judged .number) 0) (fitsRoom sheet out))
+
+  pub read-part : (a : ReadAnswer) (out′ : List ℕ) → a ≡ readAnswer o b m budget out → out′ ≡ readOut o b m budget out
+      → a .length ≡ length (take (a .length) out′)
+  read-part a out′ ea eo = sym (length-take-le (a .length) out′ (read-within a out′ ea eo))
 
   -- what is handed out is the sheet of the rules
   pub hands-out : (a : ReadAnswer) (out′ : List ℕ) → a ≡ readAnswer o b m budget out → out′ ≡ readOut o b m budget out

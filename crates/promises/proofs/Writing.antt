@@ -22,7 +22,7 @@ use Rattle.coding.specs.declared.WriteAnswer.{WriteAnswer}
 use Rattle.promises.specs.Words.{KeepsOnRefusal}
 
 -- ---- the writer refuses by 1, 11, 12 or 13, and never by 0
-abbrev Refuses : Written → Type 0
+abbrev pub Refuses : Written → Type 0
 Refuses (refused n) = 0 < n
 Refuses (message m) = Unit {0}
 
@@ -45,7 +45,7 @@ writes-or-refuses o b s = by (lawful o b)
     by false = omega arith
 
 -- ---- number 0
-room-length : (w : Written) (out : List ℕ) → writeRoom w (length out) .length ≤ length (writeOver w out)
+pub room-length : (w : Written) (out : List ℕ) → writeRoom w (length out) .length ≤ length (writeOver w out)
 unfolding writeRoom writeOver
 room-length (refused k) out = omega arith
 room-length (message m) out = by (leb (length m) (length out))
@@ -56,7 +56,7 @@ room-length (message m) out = by (leb (length m) (length out))
     by true = omega (arith, length-append m (drop (length m) out))
     by false = omega arith
 
-room-made : (w : Written) → Refuses w → (out : List ℕ) → writeRoom w (length out) .number ≡ 0
+pub room-made : (w : Written) → Refuses w → (out : List ℕ) → writeRoom w (length out) .number ≡ 0
     → w ≡ message (take (writeRoom w (length out) .length) (writeOver w out))
 unfolding writeRoom writeOver
 room-made (refused k) f out h = absurd (omega arith)

@@ -1,7 +1,7 @@
 -- Words for the contracts of this crate: what a parameter holds, and the definitions by the bytes of a schema, which they parse.
 -- `o` is the width of an offset in bytes, b a schema's bytes, m a message's, s a sheet's.
 use mathlib.Core.Path.{_≡_}
-use mathlib.Core.Bool.{true}
+use mathlib.Core.Bool.{Bool, true, false}
 use mathlib.Core.List.{List}
 use mathlib.Core.Logic.{_⊎_}
 use mathlib.Core.Option.{Option, some}
@@ -31,6 +31,7 @@ use Rattle.demands.specs.Arrivals.{messageCost}
 use Rattle.demands.specs.FieldEntries.{Entry}
 use Rattle.demands.specs.Fields.{sheetEntry}
 use Rattle.demands.specs.SheetText.{sheetText}
+use Rattle.demands.specs.UnionsInPlace.{writableBefore, treeFree}
 
 -- ---- parameters
 -- what a parameter holds as the function is called
@@ -123,10 +124,25 @@ abbrev pub HoldsAnswers : List ℕ → ℕ → (ℕ → Answer) → Type 0
 HoldsAnswers out n answer = (k : ℕ) → k < n → take 4 (drop (4 * k) out) ≡ caseNumbers (answerCase (answer k))
 
 -- ---- writing
+-- the sheet is lawful by a lawful schema, and this is its tree
+abbrev pub LawfulSheet : ℕ → List ℕ → List ℕ → Value → Type 0
+LawfulSheet o b s v = (lawful o b ≡ true) × (sheetTree (parse b) s ≡ some v)
+
 -- the sheet is lawful by a lawful schema, and its tree is writable
 abbrev pub Writable : ℕ → List ℕ → List ℕ → Value → Type 0
 Writable o b s v =
     (lawful o b ≡ true) × (sheetTree (parse b) s ≡ some v) × (writable deepest o (parse b) (O.Table (parse b .root)) v ≡ true)
+
+-- whether a tree was writable before 02, K12
+abbrev pub wasWritable : ℕ → List ℕ → Value → Bool
+wasWritable o b v = writableBefore deepest o (parse b) (O.Table (parse b .root)) v
+
+-- the tree has a present union in place, or none
+abbrev pub UnionInPlace : List ℕ → Value → Type 0
+UnionInPlace b v = treeFree deepest (parse b) (O.Table (parse b .root)) v ≡ false
+
+abbrev pub NoUnionInPlace : List ℕ → Value → Type 0
+NoUnionInPlace b v = treeFree deepest (parse b) (O.Table (parse b .root)) v ≡ true
 
 -- the message of a tree
 abbrev pub layoutOf : ℕ → List ℕ → Value → List ℕ

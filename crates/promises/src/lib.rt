@@ -15,25 +15,27 @@ ghost use mathlib.Core.Path.{_≡_};
 ghost use mathlib.Core.List.{[], _∷_, _++_};
 ghost use mathlib.Core.Logic.{_↔_, _⊎_};
 ghost use mathlib.Core.Option.{some};
-ghost use mathlib.Core.Bool.{true};
+ghost use mathlib.Core.Bool.{true, false};
 ghost use Prim.Native.Nat.{ℕ, suc, _+_, _/_, _<_, _≤_};
 ghost use lib.ListN.{length, take, drop};
 ghost use Rattle.coding.specs.Append as Ap;
 ghost use Rattle.coding.specs.Field as F;
 ghost use Rattle.coding.specs.Message as M;
+ghost use Rattle.coding.specs.Moving as Mv;
 ghost use Rattle.coding.specs.Value.{Value};
 ghost use Rattle.coding.specs.Walk as W;
 ghost use Rattle.demands.specs.Arrivals.{LawfulMessage};
 ghost use Rattle.demands.specs.BiggerAllowance.{Raises, Settled, Becomes};
 ghost use Rattle.demands.specs.FieldEntries.{shown};
 ghost use Rattle.demands.specs.InTurn.{total};
+ghost use Rattle.demands.specs.Moved.{MovedAs};
 ghost use Rattle.demands.specs.RoundTrip.{enough, sheetLengths, Short};
 ghost use Rattle.demands.specs.Spending.{Affords};
 ghost use Rattle.demands.specs.Texts.{IsText};
 ghost use Rattle.demands.specs.WrittenSheet.{WrittenAs};
 ghost use Rattle.promises.specs.Reader.{Stepped};
 ghost use Rattle.promises.specs.Words.{given, after, Accepts, costs, arrivals, contents, values, treeOf, Fits, NoRoom, HandsOut, KeepsOnRefusal, CutDown};
-ghost use Rattle.promises.specs.Words.{entryAt, textAt, LeadsToList, HoldsAnswers, Writable, layoutOf};
+ghost use Rattle.promises.specs.Words.{entryAt, textAt, LeadsToList, HoldsAnswers, LawfulSheet, Writable, layoutOf, wasWritable, UnionInPlace, NoUnionInPlace};
 
 // Judging a message.
 pub fn judged(schema: &[u8], message: &[u8], budget: Budget, o: usize) -> Verdict
@@ -394,6 +396,11 @@ pub fn written(schema: &[u8], sheet: &[u8], out: &mut [u8], o: usize) -> WriteAn
     ensures only { λ r. ⌜ (r .number ≡ 0 → WrittenAs o (given schema) (given sheet) (take (r .length) (after out))) ⌝ }
     // "on refusal the length is 0 and the output is unchanged"
     ensures kept { λ r. ⌜ KeepsOnRefusal (r .number) (r .length) (given out) (after out) ⌝ }
+    // 02, K12: "the writer refuses a present one under the 48-bit coding of document 000": a lawful sheet with a present union in place
+    // is 12
+    ensures unions { λ r. ⌜ ((v : Value) → LawfulSheet o (given schema) (given sheet) v → o ≡ 6 → UnionInPlace (given schema) v → r ≡ record { number = 12; length = 0 }) ⌝ }
+    // "absent is still written", "The 32-bit coding keeps them.": of any other lawful sheet 12 comes exactly where it came before
+    ensures others { λ r. ⌜ ((v : Value) → LawfulSheet o (given schema) (given sheet) v → (o ≡ 4) ⊎ NoUnionInPlace (given schema) v → (r .number ≡ 12) ↔ (wasWritable o (given schema) v ≡ false)) ⌝ }
 {
     write::write(schema, sheet, out, o)
 }
@@ -496,5 +503,60 @@ pub fn write_then_judge(
         written,
         older: by_older,
         newer: by_newer,
+    }
+}
+
+// A stored message that is moved over (02, K12): reading its sheet, clearing the schema, writing the sheet with that schema, and
+// reading the sheet back.
+pub struct Moved {
+    pub stored: ReadAnswer,
+    pub cleared: WriteAnswer,
+    pub written: WriteAnswer,
+    pub back: ReadAnswer,
+}
+
+// Moving a stored message over, under the 48-bit coding. Each step has a buffer for what it gives; each reading has its own budget.
+pub fn moved_over(
+    schema: &[u8],
+    message: &[u8],
+    first: Budget,
+    sheet: &mut [u8],
+    newer: &mut [u8],
+    room: &mut [u8],
+    second: Budget,
+    out: &mut [u8],
+) -> Moved
+    // each answer and each buffer is the definition's, of refusals too; what a step takes is what the steps before it gave
+    ensures stored { λ r. ⌜ r .stored ≡ M.readAnswer 6 (given schema) (given message) first (given sheet) ⌝ }
+    ensures sheet { λ _. ⌜ after sheet ≡ M.readOut 6 (given schema) (given message) first (given sheet) ⌝ }
+    ensures cleared { λ r. ⌜ r .cleared ≡ M.writeRoom (Mv.clearing (given schema)) (length (given newer)) ⌝ }
+    ensures newer { λ _. ⌜ after newer ≡ M.writeOver (Mv.clearing (given schema)) (given newer) ⌝ }
+    ensures written { λ r. ⌜ r .written ≡ M.writeAnswer 6 (take (r .cleared .length) (after newer)) (take (r .stored .length) (after sheet)) (given room) ⌝ }
+    ensures message { λ r. ⌜ after room ≡ M.writeOut 6 (take (r .cleared .length) (after newer)) (take (r .stored .length) (after sheet)) (given room) ⌝ }
+    ensures back { λ r. ⌜ r .back ≡ M.readAnswer 6 (take (r .cleared .length) (after newer)) (take (r .written .length) (after room)) second (given out) ⌝ }
+    ensures output { λ r. ⌜ after out ≡ M.readOut 6 (take (r .cleared .length) (after newer)) (take (r .written .length) (after room)) second (given out) ⌝ }
+    // the schema of a message that is read can be cleared, given room; it is "a schema in which only the in-place flag of those unions is
+    // cleared"
+    ensures clears { λ r. ⌜ (r .stored .verdict .number ≡ 0 → length (given schema) ≤ length (given newer) → r .cleared ≡ record { number = 0; length = length (given schema) }) ⌝ }
+    ensures schema { λ r. ⌜ (r .stored .verdict .number ≡ 0 → r .cleared .number ≡ 0 → take (r .cleared .length) (after newer) ≡ Mv.withoutInplaceUnions (given schema)) ⌝ }
+    // the write is refused by "12 for an older reason, 13 or 14", and by nothing else: `MovedAs` has the reasons, and 14 is for the room
+    ensures reasons { λ r. ⌜ (r .stored .verdict .number ≡ 0 → r .cleared .number ≡ 0 → (r .written ≡ M.writeRoom (Mv.moved (given schema) (given message)) (length (given room))) × MovedAs (given schema) (given message) (Mv.moved (given schema) (given message))) ⌝ }
+    // "where that write is not refused .., the sheet read back with enough allowance and room is the same": as bytes
+    ensures same { λ r. ⌜ (r .stored .verdict .number ≡ 0 → r .cleared .number ≡ 0 → r .written .number ≡ 0 → Affords second (enough 6 (Mv.withoutInplaceUnions (given schema)) (take (r .stored .length) (after sheet))) → r .stored .length ≤ length (given out) → (r .back ≡ record { verdict = W.atZero 0 (enough 6 (Mv.withoutInplaceUnions (given schema)) (take (r .stored .length) (after sheet))); length = r .stored .length }) × (after out ≡ take (r .stored .length) (after sheet) ++ drop (r .stored .length) (given out))) ⌝ }
+    // the rules give that sheet of the message, with any budget and any room
+    ensures rules { λ r. ⌜ (r .stored .verdict .number ≡ 0 → r .cleared .number ≡ 0 → r .written .number ≡ 0 → M.messageSheet 6 (take (r .cleared .length) (after newer)) (take (r .written .length) (after room)) ≡ take (r .stored .length) (after sheet)) ⌝ }
+{
+    let stored = sheet::read(schema, message, first, sheet, wire::U48);
+    let s = stored.length;
+    let cleared = schema_cleared::clear_unions(schema, newer);
+    let c = cleared.length;
+    let written = write::write(&newer[..c], &sheet[..s], room, wire::U48);
+    let n = written.length;
+    let back = sheet::read(&newer[..c], &room[..n], second, out, wire::U48);
+    Moved {
+        stored,
+        cleared,
+        written,
+        back,
     }
 }

@@ -9,6 +9,7 @@ ghost use Rattle.coding.specs.Bytes as B;
 ghost use Rattle.coding.specs.Field as F;
 ghost use Rattle.coding.specs.Lists.{pick};
 ghost use Rattle.coding.specs.Message as M;
+ghost use Rattle.coding.specs.Moving as Mv;
 ghost use Rattle.coding.specs.Walk as W;
 ghost use Rattle.scalgo.specs.Numbers.{verdictNumbers};
 
@@ -149,6 +150,19 @@ pub extern "C" fn scalgo_write(
 {
     let o = wire::width_of(coding);
     let answer = write::write(schema, sheet, message, o);
+    *length = answer.length as u64;
+    answer.number as u32
+}
+
+// The schema to which stored messages of the 48-bit coding are moved over: only the in-place flag of its unions is cleared. Answers the
+// number, and stores the schema and its length.
+#[no_mangle]
+pub extern "C" fn scalgo_clear_unions(schema: &[u8], cleared: &mut [u8], length: &mut u64) -> u32
+    ensures { λ r. ⌜ r ≡ M.writeRoom (Mv.clearing (now (schema .entry))) (N.length (now (cleared .entry))) .number ⌝ }
+    ensures { λ _. ⌜ now (length .exit) ≡ M.writeRoom (Mv.clearing (now (schema .entry))) (N.length (now (cleared .entry))) .length ⌝ }
+    ensures { λ _. ⌜ now (cleared .exit) ≡ M.writeOver (Mv.clearing (now (schema .entry))) (now (cleared .entry)) ⌝ }
+{
+    let answer = schema_cleared::clear_unions(schema, cleared);
     *length = answer.length as u64;
     answer.number as u32
 }

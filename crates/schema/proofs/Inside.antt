@@ -1,29 +1,12 @@
 -- Where the blocks of a directory stand: within the bytes.
 use mathlib.Core.Path.{_≡_, _∙_}
 use mathlib.Core.List.{List}
-use Prim.Native.Nat.{ℕ, zero, suc, _+_, _-_, _*_, _<_, _≤_}
+use Prim.Native.Nat.{ℕ, _+_, _*_, _<_, _≤_}
 use native.Mathlib.Omega.{arith}
 use lib.ListN.{length, getD}
 use Rattle.coding.specs.Packed as P
+use Rattle.laws.specs.Blocks.{blocks-ge, block-end}
 use Rattle.schema.specs.Directory.{Directory, Block}
-
-pub blocks-ge : (b : List ℕ) (head start n : ℕ) → start ≤ P.blocks b head start n
-unfolding P.blocks P.recordPlace
-blocks-ge b head start zero = omega arith
-blocks-ge b head start (suc n) = omega (arith, blocks-ge b head start n)
-
--- m blocks more end further on
-later : (b : List ℕ) (head start n m : ℕ) → P.blocks b head start n ≤ P.blocks b head start (n + m)
-unfolding P.blocks P.recordPlace
-later b head start n zero = let e : n + 0 ≡ n = omega arith in rw e (omega arith)
-later b head start n (suc m) = let e : n + suc m ≡ suc (n + m) = omega arith in rw e (omega (arith, later b head start n m))
-
-block-end : (b : List ℕ) (head start n i : ℕ) → i < n
-    → P.blocks b head start i + head + 1 + 2 * P.records b head (P.blocks b head start i) ≤ P.blocks b head start n
-unfolding P.blocks P.recordPlace
-block-end b head start n i l =
-    let e : n ≡ suc i + (n - suc i) = omega arith in
-    rw e (later b head start (suc i) (n - suc i))
 
 module _ (b dir : List ℕ) (D : Directory b dir) (i at : ℕ) where
   unions-before : P.unionPlace b (P.unionCount b) ≤ length b

@@ -13,7 +13,7 @@ use Rattle.coding.specs.Packed as P
 use Rattle.coding.specs.Lawful as L
 use Rattle.schema.specs.Directory.{Stored, Directory, Placed}
 use Rattle.laws.specs.Lists.{never}
-use Rattle.schema.proofs.Inside.{blocks-ge}
+use Rattle.laws.specs.Blocks.{blocks-ge}
 
 stored-bad : (t : Bool) (x r : ℕ) → r ≡ pick t x 0 → r ≡ 0 → 0 < x → t ≡ false
 stored-bad true x r e z l = absurd (omega arith)

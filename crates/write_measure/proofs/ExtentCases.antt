@@ -1,6 +1,6 @@
 -- The ways out of what counts extents and sizes, one lemma for each, in the words of the survey.
 use mathlib.Core.Path.{_≡_, refl, sym, ap, ap₂, _∙_}
-use mathlib.Core.Bool.{Bool, true, false, _&&_}
+use mathlib.Core.Bool.{Bool, true, false, _&&_, not}
 use mathlib.Core.List.{List}
 use Prim.Native.Nat.{ℕ, suc, _+_, _-_, _*_, _^_, _<_, _≤_}
 use native.Mathlib.Omega.{arith}
@@ -8,14 +8,15 @@ use native.Mathlib.Nat.{mul-le-mul-left}
 use native.Mathlib.Numerals.{add-one}
 use lib.ListN.{length, drop, drop-of-length-le}
 use lib.Seq.{drop-cons}
-use lib.Dec.{ltb, leb}
+use lib.Dec.{ltb, leb, eqb}
 use borrow.Author.Tests.{le-leb, lt-leb, lt-ltb, le-ltb, leb-true, leb-false}
 use Rattle.coding.specs.Lists.{pick}
-use Rattle.coding.specs.Bytes.{largest}
+use Rattle.coding.specs.Bytes.{largest, u48}
 use Rattle.coding.specs.Schema as Sc
 use Rattle.coding.specs.Schema.{Schema}
 use Rattle.coding.specs.Packed as P
 use Rattle.coding.specs.Layout as L
+use Rattle.coding.specs.Message.{keepsUnions}
 use Rattle.coding.specs.declared.Member.{Member}
 use Rattle.coding.specs.declared.Cursor.{Cursor}
 use Rattle.coding.specs.declared.Slot.{Slot}
@@ -97,28 +98,32 @@ plain-joined a s fine t et =
       small = record { length = s .length; width = s .width; chain = s .chain; below = s .below };
     }
 
-module _ (may : Bool) (n : ℕ) (fine : Bool) where
-  pub fine-may : may ≡ true → fine ≡ (pick may true (ltb 0 n) && fine)
-  fine-may e = rw e
+pub keeps-unions : (o : ℕ) (k : Bool) → k ≡ not (eqb o 6) → k ≡ keepsUnions o
+unfolding keepsUnions u48
+keeps-unions o k e = e
 
-  pub fine-some : may ≡ false → 0 < n → fine ≡ (pick may true (ltb 0 n) && fine)
+module _ (union : Bool) (n : ℕ) (fine : Bool) (o : ℕ) where
+  pub fine-union : union ≡ true → (k : Bool) → k ≡ keepsUnions o → (t : Bool) → t ≡ (k && fine) → t ≡ (pick union (keepsUnions o) (ltb 0 n) && fine)
+  fine-union e k ek t et = et ∙ rw e (rw ek)
+
+  pub fine-some : union ≡ false → 0 < n → fine ≡ (pick union (keepsUnions o) (ltb 0 n) && fine)
   fine-some e h = rw e (simp (lt-ltb 0 n h))
 
-  pub fine-none : may ≡ false → n ≤ 0 → false ≡ (pick may true (ltb 0 n) && fine)
+  pub fine-none : union ≡ false → n ≤ 0 → false ≡ (pick union (keepsUnions o) (ltb 0 n) && fine)
   fine-none e h = rw e (simp (le-ltb 0 n h))
 
-module _ (inplace may : Bool) (e : Extent) (small : Small e) where
-  pub referred-in : (o : ℕ) → inplace ≡ true → (t : Bool) → t ≡ (pick may true (ltb 0 (e .length)) && e .writable) → (c : ℕ) → c ≡ capped (e .width + e .chain)
-      → c ≤ 16777216 → Fits (referred o inplace may e) (record { writable = t; length = 0; width = 0; chain = c; below = e .below })
+module _ (inplace union : Bool) (e : Extent) (small : Small e) where
+  pub referred-in : (o : ℕ) → inplace ≡ true → (t : Bool) → t ≡ (pick union (keepsUnions o) (ltb 0 (e .length)) && e .writable) → (c : ℕ) → c ≡ capped (e .width + e .chain)
+      → c ≤ 16777216 → Fits (referred o inplace union e) (record { writable = t; length = 0; width = 0; chain = c; below = e .below })
   unfolding referred
   referred-in o i t et c ec lc =
       rw i (record {
-        is = extent-same t (pick may true (ltb 0 (e .length)) && e .writable) 0 0 c (capped (e .width + e .chain)) (e .below) (e .below) et ec refl;
+        is = extent-same t (pick union (keepsUnions o) (ltb 0 (e .length)) && e .writable) 0 0 c (capped (e .width + e .chain)) (e .below) (e .below) et ec refl;
         small = record { length = omega arith; width = omega arith; chain = lc; below = small .below };
       })
 
   pub referred-out : (o : ℕ) → inplace ≡ false → (h : ℕ) → h ≡ 4 + o → (b : ℕ) → b ≡ capped (h + (e .width + e .chain) + e .below) → b ≤ 16777216
-      → Fits (referred o inplace may e) (record { writable = e .writable; length = 0; width = 0; chain = 0; below = b })
+      → Fits (referred o inplace union e) (record { writable = e .writable; length = 0; width = 0; chain = 0; below = b })
   unfolding referred headSize
   referred-out o i h eh b eb lb =
       let z : h + (e .width + e .chain) + e .below ≡ 4 + o + e .width + e .chain + e .below = omega arith in

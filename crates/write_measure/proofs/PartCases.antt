@@ -204,15 +204,15 @@ bytes-inside s pos n whole next t h from w u x k =
     room false e q = absurd (false≢true (ap whole-bytes q))
 
 -- ---- an object, and a union
-pub refer-surveyed : (o : ℕ) (child : Surveyor) (s : List ℕ) (inplace may : Bool) (ob : Object) (pos : ℕ) (whole : Bool) (x : Extent) (next : ℕ)
-    → SurveyedAt s (child ob (drop pos (bits s))) whole x next → (e : Extent) → Fits (referred o inplace may x) e
-    → SurveyedAt s (surveyObject child o inplace may ob (drop pos (bits s))) whole e next
+pub refer-surveyed : (o : ℕ) (child : Surveyor) (s : List ℕ) (inplace union : Bool) (ob : Object) (pos : ℕ) (whole : Bool) (x : Extent) (next : ℕ)
+    → SurveyedAt s (child ob (drop pos (bits s))) whole x next → (e : Extent) → Fits (referred o inplace union x) e
+    → SurveyedAt s (surveyObject child o inplace union ob (drop pos (bits s))) whole e next
 unfolding surveyObject bind
-refer-surveyed o child s inplace may ob pos whole x next t e f =
-    record { is = ap (λ p. bind p (λ a ys. got (referred o inplace may a) ys)) (t .is) ∙ by whole ∙ sym (rw (f .is)); inside = t .inside; small = f .small }
+refer-surveyed o child s inplace union ob pos whole x next t e f =
+    record { is = ap (λ p. bind p (λ a ys. got (referred o inplace union a) ys)) (t .is) ∙ by whole ∙ sym (rw (f .is)); inside = t .inside; small = f .small }
   where
-    by : (u : Bool) → bind (pick u (got x (drop next (bits s))) fail) (λ a ys. got (referred o inplace may a) ys)
-        ≡ pick u (got (referred o inplace may x) (drop next (bits s))) fail
+    by : (u : Bool) → bind (pick u (got x (drop next (bits s))) fail) (λ a ys. got (referred o inplace union a) ys)
+        ≡ pick u (got (referred o inplace union x) (drop next (bits s))) fail
     by true = refl
     by false = refl
 
@@ -226,26 +226,26 @@ end-bytes ob e = record { bytes = λ h. e; text = λ h. absurd (let z : ⊥ = om
 pub end-other : (ob : Object) → BlobEnd ob 2
 end-other ob = record { bytes = λ h. absurd (let z : ⊥ = omega arith in z); text = λ h. absurd (let z : ⊥ = omega arith in z) }
 
-module _ (o : ℕ) (s : List ℕ) (d more : ℕ) (inplace may : Bool) (pos : ℕ) where
+module _ (o : ℕ) (s : List ℕ) (d more : ℕ) (inplace union : Bool) (pos : ℕ) where
   pub blob-deep : d ≡ 0 → pos ≤ 8 * length s → (w : Bool) (e : Extent) (n : ℕ) → w ≡ false → n ≡ pos → Small e
-      → SurveyedAt s (blobReferred d o inplace may more (drop pos (bits s))) w e n
+      → SurveyedAt s (blobReferred d o inplace union more (drop pos (bits s))) w e n
   unfolding blobReferred
   blob-deep z l w e n ew en sm = rw z (failed s fail pos refl l w e n ew en sm)
 
   pub blob-referred : (d ≡ 0 → ⊥) → (whole : Bool) (x : Extent) (next : ℕ) → SurveyedAt s (surveyBlob more (drop pos (bits s))) whole x next → (e : Extent)
-      → Fits (referred o inplace may x) e → SurveyedAt s (blobReferred d o inplace may more (drop pos (bits s))) whole e next
+      → Fits (referred o inplace union x) e → SurveyedAt s (blobReferred d o inplace union more (drop pos (bits s))) whole e next
   unfolding blobReferred surveyObject
   blob-referred h whole x next t e f = by d h
     where
-      by : (k : ℕ) → (k ≡ 0 → ⊥) → SurveyedAt s (blobReferred k o inplace may more (drop pos (bits s))) whole e next
+      by : (k : ℕ) → (k ≡ 0 → ⊥) → SurveyedAt s (blobReferred k o inplace union more (drop pos (bits s))) whole e next
       by zero g = absurd (g refl)
-      by (suc k) g = refer-surveyed o (λ ob xs. surveyBlob more xs) s inplace may O.Text pos whole x next t e f
+      by (suc k) g = refer-surveyed o (λ ob xs. surveyBlob more xs) s inplace union O.Text pos whole x next t e f
 
-pub refer-blob : (o : ℕ) (d : ℕ) (S : Schema) (s : List ℕ) (inplace may : Bool) (ob : Object) (pos more : ℕ) → BlobEnd ob more → more < 2 → (w : Bool) (e : Extent) (n : ℕ)
-    → SurveyedAt s (blobReferred d o inplace may more (drop pos (bits s))) w e n
-    → SurveyedAt s (surveyObject (survey d o S) o inplace may ob (drop pos (bits s))) w e n
-refer-blob o d S s inplace may ob pos more b h w e n q =
-    record { is = blob-is o S inplace may (drop pos (bits s)) d ob more b h ∙ q .is; inside = q .inside; small = q .small }
+pub refer-blob : (o : ℕ) (d : ℕ) (S : Schema) (s : List ℕ) (inplace union : Bool) (ob : Object) (pos more : ℕ) → BlobEnd ob more → more < 2 → (w : Bool) (e : Extent) (n : ℕ)
+    → SurveyedAt s (blobReferred d o inplace union more (drop pos (bits s))) w e n
+    → SurveyedAt s (surveyObject (survey d o S) o inplace union ob (drop pos (bits s))) w e n
+refer-blob o d S s inplace union ob pos more b h w e n q =
+    record { is = blob-is o S inplace union (drop pos (bits s)) d ob more b h ∙ q .is; inside = q .inside; small = q .small }
 
 module _ (o : ℕ) (child : Surveyor) (S : Schema) (s : List ℕ) (inplace : Bool) (u pos : ℕ) (whole : Bool) (x next : ℕ) (taken : TakenNumber s pos 16 whole x next)
     (w : Bool) (e : Extent) (n : ℕ) where

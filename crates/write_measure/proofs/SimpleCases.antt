@@ -385,15 +385,15 @@ module _ (k w r : ℕ) (er : r ≡ w) (ew : w ≡ P.widthOf k) where
   width-small h = let l = width-range k h .1 in rw (er, ew) l
 
 -- ---- a text or bytes that is there
-module _ (o : ℕ) (s : List ℕ) (d more : ℕ) (inplace may : Bool) (pos : ℕ) (h : d ≡ 0 → ⊥) where
+module _ (o : ℕ) (s : List ℕ) (d more : ℕ) (inplace union : Bool) (pos : ℕ) (h : d ≡ 0 → ⊥) where
   referred-fails : surveyBlob more (drop pos (bits s)) ≡ fail → pos ≤ 8 * length s → (w : Bool) (e : Extent) (n : ℕ) → w ≡ false → n ≡ pos → Small e
-      → SurveyedAt s (blobReferred d o inplace may more (drop pos (bits s))) w e n
+      → SurveyedAt s (blobReferred d o inplace union more (drop pos (bits s))) w e n
   unfolding blobReferred bind
   referred-fails f l w e n ew en sm = by d h
     where
-      by : (k : ℕ) → (k ≡ 0 → ⊥) → SurveyedAt s (blobReferred k o inplace may more (drop pos (bits s))) w e n
+      by : (k : ℕ) → (k ≡ 0 → ⊥) → SurveyedAt s (blobReferred k o inplace union more (drop pos (bits s))) w e n
       by zero g = absurd (g refl)
-      by (suc k) g = record { is = ap (λ p. bind p (λ y ys. got (referred o inplace may y) ys)) f ∙ sym (rw ew); inside = rw en l; small = sm }
+      by (suc k) g = record { is = ap (λ p. bind p (λ y ys. got (referred o inplace union y) ys)) f ∙ sym (rw ew); inside = rw en l; small = sm }
 
   module _ (whole : Bool) (x next : ℕ) (taken : TakenNumber s pos 32 whole x next) where
     blob-fails : not whole ≡ true → surveyBlob more (drop pos (bits s)) ≡ fail
@@ -401,14 +401,14 @@ module _ (o : ℕ) (s : List ℕ) (d more : ℕ) (inplace may : Bool) (pos : ℕ
     blob-fails f = rw (taken .number, not-true whole f)
 
     pub there-cut : pos ≤ 8 * length s → not whole ≡ true → (w : Bool) (e : Extent) (n : ℕ) → w ≡ false → n ≡ pos → Small e
-        → SurveyedAt s (blobReferred d o inplace may more (drop pos (bits s))) w e n
+        → SurveyedAt s (blobReferred d o inplace union more (drop pos (bits s))) w e n
     there-cut l f w e n ew en sm = referred-fails (blob-fails f) l w e n ew en sm
 
     module _ (f : not whole ≡ false) (w : Bool) (n : ℕ) (t : TakenBytes s next x w n) where
       pub there-short : pos ≤ 8 * length s → not w ≡ true → (u : Bool) (e : Extent) (i : ℕ) → u ≡ false → i ≡ pos → Small e
-          → SurveyedAt s (blobReferred d o inplace may more (drop pos (bits s))) u e i
+          → SurveyedAt s (blobReferred d o inplace union more (drop pos (bits s))) u e i
       there-short l g u e i eu ei sm = referred-fails (short-fails s pos more whole x next taken f w n t g) l u e i eu ei sm
 
       pub there-whole : not w ≡ false → (y : Extent) → Fits (blobOpened more x (pack x (drop next (bits s)))) y
-          → (e : Extent) → Fits (referred o inplace may y) e → SurveyedAt s (blobReferred d o inplace may more (drop pos (bits s))) true e n
-      there-whole g y fy e fe = blob-referred o s d more inplace may pos h true y n (blob-there s pos more whole x next taken f w n t g y fy) e fe
+          → (e : Extent) → Fits (referred o inplace union y) e → SurveyedAt s (blobReferred d o inplace union more (drop pos (bits s))) true e n
+      there-whole g y fy e fe = blob-referred o s d more inplace union pos h true y n (blob-there s pos more whole x next taken f w n t g y fy) e fe

@@ -13,26 +13,26 @@ use Rattle.write_measure.specs.declared.Extent.{Extent}
 
 -- a text or bytes with `more` bytes behind its own, where d objects may stand below each other, this one counted
 unfoldable pub blobReferred : ℕ → ℕ → Bool → Bool → ℕ → List ℕ → Parsed Extent
-blobReferred zero o inplace may more xs = fail
-blobReferred (suc d) o inplace may more xs = bind (surveyBlob more xs) (λ e ys. got (referred o inplace may e) ys)
+blobReferred zero o inplace union more xs = fail
+blobReferred (suc d) o inplace union more xs = bind (surveyBlob more xs) (λ e ys. got (referred o inplace union e) ys)
 
 -- the number of bytes behind its own says which object it is
 pub record BlobEnd (ob : Object) (more : ℕ) : Type 0 where
   pub bytes : more ≡ 0 → ob ≡ O.Bytes
   pub text : more ≡ 1 → ob ≡ O.Text
 
-module _ (o : ℕ) (S : Schema) (inplace may : Bool) (xs : List ℕ) where
-  text-is : (d : ℕ) → surveyObject (survey d o S) o inplace may O.Text xs ≡ blobReferred d o inplace may 1 xs
+module _ (o : ℕ) (S : Schema) (inplace union : Bool) (xs : List ℕ) where
+  text-is : (d : ℕ) → surveyObject (survey d o S) o inplace union O.Text xs ≡ blobReferred d o inplace union 1 xs
   unfolding surveyObject survey surveyContent blobReferred bind
   text-is zero = refl
   text-is (suc d) = refl
 
-  bytes-is : (d : ℕ) → surveyObject (survey d o S) o inplace may O.Bytes xs ≡ blobReferred d o inplace may 0 xs
+  bytes-is : (d : ℕ) → surveyObject (survey d o S) o inplace union O.Bytes xs ≡ blobReferred d o inplace union 0 xs
   unfolding surveyObject survey surveyContent blobReferred bind
   bytes-is zero = refl
   bytes-is (suc d) = refl
 
-  pub blob-is : (d : ℕ) (ob : Object) (more : ℕ) → BlobEnd ob more → more < 2 → surveyObject (survey d o S) o inplace may ob xs ≡ blobReferred d o inplace may more xs
-  blob-is d ob zero b h = ap (λ (q : Object). surveyObject (survey d o S) o inplace may q xs) (b .bytes refl) ∙ bytes-is d
-  blob-is d ob (suc zero) b h = ap (λ (q : Object). surveyObject (survey d o S) o inplace may q xs) (b .text refl) ∙ text-is d
+  pub blob-is : (d : ℕ) (ob : Object) (more : ℕ) → BlobEnd ob more → more < 2 → surveyObject (survey d o S) o inplace union ob xs ≡ blobReferred d o inplace union more xs
+  blob-is d ob zero b h = ap (λ (q : Object). surveyObject (survey d o S) o inplace union q xs) (b .bytes refl) ∙ bytes-is d
+  blob-is d ob (suc zero) b h = ap (λ (q : Object). surveyObject (survey d o S) o inplace union q xs) (b .text refl) ∙ text-is d
   blob-is d ob (suc (suc n)) b h = absurd (omega arith)

@@ -8,6 +8,7 @@ use lib.Dec.{ltb, leb}
 use borrow.Author.Tests.{le-leb, lt-leb, leb-true, leb-false}
 use Rattle.coding.specs.Lists.{pick}
 use Rattle.coding.specs.Bytes.{largest}
+use Rattle.coding.specs.Message.{keepsUnions}
 use Rattle.write_text.specs.Texts.{blobFine}
 use Rattle.write_measure.specs.Survey.{capped, headSize, plain, opened, blobOpened, joined, referred}
 use Rattle.write_measure.specs.declared.Extent.{Extent}
@@ -89,16 +90,16 @@ referChain inplace w x = pick inplace (w + x) 0
 abbrev pub referBelow : ℕ → Bool → ℕ → ℕ → ℕ → ℕ
 referBelow o inplace w x y = pick inplace y (headSize o + w + x + y)
 
-abbrev pub referFine : Bool → Bool → ℕ → Bool → Bool
-referFine inplace may n t = pick inplace (pick may true (ltb 0 n) && t) t
+abbrev pub referFine : ℕ → Bool → Bool → ℕ → Bool → Bool
+referFine o inplace union n t = pick inplace (pick union (keepsUnions o) (ltb 0 n) && t) t
 
-pub referred-summed : (o : ℕ) (inplace may t : Bool) (n w x y : ℕ)
-    → referred o inplace may (summed t n w x y) ≡ summed (referFine inplace may n t) 0 0 (referChain inplace w x) (referBelow o inplace w x y)
+pub referred-summed : (o : ℕ) (inplace union t : Bool) (n w x y : ℕ)
+    → referred o inplace union (summed t n w x y) ≡ summed (referFine o inplace union n t) 0 0 (referChain inplace w x) (referBelow o inplace w x y)
 unfolding referred
-referred-summed o true may t n w x y =
-    sum-same (pick may true (ltb 0 n) && t) (pick may true (ltb 0 n) && t) 0 0 (capped (w + capped x)) (capped (w + x)) (capped y) (capped y)
+referred-summed o true union t n w x y =
+    sum-same (pick union (keepsUnions o) (ltb 0 n) && t) (pick union (keepsUnions o) (ltb 0 n) && t) 0 0 (capped (w + capped x)) (capped (w + x)) (capped y) (capped y)
     refl (capped-right w x) refl
-referred-summed o false may t n w x y =
+referred-summed o false union t n w x y =
     let a = headSize o + w in
     let e : a + capped x + capped y ≡ capped x + (a + capped y) = omega arith in
     let f : x + (a + capped y) ≡ x + a + capped y = omega arith in

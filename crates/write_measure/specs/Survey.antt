@@ -10,6 +10,7 @@ use Rattle.coding.specs.Bytes.{isNaN, largest}
 use Rattle.coding.specs.Schema.{Schema, structOf, elementOf, casesOf, caseOf, tableOf}
 use Rattle.coding.specs.Structs.{byIndex}
 use Rattle.coding.specs.Layout.{fixedSize}
+use Rattle.coding.specs.Message.{keepsUnions}
 use Rattle.coding.specs.Step.{elementsSize}
 use Rattle.coding.specs.Sheet.{Parsed, fail, got, bind, takeNumber, takeBytes, unknownEnum, unmarked}
 use Rattle.coding.specs.declared.Flat.{Flat}
@@ -114,13 +115,13 @@ headSize o = 4 + o
 unfoldable pub directSize : ℕ → Schema → ℕ → ℕ → ℕ
 directSize o S t n = 8 + n * fixedSize o S (tableOf S t .members)
 
--- what an object adds to the object that refers to it, or in which it stands. "a present in-place text, bytes, list or
--- table of length 0" is not writable; `may`: here it may be of length 0
+-- what an object adds to the object that refers to it, or in which it stands; `union`: it is a union's. "a present in-place text,
+-- bytes, list or table of length 0" is not writable, nor a present union in place where the coding does not keep them
 unfoldable pub referred : ℕ → Bool → Bool → Extent → Extent
-referred o inplace may e =
+referred o inplace union e =
     pick inplace
     (record {
-      writable = pick may true (ltb 0 (e .length)) && e .writable;
+      writable = pick union (keepsUnions o) (ltb 0 (e .length)) && e .writable;
       length = 0;
       width = 0;
       chain = capped (e .width + e .chain);
@@ -144,7 +145,7 @@ plainOf p = bind p (λ t ys. got (plain t) ys)
 
 -- an object, with what it adds to its holder
 unfoldable pub surveyObject : Surveyor → ℕ → Bool → Bool → Object → List ℕ → Parsed Extent
-surveyObject child o inplace may ob xs = bind (child ob xs) (λ e ys. got (referred o inplace may e) ys)
+surveyObject child o inplace union ob xs = bind (child ob xs) (λ e ys. got (referred o inplace union e) ys)
 
 -- a union's known choice, and the object of that case
 unfoldable pub surveyChoice : Surveyor → ℕ → Bool → List Object → List ℕ → Parsed Extent

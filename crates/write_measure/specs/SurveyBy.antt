@@ -62,7 +62,7 @@ module _ (o d : ℕ) (b : List ℕ) where
 
   -- an object with what it adds to the one that holds it
   abbrev pub held : Bool → Bool → Object → List ℕ → Parsed Extent
-  held inplace may ob xs = surveyObject (survey d o (parse b)) o inplace may ob xs
+  held inplace union ob xs = surveyObject (survey d o (parse b)) o inplace union ob xs
 
   -- a known choice of union u
   abbrev pub choice : Bool → ℕ → List ℕ → Parsed Extent

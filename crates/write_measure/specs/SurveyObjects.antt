@@ -15,7 +15,7 @@ use Rattle.coding.specs.Value.{Value, Values, blob, row, _then_, present, asBlo
 use Rattle.coding.specs.Bits.{pack}
 use Rattle.coding.specs.Cells.{width, chain, below, packBits}
 use Rattle.coding.specs.Sheet.{Parsed, fail, got, bind, takeNumber, takeBytes, Decoder, takeElement, takeElements, takeMembers, takeBlob, takeDirects, takeContent, decode}
-use Rattle.coding.specs.Message.{lengthOf, Test, membersWritable, elementsWritable, directsWritable, contentWritable, writable, Planner, membersSlots, elementsSlots, directsSlots, directSlots, contentSlots, plan}
+use Rattle.coding.specs.Message.{lengthOf, Test, keepsUnions, membersWritable, elementsWritable, directsWritable, contentWritable, writable, Planner, membersSlots, elementsSlots, directsSlots, directSlots, contentSlots, plan}
 use Rattle.coding.specs.declared.Object.{Object}
 use Rattle.coding.specs.declared.Object.the-variants as O
 use Rattle.coding.specs.declared.Kind.{Kind}
@@ -52,7 +52,7 @@ module _ (o : ℕ) (S : Schema) (sound : Sound S) (child : Surveyor) (decoder : 
   -- by the content's own slots and test
   abbrev contentExtent : Object → Value → Extent
   contentExtent ob v =
-      summed (contentWritable test o S ob v) (lengthOf o S ob v) (width o (packBits 0 (contentSlots P o S ob v)))
+      summed (contentWritable test (keepsUnions o) o S ob v) (lengthOf o S ob v) (width o (packBits 0 (contentSlots P o S ob v)))
       (chain o (packBits 0 (contentSlots P o S ob v))) (below o (packBits 0 (contentSlots P o S ob v)))
 
   blob-surveyed : (f : Value → Extent) (more : ℕ) → ((l : List ℕ) → summed (blobFine more l) (length l) (length l + more) 0 0 ≡ f (blob l)) → (xs : List ℕ)
@@ -106,7 +106,7 @@ module _ (o : ℕ) (S : Schema) (sound : Sound S) (child : Surveyor) (decoder : 
       one vs =
           let rs = tableOf S i .members in
           let s = membersSlots P o S rs vs in
-          summed-is (membersWritable test o S rs vs) (fixedSize o S rs) (fixedSize o S rs) (fixedSize o S rs) (width o (packBits 0 s))
+          summed-is (membersWritable test (keepsUnions o) o S rs vs) (fixedSize o S rs) (fixedSize o S rs) (fixedSize o S rs) (width o (packBits 0 s))
           (0 + chain o (packBits 0 s)) (chain o (packBits 0 s)) (0 + below o (packBits 0 s)) (below o (packBits 0 s))
           refl (sym (members-wide o S sound P rs vs)) (zero-add (chain o (packBits 0 s))) (zero-add (below o (packBits 0 s)))
 
@@ -125,7 +125,7 @@ module _ (o : ℕ) (S : Schema) (sound : Sound S) (child : Surveyor) (decoder : 
       one n vs e =
           let k = elementOf S i in
           let s = elementsSlots P o S k vs in
-          summed-is (elementsWritable test o S k vs) n (count vs) (elementsSize o S k n) (width o (packBits 0 s))
+          summed-is (elementsWritable test (keepsUnions o) o S k vs) n (count vs) (elementsSize o S k n) (width o (packBits 0 s))
           (0 + chain o (packBits 0 s)) (chain o (packBits 0 s)) (0 + below o (packBits 0 s)) (below o (packBits 0 s))
           (sym e) (ap (elementsSize o S k) (sym e) ∙ sym (elements-wide o S sound P k vs)) (zero-add (chain o (packBits 0 s))) (zero-add (below o (packBits 0 s)))
 

@@ -13,7 +13,7 @@ use Rattle.coding.specs.Layout.{fixedSize}
 use Rattle.coding.specs.Value.{Value, Values, absent, unknown, chosen, _then_, present, known, asNumber, asObject, first, others}
 use Rattle.coding.specs.Cells.{width, chain, below, packBits}
 use Rattle.coding.specs.Sheet.{Parsed, fail, got, bind, takeNumber, takeIf, takeFlat, takeStruct, Decoder, takeChoice, takeBody, takeUnknownFlat, takeUnknown, takePart, unmarked, takeElement, takeMembers, takeElements, takeDirects}
-use Rattle.coding.specs.Message.{lengthOf, flatWritable, Test, valueWritable, membersWritable, elementsWritable, directsWritable, Planner, membersSlots, elementsSlots, directsSlots}
+use Rattle.coding.specs.Message.{lengthOf, flatWritable, Test, keepsUnions, valueWritable, membersWritable, elementsWritable, directsWritable, Planner, membersSlots, elementsSlots, directsSlots}
 use Rattle.coding.specs.declared.Flat.{Flat}
 use Rattle.coding.specs.declared.Flat.the-variants as F
 use Rattle.coding.specs.declared.Object.{Object}
@@ -60,13 +60,13 @@ Full o S (O.Table t) n = n ≡ fixedSize o S (tableOf S t .members)
 Full o S (O.DirectList t) n = Unit {0}
 
 -- ---- whether an object can be written where it stands
-fine-object : (inplace t : Bool) (n : ℕ) → referFine inplace false n t ≡ (pick inplace (ltb 0 n) true && t)
-fine-object true t n = refl
-fine-object false t n = refl
+fine-object : (o : ℕ) (inplace t : Bool) (n : ℕ) → referFine o inplace false n t ≡ (pick inplace (ltb 0 n) true && t)
+fine-object o true t n = refl
+fine-object o false t n = refl
 
-fine-choice : (inplace t : Bool) (n : ℕ) → referFine inplace true n t ≡ t
-fine-choice true t n = refl
-fine-choice false t n = refl
+fine-choice : (o : ℕ) (inplace t : Bool) (n : ℕ) → referFine o inplace true n t ≡ (pick inplace (keepsUnions o) true && t)
+fine-choice o true t n = refl
+fine-choice o false t n = refl
 
 module _ (o : ℕ) (S : Schema) (sound : Sound S) (child : Surveyor) (decoder : Decoder) (P : Planner) (test : Test) where
   -- an object's extent, by its tree
@@ -77,7 +77,7 @@ module _ (o : ℕ) (S : Schema) (sound : Sound S) (child : Surveyor) (decoder : 
   -- what a part adds, by its tree
   abbrev pub partExtent : Kind → Bool → Bool → Value → Extent
   partExtent k optional inplace v =
-      summed (valueWritable test o S k optional inplace v) 0 0 (valueChain o P S k inplace v) (valueBelow o P S k inplace v)
+      summed (valueWritable test (keepsUnions o) o S k optional inplace v) 0 0 (valueChain o P S k inplace v) (valueBelow o P S k inplace v)
 
   -- what is known of the objects one level down
   pub record ObjectSurveyed (ob : Object) (xs : List ℕ) : Type 0 where
@@ -86,15 +86,15 @@ module _ (o : ℕ) (S : Schema) (sound : Sound S) (child : Surveyor) (decoder : 
     pub full : Has (λ v. Full o S ob (width o (packBits 0 (P ob v)))) (decoder ob xs)
 
   module _ (inner : (ob : Object) (xs : List ℕ) → ObjectSurveyed ob xs) where
-    object-there : (inplace may : Bool) (ob : Object) (f : Value → Extent) (xs : List ℕ)
-        → ((v : Value) → Present v → referred o inplace may (objectExtent ob v) ≡ f v)
-        → surveyObject child o inplace may ob xs ≡ mapped f (decoder ob xs)
+    object-there : (inplace union : Bool) (ob : Object) (f : Value → Extent) (xs : List ℕ)
+        → ((v : Value) → Present v → referred o inplace union (objectExtent ob v) ≡ f v)
+        → surveyObject child o inplace union ob xs ≡ mapped f (decoder ob xs)
     unfolding surveyObject
-    object-there inplace may ob f xs h =
-        ap (λ p. bind p (λ e ys. got (referred o inplace may e) ys)) (inner ob xs .is)
-        ∙ mapped-got (objectExtent ob) (referred o inplace may) f (decoder ob xs) (all (decoder ob xs) (inner ob xs .there))
+    object-there inplace union ob f xs h =
+        ap (λ p. bind p (λ e ys. got (referred o inplace union e) ys)) (inner ob xs .is)
+        ∙ mapped-got (objectExtent ob) (referred o inplace union) f (decoder ob xs) (all (decoder ob xs) (inner ob xs .there))
       where
-        all : (p : Parsed Value) → Has Present p → Has (λ v. referred o inplace may (objectExtent ob v) ≡ f v) p
+        all : (p : Parsed Value) → Has Present p → Has (λ v. referred o inplace union (objectExtent ob v) ≡ f v) p
         all fail g = tt
         all (got v ys) g = h v g
 
@@ -103,7 +103,7 @@ module _ (o : ℕ) (S : Schema) (sound : Sound S) (child : Surveyor) (decoder : 
     unfolding valueWritable
     object-part optional inplace ob v h =
         referred-summed o inplace false (test ob v) (lengthOf o S ob v) (width o (packBits 0 (P ob v))) (chain o (packBits 0 (P ob v))) (below o (packBits 0 (P ob v)))
-        ∙ ap (λ t. summed t 0 0 (objectChain o P S inplace ob v) (objectBelow o P S inplace ob v)) (fine-object inplace (test ob v) (lengthOf o S ob v))
+        ∙ ap (λ t. summed t 0 0 (objectChain o P S inplace ob v) (objectBelow o P S inplace ob v)) (fine-object o inplace (test ob v) (lengthOf o S ob v))
         ∙ by (present v) h
       where
         fine : Bool
@@ -119,7 +119,7 @@ module _ (o : ℕ) (S : Schema) (sound : Sound S) (child : Surveyor) (decoder : 
     choice-part optional inplace i c v =
         let ob = caseOf (casesOf S i) c in
         referred-summed o inplace true (test ob v) (lengthOf o S ob v) (width o (packBits 0 (P ob v))) (chain o (packBits 0 (P ob v))) (below o (packBits 0 (P ob v)))
-        ∙ ap (λ t. summed t 0 0 (objectChain o P S inplace ob v) (objectBelow o P S inplace ob v)) (fine-choice inplace (test ob v) (lengthOf o S ob v))
+        ∙ ap (λ t. summed t 0 0 (objectChain o P S inplace ob v) (objectBelow o P S inplace ob v)) (fine-choice o inplace (test ob v) (lengthOf o S ob v))
 
     choice-surveyed : (optional inplace : Bool) (i : ℕ) (xs : List ℕ)
         → surveyChoice child o inplace (casesOf S i) xs ≡ mapped (partExtent (OfUnion i) optional inplace) (takeChoice decoder (casesOf S i) xs)
@@ -197,7 +197,7 @@ module _ (o : ℕ) (S : Schema) (sound : Sound S) (child : Surveyor) (decoder : 
     -- ---- members and elements: what stands before is t, x and y
     abbrev pub membersExtent : Bool → ℕ → ℕ → ℕ → ℕ → List Member → Values → Extent
     membersExtent t n w x y rs vs =
-        summed (t && membersWritable test o S rs vs) n w (x + chain o (packBits 0 (membersSlots P o S rs vs))) (y + below o (packBits 0 (membersSlots P o S rs vs)))
+        summed (t && membersWritable test (keepsUnions o) o S rs vs) n w (x + chain o (packBits 0 (membersSlots P o S rs vs))) (y + below o (packBits 0 (membersSlots P o S rs vs)))
 
     pub members-surveyed : (rs : List Member) (t : Bool) (n w x y : ℕ) (xs : List ℕ)
         → surveyMembers child o S rs (summed t n w x y) xs ≡ mapped (membersExtent t n w x y rs) (takeMembers decoder S rs xs)
@@ -213,7 +213,7 @@ module _ (o : ℕ) (S : Schema) (sound : Sound S) (child : Surveyor) (decoder : 
         ∙ mapped-same _ _ (takeMembers decoder S rs ys) (has-all _ (λ vs. one v vs) (takeMembers decoder S rs ys)))
       where
         fine : Value → Bool
-        fine v = valueWritable test o S (r .kind) (r .optional) (r .inplace) v
+        fine v = valueWritable test (keepsUnions o) o S (r .kind) (r .optional) (r .inplace) v
 
         c : Value → ℕ
         c v = valueChain o P S (r .kind) (r .inplace) v
@@ -224,13 +224,13 @@ module _ (o : ℕ) (S : Schema) (sound : Sound S) (child : Surveyor) (decoder : 
         one : (v : Value) (vs : Values) → membersExtent (t && fine v) n w (x + c v) (y + b v) rs vs ≡ membersExtent t n w x y (r ∷ rs) (v then vs)
         one v vs =
             let rest = membersSlots P o S rs vs in
-            summed-same _ _ n w _ _ _ _ (and-assoc t (fine v) (membersWritable test o S rs vs))
+            summed-same _ _ n w _ _ _ _ (and-assoc t (fine v) (membersWritable test (keepsUnions o) o S rs vs))
             (add-assoc x (c v) (chain o (packBits 0 rest)) ∙ ap (λ (k : ℕ). x + k) (sym (member-chain o P S r v rest)))
             (add-assoc y (b v) (below o (packBits 0 rest)) ∙ ap (λ (k : ℕ). y + k) (sym (member-below o P S r v rest)))
 
     abbrev pub elementsExtent : Bool → ℕ → ℕ → ℕ → ℕ → Kind → Values → Extent
     elementsExtent t n w x y k vs =
-        summed (t && elementsWritable test o S k vs) n w (x + chain o (packBits 0 (elementsSlots P o S k vs))) (y + below o (packBits 0 (elementsSlots P o S k vs)))
+        summed (t && elementsWritable test (keepsUnions o) o S k vs) n w (x + chain o (packBits 0 (elementsSlots P o S k vs))) (y + below o (packBits 0 (elementsSlots P o S k vs)))
 
     pub elements-surveyed : (k : Kind) (l : ℕ) (t : Bool) (n w x y : ℕ) (xs : List ℕ)
         → surveyElements child o S k l (summed t n w x y) xs ≡ mapped (elementsExtent t n w x y k) (takeElements decoder S k l xs)
@@ -246,7 +246,7 @@ module _ (o : ℕ) (S : Schema) (sound : Sound S) (child : Surveyor) (decoder : 
         ∙ mapped-same _ _ (takeElements decoder S k l ys) (has-all _ (λ vs. one v vs) (takeElements decoder S k l ys)))
       where
         fine : Value → Bool
-        fine v = valueWritable test o S k true false v
+        fine v = valueWritable test (keepsUnions o) o S k true false v
 
         c : Value → ℕ
         c v = valueChain o P S k false v
@@ -257,7 +257,7 @@ module _ (o : ℕ) (S : Schema) (sound : Sound S) (child : Surveyor) (decoder : 
         one : (v : Value) (vs : Values) → elementsExtent (t && fine v) n w (x + c v) (y + b v) k vs ≡ elementsExtent t n w x y k (v then vs)
         one v vs =
             let rest = elementsSlots P o S k vs in
-            summed-same _ _ n w _ _ _ _ (and-assoc t (fine v) (elementsWritable test o S k vs))
+            summed-same _ _ n w _ _ _ _ (and-assoc t (fine v) (elementsWritable test (keepsUnions o) o S k vs))
             (add-assoc x (c v) (chain o (packBits 0 rest)) ∙ ap (λ (j : ℕ). x + j) (sym (value-chain o P S 0 k false v rest)))
             (add-assoc y (b v) (below o (packBits 0 rest)) ∙ ap (λ (j : ℕ). y + j) (sym (value-below o P S 0 k false v rest)))
 

@@ -15,6 +15,7 @@ ghost use Rattle.coding.specs.Bits.{bits, value, pack};
 ghost use Rattle.coding.specs.Packed as P;
 ghost use Rattle.coding.specs.Sheet as Sh;
 ghost use Rattle.coding.specs.Layout as L;
+ghost use Rattle.coding.specs.Message as M;
 ghost use Rattle.coding.specs.Lists.{pick};
 ghost use Rattle.coding.specs.Schema as Sc;
 ghost use Rattle.coding.specs.Step as T;
@@ -473,28 +474,35 @@ fn joined_plain(a: Extent, fine: bool) -> Extent
     }
 }
 
-// Whether an object in place can be written: it must have some length, unless it may be of length 0.
-fn in_place_fine(may: bool, n: usize, fine: bool) -> bool
-    ensures { λ r. ⌜ r ≡ (pick may true (ltb 0 n) && fine) ⌝ }
+// Whether a present union in place can be written: the 48-bit coding does not keep them.
+fn keeps_unions(o: usize) -> bool
+    ensures { λ r. ⌜ r ≡ M.keepsUnions o ⌝ }
 {
-    if may {
-        return fine;
+    o != wire::U48
+}
+
+// Whether an object in place can be written: in a union if the coding keeps those, elsewhere if it has some length.
+fn in_place_fine(union: bool, n: usize, fine: bool, o: usize) -> bool
+    ensures { λ r. ⌜ r ≡ (pick union (M.keepsUnions o) (ltb 0 n) && fine) ⌝ }
+{
+    if union {
+        return both(keeps_unions(o), fine);
     }
     if 0 < n { fine } else { false }
 }
 
-// What an object adds to the one that refers to it, or in which it stands. All headers begin with a magic and a length, as a table's does;
+// What an object adds to the one that refers to it, or in which it stands; `union`: it is a union's. All headers begin with a magic and a length, as a table's does;
 // what that of a direct list says more is counted with its content.
-fn referred(inplace: bool, may: bool, e: Extent, o: usize) -> Extent
+fn referred(inplace: bool, union: bool, e: Extent, o: usize) -> Extent
     requires { ⌜ (Width o) × Small e ⌝ }
-    ensures { λ r. ⌜ Fits (Sv.referred o inplace may e) r ⌝ }
+    ensures { λ r. ⌜ Fits (Sv.referred o inplace union e) r ⌝ }
 {
     let fine = e.writable;
     let below = e.below;
     let size = e.width + e.chain;
     if inplace {
         return Extent {
-            writable: in_place_fine(may, e.length, fine),
+            writable: in_place_fine(union, e.length, fine, o),
             length: 0,
             width: 0,
             chain: capped(size),
@@ -720,12 +728,12 @@ fn refer_blob(
     d: usize,
     more: usize,
     inplace: bool,
-    may: bool,
+    union: bool,
     pos: usize,
     o: usize,
 ) -> Surveyed
     requires { ⌜ (Width o) × (By.Inside (now s) pos) × (more ≤ 1) ⌝ }
-    ensures { λ r. ⌜ By.Surveys (now (s .entry)) pos (blobReferred d o inplace may more) r ⌝ }
+    ensures { λ r. ⌜ By.Surveys (now (s .entry)) pos (blobReferred d o inplace union more) r ⌝ }
 {
     if d == 0 {
         return unlawful(pos);
@@ -735,7 +743,7 @@ fn refer_blob(
     let next = x.next;
     Surveyed {
         whole: whole,
-        extent: referred(inplace, may, x.extent, o),
+        extent: referred(inplace, union, x.extent, o),
         next: next,
     }
 }
@@ -1081,23 +1089,23 @@ fn refer(
     d: usize,
     ob: Object,
     inplace: bool,
-    may: bool,
+    union: bool,
     pos: usize,
     o: usize,
 ) -> Surveyed
     requires { ⌜ (Accepted (now b) (now dir)) × (Width o) × (ObjectSound (P.parse (now b)) ob) × By.Inside (now s) pos ⌝ }
-    ensures { λ r. ⌜ By.Surveys (now (s .entry)) pos (By.held o d (now (b .entry)) inplace may ob) r ⌝ }
+    ensures { λ r. ⌜ By.Surveys (now (s .entry)) pos (By.held o d (now (b .entry)) inplace union ob) r ⌝ }
 {
     let more = blob_end(ob);
     if more < 2 {
-        return refer_blob(s, d, more, inplace, may, pos, o);
+        return refer_blob(s, d, more, inplace, union, pos, o);
     }
     let x = object(b, dir, s, d, ob, pos, o);
     let whole = x.whole;
     let next = x.next;
     Surveyed {
         whole: whole,
-        extent: referred(inplace, may, x.extent, o),
+        extent: referred(inplace, union, x.extent, o),
         next: next,
     }
 }

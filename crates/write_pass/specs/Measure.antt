@@ -89,9 +89,9 @@ unfolding joined
 joined-unchained a e f g = ap₂ (λ (i j : ℕ). capped (i + j)) f g ∙ capped-in 0 (omega arith)
 
 module _ (child : Surveyor) (o : ℕ) (S : Schema) where
-  object-unchained : (may : Bool) (ob : Object) (xs : List ℕ) → Has Unchained (surveyObject child o false may ob xs)
+  object-unchained : (union : Bool) (ob : Object) (xs : List ℕ) → Has Unchained (surveyObject child o false union ob xs)
   unfolding surveyObject referred
-  object-unchained may ob xs = bind-has Unchained (child ob xs) _ (λ e ys. refl)
+  object-unchained union ob xs = bind-has Unchained (child ob xs) _ (λ e ys. refl)
 
   plain-unchained : (p : Parsed Bool) → Has Unchained (plainOf p)
   unfolding plainOf plain

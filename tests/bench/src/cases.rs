@@ -90,6 +90,9 @@ pub const CASES: &[fn() -> Case] = &[
     || tables_late(Bits48),
     || tables_late(Bits32),
     unions_late,
+    || unions_in_place(Bits48),
+    || unions_in_place(Bits32),
+    unions_moved,
     every_kind,
     || numbers("(d) a list of 1,000,000 U64", 1_000_000),
     || numbers("(d) a list of 2,000,000 U64", 2_000_000),
@@ -236,6 +239,58 @@ fn unions_late() -> Case {
     let visits = 2 + ELEMENTS as u32;
     let name = "(b) 100,000 unions there, the last case";
     Case::accepted(name, &schema, message, visits)
+}
+
+/// Tables of their own, each a U16 and, in place, a union with a text of two bytes. Under 48 bits such
+/// messages are stored and no longer written.
+pub fn unions_in_place(coding: Coding) -> Case {
+    let union = plain(UNION).in_place();
+    let schema = Schema {
+        lists: vec![Record::of(TABLE, 1)],
+        unions: vec![vec![plain(TEXT)]],
+        tables: vec![root(0), Table::new(INNER, &[plain(U16), union])],
+        ..Schema::default()
+    };
+    let mut message = Message::new(coding);
+    let width = message.width();
+    let references = put_list(&mut message, ELEMENTS, width);
+    for number in 0..ELEMENTS {
+        message.set_offset(references + width * number, message.end());
+        message.header(INNER, 4 + width);
+        message.u16(number as u16);
+        message.u16(1);
+        message.offset(2);
+        message.put(b"ab\0");
+    }
+    let visits = 2 + 2 * ELEMENTS as u32;
+    let name = "(b) 100,000 tables with a union in place";
+    Case::accepted(name, &schema, message, visits)
+}
+
+/// The same moved over to the schema in which the union is by its offset.
+pub fn unions_moved() -> Case {
+    let case = unions_in_place(Bits48);
+    let (coding, most) = (Bits48.number(), usize::MAX);
+    let budget = reference::Budget::LARGEST;
+    let (_, sheet) = reference::read(coding, &case.schema, &case.message, budget, most);
+    let (_, schema) = reference::clear_unions(&case.schema, most);
+    let (_, message) = reference::write(coding, &schema, &sheet, most);
+    Case {
+        name: "(b) the same moved over".to_string(),
+        schema,
+        message,
+        ..case
+    }
+}
+
+/// The schema with the most records, of which every table holds a union in place.
+pub fn largest_in_place() -> Vec<u8> {
+    let mut schema = largest(plain(U64));
+    for (number, table) in schema.tables.iter_mut().enumerate() {
+        table.members.resize(MOST, plain(U64));
+        table.members[number] = Record::of(UNION, number).in_place();
+    }
+    schema.pack()
 }
 
 /// A table with 64 members: all kinds in turn, the second time optional where they may be, and the

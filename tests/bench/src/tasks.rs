@@ -56,6 +56,9 @@ const PARTS: &[fn() -> Task] = &[
     list_of_direct_elements,
 ];
 
+/// Messages that are read to a sheet, and whose sheets are no longer written.
+const STORED: &[fn() -> Case] = &[|| cases::unions_in_place(Bits48)];
+
 /// Messages that are read to a sheet, and whose sheets are written.
 const WHOLES: &[fn() -> Case] = &[
     || cases::texts(Bits48),
@@ -65,6 +68,8 @@ const WHOLES: &[fn() -> Case] = &[
     || cases::tables(Bits48),
     || cases::tables(Bits32),
     cases::direct_tables,
+    || cases::unions_in_place(Bits32),
+    cases::unions_moved,
     cases::direct_numbers,
     deep_numbers,
     || cases::elements("1,000,000 bools", plain(BOOL), 0),
@@ -79,11 +84,12 @@ const WHOLES: &[fn() -> Case] = &[
 /// Each task is built when its turn comes.
 pub fn all() -> impl Iterator<Item = Task> {
     let parts = PARTS.iter().map(|build| build());
-    let reads = WHOLES.iter().map(|build| read(build()));
+    let wholes = WHOLES.iter().chain(STORED);
+    let reads = wholes.map(|build| read(build()));
     let refused = [Bits48, Bits32].map(|coding| read_refused(cases::blob(coding)));
     let reads = reads.chain(refused);
     let writes = WHOLES.iter().map(|build| write(build()));
-    parts.chain(reads).chain(writes)
+    parts.chain(reads).chain(writes).chain([clearing()])
 }
 
 /// Enough of a sum to tell outputs apart; the timed calls do not take it.
@@ -388,6 +394,29 @@ fn write(case: Case) -> Task {
     Task {
         name,
         bytes,
+        ours: Box::new(ours),
+        second: Box::new(second),
+    }
+}
+
+/// The largest schema with its unions cleared, outputs as in `read`.
+fn clearing() -> Task {
+    let schema = cases::largest_in_place();
+    let (room, same_schema) = (schema.len(), schema.clone());
+    let output = RefCell::new(vec![0; room]);
+    let ours = move || {
+        let mut output = output.borrow_mut();
+        let answer = scalgo::clear_unions(black_box(&schema), &mut output);
+        let number = u64::from(answer.number);
+        outcome(&[number, answer.length as u64], &output[..answer.length])
+    };
+    let second = move || {
+        let (number, cleared) = reference::clear_unions(black_box(&same_schema), room);
+        outcome(&[u64::from(number), cleared.len() as u64], &cleared)
+    };
+    Task {
+        name: "clearing the unions of the largest schema".to_string(),
+        bytes: 0,
         ours: Box::new(ours),
         second: Box::new(second),
     }

@@ -1,6 +1,6 @@
 /* Calls every function of the library once for each thing that the requirements' own table says,
- * then the same in the older coding, and under a number that is no coding's; and prints what it
- * answers. every_call.txt is what they say it must print. */
+ * then the same in the older coding, and under a number that is no coding's; moves a stored message
+ * over; and prints what it answers. every_call.txt is what they say it must print. */
 #include "scalgo.h"
 
 #include <stdio.h>
@@ -221,14 +221,19 @@ static void contents(const struct coded *in) {
 /* The sheet of the message, and a byte more. */
 static const uint8_t sheet[] = {0x40, 0, 0xD0, 0, 0, 0, 0x26, 0x16, 0x20, 0};
 
-static void write_with(uint32_t coding, const uint8_t *bytes, size_t len, size_t room) {
+static void write_by(uint32_t coding, const uint8_t *schema, size_t schema_len, const uint8_t *bytes,
+                     size_t len, size_t room) {
     uint8_t written[43];
     uint64_t length = 99;
     memset(written, 0xEE, sizeof written);
-    uint32_t number = scalgo_write(coding, newer, sizeof newer, bytes, len, written, room, &length);
+    uint32_t number = scalgo_write(coding, schema, schema_len, bytes, len, written, room, &length);
     uint64_t numbers[2] = {number, length};
     print_numbers(numbers, 2);
     print_bytes(written, sizeof written);
+}
+
+static void write_with(uint32_t coding, const uint8_t *bytes, size_t len, size_t room) {
+    write_by(coding, newer, sizeof newer, bytes, len, room);
 }
 
 static void writes(const struct coded *in) {
@@ -288,6 +293,32 @@ static void no_coding(uint32_t coding) {
     write_with(coding, sheet, 9, 43);
 }
 
+static void clear(const uint8_t *schema, size_t schema_len, size_t room) {
+    uint8_t cleared[17];
+    uint64_t length = 99;
+    memset(cleared, 0xEE, sizeof cleared);
+    uint32_t number = scalgo_clear_unions(schema, schema_len, cleared, room, &length);
+    uint64_t numbers[2] = {number, length};
+    print_numbers(numbers, 2);
+    print_bytes(cleared, sizeof cleared);
+}
+
+/* A schema cleared, without room, and one that is not lawful; one without unions in place; and the
+ * union's sheet written by its own schema, by the cleared one, and in 32 bits, then with the union
+ * absent. */
+static void moving(void) {
+    static const uint8_t of_union[] = {0x40, 0, 0x40, 0, 0, 0, 0x98, 0x58, 0x80};
+    clear(in_place, sizeof in_place, 17);
+    clear(in_place, sizeof in_place, 15);
+    clear(in_place, sizeof in_place, 14);
+    clear(in_place, sizeof in_place - 1, 17);
+    clear(by_offset, sizeof by_offset, 17);
+    write_by(SCALGO_CODING_48, in_place, sizeof in_place, of_union, sizeof of_union, 43);
+    write_by(SCALGO_CODING_48, by_offset, sizeof by_offset, of_union, sizeof of_union, 43);
+    write_by(SCALGO_CODING_32, in_place, sizeof in_place, of_union, sizeof of_union, 43);
+    write_by(SCALGO_CODING_48, in_place, sizeof in_place, sheet + 1, 1, 43);
+}
+
 int main(void) {
     for (size_t i = 0; i < 2; i++) {
         judges(&codings[i]);
@@ -301,5 +332,6 @@ int main(void) {
         no_texts(&codings[i]);
     }
     no_coding(40);
+    moving();
     return 0;
 }

@@ -30,7 +30,7 @@ struct Writer<'a> {
     out: Vec<u8>,
 }
 
-/// The message of a writable root value.
+/// The message of a root value that is writable, or was while unions in place were written.
 pub fn message(schema: &Schema, root: &Value) -> Vec<u8> {
     let mut writer = Writer {
         schema,

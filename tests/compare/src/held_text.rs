@@ -175,6 +175,11 @@ impl Way {
         }
     }
 
+    /// Whether a union in place leads to the text.
+    pub fn by_union_in_place(self) -> bool {
+        matches!(self, Way::UnionInPlace | Way::UnionTable)
+    }
+
     /// Whether a list holds the text, or the union that leads to it.
     pub fn in_list(self) -> bool {
         matches!(
@@ -200,6 +205,8 @@ pub struct HeldText {
     pub spent: Budget,
     /// By Rust's standard library.
     pub is_text: bool,
+    /// Whether a sheet with a text there can be written: under 48 bits not by a union in place.
+    pub is_written: bool,
 }
 
 impl HeldText {
@@ -220,6 +227,7 @@ impl HeldText {
             place: (start - header) as u64,
             spent: spent(&schema, &value),
             is_text: is_text(text),
+            is_written: coding.is_older() || !way.by_union_in_place(),
             message,
         }
     }

@@ -4,17 +4,19 @@
 use crate::coding::Coding;
 use crate::counts::Counts;
 use crate::schema_faults::rules;
+use crate::sheet_faults;
 
 /// The number of cases that the minimums are meant for.
 pub const CASES: u64 = 100_000;
 
-const NAMED: [(&str, u64); 70] = [
+const NAMED: [(&str, u64); 74] = [
     ("accepted messages of depth 32", 100),
     ("accepted messages with an unwritable sheet", 1000),
     ("arrivals at shared objects", 10_000),
     ("cases: appended schemas", 10_000),
     ("cases: damaged messages", 10_000),
     ("cases: message starts", 1000),
+    ("cases: messages moved over", 3000),
     ("cases: round trip", 10_000),
     ("cases: schemas", 2000),
     ("cases: sheets", 10_000),
@@ -73,18 +75,23 @@ const NAMED: [(&str, u64); 70] = [
     ("not writable: no text from bit 5 of a byte", 40),
     ("not writable: no text from bit 6 of a byte", 40),
     ("not writable: no text from bit 7 of a byte", 40),
+    ("not writable: union in place", 300),
     ("not writable: unknown choice", 300),
     ("not writable: unknown enum", 200),
     ("objects that overlap others", 3000),
+    ("stored messages moved over", 1000),
+    ("stored messages: 12 for an older reason", 1000),
     ("tables longer than the schema", 5000),
     ("tables shorter than the schema", 5000),
     ("unknown enums and choices", 5000),
 ];
 
-/// What only unions that are not in place and direct lists have, so never the
-/// older coding.
+/// What only unions that are not in place and direct lists have, and messages that
+/// are moved over, so never the older coding.
 fn never_older(name: &str) -> bool {
     ["answers with number 9", "message faults: UnionZero"].contains(&name)
+        || [sheet_faults::UNION_IN_PLACE].contains(&name)
+        || name.starts_with("stored messages")
         || ["message faults: CountOver", "message faults: ElementId"].contains(&name)
         || name.starts_with("direct ")
         || name.starts_with("kind 18 ")

@@ -21,6 +21,7 @@ pub enum Question {
     Judge { budget: Budget },
     Read { budget: Budget, room: usize },
     Write { room: usize },
+    Clear { room: usize },
     Field { path: Vec<u32> },
     Text { path: Vec<u32> },
     List { path: Vec<u32>, steps: usize },
@@ -40,6 +41,7 @@ pub enum Outcome {
     Judged(Verdict),
     Read(Verdict, Vec<u8>),
     Written(u32, Vec<u8>),
+    Cleared(u32, Vec<u8>),
     Field(Answer),
     Text(Option<Vec<u8>>),
     List(Result<Vec<Answer>, Answer>),
@@ -58,6 +60,10 @@ impl Probe {
             Question::Write { room } => {
                 let (number, message) = program.write(schema, bytes, *room);
                 Outcome::Written(number, message)
+            }
+            Question::Clear { room } => {
+                let (number, cleared) = program.clear_unions(&schema.bytes, *room);
+                Outcome::Cleared(number, cleared)
             }
             Question::Field { path } => Outcome::Field(program.field(schema, bytes, path)),
             Question::Text { path } => Outcome::Text(program.text(schema, bytes, path)),
@@ -103,6 +109,14 @@ pub fn random_probes(coding: Coding, rng: &mut Rng) -> Vec<Probe> {
             schema,
             bytes,
             question,
+        });
+    }
+    let length = packed.bytes.len();
+    for room in [length, length.saturating_sub(1), length + rng.below(9)] {
+        probes.push(Probe {
+            schema: packed.clone(),
+            bytes: Vec::new(),
+            question: Question::Clear { room },
         });
     }
     probes

@@ -66,6 +66,8 @@ pub trait Program: Judge {
     ) -> (Verdict, Vec<u8>);
     /// Writes a sheet to a message; no bytes on refusal.
     fn write(&self, schema: &Packed, sheet: &[u8], room: usize) -> (u32, Vec<u8>);
+    /// Clears the in-place flag of a schema's unions; no bytes on refusal. It takes no coding.
+    fn clear_unions(&self, schema: &[u8], room: usize) -> (u32, Vec<u8>);
     /// Answers one field.
     fn field(&self, schema: &Packed, message: &[u8], path: &[u32]) -> Answer;
     /// The bytes of a text or of bytes, where the path leads to such.
@@ -209,6 +211,13 @@ impl Program for Library {
         })
     }
 
+    fn clear_unions(&self, schema: &[u8], room: usize) -> (u32, Vec<u8>) {
+        with_room(room, |cleared| {
+            let answer = scalgo::clear_unions(schema, cleared);
+            (answer.number, answer.length)
+        })
+    }
+
     fn field(&self, schema: &Packed, message: &[u8], path: &[u32]) -> Answer {
         answer(scalgo::field(coding(schema), &schema.bytes, message, path))
     }
@@ -265,6 +274,10 @@ impl Program for Second {
 
     fn write(&self, schema: &Packed, sheet: &[u8], room: usize) -> (u32, Vec<u8>) {
         reference::write(schema.coding, &schema.bytes, sheet, room)
+    }
+
+    fn clear_unions(&self, schema: &[u8], room: usize) -> (u32, Vec<u8>) {
+        reference::clear_unions(schema, room)
     }
 
     fn field(&self, schema: &Packed, message: &[u8], path: &[u32]) -> Answer {

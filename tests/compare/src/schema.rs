@@ -354,6 +354,16 @@ impl Schema {
         members.any(|m| m.in_place && m.kind == UNION && usize::from(m.argument) == union)
     }
 
+    /// The same schema in which only the in-place flag of unions is cleared.
+    pub fn cleared(&self) -> Schema {
+        let mut cleared = self.clone();
+        let tables = cleared.tables.iter_mut();
+        for member in tables.flat_map(|table| &mut table.members) {
+            member.in_place &= member.kind != UNION;
+        }
+        cleared
+    }
+
     /// Whether a table may get another member in place.
     pub fn may_hold_in_place(&self, table: usize) -> bool {
         let taken = self.tables[table].members.iter().any(|m| m.in_place);

@@ -174,6 +174,35 @@ fn with_direct_list(coding: Coding, rng: &mut Rng) -> Schema {
     schema
 }
 
+/// Has a union in place that the root holds, unless the root is a direct list's.
+pub fn with_union_in_place(coding: Coding, rng: &mut Rng) -> Schema {
+    let mut schema = from_counts(coding, rng, [2, 3, 3, 4, 6]);
+    let root = usize::from(schema.root);
+    if schema.is_direct(root) {
+        return schema;
+    }
+    schema.tables[root]
+        .members
+        .retain(|member| !member.in_place);
+    let known = (0..schema.unions.len() as u8).filter(|union| !schema.has_direct_case(*union));
+    let known: Vec<u8> = known.collect();
+    let union = if known.is_empty() || rng.coin() {
+        let cases = rng.range(1, 5);
+        let cases = (0..cases).map(|_| plain_object(rng, &schema)).collect();
+        schema.unions.push(cases);
+        schema.unions.len() as u8 - 1
+    } else {
+        rng.pick(&known)
+    };
+    let member = Record {
+        in_place: true,
+        ..Record::plain(UNION, union)
+    };
+    let members = &mut schema.tables[root].members;
+    members.insert(rng.below(members.len() + 1), member);
+    schema
+}
+
 /// Whether the root may hold a link in place that leads back to it.
 fn link_may_be_in_place(schema: &Schema, link: &Record, back: Record) -> bool {
     let direct = back.kind == DIRECT || link.kind == UNION && schema.has_direct_case(link.argument);

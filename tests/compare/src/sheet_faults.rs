@@ -14,8 +14,11 @@ pub fn no_text_from(bit: usize) -> String {
     format!("{NO_TEXT} from bit {} of a byte", bit % 8)
 }
 
+/// What a union present in place is counted as.
+pub const UNION_IN_PLACE: &str = "not writable: union in place";
+
 /// The ways of not being writable, as reports call them.
-const REASONS: [&str; 9] = [
+const REASONS: [&str; 10] = [
     "not writable: unknown enum",
     "not writable: unknown choice",
     "not writable: absent plain bool or integer",
@@ -25,6 +28,7 @@ const REASONS: [&str; 9] = [
     "not writable: NaN as an element",
     "not writable: empty in place",
     NO_TEXT,
+    UNION_IN_PLACE,
 ];
 
 /// Whether a reason can be put on an entry.
@@ -39,7 +43,8 @@ fn fits(schema: &Schema, reason: usize, holder: Holder, record: &Record) -> bool
         5 => holder == Holder::Table && record.optional && record.is_float(),
         6 => holder == Holder::List && record.is_float(),
         7 => record.in_place && record.kind != UNION && empty_object(schema, record).is_some(),
-        _ => record.kind == TEXT,
+        8 => record.kind == TEXT,
+        _ => record.in_place && record.kind == UNION && !schema.coding.is_older(),
     }
 }
 
@@ -67,7 +72,47 @@ fn spoiled(schema: &Schema, rng: &mut Rng, reason: usize, record: &Record) -> Va
         2..=4 => Value::Absent,
         5 | 6 => Value::Number(nan_bits(rng, record)),
         7 => empty_object(schema, record).unwrap_or(Value::Absent),
-        _ => Value::Blob(text_gen::no_text(rng)),
+        8 => Value::Blob(text_gen::no_text(rng)),
+        _ => some_choice(schema, rng, record),
+    }
+}
+
+/// A known choice with a small object that could be written.
+fn some_choice(schema: &Schema, rng: &mut Rng, union: &Record) -> Value {
+    let cases = &schema.unions[usize::from(union.argument)];
+    let choice = rng.below(cases.len());
+    let object = match cases[choice].kind {
+        TEXT | BYTES => {
+            let length = rng.below(3);
+            Value::Blob(b"ab"[..length].to_vec())
+        }
+        TABLE => least_table(schema, cases[choice].argument),
+        _ => Value::List(Vec::new()),
+    };
+    Value::Union(choice as u16 + 1, Box::new(object))
+}
+
+/// A table with no more present in it than must be.
+fn least_table(schema: &Schema, index: u8) -> Value {
+    let members = &schema.tables[usize::from(index)].members;
+    let least = |member: &Record| match member.kind {
+        0..=F64 | STRUCT if !member.optional => least_value(schema, member),
+        _ => Value::Absent,
+    };
+    Value::Table(members.iter().map(least).collect())
+}
+
+/// A bool, number or struct of zeros; enums are absent.
+fn least_value(schema: &Schema, record: &Record) -> Value {
+    match record.kind {
+        BOOL => Value::Bool(false),
+        ENUM => Value::Absent,
+        STRUCT => {
+            let members = &schema.structs[usize::from(record.argument)];
+            let parts = members.iter().map(|member| least_value(schema, member));
+            Value::Struct(parts.collect())
+        }
+        _ => Value::Number(0),
     }
 }
 

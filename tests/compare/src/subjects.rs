@@ -11,13 +11,13 @@ use crate::rng::Rng;
 use crate::schema::{Packed, Schema, DEPTH_LIMIT, DIRECT};
 use crate::schema_faults;
 use crate::schema_gen;
-use crate::value::{writable, Value};
+use crate::value::{was_writable, Value};
 use crate::value_gen::{self, Purpose, Size};
 
 /// How a message and its schema were made.
 #[derive(Clone, Copy, Debug, PartialEq, Eq, PartialOrd, Ord)]
 pub enum Sort {
-    /// Written as the writer would.
+    /// Written as the writer would, or would have while unions in place were written.
     Written,
     /// Laid out at random: shared, overlapping, shorter and longer tables.
     Wild,
@@ -172,7 +172,7 @@ pub fn some_value(rng: &mut Rng, schema: &Schema, deep: usize) -> Value {
             spine: depth,
         };
     }
-    let purpose = rng.pick(&[Purpose::Writable, Purpose::Wild, Purpose::Wild]);
+    let purpose = rng.pick(&[Purpose::Stored, Purpose::Wild, Purpose::Wild]);
     value_gen::root_value(schema, rng, purpose, size)
 }
 
@@ -196,7 +196,7 @@ impl Maker {
 
     /// The value as messages, without and with one fault, and damaged.
     fn sound_and_damaged(&mut self, rng: &mut Rng, value: &Value) {
-        if writable(&self.schema, value) {
+        if was_writable(&self.schema, value) {
             let message = canonical::message(&self.schema, value);
             self.add(Sort::Written, message);
         }

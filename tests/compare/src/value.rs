@@ -178,8 +178,30 @@ fn entry_writable(schema: &Schema, holder: Holder, record: &Record, value: &Valu
     }
 }
 
-/// Whether a lawful value can be written.
+/// Whether a value has a union that is present in place.
+pub fn has_union_in_place(schema: &Schema, root: &Value) -> bool {
+    let mut found = false;
+    let record = Record::plain(TABLE, schema.root);
+    visit(
+        schema,
+        &record,
+        &mut root.clone(),
+        &mut |_, record, value| {
+            found |= record.in_place && matches!(value, Value::Union(..));
+        },
+    );
+    found
+}
+
+/// Whether a lawful value can be written: "From now the writer refuses a present one
+/// under the 48-bit coding", "The 32-bit coding keeps them."
 pub fn writable(schema: &Schema, root: &Value) -> bool {
+    let kept = schema.coding.is_older() || !has_union_in_place(schema, root);
+    kept && was_writable(schema, root)
+}
+
+/// Whether a lawful value could be written while unions in place were.
+pub fn was_writable(schema: &Schema, root: &Value) -> bool {
     let mut fine = true;
     let record = Record::plain(TABLE, schema.root);
     visit(

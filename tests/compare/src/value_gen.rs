@@ -11,6 +11,8 @@ use std::collections::HashMap;
 pub enum Purpose {
     /// A sheet that can be written.
     Writable,
+    /// A sheet that could be written while unions in place were.
+    Stored,
     /// A message laid out at random: unknown numbers and short tables too.
     Wild,
 }
@@ -35,7 +37,8 @@ struct Chains {
 const CHAIN_CAP: u32 = 40;
 
 impl Chains {
-    fn of(schema: &Schema) -> Chains {
+    /// The ways down by members that may be present.
+    fn of(schema: &Schema, purpose: Purpose) -> Chains {
         let mut chains = Chains {
             lists: vec![1; schema.lists.len()],
             tables: vec![1; schema.tables.len()],
@@ -53,7 +56,9 @@ impl Chains {
                 chains.lists[i] = deeper(&[*element]);
             }
             for (i, table) in schema.tables.iter().enumerate() {
-                chains.tables[i] = deeper(&table.members);
+                let members = table.members.iter().copied();
+                let members = members.filter(|member| may_be_present(schema, purpose, member));
+                chains.tables[i] = deeper(&members.collect::<Vec<Record>>());
             }
         }
         chains
@@ -87,6 +92,18 @@ struct Generator<'a> {
     made: HashMap<(u8, u8), Vec<Value>>,
 }
 
+/// An in-place table of no bytes cannot be present in a sheet to write, nor, under 48 bits, a union
+/// in place.
+fn may_be_present(schema: &Schema, purpose: Purpose, record: &Record) -> bool {
+    match (purpose, record.kind) {
+        (Purpose::Writable, UNION) => schema.coding.is_older() || !record.in_place,
+        (Purpose::Writable | Purpose::Stored, TABLE) => {
+            !record.in_place || schema.slots(record.argument).1 > 0
+        }
+        _ => true,
+    }
+}
+
 /// A random root value.
 pub fn root_value(schema: &Schema, rng: &mut Rng, purpose: Purpose, size: Size) -> Value {
     let mut generator = Generator {
@@ -95,7 +112,7 @@ pub fn root_value(schema: &Schema, rng: &mut Rng, purpose: Purpose, size: Size) 
         purpose,
         fuel: size.objects as i64,
         deepest: size.depth,
-        chains: Chains::of(schema),
+        chains: Chains::of(schema, purpose),
         made: HashMap::new(),
     };
     let root = Record::plain(TABLE, schema.root);
@@ -308,11 +325,8 @@ impl Generator<'_> {
         (!fitting.is_empty()).then(|| self.rng.pick(&fitting))
     }
 
-    /// An in-place table of no bytes cannot be present in a sheet to write.
     fn may_be_present(&self, record: &Record) -> bool {
-        let empty =
-            record.kind == TABLE && record.in_place && self.schema.slots(record.argument).1 == 0;
-        self.wild() || !empty
+        may_be_present(self.schema, self.purpose, record)
     }
 
     /// A present object with at least `spine` objects on one way down.

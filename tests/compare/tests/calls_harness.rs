@@ -1,12 +1,15 @@
 //! The side by side of the C interface must catch programs that are wrong:
 //! each program here is the second program with one fault.
 
-use compare::calls::{fields, reads, texts, writes, Calls, Read, SecondCalls, Writes};
+use compare::calls::{clears, fields, moves, reads, texts, writes};
+use compare::calls::{Calls, Read, SecondCalls, Writes};
 use compare::coding::{Coding, CODINGS};
 use compare::judging;
 use compare::program::{accepted, Budget, Judge, Verdict, NO_MEMBER};
-use compare::schema::Packed;
+use compare::schema::{Packed, Record, Schema, TABLE};
 use compare::schema_rules;
+use compare::sheet;
+use compare::value::{self, Value};
 use text_at::{has_no_text, no_text_at};
 
 #[path = "common/text_at.rs"]
@@ -65,6 +68,18 @@ enum Flaw {
     ListsTakeAnyText,
     SheetOfNoText,
     WrittenBeforeText,
+    UnionsWritten,
+    EmptyUnionsWritten,
+    AbsentUnionsRefused,
+    UnionsRefusedUnder32,
+    UnionsLast,
+    ClearsNothing,
+    ClearsAllInPlace,
+    ClearsFirstTable,
+    ClearsWithoutRoom,
+    ClearsUnlawful,
+    ClearedByteAfter,
+    ClearedOnRefusal,
 }
 
 struct Flawed(Flaw);
@@ -294,9 +309,90 @@ impl Calls for Flawed {
     }
 }
 
+/// What a writer does that is wrong about unions in place, where that differs.
+fn flawed_unions(flaw: Flaw, schema: &Packed, sheet: &[u8], room: usize) -> Option<(u32, Vec<u8>)> {
+    let parsed = schema_rules::parse(schema)?;
+    let value = sheet::decode(&parsed, sheet)?;
+    let stored = || reference::write_stored(schema.coding, &schema.bytes, sheet, room);
+    let held = value::has_union_in_place(&parsed, &value);
+    match flaw {
+        Flaw::UnionsWritten => Some(stored()),
+        Flaw::EmptyUnionsWritten if held && !holds_much(&parsed, &value) => Some(stored()),
+        Flaw::AbsentUnionsRefused if parsed.cleared() != parsed => Some((12, Vec::new())),
+        Flaw::UnionsRefusedUnder32 if held => Some((12, Vec::new())),
+        Flaw::UnionsLast if held => match stored() {
+            (0, _) => Some((12, Vec::new())),
+            refused => Some(refused),
+        },
+        _ => None,
+    }
+}
+
+/// Whether a union in place holds more than an empty object.
+fn holds_much(schema: &Schema, value: &Value) -> bool {
+    let (mut much, root) = (false, Record::plain(TABLE, schema.root));
+    value::visit(
+        schema,
+        &root,
+        &mut value.clone(),
+        &mut |_, record, entry| {
+            if let (true, Value::Union(_, object)) = (record.in_place, entry) {
+                let empty = match object.as_ref() {
+                    Value::Blob(bytes) => bytes.is_empty(),
+                    Value::List(parts) => parts.is_empty(),
+                    _ => false,
+                };
+                much |= !empty;
+            }
+        },
+    );
+    much
+}
+
+/// A schema cleared wrongly.
+fn flawed_cleared(flaw: Flaw, schema: &[u8]) -> Option<Vec<u8>> {
+    let mut parsed = schema_rules::parse(&Packed::new(Coding::Bits48, schema))?;
+    let cleared = parsed.cleared();
+    match flaw {
+        Flaw::ClearsNothing => {}
+        Flaw::ClearsAllInPlace => {
+            let tables = parsed.tables.iter_mut();
+            for member in tables.flat_map(|table| &mut table.members) {
+                member.in_place = false;
+            }
+        }
+        Flaw::ClearsFirstTable => parsed.tables[0] = cleared.tables[0].clone(),
+        _ => return None,
+    }
+    Some(parsed.pack().bytes)
+}
+
 impl Writes for Flawed {
+    fn clear(&self, schema: &[u8], cleared: &mut [u8]) -> [u64; 2] {
+        let answer = SecondCalls.clear(schema, cleared);
+        if let ([0, length], Some(wrong)) = (answer, flawed_cleared(self.0, schema)) {
+            cleared[..length as usize].copy_from_slice(&wrong);
+        }
+        let [number, length] = answer;
+        match self.0 {
+            Flaw::ClearsWithoutRoom if number == 14 => return [0, schema.len() as u64],
+            Flaw::ClearsUnlawful if number == 1 && schema.len() <= cleared.len() => {
+                cleared[..schema.len()].copy_from_slice(schema);
+                return [0, schema.len() as u64];
+            }
+            Flaw::ClearedByteAfter if number == 0 => change(cleared, length as usize),
+            Flaw::ClearedOnRefusal if number != 0 => change(cleared, 0),
+            _ => {}
+        }
+        answer
+    }
+
     fn write(&self, schema: &Packed, sheet: &[u8], message: &mut [u8]) -> [u64; 2] {
         let schema = &self.taken(schema);
+        if let Some((number, wrong)) = flawed_unions(self.0, schema, sheet, message.len()) {
+            message[..wrong.len()].copy_from_slice(&wrong);
+            return [number.into(), wrong.len() as u64];
+        }
         if self.0 == Flaw::WritesNothing {
             let mut scratch = vec![0; message.len()];
             return SecondCalls.write(schema, sheet, &mut scratch);
@@ -402,6 +498,25 @@ const IN_TEXTS: [Flaw; 9] = [
     Flaw::WrittenBeforeText,
 ];
 
+/// What the side by side of writes must catch about unions in place under 48 bits.
+const IN_UNIONS: [Flaw; 4] = [
+    Flaw::UnionsWritten,
+    Flaw::EmptyUnionsWritten,
+    Flaw::AbsentUnionsRefused,
+    Flaw::UnionsLast,
+];
+
+/// What the side by side of clearing must catch, and of moving over where `true`.
+const IN_CLEARS: [(Flaw, bool); 7] = [
+    (Flaw::ClearsNothing, true),
+    (Flaw::ClearsAllInPlace, true),
+    (Flaw::ClearsFirstTable, true),
+    (Flaw::ClearsWithoutRoom, false),
+    (Flaw::ClearsUnlawful, false),
+    (Flaw::ClearedByteAfter, false),
+    (Flaw::ClearedOnRefusal, false),
+];
+
 /// What every side by side must catch.
 const IN_CODINGS: [Flaw; 3] = [
     Flaw::CodingIgnored,
@@ -476,6 +591,56 @@ fn reads_side_by_side_catch_flaws() {
         &[&IN_READS[..], &IN_VERDICTS].concat(),
         |flawed, coding| reads::run(flawed, &SecondCalls, coding, 9, CALLS).map(drop),
     );
+}
+
+/// A room too small comes before 12 in one of them, which shows where both do not fit.
+#[test]
+fn unions_in_place_side_by_side() {
+    let write = |flaw, coding| writes::run(&Flawed(flaw), &SecondCalls, coding, 9, CALLS);
+    for flaw in IN_UNIONS {
+        let outcome = write(flaw, Coding::Bits48);
+        assert!(outcome.is_err(), "writes miss {flaw:?}");
+        let outcome = moves::run(&Flawed(flaw), &SecondCalls, 9, CALLS / 10);
+        let shows = flaw != Flaw::AbsentUnionsRefused || outcome.is_err();
+        assert!(shows, "moves miss {flaw:?}");
+    }
+    let outcome = write(Flaw::UnionsRefusedUnder32, Coding::Bits32);
+    assert!(outcome.is_err(), "writes miss unions refused under 32 bits");
+}
+
+#[test]
+fn clearing_and_moving_side_by_side_catch_flaws() {
+    for (flaw, moved) in IN_CLEARS {
+        for coding in CODINGS {
+            let outcome = clears::run(&Flawed(flaw), &SecondCalls, coding, 9, CALLS);
+            assert!(outcome.is_err(), "clears miss {flaw:?} under {coding:?}");
+        }
+        let outcome = moves::run(&Flawed(flaw), &SecondCalls, 9, CALLS / 10);
+        assert_eq!(outcome.is_err(), moved, "moves and {flaw:?}");
+    }
+    for flaw in IN_READS.into_iter().chain(IN_WRITES) {
+        // What shows only where a message or a text is refused.
+        let hidden = [
+            Flaw::SheetOnRefusal,
+            Flaw::SheetLengthOnRefusal,
+            Flaw::SheetRoomOneMore,
+            Flaw::NoVisitsAt14,
+            Flaw::NoContentAt14,
+            Flaw::SheetOfNoText,
+            Flaw::SheetByteAfter,
+            Flaw::NotWritableFirst,
+            Flaw::WrittenBeforeText,
+        ];
+        if !hidden.contains(&flaw) {
+            let outcome = moves::run(&Flawed(flaw), &SecondCalls, 9, CALLS / 10);
+            assert!(outcome.is_err(), "moves miss {flaw:?}");
+        }
+    }
+    let sound = &Flawed(Flaw::None);
+    assert!(moves::run(sound, &SecondCalls, 9, CALLS / 10).is_ok());
+    for coding in CODINGS {
+        assert!(clears::run(sound, &SecondCalls, coding, 9, CALLS).is_ok());
+    }
 }
 
 #[test]

@@ -1,7 +1,7 @@
 //! The laws and the comparison must catch programs that are wrong: each
 //! program here is the second program with one fault.
 
-use compare::coding::CODINGS;
+use compare::coding::{Coding, CODINGS};
 use compare::counts::Counts;
 use compare::judging;
 use compare::laws::{self, Programs};
@@ -47,6 +47,9 @@ enum Flaw {
     FieldsTakeAnyText,
     SheetsOfNoTextUnlawful,
     TextWithItsZero,
+    UnionsWritten,
+    ClearsNothing,
+    ClearsWithoutRoom,
     NeverAppends,
     AlwaysAppends,
     NothingTakenAway,
@@ -147,10 +150,22 @@ impl Program for Flawed {
         }
     }
 
+    fn clear_unions(&self, schema: &[u8], room: usize) -> (u32, Vec<u8>) {
+        let (number, cleared) = Second.clear_unions(schema, room);
+        match (self.0, number) {
+            (Flaw::ClearsNothing, 0) => (0, schema.to_vec()),
+            (Flaw::ClearsWithoutRoom, 14) => Second.clear_unions(schema, schema.len()),
+            _ => (number, cleared),
+        }
+    }
+
     fn write(&self, schema: &Packed, sheet: &[u8], room: usize) -> (u32, Vec<u8>) {
         let (number, message) = Second.write(schema, sheet, room);
         match self.0 {
             Flaw::WritesNothing => (number, Vec::new()),
+            Flaw::UnionsWritten => {
+                reference::write_stored(schema.coding, &schema.bytes, sheet, room)
+            }
             Flaw::SheetsOfNoTextUnlawful if number == 12 && has_no_text(schema, sheet) => {
                 (11, Vec::new())
             }
@@ -268,6 +283,13 @@ const IN_OTHER_CALLS: [Flaw; 8] = [
     Flaw::SheetsOfNoTextUnlawful,
 ];
 
+/// What has no claim under 32 bits.
+const IN_UNIONS: [Flaw; 3] = [
+    Flaw::UnionsWritten,
+    Flaw::ClearsNothing,
+    Flaw::ClearsWithoutRoom,
+];
+
 const IN_RELATIONS: [Flaw; 3] = [
     Flaw::NeverAppends,
     Flaw::AlwaysAppends,
@@ -287,6 +309,19 @@ fn laws_catch_flawed_programs() {
             let caught = (0..3000).any(&mut fails);
             assert!(caught, "the laws miss {flaw:?} under {coding:?}");
         }
+    }
+}
+
+#[test]
+fn laws_and_comparison_catch_flaws_about_unions() {
+    for flaw in IN_UNIONS {
+        let (program, coding) = (Flawed(flaw), Coding::Bits48);
+        let programs = Programs::one(&program);
+        let mut counts = Counts::default();
+        let mut fails = |case| laws::run_case(&programs, coding, (9, case), &mut counts).is_err();
+        assert!((0..3000).any(&mut fails), "the laws miss {flaw:?}");
+        let outcome = side_by_side(&program, &Second, coding, 9, 300);
+        assert!(outcome.is_err(), "the comparison misses {flaw:?}");
     }
 }
 

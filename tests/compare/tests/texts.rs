@@ -51,7 +51,13 @@ fn shortfalls(coding: Coding, counts: &Counts) -> Vec<String> {
     };
     for way in Way::of(coding) {
         for (answer, least) in ANSWERS {
-            if way.in_list() || !answer.starts_with("list") {
+            let written = coding.is_older() || !way.by_union_in_place();
+            let possible = match answer.split(',').next() {
+                Some("list") => way.in_list(),
+                Some("write") => written || answer.ends_with("12"),
+                _ => true,
+            };
+            if possible {
                 need(format!("{way:?}: {answer}"), least);
             }
         }

@@ -17,6 +17,7 @@
 //!   choice of length 0 is an empty object, as document 01 has it.
 //! - "That is at the location table.offset+table.length+8": where the fixed
 //!   part ends, since the header has 8 bytes.
+//! - Of in-place unions request K12 says "The 32-bit coding keeps them."
 //!
 //! All else of document 01 is the same in both.
 
@@ -51,6 +52,13 @@ impl Coding {
     #[inline]
     pub fn header(self) -> usize {
         4 + self.offset()
+    }
+
+    /// "From now the writer refuses a present one under the 48-bit coding of
+    /// document 000"; "The 32-bit coding keeps them." Is an in-place union
+    /// still written?
+    pub fn writes_unions_in_place(self) -> bool {
+        self == Coding::Bits32
     }
 
     /// The bytes of a union: a U16 choice, and an offset or a length.

@@ -16,6 +16,7 @@
 //! - `sheet`: message to sheet;
 //! - `plan`: what a sheet is (lawful, writable) and how large its message is;
 //! - `write`: sheet to message;
+//! - `clear`: a schema without in-place unions, for stored messages to move to;
 //! - `field`: one field, and the list reader;
 //! - `append`: two schemas, and the sheets between them.
 
@@ -23,6 +24,7 @@
 
 mod append;
 mod bits;
+mod clear;
 mod coding;
 mod field;
 mod message;
@@ -34,12 +36,13 @@ mod walk;
 mod write;
 
 pub use append::{appends, with_added, without_appended};
+pub use clear::clear_unions;
 pub use field::{field, text, Answer, ListReader};
 pub use message::NO_MEMBER;
 pub use schema::Schema;
 pub use sheet::read;
 pub use walk::{judge, judge_parsed, Budget, Verdict};
-pub use write::write;
+pub use write::{write, write_stored};
 
 /// Is the schema lawful under this coding?
 pub fn lawful(coding: u32, schema: &[u8]) -> bool {

@@ -4,7 +4,7 @@
 
 use std::process::ExitCode;
 
-use reference::{appends, field, judge, read, with_added, without_appended, write};
+use reference::{appends, clear_unions, field, judge, read, with_added, without_appended, write};
 use reference::{Answer, Budget};
 
 const USAGE: &str = "\
@@ -12,12 +12,13 @@ usage: reference [--coding 32] COMMAND; without it the coding is 48
   reference judge SCHEMA MESSAGE VISITS CONTENT      prints number, place, member, visits, content
   reference read SCHEMA MESSAGE VISITS CONTENT OUT   the same, and on 0 the sheet to OUT
   reference write SCHEMA SHEET OUT                   prints number, and on 0 the message to OUT
+  reference clear SCHEMA OUT                         prints number, and on 0 the schema to OUT
   reference field SCHEMA MESSAGE N N N..             prints the answer at the path
   reference appends OLD NEW                          prints yes or no
   reference without OLD NEW SHEET OUT                the newer sheet without the appended members
   reference with OLD NEW SHEET OUT                   the older sheet with the added members
 SCHEMA, MESSAGE, SHEET, OLD, NEW and OUT are files; the others are numbers, VISITS and CONTENT
-the two allowances.";
+the two allowances. Clearing takes a schema of coding 48, whatever coding is said.";
 
 fn main() -> ExitCode {
     let arguments: Vec<String> = std::env::args().skip(1).collect();
@@ -63,6 +64,13 @@ fn command(coding: u32, words: &[&str]) -> Result<String, String> {
             let (number, message) = write(coding, &load(schema)?, &load(sheet)?, usize::MAX);
             if number == 0 {
                 save(out, &message)?;
+            }
+            Ok(number.to_string())
+        }
+        ["clear", schema, out] => {
+            let (number, cleared) = clear_unions(&load(schema)?, usize::MAX);
+            if number == 0 {
+                save(out, &cleared)?;
             }
             Ok(number.to_string())
         }

@@ -10,8 +10,11 @@ use crate::utf8;
 pub struct Plan<'a> {
     schema: &'a Schema,
     pub sheet: BitReader<'a>,
-    /// No entry so far is one that cannot be written.
+    /// No entry so far is one that cannot be written, present in-place unions
+    /// aside.
     pub writable: bool,
+    /// A union so far is present in place.
+    pub union_in_place: bool,
     /// The message's bytes so far.
     pub size: u64,
     /// For each object with a header, in the sheet's order: its bytes with
@@ -44,6 +47,7 @@ impl<'a> Plan<'a> {
             schema,
             sheet,
             writable: true,
+            union_in_place: false,
             size: 0,
             blocks: Vec::new(),
         }
@@ -209,6 +213,7 @@ impl<'a> Plan<'a> {
     /// A union's object, after its choice.
     pub fn case(&mut self, target: Target, in_place: bool, depth: u32) -> Option<u64> {
         if in_place {
+            self.union_in_place = true;
             return Some(self.content(target, depth + 1)?.bytes);
         }
         self.head(target, depth + 1)?;

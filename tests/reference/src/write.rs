@@ -3,26 +3,49 @@
 use crate::bits::BitReader;
 use crate::message::{header_size, magic, DIRECT_ID, DIRECT_SIZE};
 use crate::message::{MESSAGE_MAGIC, NO_ENUM, SIZE};
-use crate::plan::plan;
+use crate::plan::{plan, Plan};
 use crate::schema::{Kind, Member, Schema, Target};
 use crate::sheet::PRESENT;
 
 /// Writes a sheet as a message. Number 0, 1, 11, 12, 13 or 14; the message
 /// where it is 0. "Writing tries 1, 11, 12, 13, 14, each over the whole sheet".
 pub fn write(coding: u32, schema: &[u8], sheet: &[u8], room: usize) -> (u32, Vec<u8>) {
-    match try_write(coding, schema, sheet, room) {
+    written(try_write(coding, schema, sheet, room, |schema, plan| {
+        // "From now the writer refuses a present one ...; absent is still
+        // written." It is present whatever its content, an empty one too.
+        let kept = schema.coding.writes_unions_in_place();
+        plan.writable && (kept || !plan.union_in_place)
+    }))
+}
+
+/// A stored message: the sheet written by the rules as they were before
+/// in-place unions went (request K12). Its 12 is "for an older reason".
+pub fn write_stored(coding: u32, schema: &[u8], sheet: &[u8], room: usize) -> (u32, Vec<u8>) {
+    written(try_write(coding, schema, sheet, room, |_, plan| {
+        plan.writable
+    }))
+}
+
+fn written(outcome: Result<Vec<u8>, u32>) -> (u32, Vec<u8>) {
+    match outcome {
         Ok(message) => (0, message),
         Err(number) => (number, Vec::new()),
     }
 }
 
-fn try_write(coding: u32, schema: &[u8], sheet: &[u8], room: usize) -> Result<Vec<u8>, u32> {
+fn try_write(
+    coding: u32,
+    schema: &[u8],
+    sheet: &[u8],
+    room: usize,
+    writable: fn(&Schema, &Plan) -> bool,
+) -> Result<Vec<u8>, u32> {
     let schema = Schema::parse(coding, schema).ok_or(1u32)?;
     if sheet.len() > SIZE {
         return Err(11);
     }
     let plan = plan(&schema, sheet).ok_or(11u32)?;
-    if !plan.writable {
+    if !writable(&schema, &plan) {
         return Err(12);
     }
     if plan.size > SIZE as u64 {

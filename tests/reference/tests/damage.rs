@@ -4,8 +4,8 @@
 mod common;
 
 use common::*;
-use reference::{appends, field, lawful, with_added, without_appended, write};
-use reference::{Answer, ListReader};
+use reference::{appends, clear_unions, field, lawful, with_added, without_appended};
+use reference::{write, write_stored, Answer, ListReader};
 
 /// A small generator of random numbers.
 struct Random(u64);
@@ -62,7 +62,8 @@ fn rich() -> Parts {
     }
 }
 
-/// A writable sheet of that schema.
+/// A sheet of that schema that could be written while in-place unions were, and by
+/// the cleared schema still can.
 fn rich_sheet() -> Sheet {
     let sheet = Sheet::new().put(0b011, 3).put(0b010, 3);
     let sheet = sheet.here().put(0xFFFF_0001, 32).absent();
@@ -97,9 +98,21 @@ fn rich_sheet() -> Sheet {
 fn the_rich_sheet_comes_back() {
     let schema = rich().pack();
     let sheet = rich_sheet().done();
-    let (number, message) = write(48, &schema, &sheet, usize::MAX);
+    assert_eq!(write(48, &schema, &sheet, usize::MAX), (12, Vec::new()));
+    let (number, message) = write_stored(48, &schema, &sheet, usize::MAX);
     assert_eq!(number, 0);
     assert_eq!(read(48, &schema, &message, 99, usize::MAX).1, sheet);
+    // It is moved over: the header of what was in place is all that is added.
+    let cleared = cleared(&schema);
+    let (number, moved) = write(48, &cleared, &sheet, usize::MAX);
+    assert_eq!((number, moved.len()), (0, message.len() + 10));
+    assert_eq!(read(48, &cleared, &moved, 99, usize::MAX).1, sheet);
+}
+
+fn cleared(schema: &[u8]) -> Vec<u8> {
+    let (number, cleared) = clear_unions(schema, schema.len());
+    assert_eq!(number, 0);
+    cleared
 }
 
 /// What must hold of a message and a schema, whatever they are. Gives the
@@ -111,11 +124,18 @@ fn hold(schema: &[u8], message: &[u8], random: &mut Random) -> u32 {
     if verdict.number != 0 {
         assert_eq!((answer, sheet.len()), (verdict, 0));
     } else if answer.number == 0 {
-        // Its sheet is lawful; where it can be written it comes back.
-        let (number, written) = write(48, schema, &sheet, usize::MAX);
-        assert!(number == 0 || number == 12);
-        if number == 0 {
-            assert_eq!(read(48, schema, &written, 500, usize::MAX).1, sheet);
+        // Its sheet is lawful; where it can be written it comes back, and so it
+        // does where it could be and is moved over.
+        let cleared = cleared(schema);
+        let by = |schema: &[u8]| write(48, schema, &sheet, usize::MAX);
+        let (stored, _) = write_stored(48, schema, &sheet, usize::MAX);
+        let moved = by(&cleared);
+        assert!(moved.0 == stored && (stored == 0 || stored == 12));
+        for (schema, (number, written)) in [(schema, by(schema)), (&cleared, moved)] {
+            assert!(number == stored || number == 12);
+            if number == 0 {
+                assert_eq!(read(48, schema, &written, 500, usize::MAX).1, sheet);
+            }
         }
     }
     let path: Vec<u32> = (0..random.below(5))
@@ -135,7 +155,7 @@ fn hold(schema: &[u8], message: &[u8], random: &mut Random) -> u32 {
 #[test]
 fn damaged_messages() {
     let schema = rich().pack();
-    let message = write(48, &schema, &rich_sheet().done(), usize::MAX).1;
+    let message = write_stored(48, &schema, &rich_sheet().done(), usize::MAX).1;
     let mut random = Random(1);
     let mut numbers = [0; 17];
     for _ in 0..60_000 {
@@ -150,7 +170,7 @@ fn damaged_messages() {
 #[test]
 fn damaged_schemas() {
     let schema = rich().pack();
-    let message = write(48, &schema, &rich_sheet().done(), usize::MAX).1;
+    let message = write_stored(48, &schema, &rich_sheet().done(), usize::MAX).1;
     let mut random = Random(2);
     let mut kept = 0;
     for _ in 0..60_000 {
@@ -168,11 +188,15 @@ fn damaged_schemas() {
     assert!(kept > 6_000, "{kept}");
 }
 
+/// By the schema with its union by offset, which can be written.
 #[test]
 fn damaged_sheets() {
-    let schema = rich().pack();
+    let mut older = rich();
+    older.tables[0].1[10] = union(0);
+    let schema = older.pack();
+    assert_eq!(schema, cleared(&rich().pack()));
     let sheet = rich_sheet().done();
-    let mut newer = rich();
+    let mut newer = older;
     newer.tables[0].1.extend([BOOL, table(1)]);
     newer.tables[1].1.push(union(0));
     let newer = newer.pack();

@@ -5,7 +5,7 @@
 mod common;
 
 use common::*;
-use reference::{field, text, with_added, write};
+use reference::{field, text, with_added, write, write_stored};
 use reference::{Answer, Budget, ListReader, Verdict, NO_MEMBER};
 
 /// The first and the last character of each row of the grammar, and some around.
@@ -439,7 +439,14 @@ fn every_text_in_every_way() {
         let sheet = (way.sheet)(text_of).done();
         let (_, read) = read(way.coding, &way.schema(), &message, u32::MAX, 1000);
         assert_eq!(read, sheet);
-        assert_eq!(way.write(&sheet, 1000), (0, message));
+        // "the writer refuses a present one under the 48-bit coding".
+        let expected = match way.name {
+            "a union's in place" => (12, Vec::new()),
+            _ => (0, message.clone()),
+        };
+        assert_eq!(way.write(&sheet, 1000), expected);
+        let stored = write_stored(way.coding, &way.schema(), &sheet, 1000);
+        assert_eq!(stored, (0, message));
     }
 }
 
@@ -463,6 +470,8 @@ fn every_other_in_every_way() {
         let sheet = (way.sheet)(other).done();
         for room in [0, 1000] {
             assert_eq!(way.write(&sheet, room), (12, Vec::new()));
+            let stored = write_stored(way.coding, &way.schema(), &sheet, room);
+            assert_eq!(stored, (12, Vec::new()));
         }
     }
 }
@@ -547,7 +556,8 @@ fn empty_texts() {
         let visits = way.visits + way.after.0 - u32::from(!there);
         let verdict = way.judged(&message, visits, way.content + way.after.1);
         assert_eq!((verdict.number, verdict.visits), (0, visits));
-        let number = if there { 0 } else { 12 };
+        let written = there && way.name != "a union's in place";
+        let number = if written { 0 } else { 12 };
         assert_eq!(way.write(&(way.sheet)(&[]).done(), 1000).0, number);
     }
 }

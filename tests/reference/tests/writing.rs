@@ -3,7 +3,7 @@
 mod common;
 
 use common::*;
-use reference::{lawful, write};
+use reference::{lawful, write, write_stored};
 
 /// Writes a sheet, and reads the message back to the same sheet.
 fn written(schema: &[u8], sheet: &Sheet) -> Vec<u8> {
@@ -188,7 +188,23 @@ fn lists_of_every_element() {
     assert_eq!(written(&schema, &sheet), expected.bytes);
 }
 
-/// "A text keeps its zero byte unless it is absent": an empty one too.
+/// A stored message: refused by 12 now, whatever the room, and written before; it
+/// is still read to its sheet.
+fn stored(schema: &[u8], sheet: &Sheet) -> Vec<u8> {
+    for room in [0, usize::MAX] {
+        let refused = write(48, schema, &sheet.done(), room);
+        assert_eq!(refused, (12, Vec::new()));
+    }
+    let (number, message) = write_stored(48, schema, &sheet.done(), usize::MAX);
+    assert_eq!(number, 0);
+    let (verdict, back) = read(48, schema, &message, u32::MAX, usize::MAX);
+    assert_eq!((verdict.number, back), (0, sheet.done()));
+    message
+}
+
+/// "the writer refuses a present one under the 48-bit coding", an empty one too.
+/// Of those that are stored: "A text keeps its zero byte unless it is absent": an
+/// empty one too.
 #[test]
 fn in_place_unions() {
     let schema = with_members(&[in_place(union(0)), U8]);
@@ -198,16 +214,46 @@ fn in_place_unions() {
         let mut expected = Message::new(10);
         expected.table(ID, 9).choice(choice as u16, length);
         expected.raw(&[9]).raw(content);
-        assert_eq!(written(&schema, &sheet), expected.bytes);
+        assert_eq!(stored(&schema, &sheet), expected.bytes);
     }
     let sheet = Sheet::new().here().put(4, 16).here().put(9, 8);
     let mut expected = Message::new(10);
     expected.table(ID, 9).choice(4, 0).raw(&[9]);
-    assert_eq!(written(&schema, &sheet), expected.bytes);
+    assert_eq!(stored(&schema, &sheet), expected.bytes);
     let sheet = Sheet::new().here().put(1, 16).text("hey").here().put(9, 8);
     let mut expected = Message::new(10);
     expected.table(ID, 9).choice(1, 3).raw(&[9]).raw(b"hey\0");
+    assert_eq!(stored(&schema, &sheet), expected.bytes);
+}
+
+/// "absent is still written", and what is not lawful comes first.
+#[test]
+fn absent_in_place_unions() {
+    let schema = with_members(&[in_place(union(0)), U8]);
+    let sheet = Sheet::new().absent().here().put(9, 8);
+    let mut expected = Message::new(10);
+    expected.table(ID, 9).choice(0, 0).raw(&[9]);
     assert_eq!(written(&schema, &sheet), expected.bytes);
+    let known = |sheet: Sheet| sheet.here().put(4, 16);
+    assert_eq!(number(&schema, &known(Sheet::new()).put(3, 2)), 11);
+    // A table behind a list, and an enum later on that is not lawful.
+    let schema = Parts {
+        lists: vec![table(1)],
+        unions: vec![vec![table(1)]],
+        tables: vec![
+            (ID, vec![list(0), enumeration(4)]),
+            (1, vec![in_place(union(0))]),
+        ],
+        ..Parts::default()
+    }
+    .pack();
+    let list = |elements| Sheet::new().here().put(elements, 32);
+    let present = |sheet: Sheet| sheet.here().here().put(1, 16).absent();
+    assert_eq!(number(&schema, &list(1).here().absent().absent()), 0);
+    assert_eq!(number(&schema, &present(list(1)).absent()), 12);
+    let second = present(list(2).here().absent());
+    assert_eq!(number(&schema, &second.clone().absent()), 12);
+    assert_eq!(number(&schema, &second.here().put(4, 8)), 11);
 }
 
 #[test]
@@ -539,8 +585,15 @@ fn the_depth_of_a_sheet_by_every_way_down() {
         (in_place(union(0)), &choice),
     ] {
         let schema = schema(member, U8);
-        let (number, message) = write(48, &schema, &levels(&schema, level, 1, 0), usize::MAX);
+        let deepest = levels(&schema, level, 1, 0);
+        let (number, message) = write_stored(48, &schema, &deepest, usize::MAX);
         assert_eq!(number, 0);
+        let refused = (12, Vec::new());
+        let expected = match member == in_place(union(0)) {
+            true => refused,
+            false => (0, message.clone()),
+        };
+        assert_eq!(write(48, &schema, &deepest, usize::MAX), expected);
         assert_eq!(judge(48, &schema, &message, 32), verdict(0, 0, 32));
         let deeper = levels(&schema, level, 1, 1);
         assert_eq!(write(48, &schema, &deeper, usize::MAX), (11, Vec::new()));

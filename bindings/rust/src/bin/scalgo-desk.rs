@@ -11,9 +11,14 @@ usage: scalgo-desk [--coding 32] [--visits N] [--content N] COMMAND
   scalgo-desk list SCHEMA MESSAGE N N N..   prints what each element of the list is
   scalgo-desk read SCHEMA MESSAGE SHEET     prints the same with the length; writes SHEET
   scalgo-desk write SCHEMA SHEET MESSAGE    prints number, length; writes MESSAGE
+  scalgo-desk migrate SCHEMA MESSAGE NEW-SCHEMA NEW-MESSAGE
+                                            moves a stored message over to a schema without unions
+                                            in place; prints what read does where it refuses, else
+                                            what write does; writes NEW-SCHEMA and NEW-MESSAGE
 SCHEMA, MESSAGE and SHEET are files; a refusal writes none. The coding is 48 unless it is said, and
 100000 objects may be visited, with content of as many bytes as there are.
-A text that is not UTF-8 is refused by 16, and writing a sheet with one by 12.";
+A text that is not UTF-8 is refused by 16, and writing a sheet with one by 12. Under 48 bits writing
+a sheet in which a union in place is present is refused by 12; under 32 bits they stay.";
 
 /// What the words before the command say, or else 48 bits, 100,000 visits and all content.
 struct Asked {
@@ -73,6 +78,10 @@ fn command(asked: &Asked, words: &[&str]) -> Result<String, String> {
         }
         ["read", schema, message, sheet] => read(asked, &load(schema)?, &load(message)?, sheet),
         ["write", schema, sheet, message] => write(coding, &load(schema)?, &load(sheet)?, message),
+        ["migrate", schema, message, new_schema, new_message] => {
+            let (schema, message) = (load(schema)?, load(message)?);
+            migrate(asked, &schema, &message, [new_schema, new_message])
+        }
         _ => Err(USAGE.to_string()),
     }
 }
@@ -114,6 +123,58 @@ fn write(coding: Coding, schema: &[u8], sheet: &[u8], file: &str) -> Result<Stri
         save(file, &message[..answer.length])?;
     }
     Ok(format!("{} {}\n", answer.number, answer.length))
+}
+
+/// Moves a stored message over: its sheet is read by its schema and written with that schema cleared.
+fn migrate(
+    asked: &Asked,
+    schema: &[u8],
+    message: &[u8],
+    [new_schema, new_message]: [&str; 2],
+) -> Result<String, String> {
+    if asked.coding != Coding::Bits48 {
+        let why = "migrate: messages of 32 bits keep their unions in place and are not moved over";
+        return Err(why.to_string());
+    }
+    let mut sheet = vec![0; SIZE];
+    let read = scalgo::read(Coding::Bits48, schema, message, asked.budget, &mut sheet);
+    if !read.verdict.accepted() {
+        return Ok(format!("{}\n", verdict_line(read.verdict, " 0")));
+    }
+    let sheet = &sheet[..read.length];
+    let cleared = cleared(schema)?;
+    let mut moved = vec![0; SIZE];
+    let answer = scalgo::write(Coding::Bits48, &cleared, sheet, &mut moved);
+    if answer.number == 0 {
+        let moved = &moved[..answer.length];
+        same_sheet(&cleared, moved, sheet)?;
+        save(new_schema, &cleared)?;
+        save(new_message, moved)?;
+    }
+    Ok(format!("{} {}\n", answer.number, answer.length))
+}
+
+/// The schema of a message that was accepted, cleared.
+fn cleared(schema: &[u8]) -> Result<Vec<u8>, String> {
+    let mut cleared = vec![0; schema.len()];
+    let answer = scalgo::clear_unions(schema, &mut cleared);
+    match (answer.number, answer.length == schema.len()) {
+        (0, true) => Ok(cleared),
+        (number, _) => Err(format!("migrate: the schema was not cleared: {number}")),
+    }
+}
+
+/// Makes sure that a message that was written has the sheet it was written from.
+fn same_sheet(schema: &[u8], message: &[u8], sheet: &[u8]) -> Result<(), String> {
+    let mut back = vec![0; SIZE];
+    let answer = scalgo::read(Coding::Bits48, schema, message, Budget::LARGEST, &mut back);
+    match answer.verdict.accepted() && back[..answer.length] == *sheet {
+        true => Ok(()),
+        false => Err(format!(
+            "migrate: the new message has another sheet: {}",
+            verdict_line(answer.verdict, "")
+        )),
+    }
 }
 
 /// A verdict's numbers, what is said behind them, and the member.

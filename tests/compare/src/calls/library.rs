@@ -80,6 +80,14 @@ extern "C" {
         room: usize,
         length: *mut u64,
     ) -> u32;
+
+    fn scalgo_clear_unions(
+        schema: *const u8,
+        schema_len: usize,
+        cleared: *mut u8,
+        room: usize,
+        length: *mut u64,
+    ) -> u32;
 }
 
 /// What a number holds before a call that must store one.
@@ -237,6 +245,21 @@ impl Calls for LibraryCalls {
 }
 
 impl Writes for LibraryCalls {
+    fn clear(&self, schema: &[u8], cleared: &mut [u8]) -> [u64; 2] {
+        let mut length = UNSET;
+        // SAFETY: as in `read`, with the cleared schema lent.
+        let number = unsafe {
+            scalgo_clear_unions(
+                schema.as_ptr(),
+                schema.len(),
+                cleared.as_mut_ptr(),
+                cleared.len(),
+                &mut length,
+            )
+        };
+        [u64::from(number), length]
+    }
+
     fn write(&self, schema: &Packed, sheet: &[u8], message: &mut [u8]) -> [u64; 2] {
         let mut length = UNSET;
         // SAFETY: as in `read`, with the message lent.

@@ -1,9 +1,11 @@
 //! The library's functions as a C program sees them: every number that a call
 //! stores, and every buffer before and after it; run side by side.
 
+pub mod clears;
 pub mod fields;
 pub mod library;
 pub mod lists;
+pub mod moves;
 pub mod reads;
 pub mod second;
 pub mod texts;
@@ -44,8 +46,10 @@ pub trait Calls: Judge {
     fn read(&self, schema: &Packed, message: &[u8], budget: Budget, sheet: &mut [u8]) -> Read;
 }
 
-/// The call that writes, and those that read what was written.
+/// The calls that write, and those that read what was written.
 pub trait Writes: Calls {
+    /// A schema to the one in which the in-place flag of unions is cleared: number and length.
+    fn clear(&self, schema: &[u8], cleared: &mut [u8]) -> [u64; 2];
     /// A sheet to its message: number and length.
     fn write(&self, schema: &Packed, sheet: &[u8], message: &mut [u8]) -> [u64; 2];
 }

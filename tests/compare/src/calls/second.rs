@@ -103,6 +103,12 @@ impl Calls for SecondCalls {
 }
 
 impl Writes for SecondCalls {
+    fn clear(&self, schema: &[u8], cleared: &mut [u8]) -> [u64; 2] {
+        let (number, written) = reference::clear_unions(schema, cleared.len());
+        cleared[..written.len()].copy_from_slice(&written);
+        [u64::from(number), written.len() as u64]
+    }
+
     fn write(&self, schema: &Packed, sheet: &[u8], message: &mut [u8]) -> [u64; 2] {
         let (number, written) =
             reference::write(schema.coding, &schema.bytes, sheet, message.len());

@@ -227,8 +227,8 @@ fn reads(run: &mut Run, rng: &mut Rng, held: &HeldText) -> Result<(), String> {
     same(run, held, "read", verdict.number.into(), answers)
 }
 
-/// Writing the sheet with just enough room, and where it is no text with none too:
-/// the message, or 12 and an output as it was.
+/// Writing the sheet with just enough room, and where it is no text, or is held by a union in
+/// place, with none too: the message, or 12 and an output as it was.
 fn writes(run: &mut Run, rng: &mut Rng, held: &HeldText) -> Result<(), String> {
     let fill = rng.bits() as u8;
     let write = |program: &dyn Writes, room| {
@@ -238,7 +238,7 @@ fn writes(run: &mut Run, rng: &mut Rng, held: &HeldText) -> Result<(), String> {
     };
     let length = held.message.len();
     let mut expected = Output::new(length, fill);
-    if held.is_text {
+    if held.is_text && held.is_written {
         expected.lent().copy_from_slice(&held.message);
         let expected = ([0, length as u64], expected.whole().to_vec());
         let answers = [

@@ -145,6 +145,13 @@ fn on_subject(run: &mut Run, rng: &mut Rng, subject: &Subject) -> Result<(), Str
         let name = format!("sheets with direct elements, answer {number}");
         run.counts.note(&name);
     }
+    if number == 12 {
+        let (before, _) = reference::write_stored(schema.coding, &schema.bytes, &subject.sheet, 0);
+        run.counts.note(match before {
+            12 => "sheets refused for an older reason",
+            _ => "sheets refused for a union in place alone",
+        });
+    }
     let length = message.len();
     if number != 0 {
         let room = rng.below(200);

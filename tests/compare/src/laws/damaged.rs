@@ -8,7 +8,7 @@ use crate::paths;
 use crate::schema::{Schema, SIZE_LIMIT};
 use crate::schema_gen;
 use crate::sheet;
-use crate::value::{objects, texts_are_text, writable, Value};
+use crate::value::{has_union_in_place, objects, texts_are_text, writable, Value};
 use crate::value_gen::{self, Purpose};
 
 /// One message with several damages of it.
@@ -97,6 +97,8 @@ fn accepted_one(
     if writable(schema, &value) {
         let message = canonical::message(schema, &value);
         round_trip::writing(context, packed, given, &message, data)?;
+    } else if has_union_in_place(schema, &value) && !context.coding.is_older() {
+        moving::moved(context, schema, &value, given)?;
     }
     Ok(())
 }

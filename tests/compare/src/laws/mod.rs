@@ -5,6 +5,7 @@ mod census;
 mod damaged;
 mod fields;
 mod large;
+mod moving;
 mod round_trip;
 mod schemas;
 mod sheets;
@@ -183,12 +184,13 @@ pub fn fail(law: &str, detail: &str, data: Data) -> Checked {
 type Law = fn(&mut Context) -> Checked;
 
 /// The laws, each with its share of a hundred cases.
-const LAWS: [(usize, &str, Law); 7] = [
-    (22, "cases: round trip", round_trip::check),
+const LAWS: [(usize, &str, Law); 8] = [
+    (17, "cases: round trip", round_trip::check),
     (24, "cases: wild messages", wild::check),
     (18, "cases: damaged messages", damaged::check),
     (14, "cases: sheets", sheets::check),
     (15, "cases: appended schemas", append::check),
+    (5, "cases: messages moved over", moving::check),
     (5, "cases: schemas", schemas::check),
     (2, "cases: message starts", starts::check),
 ];

@@ -23,7 +23,9 @@ pub fn check(context: &mut Context) -> Checked {
     let packed = schema.pack();
     unlawful(context, &schema, &packed, &value)?;
     if purpose == Purpose::Writable {
-        unwritable(context, &schema, &packed, &value)?;
+        for _ in 0..2 {
+            unwritable(context, &schema, &packed, &value)?;
+        }
     }
     let sheet = sheet::encode(&schema, &value);
     for _ in 0..3 {

@@ -1,0 +1,2 @@
+-- What the contracts of `schema_cleared` are said in.
+pub mod Rest
