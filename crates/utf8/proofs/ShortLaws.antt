@@ -76,35 +76,22 @@ or-none (suc k) x y e =
 or-none-behind : (k x y : ℕ) → bitAnd (bitOr x y) (highBits k) ≡ 0 → bitAnd y (highBits k) ≡ 0
 or-none-behind k x y e = or-none k y x (ap (λ (z : ℕ). bitAnd z (highBits k)) (or-comm y x) ∙ e)
 
--- the same of four words from which lower bits were shifted out
-module _ (w₀ w₁ w₂ w₃ half : ℕ) (e : bitAnd (bitOr (bitOr w₀ w₁) (bitOr w₂ w₃) / 2 ^ half / 2 ^ half) (highBits 8) ≡ 0) where
+-- the same of two words from which lower bits were shifted out
+module _ (v w half : ℕ) (e : bitAnd (bitOr v w / 2 ^ half / 2 ^ half) (highBits 8) ≡ 0) where
   abbrev shifted : ℕ → ℕ
   shifted x = x / 2 ^ half / 2 ^ half
 
-  or-shifts : (x y : ℕ) → shifted (bitOr x y) ≡ bitOr (shifted x) (shifted y)
-  or-shifts x y = ap (λ (k : ℕ). k / 2 ^ half) (or-shr x y half) ∙ or-shr (x / 2 ^ half) (y / 2 ^ half) half
+  both-shifted : bitAnd (bitOr (shifted v) (shifted w)) (highBits 8) ≡ 0
+  both-shifted =
+      let s : shifted (bitOr v w) ≡ bitOr (shifted v) (shifted w) =
+      ap (λ (k : ℕ). k / 2 ^ half) (or-shr v w half) ∙ or-shr (v / 2 ^ half) (w / 2 ^ half) half in
+      ap (λ (k : ℕ). bitAnd k (highBits 8)) (sym s) ∙ e
 
-  left : bitAnd (bitOr (shifted w₀) (shifted w₁)) (highBits 8) ≡ 0
-  left =
-      ap (λ (k : ℕ). bitAnd k (highBits 8)) (sym (or-shifts w₀ w₁))
-      ∙ or-none 8 (shifted (bitOr w₀ w₁)) (shifted (bitOr w₂ w₃)) (ap (λ (k : ℕ). bitAnd k (highBits 8)) (sym (or-shifts (bitOr w₀ w₁) (bitOr w₂ w₃))) ∙ e)
+  first-none : bitAnd (shifted v) (highBits 8) ≡ 0
+  first-none = or-none 8 (shifted v) (shifted w) both-shifted
 
-  right : bitAnd (bitOr (shifted w₂) (shifted w₃)) (highBits 8) ≡ 0
-  right =
-      ap (λ (k : ℕ). bitAnd k (highBits 8)) (sym (or-shifts w₂ w₃))
-      ∙ or-none-behind 8 (shifted (bitOr w₀ w₁)) (shifted (bitOr w₂ w₃)) (ap (λ (k : ℕ). bitAnd k (highBits 8)) (sym (or-shifts (bitOr w₀ w₁) (bitOr w₂ w₃))) ∙ e)
-
-  first-none : bitAnd (shifted w₀) (highBits 8) ≡ 0
-  first-none = or-none 8 (shifted w₀) (shifted w₁) left
-
-  second-none : bitAnd (shifted w₁) (highBits 8) ≡ 0
-  second-none = or-none-behind 8 (shifted w₀) (shifted w₁) left
-
-  third-none : bitAnd (shifted w₂) (highBits 8) ≡ 0
-  third-none = or-none 8 (shifted w₂) (shifted w₃) right
-
-  last-none : bitAnd (shifted w₃) (highBits 8) ≡ 0
-  last-none = or-none-behind 8 (shifted w₂) (shifted w₃) right
+  last-none : bitAnd (shifted w) (highBits 8) ≡ 0
+  last-none = or-none-behind 8 (shifted v) (shifted w) both-shifted
 
 -- ---- words of a message
 module _ (m : List ℕ) (bytes : (i : ℕ) → getD m i 0 < 256) where
@@ -146,86 +133,114 @@ module _ (m : List ℕ) (bytes : (i : ℕ) → getD m i 0 < 256) where
   upper-ascii start n x half h g f p e =
       record { each = low-bytes 8 n start h (ap (λ (k : ℕ). bitAnd k (highBits 8)) (sym (upper start n x half h g f p)) ∙ e) }
 
+  word-ascii : (at x : ℕ) → Number m at 8 x → bitAnd x (highBits 8) ≡ 0 → Ascii m at 8
+  word-ascii at x p e = record { each = low-bytes 8 8 at (omega arith) (ap (λ (k : ℕ). bitAnd k (highBits 8)) (sym (p .is)) ∙ e) }
+
   -- eight bytes, from which nothing was shifted out
   eight-ascii : (at x half : ℕ) → half ≡ 0 → Number m at 8 x → bitAnd (x / 2 ^ half / 2 ^ half) (highBits 8) ≡ 0 → Ascii m at 8
   eight-ascii at x half z p e =
       let i : at ≡ at + 8 - 8 = omega arith in
       upper-ascii at 8 x half (omega arith) (omega arith) z (subst (λ (k : ℕ). Number m k 8 x) i p) e
 
--- ---- a text of eight bytes or more by its eights
+-- ---- a text of eight bytes or more by some of its eights
 module _ (m : List ℕ) where
   in-eight : (at i : ℕ) → Ascii m at 8 → at ≤ i → i < at + 8 → getD m i 0 < 128
   in-eight at i a l u =
       let e : at + (i - at) ≡ i = omega arith in
       subst (λ (k : ℕ). getD m k 0 < 128) e (a .each (i - at) (omega arith))
 
-  before-last : (at last i : ℕ) → Ascii m (lesser at last) 8 → at ≤ i → i < at + 8 → i < last → getD m i 0 < 128
-  unfolding lesser
-  before-last at last i a l u h =
-      let e : pick (ltb at last) at last ≡ at = simp (lt-ltb at last (omega arith)) in
-      in-eight at i (subst (λ (k : ℕ). Ascii m k 8) e a) l u
+  -- the first eight and the last eight
+  module _ (start n : ℕ) (g : 8 ≤ n) (a : Ascii m start 8) (b : Ascii m (start + n - 8) 8) where
+    of-two : n ≤ 16 → (t : ℕ) → t < n → (u : Bool) → ltb t 8 ≡ u → getD m (start + t) 0 < 128
+    of-two h t l true eu = let z : t < 8 = ltb-true t 8 eu in in-eight start (start + t) a (omega arith) (omega arith)
+    of-two h t l false eu =
+        let z : 8 ≤ t = ltb-false t 8 eu in
+        in-eight (start + n - 8) (start + t) b (omega arith) (omega arith)
 
-  -- the eights from the start on, none behind the last
-  module _ (start n last : ℕ) (f : last ≡ start + n - 8) (g : 8 ≤ n) (h : n ≤ 32)
-      (a : Ascii m (lesser start last) 8) (b : Ascii m (lesser (start + 8) last) 8) (c : Ascii m (lesser (start + 16) last) 8) (d : Ascii m last 8) where
-    covers : (t : ℕ) → t < n → (u v w : Bool) → ltb (start + t) last ≡ u → ltb t 8 ≡ v → ltb t 16 ≡ w → getD m (start + t) 0 < 128
-    covers t l false v w eu ev ew = in-eight last (start + t) d (ltb-false (start + t) last eu) (omega arith)
-    covers t l true true w eu ev ew =
-        let z : t < 8 = ltb-true t 8 ev in
-        before-last start last (start + t) a (omega arith) (omega arith) (ltb-true (start + t) last eu)
-    covers t l true false true eu ev ew =
-        let y : 8 ≤ t = ltb-false t 8 ev in
-        let z : t < 16 = ltb-true t 16 ew in
-        before-last (start + 8) last (start + t) b (omega arith) (omega arith) (ltb-true (start + t) last eu)
-    covers t l true false false eu ev ew =
-        let y : start + t < last = ltb-true (start + t) last eu in
-        let z : 16 ≤ t = ltb-false t 16 ew in
-        before-last (start + 16) last (start + t) c (omega arith) (omega arith) y
+    two-cover : n ≤ 16 → Ascii m start n
+    two-cover h = record { each = λ t l. of-two h t l (ltb t 8) refl }
 
-    covered : Ascii m start n
-    covered = record { each = λ t l. covers t l (ltb (start + t) last) (ltb t 8) (ltb t 16) refl refl refl }
+  -- the first sixteen and the last sixteen
+  module _ (start n : ℕ) (g : 16 ≤ n) (h : n ≤ 32)
+      (a : Ascii m start 8) (b : Ascii m (start + 8) 8) (c : Ascii m (start + n - 16) 8) (d : Ascii m (start + n - 8) 8) where
+    of-four : (t : ℕ) → t < n → (u v w : Bool) → ltb t 8 ≡ u → ltb t 16 ≡ v → ltb t (n - 8) ≡ w → getD m (start + t) 0 < 128
+    of-four t l true v w eu ev ew = let z : t < 8 = ltb-true t 8 eu in in-eight start (start + t) a (omega arith) (omega arith)
+    of-four t l false true w eu ev ew =
+        let y : 8 ≤ t = ltb-false t 8 eu in
+        let z : t < 16 = ltb-true t 16 ev in
+        in-eight (start + 8) (start + t) b (omega arith) (omega arith)
+    of-four t l false false true eu ev ew =
+        let y : 16 ≤ t = ltb-false t 16 ev in
+        let z : t < n - 8 = ltb-true t (n - 8) ew in
+        in-eight (start + n - 16) (start + t) c (omega arith) (omega arith)
+    of-four t l false false false eu ev ew =
+        let z : n - 8 ≤ t = ltb-false t (n - 8) ew in
+        in-eight (start + n - 8) (start + t) d (omega arith) (omega arith)
 
--- ---- the four words together
-module _ (m : List ℕ) (bytes : (i : ℕ) → getD m i 0 < 256) (start n last half w₀ w₁ w₂ w₃ : ℕ) (few : n ≤ 32) (room : 8 ≤ start + n)
-    (f : last ≡ start + n - 8) (eh : half ≡ 32 - 4 * lesser n 8)
-    (n₀ : Number m (lesser start last) 8 w₀) (n₁ : Number m (lesser (start + 8) last) 8 w₁) (n₂ : Number m (lesser (start + 16) last) 8 w₂)
-    (n₃ : Number m (lesser last last) 8 w₃) where
-  last-is : Number m last 8 w₃
-  unfolding lesser
-  last-is =
-      let e : pick (ltb last last) last last ≡ last = by (ltb last last) in
-      subst (λ (k : ℕ). Number m k 8 w₃) e n₃
-    where
-      by : (t : Bool) → pick t last last ≡ last
-      by true = refl
-      by false = refl
+    four-cover : Ascii m start n
+    four-cover = record { each = λ t l. of-four t l (ltb t 8) (ltb t 16) (ltb t (n - 8)) refl refl refl }
 
-  module _ (e : bitAnd (bitOr (bitOr w₀ w₁) (bitOr w₂ w₃) / 2 ^ half / 2 ^ half) (highBits 8) ≡ 0) where
+-- ---- two words together
+module _ (m : List ℕ) (bytes : (i : ℕ) → getD m i 0 < 256) (start n last half v w : ℕ) (few : n ≤ 16) (room : 8 ≤ start + n)
+    (f : last ≡ start + n - 8) (eh : half ≡ 32 - 4 * lesser n 8) (nv : Number m (lesser start last) 8 v) (nw : Number m last 8 w) where
+  module _ (e : bitAnd (bitOr v w / 2 ^ half / 2 ^ half) (highBits 8) ≡ 0) where
+    ends : Number m (start + n - 8) 8 w
+    ends = subst (λ (k : ℕ). Number m k 8 w) f nw
+
     fewer : n < 8 → Ascii m start n
     unfolding lesser
     fewer l =
         let i : pick (ltb n 8) n 8 ≡ n = simp (lt-ltb n 8 l) in
         let z : half ≡ 32 - 4 * n = eh ∙ ap (λ (k : ℕ). 32 - 4 * k) i in
-        upper-ascii m bytes start n w₃ half (omega arith) room z (subst (λ (k : ℕ). Number m k 8 w₃) f last-is) (last-none w₀ w₁ w₂ w₃ half e)
+        upper-ascii m bytes start n w half (omega arith) room z ends (last-none v w half e)
 
     eight-or-more : 8 ≤ n → Ascii m start n
     unfolding lesser
     eight-or-more l =
         let i : pick (ltb n 8) n 8 ≡ 8 = simp (le-ltb n 8 l) in
         let z : half ≡ 32 - 4 * 8 = eh ∙ ap (λ (k : ℕ). 32 - 4 * k) i in
-        covered m start n last f l few
-        (eight-ascii m bytes (lesser start last) w₀ half z n₀ (first-none w₀ w₁ w₂ w₃ half e))
-        (eight-ascii m bytes (lesser (start + 8) last) w₁ half z n₁ (second-none w₀ w₁ w₂ w₃ half e))
-        (eight-ascii m bytes (lesser (start + 16) last) w₂ half z n₂ (third-none w₀ w₁ w₂ w₃ half e))
-        (eight-ascii m bytes last w₃ half z last-is (last-none w₀ w₁ w₂ w₃ half e))
+        let s : lesser start last ≡ start = first-is in
+        two-cover m start n l
+        (eight-ascii m bytes start v half z (subst (λ (k : ℕ). Number m k 8 v) s nv) (first-none v w half e))
+        (eight-ascii m bytes (start + n - 8) w half z ends (last-none v w half e))
+        few
+      where
+        by : (t : Bool) → ltb start last ≡ t → pick t start last ≡ start
+        by true q = refl
+        by false q = let k : last ≤ start = ltb-false start last q in omega arith
+
+        first-is : pick (ltb start last) start last ≡ start
+        first-is = by (ltb start last) refl
 
     by-length : (t : Bool) → ltb n 8 ≡ t → Ascii m start n
     by-length true l = fewer (ltb-true n 8 l)
     by-length false l = eight-or-more (ltb-false n 8 l)
 
-  pub words-ascii : eqb (bitAnd (bitOr (bitOr w₀ w₁) (bitOr w₂ w₃) / 2 ^ half / 2 ^ half) 0x8080_8080_8080_8080) 0 ≡ true → Ascii m start n
+  pub two-ascii : eqb (bitAnd (bitOr v w / 2 ^ half / 2 ^ half) 0x8080_8080_8080_8080) 0 ≡ true → Ascii m start n
   unfolding highBits
-  words-ascii e = by-length (eqb-true _ _ e) (ltb n 8) refl
+  two-ascii e = by-length (eqb-true _ _ e) (ltb n 8) refl
+
+-- ---- four words together
+module _ (m : List ℕ) (bytes : (i : ℕ) → getD m i 0 < 256) (start n end v₀ v₁ w₀ w₁ : ℕ) (many : 16 ≤ n) (few : n ≤ 32) (f : end ≡ start + n)
+    (n₀ : Number m start 8 v₀) (n₁ : Number m (start + 8) 8 v₁) (n₂ : Number m (end - 16) 8 w₀) (n₃ : Number m (end - 8) 8 w₁) where
+  module _ (e : bitAnd (bitOr (bitOr v₀ v₁) (bitOr w₀ w₁)) (highBits 8) ≡ 0) where
+    v-none : bitAnd (bitOr v₀ v₁) (highBits 8) ≡ 0
+    v-none = or-none 8 (bitOr v₀ v₁) (bitOr w₀ w₁) e
+
+    w-none : bitAnd (bitOr w₀ w₁) (highBits 8) ≡ 0
+    w-none = or-none-behind 8 (bitOr v₀ v₁) (bitOr w₀ w₁) e
+
+    by-four : Ascii m start n
+    by-four =
+        four-cover m start n many few
+        (word-ascii m bytes start v₀ n₀ (or-none 8 v₀ v₁ v-none))
+        (word-ascii m bytes (start + 8) v₁ n₁ (or-none-behind 8 v₀ v₁ v-none))
+        (word-ascii m bytes (start + n - 16) w₀ (subst (λ (k : ℕ). Number m (k - 16) 8 w₀) f n₂) (or-none 8 w₀ w₁ w-none))
+        (word-ascii m bytes (start + n - 8) w₁ (subst (λ (k : ℕ). Number m (k - 8) 8 w₁) f n₃) (or-none-behind 8 w₀ w₁ w-none))
+
+  pub four-ascii : eqb (bitAnd (bitOr (bitOr v₀ v₁) (bitOr w₀ w₁)) 0x8080_8080_8080_8080) 0 ≡ true → Ascii m start n
+  unfolding highBits
+  four-ascii e = by-four (eqb-true _ _ e)
 
 -- what is not told claims nothing
 pub not-told : (P : Type 0) → _≡_ {A = Bool} false true → P

@@ -396,9 +396,6 @@ fn is_text_within(m: &[u8], start: usize, n: usize) -> bool
 // The high bits of eight bytes, which ASCII has not.
 const HIGH: u64 = 0x8080_8080_8080_8080;
 
-// The most bytes of a short text.
-const SHORT: usize = 32;
-
 fn least(a: usize, b: usize) -> usize
     ensures { λ r. ⌜ (r ≡ lesser a b) × (r ≤ a) × (r ≤ b) ⌝ }
 {
@@ -413,18 +410,26 @@ fn word_at(m: &[u8], at: usize, last: usize) -> u64
     wire::u64_in(m, least(at, last))
 }
 
-// Whether the bytes of a short text are ASCII, without a branch: its eights from the start on, none of them behind the last eight. Of
-// less than eight bytes these are the upper ones of the eight that end with them; the others are shifted out in two halves, since
-// no shift is by 64 bits.
-fn are_ascii(m: &[u8], start: usize, n: usize) -> bool
-    requires { ⌜ (n ≤ 32) × (8 ≤ start + n) × (start + n ≤ length (now m)) ⌝ }
+// Whether the n bytes from start, 16 at most, are ASCII, without a branch: the first eight and the last eight. Of less than eight bytes
+// both are the eight that end with them, and the bytes before them are shifted out in two halves, since no shift is by 64 bits.
+fn two_ascii(m: &[u8], start: usize, n: usize) -> bool
+    requires { ⌜ (n ≤ 16) × (8 ≤ start + n) × (start + n ≤ length (now m)) ⌝ }
     ensures { λ r. ⌜ (r ≡ true → Ascii (now (m .entry)) start n) ⌝ }
 {
     let last = start + n - 8;
-    let first = word_at(m, start, last) | word_at(m, start + 8, last);
-    let behind = word_at(m, start + 16, last) | word_at(m, last, last);
     let half = 32 - 4 * least(n, 8);
-    (first | behind) >> half >> half & HIGH == 0
+    (word_at(m, start, last) | wire::u64_in(m, last)) >> half >> half & HIGH == 0
+}
+
+// The same of 16 to 32 bytes: the first 16 and the last 16.
+fn four_ascii(m: &[u8], start: usize, n: usize) -> bool
+    requires { ⌜ (16 ≤ n) × (n ≤ 32) × (start + n ≤ length (now m)) ⌝ }
+    ensures { λ r. ⌜ (r ≡ true → Ascii (now (m .entry)) start n) ⌝ }
+{
+    let end = start + n;
+    let first = wire::u64_in(m, start) | wire::u64_in(m, start + 8);
+    let last = wire::u64_in(m, end - 16) | wire::u64_in(m, end - 8);
+    (first | last) & HIGH == 0
 }
 
 // Whether the n bytes of m from start are seen to be a short text of ASCII. Within the first eight bytes, where no text of a message
@@ -433,13 +438,16 @@ fn is_short_ascii(m: &[u8], start: usize, n: usize) -> bool
     requires { ⌜ start + n ≤ length (now m) ⌝ }
     ensures { λ r. ⌜ (r ≡ true → true ≡ isText (take n (drop start (now (m .entry))))) ⌝ }
 {
-    if SHORT < n {
+    if 32 < n {
         return false;
     }
     if start + n < 8 {
         return false;
     }
-    are_ascii(m, start, n)
+    if n <= 16 {
+        return two_ascii(m, start, n);
+    }
+    four_ascii(m, start, n)
 }
 
 // Whether the n bytes of m from start are text.
