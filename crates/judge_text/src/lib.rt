@@ -31,11 +31,11 @@ pub fn text_tested(m: &[u8], x: Content, visits: u32, content: u64) -> Outcome
     requires { ⌜ x .start + x .length < length (now m) ⌝ }
     ensures { λ r. ⌜ As.walkedOf r ≡ As.textTested (now (m .entry)) (x .holder) (x .start) (x .length) (W.spending visits content) ⌝ }
 {
-    let fit = Opened::Content(x.start, x.length);
-    match message_object::bytes_tested(m, Object::Text, fit) {
-        Opened::Refused(e) => outcome::refuse(e, x.holder, visits, content),
-        Opened::Content(_, _) => outcome::going(visits, content),
+    let e = message_object::bytes_fault(m, Object::Text, x.start, x.length);
+    if e != 0 {
+        return outcome::refuse(e, x.holder, visits, content);
     }
+    outcome::going(visits, content)
 }
 
 // An arrival at the text at offset x.

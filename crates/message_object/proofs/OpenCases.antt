@@ -5,7 +5,7 @@ use mathlib.Core.List.{List}
 use Prim.Native.Nat.{ℕ, _+_, _*_, _^_, _<_, _≤_}
 use native.Mathlib.Omega.{arith}
 use lib.ListN.{length, take, drop}
-use borrow.Author.Tests.{leb-true, not-true, not-false}
+use borrow.Author.Tests.{leb-true, eq-eqb, ne-eqb, not-true, not-false}
 use lib.Dec.{leb, eqb}
 use Rattle.coding.specs.Lists.{pick}
 use Rattle.coding.specs.Bytes.{le}
@@ -31,7 +31,7 @@ use Rattle.message_header.specs.declared.Header.{Header}
 use Rattle.message_header.specs.declared.Header.the-variants as Hd
 use Rattle.message_header.specs.Headers.{headerOf, directHeaderOf, fitted, Small, EndInside}
 use Rattle.message_header.proofs.ContentCases.{list-there, fit-text, fit-table, text-inside}
-use Rattle.message_object.specs.Fit.{announced, inPlace, EndsInside, LengthSmall}
+use Rattle.message_object.specs.Fit.{announced, inPlace, EndsInside, LengthSmall, bytesFault}
 
 -- ---- the header of each object
 -- only a direct list's header says more than magic and length
@@ -219,24 +219,43 @@ module _ (m : List ℕ) (ob : Object) (start n : ℕ) where
   unfolding W.textOk
   text-direct t e = rw e
 
+module _ (m : List ℕ) (ob : Object) (start n : ℕ) (t : Bool) (et : t ≡ W.endOk m ob start n) where
+  pub fault-end : not t ≡ true → 10 ≡ bytesFault m ob start n
+  unfolding bytesFault
+  fault-end f = simp (← et, not-true t f)
+
+  module _ (g : not t ≡ false) (u : Bool) (eu : u ≡ W.textOk m ob start n) where
+    pub fault-text : not u ≡ true → 16 ≡ bytesFault m ob start n
+    unfolding bytesFault
+    fault-text f = simp (← et, not-false t g, ← eu, not-true u f)
+
+    pub fault-none : not u ≡ false → 0 ≡ bytesFault m ob start n
+    unfolding bytesFault
+    fault-none f = simp (← et, not-false t g, ← eu, not-false u f)
+
+by-fault : (m : List ℕ) (ob : Object) (start n : ℕ)
+    → W.bytesTested m ob (Op.Content start n) ≡ pick (eqb (bytesFault m ob start n) 0) (Op.Content start n) (Op.Refused (bytesFault m ob start n))
+unfolding W.bytesTested bytesFault
+by-fault m ob start n = by (W.endOk m ob start n) (W.textOk m ob start n)
+  where
+    by : (t u : Bool)
+        → pick t (pick u (Op.Content start n) (Op.Refused 16)) (Op.Refused 10)
+        ≡ pick (eqb (pick t (pick u 0 16) 10) 0) (Op.Content start n) (Op.Refused (pick t (pick u 0 16) 10))
+    by true true = refl
+    by true false = refl
+    by false u = refl
+
 module _ (m : List ℕ) (ob : Object) (fit : Opened) where
   pub tested-refused : (n : ℕ) → fit ≡ Op.Refused n → Op.Refused n ≡ W.bytesTested m ob fit
   unfolding W.bytesTested
   tested-refused n e = rw e
 
-  module _ (start n : ℕ) (e : fit ≡ Op.Content start n) (t : Bool) (et : t ≡ W.endOk m ob start n) where
-    pub tested-end : not t ≡ true → Op.Refused 10 ≡ W.bytesTested m ob fit
-    unfolding W.bytesTested
-    tested-end f = rw e (simp (← et, not-true t f))
+  module _ (start n : ℕ) (e : fit ≡ Op.Content start n) (x : ℕ) (ex : x ≡ bytesFault m ob start n) where
+    pub tested-good : x ≡ 0 → Op.Content start n ≡ W.bytesTested m ob fit
+    tested-good z = sym (ap (W.bytesTested m ob) e ∙ by-fault m ob start n ∙ simp (← ex, eq-eqb x 0 z))
 
-    module _ (g : not t ≡ false) (u : Bool) (eu : u ≡ W.textOk m ob start n) where
-      pub tested-text : not u ≡ true → Op.Refused 16 ≡ W.bytesTested m ob fit
-      unfolding W.bytesTested
-      tested-text f = rw e (simp (← et, not-false t g, ← eu, not-true u f))
-
-      pub tested-good : not u ≡ false → Op.Content start n ≡ W.bytesTested m ob fit
-      unfolding W.bytesTested
-      tested-good f = rw e (simp (← et, not-false t g, ← eu, not-false u f))
+    pub tested-bad : (x ≡ 0 → ⊥) → Op.Refused x ≡ W.bytesTested m ob fit
+    tested-bad z = sym (ap (W.bytesTested m ob) e ∙ by-fault m ob start n ∙ simp (← ex, ne-eqb x 0 z))
 
   pub end-inside : (start n : ℕ) → EndsInside m ob fit → fit ≡ Op.Content start n → EndInside m ob start n
   end-inside start n h e = subst (EndsInside m ob) e h

@@ -3,7 +3,7 @@ use Prim.Native.Nat.{ℕ, _^_, _<_}
 use mathlib.Core.List.{List}
 use Rattle.coding.specs.Schema.{Schema}
 use Rattle.coding.specs.Lists.{pick}
-use Rattle.coding.specs.Walk.{fitContent, standsInPlace}
+use Rattle.coding.specs.Walk.{endOk, textOk, fitContent, standsInPlace}
 use Rattle.coding.specs.declared.Object.{Object}
 use Rattle.coding.specs.declared.Opened.{Opened}
 use Rattle.coding.specs.declared.Opened.the-variants as Op
@@ -29,3 +29,7 @@ EndsInside m ob (Op.Content start n) = EndInside m ob start n
 abbrev pub LengthSmall : Opened → Type 0
 LengthSmall (Op.Refused n) = Unit {0}
 LengthSmall (Op.Content start n) = n < 2 ^ 48
+
+-- the number of the refusal of an object's bytes, 0 if they are right
+unfoldable pub bytesFault : List ℕ → Object → ℕ → ℕ → ℕ
+bytesFault m ob start n = pick (endOk m ob start n) (pick (textOk m ob start n) 0 16) 10

@@ -139,21 +139,33 @@ fn text_ok(m: &[u8], ob: Object, start: usize, n: usize) -> bool
     }
 }
 
-// Content that fits, if its bytes are right: of a text first the end byte, then the text.
-pub fn bytes_tested(m: &[u8], ob: Object, fit: Opened) -> Opened
+// The number of the refusal of an object's bytes, 0 if they are right: of a text first the end byte is tested, then the text.
+pub fn bytes_fault(m: &[u8], ob: Object, start: usize, n: usize) -> u8
+    requires { ⌜ Hs.EndInside (now m) ob start n ⌝ }
+    ensures { λ r. ⌜ r ≡ Fs.bytesFault (now (m .entry)) ob start n ⌝ }
+{
+    if !message_header::end_ok(m, ob, start, n) {
+        return 10;
+    }
+    if !text_ok(m, ob, start, n) {
+        return 16;
+    }
+    0
+}
+
+// Content that fits, if its bytes are right.
+fn bytes_tested(m: &[u8], ob: Object, fit: Opened) -> Opened
     requires { ⌜ Fs.EndsInside (now m) ob fit ⌝ }
     ensures { λ r. ⌜ r ≡ W.bytesTested (now (m .entry)) ob fit ⌝ }
 {
     match fit {
         Opened::Refused(e) => Opened::Refused(e),
         Opened::Content(start, n) => {
-            if !message_header::end_ok(m, ob, start, n) {
-                return Opened::Refused(10);
+            let e = bytes_fault(m, ob, start, n);
+            if e == 0 {
+                return Opened::Content(start, n);
             }
-            if !text_ok(m, ob, start, n) {
-                return Opened::Refused(16);
-            }
-            Opened::Content(start, n)
+            Opened::Refused(e)
         }
     }
 }

@@ -72,7 +72,7 @@ ascii-skips s i (suc k) h f =
     subst (Leads s (i + k) (i + k + 1) Boundary) stays (leads-one s (i + k) Boundary (omega arith)) in
     subst (Skips s i) e (leads-then s i (i + k) (i + k + 1) Boundary Boundary Boundary (ascii-skips s i k (omega arith) (λ t p. f t (omega arith))) one)
 
-or-left : (a b : ℕ) → a ≤ bitOr a b
+pub or-left : (a b : ℕ) → a ≤ bitOr a b
 or-left a b = omega (arith, or-add-and a b, and-le-r a b)
 
 or-right : (a b : ℕ) → b ≤ bitOr a b

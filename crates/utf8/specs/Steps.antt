@@ -1,9 +1,9 @@
 -- What a run over bytes promises: how a word holds a state, and to which state bytes lead.
-use Prim.Native.Nat.{ℕ, _-_, _*_, _/_, _%_, _≤_}
+use Prim.Native.Nat.{ℕ, _+_, _-_, _*_, _/_, _%_, _≤_, _<_}
 use mathlib.Core.Path.{_≡_}
 use mathlib.Core.List.{List, [], _∷_}
-use lib.Dec.{eqb}
-use lib.ListN.{length, take, drop}
+use lib.Dec.{ltb, eqb}
+use lib.ListN.{length, getD, take, drop}
 use Rattle.coding.specs.Lists.{pick}
 use Rattle.coding.specs.Utf8.{TextState, Boundary, OneTail, TwoTails, ThreeTails, AfterE0, AfterED, AfterF0, AfterF4, NoText, afterOctet}
 use Rattle.utf8.specs.Table.{stateNumber}
@@ -49,3 +49,11 @@ pub record Onward (m : List ℕ) (i j w r : ℕ) : Type 0 where
 -- the bytes from i up to j can be left out where a character may begin: one may begin behind them too
 abbrev pub Skips : List ℕ → ℕ → ℕ → Type 0
 Skips m i j = Leads m i j Boundary Boundary
+
+-- the n bytes from i are ASCII
+pub record Ascii (m : List ℕ) (i n : ℕ) : Type 0 where
+  pub each : (t : ℕ) → t < n → getD m (i + t) 0 < 128
+
+-- the lesser of two numbers
+unfoldable pub lesser : ℕ → ℕ → ℕ
+lesser a b = pick (ltb a b) a b

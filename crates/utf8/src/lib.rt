@@ -1,11 +1,12 @@
-// Whether bytes are text by RFC 3629: runs of ASCII are skipped by blocks, all else goes through a table.
+// Whether bytes are text by RFC 3629: short texts and runs of ASCII are told by words and by blocks, all else goes through a table.
 ghost use mathlib.Core.Path.{_≡_};
 ghost use mathlib.Core.Bool.{true};
 ghost use Prim.Native.Nat.{_+_, _<_, _≤_};
 ghost use lib.ListN.{length, getD, take, drop};
 ghost use Rattle.coding.specs.Utf8.{mayEnd, isText};
+ghost use Rattle.wire.specs.Numbers.{Number};
 ghost use Rattle.utf8.specs.Table.{words};
-ghost use Rattle.utf8.specs.Steps.{stateIn, HoldsState, StateAfter, Onward, Skips};
+ghost use Rattle.utf8.specs.Steps.{stateIn, HoldsState, StateAfter, Onward, Skips, Ascii, lesser};
 
 // ---- the table
 // The table's word of a byte: its six bits from bit 6 * q are 6 times the number of the state after the byte in state q.
@@ -382,11 +383,80 @@ fn is_all_text(s: &[u8]) -> bool
     w % 64 == 0
 }
 
-// Whether the n bytes of m from start are text.
-pub fn is_text(m: &[u8], start: usize, n: usize) -> bool
+// Whether the n bytes of m from start are text, by blocks and through the table.
+fn is_text_within(m: &[u8], start: usize, n: usize) -> bool
     requires { ⌜ start + n ≤ length (now m) ⌝ }
     ensures { λ r. ⌜ r ≡ isText (take n (drop start (now (m .entry)))) ⌝ }
 {
     let end = start + n;
     is_all_text(&m[start..end])
+}
+
+// ---- short texts
+// The high bits of eight bytes, which ASCII has not.
+const HIGH: u64 = 0x8080_8080_8080_8080;
+
+fn least(a: usize, b: usize) -> usize
+    ensures { λ r. ⌜ (r ≡ lesser a b) × (r ≤ a) × (r ≤ b) ⌝ }
+{
+    if a < b { a } else { b }
+}
+
+// The eight bytes at `at`, or at `last` if that is less.
+fn word_at(m: &[u8], at: usize, last: usize) -> u64
+    requires { ⌜ last + 8 ≤ length (now m) ⌝ }
+    ensures { λ r. ⌜ Number (now (m .entry)) (lesser at last) 8 r ⌝ }
+{
+    wire::u64_in(m, least(at, last))
+}
+
+// Whether the n bytes from start, 16 at most, are ASCII, without a branch: the first eight and the last eight. Of less than eight bytes
+// both are the eight that end with them, and the bytes before them are shifted out in two halves, since no shift is by 64 bits.
+fn two_ascii(m: &[u8], start: usize, n: usize) -> bool
+    requires { ⌜ (n ≤ 16) × (8 ≤ start + n) × (start + n ≤ length (now m)) ⌝ }
+    ensures { λ r. ⌜ (r ≡ true → Ascii (now (m .entry)) start n) ⌝ }
+{
+    let last = start + n - 8;
+    let half = 32 - 4 * least(n, 8);
+    (word_at(m, start, last) | wire::u64_in(m, last)) >> half >> half & HIGH == 0
+}
+
+// The same of 16 to 32 bytes: the first 16 and the last 16.
+fn four_ascii(m: &[u8], start: usize, n: usize) -> bool
+    requires { ⌜ (16 ≤ n) × (n ≤ 32) × (start + n ≤ length (now m)) ⌝ }
+    ensures { λ r. ⌜ (r ≡ true → Ascii (now (m .entry)) start n) ⌝ }
+{
+    let end = start + n;
+    let first = wire::u64_in(m, start) | wire::u64_in(m, start + 8);
+    let last = wire::u64_in(m, end - 16) | wire::u64_in(m, end - 8);
+    (first | last) & HIGH == 0
+}
+
+// Whether the n bytes of m from start are seen to be a short text of ASCII. Within the first eight bytes, where no text of a message
+// ends, nothing is seen.
+fn is_short_ascii(m: &[u8], start: usize, n: usize) -> bool
+    requires { ⌜ start + n ≤ length (now m) ⌝ }
+    ensures { λ r. ⌜ (r ≡ true → true ≡ isText (take n (drop start (now (m .entry))))) ⌝ }
+{
+    if 32 < n {
+        return false;
+    }
+    if start + n < 8 {
+        return false;
+    }
+    if n <= 16 {
+        return two_ascii(m, start, n);
+    }
+    four_ascii(m, start, n)
+}
+
+// Whether the n bytes of m from start are text.
+pub fn is_text(m: &[u8], start: usize, n: usize) -> bool
+    requires { ⌜ start + n ≤ length (now m) ⌝ }
+    ensures { λ r. ⌜ r ≡ isText (take n (drop start (now (m .entry)))) ⌝ }
+{
+    if is_short_ascii(m, start, n) {
+        return true;
+    }
+    is_text_within(m, start, n)
 }
