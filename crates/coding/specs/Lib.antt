@@ -19,4 +19,5 @@ pub mod Sheet
 pub mod Cells
 pub mod Message
 pub mod Field
+pub mod Positions
 pub mod Append

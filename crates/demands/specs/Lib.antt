@@ -1,6 +1,6 @@
 -- The theorems. A reader's way in: Counter, OlderCoding, DirectLists, Traps, FieldCases, MemberCases, Allowances, Members, Sheets, Reached,
 -- RoundTrip, Appending, NewerAgrees, BiggerAllowance, ThreeSchemas, CutSheets, ThreeCases, Fields, Texts, SheetText, ListReader, Utf8,
--- Utf8Cases, OnlyText, NamesOfText; the other modules are their lemmas.
+-- Utf8Cases, OnlyText, NamesOfText, Positions, PositionCases; the other modules are their lemmas.
 pub mod Counter
 pub mod Traps
 pub mod OlderCoding
@@ -90,3 +90,5 @@ pub mod TextsWritten
 pub mod TextsFound
 pub mod OnlyText
 pub mod NamesOfText
+pub mod Positions
+pub mod PositionCases
