@@ -109,7 +109,7 @@ impl Judge for Library {
         let budget = to_wrapper(budget);
         of_wrapper(scalgo::judge(
             coding(schema),
-            &schema.bytes,
+            schema.bytes(),
             message,
             budget,
         ))
@@ -196,7 +196,7 @@ impl Program for Library {
     ) -> (Verdict, Vec<u8>) {
         let budget = to_wrapper(budget);
         let (verdict, sheet) = with_room(room, |sheet| {
-            let answer = scalgo::read(coding(schema), &schema.bytes, message, budget, sheet);
+            let answer = scalgo::read(coding(schema), schema.bytes(), message, budget, sheet);
             (answer.verdict, answer.length)
         });
         (of_wrapper(verdict), sheet)
@@ -204,17 +204,17 @@ impl Program for Library {
 
     fn write(&self, schema: &Packed, sheet: &[u8], room: usize) -> (u32, Vec<u8>) {
         with_room(room, |message| {
-            let answer = scalgo::write(coding(schema), &schema.bytes, sheet, message);
+            let answer = scalgo::write(coding(schema), schema.bytes(), sheet, message);
             (answer.number, answer.length)
         })
     }
 
     fn field(&self, schema: &Packed, message: &[u8], path: &[u32]) -> Answer {
-        answer(scalgo::field(coding(schema), &schema.bytes, message, path))
+        answer(scalgo::field(coding(schema), schema.bytes(), message, path))
     }
 
     fn text(&self, schema: &Packed, message: &[u8], path: &[u32]) -> Option<Vec<u8>> {
-        scalgo::text(coding(schema), &schema.bytes, message, path).map(<[u8]>::to_vec)
+        scalgo::text(coding(schema), schema.bytes(), message, path).map(<[u8]>::to_vec)
     }
 
     fn list_steps(
@@ -224,7 +224,7 @@ impl Program for Library {
         path: &[u32],
         steps: usize,
     ) -> Result<Vec<Answer>, Answer> {
-        let list = scalgo::list(coding(schema), &schema.bytes, message, path).map_err(answer)?;
+        let list = scalgo::list(coding(schema), schema.bytes(), message, path).map_err(answer)?;
         let mut answers: Vec<Answer> = list.take(steps).map(answer).collect();
         // The iterator has an end where the list reader says 15 at the list.
         if let Answer::Object { place, .. } = self.field(schema, message, path) {
@@ -243,11 +243,11 @@ impl Judge for Second {
     }
 
     fn judge(&self, schema: &Packed, message: &[u8], budget: Budget) -> Verdict {
-        reference::judge(schema.coding, &schema.bytes, message, budget)
+        reference::judge(schema.coding, schema.bytes(), message, budget)
     }
 
     fn judge_unpacked(&self, schema: &Packed, message: &[u8], budget: Budget) -> Option<Verdict> {
-        let schema = reference::Schema::parse(schema.coding, &schema.bytes)?;
+        let schema = reference::Schema::parse(schema.coding, schema.bytes())?;
         Some(reference::judge_parsed(&schema, message, budget))
     }
 }
@@ -260,19 +260,19 @@ impl Program for Second {
         budget: Budget,
         room: usize,
     ) -> (Verdict, Vec<u8>) {
-        reference::read(schema.coding, &schema.bytes, message, budget, room)
+        reference::read(schema.coding, schema.bytes(), message, budget, room)
     }
 
     fn write(&self, schema: &Packed, sheet: &[u8], room: usize) -> (u32, Vec<u8>) {
-        reference::write(schema.coding, &schema.bytes, sheet, room)
+        reference::write(schema.coding, schema.bytes(), sheet, room)
     }
 
     fn field(&self, schema: &Packed, message: &[u8], path: &[u32]) -> Answer {
-        reference::field(schema.coding, &schema.bytes, message, path)
+        reference::field(schema.coding, schema.bytes(), message, path)
     }
 
     fn text(&self, schema: &Packed, message: &[u8], path: &[u32]) -> Option<Vec<u8>> {
-        let (start, length) = reference::text(schema.coding, &schema.bytes, message, path)?;
+        let (start, length) = reference::text(schema.coding, schema.bytes(), message, path)?;
         Some(message[start..start + length].to_vec())
     }
 
@@ -283,14 +283,14 @@ impl Program for Second {
         path: &[u32],
         steps: usize,
     ) -> Result<Vec<Answer>, Answer> {
-        let mut reader = reference::ListReader::new(schema.coding, &schema.bytes, message, path)?;
+        let mut reader = reference::ListReader::new(schema.coding, schema.bytes(), message, path)?;
         Ok((0..steps).map(|_| reader.step()).collect())
     }
 }
 
 impl Relations for Second {
     fn lawful(&self, schema: &Packed) -> bool {
-        reference::lawful(schema.coding, &schema.bytes)
+        reference::lawful(schema.coding, schema.bytes())
     }
 
     fn appends(&self, older: &Packed, newer: &Packed) -> bool {

@@ -42,7 +42,7 @@ impl Taker<'_> {
 pub fn unpack(packed: &Packed) -> Option<Schema> {
     let coding = Coding::of(packed.coding)?;
     let mut taker = Taker {
-        bytes: &packed.bytes,
+        bytes: packed.bytes(),
     };
     let counts = taker.take::<4>()?;
     let mut schema = Schema {

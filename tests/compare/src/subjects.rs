@@ -144,7 +144,7 @@ pub fn some_schema(coding: Coding, rng: &mut Rng, recursive: usize) -> Schema {
 /// A schema made for the other coding than this one, under which it may not be lawful.
 pub fn made_for_the_other(coding: Coding, rng: &mut Rng) -> (Schema, Packed) {
     let schema = some_schema(coding.other(), rng, 10);
-    let packed = Packed::new(coding, &schema.pack().bytes);
+    let packed = Packed::new(coding, schema.pack().bytes());
     (schema, packed)
 }
 
@@ -309,8 +309,8 @@ impl Maker {
         self.add_by(Sort::DamagedSchema, schema, message);
         let message = self.earlier(rng);
         let mut schema = self.packed.clone();
-        let at = rng.below(schema.bytes.len());
-        schema.bytes[at] ^= 1 << rng.below(8);
+        let at = rng.below(schema.bytes().len());
+        schema.bytes()[at] ^= 1 << rng.below(8);
         self.add_by(Sort::DamagedSchema, schema, message);
         let message = self.earlier(rng);
         let coding = self.schema.coding;
@@ -327,7 +327,7 @@ impl Maker {
         self.add_by(Sort::OtherCoding, packed, message);
         if rng.one_in(8) {
             let coding = no_coding(rng);
-            let bytes = self.packed.bytes.clone();
+            let bytes = self.packed.bytes().clone();
             let message = self.earlier(rng);
             self.add_by(Sort::NoCoding, Packed { coding, bytes }, message);
         }

@@ -112,7 +112,7 @@ impl Flawed {
         if self.0 == Flaw::NoDirectLists && has_direct_lists(schema) {
             return schema.with(Vec::new());
         }
-        let lawful = |coding: Coding| reference::lawful(coding.number(), &schema.bytes);
+        let lawful = |coding: Coding| reference::lawful(coding.number(), schema.bytes());
         let given = Coding::of(schema.coding);
         let taken = match self.0 {
             Flaw::CodingIgnored => Some(Coding::Bits48),
@@ -123,7 +123,7 @@ impl Flawed {
             _ => given,
         };
         match taken {
-            Some(coding) => Packed::new(coding, &schema.bytes),
+            Some(coding) => Packed::new(coding, schema.bytes()),
             None => schema.clone(),
         }
     }

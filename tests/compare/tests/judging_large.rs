@@ -262,7 +262,7 @@ fn the_largest_schema() {
         assert_eq!(judged(&schema, &message, 1), accepted(1, 8));
         for extra in [1, 1000, 1 << 20] {
             let mut packed = schema.pack();
-            packed.bytes.resize(packed.bytes.len() + extra, 0);
+            packed.bytes().resize(packed.bytes().len() + extra, 0);
             let subject = Subject {
                 sort: Sort::BrokenSchema,
                 schema: packed,

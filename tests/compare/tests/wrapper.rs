@@ -39,7 +39,7 @@ fn texts_as_str() {
                 false => text_gen::no_text_of(&mut rng, length),
             };
             let held = HeldText::new(coding, way, 0, &bytes);
-            let (schema, message) = (&held.schema.bytes, &held.message);
+            let (schema, message) = (held.schema.bytes(), &held.message);
             let given = scalgo::text_str(of_wrapper, schema, message, &held.path);
             assert_eq!(given, std::str::from_utf8(&bytes).ok(), "{way:?}");
         }

@@ -135,8 +135,8 @@ impl Judge for LibraryCalls {
         let number = unsafe {
             scalgo_judge(
                 schema.coding,
-                schema.bytes.as_ptr(),
-                schema.bytes.len(),
+                schema.bytes().as_ptr(),
+                schema.bytes().len(),
                 message.as_ptr(),
                 message.len(),
                 budget.visits,
@@ -155,8 +155,8 @@ impl Calls for LibraryCalls {
         let case = unsafe {
             scalgo_field(
                 schema.coding,
-                schema.bytes.as_ptr(),
-                schema.bytes.len(),
+                schema.bytes().as_ptr(),
+                schema.bytes().len(),
                 message.as_ptr(),
                 message.len(),
                 path.as_ptr(),
@@ -175,8 +175,8 @@ impl Calls for LibraryCalls {
         let found = unsafe {
             scalgo_text(
                 schema.coding,
-                schema.bytes.as_ptr(),
-                schema.bytes.len(),
+                schema.bytes().as_ptr(),
+                schema.bytes().len(),
                 message.as_ptr(),
                 message.len(),
                 path.as_ptr(),
@@ -200,8 +200,8 @@ impl Calls for LibraryCalls {
         unsafe {
             scalgo_list(
                 schema.coding,
-                schema.bytes.as_ptr(),
-                schema.bytes.len(),
+                schema.bytes().as_ptr(),
+                schema.bytes().len(),
                 message.as_ptr(),
                 message.len(),
                 path.as_ptr(),
@@ -219,8 +219,8 @@ impl Calls for LibraryCalls {
         let number = unsafe {
             scalgo_read(
                 schema.coding,
-                schema.bytes.as_ptr(),
-                schema.bytes.len(),
+                schema.bytes().as_ptr(),
+                schema.bytes().len(),
                 message.as_ptr(),
                 message.len(),
                 budget.visits,
@@ -243,8 +243,8 @@ impl Writes for LibraryCalls {
         let number = unsafe {
             scalgo_write(
                 schema.coding,
-                schema.bytes.as_ptr(),
-                schema.bytes.len(),
+                schema.bytes().as_ptr(),
+                schema.bytes().len(),
                 sheet.as_ptr(),
                 sheet.len(),
                 message.as_mut_ptr(),

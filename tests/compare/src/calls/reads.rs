@@ -42,7 +42,7 @@ pub fn on_round(run: &mut Run, seed: u64, round: u64) -> Result<(), String> {
 fn on_subject(run: &mut Run, rng: &mut Rng, subject: &Subject) -> Result<(), String> {
     let (verdict, sheet) = reference::read(
         subject.schema.coding,
-        &subject.schema.bytes,
+        subject.schema.bytes(),
         &subject.message,
         AMPLE,
         SIZE_LIMIT,

@@ -55,14 +55,14 @@ impl Calls for SecondCalls {
     fn field(&self, schema: &Packed, message: &[u8], path: &[u32]) -> [u64; 4] {
         numbers(reference::field(
             schema.coding,
-            &schema.bytes,
+            schema.bytes(),
             message,
             path,
         ))
     }
 
     fn text(&self, schema: &Packed, message: &[u8], path: &[u32]) -> [u64; 3] {
-        match reference::text(schema.coding, &schema.bytes, message, path) {
+        match reference::text(schema.coding, schema.bytes(), message, path) {
             Some((start, length)) => [1, start as u64, length as u64],
             None => [0; 3],
         }
@@ -76,7 +76,7 @@ impl Calls for SecondCalls {
         from: u64,
         cases: &mut [u64],
     ) -> u64 {
-        let mut reader = match ListReader::new(schema.coding, &schema.bytes, message, path) {
+        let mut reader = match ListReader::new(schema.coding, schema.bytes(), message, path) {
             Ok(reader) => reader,
             Err(refusal) => {
                 store(cases, || refusal);
@@ -84,7 +84,7 @@ impl Calls for SecondCalls {
             }
         };
         let Answer::Object { length, .. } =
-            reference::field(schema.coding, &schema.bytes, message, path)
+            reference::field(schema.coding, schema.bytes(), message, path)
         else {
             unreachable!("a list reader starts only at a list");
         };
@@ -95,7 +95,7 @@ impl Calls for SecondCalls {
 
     fn read(&self, schema: &Packed, message: &[u8], budget: Budget, sheet: &mut [u8]) -> Read {
         let (verdict, read) =
-            reference::read(schema.coding, &schema.bytes, message, budget, sheet.len());
+            reference::read(schema.coding, schema.bytes(), message, budget, sheet.len());
         sheet[..read.len()].copy_from_slice(&read);
         let length = read.len() as u64;
         Read { verdict, length }
@@ -105,7 +105,7 @@ impl Calls for SecondCalls {
 impl Writes for SecondCalls {
     fn write(&self, schema: &Packed, sheet: &[u8], message: &mut [u8]) -> [u64; 2] {
         let (number, written) =
-            reference::write(schema.coding, &schema.bytes, sheet, message.len());
+            reference::write(schema.coding, schema.bytes(), sheet, message.len());
         message[..written.len()].copy_from_slice(&written);
         [u64::from(number), written.len() as u64]
     }

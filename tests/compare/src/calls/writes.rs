@@ -130,7 +130,7 @@ fn read_from_damaged(rng: &mut Rng, schema: &Schema, value: Value) -> Option<Vec
     let wild = message_gen::lay_out(schema, rng, value, None);
     let bytes = damage::message(schema.coding, rng, &wild);
     let packed = schema.pack();
-    let (verdict, sheet) = reference::read(packed.coding, &packed.bytes, &bytes, AMPLE, 1 << 16);
+    let (verdict, sheet) = reference::read(packed.coding, packed.bytes(), &bytes, AMPLE, 1 << 16);
     (verdict.number == 0).then_some(sheet)
 }
 
@@ -138,7 +138,7 @@ fn read_from_damaged(rng: &mut Rng, schema: &Schema, value: Value) -> Option<Vec
 fn on_subject(run: &mut Run, rng: &mut Rng, subject: &Subject) -> Result<(), String> {
     let schema = &subject.schema;
     let (number, message) =
-        reference::write(schema.coding, &schema.bytes, &subject.sheet, SIZE_LIMIT);
+        reference::write(schema.coding, schema.bytes(), &subject.sheet, SIZE_LIMIT);
     let name = format!("sheets {}, answer {number}", subject.sort);
     run.counts.note(&name);
     if subject.direct {

@@ -72,11 +72,11 @@ pub fn under(coding: Coding) -> Vec<Case> {
 pub fn packed(cases: &[Case]) -> Vec<u8> {
     let mut out = Vec::new();
     for case in cases {
-        let lengths = [case.schema.bytes.len() as u32, case.message.len() as u32];
+        let lengths = [case.schema.bytes().len() as u32, case.message.len() as u32];
         for number in [case.schema.coding, lengths[0], lengths[1], case.budget] {
             out.extend_from_slice(&number.to_le_bytes());
         }
-        out.extend_from_slice(&case.schema.bytes);
+        out.extend_from_slice(case.schema.bytes());
         out.extend_from_slice(&case.message);
     }
     out
