@@ -7,7 +7,8 @@
 //! and the second program side by side, or those of one round of a run with
 //! `--round K`; `compare plain` does so with the plain Rust program and the
 //! second. `compare fields`, `reads` and `writes` put N calls to both,
-//! `compare texts` N texts in every way that one is held, and `compare all` does
+//! `compare positions` makes and lends N tables of positions, `compare texts` puts
+//! N texts in every way that one is held, and `compare all` does
 //! each of these with N, and the laws on the library; its last lines say how many
 //! answers of each sort were not refusal 1.
 //! `compare utf8 --cases N --seed S` judges a message with one text by both, and
@@ -16,7 +17,8 @@
 //! `compare cases FOLDER` writes the stored cases into the folder of their
 //! crate, and `compare names` says what each of them is.
 
-use compare::calls::{fields, lists, reads, texts, writes, LibraryCalls, SecondCalls};
+use compare::calls::{fields, lists, positions, reads, texts, writes};
+use compare::calls::{LibraryCalls, SecondCalls};
 use compare::coding::Coding;
 use compare::counts::Counts;
 use compare::every_text;
@@ -31,7 +33,7 @@ use std::process::ExitCode;
 
 const USAGE: &str = "usage: compare laws [--library] [--cases N] [--seed S] [--case K]
        compare judge|plain [--cases N] [--seed S] [--round K]
-       compare fields|reads|writes|texts|all [--cases N] [--seed S]
+       compare fields|reads|writes|positions|texts|all [--cases N] [--seed S]
        compare utf8 [--cases N] [--seed S]
        compare cases FOLDER
        compare names
@@ -117,13 +119,15 @@ fn judges(judge: &dyn Judge, asked: &Asked) -> Result<Tally, String> {
     judging::run(judge, &Second, coding, seed, asked.cases())
 }
 
-/// The C interface's calls put to both: `fields`, `reads`, `writes` or `texts`.
+/// The C interface's calls put to both: `fields`, `reads`, `writes`, `positions` or
+/// `texts`.
 fn calls(sort: &str, asked: &Asked) -> Result<Counts, String> {
     let (coding, seed, cases) = (asked.coding, asked.seed, asked.cases());
     match sort {
         "fields" => fields::run(&LibraryCalls, &SecondCalls, coding, seed, cases),
         "reads" => reads::run(&LibraryCalls, &SecondCalls, coding, seed, cases),
         "writes" => writes::run(&LibraryCalls, &SecondCalls, coding, seed, cases),
+        "positions" => positions::run(&LibraryCalls, &SecondCalls, coding, seed, cases),
         _ => texts::run(&LibraryCalls, &SecondCalls, coding, seed, cases),
     }
 }
@@ -140,10 +144,11 @@ fn utf8(asked: &Asked) -> Result<String, String> {
 /// a tenth of as many cases.
 fn run_all(asked: &Asked) -> Result<String, String> {
     let tally = judges(&LibraryCalls, asked)?;
-    let [fields, reads, writes, texts] = [
+    let [fields, reads, writes, positions, texts] = [
         calls("fields", asked)?,
         calls("reads", asked)?,
         calls("writes", asked)?,
+        calls("positions", asked)?,
         calls("texts", asked)?,
     ];
     let laws = run_laws(&Asked {
@@ -163,7 +168,7 @@ fn run_all(asked: &Asked) -> Result<String, String> {
             writes.answers[1],
         ),
     ];
-    let mut seen = format!("{tally}\n{fields}\n{reads}\n{writes}\n{texts}\n{laws}\n");
+    let mut seen = format!("{tally}\n{fields}\n{reads}\n{writes}\n{positions}\n{texts}\n{laws}\n");
     for (sort, all, refused) in beyond {
         let beyond = all - refused;
         seen += &format!("{:?}: {all} {sort}, {beyond} not refusal 1\n", asked.coding);
@@ -191,7 +196,9 @@ fn run(words: &[String]) -> Result<String, String> {
         "laws" => run_laws(&asked),
         "judge" => Ok(judges(&LibraryCalls, &asked)?.to_string()),
         "plain" => Ok(judges(&Plain, &asked)?.to_string()),
-        "fields" | "reads" | "writes" | "texts" => Ok(calls(command, &asked)?.to_string()),
+        "fields" | "reads" | "writes" | "positions" | "texts" => {
+            Ok(calls(command, &asked)?.to_string())
+        }
         "utf8" => utf8(&asked),
         "all" => run_all(&asked),
         "cases" => write_cases(&asked),
