@@ -266,7 +266,8 @@ fn other_table(rng: &mut Rng, schema: &Packed, others: &[&Packed]) -> (&'static 
             ("one bit changed", table)
         }
         2 => {
-            table.push(rng.pick(&[0, 255, rng.bits() as u8]));
+            let any = rng.bits() as u8;
+            table.push(rng.pick(&[0, 255, any]));
             ("one byte longer", table)
         }
         3 => {
