@@ -320,21 +320,22 @@ fn writing_a_message_under_32_bits() {
     writes_agree(Coding::Bits32);
 }
 
-const TABLES: [(&str, u64); 31] = [
-    (positions::MADE, 100_000),
-    ("schemas of no members", 1000),
+const TABLES: [(&str, u64); 32] = [
+    (positions::MADE, 90_000),
+    ("schemas under no coding", 300),
+    ("schemas of no members", 50),
     ("schemas of 1 to 63 members", 5000),
     ("schemas of 64 to 999 members", 20),
     ("schemas of 1000 members or more", 20),
     ("room: exact, answer 0", 10_000),
     ("room: larger, answer 0", 10_000),
-    ("room: none, answer 0", 1000),
+    ("room: none, answer 0", 50),
     ("room: none, answer 14", 10_000),
     ("room: one less, answer 14", 10_000),
     ("room: some less, answer 14", 10_000),
     ("room: some, answer 1", 5000),
     ("room: none, answer 1", 5000),
-    (positions::LENT, 200_000),
+    (positions::LENT, 300_000),
     ("lent: own", 50_000),
     ("lent: own, schema not lawful", 5000),
     ("lent: own, a path too long", 2000),
@@ -354,14 +355,14 @@ const TABLES: [(&str, u64); 31] = [
     ("lent: random bytes, schema not lawful", 500),
 ];
 
-/// Every answer from 0 to 10 and 16 with the schema's own table; 5 is rare, and 9 is none
-/// of the older coding's.
+/// With the schema's own table every answer of judging; 9 is none of the older coding's.
 fn tables_agree(coding: Coding) {
     let outcome = positions::run(&LibraryCalls, &SecondCalls, coding, 1, 400_000);
     let counts = reached(coding, outcome, &TABLES);
-    for number in [0, 2, 3, 4, 6, 7, 8, 10, 16] {
+    for number in [0, 2, 3, 4, 5, 6, 7, 8, 9, 10, 16, 17] {
         let count = counts.answers[number];
-        assert!(count > 500, "{count} answers {number}");
+        let never = coding.is_older() && number == 9;
+        assert!(never || count > 500, "{count} answers {number}");
     }
 }
 

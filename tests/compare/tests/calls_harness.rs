@@ -145,18 +145,19 @@ impl Flawed {
 
     /// Whether the program takes the table lent for the schema's own.
     fn takes_table(&self, schema: &Packed) -> bool {
-        let own = schema.under(schema.coding());
-        let (own, lent) = (own.positions(), schema.positions());
+        let own = || schema.under(schema.coding());
+        let lent = schema.positions();
         match self.0 {
             Flaw::AnyTableTaken => true,
-            Flaw::LongerTableTaken => lent.starts_with(own),
+            Flaw::LongerTableTaken => lent.starts_with(own().positions()),
             Flaw::TableOfOtherCodingTaken => {
                 let other = Coding::of(schema.coding()).map(Coding::other);
                 other.is_some_and(|coding| schema.under(coding.number()).positions() == lent)
             }
             Flaw::OnlyFirstRowTried => {
-                let row = own.len().min(12);
-                lent.len() == own.len() && lent[..row] == own[..row]
+                let own = own();
+                let row = own.positions().len().min(12);
+                lent.len() == own.positions().len() && lent[..row] == own.positions()[..row]
             }
             _ => false,
         }

@@ -108,7 +108,7 @@ fn schemas() {
     }
     // Neither is a coding, whatever the schema.
     for coding in [0, 31, 33, 47, 49, u32::MAX] {
-        let schema = Packed::new(Coding::Bits32, &bytes(TEXT)).under(coding);
+        let schema = packed(TEXT).under(coding);
         assert_eq!(judged(&schema, &message), (1, 0, 0));
     }
 }

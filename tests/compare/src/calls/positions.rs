@@ -59,8 +59,10 @@ fn on_round(run: &mut Run, seed: u64, round: u64) -> Result<(), String> {
 
 /// A schema's table with rooms around the one that it needs.
 fn make(run: &mut Run, rng: &mut Rng, schema: &Packed) -> Result<(), String> {
-    let parsed = schema_rules::parse(schema);
-    let Some(parsed) = parsed else {
+    let no_coding = Coding::of(schema.coding()).is_none();
+    run.counts
+        .add("schemas under no coding", u64::from(no_coding));
+    let Some(parsed) = schema_rules::parse(schema) else {
         let room = rng.below(100);
         make_one(run, rng, schema, None, (room, "room: some"))?;
         return make_one(run, rng, schema, None, (0, "room: none"));
@@ -170,10 +172,12 @@ impl<'a> Asked<'a> {
     fn new(rng: &mut Rng, message: &'a [u8]) -> Asked<'a> {
         let length = rng.pick(&[0, 1, 1, 1, 2, 2, 3, PATH_LIMIT, PATH_LIMIT + 1]);
         let fewer = Budget::of_visits(rng.below(3) as u32);
+        let content = rng.below(40) as u64;
+        let less = Budget { content, ..AMPLE };
         Asked {
             message,
             path: (0..length).map(|_| rng.small(12) as u32).collect(),
-            budget: rng.pick(&[AMPLE, AMPLE, fewer]),
+            budget: rng.pick(&[AMPLE, AMPLE, fewer, less]),
             steps: rng.below(3),
             room: rng.pick(&[0, 8, 200]),
             fill: rng.bits() as u8,
