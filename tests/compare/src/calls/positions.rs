@@ -76,21 +76,19 @@ fn make(run: &mut Run, rng: &mut Rng, schema: &Packed) -> Result<(), String> {
         _ => "schemas of 1000 members or more",
     });
     let larger = length + 1 + rng.below(40);
-    make_one(run, rng, schema, Some(&table), (length, "room: exact"))?;
-    make_one(run, rng, schema, Some(&table), (larger, "room: larger"))?;
-    make_one(run, rng, schema, Some(&table), (0, "room: none"))?;
-    if length == 0 {
-        return Ok(());
+    let mut rooms = vec![
+        (length, "room: exact"),
+        (larger, "room: larger"),
+        (0, "room: none"),
+    ];
+    if length > 0 {
+        let less = rng.below(length);
+        rooms.extend([(length - 1, "room: one less"), (less, "room: some less")]);
     }
-    let less = rng.below(length);
-    make_one(
-        run,
-        rng,
-        schema,
-        Some(&table),
-        (length - 1, "room: one less"),
-    )?;
-    make_one(run, rng, schema, Some(&table), (less, "room: some less"))
+    for room in rooms {
+        make_one(run, rng, schema, Some(&table), room)?;
+    }
+    Ok(())
 }
 
 /// The table by this crate's own model: "for each table member in schema order three
@@ -146,6 +144,7 @@ fn make_one(
 }
 
 /// What every call that reads is asked of a message.
+#[derive(Debug)]
 struct Asked<'a> {
     message: &'a [u8],
     path: Vec<u32>,
@@ -236,76 +235,77 @@ fn lend(
         (true, _) => "lent: another that is the same".to_string(),
     });
     if right {
-        run.counts.answer(one.verdict.number);
-        let [case, number, ..] = one.field;
-        let long = case == 7 && number == 15 && asked.path.len() > PATH_LIMIT;
-        run.counts
-            .add("lent: own, a path too long", u64::from(long));
+        note_right(&mut run.counts, &asked, &one);
     }
     if one == two && (right || one == asked.refused()) {
         return Ok(());
     }
+    let (first, second) = (run.first.name(), run.second.name());
     Err(format!(
-        "{:?}, table {sort} {}, path {:?}, {:?}, room {}\n  {}: {one:?}\n  {}: {two:?}\n  \
+        "{:?}, {asked:?}, table {sort} {}\n  {first}: {one:?}\n  {second}: {two:?}\n  \
          schema: {schema}\n  message: {}",
         subject.sort,
         hex(table),
-        asked.path,
-        asked.budget,
-        asked.room,
-        run.first.name(),
-        run.second.name(),
-        hex(asked.message),
+        hex(&subject.message),
     ))
+}
+
+/// Counts what is answered with the schema's own table.
+fn note_right(counts: &mut Counts, asked: &Asked, answers: &Answers) {
+    counts.answer(answers.verdict.number);
+    let long = answers.field[..3] == [7, 15, 0] && asked.path.len() > PATH_LIMIT;
+    counts.add("lent: own, a path too long", u64::from(long));
 }
 
 /// A table that is mostly not the schema's, and of which sort.
 fn other_table(rng: &mut Rng, schema: &Packed, others: &[&Packed]) -> (&'static str, Vec<u8>) {
-    let mut table = schema.positions().to_vec();
-    let rows = table.len() / 12;
     match rng.below(11) {
-        0 | 1 if rows > 0 => {
-            let bit = rng.below(8 * table.len());
-            table[bit / 8] ^= 1 << (bit % 8);
-            ("one bit changed", table)
-        }
-        2 => {
-            let any = rng.bits() as u8;
-            table.push(rng.pick(&[0, 255, any]));
-            ("one byte longer", table)
-        }
-        3 => {
-            table.pop();
-            ("one byte shorter", table)
-        }
-        4 => ("empty", Vec::new()),
-        5 => {
+        0 => ("empty", Vec::new()),
+        1 => {
             let coding = Coding::of(schema.coding()).unwrap_or(Coding::Bits48);
             let other = schema.under(coding.other().number());
             ("the other coding's", other.positions().to_vec())
         }
-        6 | 7 => {
+        2 | 3 => {
             let other = others[rng.below(others.len())];
             ("another schema's", other.positions().to_vec())
         }
-        8 if rows > 1 => {
-            let (one, two) = (12 * rng.below(rows), 12 * rng.below(rows));
-            let moved = table[one..one + 12].to_vec();
-            table.copy_within(two..two + 12, one);
-            table[two..two + 12].copy_from_slice(&moved);
-            ("two rows exchanged", table)
+        4 => ("random bytes", rng.bytes(schema.positions().len())),
+        _ => changed(rng, schema.positions().to_vec()),
+    }
+}
+
+/// A table with some of its bytes changed, or more or less of them.
+fn changed(rng: &mut Rng, mut table: Vec<u8>) -> (&'static str, Vec<u8>) {
+    let rows = table.len() / 12;
+    let sort = match rng.below(6) {
+        0 | 1 if rows > 0 => {
+            let bit = rng.below(8 * table.len());
+            table[bit / 8] ^= 1 << (bit % 8);
+            "one bit changed"
         }
-        9 => {
-            let row = rng.below(rows + 1) * 12;
+        2 if rows > 1 => {
+            let (one, two) = (rng.below(rows), rng.below(rows));
+            (0..12).for_each(|at| table.swap(12 * one + at, 12 * two + at));
+            "two rows exchanged"
+        }
+        3 if rows > 0 => {
+            let row = 12 * rng.below(rows);
             match rng.coin() {
-                true => table.extend_from_within(row.min(table.len().saturating_sub(12))..),
+                true => table.extend_from_within(row..),
                 false => table.truncate(row),
             }
-            ("rows more or less", table)
+            "rows more or less"
+        }
+        4 => {
+            table.pop();
+            "one byte shorter"
         }
         _ => {
-            let bytes = rng.bytes(table.len());
-            ("random bytes", bytes)
+            let any = rng.bits() as u8;
+            table.push(rng.pick(&[0, 255, any]));
+            "one byte longer"
         }
-    }
+    };
+    (sort, table)
 }
