@@ -14,13 +14,29 @@ use Rattle.coding.specs.declared.Cursor.{Cursor}
 use Rattle.coding.specs.declared.Slot.{Slot}
 use Rattle.coding.specs.declared.Placement.{Placement}
 use Rattle.coding.specs.declared.Step.{Step}
+use Rattle.laws.specs.Sound.{MemberSound}
 use Rattle.message_step.specs.Lead.{Sits}
 use Rattle.message_step.proofs.ReachCases.{slot-size}
-use Rattle.message_object.proofs.OpenCases.{member-sound-of}
-use Rattle.positions.specs.Placements.{ByTable, cursorAt, same-step}
+use Rattle.positions.specs.Placements.{ByTable, same-step}
 use Rattle.schema.specs.Directory.{Accepted, accepted-sound}
 use Rattle.field_arrival.specs.Within.{Readable, StepWithin}
-use Rattle.field_part.proofs.StepsWithin.{member-within}
+use Rattle.field_part.proofs.StepsWithin.{placed-within}
+
+-- the member is there
+pub row-there : (S : Schema) (t j count : ℕ) → count ≡ length (Sc.tableOf S t .members) → j < count → j < length (Sc.tableOf S t .members)
+row-there S t j count e h = omega arith
+
+-- what a member holds by a placement, its struct tested
+module _ (o : ℕ) (b dir m : List ℕ) (start n : ℕ) (p : Placement) (r : Member) (found step : Step) (ef : found ≡ T.placedStep o (P.parse b) m start n p r)
+    (es : step ≡ T.structTested (P.parse b) m found) where
+  pub placed-is : step ≡ T.structTested (P.parse b) m (T.placedStep o (P.parse b) m start n p r)
+  placed-is = es ∙ ap (T.structTested (P.parse b) m) ef
+
+  pub placed-inside : o ≤ 6 → Accepted b dir → Readable m → MemberSound (P.parse b) r → Sits (L.width o (P.parse b) (r .kind)) p → start + n ≤ length m
+      → StepWithin (P.parse b) m step
+  placed-inside most a g s sits h =
+      subst (StepWithin (P.parse b) m) (sym placed-is)
+      (placed-within (P.parse b) (accepted-sound b dir a) m g o most r s start n p (sits .size) h)
 
 -- a member that stands by its row
 module _ (o : ℕ) (S : Schema) (r x : Member) (ex : x ≡ r) (c : Cursor) (p : Placement) (placed : ByTable o S r c p) where
@@ -39,12 +55,3 @@ module _ (o : ℕ) (S : Schema) (r x : Member) (ex : x ≡ r) (c : Cursor) (p : 
   row-step m start n step e =
       let by : ByTable o S x c p = subst (λ (y : Member). ByTable o S y c p) (sym ex) placed in
       e ∙ ap (T.structTested S m) (same-step o S m start n x c p by)
-
--- what it holds lies within the message
-pub row-within : (o : ℕ) (b dir m : List ℕ) → o ≤ 6 → Accepted b dir → Readable m → (t j : ℕ) → j < length (Sc.tableOf (P.parse b) t .members)
-    → (x : Member) → x ≡ Sc.memberOf (P.parse b) t j → (start n : ℕ) → start + n ≤ length m → (p : Placement)
-    → ByTable o (P.parse b) (Sc.memberOf (P.parse b) t j) (cursorAt o b t j) p
-    → (step : Step) → step ≡ T.structTested (P.parse b) m (T.placedStep o (P.parse b) m start n p x) → StepWithin (P.parse b) m step
-row-within o b dir m most a r t j l x ex start n h p placed step e =
-    subst (StepWithin (P.parse b) m) (sym (row-step o (P.parse b) (Sc.memberOf (P.parse b) t j) x ex (cursorAt o b t j) p placed m start n step e))
-    (member-within (P.parse b) (accepted-sound b dir a) m r o most x (member-sound-of b dir a t j x ex l) start n (cursorAt o b t j) h)

@@ -114,7 +114,7 @@ fn member_at(
 ) -> Step
     requires { ⌜ (Accepted (now b) (now dir)) × (Width o) × (Readable (now m)) × (c .start + c .length ≤ length (now m)) ⌝ }
     requires { ⌜ (MemberSound (P.parse (now b)) r) × Sits (L.width o (P.parse (now b)) (r .kind)) p ⌝ }
-    ensures { λ q. ⌜ q ≡ T.structTested (P.parse (now (b .entry))) (now (m .entry)) (T.placedStep o (P.parse (now (b .entry))) (now (m .entry)) (c .start) (c .length) p r) ⌝ }
+    ensures { λ q. ⌜ (q ≡ T.structTested (P.parse (now (b .entry))) (now (m .entry)) (T.placedStep o (P.parse (now (b .entry))) (now (m .entry)) (c .start) (c .length) p r)) × StepIn (now (b .entry)) (now (m .entry)) q ⌝ }
 {
     let found = message_step::placed_step(b, dir, m, c.start, c.length, p, r, o);
     message_step::struct_tested(b, dir, m, found)

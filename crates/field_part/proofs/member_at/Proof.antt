@@ -1,4 +1,5 @@
 use Rattle.message_step.proofs.StructCases.{found-step}
+use Rattle.field_part.proofs.RowCases.{placed-is, placed-inside}
 use borrow.Author.Needs.{needs}
 use Rattle.field_part.proofs.member_at.Statement.{statement}
 use Rattle.field_part.proofs.member_at.Tie as tie
@@ -10,7 +11,7 @@ struct-tested-requires : tie.Need-struct-tested-requires
 struct-tested-requires c κs = search (found-step, needs)
 
 returns : tie.Need-returns
-returns c = search needs
+returns c = (search placed-is, search placed-inside)
 
 pub member-at-spec : {M : Type 1} → statement M
 member-at-spec =
