@@ -14,7 +14,7 @@ slice-aggregate-step-by : tie.Need-slice-aggregate-step-by
 slice-aggregate-step-by c = search needs
 
 step-by-requires : tie.Need-step-by-requires
-step-by-requires c κs = (search lent-accepted, search lent-rows)
+step-by-requires c κs = (lent-accepted _ _ _ _ _ (c .before .before .before .judge-schema .ensures) (c .before .if1 .taken), lent-rows _ _ _ _ _ (c .before .before .before .judge-schema .ensures) (c .before .if1 .taken))
 
 returns : tie.Need-returns
 returns c = (search gives-lent, search next-lent)

@@ -15,7 +15,7 @@ slice-aggregate-list-by : tie.Need-slice-aggregate-list-by
 slice-aggregate-list-by c = search needs
 
 list-by-requires : tie.Need-list-by-requires
-list-by-requires c κs = (search lent-accepted, search lent-rows)
+list-by-requires c κs = (lent-accepted _ _ _ _ _ (c .before .before .before .before .judge-schema .ensures) (c .before .before .if1 .taken), lent-rows _ _ _ _ _ (c .before .before .before .before .judge-schema .ensures) (c .before .before .if1 .taken))
 
 same-length : tie.Need-same-length
 same-length c = search needs

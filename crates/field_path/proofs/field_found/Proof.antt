@@ -14,7 +14,7 @@ slice-aggregate-found-by : tie.Need-slice-aggregate-found-by
 slice-aggregate-found-by c = search needs
 
 found-by-requires : tie.Need-found-by-requires
-found-by-requires c κs = (search lent-accepted, search lent-rows)
+found-by-requires c κs = (lent-accepted _ _ _ _ _ (c .before .before .before .judge-schema .ensures) (c .before .if1 .taken), lent-rows _ _ _ _ _ (c .before .before .before .judge-schema .ensures) (c .before .if1 .taken))
 
 returns : tie.Need-returns
 returns c = (search found-lent, c .found-by .ensures .1)

@@ -17,9 +17,9 @@ start-ok-requires c κs = search size-magic
 
 from-root-requires : tie.Need-from-root-requires
 from-root-requires c κs = (
-  c .before .before .before .before .before .before .before .before .before .pre .0 .accepted,
-  c .before .before .before .before .before .before .before .before .before .pre .0 .width,
-  c .before .before .before .before .before .before .before .before .before .pre .1,
+  search needs,
+  search needs,
+  search needs,
   record { bytes = λ i. c .before .before .before .before .before .before .shared-slice-known4 .given i .fits; size = search size-most },
   search size-start,
 )
