@@ -2,14 +2,16 @@
 -- handed in gets refusal 1, tried with the schema."
 use mathlib.Core.Path.{_≡_, refl, sym, ap, _∙_, subst}
 use mathlib.Core.Bool.{Bool, true, false}
-use mathlib.Core.List.{List, [], _++_}
-use Prim.Native.Nat.{ℕ, _+_, _*_, _<_, _≤_}
+use mathlib.Core.List.{List, [], _∷_, _++_}
+use Prim.Native.Nat.{ℕ, suc, _+_, _*_, _<_, _≤_}
 use native.Mathlib.Omega.{arith}
-use lib.ListN.{length, getD, take, drop}
-use borrow.Author.Tests.{le-leb, lt-leb}
+use lib.ListN.{length, getD, take, drop, length-append}
+use lib.Dec.{leb}
+use lib.Seq.{take-append-seam}
+use borrow.Author.Tests.{le-leb, lt-leb, leb-true, leb-false}
 use Rattle.coding.specs.Lists.{same}
 use Rattle.coding.specs.Bytes.{le}
-use Rattle.coding.specs.Schema.{Schema, tableOf, memberOf}
+use Rattle.coding.specs.Schema.{Schema, Table, tableOf, memberOf}
 use Rattle.coding.specs.Packed.{tableCount, parse}
 use Rattle.coding.specs.Lawful as L
 use Rattle.coding.specs.Layout.{width, isBool, hasFlag, slotOf, memberSlot, placementOf, begin, afterMembers}
@@ -20,6 +22,7 @@ use Rattle.coding.specs.Positions.{firstBit, noFlag, flagBit, bitSize, rowOf, t
 use Rattle.coding.specs.declared.Member.{Member}
 use Rattle.coding.specs.declared.Placement.{Placement}
 use Rattle.coding.specs.declared.Budget.{Budget}
+use Rattle.coding.specs.declared.WriteAnswer.{WriteAnswer}
 use Rattle.coding.specs.declared.Answer.the-variants as A
 use Rattle.coding.specs.declared.Found.{Found}
 use Rattle.coding.specs.declared.Found.the-variants as Fd
@@ -263,3 +266,70 @@ same-answers o b = by (L.lawful o b) refl
         subst (λ (c : List ℕ). SameAnswers o c b) (sym (right-schema o b (positionsOf o b) (made-right o b e))) (same-schema o b)
     by false e =
         same-refusals o (withTable o b (positionsOf o b)) b (unlawful-table o b (positionsOf o b) e) (unlawful-refused o b e)
+
+-- ---- the table that was made, where it stands: at the start of the output
+module _ (o : ℕ) (b out : List ℕ) (a : WriteAnswer) (ea : a ≡ positionsAnswer o b out) (out′ : List ℕ) (eo : out′ ≡ positionsOut o b out) where
+  by-cases : (P : WriteAnswer → List ℕ → Type 0) → (L.lawful o b ≡ false → P (record { number = 1; length = 0 }) out)
+      → (L.lawful o b ≡ true → length out < length (positionsOf o b) → P (record { number = 14; length = 0 }) out)
+      → (L.lawful o b ≡ true → length (positionsOf o b) ≤ length out
+      → P (record { number = 0; length = length (positionsOf o b) }) (positionsOf o b ++ drop (length (positionsOf o b)) out))
+      → P a out′
+  by-cases P unlawful short made-it = by (L.lawful o b) (leb (length (positionsOf o b)) (length out)) refl refl
+    where
+      be : (x : WriteAnswer) (y : List ℕ) → (positionsAnswer o b out ≡ x) × (positionsOut o b out ≡ y) → P x y → P a out′
+      be x y e h = subst (λ (q : WriteAnswer). P q out′) (sym (ea ∙ e .0)) (subst (P x) (sym (eo ∙ e .1)) h)
+
+      by : (t u : Bool) → L.lawful o b ≡ t → leb (length (positionsOf o b)) (length out) ≡ u → P a out′
+      by false u e f = be _ _ (made-unlawful o b out e) (unlawful e)
+      by true false e f = be _ _ (made-no-room o b out e (leb-false _ _ f)) (short e (leb-false _ _ f))
+      by true true e f = be _ _ (made o b out e (leb-true _ _ f)) (made-it e (leb-true _ _ f))
+
+  -- it is within the output
+  pub made-within : a .length ≤ length out′
+  made-within =
+      by-cases (λ (x : WriteAnswer) (y : List ℕ). x .length ≤ length y) (λ e. omega arith) (λ e l. omega arith)
+      (λ e l. omega (arith, length-append (positionsOf o b) (drop (length (positionsOf o b)) out)))
+
+  -- number 0 comes only of a lawful schema
+  pub made-lawful : a .number ≡ 0 → L.lawful o b ≡ true
+  made-lawful =
+      by-cases (λ (x : WriteAnswer) (y : List ℕ). x .number ≡ 0 → L.lawful o b ≡ true) (λ e h. absurd (omega arith)) (λ e l h. e) (λ e l h. e)
+
+  pub made-rows : a .number ≡ 0 → take (a .length) out′ ≡ positionsOf o b
+  made-rows =
+      by-cases (λ (x : WriteAnswer) (y : List ℕ). x .number ≡ 0 → take (x .length) y ≡ positionsOf o b) (λ e h. absurd (omega arith))
+      (λ e l h. absurd (omega arith)) (λ e l h. take-append-seam (positionsOf o b) (drop (length (positionsOf o b)) out))
+
+  -- with it every public answer is the old one, unless there was no room for it
+  pub made-answers : (a .number ≡ 14 → ⊥) → SameAnswers o (withTable o b (take (a .length) out′)) b
+  made-answers =
+      by-cases (λ (x : WriteAnswer) (y : List ℕ). (x .number ≡ 14 → ⊥) → SameAnswers o (withTable o b (take (x .length) y)) b)
+      (λ e h. same-refusals o (withTable o b (take 0 out)) b (unlawful-table o b (take 0 out) e) (unlawful-refused o b e))
+      (λ e l h. absurd (h refl))
+      (λ e l h.
+      subst (λ (t : List ℕ). SameAnswers o (withTable o b t) b)
+      (sym (take-append-seam (positionsOf o b) (drop (length (positionsOf o b)) out))) (same-answers o b))
+
+-- ---- the room that every table fits into: 64 tables of 64 members, twelve bytes each
+total-few : (ts : List Table) (d : Table) → ((i : ℕ) → length (getD ts i d .members) ≤ 64) → memberTotal ts ≤ 64 * length ts
+unfolding memberTotal
+total-few [] d h = omega arith
+total-few (t ∷ ts) d h =
+    let first : length (t .members) ≤ 64 = h 0 in
+    let rest = total-few ts d (λ i. h (suc i)) in
+    let long : length (t ∷ ts) ≡ suc (length ts) = refl in
+    omega arith
+
+pub table-most : (o : ℕ) (b : List ℕ) → ((i : ℕ) → getD b i 0 < 256) → L.lawful o b ≡ true → length (positionsOf o b) ≤ 49152
+unfolding tableOf
+table-most o b bytes e =
+    let G = lawful-sound o b bytes e in
+    let few = total-few (parse b .tables) _ (λ i. G .tables i .few) in
+    omega (arith, table-length o b, G .fewTables)
+
+-- there 14 does not come
+pub made-room : (o : ℕ) (b out : List ℕ) → ((i : ℕ) → getD b i 0 < 256) → 49152 ≤ length out → (a : WriteAnswer) → a ≡ positionsAnswer o b out
+    → a .number ≡ 14 → ⊥
+made-room o b out bytes room a ea =
+    by-cases o b out a ea (positionsOut o b out) refl (λ (x : WriteAnswer) (y : List ℕ). x .number ≡ 14 → ⊥) (λ e h. omega arith)
+    (λ e l h. let most = table-most o b bytes e in omega arith) (λ e l h. omega arith)

@@ -84,6 +84,7 @@ module _ (o : ℕ) (S : Sc.Schema) (r : Member) (c : Cursor) (rows : List ℕ) (
   flag-bit = omega arith
 
   by-row : ByTable o S r c (placementIn rows at)
+  unfolding L.placementOf
   by-row =
       let v : SlotSmall (placementIn rows at .value) = subst SlotSmall (sym value-back) (small .value) in
       record { value-is = value-back; flag-is = flag-back; at = v .at; bit = v .bit; size = v .size; flag = flag-bit }
@@ -109,22 +110,23 @@ module _ (o : ℕ) (b dir rows : List ℕ) (a : Accepted b dir) (w : Width o) (r
   at-is : 12 * (memberTotal (take t (P.parse b .tables)) + j) ≡ first + 12 * j
   at-is = omega arith
 
-  in-table : RowIn (Po.positionsOf o b) (12 * (memberTotal (take t (P.parse b .tables)) + j))
-      (Po.rowOf (Sc.memberOf (P.parse b) t j) (L.placementOf o (P.parse b) (Sc.memberOf (P.parse b) t j) (cursorAt o b t j)))
+  abbrev row : Row
+  row = Po.rowOf (Sc.memberOf (P.parse b) t j) (L.placementOf o (P.parse b) (Sc.memberOf (P.parse b) t j) (cursorAt o b t j))
+
+  in-table : RowIn (Po.positionsOf o b) (12 * (memberTotal (take t (P.parse b .tables)) + j)) row
   unfolding Po.positionsOf Po.schemaRows Po.tableRows Sc.tableOf Sc.memberOf
   in-table =
       subst (RowIn (Po.positionsOf o b) (12 * (memberTotal (take t (P.parse b .tables)) + j)))
       (member-rows-at o (P.parse b) _ L.begin (Sc.tableOf (P.parse b) t .members) j k)
       (row-in o (P.parse b) _ (record { value = 0; flag = 0; size = 0 }) (P.parse b .tables) t j (omega (arith, tables-length b)) k)
 
-  there : RowIn rows (first + 12 * j)
-      (Po.rowOf (Sc.memberOf (P.parse b) t j) (L.placementOf o (P.parse b) (Sc.memberOf (P.parse b) t j) (cursorAt o b t j)))
+  there : RowIn rows (first + 12 * j) row
   there =
-      subst (λ (m : List ℕ). RowIn m (first + 12 * j) _) (sym right)
-      (subst (λ (x : ℕ). RowIn (Po.positionsOf o b) x _) at-is in-table)
+      subst (λ (m : List ℕ). RowIn m (first + 12 * j) row) (sym right)
+      (subst (λ (x : ℕ). RowIn (Po.positionsOf o b) x row) at-is in-table)
 
   pub row-inside : first + 12 * j + 12 ≤ length rows
-  row-inside = row-end rows (first + 12 * j) _ there
+  row-inside = row-end rows (first + 12 * j) row there
 
   pub placed-by : (p : Placement) → p ≡ placementIn rows (first + 12 * j)
       → ByTable o (P.parse b) (Sc.memberOf (P.parse b) t j) (cursorAt o b t j) p

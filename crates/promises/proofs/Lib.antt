@@ -2,4 +2,5 @@ pub mod Reading
 pub mod Writing
 pub mod Promised
 pub mod Stepping
+pub mod Tables
 pub mod Trips
