@@ -246,13 +246,7 @@ fn part_at<'a>(m: &'a [u8], start: usize, n: usize) -> &'a [u8]
 }
 
 // The text or the bytes that a path leads to, as a part of the message.
-pub fn field_text<'a>(
-    b: &[u8],
-    rows: &[u8],
-    m: &'a [u8],
-    path: &[u32],
-    o: usize,
-) -> &'a [u8]
+pub fn field_text<'a>(b: &[u8], rows: &[u8], m: &'a [u8], path: &[u32], o: usize) -> &'a [u8]
     ensures { λ r. ⌜ now r ≡ F.fieldText o (Po.withTable o (now (b .entry)) (now (rows .entry))) (now (m .entry)) (now (path .entry)) ⌝ }
 {
     let s = text_span(b, rows, m, path, o);

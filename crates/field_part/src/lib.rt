@@ -103,15 +103,7 @@ fn struct_part(
 
 // ---- members and elements
 // What member r of a table holds, by its placement.
-fn member_at(
-    b: &[u8],
-    dir: &[u16],
-    m: &[u8],
-    c: Content,
-    p: Placement,
-    r: Member,
-    o: usize,
-) -> Step
+fn member_at(b: &[u8], dir: &[u16], m: &[u8], c: Content, p: Placement, r: Member, o: usize) -> Step
     requires { ⌜ (Accepted (now b) (now dir)) × (Width o) × (Readable (now m)) × (c .start + c .length ≤ length (now m)) ⌝ }
     requires { ⌜ (MemberSound (P.parse (now b)) r) × Sits (L.width o (P.parse (now b)) (r .kind)) p ⌝ }
     ensures { λ q. ⌜ (q ≡ T.structTested (P.parse (now (b .entry))) (now (m .entry)) (T.placedStep o (P.parse (now (b .entry))) (now (m .entry)) (c .start) (c .length) p r)) × StepIn (now (b .entry)) (now (m .entry)) q ⌝ }
@@ -211,15 +203,7 @@ fn object_part(
 
 // ---- one number of a path
 // What a path has come to with one number more, from what was found before.
-pub fn part_of(
-    b: &[u8],
-    rows: &[u8],
-    dir: &[u16],
-    m: &[u8],
-    f: Found,
-    j: usize,
-    o: usize,
-) -> Found
+pub fn part_of(b: &[u8], rows: &[u8], dir: &[u16], m: &[u8], f: Found, j: usize, o: usize) -> Found
     requires { ⌜ (Accepted (now b) (now dir)) × (Width o) × (now rows ≡ Po.positionsOf o (now b)) × (Readable (now m)) × (FoundIn o (now b) (now m) f) ⌝ }
     ensures { λ r. ⌜ r ≡ F.partOf o (P.parse (now (b .entry))) (now (m .entry)) f j ⌝ }
 {

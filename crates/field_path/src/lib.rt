@@ -16,15 +16,7 @@ pub const LONGEST_PATH: usize = 96;
 const DEEPEST: usize = 32;
 
 // What all numbers of a path lead to, one after the other, from what was found before.
-fn along(
-    b: &[u8],
-    rows: &[u8],
-    dir: &[u16],
-    m: &[u8],
-    from: Found,
-    path: &[u32],
-    o: usize,
-) -> Found
+fn along(b: &[u8], rows: &[u8], dir: &[u16], m: &[u8], from: Found, path: &[u32], o: usize) -> Found
     requires { ⌜ (Accepted (now b) (now dir)) × (Width o) × (now rows ≡ Po.positionsOf o (now b)) × (Readable (now m)) × (FoundIn o (now b) (now m) from) ⌝ }
     ensures { λ r. ⌜ (r ≡ F.along o (P.parse (now (b .entry))) (now (m .entry)) from (now (path .entry))) × FoundIn o (now (b .entry)) (now (m .entry)) r ⌝ }
 {

@@ -38,14 +38,7 @@ pub fn new<'a, 'b, 'c, 'd>(
 pub fn step<'s, 'a, 'b, 'c, 'd>(r: &'s mut ListReader<'a, 'b, 'c, 'd>) -> Answer
     ensures { λ q. ⌜ (q ≡ gives (now (r .entry))) × (now (r .exit) ≡ after (now (r .entry))) ⌝ }
 {
-    let s = field_element::step(
-        r.schema,
-        r.positions,
-        r.message,
-        r.path,
-        r.element,
-        r.width,
-    );
+    let s = field_element::step(r.schema, r.positions, r.message, r.path, r.element, r.width);
     r.element = s.next;
     s.answer
 }
