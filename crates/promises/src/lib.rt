@@ -623,7 +623,7 @@ pub fn moved_over(
     first: Budget,
     sheet: &mut [u8],
     newer: &mut [u8],
-    newer_rows: &[u8],
+    newrows: &[u8],
     room: &mut [u8],
     second: Budget,
     out: &mut [u8],
@@ -635,8 +635,8 @@ pub fn moved_over(
     ensures newer { λ _. ⌜ after newer ≡ M.writeOver (Mv.clearing (given schema)) (given newer) ⌝ }
     ensures written { λ r. ⌜ r .written ≡ M.writeAnswer 6 (take (r .cleared .length) (after newer)) (take (r .stored .length) (after sheet)) (given room) ⌝ }
     ensures message { λ r. ⌜ after room ≡ M.writeOut 6 (take (r .cleared .length) (after newer)) (take (r .stored .length) (after sheet)) (given room) ⌝ }
-    ensures back { λ r. ⌜ r .back ≡ M.readAnswer 6 (Po.withTable 6 (take (r .cleared .length) (after newer)) (given newer_rows)) (take (r .written .length) (after room)) second (given out) ⌝ }
-    ensures output { λ r. ⌜ after out ≡ M.readOut 6 (Po.withTable 6 (take (r .cleared .length) (after newer)) (given newer_rows)) (take (r .written .length) (after room)) second (given out) ⌝ }
+    ensures back { λ r. ⌜ r .back ≡ M.readAnswer 6 (Po.withTable 6 (take (r .cleared .length) (after newer)) (given newrows)) (take (r .written .length) (after room)) second (given out) ⌝ }
+    ensures output { λ r. ⌜ after out ≡ M.readOut 6 (Po.withTable 6 (take (r .cleared .length) (after newer)) (given newrows)) (take (r .written .length) (after room)) second (given out) ⌝ }
     // the schema of a message that is read can be cleared, given room; it is "a schema in which only the in-place flag of those unions is
     // cleared"
     ensures clears { λ r. ⌜ (r .stored .verdict .number ≡ 0 → length (given schema) ≤ length (given newer) → r .cleared ≡ record { number = 0; length = length (given schema) }) ⌝ }
@@ -644,7 +644,7 @@ pub fn moved_over(
     // the write is refused by "12 for an older reason, 13 or 14", and by nothing else: `MovedAs` has the reasons, and 14 is for the room
     ensures reasons { λ r. ⌜ (r .stored .verdict .number ≡ 0 → r .cleared .number ≡ 0 → (r .written ≡ M.writeRoom (Mv.moved (given schema) (given message)) (length (given room))) × MovedAs (given schema) (given message) (Mv.moved (given schema) (given message))) ⌝ }
     // "where that write is not refused .., the sheet read back with enough allowance and room is the same": as bytes
-    ensures same { λ r. ⌜ (r .stored .verdict .number ≡ 0 → r .cleared .number ≡ 0 → r .written .number ≡ 0 → TableOf 6 (Mv.withoutInplaceUnions (given schema)) (given newer_rows) → Affords second (enough 6 (Mv.withoutInplaceUnions (given schema)) (take (r .stored .length) (after sheet))) → r .stored .length ≤ length (given out) → (r .back ≡ record { verdict = W.atZero 0 (enough 6 (Mv.withoutInplaceUnions (given schema)) (take (r .stored .length) (after sheet))); length = r .stored .length }) × (after out ≡ take (r .stored .length) (after sheet) ++ drop (r .stored .length) (given out))) ⌝ }
+    ensures same { λ r. ⌜ (r .stored .verdict .number ≡ 0 → r .cleared .number ≡ 0 → r .written .number ≡ 0 → TableOf 6 (Mv.withoutInplaceUnions (given schema)) (given newrows) → Affords second (enough 6 (Mv.withoutInplaceUnions (given schema)) (take (r .stored .length) (after sheet))) → r .stored .length ≤ length (given out) → (r .back ≡ record { verdict = W.atZero 0 (enough 6 (Mv.withoutInplaceUnions (given schema)) (take (r .stored .length) (after sheet))); length = r .stored .length }) × (after out ≡ take (r .stored .length) (after sheet) ++ drop (r .stored .length) (given out))) ⌝ }
     // the rules give that sheet of the message, with any budget and any room
     ensures rules { λ r. ⌜ (r .stored .verdict .number ≡ 0 → r .cleared .number ≡ 0 → r .written .number ≡ 0 → M.messageSheet 6 (take (r .cleared .length) (after newer)) (take (r .written .length) (after room)) ≡ take (r .stored .length) (after sheet)) ⌝ }
 {
@@ -654,7 +654,7 @@ pub fn moved_over(
     let c = cleared.length;
     let written = write::write(&newer[..c], &sheet[..s], room, wire::U48);
     let n = written.length;
-    let back = sheet::read(&newer[..c], newer_rows, &room[..n], second, out, wire::U48);
+    let back = sheet::read(&newer[..c], newrows, &room[..n], second, out, wire::U48);
     Moved {
         stored,
         cleared,
