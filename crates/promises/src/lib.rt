@@ -217,21 +217,21 @@ pub struct Verdicts {
 // Judging one message by two schemas.
 pub fn judged_by_both(
     older: &[u8],
-    older_rows: &[u8],
+    oldrows: &[u8],
     newer: &[u8],
-    newer_rows: &[u8],
+    newrows: &[u8],
     message: &[u8],
     budget: Budget,
     o: usize,
 ) -> Verdicts
     // each verdict is the definition's
-    ensures by_older { λ r. ⌜ r .older ≡ W.verdict o (lent o older older_rows) (given message) budget ⌝ }
-    ensures by_newer { λ r. ⌜ r .newer ≡ W.verdict o (lent o newer newer_rows) (given message) budget ⌝ }
+    ensures by_older { λ r. ⌜ r .older ≡ W.verdict o (lent o older oldrows) (given message) budget ⌝ }
+    ensures by_newer { λ r. ⌜ r .newer ≡ W.verdict o (lent o newer newrows) (given message) budget ⌝ }
     // whatever bytes the newer accepts with a budget, the older accepts with the same budget, and spends no more of either
-    ensures accepts { λ r. ⌜ (Ap.Appends o (given older) (given newer) → TableOf o (given older) (given older_rows) → TableOf o (given newer) (given newer_rows) → r .newer .number ≡ 0 → (r .older .number ≡ 0) × (r .older .visits ≤ r .newer .visits) × (r .older .content ≤ r .newer .content)) ⌝ }
+    ensures accepts { λ r. ⌜ (Ap.Appends o (given older) (given newer) → TableOf o (given older) (given oldrows) → TableOf o (given newer) (given newrows) → r .newer .number ≡ 0 → (r .older .number ≡ 0) × (r .older .visits ≤ r .newer .visits) × (r .older .content ≤ r .newer .content)) ⌝ }
 {
-    let by_older = judge::judge(older, older_rows, message, budget, o);
-    let by_newer = judge::judge(newer, newer_rows, message, budget, o);
+    let by_older = judge::judge(older, oldrows, message, budget, o);
+    let by_newer = judge::judge(newer, newrows, message, budget, o);
     Verdicts {
         older: by_older,
         newer: by_newer,
@@ -247,9 +247,9 @@ pub struct Sheets {
 // Reading one message to its sheets by two schemas.
 pub fn read_by_both(
     older: &[u8],
-    older_rows: &[u8],
+    oldrows: &[u8],
     newer: &[u8],
-    newer_rows: &[u8],
+    newrows: &[u8],
     message: &[u8],
     budget: Budget,
     first: &mut [u8],
@@ -257,20 +257,20 @@ pub fn read_by_both(
     o: usize,
 ) -> Sheets
     // each answer and each output is the definition's
-    ensures by_older { λ r. ⌜ r .older ≡ M.readAnswer o (lent o older older_rows) (given message) budget (given first) ⌝ }
-    ensures older_out { λ _. ⌜ after first ≡ M.readOut o (lent o older older_rows) (given message) budget (given first) ⌝ }
-    ensures by_newer { λ r. ⌜ r .newer ≡ M.readAnswer o (lent o newer newer_rows) (given message) budget (given second) ⌝ }
-    ensures newer_out { λ _. ⌜ after second ≡ M.readOut o (lent o newer newer_rows) (given message) budget (given second) ⌝ }
+    ensures by_older { λ r. ⌜ r .older ≡ M.readAnswer o (lent o older oldrows) (given message) budget (given first) ⌝ }
+    ensures older_out { λ _. ⌜ after first ≡ M.readOut o (lent o older oldrows) (given message) budget (given first) ⌝ }
+    ensures by_newer { λ r. ⌜ r .newer ≡ M.readAnswer o (lent o newer newrows) (given message) budget (given second) ⌝ }
+    ensures newer_out { λ _. ⌜ after second ≡ M.readOut o (lent o newer newrows) (given message) budget (given second) ⌝ }
     // what the newer accepts, its sheet having room or not, the older reads if the older's sheet has room
-    ensures accepts { λ r. ⌜ (Ap.Appends o (given older) (given newer) → TableOf o (given older) (given older_rows) → Accepts o (given newer) (given message) budget → (r .older .verdict .number ≡ 0) ⊎ (r .older .verdict .number ≡ 14)) ⌝ }
+    ensures accepts { λ r. ⌜ (Ap.Appends o (given older) (given newer) → TableOf o (given older) (given oldrows) → Accepts o (given newer) (given message) budget → (r .older .verdict .number ≡ 0) ⊎ (r .older .verdict .number ≡ 14)) ⌝ }
     // the older's sheet is the newer's sheet without the appended members, as bytes; "the rules give a sheet over the size too",
     // so the newer's sheet is the one of the rules, handed out or not
-    ensures without { λ r. ⌜ (Ap.Appends o (given older) (given newer) → TableOf o (given older) (given older_rows) → Accepts o (given newer) (given message) budget → HandsOut (r .older) (after first) (Ap.sheetWithout (given older) (given newer) (M.messageSheet o (given newer) (given message)))) ⌝ }
+    ensures without { λ r. ⌜ (Ap.Appends o (given older) (given newer) → TableOf o (given older) (given oldrows) → Accepts o (given newer) (given message) budget → HandsOut (r .older) (after first) (Ap.sheetWithout (given older) (given newer) (M.messageSheet o (given newer) (given message)))) ⌝ }
     // and where it is handed out, it stands in the second output
-    ensures handed { λ r. ⌜ HandsOut (r .newer) (after second) (M.messageSheet o (lent o newer newer_rows) (given message)) ⌝ }
+    ensures handed { λ r. ⌜ HandsOut (r .newer) (after second) (M.messageSheet o (lent o newer newrows) (given message)) ⌝ }
 {
-    let by_older = sheet::read(older, older_rows, message, budget, first, o);
-    let by_newer = sheet::read(newer, newer_rows, message, budget, second, o);
+    let by_older = sheet::read(older, oldrows, message, budget, first, o);
+    let by_newer = sheet::read(newer, newrows, message, budget, second, o);
     Sheets {
         older: by_older,
         newer: by_newer,
@@ -288,11 +288,11 @@ pub struct ThreeSheets {
 // Reading one message to its sheets by three schemas.
 pub fn read_by_three(
     oldest: &[u8],
-    oldest_rows: &[u8],
+    oldrows: &[u8],
     middle: &[u8],
-    middle_rows: &[u8],
+    midrows: &[u8],
     newest: &[u8],
-    newest_rows: &[u8],
+    newrows: &[u8],
     message: &[u8],
     budget: Budget,
     first: &mut [u8],
@@ -301,22 +301,22 @@ pub fn read_by_three(
     o: usize,
 ) -> ThreeSheets
     // each answer and each output is the definition's
-    ensures by_oldest { λ r. ⌜ r .oldest ≡ M.readAnswer o (lent o oldest oldest_rows) (given message) budget (given first) ⌝ }
-    ensures oldest_out { λ _. ⌜ after first ≡ M.readOut o (lent o oldest oldest_rows) (given message) budget (given first) ⌝ }
-    ensures by_middle { λ r. ⌜ r .middle ≡ M.readAnswer o (lent o middle middle_rows) (given message) budget (given second) ⌝ }
-    ensures middle_out { λ _. ⌜ after second ≡ M.readOut o (lent o middle middle_rows) (given message) budget (given second) ⌝ }
-    ensures by_newest { λ r. ⌜ r .newest ≡ M.readAnswer o (lent o newest newest_rows) (given message) budget (given third) ⌝ }
-    ensures newest_out { λ _. ⌜ after third ≡ M.readOut o (lent o newest newest_rows) (given message) budget (given third) ⌝ }
+    ensures by_oldest { λ r. ⌜ r .oldest ≡ M.readAnswer o (lent o oldest oldrows) (given message) budget (given first) ⌝ }
+    ensures oldest_out { λ _. ⌜ after first ≡ M.readOut o (lent o oldest oldrows) (given message) budget (given first) ⌝ }
+    ensures by_middle { λ r. ⌜ r .middle ≡ M.readAnswer o (lent o middle midrows) (given message) budget (given second) ⌝ }
+    ensures middle_out { λ _. ⌜ after second ≡ M.readOut o (lent o middle midrows) (given message) budget (given second) ⌝ }
+    ensures by_newest { λ r. ⌜ r .newest ≡ M.readAnswer o (lent o newest newrows) (given message) budget (given third) ⌝ }
+    ensures newest_out { λ _. ⌜ after third ≡ M.readOut o (lent o newest newrows) (given message) budget (given third) ⌝ }
     // "for three schemas, each appending to the one before, and given room and bytes the newest accepts: the newest sheet cut down to
     // the middle schema and then to the oldest, as demand 3 does it, equals the newest cut down to the oldest at once, and both are the
     // oldest reader's sheet"; the newest sheet is the one of the rules, handed out or not
-    ensures three { λ r. ⌜ (Ap.Appends o (given oldest) (given middle) → Ap.Appends o (given middle) (given newest) → TableOf o (given oldest) (given oldest_rows) → TableOf o (given middle) (given middle_rows) → Accepts o (given newest) (given message) budget → CutDown (r .oldest) (after first) (r .middle) (after second) (given oldest) (given middle) (given newest) (M.messageSheet o (given newest) (given message))) ⌝ }
+    ensures three { λ r. ⌜ (Ap.Appends o (given oldest) (given middle) → Ap.Appends o (given middle) (given newest) → TableOf o (given oldest) (given oldrows) → TableOf o (given middle) (given midrows) → Accepts o (given newest) (given message) budget → CutDown (r .oldest) (after first) (r .middle) (after second) (given oldest) (given middle) (given newest) (M.messageSheet o (given newest) (given message))) ⌝ }
     // and where it is handed out, it stands in the third output
-    ensures handed { λ r. ⌜ HandsOut (r .newest) (after third) (M.messageSheet o (lent o newest newest_rows) (given message)) ⌝ }
+    ensures handed { λ r. ⌜ HandsOut (r .newest) (after third) (M.messageSheet o (lent o newest newrows) (given message)) ⌝ }
 {
-    let by_oldest = sheet::read(oldest, oldest_rows, message, budget, first, o);
-    let by_middle = sheet::read(middle, middle_rows, message, budget, second, o);
-    let by_newest = sheet::read(newest, newest_rows, message, budget, third, o);
+    let by_oldest = sheet::read(oldest, oldrows, message, budget, first, o);
+    let by_middle = sheet::read(middle, midrows, message, budget, second, o);
+    let by_newest = sheet::read(newest, newrows, message, budget, third, o);
     ThreeSheets {
         oldest: by_oldest,
         middle: by_middle,
@@ -570,9 +570,9 @@ pub struct Judgements {
 // Writing a sheet's message under the older schema into a room, and judging that message by both.
 pub fn write_then_judge(
     older: &[u8],
-    older_rows: &[u8],
+    oldrows: &[u8],
     newer: &[u8],
-    newer_rows: &[u8],
+    newrows: &[u8],
     sheet: &[u8],
     room: &mut [u8],
     budget: Budget,
@@ -581,16 +581,16 @@ pub fn write_then_judge(
     // the answer, the room and the verdicts are the definition's, of refusals too; what is judged is what was written in the room
     ensures written { λ r. ⌜ r .written ≡ M.writeAnswer o (given older) (given sheet) (given room) ⌝ }
     ensures message { λ _. ⌜ after room ≡ M.writeOut o (given older) (given sheet) (given room) ⌝ }
-    ensures by_older { λ r. ⌜ r .older ≡ W.verdict o (lent o older older_rows) (take (r .written .length) (after room)) budget ⌝ }
-    ensures by_newer { λ r. ⌜ r .newer ≡ W.verdict o (lent o newer newer_rows) (take (r .written .length) (after room)) budget ⌝ }
+    ensures by_older { λ r. ⌜ r .older ≡ W.verdict o (lent o older oldrows) (take (r .written .length) (after room)) budget ⌝ }
+    ensures by_newer { λ r. ⌜ r .newer ≡ W.verdict o (lent o newer newrows) (take (r .written .length) (after room)) budget ⌝ }
     // whatever message the writer made under the older schema, the newer accepts with every budget with which the older does (and
     // spends the same of both): the whole verdict is the same
-    ensures same { λ r. ⌜ (Ap.Appends o (given older) (given newer) → r .written .number ≡ 0 → TableOf o (given older) (given older_rows) → TableOf o (given newer) (given newer_rows) → r .newer ≡ r .older) ⌝ }
+    ensures same { λ r. ⌜ (Ap.Appends o (given older) (given newer) → r .written .number ≡ 0 → TableOf o (given older) (given oldrows) → TableOf o (given newer) (given newrows) → r .newer ≡ r .older) ⌝ }
 {
     let written = write::write(older, sheet, room, o);
     let n = written.length;
-    let by_older = judge::judge(older, older_rows, &room[..n], budget, o);
-    let by_newer = judge::judge(newer, newer_rows, &room[..n], budget, o);
+    let by_older = judge::judge(older, oldrows, &room[..n], budget, o);
+    let by_newer = judge::judge(newer, newrows, &room[..n], budget, o);
     Judgements {
         written,
         older: by_older,

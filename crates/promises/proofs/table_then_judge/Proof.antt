@@ -21,9 +21,9 @@ same-length c = search needs
 
 returns : tie.Need-returns
 returns c =
-    let ea = c .before .before .before .before .before .positions .ensures .0 in
-    let eo = c .before .before .before .before .before .positions .ensures .1 in
-    let ev = c .before .judge .ensures in
+    let ea = c .before .before .before .before .positions .ensures .0 in
+    let eo = c .before .before .before .before .positions .ensures .1 in
+    let ev = c .judge .ensures in
     (ea, (eo, (ev, (made-verdict _ _ _ _ ea _ eo _ _ _ ev, made-answers _ _ _ _ ea _ eo))))
 
 pub table-then-judge-spec : {M : Type 1} → statement M
